@@ -1,0 +1,48 @@
+-- Moving down: shifts, uniqueness and order.
+use Rattle.std.proofs.Common.{◌≡◌, ℕ, ◌^◌, ◌≤◌, ℤ, pos, negsuc, neg_ℤ, ◌+ℤ◌, ◌*ℤ◌, ◌≤ℤ◌, arith, mod-lt}
+use Rattle.std.specs.Prelude.{◌<ℤ◌}
+use Rattle.std.specs.Int.{int_shr}
+use Rattle.std.proofs.Math.Nat.{div-add-mod}
+use Rattle.std.proofs.Math.Pow.{pow_mono}
+use Rattle.std.proofs.lemmas.Int.{ints}
+use Rattle.std.proofs.lemmas.Nat.{pow_pos}
+use Rattle.fixed_bits.specs.Down.{IsDown, down}
+use Rattle.fixed_bits.proofs.Integers.{next_times, le_times, lt_cancel}
+
+-- a shift that copies the sign rounds down
+pub down_by_shift : (v : ℤ) (k : ℕ) → IsDown v k 0 (int_shr v k)
+down_by_shift (pos a) k = record { at_most = omega (arith, ints, div-add-mod a (2 ^ k)); above = omega (arith, ints, div-add-mod a (2 ^ k), mod-lt a (pow_pos k)) }
+down_by_shift (negsuc a) k = record { at_most = omega (arith, ints, div-add-mod a (2 ^ k), mod-lt a (pow_pos k)); above = rw next_times (omega (arith, ints, div-add-mod a (2 ^ k), mod-lt a (pow_pos k))) }
+
+-- a shift by all bits or more leaves the sign alone
+pub down_past : (n k : ℕ) (v : ℤ) → n ≤ k → pos 0 ≤ℤ v → v <ℤ pos (2 ^ n) → IsDown v k 0 (pos 0)
+down_past n k v le low high = let p = pow_mono le in record { at_most = omega (arith, ints, low); above = omega (arith, ints, high, p) }
+
+pub down_past_below : (n k : ℕ) (v : ℤ) → n ≤ k → v <ℤ pos 0 → neg_ℤ (pos (2 ^ n)) ≤ℤ v → IsDown v k 0 (negsuc 0)
+down_past_below n k v le high low = let p = pow_mono le in record { at_most = omega (arith, ints, low, p); above = omega (arith, ints, high) }
+
+-- moving down keeps order
+pub down_order : (b c : ℤ) (f g : ℕ) (d e : ℤ) → b ≤ℤ c → IsDown b f g d → IsDown c f g e → d ≤ℤ e
+down_order b c f g d e h x y =
+    let grow = le_times b c (2 ^ g) h in
+    let mid : (d *ℤ pos (2 ^ f)) <ℤ ((e +ℤ pos 1) *ℤ pos (2 ^ f)) = omega (arith, ints) in
+    let s : d <ℤ (e +ℤ pos 1) = lt_cancel d (e +ℤ pos 1) (2 ^ f) mid in
+    omega (arith, ints)
+
+pub down_unique : (b : ℤ) (f g : ℕ) (d e : ℤ) → IsDown b f g d → IsDown b f g e → d ≡ e
+down_unique b f g d e x y =
+    let le : d ≤ℤ e = down_order b b f g d e (omega (arith, ints)) x y in
+    let ge : e ≤ℤ d = down_order b b f g e d (omega (arith, ints)) y x in
+    omega (arith, ints)
+
+-- ---- the number itself
+pub down_is : (b : ℤ) (f g : ℕ) → IsDown b f g (down b f g)
+unfolding down
+down_is b f g =
+    let v : ℤ = b *ℤ pos (2 ^ g) in
+    let h = down_by_shift v f in
+    let e : v *ℤ pos (2 ^ 0) ≡ v = omega (arith, ints) in
+    record { at_most = rw e at h.at_most; above = rw e at h.above }
+
+pub down_equal : (b : ℤ) (f g : ℕ) (d : ℤ) → IsDown b f g d → d ≡ down b f g
+down_equal b f g d h = down_unique b f g d (down b f g) h (down_is b f g)

@@ -1,0 +1,141 @@
+-- Images: what a wide number leaves, uniqueness, and the ends of a range.
+use Rattle.std.proofs.Common.{◌≡◌, ℕ, zero, suc, ◌+◌, ◌-◌, ◌*◌, ◌^◌, ◌<◌, ◌≤◌, Bool, true, false, ℤ, pos, ◌+ℤ◌, ◌-ℤ◌, ◌≤ℤ◌, arith, refl, sym, ap, inl, inr, ⊎_elim, ◌∙◌}
+use Rattle.std.specs.Prelude.{◌<ℤ◌}
+use Rattle.std.proofs.lemmas.Bool.{cases_lt}
+use Rattle.std.proofs.lemmas.Int.{ints, by_lt_z}
+use Rattle.std.proofs.lemmas.Nat.{pow_pos}
+use Rattle.std.proofs.Math.Pow.{pow_mono}
+use Rattle.fixed_bits.specs.Ranges.{IsInRange, IsOutOfRange, IsWidth, IsWide, lowest, greatest}
+use Rattle.fixed_bits.specs.Images.{IsImage, IsWrapped, DiffersByMultiple, wrap_to_unsigned}
+use Rattle.fixed_bits.specs.InnerLaws.{below, near_unsigned}
+use Rattle.fixed_bits.specs.declared.format.Policy.{Policy}
+use Rattle.fixed_bits.specs.declared.format.Policy.TheVariants.{Checked, Saturating, Wrapping}
+
+-- ---- facts of the four widths
+pub twice : (n : ℕ) → IsWidth n → 2 ^ n ≡ 2 * 2 ^ (n - 1)
+twice n (inl e) = rw e refl
+twice n (inr (inl e)) = rw e refl
+twice n (inr (inr (inl e))) = rw e refl
+twice n (inr (inr (inr e))) = rw e refl
+
+-- ---- the last bits, and what has to be taken off
+pub low_kept : (s : Bool) (n : ℕ) (v : ℤ) (r : ℕ) → r ≡ wrap_to_unsigned n v → pos r ≤ℤ greatest s n → IsWrapped s n v (pos r)
+low_kept s n v r e high = record { in_range = in_range s high; near = rw e (near_unsigned n v) }
+  where
+    in_range : (s : Bool) → pos r ≤ℤ greatest s n → IsInRange s n (pos r)
+    in_range true h = record { low = omega (arith, ints); high = h }
+    in_range false h = record { low = omega (arith, ints); high = h }
+
+pub low_moved : (s : Bool) (n : ℕ) (v : ℤ) (r : ℕ) → IsWidth n → r ≡ wrap_to_unsigned n v → greatest s n <ℤ pos r → IsWrapped s n v (pos r -ℤ pos (2 ^ n))
+low_moved s n v r w e over =
+    let under : r < 2 ^ n = rw e (below n v) in
+    let d : DiffersByMultiple (2 ^ n) (pos r) v = rw e (near_unsigned n v) in
+    record {
+      in_range = in_range s under (twice n w) over;
+      near = (d.0 + 1, d.1, omega (arith, ints, d.2));
+    }
+  where
+    in_range : (s : Bool) → r < 2 ^ n → 2 ^ n ≡ 2 * 2 ^ (n - 1) → greatest s n <ℤ pos r → IsInRange s n (pos r -ℤ pos (2 ^ n))
+    in_range true u t h = record { low = omega (arith, ints, pow_pos (n - 1)); high = omega (arith, ints, pow_pos (n - 1)) }
+    in_range false u t h = absurd (omega (arith, ints))
+
+-- ---- a number in range is its own image
+pub image_same : (p : Policy) (s : Bool) (n : ℕ) (v : ℤ) → IsInRange s n v → IsImage p s n v v
+image_same Checked s n v h = record { in_range = h; same = refl }
+image_same Saturating s n v h = record {
+  same = λ _. refl;
+  below = λ l. absurd (let k = h.low in omega (arith, ints));
+  above = λ l. absurd (let k = h.high in omega (arith, ints));
+}
+image_same Wrapping s n v h = record { in_range = h; near = (0, 0, refl) }
+
+-- ---- images are unique
+apart : (m k : ℕ) (c d : ℤ) → c <ℤ (d +ℤ pos m) → c ≡ d +ℤ pos (k * m) → c ≡ d
+apart m zero c d near e = omega (arith, ints)
+apart m (suc k) c d near e = absurd (omega (arith, ints))
+
+apart_more : (m j k : ℕ) (c d : ℤ) → j ≤ k → c <ℤ (d +ℤ pos m) → c +ℤ pos (j * m) ≡ d +ℤ pos (k * m) → c ≡ d
+apart_more m j k c d le near e =
+    let s : k ≡ j + (k - j) = omega arith in
+    let t : k * m ≡ j * m + (k - j) * m = ap (λ x. x * m) s ∙ omega arith in
+    apart m (k - j) c d near (omega (arith, ints))
+
+pub near_same : (m : ℕ) (c d : ℤ) → c <ℤ (d +ℤ pos m) → d <ℤ (c +ℤ pos m) → DiffersByMultiple m c d → c ≡ d
+near_same m c d x y w = ⊎_elim
+    (λ l. apart_more m w.0 w.1 c d (omega arith) x w.2)
+    (λ l. sym (apart_more m w.1 w.0 d c (omega arith) y (sym w.2)))
+    (cases_lt w.0 w.1)
+
+pub near_turned : (m : ℕ) (a b : ℤ) → DiffersByMultiple m a b → DiffersByMultiple m b a
+near_turned m a b w = (w.1, w.0, sym w.2)
+
+pub near_joined : (m : ℕ) (a b c : ℤ) → DiffersByMultiple m a b → DiffersByMultiple m b c → DiffersByMultiple m a c
+near_joined m a b c v w = (v.0 + w.0, v.1 + w.1, omega (arith, ints, v.2, w.2))
+
+pub range_short : (s : Bool) (n : ℕ) (c d : ℤ) → 2 ^ n ≡ 2 * 2 ^ (n - 1) → IsInRange s n c → IsInRange s n d → c <ℤ (d +ℤ pos (2 ^ n))
+range_short true n c d e a b = omega (arith, ints, a.high, b.low, pow_pos (n - 1))
+range_short false n c d e a b = omega (arith, ints, a.high, b.low, pow_pos n)
+
+pub wrapped_unique : (s : Bool) (n : ℕ) (v c d : ℤ) → IsWidth n → IsWrapped s n v c → IsWrapped s n v d → c ≡ d
+wrapped_unique s n v c d w a b =
+    let e = twice n w in
+    near_same (2 ^ n) c d (range_short s n c d e a.in_range b.in_range) (range_short s n d c e b.in_range a.in_range)
+    (near_joined (2 ^ n) c v d a.near (near_turned (2 ^ n) d v b.near))
+
+-- a number is in range, or below it, or above it
+pub by_range : {P : Type 0} (s : Bool) (n : ℕ) (v : ℤ) → (IsInRange s n v → P) → (v <ℤ lowest s n → P) → (greatest s n <ℤ v → P) → P
+by_range s n v inside under over = by_lt_z v (lowest s n) under (λ l. by_lt_z (greatest s n) v over (λ h. inside (record { low = l; high = h })))
+
+pub image_unique : (p : Policy) (s : Bool) (n : ℕ) (v c d : ℤ) → IsWidth n → IsImage p s n v c → IsImage p s n v d → c ≡ d
+image_unique Checked s n v c d w a b = a.same ∙ sym b.same
+image_unique Saturating s n v c d w a b = by_range s n v (λ h. a.same h ∙ sym (b.same h)) (λ h. a.below h ∙ sym (b.below h)) (λ h. a.above h ∙ sym (b.above h))
+image_unique Wrapping s n v c d w a b = wrapped_unique s n v c d w a b
+
+-- out of range is the contrary of in range
+pub out_not_in : (s : Bool) (n : ℕ) (v : ℤ) → IsOutOfRange s n v → IsInRange s n v → ⊥
+out_not_in s n v (inl l) h = let k = h.low in omega (arith, ints)
+out_not_in s n v (inr l) h = let k = h.high in omega (arith, ints)
+
+-- ---- what is in range is wide
+pub width_most : (n : ℕ) → IsWidth n → n ≤ 64
+width_most n (inl e) = omega (arith, e)
+width_most n (inr (inl e)) = omega (arith, e)
+width_most n (inr (inr (inl e))) = omega (arith, e)
+width_most n (inr (inr (inr e))) = omega (arith, e)
+
+-- the ends of a range of at most 64 bits are wide
+pub lowest_wide : (s : Bool) (n : ℕ) → n ≤ 64 → IsWide (lowest s n)
+lowest_wide true n w =
+    let i : n - 1 ≤ 63 = omega arith in
+    let p : 2 ^ (n - 1) ≤ 2 ^ 63 = pow_mono i in
+    record { low = omega (arith, ints, p); high = omega (arith, ints, p) }
+lowest_wide false n w = record { low = omega (arith, ints); high = omega (arith, ints) }
+
+pub greatest_wide : (s : Bool) (n : ℕ) → n ≤ 64 → IsWide (greatest s n)
+greatest_wide true n w =
+    let i : n - 1 ≤ 63 = omega arith in
+    let p : 2 ^ (n - 1) ≤ 2 ^ 63 = pow_mono i in
+    record { low = omega (arith, ints, p, pow_pos (n - 1)); high = omega (arith, ints, p) }
+greatest_wide false n w = let p : 2 ^ n ≤ 2 ^ 64 = pow_mono w in record { low = omega (arith, ints, pow_pos n); high = omega (arith, ints, p, pow_pos n) }
+
+pub in_wide : (s : Bool) (n : ℕ) (v : ℤ) → n ≤ 64 → IsInRange s n v → IsWide v
+in_wide s n v w h =
+    let a = (lowest_wide s n w).low in
+    let b = (greatest_wide s n w).high in
+    let c = h.low in
+    let d = h.high in
+    record { low = omega (arith, ints); high = omega (arith, ints) }
+
+-- ---- images are in range
+pub lowest_in : (s : Bool) (n : ℕ) → IsInRange s n (lowest s n)
+lowest_in true n = record { low = omega (arith, ints); high = omega (arith, ints, pow_pos (n - 1)) }
+lowest_in false n = record { low = omega (arith, ints); high = omega (arith, ints, pow_pos n) }
+
+pub greatest_in : (s : Bool) (n : ℕ) → IsInRange s n (greatest s n)
+greatest_in true n = record { low = omega (arith, ints, pow_pos (n - 1)); high = omega (arith, ints) }
+greatest_in false n = record { low = omega (arith, ints, pow_pos n); high = omega (arith, ints) }
+
+pub image_in : (p : Policy) (s : Bool) (n : ℕ) (v c : ℤ) → IsImage p s n v c → IsInRange s n c
+image_in Checked s n v c i = rw i.same i.in_range
+image_in Saturating s n v c i = by_range s n v (λ h. rw (i.same h) h) (λ h. rw (i.below h) (lowest_in s n)) (λ h. rw (i.above h) (greatest_in s n))
+image_in Wrapping s n v c i = i.in_range

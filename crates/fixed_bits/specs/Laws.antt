@@ -1,0 +1,54 @@
+-- What the laws of this crate say.
+use Rattle.std.specs.Prelude.{◌≡◌, ℕ, ◌*◌, ◌<◌, ◌≤◌, ◌↔◌, ◌⊎◌, Bool, ℤ, ◌≤ℤ◌}
+use Rattle.fixed_bits.specs.Ranges.{IsInRange, IsOutOfRange, IsWidth, IsWide, lowest, greatest}
+use Rattle.fixed_bits.specs.Images.{IsImage}
+use Rattle.fixed_bits.specs.Down.{IsDown, down}
+use Rattle.fixed_bits.specs.Nearest.{IsNearest}
+use Rattle.fixed_bits.specs.Rounded.{IsRounded}
+use Rattle.fixed_bits.specs.declared.mode.ReadMode.{ReadMode}
+use Rattle.fixed_bits.specs.declared.format.Policy.{Policy}
+use Rattle.fixed_bits.specs.declared.format.Policy.TheVariants.{Checked}
+
+-- one number, and no other, has the property
+abbrev pub HasExactlyOne : (ℕ → Type 0) → Type 0
+HasExactlyOne P = (q : ℕ) × P q × ((p : ℕ) → P p → p ≡ q)
+
+abbrev pub NearestIsTheOne : Type 0
+NearestIsTheOne = (num den : ℕ) → 0 < den → HasExactlyOne (IsNearest num den)
+
+abbrev pub RoundedIsTheOne : Type 0
+RoundedIsTheOne = (mode : ReadMode) (negative : Bool) (num den : ℕ) → 0 < den → HasExactlyOne (IsRounded mode negative num den)
+
+-- equal fractions have equal cross products
+abbrev pub EqualFractionsRoundAlike : Type 0
+EqualFractionsRoundAlike = (mode : ReadMode) (negative : Bool) (n d n' d' q : ℕ) → 0 < d → 0 < d' → n * d' ≡ n' * d → IsRounded mode negative n d q → IsRounded mode negative n' d' q
+
+-- every number is in the range or out of it, and none is both
+abbrev pub RangeIsDecided : Type 0
+RangeIsDecided = (s : Bool) (n : ℕ) (v : ℤ) → (IsInRange s n v ⊎ IsOutOfRange s n v) × (IsOutOfRange s n v → ¬ IsInRange s n v)
+
+-- the ends of a range of at most 64 bits are wide
+abbrev pub EndsAreWide : Type 0
+EndsAreWide = (s : Bool) (n : ℕ) → n ≤ 64 → IsWide (lowest s n) × IsWide (greatest s n)
+
+-- in range all policies give the number itself
+abbrev pub ImagesAgree : Type 0
+ImagesAgree = (p : Policy) (s : Bool) (n : ℕ) (v c : ℤ) → IsWidth n → IsInRange s n v → IsImage p s n v c ↔ (c ≡ v)
+
+-- out of range Checked has no image
+abbrev pub CheckedHasNone : Type 0
+CheckedHasNone = (s : Bool) (n : ℕ) (v c : ℤ) → IsOutOfRange s n v → ¬ IsImage Checked s n v c
+
+-- images are determined
+abbrev pub ImageIsTheOne : Type 0
+ImageIsTheOne = (p : Policy) (s : Bool) (n : ℕ) (v c d : ℤ) → IsWidth n → IsImage p s n v c → IsImage p s n v d → c ≡ d
+
+abbrev pub ImageIsInRange : Type 0
+ImageIsInRange = (p : Policy) (s : Bool) (n : ℕ) (v c : ℤ) → IsImage p s n v c → IsInRange s n c
+
+-- `down` is the one number that the definition names
+abbrev pub DownIsTheOne : Type 0
+DownIsTheOne = (b : ℤ) (f g : ℕ) (d : ℤ) → IsDown b f g d ↔ (d ≡ down b f g)
+
+abbrev pub DownKeepsOrder : Type 0
+DownKeepsOrder = (b c : ℤ) (f g : ℕ) → b ≤ℤ c → down b f g ≤ℤ down c f g

@@ -1,0 +1,8 @@
+pub mod Ranges
+pub mod Images
+pub mod Down
+pub mod InnerLaws
+pub mod Formats
+pub mod Nearest
+pub mod Rounded
+pub mod Laws

@@ -1,0 +1,344 @@
+//! Formats chosen at run time, and what is done with a number that is out of range.
+
+ghost use Rattle.std.specs.Prelude.{◌≡◌, ◌↔◌, ◌≤◌, ◌<◌, ◌^◌, ◌-◌, ◌*◌, ◌/◌, ◌%◌, pos, IsSome, IsNone, IfSome, Option};
+ghost use Rattle.fixed_bits.specs.Ranges.{IsInRange, IsOutOfRange, IsWide, lowest, greatest};
+ghost use Rattle.fixed_bits.specs.Formats.{IsFormat};
+ghost use Rattle.fixed_bits.specs.Images.{IsImage, IsWrapped};
+
+use crate::masks::{low_bits, ones};
+use std::marker::Model;
+
+/// A sign rule, a width in bits of 8, 16, 32 or 64, and a fraction length in bits of at most the width.
+#[derive(Clone, Copy, Debug, PartialEq, Eq)]
+pub struct Format {
+    signed: bool,
+    width: u32,
+    frac: u32,
+}
+
+impl Model for Format {
+    ghost use Rattle.fixed_bits.specs.Formats.{Shape, IsFormat};
+
+    ghost Value = { Shape };
+
+    ghost view = { λ f. record { signed = f.signed; width = f.width; frac = f.frac } };
+
+    ghost invariant = { λ f. IsFormat f.width f.frac };
+
+    ghost inverse = { λ s. record { signed = s.signed; width = s.width; frac = s.frac } };
+}
+
+impl Format {
+    /// The format with these three parts. `None` exactly where the width isn't 8, 16, 32 or 64, or the fraction is longer than the width.
+    pub fn new(signed: bool, width: u32, frac: u32) -> Option<Format>
+        ensures exists { IsSome result ↔ IsFormat width frac }
+        ensures parts { IfSome result (λ f. (f.signed ≡ signed) × (f.width ≡ width) × (f.frac ≡ frac)) }
+    {
+        match width {
+            8 | 16 | 32 | 64 if frac <= width => Some(Format {
+                signed,
+                width,
+                frac,
+            }),
+            _ => None,
+        }
+    }
+
+    /// Whether the bits may be negative.
+    pub fn signed(self) -> bool
+        ensures { result ≡ self.signed }
+    {
+        self.signed
+    }
+
+    /// How many bits there are.
+    pub fn width(self) -> u32
+        ensures width { result ≡ self.width }
+        ensures valid { IsFormat self.width self.frac }
+    {
+        self.width
+    }
+
+    /// How many of the bits are behind the point.
+    pub fn frac(self) -> u32
+        ensures frac { result ≡ self.frac }
+        ensures valid { IsFormat self.width self.frac }
+    {
+        self.frac
+    }
+
+    /// The lowest bits, as a number.
+    pub fn lowest(self) -> i128
+        ensures { result ≡ lowest self.signed self.width }
+    {
+        if self.signed { -half(self.width) } else { 0 }
+    }
+
+    /// The greatest bits, as a number.
+    pub fn greatest(self) -> i128
+        ensures { result ≡ greatest self.signed self.width }
+    {
+        let count = if self.signed {
+            half(self.width)
+        } else {
+            power(self.width)
+        };
+        count - 1
+    }
+}
+
+/// What is done with a number that is out of range.
+#[derive(Clone, Copy, Debug, PartialEq, Eq)]
+pub enum Policy {
+    /// It has no image.
+    Checked,
+    /// Its image is the nearer end of the range.
+    Saturating,
+    /// Its image is the number in range that differs from it by a multiple of two to the power of the width.
+    Wrapping,
+}
+
+impl Policy {
+    /// The image of a number in a format: the number itself where it is in range. `None` exactly where it is out of range and the policy is `Checked`.
+    pub fn image(self, format: Format, v: i128) -> Option<i128>
+        ensures image { IfSome result (λ c. IsImage self format.signed format.width v c) }
+        ensures none { IsNone result ↔ ((self ≡ Policy.Checked) × IsOutOfRange format.signed format.width v) }
+        ensures range { IfSome result (λ c. IsInRange format.signed format.width c) }
+        ensures wide { IfSome result IsWide }
+    {
+        let low = format.lowest();
+        let high = format.greatest();
+        if low <= v && v <= high {
+            return Some(v);
+        }
+        match self {
+            Policy::Checked => None,
+            Policy::Saturating => Some(if v < low { low } else { high }),
+            Policy::Wrapping => Some(wrapped(format, v, high)),
+        }
+    }
+}
+
+/// Two to the power of `n - 1`.
+fn half(n: u32) -> i128
+    requires some { 0 < n }
+    requires most { n ≤ 64 }
+    ensures { result ≡ pos (2 ^ (n - 1)) }
+{
+    power(n - 1)
+}
+
+/// Two to the power of `n`.
+fn power(n: u32) -> i128
+    requires { n ≤ 64 }
+    ensures { result ≡ pos (2 ^ n) }
+{
+    1 << n
+}
+
+/// The number in range that differs from `v` by a multiple of two to the power of the width.
+fn wrapped(format: Format, v: i128, high: i128) -> i128
+    requires { high ≡ greatest format.signed format.width }
+    ensures image { IsWrapped format.signed format.width v result }
+    ensures wide { IsWide result }
+{
+    let rest = low_bits(v, format.width()) as i128;
+    if rest > high {
+        rest - power(format.width())
+    } else {
+        rest
+    }
+}
+
+/// Ten times a fraction of `bits` bits: the digit before the point, and the bits behind it.
+#[tactic(auto, using(std::proofs::lemmas::Nat::and_mask))]
+pub fn mul10(rest: u64, bits: u32) -> (u8, u64)
+    requires width { bits ≤ 64 }
+    requires below { rest < 2 ^ bits }
+    ensures digit { result.0 ≡ 10 * rest / 2 ^ bits }
+    ensures rest { result.1 ≡ 10 * rest % 2 ^ bits }
+{
+    let product = 10 * (rest as u128);
+    (
+        (product >> bits) as u8,
+        (product & ones(bits) as u128) as u64,
+    )
+}
+
+#[cfg(test)]
+mod tests {
+    use super::*;
+
+    /// A width and a fraction length, and whether they make a format.
+    #[derive(Drop)]
+    struct Edge {
+        width: u32,
+        frac: u32,
+        valid: bool,
+    }
+
+    #[test]
+    fn formats_at_the_edges_of_validity(rt: HostRuntime) {
+        let edges = [
+            Edge {
+                width: 24,
+                frac: 0,
+                valid: false,
+            },
+            Edge {
+                width: 8,
+                frac: 9,
+                valid: false,
+            },
+            Edge {
+                width: 8,
+                frac: 8,
+                valid: true,
+            },
+            Edge {
+                width: 64,
+                frac: 65,
+                valid: false,
+            },
+            Edge {
+                width: 64,
+                frac: 64,
+                valid: true,
+            },
+            Edge {
+                width: 0,
+                frac: 0,
+                valid: false,
+            },
+            Edge {
+                width: 128,
+                frac: 0,
+                valid: false,
+            },
+        ];
+        for edge in &edges {
+            let made = Format::new(true, edge.width, edge.frac).is_some();
+            assert!(rt;
+                made == edge.valid,
+                "width {} with {} fraction bits",
+                edge.width,
+                edge.frac
+            );
+        }
+    }
+
+    /// Whether a format is signed, its width, and the ends of its range.
+    #[derive(Drop)]
+    struct Ends {
+        signed: bool,
+        width: u32,
+        lowest: i128,
+        greatest: i128,
+    }
+
+    #[test]
+    fn ends_of_the_ranges(rt: HostRuntime) {
+        let all = [
+            Ends {
+                signed: true,
+                width: 8,
+                lowest: -128,
+                greatest: 127,
+            },
+            Ends {
+                signed: false,
+                width: 8,
+                lowest: 0,
+                greatest: 255,
+            },
+            Ends {
+                signed: true,
+                width: 64,
+                lowest: -9223372036854775808,
+                greatest: 9223372036854775807,
+            },
+            Ends {
+                signed: false,
+                width: 64,
+                lowest: 0,
+                greatest: 18446744073709551615,
+            },
+        ];
+        for ends in &all {
+            let found = match Format::new(ends.signed, ends.width, 0) {
+                Some(format) => (format.lowest(), format.greatest()),
+                None => (0, 0),
+            };
+            assert!(rt;
+                found == (ends.lowest, ends.greatest),
+                "width {}",
+                ends.width
+            );
+        }
+    }
+
+    /// A number, and its images in the format of eight bits without a sign.
+    #[derive(Drop)]
+    struct Images {
+        number: i128,
+        checked: Option<i128>,
+        saturating: i128,
+        wrapping: i128,
+    }
+
+    fn image_in_a_byte(policy: Policy, number: i128) -> Option<i128> {
+        match Format::new(false, 8, 0) {
+            Some(format) => policy.image(format, number),
+            None => None,
+        }
+    }
+
+    #[test]
+    fn a_number_through_three_policies(rt: HostRuntime) {
+        let all = [
+            Images {
+                number: 17,
+                checked: Some(17),
+                saturating: 17,
+                wrapping: 17,
+            },
+            Images {
+                number: 300,
+                checked: None,
+                saturating: 255,
+                wrapping: 44,
+            },
+            Images {
+                number: -1,
+                checked: None,
+                saturating: 0,
+                wrapping: 255,
+            },
+        ];
+        for images in &all {
+            let number = images.number;
+            assert!(rt;
+                image_in_a_byte(Policy::Checked, number) == images.checked,
+                "{number}"
+            );
+            assert!(rt;
+                image_in_a_byte(Policy::Saturating, number) == Some(images.saturating),
+                "{number}"
+            );
+            assert!(rt;
+                image_in_a_byte(Policy::Wrapping, number) == Some(images.wrapping),
+                "{number}"
+            );
+        }
+    }
+
+    #[test]
+    fn ten_times_a_fraction(rt: HostRuntime) {
+        assert!(rt;
+            mul10(13, 4) == (8, 2),
+            "13/16 begins with 8, and 2/16 are left"
+        );
+        assert!(rt; mul10(0, 0) == (0, 0));
+        assert!(rt; mul10(18446744073709551615, 64) == (9, 18446744073709551606));
+    }
+}

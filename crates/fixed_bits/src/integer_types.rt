@@ -1,0 +1,663 @@
+//! The eight integer types.
+
+ghost use Rattle.std.specs.Prelude.{pos, negsuc, true, false, refl};
+ghost use Rattle.fixed_bits.specs.Images.{wrap_to_unsigned, wrap_to_signed};
+ghost use Rattle.fixed_bits.specs.InnerLaws.{
+  width_8,
+  width_16,
+  width_32,
+  width_64,
+  wrapped_unsigned,
+  back_unsigned,
+  order_unsigned,
+  eq_unsigned,
+  wrapped_signed,
+  back_signed,
+  eq_signed,
+};
+
+use crate::inner::Inner;
+use crate::masks::low_bits;
+
+impl Inner for u8 {
+    const BITS: u32 = 8;
+
+    const SIGNED: bool = false;
+
+    const ZERO: u8 = 0;
+
+    const MIN: u8 = 0;
+
+    const MAX: u8 = 255;
+
+    ghost BITS = { 8 };
+
+    ghost SIGNED = { false };
+
+    ghost ZERO = { 0 };
+
+    ghost MIN = { 0 };
+
+    ghost MAX = { 255 };
+
+    ghost number = { λ x. pos x };
+
+    ghost wrapped = { λ v. wrap_to_unsigned 8 v };
+
+    fn value(self) -> i128 {
+        self as i128
+    }
+
+    fn wrap(v: i128) -> u8 {
+        low_bits(v, 8) as u8
+    }
+
+    fn saturate(v: i128) -> u8 {
+        if v < 0 {
+            0
+        } else if v > 255 {
+            255
+        } else {
+            v as u8
+        }
+    }
+
+    fn fits(v: i128) -> bool {
+        0 <= v && v <= 255
+    }
+
+    #[tactic(auto, using(crate::proofs::DownLemmas::down_by_shift, crate::proofs::DownLemmas::down_past, crate::proofs::DownLemmas::down_past_below))]
+    fn floor_shift(self, k: u32) -> u8 {
+        if k >= 8 { 0 } else { self >> k }
+    }
+
+    ghost width_law = { width_8 };
+
+    ghost zero_law = { refl };
+
+    ghost min_law = { refl };
+
+    ghost max_law = { refl };
+
+    ghost wrap_law = { wrapped_unsigned 8 };
+
+    ghost back_law = { back_unsigned 8 };
+
+    ghost order_law = { order_unsigned };
+
+    ghost eq_law = { eq_unsigned };
+}
+
+impl Inner for u16 {
+    const BITS: u32 = 16;
+
+    const SIGNED: bool = false;
+
+    const ZERO: u16 = 0;
+
+    const MIN: u16 = 0;
+
+    const MAX: u16 = 65535;
+
+    ghost BITS = { 16 };
+
+    ghost SIGNED = { false };
+
+    ghost ZERO = { 0 };
+
+    ghost MIN = { 0 };
+
+    ghost MAX = { 65535 };
+
+    ghost number = { λ x. pos x };
+
+    ghost wrapped = { λ v. wrap_to_unsigned 16 v };
+
+    fn value(self) -> i128 {
+        self as i128
+    }
+
+    fn wrap(v: i128) -> u16 {
+        low_bits(v, 16) as u16
+    }
+
+    fn saturate(v: i128) -> u16 {
+        if v < 0 {
+            0
+        } else if v > 65535 {
+            65535
+        } else {
+            v as u16
+        }
+    }
+
+    fn fits(v: i128) -> bool {
+        0 <= v && v <= 65535
+    }
+
+    #[tactic(auto, using(crate::proofs::DownLemmas::down_by_shift, crate::proofs::DownLemmas::down_past, crate::proofs::DownLemmas::down_past_below))]
+    fn floor_shift(self, k: u32) -> u16 {
+        if k >= 16 { 0 } else { self >> k }
+    }
+
+    ghost width_law = { width_16 };
+
+    ghost zero_law = { refl };
+
+    ghost min_law = { refl };
+
+    ghost max_law = { refl };
+
+    ghost wrap_law = { wrapped_unsigned 16 };
+
+    ghost back_law = { back_unsigned 16 };
+
+    ghost order_law = { order_unsigned };
+
+    ghost eq_law = { eq_unsigned };
+}
+
+impl Inner for u32 {
+    const BITS: u32 = 32;
+
+    const SIGNED: bool = false;
+
+    const ZERO: u32 = 0;
+
+    const MIN: u32 = 0;
+
+    const MAX: u32 = 4294967295;
+
+    ghost BITS = { 32 };
+
+    ghost SIGNED = { false };
+
+    ghost ZERO = { 0 };
+
+    ghost MIN = { 0 };
+
+    ghost MAX = { 4294967295 };
+
+    ghost number = { λ x. pos x };
+
+    ghost wrapped = { λ v. wrap_to_unsigned 32 v };
+
+    fn value(self) -> i128 {
+        self as i128
+    }
+
+    fn wrap(v: i128) -> u32 {
+        low_bits(v, 32) as u32
+    }
+
+    fn saturate(v: i128) -> u32 {
+        if v < 0 {
+            0
+        } else if v > 4294967295 {
+            4294967295
+        } else {
+            v as u32
+        }
+    }
+
+    fn fits(v: i128) -> bool {
+        0 <= v && v <= 4294967295
+    }
+
+    #[tactic(auto, using(crate::proofs::DownLemmas::down_by_shift, crate::proofs::DownLemmas::down_past, crate::proofs::DownLemmas::down_past_below))]
+    fn floor_shift(self, k: u32) -> u32 {
+        if k >= 32 { 0 } else { self >> k }
+    }
+
+    ghost width_law = { width_32 };
+
+    ghost zero_law = { refl };
+
+    ghost min_law = { refl };
+
+    ghost max_law = { refl };
+
+    ghost wrap_law = { wrapped_unsigned 32 };
+
+    ghost back_law = { back_unsigned 32 };
+
+    ghost order_law = { order_unsigned };
+
+    ghost eq_law = { eq_unsigned };
+}
+
+impl Inner for u64 {
+    const BITS: u32 = 64;
+
+    const SIGNED: bool = false;
+
+    const ZERO: u64 = 0;
+
+    const MIN: u64 = 0;
+
+    const MAX: u64 = 18446744073709551615;
+
+    ghost BITS = { 64 };
+
+    ghost SIGNED = { false };
+
+    ghost ZERO = { 0 };
+
+    ghost MIN = { 0 };
+
+    ghost MAX = { 18446744073709551615 };
+
+    ghost number = { λ x. pos x };
+
+    ghost wrapped = { λ v. wrap_to_unsigned 64 v };
+
+    fn value(self) -> i128 {
+        self as i128
+    }
+
+    fn wrap(v: i128) -> u64 {
+        low_bits(v, 64) as u64
+    }
+
+    fn saturate(v: i128) -> u64 {
+        if v < 0 {
+            0
+        } else if v > 18446744073709551615 {
+            18446744073709551615
+        } else {
+            v as u64
+        }
+    }
+
+    fn fits(v: i128) -> bool {
+        0 <= v && v <= 18446744073709551615
+    }
+
+    #[tactic(auto, using(crate::proofs::DownLemmas::down_by_shift, crate::proofs::DownLemmas::down_past, crate::proofs::DownLemmas::down_past_below))]
+    fn floor_shift(self, k: u32) -> u64 {
+        if k >= 64 { 0 } else { self >> k }
+    }
+
+    ghost width_law = { width_64 };
+
+    ghost zero_law = { refl };
+
+    ghost min_law = { refl };
+
+    ghost max_law = { refl };
+
+    ghost wrap_law = { wrapped_unsigned 64 };
+
+    ghost back_law = { back_unsigned 64 };
+
+    ghost order_law = { order_unsigned };
+
+    ghost eq_law = { eq_unsigned };
+}
+
+impl Inner for i8 {
+    const BITS: u32 = 8;
+
+    const SIGNED: bool = true;
+
+    const ZERO: i8 = 0;
+
+    const MIN: i8 = -128;
+
+    const MAX: i8 = 127;
+
+    ghost BITS = { 8 };
+
+    ghost SIGNED = { true };
+
+    ghost ZERO = { pos 0 };
+
+    ghost MIN = { negsuc 127 };
+
+    ghost MAX = { pos 127 };
+
+    ghost number = { λ x. x };
+
+    ghost wrapped = { λ v. wrap_to_signed 8 v };
+
+    fn value(self) -> i128 {
+        self as i128
+    }
+
+    fn wrap(v: i128) -> i8 {
+        (low_bits(v, 8) as u8).cast_signed()
+    }
+
+    fn saturate(v: i128) -> i8 {
+        if v < -128 {
+            -128
+        } else if v > 127 {
+            127
+        } else {
+            v as i8
+        }
+    }
+
+    fn fits(v: i128) -> bool {
+        -128 <= v && v <= 127
+    }
+
+    #[tactic(auto, using(crate::proofs::DownLemmas::down_by_shift, crate::proofs::DownLemmas::down_past, crate::proofs::DownLemmas::down_past_below))]
+    fn floor_shift(self, k: u32) -> i8 {
+        if k >= 8 {
+            if self < 0 { -1 } else { 0 }
+        } else {
+            self >> k
+        }
+    }
+
+    ghost width_law = { width_8 };
+
+    ghost zero_law = { refl };
+
+    ghost min_law = { refl };
+
+    ghost max_law = { refl };
+
+    ghost wrap_law = { wrapped_signed 8 refl };
+
+    ghost back_law = { back_signed 8 refl };
+
+    ghost order_law = { λ _ _. refl };
+
+    ghost eq_law = { eq_signed };
+}
+
+impl Inner for i16 {
+    const BITS: u32 = 16;
+
+    const SIGNED: bool = true;
+
+    const ZERO: i16 = 0;
+
+    const MIN: i16 = -32768;
+
+    const MAX: i16 = 32767;
+
+    ghost BITS = { 16 };
+
+    ghost SIGNED = { true };
+
+    ghost ZERO = { pos 0 };
+
+    ghost MIN = { negsuc 32767 };
+
+    ghost MAX = { pos 32767 };
+
+    ghost number = { λ x. x };
+
+    ghost wrapped = { λ v. wrap_to_signed 16 v };
+
+    fn value(self) -> i128 {
+        self as i128
+    }
+
+    fn wrap(v: i128) -> i16 {
+        (low_bits(v, 16) as u16).cast_signed()
+    }
+
+    fn saturate(v: i128) -> i16 {
+        if v < -32768 {
+            -32768
+        } else if v > 32767 {
+            32767
+        } else {
+            v as i16
+        }
+    }
+
+    fn fits(v: i128) -> bool {
+        -32768 <= v && v <= 32767
+    }
+
+    #[tactic(auto, using(crate::proofs::DownLemmas::down_by_shift, crate::proofs::DownLemmas::down_past, crate::proofs::DownLemmas::down_past_below))]
+    fn floor_shift(self, k: u32) -> i16 {
+        if k >= 16 {
+            if self < 0 { -1 } else { 0 }
+        } else {
+            self >> k
+        }
+    }
+
+    ghost width_law = { width_16 };
+
+    ghost zero_law = { refl };
+
+    ghost min_law = { refl };
+
+    ghost max_law = { refl };
+
+    ghost wrap_law = { wrapped_signed 16 refl };
+
+    ghost back_law = { back_signed 16 refl };
+
+    ghost order_law = { λ _ _. refl };
+
+    ghost eq_law = { eq_signed };
+}
+
+impl Inner for i32 {
+    const BITS: u32 = 32;
+
+    const SIGNED: bool = true;
+
+    const ZERO: i32 = 0;
+
+    const MIN: i32 = -2147483648;
+
+    const MAX: i32 = 2147483647;
+
+    ghost BITS = { 32 };
+
+    ghost SIGNED = { true };
+
+    ghost ZERO = { pos 0 };
+
+    ghost MIN = { negsuc 2147483647 };
+
+    ghost MAX = { pos 2147483647 };
+
+    ghost number = { λ x. x };
+
+    ghost wrapped = { λ v. wrap_to_signed 32 v };
+
+    fn value(self) -> i128 {
+        self as i128
+    }
+
+    fn wrap(v: i128) -> i32 {
+        (low_bits(v, 32) as u32).cast_signed()
+    }
+
+    fn saturate(v: i128) -> i32 {
+        if v < -2147483648 {
+            -2147483648
+        } else if v > 2147483647 {
+            2147483647
+        } else {
+            v as i32
+        }
+    }
+
+    fn fits(v: i128) -> bool {
+        -2147483648 <= v && v <= 2147483647
+    }
+
+    #[tactic(auto, using(crate::proofs::DownLemmas::down_by_shift, crate::proofs::DownLemmas::down_past, crate::proofs::DownLemmas::down_past_below))]
+    fn floor_shift(self, k: u32) -> i32 {
+        if k >= 32 {
+            if self < 0 { -1 } else { 0 }
+        } else {
+            self >> k
+        }
+    }
+
+    ghost width_law = { width_32 };
+
+    ghost zero_law = { refl };
+
+    ghost min_law = { refl };
+
+    ghost max_law = { refl };
+
+    ghost wrap_law = { wrapped_signed 32 refl };
+
+    ghost back_law = { back_signed 32 refl };
+
+    ghost order_law = { λ _ _. refl };
+
+    ghost eq_law = { eq_signed };
+}
+
+impl Inner for i64 {
+    const BITS: u32 = 64;
+
+    const SIGNED: bool = true;
+
+    const ZERO: i64 = 0;
+
+    const MIN: i64 = -9223372036854775808;
+
+    const MAX: i64 = 9223372036854775807;
+
+    ghost BITS = { 64 };
+
+    ghost SIGNED = { true };
+
+    ghost ZERO = { pos 0 };
+
+    ghost MIN = { negsuc 9223372036854775807 };
+
+    ghost MAX = { pos 9223372036854775807 };
+
+    ghost number = { λ x. x };
+
+    ghost wrapped = { λ v. wrap_to_signed 64 v };
+
+    fn value(self) -> i128 {
+        self as i128
+    }
+
+    fn wrap(v: i128) -> i64 {
+        (low_bits(v, 64) as u64).cast_signed()
+    }
+
+    fn saturate(v: i128) -> i64 {
+        if v < -9223372036854775808 {
+            -9223372036854775808
+        } else if v > 9223372036854775807 {
+            9223372036854775807
+        } else {
+            v as i64
+        }
+    }
+
+    fn fits(v: i128) -> bool {
+        -9223372036854775808 <= v && v <= 9223372036854775807
+    }
+
+    #[tactic(auto, using(crate::proofs::DownLemmas::down_by_shift, crate::proofs::DownLemmas::down_past, crate::proofs::DownLemmas::down_past_below))]
+    fn floor_shift(self, k: u32) -> i64 {
+        if k >= 64 {
+            if self < 0 { -1 } else { 0 }
+        } else {
+            self >> k
+        }
+    }
+
+    ghost width_law = { width_64 };
+
+    ghost zero_law = { refl };
+
+    ghost min_law = { refl };
+
+    ghost max_law = { refl };
+
+    ghost wrap_law = { wrapped_signed 64 refl };
+
+    ghost back_law = { back_signed 64 refl };
+
+    ghost order_law = { λ _ _. refl };
+
+    ghost eq_law = { eq_signed };
+}
+
+#[cfg(test)]
+mod tests {
+    use super::*;
+
+    /// What the bound alone says of a type: its ends, and what lies one step behind them.
+    fn ends_fit<I: Inner>() -> bool {
+        let low = I::MIN.value();
+        let high = I::MAX.value();
+        I::fits(low) && I::fits(high) && !I::fits(low - 1) && !I::fits(high + 1)
+    }
+
+    /// Whether one step behind an end is cut to it, or comes in at the other end.
+    fn ends_meet<I: Inner>() -> bool {
+        let low = I::MIN.value();
+        let high = I::MAX.value();
+        I::saturate(low - 1) == I::MIN
+            && I::saturate(high + 1) == I::MAX
+            && I::wrap(low - 1) == I::MAX
+            && I::wrap(high + 1) == I::MIN
+            && I::wrap(0) == I::ZERO
+    }
+
+    /// Whether a shift by one rounds down, and one by all bits leaves the sign alone.
+    fn shifts_round_down<I: Inner>() -> bool {
+        let low = I::MIN.value();
+        let sign = if I::SIGNED { -1 } else { 0 };
+        I::MAX.floor_shift(1).value() == (I::MAX.value() - 1) / 2
+            && I::MAX.floor_shift(I::BITS) == I::ZERO
+            && I::MIN.floor_shift(1).value() == low / 2
+            && I::MIN.floor_shift(I::BITS).value() == sign
+    }
+
+    #[test]
+    fn each_type_ends_where_its_range_does(rt: HostRuntime) {
+        assert!(rt;
+            ends_fit::<u8>() && ends_fit::<u16>() && ends_fit::<u32>() && ends_fit::<u64>()
+        );
+        assert!(rt;
+            ends_fit::<i8>() && ends_fit::<i16>() && ends_fit::<i32>() && ends_fit::<i64>()
+        );
+    }
+
+    #[test]
+    fn each_type_cuts_and_wraps_behind_its_ends(rt: HostRuntime) {
+        assert!(rt;
+            ends_meet::<u8>() && ends_meet::<u16>() && ends_meet::<u32>() && ends_meet::<u64>()
+        );
+        assert!(rt;
+            ends_meet::<i8>() && ends_meet::<i16>() && ends_meet::<i32>() && ends_meet::<i64>()
+        );
+    }
+
+    #[test]
+    fn each_type_shifts_down(rt: HostRuntime) {
+        assert!(rt; shifts_round_down::<u8>() && shifts_round_down::<u16>());
+        assert!(rt; shifts_round_down::<u32>() && shifts_round_down::<u64>());
+        assert!(rt; shifts_round_down::<i8>() && shifts_round_down::<i16>());
+        assert!(rt; shifts_round_down::<i32>() && shifts_round_down::<i64>());
+    }
+
+    fn ends<I: Inner>() -> (i128, i128) {
+        (I::MIN.value(), I::MAX.value())
+    }
+
+    #[test]
+    fn the_ends_are_those_of_the_widths(rt: HostRuntime) {
+        assert!(rt; ends::<u8>() == (0, 255) && ends::<i8>() == (-128, 127));
+        assert!(rt; ends::<u16>() == (0, 65535) && ends::<i16>() == (-32768, 32767));
+        assert!(rt; ends::<u32>() == (0, 4294967295));
+        assert!(rt; ends::<i32>() == (-2147483648, 2147483647));
+        assert!(rt; ends::<u64>() == (0, 18446744073709551615));
+        assert!(rt; ends::<i64>() == (-9223372036854775808, 9223372036854775807));
+    }
+}

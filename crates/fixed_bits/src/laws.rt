@@ -1,0 +1,70 @@
+//! Laws of the definitions, each the contract of a function that does nothing.
+
+ghost use Rattle.fixed_bits.specs.Laws.{
+  NearestIsTheOne,
+  RoundedIsTheOne,
+  EqualFractionsRoundAlike,
+  RangeIsDecided,
+  EndsAreWide,
+  ImagesAgree,
+  CheckedHasNone,
+  ImageIsTheOne,
+  ImageIsInRange,
+  DownIsTheOne,
+  DownKeepsOrder,
+};
+
+/// Each fraction has exactly one nearest number of steps.
+pub fn nearest_is_the_one()
+    ensures { NearestIsTheOne }
+{}
+
+/// Each fraction has exactly one number of steps in each mode, for either sign.
+pub fn rounded_is_the_one()
+    ensures { RoundedIsTheOne }
+{}
+
+/// Equal fractions are rounded to the same number of steps.
+pub fn equal_fractions_round_alike()
+    ensures { EqualFractionsRoundAlike }
+{}
+
+/// A number is either in a range or out of it.
+pub fn range_is_decided()
+    ensures { RangeIsDecided }
+{}
+
+/// The ends of a range of at most 64 bits lie within -2^63 and 2^64 - 1.
+pub fn ends_are_wide()
+    ensures { EndsAreWide }
+{}
+
+/// In range all policies give the number itself.
+pub fn images_agree()
+    ensures { ImagesAgree }
+{}
+
+/// Out of range there is no Checked image.
+pub fn checked_has_none()
+    ensures { CheckedHasNone }
+{}
+
+/// A number has at most one image under a policy.
+pub fn image_is_the_one()
+    ensures { ImageIsTheOne }
+{}
+
+/// An image is in range.
+pub fn image_is_in_range()
+    ensures { ImageIsInRange }
+{}
+
+/// The number moved down is the one that the definition names.
+pub fn down_is_the_one()
+    ensures { DownIsTheOne }
+{}
+
+/// Moving down keeps order.
+pub fn down_keeps_order()
+    ensures { DownKeepsOrder }
+{}

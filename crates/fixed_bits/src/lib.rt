@@ -1,0 +1,15 @@
+//! Integer types that hold the bits of fixed-point numbers, formats, images of numbers out of range, and rounding modes.
+#![tactic(auto)]
+
+pub mod bits;
+pub mod format;
+pub mod inner;
+mod integer_types;
+pub mod laws;
+mod masks;
+pub mod mode;
+
+pub use bits::FixedBits;
+pub use format::{Format, Policy, mul10};
+pub use inner::Inner;
+pub use mode::ReadMode;
