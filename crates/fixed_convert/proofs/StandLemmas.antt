@@ -1,0 +1,111 @@
+-- Numbers that stand in for others: the same images, the same side of every range.
+use Rattle.std.proofs.Common.{IsTrue, not, ◌≡◌, ℕ, suc, ◌+◌, ◌-◌, ◌*◌, ◌^◌, ◌≤◌, Bool, true, false, ℤ, pos, negsuc, neg_ℤ, arith, refl, sym, ap, inl, inr, ⊎_elim, ◌∙◌, mul-le-mul_right}
+use Rattle.std.specs.Prelude.{◌<ℤ◌, ◌↔◌}
+use Rattle.std.proofs.lemmas.Int.{ints, by_lt_z}
+use Rattle.std.proofs.lemmas.Nat.{pow-add}
+use Rattle.std.proofs.Math.Pow.{pow_mono}
+use Rattle.fixed_bits.specs.Ranges.{IsInRange, IsOutOfRange, IsWide, lowest, greatest}
+use Rattle.fixed_bits.specs.Images.{IsImage, DiffersByMultiple}
+use Rattle.fixed_bits.specs.declared.format.Policy.{Policy}
+use Rattle.fixed_bits.specs.declared.format.Policy.TheVariants.{Checked, Saturating, Wrapping}
+use Rattle.fixed_bits.proofs.ImageLemmas.{near_joined}
+use Rattle.fixed_bits.proofs.LawLemmas.{range_decided, ends_wide}
+use Rattle.fixed_convert.specs.Moved.{shifted, StandsFor, OnSameSide}
+
+-- ---- both are on the same side of each wide number
+pub side_turned : (v w : ℤ) → OnSameSide v w → OnSameSide w v
+side_turned v w (inl e) = inl (sym e)
+side_turned v w (inr (inl h)) = inr (inl (h.1, h.0))
+side_turned v w (inr (inr h)) = inr (inr (h.1, h.0))
+
+pub side_below : (v w e : ℤ) → OnSameSide v w → IsWide e → v <ℤ e → w <ℤ e
+side_below v w e (inl q) x h = rw q h
+side_below v w e (inr (inl q)) x h = absurd (let a = q.0 in let b = x.high in omega (arith, ints))
+side_below v w e (inr (inr q)) x h = let a = q.1 in let b = x.low in omega (arith, ints)
+
+pub side_above : (v w e : ℤ) → OnSameSide v w → IsWide e → e <ℤ v → e <ℤ w
+side_above v w e (inl q) x h = rw q h
+side_above v w e (inr (inl q)) x h = let a = q.1 in let b = x.high in omega (arith, ints)
+side_above v w e (inr (inr q)) x h = absurd (let a = q.0 in let b = x.low in omega (arith, ints))
+
+pub side_in : (s : Bool) (n : ℕ) (v w : ℤ) → n ≤ 64 → OnSameSide v w → IsInRange s n v → IsInRange s n w
+side_in s n v w l o h = record {
+  low = by_lt_z w (lowest s n)
+      (λ x. absurd (let a = h.low in let b = side_below w v (lowest s n) (side_turned v w o) (ends_wide s n l).0 x in omega (arith, ints)))
+      (λ x. x);
+  high = by_lt_z (greatest s n) w
+      (λ x. absurd (let a = h.high in let b = side_above w v (greatest s n) (side_turned v w o) (ends_wide s n l).1 x in omega (arith, ints)))
+      (λ x. x);
+}
+
+pub side_out : (s : Bool) (n : ℕ) (v w : ℤ) → n ≤ 64 → OnSameSide v w → IsOutOfRange s n v → IsOutOfRange s n w
+side_out s n v w l o (inl h) = inl (side_below v w (lowest s n) o (ends_wide s n l).0 h)
+side_out s n v w l o (inr h) = inr (side_above v w (greatest s n) o (ends_wide s n l).1 h)
+
+pub side_same : (s : Bool) (n : ℕ) (v w : ℤ) → n ≤ 64 → OnSameSide v w → IsInRange s n v → w ≡ v
+side_same s n v w l (inl e) h = e
+side_same s n v w l (inr (inl q)) h = absurd (let a = q.0 in let b = h.high in let c = (ends_wide s n l).1.high in omega (arith, ints))
+side_same s n v w l (inr (inr q)) h = absurd (let a = q.0 in let b = h.low in let c = (ends_wide s n l).0.low in omega (arith, ints))
+
+-- ---- the same images
+pub near_less : (n : ℕ) (a b : ℤ) → n ≤ 64 → DiffersByMultiple (2 ^ 64) a b → DiffersByMultiple (2 ^ n) a b
+near_less n a b l w =
+    let i : (64 - n) + n ≡ 64 = omega arith in
+    let e : 2 ^ 64 ≡ 2 ^ (64 - n) * 2 ^ n = ap (λ x. 2 ^ x) (sym i) ∙ pow-add 2 (64 - n) n in
+    let p : w.0 * 2 ^ 64 ≡ w.0 * 2 ^ (64 - n) * 2 ^ n = ap (λ x. w.0 * x) e ∙ omega arith in
+    let q : w.1 * 2 ^ 64 ≡ w.1 * 2 ^ (64 - n) * 2 ^ n = ap (λ x. w.1 * x) e ∙ omega arith in
+    (w.0 * 2 ^ (64 - n), w.1 * 2 ^ (64 - n), rw (p, q) at w.2)
+
+pub stand_image : (p : Policy) (s : Bool) (n : ℕ) (v w c : ℤ) → n ≤ 64 → StandsFor v w → IsImage p s n w c → IsImage p s n v c
+stand_image Checked s n v w c l st h =
+    let back = side_turned v w st.side in
+    record { in_range = side_in s n w v l back h.in_range; same = h.same ∙ sym (side_same s n w v l back h.in_range) }
+stand_image Saturating s n v w c l st h = record {
+  same = λ x. h.same (side_in s n v w l st.side x) ∙ side_same s n v w l st.side x;
+  below = λ x. h.below (side_below v w (lowest s n) st.side (ends_wide s n l).0 x);
+  above = λ x. h.above (side_above v w (greatest s n) st.side (ends_wide s n l).1 x);
+}
+stand_image Wrapping s n v w c l st h = record {
+  in_range = h.in_range;
+  near = near_joined (2 ^ n) c w v h.near (near_less n w v l st.near);
+}
+
+-- ---- what stands in for a product
+split_power : (k : ℕ) → 64 ≤ k → 2 ^ k ≡ 2 ^ (k - 64) * 2 ^ 64
+split_power k l = let i : k ≡ (k - 64) + 64 = omega arith in ap (λ x. 2 ^ x) i ∙ pow-add 2 (k - 64) 64
+
+pub stand_above : (b : ℤ) (k : ℕ) → 64 ≤ k → pos 0 <ℤ b → StandsFor (shifted b k) (pos (2 ^ 64))
+stand_above (pos a) k l h =
+    let e : a * 2 ^ k ≡ a * 2 ^ (k - 64) * 2 ^ 64 = ap (λ x. a * x) (split_power k l) ∙ omega arith in
+    let p : 2 ^ 64 ≤ 2 ^ k = pow_mono l in
+    let one : 1 ≤ a = omega (arith, ints) in
+    let q : 1 * 2 ^ k ≤ a * 2 ^ k = mul-le-mul_right (2 ^ k) one in
+    record {
+      near = (a * 2 ^ (k - 64), 1, omega (arith, ints, e));
+      side = inr (inl (omega (arith, ints, p, q), omega (arith, ints)));
+    }
+stand_above (negsuc a) k l h = absurd (omega (arith, ints))
+
+pub stand_below : (b : ℤ) (k : ℕ) → 64 ≤ k → b <ℤ pos 0 → StandsFor (shifted b k) (neg_ℤ (pos (2 ^ 64)))
+stand_below (pos a) k l h = absurd (omega (arith, ints))
+stand_below (negsuc a) k l h =
+    let e : suc a * 2 ^ k ≡ suc a * 2 ^ (k - 64) * 2 ^ 64 = ap (λ x. suc a * x) (split_power k l) ∙ omega arith in
+    let p : 2 ^ 64 ≤ 2 ^ k = pow_mono l in
+    let one : 1 ≤ suc a = omega arith in
+    let q : 1 * 2 ^ k ≤ suc a * 2 ^ k = mul-le-mul_right (2 ^ k) one in
+    record {
+      near = (1, suc a * 2 ^ (k - 64), omega (arith, ints, e));
+      side = inr (inr (omega (arith, ints, p, q), omega (arith, ints)));
+    }
+
+-- ---- a test of the one is a test of the other
+pub stand_test : (A : Type 0) (s : Bool) (n : ℕ) (v w : ℤ) → n ≤ 64 → StandsFor v w → A ↔ IsOutOfRange s n w → A ↔ IsOutOfRange s n v
+stand_test A s n v w l st e = ((λ a. side_out s n w v l (side_turned v w st.side) (e.0 a)), (λ o. e.1 (side_out s n v w l st.side o)))
+
+pub stand_none : (A P : Type 0) (s : Bool) (n : ℕ) (v w : ℤ) → n ≤ 64 → StandsFor v w → A ↔ (P × IsOutOfRange s n w) → A ↔ (P × IsOutOfRange s n v)
+stand_none A P s n v w l st e = ((λ a. ((e.0 a).0, side_out s n w v l (side_turned v w st.side) (e.0 a).1)), (λ o. e.1 (o.0, side_out s n v w l st.side o.1)))
+
+-- the contrary of "in range"
+pub flag_out : (t : Bool) (s : Bool) (n : ℕ) (v : ℤ) → (IsTrue t ↔ IsInRange s n v) → IsTrue (not t) ↔ IsOutOfRange s n v
+flag_out true s n v e = ((λ x. absurd (let y : false ≡ true = x in cc)), (λ o. absurd ((range_decided s n v).1 o (e.0 refl))))
+flag_out false s n v e = ((λ x. ⊎_elim (λ h. absurd (let y : false ≡ true = e.1 h in cc)) (λ o. o) (range_decided s n v).0), (λ o. refl))

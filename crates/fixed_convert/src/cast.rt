@@ -1,0 +1,182 @@
+//! Casts between numbers. The moved number is the bits of the source, moved down from its fraction length to that of the target.
+
+ghost use Rattle.std.specs.Prelude.{◌≡◌, ◌↔◌, ◌≤◌, Bool, IsTrue, IsSome, IfSome, Option};
+ghost use Rattle.fixed_bits.specs.Ranges.{IsInRange, IsOutOfRange};
+ghost use Rattle.fixed_bits.specs.Images.{IsImage};
+ghost use Rattle.fixed_bits.specs.Down.{down};
+ghost use Rattle.fixed_bits.specs.declared.format.Policy.TheVariants.{Saturating, Wrapping};
+
+use crate::num::{Num, NumTarget};
+use crate::to_number::{
+    checked_number, overflowing_number, plain_number, saturating_number, wrapping_number,
+};
+
+/// A cast that gives the moved number, which fits.
+pub trait Cast<D> {
+    /// What has to hold before the call.
+    ghost can_cast: { Self → Type 0 };
+
+    /// What the answer is.
+    ghost cast_gives: { Self → D → Type 0 };
+
+    /// Gives the moved number, which fits.
+    fn cast(self) -> D
+        requires { can_cast self }
+        ensures { cast_gives self result };
+}
+
+impl<S: Num, D: NumTarget> Cast<D> for S {
+    ghost can_cast = { λ s. (S.FRAC ≤ S.WIDTH) × (D.FRAC ≤ D.WIDTH) × IsInRange D.SIGNED D.WIDTH (down (S.wide s) S.FRAC D.FRAC) };
+
+    ghost cast_gives = { λ s d. D.wide d ≡ down (S.wide s) S.FRAC D.FRAC };
+
+    fn cast(self) -> D {
+        plain_number(self.to_wide(), S::FRAC)
+    }
+}
+
+/// A cast that gives the moved number, where it fits.
+pub trait CheckedCast<D> {
+    /// What has to hold before the call.
+    ghost can_checked_cast: { Self → Type 0 };
+
+    /// What the answer is.
+    ghost checked_cast_gives: { Self → Option D → Type 0 };
+
+    /// Gives the moved number; `None` exactly where it does not fit.
+    fn checked_cast(self) -> Option<D>
+        requires { can_checked_cast self }
+        ensures { checked_cast_gives self result };
+}
+
+impl<S: Num, D: NumTarget> CheckedCast<D> for S {
+    ghost can_checked_cast = { λ s. (S.FRAC ≤ S.WIDTH) × (D.FRAC ≤ D.WIDTH) };
+
+    ghost checked_cast_gives = { λ s r. (IsSome r ↔ IsInRange D.SIGNED D.WIDTH (down (S.wide s) S.FRAC D.FRAC))
+        × IfSome r (λ d. D.wide d ≡ down (S.wide s) S.FRAC D.FRAC) };
+
+    fn checked_cast(self) -> Option<D> {
+        checked_number(self.to_wide(), S::FRAC)
+    }
+}
+
+/// A cast that gives the Saturating image of the moved number.
+pub trait SaturatingCast<D> {
+    /// What has to hold before the call.
+    ghost can_saturating_cast: { Self → Type 0 };
+
+    /// What the answer is.
+    ghost saturating_cast_gives: { Self → D → Type 0 };
+
+    /// Gives the Saturating image of the moved number.
+    fn saturating_cast(self) -> D
+        requires { can_saturating_cast self }
+        ensures { saturating_cast_gives self result };
+}
+
+impl<S: Num, D: NumTarget> SaturatingCast<D> for S {
+    ghost can_saturating_cast = { λ s. (S.FRAC ≤ S.WIDTH) × (D.FRAC ≤ D.WIDTH) };
+
+    ghost saturating_cast_gives = { λ s d. IsImage Saturating D.SIGNED D.WIDTH (down (S.wide s) S.FRAC D.FRAC) (D.wide d) };
+
+    fn saturating_cast(self) -> D {
+        saturating_number(self.to_wide(), S::FRAC)
+    }
+}
+
+/// A cast that gives the Wrapping image of the moved number.
+pub trait WrappingCast<D> {
+    /// What has to hold before the call.
+    ghost can_wrapping_cast: { Self → Type 0 };
+
+    /// What the answer is.
+    ghost wrapping_cast_gives: { Self → D → Type 0 };
+
+    /// Gives the Wrapping image of the moved number.
+    fn wrapping_cast(self) -> D
+        requires { can_wrapping_cast self }
+        ensures { wrapping_cast_gives self result };
+}
+
+impl<S: Num, D: NumTarget> WrappingCast<D> for S {
+    ghost can_wrapping_cast = { λ s. (S.FRAC ≤ S.WIDTH) × (D.FRAC ≤ D.WIDTH) };
+
+    ghost wrapping_cast_gives = { λ s d. IsImage Wrapping D.SIGNED D.WIDTH (down (S.wide s) S.FRAC D.FRAC) (D.wide d) };
+
+    fn wrapping_cast(self) -> D {
+        wrapping_number(self.to_wide(), S::FRAC)
+    }
+}
+
+/// A cast that gives the Wrapping image of the moved number, and whether it does not fit.
+pub trait OverflowingCast<D> {
+    /// What has to hold before the call.
+    ghost can_overflowing_cast: { Self → Type 0 };
+
+    /// What the answer is.
+    ghost overflowing_cast_gives: { Self → D → Bool → Type 0 };
+
+    /// Gives the Wrapping image of the moved number, and whether it does not fit.
+    fn overflowing_cast(self) -> (D, bool)
+        requires { can_overflowing_cast self }
+        ensures { overflowing_cast_gives self result.0 result.1 };
+}
+
+impl<S: Num, D: NumTarget> OverflowingCast<D> for S {
+    ghost can_overflowing_cast = { λ s. (S.FRAC ≤ S.WIDTH) × (D.FRAC ≤ D.WIDTH) };
+
+    ghost overflowing_cast_gives = { λ s d o. IsImage Wrapping D.SIGNED D.WIDTH (down (S.wide s) S.FRAC D.FRAC) (D.wide d)
+        × (IsTrue o ↔ IsOutOfRange D.SIGNED D.WIDTH (down (S.wide s) S.FRAC D.FRAC)) };
+
+    fn overflowing_cast(self) -> (D, bool) {
+        overflowing_number(self.to_wide(), S::FRAC)
+    }
+}
+
+/// A cast that gives the moved number, which fits.
+pub trait StrictCast<D> {
+    /// What has to hold before the call.
+    ghost can_strict_cast: { Self → Type 0 };
+
+    /// What the answer is.
+    ghost strict_cast_gives: { Self → D → Type 0 };
+
+    /// Gives the moved number, which fits.
+    fn strict_cast(self) -> D
+        requires { can_strict_cast self }
+        ensures { strict_cast_gives self result };
+}
+
+impl<S: Num, D: NumTarget> StrictCast<D> for S {
+    ghost can_strict_cast = { λ s. (S.FRAC ≤ S.WIDTH) × (D.FRAC ≤ D.WIDTH) × IsInRange D.SIGNED D.WIDTH (down (S.wide s) S.FRAC D.FRAC) };
+
+    ghost strict_cast_gives = { λ s d. D.wide d ≡ down (S.wide s) S.FRAC D.FRAC };
+
+    fn strict_cast(self) -> D {
+        plain_number(self.to_wide(), S::FRAC)
+    }
+}
+
+/// A cast that gives the moved number, which fits.
+pub trait UnwrappedCast<D> {
+    /// What has to hold before the call.
+    ghost can_unwrapped_cast: { Self → Type 0 };
+
+    /// What the answer is.
+    ghost unwrapped_cast_gives: { Self → D → Type 0 };
+
+    /// Gives the moved number, which fits.
+    fn unwrapped_cast(self) -> D
+        requires { can_unwrapped_cast self }
+        ensures { unwrapped_cast_gives self result };
+}
+
+impl<S: Num, D: NumTarget> UnwrappedCast<D> for S {
+    ghost can_unwrapped_cast = { λ s. (S.FRAC ≤ S.WIDTH) × (D.FRAC ≤ D.WIDTH) × IsInRange D.SIGNED D.WIDTH (down (S.wide s) S.FRAC D.FRAC) };
+
+    ghost unwrapped_cast_gives = { λ s d. D.wide d ≡ down (S.wide s) S.FRAC D.FRAC };
+
+    fn unwrapped_cast(self) -> D {
+        plain_number(self.to_wide(), S::FRAC)
+    }
+}

@@ -1,0 +1,130 @@
+//! A number moved down to another fraction length.
+
+ghost use Rattle.std.specs.Prelude.{◌≡◌, ◌↔◌, ◌≤◌, ◌<◌, ◌-◌, IsTrue, IsNone, IfSome};
+ghost use Rattle.fixed_bits.specs.Ranges.{IsInRange, IsOutOfRange, IsWide};
+ghost use Rattle.fixed_bits.specs.Images.{IsImage};
+ghost use Rattle.fixed_bits.specs.Down.{IsDown, down};
+ghost use Rattle.fixed_bits.specs.declared.format.Policy.TheVariants.{Checked, Saturating, Wrapping};
+ghost use Rattle.fixed_convert.specs.Moved.{shifted, StandsFor};
+
+use fixed_bits::{Format, Inner, Policy};
+
+/// The whole number `bits` times two to the power of `shift`.
+#[derive(Clone, Copy, Debug, PartialEq, Eq)]
+pub struct Floored {
+    /// A number within -2^63 and 2^64 - 1 wherever `floor_into` made it.
+    pub bits: i128,
+    /// How many zero bits are to follow, at most 64 wherever `floor_into` made it.
+    pub shift: u32,
+}
+
+impl Floored {
+    /// The Wrapping image of the number in the type's range.
+    pub fn wrap<I: Inner>(self) -> I
+        requires wide { IsWide self.bits }
+        requires shift { self.shift ≤ 64 }
+        ensures { IsImage Wrapping I.SIGNED I.BITS (shifted self.bits self.shift) (I.number result) }
+    {
+        I::wrap(self.stand_in())
+    }
+
+    /// The Saturating image of the number in the type's range.
+    pub fn clamp<I: Inner>(self) -> I
+        requires wide { IsWide self.bits }
+        requires shift { self.shift ≤ 64 }
+        ensures { IsImage Saturating I.SIGNED I.BITS (shifted self.bits self.shift) (I.number result) }
+    {
+        I::saturate(self.stand_in())
+    }
+
+    /// Whether the number is in the type's range.
+    pub fn fits<I: Inner>(self) -> bool
+        requires wide { IsWide self.bits }
+        requires shift { self.shift ≤ 64 }
+        ensures { IsTrue result ↔ IsInRange I.SIGNED I.BITS (shifted self.bits self.shift) }
+    {
+        I::fits(self.stand_in())
+    }
+
+    /// The number itself, or where it may be longer than 127 bits one with the same images.
+    pub(crate) fn stand_in(self) -> i128
+        requires { IsWide self.bits }
+        ensures { StandsFor (shifted self.bits self.shift) result }
+    {
+        if self.shift < 64 {
+            times_power(self.bits, self.shift)
+        } else if self.bits > 0 {
+            1 << 64
+        } else if self.bits < 0 {
+            -(1 << 64)
+        } else {
+            0
+        }
+    }
+}
+
+/// A number times two to the power of `shift`.
+fn times_power(b: i128, shift: u32) -> i128
+    requires wide { IsWide b }
+    requires shift { shift < 64 }
+    ensures { result ≡ shifted b shift }
+{
+    b << shift
+}
+
+/// The bits `b` moved down from fraction length `from` to fraction length `g`: the greatest whole number that is not above `b` times two to the power of `g`, over two to the power of `from`.
+pub fn floor_into(b: i128, from: u32, g: u32) -> Floored
+    requires wide { IsWide b }
+    requires from { from ≤ 64 }
+    requires to { g ≤ 64 }
+    ensures number { shifted result.bits result.shift ≡ down b from g }
+    ensures relation { IsDown b from g (shifted result.bits result.shift) }
+    ensures wide { IsWide result.bits }
+    ensures shift { result.shift ≤ 64 }
+{
+    if from <= g {
+        Floored {
+            bits: b,
+            shift: g - from,
+        }
+    } else {
+        Floored {
+            bits: shifted_out(b, from - g),
+            shift: 0,
+        }
+    }
+}
+
+/// The bits without the last `k`.
+fn shifted_out(b: i128, k: u32) -> i128
+    requires wide { IsWide b }
+    requires shift { k ≤ 64 }
+    ensures number { IsDown b k 0 result }
+    ensures wide { IsWide result }
+{
+    b >> k
+}
+
+/// The image of the bits `b`, moved down from fraction length `from` to that of the format, and whether the moved number was out of range. `None` exactly where it was, under `Checked`.
+pub fn reformat(format: Format, policy: Policy, b: i128, from: u32) -> Option<(i128, bool)>
+    requires wide { IsWide b }
+    requires from { from ≤ 64 }
+    ensures image { IfSome result (λ r. IsImage policy format.signed format.width (down b from format.frac) r.0) }
+    ensures verdict { IfSome result (λ r. IsTrue r.1 ↔ IsOutOfRange format.signed format.width (down b from format.frac)) }
+    ensures none { IsNone result ↔ ((policy ≡ Checked) × IsOutOfRange format.signed format.width (down b from format.frac)) }
+    ensures range { IfSome result (λ r. IsInRange format.signed format.width r.0) }
+    ensures wide { IfSome result (λ r. IsWide r.0) }
+{
+    let moved = floor_into(b, from, format.frac()).stand_in();
+    match policy.image(format, moved) {
+        Some(c) => Some((c, is_out(format, moved))),
+        None => None,
+    }
+}
+
+/// Whether a number is out of the format's range.
+fn is_out(format: Format, v: i128) -> bool
+    ensures { IsTrue result ↔ IsOutOfRange format.signed format.width v }
+{
+    v < format.lowest() || v > format.greatest()
+}

@@ -1,0 +1,28 @@
+//! Laws of conversions and of the order, each the contract of a function that does nothing.
+
+ghost use Rattle.fixed_convert.specs.Laws.{FinerIsExact, ConversionIsUndone, OrderIsOfValues, OrderIsTotal, ExactIsEqual};
+
+/// Moving to a length that is no shorter loses nothing.
+pub fn finer_is_exact()
+    ensures { FinerIsExact }
+{}
+
+/// A conversion that loses nothing, followed by the one back, is the identity.
+pub fn conversion_is_undone()
+    ensures { ConversionIsUndone }
+{}
+
+/// The order is that of the values.
+pub fn order_is_of_values()
+    ensures { OrderIsOfValues }
+{}
+
+/// The order is total, transitive through a third format, and reversed when its sides are swapped.
+pub fn order_is_total()
+    ensures { OrderIsTotal }
+{}
+
+/// A number moved without loss is ordered as before.
+pub fn exact_is_equal()
+    ensures { ExactIsEqual }
+{}

@@ -1,0 +1,30 @@
+//! The order of values across formats.
+
+ghost use Rattle.std.specs.Prelude.{◌≡◌};
+ghost use Rattle.fixed_bits.specs.Ranges.{IsWide};
+ghost use Rattle.fixed_convert.specs.Order.{order_of};
+
+use crate::floored::Floored;
+use std::cmp::Ordering;
+
+/// How `b` over two to the power of `f` stands to `c` over two to the power of `g`, for fraction lengths `f` and `g` of any size.
+#[tactic(auto, using(crate::proofs::OrderLemmas::comparing))]
+pub fn compare(b: i128, f: u32, c: i128, g: u32) -> Ordering
+    requires left { IsWide b }
+    requires right { IsWide c }
+    ensures { result ≡ order_of b f c g }
+{
+    if f <= g {
+        let left = Floored {
+            bits: b,
+            shift: g - f,
+        };
+        left.stand_in().cmp(&c)
+    } else {
+        let right = Floored {
+            bits: c,
+            shift: f - g,
+        };
+        b.cmp(&right.stand_in())
+    }
+}
