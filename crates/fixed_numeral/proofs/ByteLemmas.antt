@@ -1,0 +1,12 @@
+-- A byte that is a digit, and its value.
+use Rattle.std.proofs.Common.{◌≡◌, ℕ, ◌+◌, ◌*◌, ◌/◌, ◌%◌, ◌<◌, arith}
+use Rattle.std.specs.Char.{digit_value}
+
+pub value_is : (b : ℕ) → digit_value b < 16 → b < 256 → b % 16 + b / 64 * 9 ≡ digit_value b
+value_is b h s = grind arith
+
+pub low_value_is : (b : ℕ) → digit_value b < 10 → b % 16 ≡ digit_value b
+low_value_is b h = grind arith
+
+pub value_zero : (b : ℕ) → digit_value b ≡ 0 → b ≡ 48
+value_zero b h = grind arith

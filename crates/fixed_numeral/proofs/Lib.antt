@@ -1,0 +1,14 @@
+pub mod NumeralLemmas
+pub mod SpelledLemmas
+pub mod ByteLemmas
+pub mod DigitLemmas
+pub mod ViewLemmas
+pub mod NumberLemmas
+pub mod PlaceLemmas
+pub mod MagnitudeLemmas
+pub mod ScanLemmas
+pub mod ValueLemmas
+pub mod LiteralLemmas
+pub mod LiteralScanLemmas
+pub mod LawLemmas
+pub mod StripLemmas

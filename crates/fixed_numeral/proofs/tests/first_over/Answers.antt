@@ -1,0 +1,5 @@
+use Rattle.std.proofs.Common.{refl}
+use Rattle.fixed_numeral.proofs.tests.first_over.Goals as goal
+
+pub take_number-number-requires-clause-digits : goal.take_number-number-requires-clause-digits
+take_number-number-requires-clause-digits g c = let (p, h) = c.in-Ok.ensures.numeral.0 refl in rw c.whole.ensures (c.in-Ok.ensures.value p h).whole_digits

@@ -1,0 +1,38 @@
+-- Why bytes are no numeral.
+use Rattle.std.specs.Prelude.{◌≡◌, ℕ, ◌≤◌, ◌==◌, nat_lt, if◌then◌else◌, Bool, true, false, is_some, List, [], length, take, slice_get, Option, Some, None}
+use Rattle.std.specs.Char.{digit_value}
+use Rattle.fixed_numeral.specs.declared.radix.Radix.{Radix}
+use Rattle.fixed_numeral.specs.declared.error.ParseErrorKind.{ParseErrorKind}
+use Rattle.fixed_numeral.specs.declared.error.ParseErrorKind.TheVariants.{InvalidDigit, MisplacedSign, TooManyPoints, TooManyExp, ExpInvalidDigit, ExpOverflow, NoDigits, ExpNoDigits}
+use Rattle.fixed_numeral.specs.Numeral.{Parts, HasParts, IsBeginning, IsNumeral, is_sign, is_separator, point, mantissa}
+
+-- the first n bytes are the longest front of bs that is a beginning, and p are its parts
+pub record IsLongestBeginning (r : Radix) (bs : List ℕ) (n : ℕ) (p : Parts) : Type 0 where
+  pub within : n ≤ length bs
+  pub beginning : HasParts r (take n bs) p
+  pub longest : (m : ℕ) → m ≤ length bs → IsBeginning r (take m bs) → m ≤ n
+
+-- a byte that offends before any separator
+abbrev pub kind_before : ℕ → ParseErrorKind
+kind_before b = if is_sign b then MisplacedSign else (if b == point then TooManyPoints else InvalidDigit)
+
+-- a byte that offends behind a separator
+abbrev pub kind_behind : Radix → ℕ → ParseErrorKind
+kind_behind r b = if is_sign b then MisplacedSign else (if is_separator r b then TooManyExp else (if nat_lt (digit_value b) 10 then ExpOverflow else ExpInvalidDigit))
+
+abbrev pub is_nil : List ℕ → Bool
+is_nil [] = true
+is_nil _ = false
+
+-- the kind for a longest beginning and the byte behind it
+abbrev pub kind_of : Radix → Parts → Option ℕ → ParseErrorKind
+kind_of r p (Some b) = if is_some p.exponent then kind_behind r b else kind_before b
+kind_of r p None = if is_nil (mantissa p) then NoDigits else ExpNoDigits
+
+-- bs is no numeral, and kind says why
+pub record HasCause (r : Radix) (bs : List ℕ) (kind : ParseErrorKind) : Type 0 where
+  pub none : IsNumeral r bs → ⊥
+  pub count : ℕ
+  pub parts : Parts
+  pub front : IsLongestBeginning r bs count parts
+  pub is_kind : kind ≡ kind_of r parts (slice_get bs count)

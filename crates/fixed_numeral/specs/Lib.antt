@@ -1,0 +1,12 @@
+pub mod Numeral
+pub mod Value
+pub mod Cause
+pub mod Spelled
+pub mod Digits
+pub mod Place
+pub mod Scanned
+pub mod Scan
+pub mod Literal
+pub mod LiteralScan
+pub mod Words
+pub mod Laws

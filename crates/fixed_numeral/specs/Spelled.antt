@@ -1,0 +1,12 @@
+-- The number that two lists of digits spell, one in front of a point and one behind it.
+use Rattle.std.specs.Prelude.{◌≡◌, ℕ, ◌*◌, ◌^◌, List, ◌++◌, length}
+use Rattle.std.specs.Int.Digits.{number_from_digits}
+use Rattle.fixed_numeral.specs.Value.{Fraction}
+
+-- whole.fraction in the base, times 2^shift
+abbrev pub spelled : ℕ → List ℕ → List ℕ → ℕ → Fraction
+spelled base whole fraction shift = record { num = number_from_digits base (whole ++ fraction) * 2 ^ shift; den = base ^ length fraction }
+
+-- two fractions are one number
+abbrev pub IsSameNumber : Fraction → Fraction → Type 0
+IsSameNumber a b = a.num * b.den ≡ b.num * a.den

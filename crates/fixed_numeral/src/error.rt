@@ -1,0 +1,97 @@
+//! Why a text is refused.
+
+ghost use Rattle.std.specs.Prelude.{◌≡◌};
+
+use std::error::Error;
+use std::fmt;
+use std::marker::Model;
+
+/// Why bytes are no numeral, or a numeral has no place in a format.
+#[derive(Clone, Copy, Debug, PartialEq, Eq)]
+pub enum ParseErrorKind {
+    /// A byte that may not stand in front of a separator.
+    InvalidDigit,
+    /// A sign that stands behind another byte of its part, or in front of a literal's rest.
+    MisplacedSign,
+    /// An underscore without a digit before it in its part. Only literals have it.
+    MisplacedUnderscore,
+    /// A second point in front of a separator.
+    TooManyPoints,
+    /// A second separator.
+    TooManyExp,
+    /// A byte that may not stand behind a separator.
+    ExpInvalidDigit,
+    /// The decimal digit with which the exponent leaves the range of i32.
+    ExpOverflow,
+    /// No digit in front of a separator.
+    NoDigits,
+    /// No digit behind a separator.
+    ExpNoDigits,
+    /// A numeral without a place in the format.
+    Overflow,
+}
+
+/// A refused numeral.
+#[derive(Clone, Copy, Debug, PartialEq, Eq)]
+pub struct ParseFixedError {
+    kind: ParseErrorKind,
+}
+
+impl Model for ParseFixedError {
+    ghost use Rattle.fixed_numeral.specs.declared.error.ParseErrorKind.{ParseErrorKind};
+
+    ghost Value = { ParseErrorKind };
+
+    ghost view = { λ e. e.kind };
+
+    ghost inverse = { λ k. record { kind = k } };
+}
+
+impl ParseFixedError {
+    ghost use Rattle.fixed_numeral.specs.Words.{words_of};
+
+    /// The error of that kind.
+    pub fn new(kind: ParseErrorKind) -> ParseFixedError
+        ensures { result ≡ kind }
+    {
+        ParseFixedError { kind }
+    }
+
+    /// Why the text is refused.
+    pub fn kind(self) -> ParseErrorKind
+        ensures { result ≡ self }
+    {
+        self.kind
+    }
+
+    /// The words of the kind, which Display writes too.
+    pub fn message(self) -> &'static str
+        ensures { result.now ≡ words_of self }
+    {
+        match self.kind {
+            ParseErrorKind::InvalidDigit => "invalid digit found in string",
+            ParseErrorKind::MisplacedSign => "misplaced sign found in string",
+            ParseErrorKind::MisplacedUnderscore => "misplaced underscore found in string",
+            ParseErrorKind::TooManyPoints => "more than one point found in string",
+            ParseErrorKind::TooManyExp => "more than one exponent found",
+            ParseErrorKind::ExpInvalidDigit => "invalid digit found in exponent",
+            ParseErrorKind::ExpOverflow => "exponent overflow",
+            ParseErrorKind::NoDigits => "string has no digits",
+            ParseErrorKind::ExpNoDigits => "exponent has no digits",
+            ParseErrorKind::Overflow => "overflow",
+        }
+    }
+}
+
+impl fmt::Display for ParseFixedError {
+    ghost use Rattle.std.specs.Prelude.{Some};
+    ghost use Rattle.fixed_numeral.specs.Words.{words_of};
+
+    ghost output = { λ e. Some (words_of e) };
+
+    fn fmt<W: fmt::Write>(&self, f: &mut fmt::Formatter<W>) -> fmt::Result {
+        f.write_str(self.message())
+    }
+}
+
+impl Error for ParseFixedError {}

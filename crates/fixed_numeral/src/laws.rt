@@ -1,0 +1,43 @@
+//! Laws of numerals and literals, each the contract of a function that does nothing.
+
+ghost use Rattle.fixed_numeral.specs.Laws.{PartsAreDetermined, FrontIsBeginning, NumeralOrCause, OneCause, NeverBoth, DenominatorIsPositive, LiteralIsDetermined, OneLiteralCause};
+
+/// The parts of a beginning, and so those of a numeral, are determined by its bytes.
+pub fn parts_are_determined()
+    ensures { PartsAreDetermined }
+{}
+
+/// Each front of a beginning is a beginning.
+pub fn front_is_beginning()
+    ensures { FrontIsBeginning }
+{}
+
+/// Bytes are a numeral, or there is a cause why they are none.
+pub fn numeral_or_cause()
+    ensures { NumeralOrCause }
+{}
+
+/// Bytes have at most one cause.
+pub fn one_cause()
+    ensures { OneCause }
+{}
+
+/// A numeral has no cause.
+pub fn never_both()
+    ensures { NeverBoth }
+{}
+
+/// The denominator of a magnitude is at least 1.
+pub fn denominator_is_positive()
+    ensures { DenominatorIsPositive }
+{}
+
+/// The parts of a literal are determined by its bytes.
+pub fn literal_is_determined()
+    ensures { LiteralIsDetermined }
+{}
+
+/// Bytes have at most one cause why they are no literal, and a literal has none.
+pub fn one_literal_cause()
+    ensures { OneLiteralCause }
+{}

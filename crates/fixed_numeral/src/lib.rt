@@ -1,0 +1,21 @@
+//! Numerals in radix 2, 8, 10 and 16: what is one, what it is worth, and why bytes are none.
+#![tactic(auto)]
+
+mod error;
+pub mod laws;
+mod literal;
+mod piece;
+mod radix;
+mod scanned;
+mod scanner;
+mod view;
+
+pub use error::{ParseErrorKind, ParseFixedError};
+pub use literal::scan_lit;
+pub use radix::Radix;
+pub use scanned::Scanned;
+pub use scanner::scan;
+pub use view::DigitView;
+
+#[cfg(test)]
+mod tests;

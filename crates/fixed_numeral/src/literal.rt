@@ -1,0 +1,191 @@
+//! Reading a literal: its sign, its prefix, and a numeral in which underscores may stand.
+
+ghost use Rattle.std.specs.Prelude.{◌≡◌, ◌+◌, ◌*◌, ◌^◌, ◌<◌, ◌≤◌, ℕ, ◌&&◌, not, true, IsTrue, IfSome, None, Bool, List, length, MatchResult, IsOk, IfOk, IfErr, ◌↔◌};
+ghost use Rattle.fixed_numeral.specs.declared.radix.Radix.{Radix as TheRadix};
+ghost use Rattle.fixed_numeral.specs.Numeral.{Parts, is_minus, is_sign};
+ghost use Rattle.fixed_numeral.specs.Cause.{is_nil};
+ghost use Rattle.fixed_numeral.specs.Scan.{Agrees, IsComplete, most_magnitude};
+ghost use Rattle.fixed_numeral.specs.Scanned.{IsScanned};
+ghost use Rattle.fixed_numeral.specs.Literal.{HasLiteralParts, HasRest, HasRestCause, HasLiteral, IsLiteral, HasLiteralCause, last_part, sign_of, behind_sign, prefix_of, behind_underscores, radix_by, rest_by, literal_radix};
+ghost use Rattle.fixed_numeral.specs.LiteralScan.{LiteralGoesOn, IsLiteralStuck, IsLiteralAfter};
+
+use crate::error::{ParseErrorKind, ParseFixedError};
+use crate::piece::Piece;
+use crate::radix::Radix;
+use crate::scanned::Scanned;
+use crate::scanner::{State, complete, same_bytes, sign, step};
+use fixed_steps::Steps;
+use std::sync::ledger::Ledger;
+
+fn some(count: u64) -> bool
+    ensures { IsTrue result ↔ (0 < count) }
+{
+    count > 0
+}
+
+/// Whether the part that stands last has a digit.
+fn part_counted(state: State) -> bool
+    ensures { (r : TheRadix) (p : Parts) → Agrees r state p → result ≡ not (is_nil (last_part p)) }
+{
+    if state.separator {
+        state.counted
+    } else if state.point {
+        some(state.fraction)
+    } else {
+        some(state.whole)
+    }
+}
+
+/// Whether the byte is a sign in front of all others.
+fn leads(state: State, b: u8) -> bool
+    ensures { result ≡ (is_sign b && (state.fresh && not state.separator)) }
+{
+    sign(b) && state.fresh && !state.separator
+}
+
+/// The next byte of a literal's rest.
+fn literal_step(state: State, radix: Radix, b: u8) -> Result<State, ParseErrorKind>
+    requires room { state.magnitude ≤ most_magnitude true }
+    requires counts { state.whole + state.fraction + 1 < 2 ^ 64 }
+    ensures { (bs : List ℕ) (p : Parts) → HasLiteralParts radix bs p → Agrees radix state p → MatchResult result (λ next. LiteralGoesOn radix bs b next) (λ kind. IsLiteralStuck radix bs p b kind) }
+{
+    if b == b'_' {
+        if part_counted(state) {
+            Ok(state)
+        } else {
+            Err(ParseErrorKind::MisplacedUnderscore)
+        }
+    } else if leads(state, b) {
+        Err(ParseErrorKind::MisplacedSign)
+    } else {
+        step(state, radix, b)
+    }
+}
+
+/// The state after all bytes of a literal's rest.
+fn read_rest<L: Ledger>(
+    bytes: &[u8],
+    radix: Radix,
+    steps: &mut Steps<L>,
+) -> Result<State, ParseErrorKind>
+    ensures end { MatchResult result (λ state. IsLiteralAfter radix bytes.now state) (λ kind. HasRestCause radix bytes.now kind) }
+    ensures cost { steps.new ≤ steps.old + length bytes.now }
+{
+    let mut state = State::start();
+    for b in bytes {
+        steps.tick();
+        match literal_step(state, radix, *b) {
+            Ok(next) => state = next,
+            Err(kind) => return Err(kind),
+        }
+    }
+    Ok(state)
+}
+
+/// The views of a literal's rest that was read, with the sign that was taken first.
+fn rest_views<'a, L: Ledger>(
+    bytes: &'a [u8],
+    radix: Radix,
+    neg: bool,
+    state: State,
+    steps: &mut Steps<L>,
+) -> Scanned<'a>
+    requires { IsLiteralAfter radix bytes.now state }
+    ensures value { (p : Parts) → HasRest radix bytes.now (record p { sign = None }) → IfSome p.sign (λ b. IsTrue (is_sign b)) → neg ≡ is_minus p.sign → IsScanned radix p result.neg result.whole result.fraction result.bit_shift }
+    ensures cost { steps.new ≤ steps.old + 2 * length bytes.now + 4 }
+{
+    let text = same_bytes(bytes);
+    let (whole, behind) = Piece::front(text, state.whole);
+    let (fraction, _rest) = Piece::front(behind, state.fraction);
+    Scanned::of(
+        radix,
+        neg,
+        whole,
+        fraction,
+        state.two,
+        state.minus,
+        state.magnitude,
+        steps,
+    )
+}
+
+/// Whether a sign is taken first, and what stands behind it.
+fn after_sign(bytes: &[u8], signed: bool) -> (bool, &[u8])
+    ensures sign { result.0 ≡ is_minus (sign_of signed bytes.now) }
+    ensures rest { result.1.now ≡ behind_sign signed bytes.now }
+    ensures shorter { length result.1.now ≤ length bytes.now }
+{
+    if signed && bytes.len() > 0 && bytes[0] == b'-' {
+        (true, &bytes[1..])
+    } else {
+        (false, bytes)
+    }
+}
+
+/// The radix of the prefix in front.
+fn prefix(bytes: &[u8]) -> Option<Radix>
+    ensures { result ≡ prefix_of bytes.now }
+{
+    if bytes.len() < 2 || bytes[0] != b'0' {
+        return None;
+    }
+    match bytes[1] {
+        b'b' => Some(Radix::Bin),
+        b'o' => Some(Radix::Oct),
+        b'x' => Some(Radix::Hex),
+        _ => None,
+    }
+}
+
+/// The bytes without the underscores in front.
+fn after_underscores(bytes: &[u8]) -> &[u8]
+    ensures rest { result.now ≡ behind_underscores bytes.now }
+    ensures shorter { length result.now ≤ length bytes.now }
+{
+    for (k, b) in bytes.iter().enumerate() {
+        if *b != b'_' {
+            return &bytes[k..];
+        }
+    }
+    &[]
+}
+
+/// The radix by the prefix, and what stands behind the prefix and its underscores.
+fn after_prefix(bytes: &[u8]) -> (Radix, &[u8])
+    ensures radix { result.0 ≡ radix_by (prefix_of bytes.now) }
+    ensures rest { result.1.now ≡ rest_by (prefix_of bytes.now) bytes.now }
+    ensures shorter { length result.1.now ≤ length bytes.now }
+{
+    match prefix(bytes) {
+        Some(radix) => (radix, after_underscores(&bytes[2..])),
+        None => (Radix::Dec, bytes),
+    }
+}
+
+/// The radix and the views of a literal, or why the bytes are none.
+///
+/// Where `signed`, one `-` in front is the literal's sign. A prefix `0b`, `0o` or `0x` names the radix, which is 10 without
+/// one. Underscores may stand behind a prefix and behind a digit of their part. The views pass over them. The error is
+/// never `Overflow`. At most 4 steps a byte and 8 more are taken, and none for the bytes in front of the rest.
+pub fn scan_lit<'a, L: Ledger>(
+    bytes: &'a [u8],
+    signed: bool,
+    steps: &mut Steps<L>,
+) -> Result<(Radix, Scanned<'a>), ParseFixedError>
+    ensures literal { IsOk result ↔ IsLiteral signed bytes.now }
+    ensures cause { IfErr result (λ kind. HasLiteralCause signed bytes.now kind) }
+    ensures radix { IfOk result (λ r. r.0 ≡ literal_radix signed bytes.now) }
+    ensures value { IfOk result (λ r. (p : Parts) → HasLiteral signed bytes.now p → IsScanned r.0 p r.1.neg r.1.whole r.1.fraction r.1.bit_shift) }
+    ensures cost { steps.new ≤ steps.old + 4 * length bytes.now + 8 }
+{
+    let (neg, unsigned) = after_sign(bytes, signed);
+    let (radix, rest) = after_prefix(unsigned);
+    let state = match read_rest(rest, radix, steps) {
+        Ok(state) => state,
+        Err(kind) => return Err(ParseFixedError::new(kind)),
+    };
+    match complete(state) {
+        Ok(all) => Ok((radix, rest_views(rest, radix, neg, all, steps))),
+        Err(kind) => Err(ParseFixedError::new(kind)),
+    }
+}

@@ -1,0 +1,139 @@
+//! The views of a numeral, by its parts.
+
+ghost use Rattle.std.specs.Prelude.{◌≡◌, ◌+◌, ◌*◌, ◌<◌, ◌≤◌, ◌^◌, length};
+ghost use Rattle.fixed_numeral.specs.Numeral.{Parts, IsPartsOf, is_minus, digits_behind};
+ghost use Rattle.fixed_numeral.specs.Digits.{digits_in};
+ghost use Rattle.fixed_numeral.specs.Scanned.{bits_of, unit_of, IsShift, AgreesWithExponent, IsScanned};
+
+use crate::piece::Piece;
+use crate::radix::Radix;
+use crate::view::{DigitView, at_point, moved_point};
+use fixed_steps::Steps;
+use std::sync::ledger::Ledger;
+
+/// A numeral's sign, the digits in front of its point and behind it after the point was moved by the exponent, and the
+/// power of two, 0 to 3, that is left of the exponent.
+#[derive(Drop)]
+pub struct Scanned<'a> {
+    neg: bool,
+    whole: DigitView<'a>,
+    fraction: DigitView<'a>,
+    bit_shift: u32,
+}
+
+/// How far the point goes, and the bits that are left.
+#[derive(Clone, Copy)]
+struct Shift {
+    up: u64,
+    down: u64,
+    bits: u32,
+}
+
+fn unit_of(radix: Radix, two: bool) -> u64
+    ensures { result ≡ unit_of radix two }
+{
+    if !two {
+        return 1;
+    }
+    match radix {
+        Radix::Bin => 1,
+        Radix::Oct => 3,
+        Radix::Dec => 1,
+        Radix::Hex => 4,
+    }
+}
+
+fn shift_of(unit: u64, minus: bool, magnitude: u64) -> Shift
+    requires unit { 0 < unit }
+    requires small { unit ≤ 4 }
+    requires magnitude { magnitude ≤ 2 ^ 31 }
+    ensures shift { IsShift minus unit magnitude result.up result.down result.bits }
+    ensures up { result.up ≤ 2 ^ 31 }
+    ensures down { result.down ≤ 2 ^ 31 }
+    ensures bits { result.bits < unit }
+{
+    if minus {
+        let down = (magnitude + unit - 1) / unit;
+        Shift {
+            up: 0,
+            down,
+            bits: (down * unit - magnitude) as u32,
+        }
+    } else {
+        Shift {
+            up: magnitude / unit,
+            down: 0,
+            bits: (magnitude % unit) as u32,
+        }
+    }
+}
+
+impl<'a> Scanned<'a> {
+    /// The views of a numeral with these parts.
+    #[inline(always)]
+    pub(crate) fn of<L: Ledger>(
+        radix: Radix,
+        neg: bool,
+        whole: Piece<'a>,
+        fraction: Piece<'a>,
+        two: bool,
+        minus: bool,
+        magnitude: u64,
+        steps: &mut Steps<L>,
+    ) -> Scanned<'a>
+        requires digits { length whole + length fraction < 2 ^ 63 }
+        requires room { magnitude ≤ 2 ^ 31 }
+        ensures value { (p : Parts) → IsPartsOf radix p → neg ≡ is_minus p.sign → whole.entry ≡ digits_in p.whole → fraction.entry ≡ digits_in (digits_behind p.fraction) → AgreesWithExponent radix two minus magnitude p.exponent → IsScanned radix p result.neg result.whole result.fraction result.bit_shift }
+        ensures cost { steps.new ≤ steps.old + (length whole.entry + length fraction.entry) + 2 }
+    {
+        if magnitude == 0 {
+            let (left, right) = at_point(&whole, &fraction, steps);
+            return Scanned {
+                neg,
+                whole: left,
+                fraction: right,
+                bit_shift: 0,
+            };
+        }
+        let shift = shift_of(unit_of(radix, two), minus, magnitude);
+        let (whole, fraction) = moved_point(&whole, &fraction, shift.up, shift.down, steps);
+        Scanned {
+            neg,
+            whole,
+            fraction,
+            bit_shift: shift.bits,
+        }
+    }
+
+    /// Whether the sign is a minus.
+    #[inline]
+    pub fn neg(&self) -> bool
+        ensures { result ≡ self.now.neg }
+    {
+        self.neg
+    }
+
+    /// The digits in front of the point.
+    #[inline]
+    pub fn whole(&self) -> DigitView<'a>
+        ensures { result ≡ self.now.whole }
+    {
+        self.whole.same()
+    }
+
+    /// The digits behind the point.
+    #[inline]
+    pub fn fraction(&self) -> DigitView<'a>
+        ensures { result ≡ self.now.fraction }
+    {
+        self.fraction.same()
+    }
+
+    /// The power of two that the digits are to be multiplied with.
+    #[inline]
+    pub fn bit_shift(&self) -> u32
+        ensures { result ≡ self.now.bit_shift }
+    {
+        self.bit_shift
+    }
+}

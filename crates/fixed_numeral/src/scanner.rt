@@ -1,0 +1,424 @@
+//! Reading a numeral from the left.
+
+ghost use Rattle.std.specs.Prelude.{◌≡◌, ◌+◌, ◌*◌, ◌^◌, ◌<◌, ◌≤◌, ℕ, nat_lt, true, false, List, [], ◌++◌, length, take, drop, MatchResult, IsOk, IfOk, IfErr, ◌↔◌};
+ghost use Rattle.std.specs.Char.{digit_value};
+ghost use Rattle.std.specs.Str.Parse.{AllDigits};
+ghost use Rattle.fixed_numeral.specs.declared.radix.Radix.{Radix as TheRadix};
+ghost use Rattle.fixed_numeral.specs.Cause.{HasCause};
+ghost use Rattle.fixed_numeral.specs.Numeral.{Parts, HasParts, HasNumeral, IsNumeral, base, is_sign, is_separator, is_two_separator};
+ghost use Rattle.fixed_numeral.specs.Scan.{Agrees, GoesOn, IsStuck, IsAfter, IsComplete, IsIncomplete, most_magnitude};
+ghost use Rattle.fixed_numeral.specs.Scanned.{IsScanned};
+
+use crate::error::{ParseErrorKind, ParseFixedError};
+use crate::piece::{Piece, is_digit};
+use crate::radix::Radix;
+use crate::scanned::Scanned;
+use fixed_steps::Steps;
+use std::sync::ledger::Ledger;
+
+/// What the scanner knows of the bytes so far.
+#[derive(Clone, Copy)]
+pub struct State {
+    /// How many bytes the sign has.
+    pub start: u64,
+    /// How many digits stand in front of the point.
+    pub whole: u64,
+    /// How many digits stand behind the point.
+    pub fraction: u64,
+    /// The magnitude of the exponent so far.
+    pub magnitude: u64,
+    /// Whether the sign is a minus.
+    pub neg: bool,
+    /// Whether a point stands.
+    pub point: bool,
+    /// Whether a separator stands.
+    pub separator: bool,
+    /// Whether the separator scales by two.
+    pub two: bool,
+    /// Whether a sign may stand next.
+    pub fresh: bool,
+    /// Whether the exponent's sign is a minus.
+    pub minus: bool,
+    /// Whether an exponent digit stands.
+    pub counted: bool,
+}
+
+impl State {
+    /// Nothing was read yet.
+    pub fn start() -> State
+        ensures { (radix : TheRadix) → IsAfter radix [] result }
+    {
+        State {
+            neg: false,
+            start: 0,
+            whole: 0,
+            point: false,
+            fraction: 0,
+            separator: false,
+            two: false,
+            fresh: true,
+            minus: false,
+            magnitude: 0,
+            counted: false,
+        }
+    }
+}
+
+fn base_of(radix: Radix) -> u32
+    ensures { result ≡ base radix }
+{
+    match radix {
+        Radix::Bin => 2,
+        Radix::Oct => 8,
+        Radix::Dec => 10,
+        Radix::Hex => 16,
+    }
+}
+
+fn digit(radix: Radix, b: u8) -> bool
+    ensures { result ≡ nat_lt (digit_value b) (base radix) }
+{
+    char::from(b).is_digit(base_of(radix))
+}
+
+pub(crate) fn sign(b: u8) -> bool
+    ensures { result ≡ is_sign b }
+{
+    b == b'+' || b == b'-'
+}
+
+fn separator(radix: Radix, b: u8) -> bool
+    ensures { result ≡ is_separator radix b }
+{
+    match radix {
+        Radix::Dec => b == b'e' || b == b'E' || b == b'@',
+        Radix::Hex => b == b'@' || b == b'p' || b == b'P',
+        _ => b == b'e' || b == b'E' || b == b'@' || b == b'p' || b == b'P',
+    }
+}
+
+fn two_separator(radix: Radix, b: u8) -> bool
+    ensures { result ≡ is_two_separator radix b }
+{
+    match radix {
+        Radix::Dec => false,
+        _ => b == b'p' || b == b'P',
+    }
+}
+
+fn most(minus: bool) -> u64
+    ensures { result ≡ most_magnitude minus }
+{
+    if minus { 0x8000_0000 } else { 0x7fff_ffff }
+}
+
+/// The next byte, where no separator stands yet.
+fn step_before(state: State, radix: Radix, b: u8) -> Result<State, ParseErrorKind>
+    requires separator { state.separator ≡ false }
+    requires room { state.magnitude ≤ most_magnitude true }
+    requires counts { state.whole + state.fraction + 1 < 2 ^ 64 }
+    ensures { (bs : List ℕ) (p : Parts) → HasParts radix bs p → Agrees radix state p → MatchResult result (λ next. GoesOn radix bs b next) (λ kind. IsStuck radix bs p b kind) }
+{
+    if digit(radix, b) {
+        if state.point {
+            Ok(State {
+                fraction: state.fraction + 1,
+                fresh: false,
+                ..state
+            })
+        } else {
+            Ok(State {
+                whole: state.whole + 1,
+                fresh: false,
+                ..state
+            })
+        }
+    } else if separator(radix, b) {
+        Ok(State {
+            separator: true,
+            two: two_separator(radix, b),
+            fresh: true,
+            minus: false,
+            magnitude: 0,
+            counted: false,
+            ..state
+        })
+    } else if b == b'.' {
+        if state.point {
+            Err(ParseErrorKind::TooManyPoints)
+        } else {
+            Ok(State {
+                point: true,
+                fresh: false,
+                ..state
+            })
+        }
+    } else if sign(b) {
+        if state.fresh {
+            Ok(State {
+                neg: b == b'-',
+                start: 1,
+                fresh: false,
+                ..state
+            })
+        } else {
+            Err(ParseErrorKind::MisplacedSign)
+        }
+    } else {
+        Err(ParseErrorKind::InvalidDigit)
+    }
+}
+
+/// The next byte behind a separator.
+fn step_behind(state: State, radix: Radix, b: u8) -> Result<State, ParseErrorKind>
+    requires separator { state.separator ≡ true }
+    requires room { state.magnitude ≤ most_magnitude true }
+    ensures { (bs : List ℕ) (p : Parts) → HasParts radix bs p → Agrees radix state p → MatchResult result (λ next. GoesOn radix bs b next) (λ kind. IsStuck radix bs p b kind) }
+{
+    if digit(Radix::Dec, b) {
+        let magnitude = state.magnitude * 10 + u64::from(b - b'0');
+        if magnitude <= most(state.minus) {
+            Ok(State {
+                fresh: false,
+                magnitude,
+                counted: true,
+                ..state
+            })
+        } else {
+            Err(ParseErrorKind::ExpOverflow)
+        }
+    } else if sign(b) {
+        if state.fresh {
+            Ok(State {
+                fresh: false,
+                minus: b == b'-',
+                ..state
+            })
+        } else {
+            Err(ParseErrorKind::MisplacedSign)
+        }
+    } else if separator(radix, b) {
+        Err(ParseErrorKind::TooManyExp)
+    } else {
+        Err(ParseErrorKind::ExpInvalidDigit)
+    }
+}
+
+/// The next byte.
+pub(crate) fn step(state: State, radix: Radix, b: u8) -> Result<State, ParseErrorKind>
+    requires room { state.magnitude ≤ most_magnitude true }
+    requires counts { state.whole + state.fraction + 1 < 2 ^ 64 }
+    ensures { (bs : List ℕ) (p : Parts) → HasParts radix bs p → Agrees radix state p → MatchResult result (λ next. GoesOn radix bs b next) (λ kind. IsStuck radix bs p b kind) }
+{
+    if state.separator {
+        step_behind(state, radix, b)
+    } else {
+        step_before(state, radix, b)
+    }
+}
+
+/// How many digits of a base of at most 10 stand from a place on, in front of some other byte.
+fn low_digits(bytes: &[u8], base: u8, from: usize) -> usize
+    requires base { base ≤ 10 }
+    requires place { from ≤ length bytes.now }
+    ensures within { from + result ≤ length bytes.now }
+    ensures digits { AllDigits base (take result (drop from bytes.now)) }
+{
+    let mut at = from;
+    while at < bytes.len() && bytes[at].wrapping_sub(b'0') < base {
+        at += 1;
+    }
+    at - from
+}
+
+/// How many digits of radix 16 stand from a place on, in front of some other byte.
+fn hex_digits(bytes: &[u8], from: usize) -> usize
+    requires place { from ≤ length bytes.now }
+    ensures within { from + result ≤ length bytes.now }
+    ensures digits { AllDigits 16 (take result (drop from bytes.now)) }
+{
+    let mut at = from;
+    while at < bytes.len() && is_digit(bytes[at]) {
+        at += 1;
+    }
+    at - from
+}
+
+/// How many digits of the radix stand from a place on, in front of some other byte.
+fn digits_at(bytes: &[u8], radix: Radix, from: usize) -> usize
+    requires place { from ≤ length bytes.now }
+    ensures within { from + result ≤ length bytes.now }
+    ensures digits { AllDigits (base radix) (take result (drop from bytes.now)) }
+{
+    match radix {
+        Radix::Bin => low_digits(bytes, 2, from),
+        Radix::Oct => low_digits(bytes, 8, from),
+        Radix::Dec => low_digits(bytes, 10, from),
+        Radix::Hex => hex_digits(bytes, from),
+    }
+}
+
+/// How many mantissa digits stand from a place on.
+fn mantissa_digits(state: State, bytes: &[u8], radix: Radix, from: usize) -> usize
+    requires place { from ≤ length bytes.now }
+    ensures within { from + result ≤ length bytes.now }
+    ensures digits { AllDigits (base radix) (take result (drop from bytes.now)) }
+    ensures separator { 0 < result → state.separator ≡ false }
+{
+    if state.separator {
+        0
+    } else {
+        digits_at(bytes, radix, from)
+    }
+}
+
+/// The state behind so many mantissa digits more.
+fn passed(state: State, count: u64) -> State
+    requires separator { 0 < count → state.separator ≡ false }
+    requires counts { state.whole + state.fraction + count < 2 ^ 64 }
+    ensures { (radix : TheRadix) (bs ds : List ℕ) → IsAfter radix bs state → AllDigits (base radix) ds → length ds ≡ count → IsAfter radix (bs ++ ds) result }
+{
+    if count == 0 {
+        state
+    } else if state.point {
+        State {
+            fraction: state.fraction + count,
+            fresh: false,
+            ..state
+        }
+    } else {
+        State {
+            whole: state.whole + count,
+            fresh: false,
+            ..state
+        }
+    }
+}
+
+/// The state after all bytes. Mantissa digits are taken together, and then the byte behind them.
+fn read<L: Ledger>(
+    bytes: &[u8],
+    radix: Radix,
+    steps: &mut Steps<L>,
+) -> Result<State, ParseErrorKind>
+    ensures end { MatchResult result (λ state. IsAfter radix bytes.now state) (λ kind. HasCause radix bytes.now kind) }
+    ensures cost { steps.new ≤ steps.old + length bytes.now }
+{
+    let mut state = State::start();
+    let mut at: usize = 0;
+    while at < bytes.len() {
+        let count = mantissa_digits(state, bytes, radix, at);
+        steps.advance(count as u64);
+        state = passed(state, count as u64);
+        at += count;
+        if at < bytes.len() {
+            steps.tick();
+            match step(state, radix, bytes[at]) {
+                Ok(next) => state = next,
+                Err(kind) => return Err(kind),
+            }
+            at += 1;
+        }
+    }
+    Ok(state)
+}
+
+/// The state at the end of the text, where nothing is missing.
+pub(crate) fn complete(state: State) -> Result<State, ParseErrorKind>
+    ensures { MatchResult result (λ s. (s ≡ state) × IsComplete state) (λ kind. IsIncomplete state kind) }
+{
+    if state.whole == 0 && state.fraction == 0 {
+        Err(ParseErrorKind::NoDigits)
+    } else if state.separator && !state.counted {
+        Err(ParseErrorKind::ExpNoDigits)
+    } else {
+        Ok(state)
+    }
+}
+
+/// So many bytes from a place on, which stand there if there are any.
+fn part(bytes: &[u8], from: usize, count: usize) -> &[u8]
+    requires { 0 < count → from + count ≤ length bytes.now }
+    ensures { result.now ≡ take count (drop from bytes.now) }
+{
+    if count == 0 {
+        &[]
+    } else {
+        &bytes[from..from + count]
+    }
+}
+
+/// The same bytes, whose count is known to be below 2^63 behind a call.
+pub(crate) fn same_bytes(bytes: &[u8]) -> &[u8]
+    ensures { result.now ≡ bytes.now }
+{
+    bytes
+}
+
+/// The views of the numeral that was read.
+#[inline(always)]
+fn views<'a, L: Ledger>(
+    bytes: &'a [u8],
+    radix: Radix,
+    state: State,
+    steps: &mut Steps<L>,
+) -> Scanned<'a>
+    requires { IsAfter radix bytes.now state }
+    ensures value { (p : Parts) → HasParts radix bytes.now p → IsScanned radix p result.neg result.whole result.fraction result.bit_shift }
+    ensures cost { steps.new ≤ steps.old + 2 * length bytes.now + 4 }
+{
+    let text = same_bytes(bytes);
+    let point = state.start + state.whole;
+    let whole = part(text, state.start as usize, state.whole as usize);
+    let fraction = part(text, point as usize + 1, state.fraction as usize);
+    Scanned::of(
+        radix,
+        state.neg,
+        Piece::of(whole, state.whole),
+        Piece::of(fraction, state.fraction),
+        state.two,
+        state.minus,
+        state.magnitude,
+        steps,
+    )
+}
+
+/// The same, apart from the path of most numerals, which have no exponent.
+#[inline(never)]
+fn moved_views<'a, L: Ledger>(
+    bytes: &'a [u8],
+    radix: Radix,
+    state: State,
+    steps: &mut Steps<L>,
+) -> Scanned<'a>
+    requires { IsAfter radix bytes.now state }
+    ensures value { (p : Parts) → HasParts radix bytes.now p → IsScanned radix p result.neg result.whole result.fraction result.bit_shift }
+    ensures cost { steps.new ≤ steps.old + 2 * length bytes.now + 4 }
+{
+    views(bytes, radix, state, steps)
+}
+
+/// The views of a numeral, or why the bytes are none.
+///
+/// `bytes` is a numeral of the radix whole: an optional sign, digits with an optional point, and an optional exponent.
+/// The error is never `MisplacedUnderscore` or `Overflow`. At most 4 steps a byte and 8 more are taken.
+pub fn scan<'a, L: Ledger>(
+    bytes: &'a [u8],
+    radix: Radix,
+    steps: &mut Steps<L>,
+) -> Result<Scanned<'a>, ParseFixedError>
+    ensures numeral { IsOk result ↔ IsNumeral radix bytes.now }
+    ensures cause { IfErr result (λ kind. HasCause radix bytes.now kind) }
+    ensures value { IfOk result (λ s. (p : Parts) → HasNumeral radix bytes.now p → IsScanned radix p s.neg s.whole s.fraction s.bit_shift) }
+    ensures cost { steps.new ≤ steps.old + 4 * length bytes.now + 8 }
+{
+    let state = match read(bytes, radix, steps) {
+        Ok(state) => state,
+        Err(kind) => return Err(ParseFixedError::new(kind)),
+    };
+    match complete(state) {
+        Ok(all) if all.magnitude == 0 => Ok(views(bytes, radix, all, steps)),
+        Ok(all) => Ok(moved_views(bytes, radix, all, steps)),
+        Err(kind) => Err(ParseFixedError::new(kind)),
+    }
+}
