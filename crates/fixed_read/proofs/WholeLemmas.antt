@@ -1,0 +1,133 @@
+-- Whole steps modulo a power of two.
+use Rattle.std.proofs.Common.{◌≡◌, ℕ, ◌+◌, ◌-◌, ◌*◌, ◌/◌, ◌%◌, ◌^◌, ◌<◌, ◌≤◌, ◌⊎◌, ◌↔◌, Bool, IsTrue, List, ◌++◌, length, sym, ap, ◌∙◌, arith, pow_pos, mul-le-mul_right, div-add-mod', mod-lt, ⊎_elim, inl, inr}
+use Rattle.std.proofs.lemmas.Bool.{cases_lt}
+use Rattle.std.proofs.lemmas.Nat.{pow-add}
+use Rattle.std.proofs.Math.Nat.{mul-le-mul_left, one-le-pow, pow-le-pow_right}
+use Rattle.std.specs.Int.Digits.{number_from_digits}
+use Rattle.fixed_numeral.proofs.SpelledLemmas.{number_append}
+use Rattle.fixed_numeral.specs.Spelled.{spelled}
+use Rattle.fixed_read.specs.declared.side.Side.{Side}
+use Rattle.fixed_read.specs.declared.tail.Tail.{Tail}
+use Rattle.fixed_read.specs.Sides.{IsTo}
+use Rattle.fixed_read.specs.Steps.{IsTail, IsPart, IsMagnitude}
+use Rattle.fixed_read.proofs.NumberLemmas.{quotient_some, quotient_least}
+use Rattle.fixed_read.proofs.SideLemmas.{to_same}
+
+-- the low whole bits, moved up
+pub moved_room : (w m t n : ℕ) → m ≡ n - t → w < 2 ^ m → w * 2 ^ t < 2 ^ n + 2 ^ t
+moved_room w m t n e l = ⊎_elim
+    (λ (k : n < t). let z : m ≡ 0 = omega arith in low z)
+    (λ (k : t ≤ n). let z : m + t ≡ n = omega arith in
+    let p : 2 ^ m * 2 ^ t ≡ 2 ^ n = sym (pow-add 2 m t) ∙ ap (λ i. 2 ^ i) z in
+    omega (arith, mul-le-mul_right (2 ^ t) l, p, pow_pos t))
+    (cases_lt n t)
+  where
+    low : m ≡ 0 → w * 2 ^ t < 2 ^ n + 2 ^ t
+    low z = let one : w < 1 = rw z at l in let none : w ≡ 0 = omega arith in rw none (omega (arith, pow_pos t))
+
+-- high and low bits of the steps
+pub record Cut (number n total : ℕ) (over beyond : Bool) : Type 0 where
+  pub high : ℕ
+  pub split : number ≡ high * 2 ^ n + total % 2 ^ n
+  pub flag : IsTrue beyond ↔ (0 < high)
+
+pub cut : (w m t n more : ℕ) (over beyond : Bool) → m ≡ n - t → (IsTrue over ↔ (2 ^ m ≤ w)) → (IsTrue beyond ↔ (IsTrue over ⊎ (0 < (w % 2 ^ m * 2 ^ t + more) / 2 ^ n))) → Cut (w * 2 ^ t + more) n (w % 2 ^ m * 2 ^ t + more) over beyond
+cut w m t n more over beyond e o f =
+    let moved : 2 ^ m * 2 ^ t ≡ 2 ^ (m + t - n) * 2 ^ n = sym (pow-add 2 m t) ∙ ap (λ i. 2 ^ i) (let z : m + t ≡ (m + t - n) + n = omega arith in z) ∙ pow-add 2 (m + t - n) n in
+    let whole : w / 2 ^ m * 2 ^ m + w % 2 ^ m ≡ w = div-add-mod' w (2 ^ m) in
+    let total : w % 2 ^ m * 2 ^ t + more ≡ (w % 2 ^ m * 2 ^ t + more) / 2 ^ n * 2 ^ n + (w % 2 ^ m * 2 ^ t + more) % 2 ^ n = sym (div-add-mod' (w % 2 ^ m * 2 ^ t + more) (2 ^ n)) in
+    record {
+      high = w / 2 ^ m * 2 ^ (m + t - n) + (w % 2 ^ m * 2 ^ t + more) / 2 ^ n;
+      split = joined w (w / 2 ^ m) (w % 2 ^ m) (2 ^ m) (2 ^ t) (2 ^ (m + t - n)) (2 ^ n) ((w % 2 ^ m * 2 ^ t + more) / 2 ^ n) ((w % 2 ^ m * 2 ^ t + more) % 2 ^ n) whole moved total;
+      flag = (
+        λ b. ⊎_elim (λ v. some_left (w / 2 ^ m) (2 ^ (m + t - n)) _ (large w (2 ^ m) (pow_pos m) (o.0 v)) (pow_pos (m + t - n))) (λ v. some_right _ _ v) (f.0 b),
+        λ p. f.1 (⊎_elim (λ (l : 0 < w / 2 ^ m). inl (o.1 (least w (2 ^ m) l))) (λ (l : w / 2 ^ m ≤ 0). inr (right_some (w / 2 ^ m) (2 ^ (m + t - n)) _ l p)) (cases_lt 0 (w / 2 ^ m))),
+      );
+    }
+  where
+    joined : (w a l p q k n h r : ℕ) → a * p + l ≡ w → p * q ≡ k * n → l * q + more ≡ h * n + r → w * q + more ≡ (a * k + h) * n + r
+    joined w a l p q k n h r e1 e2 e3 = omega (arith, ap (λ x. x * q) e1, ap (λ x. a * x) e2, e3)
+
+    large : (x d : ℕ) → 0 < d → d ≤ x → 0 < x / d
+    large x d pos l = ⊎_elim (λ (k : 0 < x / d). k) (λ (k : x / d ≤ 0). let z : x / d ≡ 0 = omega arith in absurd (omega (arith, div-add-mod' x d, mod-lt x pos, ap (λ i. i * d) z))) (cases_lt 0 (x / d))
+
+    least : (x d : ℕ) → 0 < x / d → d ≤ x
+    least x d l = omega (arith, div-add-mod' x d, mul-le-mul_right d l)
+
+    some_left : (a k h : ℕ) → 0 < a → 0 < k → 0 < a * k + h
+    some_left a k h p l = omega (arith, mul-le-mul_right k p)
+
+    some_right : (x h : ℕ) → 0 < h → 0 < x + h
+    some_right x h l = omega arith
+
+    right_some : (a k h : ℕ) → a ≤ 0 → 0 < a * k + h → 0 < h
+    right_some a k h z l = let none : a ≡ 0 = omega arith in let l2 : 0 < 0 * k + h = rw none at l in omega arith
+
+-- the parity of the steps is that of their low bits
+pub parity : (w m t n p : ℕ) → 0 < n → m ≡ n - t → (w * 2 ^ t + p) % 2 ≡ (w % 2 ^ m * 2 ^ t + p) % 2
+parity w m t n p pos e =
+    let two : 2 ^ m * 2 ^ t ≡ 2 ^ (m + t - 1) * 2 = sym (pow-add 2 m t) ∙ ap (λ i. 2 ^ i) (let z : m + t ≡ (m + t - 1) + 1 = omega arith in z) ∙ pow-add 2 (m + t - 1) 1 in
+    even w (w / 2 ^ m) (w % 2 ^ m) (2 ^ m) (2 ^ t) (2 ^ (m + t - 1)) (div-add-mod' w (2 ^ m)) two
+  where
+    even : (w a l x q k : ℕ) → a * x + l ≡ w → x * q ≡ k * 2 → (w * q + p) % 2 ≡ (l * q + p) % 2
+    even w a l x q k e1 e2 =
+        let more : w * q + p ≡ 2 * (a * k) + (l * q + p) = omega (arith, ap (λ x. x * q) e1, ap (λ x. a * x) e2) in
+        rw more (omega arith)
+
+-- ---- together
+pub record Rounded (r : Side) (b : ℕ) (w f : List ℕ) (s frac number : ℕ) : Type 0 where
+  pub to : IsTo r ((spelled b w f s).num * 2 ^ frac) (spelled b w f s).den number
+
+pub rounded : (r : Side) (b : ℕ) (w f : List ℕ) (s frac t p more : ℕ) (tail : Tail) → 0 < b → t ≡ frac + s → (h : IsPart b f t p tail) → IsTo r ((number_from_digits b w * 2 ^ t + p) * h.den + h.rest) h.den (number_from_digits b w * 2 ^ t + p + more) → Rounded r b w f s frac (number_from_digits b w * 2 ^ t + p + more)
+rounded r b w f s frac t p more tail pos et h to =
+    let number : number_from_digits b (w ++ f) ≡ number_from_digits b w * b ^ length f + number_from_digits b f = number_append b w f in
+    let power : 2 ^ t ≡ 2 ^ frac * 2 ^ s = ap (λ i. 2 ^ i) et ∙ pow-add 2 frac s in
+    record {
+      to = to_same r _ h.den _ (b ^ length f) _ h.some (one-le-pow (length f) b pos)
+          (crossed (number_from_digits b w) (number_from_digits b f) (number_from_digits b (w ++ f)) (b ^ length f) (2 ^ t) (2 ^ frac) (2 ^ s) p h.den h.rest number power h.split) to;
+    }
+  where
+    crossed : (w n a x t u v p d y : ℕ) → a ≡ w * x + n → t ≡ u * v → n * t * d ≡ (p * d + y) * x → ((w * t + p) * d + y) * x ≡ a * v * u * d
+    crossed w n a x t u v p d y e1 e2 e3 =
+        let one : a * v * u ≡ (w * x + n) * t = rw (e1, e2) (omega arith) in
+        rw one (omega (arith, e3))
+
+-- as the body computes it
+pub low_is : (m t n w low : ℕ) → m ≡ n - t → low ≡ w % 2 ^ m → low * 2 ^ t < 2 ^ n + 2 ^ t
+low_is m t n w low e k = rw k (moved_room (w % 2 ^ m) m t n e (mod-lt w (pow_pos m)))
+
+pub sum_room : (m t n w low moved p most : ℕ) → n ≤ 64 → t ≤ 68 → m ≡ n - t → low ≡ w % 2 ^ m → moved ≡ low * 2 ^ t → p < 2 ^ t → most ≤ 1 → moved + p + most < 2 ^ 70
+sum_room m t n w low moved p most hn ht e k em small one =
+    let room = low_is m t n w low e k in
+    omega (arith, room, pow-le-pow_right {n = 2} (omega arith) hn, pow-le-pow_right {n = 2} (omega arith) ht)
+
+pub magnitude_is : (r : Side) (b m n s frac t low moved p more bits high : ℕ) (w f : List ℕ) (tail : Tail) (over beyond : Bool) → 0 < b → 0 < n → t ≡ frac + s → m ≡ n - t → low ≡ number_from_digits b w % 2 ^ m → (IsTrue over ↔ (2 ^ m ≤ number_from_digits b w)) → moved ≡ low * 2 ^ t → IsPart b f t p tail → ((q y den : ℕ) → 0 < den → q % 2 ≡ (moved + p) % 2 → IsTail tail y den → IsTo r (q * den + y) den (q + more)) → high ≡ (moved + p + more) / 2 ^ n → bits ≡ (moved + p + more) % 2 ^ n → (IsTrue beyond ↔ (IsTrue over ⊎ (0 < high))) → IsMagnitude r (spelled b w f s) frac n bits beyond
+magnitude_is r b m n s frac t low moved p more bits high w f tail over beyond pos some et em el eo ev h up eh ebits eb =
+    let low_is : moved ≡ number_from_digits b w % 2 ^ m * 2 ^ t = ev ∙ ap (λ x. x * 2 ^ t) el in
+    let odd : (number_from_digits b w * 2 ^ t + p) % 2 ≡ (moved + p) % 2 = parity (number_from_digits b w) m t n p some em ∙ ap (λ x. (x + p) % 2) (sym low_is) in
+    let steps = rounded r b w f s frac t p more tail pos et h (up (number_from_digits b w * 2 ^ t + p) h.rest h.den h.some odd h.left) in
+    let together : moved + p + more ≡ number_from_digits b w % 2 ^ m * 2 ^ t + (p + more) = omega (arith, low_is) in
+    let parts = cut (number_from_digits b w) m t n (p + more) over beyond em eo (rw (eh, together) at eb) in
+    let all : number_from_digits b w * 2 ^ t + p + more ≡ number_from_digits b w * 2 ^ t + (p + more) = omega arith in
+    let number : number_from_digits b w * 2 ^ t + p + more ≡ parts.high * 2 ^ n + (number_from_digits b w % 2 ^ m * 2 ^ t + (p + more)) % 2 ^ n = all ∙ parts.split in
+    rw (ebits, together) (record {
+      high = parts.high;
+      to = rw number at steps.to;
+      over = parts.flag;
+    })
+
+-- ---- where all steps are in a word
+pub short_room : (x t p : ℕ) → x < 10 ^ 9 → t ≤ 32 → p < 2 ^ t → x * 2 ^ t + p + 1 < 2 ^ 63
+short_room x t p l h s =
+    let most : 2 ^ t ≤ 2 ^ 32 = pow-le-pow_right {n = 2} (omega arith) h in
+    omega (arith, s, most, mul-le-mul_left x most)
+
+pub short_is : (r : Side) (b n s frac t moved p more bits : ℕ) (w f : List ℕ) (tail : Tail) (beyond : Bool) → 0 < b → t ≡ frac + s → moved ≡ number_from_digits b w * 2 ^ t → IsPart b f t p tail → ((q y den : ℕ) → 0 < den → q % 2 ≡ (moved + p) % 2 → IsTail tail y den → IsTo r (q * den + y) den (q + more)) → bits ≡ (moved + p + more) % 2 ^ n → (IsTrue beyond ↔ (2 ^ n ≤ moved + p + more)) → IsMagnitude r (spelled b w f s) frac n bits beyond
+short_is r b n s frac t moved p more bits w f tail beyond pos et em h up eb flag =
+    let steps = rounded r b w f s frac t p more tail pos et h (up (number_from_digits b w * 2 ^ t + p) h.rest h.den h.some (ap (λ x. (x + p) % 2) (sym em)) h.left) in
+    let number : number_from_digits b w * 2 ^ t + p + more ≡ (moved + p + more) / 2 ^ n * 2 ^ n + (moved + p + more) % 2 ^ n = ap (λ x. x + p + more) (sym em) ∙ sym (div-add-mod' (moved + p + more) (2 ^ n)) in
+    rw eb (record {
+      high = (moved + p + more) / 2 ^ n;
+      to = rw number at steps.to;
+      over = (λ v. quotient_some (moved + p + more) (2 ^ n) (pow_pos n) (flag.0 v), λ l. flag.1 (quotient_least (moved + p + more) (2 ^ n) l));
+    })

@@ -1,0 +1,5 @@
+pub mod Reading
+pub mod Sides
+pub mod Steps
+pub mod Blocks
+pub mod Laws

@@ -1,0 +1,45 @@
+-- The read number of a numeral, and its bits.
+use Rattle.std.specs.Prelude.{◌≡◌, ℕ, ◌*◌, ◌^◌, ◌↔◌, ℤ, Bool, IsTrue}
+use Rattle.fixed_bits.specs.Images.{IsImage, IsWrapped}
+use Rattle.fixed_bits.specs.Ranges.{IsInRange, IsOutOfRange}
+use Rattle.fixed_bits.specs.Rounded.{IsRounded}
+use Rattle.fixed_bits.specs.declared.format.Policy.{Policy}
+use Rattle.fixed_bits.specs.declared.mode.ReadMode.{ReadMode}
+use Rattle.fixed_numeral.specs.Numeral.{Parts, is_minus, signed}
+use Rattle.fixed_numeral.specs.Value.{magnitude}
+use Rattle.fixed_numeral.specs.declared.radix.Radix.{Radix}
+
+-- v is the read number of a numeral with these parts: its magnitude in steps of 2^-f, rounded in the mode, with its sign
+pub record IsReadNumber (mode : ReadMode) (r : Radix) (p : Parts) (f : ℕ) (v : ℤ) : Type 0 where
+  pub steps : ℕ
+  pub rounded : IsRounded mode (is_minus p.sign) ((magnitude r p).num * 2 ^ f) (magnitude r p).den steps
+  pub value : v ≡ signed p.sign steps
+
+-- bits is the Wrapping image of the read number, and overflowed says whether that is out of range
+pub record IsOverflowingRead (mode : ReadMode) (r : Radix) (p : Parts) (f : ℕ) (sign : Bool) (n : ℕ) (bits : ℤ) (overflowed : Bool) : Type 0 where
+  pub number : ℤ
+  pub read : IsReadNumber mode r p f number
+  pub image : IsWrapped sign n number bits
+  pub flag : IsTrue overflowed ↔ IsOutOfRange sign n number
+
+-- bits is the image of the read number under the policy
+pub record IsImageRead (policy : Policy) (mode : ReadMode) (r : Radix) (p : Parts) (f : ℕ) (sign : Bool) (n : ℕ) (bits : ℤ) : Type 0 where
+  pub number : ℤ
+  pub read : IsReadNumber mode r p f number
+  pub image : IsImage policy sign n number bits
+
+-- parts that the bytes have, by HasNumeral or HasLiteral, give a read number in range
+pub record IsReadInRange (mode : ReadMode) (r : Radix) (Has : Parts → Type 0) (f : ℕ) (sign : Bool) (n : ℕ) : Type 0 where
+  pub parts : Parts
+  pub has : Has parts
+  pub number : ℤ
+  pub read : IsReadNumber mode r parts f number
+  pub in_range : IsInRange sign n number
+
+-- and out of range
+pub record IsReadOutOfRange (mode : ReadMode) (r : Radix) (Has : Parts → Type 0) (f : ℕ) (sign : Bool) (n : ℕ) : Type 0 where
+  pub parts : Parts
+  pub has : Has parts
+  pub number : ℤ
+  pub read : IsReadNumber mode r parts f number
+  pub out_of_range : IsOutOfRange sign n number

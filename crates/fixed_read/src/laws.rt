@@ -1,0 +1,8 @@
+//! Laws of the definitions, each the contract of a function that does nothing.
+
+ghost use Rattle.fixed_read.specs.Laws.{ReadNumberIsTheOne};
+
+/// A numeral has exactly one read number for each fraction length and mode.
+pub fn read_number_is_the_one()
+    ensures { ReadNumberIsTheOne }
+{}

@@ -1,0 +1,26 @@
+//! Reading numerals into the bits of fixed-point numbers.
+#![tactic(auto)]
+
+mod bits;
+mod decimal;
+mod digits;
+pub mod laws;
+mod literal;
+mod magnitude;
+mod read;
+mod residue;
+mod side;
+mod tail;
+#[cfg(test)]
+mod tests;
+mod walk;
+mod words;
+
+pub use fixed_bits::ReadMode;
+pub use literal::lit;
+pub use read::{
+    from_str_radix, from_str_radix_mode, overflowing_from_str_radix,
+    overflowing_from_str_radix_counted, overflowing_from_str_radix_mode,
+    overflowing_from_str_radix_mode_counted, saturating_from_str_radix,
+    saturating_from_str_radix_mode, wrapping_from_str_radix, wrapping_from_str_radix_mode,
+};

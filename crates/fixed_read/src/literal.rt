@@ -1,0 +1,40 @@
+//! Reading literals: numerals with a sign, a prefix for their radix, and underscores.
+
+ghost use Rattle.std.specs.Prelude.{◌≡◌, ◌≤◌, ◌↔◌, ◌⊎◌, Err, IsOk, IfOk, IfErr};
+ghost use Rattle.fixed_bits.specs.declared.mode.ReadMode.TheVariants.{NearestEven};
+ghost use Rattle.fixed_numeral.specs.Literal.{HasLiteral, HasLiteralCause, IsLiteral, literal_radix};
+ghost use Rattle.fixed_numeral.specs.Numeral.{Parts};
+ghost use Rattle.fixed_numeral.specs.declared.error.ParseErrorKind.TheVariants.{Overflow};
+ghost use Rattle.fixed_read.specs.Reading.{IsReadInRange, IsReadNumber, IsReadOutOfRange};
+
+use crate::read::is_out;
+use crate::residue::read_literal;
+use fixed_bits::Inner;
+use fixed_numeral::{ParseErrorKind, ParseFixedError};
+
+/// The bits that a literal reads as, rounded to the nearest step, ties to even.
+///
+/// One minus may stand in front for a signed type. A prefix `0b`, `0o` or `0x` names the radix, which is 10 without
+/// one. Underscores may stand behind a prefix and behind a digit of their part.
+///
+/// # Errors
+///
+/// A literal whose read number is out of range is refused as Overflow, other bytes with the kind of their cause.
+pub fn lit<I: Inner>(s: &[u8], frac_nbits: u32) -> Result<I, ParseFixedError>
+    requires { frac_nbits ≤ I.BITS }
+    ensures fits { IsOk result ↔ IsReadInRange NearestEven (literal_radix I.SIGNED s.now) (HasLiteral I.SIGNED s.now) frac_nbits I.SIGNED I.BITS }
+    ensures number { IfOk result (λ r. (p : Parts) → HasLiteral I.SIGNED s.now p → IsReadNumber NearestEven (literal_radix I.SIGNED s.now) p frac_nbits (I.number r)) }
+    ensures overflow { IsReadOutOfRange NearestEven (literal_radix I.SIGNED s.now) (HasLiteral I.SIGNED s.now) frac_nbits I.SIGNED I.BITS → result ≡ Err Overflow }
+    ensures cause { IfErr result (λ kind. HasLiteralCause I.SIGNED s.now kind ⊎ ((kind ≡ Overflow) × IsReadOutOfRange NearestEven (literal_radix I.SIGNED s.now) (HasLiteral I.SIGNED s.now) frac_nbits I.SIGNED I.BITS)) }
+{
+    match read_literal(s, I::SIGNED, I::BITS, frac_nbits) {
+        Ok(residue) => {
+            if is_out::<I>(residue) {
+                Err(ParseFixedError::new(ParseErrorKind::Overflow))
+            } else {
+                Ok(I::wrap(residue.value))
+            }
+        }
+        Err(error) => Err(error),
+    }
+}

@@ -1,0 +1,47 @@
+//! Numbers and powers of two.
+
+ghost use Rattle.std.specs.Prelude.{◌≡◌, ◌+◌, ◌*◌, ◌/◌, ◌%◌, ◌^◌, ◌<◌, ◌≤◌};
+
+/// 2^bits.
+pub fn power(bits: u32) -> u64
+    requires { bits < 64 }
+    ensures { result ≡ 2 ^ bits }
+{
+    1 << bits
+}
+
+/// value * 2^bits.
+pub fn scaled(value: u128, bits: u32) -> u128
+    requires bits { bits < 128 }
+    requires room { value * 2 ^ bits < 2 ^ 128 }
+    ensures { result ≡ value * 2 ^ bits }
+{
+    value << bits
+}
+
+/// The same in 64 bits.
+pub fn scaled_narrow(value: u64, bits: u32) -> u64
+    requires bits { bits < 64 }
+    requires room { value * 2 ^ bits < 2 ^ 64 }
+    ensures { result ≡ value * 2 ^ bits }
+{
+    value << bits
+}
+
+/// The same number in a word.
+pub fn narrow(value: u128) -> u64
+    requires { value < 2 ^ 64 }
+    ensures { result ≡ value }
+{
+    value as u64
+}
+
+/// The lowest bits of a number, behind what is left of it without them.
+pub fn parted(value: u128, bits: u32) -> (u128, u64)
+    requires { bits ≤ 64 }
+    ensures high { result.0 ≡ value / 2 ^ bits }
+    ensures low { result.1 ≡ value % 2 ^ bits }
+{
+    let high = value >> bits;
+    (high, (value - (high << bits)) as u64)
+}
