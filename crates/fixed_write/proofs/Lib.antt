@@ -1,0 +1,4 @@
+pub mod ShortestLemmas
+pub mod PassLemmas
+pub mod DigitLemmas
+pub mod PrintingLemmas

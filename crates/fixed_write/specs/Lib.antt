@@ -1,0 +1,4 @@
+pub mod Shortest
+pub mod Texts
+pub mod Fraction
+pub mod Laws
