@@ -1,0 +1,13 @@
+mod NumberLemmas
+mod Answering
+mod Complete
+mod Fed
+mod Feeding
+mod LawLemmas
+mod LineLemmas
+mod Parts
+mod Whole
+mod CommandLemmas
+mod SelfLemmas
+mod SelfRows
+mod Rows

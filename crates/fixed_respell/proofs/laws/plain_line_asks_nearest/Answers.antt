@@ -1,0 +1,5 @@
+use Rattle.fixed_respell.specs.AnswerLemmas.{plain_line}
+use Rattle.fixed_respell.proofs.laws.plain_line_asks_nearest.Goals as goal
+
+pub returns : goal.returns
+returns c = plain_line

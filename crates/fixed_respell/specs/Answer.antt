@@ -1,0 +1,145 @@
+-- The answer to a line.
+use Rattle.std.specs.Prelude.{◌≡◌, ◌⊎◌, ◌<◌, ◌≤◌, ℕ, List, ◌∷◌, ◌++◌, ℤ, Bool, true, false, length, codes}
+use Rattle.std.specs.Fmt.{signed_decimal}
+use Rattle.fixed_bits.specs.Formats.{Shape}
+use Rattle.fixed_bits.specs.declared.format.Policy.{Policy}
+use Rattle.fixed_bits.specs.declared.mode.ReadMode.{ReadMode}
+use Rattle.fixed_numeral.specs.Words.{words_of}
+use Rattle.fixed_numeral.specs.declared.error.ParseErrorKind.{ParseErrorKind}
+use Rattle.fixed_numeral.specs.declared.radix.Radix.{Radix}
+use Rattle.fixed_respell.specs.Cutting.{count_of}
+use Rattle.fixed_respell.specs.Reached.{IsRespelled, IsRefusal}
+use Rattle.fixed_respell.specs.Reply.{Reply}
+use Rattle.fixed_write.specs.Texts.{IsShortestText}
+use Rattle.fixed_respell.specs.Words.{radix_text, IsFormatWord, IsPolicyWord}
+use Rattle.fixed_respell.specs.declared.fault.LineFault.{LineFault}
+use Rattle.fixed_respell.specs.declared.fault.LineFault.TheVariants.{LineTooLong, MissingField, BadRadix, BadSource, BadTarget, BadPolicy}
+
+-- ' '
+abbrev pub space : ℕ
+space = 32
+
+-- how many bytes a line has at most
+abbrev pub longest_line : ℕ
+longest_line = 1048576
+
+-- the words in front of a line's first four spaces, and all that stands behind the fourth
+pub record LineWords : Type 0 where
+  pub radix : List ℕ
+  pub source : List ℕ
+  pub target : List ℕ
+  pub policy : List ℕ
+  pub numeral : List ℕ
+
+abbrev pub line_words : List ℕ → List ℕ → List ℕ → List ℕ → List ℕ → LineWords
+line_words r s t p n = record { radix = r; source = s; target = t; policy = p; numeral = n }
+
+-- the line is cut at its first four spaces into these words
+pub record HasWords (line : List ℕ) (w : LineWords) : Type 0 where
+  pub cut : line ≡ w.radix ++ space ∷ (w.source ++ space ∷ (w.target ++ space ∷ (w.policy ++ space ∷ w.numeral)))
+  pub radix : count_of space w.radix ≡ 0
+  pub source : count_of space w.source ≡ 0
+  pub target : count_of space w.target ≡ 0
+  pub policy : count_of space w.policy ≡ 0
+
+-- the line is cut into words of which this holds
+abbrev pub HasWordsWith : List ℕ → (LineWords → Type 0) → Type 0
+HasWordsWith line P = (w : LineWords) × HasWords line w × P w
+
+-- a fault stands in a line
+abbrev pub Stands : LineFault → List ℕ → Type 0
+Stands LineTooLong line = longest_line < length line
+Stands MissingField line = count_of space line < 4
+Stands BadRadix line = HasWordsWith line (λ w. (r : Radix) → ¬ (w.radix ≡ radix_text r))
+Stands BadSource line = HasWordsWith line (λ w. (f : Shape) → ¬ IsFormatWord w.source f)
+Stands BadTarget line = HasWordsWith line (λ w. (f : Shape) → ¬ IsFormatWord w.target f)
+Stands BadPolicy line = HasWordsWith line (λ w. (p : Policy) (m : ReadMode) → ¬ IsPolicyWord w.policy p m)
+
+-- the place of a fault in the order in which they are looked for
+abbrev pub place_of : LineFault → ℕ
+place_of LineTooLong = 1
+place_of MissingField = 2
+place_of BadRadix = 3
+place_of BadSource = 4
+place_of BadTarget = 5
+place_of BadPolicy = 6
+
+-- the fault stands, and none before it
+pub record IsFirstFault (fault : LineFault) (line : List ℕ) : Type 0 where
+  pub stands : Stands fault line
+  pub first : (other : LineFault) → place_of other < place_of fault → ¬ Stands other line
+
+-- the words of a fault
+abbrev pub fault_words : LineFault → List ℕ
+fault_words LineTooLong = codes "line too long"
+fault_words MissingField = codes "missing field"
+fault_words BadRadix = codes "bad radix"
+fault_words BadSource = codes "bad source format"
+fault_words BadTarget = codes "bad target format"
+fault_words BadPolicy = codes "bad policy"
+
+-- what a line names: a numeral in a radix, the format that it is read into and the one that it is moved to,
+-- what is done with a number that is out of range, and to which side is rounded
+pub record Task : Type 0 where
+  pub radix : Radix
+  pub source : Shape
+  pub target : Shape
+  pub policy : Policy
+  pub mode : ReadMode
+  pub numeral : List ℕ
+
+abbrev pub task_of : Radix → Shape → Shape → Policy → ReadMode → List ℕ → Task
+task_of r s t p m bytes = record { radix = r; source = s; target = t; policy = p; mode = m; numeral = bytes }
+
+-- no fault stands, and the words of the line name the task
+pub record Asks (line : List ℕ) (t : Task) : Type 0 where
+  pub short : length line ≤ longest_line
+  pub words : LineWords
+  pub cut : HasWords line words
+  pub radix : words.radix ≡ radix_text t.radix
+  pub source : IsFormatWord words.source t.source
+  pub target : IsFormatWord words.target t.target
+  pub policy : IsPolicyWord words.policy t.policy t.mode
+  pub numeral : t.numeral ≡ words.numeral
+
+-- the answer that names a fault
+abbrev pub fault_reply : List ℕ → Reply
+fault_reply words = record { text = codes "error: " ++ words; fault = true }
+
+-- the last word of an answer
+abbrev pub verdict : Bool → List ℕ
+verdict true = codes "overflowed"
+verdict false = codes "fits"
+
+-- the answer with a text, the bits in decimal, and whether a move left its format
+abbrev pub respelled_reply : List ℕ → ℤ → Bool → Reply
+respelled_reply text bits overflowed = record { text = text ++ space ∷ (signed_decimal bits ++ space ∷ verdict overflowed); fault = false }
+
+-- the first fault of the line that stands
+pub record IsFaultAnswer (line : List ℕ) (reply : Reply) : Type 0 where
+  pub line_fault : LineFault
+  pub first : IsFirstFault line_fault line
+  pub reply_is : reply ≡ fault_reply (fault_words line_fault)
+
+-- the kind for which the line's numeral is refused
+pub record IsRefusalAnswer (line : List ℕ) (reply : Reply) : Type 0 where
+  pub task : Task
+  pub asks : Asks line task
+  pub kind : ParseErrorKind
+  pub refusal : IsRefusal task.mode task.radix task.numeral task.policy task.source task.target kind
+  pub reply_is : reply ≡ fault_reply (words_of kind)
+
+-- the bits that are reached from the line's numeral, and their shortest decimal
+pub record IsRespelledAnswer (line : List ℕ) (reply : Reply) : Type 0 where
+  pub task : Task
+  pub asks : Asks line task
+  pub bits : ℤ
+  pub overflowed : Bool
+  pub respelled : IsRespelled task.mode task.radix task.numeral task.policy task.source task.target bits overflowed
+  pub text : List ℕ
+  pub shortest : IsShortestText bits task.target.frac text
+  pub reply_is : reply ≡ respelled_reply text bits overflowed
+
+-- the reply is the answer to the line
+abbrev pub IsAnswer : List ℕ → Reply → Type 0
+IsAnswer line reply = IsFaultAnswer line reply ⊎ (IsRefusalAnswer line reply ⊎ IsRespelledAnswer line reply)

@@ -1,0 +1,31 @@
+-- Laws of the answer to a line.
+use Rattle.std.specs.Prelude.{◌≡◌, ◌↔◌, ◌<◌, ℕ, List, length, take}
+use Rattle.fixed_bits.specs.Formats.{Shape}
+use Rattle.fixed_bits.specs.declared.format.Policy.{Policy}
+use Rattle.fixed_bits.specs.declared.mode.ReadMode.{ReadMode}
+use Rattle.fixed_bits.specs.declared.mode.ReadMode.TheVariants.{NearestEven}
+use Rattle.fixed_respell.specs.Answer.{IsAnswer, Asks, Task}
+use Rattle.fixed_respell.specs.Cutting.{count_of}
+use Rattle.fixed_respell.specs.Lines.{kept_length}
+use Rattle.fixed_respell.specs.Reply.{Reply}
+use Rattle.fixed_respell.specs.Words.{IsFormatWord, IsPolicyWord, policy_text, slash}
+
+-- a word is the word of one format at most, so the word of a format names that format again
+abbrev pub FormatWordIsTheOne : Type 0
+FormatWordIsTheOne = (word : List ℕ) (f g : Shape) → IsFormatWord word f → IsFormatWord word g → f ≡ g
+
+-- a line has at most one answer
+abbrev pub AnswerIsTheOne : Type 0
+AnswerIsTheOne = (line : List ℕ) (a b : Reply) → IsAnswer line a → IsAnswer line b → a ≡ b
+
+-- a line that is longer than what is kept of a line is answered like its front
+abbrev pub LongIsAnsweredByFront : Type 0
+LongIsAnsweredByFront = (line : List ℕ) (reply : Reply) → kept_length < length line → IsAnswer (take kept_length line) reply ↔ IsAnswer line reply
+
+-- without a slash a policy word is the name of a policy, and its mode is NearestEven
+abbrev pub PlainWordNamesNearest : Type 0
+PlainWordNamesNearest = (word : List ℕ) (p : Policy) (m : ReadMode) → count_of slash word ≡ 0 → IsPolicyWord word p m ↔ ((word ≡ policy_text p) × (m ≡ NearestEven))
+
+-- so a line whose fourth word holds no slash asks for what it asks for without mode words
+abbrev pub PlainLineAsksNearest : Type 0
+PlainLineAsksNearest = (line : List ℕ) (t : Task) (asks : Asks line t) → count_of slash asks.words.policy ≡ 0 → (asks.words.policy ≡ policy_text t.policy) × (t.mode ≡ NearestEven)

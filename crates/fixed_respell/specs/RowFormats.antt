@@ -1,0 +1,11 @@
+-- Formats of the worked rows.
+use Rattle.std.specs.Prelude.{ℕ, ◌+◌, true, false}
+use Rattle.fixed_bits.specs.Formats.{Shape}
+
+-- the unsigned format with so many whole bits and fraction bits
+abbrev pub unsigned_format : ℕ → ℕ → Shape
+unsigned_format whole fraction = record { signed = false; width = whole + fraction; frac = fraction }
+
+-- the signed format with so many whole bits and fraction bits
+abbrev pub signed_format : ℕ → ℕ → Shape
+signed_format whole fraction = record { signed = true; width = whole + fraction; frac = fraction }

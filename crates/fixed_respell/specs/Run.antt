@@ -1,0 +1,98 @@
+-- What a run that reads lines leaves.
+use Rattle.std.specs.Prelude.{◌≡◌, ℕ, ◌+◌, ◌*◌, ◌≤◌, ◌⊎◌, Bool, true, false, List, ◌++◌, length, take}
+use Rattle.std.specs.declared.option.Option.{Option}
+use Rattle.std.specs.Io.KnownBytes.{Appends, Consumes, IsAtEnd}
+use Rattle.fixed_respell.specs.Lines.{ended_lines, lines}
+use Rattle.fixed_respell.specs.Output.{AppendsPart, AreAnswers, written_of, any_fault}
+use Rattle.fixed_respell.specs.Reply.{Reply}
+use Rattle.fixed_respell.specs.Causes.{Rose}
+use Rattle.fixed_respell.specs.declared.status.Status.{Status}
+use Rattle.fixed_respell.specs.declared.status.Status.TheVariants.{Done, Faults, Usage, ReadFault, WriteFault, NoMemory, TooLong}
+
+-- an input within the limit was read to its end, its whole output written, and an answer is a fault or none is
+pub record AnswersAll (A : List ℕ → Reply → Type 0) (limit : ℕ) (left left' written written' : Option (List ℕ)) (fault : Bool) : Type 0 where
+  pub input : List ℕ
+  pub replies : List Reply
+  pub taken : Consumes left left' input
+  pub at_end : IsAtEnd left'
+  pub within : length input ≤ limit
+  pub answers : AreAnswers A (lines input) replies
+  pub output : Appends written written' (written_of replies)
+  pub faulty : any_fault replies ≡ fault
+
+-- the answers of the lines that ended in the bytes taken were written
+pub record AnswersEnded (A : List ℕ → Reply → Type 0) (limit : ℕ) (left left' written written' : Option (List ℕ)) : Type 0 where
+  pub bytes : List ℕ
+  pub replies : List Reply
+  pub taken : Consumes left left' bytes
+  pub within : length bytes ≤ limit
+  pub answers : AreAnswers A (ended_lines bytes) replies
+  pub output : Appends written written' (written_of replies)
+
+-- one byte past the limit was taken, and the answers of the lines that ended before it were written
+pub record AnswersLimit (A : List ℕ → Reply → Type 0) (limit : ℕ) (left left' written written' : Option (List ℕ)) : Type 0 where
+  pub bytes : List ℕ
+  pub replies : List Reply
+  pub taken : Consumes left left' bytes
+  pub past : length bytes ≡ limit + 1
+  pub answers : AreAnswers A (ended_lines (take limit bytes)) replies
+  pub output : Appends written written' (written_of replies)
+
+-- a front of the answers to the first of these lines was written
+pub record AnswersFront (A : List ℕ → Reply → Type 0) (lines : List (List ℕ)) (written written' : Option (List ℕ)) : Type 0 where
+  pub some : List (List ℕ)
+  pub more : List (List ℕ)
+  pub cut : lines ≡ some ++ more
+  pub replies : List Reply
+  pub answers : AreAnswers A some replies
+  pub output : AppendsPart written written' (written_of replies)
+
+-- writing was cut short among the lines that ended in the bytes taken, or at the end of the input among all its lines
+pub record AnswersPart (A : List ℕ → Reply → Type 0) (limit : ℕ) (left left' written written' : Option (List ℕ)) : Type 0 where
+  pub bytes : List ℕ
+  pub taken : Consumes left left' bytes
+  pub cut_short : AnswersFront A (ended_lines (take limit bytes)) written written' ⊎ (IsAtEnd left' × (length bytes ≤ limit) × AnswersFront A (lines bytes) written written')
+
+-- what a run that ended so has taken and written
+abbrev pub HasRun : (List ℕ → Reply → Type 0) → ℕ → Option (List ℕ) → Option (List ℕ) → Option (List ℕ) → Option (List ℕ) → Status → Type 0
+HasRun A limit left left' written written' Done = AnswersAll A limit left left' written written' false
+HasRun A limit left left' written written' Faults = AnswersAll A limit left left' written written' true
+HasRun A limit left left' written written' Usage = ⊥
+HasRun A limit left left' written written' ReadFault = AnswersEnded A limit left left' written written'
+HasRun A limit left left' written written' WriteFault = AnswersPart A limit left left' written written'
+HasRun A limit left left' written written' NoMemory = (left' ≡ left) × (written' ≡ written)
+HasRun A limit left left' written written' TooLong = AnswersLimit A limit left left' written written'
+
+-- both counts of faults are as they were
+pub record IsCalm (read read' write write' : ℕ) : Type 0 where
+  pub source : read' ≡ read
+  pub sink : write' ≡ write
+
+-- which counts of faults of the source and the sink rose by the time a run ended so
+abbrev pub HasCauses : ℕ → ℕ → ℕ → ℕ → Status → Type 0
+HasCauses read read' write write' Done = IsCalm read read' write write'
+HasCauses read read' write write' Faults = IsCalm read read' write write'
+HasCauses read read' write write' Usage = IsCalm read read' write write'
+HasCauses read read' write write' ReadFault = Rose read read'
+HasCauses read read' write write' WriteFault = Rose write write'
+HasCauses read read' write write' NoMemory = IsCalm read read' write write'
+HasCauses read read' write write' TooLong = IsCalm read read' write write'
+
+-- at most one byte past the limit was taken, and at most so many steps for each byte taken and for each line of them
+pub record Spends (limit per_byte extra : ℕ) (left left' : Option (List ℕ)) (steps steps' : ℕ) : Type 0 where
+  pub bytes : List ℕ
+  pub taken : Consumes left left' bytes
+  pub bound : length bytes ≤ limit + 1
+  pub cost : steps' ≤ steps + per_byte * length bytes + extra * length (lines bytes)
+
+-- a run that answered all lines ends so
+abbrev pub status_of : Bool → Status
+status_of true = Faults
+status_of false = Done
+
+-- the whole output of an input was written, and the status says whether an answer is a fault
+pub record WritesOutput (A : List ℕ → Reply → Type 0) (input : List ℕ) (written written' : Option (List ℕ)) (status : Status) : Type 0 where
+  pub replies : List Reply
+  pub answers : AreAnswers A (lines input) replies
+  pub output : Appends written written' (written_of replies)
+  pub faulty : status ≡ status_of (any_fault replies)

@@ -1,0 +1,61 @@
+-- The words of a line.
+use Rattle.std.specs.Prelude.{◌≡◌, ℕ, ◌-◌, ◌⊎◌, Bool, true, false, List, ◌∷◌, ◌++◌, codes, decimal}
+use Rattle.fixed_bits.specs.Formats.{Shape, IsFormat}
+use Rattle.fixed_bits.specs.declared.format.Policy.{Policy}
+use Rattle.fixed_bits.specs.declared.format.Policy.TheVariants.{Checked, Saturating, Wrapping}
+use Rattle.fixed_bits.specs.declared.mode.ReadMode.{ReadMode}
+use Rattle.fixed_bits.specs.declared.mode.ReadMode.TheVariants.{NearestEven, Floor, Ceil, TowardsZero}
+use Rattle.fixed_numeral.specs.declared.radix.Radix.{Radix}
+use Rattle.fixed_numeral.specs.declared.radix.Radix.TheVariants.{Bin, Oct, Dec, Hex}
+
+-- the word of a radix
+abbrev pub radix_text : Radix → List ℕ
+radix_text Bin = codes "2"
+radix_text Oct = codes "8"
+radix_text Dec = codes "10"
+radix_text Hex = codes "16"
+
+-- 'I' for signed, 'U' for unsigned
+abbrev pub sign_letter : Bool → ℕ
+sign_letter true = 73
+sign_letter false = 85
+
+-- 'F', which stands between the counts of whole and of fraction bits
+abbrev pub fraction_letter : ℕ
+fraction_letter = 70
+
+-- the counts of whole and of fraction bits of the format f, in decimal
+pub record HasCounts (f : Shape) (whole fraction : List ℕ) : Type 0 where
+  pub format : IsFormat f.width f.frac
+  pub whole_bits : whole ≡ decimal (f.width - f.frac)
+  pub fraction_bits : fraction ≡ decimal f.frac
+
+-- the word of a format
+abbrev pub format_text : Shape → List ℕ
+format_text f = sign_letter f.signed ∷ (decimal (f.width - f.frac) ++ fraction_letter ∷ decimal f.frac)
+
+-- word is the word of the format f
+pub record IsFormatWord (word : List ℕ) (f : Shape) : Type 0 where
+  pub format : IsFormat f.width f.frac
+  pub text : word ≡ format_text f
+
+-- the word of a policy
+abbrev pub policy_text : Policy → List ℕ
+policy_text Checked = codes "checked"
+policy_text Saturating = codes "saturating"
+policy_text Wrapping = codes "wrapping"
+
+-- the word of a mode
+abbrev pub mode_text : ReadMode → List ℕ
+mode_text NearestEven = codes "nearest"
+mode_text Floor = codes "floor"
+mode_text Ceil = codes "ceil"
+mode_text TowardsZero = codes "zero"
+
+-- '/', which stands between a policy and a mode
+abbrev pub slash : ℕ
+slash = 47
+
+-- word names the policy, and the mode, which is NearestEven where it names none
+abbrev pub IsPolicyWord : List ℕ → Policy → ReadMode → Type 0
+IsPolicyWord word policy mode = ((word ≡ policy_text policy) × (mode ≡ NearestEven)) ⊎ (word ≡ policy_text policy ++ slash ∷ mode_text mode)

@@ -1,0 +1,66 @@
+//! What a rule answers to a line.
+
+ghost use Rattle.std.specs.Prelude.{◌≡◌, ◌≤◌, length};
+
+use arrayvec::ArrayVec;
+use std::marker::Model;
+
+/// How many bytes an answer has at most.
+const LONGEST: usize = 192;
+
+/// The bytes of an answer, while it is put together.
+pub(crate) type AnswerBytes = ArrayVec<u8, LONGEST>;
+
+/// The answer to a line: at most 192 bytes, and whether they name a fault.
+#[derive(Drop)]
+pub struct Answer {
+    bytes: ArrayVec<u8, LONGEST>,
+    is_fault: bool,
+}
+
+impl Model for Answer {
+    ghost use Rattle.fixed_respell.specs.Reply.{Reply};
+
+    ghost Value = { Reply };
+
+    ghost view = { λ a. record { text = a.bytes.items; fault = a.is_fault } };
+}
+
+impl Answer {
+    /// The answer of these bytes, at most 192, with whether they name a fault.
+    pub fn of(bytes: &[u8], is_fault: bool) -> Answer
+        requires { length bytes.now ≤ LONGEST }
+        ensures text { result.text ≡ bytes.now }
+        ensures fault { result.fault ≡ is_fault }
+    {
+        let mut held = ArrayVec::new();
+        held.try_extend_from_slice(bytes).unwrap();
+        Answer {
+            bytes: held,
+            is_fault,
+        }
+    }
+
+    /// The answer of bytes that were put together where they stay.
+    pub(crate) fn holding(bytes: AnswerBytes, is_fault: bool) -> Answer
+        ensures text { result.text ≡ bytes.items }
+        ensures fault { result.fault ≡ is_fault }
+    {
+        Answer { bytes, is_fault }
+    }
+
+    /// The bytes, without a newline: at most 192.
+    pub fn as_bytes(&self) -> &[u8]
+        ensures bytes { result.now ≡ self.now.text }
+        ensures short { length result.now ≤ LONGEST }
+    {
+        self.bytes.as_slice()
+    }
+
+    /// Whether the bytes name a fault.
+    pub fn is_fault(&self) -> bool
+        ensures { result ≡ self.now.fault }
+    {
+        self.is_fault
+    }
+}

@@ -1,0 +1,81 @@
+//! Laws of the definitions, each the contract of a function that does nothing.
+
+ghost use Rattle.std.specs.Prelude.{pos, negsuc, true, false, codes};
+ghost use Rattle.fixed_respell.specs.AnswerLaws.{AnswerIsTheOne, FormatWordIsTheOne, LongIsAnsweredByFront, PlainLineAsksNearest, PlainWordNamesNearest};
+ghost use Rattle.fixed_bits.specs.declared.format.Policy.TheVariants.{Checked, Saturating, Wrapping};
+ghost use Rattle.fixed_bits.specs.declared.mode.ReadMode.TheVariants.{NearestEven, Ceil};
+ghost use Rattle.fixed_numeral.specs.declared.radix.Radix.TheVariants.{Dec};
+ghost use Rattle.fixed_respell.specs.Reached.{IsRespelled, IsOverflow};
+ghost use Rattle.fixed_respell.specs.RowFormats.{unsigned_format, signed_format};
+ghost use Rattle.fixed_respell.specs.Laws.{
+  ReachedIsTheOne,
+  UnreachedHasNone,
+  RespelledIsTheOne,
+  RefusalHasNone,
+  RefusalIsTheOne,
+};
+
+/// From a numeral at most one pair of bits and a flag is reached.
+pub fn reached_is_the_one()
+    ensures { ReachedIsTheOne }
+{}
+
+/// Where nothing is reached there are no bits that are.
+pub fn unreached_has_none()
+    ensures { UnreachedHasNone }
+{}
+
+/// Bytes reach at most one pair of bits and a flag.
+pub fn respelled_is_the_one()
+    ensures { RespelledIsTheOne }
+{}
+
+/// Bytes that are refused reach no bits.
+pub fn refusal_has_none()
+    ensures { RefusalHasNone }
+{}
+
+/// Bytes are refused for one kind at most.
+pub fn refusal_is_the_one()
+    ensures { RefusalIsTheOne }
+{}
+
+/// What some numerals reach. 2.99 is 48 steps of 1/16, and these are 3: the value moves to the source step first. 300 is
+/// brought into the source by the policy, and 17 into the target.
+pub fn worked_rows()
+    ensures to_the_source_step_first { IsRespelled NearestEven Dec (codes "2.99") Checked (unsigned_format 4 4) (unsigned_format 8 0) (pos 3) false }
+    ensures down_below_zero { IsRespelled NearestEven Dec (codes "-2.5") Checked (signed_format 4 4) (signed_format 8 0) (negsuc 2) false }
+    ensures source_wraps { IsRespelled NearestEven Dec (codes "300") Wrapping (unsigned_format 8 0) (unsigned_format 16 0) (pos 44) true }
+    ensures source_saturates { IsRespelled NearestEven Dec (codes "300") Saturating (unsigned_format 8 0) (unsigned_format 16 0) (pos 255) true }
+    ensures source_refuses { IsOverflow NearestEven Dec (codes "300") Checked (unsigned_format 8 0) (unsigned_format 16 0) }
+    ensures target_wraps { IsRespelled NearestEven Dec (codes "17") Wrapping (unsigned_format 8 0) (unsigned_format 4 4) (pos 16) true }
+    ensures target_saturates { IsRespelled NearestEven Dec (codes "17") Saturating (unsigned_format 8 0) (unsigned_format 4 4) (pos 255) true }
+    ensures target_refuses { IsOverflow NearestEven Dec (codes "17") Checked (unsigned_format 8 0) (unsigned_format 4 4) }
+    ensures in_the_mode { IsRespelled Ceil Dec (codes "2.1") Checked (unsigned_format 8 0) (unsigned_format 8 0) (pos 3) false }
+{}
+
+/// A word is the word of one format at most. So `format_word` of what `format_name` answers is that very format.
+pub fn format_word_is_the_one()
+    ensures { FormatWordIsTheOne }
+{}
+
+/// A line has at most one answer.
+pub fn answer_is_the_one()
+    ensures { AnswerIsTheOne }
+{}
+
+/// A line that is longer than what is kept of a line is answered like its front.
+pub fn long_is_answered_by_front()
+    ensures { LongIsAnsweredByFront }
+{}
+
+/// A policy word without a slash names a policy and the mode NearestEven, as if there were no mode words.
+pub fn plain_word_names_nearest()
+    ensures { PlainWordNamesNearest }
+{}
+
+/// A line whose fourth word holds no slash asks for what it would ask for if there were no mode words: the policy of that
+/// very name, with the mode NearestEven. So it has the same answer.
+pub fn plain_line_asks_nearest()
+    ensures { PlainLineAsksNearest }
+{}

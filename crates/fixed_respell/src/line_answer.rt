@@ -1,0 +1,182 @@
+//! The answer to a line.
+
+ghost use Rattle.std.specs.Prelude.{◌≡◌, ◌≤◌, ◌<◌, ◌+◌, ◌*◌, ◌++◌, ◌∷◌, length, MatchOption, MatchResult, IfOk, codes};
+ghost use Rattle.std.specs.Fmt.{signed_decimal};
+ghost use Rattle.fixed_respell.specs.Answer.{Asks, HasWords, IsAnswer, IsFirstFault, fault_reply, line_words, longest_line, respelled_reply, space, task_of, verdict};
+ghost use Rattle.fixed_respell.specs.Cutting.{count_of};
+ghost use Rattle.fixed_respell.specs.Reached.{number_of};
+
+use crate::Answer;
+use crate::answers::AnswerBytes;
+use crate::cutting::cut;
+use crate::fault::LineFault;
+use crate::respelling::{Bits, Respelled, respell_mode};
+use crate::words::{format_word, policy_word, radix_word};
+use arrayvec::ArrayVec;
+use fixed_bits::{Format, Policy, ReadMode};
+use fixed_numeral::Radix;
+use fixed_steps::Steps;
+use itoa::Buffer;
+use std::sync::ledger::Ledger;
+
+/// How many bytes a line has at most.
+const LONGEST: usize = 1_048_576;
+
+/// How many bytes an answer has at most.
+const ROOM: usize = 192;
+
+/// The words in front of a line's first four spaces, and all that stands behind the fourth.
+#[derive(Drop)]
+struct Fields<'a> {
+    radix: &'a [u8],
+    source: &'a [u8],
+    target: &'a [u8],
+    policy: &'a [u8],
+    numeral: &'a [u8],
+}
+
+/// A line cut at its first four spaces. None where it has fewer.
+fn cut_line(line: &[u8]) -> Option<Fields<'_>>
+    ensures { MatchOption result (count_of space line.now < 4) (λ f. HasWords line.now (line_words f.radix.now f.source.now f.target.now f.policy.now f.numeral.now)) }
+{
+    let Some((radix, rest)) = cut(line, b' ') else {
+        return None;
+    };
+    let Some((source, rest)) = cut(rest, b' ') else {
+        return None;
+    };
+    let Some((target, rest)) = cut(rest, b' ') else {
+        return None;
+    };
+    let Some((policy, numeral)) = cut(rest, b' ') else {
+        return None;
+    };
+    Some(Fields {
+        radix,
+        source,
+        target,
+        policy,
+        numeral,
+    })
+}
+
+/// What a line asks for.
+#[derive(Drop)]
+struct Task<'a> {
+    radix: Radix,
+    source: Format,
+    target: Format,
+    policy: Policy,
+    mode: ReadMode,
+    numeral: &'a [u8],
+}
+
+/// What a line asks for, or the first fault that stands in it.
+fn read_task(line: &[u8]) -> Result<Task<'_>, LineFault>
+    ensures task { MatchResult result (λ t. Asks line.now (task_of t.radix t.source t.target t.policy t.mode t.numeral.now)) (λ fault. IsFirstFault fault line.now) }
+    ensures short { IfOk result (λ t. length t.numeral.now ≤ length line.now) }
+{
+    if line.len() > LONGEST {
+        return Err(LineFault::LineTooLong);
+    }
+    let Some(fields) = cut_line(line) else {
+        return Err(LineFault::MissingField);
+    };
+    let Some(radix) = radix_word(fields.radix) else {
+        return Err(LineFault::BadRadix);
+    };
+    let Some(source) = format_word(fields.source) else {
+        return Err(LineFault::BadSource);
+    };
+    let Some(target) = format_word(fields.target) else {
+        return Err(LineFault::BadTarget);
+    };
+    let Some((policy, mode)) = policy_word(fields.policy) else {
+        return Err(LineFault::BadPolicy);
+    };
+    Ok(Task {
+        radix,
+        source,
+        target,
+        policy,
+        mode,
+        numeral: fields.numeral,
+    })
+}
+
+/// Appends bytes, for which there is room.
+fn push_bytes(out: &mut AnswerBytes, bytes: &[u8])
+    requires { length out.old.items + length bytes.now ≤ ROOM }
+    ensures { out.new.items ≡ out.old.items ++ bytes.now }
+{
+    out.try_extend_from_slice(bytes).unwrap();
+}
+
+/// Appends bits in decimal.
+fn push_bits(out: &mut AnswerBytes, bits: Bits)
+    requires { length out.old.items ≤ 100 }
+    ensures text { out.new.items ≡ out.old.items ++ signed_decimal (number_of bits) }
+    ensures short { length out.new.items ≤ length out.old.items + 40 }
+{
+    let mut digits = Buffer::new();
+    match bits {
+        Bits::Signed(number) => push_bytes(out, digits.format(number).as_bytes()),
+        Bits::Unsigned(number) => push_bytes(out, digits.format(number).as_bytes()),
+    }
+}
+
+/// The answer that names a fault.
+fn fault_answer(words: &str) -> Answer
+    requires { length words.now ≤ 64 }
+    ensures { result ≡ fault_reply words.now }
+{
+    let mut out = ArrayVec::new();
+    push_bytes(&mut out, b"error: ");
+    push_bytes(&mut out, words.as_bytes());
+    Answer::holding(out, true)
+}
+
+/// The last word of an answer, behind a space.
+fn verdict(overflowed: bool) -> &'static [u8]
+    ensures text { result.now ≡ space ∷ verdict overflowed }
+    ensures short { length result.now ≤ 11 }
+{
+    if overflowed { b" overflowed" } else { b" fits" }
+}
+
+/// The answer with a text, the bits, and whether a number on the way was out of its format.
+fn respelled_answer(respelled: &Respelled) -> Answer
+    ensures { result ≡ respelled_reply respelled.now.text (number_of respelled.now.bits) respelled.now.overflowed }
+{
+    let mut out = ArrayVec::new();
+    push_bytes(&mut out, respelled.text.as_bytes());
+    out.push(b' ');
+    push_bits(&mut out, respelled.bits);
+    push_bytes(&mut out, verdict(respelled.overflowed));
+    Answer::holding(out, false)
+}
+
+/// The answer to a line: the first fault of the line that stands, else the fault for which its numeral is refused,
+/// else the shortest decimal of the bits that it reaches, those bits in decimal, and whether a number on the way was
+/// out of its format.
+pub fn answer<L: Ledger>(line: &[u8], steps: &mut Steps<L>) -> Answer
+    ensures answer { IsAnswer line.now result }
+    ensures cost { steps.new ≤ steps.old + 8 * length line.now + 624 }
+{
+    let task = match read_task(line) {
+        Ok(task) => task,
+        Err(fault) => return fault_answer(fault.words()),
+    };
+    match respell_mode(
+        task.numeral,
+        task.radix,
+        task.source,
+        task.target,
+        task.policy,
+        task.mode,
+        steps,
+    ) {
+        Ok(respelled) => respelled_answer(&respelled),
+        Err(error) => fault_answer(error.message()),
+    }
+}

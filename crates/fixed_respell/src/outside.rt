@@ -1,0 +1,49 @@
+//! Where bytes come from and where they go.
+
+ghost use Rattle.std.specs.Prelude.{◌≡◌, ◌<◌, ◌≤◌, List, ℕ, length, IfOk, Ok};
+ghost use Rattle.std.specs.declared.option.Option.{Option};
+ghost use Rattle.std.specs.Io.{ReadsAtMost, WritesAtMost};
+ghost use Rattle.std.specs.Io.KnownBytes.{ReadConsumes, WriteAppends};
+ghost use Rattle.fixed_respell.specs.Causes.{HasCause};
+
+use thiserror::Error;
+
+/// A device failed: the one refusal of a source and of a sink.
+#[derive(Clone, Copy, Debug, Error, PartialEq, Eq)]
+#[error("device failed")]
+pub struct Failed;
+
+/// Where bytes come from.
+pub trait Source {
+    /// The bytes that are left, where the source tells them.
+    ghost left: { Self → Option (List ℕ) };
+
+    /// How often a read has failed; at the last value of u64 it stands still.
+    ghost faults: { Self → ℕ };
+
+    /// Puts the next bytes at the front of the buffer and answers how many. On a buffer that isn't empty 0 means the
+    /// end of the input, and only that; on an empty one it changes nothing. `Failed` comes only where the count of
+    /// faults rose, or stands at its last value, and then no byte moved.
+    fn read(&mut self, buf: &mut [u8]) -> Result<usize, Failed>
+        ensures bound { ReadsAtMost result buf.new }
+        ensures bytes { ReadConsumes (left self.old) (left self.new) result buf.new }
+        ensures empty { length buf.old ≡ 0 → result ≡ Ok 0 }
+        ensures cause { HasCause (faults self.old) (faults self.new) result };
+}
+
+/// Where bytes go.
+pub trait Sink {
+    /// The bytes that were written, where the sink tells them.
+    ghost written: { Self → Option (List ℕ) };
+
+    /// How often a write has failed; at the last value of u64 it stands still.
+    ghost faults: { Self → ℕ };
+
+    /// Takes a front of the piece, at least one byte of a piece that isn't empty, and answers how many bytes.
+    /// `Failed` comes only where the count of faults rose, or stands at its last value, and then no byte moved.
+    fn write(&mut self, piece: &[u8]) -> Result<usize, Failed>
+        ensures bound { WritesAtMost result piece.now }
+        ensures bytes { WriteAppends (written self.old) (written self.new) result piece.now }
+        ensures progress { 0 < length piece.now → IfOk result (λ n. 0 < n) }
+        ensures cause { HasCause (faults self.old) (faults self.new) result };
+}
