@@ -1,0 +1,9 @@
+//! Sources and sinks over the readers and writers of std.
+#![tactic(auto)]
+
+pub mod standard;
+
+pub use standard::{StdSink, StdSource};
+
+#[cfg(test)]
+mod tests;
