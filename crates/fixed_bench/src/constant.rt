@@ -1,0 +1,54 @@
+//! The line engine alone.
+
+ghost use Rattle.std.specs.Prelude.{◌≡◌, ◌<◌};
+
+use fixed_io::{StdSink, StdSource};
+use fixed_respell::{Answer, LineRule, Status, run_lines};
+use fixed_steps::Steps;
+use std::alloc::Global;
+use std::sync::ledger::{Blank, Ledger};
+
+/// Answers each line by one text.
+#[derive(Clone, Copy, Debug, PartialEq, Eq)]
+pub struct ConstantRule;
+
+impl<L: Ledger> LineRule<L> for ConstantRule {
+    ghost use Rattle.fixed_bench.specs.Constant.{IsConstant, constant_one, constant_kept};
+
+    const PER_BYTE: u64 = 0;
+
+    const EXTRA: u64 = 0;
+
+    ghost PER_BYTE = { 0 };
+
+    ghost EXTRA = { 0 };
+
+    ghost Answers = { λ rule. IsConstant };
+
+    fn answer(&self, _line: &[u8], _steps: &mut Steps<L>) -> Answer {
+        Answer::of(b"0 0 fits", false)
+    }
+
+    ghost one_law = { λ rule. constant_one };
+
+    ghost kept_law = { λ rule. constant_kept };
+}
+
+/// Answers the lines of standard input.
+pub fn run_constant<L: Ledger>(rt: &HostRuntime, alloc: Global, blank: Blank) -> Status
+    requires name { blank.name ≡ L.name }
+    requires parts { blank.parts ≡ L.parts }
+    requires some { 0 < blank.parts }
+{
+    let mut steps = Steps::<L>::new(blank);
+    let mut source = StdSource::new(rt.stdin());
+    let mut sink = StdSink::new(rt.stdout());
+    run_lines(
+        alloc,
+        4_294_967_296,
+        &ConstantRule,
+        &mut source,
+        &mut sink,
+        &mut steps,
+    )
+}
