@@ -1,9 +1,10 @@
 -- The two ways of moving down.
 use Rattle.std.proofs.Common.{◌≡◌, ℕ, ◌+◌, ◌-◌, ◌^◌, ◌≤◌, ℤ, pos, ◌*ℤ◌, arith, refl, sym, ap, ◌∙◌}
-use Rattle.std.specs.Prelude.{◌+ℤ◌}
+use Rattle.std.specs.Prelude.{◌+ℤ◌, Bool}
 use Rattle.std.proofs.lemmas.Int.{ints}
 use Rattle.std.proofs.lemmas.Nat.{pow_pos, pow-add}
 use Rattle.fixed_bits.specs.Down.{IsDown, down}
+use Rattle.fixed_bits.specs.Ranges.{IsInRange}
 use Rattle.fixed_bits.proofs.Integers.{next_times, le_times, lt_times, times_times}
 use Rattle.fixed_bits.proofs.LawLemmas.{images_agree, down_one}
 use Rattle.fixed_convert.specs.Moved.{shifted}
@@ -44,6 +45,10 @@ grown_is b f g l = rw (grown b f g l) ((down_one b f g (down b f g)).1 refl)
 
 pub shortened_is : (b : ℤ) (f g : ℕ) (d : ℤ) → g ≤ f → IsDown b (f - g) 0 d → IsDown b f g (shifted d 0)
 shortened_is b f g d l h = rw (shortened b f g d l h) ((down_one b f g (down b f g)).1 refl)
+
+-- what is moved down fits where the one number that it is does
+pub moved_fits : (s : Bool) (n : ℕ) (b : ℤ) (f g : ℕ) (d : ℤ) → IsDown b f g d → IsInRange s n d → IsInRange s n (down b f g)
+moved_fits s n b f g d h i = rw (sym ((down_one b f g d).0 h)) i
 
 -- ---- laws
 pub finer : FinerIsExact

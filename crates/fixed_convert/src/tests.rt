@@ -1,12 +1,13 @@
 //! Conversions and comparisons whose answers are known from exact arithmetic on fractions.
 
-ghost use Rattle.std.specs.Prelude.{◌≡◌, ◌≤◌, refl};
+ghost use Rattle.std.specs.Prelude.{◌≡◌, ◌≤◌, negsuc, refl};
 ghost use Rattle.std.proofs.Common.{inr};
 ghost use Rattle.fixed_bits.specs.Ranges.{IsWide};
 
 use crate::{
-    CheckedCast, Floored, FromFixed, LosslessTryFrom, LossyFrom, Num, NumTarget, OverflowingCast,
-    SaturatingCast, ToFixed, WrappingCast, compare, floor_into, lossless_from, reformat,
+    Cast, CheckedCast, Floored, FromFixed, LosslessTryFrom, LossyFrom, Num, NumTarget,
+    OverflowingCast, SaturatingCast, StrictCast, ToFixed, UnwrappedCast, WrappingCast, compare,
+    floor_into, lossless_from, reformat,
 };
 use fixed_bits::{FixedBits, Format, Inner, Policy};
 use std::cmp::Ordering;
@@ -133,6 +134,69 @@ fn minus_one_to_a_byte(rt: HostRuntime) {
     assert!(rt; none == None && clamped == 0 && wrapped == 255 && both == (255, true));
     let back: i8 = with_bits::<u8, 0>(255).wrapping_cast();
     assert!(rt; back == -1);
+}
+
+/// Minus two and a half, in sixteenths.
+fn below_two() -> Bits<i8, 4>
+    ensures { result.bits ≡ negsuc 39 }
+{
+    with_bits(-40)
+}
+
+#[test]
+fn casts_of_what_fits(rt: HostRuntime) {
+    let plain: i16 = below_two().cast();
+    let strict: Bits<i32, 1> = below_two().strict_cast();
+    let unwrapped: isize = below_two().unwrapped_cast();
+    assert!(rt; plain == -3 && strict.bits == -5 && unwrapped == -3);
+    let some: Option<Bits<i64, 56>> = below_two().checked_cast();
+    assert!(rt;
+        some.map(|x| x.bits) == Some(-180143985094819840),
+        "-2.5 times 2^56"
+    );
+}
+
+#[test]
+fn three_hundred_into_a_byte(rt: HostRuntime) {
+    let none: Option<Bits<u8, 0>> = 300u16.checked_to_fixed();
+    let clamped: Bits<u8, 0> = 300u16.saturating_to_fixed();
+    let wrapped: Bits<u8, 0> = 300u16.wrapping_to_fixed();
+    let (same, over): (Bits<u8, 0>, bool) = 300u16.overflowing_to_fixed();
+    assert!(rt; none.is_none() && clamped.bits == 255 && wrapped.bits == 44);
+    assert!(rt; same.bits == 44 && over);
+
+    let none: Option<u8> = FromFixed::checked_from_fixed(with_bits::<u16, 0>(300));
+    let clamped: u8 = FromFixed::saturating_from_fixed(with_bits::<u16, 0>(300));
+    let wrapped: u8 = FromFixed::wrapping_from_fixed(with_bits::<u16, 0>(300));
+    let both: (u8, bool) = FromFixed::overflowing_from_fixed(with_bits::<u16, 0>(300));
+    assert!(rt; none == None && clamped == 255 && wrapped == 44 && both == (44, true));
+}
+
+#[test]
+fn three_into_sixteenths_and_back(rt: HostRuntime) {
+    let plain: Bits<u8, 4> = 3u16.to_fixed();
+    let strict: Bits<i64, 56> = 3i8.strict_to_fixed();
+    assert!(rt;
+        plain.bits == 48 && strict.bits == 216172782113783808,
+        "three times 2^56"
+    );
+    let plain: u16 = FromFixed::from_fixed(with_bits::<u8, 4>(48));
+    let strict: i8 = FromFixed::strict_from_fixed(with_bits::<u8, 4>(47));
+    assert!(rt; plain == 3 && strict == 2, "47 sixteenths are below three");
+}
+
+#[test]
+fn integers_of_a_machine_word(rt: HostRuntime) {
+    let end = with_bits::<u64, 0>(18446744073709551615);
+    let whole: Option<usize> = end.checked_cast();
+    let none: Option<isize> = end.checked_cast();
+    let clamped: isize = end.saturating_cast();
+    let wrapped: isize = end.wrapping_cast();
+    assert!(rt; whole == Some(usize::MAX) && none == None);
+    assert!(rt; clamped == isize::MAX && wrapped == -1);
+    let (low, over): (Bits<u8, 0>, bool) = (-1isize).overflowing_to_fixed();
+    let high: Bits<u64, 0> = usize::MAX.wrapping_to_fixed();
+    assert!(rt; low.bits == 255 && over && high.bits == u64::MAX);
 }
 
 #[test]
