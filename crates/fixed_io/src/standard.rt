@@ -1,4 +1,5 @@
-//! A source over any reader and a sink over any writer. They tell nothing of content.
+//! A source over any reader and a sink over any writer. They tell nothing of content, and the source nothing of
+//! what it was asked for.
 //!
 //! Each `Err` of the reader or the writer counts as a failure, an interrupted call too: a program that sets no handler
 //! for signals meets none. What a writer keeps for itself, as a `BufWriter` does, is written only once its owner flushes
@@ -30,11 +31,14 @@ impl<R: Read> Source for StdSource<R> {
     ghost use Rattle.std.specs.Prelude.{◌≡◌, Ok, OnErr, length};
     ghost use Rattle.std.specs.Io.{ReadsAtMost};
     ghost use Rattle.std.specs.Io.KnownBytes.{ReadConsumes};
+    ghost use Rattle.fixed_respell.specs.Asked.{HasAsked};
     ghost use Rattle.fixed_respell.specs.Causes.{HasCause};
 
     ghost left = { λ s. None };
 
     ghost faults = { λ s. s.faults };
+
+    ghost asked = { λ s. None };
 
     /// Reads once; a buffer without room is left alone. An `Err` of the reader raises the count of faults by one.
     fn read(&mut self, buf: &mut [u8]) -> Result<usize, Failed>
@@ -43,6 +47,7 @@ impl<R: Read> Source for StdSource<R> {
         ensures empty { length buf.old ≡ 0 → result ≡ Ok 0 }
         ensures cause { HasCause self.old.faults self.new.faults result }
         ensures once { OnErr result (self.new.faults ≡ min (self.old.faults + 1) (2 ^ 64 - 1)) }
+        ensures asked { HasAsked None None (length buf.old) result }
     {
         if buf.is_empty() {
             return Ok(0);

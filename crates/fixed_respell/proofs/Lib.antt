@@ -1,5 +1,6 @@
 mod NumberLemmas
 mod Answering
+mod Asking
 mod Complete
 mod Fed
 mod Feeding

@@ -16,6 +16,7 @@ pub mod Held
 pub mod Laws
 pub mod Command
 pub mod AnswerLaws
+pub mod Asked
 pub mod CutLemmas
 pub mod FormatLemmas
 pub mod LineWordLemmas

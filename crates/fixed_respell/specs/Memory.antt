@@ -1,11 +1,16 @@
 -- What is seen of a source and a sink in memory.
 use Rattle.std.specs.Prelude.{◌≡◌, ℕ, ◌+◌, ◌-◌, ◌^◌, min, List, length, take, drop}
+use Rattle.fixed_respell.specs.Asked.{Asked}
 use Rattle.fixed_respell.specs.declared.memory.MemorySource.{MemorySource}
 use Rattle.fixed_respell.specs.declared.memory.MemorySink.{MemorySink}
 
 -- the bytes that are left
 abbrev pub bytes_left : MemorySource → List ℕ
 bytes_left source = drop source.at source.bytes.items
+
+-- what its reads have asked for
+abbrev pub asked_of : MemorySource → Asked
+asked_of source = record { given = source.at; furthest = source.furthest; longest = source.longest }
 
 -- the bytes that were written
 abbrev pub bytes_written : MemorySink → List ℕ

@@ -1,7 +1,8 @@
 //! The line engine: lines in, answers out, whatever the rule that answers.
 
-ghost use Rattle.std.specs.Prelude.{◌≡◌, ◌≤◌, ◌<◌, ◌⊎◌, List, ℕ, Some, [], length, take, false, IfOk, OnErr};
+ghost use Rattle.std.specs.Prelude.{◌≡◌, ◌≤◌, ◌<◌, ◌+◌, ◌⊎◌, List, ℕ, Some, [], length, take, false, IfOk, OnErr};
 ghost use Rattle.std.specs.Io.KnownBytes.{Consumes, IsAtEnd, Keeps};
+ghost use Rattle.fixed_respell.specs.Asked.{AskedWithin, HasAsked, longest_piece};
 ghost use Rattle.fixed_respell.specs.Causes.{HasCause, Rose};
 ghost use Rattle.fixed_respell.specs.Lines.{kept_length, last_line, lines};
 ghost use Rattle.fixed_respell.specs.Output.{AppendsPart, AreAnswers, written_of};
@@ -22,6 +23,17 @@ const MOST: u64 = 4_294_967_296;
 /// How many bytes are read at a time at most.
 const PIECE: usize = 4096;
 
+/// How many bytes are asked for next, with so many of the limit taken.
+fn next_room(limit: u64, taken: u64) -> usize
+    requires limit { limit ≤ MOST }
+    requires taken { taken ≤ limit }
+    ensures some { 0 < result }
+    ensures piece { result ≤ longest_piece }
+    ensures within { taken + result ≤ limit + 1 }
+{
+    (limit + 1 - taken).min(PIECE as u64) as usize
+}
+
 /// Reads the next bytes into the front of a piece, at most this many.
 fn read_front<S: Source>(source: &mut S, piece: &mut [u8], most: usize) -> Result<usize, Failed>
     requires room { most ≤ length piece.old }
@@ -31,6 +43,7 @@ fn read_front<S: Source>(source: &mut S, piece: &mut [u8], most: usize) -> Resul
     ensures end { IfOk result (λ count. count ≡ 0 → IsAtEnd (S.left source.new)) }
     ensures err { OnErr result (Keeps (S.left source.old) (S.left source.new)) }
     ensures cause { HasCause (S.faults source.old) (S.faults source.new) result }
+    ensures asked { HasAsked (S.asked source.old) (S.asked source.new) most result }
 {
     source.read(&mut piece[..most])
 }
@@ -72,12 +85,13 @@ fn answer_lines<R: LineRule<L>, S: Source, K: Sink, L: Ledger>(
     ensures run { HasRun (R.Answers rule.now) limit (S.left source.old) (S.left source.new) (K.written sink.old) (K.written sink.new) result }
     ensures cause { HasCauses (S.faults source.old) (S.faults source.new) (K.faults sink.old) (K.faults sink.new) result }
     ensures spends { Spends limit R.PER_BYTE R.EXTRA (S.left source.old) (S.left source.new) steps.old steps.new }
+    ensures asked { AskedWithin limit (S.asked source.old) (S.asked source.new) }
     ensures began { ¬ (result ≡ Status.NoMemory) }
 {
     let mut piece = [0u8; PIECE];
     let mut taken = 0u64;
     while taken <= limit {
-        let room = (limit + 1 - taken).min(PIECE as u64) as usize;
+        let room = next_room(limit, taken);
         match read_front(source, &mut piece, room) {
             Err(_) => return Status::ReadFault,
             Ok(0) => return end_lines(rule, reading, sink, steps),
@@ -96,7 +110,7 @@ fn answer_lines<R: LineRule<L>, S: Source, K: Sink, L: Ledger>(
 /// Has each line of a source answered by a rule, and writes each answer and a newline to a sink.
 ///
 /// It takes memory for one line buffer of 1,048,577 bytes, and answers `NoMemory` where that fails; afterwards it takes
-/// none. It reads pieces of at most 4,096 bytes, and never asks for more than one byte past the limit. The answers of the
+/// none. Each read asks for at most 4,096 bytes, and for at most limit + 1 bytes less those already taken. The answers of the
 /// lines that ended in a piece are written before the next is read. A line ends at a newline byte, which isn't part of
 /// it; the rule is given its first 1,048,577 bytes. A rest behind the last newline is a line where it isn't empty.
 ///
@@ -135,6 +149,9 @@ pub fn run_lines<R: LineRule<L>, S: Source, K: Sink, L: Ledger>(
 
     // How many bytes were taken, and how many steps.
     ensures spends { Spends limit R.PER_BYTE R.EXTRA (S.left source.old) (S.left source.new) steps.old steps.new }
+
+    // What the source was asked for: no read asked for more than limit + 1 bytes less those taken, or for more than 4,096.
+    ensures asked { AskedWithin limit (S.asked source.old) (S.asked source.new) }
 
     // Nothing was read or written.
     ensures memory { result ≡ Status.NoMemory → (source.new ≡ source.old) × (sink.new ≡ sink.old) × (steps.new ≡ steps.old) }

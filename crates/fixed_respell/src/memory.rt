@@ -13,12 +13,16 @@ pub struct MemorySource {
     failing: Vec<u64>,
     call: u64,
     faults: u64,
+    furthest: usize,
+    longest: usize,
     ghost within: { at ≤ length bytes.items },
     ghost some: { 0 < most },
+    ghost asked: { at ≤ furthest },
 }
 
 impl MemorySource {
-    ghost use Rattle.fixed_respell.specs.Memory.{bytes_left};
+    ghost use Rattle.fixed_respell.specs.Asked.{nothing_asked};
+    ghost use Rattle.fixed_respell.specs.Memory.{asked_of, bytes_left};
 
     /// A source of these bytes that gives at most `most` at a call, 1 or more, and fails at the calls with these numbers.
     /// Calls on a buffer that isn't empty are numbered from 0.
@@ -29,6 +33,7 @@ impl MemorySource {
         ensures failing { result.failing.items ≡ failing.items }
         ensures call { result.call ≡ 0 }
         ensures faults { result.faults ≡ 0 }
+        ensures asked { asked_of result ≡ nothing_asked }
     {
         MemorySource {
             bytes,
@@ -37,7 +42,24 @@ impl MemorySource {
             failing,
             call: 0,
             faults: 0,
+            furthest: 0,
+            longest: 0,
         }
+    }
+
+    /// The furthest byte that a read has asked for: the count of bytes given before it and its buffer's length, the
+    /// greatest so far. 0 before the first read.
+    pub fn furthest(&self) -> usize
+        ensures { result ≡ (asked_of self.now).furthest }
+    {
+        self.furthest
+    }
+
+    /// The length in bytes of the longest buffer of a read so far. 0 before the first read.
+    pub fn longest(&self) -> usize
+        ensures { result ≡ (asked_of self.now).longest }
+    {
+        self.longest
     }
 }
 
@@ -45,15 +67,19 @@ impl Source for MemorySource {
     ghost use Rattle.std.specs.Prelude.{◌==◌, ◌≤◌, min, Ok, Contains, IsErr, if◌then◌else◌};
     ghost use Rattle.std.specs.Io.{ReadsAtMost};
     ghost use Rattle.std.specs.Io.KnownBytes.{ReadConsumes};
+    ghost use Rattle.fixed_respell.specs.Asked.{HasAsked};
     ghost use Rattle.fixed_respell.specs.Causes.{HasCause};
-    ghost use Rattle.fixed_respell.specs.Memory.{bytes_left, next_count, KeepsSourceRules};
+    ghost use Rattle.fixed_respell.specs.Memory.{asked_of, bytes_left, next_count, KeepsSourceRules};
 
     ghost left = { λ s. Some (bytes_left s) };
 
     ghost faults = { λ s. s.faults };
 
+    ghost asked = { λ s. Some (asked_of s) };
+
     /// It fails exactly at the calls that it was told. Otherwise it moves as many bytes as the smallest of `most`, the
-    /// buffer's length and the count of bytes left. A call on an empty buffer has no number.
+    /// buffer's length and the count of bytes left. A call on an empty buffer has no number. Each call, also one that
+    /// fails, is kept in what was asked for.
     fn read(&mut self, buf: &mut [u8]) -> Result<usize, Failed>
         ensures bound { ReadsAtMost result buf.new }
         ensures bytes { ReadConsumes (Some (bytes_left self.old)) (Some (bytes_left self.new)) result buf.new }
@@ -64,10 +90,13 @@ impl Source for MemorySource {
             → result ≡ Ok (min (min (length buf.old) self.old.most) (length (bytes_left self.old))) }
         ensures call { self.new.call ≡ (if length buf.old == 0 then self.old.call else next_count self.old.call) }
         ensures rules { KeepsSourceRules self.old self.new }
+        ensures asked { HasAsked (Some (asked_of self.old)) (Some (asked_of self.new)) (length buf.old) result }
     {
         if buf.is_empty() {
             return Ok(0);
         }
+        self.furthest = self.furthest.max(self.at + buf.len());
+        self.longest = self.longest.max(buf.len());
         let call = self.call;
         self.call = call.saturating_add(1);
         if self.failing.contains(&call) {

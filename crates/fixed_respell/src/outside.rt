@@ -4,6 +4,7 @@ ghost use Rattle.std.specs.Prelude.{◌≡◌, ◌<◌, ◌≤◌, List, ℕ, le
 ghost use Rattle.std.specs.declared.option.Option.{Option};
 ghost use Rattle.std.specs.Io.{ReadsAtMost, WritesAtMost};
 ghost use Rattle.std.specs.Io.KnownBytes.{ReadConsumes, WriteAppends};
+ghost use Rattle.fixed_respell.specs.Asked.{Asked, HasAsked};
 ghost use Rattle.fixed_respell.specs.Causes.{HasCause};
 
 use thiserror::Error;
@@ -21,14 +22,20 @@ pub trait Source {
     /// How often a read has failed; at the last value of u64 it stands still.
     ghost faults: { Self → ℕ };
 
+    /// What its reads have asked for, where the source tells it: how many bytes they gave, the furthest byte that one asked
+    /// for, and the longest buffer of one.
+    ghost asked: { Self → Option Asked };
+
     /// Puts the next bytes at the front of the buffer and answers how many. On a buffer that isn't empty 0 means the
     /// end of the input, and only that; on an empty one it changes nothing. `Failed` comes only where the count of
-    /// faults rose, or stands at its last value, and then no byte moved.
+    /// faults rose, or stands at its last value, and then no byte moved. Each call is added to what was asked for, with
+    /// the buffer's length and the count of bytes that it gave.
     fn read(&mut self, buf: &mut [u8]) -> Result<usize, Failed>
         ensures bound { ReadsAtMost result buf.new }
         ensures bytes { ReadConsumes (left self.old) (left self.new) result buf.new }
         ensures empty { length buf.old ≡ 0 → result ≡ Ok 0 }
-        ensures cause { HasCause (faults self.old) (faults self.new) result };
+        ensures cause { HasCause (faults self.old) (faults self.new) result }
+        ensures asked { HasAsked (asked self.old) (asked self.new) (length buf.old) result };
 }
 
 /// Where bytes go.

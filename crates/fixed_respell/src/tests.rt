@@ -6,6 +6,7 @@ use crate::{Answer, Failed, LineRule, MemorySink, MemorySource, Status, run_line
 use fixed_steps::Steps;
 use std::alloc::{AllocError, Global};
 use std::marker::Brand;
+use std::process::Abort;
 use std::sync::ledger::{Blank, Ledger};
 use std::test::Fail;
 
@@ -219,6 +220,83 @@ fn each_write_fails_in_turn(rt: HostRuntime) -> Result<(), Fail> {
         let (status, written) = run_case::<Brand>(rt.alloc(), &case, Blank::new(1))?;
         assert_eq!(rt; status, Status::WriteFault, "at {call}");
         assert_eq!(rt; written.as_slice(), &OUTPUT.as_bytes()[..call], "at {call}");
+    }
+    Ok(())
+}
+
+/// What a run asks its source for: the limit, how many bytes there are and how many of them move at a time, the furthest
+/// byte that is asked for and the longest buffer.
+#[derive(Drop)]
+struct Asking {
+    limit: u64,
+    bytes: usize,
+    most: usize,
+    furthest: usize,
+    longest: usize,
+}
+
+/// The furthest byte and the longest buffer that a run of this kind asks for.
+fn asked_by<L: Ledger>(
+    alloc: Global,
+    asking: &Asking,
+    blank: Blank,
+) -> Result<(usize, usize), AllocError>
+    requires name { blank.name ≡ L.name }
+    requires parts { blank.parts ≡ L.parts }
+    requires some { 0 < blank.parts }
+{
+    let mut steps = Steps::<L>::new(blank);
+    let input = vec![in alloc; b'x'; asking.bytes]?;
+    let mut source = MemorySource::new(input, asking.most.max(1), Vec::new(alloc));
+    let mut sink = MemorySink::new(vec![in alloc; 0; 100]?, 4096, Vec::new(alloc));
+    let rule = OneAnswer { is_fault: false };
+    let limit = asking.limit.clamp(1, 4_294_967_296);
+    run_lines(alloc, limit, &rule, &mut source, &mut sink, &mut steps);
+    Ok((source.furthest(), source.longest()))
+}
+
+/// Asserts what runs of this kind ask for.
+fn assert_asks(rt: &impl Abort, alloc: Global, asking: &Asking) -> Result<(), AllocError> {
+    let (furthest, longest) = asked_by::<Brand>(alloc, asking, Blank::new(1))?;
+    assert_eq!(rt;
+        furthest,
+        asking.furthest,
+        "at {} of {}",
+        asking.most, asking.limit
+    );
+    assert_eq!(rt;
+        longest,
+        asking.longest,
+        "at {} of {}",
+        asking.most, asking.limit
+    );
+    Ok(())
+}
+
+/// However few bytes move at a time, the byte past the limit is the furthest that is asked for, and 4,096 bytes are the
+/// most: over an input that is longer than the limit, one that is as long, and one that ends before it.
+#[test]
+fn no_read_asks_for_too_much(rt: HostRuntime) -> Result<(), Fail> {
+    let cases = [
+        (6, 9, 7, 7),
+        (6, 6, 7, 7),
+        (6, 2, 7, 7),
+        (4095, 5000, 4096, 4096),
+        (4096, 5000, 4097, 4096),
+        (5000, 5000, 5001, 4096),
+        (4_294_967_296, 10, 4106, 4096),
+    ];
+    for (limit, bytes, furthest, longest) in cases {
+        for most in 1..=8 {
+            let asking = Asking {
+                limit,
+                bytes,
+                most,
+                furthest,
+                longest,
+            };
+            assert_asks(&rt, rt.alloc(), &asking)?;
+        }
     }
     Ok(())
 }

@@ -2,6 +2,7 @@
 
 ghost use Rattle.std.specs.Prelude.{◌≡◌, ◌≤◌, ◌<◌, ◌⊎◌, List, ℕ, Some, length};
 ghost use Rattle.fixed_respell.specs.Answer.{IsAnswer};
+ghost use Rattle.fixed_respell.specs.Asked.{AskedWithin};
 ghost use Rattle.fixed_respell.specs.Causes.{Rose};
 ghost use Rattle.fixed_respell.specs.Command.{IsCommand, IsUsageFault, usage_line};
 ghost use Rattle.fixed_respell.specs.Lines.{lines};
@@ -63,6 +64,9 @@ pub fn run<S: Source, K: Sink, L: Ledger>(
     ensures front { (limit : ℕ) → IsCommand words.now (Read limit) → result ≡ Status.WriteFault → (input : List ℕ) (replies : List Reply) → S.left source.old ≡ Some input
         → AreAnswers IsAnswer (lines input) replies → AppendsPart (K.written sink.old) (K.written sink.new) (written_of replies) }
     ensures spends { (limit : ℕ) → IsCommand words.now (Read limit) → Spends limit 8 624 (S.left source.old) (S.left source.new) steps.old steps.new }
+
+    // What the source was asked for: no read asked for more than limit + 1 bytes less those taken, or for more than 4,096.
+    ensures asked { (limit : ℕ) → IsCommand words.now (Read limit) → AskedWithin limit (S.asked source.old) (S.asked source.new) }
 
     // The program's own lines.
     ensures own { (count : ℕ) → IsCommand words.now (Own count)

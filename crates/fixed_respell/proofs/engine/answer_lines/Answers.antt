@@ -1,10 +1,11 @@
-use Rattle.std.proofs.Common.{◌≡◌, ◌++◌, ◌-◌, ◌+◌, ◌≤◌, min, [], List, ℕ, length, take, arith, refl, sym, ap, ◌∙◌, subst, false, length-append}
+use Rattle.std.proofs.Common.{◌≡◌, ◌++◌, ◌-◌, ◌+◌, ◌≤◌, min, [], List, ℕ, Ok, Err, length, take, arith, refl, sym, ap, ◌∙◌, subst, false, length-append}
 use Rattle.std.proofs.lemmas.Grind.{common_steps}
 use Rattle.std.proofs.lemmas.List.{take_all, length-take}
 use Rattle.std.proofs.KnownBytes.{Consumes-trans, Consumes-nil}
 use Rattle.fixed_respell.specs.Lines.{ended_lines, kept_length, last_line, unended}
 use Rattle.fixed_respell.specs.Progress.{Answered, Broken, IsKept, state}
 use Rattle.fixed_respell.proofs.Answering.{answered_none}
+use Rattle.fixed_respell.proofs.Asking.{so_far_more, so_far_none, so_far_within}
 use Rattle.fixed_respell.proofs.Feeding.{kept_unended, nothing_kept, within_limit}
 use Rattle.fixed_respell.proofs.LineLemmas.{unended-append}
 use Rattle.fixed_respell.proofs.Parts.{passes_none}
@@ -21,6 +22,7 @@ loop-taken-init g c =
       consumed = Consumes-nil (g.S.Source.left c.args.source.now);
       count = refl;
       bound = omega arith;
+      asked = so_far_none c.args.limit (g.S.Source.asked c.args.source.now);
       line = c.requires.line ∙ sym (ap (λ l. take kept_length (unended l)) (nothing_kept c.args.limit) ∙ nothing_kept kept_length);
       answered = subst (λ l. Answered (g.R.LineRule.Answers c.args.rule.now) g.R.LineRule.PER_BYTE g.R.LineRule.EXTRA (ended_lines l) (state [] before false c.args.steps.now) (state [] before c.args.reading.has_fault c.args.steps.now)) (sym (nothing_kept c.args.limit))
           (subst (λ fault. Answered (g.R.LineRule.Answers c.args.rule.now) g.R.LineRule.PER_BYTE g.R.LineRule.EXTRA [] (state [] before false c.args.steps.now) (state [] before fault c.args.steps.now)) (sym c.requires.fault)
@@ -42,6 +44,10 @@ returns-in-Err-clause-spends g c =
     inv.bytes c.loop-taken.reading.has_fault c.args.steps.now c.loop-taken.steps
     (Consumes-kept (g.S.Source.left c.args.source.now) (g.S.Source.left c.loop-taken.source) (g.S.Source.left c.read_front.new.source) inv.bytes inv.consumed c.in-Err.ensures.err)
     (omega (arith, inv.count, inv.bound)) inv.answered
+
+pub returns-in-Err-clause-asked : goal.returns-in-Err-clause-asked
+returns-in-Err-clause-asked g c = so_far_within c.args.limit (c.loop-taken.taken + 0) (g.S.Source.asked c.args.source.now) (g.S.Source.asked c.read_front.new.source)
+    (so_far_more c.args.limit c.loop-taken.taken c.next_room-room.result (g.S.Source.asked c.args.source.now) (g.S.Source.asked c.loop-taken.source) (g.S.Source.asked c.read_front.new.source) (Err c.in-Err.field-0) c.next_room-room.ensures.piece c.next_room-room.ensures.within c.loop-taken.invariant.asked c.in-Err.ensures.asked)
 
 pub returns-in-Ok-eq0-clause-run : goal.returns-in-Ok-eq0-clause-run
 returns-in-Ok-eq0-clause-run g c =
@@ -127,7 +133,7 @@ returns-in-Err-feed-clause-spends g c =
     spends_part (g.R.LineRule.Answers c.args.rule.now) g.R.LineRule.PER_BYTE g.R.LineRule.EXTRA c.args.limit (g.S.Source.left c.args.source.now) (g.S.Source.left c.read_front.new.source) before after
     (inv.bytes ++ take count buf) c.args.steps.now c.feed.new.steps
     (Consumes-trans (g.S.Source.left c.args.source.now) (g.S.Source.left c.loop-taken.source) (g.S.Source.left c.read_front.new.source) inv.bytes (take count buf) inv.consumed c.in-Ok.ensures.bytes)
-    (omega (arith, length-append inv.bytes (take count buf), length-take count buf, inv.count, c.in-Ok.ensures.bound, c.min-room.ensures))
+    (omega (arith, length-append inv.bytes (take count buf), length-take count buf, inv.count, c.in-Ok.ensures.bound, c.next_room-room.ensures.within))
     (subst (λ l. Broken (g.R.LineRule.Answers c.args.rule.now) g.R.LineRule.PER_BYTE g.R.LineRule.EXTRA (ended_lines l) (state [] before false c.args.steps.now) after c.feed.new.steps) (sym next)
     (grown_broken (g.R.LineRule.Answers c.args.rule.now) g.R.LineRule.PER_BYTE g.R.LineRule.EXTRA inv.bytes part (state [] before false c.args.steps.now) (state [] between c.loop-taken.reading.has_fault c.loop-taken.steps) after c.feed.new.steps
     (subst (λ l. Answered (g.R.LineRule.Answers c.args.rule.now) g.R.LineRule.PER_BYTE g.R.LineRule.EXTRA (ended_lines l) (state [] before false c.args.steps.now) (state [] between c.loop-taken.reading.has_fault c.loop-taken.steps)) all inv.answered)
@@ -151,8 +157,9 @@ loop-taken-preserved g c =
       same_sink = c.in-Ok-feed.ensures.cause.same ∙ inv.same_sink;
       bytes = inv.bytes ++ take count buf;
       consumed = Consumes-trans (g.S.Source.left c.args.source.now) (g.S.Source.left c.loop-taken.source) (g.S.Source.left c.read_front.new.source) inv.bytes (take count buf) inv.consumed c.in-Ok.ensures.bytes;
-      count = grind (arith, common_steps, inv.count, length-append inv.bytes (take count buf), length-take count buf, c.in-Ok.ensures.bound, c.min-room.ensures);
-      bound = omega (arith, c.in-Ok.ensures.bound, c.min-room.ensures);
+      count = grind (arith, common_steps, inv.count, length-append inv.bytes (take count buf), length-take count buf, c.in-Ok.ensures.bound, c.next_room-room.ensures.within);
+      bound = omega (arith, c.in-Ok.ensures.bound, c.next_room-room.ensures.within);
+      asked = so_far_more c.args.limit c.loop-taken.taken c.next_room-room.result (g.S.Source.asked c.args.source.now) (g.S.Source.asked c.loop-taken.source) (g.S.Source.asked c.read_front.new.source) (Ok count) c.next_room-room.ensures.piece c.next_room-room.ensures.within inv.asked c.in-Ok.ensures.asked;
       line = c.in-Ok-feed.ensures.line (unended inv.bytes) kept ∙ ap (take kept_length) (sym (ap unended next ∙ unended-append inv.bytes part));
       answered = subst (λ l. Answered (g.R.LineRule.Answers c.args.rule.now) g.R.LineRule.PER_BYTE g.R.LineRule.EXTRA (ended_lines l) (state [] before false c.args.steps.now) (state [] after c.feed.new.self.has_fault c.feed.new.steps)) (sym next)
           (grown (g.R.LineRule.Answers c.args.rule.now) g.R.LineRule.PER_BYTE g.R.LineRule.EXTRA inv.bytes part (state [] before false c.args.steps.now) (state [] between c.loop-taken.reading.has_fault c.loop-taken.steps) (state [] after c.feed.new.self.has_fault c.feed.new.steps)
@@ -171,3 +178,6 @@ returns-clause-spends g c =
     let inv = c.loop-taken.invariant in
     spends_ended (g.R.LineRule.Answers c.args.rule.now) g.R.LineRule.PER_BYTE g.R.LineRule.EXTRA c.args.limit (g.S.Source.left c.args.source.now) (g.S.Source.left c.loop-taken.source) (g.K.Sink.written c.args.sink.now) (g.K.Sink.written c.loop-taken.sink)
     inv.bytes c.loop-taken.reading.has_fault c.args.steps.now c.loop-taken.steps inv.consumed (omega (arith, inv.count, inv.bound)) inv.answered
+
+pub returns-clause-asked : goal.returns-clause-asked
+returns-clause-asked g c = so_far_within c.args.limit c.loop-taken.taken (g.S.Source.asked c.args.source.now) (g.S.Source.asked c.loop-taken.source) c.loop-taken.invariant.asked

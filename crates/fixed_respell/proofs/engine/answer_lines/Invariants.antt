@@ -2,6 +2,7 @@ use Rattle.std.proofs.Common.{◌+◌, ◌-◌, ◌≤◌, ◌≡◌, List, [], 
 use Rattle.std.specs.Io.KnownBytes.{Consumes}
 use Rattle.fixed_respell.specs.Lines.{ended_lines, kept_length, unended}
 use Rattle.fixed_respell.specs.Progress.{Answered, state}
+use Rattle.fixed_respell.proofs.Asking.{AskedSoFar}
 use Rattle.fixed_respell.proofs.engine.answer_lines.Given as goal
 
 abbrev pub invariant-loop-taken : goal.invariant-loop-taken
@@ -12,6 +13,7 @@ invariant-loop-taken g l = record {
   consumed : Consumes (g.S.Source.left l.initial.source) (g.S.Source.left l.source) bytes;
   count : l.taken ≡ length bytes;
   bound : l.taken ≤ l.limit + 1;
+  asked : AskedSoFar l.limit l.taken (g.S.Source.asked l.initial.source) (g.S.Source.asked l.source);
   line : l.reading.line ≡ take kept_length (unended (take l.limit bytes));
   answered : Answered (g.R.LineRule.Answers l.rule) g.R.LineRule.PER_BYTE g.R.LineRule.EXTRA (ended_lines (take l.limit bytes))
       (state [] (g.K.Sink.written l.initial.sink) false l.initial.steps) (state [] (g.K.Sink.written l.sink) l.reading.has_fault l.steps);

@@ -1,5 +1,6 @@
 use Rattle.std.proofs.Common.{◌≡◌, ℕ, arith, subst}
 use Rattle.fixed_respell.specs.Answer.{IsAnswer}
+use Rattle.fixed_respell.specs.Asked.{AskedWithin}
 use Rattle.fixed_respell.specs.Run.{HasRun, Spends}
 use Rattle.fixed_respell.specs.SelfMode.{HasSelfRun}
 use Rattle.fixed_respell.proofs.CommandLemmas.{limit_one, count_is_one}
@@ -26,6 +27,12 @@ returns-in-Some-Read-clause-spends g c limit is =
     let same : c.in-Some-Read.limit ≡ limit = limit_one c.args.words.now c.in-Some-Read.limit limit (rw c.in-Some-Read.field-0-is at c.in-Some-Read.ensures) is in
     let P : ℕ → Type 0 = λ l. Spends l 8 624 (g.S.Source.left c.args.source.now) (g.S.Source.left c.run_lines.new.source) c.args.steps.now c.run_lines.new.steps in
     subst P same c.run_lines.ensures.spends
+
+pub returns-in-Some-Read-clause-asked : goal.returns-in-Some-Read-clause-asked
+returns-in-Some-Read-clause-asked g c limit is =
+    let same : c.in-Some-Read.limit ≡ limit = limit_one c.args.words.now c.in-Some-Read.limit limit (rw c.in-Some-Read.field-0-is at c.in-Some-Read.ensures) is in
+    let P : ℕ → Type 0 = λ l. AskedWithin l (g.S.Source.asked c.args.source.now) (g.S.Source.asked c.run_lines.new.source) in
+    subst P same c.run_lines.ensures.asked
 
 pub returns-in-Some-Own-clause-own : goal.returns-in-Some-Own-clause-own
 returns-in-Some-Own-clause-own g c count is =
