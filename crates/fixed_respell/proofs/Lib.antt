@@ -7,6 +7,7 @@ mod Feeding
 mod LawLemmas
 mod LineLemmas
 mod Parts
+mod PlainLemmas
 mod Whole
 mod CommandLemmas
 mod SelfLemmas

@@ -11,7 +11,7 @@ use Rattle.fixed_respell.specs.Cutting.{count_of}
 use Rattle.fixed_respell.specs.Reached.{IsRespelled, IsRefusal}
 use Rattle.fixed_respell.specs.Reply.{Reply}
 use Rattle.fixed_write.specs.Texts.{IsShortestText}
-use Rattle.fixed_respell.specs.Words.{radix_text, IsFormatWord, IsPolicyWord}
+use Rattle.fixed_respell.specs.Words.{radix_text, IsFormatWord, IsPlainWord, IsPolicyWord}
 use Rattle.fixed_respell.specs.declared.fault.LineFault.{LineFault}
 use Rattle.fixed_respell.specs.declared.fault.LineFault.TheVariants.{LineTooLong, MissingField, BadRadix, BadSource, BadTarget, BadPolicy}
 
@@ -46,14 +46,17 @@ pub record HasWords (line : List ℕ) (w : LineWords) : Type 0 where
 abbrev pub HasWordsWith : List ℕ → (LineWords → Type 0) → Type 0
 HasWordsWith line P = (w : LineWords) × HasWords line w × P w
 
+-- Which policy and which mode a fourth word names is a parameter of what follows: with mode words it is `IsPolicyWord`,
+-- without them `IsPlainWord`.
+
 -- a fault stands in a line
-abbrev pub Stands : LineFault → List ℕ → Type 0
-Stands LineTooLong line = longest_line < length line
-Stands MissingField line = count_of space line < 4
-Stands BadRadix line = HasWordsWith line (λ w. (r : Radix) → ¬ (w.radix ≡ radix_text r))
-Stands BadSource line = HasWordsWith line (λ w. (f : Shape) → ¬ IsFormatWord w.source f)
-Stands BadTarget line = HasWordsWith line (λ w. (f : Shape) → ¬ IsFormatWord w.target f)
-Stands BadPolicy line = HasWordsWith line (λ w. (p : Policy) (m : ReadMode) → ¬ IsPolicyWord w.policy p m)
+abbrev pub StandsBy : (List ℕ → Policy → ReadMode → Type 0) → LineFault → List ℕ → Type 0
+StandsBy Names LineTooLong line = longest_line < length line
+StandsBy Names MissingField line = count_of space line < 4
+StandsBy Names BadRadix line = HasWordsWith line (λ w. (r : Radix) → ¬ (w.radix ≡ radix_text r))
+StandsBy Names BadSource line = HasWordsWith line (λ w. (f : Shape) → ¬ IsFormatWord w.source f)
+StandsBy Names BadTarget line = HasWordsWith line (λ w. (f : Shape) → ¬ IsFormatWord w.target f)
+StandsBy Names BadPolicy line = HasWordsWith line (λ w. (p : Policy) (m : ReadMode) → ¬ Names w.policy p m)
 
 -- the place of a fault in the order in which they are looked for
 abbrev pub place_of : LineFault → ℕ
@@ -65,9 +68,9 @@ place_of BadTarget = 5
 place_of BadPolicy = 6
 
 -- the fault stands, and none before it
-pub record IsFirstFault (fault : LineFault) (line : List ℕ) : Type 0 where
-  pub stands : Stands fault line
-  pub first : (other : LineFault) → place_of other < place_of fault → ¬ Stands other line
+pub record IsFirstFaultBy (Names : List ℕ → Policy → ReadMode → Type 0) (fault : LineFault) (line : List ℕ) : Type 0 where
+  pub stands : StandsBy Names fault line
+  pub first : (other : LineFault) → place_of other < place_of fault → ¬ StandsBy Names other line
 
 -- the words of a fault
 abbrev pub fault_words : LineFault → List ℕ
@@ -92,14 +95,14 @@ abbrev pub task_of : Radix → Shape → Shape → Policy → ReadMode → List 
 task_of r s t p m bytes = record { radix = r; source = s; target = t; policy = p; mode = m; numeral = bytes }
 
 -- no fault stands, and the words of the line name the task
-pub record Asks (line : List ℕ) (t : Task) : Type 0 where
+pub record AsksBy (Names : List ℕ → Policy → ReadMode → Type 0) (line : List ℕ) (t : Task) : Type 0 where
   pub short : length line ≤ longest_line
   pub words : LineWords
   pub cut : HasWords line words
   pub radix : words.radix ≡ radix_text t.radix
   pub source : IsFormatWord words.source t.source
   pub target : IsFormatWord words.target t.target
-  pub policy : IsPolicyWord words.policy t.policy t.mode
+  pub policy : Names words.policy t.policy t.mode
   pub numeral : t.numeral ≡ words.numeral
 
 -- the answer that names a fault
@@ -116,23 +119,23 @@ abbrev pub respelled_reply : List ℕ → ℤ → Bool → Reply
 respelled_reply text bits overflowed = record { text = text ++ space ∷ (signed_decimal bits ++ space ∷ verdict overflowed); fault = false }
 
 -- the first fault of the line that stands
-pub record IsFaultAnswer (line : List ℕ) (reply : Reply) : Type 0 where
+pub record IsFaultAnswerBy (Names : List ℕ → Policy → ReadMode → Type 0) (line : List ℕ) (reply : Reply) : Type 0 where
   pub line_fault : LineFault
-  pub first : IsFirstFault line_fault line
+  pub first : IsFirstFaultBy Names line_fault line
   pub reply_is : reply ≡ fault_reply (fault_words line_fault)
 
 -- the kind for which the line's numeral is refused
-pub record IsRefusalAnswer (line : List ℕ) (reply : Reply) : Type 0 where
+pub record IsRefusalAnswerBy (Names : List ℕ → Policy → ReadMode → Type 0) (line : List ℕ) (reply : Reply) : Type 0 where
   pub task : Task
-  pub asks : Asks line task
+  pub asks : AsksBy Names line task
   pub kind : ParseErrorKind
   pub refusal : IsRefusal task.mode task.radix task.numeral task.policy task.source task.target kind
   pub reply_is : reply ≡ fault_reply (words_of kind)
 
 -- the bits that are reached from the line's numeral, and their shortest decimal
-pub record IsRespelledAnswer (line : List ℕ) (reply : Reply) : Type 0 where
+pub record IsRespelledAnswerBy (Names : List ℕ → Policy → ReadMode → Type 0) (line : List ℕ) (reply : Reply) : Type 0 where
   pub task : Task
-  pub asks : Asks line task
+  pub asks : AsksBy Names line task
   pub bits : ℤ
   pub overflowed : Bool
   pub respelled : IsRespelled task.mode task.radix task.numeral task.policy task.source task.target bits overflowed
@@ -141,5 +144,32 @@ pub record IsRespelledAnswer (line : List ℕ) (reply : Reply) : Type 0 where
   pub reply_is : reply ≡ respelled_reply text bits overflowed
 
 -- the reply is the answer to the line
+abbrev pub IsAnswerBy : (List ℕ → Policy → ReadMode → Type 0) → List ℕ → Reply → Type 0
+IsAnswerBy Names line reply = IsFaultAnswerBy Names line reply ⊎ (IsRefusalAnswerBy Names line reply ⊎ IsRespelledAnswerBy Names line reply)
+
+-- with mode words
+abbrev pub Stands : LineFault → List ℕ → Type 0
+Stands = StandsBy IsPolicyWord
+
+abbrev pub IsFirstFault : LineFault → List ℕ → Type 0
+IsFirstFault = IsFirstFaultBy IsPolicyWord
+
+abbrev pub Asks : List ℕ → Task → Type 0
+Asks = AsksBy IsPolicyWord
+
+abbrev pub IsFaultAnswer : List ℕ → Reply → Type 0
+IsFaultAnswer = IsFaultAnswerBy IsPolicyWord
+
+abbrev pub IsRefusalAnswer : List ℕ → Reply → Type 0
+IsRefusalAnswer = IsRefusalAnswerBy IsPolicyWord
+
+abbrev pub IsRespelledAnswer : List ℕ → Reply → Type 0
+IsRespelledAnswer = IsRespelledAnswerBy IsPolicyWord
+
+-- the reply is the answer to the line, with mode words
 abbrev pub IsAnswer : List ℕ → Reply → Type 0
-IsAnswer line reply = IsFaultAnswer line reply ⊎ (IsRefusalAnswer line reply ⊎ IsRespelledAnswer line reply)
+IsAnswer = IsAnswerBy IsPolicyWord
+
+-- and as if there were none
+abbrev pub IsPlainAnswer : List ℕ → Reply → Type 0
+IsPlainAnswer = IsAnswerBy IsPlainWord

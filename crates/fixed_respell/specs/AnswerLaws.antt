@@ -4,11 +4,11 @@ use Rattle.fixed_bits.specs.Formats.{Shape}
 use Rattle.fixed_bits.specs.declared.format.Policy.{Policy}
 use Rattle.fixed_bits.specs.declared.mode.ReadMode.{ReadMode}
 use Rattle.fixed_bits.specs.declared.mode.ReadMode.TheVariants.{NearestEven}
-use Rattle.fixed_respell.specs.Answer.{IsAnswer, Asks, Task}
+use Rattle.fixed_respell.specs.Answer.{Asks, HasWords, IsAnswer, IsPlainAnswer, LineWords, Task}
 use Rattle.fixed_respell.specs.Cutting.{count_of}
 use Rattle.fixed_respell.specs.Lines.{kept_length}
 use Rattle.fixed_respell.specs.Reply.{Reply}
-use Rattle.fixed_respell.specs.Words.{IsFormatWord, IsPolicyWord, policy_text, slash}
+use Rattle.fixed_respell.specs.Words.{IsFormatWord, IsPlainWord, IsPolicyWord, policy_text, slash}
 
 -- a word is the word of one format at most, so the word of a format names that format again
 abbrev pub FormatWordIsTheOne : Type 0
@@ -24,8 +24,16 @@ LongIsAnsweredByFront = (line : List ℕ) (reply : Reply) → kept_length < leng
 
 -- without a slash a policy word is the name of a policy, and its mode is NearestEven
 abbrev pub PlainWordNamesNearest : Type 0
-PlainWordNamesNearest = (word : List ℕ) (p : Policy) (m : ReadMode) → count_of slash word ≡ 0 → IsPolicyWord word p m ↔ ((word ≡ policy_text p) × (m ≡ NearestEven))
+PlainWordNamesNearest = (word : List ℕ) (p : Policy) (m : ReadMode) → count_of slash word ≡ 0 → IsPolicyWord word p m ↔ IsPlainWord word p m
 
--- so a line whose fourth word holds no slash asks for what it asks for without mode words
+-- so a line whose fourth word holds no slash names its policy by that word alone, and its mode is NearestEven
 abbrev pub PlainLineAsksNearest : Type 0
 PlainLineAsksNearest = (line : List ℕ) (t : Task) (asks : Asks line t) → count_of slash asks.words.policy ≡ 0 → (asks.words.policy ≡ policy_text t.policy) × (t.mode ≡ NearestEven)
+
+-- no fourth word of a line holds a slash; a line that has no fourth word is one of these
+abbrev pub IsPlainLine : List ℕ → Type 0
+IsPlainLine line = (w : LineWords) → HasWords line w → count_of slash w.policy ≡ 0
+
+-- such a line is answered as if there were no mode words
+abbrev pub PlainLineHasThePlainAnswer : Type 0
+PlainLineHasThePlainAnswer = (line : List ℕ) (reply : Reply) → IsPlainLine line → IsAnswer line reply ↔ IsPlainAnswer line reply

@@ -56,6 +56,10 @@ mode_text TowardsZero = codes "zero"
 abbrev pub slash : ℕ
 slash = 47
 
+-- word names the policy alone, and the mode is NearestEven: all that there would be without mode words
+abbrev pub IsPlainWord : List ℕ → Policy → ReadMode → Type 0
+IsPlainWord word policy mode = (word ≡ policy_text policy) × (mode ≡ NearestEven)
+
 -- word names the policy, and the mode, which is NearestEven where it names none
 abbrev pub IsPolicyWord : List ℕ → Policy → ReadMode → Type 0
-IsPolicyWord word policy mode = ((word ≡ policy_text policy) × (mode ≡ NearestEven)) ⊎ (word ≡ policy_text policy ++ slash ∷ mode_text mode)
+IsPolicyWord word policy mode = IsPlainWord word policy mode ⊎ (word ≡ policy_text policy ++ slash ∷ mode_text mode)

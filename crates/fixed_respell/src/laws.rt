@@ -1,7 +1,7 @@
 //! Laws of the definitions, each the contract of a function that does nothing.
 
 ghost use Rattle.std.specs.Prelude.{pos, negsuc, true, false, codes};
-ghost use Rattle.fixed_respell.specs.AnswerLaws.{AnswerIsTheOne, FormatWordIsTheOne, LongIsAnsweredByFront, PlainLineAsksNearest, PlainWordNamesNearest};
+ghost use Rattle.fixed_respell.specs.AnswerLaws.{AnswerIsTheOne, FormatWordIsTheOne, LongIsAnsweredByFront, PlainLineAsksNearest, PlainLineHasThePlainAnswer, PlainWordNamesNearest};
 ghost use Rattle.fixed_bits.specs.declared.format.Policy.TheVariants.{Checked, Saturating, Wrapping};
 ghost use Rattle.fixed_bits.specs.declared.mode.ReadMode.TheVariants.{NearestEven, Ceil};
 ghost use Rattle.fixed_numeral.specs.declared.radix.Radix.TheVariants.{Dec};
@@ -69,13 +69,20 @@ pub fn long_is_answered_by_front()
     ensures { LongIsAnsweredByFront }
 {}
 
-/// A policy word without a slash names a policy and the mode NearestEven, as if there were no mode words.
+/// A word without a slash names a policy and a mode exactly where it is the policy's own word and the mode is NearestEven.
 pub fn plain_word_names_nearest()
     ensures { PlainWordNamesNearest }
 {}
 
-/// A line whose fourth word holds no slash asks for what it would ask for if there were no mode words: the policy of that
-/// very name, with the mode NearestEven. So it has the same answer.
+/// A line that asks for something by a fourth word without a slash asks for the policy of that very name, with the mode
+/// NearestEven.
 pub fn plain_line_asks_nearest()
     ensures { PlainLineAsksNearest }
+{}
+
+/// A line whose fourth word holds no slash is answered as if mode words did not exist: it has the answers that it has where
+/// a fourth word names a policy by the policy's own word alone, with the mode NearestEven, and no others. So does a line
+/// without a fourth word.
+pub fn plain_line_has_the_plain_answer()
+    ensures { PlainLineHasThePlainAnswer }
 {}
