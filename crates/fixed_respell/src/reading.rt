@@ -1,6 +1,6 @@
 //! What is kept between two pieces of an input, and how its lines are answered.
 
-ghost use Rattle.std.specs.Prelude.{◌≡◌, ◌≤◌, ◌+◌, ◌*◌, ◌++◌, ◌||◌, [], ◌∷◌, List, ℕ, OnOk, OnErr, IfOk, length, take, true, false};
+ghost use Rattle.std.specs.Prelude.{◌≡◌, ◌≤◌, ◌↔◌, IsTrue, ◌+◌, ◌*◌, ◌++◌, ◌||◌, [], ◌∷◌, List, ℕ, OnOk, OnErr, IfOk, length, take, true, false};
 ghost use Rattle.std.specs.Io.KnownBytes.{Appends};
 ghost use Rattle.fixed_respell.specs.Causes.{HasCause};
 ghost use Rattle.fixed_respell.specs.Lines.{ended_lines, kept_length, unended, last_line};
@@ -87,6 +87,13 @@ pub struct Reading {
 }
 
 impl Reading {
+    /// Whether no byte of a line without its end has come.
+    fn is_empty(&self) -> bool
+        ensures { IsTrue result ↔ (self.now.line ≡ []) }
+    {
+        self.line.is_empty()
+    }
+
     /// Has the line answered that ends with this part, and begins a new one. A line that lies whole in the part isn't
     /// copied.
     fn end_line<R: LineRule<L>, K: Sink, L: Ledger>(
@@ -102,7 +109,7 @@ impl Reading {
         ensures err { OnErr result ((whole : List ℕ) → IsKept kept_length whole self.old.line → BrokenLine (R.Answers rule.now) R.PER_BYTE R.EXTRA (whole ++ part.now) (state out.old.items (K.written sink.old) self.old.has_fault steps.old) (K.written sink.new) steps.new) }
         ensures cause { HasCause (K.faults sink.old) (K.faults sink.new) result }
     {
-        if self.line.is_empty() {
+        if self.is_empty() {
             self.has_fault = answer_one(rule, part, self.has_fault, out, sink, steps)?;
             return Ok(());
         }
@@ -146,7 +153,7 @@ impl Reading {
         ensures err { OnErr result ((whole : List ℕ) → IsKept kept_length whole self.old.line → Broken (R.Answers rule.now) R.PER_BYTE R.EXTRA (last_line whole) (state [] (K.written sink.old) self.old.has_fault steps.old) (K.written sink.new) steps.new) }
         ensures cause { HasCause (K.faults sink.old) (K.faults sink.new) result }
     {
-        if self.line.is_empty() {
+        if self.is_empty() {
             return Ok(());
         }
         let mut out = ArrayVec::new();

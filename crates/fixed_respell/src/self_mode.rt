@@ -1,9 +1,11 @@
 //! The mode that answers lines of the program's own and sums up their answers.
 
-ghost use Rattle.std.specs.Prelude.{◌≡◌, ◌≤◌, ◌<◌, ◌+◌, ◌*◌, ◌^◌, ◌++◌, ◌∷◌, [], ℕ, List, length};
+ghost use Rattle.std.specs.Prelude.{◌≡◌, ◌≤◌, ◌<◌, ◌+◌, ◌*◌, ◌^◌, ◌++◌, ◌∷◌, ◌↔◌, [], IsTrue, ℕ, List, length};
+ghost use Rattle.std.specs.Int.{from_bool};
 ghost use Rattle.fixed_respell.specs.Answer.{space};
+ghost use Rattle.fixed_respell.specs.Output.{reply_line};
 ghost use Rattle.fixed_respell.specs.Reply.{Reply};
-ghost use Rattle.fixed_respell.specs.SelfMode.{HasSelfRun, IsTally, IsWithin, digit_letter, format_at, number_text, policy_at, radix_at, self_exponent, self_line, self_numeral, self_sign, self_words, summary_text, tally_of};
+ghost use Rattle.fixed_respell.specs.SelfMode.{HasSelfRun, IsTally, IsWithin, digit_letter, ends_in, format_at, number_text, policy_at, radix_at, self_exponent, self_line, self_numeral, self_sign, self_words, summary_text, tally_of};
 
 use crate::line_answer::answer;
 use crate::reading::write_whole;
@@ -167,6 +169,22 @@ fn own_line(line: u64) -> Text
     text
 }
 
+/// How often an answer ends in a word: once or not at all.
+fn times_at_the_end(word: &[u8], reply: &Answer) -> u64
+    ensures ends { result ≡ from_bool (ends_in word.now reply.now) }
+    ensures once { result ≤ 1 }
+{
+    u64::from(reply.as_bytes().ends_with(word))
+}
+
+/// How many bytes are written for an answer, with its newline.
+fn bytes_with_newline(reply: &Answer) -> u64
+    ensures bytes { result ≡ length (reply_line reply.now) }
+    ensures short { result ≤ 193 }
+{
+    reply.as_bytes().len() as u64 + 1
+}
+
 /// How many answers end in `fits`, how many in `overflowed`, how many are faults, and the bytes of all, with a newline
 /// each.
 #[derive(Drop)]
@@ -204,11 +222,17 @@ impl Counts {
         ensures within { (n : ℕ) → IsWithin n self.old → IsWithin (n + 1) self.new }
         ensures tally { (replies : List Reply) → self.old ≡ tally_of replies → self.new ≡ tally_of (replies ++ reply.now ∷ []) }
     {
-        let text = reply.as_bytes();
-        self.fit += u64::from(text.ends_with(b"fits"));
-        self.overflowed += u64::from(text.ends_with(b"overflowed"));
+        self.fit += times_at_the_end(b"fits", reply);
+        self.overflowed += times_at_the_end(b"overflowed", reply);
         self.faults += u64::from(reply.is_fault());
-        self.bytes += text.len() as u64 + 1;
+        self.bytes += bytes_with_newline(reply);
+    }
+
+    /// Whether an answer was a fault.
+    fn has_fault(&self) -> bool
+        ensures { IsTrue result ↔ 0 < self.now.faults }
+    {
+        self.faults > 0
     }
 }
 
@@ -264,10 +288,9 @@ pub(crate) fn run_self<K: Sink, L: Ledger>(count: u64, sink: &mut K, steps: &mut
     ensures cost { steps.new ≤ steps.old + 1424 * count }
 {
     let counts = count_answers(count, steps);
-    let faults = counts.faults;
     match write_whole(sink, summary(count, &counts).as_slice()) {
         Err(_) => Status::WriteFault,
-        Ok(()) if faults == 0 => Status::Done,
-        Ok(()) => Status::Faults,
+        Ok(()) if counts.has_fault() => Status::Faults,
+        Ok(()) => Status::Done,
     }
 }
