@@ -1,7 +1,7 @@
 //! A slice of a text, seen as its digits.
 
 ghost use Rattle.std.specs.Prelude.{◌≡◌, ◌+◌, ◌*◌, ◌^◌, ◌<◌, ◌≤◌, [], ◌∷◌, nat_lt, length, take, drop, MatchOption};
-ghost use Rattle.std.specs.Int.Digits.{AllBelowBase, number_from_digits_after};
+ghost use Rattle.std.specs.Int.Digits.{AllBelowBase, number_from_digits, number_from_digits_after};
 ghost use Rattle.fixed_numeral.specs.Place.{IsWithoutLeading, IsWithoutTrailing};
 ghost use Rattle.std.specs.Char.{digit_value};
 ghost use Rattle.fixed_numeral.specs.Digits.{digits_in};
@@ -247,6 +247,30 @@ impl<'a> Piece<'a> {
         } else {
             plain_number(bytes, base, start)
         }
+    }
+
+    /// The number that the first i digits spell in a base.
+    #[inline]
+    pub fn front_number(&self, base: u64, i: u64) -> u64
+        requires within { i ≤ length self.now }
+        requires digits { AllBelowBase base self.now }
+        requires least { 2 ≤ base }
+        requires most { base ≤ 16 }
+        requires room { base ^ i ≤ 2 ^ 64 }
+        ensures { result ≡ number_from_digits base (take i self.now) }
+    {
+        let (front, _back) = self.split_at(i);
+        front.number_onto(base, 0)
+    }
+
+    /// The digits behind the first i.
+    #[inline]
+    pub fn behind(&self, i: u64) -> Piece<'a>
+        requires { i ≤ length self.now }
+        ensures { result ≡ drop i self.now }
+    {
+        let (_front, back) = self.split_at(i);
+        back
     }
 
     /// The first i digits, and the others.

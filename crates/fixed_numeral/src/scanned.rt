@@ -129,6 +129,22 @@ impl<'a> Scanned<'a> {
         self.fraction.same()
     }
 
+    /// The digits in front of the point, without a copy.
+    #[inline]
+    pub fn whole_view(&self) -> &DigitView<'a>
+        ensures { result.now ≡ self.now.whole }
+    {
+        &self.whole
+    }
+
+    /// The digits behind the point, without a copy.
+    #[inline]
+    pub fn fraction_view(&self) -> &DigitView<'a>
+        ensures { result.now ≡ self.now.fraction }
+    {
+        &self.fraction
+    }
+
     /// The power of two that the digits are to be multiplied with.
     #[inline]
     pub fn bit_shift(&self) -> u32

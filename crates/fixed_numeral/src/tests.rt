@@ -121,7 +121,7 @@ fn lengths_over<L: Ledger>(text: &[u8], blank: Blank) -> Option<(u64, u64)>
 {
     let mut steps: Steps<L> = Steps::new(blank);
     match scan(text, Radix::Dec, &mut steps) {
-        Ok(found) => Some((found.whole().len(), found.fraction().len())),
+        Ok(found) => Some((found.whole_view().len(), found.fraction_view().len())),
         Err(_error) => None,
     }
 }
@@ -192,8 +192,14 @@ fn first_over<L: Ledger>(text: &[u8], blank: Blank) -> Option<(u64, u64)>
     let mut steps: Steps<L> = Steps::new(blank);
     match scan(text, Radix::Hex, &mut steps) {
         Ok(found) => {
-            let (number, rest) = found.whole().take_number(16, 4, &mut steps);
-            Some((number, rest.len()))
+            let whole = found.whole_view();
+            let alone = whole.first_number(16, 4, &mut steps);
+            let (number, rest) = whole.take_number(16, 4, &mut steps);
+            if number == alone {
+                Some((number, rest.len()))
+            } else {
+                None
+            }
         }
         Err(_error) => None,
     }

@@ -163,6 +163,7 @@ impl<'a> DigitView<'a> {
 
     /// The number that the first `count` digits spell in the base, or all where there are fewer, and the digits
     /// behind them, for a step a digit.
+    #[inline]
     pub fn take_number<L: Ledger>(
         &self,
         base: u32,
@@ -178,40 +179,71 @@ impl<'a> DigitView<'a> {
         ensures below { result.0 < base ^ count }
         ensures cost { steps.new ≡ steps.old + min count (length self.now) }
     {
+        let number = self.first_number(base, count, steps);
+        (number, self.behind(u64::from(count).min(self.len())))
+    }
+
+    /// The number that the first `count` digits spell in the base, or all where there are fewer, for a step a digit.
+    #[inline]
+    pub fn first_number<L: Ledger>(&self, base: u32, count: u32, steps: &mut Steps<L>) -> u64
+        requires digits { AllBelowBase base self.now }
+        requires least { 2 ≤ base }
+        requires most { base ≤ 16 }
+        requires room { base ^ count ≤ 2 ^ 64 }
+        ensures number { result ≡ number_from_digits base (take count self.now) }
+        ensures below { result < base ^ count }
+        ensures cost { steps.new ≡ steps.old + min count (length self.now) }
+    {
         let wanted = u64::from(count).min(self.len());
         steps.advance(wanted);
-        if self.before == 0 && wanted <= self.left.len() {
-            // All of them stand in one slice, as they nearly always do.
-            let (front, left) = self.left.split_at(wanted);
-            let number = front.number_onto(u64::from(base), 0);
-            let right = self.right.same();
-            let after = self.after;
-            return (
-                number,
-                DigitView {
-                    before: 0,
-                    left,
-                    right,
-                    after,
-                },
-            );
+        self.front_number(u64::from(base), wanted)
+    }
+
+    /// The number that the first i digits spell in a base. There are at least i. All of them nearly always stand in one
+    /// slice.
+    #[inline]
+    fn front_number(&self, base: u64, i: u64) -> u64
+        requires within { i ≤ length self.now }
+        requires digits { AllBelowBase base self.now }
+        requires least { 2 ≤ base }
+        requires most { base ≤ 16 }
+        requires room { base ^ i ≤ 2 ^ 64 }
+        ensures { result ≡ number_from_digits base (take i self.now) }
+    {
+        if self.before == 0 && i <= self.left.len() {
+            return self.left.front_number(base, i);
         }
-        if self.before == 0 && self.left.len() == 0 && wanted <= self.right.len() {
-            let (front, left) = self.right.split_at(wanted);
-            let number = front.number_onto(u64::from(base), 0);
-            let after = self.after;
-            return (
-                number,
-                DigitView {
-                    before: 0,
-                    left,
-                    right: Piece::none(),
-                    after,
-                },
-            );
+        if self.before == 0 && self.left.len() == 0 && i <= self.right.len() {
+            return self.right.front_number(base, i);
         }
-        let (front, back) = self.split_at(wanted);
-        (front.number(u64::from(base)), back)
+        let (front, _back) = self.split_at(i);
+        front.number(base)
+    }
+
+    /// The digits behind the first i. There are at least i.
+    #[inline]
+    fn behind(&self, i: u64) -> DigitView<'a>
+        requires { i ≤ length self.now }
+        ensures { result ≡ drop i self.now }
+    {
+        if self.before == 0 && i <= self.left.len() {
+            return DigitView {
+                before: 0,
+                left: self.left.behind(i),
+                right: self.right.same(),
+                after: self.after,
+            };
+        }
+        if self.before == 0 && self.left.len() == 0 && i <= self.right.len() {
+            return DigitView {
+                before: 0,
+                left: self.right.behind(i),
+                right: Piece::none(),
+                after: self.after,
+            };
+        }
+        let (_front, back) = self.split_at(i);
+        back
     }
 
     /// The number that the digits spell in a base.
