@@ -82,6 +82,12 @@ back_is bs ds k i same e = ap digits_in (take_rest bs k) ∙ split_back bs k i e
 pub front_is : (bs ds : List ℕ) (k i : ℕ) → digits_in bs ≡ ds → length (digits_in (take k bs)) ≡ i → digits_in (take k bs) ≡ take i ds
 front_is bs ds k i same e = split_front bs k i e ∙ ap (take i) same
 
+pub plain_front : (bs ds : List ℕ) (n i : ℕ) → digits_in bs ≡ ds → n ≡ length (digits_in bs) → n ≡ length bs → i ≤ length ds → (length (digits_in (take i bs)) ≡ i) × (length (take i bs) ≡ i) × (digits_in (take i bs) ≡ take i ds)
+plain_front bs ds n i same m e l =
+    let within : i ≤ length bs = omega (arith, ap length same) in
+    let counted : length (digits_in (take i bs)) ≡ i = all_counted bs i (omega arith) within in
+    (counted, omega (arith, length-take i bs), front_is bs ds i i same counted)
+
 abbrev pub IsDigitOf : ℕ → Option ℕ → Type 0
 IsDigitOf b o = MatchOption o (16 ≤ digit_value b) (λ d. (d ≡ digit_value b) × (d < 16))
 

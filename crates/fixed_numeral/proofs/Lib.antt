@@ -12,3 +12,4 @@ pub mod LiteralLemmas
 pub mod LiteralScanLemmas
 pub mod LawLemmas
 pub mod StripLemmas
+pub mod LaneLemmas

@@ -70,7 +70,7 @@ trailing_zeros_before core k l n =
     n p.front (p.is ∙ ap (λ d. p.front ++ d ∷ []) z)
 
 -- ---- numbers
-zeros_front : (b k : ℕ) (ds : List ℕ) → number_from_digits b (zeros k ++ ds) ≡ number_from_digits b ds
+pub zeros_front : (b k : ℕ) (ds : List ℕ) → number_from_digits b (zeros k ++ ds) ≡ number_from_digits b ds
 zeros_front b k ds = number_append b (zeros k) ds ∙ omega (arith, ap (λ i. i * b ^ length ds) (number_zeros b k))
 
 zeros_end : (b k : ℕ) (ds : List ℕ) → number_from_digits b (ds ++ zeros k) ≡ number_from_digits b ds * b ^ k

@@ -4,12 +4,14 @@ use Rattle.std.proofs.lemmas.List.{drop_more, take_more, take_all, take_rest, dr
 use Rattle.std.proofs.lemmas.Bool.{cases_lt}
 use Rattle.std.proofs.lemmas.Int.Digits.{number_after_append, number_after_lt}
 use Rattle.std.proofs.Math.Nat.{pow-le-pow_right}
-use Rattle.std.specs.Int.Digits.{number_from_digits_after, AllBelowBase}
+use Rattle.std.proofs.Math.Seq.{take-add}
+use Rattle.std.specs.Int.Digits.{number_from_digits, number_from_digits_after, AllBelowBase}
 use Rattle.std.specs.Char.{digit_value}
 use Rattle.fixed_numeral.specs.Digits.{digits_in, zeros}
 use Rattle.fixed_numeral.specs.Place.{IsWithoutLeading, IsWithoutTrailing}
 use Rattle.fixed_numeral.proofs.ByteLemmas.{value_zero, low_value_is}
-use Rattle.fixed_numeral.proofs.DigitLemmas.{digits_in_none, digits_in_append, digit_before, other_before, cut, digits_le, count_same}
+use Rattle.fixed_numeral.proofs.LaneLemmas.{after_eight}
+use Rattle.fixed_numeral.proofs.DigitLemmas.{digits_in_none, digits_in_append, digit_before, other_before, cut, digits_le, count_same, all_counted}
 use Rattle.fixed_numeral.proofs.PlaceLemmas.{no_leading, no_trailing, none_leading, none_trailing, below_parts}
 
 zero_byte : (b : ℕ) (bs : List ℕ) → b ≡ 48 → digits_in (b ∷ bs) ≡ 0 ∷ digits_in bs
@@ -194,3 +196,42 @@ low_fits base start bs at number d w h l e = number_fits base start bs (at + 1) 
 
 pub low_end : (base start : ℕ) (bs : List ℕ) (at number : ℕ) → IsSpelled base start bs at number → length bs ≤ at → number ≡ number_from_digits_after base start (digits_in bs)
 low_end base start bs at number h l = number_end base start bs at number h.number_is l
+
+-- ---- eight digits at once
+-- eight digits that stand from a place on
+pub record IsEightAt (base : ℕ) (bs : List ℕ) (at : ℕ) : Type 0 where
+  pub count : length (digits_in (take 8 (drop at bs))) ≡ 8
+  pub below : AllBelowBase base (digits_in (take 8 (drop at bs)))
+  pub split : digits_in (take (at + 8) bs) ≡ digits_in (take at bs) ++ digits_in (take 8 (drop at bs))
+
+pub eight_stand : (base : ℕ) (bs : List ℕ) (at : ℕ) → length (digits_in bs) ≡ length bs → AllBelowBase base (digits_in bs) → at + 8 ≤ length bs → IsEightAt base bs at
+eight_stand base bs at plain below l =
+    let split : digits_in (take (at + 8) bs) ≡ digits_in (take at bs) ++ digits_in (take 8 (drop at bs)) = ap digits_in (take-add at 8 bs) ∙ digits_in_append (take at bs) (take 8 (drop at bs)) in
+    let front : AllBelowBase base (digits_in (take (at + 8) bs)) = (below_parts base (digits_in (take (at + 8) bs)) (digits_in (drop (at + 8) bs)) (rw (whole_split bs (at + 8)) at below)).0 in
+    record {
+      count = omega (arith, all_counted bs at plain (omega arith), all_counted bs (at + 8) plain l, ap length split, length-append (digits_in (take at bs)) (digits_in (take 8 (drop at bs))));
+      below = (below_parts base (digits_in (take at bs)) (digits_in (take 8 (drop at bs))) (rw split at front)).1;
+      split = split;
+    }
+
+pub spelled_eight : (base start : ℕ) (bs : List ℕ) (at number n : ℕ) → IsEightAt base bs at → IsNumberOf base start bs at number → n ≡ number_from_digits base (digits_in (take 8 (drop at bs))) → IsNumberOf base start bs (at + 8) (number * (base * base * (base * base) * (base * base * (base * base))) + n)
+spelled_eight base start bs at number n t h e = sym (ap (number_from_digits_after base start) t.split ∙ number_after_append base start (digits_in (take at bs)) (digits_in (take 8 (drop at bs))) ∙ rw (e, h) (after_eight base _ (digits_in (take 8 (drop at bs))) t.count))
+
+-- the digits in front of a place, behind which a multiple of eight are left
+pub record IsAligned (base : ℕ) (bs : List ℕ) (at number : ℕ) : Type 0 where
+  pub within : at ≤ length bs
+  pub left : (length bs - at) % 8 ≡ 0
+  pub number_is : IsNumberOf base 0 bs at number
+
+pub aligned_room : (base : ℕ) (bs : List ℕ) (at number : ℕ) → IsAligned base bs at number → at < length bs → at + 8 ≤ length bs
+aligned_room base bs at number h l = omega (arith, h.left, h.within)
+
+pub aligned_eight : (base : ℕ) (bs : List ℕ) (at number n : ℕ) → IsAligned base bs at number → at < length bs → IsEightAt base bs at → n ≡ number_from_digits base (digits_in (take 8 (drop at bs))) → IsAligned base bs (at + 8) (number * (base * base * (base * base) * (base * base * (base * base))) + n)
+aligned_eight base bs at number n h l t e = record {
+  within = aligned_room base bs at number h l;
+  left = omega (arith, h.left, h.within);
+  number_is = spelled_eight base 0 bs at number n t h.number_is e;
+}
+
+pub aligned_fits : (base : ℕ) (bs : List ℕ) (at number : ℕ) → IsAligned base bs at number → AllBelowBase base (digits_in bs) → 2 ≤ base → base ^ length (digits_in bs) ≤ 2 ^ 64 → number < 2 ^ 64
+aligned_fits base bs at number h below two room = number_fits base 0 bs at number h.number_is below two (omega (arith, room))

@@ -1,6 +1,7 @@
 //! Numerals in radix 2, 8, 10 and 16: what is one, what it is worth, and why bytes are none.
 #![tactic(auto)]
 
+mod eight;
 mod error;
 pub mod laws;
 mod literal;

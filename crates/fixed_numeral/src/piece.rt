@@ -6,6 +6,7 @@ ghost use Rattle.fixed_numeral.specs.Place.{IsWithoutLeading, IsWithoutTrailing}
 ghost use Rattle.std.specs.Char.{digit_value};
 ghost use Rattle.fixed_numeral.specs.Digits.{digits_in};
 
+use crate::eight::long_number;
 use std::marker::Model;
 
 /// The digits of a slice, whose other bytes are passed over, and their count.
@@ -89,6 +90,25 @@ fn plain_number(bytes: &[u8], base: u64, start: u64) -> u64
         number = number * base + u64::from(value(*b));
     }
     number
+}
+
+/// The number that bytes spell in a base, where each byte is a digit.
+#[inline(always)]
+fn whole_number(bytes: &[u8], base: u64) -> u64
+    requires plain { length (digits_in bytes.now) ≡ length bytes.now }
+    requires digits { AllBelowBase base (digits_in bytes.now) }
+    requires least { 2 ≤ base }
+    requires most { base ≤ 16 }
+    requires room { base ^ length (digits_in bytes.now) ≤ 2 ^ 64 }
+    ensures { result ≡ number_from_digits base (digits_in bytes.now) }
+{
+    if bytes.len() >= 8 {
+        long_number(bytes, base)
+    } else if base <= 10 {
+        low_number(bytes, base, 0)
+    } else {
+        plain_number(bytes, base, 0)
+    }
 }
 
 /// The number that the digits among bytes spell in a base behind the digits of `start`.
@@ -240,9 +260,7 @@ impl<'a> Piece<'a> {
         let bytes = self.bytes;
         if self.count != bytes.len() as u64 {
             mixed_number(bytes, base, start)
-        } else if base == 10 {
-            low_number(bytes, 10, start)
-        } else if base < 10 {
+        } else if base <= 10 {
             low_number(bytes, base, start)
         } else {
             plain_number(bytes, base, start)
@@ -250,7 +268,7 @@ impl<'a> Piece<'a> {
     }
 
     /// The number that the first i digits spell in a base.
-    #[inline]
+    #[inline(always)]
     pub fn front_number(&self, base: u64, i: u64) -> u64
         requires within { i ≤ length self.now }
         requires digits { AllBelowBase base self.now }
@@ -259,18 +277,26 @@ impl<'a> Piece<'a> {
         requires room { base ^ i ≤ 2 ^ 64 }
         ensures { result ≡ number_from_digits base (take i self.now) }
     {
-        let (front, _back) = self.split_at(i);
-        front.number_onto(base, 0)
+        let bytes = self.bytes;
+        if self.count != bytes.len() as u64 {
+            return mixed_number(&bytes[..seek(bytes, i)], base, 0);
+        }
+        whole_number(&bytes[..i as usize], base)
     }
 
     /// The digits behind the first i.
-    #[inline]
+    #[inline(always)]
     pub fn behind(&self, i: u64) -> Piece<'a>
         requires { i ≤ length self.now }
         ensures { result ≡ drop i self.now }
     {
-        let (_front, back) = self.split_at(i);
-        back
+        let bytes = self.bytes;
+        let place = place(bytes, self.count, i);
+        let back = &bytes[place..];
+        Piece {
+            bytes: back,
+            count: self.count - i,
+        }
     }
 
     /// The first i digits, and the others.
@@ -298,7 +324,7 @@ impl<'a> Piece<'a> {
 }
 
 /// The place in the bytes, which hold so many digits, in front of which i digits stand.
-#[inline]
+#[inline(always)]
 fn place(bytes: &[u8], count: u64, i: u64) -> usize
     requires count { count ≡ length (digits_in bytes.now) }
     requires within { i ≤ count }

@@ -163,7 +163,7 @@ impl<'a> DigitView<'a> {
 
     /// The number that the first `count` digits spell in the base, or all where there are fewer, and the digits
     /// behind them, for a step a digit.
-    #[inline]
+    #[inline(always)]
     pub fn take_number<L: Ledger>(
         &self,
         base: u32,
@@ -180,11 +180,24 @@ impl<'a> DigitView<'a> {
         ensures cost { steps.new ≡ steps.old + min count (length self.now) }
     {
         let number = self.first_number(base, count, steps);
-        (number, self.behind(u64::from(count).min(self.len())))
+        let taken = u64::from(count).min(self.len());
+        if self.before == 0 && taken <= self.left.len() {
+            // All of them stood in one slice, as they nearly always do.
+            return (
+                number,
+                DigitView {
+                    before: 0,
+                    left: self.left.behind(taken),
+                    right: self.right.same(),
+                    after: self.after,
+                },
+            );
+        }
+        self.scattered_rest(number, taken)
     }
 
     /// The number that the first `count` digits spell in the base, or all where there are fewer, for a step a digit.
-    #[inline]
+    #[inline(always)]
     pub fn first_number<L: Ledger>(&self, base: u32, count: u32, steps: &mut Steps<L>) -> u64
         requires digits { AllBelowBase base self.now }
         requires least { 2 ≤ base }
@@ -199,9 +212,8 @@ impl<'a> DigitView<'a> {
         self.front_number(u64::from(base), wanted)
     }
 
-    /// The number that the first i digits spell in a base. There are at least i. All of them nearly always stand in one
-    /// slice.
-    #[inline]
+    /// The number that the first i digits spell in a base. There are at least i.
+    #[inline(always)]
     fn front_number(&self, base: u64, i: u64) -> u64
         requires within { i ≤ length self.now }
         requires digits { AllBelowBase base self.now }
@@ -213,6 +225,42 @@ impl<'a> DigitView<'a> {
         if self.before == 0 && i <= self.left.len() {
             return self.left.front_number(base, i);
         }
+        self.scattered_number(base, i)
+    }
+
+    /// The same, wherever they stand, asked of a copy: so the view itself need not stand in memory for it.
+    #[inline(always)]
+    fn scattered_number(&self, base: u64, i: u64) -> u64
+        requires within { i ≤ length self.now }
+        requires digits { AllBelowBase base self.now }
+        requires least { 2 ≤ base }
+        requires most { base ≤ 16 }
+        requires room { base ^ i ≤ 2 ^ 64 }
+        ensures { result ≡ number_from_digits base (take i self.now) }
+    {
+        self.same().parted_number(base, i)
+    }
+
+    /// A number, and the digits behind the first i, wherever they stand, asked of a copy too.
+    #[inline(always)]
+    fn scattered_rest(&self, number: u64, i: u64) -> (u64, DigitView<'a>)
+        requires { i ≤ length self.now }
+        ensures number { result.0 ≡ number }
+        ensures rest { result.1 ≡ drop i self.now }
+    {
+        (number, self.same().parted_behind(i))
+    }
+
+    /// The number that the first i digits spell in a base, wherever they stand. There are at least i.
+    #[inline(never)]
+    fn parted_number(&self, base: u64, i: u64) -> u64
+        requires within { i ≤ length self.now }
+        requires digits { AllBelowBase base self.now }
+        requires least { 2 ≤ base }
+        requires most { base ≤ 16 }
+        requires room { base ^ i ≤ 2 ^ 64 }
+        ensures { result ≡ number_from_digits base (take i self.now) }
+    {
         if self.before == 0 && self.left.len() == 0 && i <= self.right.len() {
             return self.right.front_number(base, i);
         }
@@ -220,28 +268,12 @@ impl<'a> DigitView<'a> {
         front.number(base)
     }
 
-    /// The digits behind the first i. There are at least i.
-    #[inline]
-    fn behind(&self, i: u64) -> DigitView<'a>
+    /// The digits behind the first i, wherever they stand. There are at least i.
+    #[inline(never)]
+    fn parted_behind(&self, i: u64) -> DigitView<'a>
         requires { i ≤ length self.now }
         ensures { result ≡ drop i self.now }
     {
-        if self.before == 0 && i <= self.left.len() {
-            return DigitView {
-                before: 0,
-                left: self.left.behind(i),
-                right: self.right.same(),
-                after: self.after,
-            };
-        }
-        if self.before == 0 && self.left.len() == 0 && i <= self.right.len() {
-            return DigitView {
-                before: 0,
-                left: self.right.behind(i),
-                right: Piece::none(),
-                after: self.after,
-            };
-        }
         let (_front, back) = self.split_at(i);
         back
     }

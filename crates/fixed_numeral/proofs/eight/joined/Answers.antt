@@ -1,0 +1,6 @@
+use Rattle.std.proofs.Common.{arith}
+use Rattle.fixed_numeral.proofs.LaneLemmas.{small_base, eight_is}
+use Rattle.fixed_numeral.proofs.eight.joined.Goals as goal
+
+pub returns : goal.returns
+returns c ds eight below e = eight_is c.args.base c.args.digits ds c.requires eight below e
