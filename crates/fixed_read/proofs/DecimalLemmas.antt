@@ -1,23 +1,23 @@
 -- The candidate of a block of decimal digits, and the digits behind it.
-use Rattle.std.proofs.Common.{◌≡◌, ℕ, ◌+◌, ◌-◌, ◌*◌, ◌/◌, ◌^◌, ◌<◌, ◌≤◌, List, [], length, arith, sym, refl, ap, ◌∙◌, mul-le-mul_right, mul-le-mul_left, mul-pos, pow_pos, div-add-mod', mod-lt}
-use Rattle.std.proofs.Math.Nat.{one-le-pow, pow-le-pow_right, le_of_mul-le-mul_left, div-div-eq-div-mul}
+use Rattle.std.proofs.Common.{⊎_elim, Bool, false, IsTrue, ◌⊎◌, ◌↔◌, ◌≡◌, ℕ, ◌+◌, ◌-◌, ◌*◌, ◌/◌, ◌^◌, ◌<◌, ◌≤◌, List, [], length, arith, sym, refl, ap, ◌∙◌, mul-le-mul_right, mul-le-mul_left, mul-pos, pow_pos, div-add-mod', mod-lt}
+use Rattle.std.proofs.Math.Nat.{eq_of_mul-eq-mul_left, mul-div_cancel, one-le-pow, pow-le-pow_right, le_of_mul-le-mul_left, div-div-eq-div-mul}
 use Rattle.std.proofs.lemmas.Nat.{pow-add, mul-pow}
 use Rattle.std.proofs.lemmas.Int.Digits.{number_lt}
 use Rattle.std.specs.Int.Digits.{number_from_digits, AllBelowBase}
 use Rattle.std.proofs.Common.{Ordering, Less, Equal, Greater}
 use Rattle.std.specs.Ordering.{MatchOrdering}
 use Rattle.fixed_numeral.specs.Place.{NoTrailingZero}
-use Rattle.fixed_read.specs.Blocks.{IsLed, IsCandidate, IsFirst, part, whole}
+use Rattle.fixed_read.specs.Blocks.{IsLed, IsCandidate, part, whole}
 use Rattle.fixed_read.specs.Steps.{IsPart, IsSettled, IsTail}
 use Rattle.fixed_read.specs.declared.tail.Tail.{Tail}
-use Rattle.fixed_read.specs.declared.tail.Tail.TheVariants.{Nothing, Below}
+use Rattle.fixed_read.specs.declared.tail.Tail.TheVariants.{Nothing, Below, Above}
 use Rattle.fixed_read.proofs.DigitLemmas.{cancel_lt, some_number}
 
 ten_pos : (n : ℕ) → 0 < 10 ^ n
 ten_pos n = one-le-pow n 10 (omega arith)
 
 -- ---- the candidate
-two_up : (n m : ℕ) → n ≤ m → 2 ^ n ≤ 2 ^ m
+pub two_up : (n m : ℕ) → n ≤ m → 2 ^ n ≤ 2 ^ m
 two_up n m l = pow-le-pow_right {n = 2} (omega arith) l
 
 ten_up : (n m : ℕ) → n ≤ m → 10 ^ n ≤ 10 ^ m
@@ -36,29 +36,30 @@ five_pos n = one-le-pow n 5 (omega arith)
 pub fives_pos : (n fives : ℕ) → fives ≡ 5 ^ n → 0 < fives
 fives_pos n fives e = rw e (five_pos n)
 
-pub block_room : (block count frac : ℕ) → block < 10 ^ count → count ≤ 27 → frac ≤ count + 37 → block * 2 ^ (frac - count) < 2 ^ 128
-block_room block count frac s c f =
-    let a = ten_up count 27 c in
-    let b = two_up (frac - count) 37 (omega arith) in
-    let low : block ≤ 10 ^ 27 = omega (arith, s, a) in
-    let e : block * 2 ^ (frac - count) ≤ 10 ^ 27 * 2 ^ (frac - count) = mul-le-mul_right (2 ^ (frac - count)) low in
-    let g : 10 ^ 27 * 2 ^ (frac - count) ≤ 10 ^ 27 * 2 ^ 37 = mul-le-mul_left (10 ^ 27) b in
-    omega (arith, e, g)
-
-pub unit_room : (count frac fives : ℕ) → fives ≡ 5 ^ count → count ≤ 27 → fives * 2 ^ (count - frac) < 2 ^ 100
-unit_room count frac fives e c =
-    let a : fives ≤ 5 ^ 27 = omega (arith, e, five_up count 27 c) in
-    let b = two_up (count - frac) 27 (omega arith) in
-    let g : fives * 2 ^ (count - frac) ≤ 5 ^ 27 * 2 ^ (count - frac) = mul-le-mul_right (2 ^ (count - frac)) a in
-    let h : 5 ^ 27 * 2 ^ (count - frac) ≤ 5 ^ 27 * 2 ^ 27 = mul-le-mul_left (5 ^ 27) b in
-    omega (arith, g, h)
+pub unit_room : (frac : ℕ) → 1220703125 * 2 ^ (13 - frac) < 2 ^ 63
+unit_room frac =
+    let b = two_up (13 - frac) 13 (omega arith) in
+    let h : 1220703125 * 2 ^ (13 - frac) ≤ 1220703125 * 2 ^ 13 = mul-le-mul_left 1220703125 b in
+    omega (arith, h)
 
 pub unit_pos : (fives n unit : ℕ) → 0 < fives → unit ≡ fives * 2 ^ n → 0 < unit
 unit_pos fives n unit p e = rw e (mul-pos p (pow_pos n))
 
+pub block_room : (block count bits most : ℕ) → block < 10 ^ count → bits ≤ most → block * 2 ^ bits < 10 ^ count * 2 ^ most
+block_room block count bits most s l =
+    let b = two_up bits most l in
+    plain (10 ^ count) (2 ^ bits) (2 ^ most) (pow_pos bits) s b
+  where
+    plain : (ten a m : ℕ) → 0 < a → block < ten → a ≤ m → block * a < ten * m
+    plain ten a m p h k = omega (arith, mul-le-mul_right a h, mul-le-mul_left ten k)
+
 -- what is left of the room, over plain numbers: p = 2^frac, a = 2^bits, ten = 10^count
 plain_room : (p a unit ten : ℕ) → 0 < p → unit * p ≡ a * ten → 2 * p ≤ ten → 2 * a ≤ unit
 plain_room p a unit ten pos e h = le_of_mul-le-mul_left {k = p} (omega (arith, e, mul-le-mul_left a h)) pos
+
+-- a step is at least twice what the digits behind the block can make
+pub candidate_room : (block count frac most q rest unit bits : ℕ) → IsCandidate block count frac q rest unit bits → frac ≤ most → 2 * 2 ^ most ≤ 10 ^ count → 2 * 2 ^ bits ≤ unit
+candidate_room block count frac most q rest unit bits c l h = plain_room (2 ^ frac) (2 ^ bits) unit (10 ^ count) (pow_pos frac) c.scale (omega (arith, h, two_up frac most l))
 
 scale_up : (count frac fives : ℕ) → fives ≡ 5 ^ count → count ≤ frac → fives * 2 ^ frac ≡ 2 ^ (frac - count) * 10 ^ count
 scale_up count frac fives e l =
@@ -70,18 +71,14 @@ scale_down count frac fives unit e l u =
     let two : 2 ^ count ≡ 2 ^ (count - frac) * 2 ^ frac = ap (λ i. 2 ^ i) (let z : count ≡ (count - frac) + frac = omega arith in z) ∙ pow-add 2 (count - frac) frac in
     rw (u, e, ten_is count) (omega (arith, ap (λ x. 5 ^ count * x) two))
 
-pub candidate_above : (block count frac fives number : ℕ) → fives ≡ 5 ^ count → block < 10 ^ count → count ≤ 27 → frac ≤ count + 37 → 2 * 2 ^ frac ≤ 10 ^ count → count ≤ frac → number ≡ block * 2 ^ (frac - count) → IsCandidate block count frac (number / fives) (number - number / fives * fives) fives (frac - count)
-candidate_above block count frac fives number e s c f h l n =
-    let scale = scale_up count frac fives e l in
+pub candidate_above : (block count frac fives number : ℕ) → fives ≡ 5 ^ count → fives < 2 ^ 63 → count ≤ frac → number ≡ block * 2 ^ (frac - count) → IsCandidate block count frac (number / fives) (number - number / fives * fives) fives (frac - count)
+candidate_above block count frac fives number e most l n =
     let back = div-add-mod' number fives in
     record {
       split = omega (arith, back, n);
       small = omega (arith, back, mod-lt number (fives_pos count fives e));
-      scale = scale;
-      room = plain_room (2 ^ frac) (2 ^ (frac - count)) fives (10 ^ count) (pow_pos frac) scale h;
-      most = omega (arith, e, five_up count 27 c);
-      few = omega arith;
-      bits_are = refl;
+      scale = scale_up count frac fives e l;
+      most = most;
     }
 
 -- the quotient by five and two at once
@@ -93,8 +90,8 @@ below_back block count frac fives unit e u =
     let same : block / 2 ^ (count - frac) / fives ≡ block / unit = both block (2 ^ (count - frac)) fives (fives_pos count fives e) (pow_pos (count - frac)) ∙ ap (λ x. block / x) (sym u) in
     rw same (omega (arith, div-add-mod' block unit))
 
-pub candidate_below : (block count frac fives unit : ℕ) → fives ≡ 5 ^ count → block < 10 ^ count → count ≤ 27 → 2 * 2 ^ frac ≤ 10 ^ count → frac ≤ count → unit ≡ fives * 2 ^ (count - frac) → IsCandidate block count frac (block / 2 ^ (count - frac) / fives) (block - block / 2 ^ (count - frac) / fives * unit) unit 0
-candidate_below block count frac fives unit e s c h l u =
+pub candidate_below : (block count frac fives unit : ℕ) → fives ≡ 5 ^ count → unit < 2 ^ 63 → frac ≤ count → unit ≡ fives * 2 ^ (count - frac) → IsCandidate block count frac (block / 2 ^ (count - frac) / fives) (block - block / 2 ^ (count - frac) / fives * unit) unit 0
+candidate_below block count frac fives unit e most l u =
     let scale = scale_down count frac fives unit e l u in
     let same : block / 2 ^ (count - frac) / fives ≡ block / unit = both block (2 ^ (count - frac)) fives (fives_pos count fives e) (pow_pos (count - frac)) ∙ ap (λ x. block / x) (sym u) in
     let back = div-add-mod' block unit in
@@ -102,47 +99,116 @@ candidate_below block count frac fives unit e s c h l u =
       split = omega (arith, back);
       small = omega (arith, back, mod-lt block (unit_pos fives (count - frac) unit (fives_pos count fives e) u));
       scale = scale;
-      room = plain_room (2 ^ frac) (2 ^ 0) unit (10 ^ count) (pow_pos frac) scale h;
-      most = omega (arith, u, unit_room count frac fives e c);
-      few = omega arith;
-      bits_are = omega arith;
+      most = most;
     })
 
--- ---- the same in 64 bits
-pub narrow_block_room : (block count frac : ℕ) → block < 10 ^ count → count ≤ 13 → frac ≤ count + 19 → block * 2 ^ (frac - count) < 2 ^ 64
-narrow_block_room block count frac s c f =
-    let a = ten_up count 13 c in
-    let b = two_up (frac - count) 19 (omega arith) in
-    let low : block ≤ 10 ^ 13 = omega (arith, s, a) in
-    let e : block * 2 ^ (frac - count) ≤ 10 ^ 13 * 2 ^ (frac - count) = mul-le-mul_right (2 ^ (frac - count)) low in
-    let g : 10 ^ 13 * 2 ^ (frac - count) ≤ 10 ^ 13 * 2 ^ 19 = mul-le-mul_left (10 ^ 13) b in
-    omega (arith, e, g)
+-- ---- a candidate for steps of 2^-(frac + more), from that for steps of 2^-frac
+plain_finer : (q rest unit block a m whole number : ℕ) → q * unit + rest ≡ block * a → number ≡ rest * m → whole * unit ≤ number → (q * m + whole) * unit + (number - whole * unit) ≡ block * (a * m)
+plain_finer q rest unit block a m whole number e n l =
+    let back : whole * unit + (number - whole * unit) ≡ number = omega (arith, l) in
+    omega (arith, back, n, ap (λ x. x * m) e)
 
-pub narrow_unit_room : (count frac fives : ℕ) → fives ≡ 5 ^ count → count ≤ 13 → fives * 2 ^ (count - frac) < 2 ^ 64
-narrow_unit_room count frac fives e c =
-    let a : fives ≤ 5 ^ 13 = omega (arith, e, five_up count 13 c) in
-    let b = two_up (count - frac) 13 (omega arith) in
-    let g : fives * 2 ^ (count - frac) ≤ 5 ^ 13 * 2 ^ (count - frac) = mul-le-mul_right (2 ^ (count - frac)) a in
-    let h : 5 ^ 13 * 2 ^ (count - frac) ≤ 5 ^ 13 * 2 ^ 13 = mul-le-mul_left (5 ^ 13) b in
-    omega (arith, g, h)
+candidate_finer : (block count frac more q rest unit bits number : ℕ) → IsCandidate block count frac q rest unit bits → 0 < unit → number ≡ rest * 2 ^ more → IsCandidate block count (frac + more) (q * 2 ^ more + number / unit) (number - number / unit * unit) unit (bits + more)
+candidate_finer block count frac more q rest unit bits number c some n =
+    let back = div-add-mod' number unit in
+    record {
+      split = rw (pow-add 2 bits more) (plain_finer q rest unit block (2 ^ bits) (2 ^ more) (number / unit) number c.split n (omega (arith, back)));
+      small = omega (arith, back, mod-lt number some);
+      scale = rw (pow-add 2 frac more, pow-add 2 bits more) (plain (2 ^ frac) (2 ^ bits) (2 ^ more) (10 ^ count) c.scale);
+      most = c.most;
+    }
+  where
+    plain : (p a m ten : ℕ) → unit * p ≡ a * ten → unit * (p * m) ≡ a * m * ten
+    plain p a m ten e = omega (arith, ap (λ x. x * m) e)
 
-candidate_steps : (block count frac q rest unit bits : ℕ) → block < 10 ^ count → IsCandidate block count frac q rest unit bits → q < 2 ^ frac
+-- the unit of a block of 13 digits for 32 bits
+unit_at : (block q rest unit bits : ℕ) → IsCandidate block 13 32 q rest unit bits → bits ≡ 19 → unit ≡ 1220703125
+unit_at block q rest unit bits c e =
+    let scale : unit * 2 ^ 32 ≡ 2 ^ 19 * 10 ^ 13 = rw e at c.scale in
+    omega (arith, scale)
+
+-- more than 32 bits, in two divisions
+pub candidate_fine : (block frac q rest unit bits number : ℕ) → 32 ≤ frac → IsCandidate block 13 32 q rest unit bits → bits ≡ 19 → number ≡ rest * 2 ^ (frac - 32) → IsCandidate block 13 frac (q * 2 ^ (frac - 32) + number / 1220703125) (number - number / 1220703125 * 1220703125) 1220703125 (frac - 13)
+candidate_fine block frac q rest unit bits number l c e n =
+    let unit_is : unit ≡ 1220703125 = unit_at block q rest unit bits c e in
+    let some : 0 < 1220703125 = omega arith in
+    let whole : 32 + (frac - 32) ≡ frac = omega arith in
+    let fine : 19 + (frac - 32) ≡ frac - 13 = omega arith in
+    rw (whole, fine) at (candidate_finer block 13 32 (frac - 32) q rest 1220703125 19 number (rw (unit_is, e) at c) some n)
+
+pub fine_room : (block frac q rest unit bits : ℕ) → frac ≤ 64 → IsCandidate block 13 32 q rest unit bits → bits ≡ 19 → rest * 2 ^ (frac - 32) < 2 ^ 64
+fine_room block frac q rest unit bits l c e =
+    let few = two_up (frac - 32) 32 (omega arith) in
+    let small = c.small in
+    let below : rest ≤ 1220703125 = omega (arith, small, unit_at block q rest unit bits c e) in
+    omega (arith, mul-le-mul_right (2 ^ (frac - 32)) below, few)
+
+pub candidate_steps : (block count frac q rest unit bits : ℕ) → block < 10 ^ count → IsCandidate block count frac q rest unit bits → q < 2 ^ frac
 candidate_steps block count frac q rest unit bits s c = cancel_lt unit q (2 ^ frac) (plain (2 ^ frac) (2 ^ bits) (10 ^ count) (pow_pos bits) c.split c.scale s)
   where
     plain : (p a ten : ℕ) → 0 < a → q * unit + rest ≡ block * a → unit * p ≡ a * ten → block < ten → unit * q < unit * p
     plain p a ten pos e f l = omega (arith, e, f, mul-le-mul_left a l)
-
-pub first : (ds rest : List ℕ) (count frac block q left unit bits : ℕ) → IsLed 10 ds rest block count → IsCandidate block count frac q left unit bits → IsFirst ds rest frac q left unit bits
-first ds rest count frac block q left unit bits led c = record { count = count; block = block; led = led; candidate = c; steps = candidate_steps block count frac q left unit bits led.small c }
-
-pub first_few : (q frac : ℕ) → q < 2 ^ frac → frac ≤ 64 → q < 2 ^ 100
-first_few q frac l f = omega (arith, l, two_up frac 64 f)
 
 -- ---- against a half, or a whole step
 pub order_map : (r : Ordering) (P Q R P2 Q2 R2 : Type 0) → (P → P2) → (Q → Q2) → (R → R2) → MatchOrdering r P Q R → MatchOrdering r P2 Q2 R2
 order_map Less P Q R P2 Q2 R2 f g h x = f x
 order_map Equal P Q R P2 Q2 R2 f g h x = g x
 order_map Greater P Q R P2 Q2 R2 f g h x = h x
+
+-- ---- the digits of start / 2^bits
+pub five_is : (n : ℕ) → 10 ^ n / 2 ^ n ≡ 5 ^ n
+five_is n = rw (ten_is n) (mul-div_cancel (5 ^ n) (pow_pos n))
+
+pub mark_is : (start bits front a b : ℕ) → front ≤ bits → a ≡ 5 ^ front → b ≡ 5 ^ (bits - front) → start * a * b ≡ start * 5 ^ bits
+mark_is start bits front a b l ea eb =
+    let power : 5 ^ bits ≡ 5 ^ front * 5 ^ (bits - front) = ap (λ i. 5 ^ i) (let z : bits ≡ front + (bits - front) = omega arith in z) ∙ pow-add 5 front (bits - front) in
+    rw (ea, eb, power) (omega arith)
+
+pub mark_room : (start bits : ℕ) → bits ≤ 38 → start < 2 ^ bits → start * 5 ^ bits < 2 ^ 128
+mark_room start bits l s =
+    let ten : 10 ^ bits ≡ 5 ^ bits * 2 ^ bits = ten_is bits in
+    let most = ten_up bits 38 l in
+    omega (arith, mul-le-mul_right (5 ^ bits) s, ten, most, five_pos bits)
+
+-- ---- a block against the digits of start / 2^bits: n / l is 0.DIGITS, t and w what is behind the block, two · five = 10^bits
+module _ (block t w n l two five start : ℕ) (led : (block * t + w) * l ≡ n * (five * two * t)) (some_five : 0 < five) (some_t : 0 < t) (some_l : 0 < l) (small : w < t) where
+  block_less : block < start * five → n * two < start * l
+  block_less h = cancel_lt (five * t) (n * two) (start * l) (omega (arith, led, mul-le-mul_right l (inside (start * five) h)))
+    where
+      inside : (mark : ℕ) → block < mark → block * t + w < mark * t
+      inside mark k = omega (arith, mul-le-mul_right t k)
+
+  block_same : block ≡ start * five → w ≡ 0 → n * two ≡ start * l
+  block_same h z = eq_of_mul-eq-mul_left (five * t) (mul-pos some_five some_t) _ _ (let e : (start * five * t + 0) * l ≡ n * (five * two * t) = rw (h, z) at led in omega (arith, e))
+
+  block_more : start * five * t < block * t + w → start * l < n * two
+  block_more h = cancel_lt (five * t) (start * l) (n * two) (omega (arith, led, plain (start * five * t) (block * t + w) h))
+    where
+      plain : (x y : ℕ) → x < y → x * l < y * l
+      plain x y k = omega (arith, mul-le-mul_right l k, some_l)
+
+pub block_order : (r : Ordering) (ds rest : List ℕ) (block start mark bits : ℕ) (last : Bool) → AllBelowBase 10 ds → IsLed 10 ds rest block bits → mark ≡ start * 5 ^ bits → (IsTrue last ↔ (rest ≡ [])) → MatchOrdering r (block < mark) ((block ≡ mark) × IsTrue last) ((mark < block) ⊎ ((block ≡ mark) × (last ≡ false))) → MatchOrdering r (number_from_digits 10 ds * 2 ^ bits < start * 10 ^ length ds) (number_from_digits 10 ds * 2 ^ bits ≡ start * 10 ^ length ds) (start * 10 ^ length ds < number_from_digits 10 ds * 2 ^ bits)
+block_order r ds rest block start mark bits last below led em el m =
+    let power : 10 ^ (bits + length rest) ≡ 5 ^ bits * 2 ^ bits * 10 ^ length rest = pow-add 10 bits (length rest) ∙ ap (λ x. x * 10 ^ length rest) (ten_is bits) in
+    let led_at = led.same ∙ ap (λ x. number_from_digits 10 ds * x) power in
+    let t_some = ten_pos (length rest) in
+    let five_some = five_pos bits in
+    let l_some = ten_pos (length ds) in
+    let w_small = number_lt 10 rest led.digits in
+    order_map r _ _ _ _ _ _
+    (λ h. block_less block (10 ^ length rest) (number_from_digits 10 rest) (number_from_digits 10 ds) (10 ^ length ds) (2 ^ bits) (5 ^ bits) start led_at five_some t_some l_some w_small (rw em at h))
+    (λ h. block_same block (10 ^ length rest) (number_from_digits 10 rest) (number_from_digits 10 ds) (10 ^ length ds) (2 ^ bits) (5 ^ bits) start led_at five_some t_some l_some w_small (h.0 ∙ em) (ap (number_from_digits 10) (el.0 h.1)))
+    (λ h. block_more block (10 ^ length rest) (number_from_digits 10 rest) (number_from_digits 10 ds) (10 ^ length ds) (2 ^ bits) (5 ^ bits) start led_at five_some t_some l_some w_small (past h))
+    m
+  where
+    further : (x : ℕ) → x < block → x * 10 ^ length rest < block * 10 ^ length rest + number_from_digits 10 rest
+    further x k = omega (arith, mul-le-mul_right (10 ^ length rest) k, ten_pos (length rest))
+
+    past : (mark < block) ⊎ ((block ≡ mark) × (last ≡ false)) → start * 5 ^ bits * 10 ^ length rest < block * 10 ^ length rest + number_from_digits 10 rest
+    past h = ⊎_elim
+        (λ (k : mark < block). further (start * 5 ^ bits) (rw em at k))
+        (λ (k : (block ≡ mark) × (last ≡ false)). let same : block ≡ start * 5 ^ bits = k.0 ∙ em in let more = some_number 10 rest (omega arith) led.trailing (λ e. let t = el.1 e in absurd (cc)) in omega (arith, ap (λ x. x * 10 ^ length rest) same, more))
+        h
 
 -- k = 2^halves, a = 2^bits, t = 10^length, w what the digits spell
 plain_stands : (r : Ordering) (k a t w rest unit share start : ℕ) → share ≡ rest * k → share + start ≡ unit → MatchOrdering r (w * (a * k) < start * t) (w * (a * k) ≡ start * t) (start * t < w * (a * k)) → MatchOrdering r (k * (rest * t + w * a) < unit * t) (k * (rest * t + w * a) ≡ unit * t) (unit * t < k * (rest * t + w * a))
@@ -189,6 +255,31 @@ part_some ds rest bits l = let m = mul-pos l (ten_pos (length ds)) in omega (ari
 pub part_beyond : (ds : List ℕ) (rest bits : ℕ) → NoTrailingZero ds → (ds ≡ [] → ⊥) → 0 < part rest bits ds
 part_beyond ds rest bits n some = let m = mul-pos (some_number 10 ds (omega arith) n some) (pow_pos bits) in omega (arith, m)
 
+-- ---- where no digits behind the block matter
+plain_under : (w t a rest half unit : ℕ) → 0 < a → w < t → rest + a ≤ half → 2 * half ≤ unit → 2 * (rest * t + w * a) < unit * t
+plain_under w t a rest half unit p k l h = omega (arith, mul-le-mul_right a k, mul-le-mul_right t l, mul-le-mul_right t h)
+
+plain_over : (w t a rest half unit : ℕ) → 0 < t → half < rest → unit ≤ 2 * half + 1 → unit * t < 2 * (rest * t + w * a)
+plain_over w t a rest half unit p l h = omega (arith, mul-le-mul_right t l, mul-le-mul_right t h)
+
+plain_within : (w t a rest unit : ℕ) → 0 < a → w < t → rest + a ≤ unit → rest * t + w * a < unit * t
+plain_within w t a rest unit p k l = omega (arith, mul-le-mul_right a k, mul-le-mul_right t l)
+
+pub under_half : (ds : List ℕ) (rest bits unit gap : ℕ) → gap ≡ 2 ^ bits → AllBelowBase 10 ds → NoTrailingZero ds → (ds ≡ [] → ⊥) → rest + gap ≤ unit / 2 → IsTail Below (part rest bits ds) (whole unit ds)
+under_half ds rest bits unit gap e b n some l = (
+  part_beyond ds rest bits n some,
+  plain_under (number_from_digits 10 ds) (10 ^ length ds) (2 ^ bits) rest (unit / 2) unit (pow_pos bits) (number_lt 10 ds b) (rw e at l) (omega (arith, div-add-mod' unit 2)),
+)
+
+pub over_half : (ds : List ℕ) (rest bits unit gap : ℕ) → gap ≡ 2 ^ bits → AllBelowBase 10 ds → unit / 2 < rest → rest + gap ≤ unit → IsTail Above (part rest bits ds) (whole unit ds)
+over_half ds rest bits unit gap e b h l = (
+  plain_over (number_from_digits 10 ds) (10 ^ length ds) (2 ^ bits) rest (unit / 2) unit (ten_pos (length ds)) h (omega (arith, div-add-mod' unit 2, mod-lt unit two_some)),
+  plain_within (number_from_digits 10 ds) (10 ^ length ds) (2 ^ bits) rest unit (pow_pos bits) (number_lt 10 ds b) (rw e at l),
+)
+  where
+    two_some : 0 < 2
+    two_some = omega arith
+
 -- ---- the candidate's number is the fraction's
 plain_same : (b w t den v ten p a unit q r o : ℕ) → q * unit + r ≡ b * a → unit * p ≡ a * ten → (b * t + w) * den ≡ v * (ten * t) → (o * (unit * t) + (q * (unit * t) + (r * t + w * a))) * den ≡ (o * den + v * p) * (unit * t)
 plain_same b w t den v ten p a unit q r o e f g = omega (arith, ap (λ x. x * (t * den)) e, ap (λ x. x * (v * t)) f, ap (λ x. x * a) g)
@@ -198,24 +289,37 @@ settled_same b w t den v ten p a unit q r k s e f g h =
     let one = plain_same b w t den v ten p a unit q r 0 e f g in
     omega (arith, one, ap (λ x. x * den) h)
 
+all_few : (v den p d x : ℕ) → 0 < p → 0 < d → v < den → (0 * d + x) * den ≡ (0 * den + v * p) * d → x < p * d
+all_few v den p d x some pos l e = cancel_lt den x (p * d) (omega (arith, e, mul-le-mul_right (p * d) l, mul-pos some pos))
+
 few_steps : (v den p k d s : ℕ) → 0 < p → 0 < d → v < den → v * p * d ≡ (k * d + s) * den → k < p
 few_steps v den p k d s some pos l e = cancel_lt d k p (cancel_lt den (d * k) (d * p) (omega (arith, e, mul-le-mul_right (p * d) l, mul-pos some pos)))
 
--- what a candidate and the digits behind it settle to is the fraction's part
-pub part_settled : (ds rest : List ℕ) (frac q left unit bits p : ℕ) (tail : Tail) → AllBelowBase 10 ds → IsFirst ds rest frac q left unit bits → IsSettled (q * whole unit rest + part left bits rest) (whole unit rest) p tail → IsPart 10 ds frac p tail
-part_settled ds rest frac q left unit bits p tail below first settled =
-    let t : ℕ = 10 ^ length rest in
-    let led_at : (first.block * 10 ^ length rest + number_from_digits 10 rest) * 10 ^ length ds ≡ number_from_digits 10 ds * (10 ^ first.count * 10 ^ length rest) = first.led.same ∙ ap (λ x. number_from_digits 10 ds * x) (pow-add 10 first.count (length rest)) in
-    let some = whole_pos rest left unit first.candidate.small in
-    let split = settled_same first.block (number_from_digits 10 rest) (10 ^ length rest) (10 ^ length ds) (number_from_digits 10 ds) (10 ^ first.count) (2 ^ frac) (2 ^ bits) unit q left p settled.rest first.candidate.split first.candidate.scale led_at settled.split in
-    record {
-      rest = settled.rest;
-      den = whole unit rest;
-      some = some;
-      split = split;
-      left = settled.left;
-      small = few_steps (number_from_digits 10 ds) (10 ^ length ds) (2 ^ frac) p (whole unit rest) settled.rest (pow_pos frac) some (number_lt 10 ds below) split;
-    }
+module _ (ds rest : List ℕ) (block count frac q left unit bits : ℕ) (below : AllBelowBase 10 ds) (led : IsLed 10 ds rest block count) (candidate : IsCandidate block count frac q left unit bits) where
+  led_at : (block * 10 ^ length rest + number_from_digits 10 rest) * 10 ^ length ds ≡ number_from_digits 10 ds * (10 ^ count * 10 ^ length rest)
+  led_at = led.same ∙ ap (λ x. number_from_digits 10 ds * x) (pow-add 10 count (length rest))
+
+  -- all steps fit a word
+  pub candidate_word : frac ≤ 64 → q * whole unit rest + part left bits rest < 2 ^ 64 * whole unit rest
+  candidate_word most =
+      let few = mul-le-mul_right (whole unit rest) (two_up frac 64 most) in
+      let same = plain_same block (number_from_digits 10 rest) (10 ^ length rest) (10 ^ length ds) (number_from_digits 10 ds) (10 ^ count) (2 ^ frac) (2 ^ bits) unit q left 0 candidate.split candidate.scale led_at in
+      let below_all = all_few (number_from_digits 10 ds) (10 ^ length ds) (2 ^ frac) (whole unit rest) (q * whole unit rest + part left bits rest) (pow_pos frac) (whole_pos rest left unit candidate.small) (number_lt 10 ds below) same in
+      omega (arith, below_all, few)
+
+  -- what the candidate and the digits behind it settle to is the fraction's part
+  pub part_settled : (p : ℕ) (tail : Tail) → IsSettled (q * whole unit rest + part left bits rest) (whole unit rest) p tail → IsPart 10 ds frac p tail
+  part_settled p tail settled =
+      let some = whole_pos rest left unit candidate.small in
+      let split = settled_same block (number_from_digits 10 rest) (10 ^ length rest) (10 ^ length ds) (number_from_digits 10 ds) (10 ^ count) (2 ^ frac) (2 ^ bits) unit q left p settled.rest candidate.split candidate.scale led_at settled.split in
+      record {
+        rest = settled.rest;
+        den = whole unit rest;
+        some = some;
+        split = split;
+        left = settled.left;
+        small = few_steps (number_from_digits 10 ds) (10 ^ length ds) (2 ^ frac) p (whole unit rest) settled.rest (pow_pos frac) some (number_lt 10 ds below) split;
+      }
 
 -- ---- what is left behind the candidate, by its comparisons
 pub start_nothing : (ds : List ℕ) (rest bits : ℕ) → rest ≡ 0 → ds ≡ [] → part rest bits ds ≡ 0
@@ -224,10 +328,17 @@ start_nothing ds rest bits z e = rw (z, e) (omega arith)
 pub settled_next : (q s den : ℕ) → s ≡ den → IsSettled (q * den + s) den (q + 1) Nothing
 settled_next q s den e = record { rest = 0; split = rw e (omega arith); left = refl }
 
+-- the step behind the candidate's fits a word
+pub next_room : (q s den n : ℕ) → q * den + s < n * den → den ≤ s → q + 1 < n
+next_room q s den n h l = cancel_lt den (q + 1) n (omega (arith, h, l))
+
 pub settled_over : (q s den : ℕ) → den < s → 2 * s < 3 * den → IsSettled (q * den + s) den (q + 1) Below
 settled_over q s den l near =
     let over : s ≡ den + (s - den) = omega arith in
     record { rest = s - den; split = omega (arith, over); left = (omega arith, omega (arith, over)) }
+
+pub settled_tail : (q s den : ℕ) (tail : Tail) → IsTail tail s den → IsSettled (q * den + s) den q tail
+settled_tail q s den tail h = record { rest = s; split = refl; left = h }
 
 -- ---- no digit is left
 pub settled_share : (rest : List ℕ) (q left unit bits : ℕ) (tail : Tail) → rest ≡ [] → IsTail tail left unit → IsSettled (q * whole unit rest + part left bits rest) (whole unit rest) q tail

@@ -111,10 +111,12 @@ led_zeros b ds rest block i j p h e =
     below : (x y : ℕ) → 0 < y → block < x → block * y < x * y
     below x y pos l = omega (arith, mul-le-mul_right y l)
 
-pub led_nothing : (b : ℕ) (ds : List ℕ) (count : ℕ) → 0 < b → AllBelowBase b ds → NoTrailingZero ds → ds ≡ [] → IsLed b ds [] 0 count
-led_nothing b ds count p below trailing e = record {
-  same = rw e (omega arith);
-  small = one-le-pow count b p;
-  digits = rw e at below;
-  trailing = rw e at trailing;
-}
+pub led_nothing : (b : ℕ) (ds : List ℕ) (count : ℕ) → 0 < b → AllBelowBase b ds → NoTrailingZero ds → ds ≡ [] → IsLed b ds (drop count ds) 0 count
+led_nothing b ds count p below trailing e =
+    let none : drop count ds ≡ [] = drop_all count ds (rw e (omega arith)) in
+    rw none (record {
+      same = rw e (omega arith);
+      small = one-le-pow count b p;
+      digits = rw e at below;
+      trailing = rw e at trailing;
+    })

@@ -1,7 +1,6 @@
 pub mod DigitLemmas
 pub mod PartLemmas
 pub mod DecimalLemmas
-pub mod WalkLemmas
 pub mod NumberLemmas
 pub mod SideLemmas
 pub mod WholeLemmas

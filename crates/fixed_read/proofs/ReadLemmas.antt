@@ -77,24 +77,20 @@ far true sign n high low some more = inl (far_below sign n high low some more)
 far false sign n high low some more = inr (far_above sign n high low some more)
 
 -- ---- whether it is out of range, from what the body tests
-pub out_of_range : (negative sign : Bool) (n high low : ℕ) (value : ℤ) (beyond fits out : Bool) → 0 < n → value ≡ with_sign negative low → (IsTrue beyond ↔ (0 < high)) → (IsTrue fits ↔ IsInRange sign n value) → (IsTrue out ↔ (IsTrue beyond ⊎ (fits ≡ false))) → IsTrue out ↔ IsOutOfRange sign n (with_sign negative (high * 2 ^ n + low))
-out_of_range negative sign n high low value beyond fits out some e over fit flag = (
+pub out_of_range : (negative sign : Bool) (n high low : ℕ) (value : ℤ) (beyond past out : Bool) → 0 < n → value ≡ with_sign negative low → (IsTrue beyond ↔ (0 < high)) → (IsTrue past ↔ (IsInRange sign n value → ⊥)) → (IsTrue out ↔ (IsTrue beyond ⊎ IsTrue past)) → IsTrue out ↔ IsOutOfRange sign n (with_sign negative (high * 2 ^ n + low))
+out_of_range negative sign n high low value beyond past out some e over fit flag = (
   (λ t. ⊎_elim (λ b. far negative sign n high low some (over.0 b)) (λ x. ⊎_elim (λ h. far negative sign n high low some h) (λ z. rw (none_beyond negative high (2 ^ n) low z) (out_of x)) (some_high high)) (flag.0 t)),
   (λ o. ⊎_elim (λ p. flag.1 (inl (over.1 p))) (λ z. flag.1 (inr (not_fit (rw (none_beyond negative high (2 ^ n) low z) at o)))) (some_high high)),
 )
   where
-    fit_low : IsTrue fits ↔ IsInRange sign n (with_sign negative low)
-    fit_low = rw e at fit
+    past_low : IsTrue past ↔ (IsInRange sign n (with_sign negative low) → ⊥)
+    past_low = rw e at fit
 
-    out_of : fits ≡ false → IsOutOfRange sign n (with_sign negative low)
-    out_of x = split_out (lowest sign n) (greatest sign n) (with_sign negative low) (λ a b. let t = fit_low.1 (record { low = a; high = b }) in absurd (cc))
+    out_of : IsTrue past → IsOutOfRange sign n (with_sign negative low)
+    out_of x = split_out (lowest sign n) (greatest sign n) (with_sign negative low) (λ a b. past_low.0 x (record { low = a; high = b }))
 
-    not_fit : IsOutOfRange sign n (with_sign negative low) → fits ≡ false
-    not_fit o = by fits fit_low
-      where
-        by : (b : Bool) → (IsTrue b ↔ IsInRange sign n (with_sign negative low)) → b ≡ false
-        by true i = absurd ((range_decided sign n (with_sign negative low)).1 o (i.0 refl))
-        by false i = refl
+    not_fit : IsOutOfRange sign n (with_sign negative low) → IsTrue past
+    not_fit o = past_low.1 ((range_decided sign n (with_sign negative low)).1 o)
 
 -- ---- the Saturating image
 pub saturated_below : (sign : Bool) (n high low : ℕ) (c : ℤ) → 0 < n → 0 < high → c ≡ lowest sign n → IsSaturated sign n (with_sign true (high * 2 ^ n + low)) c

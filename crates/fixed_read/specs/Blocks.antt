@@ -1,5 +1,5 @@
 -- The first digits of a fraction as one number, and how many steps they make.
-use Rattle.std.specs.Prelude.{◌≡◌, ℕ, ◌+◌, ◌-◌, ◌*◌, ◌^◌, ◌<◌, ◌≤◌, List, length}
+use Rattle.std.specs.Prelude.{◌≡◌, ℕ, ◌+◌, ◌*◌, ◌^◌, ◌<◌, List, length}
 use Rattle.std.specs.Int.Digits.{number_from_digits, AllBelowBase}
 use Rattle.fixed_numeral.specs.Place.{NoTrailingZero}
 
@@ -15,18 +15,7 @@ pub record IsCandidate (block count frac q rest unit bits : ℕ) : Type 0 where
   pub split : q * unit + rest ≡ block * 2 ^ bits
   pub small : rest < unit
   pub scale : unit * 2 ^ frac ≡ 2 ^ bits * 10 ^ count
-  pub room : 2 * 2 ^ bits ≤ unit
-  pub most : unit < 2 ^ 100
-  pub few : bits ≤ 40
-  pub bits_are : bits ≡ frac - count
-
--- the candidate of some block, and the digits behind that
-pub record IsFirst (ds rest : List ℕ) (frac q part unit bits : ℕ) : Type 0 where
-  pub count : ℕ
-  pub block : ℕ
-  pub led : IsLed 10 ds rest block count
-  pub candidate : IsCandidate block count frac q part unit bits
-  pub steps : q < 2 ^ frac
+  pub most : unit < 2 ^ 63
 
 -- the part of a step that the block's rest and the digits behind it make, over `whole`
 abbrev pub part : ℕ → ℕ → List ℕ → ℕ

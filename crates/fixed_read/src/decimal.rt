@@ -1,17 +1,15 @@
 //! How many steps a decimal fraction is, and what is left of a step.
 
-ghost use Rattle.std.specs.Prelude.{◌≡◌, ◌+◌, ◌-◌, ◌*◌, ◌^◌, ◌<◌, ◌≤◌, ◌⊎◌, ℕ, length};
+ghost use Rattle.std.specs.Prelude.{◌≡◌, ◌+◌, ◌-◌, ◌*◌, ◌^◌, ◌<◌, ◌≤◌, ◌⊎◌, ◌↔◌, [], IsTrue, List, ℕ, drop, false, length, MatchOption};
 ghost use Rattle.std.specs.Int.Digits.{number_from_digits, AllBelowBase};
 ghost use Rattle.std.specs.Ordering.{MatchOrdering};
-ghost use Rattle.fixed_bits.specs.Ranges.{IsWidth};
 ghost use Rattle.fixed_numeral.specs.Place.{NoTrailingZero};
-ghost use Rattle.fixed_read.specs.Blocks.{IsCandidate, IsFirst, part, whole};
+ghost use Rattle.fixed_read.specs.Blocks.{IsCandidate, IsLed, part, whole};
 ghost use Rattle.fixed_read.specs.Steps.{IsPart, IsSettled, IsTail};
 
-use crate::digits::{leading, leading_long, padded};
+use crate::digits::{leading, leading_long, padded, power_of_ten};
 use crate::tail::Tail;
-use crate::walk::walk;
-use crate::words::{narrow, scaled, scaled_narrow};
+use crate::words::{narrow, power, scaled, scaled_narrow};
 use fixed_numeral::DigitView;
 use fixed_steps::Steps;
 use std::cmp::Ordering;
@@ -20,34 +18,33 @@ use std::sync::ledger::Ledger;
 /// How many whole steps a block makes, and `rest / unit` of one.
 #[derive(Clone, Copy, Debug, PartialEq, Eq)]
 struct Candidate {
-    steps: u128,
-    rest: u128,
-    unit: u128,
+    steps: u64,
+    rest: u64,
+    unit: u64,
     bits: u32,
 }
 
-/// The candidate of a block of `count` digits.
-fn candidate_of(block: u128, count: u32, fives: u128, frac: u32) -> Candidate
-    requires fives { fives ≡ 5 ^ count }
-    requires block { block < 10 ^ count }
-    requires count { count ≤ 27 }
-    requires frac { frac ≤ count + 37 }
-    requires room { 2 * 2 ^ frac ≤ 10 ^ count }
-    ensures { IsCandidate block count frac result.steps result.rest result.unit result.bits }
+/// The candidate of a block of 13 digits, for at most 32 bits behind the point.
+#[inline]
+fn candidate_narrow(block: u64, frac: u32) -> Candidate
+    requires block { block < 10 ^ 13 }
+    requires frac { frac ≤ 32 }
+    ensures candidate { IsCandidate block 13 frac result.steps result.rest result.unit result.bits }
+    ensures bits { result.bits ≡ frac - 13 }
 {
-    if frac >= count {
-        let bits = frac - count;
-        let number = scaled(block, bits);
-        let whole = number / fives;
+    if frac >= 13 {
+        let bits = frac - 13;
+        let number = scaled_narrow(block, bits);
+        let whole = number / 1220703125;
         Candidate {
             steps: whole,
-            rest: number - whole * fives,
-            unit: fives,
+            rest: number - whole * 1220703125,
+            unit: 1220703125,
             bits,
         }
     } else {
-        let unit = scaled(fives, count - frac);
-        let whole = (block >> (count - frac)) / fives;
+        let unit = scaled_narrow(1220703125, 13 - frac);
+        let whole = (block >> (13 - frac)) / 1220703125;
         Candidate {
             steps: whole,
             rest: block - whole * unit,
@@ -57,122 +54,113 @@ fn candidate_of(block: u128, count: u32, fives: u128, frac: u32) -> Candidate
     }
 }
 
-/// The same in 64 bits.
-fn candidate_narrow(block: u64, count: u32, fives: u64, frac: u32) -> Candidate
-    requires fives { fives ≡ 5 ^ count }
-    requires block { block < 10 ^ count }
-    requires count { count ≤ 13 }
-    requires frac { frac ≤ count + 19 }
-    requires room { 2 * 2 ^ frac ≤ 10 ^ count }
-    ensures { IsCandidate block count frac result.steps result.rest result.unit result.bits }
+/// The same for more bits: the steps of 2^-32 first, then those of what is left of one.
+fn candidate_fine(block: u64, frac: u32) -> Candidate
+    requires block { block < 10 ^ 13 }
+    requires least { 32 ≤ frac }
+    requires frac { frac ≤ 64 }
+    ensures { IsCandidate block 13 frac result.steps result.rest result.unit result.bits }
 {
-    if frac >= count {
-        let bits = frac - count;
-        let number = scaled_narrow(block, bits);
-        let whole = number / fives;
-        Candidate {
-            steps: u128::from(whole),
-            rest: u128::from(number - whole * fives),
-            unit: u128::from(fives),
-            bits,
-        }
-    } else {
-        let unit = scaled_narrow(fives, count - frac);
-        let whole = (block >> (count - frac)) / fives;
-        Candidate {
-            steps: u128::from(whole),
-            rest: u128::from(block - whole * unit),
-            unit: u128::from(unit),
-            bits: 0,
-        }
+    let coarse = candidate_narrow(block, 32);
+    let number = scaled_narrow(coarse.rest, frac - 32);
+    let whole = number / 1220703125;
+    Candidate {
+        steps: scaled_narrow(coarse.steps, frac - 32) + whole,
+        rest: number - whole * 1220703125,
+        unit: 1220703125,
+        bits: frac - 13,
     }
 }
 
-/// The candidate of the first digits of a narrow width, and the other digits.
-fn first_narrow<'a, L: Ledger>(
+/// The candidate of a block of 27 digits.
+fn candidate_wide(block: u128, frac: u32) -> Candidate
+    requires block { block < 10 ^ 27 }
+    requires least { 32 ≤ frac }
+    requires frac { frac ≤ 64 }
+    ensures candidate { IsCandidate block 27 frac result.steps result.rest result.unit result.bits }
+    ensures bits { result.bits ≡ frac - 27 }
+{
+    let bits = frac - 27;
+    let number = scaled(block, bits);
+    let whole = number / 7450580596923828125;
+    Candidate {
+        steps: narrow(whole),
+        rest: narrow(number - whole * 7450580596923828125),
+        unit: 7450580596923828125,
+        bits,
+    }
+}
+
+/// 5^n.
+fn five_to(n: u32) -> u64
+    requires { n < 20 }
+    ensures { result ≡ 5 ^ n }
+{
+    power_of_ten(n) >> n
+}
+
+/// The digits of start / 2^bits as one number, so many as there are bits.
+fn mark_of(start: u64, bits: u32) -> u128
+    requires bits { bits ≤ 38 }
+    requires start { start < 2 ^ bits }
+    ensures { result ≡ start * 5 ^ bits }
+{
+    let front = bits.min(19);
+    u128::from(start) * u128::from(five_to(front)) * u128::from(five_to(bits - front))
+}
+
+/// The number that the first digits spell, so many, with zeros behind them where there are fewer, and the other digits.
+fn front_of<'a, L: Ledger>(
     view: &DigitView<'a>,
     count: u32,
-    fives: u64,
-    frac: u32,
     steps: &mut Steps<L>,
-) -> (Candidate, DigitView<'a>)
+) -> (u128, DigitView<'a>)
     requires digits { AllBelowBase 10 view.now }
     requires trailing { NoTrailingZero view.now }
-    requires fives { fives ≡ 5 ^ count }
-    requires count { count ≤ 13 }
-    requires frac { frac ≤ count + 19 }
-    requires room { 2 * 2 ^ frac ≤ 10 ^ count }
-    ensures first { IsFirst view.now result.1 frac result.0.steps result.0.rest result.0.unit result.0.bits }
+    requires count { count ≤ 38 }
+    ensures led { IsLed 10 view.now result.1 result.0 count }
     ensures cost { steps.new ≤ steps.old + count }
-    ensures bits { result.0.bits ≡ frac - count }
 {
-    let (block, rest) = leading(view, 10, count, steps);
-    (candidate_narrow(block, count, fives, frac), rest)
-}
-
-/// The candidate of the first 27 digits, and the other digits.
-fn first_wide<'a, L: Ledger>(
-    view: &DigitView<'a>,
-    frac: u32,
-    steps: &mut Steps<L>,
-) -> (Candidate, DigitView<'a>)
-    requires digits { AllBelowBase 10 view.now }
-    requires trailing { NoTrailingZero view.now }
-    requires frac { frac ≤ 64 }
-    ensures first { IsFirst view.now result.1 frac result.0.steps result.0.rest result.0.unit result.0.bits }
-    ensures cost { steps.new ≤ steps.old + 27 }
-    ensures bits { result.0.bits ≡ frac - 27 }
-{
-    let (block, rest) = leading_long(view, 10, 19, 8, 100000000, steps);
-    (candidate_of(block, 27, 7450580596923828125, frac), rest)
-}
-
-/// The candidate of the first digits, and the other digits: 3, 6, 13 or 27 of them by the width and the
-/// fraction length.
-fn first_steps<'a, L: Ledger>(
-    view: &DigitView<'a>,
-    width: u32,
-    frac: u32,
-    steps: &mut Steps<L>,
-) -> (Candidate, DigitView<'a>)
-    requires digits { AllBelowBase 10 view.now }
-    requires trailing { NoTrailingZero view.now }
-    requires width { IsWidth width }
-    requires frac { frac ≤ width }
-    ensures first { IsFirst view.now result.1 frac result.0.steps result.0.rest result.0.unit result.0.bits }
-    ensures cost { steps.new + 2 * result.0.bits ≤ steps.old + 2 * width }
-{
-    match width {
-        8 => first_narrow(view, 3, 125, frac, steps),
-        16 => first_narrow(view, 6, 15625, frac, steps),
-        32 => first_narrow(view, 13, 1220703125, frac, steps),
-        _ => {
-            if frac <= 32 {
-                first_narrow(view, 13, 1220703125, frac, steps)
-            } else {
-                first_wide(view, frac, steps)
-            }
-        }
+    if count <= 19 {
+        let (block, rest) = leading(view, 10, count, steps);
+        (u128::from(block), rest)
+    } else {
+        let back = count - 19;
+        leading_long(view, 10, 19, back, power_of_ten(back), steps)
     }
 }
 
-/// How 0.DIGITS stands to start / 2^bits.
+/// How a block stands to a mark, where other digits behind the block make it more.
+fn compared(block: u128, mark: u128, last: bool) -> Ordering
+    ensures { MatchOrdering result (block < mark) ((block ≡ mark) × IsTrue last) ((mark < block) ⊎ ((block ≡ mark) × (last ≡ false))) }
+{
+    if block < mark {
+        Ordering::Less
+    } else if block == mark && last {
+        Ordering::Equal
+    } else {
+        Ordering::Greater
+    }
+}
+
+/// How 0.DIGITS stands to start / 2^bits, which has as many digits as bits.
 fn behind<'a, L: Ledger>(
     view: &DigitView<'a>,
-    start: u128,
+    start: u64,
     bits: u32,
     steps: &mut Steps<L>,
 ) -> Ordering
     requires digits { AllBelowBase 10 view.now }
     requires trailing { NoTrailingZero view.now }
-    requires bits { bits ≤ 60 }
+    requires bits { bits ≤ 38 }
     ensures order { MatchOrdering result (number_from_digits 10 view.now * 2 ^ bits < start * 10 ^ length view.now) (number_from_digits 10 view.now * 2 ^ bits ≡ start * 10 ^ length view.now) (start * 10 ^ length view.now < number_from_digits 10 view.now * 2 ^ bits) }
     ensures cost { steps.new ≤ steps.old + bits }
 {
-    if start >> bits != 0 {
+    if start >= power(bits) {
         return Ordering::Less;
     }
-    walk(view, start as u64, bits, steps)
+    let (block, rest) = front_of(view, bits, steps);
+    compared(block, mark_of(start, bits), rest.is_empty())
 }
 
 /// How the part of a step behind the candidate stands to 1 / 2^halves of a step.
@@ -186,12 +174,12 @@ fn stands<'a, L: Ledger>(
     requires trailing { NoTrailingZero view.now }
     requires halves { halves ≤ 1 }
     requires small { found.rest < found.unit }
-    requires most { found.unit < 2 ^ 100 }
-    requires few { found.bits ≤ 40 }
+    requires most { found.unit < 2 ^ 63 }
+    requires few { found.bits ≤ 37 }
     ensures order { MatchOrdering result (2 ^ halves * part found.rest found.bits view.now < whole found.unit view.now) (2 ^ halves * part found.rest found.bits view.now ≡ whole found.unit view.now) (whole found.unit view.now < 2 ^ halves * part found.rest found.bits view.now) }
     ensures cost { steps.new ≤ steps.old + found.bits + halves }
 {
-    let share = scaled(found.rest, halves);
+    let share = scaled_narrow(found.rest, halves);
     if share < found.unit {
         behind(view, found.unit - share, found.bits + halves, steps)
     } else if share == found.unit && view.is_empty() {
@@ -202,7 +190,7 @@ fn stands<'a, L: Ledger>(
 }
 
 /// What less than half of a step is: nothing where the block leaves nothing and no digit is left.
-fn start_of(view: &DigitView, rest: u128) -> Tail
+fn start_of(view: &DigitView, rest: u64) -> Tail
     ensures { (bits unit : ℕ) → 0 < unit → AllBelowBase 10 view.now → NoTrailingZero view.now → 2 ^ 1 * part rest bits view.now < whole unit view.now → IsTail result (part rest bits view.now) (whole unit view.now) }
 {
     if rest == 0 && view.is_empty() {
@@ -213,9 +201,10 @@ fn start_of(view: &DigitView, rest: u128) -> Tail
 }
 
 /// What a share of a step is.
-fn tail_of_share(rest: u128, unit: u128) -> Tail
+#[inline]
+fn tail_of_share(rest: u64, unit: u64) -> Tail
     requires small { rest < unit }
-    requires most { unit < 2 ^ 100 }
+    requires most { unit < 2 ^ 63 }
     ensures { IsTail result rest unit }
 {
     let twice = rest + rest;
@@ -231,18 +220,19 @@ fn tail_of_share(rest: u128, unit: u128) -> Tail
 }
 
 /// The whole steps of a candidate and the digits behind it, and what is left of a step.
+#[inline(never)]
 fn settle<'a, L: Ledger>(
     view: &DigitView<'a>,
     found: Candidate,
     steps: &mut Steps<L>,
-) -> (u128, Tail)
+) -> (u64, Tail)
     requires digits { AllBelowBase 10 view.now }
     requires trailing { NoTrailingZero view.now }
     requires small { found.rest < found.unit }
     requires room { 2 * 2 ^ found.bits ≤ found.unit }
-    requires most { found.unit < 2 ^ 100 }
-    requires few { found.bits ≤ 40 }
-    requires steps { found.steps < 2 ^ 100 }
+    requires most { found.unit < 2 ^ 63 }
+    requires few { found.bits ≤ 37 }
+    requires steps { found.steps * whole found.unit view.now + part found.rest found.bits view.now < 2 ^ 64 * whole found.unit view.now }
     ensures settled { IsSettled (found.steps * whole found.unit view.now + part found.rest found.bits view.now) (whole found.unit view.now) result.0 result.1 }
     ensures cost { steps.new ≤ steps.old + 2 * found.bits + 1 }
 {
@@ -257,43 +247,118 @@ fn settle<'a, L: Ledger>(
     }
 }
 
-/// How many steps of 2^-frac are in 0.DIGITS, and what is left of a step, for at most 13 digits.
+/// What is left of a step where digits behind the block, whichever they are, do not change it, as is nearly always so.
 #[inline]
-pub fn short_part<'a, L: Ledger>(
+fn decided(found: Candidate) -> Option<Tail>
+    requires small { found.rest < found.unit }
+    requires most { found.unit < 2 ^ 63 }
+    requires few { found.bits ≤ 37 }
+    ensures { MatchOption result (Unit {0}) (λ tail. (ds : List ℕ) → AllBelowBase 10 ds → NoTrailingZero ds → (ds ≡ [] → ⊥) → IsTail tail (part found.rest found.bits ds) (whole found.unit ds)) }
+{
+    let most = found.rest + power(found.bits);
+    let half = found.unit / 2;
+    if most <= half {
+        Some(Tail::Below)
+    } else if half < found.rest && most <= found.unit {
+        Some(Tail::Above)
+    } else {
+        None
+    }
+}
+
+/// The whole steps of the candidate of the first `count` digits and the digits behind these, and what is left of a step.
+#[inline]
+fn settled<'a, L: Ledger>(
+    view: &DigitView<'a>,
+    count: u32,
+    found: Candidate,
+    steps: &mut Steps<L>,
+) -> (u64, Tail)
+    requires digits { AllBelowBase 10 view.now }
+    requires trailing { NoTrailingZero view.now }
+    requires small { found.rest < found.unit }
+    requires room { 2 * 2 ^ found.bits ≤ found.unit }
+    requires most { found.unit < 2 ^ 63 }
+    requires few { found.bits ≤ 37 }
+    requires steps { found.steps * whole found.unit (drop count view.now) + part found.rest found.bits (drop count view.now) < 2 ^ 64 * whole found.unit (drop count view.now) }
+    ensures settled { IsSettled (found.steps * whole found.unit (drop count view.now) + part found.rest found.bits (drop count view.now)) (whole found.unit (drop count view.now)) result.0 result.1 }
+    ensures cost { steps.new ≤ steps.old + 2 * found.bits + 1 }
+{
+    let count = u64::from(count);
+    if view.len() <= count {
+        return (found.steps, tail_of_share(found.rest, found.unit));
+    }
+    match decided(found) {
+        Some(tail) => (found.steps, tail),
+        None => {
+            let (_front, rest) = view.split_at(count);
+            settle(&rest, found, steps)
+        }
+    }
+}
+
+/// How many steps of 2^-frac are in 0.DIGITS, and what is left of a step, for at most 32 bits.
+#[inline]
+pub fn narrow_part<'a, L: Ledger>(
     view: &DigitView<'a>,
     frac: u32,
     steps: &mut Steps<L>,
 ) -> (u64, Tail)
     requires digits { AllBelowBase 10 view.now }
     requires trailing { NoTrailingZero view.now }
-    requires few { length view.now ≤ 13 }
     requires frac { frac ≤ 32 }
+    ensures part { IsPart 10 view.now frac result.0 result.1 }
+    ensures cost { steps.new ≤ steps.old + 14 + 2 * (frac - 13) }
+{
+    let block = padded(view, 10, 13, steps);
+    settled(view, 13, candidate_narrow(block, frac), steps)
+}
+
+/// The same for at least 32 bits and at most 13 digits.
+fn fine_part<'a, L: Ledger>(view: &DigitView<'a>, frac: u32, steps: &mut Steps<L>) -> (u64, Tail)
+    requires digits { AllBelowBase 10 view.now }
+    requires trailing { NoTrailingZero view.now }
+    requires few { length view.now ≤ 13 }
+    requires least { 32 ≤ frac }
+    requires frac { frac ≤ 64 }
     ensures part { IsPart 10 view.now frac result.0 result.1 }
     ensures cost { steps.new ≤ steps.old + 13 }
 {
     let block = padded(view, 10, 13, steps);
-    let found = candidate_narrow(block, 13, 1220703125, frac);
-    (narrow(found.steps), tail_of_share(found.rest, found.unit))
+    let found = candidate_fine(block, frac);
+    (found.steps, tail_of_share(found.rest, found.unit))
+}
+
+/// The same for at least 32 bits and any digits.
+fn wide_part<'a, L: Ledger>(view: &DigitView<'a>, frac: u32, steps: &mut Steps<L>) -> (u64, Tail)
+    requires digits { AllBelowBase 10 view.now }
+    requires trailing { NoTrailingZero view.now }
+    requires least { 32 ≤ frac }
+    requires frac { frac ≤ 64 }
+    ensures part { IsPart 10 view.now frac result.0 result.1 }
+    ensures cost { steps.new ≤ steps.old + 28 + 2 * (frac - 27) }
+{
+    let (block, _rest) = leading_long(view, 10, 19, 8, 100000000, steps);
+    settled(view, 27, candidate_wide(block, frac), steps)
 }
 
 /// How many steps of 2^-frac are in 0.DIGITS, and what is left of a step.
 pub fn decimal_part<'a, L: Ledger>(
     view: &DigitView<'a>,
-    width: u32,
     frac: u32,
     steps: &mut Steps<L>,
-) -> (u128, Tail)
+) -> (u64, Tail)
     requires digits { AllBelowBase 10 view.now }
     requires trailing { NoTrailingZero view.now }
-    requires width { IsWidth width }
-    requires frac { frac ≤ width }
+    requires frac { frac ≤ 64 }
     ensures part { IsPart 10 view.now frac result.0 result.1 }
-    ensures cost { steps.new ≤ steps.old + 2 * width + 1 }
+    ensures cost { steps.new ≤ steps.old + 14 + 2 * (frac - 13) }
 {
-    let (found, rest) = first_steps(view, width, frac, steps);
-    if rest.is_empty() {
-        (found.steps, tail_of_share(found.rest, found.unit))
+    if frac <= 32 {
+        narrow_part(view, frac, steps)
+    } else if view.len() <= 13 {
+        fine_part(view, frac, steps)
     } else {
-        settle(&rest, found, steps)
+        wide_part(view, frac, steps)
     }
 }

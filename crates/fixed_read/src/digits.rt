@@ -1,6 +1,6 @@
 //! Numbers from the ends of a view.
 
-ghost use Rattle.std.specs.Prelude.{◌≡◌, ◌+◌, ◌-◌, ◌*◌, ◌%◌, ◌^◌, ◌<◌, ◌≤◌, ◌↔◌, ◌⊎◌, [], IsTrue, length};
+ghost use Rattle.std.specs.Prelude.{◌≡◌, ◌+◌, ◌-◌, ◌*◌, ◌%◌, ◌^◌, ◌<◌, ◌≤◌, ◌↔◌, ◌⊎◌, IsTrue, drop, length};
 ghost use Rattle.std.specs.Int.Digits.{number_from_digits, AllBelowBase};
 ghost use Rattle.fixed_numeral.specs.Place.{NoLeadingZero, NoTrailingZero};
 ghost use Rattle.fixed_read.specs.Blocks.{IsLed};
@@ -11,7 +11,7 @@ use fixed_steps::Steps;
 use std::sync::ledger::Ledger;
 
 /// 10^n.
-fn power_of_ten(n: u32) -> u64
+pub fn power_of_ten(n: u32) -> u64
     requires { n < 20 }
     ensures { result ≡ 10 ^ n }
 {
@@ -113,13 +113,14 @@ pub fn leading<'a, L: Ledger>(
     requires small { base ≤ 16 }
     requires room { base ^ count ≤ 2 ^ 64 }
     ensures led { IsLed base view.now result.1 result.0 count }
+    ensures rest { result.1 ≡ drop count view.now }
     ensures cost { steps.new ≤ steps.old + count }
 {
     let (number, rest) = view.take_number(base, count, steps);
     (with_zeros(number, base, missing(view, count)), rest)
 }
 
-/// The number that all digits spell, with zeros behind them where there are fewer than so many.
+/// The number that the first digits spell, so many, with zeros behind them where there are fewer.
 #[inline]
 pub fn padded<'a, L: Ledger>(
     view: &DigitView<'a>,
@@ -132,8 +133,7 @@ pub fn padded<'a, L: Ledger>(
     requires base { 2 ≤ base }
     requires small { base ≤ 16 }
     requires room { base ^ count ≤ 2 ^ 64 }
-    requires few { length view.now ≤ count }
-    ensures led { IsLed base view.now [] result count }
+    ensures led { IsLed base view.now (drop count view.now) result count }
     ensures cost { steps.new ≤ steps.old + count }
 {
     if view.is_empty() {
@@ -167,6 +167,7 @@ pub fn leading_long<'a, L: Ledger>(
     requires back { base ^ back ≤ 2 ^ 64 }
     requires power { power ≡ base ^ back }
     ensures led { IsLed base view.now result.1 result.0 (front + back) }
+    ensures rest { result.1 ≡ drop (front + back) view.now }
     ensures cost { steps.new ≤ steps.old + front + back }
 {
     let (high, middle) = leading(view, base, front, steps);

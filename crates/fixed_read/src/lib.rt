@@ -13,7 +13,6 @@ mod side;
 mod tail;
 #[cfg(test)]
 mod tests;
-mod walk;
 mod words;
 
 pub use fixed_bits::ReadMode;

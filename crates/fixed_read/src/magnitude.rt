@@ -1,7 +1,7 @@
 //! How many steps the magnitude of a numeral is.
 
 ghost use Rattle.std.specs.Prelude.{◌≡◌, ◌+◌, ◌-◌, ◌*◌, ◌/◌, ◌%◌, ◌^◌, ◌<◌, ◌≤◌, ◌↔◌, ◌⊎◌, [], ℕ, List, IsTrue, length};
-ghost use Rattle.std.specs.Int.Digits.{AllBelowBase};
+ghost use Rattle.std.specs.Int.Digits.{number_from_digits, AllBelowBase};
 ghost use Rattle.fixed_bits.specs.Ranges.{IsWidth};
 ghost use Rattle.fixed_numeral.specs.Numeral.{base};
 ghost use Rattle.fixed_numeral.specs.Scanned.{bits_of};
@@ -10,7 +10,7 @@ ghost use Rattle.fixed_numeral.specs.Place.{NoLeadingZero, NoTrailingZero};
 ghost use Rattle.fixed_read.specs.Steps.{IsPart, IsMagnitude};
 
 use crate::bits::bit_part;
-use crate::decimal::{decimal_part, short_part};
+use crate::decimal::{decimal_part, narrow_part};
 use crate::digits::{all_of, cut, is_over, trailing};
 use crate::side::Side;
 use crate::tail::{Tail, up, up_narrow};
@@ -18,6 +18,27 @@ use crate::words::{parted, scaled, scaled_narrow};
 use fixed_numeral::{DigitView, Radix};
 use fixed_steps::Steps;
 use std::sync::ledger::Ledger;
+
+/// The lowest bits of whole digits, so many as there are in front of the point, and whether there are more.
+fn whole_part<'a, L: Ledger>(
+    whole: &DigitView<'a>,
+    base: u32,
+    behind: u32,
+    width: u32,
+    steps: &mut Steps<L>,
+) -> (u64, bool)
+    requires digits { AllBelowBase base whole.now }
+    requires leading { NoLeadingZero whole.now }
+    requires base { 2 ≤ base }
+    requires small { base ≤ 16 }
+    requires even { base % 2 ≡ 0 }
+    requires width { width ≤ 64 }
+    ensures number { result.0 ≡ number_from_digits base whole.now % 2 ^ (width - behind) }
+    ensures over { IsTrue result.1 ↔ (2 ^ (width - behind) ≤ number_from_digits base whole.now) }
+    ensures cost { steps.new ≤ steps.old + (width - behind) + 15 }
+{
+    trailing(whole, base, width.saturating_sub(behind), steps)
+}
 
 /// The lowest bits of how many steps whole digits and the steps behind them are, and whether there are more. For each base.
 fn joined<'a, L: Ledger>(
@@ -42,7 +63,7 @@ fn joined<'a, L: Ledger>(
     ensures is { (f : List ℕ) (frac s : ℕ) → behind ≡ frac + s → IsPart base f behind more tail → IsMagnitude side (spelled base whole.now f s) frac width result.0 result.1 }
     ensures cost { steps.new ≤ steps.old + (width - behind) + 15 }
 {
-    let (low, over) = trailing(whole, base, width.saturating_sub(behind), steps);
+    let (low, over) = whole_part(whole, base, behind, width, steps);
     let sum = scaled(u128::from(low), behind) + more;
     let total = sum + up(tail, side, sum % 2);
     let (high, bits) = parted(total, width);
@@ -72,7 +93,10 @@ fn part<'a, L: Ledger>(
     match radix {
         Radix::Bin => bit_part(view, 1, frac + bit_shift, steps),
         Radix::Oct => bit_part(view, 3, frac + bit_shift, steps),
-        Radix::Dec => decimal_part(view, width, frac, steps),
+        Radix::Dec => {
+            let (more, tail) = decimal_part(view, frac, steps);
+            (u128::from(more), tail)
+        }
         Radix::Hex => bit_part(view, 4, frac + bit_shift, steps),
     }
 }
@@ -104,14 +128,14 @@ fn long_magnitude<'a, L: Ledger>(
     joined(whole, radix.base(), more, tail, behind, width, side, steps)
 }
 
-/// Whether the digits are so few, and the fraction so short, that all steps are in a word.
-fn is_short(whole: &DigitView, fraction: &DigitView, behind: u32) -> bool
-    ensures { IsTrue result → ((length whole.now ≤ 9) × (length fraction.now ≤ 13) × (behind ≤ 32)) }
+/// Whether the whole digits are so few, and the steps so coarse, that all of these are in a word.
+fn is_short(whole: &DigitView, behind: u32) -> bool
+    ensures { IsTrue result → ((length whole.now ≤ 9) × (behind ≤ 32)) }
 {
-    whole.len() <= 9 && fraction.len() <= 13 && behind <= 32
+    whole.len() <= 9 && behind <= 32
 }
 
-/// The lowest bits of how many steps of 2^-behind a decimal number is, and whether there are more. For few digits.
+/// The lowest bits of how many steps of 2^-behind a decimal number is, and whether there are more. For few whole digits.
 #[inline]
 fn short_magnitude<'a, L: Ledger>(
     whole: &DigitView<'a>,
@@ -125,13 +149,12 @@ fn short_magnitude<'a, L: Ledger>(
     requires few_whole { length whole.now ≤ 9 }
     requires digits { AllBelowBase 10 fraction.now }
     requires trailing { NoTrailingZero fraction.now }
-    requires few { length fraction.now ≤ 13 }
     requires behind { behind ≤ 32 }
     requires width { width ≤ 64 }
     ensures is { (frac s : ℕ) → behind ≡ frac + s → IsMagnitude side (spelled 10 whole.now fraction.now s) frac width result.0 result.1 }
-    ensures cost { steps.new ≤ steps.old + 22 }
+    ensures cost { steps.new ≤ steps.old + 23 + 2 * (behind - 13) }
 {
-    let (more, tail) = short_part(fraction, behind, steps);
+    let (more, tail) = narrow_part(fraction, behind, steps);
     let number = all_of(whole, 10, 9, steps);
     let sum = scaled_narrow(number, behind) + more;
     let total = sum + up_narrow(tail, side, sum % 2);
@@ -159,7 +182,7 @@ fn decimal_magnitude<'a, L: Ledger>(
     ensures is { IsMagnitude side (spelled 10 whole.now fraction.now bit_shift) frac width result.0 result.1 }
     ensures cost { steps.new ≤ steps.old + 3 * width + 20 }
 {
-    if is_short(whole, fraction, frac + bit_shift) {
+    if is_short(whole, frac + bit_shift) {
         short_magnitude(whole, fraction, frac + bit_shift, width, side, steps)
     } else {
         long_magnitude(

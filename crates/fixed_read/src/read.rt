@@ -17,11 +17,18 @@ use fixed_numeral::{ParseErrorKind, ParseFixedError, Radix};
 use fixed_steps::Steps;
 use std::sync::ledger::Ledger;
 
+/// Whether the lowest bits of a read number, with their sign, are out of the range of a type.
+fn is_past<I: Inner>(residue: Residue) -> bool
+    ensures { IsTrue result ↔ (IsInRange I.SIGNED I.BITS residue.value → ⊥) }
+{
+    !I::fits(residue.value)
+}
+
 /// Whether a read number is out of the range of a type.
 pub fn is_out<I: Inner>(residue: Residue) -> bool
     ensures { (high low : ℕ) → residue.value ≡ with_sign residue.negative low → (IsTrue residue.beyond ↔ (0 < high)) → IsTrue result ↔ IsOutOfRange I.SIGNED I.BITS (with_sign residue.negative (high * 2 ^ I.BITS + low)) }
 {
-    residue.beyond || !I::fits(residue.value)
+    residue.beyond || is_past::<I>(residue)
 }
 
 /// The Saturating image of a read number.

@@ -1,11 +1,9 @@
-use Rattle.std.proofs.Common.{◌≡◌, ℕ, ◌/◌, ◌^◌, ◌<◌, ◌≤◌, ⊎_elim}
-use Rattle.std.proofs.Math.Nat.{div-eq_of_lt}
-use Rattle.std.proofs.lemmas.Bool.{cases_lt}
-use Rattle.fixed_read.proofs.DecimalLemmas.{far_below}
+use Rattle.std.proofs.Common.{arith}
+use Rattle.fixed_read.proofs.DecimalLemmas.{far_below, block_order}
 use Rattle.fixed_read.proofs.decimal.behind.Goals as goal
 
-not_less : (a p : ℕ) → (a / p ≡ 0 → ⊥) → p ≤ a
-not_less a p n = ⊎_elim (λ (l : a < p). absurd (n (div-eq_of_lt l))) (λ (l : p ≤ a). l) (cases_lt a p)
+pub returns-then-start-power-clause-order : goal.returns-then-start-power-clause-order
+returns-then-start-power-clause-order g c = far_below c.args.view.now c.args.start c.args.bits c.requires.digits (omega (arith, c.if-start-power.true, c.power.ensures))
 
-pub returns-then-start-bits-ne0-clause-order : goal.returns-then-start-bits-ne0-clause-order
-returns-then-start-bits-ne0-clause-order g c = far_below c.args.view.now c.args.start c.args.bits c.requires.digits (not_less c.args.start (2 ^ c.args.bits) c.if-start-bits-ne0.true)
+pub returns-clause-order : goal.returns-clause-order
+returns-clause-order g c = block_order c.compared.result c.args.view.now c.front_of-block.result.1 c.front_of-block.result.0 c.args.start c.mark_of.result c.args.bits c.is_empty.result c.requires.digits c.front_of-block.ensures.led c.mark_of.ensures c.is_empty.ensures c.compared.ensures

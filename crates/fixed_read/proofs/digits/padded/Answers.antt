@@ -1,4 +1,4 @@
-use Rattle.std.proofs.Common.{◌≡◌, [], ◌∙◌, arith}
+use Rattle.std.proofs.Common.{◌≡◌, drop, refl, arith}
 use Rattle.std.proofs.lemmas.List.{drop_all}
 use Rattle.fixed_read.proofs.DigitLemmas.{led, led_nothing, led_room}
 use Rattle.fixed_read.proofs.digits.padded.Goals as goal
@@ -9,9 +9,7 @@ with_zeros-requires-clause-room g c =
     omega (arith, room, c.requires.room)
 
 pub returns-clause-led : goal.returns-clause-led
-returns-clause-led g c =
-    let none : c.take_number-number.result.1 ≡ [] = c.take_number-number.ensures.rest ∙ drop_all c.args.count c.args.view.now c.requires.few in
-    rw none at (led c.args.base c.args.view.now c.take_number-number.result.1 c.take_number-number.result.0 c.args.count c.missing.result c.with_zeros.result (omega (arith, c.requires.base)) c.requires.digits c.requires.trailing c.take_number-number.ensures.number c.take_number-number.ensures.below c.take_number-number.ensures.rest c.missing.ensures c.with_zeros.ensures)
+returns-clause-led g c = led c.args.base c.args.view.now (drop c.args.count c.args.view.now) c.take_number-number.result.0 c.args.count c.missing.result c.with_zeros.result (omega (arith, c.requires.base)) c.requires.digits c.requires.trailing c.take_number-number.ensures.number c.take_number-number.ensures.below refl c.missing.ensures c.with_zeros.ensures
 
 pub returns-then-is_empty-clause-led : goal.returns-then-is_empty-clause-led
 returns-then-is_empty-clause-led g c = led_nothing c.args.base c.args.view.now c.args.count (omega (arith, c.requires.base)) c.requires.digits c.requires.trailing (c.is_empty.ensures.0 c.if-is_empty.true)
