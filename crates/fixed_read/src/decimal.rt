@@ -219,6 +219,15 @@ fn tail_of_share(rest: u64, unit: u64) -> Tail
     }
 }
 
+/// The steps where the digits go past the candidate's next one: that, and less than half of one behind it.
+#[tactic(auto, using(crate::proofs::DecimalLemmas::settled_over))]
+fn past_next(steps: u64) -> (u64, Tail)
+    requires { steps + 1 < 2 ^ 64 }
+    ensures { (s den : ℕ) → den < s → 2 * s < 3 * den → IsSettled (steps * den + s) den result.0 result.1 }
+{
+    (steps + 1, Tail::Below)
+}
+
 /// The whole steps of a candidate and the digits behind it, and what is left of a step.
 #[inline(never)]
 fn settle<'a, L: Ledger>(
@@ -242,7 +251,7 @@ fn settle<'a, L: Ledger>(
         Ordering::Greater => match stands(view, found, 0, steps) {
             Ordering::Less => (found.steps, Tail::Above),
             Ordering::Equal => (found.steps + 1, Tail::Nothing),
-            Ordering::Greater => (found.steps + 1, Tail::Below),
+            Ordering::Greater => past_next(found.steps),
         },
     }
 }

@@ -139,7 +139,7 @@ pub fn padded<'a, L: Ledger>(
     if view.is_empty() {
         return 0;
     }
-    let (number, _rest) = view.take_number(base, count, steps);
+    let number = view.first_number(base, count, steps);
     with_zeros(number, base, missing(view, count))
 }
 
@@ -198,8 +198,7 @@ pub fn all_of<'a, L: Ledger>(
     if view.is_empty() {
         return 0;
     }
-    let (number, _rest) = view.take_number(base, count, steps);
-    number
+    view.first_number(base, count, steps)
 }
 
 /// Whether there are more digits than so many.
@@ -298,8 +297,7 @@ fn trailing_few<'a, L: Ledger>(
     ensures over { IsTrue result.1 ↔ (2 ^ width ≤ number_from_digits base view.now) }
     ensures cost { steps.new ≤ steps.old + 15 }
 {
-    let (number, _rest) = view.take_number(base, 15, steps);
-    cut(number, width)
+    cut(view.first_number(base, 15, steps), width)
 }
 
 /// The number that the digits spell modulo 2^width, and whether it is 2^width or more.

@@ -56,8 +56,8 @@ pub fn residue_of<'a, L: Ledger>(
 {
     let negative = found.neg();
     let (low, beyond) = magnitude(
-        &found.whole(),
-        &found.fraction(),
+        found.whole_view(),
+        found.fraction_view(),
         radix,
         found.bit_shift(),
         width,

@@ -4,15 +4,15 @@ use Rattle.std.specs.Int.Digits.{number_from_digits}
 use Rattle.fixed_read.proofs.NumberLemmas.{chunk_room}
 use Rattle.fixed_read.proofs.digits.trailing_few.Goals as goal
 
-pub take_number-number-requires-clause-room : goal.take_number-number-requires-clause-room
-take_number-number-requires-clause-room g c = omega (arith, chunk_room c.args.base 15 c.requires.small (omega arith))
+pub first_number-requires-clause-room : goal.first_number-requires-clause-room
+first_number-requires-clause-room g c = omega (arith, chunk_room c.args.base 15 c.requires.small (omega arith))
 
 pub returns-clause-number : goal.returns-clause-number
 returns-clause-number g c =
-    let all : c.take_number-number.result.0 ≡ number_from_digits c.args.base c.args.view.now = c.take_number-number.ensures.number ∙ ap (number_from_digits c.args.base) (take_all 15 c.args.view.now c.requires.few) in
+    let all : c.first_number.result ≡ number_from_digits c.args.base c.args.view.now = c.first_number.ensures.number ∙ ap (number_from_digits c.args.base) (take_all 15 c.args.view.now c.requires.few) in
     rw all at c.cut.ensures.low
 
 pub returns-clause-over : goal.returns-clause-over
 returns-clause-over g c =
-    let all : c.take_number-number.result.0 ≡ number_from_digits c.args.base c.args.view.now = c.take_number-number.ensures.number ∙ ap (number_from_digits c.args.base) (take_all 15 c.args.view.now c.requires.few) in
+    let all : c.first_number.result ≡ number_from_digits c.args.base c.args.view.now = c.first_number.ensures.number ∙ ap (number_from_digits c.args.base) (take_all 15 c.args.view.now c.requires.few) in
     rw all at c.cut.ensures.over

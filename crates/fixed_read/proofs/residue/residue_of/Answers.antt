@@ -10,8 +10,8 @@ use Rattle.fixed_read.proofs.residue.residue_of.Goals as goal
 
 pub returns-clause-residue : goal.returns-clause-residue
 returns-clause-residue g c p h =
-    let whole : c.whole.result ≡ c.args.found.now.whole = c.whole.ensures in
-    let fraction : c.fraction.result ≡ c.args.found.now.fraction = c.fraction.ensures in
+    let whole : c.whole_view.result.now ≡ c.args.found.now.whole = c.whole_view.ensures in
+    let fraction : c.fraction_view.result.now ≡ c.args.found.now.fraction = c.fraction_view.ensures in
     let shift : c.bit_shift.result ≡ c.args.found.now.bit_shift = c.bit_shift.ensures in
     let neg : c.neg-negative.result ≡ c.args.found.now.neg = c.neg-negative.ensures in
     let side_is : c.side_of.result ≡ side c.args.mode c.args.found.now.neg = c.side_of.ensures ∙ ap (side c.args.mode) neg in
