@@ -103,11 +103,8 @@ goes_on r bs b st a = record { parts = a.parts; beginning = a.beginning; agrees 
 
 -- ---- before any separator
 
-pub before_whole : (r : Radix) (st : State) (b : ℕ) (bs : List ℕ) (p : Parts) → HasParts r bs p → Agrees r st p → st.separator ≡ false → st.magnitude ≤ most_magnitude true → is_digit r b ≡ true → st.point ≡ false → GoesOn r bs b (record st { whole = st.whole + 1; fresh = false })
-before_whole r st b bs p h a ns m d np = goes_on r bs b _ (whole_more r st 1 bs (b ∷ []) p.sign p.whole p.fraction p.exponent h a ns m (ltb-true _ _ d, tt) refl (omega arith) np)
-
-pub before_fraction : (r : Radix) (st : State) (b : ℕ) (bs : List ℕ) (p : Parts) → HasParts r bs p → Agrees r st p → st.separator ≡ false → st.magnitude ≤ most_magnitude true → is_digit r b ≡ true → st.point ≡ true → GoesOn r bs b (record st { fraction = st.fraction + 1; fresh = false })
-before_fraction r st b bs p h a ns m d np = goes_on r bs b _ (fraction_more r st 1 bs (b ∷ []) p.sign p.whole p.fraction p.exponent h a ns m (ltb-true _ _ d, tt) refl np)
+pub before_digit : (r : Radix) (st next : State) (b : ℕ) (bs : List ℕ) (p : Parts) → HasParts r bs p → Agrees r st p → st.magnitude ≤ most_magnitude true → is_digit r b ≡ true → ((r : Radix) (bs ds : List ℕ) → IsAfter r bs st → AllDigits (base r) ds → length ds ≡ 1 → IsAfter r (bs ++ ds) next) → GoesOn r bs b next
+before_digit r st next b bs p h a m d more = goes_on r bs b next (more r bs (b ∷ []) (record { parts = p; beginning = h; agrees = a; room = m }) (ltb-true _ _ d, tt) refl)
 
 pub before_separator : (r : Radix) (st : State) (b : ℕ) (bs : List ℕ) (s : Option ℕ) (w : List ℕ) (f : Option (List ℕ)) (x : Option Exponent) → HasParts r bs (parts s w f x) → Agrees r st (parts s w f x) → st.separator ≡ false → is_separator r b ≡ true → (t : Bool) → t ≡ is_two_separator r b → GoesOn r bs b (record st { separator = true; two = t; fresh = true; minus = false; magnitude = 0; counted = false })
 before_separator r st b bs s w f (Some e) h a ns d t et = let clash = a.separator in absurd (cc)

@@ -120,19 +120,7 @@ fn step_before(state: State, radix: Radix, b: u8) -> Result<State, ParseErrorKin
     ensures { (bs : List ℕ) (p : Parts) → HasParts radix bs p → Agrees radix state p → MatchResult result (λ next. GoesOn radix bs b next) (λ kind. IsStuck radix bs p b kind) }
 {
     if digit(radix, b) {
-        if state.point {
-            Ok(State {
-                fraction: state.fraction + 1,
-                fresh: false,
-                ..state
-            })
-        } else {
-            Ok(State {
-                whole: state.whole + 1,
-                fresh: false,
-                ..state
-            })
-        }
+        Ok(passed(state, 1))
     } else if separator(radix, b) {
         Ok(State {
             separator: true,
@@ -188,14 +176,14 @@ fn step_behind(state: State, radix: Radix, b: u8) -> Result<State, ParseErrorKin
             Err(ParseErrorKind::ExpOverflow)
         }
     } else if sign(b) {
-        if state.fresh {
+        if !state.fresh {
+            Err(ParseErrorKind::MisplacedSign)
+        } else {
             Ok(State {
                 fresh: false,
                 minus: b == b'-',
                 ..state
             })
-        } else {
-            Err(ParseErrorKind::MisplacedSign)
         }
     } else if separator(radix, b) {
         Err(ParseErrorKind::TooManyExp)

@@ -33,6 +33,7 @@ impl<'a> Model for DigitView<'a> {
 
 impl<'a> DigitView<'a> {
     /// Digits between two counts of zeros.
+    #[inline(always)]
     pub(crate) fn between(
         before: u64,
         left: Piece<'a>,
@@ -108,57 +109,41 @@ impl<'a> DigitView<'a> {
     }
 
     /// The first digit, 0 to 15, and the others, for one step. None, for no step, where there is no digit.
-    #[tactic(auto, using(crate::proofs::ViewLemmas::take_before, crate::proofs::ViewLemmas::take_left, crate::proofs::ViewLemmas::take_right, crate::proofs::ViewLemmas::take_after, crate::proofs::ViewLemmas::between_none))]
+    #[inline]
     pub fn take<L: Ledger>(&self, steps: &mut Steps<L>) -> Option<(u8, DigitView<'a>)>
         ensures { MatchOption result ((self.now ≡ []) × (steps.new ≡ steps.old)) (λ r. (self.now ≡ r.0 ∷ r.1) × (r.0 < 16) × (steps.new ≡ steps.old + 1)) }
     {
-        if self.before > 0 {
-            steps.tick();
-            Some((
-                0,
-                DigitView {
-                    before: self.before - 1,
-                    left: self.left.same(),
-                    right: self.right.same(),
-                    after: self.after,
-                },
-            ))
-        } else if let Some((first, rest)) = self.left.first() {
-            steps.tick();
-            Some((
-                first,
-                DigitView {
-                    before: 0,
-                    left: rest,
-                    right: self.right.same(),
-                    after: self.after,
-                },
-            ))
-        } else if let Some((first, rest)) = self.right.first() {
-            steps.tick();
-            Some((
-                first,
-                DigitView {
-                    before: 0,
-                    left: Piece::none(),
-                    right: rest,
-                    after: self.after,
-                },
-            ))
-        } else if self.after > 0 {
-            steps.tick();
-            Some((
-                0,
-                DigitView {
-                    before: 0,
-                    left: Piece::none(),
-                    right: Piece::none(),
-                    after: self.after - 1,
-                },
-            ))
-        } else {
-            None
+        if self.is_empty() {
+            return None;
         }
+        steps.tick();
+        self.first()
+    }
+
+    /// The first digit, 0 to 15, and the others.
+    #[tactic(auto, using(crate::proofs::ViewLemmas::take_before, crate::proofs::ViewLemmas::take_left, crate::proofs::ViewLemmas::take_right, crate::proofs::ViewLemmas::take_after, crate::proofs::ViewLemmas::between_none))]
+    fn first(&self) -> Option<(u8, DigitView<'a>)>
+        ensures { MatchOption result (self.now ≡ []) (λ r. (self.now ≡ r.0 ∷ r.1) × (r.0 < 16)) }
+    {
+        let after = self.after;
+        if self.before > 0 {
+            let (left, right) = (self.left.same(), self.right.same());
+            return Some((0, DigitView::between(self.before - 1, left, right, after)));
+        }
+        if let Some((digit, left)) = self.left.first() {
+            let right = self.right.same();
+            return Some((digit, DigitView::between(0, left, right, after)));
+        }
+        if let Some((digit, right)) = self.right.first() {
+            return Some((digit, DigitView::between(0, Piece::none(), right, after)));
+        }
+        if after > 0 {
+            return Some((
+                0,
+                DigitView::between(0, Piece::none(), Piece::none(), after - 1),
+            ));
+        }
+        None
     }
 
     /// The number that the first `count` digits spell in the base, or all where there are fewer, and the digits
