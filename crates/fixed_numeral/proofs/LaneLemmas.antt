@@ -10,7 +10,7 @@ use Rattle.std.specs.Simd.Lanes.{number_l}
 use Rattle.std.specs.Int.Digits.{AllBelowBase, number_from_digits, number_from_digits_after}
 use Rattle.std.specs.Char.{digit_value}
 use Rattle.fixed_numeral.specs.Digits.{digits_in, zeros}
-use Rattle.fixed_numeral.proofs.ByteLemmas.{value_is, letter_is}
+use Rattle.fixed_numeral.proofs.ByteLemmas.{letter_is}
 use Rattle.fixed_numeral.proofs.PlaceLemmas.{below_append, below_zeros, below_split}
 use Rattle.fixed_numeral.proofs.DigitLemmas.{digits_in_none, digit_before, digits_le, other_before}
 

@@ -1,4 +1,4 @@
-use Rattle.std.proofs.Common.{◌≡◌, ◌+◌, ◌-◌, ◌*◌, ◌%◌, ◌^◌, ◌<◌, ◌++◌, length, take, ap, sym, ◌∙◌, arith, refl}
+use Rattle.std.proofs.Common.{◌≡◌, ◌-◌, ◌*◌, ◌%◌, ◌^◌, ◌<◌, ◌++◌, length, take, ap, sym, ◌∙◌, arith, refl}
 use Rattle.std.proofs.lemmas.List.{length-take, take-take}
 use Rattle.std.specs.Int.Digits.{number_from_digits}
 use Rattle.std.specs.Simd.Lanes.{number_l}

@@ -1,5 +1,4 @@
-use Rattle.std.proofs.Common.{arith}
-use Rattle.fixed_numeral.proofs.LaneLemmas.{small_base, eight_is}
+use Rattle.fixed_numeral.proofs.LaneLemmas.{eight_is}
 use Rattle.fixed_numeral.proofs.eight.joined.Goals as goal
 
 pub returns : goal.returns

@@ -1,4 +1,4 @@
-use Rattle.std.proofs.Common.{◌≡◌, ◌∙◌, ap, arith}
+use Rattle.std.proofs.Common.{◌∙◌, ap, arith}
 use Rattle.std.specs.Int.Digits.{number_from_digits}
 use Rattle.fixed_numeral.proofs.DigitLemmas.{plain_front, front_is}
 use Rattle.fixed_numeral.proofs.PlaceLemmas.{below_split}
