@@ -109,35 +109,27 @@ impl<'a> DigitView<'a> {
     }
 
     /// The first digit, 0 to 15, and the others, for one step. None, for no step, where there is no digit.
-    #[inline]
+    #[tactic(auto, using(crate::proofs::ViewLemmas::take_before, crate::proofs::ViewLemmas::take_left, crate::proofs::ViewLemmas::take_right, crate::proofs::ViewLemmas::take_after, crate::proofs::ViewLemmas::between_none))]
     pub fn take<L: Ledger>(&self, steps: &mut Steps<L>) -> Option<(u8, DigitView<'a>)>
         ensures { MatchOption result ((self.now ≡ []) × (steps.new ≡ steps.old)) (λ r. (self.now ≡ r.0 ∷ r.1) × (r.0 < 16) × (steps.new ≡ steps.old + 1)) }
     {
-        if self.is_empty() {
-            return None;
-        }
-        steps.tick();
-        self.first()
-    }
-
-    /// The first digit, 0 to 15, and the others.
-    #[tactic(auto, using(crate::proofs::ViewLemmas::take_before, crate::proofs::ViewLemmas::take_left, crate::proofs::ViewLemmas::take_right, crate::proofs::ViewLemmas::take_after, crate::proofs::ViewLemmas::between_none))]
-    fn first(&self) -> Option<(u8, DigitView<'a>)>
-        ensures { MatchOption result (self.now ≡ []) (λ r. (self.now ≡ r.0 ∷ r.1) × (r.0 < 16)) }
-    {
         let after = self.after;
         if self.before > 0 {
+            steps.tick();
             let (left, right) = (self.left.same(), self.right.same());
             return Some((0, DigitView::between(self.before - 1, left, right, after)));
         }
         if let Some((digit, left)) = self.left.first() {
+            steps.tick();
             let right = self.right.same();
             return Some((digit, DigitView::between(0, left, right, after)));
         }
         if let Some((digit, right)) = self.right.first() {
+            steps.tick();
             return Some((digit, DigitView::between(0, Piece::none(), right, after)));
         }
         if after > 0 {
+            steps.tick();
             return Some((
                 0,
                 DigitView::between(0, Piece::none(), Piece::none(), after - 1),
