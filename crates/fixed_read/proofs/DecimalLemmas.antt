@@ -10,7 +10,7 @@ use Rattle.fixed_numeral.specs.Place.{NoTrailingZero}
 use Rattle.fixed_read.specs.Blocks.{IsLed, IsCandidate, part, whole}
 use Rattle.fixed_read.specs.Steps.{IsPart, IsSettled, IsTail}
 use Rattle.fixed_read.specs.declared.tail.Tail.{Tail}
-use Rattle.fixed_read.specs.declared.tail.Tail.TheVariants.{Nothing, Below, Above}
+use Rattle.fixed_read.specs.declared.tail.Tail.TheVariants.{Below, Above}
 use Rattle.fixed_read.proofs.DigitLemmas.{cancel_lt, some_number}
 
 ten_pos : (n : ℕ) → 0 < 10 ^ n
@@ -22,9 +22,6 @@ two_up n m l = pow-le-pow_right {n = 2} (omega arith) l
 
 ten_up : (n m : ℕ) → n ≤ m → 10 ^ n ≤ 10 ^ m
 ten_up n m l = pow-le-pow_right {n = 10} (omega arith) l
-
-five_up : (n m : ℕ) → n ≤ m → 5 ^ n ≤ 5 ^ m
-five_up n m l = pow-le-pow_right {n = 5} (omega arith) l
 
 -- 10^n = 5^n · 2^n
 ten_is : (n : ℕ) → 10 ^ n ≡ 5 ^ n * 2 ^ n
@@ -322,12 +319,6 @@ module _ (ds rest : List ℕ) (block count frac q left unit bits : ℕ) (below :
       }
 
 -- ---- what is left behind the candidate, by its comparisons
-pub start_nothing : (ds : List ℕ) (rest bits : ℕ) → rest ≡ 0 → ds ≡ [] → part rest bits ds ≡ 0
-start_nothing ds rest bits z e = rw (z, e) (omega arith)
-
-pub settled_next : (q s den : ℕ) → s ≡ den → IsSettled (q * den + s) den (q + 1) Nothing
-settled_next q s den e = record { rest = 0; split = rw e (omega arith); left = refl }
-
 -- the step behind the candidate's fits a word
 pub next_room : (q s den n : ℕ) → q * den + s < n * den → den ≤ s → q + 1 < n
 next_room q s den n h l = cancel_lt den (q + 1) n (omega (arith, h, l))

@@ -1,5 +1,4 @@
 use Rattle.std.proofs.Common.{◌≡◌, ◌-◌, ◌*◌, ◌/◌, ◌+◌, ◌^◌, arith}
-use Rattle.fixed_read.specs.Blocks.{IsCandidate}
 use Rattle.fixed_read.proofs.DecimalLemmas.{candidate_fine, candidate_steps, fine_room, two_up}
 use Rattle.fixed_read.proofs.decimal.candidate_fine.Goals as goal
 

@@ -1,4 +1,3 @@
-use Rattle.std.proofs.Common.{arith}
 use Rattle.fixed_read.proofs.DecimalLemmas.{under_half, over_half}
 use Rattle.fixed_read.proofs.decimal.decided.Goals as goal
 

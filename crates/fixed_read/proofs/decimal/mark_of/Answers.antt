@@ -1,4 +1,4 @@
-use Rattle.std.proofs.Common.{◌≡◌, ◌-◌, ◌*◌, ◌^◌, ◌≤◌, ◌∙◌, arith}
+use Rattle.std.proofs.Common.{◌≡◌, ◌*◌, ◌^◌, ◌≤◌, ◌∙◌, arith}
 use Rattle.fixed_read.proofs.DecimalLemmas.{mark_is, mark_room}
 use Rattle.fixed_read.proofs.decimal.mark_of.Goals as goal
 

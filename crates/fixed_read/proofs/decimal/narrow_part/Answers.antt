@@ -1,4 +1,4 @@
-use Rattle.std.proofs.Common.{drop, arith, ◌^◌, ◌*◌}
+use Rattle.std.proofs.Common.{drop, arith}
 use Rattle.fixed_read.proofs.DecimalLemmas.{candidate_room, candidate_word, part_settled}
 use Rattle.fixed_read.proofs.decimal.narrow_part.Goals as goal
 

@@ -1,5 +1,4 @@
-use Rattle.std.proofs.Common.{◌≡◌, drop, refl, arith}
-use Rattle.std.proofs.lemmas.List.{drop_all}
+use Rattle.std.proofs.Common.{drop, refl, arith}
 use Rattle.fixed_read.proofs.DigitLemmas.{led, led_nothing, led_room}
 use Rattle.fixed_read.proofs.digits.padded.Goals as goal
 
