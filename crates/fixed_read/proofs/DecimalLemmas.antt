@@ -11,7 +11,7 @@ use Rattle.fixed_read.specs.Blocks.{IsLed, IsCandidate, part, whole}
 use Rattle.fixed_read.specs.Steps.{IsPart, IsSettled, IsTail}
 use Rattle.fixed_read.specs.declared.tail.Tail.{Tail}
 use Rattle.fixed_read.specs.declared.tail.Tail.TheVariants.{Below, Above}
-use Rattle.fixed_read.proofs.DigitLemmas.{cancel_lt, some_number}
+use Rattle.fixed_read.proofs.DigitLemmas.{cancel_lt, some_number, some_digits, none_number}
 
 ten_pos : (n : ℕ) → 0 < 10 ^ n
 ten_pos n = one-le-pow n 10 (omega arith)
@@ -184,8 +184,8 @@ module _ (block t w n l two five start : ℕ) (led : (block * t + w) * l ≡ n *
       plain : (x y : ℕ) → x < y → x * l < y * l
       plain x y k = omega (arith, mul-le-mul_right l k, some_l)
 
-pub block_order : (r : Ordering) (ds rest : List ℕ) (block start mark bits : ℕ) (last : Bool) → AllBelowBase 10 ds → IsLed 10 ds rest block bits → mark ≡ start * 5 ^ bits → (IsTrue last ↔ (rest ≡ [])) → MatchOrdering r (block < mark) ((block ≡ mark) × IsTrue last) ((mark < block) ⊎ ((block ≡ mark) × (last ≡ false))) → MatchOrdering r (number_from_digits 10 ds * 2 ^ bits < start * 10 ^ length ds) (number_from_digits 10 ds * 2 ^ bits ≡ start * 10 ^ length ds) (start * 10 ^ length ds < number_from_digits 10 ds * 2 ^ bits)
-block_order r ds rest block start mark bits last below led em el m =
+pub block_order : (r : Ordering) (ds rest : List ℕ) (block start mark bits : ℕ) (longer : Bool) → AllBelowBase 10 ds → IsLed 10 ds rest block bits → mark ≡ start * 5 ^ bits → (IsTrue longer ↔ (0 < length rest)) → MatchOrdering r (block < mark) ((block ≡ mark) × (longer ≡ false)) ((mark < block) ⊎ ((block ≡ mark) × IsTrue longer)) → MatchOrdering r (number_from_digits 10 ds * 2 ^ bits < start * 10 ^ length ds) (number_from_digits 10 ds * 2 ^ bits ≡ start * 10 ^ length ds) (start * 10 ^ length ds < number_from_digits 10 ds * 2 ^ bits)
+block_order r ds rest block start mark bits longer below led em el m =
     let power : 10 ^ (bits + length rest) ≡ 5 ^ bits * 2 ^ bits * 10 ^ length rest = pow-add 10 bits (length rest) ∙ ap (λ x. x * 10 ^ length rest) (ten_is bits) in
     let led_at = led.same ∙ ap (λ x. number_from_digits 10 ds * x) power in
     let t_some = ten_pos (length rest) in
@@ -194,17 +194,17 @@ block_order r ds rest block start mark bits last below led em el m =
     let w_small = number_lt 10 rest led.digits in
     order_map r _ _ _ _ _ _
     (λ h. block_less block (10 ^ length rest) (number_from_digits 10 rest) (number_from_digits 10 ds) (10 ^ length ds) (2 ^ bits) (5 ^ bits) start led_at five_some t_some l_some w_small (rw em at h))
-    (λ h. block_same block (10 ^ length rest) (number_from_digits 10 rest) (number_from_digits 10 ds) (10 ^ length ds) (2 ^ bits) (5 ^ bits) start led_at five_some t_some l_some w_small (h.0 ∙ em) (ap (number_from_digits 10) (el.0 h.1)))
+    (λ h. block_same block (10 ^ length rest) (number_from_digits 10 rest) (number_from_digits 10 ds) (10 ^ length ds) (2 ^ bits) (5 ^ bits) start led_at five_some t_some l_some w_small (h.0 ∙ em) (none_number longer rest el h.1))
     (λ h. block_more block (10 ^ length rest) (number_from_digits 10 rest) (number_from_digits 10 ds) (10 ^ length ds) (2 ^ bits) (5 ^ bits) start led_at five_some t_some l_some w_small (past h))
     m
   where
     further : (x : ℕ) → x < block → x * 10 ^ length rest < block * 10 ^ length rest + number_from_digits 10 rest
     further x k = omega (arith, mul-le-mul_right (10 ^ length rest) k, ten_pos (length rest))
 
-    past : (mark < block) ⊎ ((block ≡ mark) × (last ≡ false)) → start * 5 ^ bits * 10 ^ length rest < block * 10 ^ length rest + number_from_digits 10 rest
+    past : (mark < block) ⊎ ((block ≡ mark) × IsTrue longer) → start * 5 ^ bits * 10 ^ length rest < block * 10 ^ length rest + number_from_digits 10 rest
     past h = ⊎_elim
         (λ (k : mark < block). further (start * 5 ^ bits) (rw em at k))
-        (λ (k : (block ≡ mark) × (last ≡ false)). let same : block ≡ start * 5 ^ bits = k.0 ∙ em in let more = some_number 10 rest (omega arith) led.trailing (λ e. let t = el.1 e in absurd (cc)) in omega (arith, ap (λ x. x * 10 ^ length rest) same, more))
+        (λ (k : (block ≡ mark) × IsTrue longer). let same : block ≡ start * 5 ^ bits = k.0 ∙ em in let more = (some_digits 10 rest (omega arith) led.trailing).0 (el.0 k.1) in omega (arith, ap (λ x. x * 10 ^ length rest) same, more))
         h
 
 -- k = 2^halves, a = 2^bits, t = 10^length, w what the digits spell

@@ -1,5 +1,5 @@
 -- Digits one by one, and the first of them as a block.
-use Rattle.std.proofs.Common.{◌≡◌, ℕ, zero, suc, ◌+◌, ◌-◌, ◌*◌, ◌^◌, ◌<◌, ◌≤◌, ◌↔◌, List, [], ◌∷◌, length, take, drop, refl, sym, ap, ◌∙◌, arith, mul-le-mul_right, mul-le-mul_left, length-drop, take-append-drop, ⊎_elim}
+use Rattle.std.proofs.Common.{Bool, false, IsTrue, ◌≡◌, ℕ, zero, suc, ◌+◌, ◌-◌, ◌*◌, ◌^◌, ◌<◌, ◌≤◌, ◌↔◌, List, [], ◌∷◌, length, take, drop, refl, sym, ap, ◌∙◌, arith, mul-le-mul_right, mul-le-mul_left, length-drop, take-append-drop, ⊎_elim}
 use Rattle.std.proofs.Math.Nat.{one-le-pow, pow-zero, eq_of_mul-eq-mul_left}
 use Rattle.std.proofs.lemmas.Bool.{cases_lt}
 use Rattle.std.proofs.lemmas.Int.Digits.{number_lt}
@@ -35,6 +35,17 @@ some_digits b ds p n = (λ l. some_number b ds p n (λ e. absurd (omega (arith, 
     back : (xs : List ℕ) → 0 < number_from_digits b xs → 0 < length xs
     back [] l = absurd (omega arith)
     back (x ∷ xs) l = omega arith
+
+-- ---- whether digits are left behind the first
+pub longer_some : (ds : List ℕ) (count : ℕ) (longer : Bool) → (IsTrue longer ↔ (count < length ds)) → IsTrue longer ↔ (0 < length (drop count ds))
+longer_some ds count longer e = (λ t. let l = e.0 t in omega (arith, l, length-drop count ds), λ l. e.1 (omega (arith, l, length-drop count ds)))
+
+pub not_longer : (ds : List ℕ) (count : ℕ) (longer : Bool) → (IsTrue longer ↔ (count < length ds)) → longer ≡ false → length ds ≤ count
+not_longer ds count longer e n = ⊎_elim (λ (l : count < length ds). let t = e.1 l in absurd (cc)) (λ (l : length ds ≤ count). l) (cases_lt count (length ds))
+
+pub none_number : (longer : Bool) (rest : List ℕ) → (IsTrue longer ↔ (0 < length rest)) → longer ≡ false → number_from_digits 10 rest ≡ 0
+none_number longer [] e n = refl
+none_number longer (d ∷ ds) e n = let t = e.1 (omega arith) in absurd (cc)
 
 -- ---- the block
 led_enough : (b : ℕ) (ds : List ℕ) (number count : ℕ) → count ≤ length ds → number ≡ number_from_digits b (take count ds) → (number * 1 * b ^ length (drop count ds) + number_from_digits b (drop count ds)) * b ^ length ds ≡ number_from_digits b ds * b ^ (count + length (drop count ds))

@@ -1,11 +1,11 @@
 //! How many steps a fraction in radix 2, 8 or 16 is, and what is left of a step.
 
-ghost use Rattle.std.specs.Prelude.{◌≡◌, ◌+◌, ◌*◌, ◌/◌, ◌^◌, ◌<◌, ◌≤◌, ◌↔◌, IsTrue, length};
+ghost use Rattle.std.specs.Prelude.{◌≡◌, ◌+◌, ◌*◌, ◌/◌, ◌^◌, ◌<◌, ◌≤◌};
 ghost use Rattle.std.specs.Int.Digits.{AllBelowBase};
 ghost use Rattle.fixed_numeral.specs.Place.{NoTrailingZero};
 ghost use Rattle.fixed_read.specs.Steps.{IsPart};
 
-use crate::digits::leading_long;
+use crate::digits::{is_longer, leading_long};
 use crate::tail::{Tail, tail_of};
 use crate::words::{parted, power};
 use fixed_numeral::DigitView;
@@ -18,13 +18,6 @@ fn base_of(n: u32) -> u32
     ensures { result ≡ 2 ^ n }
 {
     1 << n
-}
-
-/// Whether there is a digit.
-fn is_some(view: &DigitView) -> bool
-    ensures { IsTrue result ↔ (0 < length view.now) }
-{
-    view.len() > 0
 }
 
 /// How many steps of 2^-behind are in 0.DIGITS, whose digits have so many bits, and what is left of a step.
@@ -45,7 +38,7 @@ pub fn bit_part<'a, L: Ledger>(
     let count = behind / bits + 1;
     let back = (count + 1) / 2;
     let spare = count * bits - behind;
-    let (block, rest) = leading_long(
+    let block = leading_long(
         view,
         base_of(bits),
         count - back,
@@ -54,5 +47,8 @@ pub fn bit_part<'a, L: Ledger>(
         steps,
     );
     let (whole, left) = parted(block, spare);
-    (whole, tail_of(left, power(spare - 1), is_some(&rest)))
+    (
+        whole,
+        tail_of(left, power(spare - 1), is_longer(view, count)),
+    )
 }

@@ -7,7 +7,7 @@ ghost use Rattle.fixed_numeral.specs.Place.{NoTrailingZero};
 ghost use Rattle.fixed_read.specs.Blocks.{IsCandidate, IsLed, part, whole};
 ghost use Rattle.fixed_read.specs.Steps.{IsPart, IsSettled, IsTail};
 
-use crate::digits::{leading, leading_long, padded, power_of_ten};
+use crate::digits::{is_longer, leading, leading_long, power_of_ten};
 use crate::tail::Tail;
 use crate::words::{narrow, power, scaled, scaled_narrow};
 use fixed_numeral::DigitView;
@@ -109,21 +109,16 @@ fn mark_of(start: u64, bits: u32) -> u128
     u128::from(start) * u128::from(five_to(front)) * u128::from(five_to(bits - front))
 }
 
-/// The number that the first digits spell, so many, with zeros behind them where there are fewer, and the other digits.
-fn front_of<'a, L: Ledger>(
-    view: &DigitView<'a>,
-    count: u32,
-    steps: &mut Steps<L>,
-) -> (u128, DigitView<'a>)
+/// The number that the first digits spell, so many, with zeros behind them where there are fewer.
+fn front_of<'a, L: Ledger>(view: &DigitView<'a>, count: u32, steps: &mut Steps<L>) -> u128
     requires digits { AllBelowBase 10 view.now }
     requires trailing { NoTrailingZero view.now }
     requires count { count ≤ 38 }
-    ensures led { IsLed 10 view.now result.1 result.0 count }
+    ensures led { IsLed 10 view.now (drop count view.now) result count }
     ensures cost { steps.new ≤ steps.old + count }
 {
     if count <= 19 {
-        let (block, rest) = leading(view, 10, count, steps);
-        (u128::from(block), rest)
+        u128::from(leading(view, 10, count, steps))
     } else {
         let back = count - 19;
         leading_long(view, 10, 19, back, power_of_ten(back), steps)
@@ -131,12 +126,12 @@ fn front_of<'a, L: Ledger>(
 }
 
 /// How a block stands to a mark, where other digits behind the block make it more.
-fn compared(block: u128, mark: u128, last: bool) -> Ordering
-    ensures { MatchOrdering result (block < mark) ((block ≡ mark) × IsTrue last) ((mark < block) ⊎ ((block ≡ mark) × (last ≡ false))) }
+fn compared(block: u128, mark: u128, longer: bool) -> Ordering
+    ensures { MatchOrdering result (block < mark) ((block ≡ mark) × (longer ≡ false)) ((mark < block) ⊎ ((block ≡ mark) × IsTrue longer)) }
 {
     if block < mark {
         Ordering::Less
-    } else if block == mark && last {
+    } else if block == mark && !longer {
         Ordering::Equal
     } else {
         Ordering::Greater
@@ -159,8 +154,8 @@ fn behind<'a, L: Ledger>(
     if start >= power(bits) {
         return Ordering::Less;
     }
-    let (block, rest) = front_of(view, bits, steps);
-    compared(block, mark_of(start, bits), rest.is_empty())
+    let block = front_of(view, bits, steps);
+    compared(block, mark_of(start, bits), is_longer(view, bits))
 }
 
 /// How the part of a step behind the candidate stands to 1 / 2^halves of a step.
@@ -319,7 +314,7 @@ pub fn narrow_part<'a, L: Ledger>(
     ensures part { IsPart 10 view.now frac result.0 result.1 }
     ensures cost { steps.new ≤ steps.old + 14 + 2 * (frac - 13) }
 {
-    let block = padded(view, 10, 13, steps);
+    let block = leading(view, 10, 13, steps);
     settled(view, 13, candidate_narrow(block, frac), steps)
 }
 
@@ -333,7 +328,7 @@ fn fine_part<'a, L: Ledger>(view: &DigitView<'a>, frac: u32, steps: &mut Steps<L
     ensures part { IsPart 10 view.now frac result.0 result.1 }
     ensures cost { steps.new ≤ steps.old + 13 }
 {
-    let block = padded(view, 10, 13, steps);
+    let block = leading(view, 10, 13, steps);
     let found = candidate_fine(block, frac);
     (found.steps, tail_of_share(found.rest, found.unit))
 }
@@ -347,7 +342,7 @@ fn wide_part<'a, L: Ledger>(view: &DigitView<'a>, frac: u32, steps: &mut Steps<L
     ensures part { IsPart 10 view.now frac result.0 result.1 }
     ensures cost { steps.new ≤ steps.old + 28 + 2 * (frac - 27) }
 {
-    let (block, _rest) = leading_long(view, 10, 19, 8, 100000000, steps);
+    let block = leading_long(view, 10, 19, 8, 100000000, steps);
     settled(view, 27, candidate_wide(block, frac), steps)
 }
 

@@ -100,29 +100,9 @@ fn missing(view: &DigitView, count: u32) -> u32
     }
 }
 
-/// The number that the first digits spell, so many, with zeros behind them where there are fewer, and the other digits.
-pub fn leading<'a, L: Ledger>(
-    view: &DigitView<'a>,
-    base: u32,
-    count: u32,
-    steps: &mut Steps<L>,
-) -> (u64, DigitView<'a>)
-    requires digits { AllBelowBase base view.now }
-    requires trailing { NoTrailingZero view.now }
-    requires base { 2 ≤ base }
-    requires small { base ≤ 16 }
-    requires room { base ^ count ≤ 2 ^ 64 }
-    ensures led { IsLed base view.now result.1 result.0 count }
-    ensures rest { result.1 ≡ drop count view.now }
-    ensures cost { steps.new ≤ steps.old + count }
-{
-    let (number, rest) = view.take_number(base, count, steps);
-    (with_zeros(number, base, missing(view, count)), rest)
-}
-
 /// The number that the first digits spell, so many, with zeros behind them where there are fewer.
 #[inline]
-pub fn padded<'a, L: Ledger>(
+pub fn leading<'a, L: Ledger>(
     view: &DigitView<'a>,
     base: u32,
     count: u32,
@@ -150,6 +130,13 @@ fn joined(high: u64, power: u64, low: u64) -> u128
     u128::from(high) * u128::from(power) + u128::from(low)
 }
 
+/// Whether there are more digits than so many.
+pub fn is_longer(view: &DigitView, count: u32) -> bool
+    ensures { IsTrue result ↔ (count < length view.now) }
+{
+    view.len() > u64::from(count)
+}
+
 /// The same for more digits than a word holds, so many in front and so many behind these.
 pub fn leading_long<'a, L: Ledger>(
     view: &DigitView<'a>,
@@ -158,7 +145,7 @@ pub fn leading_long<'a, L: Ledger>(
     back: u32,
     power: u64,
     steps: &mut Steps<L>,
-) -> (u128, DigitView<'a>)
+) -> u128
     requires digits { AllBelowBase base view.now }
     requires trailing { NoTrailingZero view.now }
     requires base { 2 ≤ base }
@@ -166,16 +153,17 @@ pub fn leading_long<'a, L: Ledger>(
     requires front { base ^ front ≤ 2 ^ 64 }
     requires back { base ^ back ≤ 2 ^ 64 }
     requires power { power ≡ base ^ back }
-    ensures led { IsLed base view.now result.1 result.0 (front + back) }
-    ensures rest { result.1 ≡ drop (front + back) view.now }
+    ensures led { IsLed base view.now (drop (front + back) view.now) result (front + back) }
     ensures cost { steps.new ≤ steps.old + front + back }
 {
-    let (high, middle) = leading(view, base, front, steps);
-    if middle.is_empty() {
-        return (joined(high, power, 0), middle);
+    let high = leading(view, base, front, steps);
+    if is_longer(view, front) {
+        let (_front, rest) = view.split_at(u64::from(front));
+        let low = leading(&rest, base, back, steps);
+        joined(high, power, low)
+    } else {
+        joined(high, power, 0)
     }
-    let (low, rest) = leading(&middle, base, back, steps);
-    (joined(high, power, low), rest)
 }
 
 /// The number that all digits spell, for at most so many.

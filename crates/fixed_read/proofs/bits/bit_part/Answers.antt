@@ -1,5 +1,6 @@
-use Rattle.std.proofs.Common.{◌≡◌, refl, ◌+◌, ◌-◌, ◌*◌, ◌/◌, ◌^◌, ◌∙◌, ap, sym, arith, mod-lt, pow_pos}
+use Rattle.std.proofs.Common.{drop, ◌≡◌, refl, ◌+◌, ◌-◌, ◌*◌, ◌/◌, ◌^◌, ◌∙◌, ap, sym, arith, mod-lt, pow_pos}
 use Rattle.fixed_numeral.proofs.SpelledLemmas.{pow-mul}
+use Rattle.fixed_read.proofs.DigitLemmas.{longer_some}
 use Rattle.fixed_read.proofs.PartLemmas.{part_at, base_least, base_most, word_room, spare_half}
 use Rattle.fixed_read.proofs.bits.bit_part.Goals as goal
 
@@ -33,7 +34,7 @@ pub tail_of-requires : goal.tail_of-requires
 tail_of-requires g c =
     let half : c.power-2.result ≡ 2 ^ ((c.args.behind / c.args.bits + 1) * c.args.bits - c.args.behind - 1) = c.power-2.ensures in
     let two = spare_half c.args.bits c.args.behind c.requires.some in
-    omega (arith, c.parted-whole.ensures.low, mod-lt c.leading_long-block.result.0 (pow_pos ((c.args.behind / c.args.bits + 1) * c.args.bits - c.args.behind)), half, two)
+    omega (arith, c.parted-whole.ensures.low, mod-lt c.leading_long-block.result (pow_pos ((c.args.behind / c.args.bits + 1) * c.args.bits - c.args.behind)), half, two)
 
 pub returns-clause-part : goal.returns-clause-part
 returns-clause-part g c =
@@ -41,4 +42,4 @@ returns-clause-part g c =
     let half : c.power-2.result ≡ 2 ^ ((c.args.behind / c.args.bits + 1) * c.args.bits - c.args.behind - 1) = c.power-2.ensures in
     let count : c.args.behind / c.args.bits + 1 - (c.args.behind / c.args.bits + 1 + 1) / 2 + (c.args.behind / c.args.bits + 1 + 1) / 2 ≡ c.args.behind / c.args.bits + 1 = omega arith in
     let block = rw count at c.leading_long-block.ensures.led in
-    rw (sym base) (part_at c.args.bits c.args.behind (c.args.behind / c.args.bits + 1) c.leading_long-block.result.0 c.parted-whole.result.0 c.parted-whole.result.1 c.power-2.result c.base_of.result c.args.view.now c.leading_long-block.result.1 c.is_some.result c.tail_of.result c.requires.some refl base half c.parted-whole.ensures.high c.parted-whole.ensures.low block c.is_some.ensures c.tail_of.ensures)
+    rw (sym base) (part_at c.args.bits c.args.behind (c.args.behind / c.args.bits + 1) c.leading_long-block.result c.parted-whole.result.0 c.parted-whole.result.1 c.power-2.result c.base_of.result c.args.view.now (drop (c.args.behind / c.args.bits + 1) c.args.view.now) c.is_longer.result c.tail_of.result c.requires.some refl base half c.parted-whole.ensures.high c.parted-whole.ensures.low block (longer_some c.args.view.now (c.args.behind / c.args.bits + 1) c.is_longer.result c.is_longer.ensures) c.tail_of.ensures)
