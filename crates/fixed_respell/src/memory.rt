@@ -4,7 +4,7 @@ ghost use Rattle.std.specs.Prelude.{◌≡◌, ◌≤◌, ◌<◌, Some, [], len
 
 use crate::{Failed, Sink, Source};
 
-/// A source over bytes in memory.
+/// A source over bytes in memory. It tells the bytes that are left and what its reads have asked for.
 #[derive(Drop)]
 pub struct MemorySource {
     bytes: Vec<u8>,
