@@ -1,5 +1,5 @@
 -- A byte that is a digit, and its value.
-use Rattle.std.proofs.Common.{◌≡◌, ℕ, ◌+◌, ◌*◌, ◌/◌, ◌%◌, ◌<◌, arith}
+use Rattle.std.proofs.Common.{◌≡◌, ℕ, ◌+◌, ◌*◌, ◌/◌, ◌%◌, ◌<◌, ◌≤◌, arith}
 use Rattle.std.specs.Char.{digit_value}
 
 pub value_is : (b : ℕ) → digit_value b < 16 → b < 256 → b % 16 + b / 64 * 9 ≡ digit_value b
@@ -14,3 +14,7 @@ value_zero b h = grind arith
 -- a letter is told by the place 64 of its byte
 pub letter_is : (b : ℕ) → digit_value b < 16 → (b < 128) × (b % 16 + b / 64 * 9 ≡ digit_value b)
 letter_is b h = let small : b < 128 = grind arith in (small, value_is b h (omega arith))
+
+-- the bytes from '0' on
+pub near_zero : (b n : ℕ) → n ≤ 10 → 48 ≤ b → b < 48 + n → digit_value b < n
+near_zero b n s k e = grind arith

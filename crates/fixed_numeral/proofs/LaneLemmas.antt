@@ -1,5 +1,5 @@
 -- Digits in the places of a word.
-use Rattle.std.proofs.Common.{◌≡◌, ℕ, zero, suc, ◌+◌, ◌-◌, ◌*◌, ◌/◌, ◌%◌, ◌^◌, ◌<◌, ◌≤◌, List, [], ◌∷◌, ◌++◌, length, take, drop, get_or, replicate, refl, sym, ap, subst, ◌∙◌, ⊎_elim, arith, mul-le-mul_right, length-append, length-take}
+use Rattle.std.proofs.Common.{◌≡◌, ℕ, zero, suc, ◌+◌, ◌-◌, ◌*◌, ◌/◌, ◌%◌, ◌^◌, ◌<◌, ◌≤◌, List, [], ◌∷◌, ◌++◌, length, take, drop, get_or, replicate, refl, sym, ap, subst, ◌∙◌, ⊎_elim, arith, mul-le-mul_right, length-append, length-take, length-drop}
 use Rattle.std.specs.Int.Bits.{bit_and}
 use Rattle.std.proofs.Math.Nat.{zero-div, mod-eq_of_lt}
 use Rattle.std.proofs.lemmas.Bool.{cases_lt}
@@ -9,8 +9,9 @@ use Rattle.std.proofs.Math.Arith.{digits_div, digits_mod}
 use Rattle.std.specs.Simd.Lanes.{number_l}
 use Rattle.std.specs.Int.Digits.{AllBelowBase, number_from_digits, number_from_digits_after}
 use Rattle.std.specs.Char.{digit_value}
+use Rattle.std.specs.Str.Parse.{AllDigits}
 use Rattle.fixed_numeral.specs.Digits.{digits_in, zeros}
-use Rattle.fixed_numeral.proofs.ByteLemmas.{letter_is}
+use Rattle.fixed_numeral.proofs.ByteLemmas.{letter_is, near_zero}
 use Rattle.fixed_numeral.proofs.PlaceLemmas.{below_append, below_zeros, below_split}
 use Rattle.fixed_numeral.proofs.DigitLemmas.{digits_in_none, digit_before, digits_le, other_before}
 
@@ -170,6 +171,55 @@ values_are (b ∷ bs) plain =
     first_plain : (b : ℕ) (bs : List ℕ) → length (digits_in (b ∷ bs)) ≡ length (b ∷ bs) → digit_value b < 16
     first_plain b bs plain = ⊎_elim (λ s. s) (λ (big : 16 ≤ digit_value b). absurd (omega (arith, plain, ap length (other_before b bs big), digits_le bs))) (cases_lt (digit_value b) 16)
 
+-- ---- bytes that are decimal digits
+upper_half : (b : ℕ) → bit_and b 240 ≡ b / 16 % 16 * 16
+upper_half b =
+    let split : b ≡ b / 16 * 2 ^ 4 + b % 16 = omega arith in
+    let block : bit_and (b / 16 * 2 ^ 4 + b % 16) (15 * 2 ^ 4 + 0) ≡ bit_and (b / 16) 15 * 2 ^ 4 + bit_and (b % 16) 0 = and_block 4 (b / 16) 15 (b % 16) 0 (omega arith) (omega arith) in
+    let halves : bit_and b (15 * 2 ^ 4 + 0) ≡ bit_and (b / 16) 15 * 2 ^ 4 + bit_and (b % 16) 0 = ap (λ x. bit_and x (15 * 2 ^ 4 + 0)) split ∙ block in
+    let kept : bit_and (b / 16) 15 ≡ b / 16 % 16 = and_mask (b / 16) 4 in
+    omega (arith, halves, kept, and_le_r (b % 16) 0)
+
+-- the lowest byte under a mask, and those above it
+lowest : (n mask b : ℕ) → b < 256 → bit_and (n * 256 + b) (240 + 256 * mask) ≡ bit_and n mask * 256 + b / 16 * 16
+lowest n mask b s =
+    let order : 240 + 256 * mask ≡ mask * 2 ^ 8 + 240 = omega arith in
+    let block : bit_and (n * 2 ^ 8 + b) (mask * 2 ^ 8 + 240) ≡ bit_and n mask * 2 ^ 8 + bit_and b 240 = and_block 8 n mask b 240 (omega (arith, s)) (omega arith) in
+    rw order (omega (arith, block, upper_half b, s))
+
+pub decimal_lanes : (bs : List ℕ) → AllBelowBase 256 bs → bit_and (number_l 256 bs) (number_l 256 (replicate (length bs) 240)) ≡ number_l 256 (replicate (length bs) 48) → bit_and (number_l 256 bs + number_l 256 (replicate (length bs) 6)) (number_l 256 (replicate (length bs) 240)) ≡ number_l 256 (replicate (length bs) 48) → AllDigits 10 bs
+decimal_lanes [] h p q = tt
+decimal_lanes (b ∷ bs) h p q =
+    let n : ℕ = number_l 256 bs in
+    let mask : ℕ = number_l 256 (replicate (length bs) 240) in
+    let wanted : ℕ = number_l 256 (replicate (length bs) 48) in
+    let more : ℕ = number_l 256 (replicate (length bs) 6) in
+    let first : bit_and (n * 256 + b) (240 + 256 * mask) ≡ bit_and n mask * 256 + b / 16 * 16 = lowest n mask b h.0 in
+    let order : b + 256 * n ≡ n * 256 + b = omega arith in
+    let plain : bit_and n mask * 256 + b / 16 * 16 ≡ 48 + 256 * wanted = sym first ∙ ap (λ x. bit_and x (240 + 256 * mask)) (sym order) ∙ p in
+    let half : b / 16 ≡ 3 = omega (arith, plain, h.0) in
+    let rest : bit_and n mask ≡ wanted = omega (arith, plain, half) in
+    let second : bit_and ((n + more) * 256 + (b + 6)) (240 + 256 * mask) ≡ bit_and (n + more) mask * 256 + (b + 6) / 16 * 16 = lowest (n + more) mask (b + 6) (omega (arith, half)) in
+    let sum : b + 256 * n + (6 + 256 * more) ≡ (n + more) * 256 + (b + 6) = omega arith in
+    let raised : bit_and (n + more) mask * 256 + (b + 6) / 16 * 16 ≡ 48 + 256 * wanted = sym second ∙ ap (λ x. bit_and x (240 + 256 * mask)) (sym sum) ∙ q in
+    let half_more : (b + 6) / 16 ≡ 3 = omega (arith, raised, half) in
+    let rest_more : bit_and (n + more) mask ≡ wanted = omega (arith, raised, half_more) in
+    (near_zero b 10 (omega arith) (omega (arith, half)) (omega (arith, half_more)), decimal_lanes bs h.1 rest rest_more)
+
+-- the sum of the second test fits, where the first holds
+pub sixes_fit : (word : ℕ) → word < 2 ^ 64 → bit_and word 0xf0f0_f0f0_f0f0_f0f0 ≡ 0x3030_3030_3030_3030 → word + 0x0606_0606_0606_0606 < 2 ^ 64
+sixes_fit word s h =
+    let high : ℕ = word / 2 ^ 60 in
+    let low : ℕ = word % 2 ^ 60 in
+    let split : word ≡ high * 2 ^ 60 + low = omega arith in
+    let block : bit_and (high * 2 ^ 60 + low) (15 * 2 ^ 60 + 0x00f0_f0f0_f0f0_f0f0) ≡ bit_and high 15 * 2 ^ 60 + bit_and low 0x00f0_f0f0_f0f0_f0f0 = and_block 60 high 15 low 0x00f0_f0f0_f0f0_f0f0 (omega arith) (omega arith) in
+    let whole : bit_and high 15 * 2 ^ 60 + bit_and low 0x00f0_f0f0_f0f0_f0f0 ≡ 0x3030_3030_3030_3030 = sym block ∙ ap (λ x. bit_and x 0xf0f0_f0f0_f0f0_f0f0) (sym split) ∙ h in
+    let kept : bit_and high 15 ≡ high % 16 = and_mask high 4 in
+    omega (arith, whole, kept, and_le_r low 0x00f0_f0f0_f0f0_f0f0, split, s)
+
+pub eight_decimal : (word : ℕ) (bs : List ℕ) → length bs ≡ 8 → AllBelowBase 256 bs → word ≡ number_l 256 bs → bit_and word 0xf0f0_f0f0_f0f0_f0f0 ≡ 0x3030_3030_3030_3030 → bit_and (word + 0x0606_0606_0606_0606) 0xf0f0_f0f0_f0f0_f0f0 ≡ 0x3030_3030_3030_3030 → AllDigits 10 bs
+eight_decimal word bs l h e p q = decimal_lanes bs h (rw l (rw e at p)) (rw l (rw e at q))
+
 -- ---- eight bytes of a slice
 take_one : (n i j : ℕ) (bs : List ℕ) → j ≡ i + 1 → i < length bs → take (suc n) (drop i bs) ≡ get_or bs i 0 ∷ take n (drop j bs)
 take_one n i j bs e l = ap (take (suc n)) (drop_more bs i 0 l) ∙ ap (λ k. get_or bs i 0 ∷ take n (drop k bs)) (sym e)
@@ -177,6 +227,12 @@ take_one n i j bs e l = ap (take (suc n)) (drop_more bs i 0 l) ∙ ap (λ k. get
 pub eight_bytes : (bs : List ℕ) (i : ℕ) → i + 8 ≤ length bs → take 8 (drop i bs) ≡ get_or bs i 0 ∷ get_or bs (i + 1) 0 ∷ get_or bs (i + 2) 0 ∷ get_or bs (i + 3) 0 ∷ get_or bs (i + 4) 0 ∷ get_or bs (i + 5) 0 ∷ get_or bs (i + 6) 0 ∷ get_or bs (i + 7) 0 ∷ []
 eight_bytes bs i l =
     rw (take_one 7 i (i + 1) bs refl (omega arith), take_one 6 (i + 1) (i + 2) bs (omega arith) (omega arith), take_one 5 (i + 2) (i + 3) bs (omega arith) (omega arith), take_one 4 (i + 3) (i + 4) bs (omega arith) (omega arith), take_one 3 (i + 4) (i + 5) bs (omega arith) (omega arith), take_one 2 (i + 5) (i + 6) bs (omega arith) (omega arith), take_one 1 (i + 6) (i + 7) bs (omega arith) (omega arith), take_one 0 (i + 7) (i + 8) bs (omega arith) (omega arith)) refl
+
+pub eight_below : (bs : List ℕ) (i : ℕ) → i + 8 ≤ length bs → ((k : ℕ) → get_or bs k 0 < 256) → AllBelowBase 256 (take 8 (drop i bs))
+eight_below bs i l t = rw (eight_bytes bs i l) (t i, (t (i + 1), (t (i + 2), (t (i + 3), (t (i + 4), (t (i + 5), (t (i + 6), (t (i + 7), tt))))))))
+
+pub eight_long : (bs : List ℕ) (i : ℕ) → i + 8 ≤ length bs → length (take 8 (drop i bs)) ≡ 8
+eight_long bs i l = omega (arith, length-take 8 (drop i bs), length-drop i bs)
 
 -- ---- eight digits behind others
 pub after_eight : (m n : ℕ) (ds : List ℕ) → length ds ≡ 8 → number_from_digits_after m n ds ≡ n * (m * m * (m * m) * (m * m * (m * m))) + number_from_digits m ds

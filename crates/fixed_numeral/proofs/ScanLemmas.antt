@@ -1,7 +1,7 @@
 -- What the scanner knows after one more byte.
 use Rattle.std.proofs.Common.{◌≡◌, ℕ, ◌+◌, ◌-◌, ◌*◌, ◌^◌, ◌<◌, ◌≤◌, ◌⊎◌, Bool, true, false, cond, not, ◌&&◌, nat_lt, ◌==◌, IsTrue, List, [], ◌∷◌, ◌++◌, length, Option, Some, None, IfSome, is_none, refl, sym, ap, ◌∙◌, ⊎_elim, arith, append_assoc, append-nil, length-append, option_to_list, ltb-true, lt-ltb, le-ltb}
 use Rattle.std.proofs.Common.{take, drop, get_or, slice_get, take-append-drop, get_or-drop, length-drop, length-take, ◌%◌}
-use Rattle.std.proofs.lemmas.List.{take_more, take-take, take_all, take_at, drop_at, length_push}
+use Rattle.std.proofs.lemmas.List.{drop-drop, take_more, take-take, take_all, take_at, drop_at, length_push}
 use Rattle.std.proofs.lemmas.Bool.{cases_lt}
 use Rattle.std.proofs.Math.Seq.{take-add}
 use Rattle.std.proofs.lemmas.Option.{slice_get-get_or}
@@ -17,6 +17,7 @@ use Rattle.fixed_numeral.specs.Numeral.{Parts, Exponent, HasParts, HasNumeral, I
 use Rattle.fixed_numeral.specs.Cause.{is_nil, kind_of, HasCause}
 use Rattle.fixed_numeral.specs.Digits.{digits_in}
 use Rattle.fixed_numeral.specs.Scanned.{IsScanned}
+use Rattle.fixed_numeral.proofs.ByteLemmas.{near_zero}
 use Rattle.fixed_numeral.proofs.MagnitudeLemmas.{whole_count, behind_count}
 use Rattle.fixed_numeral.specs.Scan.{Agrees, GoesOn, IsStuck, IsAfter, IsIncomplete, most_magnitude}
 use Rattle.fixed_numeral.proofs.NumeralLemmas.{is_digit, is_in_range, exponent, parts, step, step_from_longer, more_point, more_separator, more_sign, more_exponent, more_exponent_sign, at_byte, at_bytes, at_three, or_cases, beginning_prefix, parts_unique}
@@ -479,12 +480,17 @@ run_more b bs from at h l d =
     let same : get_or (drop from bs) (at - from) 0 ≡ get_or bs at 0 = get_or-drop from bs (at - from) 0 ∙ ap (λ i. get_or bs i 0) there in
     record { front = omega (arith, h.front); within = omega arith; digits = rw e (digits_more b (drop from bs) (at - from) (omega (arith, length-drop from bs, h.front)) h.digits (rw same d)) }
 
+-- so many more of them
+pub run_on : (b : ℕ) (bs : List ℕ) (from at n : ℕ) → IsRun b bs from at → at + n ≤ length bs → AllDigits b (take n (drop at bs)) → IsRun b bs from (at + n)
+run_on b bs from at n h l d =
+    let e : at + n - from ≡ at - from + n = omega (arith, h.front) in
+    let there : from + (at - from) ≡ at = omega (arith, h.front) in
+    let next : take n (drop (at - from) (drop from bs)) ≡ take n (drop at bs) = ap (take n) (drop-drop (at - from) from bs ∙ ap (λ i. drop i bs) there) in
+    record { front = omega (arith, h.front); within = l; digits = rw (e, take-add (at - from) n (drop from bs), next) (digits_append b (take (at - from) (drop from bs)) (take n (drop at bs)) h.digits d) }
+
 -- a byte that is so near behind '0'
 pub low_digit : (b n : ℕ) → b < 256 → n ≤ 10 → (b + (256 - 48)) % 256 < n → digit_value b < n
-low_digit b n h s l = ⊎_elim (λ (k : b < 48). absurd (omega arith)) (λ (k : 48 ≤ b). near b n s k (omega arith)) (cases_lt b 48)
-  where
-    near : (b n : ℕ) → n ≤ 10 → 48 ≤ b → b < 48 + n → digit_value b < n
-    near b n s k e = grind arith
+low_digit b n h s l = ⊎_elim (λ (k : b < 48). absurd (omega arith)) (λ (k : 48 ≤ b). near_zero b n s k (omega arith)) (cases_lt b 48)
 
 -- ---- what the loop keeps
 pub record IsRead (r : Radix) (bs : List ℕ) (at : ℕ) (st : State) (old new : ℕ) : Type 0 where

@@ -1,13 +1,14 @@
 //! Eight digits at once, each in a byte of a word.
 
-ghost use Rattle.std.specs.Prelude.{◌≡◌, ◌+◌, ◌<◌, ◌≤◌, ◌^◌, List, ℕ, length, take, drop};
+ghost use Rattle.std.specs.Prelude.{◌≡◌, ◌+◌, ◌<◌, ◌≤◌, ◌^◌, List, ℕ, length, take, drop, IsTrue};
 ghost use Rattle.std.specs.Int.Digits.{AllBelowBase, number_from_digits};
 ghost use Rattle.std.specs.Simd.Lanes.{number_l};
+ghost use Rattle.std.specs.Str.Parse.{AllDigits};
 ghost use Rattle.fixed_numeral.specs.Digits.{digits_in};
 
 /// Eight bytes from a place on, the first of them in the lowest byte.
 #[inline(always)]
-fn word_at(bytes: &[u8], at: usize) -> u64
+pub(crate) fn word_at(bytes: &[u8], at: usize) -> u64
     requires { at + 8 ≤ length bytes.now }
     ensures { result ≡ number_l 256 (take 8 (drop at bytes.now)) }
 {
@@ -21,6 +22,16 @@ fn word_at(bytes: &[u8], at: usize) -> u64
         bytes[at + 6],
         bytes[at + 7],
     ])
+}
+
+/// Whether each of the eight bytes of a word is a decimal digit. The upper half of each is 3 from '0' on to the
+/// sixth byte behind '9', and with 6 added it is still 3 for the digits alone.
+#[inline(always)]
+pub(crate) fn are_decimal(word: u64) -> bool
+    ensures { (bs : List ℕ) → length bs ≡ 8 → AllBelowBase 256 bs → word ≡ number_l 256 bs → IsTrue result → AllDigits 10 bs }
+{
+    (word & 0xf0f0_f0f0_f0f0_f0f0) == 0x3030_3030_3030_3030
+        && ((word + 0x0606_0606_0606_0606) & 0xf0f0_f0f0_f0f0_f0f0) == 0x3030_3030_3030_3030
 }
 
 /// The values of eight digits, each in the byte where the digit stands. A letter is told by the bit 64, and stands 9 places

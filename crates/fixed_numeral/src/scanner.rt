@@ -9,6 +9,7 @@ ghost use Rattle.fixed_numeral.specs.Numeral.{Parts, HasParts, HasNumeral, IsNum
 ghost use Rattle.fixed_numeral.specs.Scan.{Agrees, GoesOn, IsStuck, IsAfter, IsComplete, IsIncomplete, most_magnitude};
 ghost use Rattle.fixed_numeral.specs.Scanned.{IsScanned};
 
+use crate::eight::{are_decimal, word_at};
 use crate::error::{ParseErrorKind, ParseFixedError};
 use crate::piece::{Piece, is_digit};
 use crate::radix::Radix;
@@ -219,6 +220,21 @@ fn low_digits(bytes: &[u8], base: u8, from: usize) -> usize
     at - from
 }
 
+/// How many decimal digits stand from a place on, in front of some other byte. Eight bytes are looked at together while they are
+/// digits.
+fn decimal_digits(bytes: &[u8], from: usize) -> usize
+    requires place { from ≤ length bytes.now }
+    ensures within { from + result ≤ length bytes.now }
+    ensures digits { AllDigits 10 (take result (drop from bytes.now)) }
+{
+    let mut at = from;
+    while bytes.len() - at >= 8 && are_decimal(word_at(bytes, at)) {
+        at += 8;
+    }
+    at += low_digits(bytes, 10, at);
+    at - from
+}
+
 /// How many digits of radix 16 stand from a place on, in front of some other byte.
 fn hex_digits(bytes: &[u8], from: usize) -> usize
     requires place { from ≤ length bytes.now }
@@ -241,7 +257,7 @@ fn digits_at(bytes: &[u8], radix: Radix, from: usize) -> usize
     match radix {
         Radix::Bin => low_digits(bytes, 2, from),
         Radix::Oct => low_digits(bytes, 8, from),
-        Radix::Dec => low_digits(bytes, 10, from),
+        Radix::Dec => decimal_digits(bytes, from),
         Radix::Hex => hex_digits(bytes, from),
     }
 }
