@@ -260,6 +260,51 @@ fn each_kind_in_each_radix(rt: HostRuntime) {
     }
 }
 
+/// The kind of a run of ones with some other byte at a place, which stands in front of what is behind it.
+fn kind_of_bad(digits: usize, place: usize, bad: u8) -> Option<ParseErrorKind> {
+    let mut text = [b'1'; 24];
+    let end = digits.min(24);
+    if place < end {
+        text[place] = bad;
+    }
+    refused_bytes(Radix::Dec, &text[..end])
+}
+
+#[test]
+fn other_byte_among_digits(rt: HostRuntime) {
+    for digits in [7, 8, 9, 15, 16, 17, 23] {
+        assert_eq!(rt; kind_of_bad(digits, digits, b'/'), None);
+        for place in 0..digits {
+            for bad in [
+                b'/', b':', b'?', b'_', b' ', b'p', 0, 0x7f, 0x80, 0xb0, 0xb9, 0xff,
+            ] {
+                let found = kind_of_bad(digits, place, bad);
+                assert_eq!(rt; found, Some(ParseErrorKind::InvalidDigit));
+            }
+        }
+    }
+}
+
+#[test]
+fn long_runs_of_digits(rt: HostRuntime) {
+    for (text, whole, fraction) in [
+        ("1234567", 7, 0),
+        ("12345678", 8, 0),
+        ("123456789", 9, 0),
+        ("9876543210987654", 16, 0),
+        ("98765432109876543", 17, 0),
+        ("12345678.12345678", 8, 8),
+        ("-1234567.1234567e1", 8, 6),
+        ("123456789012345678901.5", 21, 1),
+    ] {
+        assert_eq!(rt;
+            lengths(text.as_bytes()),
+            Some((whole, fraction)),
+            "at {text}"
+        );
+    }
+}
+
 #[test]
 fn refused_by_radix(rt: HostRuntime) {
     for (radix, text, kind) in [
