@@ -69,7 +69,7 @@ pub has_letter : (word : List ℕ) (f : Shape) → IsFormatWord word f → count
 has_letter word f is none = cut_has_one fraction_letter (drop 1 word) (decimal (f.width - f.frac)) (decimal f.frac) (behind (sign_letter f.signed) word (decimal (f.width - f.frac) ++ fraction_letter ∷ decimal f.frac) is.text) none
 
 -- counts that add up to a width, and only those
-pub counts_fit : (f : Shape) (whole fraction : List ℕ) (w r : ℕ) → whole ≡ decimal w → fraction ≡ decimal r → w ≤ 64 → r ≤ 64 → HasCounts f whole fraction → (f.width ≡ w + r) × (f.frac ≡ r)
+pub counts_fit : (f : Shape) (whole fraction : List ℕ) (w r : ℕ) → whole ≡ decimal w → fraction ≡ decimal r → w < 100 → r < 100 → HasCounts f whole fraction → (f.width ≡ w + r) × (f.frac ≡ r)
 counts_fit f whole fraction w r whole_is fraction_is w_most r_most counts =
     let most = width_most f.width counts.format.is_width in
     let within = counts.format.within in
@@ -83,7 +83,7 @@ has_counts f whole fraction w r whole_is fraction_is is width frac =
     record { format = is; whole_bits = whole_is ∙ ap decimal count; fraction_bits = fraction_is ∙ ap decimal (sym frac) }
 
 -- what is known of a format with these counts, where there is one
-pub counted : (result : Option Shape) (signed : Bool) (whole fraction : List ℕ) (w r : ℕ) → whole ≡ decimal w → fraction ≡ decimal r → w ≤ 64 → r ≤ 64
+pub counted : (result : Option Shape) (signed : Bool) (whole fraction : List ℕ) (w r : ℕ) → whole ≡ decimal w → fraction ≡ decimal r → w < 100 → r < 100
     → (IsSome result ↔ IsFormat (w + r) r) → IfSome result (λ f. (f.signed ≡ signed) × (f.width ≡ w + r) × (f.frac ≡ r))
     → MatchOption result ((f : Shape) → f.signed ≡ signed → HasCounts f whole fraction → ⊥) (λ f. (f.signed ≡ signed) × HasCounts f whole fraction)
 counted None signed whole fraction w r whole_is fraction_is w_most r_most exists parts = λ f same counts.

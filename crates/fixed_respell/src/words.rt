@@ -1,13 +1,13 @@
 //! The words of a line: radix, format, policy and mode.
 
-ghost use Rattle.std.specs.Prelude.{◌≡◌, ◌≤◌, ◌+◌, ◌++◌, length, Bool, MatchOption, decimal};
+ghost use Rattle.std.specs.Prelude.{◌≡◌, ◌≤◌, ◌<◌, ◌+◌, ◌/◌, ◌%◌, ◌++◌, ℕ, length, Bool, IsNone, IfSome, MatchOption, decimal};
 ghost use Rattle.fixed_bits.specs.Formats.{Shape};
 ghost use Rattle.fixed_bits.specs.declared.format.Policy.{Policy};
 ghost use Rattle.fixed_bits.specs.declared.mode.ReadMode.{ReadMode};
 ghost use Rattle.fixed_numeral.specs.declared.radix.Radix.{Radix};
 ghost use Rattle.fixed_respell.specs.Words.{HasCounts, IsFormatWord, IsPolicyWord, mode_text, policy_text, radix_text, sign_letter};
 
-use crate::cutting::{cut, number_word};
+use crate::cutting::cut;
 use arrayvec::ArrayVec;
 use fixed_bits::{Format, Policy, ReadMode};
 use fixed_numeral::Radix;
@@ -68,20 +68,36 @@ pub fn policy_word(word: &[u8]) -> Option<(Policy, ReadMode)>
     }
 }
 
-/// The greatest count of bits in a format word.
-const MOST_BITS: u64 = 64;
+/// The number of two decimal digits. None where one of them is no digit.
+fn two_digits(tens: u8, ones: u8) -> Option<u32>
+    ensures none { IsNone result → 48 ≤ tens → tens ≤ 57 → 48 ≤ ones → ones ≤ 57 → ⊥ }
+    ensures some { IfSome result (λ n. (n < 100) × (tens ≡ 48 + n / 10) × (ones ≡ 48 + n % 10)) }
+{
+    if tens.is_ascii_digit() && ones.is_ascii_digit() {
+        Some(u32::from(tens - b'0') * 10 + u32::from(ones - b'0'))
+    } else {
+        None
+    }
+}
+
+/// The number below 100 that the word is in decimal, without a spare zero.
+fn short_number(word: &[u8]) -> Option<u32>
+    ensures number { MatchOption result ((n : ℕ) → n < 100 → ¬ (word.now ≡ decimal n)) (λ n. word.now ≡ decimal n) }
+    ensures short { IfSome result (λ n. n < 100) }
+{
+    match word {
+        [ones] => two_digits(b'0', *ones),
+        [tens, ones] if *tens != b'0' => two_digits(*tens, *ones),
+        _ => None,
+    }
+}
 
 /// The format of counts of whole and of fraction bits. None where they add up to no width.
 fn counted_format(signed: bool, whole: &[u8], fraction: &[u8]) -> Option<Format>
     ensures { MatchOption result ((f : Shape) → f.signed ≡ signed → HasCounts f whole.now fraction.now → ⊥) (λ f. (f.signed ≡ signed) × HasCounts f whole.now fraction.now) }
 {
-    match (
-        number_word(whole, MOST_BITS),
-        number_word(fraction, MOST_BITS),
-    ) {
-        (Some(whole), Some(fraction)) => {
-            Format::new(signed, (whole + fraction) as u32, fraction as u32)
-        }
+    match (short_number(whole), short_number(fraction)) {
+        (Some(whole), Some(fraction)) => Format::new(signed, whole + fraction, fraction),
         _ => None,
     }
 }
