@@ -1,15 +1,12 @@
 //! What a rule answers to a line.
 
-ghost use Rattle.std.specs.Prelude.{◌≡◌, ◌≤◌, length};
+ghost use Rattle.std.specs.Prelude.{◌≡◌, ◌≤◌, ◌+◌, ◌++◌, [], length, false};
 
 use arrayvec::ArrayVec;
 use std::marker::Model;
 
 /// How many bytes an answer has at most.
 const LONGEST: usize = 192;
-
-/// The bytes of an answer, while it is put together.
-pub(crate) type AnswerBytes = ArrayVec<u8, LONGEST>;
 
 /// The answer to a line: at most 192 bytes, and whether they name a fault.
 #[derive(Drop)]
@@ -41,12 +38,35 @@ impl Answer {
         }
     }
 
-    /// The answer of bytes that were put together where they stay.
-    pub(crate) fn holding(bytes: AnswerBytes, is_fault: bool) -> Answer
-        ensures text { result.text ≡ bytes.items }
-        ensures fault { result.fault ≡ is_fault }
+    /// An answer without a byte so far, which names no fault. It is put together where it stays.
+    #[inline]
+    pub(crate) fn empty() -> Answer
+        ensures text { result.text ≡ [] }
+        ensures fault { result.fault ≡ false }
     {
-        Answer { bytes, is_fault }
+        Answer {
+            bytes: ArrayVec::new(),
+            is_fault: false,
+        }
+    }
+
+    /// Appends bytes, for which there is room.
+    #[inline]
+    pub(crate) fn push(&mut self, bytes: &[u8])
+        requires { length self.old.text + length bytes.now ≤ LONGEST }
+        ensures text { self.new.text ≡ self.old.text ++ bytes.now }
+        ensures fault { self.new.fault ≡ self.old.fault }
+    {
+        self.bytes.try_extend_from_slice(bytes).unwrap();
+    }
+
+    /// Says whether the bytes name a fault.
+    #[inline]
+    pub(crate) fn set_fault(&mut self, is_fault: bool)
+        ensures text { self.new.text ≡ self.old.text }
+        ensures fault { self.new.fault ≡ is_fault }
+    {
+        self.is_fault = is_fault;
     }
 
     /// The bytes, without a newline: at most 192.

@@ -1,18 +1,16 @@
 //! The answer to a line.
 
-ghost use Rattle.std.specs.Prelude.{◌≡◌, ◌≤◌, ◌<◌, ◌+◌, ◌*◌, ◌++◌, ◌∷◌, length, MatchOption, MatchResult, IfOk, codes};
+ghost use Rattle.std.specs.Prelude.{◌≡◌, ◌≤◌, ◌<◌, ◌+◌, ◌*◌, ◌++◌, [], ◌∷◌, length, false, MatchOption, MatchResult, IfOk, codes};
 ghost use Rattle.std.specs.Fmt.{signed_decimal};
 ghost use Rattle.fixed_respell.specs.Answer.{Asks, HasWords, IsAnswer, IsFirstFault, fault_reply, line_words, longest_line, respelled_reply, space, task_of, verdict};
 ghost use Rattle.fixed_respell.specs.Cutting.{count_of};
 ghost use Rattle.fixed_respell.specs.Reached.{number_of};
 
 use crate::Answer;
-use crate::answers::AnswerBytes;
 use crate::cutting::cut;
 use crate::fault::LineFault;
 use crate::respelling::{Bits, Respelled, respell_mode};
 use crate::words::{format_word, policy_word, radix_word};
-use arrayvec::ArrayVec;
 use fixed_bits::{Format, Policy, ReadMode};
 use fixed_numeral::Radix;
 use fixed_steps::Steps;
@@ -21,9 +19,6 @@ use std::sync::ledger::Ledger;
 
 /// How many bytes a line has at most.
 const LONGEST: usize = 1_048_576;
-
-/// How many bytes an answer has at most.
-const ROOM: usize = 192;
 
 /// The words in front of a line's first four spaces, and all that stands behind the fourth.
 #[derive(Drop)]
@@ -104,36 +99,29 @@ fn read_task(line: &[u8]) -> Result<Task<'_>, LineFault>
     })
 }
 
-/// Appends bytes, for which there is room.
-fn push_bytes(out: &mut AnswerBytes, bytes: &[u8])
-    requires { length out.old.items + length bytes.now ≤ ROOM }
-    ensures { out.new.items ≡ out.old.items ++ bytes.now }
-{
-    out.try_extend_from_slice(bytes).unwrap();
-}
-
 /// Appends bits in decimal.
-fn push_bits(out: &mut AnswerBytes, bits: Bits)
-    requires { length out.old.items ≤ 100 }
-    ensures text { out.new.items ≡ out.old.items ++ signed_decimal (number_of bits) }
-    ensures short { length out.new.items ≤ length out.old.items + 40 }
+fn push_bits(out: &mut Answer, bits: Bits)
+    requires { length out.old.text ≤ 100 }
+    ensures text { out.new.text ≡ out.old.text ++ signed_decimal (number_of bits) }
+    ensures fault { out.new.fault ≡ out.old.fault }
+    ensures short { length out.new.text ≤ length out.old.text + 40 }
 {
     let mut digits = Buffer::new();
     match bits {
-        Bits::Signed(number) => push_bytes(out, digits.format(number).as_bytes()),
-        Bits::Unsigned(number) => push_bytes(out, digits.format(number).as_bytes()),
+        Bits::Signed(number) => out.push(digits.format(number).as_bytes()),
+        Bits::Unsigned(number) => out.push(digits.format(number).as_bytes()),
     }
 }
 
-/// The answer that names a fault.
-fn fault_answer(words: &str) -> Answer
-    requires { length words.now ≤ 64 }
-    ensures { result ≡ fault_reply words.now }
+/// Puts the words of a fault into an empty answer.
+fn put_fault(out: &mut Answer, words: &str)
+    requires empty { out.old.text ≡ [] }
+    requires short { length words.now ≤ 64 }
+    ensures { out.new ≡ fault_reply words.now }
 {
-    let mut out = ArrayVec::new();
-    push_bytes(&mut out, b"error: ");
-    push_bytes(&mut out, words.as_bytes());
-    Answer::holding(out, true)
+    out.push(b"error: ");
+    out.push(words.as_bytes());
+    out.set_fault(true);
 }
 
 /// The last word of an answer, behind a space.
@@ -144,28 +132,28 @@ fn verdict(overflowed: bool) -> &'static [u8]
     if overflowed { b" overflowed" } else { b" fits" }
 }
 
-/// The answer with a text, the bits, and whether a number on the way was out of its format.
-fn respelled_answer(respelled: &Respelled) -> Answer
-    ensures { result ≡ respelled_reply respelled.now.text (number_of respelled.now.bits) respelled.now.overflowed }
+/// Puts a text, the bits, and whether a number on the way was out of its format, into an empty answer.
+fn put_respelled(out: &mut Answer, respelled: &Respelled)
+    requires empty { out.old.text ≡ [] }
+    requires fault { out.old.fault ≡ false }
+    ensures { out.new ≡ respelled_reply respelled.now.text (number_of respelled.now.bits) respelled.now.overflowed }
 {
-    let mut out = ArrayVec::new();
-    push_bytes(&mut out, respelled.text.as_bytes());
-    out.push(b' ');
-    push_bits(&mut out, respelled.bits);
-    push_bytes(&mut out, verdict(respelled.overflowed));
-    Answer::holding(out, false)
+    out.push(respelled.text.as_bytes());
+    out.push(b" ");
+    push_bits(out, respelled.bits);
+    out.push(verdict(respelled.overflowed));
 }
 
-/// The answer to a line: the first fault of the line that stands, else the fault for which its numeral is refused,
-/// else the shortest decimal of the bits that it reaches, those bits in decimal, and whether a number on the way was
-/// out of its format.
-pub fn answer<L: Ledger>(line: &[u8], steps: &mut Steps<L>) -> Answer
-    ensures answer { IsAnswer line.now result }
+/// Puts the answer to a line into an empty one.
+fn put_answer<L: Ledger>(out: &mut Answer, line: &[u8], steps: &mut Steps<L>)
+    requires empty { out.old.text ≡ [] }
+    requires fault { out.old.fault ≡ false }
+    ensures answer { IsAnswer line.now out.new }
     ensures cost { steps.new ≤ steps.old + 8 * length line.now + 624 }
 {
     let task = match read_task(line) {
         Ok(task) => task,
-        Err(fault) => return fault_answer(fault.words()),
+        Err(fault) => return put_fault(out, fault.words()),
     };
     match respell_mode(
         task.numeral,
@@ -176,7 +164,19 @@ pub fn answer<L: Ledger>(line: &[u8], steps: &mut Steps<L>) -> Answer
         task.mode,
         steps,
     ) {
-        Ok(respelled) => respelled_answer(&respelled),
-        Err(error) => fault_answer(error.message()),
+        Ok(respelled) => put_respelled(out, &respelled),
+        Err(error) => put_fault(out, error.message()),
     }
+}
+
+/// The answer to a line: the first fault of the line that stands, else the fault for which its numeral is refused,
+/// else the shortest decimal of the bits that it reaches, those bits in decimal, and whether a number on the way was
+/// out of its format.
+pub fn answer<L: Ledger>(line: &[u8], steps: &mut Steps<L>) -> Answer
+    ensures answer { IsAnswer line.now result }
+    ensures cost { steps.new ≤ steps.old + 8 * length line.now + 624 }
+{
+    let mut out = Answer::empty();
+    put_answer(&mut out, line, steps);
+    out
 }
