@@ -11,7 +11,7 @@ ghost use Rattle.fixed_respell.specs.Reply.{Reply};
 ghost use Rattle.fixed_respell.specs.Run.{HasCauses, HasRun, Spends, WritesOutput};
 
 use crate::line::LineBuffer;
-use crate::reading::Reading;
+use crate::reading::{Outgoing, Reading};
 use crate::{Failed, LineRule, Sink, Source, Status};
 use fixed_steps::Steps;
 use std::alloc::Global;
@@ -89,6 +89,7 @@ fn answer_lines<R: LineRule<L>, S: Source, K: Sink, L: Ledger>(
     ensures began { ¬ (result ≡ Status.NoMemory) }
 {
     let mut piece = [0u8; PIECE];
+    let mut out = Outgoing::new();
     let mut taken = 0u64;
     while taken <= limit {
         let room = next_room(limit, taken);
@@ -97,7 +98,7 @@ fn answer_lines<R: LineRule<L>, S: Source, K: Sink, L: Ledger>(
             Ok(0) => return end_lines(rule, reading, sink, steps),
             Ok(count) => {
                 let within = count.min((limit - taken) as usize);
-                match reading.feed(rule, &piece[..within], sink, steps) {
+                match reading.feed(rule, &piece[..within], &mut out, sink, steps) {
                     Err(_) => return Status::WriteFault,
                     Ok(()) => taken += count as u64,
                 }

@@ -32,7 +32,7 @@ pub fn write_whole<K: Sink>(sink: &mut K, piece: &[u8]) -> Result<(), Failed>
 const ROOM: usize = 8192;
 
 /// Answers that are still to be written.
-type Outgoing = ArrayVec<u8, ROOM>;
+pub type Outgoing = ArrayVec<u8, ROOM>;
 
 /// Writes what is held.
 fn flush<K: Sink>(out: &mut Outgoing, sink: &mut K) -> Result<(), Failed>
@@ -119,11 +119,12 @@ impl Reading {
         Ok(())
     }
 
-    /// Answers the lines that end in the next bytes.
+    /// Answers the lines that end in the next bytes. What `out` held is let go: it only lends its room.
     pub fn feed<R: LineRule<L>, K: Sink, L: Ledger>(
         &mut self,
         rule: &R,
         piece: &[u8],
+        out: &mut Outgoing,
         sink: &mut K,
         steps: &mut Steps<L>,
     ) -> Result<(), Failed>
@@ -132,14 +133,14 @@ impl Reading {
         ensures err { OnErr result ((whole : List ℕ) → IsKept kept_length whole self.old.line → Broken (R.Answers rule.now) R.PER_BYTE R.EXTRA (ended_lines (whole ++ piece.now)) (state [] (K.written sink.old) self.old.has_fault steps.old) (K.written sink.new) steps.new) }
         ensures cause { HasCause (K.faults sink.old) (K.faults sink.new) result }
     {
-        let mut out = ArrayVec::new();
+        out.clear();
         let mut rest = piece;
         while let Some(end) = memchr(b'\n', rest) {
-            self.end_line(rule, &rest[..end], &mut out, sink, steps)?;
+            self.end_line(rule, &rest[..end], out, sink, steps)?;
             rest = &rest[end + 1..];
         }
         self.line.append(rest);
-        flush(&mut out, sink)
+        flush(out, sink)
     }
 
     /// Answers a last line without a newline, where it isn't empty.

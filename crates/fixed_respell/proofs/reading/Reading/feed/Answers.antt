@@ -19,7 +19,7 @@ loop-end-init g c =
       front = [];
       split = refl;
       fed = λ whole kept.
-          subst (λ o. Fed (g.R.LineRule.Answers c.args.rule.now) g.R.LineRule.PER_BYTE g.R.LineRule.EXTRA kept_length whole [] c.args.self.now.line now (state o (g.K.Sink.written c.args.sink.now) c.args.self.now.has_fault c.args.steps.now)) (sym c.new-out.ensures)
+          subst (λ o. Fed (g.R.LineRule.Answers c.args.rule.now) g.R.LineRule.PER_BYTE g.R.LineRule.EXTRA kept_length whole [] c.args.self.now.line now (state o (g.K.Sink.written c.args.sink.now) c.args.self.now.has_fault c.args.steps.now)) (sym c.clear.ensures)
           (fed_none (g.R.LineRule.Answers c.args.rule.now) g.R.LineRule.PER_BYTE g.R.LineRule.EXTRA kept_length whole c.args.self.now.line now kept (passes_none (g.K.Sink.written c.args.sink.now)));
     }
 
