@@ -96,10 +96,13 @@ fn short_number(word: &[u8]) -> Option<u32>
 fn counted_format(signed: bool, whole: &[u8], fraction: &[u8]) -> Option<Format>
     ensures { MatchOption result ((f : Shape) → f.signed ≡ signed → HasCounts f whole.now fraction.now → ⊥) (λ f. (f.signed ≡ signed) × HasCounts f whole.now fraction.now) }
 {
-    match (short_number(whole), short_number(fraction)) {
-        (Some(whole), Some(fraction)) => Format::new(signed, whole + fraction, fraction),
-        _ => None,
-    }
+    let Some(whole) = short_number(whole) else {
+        return None;
+    };
+    let Some(fraction) = short_number(fraction) else {
+        return None;
+    };
+    Format::new(signed, whole + fraction, fraction)
 }
 
 /// Whether a format whose word begins with this letter is signed. None where none begins so.
@@ -114,6 +117,7 @@ fn named_sign(letter: u8) -> Option<bool>
 }
 
 /// The format that a word names. None where it names none.
+#[inline]
 pub fn format_word(word: &[u8]) -> Option<Format>
     ensures { MatchOption result ((f : Shape) → ¬ IsFormatWord word.now f) (λ f. IsFormatWord word.now f) }
 {

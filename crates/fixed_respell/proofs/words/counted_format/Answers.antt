@@ -1,6 +1,8 @@
 use Rattle.fixed_respell.specs.FormatLemmas.{counted}
 use Rattle.fixed_respell.proofs.words.counted_format.Goals as goal
 
-pub returns-in-Some-Some : goal.returns-in-Some-Some
-returns-in-Some-Some c =
-    counted c.new.result c.args.signed c.args.whole.now c.args.fraction.now c.in-Some-Some.whole c.in-Some-Some.fraction c.in-Some-Some.ensures.number c.in-Some-Some.ensures'.number c.in-Some-Some.ensures.short c.in-Some-Some.ensures'.short c.new.ensures.exists c.new.ensures.parts
+pub returns : goal.returns
+returns c =
+    let whole = c.in-Some in
+    let fraction = c.in-Some-short_number in
+    counted c.new.result c.args.signed c.args.whole.now c.args.fraction.now whole.whole fraction.fraction whole.ensures.number fraction.ensures.number whole.ensures.short fraction.ensures.short c.new.ensures.exists c.new.ensures.parts
