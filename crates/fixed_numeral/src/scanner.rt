@@ -220,13 +220,19 @@ fn low_digits(bytes: &[u8], base: u8, from: usize) -> usize
     at - from
 }
 
-/// How many decimal digits stand from a place on, in front of some other byte. Eight bytes are looked at together while they are
-/// digits.
+/// How many bytes a text has at least whose decimal digits are looked at eight at a time. With as many, mostly a whole eight of
+/// them stand on one side of the point; with fewer, the looking would cost more than it saves.
+const LONG: usize = 16;
+
+/// How many decimal digits stand from a place on, in front of some other byte.
 fn decimal_digits(bytes: &[u8], from: usize) -> usize
     requires place { from ≤ length bytes.now }
     ensures within { from + result ≤ length bytes.now }
     ensures digits { AllDigits 10 (take result (drop from bytes.now)) }
 {
+    if bytes.len() < LONG {
+        return low_digits(bytes, 10, from);
+    }
     let mut at = from;
     while bytes.len() - at >= 8 && are_decimal(word_at(bytes, at)) {
         at += 8;
