@@ -260,7 +260,7 @@ fn each_kind_in_each_radix(rt: HostRuntime) {
     }
 }
 
-/// The kind of a run of ones with some other byte at a place, which stands in front of what is behind it.
+/// Why so many ones, at most 24, are no numeral once another byte stands in the place of one of them.
 fn kind_of_bad(digits: usize, place: usize, bad: u8) -> Option<ParseErrorKind> {
     let mut text = [b'1'; 24];
     let end = digits.min(24);
@@ -272,7 +272,7 @@ fn kind_of_bad(digits: usize, place: usize, bad: u8) -> Option<ParseErrorKind> {
 
 #[test]
 fn other_byte_among_digits(rt: HostRuntime) {
-    for digits in [7, 8, 9, 15, 16, 17, 23] {
+    for digits in [7, 8, 9, 15, 16, 17, 23, 24] {
         assert_eq!(rt; kind_of_bad(digits, digits, b'/'), None);
         for place in 0..digits {
             for bad in [

@@ -1,4 +1,4 @@
-use Rattle.std.proofs.Common.{◌≡◌, ◌+◌, ◌≤◌, length, take, drop, arith}
+use Rattle.std.proofs.Common.{◌+◌, ◌≤◌, length, take, drop, arith}
 use Rattle.fixed_numeral.proofs.LaneLemmas.{eight_below, eight_long}
 use Rattle.fixed_numeral.proofs.ScanLemmas.{run_on}
 use Rattle.fixed_numeral.proofs.scanner.decimal_digits.Goals as goal
