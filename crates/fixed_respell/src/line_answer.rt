@@ -124,12 +124,17 @@ fn put_fault(out: &mut Answer, words: &str)
     out.set_fault(true);
 }
 
-/// The last word of an answer, behind a space.
-fn verdict(overflowed: bool) -> &'static [u8]
-    ensures text { result.now ≡ space ∷ verdict overflowed }
-    ensures short { length result.now ≤ 11 }
+/// Appends the last word of an answer, behind a space.
+fn push_verdict(out: &mut Answer, overflowed: bool)
+    requires { length out.old.text ≤ 100 }
+    ensures text { out.new.text ≡ out.old.text ++ space ∷ verdict overflowed }
+    ensures fault { out.new.fault ≡ out.old.fault }
 {
-    if overflowed { b" overflowed" } else { b" fits" }
+    if overflowed {
+        out.push(b" overflowed");
+    } else {
+        out.push(b" fits");
+    }
 }
 
 /// Puts a text, the bits, and whether a number on the way was out of its format, into an empty answer.
@@ -141,10 +146,11 @@ fn put_respelled(out: &mut Answer, respelled: &Respelled)
     out.push(respelled.text.as_bytes());
     out.push(b" ");
     push_bits(out, respelled.bits);
-    out.push(verdict(respelled.overflowed));
+    push_verdict(out, respelled.overflowed);
 }
 
 /// Puts the answer to a line into an empty one.
+#[inline(never)]
 fn put_answer<L: Ledger>(out: &mut Answer, line: &[u8], steps: &mut Steps<L>)
     requires empty { out.old.text ≡ [] }
     requires fault { out.old.fault ≡ false }
@@ -172,6 +178,7 @@ fn put_answer<L: Ledger>(out: &mut Answer, line: &[u8], steps: &mut Steps<L>)
 /// The answer to a line: the first fault of the line that stands, else the fault for which its numeral is refused,
 /// else the shortest decimal of the bits that it reaches, those bits in decimal, and whether a number on the way was
 /// out of its format.
+#[inline]
 pub fn answer<L: Ledger>(line: &[u8], steps: &mut Steps<L>) -> Answer
     ensures answer { IsAnswer line.now result }
     ensures cost { steps.new ≤ steps.old + 8 * length line.now + 624 }

@@ -117,7 +117,6 @@ fn named_sign(letter: u8) -> Option<bool>
 }
 
 /// The format that a word names. None where it names none.
-#[inline]
 pub fn format_word(word: &[u8]) -> Option<Format>
     ensures { MatchOption result ((f : Shape) → ¬ IsFormatWord word.now f) (λ f. IsFormatWord word.now f) }
 {
