@@ -77,7 +77,8 @@ fn first_few(bytes: &[u8], count: usize, base: u64) -> u64
 
 /// The number that eight digits or more spell in a base, where each byte is a digit. Eight are taken at a time, behind the few
 /// in front that are left over.
-pub(crate) fn long_number(bytes: &[u8], base: u64) -> u64
+#[inline(always)]
+fn eights(bytes: &[u8], base: u64) -> u64
     requires long { 8 ≤ length bytes.now }
     requires plain { length (digits_in bytes.now) ≡ length bytes.now }
     requires digits { AllBelowBase base (digits_in bytes.now) }
@@ -96,4 +97,28 @@ pub(crate) fn long_number(bytes: &[u8], base: u64) -> u64
         at += 8;
     }
     number
+}
+
+/// The number that eight digits or more spell in a base, where each byte is a digit.
+pub(crate) fn long_number(bytes: &[u8], base: u64) -> u64
+    requires long { 8 ≤ length bytes.now }
+    requires plain { length (digits_in bytes.now) ≡ length bytes.now }
+    requires digits { AllBelowBase base (digits_in bytes.now) }
+    requires least { 2 ≤ base }
+    requires most { base ≤ 16 }
+    requires room { base ^ length (digits_in bytes.now) ≤ 2 ^ 64 }
+    ensures { result ≡ number_from_digits base (digits_in bytes.now) }
+{
+    eights(bytes, base)
+}
+
+/// The same in base 10, whose powers are constants then.
+pub(crate) fn long_decimal(bytes: &[u8]) -> u64
+    requires long { 8 ≤ length bytes.now }
+    requires plain { length (digits_in bytes.now) ≡ length bytes.now }
+    requires digits { AllBelowBase 10 (digits_in bytes.now) }
+    requires room { 10 ^ length (digits_in bytes.now) ≤ 2 ^ 64 }
+    ensures { result ≡ number_from_digits 10 (digits_in bytes.now) }
+{
+    eights(bytes, 10)
 }

@@ -6,7 +6,7 @@ ghost use Rattle.fixed_numeral.specs.Place.{IsWithoutLeading, IsWithoutTrailing}
 ghost use Rattle.std.specs.Char.{digit_value};
 ghost use Rattle.fixed_numeral.specs.Digits.{digits_in};
 
-use crate::eight::long_number;
+use crate::eight::{long_decimal, long_number};
 use std::marker::Model;
 
 /// The digits of a slice, whose other bytes are passed over, and their count.
@@ -102,7 +102,9 @@ fn whole_number(bytes: &[u8], base: u64) -> u64
     requires room { base ^ length (digits_in bytes.now) ≤ 2 ^ 64 }
     ensures { result ≡ number_from_digits base (digits_in bytes.now) }
 {
-    if bytes.len() >= 8 {
+    if bytes.len() >= 8 && base == 10 {
+        long_decimal(bytes)
+    } else if bytes.len() >= 8 {
         long_number(bytes, base)
     } else if base <= 10 {
         low_number(bytes, base, 0)

@@ -1,6 +1,6 @@
 use Rattle.std.proofs.Common.{◌-◌, length}
 use Rattle.fixed_numeral.proofs.StripLemmas.{IsAligned}
-use Rattle.fixed_numeral.proofs.eight.long_number.Given as goal
+use Rattle.fixed_numeral.proofs.eight.eights.Given as goal
 
 abbrev pub invariant-loop-at : goal.invariant-loop-at
 invariant-loop-at l = IsAligned l.base l.bytes l.at l.number

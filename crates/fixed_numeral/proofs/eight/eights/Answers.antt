@@ -3,7 +3,7 @@ use Rattle.std.proofs.lemmas.List.{length-take, length-drop}
 use Rattle.std.specs.Int.Digits.{number_from_digits}
 use Rattle.fixed_numeral.specs.Digits.{digits_in}
 use Rattle.fixed_numeral.proofs.StripLemmas.{eight_stand, aligned_room, aligned_eight, aligned_fits, number_end}
-use Rattle.fixed_numeral.proofs.eight.long_number.Goals as goal
+use Rattle.fixed_numeral.proofs.eight.eights.Goals as goal
 
 -- what is joined are the next eight digits
 next : (c : goal.After-joined) → c.joined.result ≡ number_from_digits c.args.base (digits_in (take 8 (drop c.loop-at.at c.args.bytes.now)))
