@@ -101,7 +101,7 @@ fn missing(view: &DigitView, count: u32) -> u32
 }
 
 /// The number that the first digits spell, so many, with zeros behind them where there are fewer.
-#[inline]
+#[inline(always)]
 pub fn leading<'a, L: Ledger>(
     view: &DigitView<'a>,
     base: u32,

@@ -88,9 +88,10 @@ pub fn read_residue_counted<L: Ledger>(
     ensures residue { IfOk result (λ c. (p : Parts) → HasNumeral radix s.now p → IsResidue mode radix p frac width c.negative c.value c.beyond) }
     ensures cost { steps.new ≤ steps.old + 4 * length s.now + 3 * width + 28 }
 {
-    match scan(s, radix, steps) {
-        Ok(found) => Ok(residue_of(&found, radix, width, frac, mode, steps)),
-        Err(error) => Err(error),
+    // Borrowed: the views are not copied out of the answer.
+    match &scan(s, radix, steps) {
+        Ok(found) => Ok(residue_of(found, radix, width, frac, mode, steps)),
+        Err(error) => Err(*error),
     }
 }
 
