@@ -1,11 +1,20 @@
 -- Worked rows of the definitions that the answer to a line stands on.
-use Rattle.std.proofs.Common.{◌≡◌, [], ◌∷◌, true, false, refl, arith, inl, inr, pos, negsuc}
+use Rattle.std.proofs.Common.{◌≡◌, ℕ, ◌<◌, ◌⊎◌, ◌↔◌, Bool, IsTrue, List, Option, Some, None, [], ◌∷◌, true, false, refl, arith, inl, inr, ℤ, pos, negsuc, ⊎_elim}
+use Rattle.std.proofs.lemmas.Bool.{false≢true}
+use Rattle.std.proofs.lemmas.Int.{ints}
 use Rattle.std.specs.Prelude.{codes}
 use Rattle.std.specs.Fmt.{digits}
+use Rattle.fixed_bits.proofs.LawLemmas.{range_decided}
+use Rattle.fixed_bits.specs.Ranges.{IsInRange, IsOutOfRange}
 use Rattle.fixed_bits.specs.declared.format.Policy.TheVariants.{Checked}
 use Rattle.fixed_bits.specs.declared.mode.ReadMode.TheVariants.{NearestEven, Floor}
+use Rattle.fixed_numeral.specs.Numeral.{Parts, HasNumeral}
+use Rattle.fixed_numeral.specs.declared.radix.Radix.TheVariants.{Dec}
+use Rattle.fixed_read.specs.Reading.{IsReadNumber}
 use Rattle.fixed_respell.specs.Answer.{HasWords, line_words, respelled_reply, fault_reply, fault_words, Stands}
 use Rattle.fixed_respell.specs.Lines.{lines}
+use Rattle.fixed_respell.specs.Reached.{IsOverflow, IsRespelled}
+use Rattle.fixed_respell.specs.RowFormats.{unsigned_format}
 use Rattle.fixed_respell.specs.Words.{format_text, IsPolicyWord}
 use Rattle.fixed_respell.specs.declared.fault.LineFault.TheVariants.{MissingField}
 
@@ -19,7 +28,7 @@ unfolding digits
 unsigned_word = refl
 
 -- a policy word without a mode, and one with a mode
-plain_word : IsPolicyWord (codes "checked") Checked NearestEven
+pub plain_word : IsPolicyWord (codes "checked") Checked NearestEven
 plain_word = inl (refl, refl)
 
 mode_word : IsPolicyWord (codes "checked/floor") Checked Floor
@@ -50,3 +59,77 @@ negative_row = refl
 
 fault_row : (fault_reply (fault_words MissingField)).text ≡ codes "error: missing field"
 fault_row = refl
+
+-- ---- numerals, and what is reached from them
+abbrev pub parts : Option ℕ → List ℕ → Option (List ℕ) → Parts
+parts sign whole fraction = record { sign = sign; whole = whole; fraction = fraction; exponent = None }
+
+pub both_in : (s t : Bool) (m n : ℕ) (v w : ℤ) → IsInRange s m v → IsInRange t n w → IsTrue false ↔ (IsOutOfRange s m v ⊎ IsOutOfRange t n w)
+both_in s t m n v w a b = (
+  (λ e. absurd (false≢true e)),
+  (λ o. absurd (⊎_elim (λ x. (range_decided s m v).1 x a) (λ x. (range_decided t n w).1 x b) o)),
+)
+
+pub byte : (v : ℕ) → v < 256 → IsInRange false 8 (pos v)
+byte v h = record { low = omega (arith, ints); high = omega (arith, ints, h) }
+
+pub past : (v : ℕ) → 255 < v → IsOutOfRange false 8 (pos v)
+past v h = inr (omega (arith, ints, h))
+
+numeral_2_99 : HasNumeral Dec (codes "2.99") (parts None (50 ∷ []) (Some (57 ∷ 57 ∷ [])))
+numeral_2_99 = record {
+  beginning = record {
+    parts = record { sign = tt; whole = (omega arith, tt); fraction = (omega arith, (omega arith, tt)); exponent = tt };
+    text = refl;
+  };
+  mantissa = omega arith;
+  exponent = tt;
+}
+
+-- 2.99 is 48 steps of 1/16, and 3 steps of 1
+pub respelled_2_99 : IsRespelled NearestEven Dec (codes "2.99") Checked (unsigned_format 4 4) (unsigned_format 8 0) (pos 3) false
+respelled_2_99 = record {
+  parts = parts None (50 ∷ []) (Some (57 ∷ 57 ∷ []));
+  numeral = numeral_2_99;
+  reached = record {
+    number = pos 48;
+    held = pos 48;
+    moved = pos 3;
+    read = record { steps = 48; rounded = record { near = omega arith; tie = λ _. refl }; value = refl };
+    source_image = record { in_range = byte 48 (omega arith); same = refl };
+    down = record { at_most = omega (arith, ints); above = omega (arith, ints) };
+    target_image = record { in_range = byte 3 (omega arith); same = refl };
+    flag = both_in false false 8 8 (pos 48) (pos 3) (byte 48 (omega arith)) (byte 3 (omega arith));
+  };
+}
+
+abbrev pub three_hundred : Parts
+three_hundred = parts None (51 ∷ 48 ∷ 48 ∷ []) None
+
+pub numeral_300 : HasNumeral Dec (codes "300") three_hundred
+numeral_300 = record {
+  beginning = record {
+    parts = record { sign = tt; whole = (omega arith, (omega arith, (omega arith, tt))); fraction = tt; exponent = tt };
+    text = refl;
+  };
+  mantissa = omega arith;
+  exponent = tt;
+}
+
+pub read_300 : IsReadNumber NearestEven Dec three_hundred 0 (pos 300)
+read_300 = record { steps = 300; rounded = record { near = omega arith; tie = λ _. refl }; value = refl }
+
+-- 300 is past 8 bits
+pub overflow_300 : IsOverflow NearestEven Dec (codes "300") Checked (unsigned_format 8 0) (unsigned_format 16 0)
+overflow_300 = record {
+  parts = three_hundred;
+  numeral = numeral_300;
+  unreached = record {
+    number = pos 300;
+    moved = pos 300;
+    checked = refl;
+    read = read_300;
+    down = record { at_most = omega (arith, ints); above = omega (arith, ints) };
+    out = inl (past 300 (omega arith));
+  };
+}

@@ -1,6 +1,7 @@
 //! Laws of the definitions, each the contract of a function that does nothing.
 
 ghost use Rattle.std.specs.Prelude.{pos, negsuc, true, false, codes};
+ghost use Rattle.fixed_respell.specs.Answer.{IsAnswer};
 ghost use Rattle.fixed_respell.specs.AnswerLaws.{AnswerIsTheOne, FormatWordIsTheOne, LongIsAnsweredByFront, PlainLineAsksNearest, PlainLineHasThePlainAnswer, PlainWordNamesNearest};
 ghost use Rattle.fixed_bits.specs.declared.format.Policy.TheVariants.{Checked, Saturating, Wrapping};
 ghost use Rattle.fixed_bits.specs.declared.mode.ReadMode.TheVariants.{NearestEven, Ceil};
@@ -52,6 +53,15 @@ pub fn worked_rows()
     ensures target_saturates { IsRespelled NearestEven Dec (codes "17") Saturating (unsigned_format 8 0) (unsigned_format 4 4) (pos 255) true }
     ensures target_refuses { IsOverflow NearestEven Dec (codes "17") Checked (unsigned_format 8 0) (unsigned_format 4 4) }
     ensures in_the_mode { IsRespelled Ceil Dec (codes "2.1") Checked (unsigned_format 8 0) (unsigned_format 8 0) (pos 3) false }
+{}
+
+/// What some whole lines are answered. 2.99 moves to the source step first, so its text is 3. 300 is past its source, and
+/// Checked refuses it. `1_0` is no numeral. The last line has two faults, and is answered with the first of them.
+pub fn worked_answers()
+    ensures respelled { IsAnswer (codes "10 U4F4 U8F0 checked 2.99") (record { text = codes "3 3 fits"; fault = false }) }
+    ensures overflow { IsAnswer (codes "10 U8F0 U16F0 checked 300") (record { text = codes "error: overflow"; fault = true }) }
+    ensures refused { IsAnswer (codes "10 U8F0 U8F0 checked 1_0") (record { text = codes "error: invalid digit found in string"; fault = true }) }
+    ensures line_fault { IsAnswer (codes "9 U8F0 U9F0 checked 1") (record { text = codes "error: bad radix"; fault = true }) }
 {}
 
 /// A word is the word of one format at most. So `format_word` of what `format_name` answers is that very format.

@@ -1,41 +1,26 @@
-use Rattle.std.proofs.Common.{◌≡◌, ℕ, ◌+◌, ◌<◌, ◌⊎◌, ◌↔◌, Bool, true, false, IsTrue, List, [], ◌∷◌, codes, Option, Some, None, inl, inr, refl, arith, pos, negsuc, ℤ, ⊎_elim}
+use Rattle.std.proofs.Common.{◌≡◌, ℕ, ◌+◌, ◌<◌, ◌↔◌, Bool, true, false, IsTrue, [], ◌∷◌, codes, Some, None, inl, inr, refl, arith, pos, negsuc, ℤ}
 use Rattle.std.proofs.lemmas.Int.{ints}
-use Rattle.std.proofs.lemmas.Bool.{false≢true}
 use Rattle.fixed_bits.specs.Images.{IsImage, IsSaturated, IsWrapped}
-use Rattle.fixed_bits.specs.Ranges.{IsInRange, IsOutOfRange, IsWidth}
+use Rattle.fixed_bits.specs.Ranges.{IsInRange, IsWidth}
 use Rattle.fixed_bits.specs.declared.format.Policy.{Policy}
 use Rattle.fixed_bits.specs.declared.format.Policy.TheVariants.{Saturating}
 use Rattle.fixed_bits.specs.declared.mode.ReadMode.TheVariants.{NearestEven}
-use Rattle.fixed_bits.proofs.LawLemmas.{images_agree, range_decided}
+use Rattle.fixed_bits.proofs.LawLemmas.{images_agree}
 use Rattle.fixed_numeral.specs.Numeral.{Parts, HasNumeral}
 use Rattle.fixed_numeral.specs.declared.radix.Radix.TheVariants.{Dec}
 use Rattle.fixed_read.specs.Reading.{IsReadNumber}
+use Rattle.fixed_respell.proofs.Rows.{both_in, byte, numeral_300, overflow_300, parts, past, read_300, respelled_2_99, three_hundred}
 use Rattle.fixed_respell.proofs.laws.worked_rows.Goals as goal
-
-abbrev parts : Option ℕ → List ℕ → Option (List ℕ) → Parts
-parts sign whole fraction = record { sign = sign; whole = whole; fraction = fraction; exponent = None }
 
 -- ---- numbers in range and out of it
 kept : (p : Policy) (s : Bool) (n : ℕ) (v : ℤ) → IsWidth n → IsInRange s n v → IsImage p s n v v
 kept p s n v w h = (images_agree p s n v v w h).1 refl
 
-both_in : (s t : Bool) (m n : ℕ) (v w : ℤ) → IsInRange s m v → IsInRange t n w → IsTrue false ↔ (IsOutOfRange s m v ⊎ IsOutOfRange t n w)
-both_in s t m n v w a b = (
-  (λ e. absurd (false≢true e)),
-  (λ o. absurd (⊎_elim (λ x. (range_decided s m v).1 x a) (λ x. (range_decided t n w).1 x b) o)),
-)
-
 one_out : (A : Type 0) → A → IsTrue true ↔ A
 one_out A a = ((λ _. a), (λ _. refl))
 
-byte : (v : ℕ) → v < 256 → IsInRange false 8 (pos v)
-byte v h = record { low = omega (arith, ints); high = omega (arith, ints, h) }
-
 pair : (v : ℕ) → v < 65536 → IsInRange false 16 (pos v)
 pair v h = record { low = omega (arith, ints); high = omega (arith, ints, h) }
-
-past : (v : ℕ) → 255 < v → IsOutOfRange false 8 (pos v)
-past v h = inr (omega (arith, ints, h))
 
 to_greatest : (v : ℕ) → 255 < v → IsSaturated false 8 (pos v) (pos 255)
 to_greatest v h = record {
@@ -48,31 +33,8 @@ to_byte : (v c : ℕ) → c < 256 → v ≡ c + 256 → IsWrapped false 8 (pos v
 to_byte v c h e = record { in_range = byte c h; near = (1, 0, omega (arith, ints, e)) }
 
 -- ---- 2.99, -2.5 and 2.1
-numeral_2_99 : HasNumeral Dec (codes "2.99") (parts None (50 ∷ []) (Some (57 ∷ 57 ∷ [])))
-numeral_2_99 = record {
-  beginning = record {
-    parts = record { sign = tt; whole = (omega arith, tt); fraction = (omega arith, (omega arith, tt)); exponent = tt };
-    text = refl;
-  };
-  mantissa = omega arith;
-  exponent = tt;
-}
-
 pub returns-clause-to_the_source_step_first : goal.returns-clause-to_the_source_step_first
-returns-clause-to_the_source_step_first c = record {
-  parts = parts None (50 ∷ []) (Some (57 ∷ 57 ∷ []));
-  numeral = numeral_2_99;
-  reached = record {
-    number = pos 48;
-    held = pos 48;
-    moved = pos 3;
-    read = record { steps = 48; rounded = record { near = omega arith; tie = λ _. refl }; value = refl };
-    source_image = record { in_range = byte 48 (omega arith); same = refl };
-    down = record { at_most = omega (arith, ints); above = omega (arith, ints) };
-    target_image = record { in_range = byte 3 (omega arith); same = refl };
-    flag = both_in false false 8 8 (pos 48) (pos 3) (byte 48 (omega arith)) (byte 3 (omega arith));
-  };
-}
+returns-clause-to_the_source_step_first c = respelled_2_99
 
 numeral_minus_2_5 : HasNumeral Dec (codes "-2.5") (parts (Some 45) (50 ∷ []) (Some (53 ∷ [])))
 numeral_minus_2_5 = record {
@@ -133,22 +95,6 @@ returns-clause-in_the_mode c = record {
 }
 
 -- ---- 300, past the source
-abbrev three_hundred : Parts
-three_hundred = parts None (51 ∷ 48 ∷ 48 ∷ []) None
-
-numeral_300 : HasNumeral Dec (codes "300") three_hundred
-numeral_300 = record {
-  beginning = record {
-    parts = record { sign = tt; whole = (omega arith, (omega arith, (omega arith, tt))); fraction = tt; exponent = tt };
-    text = refl;
-  };
-  mantissa = omega arith;
-  exponent = tt;
-}
-
-read_300 : IsReadNumber NearestEven Dec three_hundred 0 (pos 300)
-read_300 = record { steps = 300; rounded = record { near = omega arith; tie = λ _. refl }; value = refl }
-
 pub returns-clause-source_wraps : goal.returns-clause-source_wraps
 returns-clause-source_wraps c = record {
   parts = three_hundred;
@@ -182,18 +128,7 @@ returns-clause-source_saturates c = record {
 }
 
 pub returns-clause-source_refuses : goal.returns-clause-source_refuses
-returns-clause-source_refuses c = record {
-  parts = three_hundred;
-  numeral = numeral_300;
-  unreached = record {
-    number = pos 300;
-    moved = pos 300;
-    checked = refl;
-    read = read_300;
-    down = record { at_most = omega (arith, ints); above = omega (arith, ints) };
-    out = inl (past 300 (omega arith));
-  };
-}
+returns-clause-source_refuses c = overflow_300
 
 -- ---- 17, which the source holds, and 272 steps of 1/16 in the target
 abbrev seventeen : Parts
