@@ -251,6 +251,29 @@ fn settle<'a, L: Ledger>(
     }
 }
 
+/// The same for the digits behind the first `count`, apart from the path of most numerals, which do not come here.
+#[inline(never)]
+fn settle_behind<'a, L: Ledger>(
+    view: &DigitView<'a>,
+    count: u64,
+    found: Candidate,
+    steps: &mut Steps<L>,
+) -> (u64, Tail)
+    requires digits { AllBelowBase 10 view.now }
+    requires trailing { NoTrailingZero view.now }
+    requires within { count ≤ length view.now }
+    requires small { found.rest < found.unit }
+    requires room { 2 * 2 ^ found.bits ≤ found.unit }
+    requires most { found.unit < 2 ^ 63 }
+    requires few { found.bits ≤ 37 }
+    requires steps { found.steps * whole found.unit (drop count view.now) + part found.rest found.bits (drop count view.now) < 2 ^ 64 * whole found.unit (drop count view.now) }
+    ensures settled { IsSettled (found.steps * whole found.unit (drop count view.now) + part found.rest found.bits (drop count view.now)) (whole found.unit (drop count view.now)) result.0 result.1 }
+    ensures cost { steps.new ≤ steps.old + 2 * found.bits + 1 }
+{
+    let (_front, rest) = view.split_at(count);
+    settle(&rest, found, steps)
+}
+
 /// What is left of a step where digits behind the block, whichever they are, do not change it, as is nearly always so.
 #[inline]
 fn decided(found: Candidate) -> Option<Tail>
@@ -294,10 +317,7 @@ fn settled<'a, L: Ledger>(
     }
     match decided(found) {
         Some(tail) => (found.steps, tail),
-        None => {
-            let (_front, rest) = view.split_at(count);
-            settle(&rest, found, steps)
-        }
+        None => settle_behind(view, count, found, steps),
     }
 }
 

@@ -89,7 +89,8 @@ pub fn read_residue_counted<L: Ledger>(
     ensures cost { steps.new ≤ steps.old + 4 * length s.now + 3 * width + 28 }
 {
     // Borrowed: the views are not copied out of the answer.
-    match &scan(s, radix, steps) {
+    let scanned = scan(s, radix, steps);
+    match &scanned {
         Ok(found) => Ok(residue_of(found, radix, width, frac, mode, steps)),
         Err(error) => Err(*error),
     }

@@ -6,12 +6,6 @@ use Rattle.fixed_read.proofs.decimal.settled.Goals as goal
 some_behind : (ds : List ℕ) (count : ℕ) → count < length ds → drop count ds ≡ [] → ⊥
 some_behind ds count l e = absurd (omega (arith, l, length-drop count ds, ap length e))
 
-pub settle-requires-clause-trailing : goal.settle-requires-clause-trailing
-settle-requires-clause-trailing g c =
-    let count : c.from-count.result ≡ c.args.count = c.from-count.ensures in
-    let rest : c.split_at-front.result.1 ≡ drop c.args.count c.args.view.now = rw count at c.split_at-front.ensures.back in
-    rw rest (trailing_back c.args.view.now c.args.count c.requires.trailing)
-
 pub returns-in-Some-clause-settled : goal.returns-in-Some-clause-settled
 returns-in-Some-clause-settled g c =
     let count : c.from-count.result ≡ c.args.count = c.from-count.ensures in
