@@ -12,8 +12,9 @@ use std::marker::Model;
 #[derive(Clone, Copy, Debug, PartialEq, Eq)]
 pub struct Format {
     signed: bool,
-    width: u32,
-    frac: u32,
+    // Both in a byte, so that a format is handed on in a register.
+    width: u8,
+    frac: u8,
 }
 
 impl Model for Format {
@@ -37,8 +38,8 @@ impl Format {
         match width {
             8 | 16 | 32 | 64 if frac <= width => Some(Format {
                 signed,
-                width,
-                frac,
+                width: width as u8,
+                frac: frac as u8,
             }),
             _ => None,
         }
@@ -56,7 +57,7 @@ impl Format {
         ensures width { result ≡ self.width }
         ensures valid { IsFormat self.width self.frac }
     {
-        self.width
+        u32::from(self.width)
     }
 
     /// How many of the bits are behind the point.
@@ -64,14 +65,14 @@ impl Format {
         ensures frac { result ≡ self.frac }
         ensures valid { IsFormat self.width self.frac }
     {
-        self.frac
+        u32::from(self.frac)
     }
 
     /// The lowest bits, as a number.
     pub fn lowest(self) -> i128
         ensures { result ≡ lowest self.signed self.width }
     {
-        if self.signed { -half(self.width) } else { 0 }
+        if self.signed { -half(self.width()) } else { 0 }
     }
 
     /// The greatest bits, as a number.
@@ -79,9 +80,9 @@ impl Format {
         ensures { result ≡ greatest self.signed self.width }
     {
         let count = if self.signed {
-            half(self.width)
+            half(self.width())
         } else {
-            power(self.width)
+            power(self.width())
         };
         count - 1
     }
@@ -169,112 +170,38 @@ pub fn mul10(rest: u64, bits: u32) -> (u8, u64)
 mod tests {
     use super::*;
 
-    /// A width and a fraction length, and whether they make a format.
-    #[derive(Drop)]
-    struct Edge {
-        width: u32,
-        frac: u32,
-        valid: bool,
+    fn is_format(width: u32, frac: u32) -> bool {
+        Format::new(true, width, frac).is_some()
     }
 
     #[test]
     fn formats_at_the_edges_of_validity(rt: HostRuntime) {
-        let edges = [
-            Edge {
-                width: 24,
-                frac: 0,
-                valid: false,
-            },
-            Edge {
-                width: 8,
-                frac: 9,
-                valid: false,
-            },
-            Edge {
-                width: 8,
-                frac: 8,
-                valid: true,
-            },
-            Edge {
-                width: 64,
-                frac: 65,
-                valid: false,
-            },
-            Edge {
-                width: 64,
-                frac: 64,
-                valid: true,
-            },
-            Edge {
-                width: 0,
-                frac: 0,
-                valid: false,
-            },
-            Edge {
-                width: 128,
-                frac: 0,
-                valid: false,
-            },
-        ];
-        for edge in &edges {
-            let made = Format::new(true, edge.width, edge.frac).is_some();
-            assert!(rt;
-                made == edge.valid,
-                "width {} with {} fraction bits",
-                edge.width,
-                edge.frac
-            );
-        }
+        assert!(rt; is_format(8, 8));
+        assert!(rt; !is_format(8, 9));
+        assert!(rt; is_format(64, 64));
+        assert!(rt; !is_format(64, 65));
+        assert!(rt; !is_format(0, 0));
+        assert!(rt; !is_format(24, 0));
+        assert!(rt; !is_format(128, 0));
     }
 
-    /// Whether a format is signed, its width, and the ends of its range.
-    #[derive(Drop)]
-    struct Ends {
-        signed: bool,
-        width: u32,
-        lowest: i128,
-        greatest: i128,
+    /// The ends of the range of a format without fraction bits.
+    fn ends(signed: bool, width: u32) -> Option<(i128, i128)> {
+        match Format::new(signed, width, 0) {
+            Some(format) => Some((format.lowest(), format.greatest())),
+            None => None,
+        }
     }
 
     #[test]
     fn ends_of_the_ranges(rt: HostRuntime) {
-        let all = [
-            Ends {
-                signed: true,
-                width: 8,
-                lowest: -128,
-                greatest: 127,
-            },
-            Ends {
-                signed: false,
-                width: 8,
-                lowest: 0,
-                greatest: 255,
-            },
-            Ends {
-                signed: true,
-                width: 64,
-                lowest: -9223372036854775808,
-                greatest: 9223372036854775807,
-            },
-            Ends {
-                signed: false,
-                width: 64,
-                lowest: 0,
-                greatest: 18446744073709551615,
-            },
-        ];
-        for ends in &all {
-            let found = match Format::new(ends.signed, ends.width, 0) {
-                Some(format) => (format.lowest(), format.greatest()),
-                None => (0, 0),
-            };
-            assert!(rt;
-                found == (ends.lowest, ends.greatest),
-                "width {}",
-                ends.width
-            );
-        }
+        assert_eq!(rt; ends(true, 8), Some((-128, 127)));
+        assert_eq!(rt; ends(false, 8), Some((0, 255)));
+        assert_eq!(rt;
+            ends(true, 64),
+            Some((-9223372036854775808, 9223372036854775807))
+        );
+        assert_eq!(rt; ends(false, 64), Some((0, 18446744073709551615)));
     }
 
     /// A number, and its images in the format of eight bits without a sign.
