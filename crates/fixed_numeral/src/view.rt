@@ -241,6 +241,22 @@ impl<'a> DigitView<'a> {
         if self.before == 0 && self.left.len() == 0 && i <= self.right.len() {
             return self.right.front_number(base, i);
         }
+        if i == self.len() {
+            return self.number(base);
+        }
+        self.cut_number(base, i)
+    }
+
+    /// The same where there are more, cut off behind them.
+    #[inline(never)]
+    fn cut_number(&self, base: u64, i: u64) -> u64
+        requires within { i ≤ length self.now }
+        requires digits { AllBelowBase base self.now }
+        requires least { 2 ≤ base }
+        requires most { base ≤ 16 }
+        requires room { base ^ i ≤ 2 ^ 64 }
+        ensures { result ≡ number_from_digits base (take i self.now) }
+    {
         let (front, _back) = self.split_at(i);
         front.number(base)
     }

@@ -1,8 +1,7 @@
 use Rattle.std.proofs.Common.{◌∙◌, [], take, refl, ap, arith}
 use Rattle.std.specs.Int.Digits.{number_from_digits}
-use Rattle.fixed_numeral.proofs.PlaceLemmas.{below_split}
 use Rattle.fixed_numeral.proofs.ViewLemmas.{left_front, right_alone}
-use Rattle.fixed_numeral.proofs.NumberLemmas.{left_digits, first_room}
+use Rattle.fixed_numeral.proofs.NumberLemmas.{left_digits}
 use Rattle.fixed_numeral.proofs.view.DigitView.parted_number.Goals as goal
 
 -- ---- where all stand in the second slice
@@ -15,13 +14,3 @@ pub returns-then-i-len : goal.returns-then-i-len
 returns-then-i-len c =
     let view = right_alone c.args.self.now c.self.inside.left c.self.inside.right c.self.inside.before c.self.inside.after c.self.view_is c.if-self-eq0.true (omega (arith, c.if-len-eq0.true)) in
     c.front_number.ensures ∙ ap (number_from_digits c.args.base) (left_front c.args.self.now (take c.args.i c.self.inside.right) c.self.inside.right [] c.args.i 0 c.self.inside.after view refl (omega (arith, c.if-i-len.true)) refl)
-
--- ---- elsewhere
-pub number-requires-clause-digits : goal.number-requires-clause-digits
-number-requires-clause-digits c = rw c.split_at-front.ensures.front (below_split c.args.base c.args.self.now c.args.i c.requires.digits).0
-
-pub number-requires-clause-room : goal.number-requires-clause-room
-number-requires-clause-room c = first_room c.args.base c.args.i c.args.i c.args.self.now c.split_at-front.result.0 c.requires.least c.requires.room (omega (arith, c.requires.within)) c.split_at-front.ensures.front
-
-pub returns : goal.returns
-returns c = c.number.ensures ∙ ap (number_from_digits c.args.base) c.split_at-front.ensures.front
