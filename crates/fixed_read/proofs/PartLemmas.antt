@@ -51,6 +51,14 @@ word_room bits t c some few l h =
     let z : bits * c ≤ 64 = omega (arith, most, twice) in
     rw (pow-mul 2 bits c) (pow-le-pow_right {n = 2} (omega arith) z)
 
+-- and all of them where there are at most 60 bits
+pub block_room : (bits t c : ℕ) → 0 < bits → bits ≤ 4 → t ≤ 60 → c ≡ t / bits + 1 → (2 ^ bits) ^ c ≤ 2 ^ 64
+block_room bits t c some few l e =
+    let most = count_most bits t some in
+    let same : c * bits ≡ (t / bits + 1) * bits = ap (λ x. x * bits) e in
+    let z : bits * c ≤ 64 = omega (arith, most, same) in
+    rw (pow-mul 2 bits c) (pow-le-pow_right {n = 2} (omega arith) z)
+
 pub spare_half : (bits t : ℕ) → 0 < bits → 2 ^ ((t / bits + 1) * bits - t) ≡ 2 * 2 ^ ((t / bits + 1) * bits - t - 1)
 spare_half bits t some = ap (λ i. 2 ^ i) (let z : (t / bits + 1) * bits - t ≡ ((t / bits + 1) * bits - t - 1) + 1 = omega (arith, count_enough bits t some) in z) ∙ pow-add 2 ((t / bits + 1) * bits - t - 1) 1 ∙ omega arith
 

@@ -88,7 +88,7 @@ pub fn read_residue_counted<L: Ledger>(
     ensures residue { IfOk result (λ c. (p : Parts) → HasNumeral radix s.now p → IsResidue mode radix p frac width c.negative c.value c.beyond) }
     ensures cost { steps.new ≤ steps.old + 4 * length s.now + 3 * width + 28 }
 {
-    // Borrowed: the views are not copied out of the answer.
+    // The views are read where the answer lies.
     let scanned = scan(s, radix, steps);
     match &scanned {
         Ok(found) => Ok(residue_of(found, radix, width, frac, mode, steps)),

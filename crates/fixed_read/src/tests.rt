@@ -17,15 +17,27 @@ struct Case {
     want: Result<i128, ParseErrorKind>,
 }
 
-/// A numeral, and its bits in the four modes.
+/// The case of a numeral.
+fn row(text: &'static str, radix: Radix, frac: u32, want: Result<i128, ParseErrorKind>) -> Case {
+    Case {
+        text,
+        radix,
+        frac,
+        want,
+    }
+}
+
+/// A decimal numeral, and its bits in the modes NearestEven, Floor, Ceil and TowardsZero.
 #[derive(Drop)]
 struct ModeCase {
     text: &'static str,
     frac: u32,
-    nearest: i128,
-    floor: i128,
-    ceil: i128,
-    zero: i128,
+    bits: [i128; 4],
+}
+
+/// The case of a decimal numeral in the four modes.
+fn modes(text: &'static str, frac: u32, bits: [i128; 4]) -> ModeCase {
+    ModeCase { text, frac, bits }
 }
 
 fn read<I: Inner>(
@@ -44,10 +56,11 @@ fn read<I: Inner>(
 }
 
 fn reads_in_each_mode<I: Inner>(case: &ModeCase) -> bool {
-    read::<I>(case.text, Radix::Dec, case.frac, ReadMode::NearestEven) == Ok(case.nearest)
-        && read::<I>(case.text, Radix::Dec, case.frac, ReadMode::Floor) == Ok(case.floor)
-        && read::<I>(case.text, Radix::Dec, case.frac, ReadMode::Ceil) == Ok(case.ceil)
-        && read::<I>(case.text, Radix::Dec, case.frac, ReadMode::TowardsZero) == Ok(case.zero)
+    let [nearest, floor, ceil, zero] = case.bits;
+    read::<I>(case.text, Radix::Dec, case.frac, ReadMode::NearestEven) == Ok(nearest)
+        && read::<I>(case.text, Radix::Dec, case.frac, ReadMode::Floor) == Ok(floor)
+        && read::<I>(case.text, Radix::Dec, case.frac, ReadMode::Ceil) == Ok(ceil)
+        && read::<I>(case.text, Radix::Dec, case.frac, ReadMode::TowardsZero) == Ok(zero)
 }
 
 /// At, just above and just below a halfway point: (2q + 1) / 2^(f + 1) is (2q + 1) * 5^(f + 1) / 10^(f + 1), and a last
@@ -56,78 +69,15 @@ fn reads_in_each_mode<I: Inner>(case: &ModeCase) -> bool {
 #[test]
 fn u8_reads_ties_and_their_neighbours(rt: HostRuntime) {
     let cases = [
-        ModeCase {
-            text: "3.5",
-            frac: 0,
-            nearest: 4,
-            floor: 3,
-            ceil: 4,
-            zero: 3,
-        },
-        ModeCase {
-            text: "3.51",
-            frac: 0,
-            nearest: 4,
-            floor: 3,
-            ceil: 4,
-            zero: 3,
-        },
-        ModeCase {
-            text: "3.49",
-            frac: 0,
-            nearest: 3,
-            floor: 3,
-            ceil: 4,
-            zero: 3,
-        },
-        ModeCase {
-            text: "5.34375",
-            frac: 4,
-            nearest: 86,
-            floor: 85,
-            ceil: 86,
-            zero: 85,
-        },
-        ModeCase {
-            text: "5.343751",
-            frac: 4,
-            nearest: 86,
-            floor: 85,
-            ceil: 86,
-            zero: 85,
-        },
-        ModeCase {
-            text: "5.343749",
-            frac: 4,
-            nearest: 85,
-            floor: 85,
-            ceil: 86,
-            zero: 85,
-        },
-        ModeCase {
-            text: "0.333984375",
-            frac: 8,
-            nearest: 86,
-            floor: 85,
-            ceil: 86,
-            zero: 85,
-        },
-        ModeCase {
-            text: "0.3339843751",
-            frac: 8,
-            nearest: 86,
-            floor: 85,
-            ceil: 86,
-            zero: 85,
-        },
-        ModeCase {
-            text: "0.3339843749",
-            frac: 8,
-            nearest: 85,
-            floor: 85,
-            ceil: 86,
-            zero: 85,
-        },
+        modes("3.5", 0, [4, 3, 4, 3]),
+        modes("3.51", 0, [4, 3, 4, 3]),
+        modes("3.49", 0, [3, 3, 4, 3]),
+        modes("5.34375", 4, [86, 85, 86, 85]),
+        modes("5.343751", 4, [86, 85, 86, 85]),
+        modes("5.343749", 4, [85, 85, 86, 85]),
+        modes("0.333984375", 8, [86, 85, 86, 85]),
+        modes("0.3339843751", 8, [86, 85, 86, 85]),
+        modes("0.3339843749", 8, [85, 85, 86, 85]),
     ];
     for case in &cases {
         assert!(rt; reads_in_each_mode::<u8>(case), "at {}", case.text);
@@ -136,79 +86,17 @@ fn u8_reads_ties_and_their_neighbours(rt: HostRuntime) {
 
 #[test]
 fn i16_reads_ties_and_their_neighbours(rt: HostRuntime) {
+    let q: i128 = -10923;
     let cases = [
-        ModeCase {
-            text: "-3.5",
-            frac: 0,
-            nearest: -4,
-            floor: -4,
-            ceil: -3,
-            zero: -3,
-        },
-        ModeCase {
-            text: "-3.51",
-            frac: 0,
-            nearest: -4,
-            floor: -4,
-            ceil: -3,
-            zero: -3,
-        },
-        ModeCase {
-            text: "-3.49",
-            frac: 0,
-            nearest: -3,
-            floor: -4,
-            ceil: -3,
-            zero: -3,
-        },
-        ModeCase {
-            text: "-42.666015625",
-            frac: 8,
-            nearest: -10922,
-            floor: -10923,
-            ceil: -10922,
-            zero: -10922,
-        },
-        ModeCase {
-            text: "-42.6660156251",
-            frac: 8,
-            nearest: -10923,
-            floor: -10923,
-            ceil: -10922,
-            zero: -10922,
-        },
-        ModeCase {
-            text: "-42.6660156249",
-            frac: 8,
-            nearest: -10922,
-            floor: -10923,
-            ceil: -10922,
-            zero: -10922,
-        },
-        ModeCase {
-            text: "-0.3333282470703125",
-            frac: 15,
-            nearest: -10922,
-            floor: -10923,
-            ceil: -10922,
-            zero: -10922,
-        },
-        ModeCase {
-            text: "-0.33332824707031251",
-            frac: 15,
-            nearest: -10923,
-            floor: -10923,
-            ceil: -10922,
-            zero: -10922,
-        },
-        ModeCase {
-            text: "-0.33332824707031249",
-            frac: 15,
-            nearest: -10922,
-            floor: -10923,
-            ceil: -10922,
-            zero: -10922,
-        },
+        modes("-3.5", 0, [-4, -4, -3, -3]),
+        modes("-3.51", 0, [-4, -4, -3, -3]),
+        modes("-3.49", 0, [-3, -4, -3, -3]),
+        modes("-42.666015625", 8, [q + 1, q, q + 1, q + 1]),
+        modes("-42.6660156251", 8, [q, q, q + 1, q + 1]),
+        modes("-42.6660156249", 8, [q + 1, q, q + 1, q + 1]),
+        modes("-0.3333282470703125", 15, [q + 1, q, q + 1, q + 1]),
+        modes("-0.33332824707031251", 15, [q, q, q + 1, q + 1]),
+        modes("-0.33332824707031249", 15, [q + 1, q, q + 1, q + 1]),
     ];
     for case in &cases {
         assert!(rt; reads_in_each_mode::<i16>(case), "at {}", case.text);
@@ -217,79 +105,25 @@ fn i16_reads_ties_and_their_neighbours(rt: HostRuntime) {
 
 #[test]
 fn u32_reads_ties_and_their_neighbours(rt: HostRuntime) {
+    let q: i128 = 1431655765;
     let cases = [
-        ModeCase {
-            text: "3.5",
-            frac: 0,
-            nearest: 4,
-            floor: 3,
-            ceil: 4,
-            zero: 3,
-        },
-        ModeCase {
-            text: "3.51",
-            frac: 0,
-            nearest: 4,
-            floor: 3,
-            ceil: 4,
-            zero: 3,
-        },
-        ModeCase {
-            text: "3.49",
-            frac: 0,
-            nearest: 3,
-            floor: 3,
-            ceil: 4,
-            zero: 3,
-        },
-        ModeCase {
-            text: "21845.33333587646484375",
-            frac: 16,
-            nearest: 1431655766,
-            floor: 1431655765,
-            ceil: 1431655766,
-            zero: 1431655765,
-        },
-        ModeCase {
-            text: "21845.333335876464843751",
-            frac: 16,
-            nearest: 1431655766,
-            floor: 1431655765,
-            ceil: 1431655766,
-            zero: 1431655765,
-        },
-        ModeCase {
-            text: "21845.333335876464843749",
-            frac: 16,
-            nearest: 1431655765,
-            floor: 1431655765,
-            ceil: 1431655766,
-            zero: 1431655765,
-        },
-        ModeCase {
-            text: "0.333333333372138440608978271484375",
-            frac: 32,
-            nearest: 1431655766,
-            floor: 1431655765,
-            ceil: 1431655766,
-            zero: 1431655765,
-        },
-        ModeCase {
-            text: "0.3333333333721384406089782714843751",
-            frac: 32,
-            nearest: 1431655766,
-            floor: 1431655765,
-            ceil: 1431655766,
-            zero: 1431655765,
-        },
-        ModeCase {
-            text: "0.3333333333721384406089782714843749",
-            frac: 32,
-            nearest: 1431655765,
-            floor: 1431655765,
-            ceil: 1431655766,
-            zero: 1431655765,
-        },
+        modes("3.5", 0, [4, 3, 4, 3]),
+        modes("3.51", 0, [4, 3, 4, 3]),
+        modes("3.49", 0, [3, 3, 4, 3]),
+        modes("21845.33333587646484375", 16, [q + 1, q, q + 1, q]),
+        modes("21845.333335876464843751", 16, [q + 1, q, q + 1, q]),
+        modes("21845.333335876464843749", 16, [q, q, q + 1, q]),
+        modes(
+            "0.333333333372138440608978271484375",
+            32,
+            [q + 1, q, q + 1, q],
+        ),
+        modes(
+            "0.3333333333721384406089782714843751",
+            32,
+            [q + 1, q, q + 1, q],
+        ),
+        modes("0.3333333333721384406089782714843749", 32, [q, q, q + 1, q]),
     ];
     for case in &cases {
         assert!(rt; reads_in_each_mode::<u32>(case), "at {}", case.text);
@@ -298,55 +132,26 @@ fn u32_reads_ties_and_their_neighbours(rt: HostRuntime) {
 
 #[test]
 fn i64_reads_ties_and_their_neighbours(rt: HostRuntime) {
+    let q: i128 = -3074457345618258603;
     let cases = [
-        ModeCase {
-            text: "-3.5",
-            frac: 0,
-            nearest: -4,
-            floor: -4,
-            ceil: -3,
-            zero: -3,
-        },
-        ModeCase {
-            text: "-3.51",
-            frac: 0,
-            nearest: -4,
-            floor: -4,
-            ceil: -3,
-            zero: -3,
-        },
-        ModeCase {
-            text: "-3.49",
-            frac: 0,
-            nearest: -3,
-            floor: -4,
-            ceil: -3,
-            zero: -3,
-        },
-        ModeCase {
-            text: "-715827882.666666666627861559391021728515625",
-            frac: 32,
-            nearest: -3074457345618258602,
-            floor: -3074457345618258603,
-            ceil: -3074457345618258602,
-            zero: -3074457345618258602,
-        },
-        ModeCase {
-            text: "-715827882.6666666666278615593910217285156251",
-            frac: 32,
-            nearest: -3074457345618258603,
-            floor: -3074457345618258603,
-            ceil: -3074457345618258602,
-            zero: -3074457345618258602,
-        },
-        ModeCase {
-            text: "-715827882.6666666666278615593910217285156249",
-            frac: 32,
-            nearest: -3074457345618258602,
-            floor: -3074457345618258603,
-            ceil: -3074457345618258602,
-            zero: -3074457345618258602,
-        },
+        modes("-3.5", 0, [-4, -4, -3, -3]),
+        modes("-3.51", 0, [-4, -4, -3, -3]),
+        modes("-3.49", 0, [-3, -4, -3, -3]),
+        modes(
+            "-715827882.666666666627861559391021728515625",
+            32,
+            [q + 1, q, q + 1, q + 1],
+        ),
+        modes(
+            "-715827882.6666666666278615593910217285156251",
+            32,
+            [q, q, q + 1, q + 1],
+        ),
+        modes(
+            "-715827882.6666666666278615593910217285156249",
+            32,
+            [q + 1, q, q + 1, q + 1],
+        ),
     ];
     for case in &cases {
         assert!(rt; reads_in_each_mode::<i64>(case), "at {}", case.text);
@@ -355,143 +160,108 @@ fn i64_reads_ties_and_their_neighbours(rt: HostRuntime) {
 
 #[test]
 fn u64_reads_ties_and_their_neighbours(rt: HostRuntime) {
+    let q: i128 = 6148914691236517205;
     let cases = [
-        ModeCase {
-            text: "0.33333333333333333334236835143737920361672877334058284759521484375",
-            frac: 64,
-            nearest: 6148914691236517206,
-            floor: 6148914691236517205,
-            ceil: 6148914691236517206,
-            zero: 6148914691236517205,
-        },
-        ModeCase {
-            text: "0.333333333333333333342368351437379203616728773340582847595214843751",
-            frac: 64,
-            nearest: 6148914691236517206,
-            floor: 6148914691236517205,
-            ceil: 6148914691236517206,
-            zero: 6148914691236517205,
-        },
-        ModeCase {
-            text: "0.333333333333333333342368351437379203616728773340582847595214843749",
-            frac: 64,
-            nearest: 6148914691236517205,
-            floor: 6148914691236517205,
-            ceil: 6148914691236517206,
-            zero: 6148914691236517205,
-        },
+        modes(
+            "0.33333333333333333334236835143737920361672877334058284759521484375",
+            64,
+            [q + 1, q, q + 1, q],
+        ),
+        modes(
+            "0.333333333333333333342368351437379203616728773340582847595214843751",
+            64,
+            [q + 1, q, q + 1, q],
+        ),
+        modes(
+            "0.333333333333333333342368351437379203616728773340582847595214843749",
+            64,
+            [q, q, q + 1, q],
+        ),
     ];
     for case in &cases {
         assert!(rt; reads_in_each_mode::<u64>(case), "at {}", case.text);
     }
 }
 
-/// A numeral, and what it reads as with so many bits behind the point: nearest, at most, and at least.
-fn in_modes(text: &'static str, frac: u32, nearest: i128, floor: i128, ceil: i128) -> ModeCase {
-    ModeCase {
-        text,
-        frac,
-        nearest,
-        floor,
-        ceil,
-        zero: floor,
-    }
-}
-
-/// Thirteen digits make the block; the halfway point of 31 bits has 19 digits behind that, and of 32 bits 20.
+/// Thirteen digits make the block; the halfway point of 31 bits has 19 digits behind that.
 #[test]
-fn halfway_points_of_31_and_32_bits(rt: HostRuntime) {
+fn halfway_points_of_31_bits(rt: HostRuntime) {
+    let q: i128 = 1234567890;
     let cases = [
-        in_modes(
-            "0.57489047315903007984161376953125",
-            31,
-            1234567890,
-            1234567890,
-            1234567891,
-        ),
-        in_modes(
+        modes("0.57489047315903007984161376953125", 31, [q, q, q + 1, q]),
+        modes(
             "0.574890473159030079841613769531251",
             31,
-            1234567891,
-            1234567890,
-            1234567891,
+            [q + 1, q, q + 1, q],
         ),
-        in_modes(
+        modes(
             "0.57489047315903007984161376953125000000000000000000001",
             31,
-            1234567891,
-            1234567890,
-            1234567891,
+            [q + 1, q, q + 1, q],
         ),
-        in_modes(
-            "0.57489047315903007984161376953124",
-            31,
-            1234567890,
-            1234567890,
-            1234567891,
-        ),
-        in_modes(
+        modes("0.57489047315903007984161376953124", 31, [q, q, q + 1, q]),
+    ];
+    for case in &cases {
+        assert!(rt; reads_in_each_mode::<u64>(case), "at {}", case.text);
+    }
+}
+
+/// The halfway point of 32 bits has 20 digits behind the block.
+#[test]
+fn halfway_points_of_32_bits(rt: HostRuntime) {
+    let q: i128 = 3141592653;
+    let cases = [
+        modes(
             "0.731459039612673223018646240234375",
             32,
-            3141592654,
-            3141592653,
-            3141592654,
+            [q + 1, q, q + 1, q],
         ),
-        in_modes(
+        modes(
             "0.7314590396126732230186462402343751",
             32,
-            3141592654,
-            3141592653,
-            3141592654,
+            [q + 1, q, q + 1, q],
         ),
-        in_modes(
+        modes(
             "0.731459039612673223018646240234375000000000000000000001",
             32,
-            3141592654,
-            3141592653,
-            3141592654,
+            [q + 1, q, q + 1, q],
         ),
-        in_modes(
-            "0.731459039612673223018646240234374",
-            32,
-            3141592653,
-            3141592653,
-            3141592654,
-        ),
-        in_modes(
+        modes("0.731459039612673223018646240234374", 32, [q, q, q + 1, q]),
+        modes(
             "0.73145903961267322301864624023437499999999999999999999",
             32,
-            3141592653,
-            3141592653,
-            3141592654,
+            [q, q, q + 1, q],
         ),
-        in_modes(
+    ];
+    for case in &cases {
+        assert!(rt; reads_in_each_mode::<u64>(case), "at {}", case.text);
+    }
+}
+
+/// The same behind a whole part.
+#[test]
+fn halfway_points_of_32_bits_behind_a_whole_part(rt: HostRuntime) {
+    let q: i128 = 17179869186718281828;
+    let cases = [
+        modes(
             "4000000000.632899307762272655963897705078125",
             32,
-            17179869186718281828,
-            17179869186718281828,
-            17179869186718281829,
+            [q, q, q + 1, q],
         ),
-        in_modes(
+        modes(
             "4000000000.6328993077622726559638977050781251",
             32,
-            17179869186718281829,
-            17179869186718281828,
-            17179869186718281829,
+            [q + 1, q, q + 1, q],
         ),
-        in_modes(
+        modes(
             "4000000000.632899307762272655963897705078125000000000000000000001",
             32,
-            17179869186718281829,
-            17179869186718281828,
-            17179869186718281829,
+            [q + 1, q, q + 1, q],
         ),
-        in_modes(
+        modes(
             "4000000000.632899307762272655963897705078124",
             32,
-            17179869186718281828,
-            17179869186718281828,
-            17179869186718281829,
+            [q, q, q + 1, q],
         ),
     ];
     for case in &cases {
@@ -499,72 +269,30 @@ fn halfway_points_of_31_and_32_bits(rt: HostRuntime) {
     }
 }
 
-/// Twenty-seven digits make the block; the halfway point of 63 bits has 37 digits behind that, and of 64 bits 38.
+/// Twenty-seven digits make the block; the halfway point of 63 bits has 37 digits behind that.
 #[test]
-fn halfway_points_of_63_and_64_bits(rt: HostRuntime) {
+fn halfway_points_of_63_bits(rt: HostRuntime) {
+    let q: i128 = 5734161139222658001;
     let cases = [
-        in_modes(
+        modes(
             "0.6216989964527160855245306592120613231600145809352397918701171875",
             63,
-            5734161139222658002,
-            5734161139222658001,
-            5734161139222658002,
+            [q + 1, q, q + 1, q],
         ),
-        in_modes(
+        modes(
             "0.62169899645271608552453065921206132316001458093523979187011718751",
             63,
-            5734161139222658002,
-            5734161139222658001,
-            5734161139222658002,
+            [q + 1, q, q + 1, q],
         ),
-        in_modes(
+        modes(
             "0.6216989964527160855245306592120613231600145809352397918701171875000000000000000000001",
             63,
-            5734161139222658002,
-            5734161139222658001,
-            5734161139222658002,
+            [q + 1, q, q + 1, q],
         ),
-        in_modes(
+        modes(
             "0.6216989964527160855245306592120613231600145809352397918701171874",
             63,
-            5734161139222658001,
-            5734161139222658001,
-            5734161139222658002,
-        ),
-        in_modes(
-            "0.59999999999999999999457898913757247782996273599565029144287109375",
-            64,
-            11068046444225730970,
-            11068046444225730969,
-            11068046444225730970,
-        ),
-        in_modes(
-            "0.599999999999999999994578989137572477829962735995650291442871093751",
-            64,
-            11068046444225730970,
-            11068046444225730969,
-            11068046444225730970,
-        ),
-        in_modes(
-            "0.59999999999999999999457898913757247782996273599565029144287109375000000000000000000001",
-            64,
-            11068046444225730970,
-            11068046444225730969,
-            11068046444225730970,
-        ),
-        in_modes(
-            "0.59999999999999999999457898913757247782996273599565029144287109374",
-            64,
-            11068046444225730969,
-            11068046444225730969,
-            11068046444225730970,
-        ),
-        in_modes(
-            "0.5999999999999999999945789891375724778299627359956502914428710937499999999999999999999",
-            64,
-            11068046444225730969,
-            11068046444225730969,
-            11068046444225730970,
+            [q, q, q + 1, q],
         ),
     ];
     for case in &cases {
@@ -572,144 +300,135 @@ fn halfway_points_of_63_and_64_bits(rt: HostRuntime) {
     }
 }
 
-/// A step of 32 bits has 19 digits behind the block, and one of 64 bits 37. The block alone makes one step less.
+/// The halfway point of 64 bits has 38 digits behind the block.
 #[test]
-fn next_steps_as_deep_as_their_bits(rt: HostRuntime) {
+fn halfway_points_of_64_bits(rt: HostRuntime) {
+    let q: i128 = 11068046444225730969;
     let cases = [
-        in_modes(
-            "0.73145903949625790119171142578125",
-            32,
-            3141592653,
-            3141592653,
-            3141592653,
-        ),
-        in_modes(
-            "0.731459039496257901191711425781251",
-            32,
-            3141592653,
-            3141592653,
-            3141592654,
-        ),
-        in_modes(
-            "0.73145903949625790119171142578125000000000000000000001",
-            32,
-            3141592653,
-            3141592653,
-            3141592654,
-        ),
-        in_modes(
-            "0.73145903949625790119171142578124",
-            32,
-            3141592653,
-            3141592652,
-            3141592653,
-        ),
-        in_modes(
-            "0.7314590394962579011917114257812499999999999999999999",
-            32,
-            3141592653,
-            3141592652,
-            3141592653,
-        ),
-        in_modes(
-            "0.5999999999999999999674739348254348669797764159739017486572265625",
+        modes(
+            "0.59999999999999999999457898913757247782996273599565029144287109375",
             64,
-            11068046444225730969,
-            11068046444225730969,
-            11068046444225730969,
+            [q + 1, q, q + 1, q],
         ),
-        in_modes(
-            "0.59999999999999999996747393482543486697977641597390174865722656251",
+        modes(
+            "0.599999999999999999994578989137572477829962735995650291442871093751",
             64,
-            11068046444225730969,
-            11068046444225730969,
-            11068046444225730970,
+            [q + 1, q, q + 1, q],
         ),
-        in_modes(
-            "0.5999999999999999999674739348254348669797764159739017486572265625000000000000000000001",
+        modes(
+            "0.59999999999999999999457898913757247782996273599565029144287109375000000000000000000001",
             64,
-            11068046444225730969,
-            11068046444225730969,
-            11068046444225730970,
+            [q + 1, q, q + 1, q],
         ),
-        in_modes(
-            "0.5999999999999999999674739348254348669797764159739017486572265624",
+        modes(
+            "0.59999999999999999999457898913757247782996273599565029144287109374",
             64,
-            11068046444225730969,
-            11068046444225730968,
-            11068046444225730969,
+            [q, q, q + 1, q],
         ),
-        in_modes(
-            "0.599999999999999999967473934825434866979776415973901748657226562499999999999999999999",
+        modes(
+            "0.5999999999999999999945789891375724778299627359956502914428710937499999999999999999999",
             64,
-            11068046444225730969,
-            11068046444225730968,
-            11068046444225730969,
+            [q, q, q + 1, q],
         ),
     ];
     for case in &cases {
         assert!(rt; reads_in_each_mode::<u64>(case), "at {}", case.text);
     }
+}
+
+/// A step of 32 bits has 19 digits behind the block. The block alone makes one step less.
+#[test]
+fn next_steps_of_32_bits(rt: HostRuntime) {
+    let q: i128 = 3141592653;
+    let cases = [
+        modes("0.73145903949625790119171142578125", 32, [q, q, q, q]),
+        modes("0.731459039496257901191711425781251", 32, [q, q, q + 1, q]),
+        modes(
+            "0.73145903949625790119171142578125000000000000000000001",
+            32,
+            [q, q, q + 1, q],
+        ),
+        modes(
+            "0.73145903949625790119171142578124",
+            32,
+            [q, q - 1, q, q - 1],
+        ),
+        modes(
+            "0.7314590394962579011917114257812499999999999999999999",
+            32,
+            [q, q - 1, q, q - 1],
+        ),
+    ];
+    for case in &cases {
+        assert!(rt; reads_in_each_mode::<u64>(case), "at {}", case.text);
+    }
+}
+
+/// A step of 64 bits has 37 digits behind the block.
+#[test]
+fn next_steps_of_64_bits(rt: HostRuntime) {
+    let q: i128 = 11068046444225730969;
+    let cases = [
+        modes(
+            "0.5999999999999999999674739348254348669797764159739017486572265625",
+            64,
+            [q, q, q, q],
+        ),
+        modes(
+            "0.59999999999999999996747393482543486697977641597390174865722656251",
+            64,
+            [q, q, q + 1, q],
+        ),
+        modes(
+            "0.5999999999999999999674739348254348669797764159739017486572265625000000000000000000001",
+            64,
+            [q, q, q + 1, q],
+        ),
+        modes(
+            "0.5999999999999999999674739348254348669797764159739017486572265624",
+            64,
+            [q, q - 1, q, q - 1],
+        ),
+        modes(
+            "0.599999999999999999967473934825434866979776415973901748657226562499999999999999999999",
+            64,
+            [q, q - 1, q, q - 1],
+        ),
+    ];
+    for case in &cases {
+        assert!(rt; reads_in_each_mode::<u64>(case), "at {}", case.text);
+    }
+}
+
+/// A numeral between q and q + 1 steps that is nearer to q.
+fn nearer_to(q: u64, text: &'static str, frac: u32) -> ModeCase {
+    let q = i128::from(q);
+    modes(text, frac, [q, q, q + 1, q])
+}
+
+/// A numeral between q and q + 1 steps that is nearer to q + 1.
+fn nearer_behind(q: u64, text: &'static str, frac: u32) -> ModeCase {
+    let q = i128::from(q);
+    modes(text, frac, [q + 1, q, q + 1, q])
 }
 
 /// At most thirteen digits, and one more, for more bits than 32.
 #[test]
 fn few_digits_of_a_long_fraction(rt: HostRuntime) {
+    let half: i128 = 9223372036854775808;
     let cases = [
-        in_modes(
-            "0.1",
-            64,
-            1844674407370955162,
-            1844674407370955161,
-            1844674407370955162,
-        ),
-        in_modes(
-            "0.5",
-            64,
-            9223372036854775808,
-            9223372036854775808,
-            9223372036854775808,
-        ),
-        in_modes("0.0000000000001", 64, 1844674, 1844674, 1844675),
-        in_modes(
-            "0.9999999999999",
-            64,
-            18446744073707706942,
-            18446744073707706941,
-            18446744073707706942,
-        ),
-        in_modes(
-            "0.7305918264730",
-            64,
-            13477040445291449856,
-            13477040445291449855,
-            13477040445291449856,
-        ),
-        in_modes(
-            "0.73059182647305",
-            64,
-            13477040445292372193,
-            13477040445292372192,
-            13477040445292372193,
-        ),
-        in_modes("0.0000000000001", 33, 0, 0, 1),
-        in_modes("0.9999999999999", 33, 8589934592, 8589934591, 8589934592),
-        in_modes(
-            "1.2345678901234",
-            62,
-            5693439477681483458,
-            5693439477681483457,
-            5693439477681483458,
-        ),
-        in_modes("0.00000000000001", 64, 184467, 184467, 184468),
-        in_modes("0.3", 40, 329853488333, 329853488332, 329853488333),
-        in_modes(
-            "0.9999999999999",
-            45,
-            35184372088828,
-            35184372088828,
-            35184372088829,
-        ),
+        modes("0.5", 64, [half; 4]),
+        nearer_behind(1844674407370955161, "0.1", 64),
+        nearer_to(1844674, "0.0000000000001", 64),
+        nearer_behind(18446744073707706941, "0.9999999999999", 64),
+        nearer_behind(13477040445291449855, "0.7305918264730", 64),
+        nearer_behind(13477040445292372192, "0.73059182647305", 64),
+        nearer_to(184467, "0.00000000000001", 64),
+        nearer_behind(5693439477681483457, "1.2345678901234", 62),
+        nearer_to(35184372088828, "0.9999999999999", 45),
+        nearer_behind(329853488332, "0.3", 40),
+        nearer_to(0, "0.0000000000001", 33),
+        nearer_behind(8589934591, "0.9999999999999", 33),
     ];
     for case in &cases {
         assert!(rt; reads_in_each_mode::<u64>(case), "at {}", case.text);
@@ -720,30 +439,25 @@ fn few_digits_of_a_long_fraction(rt: HostRuntime) {
 #[test]
 fn half_a_step_of_the_longest_fraction(rt: HostRuntime) {
     let cases = [
-        Case {
-            text: "2710505431213761085018632002174854278564453125e-65",
-            radix: Radix::Dec,
-            frac: 64,
-            want: Ok(0),
-        },
-        Case {
-            text: "27105054312137610850186320021748542785644531251e-66",
-            radix: Radix::Dec,
-            frac: 64,
-            want: Ok(1),
-        },
-        Case {
-            text: "2710505431213761085018632002174854278564453124e-65",
-            radix: Radix::Dec,
-            frac: 64,
-            want: Ok(0),
-        },
-        Case {
-            text: "0.0000000000000000001",
-            radix: Radix::Dec,
-            frac: 64,
-            want: Ok(2),
-        },
+        row(
+            "2710505431213761085018632002174854278564453125e-65",
+            Radix::Dec,
+            64,
+            Ok(0),
+        ),
+        row(
+            "27105054312137610850186320021748542785644531251e-66",
+            Radix::Dec,
+            64,
+            Ok(1),
+        ),
+        row(
+            "2710505431213761085018632002174854278564453124e-65",
+            Radix::Dec,
+            64,
+            Ok(0),
+        ),
+        row("0.0000000000000000001", Radix::Dec, 64, Ok(2)),
     ];
     for case in &cases {
         let found = read::<u64>(case.text, case.radix, case.frac, ReadMode::NearestEven);
@@ -754,78 +468,18 @@ fn half_a_step_of_the_longest_fraction(rt: HostRuntime) {
 #[test]
 fn digits_on_both_sides_of_the_point(rt: HostRuntime) {
     let cases = [
-        Case {
-            text: "0.0058",
-            radix: Radix::Dec,
-            frac: 8,
-            want: Ok(1),
-        },
-        Case {
-            text: "0.251",
-            radix: Radix::Dec,
-            frac: 1,
-            want: Ok(1),
-        },
-        Case {
-            text: "0.998046874",
-            radix: Radix::Dec,
-            frac: 8,
-            want: Ok(255),
-        },
-        Case {
-            text: "0.998046875",
-            radix: Radix::Dec,
-            frac: 8,
-            want: Err(ParseErrorKind::Overflow),
-        },
-        Case {
-            text: "-0.5",
-            radix: Radix::Dec,
-            frac: 0,
-            want: Ok(0),
-        },
-        Case {
-            text: "-1.5",
-            radix: Radix::Dec,
-            frac: 0,
-            want: Err(ParseErrorKind::Overflow),
-        },
-        Case {
-            text: "0.1p1",
-            radix: Radix::Oct,
-            frac: 8,
-            want: Ok(64),
-        },
-        Case {
-            text: ".3p1",
-            radix: Radix::Oct,
-            frac: 1,
-            want: Ok(2),
-        },
-        Case {
-            text: "1.4p1",
-            radix: Radix::Oct,
-            frac: 0,
-            want: Ok(3),
-        },
-        Case {
-            text: "1.cp1",
-            radix: Radix::Hex,
-            frac: 0,
-            want: Ok(4),
-        },
-        Case {
-            text: ".8p1",
-            radix: Radix::Hex,
-            frac: 0,
-            want: Ok(1),
-        },
-        Case {
-            text: "1.8p1",
-            radix: Radix::Hex,
-            frac: 0,
-            want: Ok(3),
-        },
+        row("0.0058", Radix::Dec, 8, Ok(1)),
+        row("0.251", Radix::Dec, 1, Ok(1)),
+        row("0.998046874", Radix::Dec, 8, Ok(255)),
+        row("0.998046875", Radix::Dec, 8, Err(ParseErrorKind::Overflow)),
+        row("-0.5", Radix::Dec, 0, Ok(0)),
+        row("-1.5", Radix::Dec, 0, Err(ParseErrorKind::Overflow)),
+        row("0.1p1", Radix::Oct, 8, Ok(64)),
+        row(".3p1", Radix::Oct, 1, Ok(2)),
+        row("1.4p1", Radix::Oct, 0, Ok(3)),
+        row("1.cp1", Radix::Hex, 0, Ok(4)),
+        row(".8p1", Radix::Hex, 0, Ok(1)),
+        row("1.8p1", Radix::Hex, 0, Ok(3)),
     ];
     for case in &cases {
         let found = read::<u8>(case.text, case.radix, case.frac, ReadMode::NearestEven);
@@ -836,72 +490,22 @@ fn digits_on_both_sides_of_the_point(rt: HostRuntime) {
 #[test]
 fn refusals_by_their_cause(rt: HostRuntime) {
     let cases = [
-        Case {
-            text: ".",
-            radix: Radix::Dec,
-            frac: 0,
-            want: Err(ParseErrorKind::NoDigits),
-        },
-        Case {
-            text: "e5",
-            radix: Radix::Dec,
-            frac: 0,
-            want: Err(ParseErrorKind::NoDigits),
-        },
-        Case {
-            text: "5e",
-            radix: Radix::Dec,
-            frac: 0,
-            want: Err(ParseErrorKind::ExpNoDigits),
-        },
-        Case {
-            text: "1.75.",
-            radix: Radix::Dec,
-            frac: 0,
-            want: Err(ParseErrorKind::TooManyPoints),
-        },
-        Case {
-            text: "1e5e",
-            radix: Radix::Dec,
-            frac: 0,
-            want: Err(ParseErrorKind::TooManyExp),
-        },
-        Case {
-            text: "1e5.",
-            radix: Radix::Dec,
-            frac: 0,
-            want: Err(ParseErrorKind::ExpInvalidDigit),
-        },
-        Case {
-            text: "1-2",
-            radix: Radix::Dec,
-            frac: 0,
-            want: Err(ParseErrorKind::MisplacedSign),
-        },
-        Case {
-            text: "1_0",
-            radix: Radix::Dec,
-            frac: 0,
-            want: Err(ParseErrorKind::InvalidDigit),
-        },
-        Case {
-            text: "",
-            radix: Radix::Dec,
-            frac: 0,
-            want: Err(ParseErrorKind::NoDigits),
-        },
-        Case {
-            text: "0e2147483648",
-            radix: Radix::Dec,
-            frac: 0,
-            want: Err(ParseErrorKind::ExpOverflow),
-        },
-        Case {
-            text: "256",
-            radix: Radix::Dec,
-            frac: 0,
-            want: Err(ParseErrorKind::Overflow),
-        },
+        row(".", Radix::Dec, 0, Err(ParseErrorKind::NoDigits)),
+        row("e5", Radix::Dec, 0, Err(ParseErrorKind::NoDigits)),
+        row("5e", Radix::Dec, 0, Err(ParseErrorKind::ExpNoDigits)),
+        row("1.75.", Radix::Dec, 0, Err(ParseErrorKind::TooManyPoints)),
+        row("1e5e", Radix::Dec, 0, Err(ParseErrorKind::TooManyExp)),
+        row("1e5.", Radix::Dec, 0, Err(ParseErrorKind::ExpInvalidDigit)),
+        row("1-2", Radix::Dec, 0, Err(ParseErrorKind::MisplacedSign)),
+        row("1_0", Radix::Dec, 0, Err(ParseErrorKind::InvalidDigit)),
+        row("", Radix::Dec, 0, Err(ParseErrorKind::NoDigits)),
+        row(
+            "0e2147483648",
+            Radix::Dec,
+            0,
+            Err(ParseErrorKind::ExpOverflow),
+        ),
+        row("256", Radix::Dec, 0, Err(ParseErrorKind::Overflow)),
     ];
     for case in &cases {
         let found = read::<u8>(case.text, case.radix, case.frac, ReadMode::NearestEven);
@@ -912,36 +516,11 @@ fn refusals_by_their_cause(rt: HostRuntime) {
 #[test]
 fn signed_numerals(rt: HostRuntime) {
     let cases = [
-        Case {
-            text: "6.33325",
-            radix: Radix::Dec,
-            frac: 12,
-            want: Ok(25941),
-        },
-        Case {
-            text: "3.14159",
-            radix: Radix::Dec,
-            frac: 16,
-            want: Ok(205887),
-        },
-        Case {
-            text: "-3.25",
-            radix: Radix::Dec,
-            frac: 1,
-            want: Ok(-6),
-        },
-        Case {
-            text: "1e2",
-            radix: Radix::Hex,
-            frac: 0,
-            want: Ok(482),
-        },
-        Case {
-            text: "1@1e",
-            radix: Radix::Hex,
-            frac: 0,
-            want: Err(ParseErrorKind::ExpInvalidDigit),
-        },
+        row("6.33325", Radix::Dec, 12, Ok(25941)),
+        row("3.14159", Radix::Dec, 16, Ok(205887)),
+        row("-3.25", Radix::Dec, 1, Ok(-6)),
+        row("1e2", Radix::Hex, 0, Ok(482)),
+        row("1@1e", Radix::Hex, 0, Err(ParseErrorKind::ExpInvalidDigit)),
     ];
     for case in &cases {
         let found = read::<i32>(case.text, case.radix, case.frac, ReadMode::NearestEven);
@@ -951,50 +530,15 @@ fn signed_numerals(rt: HostRuntime) {
 
 #[test]
 fn modes_round_to_their_side(rt: HostRuntime) {
-    let half = ModeCase {
-        text: "2.5",
-        frac: 0,
-        nearest: 2,
-        floor: 2,
-        ceil: 3,
-        zero: 2,
-    };
+    let half = modes("2.5", 0, [2, 2, 3, 2]);
     assert!(rt; reads_in_each_mode::<u8>(&half));
-    let least = ModeCase {
-        text: "1e-2147483648",
-        frac: 0,
-        nearest: 0,
-        floor: 0,
-        ceil: 1,
-        zero: 0,
-    };
+    let least = modes("1e-2147483648", 0, [0, 0, 1, 0]);
     assert!(rt; reads_in_each_mode::<u8>(&least));
-    let negative = ModeCase {
-        text: "-2.5",
-        frac: 0,
-        nearest: -2,
-        floor: -3,
-        ceil: -2,
-        zero: -2,
-    };
+    let negative = modes("-2.5", 0, [-2, -3, -2, -2]);
     assert!(rt; reads_in_each_mode::<i8>(&negative));
-    let step = ModeCase {
-        text: "0.0078125",
-        frac: 8,
-        nearest: 2,
-        floor: 2,
-        ceil: 2,
-        zero: 2,
-    };
+    let step = modes("0.0078125", 8, [2, 2, 2, 2]);
     assert!(rt; reads_in_each_mode::<u8>(&step));
-    let past = ModeCase {
-        text: "0.00781250001",
-        frac: 8,
-        nearest: 2,
-        floor: 2,
-        ceil: 3,
-        zero: 2,
-    };
+    let past = modes("0.00781250001", 8, [2, 2, 3, 2]);
     assert!(rt; reads_in_each_mode::<u8>(&past));
 }
 
