@@ -4,6 +4,7 @@ mod Asking
 mod Complete
 mod Fed
 mod Feeding
+mod LaneLemmas
 mod LawLemmas
 mod LineLemmas
 mod Parts

@@ -1,5 +1,5 @@
 -- Numbers in decimal.
-use Rattle.std.proofs.Common.{◌≡◌, ◌⊎◌, ℕ, ◌^◌, ◌<◌, ◌≤◌, ◌+◌, ◌/◌, ◌%◌, List, [], ◌∷◌, length, get_or, sym, ap, ◌∙◌, subst, arith, rules, zero, suc, take, length-take, refl, inl, inr, Option, Some, None, IsNone, IfSome, MatchOption}
+use Rattle.std.proofs.Common.{◌≡◌, ◌⊎◌, ℕ, ◌^◌, ◌<◌, ◌≤◌, ◌+◌, ◌/◌, ◌%◌, List, [], ◌∷◌, ◌++◌, length, get_or, sym, ap, ◌∙◌, subst, arith, rules, zero, suc, take, length-take, refl, inl, inr, Option, Some, None, IsNone, IfSome, MatchOption}
 use Rattle.std.specs.Fmt.{decimal}
 use Rattle.std.specs.Str.Parse.{AllDigits, digits_value}
 use Rattle.std.proofs.lemmas.Fmt.{decimal_is_IsNumeral, length-decimal-le, first_decimal, decimal_digit, decimal_step, decimal-digits_value}
@@ -132,3 +132,24 @@ spare_zero [] n some most spare below e = omega (arith, some)
 spare_zero (x ∷ []) n some most spare below e = omega (arith, some)
 spare_zero (x ∷ y ∷ []) n some most spare below e = let d = two_are x y n below (short (x ∷ y ∷ []) n below e) in omega (arith, d.no_spare, spare)
 spare_zero (x ∷ y ∷ z ∷ rest) n some most spare below e = omega (arith, most)
+
+-- the letter of a format's word stands behind one digit, d
+pub record IsBehindOne (counts d : List ℕ) : Type 0 where
+  pub long : 1 < length counts
+  pub letter : get_or counts 1 0 ≡ 70
+  pub front : take 1 counts ≡ d
+
+-- or behind two
+pub record IsBehindTwo (counts d : List ℕ) : Type 0 where
+  pub long : 2 < length counts
+  pub other : get_or counts 1 0 ≡ 70 → ⊥
+  pub letter : get_or counts 2 0 ≡ 70
+  pub front : take 2 counts ≡ d
+
+behind_digits : (n : ℕ) (d rest : List ℕ) → IsOne d n ⊎ IsTwo d n → IsBehindOne (d ++ 70 ∷ rest) d ⊎ IsBehindTwo (d ++ 70 ∷ rest) d
+behind_digits n d rest (inl is) = subst (λ d. IsBehindOne (d ++ 70 ∷ rest) d ⊎ IsBehindTwo (d ++ 70 ∷ rest) d) (sym is.one) (inl (record { long = omega arith; letter = refl; front = refl }))
+behind_digits n d rest (inr is) = subst (λ d. IsBehindOne (d ++ 70 ∷ rest) d ⊎ IsBehindTwo (d ++ 70 ∷ rest) d) (sym is.two) (inr (record { long = omega arith; other = λ e. omega (arith, e); letter = refl; front = refl }))
+
+-- where the letter stands behind a number below 100
+pub letter_place : (counts rest : List ℕ) (n : ℕ) → n < 100 → counts ≡ decimal n ++ 70 ∷ rest → IsBehindOne counts (decimal n) ⊎ IsBehindTwo counts (decimal n)
+letter_place counts rest n below e = subst (λ w. IsBehindOne w (decimal n) ⊎ IsBehindTwo w (decimal n)) (sym e) (behind_digits n (decimal n) rest (short (decimal n) n below refl))

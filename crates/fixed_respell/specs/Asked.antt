@@ -30,7 +30,8 @@ HasAsked (Some asked) new room result = new ≡ Some (one_more asked room (count
 abbrev pub longest_piece : ℕ
 longest_piece = 4096
 
--- since then no read asked for more than limit + 1 bytes less those given since then, and none for more than a piece
+-- as far as the two greatest numbers show, no read since then reached further than limit + 1 bytes behind those given before,
+-- and none asked for more than a piece
 pub record IsAskedWithin (limit : ℕ) (old new : Asked) : Type 0 where
   pub furthest : new.furthest ≤ max old.furthest (old.given + (limit + 1))
   pub longest : new.longest ≤ max old.longest longest_piece

@@ -8,7 +8,7 @@ use Rattle.fixed_bits.specs.Formats.{Shape, IsFormat}
 use Rattle.fixed_bits.specs.Ranges.{IsWidth}
 use Rattle.fixed_respell.specs.Cutting.{count_of, IsCut}
 use Rattle.fixed_respell.specs.Words.{HasCounts, IsFormatWord, fraction_letter, sign_letter}
-use Rattle.fixed_respell.specs.CutLemmas.{cut_is_one, cut_has_one, count_cons}
+use Rattle.fixed_respell.specs.CutLemmas.{cut_is_one, count_cons}
 
 pub width_most : (n : ℕ) → IsWidth n → n ≤ 64
 width_most n (inl e) = omega arith
@@ -60,13 +60,6 @@ counts_of_word word whole fraction s f first cut is =
     let same = cut_is_one fraction_letter (drop 1 word) whole fraction (decimal (f.width - f.frac)) (decimal f.frac) cut (record { split = tail; first = decimal_no_letter (f.width - f.frac) (omega arith) }) in
     let head : get_or word 0 0 ≡ sign_letter f.signed = ap (λ w. get_or w 0 0) is.text in
     (letters_differ f.signed s (sym head ∙ first), record { format = is.format; whole_bits = same.before; fraction_bits = same.after })
-
--- the first letter of a format's word
-pub first_letter : (word : List ℕ) (f : Shape) → IsFormatWord word f → (get_or word 0 0 ≡ sign_letter f.signed) × (0 < length word)
-first_letter word f is = (ap (λ w. get_or w 0 0) is.text, omega (arith, ap length is.text))
-
-pub has_letter : (word : List ℕ) (f : Shape) → IsFormatWord word f → count_of fraction_letter (drop 1 word) ≡ 0 → ⊥
-has_letter word f is none = cut_has_one fraction_letter (drop 1 word) (decimal (f.width - f.frac)) (decimal f.frac) (behind (sign_letter f.signed) word (decimal (f.width - f.frac) ++ fraction_letter ∷ decimal f.frac) is.text) none
 
 -- counts that add up to a width, and only those
 pub counts_fit : (f : Shape) (whole fraction : List ℕ) (w r : ℕ) → whole ≡ decimal w → fraction ≡ decimal r → w < 100 → r < 100 → HasCounts f whole fraction → (f.width ≡ w + r) × (f.frac ≡ r)

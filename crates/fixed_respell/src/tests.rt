@@ -100,8 +100,21 @@ fn calm() -> Case {
     }
 }
 
+/// Asserts what such a run writes and how it ends.
+fn assert_ends(rt: &impl Abort, alloc: Global, case: &Case) -> Result<(), AllocError> {
+    let (status, written) = run_case::<Brand>(alloc, case, Blank::new(1))?;
+    assert_eq!(rt; status, case.status, "at {}", case.input);
+    assert_eq!(rt;
+        written.as_slice(),
+        case.written.as_bytes(),
+        "at {}",
+        case.input
+    );
+    Ok(())
+}
+
 #[test]
-fn runs_end_as_they_should(rt: HostRuntime) -> Result<(), Fail> {
+fn lines_are_answered_to_their_end(rt: HostRuntime) -> Result<(), Fail> {
     let cases = [
         calm(),
         Case {
@@ -120,6 +133,16 @@ fn runs_end_as_they_should(rt: HostRuntime) -> Result<(), Fail> {
             status: Status::Faults,
             ..calm()
         },
+    ];
+    for case in &cases {
+        assert_ends(&rt, rt.alloc(), case)?;
+    }
+    Ok(())
+}
+
+#[test]
+fn devices_that_fail_end_a_run(rt: HostRuntime) -> Result<(), Fail> {
+    let cases = [
         Case {
             failing_read: 0,
             written: "",
@@ -145,6 +168,16 @@ fn runs_end_as_they_should(rt: HostRuntime) -> Result<(), Fail> {
             status: Status::WriteFault,
             ..calm()
         },
+    ];
+    for case in &cases {
+        assert_ends(&rt, rt.alloc(), case)?;
+    }
+    Ok(())
+}
+
+#[test]
+fn an_input_past_the_limit_ends_a_run(rt: HostRuntime) -> Result<(), Fail> {
+    let cases = [
         Case {
             limit: 23,
             ..calm()
@@ -164,14 +197,7 @@ fn runs_end_as_they_should(rt: HostRuntime) -> Result<(), Fail> {
         },
     ];
     for case in &cases {
-        let (status, written) = run_case::<Brand>(rt.alloc(), case, Blank::new(1))?;
-        assert_eq!(rt; status, case.status, "at {}", case.input);
-        assert_eq!(rt;
-            written.as_slice(),
-            case.written.as_bytes(),
-            "at {}",
-            case.input
-        );
+        assert_ends(&rt, rt.alloc(), case)?;
     }
     Ok(())
 }

@@ -1,11 +1,11 @@
 //! The words of a line: radix, format, policy and mode.
 
-ghost use Rattle.std.specs.Prelude.{◌≡◌, ◌≤◌, ◌<◌, ◌+◌, ◌/◌, ◌%◌, ◌++◌, ℕ, length, Bool, IsNone, IfSome, MatchOption, decimal};
+ghost use Rattle.std.specs.Prelude.{◌≡◌, ◌≤◌, ◌<◌, ◌+◌, ◌/◌, ◌%◌, ◌++◌, ◌∷◌, ℕ, List, length, Bool, IsNone, IfSome, MatchOption, decimal};
 ghost use Rattle.fixed_bits.specs.Formats.{Shape};
 ghost use Rattle.fixed_bits.specs.declared.format.Policy.{Policy};
 ghost use Rattle.fixed_bits.specs.declared.mode.ReadMode.{ReadMode};
 ghost use Rattle.fixed_numeral.specs.declared.radix.Radix.{Radix};
-ghost use Rattle.fixed_respell.specs.Words.{HasCounts, IsFormatWord, IsPolicyWord, mode_text, policy_text, radix_text, sign_letter};
+ghost use Rattle.fixed_respell.specs.Words.{HasCounts, IsFormatWord, IsPolicyWord, fraction_letter, mode_text, policy_text, radix_text, sign_letter};
 
 use crate::cutting::cut;
 use arrayvec::ArrayVec;
@@ -28,6 +28,7 @@ pub fn radix_word(word: &[u8]) -> Option<Radix>
 }
 
 /// The policy of this name.
+#[inline(always)]
 fn named_policy(name: &[u8]) -> Option<Policy>
     ensures { MatchOption result ((p : Policy) → ¬ (name.now ≡ policy_text p)) (λ p. name.now ≡ policy_text p) }
 {
@@ -81,6 +82,7 @@ fn two_digits(tens: u8, ones: u8) -> Option<u32>
 }
 
 /// The number below 100 that the word is in decimal, without a spare zero.
+#[inline(always)]
 fn short_number(word: &[u8]) -> Option<u32>
     ensures number { MatchOption result ((n : ℕ) → n < 100 → ¬ (word.now ≡ decimal n)) (λ n. word.now ≡ decimal n) }
     ensures short { IfSome result (λ n. n < 100) }
@@ -92,17 +94,29 @@ fn short_number(word: &[u8]) -> Option<u32>
     }
 }
 
-/// The format of counts of whole and of fraction bits. None where they add up to no width.
-fn counted_format(signed: bool, whole: &[u8], fraction: &[u8]) -> Option<Format>
-    ensures { MatchOption result ((f : Shape) → f.signed ≡ signed → HasCounts f whole.now fraction.now → ⊥) (λ f. (f.signed ≡ signed) × HasCounts f whole.now fraction.now) }
+/// The count in front of the letter of a format's word, which has one digit or two, and what stands behind the letter.
+fn whole_count(counts: &[u8]) -> Option<(u32, &[u8])>
+    ensures { MatchOption result ((n : ℕ) (rest : List ℕ) → n < 100 → ¬ (counts.now ≡ decimal n ++ fraction_letter ∷ rest)) (λ r. (r.0 < 100) × (counts.now ≡ decimal r.0 ++ fraction_letter ∷ r.1.now)) }
 {
-    let Some(whole) = short_number(whole) else {
-        return None;
-    };
-    let Some(fraction) = short_number(fraction) else {
-        return None;
-    };
-    Format::new(signed, whole + fraction, fraction)
+    if counts.len() > 1 && counts[1] == b'F' {
+        return Some((short_number(&counts[..1])?, &counts[2..]));
+    }
+    if counts.len() > 2 && counts[2] == b'F' {
+        return Some((short_number(&counts[..2])?, &counts[3..]));
+    }
+    None
+}
+
+/// The format of a count of whole bits, and of a word that counts the fraction bits. None where they add up to no width.
+#[inline(always)]
+fn counted_format(signed: bool, whole: u32, fraction: &[u8]) -> Option<Format>
+    requires { whole < 100 }
+    ensures { MatchOption result ((f : Shape) → f.signed ≡ signed → HasCounts f (decimal whole) fraction.now → ⊥) (λ f. (f.signed ≡ signed) × HasCounts f (decimal whole) fraction.now) }
+{
+    match short_number(fraction) {
+        Some(fraction) => Format::new(signed, whole + fraction, fraction),
+        None => None,
+    }
 }
 
 /// Whether a format whose word begins with this letter is signed. None where none begins so.
@@ -117,13 +131,15 @@ fn named_sign(letter: u8) -> Option<bool>
 }
 
 /// The format that a word names. None where it names none.
+// In line, with what it calls, since each line has two: an answer of a call would go through memory.
+#[inline(always)]
 pub fn format_word(word: &[u8]) -> Option<Format>
     ensures { MatchOption result ((f : Shape) → ¬ IsFormatWord word.now f) (λ f. IsFormatWord word.now f) }
 {
     if word.is_empty() {
         return None;
     }
-    match (named_sign(word[0]), cut(&word[1..], b'F')) {
+    match (named_sign(word[0]), whole_count(&word[1..])) {
         (Some(signed), Some((whole, fraction))) => counted_format(signed, whole, fraction),
         _ => None,
     }

@@ -8,12 +8,33 @@ use fixed_numeral::{ParseErrorKind, Radix};
 use fixed_read::ReadMode;
 use fixed_steps::Steps;
 use std::marker::Brand;
+use std::process::Abort;
 use std::sync::ledger::{Blank, Ledger};
 use std::test::Fail;
 
-/// The format with these three parts: whether it is signed, its width and its fraction length.
-fn format(parts: (bool, u32, u32)) -> Option<Format> {
-    Format::new(parts.0, parts.1, parts.2)
+/// The parts of a format: whether it is signed, its width and its fraction length.
+type Shape = (bool, u32, u32);
+
+const I4F4: Shape = (true, 8, 4);
+
+const I8F0: Shape = (true, 8, 0);
+
+const I20F12: Shape = (true, 32, 12);
+
+const U0F8: Shape = (false, 8, 8);
+
+const U4F4: Shape = (false, 8, 4);
+
+const U8F0: Shape = (false, 8, 0);
+
+const U8F8: Shape = (false, 16, 8);
+
+const U16F0: Shape = (false, 16, 0);
+
+const U0F64: Shape = (false, 64, 64);
+
+fn format(shape: Shape) -> Option<Format> {
+    Format::new(shape.0, shape.1, shape.2)
 }
 
 /// A numeral, its way, and what it reaches.
@@ -21,8 +42,8 @@ fn format(parts: (bool, u32, u32)) -> Option<Format> {
 struct Reached {
     numeral: &'static str,
     radix: Radix,
-    source: (bool, u32, u32),
-    target: (bool, u32, u32),
+    source: Shape,
+    target: Shape,
     policy: Policy,
     mode: ReadMode,
     bits: Bits,
@@ -58,166 +79,134 @@ fn is_reached<L: Ledger>(row: &Reached, blank: Blank) -> bool
     }
 }
 
+/// Asserts what the numeral reaches.
+fn assert_reached(rt: &impl Abort, row: &Reached) {
+    assert!(rt; is_reached::<Brand>(row, Blank::new(1)), "{}", row.numeral);
+}
+
+/// What a numeral reaches to the nearest step in the format of eight whole bits, under Checked.
+fn fitting(numeral: &'static str, bits: Bits, text: &'static str) -> Reached {
+    Reached {
+        numeral,
+        radix: Radix::Dec,
+        source: U8F0,
+        target: U8F0,
+        policy: Policy::Checked,
+        mode: ReadMode::NearestEven,
+        bits,
+        overflowed: false,
+        text,
+    }
+}
+
 #[test]
-fn bits_flag_and_text(rt: HostRuntime) {
+fn bits_that_fit(rt: HostRuntime) {
     let rows = [
         Reached {
-            numeral: "3.1875",
-            radix: Radix::Dec,
-            source: (true, 8, 4),
-            target: (true, 8, 4),
-            policy: Policy::Checked,
-            mode: ReadMode::NearestEven,
-            bits: Bits::Signed(51),
-            overflowed: false,
-            text: "3.2",
+            source: I4F4,
+            target: I4F4,
+            ..fitting("3.1875", Bits::Signed(51), "3.2")
         },
         Reached {
-            numeral: "-2.5",
-            radix: Radix::Dec,
-            source: (true, 8, 4),
-            target: (true, 8, 0),
-            policy: Policy::Checked,
-            mode: ReadMode::NearestEven,
-            bits: Bits::Signed(-3),
-            overflowed: false,
-            text: "-3",
+            source: I4F4,
+            target: I8F0,
+            ..fitting("-2.5", Bits::Signed(-3), "-3")
         },
         Reached {
-            numeral: "2.99",
-            radix: Radix::Dec,
-            source: (false, 8, 4),
-            target: (false, 8, 0),
-            policy: Policy::Checked,
-            mode: ReadMode::NearestEven,
-            bits: Bits::Unsigned(3),
-            overflowed: false,
-            text: "3",
+            source: U4F4,
+            ..fitting("2.99", Bits::Unsigned(3), "3")
         },
         Reached {
-            numeral: "300",
-            radix: Radix::Dec,
-            source: (false, 8, 0),
-            target: (false, 16, 0),
-            policy: Policy::Wrapping,
-            mode: ReadMode::NearestEven,
-            bits: Bits::Unsigned(44),
-            overflowed: true,
-            text: "44",
+            source: I20F12,
+            target: I20F12,
+            ..fitting("6.33325", Bits::Signed(25941), "6.3333")
         },
         Reached {
-            numeral: "300",
-            radix: Radix::Dec,
-            source: (false, 8, 0),
-            target: (false, 16, 0),
-            policy: Policy::Saturating,
-            mode: ReadMode::NearestEven,
-            bits: Bits::Unsigned(255),
-            overflowed: true,
-            text: "255",
-        },
-        Reached {
-            numeral: "17",
-            radix: Radix::Dec,
-            source: (false, 8, 0),
-            target: (false, 8, 4),
-            policy: Policy::Wrapping,
-            mode: ReadMode::NearestEven,
-            bits: Bits::Unsigned(16),
-            overflowed: true,
-            text: "1",
-        },
-        Reached {
-            numeral: "17",
-            radix: Radix::Dec,
-            source: (false, 8, 0),
-            target: (false, 8, 4),
-            policy: Policy::Saturating,
-            mode: ReadMode::NearestEven,
-            bits: Bits::Unsigned(255),
-            overflowed: true,
-            text: "15.94",
-        },
-        Reached {
-            numeral: "0.1p1",
             radix: Radix::Oct,
-            source: (false, 8, 8),
-            target: (false, 8, 8),
-            policy: Policy::Checked,
-            mode: ReadMode::NearestEven,
-            bits: Bits::Unsigned(64),
-            overflowed: false,
-            text: "0.25",
-        },
-        Reached {
-            numeral: "C0F.FE",
-            radix: Radix::Hex,
-            source: (false, 16, 8),
-            target: (false, 16, 8),
-            policy: Policy::Wrapping,
-            mode: ReadMode::NearestEven,
-            bits: Bits::Unsigned(4094),
-            overflowed: true,
-            text: "15.992",
-        },
-        Reached {
-            numeral: "1",
-            radix: Radix::Dec,
-            source: (false, 64, 64),
-            target: (false, 64, 64),
-            policy: Policy::Saturating,
-            mode: ReadMode::NearestEven,
-            bits: Bits::Unsigned(18446744073709551615),
-            overflowed: true,
-            text: "0.99999999999999999995",
-        },
-        Reached {
-            numeral: "6.33325",
-            radix: Radix::Dec,
-            source: (true, 32, 12),
-            target: (true, 32, 12),
-            policy: Policy::Checked,
-            mode: ReadMode::NearestEven,
-            bits: Bits::Signed(25941),
-            overflowed: false,
-            text: "6.3333",
-        },
-        Reached {
-            numeral: "2.1",
-            radix: Radix::Dec,
-            source: (false, 8, 0),
-            target: (false, 8, 0),
-            policy: Policy::Checked,
-            mode: ReadMode::Ceil,
-            bits: Bits::Unsigned(3),
-            overflowed: false,
-            text: "3",
-        },
-        Reached {
-            numeral: "-2.9",
-            radix: Radix::Dec,
-            source: (true, 8, 0),
-            target: (true, 8, 0),
-            policy: Policy::Checked,
-            mode: ReadMode::TowardsZero,
-            bits: Bits::Signed(-2),
-            overflowed: false,
-            text: "-2",
-        },
-        Reached {
-            numeral: "-0.5",
-            radix: Radix::Dec,
-            source: (false, 8, 0),
-            target: (false, 8, 0),
-            policy: Policy::Wrapping,
-            mode: ReadMode::Floor,
-            bits: Bits::Unsigned(255),
-            overflowed: true,
-            text: "255",
+            source: U0F8,
+            target: U0F8,
+            ..fitting("0.1p1", Bits::Unsigned(64), "0.25")
         },
     ];
     for row in &rows {
-        assert!(rt; is_reached::<Brand>(row, Blank::new(1)), "{}", row.numeral);
+        assert_reached(&rt, row);
+    }
+}
+
+/// What a numeral reaches past the range of one of its formats, under a policy.
+fn overflowing(policy: Policy, numeral: &'static str, bits: u64, text: &'static str) -> Reached {
+    Reached {
+        policy,
+        overflowed: true,
+        ..fitting(numeral, Bits::Unsigned(bits), text)
+    }
+}
+
+#[test]
+fn numbers_past_the_source(rt: HostRuntime) {
+    let rows = [
+        Reached {
+            target: U16F0,
+            ..overflowing(Policy::Wrapping, "300", 44, "44")
+        },
+        Reached {
+            target: U16F0,
+            ..overflowing(Policy::Saturating, "300", 255, "255")
+        },
+        Reached {
+            radix: Radix::Hex,
+            source: U8F8,
+            target: U8F8,
+            ..overflowing(Policy::Wrapping, "C0F.FE", 4094, "15.992")
+        },
+        Reached {
+            source: U0F64,
+            target: U0F64,
+            ..overflowing(Policy::Saturating, "1", u64::MAX, "0.99999999999999999995")
+        },
+    ];
+    for row in &rows {
+        assert_reached(&rt, row);
+    }
+}
+
+#[test]
+fn numbers_past_the_target(rt: HostRuntime) {
+    let rows = [
+        Reached {
+            target: U4F4,
+            ..overflowing(Policy::Wrapping, "17", 16, "1")
+        },
+        Reached {
+            target: U4F4,
+            ..overflowing(Policy::Saturating, "17", 255, "15.94")
+        },
+    ];
+    for row in &rows {
+        assert_reached(&rt, row);
+    }
+}
+
+#[test]
+fn modes_of_reading(rt: HostRuntime) {
+    let rows = [
+        Reached {
+            mode: ReadMode::Ceil,
+            ..fitting("2.1", Bits::Unsigned(3), "3")
+        },
+        Reached {
+            source: I8F0,
+            target: I8F0,
+            mode: ReadMode::TowardsZero,
+            ..fitting("-2.9", Bits::Signed(-2), "-2")
+        },
+        Reached {
+            mode: ReadMode::Floor,
+            ..overflowing(Policy::Wrapping, "-0.5", 255, "255")
+        },
+    ];
+    for row in &rows {
+        assert_reached(&rt, row);
     }
 }
 
@@ -225,8 +214,8 @@ fn bits_flag_and_text(rt: HostRuntime) {
 #[derive(Drop)]
 struct Refused {
     numeral: &'static str,
-    source: (bool, u32, u32),
-    target: (bool, u32, u32),
+    source: Shape,
+    target: Shape,
     kind: ParseErrorKind,
 }
 
@@ -256,32 +245,32 @@ fn refusals_under_checked(rt: HostRuntime) {
     let rows = [
         Refused {
             numeral: "300",
-            source: (false, 8, 0),
-            target: (false, 16, 0),
+            source: U8F0,
+            target: U16F0,
             kind: ParseErrorKind::Overflow,
         },
         Refused {
             numeral: "17",
-            source: (false, 8, 0),
-            target: (false, 8, 4),
+            source: U8F0,
+            target: U4F4,
             kind: ParseErrorKind::Overflow,
         },
         Refused {
             numeral: "-1.5",
-            source: (false, 8, 0),
-            target: (false, 8, 0),
+            source: U8F0,
+            target: U8F0,
             kind: ParseErrorKind::Overflow,
         },
         Refused {
             numeral: "1e2147483647",
-            source: (false, 8, 0),
-            target: (false, 8, 0),
+            source: U8F0,
+            target: U8F0,
             kind: ParseErrorKind::Overflow,
         },
         Refused {
             numeral: "5e",
-            source: (false, 8, 0),
-            target: (false, 8, 0),
+            source: U8F0,
+            target: U8F0,
             kind: ParseErrorKind::ExpNoDigits,
         },
     ];
@@ -307,7 +296,7 @@ fn is_whole<L: Ledger>(bytes: &[u8], expected: &Whole, blank: Blank) -> bool
     requires backed { 0 < L.parts }
 {
     let mut steps: Steps<L> = Steps::new(blank);
-    let Some(format) = format((false, 8, 0)) else {
+    let Some(format) = format(U8F0) else {
         return false
     };
     match respell(
