@@ -1,5 +1,6 @@
-//! A source over any reader and a sink over any writer. They tell nothing of content, and the source nothing of
-//! what it was asked for.
+//! A source over any reader and a sink over any writer. They tell the bytes that the reader has left and that the writer
+//! holds, where these tell them: readers and writers of memory do, the process's own streams do not. The source tells
+//! nothing of what it was asked for.
 //!
 //! Each `Err` of the reader or the writer counts as a failure, an interrupted call too: a program that sets no handler
 //! for signals meets none. What a writer keeps for itself, as a `BufWriter` does, is written only once its owner flushes
@@ -31,10 +32,9 @@ impl<R: Read> Source for StdSource<R> {
     ghost use Rattle.std.specs.Prelude.{◌≡◌, Ok, OnErr, length};
     ghost use Rattle.std.specs.Io.{ReadsAtMost};
     ghost use Rattle.std.specs.Io.KnownBytes.{ReadConsumes};
-    ghost use Rattle.fixed_respell.specs.Asked.{HasAsked};
     ghost use Rattle.fixed_respell.specs.Causes.{HasCause};
 
-    ghost left = { λ s. None };
+    ghost left = { λ s. R.remaining s.reader };
 
     ghost faults = { λ s. s.faults };
 
@@ -43,11 +43,10 @@ impl<R: Read> Source for StdSource<R> {
     /// Reads once; a buffer without room is left alone. An `Err` of the reader raises the count of faults by one.
     fn read(&mut self, buf: &mut [u8]) -> Result<usize, Failed>
         ensures bound { ReadsAtMost result buf.new }
-        ensures bytes { ReadConsumes None None result buf.new }
+        ensures bytes { ReadConsumes (R.remaining self.old.reader) (R.remaining self.new.reader) result buf.new }
         ensures empty { length buf.old ≡ 0 → result ≡ Ok 0 }
         ensures cause { HasCause self.old.faults self.new.faults result }
         ensures once { OnErr result (self.new.faults ≡ min (self.old.faults + 1) (2 ^ 64 - 1)) }
-        ensures asked { HasAsked None None (length buf.old) result }
     {
         if buf.is_empty() {
             return Ok(0);
@@ -85,7 +84,7 @@ impl<W: Write> Sink for StdSink<W> {
     ghost use Rattle.std.specs.Io.KnownBytes.{WriteAppends};
     ghost use Rattle.fixed_respell.specs.Causes.{HasCause};
 
-    ghost written = { λ s. None };
+    ghost written = { λ s. W.contents s.writer };
 
     ghost faults = { λ s. s.faults };
 
@@ -93,7 +92,7 @@ impl<W: Write> Sink for StdSink<W> {
     /// that isn't empty.
     fn write(&mut self, piece: &[u8]) -> Result<usize, Failed>
         ensures bound { WritesAtMost result piece.now }
-        ensures bytes { WriteAppends None None result piece.now }
+        ensures bytes { WriteAppends (W.contents self.old.writer) (W.contents self.new.writer) result piece.now }
         ensures progress { 0 < length piece.now → IfOk result (λ n. 0 < n) }
         ensures cause { HasCause self.old.faults self.new.faults result }
         ensures once { OnErr result (self.new.faults ≡ min (self.old.faults + 1) (2 ^ 64 - 1)) }
