@@ -18,9 +18,9 @@ pub struct Format {
 }
 
 impl Model for Format {
-    ghost use Rattle.fixed_bits.specs.Formats.{Shape, IsFormat};
+    ghost use Rattle.fixed_bits.specs.Formats.{FormatParts, IsFormat};
 
-    ghost Value = { Shape };
+    ghost Value = { FormatParts };
 
     ghost view = { λ f. record { signed = f.signed; width = f.width; frac = f.frac } };
 

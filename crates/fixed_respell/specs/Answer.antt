@@ -1,7 +1,7 @@
 -- The answer to a line.
 use Rattle.std.specs.Prelude.{◌≡◌, ◌⊎◌, ◌<◌, ◌≤◌, ℕ, List, ◌∷◌, ◌++◌, ℤ, Bool, true, false, length, codes}
 use Rattle.std.specs.Fmt.{signed_decimal}
-use Rattle.fixed_bits.specs.Formats.{Shape}
+use Rattle.fixed_bits.specs.Formats.{FormatParts}
 use Rattle.fixed_bits.specs.declared.format.Policy.{Policy}
 use Rattle.fixed_bits.specs.declared.mode.ReadMode.{ReadMode}
 use Rattle.fixed_numeral.specs.Words.{words_of}
@@ -54,8 +54,8 @@ abbrev pub StandsBy : (List ℕ → Policy → ReadMode → Type 0) → LineFaul
 StandsBy Names LineTooLong line = longest_line < length line
 StandsBy Names MissingField line = count_of space line < 4
 StandsBy Names BadRadix line = HasWordsWith line (λ w. (r : Radix) → ¬ (w.radix ≡ radix_text r))
-StandsBy Names BadSource line = HasWordsWith line (λ w. (f : Shape) → ¬ IsFormatWord w.source f)
-StandsBy Names BadTarget line = HasWordsWith line (λ w. (f : Shape) → ¬ IsFormatWord w.target f)
+StandsBy Names BadSource line = HasWordsWith line (λ w. (f : FormatParts) → ¬ IsFormatWord w.source f)
+StandsBy Names BadTarget line = HasWordsWith line (λ w. (f : FormatParts) → ¬ IsFormatWord w.target f)
 StandsBy Names BadPolicy line = HasWordsWith line (λ w. (p : Policy) (m : ReadMode) → ¬ Names w.policy p m)
 
 -- the place of a fault in the order in which they are looked for
@@ -85,13 +85,13 @@ fault_words BadPolicy = codes "bad policy"
 -- what is done with a number that is out of range, and to which side is rounded
 pub record Task : Type 0 where
   pub radix : Radix
-  pub source : Shape
-  pub target : Shape
+  pub source : FormatParts
+  pub target : FormatParts
   pub policy : Policy
   pub mode : ReadMode
   pub numeral : List ℕ
 
-abbrev pub task_of : Radix → Shape → Shape → Policy → ReadMode → List ℕ → Task
+abbrev pub task_of : Radix → FormatParts → FormatParts → Policy → ReadMode → List ℕ → Task
 task_of r s t p m bytes = record { radix = r; source = s; target = t; policy = p; mode = m; numeral = bytes }
 
 -- no fault stands, and the words of the line name the task

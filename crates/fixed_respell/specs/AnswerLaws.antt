@@ -1,6 +1,6 @@
 -- Laws of the answer to a line.
 use Rattle.std.specs.Prelude.{◌≡◌, ◌↔◌, ◌<◌, ℕ, List, length, take}
-use Rattle.fixed_bits.specs.Formats.{Shape}
+use Rattle.fixed_bits.specs.Formats.{FormatParts}
 use Rattle.fixed_bits.specs.declared.format.Policy.{Policy}
 use Rattle.fixed_bits.specs.declared.mode.ReadMode.{ReadMode}
 use Rattle.fixed_bits.specs.declared.mode.ReadMode.TheVariants.{NearestEven}
@@ -12,7 +12,7 @@ use Rattle.fixed_respell.specs.Words.{IsFormatWord, IsPlainWord, IsPolicyWord, p
 
 -- a word is the word of one format at most, so the word of a format names that format again
 abbrev pub FormatWordIsTheOne : Type 0
-FormatWordIsTheOne = (word : List ℕ) (f g : Shape) → IsFormatWord word f → IsFormatWord word g → f ≡ g
+FormatWordIsTheOne = (word : List ℕ) (f g : FormatParts) → IsFormatWord word f → IsFormatWord word g → f ≡ g
 
 -- a line has at most one answer
 abbrev pub AnswerIsTheOne : Type 0

@@ -3,7 +3,7 @@ use Rattle.std.proofs.Common.{◌≡◌, ℕ, ◌-◌, ◌<◌, List, ◌∷◌,
 use Rattle.std.specs.Fmt.{decimal}
 use Rattle.std.proofs.lemmas.Bool.{cases_lt}
 use Rattle.std.proofs.lemmas.Fmt.{decimal_injective}
-use Rattle.fixed_bits.specs.Formats.{Shape, IsFormat}
+use Rattle.fixed_bits.specs.Formats.{FormatParts, IsFormat}
 use Rattle.fixed_bits.specs.declared.format.Policy.{Policy}
 use Rattle.fixed_bits.specs.declared.format.Policy.TheVariants.{Checked, Saturating, Wrapping}
 use Rattle.fixed_bits.specs.declared.mode.ReadMode.{ReadMode}
@@ -152,13 +152,13 @@ policy_word_one word p q m k (inr a) (inr b) =
     (policy_one p q same.before, mode_one m k same.after)
 
 -- and one format
-abbrev shape : Bool → ℕ → ℕ → Shape
+abbrev shape : Bool → ℕ → ℕ → FormatParts
 shape s w r = record { signed = s; width = w; frac = r }
 
-shape_is : (f g : Shape) → f.signed ≡ g.signed → f.width ≡ g.width → f.frac ≡ g.frac → f ≡ g
+shape_is : (f g : FormatParts) → f.signed ≡ g.signed → f.width ≡ g.width → f.frac ≡ g.frac → f ≡ g
 shape_is f g s w r = ap (λ x. shape x f.width f.frac) s ∙ (ap (λ x. shape g.signed x f.frac) w ∙ ap (λ x. shape g.signed g.width x) r)
 
-pub format_word_one : (word : List ℕ) (f g : Shape) → IsFormatWord word f → IsFormatWord word g → f ≡ g
+pub format_word_one : (word : List ℕ) (f g : FormatParts) → IsFormatWord word f → IsFormatWord word g → f ≡ g
 format_word_one word f g a b =
     let e : format_text f ≡ format_text g = sym a.text ∙ b.text in
     let head : sign_letter f.signed ≡ sign_letter g.signed = cc in
@@ -185,7 +185,7 @@ task_is t u r s g p m n =
 task_one : (line : List ℕ) (t u : Task) → Asks line t → Asks line u → t ≡ u
 task_one line t u a b =
     let same = words_one line a.words b.words a.cut b.cut in
-    let F : Shape → List ℕ → Type 0 = λ f w. IsFormatWord w f in
+    let F : FormatParts → List ℕ → Type 0 = λ f w. IsFormatWord w f in
     let policy = policy_word_one b.words.policy t.policy u.policy t.mode u.mode (let Q : List ℕ → Type 0 = λ w. IsPolicyWord w t.policy t.mode in subst Q same.policy a.policy) b.policy in
     task_is t u
     (radix_one t.radix u.radix (sym a.radix ∙ (same.radix ∙ b.radix)))

@@ -4,7 +4,7 @@ use Rattle.std.specs.Fmt.{decimal}
 use Rattle.std.specs.Str.Parse.{AllDigits}
 use Rattle.std.proofs.lemmas.Fmt.{decimal_is_IsNumeral, decimal_injective, length-decimal-le}
 use Rattle.std.proofs.lemmas.Str.Parse.{digit_from_value}
-use Rattle.fixed_bits.specs.Formats.{Shape, IsFormat}
+use Rattle.fixed_bits.specs.Formats.{FormatParts, IsFormat}
 use Rattle.fixed_bits.specs.Ranges.{IsWidth}
 use Rattle.fixed_respell.specs.Cutting.{count_of, IsCut}
 use Rattle.fixed_respell.specs.Words.{HasCounts, IsFormatWord, fraction_letter, sign_letter}
@@ -43,7 +43,7 @@ letters_differ true false e = absurd (omega (arith, e))
 letters_differ false true e = absurd (omega (arith, e))
 
 -- a word of these pieces is the format's
-pub word_of_counts : (word whole fraction : List ℕ) (s : Bool) (f : Shape) → 0 < length word → get_or word 0 0 ≡ sign_letter s → IsCut fraction_letter (drop 1 word) whole fraction → f.signed ≡ s → HasCounts f whole fraction → IsFormatWord word f
+pub word_of_counts : (word whole fraction : List ℕ) (s : Bool) (f : FormatParts) → 0 < length word → get_or word 0 0 ≡ sign_letter s → IsCut fraction_letter (drop 1 word) whole fraction → f.signed ≡ s → HasCounts f whole fraction → IsFormatWord word f
 word_of_counts [] whole fraction s f some first cut signed counts = absurd (omega (arith, some))
 word_of_counts (b ∷ rest) whole fraction s f some first cut signed counts = record {
   format = counts.format;
@@ -53,7 +53,7 @@ word_of_counts (b ∷ rest) whole fraction s f some first cut signed counts = re
 }
 
 -- and the pieces of a format's word are its counts
-pub counts_of_word : (word whole fraction : List ℕ) (s : Bool) (f : Shape) → get_or word 0 0 ≡ sign_letter s → IsCut fraction_letter (drop 1 word) whole fraction → IsFormatWord word f → (f.signed ≡ s) × HasCounts f whole fraction
+pub counts_of_word : (word whole fraction : List ℕ) (s : Bool) (f : FormatParts) → get_or word 0 0 ≡ sign_letter s → IsCut fraction_letter (drop 1 word) whole fraction → IsFormatWord word f → (f.signed ≡ s) × HasCounts f whole fraction
 counts_of_word word whole fraction s f first cut is =
     let most = width_most f.width is.format.is_width in
     let tail = behind (sign_letter f.signed) word (decimal (f.width - f.frac) ++ fraction_letter ∷ decimal f.frac) is.text in
@@ -62,7 +62,7 @@ counts_of_word word whole fraction s f first cut is =
     (letters_differ f.signed s (sym head ∙ first), record { format = is.format; whole_bits = same.before; fraction_bits = same.after })
 
 -- counts that add up to a width, and only those
-pub counts_fit : (f : Shape) (whole fraction : List ℕ) (w r : ℕ) → whole ≡ decimal w → fraction ≡ decimal r → w < 100 → r < 100 → HasCounts f whole fraction → (f.width ≡ w + r) × (f.frac ≡ r)
+pub counts_fit : (f : FormatParts) (whole fraction : List ℕ) (w r : ℕ) → whole ≡ decimal w → fraction ≡ decimal r → w < 100 → r < 100 → HasCounts f whole fraction → (f.width ≡ w + r) × (f.frac ≡ r)
 counts_fit f whole fraction w r whole_is fraction_is w_most r_most counts =
     let most = width_most f.width counts.format.is_width in
     let within = counts.format.within in
@@ -70,20 +70,20 @@ counts_fit f whole fraction w r whole_is fraction_is w_most r_most counts =
     let same_fraction : f.frac ≡ r = decimal_injective f.frac r (omega arith) (omega arith) (sym counts.fraction_bits ∙ fraction_is) in
     (omega (arith, same_whole, same_fraction), same_fraction)
 
-pub has_counts : (f : Shape) (whole fraction : List ℕ) (w r : ℕ) → whole ≡ decimal w → fraction ≡ decimal r → IsFormat f.width f.frac → f.width ≡ w + r → f.frac ≡ r → HasCounts f whole fraction
+pub has_counts : (f : FormatParts) (whole fraction : List ℕ) (w r : ℕ) → whole ≡ decimal w → fraction ≡ decimal r → IsFormat f.width f.frac → f.width ≡ w + r → f.frac ≡ r → HasCounts f whole fraction
 has_counts f whole fraction w r whole_is fraction_is is width frac =
     let count : w ≡ f.width - f.frac = omega arith in
     record { format = is; whole_bits = whole_is ∙ ap decimal count; fraction_bits = fraction_is ∙ ap decimal (sym frac) }
 
 -- what is known of a format with these counts, where there is one
-pub counted : (result : Option Shape) (signed : Bool) (whole fraction : List ℕ) (w r : ℕ) → whole ≡ decimal w → fraction ≡ decimal r → w < 100 → r < 100
+pub counted : (result : Option FormatParts) (signed : Bool) (whole fraction : List ℕ) (w r : ℕ) → whole ≡ decimal w → fraction ≡ decimal r → w < 100 → r < 100
     → (IsSome result ↔ IsFormat (w + r) r) → IfSome result (λ f. (f.signed ≡ signed) × (f.width ≡ w + r) × (f.frac ≡ r))
-    → MatchOption result ((f : Shape) → f.signed ≡ signed → HasCounts f whole fraction → ⊥) (λ f. (f.signed ≡ signed) × HasCounts f whole fraction)
+    → MatchOption result ((f : FormatParts) → f.signed ≡ signed → HasCounts f whole fraction → ⊥) (λ f. (f.signed ≡ signed) × HasCounts f whole fraction)
 counted None signed whole fraction w r whole_is fraction_is w_most r_most exists parts = λ f same counts.
     let fit = counts_fit f whole fraction w r whole_is fraction_is w_most r_most counts in
     let P : ℕ → Type 0 = λ n. IsFormat n f.frac in
     let Q : ℕ → Type 0 = λ n. IsFormat (w + r) n in
-    let some : IsSome {T = Shape} None = exists.1 (subst Q fit.1 (subst P fit.0 counts.format)) in
+    let some : IsSome {T = FormatParts} None = exists.1 (subst Q fit.1 (subst P fit.0 counts.format)) in
     search (rules, some)
 counted (Some f) signed whole fraction w r whole_is fraction_is w_most r_most exists parts =
     let P : ℕ → Type 0 = λ n. IsFormat n f.frac in
@@ -92,8 +92,8 @@ counted (Some f) signed whole fraction w r whole_is fraction_is w_most r_most ex
     (parts.0, has_counts f whole fraction w r whole_is fraction_is is parts.1 parts.2)
 
 -- what is known of a word by its first letter and its pieces
-pub worded : (result : Option Shape) (word whole fraction : List ℕ) (s : Bool) → 0 < length word → get_or word 0 0 ≡ sign_letter s → IsCut fraction_letter (drop 1 word) whole fraction
-    → MatchOption result ((f : Shape) → f.signed ≡ s → HasCounts f whole fraction → ⊥) (λ f. (f.signed ≡ s) × HasCounts f whole fraction)
-    → MatchOption result ((f : Shape) → ¬ IsFormatWord word f) (λ f. IsFormatWord word f)
+pub worded : (result : Option FormatParts) (word whole fraction : List ℕ) (s : Bool) → 0 < length word → get_or word 0 0 ≡ sign_letter s → IsCut fraction_letter (drop 1 word) whole fraction
+    → MatchOption result ((f : FormatParts) → f.signed ≡ s → HasCounts f whole fraction → ⊥) (λ f. (f.signed ≡ s) × HasCounts f whole fraction)
+    → MatchOption result ((f : FormatParts) → ¬ IsFormatWord word f) (λ f. IsFormatWord word f)
 worded None word whole fraction s some first cut counts = λ f is. let c = counts_of_word word whole fraction s f first cut is in counts f c.0 c.1
 worded (Some f) word whole fraction s some first cut counts = word_of_counts word whole fraction s f some first cut counts.0 counts.1

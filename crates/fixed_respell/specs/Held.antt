@@ -1,6 +1,6 @@
 -- What a source format holds of a numeral.
 use Rattle.std.specs.Prelude.{◌↔◌, List, ℕ, ℤ, Bool, IsTrue}
-use Rattle.fixed_bits.specs.Formats.{Shape}
+use Rattle.fixed_bits.specs.Formats.{FormatParts}
 use Rattle.fixed_bits.specs.Ranges.{IsOutOfRange}
 use Rattle.fixed_bits.specs.Images.{IsImage}
 use Rattle.fixed_bits.specs.declared.format.Policy.{Policy}
@@ -11,7 +11,7 @@ use Rattle.fixed_read.specs.Reading.{IsReadNumber}
 
 -- bytes are a numeral, `held` is the image of its read number in the source, and the flag says whether that number is
 -- out of range
-pub record IsHeld (mode : ReadMode) (r : Radix) (bytes : List ℕ) (policy : Policy) (source : Shape) (held : ℤ) (out : Bool) : Type 0 where
+pub record IsHeld (mode : ReadMode) (r : Radix) (bytes : List ℕ) (policy : Policy) (source : FormatParts) (held : ℤ) (out : Bool) : Type 0 where
   pub parts : Parts
   pub numeral : HasNumeral r bytes parts
   pub number : ℤ

@@ -1,6 +1,6 @@
 -- A line is cut into words in one way, and its first fault is one.
 use Rattle.std.proofs.Common.{◌≡◌, ℕ, ◌+◌, ◌<◌, ◌≤◌, List, ◌∷◌, ◌++◌, length, sym, ap, ◌∙◌, subst, arith, length-append}
-use Rattle.fixed_bits.specs.Formats.{Shape}
+use Rattle.fixed_bits.specs.Formats.{FormatParts}
 use Rattle.fixed_bits.specs.declared.format.Policy.{Policy}
 use Rattle.fixed_bits.specs.declared.mode.ReadMode.{ReadMode}
 use Rattle.fixed_numeral.specs.declared.radix.Radix.{Radix}
@@ -61,12 +61,12 @@ no_missing line w is stands = omega (arith, stands, four_spaces line w is)
 pub no_radix : (line : List ℕ) (w : LineWords) (r : Radix) → HasWords line w → w.radix ≡ radix_text r → Stands BadRadix line → ⊥
 no_radix line w r is named stands = stands.2 r ((words_one line stands.0 w stands.1 is).radix ∙ named)
 
-pub no_source : (line : List ℕ) (w : LineWords) (f : Shape) → HasWords line w → IsFormatWord w.source f → Stands BadSource line → ⊥
+pub no_source : (line : List ℕ) (w : LineWords) (f : FormatParts) → HasWords line w → IsFormatWord w.source f → Stands BadSource line → ⊥
 no_source line w f is named stands =
     let P : List ℕ → Type 0 = λ x. IsFormatWord x f in
     stands.2 f (subst P (sym (words_one line stands.0 w stands.1 is).source) named)
 
-pub no_target : (line : List ℕ) (w : LineWords) (f : Shape) → HasWords line w → IsFormatWord w.target f → Stands BadTarget line → ⊥
+pub no_target : (line : List ℕ) (w : LineWords) (f : FormatParts) → HasWords line w → IsFormatWord w.target f → Stands BadTarget line → ⊥
 no_target line w f is named stands =
     let P : List ℕ → Type 0 = λ x. IsFormatWord x f in
     stands.2 f (subst P (sym (words_one line stands.0 w stands.1 is).target) named)
@@ -110,7 +110,7 @@ first_radix line w short is bad = record { stands = (w, is, bad); first = none }
     none BadTarget before stands = omega arith
     none BadPolicy before stands = omega arith
 
-pub first_source : (line : List ℕ) (w : LineWords) (r : Radix) → length line ≤ longest_line → HasWords line w → w.radix ≡ radix_text r → ((f : Shape) → IsFormatWord w.source f → ⊥) → IsFirstFault BadSource line
+pub first_source : (line : List ℕ) (w : LineWords) (r : Radix) → length line ≤ longest_line → HasWords line w → w.radix ≡ radix_text r → ((f : FormatParts) → IsFormatWord w.source f → ⊥) → IsFirstFault BadSource line
 first_source line w r short is radix bad = record { stands = (w, is, bad); first = none }
   where
     none : (other : LineFault) → place_of other < 4 → Stands other line → ⊥
@@ -121,7 +121,7 @@ first_source line w r short is radix bad = record { stands = (w, is, bad); first
     none BadTarget before stands = omega arith
     none BadPolicy before stands = omega arith
 
-pub first_target : (line : List ℕ) (w : LineWords) (r : Radix) (s : Shape) → length line ≤ longest_line → HasWords line w → w.radix ≡ radix_text r → IsFormatWord w.source s → ((f : Shape) → IsFormatWord w.target f → ⊥) → IsFirstFault BadTarget line
+pub first_target : (line : List ℕ) (w : LineWords) (r : Radix) (s : FormatParts) → length line ≤ longest_line → HasWords line w → w.radix ≡ radix_text r → IsFormatWord w.source s → ((f : FormatParts) → IsFormatWord w.target f → ⊥) → IsFirstFault BadTarget line
 first_target line w r s short is radix source bad = record { stands = (w, is, bad); first = none }
   where
     none : (other : LineFault) → place_of other < 5 → Stands other line → ⊥
@@ -132,7 +132,7 @@ first_target line w r s short is radix source bad = record { stands = (w, is, ba
     none BadTarget before stands = omega arith
     none BadPolicy before stands = omega arith
 
-pub first_policy : (line : List ℕ) (w : LineWords) (r : Radix) (s t : Shape) → length line ≤ longest_line → HasWords line w → w.radix ≡ radix_text r → IsFormatWord w.source s → IsFormatWord w.target t → ((p : Policy) (m : ReadMode) → IsPolicyWord w.policy p m → ⊥) → IsFirstFault BadPolicy line
+pub first_policy : (line : List ℕ) (w : LineWords) (r : Radix) (s t : FormatParts) → length line ≤ longest_line → HasWords line w → w.radix ≡ radix_text r → IsFormatWord w.source s → IsFormatWord w.target t → ((p : Policy) (m : ReadMode) → IsPolicyWord w.policy p m → ⊥) → IsFirstFault BadPolicy line
 first_policy line w r s t short is radix source target bad = record { stands = (w, is, bad); first = none }
   where
     none : (other : LineFault) → place_of other < 6 → Stands other line → ⊥

@@ -1,6 +1,6 @@
 -- What is reached from a numeral through two formats.
 use Rattle.std.specs.Prelude.{◌≡◌, ◌⊎◌, ◌↔◌, List, ℕ, ℤ, pos, Bool, true, false, IsTrue}
-use Rattle.fixed_bits.specs.Formats.{Shape}
+use Rattle.fixed_bits.specs.Formats.{FormatParts}
 use Rattle.fixed_bits.specs.Ranges.{IsOutOfRange}
 use Rattle.fixed_bits.specs.Images.{IsImage}
 use Rattle.fixed_bits.specs.Down.{IsDown}
@@ -19,7 +19,7 @@ use Rattle.fixed_respell.specs.declared.respelling.Bits.TheVariants.{Signed, Uns
 -- `number` is the read number of a numeral with these parts, `held` its image in the source, `moved` that moved down
 -- to the target's fraction length, and `bits` the image of this in the target; the flag says whether one of the two
 -- numbers was out of its format
-pub record IsReached (mode : ReadMode) (r : Radix) (p : Parts) (policy : Policy) (source target : Shape) (bits : ℤ) (overflowed : Bool) : Type 0 where
+pub record IsReached (mode : ReadMode) (r : Radix) (p : Parts) (policy : Policy) (source target : FormatParts) (bits : ℤ) (overflowed : Bool) : Type 0 where
   pub number : ℤ
   pub held : ℤ
   pub moved : ℤ
@@ -31,7 +31,7 @@ pub record IsReached (mode : ReadMode) (r : Radix) (p : Parts) (policy : Policy)
 
 -- nothing is reached: under Checked the read number is out of the source's range, or moved down it is out of the
 -- target's, and so it has no image there
-pub record IsUnreached (mode : ReadMode) (r : Radix) (p : Parts) (policy : Policy) (source target : Shape) : Type 0 where
+pub record IsUnreached (mode : ReadMode) (r : Radix) (p : Parts) (policy : Policy) (source target : FormatParts) : Type 0 where
   pub number : ℤ
   pub moved : ℤ
   pub checked : policy ≡ Checked
@@ -40,19 +40,19 @@ pub record IsUnreached (mode : ReadMode) (r : Radix) (p : Parts) (policy : Polic
   pub out : IsOutOfRange source.signed source.width number ⊎ IsOutOfRange target.signed target.width moved
 
 -- bytes are a numeral, and these bits and this flag are reached from it
-pub record IsRespelled (mode : ReadMode) (r : Radix) (bytes : List ℕ) (policy : Policy) (source target : Shape) (bits : ℤ) (overflowed : Bool) : Type 0 where
+pub record IsRespelled (mode : ReadMode) (r : Radix) (bytes : List ℕ) (policy : Policy) (source target : FormatParts) (bits : ℤ) (overflowed : Bool) : Type 0 where
   pub parts : Parts
   pub numeral : HasNumeral r bytes parts
   pub reached : IsReached mode r parts policy source target bits overflowed
 
 -- bytes are a numeral, and nothing is reached from it
-pub record IsOverflow (mode : ReadMode) (r : Radix) (bytes : List ℕ) (policy : Policy) (source target : Shape) : Type 0 where
+pub record IsOverflow (mode : ReadMode) (r : Radix) (bytes : List ℕ) (policy : Policy) (source target : FormatParts) : Type 0 where
   pub parts : Parts
   pub numeral : HasNumeral r bytes parts
   pub unreached : IsUnreached mode r parts policy source target
 
 -- kind says why no bits are reached: bytes are no numeral, or nothing is reached from it
-abbrev pub IsRefusal : ReadMode → Radix → List ℕ → Policy → Shape → Shape → ParseErrorKind → Type 0
+abbrev pub IsRefusal : ReadMode → Radix → List ℕ → Policy → FormatParts → FormatParts → ParseErrorKind → Type 0
 IsRefusal mode r bytes policy source target kind = HasCause r bytes kind ⊎ ((kind ≡ Overflow) × IsOverflow mode r bytes policy source target)
 
 -- the number of some bits

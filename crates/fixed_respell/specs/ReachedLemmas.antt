@@ -6,7 +6,7 @@ use Rattle.std.specs.Str.Parse.{AllDigits}
 use Rattle.std.proofs.lemmas.Bool.{false≢true}
 use Rattle.std.proofs.lemmas.Int.{ints}
 use Rattle.fixed_bits.specs.Down.{IsDown, down}
-use Rattle.fixed_bits.specs.Formats.{Shape}
+use Rattle.fixed_bits.specs.Formats.{FormatParts}
 use Rattle.fixed_bits.specs.Images.{IsImage, IsSaturated}
 use Rattle.fixed_bits.specs.Ranges.{IsInRange, IsOutOfRange, IsWidth, lowest, greatest}
 use Rattle.fixed_bits.specs.declared.format.Policy.{Policy}
@@ -53,7 +53,7 @@ front_sign r bytes p h = rw h.beginning.text (front_of r p.sign p.whole p.fracti
 in_range : (s : Bool) (n : ℕ) (v : ℤ) → (IsTrue false ↔ IsOutOfRange s n v) → IsInRange s n v
 in_range s n v flag = ⊎_elim (λ h. h) (λ o. absurd (false≢true (flag.1 o))) (range_decided s n v).0
 
-pub held_within : (mode : ReadMode) (r : Radix) (bytes : List ℕ) (policy : Policy) (source : Shape) (b : ℤ) → IsWidth source.width → IsHeld mode r bytes Wrapping source b false → IsHeld mode r bytes policy source b false
+pub held_within : (mode : ReadMode) (r : Radix) (bytes : List ℕ) (policy : Policy) (source : FormatParts) (b : ℤ) → IsWidth source.width → IsHeld mode r bytes Wrapping source b false → IsHeld mode r bytes policy source b false
 held_within mode r bytes policy source b w h =
     let within = in_range source.signed source.width h.number h.flag in
     let same : b ≡ h.number = (images_agree Wrapping source.signed source.width h.number b w within).0 h.image in
@@ -98,7 +98,7 @@ outside_image Checked s n steps v b c negative is out image some low high same =
 outside_image Saturating s n steps v b c negative is out image some low high same = to_end negative s n steps v c is out (low refl) (high refl)
 outside_image Wrapping s n steps v b c negative is out image some low high same = rw (same refl) image
 
-pub held_outside : (mode : ReadMode) (r : Radix) (bytes : List ℕ) (policy : Policy) (source : Shape) (b c : ℤ) (negative : Bool) → negative ≡ is_minus (slice_get bytes 0) → (policy ≡ Checked → ⊥) → (policy ≡ Saturating → negative ≡ true → c ≡ lowest source.signed source.width) → (policy ≡ Saturating → negative ≡ false → c ≡ greatest source.signed source.width) → (policy ≡ Wrapping → c ≡ b) → IsHeld mode r bytes Wrapping source b true → IsHeld mode r bytes policy source c true
+pub held_outside : (mode : ReadMode) (r : Radix) (bytes : List ℕ) (policy : Policy) (source : FormatParts) (b c : ℤ) (negative : Bool) → negative ≡ is_minus (slice_get bytes 0) → (policy ≡ Checked → ⊥) → (policy ≡ Saturating → negative ≡ true → c ≡ lowest source.signed source.width) → (policy ≡ Saturating → negative ≡ false → c ≡ greatest source.signed source.width) → (policy ≡ Wrapping → c ≡ b) → IsHeld mode r bytes Wrapping source b true → IsHeld mode r bytes policy source c true
 held_outside mode r bytes policy source b c negative is some low high same h =
     let sign : negative ≡ is_minus h.parts.sign = is ∙ front_sign r bytes h.parts h.numeral in
     let value : h.number ≡ (if negative then neg_ℤ (pos h.read.steps) else pos h.read.steps) = rw sign h.read.value in
@@ -115,7 +115,7 @@ held_outside mode r bytes policy source b c negative is some low high same h =
 down_is : (b : ℤ) (f g : ℕ) → IsDown b f g (down b f g)
 down_is b f g = (down_one b f g (down b f g)).1 refl
 
-pub out_of_source : (mode : ReadMode) (r : Radix) (bytes : List ℕ) (policy : Policy) (source target : Shape) (b : ℤ) (kind : ParseErrorKind) → policy ≡ Checked → kind ≡ Overflow → IsHeld mode r bytes Wrapping source b true → IsRefusal mode r bytes policy source target kind
+pub out_of_source : (mode : ReadMode) (r : Radix) (bytes : List ℕ) (policy : Policy) (source target : FormatParts) (b : ℤ) (kind : ParseErrorKind) → policy ≡ Checked → kind ≡ Overflow → IsHeld mode r bytes Wrapping source b true → IsRefusal mode r bytes policy source target kind
 out_of_source mode r bytes policy source target b kind checked is h =
     let none : IsUnreached mode r h.parts policy source target = record {
       number = h.number;
@@ -127,7 +127,7 @@ out_of_source mode r bytes policy source target b kind checked is h =
     } in
     inr (is, record { parts = h.parts; numeral = h.numeral; unreached = none })
 
-pub out_of_target : (mode : ReadMode) (r : Radix) (bytes : List ℕ) (policy : Policy) (source target : Shape) (b : ℤ) (o : Bool) (kind : ParseErrorKind) → policy ≡ Checked → kind ≡ Overflow → IsHeld mode r bytes policy source b o → IsOutOfRange target.signed target.width (down b source.frac target.frac) → IsRefusal mode r bytes policy source target kind
+pub out_of_target : (mode : ReadMode) (r : Radix) (bytes : List ℕ) (policy : Policy) (source target : FormatParts) (b : ℤ) (o : Bool) (kind : ParseErrorKind) → policy ≡ Checked → kind ≡ Overflow → IsHeld mode r bytes policy source b o → IsOutOfRange target.signed target.width (down b source.frac target.frac) → IsRefusal mode r bytes policy source target kind
 out_of_target mode r bytes policy source target b o kind checked is h out =
     let image : IsImage Checked source.signed source.width h.number b = rw checked at h.image in
     let same : b ≡ h.number = image.same in
@@ -148,7 +148,7 @@ either_out e o u A B w a b = (
   (λ y. w.1 (⊎_elim (λ x. inl (a.1 x)) (λ x. inr (b.1 x)) y)),
 )
 
-pub respelled : (mode : ReadMode) (r : Radix) (bytes : List ℕ) (policy : Policy) (source target : Shape) (b c d : ℤ) (o u e : Bool) → IsHeld mode r bytes policy source b o → IsImage policy target.signed target.width (down b source.frac target.frac) c → (IsTrue u ↔ IsOutOfRange target.signed target.width (down b source.frac target.frac)) → (IsTrue e ↔ (IsTrue o ⊎ IsTrue u)) → d ≡ c → IsRespelled mode r bytes policy source target d e
+pub respelled : (mode : ReadMode) (r : Radix) (bytes : List ℕ) (policy : Policy) (source target : FormatParts) (b c d : ℤ) (o u e : Bool) → IsHeld mode r bytes policy source b o → IsImage policy target.signed target.width (down b source.frac target.frac) c → (IsTrue u ↔ IsOutOfRange target.signed target.width (down b source.frac target.frac)) → (IsTrue e ↔ (IsTrue o ⊎ IsTrue u)) → d ≡ c → IsRespelled mode r bytes policy source target d e
 respelled mode r bytes policy source target b c d o u e h image out or is =
     let reached : IsReached mode r h.parts policy source target d e = record {
       number = h.number;

@@ -1,6 +1,6 @@
 -- The words of a line.
 use Rattle.std.specs.Prelude.{◌≡◌, ℕ, ◌-◌, ◌⊎◌, Bool, true, false, List, ◌∷◌, ◌++◌, codes, decimal}
-use Rattle.fixed_bits.specs.Formats.{Shape, IsFormat}
+use Rattle.fixed_bits.specs.Formats.{FormatParts, IsFormat}
 use Rattle.fixed_bits.specs.declared.format.Policy.{Policy}
 use Rattle.fixed_bits.specs.declared.format.Policy.TheVariants.{Checked, Saturating, Wrapping}
 use Rattle.fixed_bits.specs.declared.mode.ReadMode.{ReadMode}
@@ -25,17 +25,17 @@ abbrev pub fraction_letter : ℕ
 fraction_letter = 70
 
 -- the counts of whole and of fraction bits of the format f, in decimal
-pub record HasCounts (f : Shape) (whole fraction : List ℕ) : Type 0 where
+pub record HasCounts (f : FormatParts) (whole fraction : List ℕ) : Type 0 where
   pub format : IsFormat f.width f.frac
   pub whole_bits : whole ≡ decimal (f.width - f.frac)
   pub fraction_bits : fraction ≡ decimal f.frac
 
 -- the word of a format
-abbrev pub format_text : Shape → List ℕ
+abbrev pub format_text : FormatParts → List ℕ
 format_text f = sign_letter f.signed ∷ (decimal (f.width - f.frac) ++ fraction_letter ∷ decimal f.frac)
 
 -- word is the word of the format f
-pub record IsFormatWord (word : List ℕ) (f : Shape) : Type 0 where
+pub record IsFormatWord (word : List ℕ) (f : FormatParts) : Type 0 where
   pub format : IsFormat f.width f.frac
   pub text : word ≡ format_text f
 

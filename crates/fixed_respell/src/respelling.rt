@@ -1,7 +1,7 @@
 //! A numeral through two formats, from its bytes to its shortest text.
 
 ghost use Rattle.std.specs.Prelude.{◌≡◌, ◌↔◌, ◌⊎◌, ◌≤◌, ◌+◌, ◌*◌, ℤ, Bool, true, false, IsTrue, IsOk, IfOk, IfErr, IsNone, IfSome, length, slice_get};
-ghost use Rattle.fixed_bits.specs.Formats.{Shape, IsFormat};
+ghost use Rattle.fixed_bits.specs.Formats.{FormatParts, IsFormat};
 ghost use Rattle.fixed_bits.specs.Ranges.{IsInRange, IsOutOfRange, IsWide, IsWidth, lowest, greatest};
 ghost use Rattle.fixed_bits.specs.declared.format.Policy.TheVariants.{Checked, Saturating, Wrapping};
 ghost use Rattle.fixed_bits.specs.declared.mode.ReadMode.TheVariants.{NearestEven};
@@ -137,7 +137,7 @@ fn held<L: Ledger>(
 ) -> Result<(i128, bool), ParseFixedError>
     ensures held { IfOk result (λ r. IsHeld mode radix bytes.now policy source r.0 r.1) }
     ensures wide { IfOk result (λ r. IsWide r.0) }
-    ensures refused { IfErr result (λ kind. (target : Shape) → IsRefusal mode radix bytes.now policy source target kind) }
+    ensures refused { IfErr result (λ kind. (target : FormatParts) → IsRefusal mode radix bytes.now policy source target kind) }
     ensures cost { steps.new ≤ steps.old + 8 * length bytes.now + 576 }
 {
     match read(bytes, radix, source, mode, steps) {

@@ -1,7 +1,7 @@
 //! The words of a line: radix, format, policy and mode.
 
 ghost use Rattle.std.specs.Prelude.{◌≡◌, ◌≤◌, ◌<◌, ◌+◌, ◌/◌, ◌%◌, ◌++◌, ◌∷◌, ℕ, List, length, Bool, IsNone, IfSome, MatchOption, decimal};
-ghost use Rattle.fixed_bits.specs.Formats.{Shape};
+ghost use Rattle.fixed_bits.specs.Formats.{FormatParts};
 ghost use Rattle.fixed_bits.specs.declared.format.Policy.{Policy};
 ghost use Rattle.fixed_bits.specs.declared.mode.ReadMode.{ReadMode};
 ghost use Rattle.fixed_numeral.specs.declared.radix.Radix.{Radix};
@@ -111,7 +111,7 @@ fn whole_count(counts: &[u8]) -> Option<(u32, &[u8])>
 #[inline(always)]
 fn counted_format(signed: bool, whole: u32, fraction: &[u8]) -> Option<Format>
     requires { whole < 100 }
-    ensures { MatchOption result ((f : Shape) → f.signed ≡ signed → HasCounts f (decimal whole) fraction.now → ⊥) (λ f. (f.signed ≡ signed) × HasCounts f (decimal whole) fraction.now) }
+    ensures { MatchOption result ((f : FormatParts) → f.signed ≡ signed → HasCounts f (decimal whole) fraction.now → ⊥) (λ f. (f.signed ≡ signed) × HasCounts f (decimal whole) fraction.now) }
 {
     match short_number(fraction) {
         Some(fraction) => Format::new(signed, whole + fraction, fraction),
@@ -134,7 +134,7 @@ fn named_sign(letter: u8) -> Option<bool>
 // In line, with what it calls, since each line has two: an answer of a call would go through memory.
 #[inline(always)]
 pub fn format_word(word: &[u8]) -> Option<Format>
-    ensures { MatchOption result ((f : Shape) → ¬ IsFormatWord word.now f) (λ f. IsFormatWord word.now f) }
+    ensures { MatchOption result ((f : FormatParts) → ¬ IsFormatWord word.now f) (λ f. IsFormatWord word.now f) }
 {
     if word.is_empty() {
         return None;

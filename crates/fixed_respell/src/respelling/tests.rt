@@ -13,27 +13,27 @@ use std::sync::ledger::{Blank, Ledger};
 use std::test::Fail;
 
 /// The parts of a format: whether it is signed, its width and its fraction length.
-type Shape = (bool, u32, u32);
+type FormatParts = (bool, u32, u32);
 
-const I4F4: Shape = (true, 8, 4);
+const I4F4: FormatParts = (true, 8, 4);
 
-const I8F0: Shape = (true, 8, 0);
+const I8F0: FormatParts = (true, 8, 0);
 
-const I20F12: Shape = (true, 32, 12);
+const I20F12: FormatParts = (true, 32, 12);
 
-const U0F8: Shape = (false, 8, 8);
+const U0F8: FormatParts = (false, 8, 8);
 
-const U4F4: Shape = (false, 8, 4);
+const U4F4: FormatParts = (false, 8, 4);
 
-const U8F0: Shape = (false, 8, 0);
+const U8F0: FormatParts = (false, 8, 0);
 
-const U8F8: Shape = (false, 16, 8);
+const U8F8: FormatParts = (false, 16, 8);
 
-const U16F0: Shape = (false, 16, 0);
+const U16F0: FormatParts = (false, 16, 0);
 
-const U0F64: Shape = (false, 64, 64);
+const U0F64: FormatParts = (false, 64, 64);
 
-fn format(shape: Shape) -> Option<Format> {
+fn format(shape: FormatParts) -> Option<Format> {
     Format::new(shape.0, shape.1, shape.2)
 }
 
@@ -42,8 +42,8 @@ fn format(shape: Shape) -> Option<Format> {
 struct Reached {
     numeral: &'static str,
     radix: Radix,
-    source: Shape,
-    target: Shape,
+    source: FormatParts,
+    target: FormatParts,
     policy: Policy,
     mode: ReadMode,
     bits: Bits,
@@ -214,8 +214,8 @@ fn modes_of_reading(rt: HostRuntime) {
 #[derive(Drop)]
 struct Refused {
     numeral: &'static str,
-    source: Shape,
-    target: Shape,
+    source: FormatParts,
+    target: FormatParts,
     kind: ParseErrorKind,
 }
 

@@ -3,7 +3,7 @@ use Rattle.std.proofs.lemmas.Bool.{false≢true}
 use Rattle.std.specs.Prelude.{codes}
 use Rattle.std.specs.Char.{digit_value}
 use Rattle.std.specs.Fmt.{digits}
-use Rattle.fixed_bits.specs.Formats.{Shape}
+use Rattle.fixed_bits.specs.Formats.{FormatParts}
 use Rattle.fixed_bits.specs.declared.format.Policy.TheVariants.{Checked}
 use Rattle.fixed_bits.specs.declared.mode.ReadMode.TheVariants.{NearestEven}
 use Rattle.fixed_numeral.specs.Cause.{HasCause}
@@ -43,10 +43,10 @@ u16f0 = record { format = record { is_width = inr (inl refl); within = omega ari
 abbrev line_of : List ℕ → List ℕ → List ℕ → List ℕ
 line_of source target numeral = codes "10" ++ space ∷ (source ++ space ∷ (target ++ space ∷ (codes "checked" ++ space ∷ numeral)))
 
-abbrev decimal_task : Shape → Shape → List ℕ → Task
+abbrev decimal_task : FormatParts → FormatParts → List ℕ → Task
 decimal_task source target numeral = task_of Dec source target Checked NearestEven numeral
 
-asks : (s t numeral : List ℕ) (f g : Shape) → IsFormatWord s f → IsFormatWord t g → count_of space s ≡ 0 → count_of space t ≡ 0 → length (line_of s t numeral) ≤ longest_line → Asks (line_of s t numeral) (decimal_task f g numeral)
+asks : (s t numeral : List ℕ) (f g : FormatParts) → IsFormatWord s f → IsFormatWord t g → count_of space s ≡ 0 → count_of space t ≡ 0 → length (line_of s t numeral) ≤ longest_line → Asks (line_of s t numeral) (decimal_task f g numeral)
 asks s t numeral f g source target one other short = record {
   short = short;
   words = line_words (codes "10") s t (codes "checked") numeral;
