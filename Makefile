@@ -24,8 +24,8 @@ $(CALLS): $(SOURCES)
 
 # Answers a handful of lines. A status of 1 says that some line was refused, as two of these are meant to be.
 demo: $(PROGRAM)
-	@$(PROGRAM) <bench/demo >build/answers; test $$? -le 1
-	@paste -d '>' bench/demo build/answers | sed 's/>/  ->  /'
+	@$(PROGRAM) <examples/demo.txt >build/answers; test $$? -le 1
+	@paste -d '>' examples/demo.txt build/answers | sed 's/>/  ->  /'
 
 # The gate: every proof, every must-fail edit, every test and every program's stored run.
 test:
@@ -41,7 +41,7 @@ bench: $(PROGRAM) $(CALLS)
 
 # Seeded lines, answered by the program and by whole-number arithmetic in Python.
 compare: $(PROGRAM)
-	python3 bench/reference.py --compare $(PROGRAM) --count 200000
+	python3 oracle/reference.py --compare $(PROGRAM) --count 200000
 
 clean:
 	rm -rf build crates/*/out
