@@ -1,0 +1,131 @@
+//! A text of bounded length that takes no memory and is written in place.
+//!
+//! A `TextBuffer<N>` is an array of `N` bytes and a length. Contracts see it as the list of its bytes, so that each
+//! call that appends says exactly what it appended. Clearing it and cutting it back only set the length.
+#![tactic(auto)]
+
+ghost use Rattle.std.specs.Prelude.{◌≡◌, ◌+◌, ◌<◌, ◌≤◌, ◌++◌, ◌↔◌, [], ◌∷◌, length, take, IsTrue};
+
+use std::marker::Model;
+
+#[cfg(test)]
+mod tests;
+
+/// A list of at most `N` bytes.
+#[derive(Drop)]
+pub struct TextBuffer<const N: usize> {
+    bytes: [u8; N],
+    len: usize,
+}
+
+impl<const N: usize> Model for TextBuffer<N> {
+    ghost use Rattle.std.specs.Prelude.{List, ℕ, take, ◌≤◌};
+
+    ghost Value = { List ℕ };
+
+    ghost view = { λ t. take t.len t.bytes };
+
+    ghost invariant = { λ t. t.len ≤ N };
+}
+
+impl<const N: usize> TextBuffer<N> {
+    /// The empty text.
+    pub fn new() -> TextBuffer<N>
+        ensures { result ≡ [] }
+    {
+        TextBuffer {
+            bytes: [0; N],
+            len: 0,
+        }
+    }
+
+    /// The length in bytes.
+    #[inline]
+    pub fn len(&self) -> usize
+        ensures value { result ≡ length self.now }
+        ensures within { result ≤ N }
+    {
+        self.len
+    }
+
+    /// Whether there is no byte.
+    #[inline]
+    pub fn is_empty(&self) -> bool
+        ensures { IsTrue result ↔ (self.now ≡ []) }
+    {
+        self.len == 0
+    }
+
+    /// How many more bytes fit.
+    #[inline]
+    pub fn room(&self) -> usize
+        ensures { length self.now + result ≡ N }
+    {
+        N - self.len
+    }
+
+    /// Appends a byte. There must be room for it.
+    #[inline]
+    pub fn push(&mut self, byte: u8)
+        requires room { length self.old < N }
+        ensures { self.new ≡ self.old ++ byte ∷ [] }
+    {
+        self.bytes[self.len] = byte;
+        self.len += 1;
+    }
+
+    /// Appends bytes. There must be room for all of them.
+    #[inline]
+    pub fn push_bytes(&mut self, bytes: &[u8])
+        requires room { length self.old + length bytes.now ≤ N }
+        ensures { self.new ≡ self.old ++ bytes.now }
+    {
+        let end = self.len + bytes.len();
+        let all = &mut self.bytes[..];
+        all[self.len..end].copy_from_slice(bytes);
+        self.len = end;
+    }
+
+    /// Appends the first `count` of eight bytes. There must be room for those; where there is room for eight, this is
+    /// one write of eight bytes and costs the same for each `count`.
+    #[inline]
+    pub fn push_prefix(&mut self, bytes: [u8; 8], count: usize)
+        requires count { count ≤ 8 }
+        requires room { length self.old + count ≤ N }
+        ensures { self.new ≡ self.old ++ take count bytes }
+    {
+        if N - self.len < 8 {
+            self.push_bytes(&bytes[..count]);
+        } else {
+            let end = self.len + 8;
+            let all = &mut self.bytes[..];
+            all[self.len..end].copy_from_slice(&bytes);
+            self.len += count;
+        }
+    }
+
+    /// The bytes.
+    #[inline]
+    pub fn as_bytes(&self) -> &[u8]
+        ensures value { result.now ≡ self.now }
+        ensures within { length self.now ≤ N }
+    {
+        &self.bytes[..self.len]
+    }
+
+    /// Keeps the first `len` bytes, or all of them where there are no more.
+    #[inline]
+    pub fn truncate(&mut self, len: usize)
+        ensures { self.new ≡ take len self.old }
+    {
+        self.len = self.len.min(len);
+    }
+
+    /// Removes every byte; the array is not touched.
+    #[inline]
+    pub fn clear(&mut self)
+        ensures { self.new ≡ [] }
+    {
+        self.len = 0;
+    }
+}
