@@ -1,0 +1,70 @@
+//! The whole part and the fraction part of a number, and rounding towards zero. None of the three overflows.
+
+ghost use Rattle.std.specs.Prelude.{◌≡◌, ◌≤◌, ◌-ℤ◌};
+ghost use Rattle.fixed_bits.specs.Ranges.{IsInRange, IsWide};
+ghost use Rattle.fixed_round.specs.Parts.{int_bits, round_to_zero_bits};
+
+use crate::rounding::Rounding;
+use crate::whole::whole_of;
+use fixed_bits::Inner;
+
+/// The bits of the greatest whole number that is not above the number; 0 where the format has no whole bits.
+pub fn int<I: Inner>(bits: I, frac_nbits: u32) -> I
+    requires { frac_nbits ≤ I.BITS }
+    ensures { I.number result ≡ int_bits I.BITS (I.number bits) frac_nbits }
+{
+    in_range(whole_part(bits, frac_nbits))
+}
+
+/// The bits less those of the whole part. They are never negative where the format has whole bits.
+pub fn frac<I: Inner>(bits: I, frac_nbits: u32) -> I
+    requires { frac_nbits ≤ I.BITS }
+    ensures { I.number result ≡ I.number bits -ℤ int_bits I.BITS (I.number bits) frac_nbits }
+{
+    in_range(bits.value() - whole_part(bits, frac_nbits))
+}
+
+/// The bits of the nearest whole number whose magnitude is not above that of the number.
+pub fn round_to_zero<I: Inner>(bits: I, frac_nbits: u32) -> I
+    requires { frac_nbits ≤ I.BITS }
+    ensures { I.number result ≡ round_to_zero_bits (I.number bits) frac_nbits }
+{
+    in_range(towards_zero(bits.value(), frac_nbits))
+}
+
+/// The number of the whole part, which leaves a fraction part in the type's range.
+fn whole_part<I: Inner>(bits: I, frac_nbits: u32) -> i128
+    requires { frac_nbits ≤ I.BITS }
+    ensures number { result ≡ int_bits I.BITS (I.number bits) frac_nbits }
+    ensures range { IsInRange I.SIGNED I.BITS result }
+    ensures rest { IsInRange I.SIGNED I.BITS (I.number bits -ℤ result) }
+    ensures wide { IsWide result }
+{
+    let b = bits.value();
+    if frac_nbits == I::BITS {
+        0
+    } else {
+        whole_of(b, frac_nbits, Rounding::Floor)
+    }
+}
+
+/// The ceil of a negative number, the floor of any other.
+fn towards_zero(b: i128, f: u32) -> i128
+    requires wide { IsWide b }
+    requires frac { f ≤ 64 }
+    ensures { result ≡ round_to_zero_bits b f }
+{
+    if b < 0 {
+        whole_of(b, f, Rounding::Ceil)
+    } else {
+        whole_of(b, f, Rounding::Floor)
+    }
+}
+
+/// The value of a number that is in its type's range.
+fn in_range<I: Inner>(v: i128) -> I
+    requires { IsInRange I.SIGNED I.BITS v }
+    ensures { I.number result ≡ v }
+{
+    I::saturate(v)
+}
