@@ -1,47 +1,91 @@
 # Building proves first: a program is only made of crates that are proved.
+#
+#   make try       answers the demo's lines before any proof, in about a minute
+#   make build     proves, and leaves every program in build/
+#   make demo      answers the demo's lines with the program that was proved
+#   make test      the gate
+#   make install   puts the programs below PREFIX (and DESTDIR); make uninstall removes them
+#   make bench     times, memory and instructions; make compare: seeded inputs against the reference in oracle/
 
 PREFIX ?= /usr/local
-PROGRAM = build/fixed_tool
-CALLS = build/fixed_bench
+DESTDIR ?=
+# How many crates are proved at a time.
+JOBS ?= $(shell test "$$(nproc 2>/dev/null || echo 1)" -ge 2 && echo 2 || echo 1)
+# How many seeded lines `make compare` hands over.
+COUNT ?= 200000
 
-.PHONY: build demo test install bench compare clean
+CRATES := $(shell sed -n 's/^\([a-z0-9_]*\)[ :].*/\1/p' crates.txt)
+# The programs that are installed, of those that there are, and the one that only times calls.
+PROGRAMS := $(filter $(CRATES),fixed_tool enclose_tool least_tool constants_tool columns_tool fixed)
+BENCH := $(filter $(CRATES),fixed_bench)
+BUILT := $(PROGRAMS:%=build/%)
 
-# Proves what the program stands on, builds it, and leaves it at build/fixed_tool.
-build: $(PROGRAM)
+# The words with which a program that would refuse none answers nothing and ends with status 0.
+WORDS_fixed = -- --version
 
-SOURCES = crates.txt HANDLES $(shell find crates -path '*/out' -prune -o -type f -print)
+# The libraries of the repository that a crate names, and the files of a crate.
+below = $(filter $(CRATES),$(shell sed -n 's/^$(1)[^:]*: *//p' crates.txt))
+files = $(shell find crates/$(1) -path 'crates/$(1)/out' -prune -o -type f -print)
 
-# `rt run` proves, builds and runs the program once, over no input.
-$(PROGRAM): $(SOURCES)
+.PHONY: build try demo test install uninstall bench compare clean
+.DELETE_ON_ERROR:
+
+build:
+	@$(MAKE) -s --no-print-directory -j$(JOBS) $(BUILT)
+
+# `rt lib` proves a library; `rt run` proves a program, builds it, and runs it once over no input.
+define LIBRARY
+build/proved/$(1): $(call files,$(1)) HANDLES $(patsubst %,build/proved/%,$(call below,$(1)))
+	@mkdir -p build/proved build/logs
+	@echo "proving $(1)"
+	@cd crates/$(1) && rt lib --jobs 1 >../../build/logs/$(1) 2>&1 </dev/null || { cat ../../build/logs/$(1); exit 1; }
+	@touch $$@
+endef
+
+define PROGRAM
+build/$(1): $(call files,$(1)) HANDLES $(patsubst %,build/proved/%,$(call below,$(1)))
+	@mkdir -p build/logs
+	@echo "proving and building $(1)"
+	@cd crates/$(1) && rt run --jobs 1 $(WORDS_$(1)) >../../build/logs/$(1) 2>&1 </dev/null || { cat ../../build/logs/$(1); exit 1; }
+	@cp crates/$(1)/out/$(1) $$@
+	@echo "build/$(1) is built"
+endef
+
+$(foreach crate,$(filter-out $(PROGRAMS) $(BENCH),$(CRATES)),$(eval $(call LIBRARY,$(crate))))
+$(foreach crate,$(PROGRAMS) $(BENCH),$(eval $(call PROGRAM,$(crate))))
+
+# A first look: the program as it is compiled for a try, with its conditions tested as it runs, and nothing proved.
+try:
+	@echo "Not proved: these answers come from a first compilation. make demo proves the program first."
 	@mkdir -p build
-	cd crates/fixed_tool && rt run </dev/null >../../build/proved.log 2>&1 || { cat ../../build/proved.log; exit 1; }
-	cp crates/fixed_tool/out/fixed_tool $@
+	@cd crates/fixed_tool && rt try <../../examples/demo.txt >../../build/tried 2>../../build/try.log; test $$? -le 1 || { cat ../../build/try.log; exit 1; }
+	@paste -d '>' examples/demo.txt build/tried | sed 's/>/  ->  /'
 
-$(CALLS): $(SOURCES)
-	@mkdir -p build
-	cd crates/fixed_bench && rt run </dev/null >../../build/bench.log 2>&1 || { cat ../../build/bench.log; exit 1; }
-	cp crates/fixed_bench/out/fixed_bench $@
-
-# Answers a handful of lines. A status of 1 says that some line was refused, as two of these are meant to be.
-demo: $(PROGRAM)
-	@$(PROGRAM) <examples/demo.txt >build/answers; test $$? -le 1
+# A status of 1 says that some line was refused, as two of these are meant to be.
+demo:
+	@$(MAKE) -s --no-print-directory -j$(JOBS) build/fixed_tool
+	@build/fixed_tool <examples/demo.txt >build/answers; test $$? -le 1
 	@paste -d '>' examples/demo.txt build/answers | sed 's/>/  ->  /'
 
 # The gate: every proof, every must-fail edit, every test and every program's stored run.
 test:
 	rt ci
 
-install: $(PROGRAM)
-	mkdir -p $(DESTDIR)$(PREFIX)/bin
-	install -m 755 $(PROGRAM) $(DESTDIR)$(PREFIX)/bin/fixed_tool
+install: build
+	install -d "$(DESTDIR)$(PREFIX)/bin"
+	for program in $(PROGRAMS); do install -m 755 "build/$$program" "$(DESTDIR)$(PREFIX)/bin/$$program" || exit 1; done
 
-# Lines a second, memory, and instructions, of the program and of single calls.
-bench: $(PROGRAM) $(CALLS)
+uninstall:
+	for program in $(PROGRAMS); do rm -f "$(DESTDIR)$(PREFIX)/bin/$$program"; done
+
+# Times, memory and instructions of the programs and of single calls.
+bench: build
+	@$(MAKE) -s --no-print-directory $(BENCH:%=build/%)
 	python3 bench/measure.py
 
-# Seeded lines, answered by the program and by whole-number arithmetic in Python.
-compare: $(PROGRAM)
-	python3 oracle/reference.py --compare $(PROGRAM) --count 200000
+# Seeded inputs, answered by the programs and by whole-number arithmetic in Python.
+compare: build
+	python3 oracle/compare.py --count $(COUNT)
 
 clean:
 	rm -rf build crates/*/out
