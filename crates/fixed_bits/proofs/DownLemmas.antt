@@ -1,5 +1,5 @@
 -- Moving down: shifts, uniqueness and order.
-use Rattle.std.proofs.Common.{◌≡◌, ℕ, ◌^◌, ◌≤◌, ℤ, pos, negsuc, neg_ℤ, ◌+ℤ◌, ◌*ℤ◌, ◌≤ℤ◌, arith, mod-lt}
+use Rattle.std.proofs.Common.{◌≡◌, ℕ, ◌*◌, ◌^◌, ◌≤◌, Bool, true, false, ℤ, pos, negsuc, neg_ℤ, ◌+ℤ◌, ◌*ℤ◌, ◌≤ℤ◌, arith, mod-lt, mul-le-mul_left}
 use Rattle.std.specs.Prelude.{◌<ℤ◌}
 use Rattle.std.specs.Int.{int_shr}
 use Rattle.std.proofs.Math.Nat.{div-add-mod}
@@ -7,6 +7,7 @@ use Rattle.std.proofs.Math.Pow.{pow_mono}
 use Rattle.std.proofs.lemmas.Int.{ints}
 use Rattle.std.proofs.lemmas.Nat.{pow_pos}
 use Rattle.fixed_bits.specs.Down.{IsDown, down}
+use Rattle.fixed_bits.specs.Ranges.{IsInRange, lowest, greatest}
 use Rattle.fixed_bits.proofs.Integers.{next_times, le_times, lt_cancel}
 
 -- a shift that copies the sign rounds down
@@ -46,3 +47,29 @@ down_is b f g =
 
 pub down_equal : (b : ℤ) (f g : ℕ) (d : ℤ) → IsDown b f g d → d ≡ down b f g
 down_equal b f g d h = down_unique b f g d (down b f g) h (down_is b f g)
+
+-- zero lies between the ends of a range
+lowest_not_above_zero : (s : Bool) (n : ℕ) → lowest s n ≤ℤ pos 0
+lowest_not_above_zero true n = omega (arith, ints)
+lowest_not_above_zero false n = omega (arith, ints)
+
+before_zero : (s : Bool) (n : ℕ) → negsuc 0 ≤ℤ greatest s n
+before_zero true n = omega (arith, ints)
+before_zero false n = omega (arith, ints)
+
+-- what a number leaves when its last bits are taken off is in its range
+pub shift_in : (s : Bool) (n k : ℕ) (v d : ℤ) → IsInRange s n v → IsDown v k 0 d → IsInRange s n d
+shift_in s n k v (pos a) r h =
+    let grow : a * 1 ≤ a * 2 ^ k = mul-le-mul_left a (pow_pos k) in
+    let p = h.at_most in
+    record {
+      low = let z = lowest_not_above_zero s n in omega (arith, ints);
+      high = let u = r.high in omega (arith, ints);
+    }
+shift_in s n k v (negsuc a) r h =
+    let grow : a * 1 ≤ a * 2 ^ k = mul-le-mul_left a (pow_pos k) in
+    let p = rw next_times at h.above in
+    record {
+      low = let l = r.low in omega (arith, ints);
+      high = let z = before_zero s n in omega (arith, ints);
+    }

@@ -6,7 +6,7 @@ use Rattle.std.proofs.lemmas.Int.{ints, by_lt_z}
 use Rattle.std.proofs.lemmas.Nat.{pow_pos}
 use Rattle.std.proofs.Math.Pow.{pow_mono}
 use Rattle.fixed_bits.specs.Ranges.{IsInRange, IsOutOfRange, IsWidth, IsWide, lowest, greatest}
-use Rattle.fixed_bits.specs.Images.{IsImage, IsWrapped, DiffersByMultiple, wrap_to_unsigned}
+use Rattle.fixed_bits.specs.Images.{IsImage, IsSaturated, IsWrapped, DiffersByMultiple, wrap_to_unsigned}
 use Rattle.fixed_bits.specs.InnerLaws.{below, near_unsigned}
 use Rattle.fixed_bits.specs.declared.format.Policy.{Policy}
 use Rattle.fixed_bits.specs.declared.format.Policy.TheVariants.{Checked, Saturating, Wrapping}
@@ -139,3 +139,11 @@ pub image_in : (p : Policy) (s : Bool) (n : ℕ) (v c : ℤ) → IsImage p s n v
 image_in Checked s n v c i = rw i.same i.in_range
 image_in Saturating s n v c i = by_range s n v (λ h. rw (i.same h) h) (λ h. rw (i.below h) (lowest_in s n)) (λ h. rw (i.above h) (greatest_in s n))
 image_in Wrapping s n v c i = i.in_range
+
+-- a number in range is what is left of it
+pub wrapped_same : (s : Bool) (n : ℕ) (v r : ℤ) → IsWidth n → IsInRange s n v → IsWrapped s n v r → r ≡ v
+wrapped_same s n v r w h i = wrapped_unique s n v r v w i (image_same Wrapping s n v h)
+
+-- a number in range is its own Saturating image
+pub saturated_inside : (s : Bool) (n : ℕ) (v r : ℤ) → IsInRange s n v → r ≡ v → IsSaturated s n v r
+saturated_inside s n v r h e = rw e (image_same Saturating s n v h)

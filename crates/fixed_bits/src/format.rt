@@ -5,7 +5,7 @@ ghost use Rattle.fixed_bits.specs.Ranges.{IsInRange, IsOutOfRange, IsWide, lowes
 ghost use Rattle.fixed_bits.specs.Formats.{IsFormat};
 ghost use Rattle.fixed_bits.specs.Images.{IsImage, IsWrapped};
 
-use crate::masks::{low_bits, ones};
+use crate::masks::{low_bits, mask};
 use std::marker::Model;
 
 /// A sign rule, a width in bits of 8, 16, 32 or 64, and a fraction length in bits of at most the width.
@@ -162,7 +162,7 @@ pub fn mul10(rest: u64, bits: u32) -> (u8, u64)
     let product = 10 * (rest as u128);
     (
         (product >> bits) as u8,
-        (product & ones(bits) as u128) as u64,
+        (product & mask(bits) as u128) as u64,
     )
 }
 

@@ -6,6 +6,7 @@ ghost use Rattle.fixed_bits.specs.Ranges.{IsWide, IsInRange, IsWidth, lowest, gr
 ghost use Rattle.fixed_bits.specs.Images.{IsWrapped, IsSaturated};
 ghost use Rattle.fixed_bits.specs.Down.{IsDown};
 
+use crate::masks::floor_quotient;
 use std::hash::Hash;
 
 /// An integer type that holds the bits of a fixed-point number. Its equality and order are those of its numbers.
@@ -52,18 +53,6 @@ pub trait Inner: Copy + Eq + Ord + Hash {
     fn wrap(v: i128) -> Self
         ensures { result ≡ wrapped v };
 
-    /// The Saturating image of a number: itself in range, else the nearer end of the range.
-    fn saturate(v: i128) -> Self
-        ensures { IsSaturated SIGNED BITS v (number result) };
-
-    /// Whether a number is in the type's range.
-    fn fits(v: i128) -> bool
-        ensures { IsTrue result ↔ IsInRange SIGNED BITS v };
-
-    /// The greatest whole number not above the value over two to the power of `k`, for any `k`.
-    fn floor_shift(self, k: u32) -> Self
-        ensures { IsDown (number self) k 0 (number result) };
-
     ghost width_law: { IsWidth BITS };
 
     ghost zero_law: { number ZERO ≡ pos 0 };
@@ -79,4 +68,41 @@ pub trait Inner: Copy + Eq + Ord + Hash {
     ghost order_law: { (x y : Self) → Self.cmp x y ≡ int_cmp (number x) (number y) };
 
     ghost eq_law: { (x y : Self) → IsTrue (Self.eq x y) ↔ (number x ≡ number y) };
+
+    /// The Saturating image of a number: itself in range, else the nearer end of the range.
+    final fn saturate(v: i128) -> Self
+        ensures { IsSaturated SIGNED BITS v (number result) }
+    {
+        let (low, high) = ends::<Self>();
+        if v < low {
+            Self::MIN
+        } else if v > high {
+            Self::MAX
+        } else {
+            Self::wrap(v)
+        }
+    }
+
+    /// Whether a number is in the type's range.
+    final fn fits(v: i128) -> bool
+        ensures { IsTrue result ↔ IsInRange SIGNED BITS v }
+    {
+        let (low, high) = ends::<Self>();
+        low <= v && v <= high
+    }
+
+    /// The greatest whole number not above the value over two to the power of `k`, for any `k`.
+    final fn floor_shift(self, k: u32) -> Self
+        ensures { IsDown (number self) k 0 (number result) }
+    {
+        Self::wrap(floor_quotient(self.value(), k))
+    }
+}
+
+/// The lowest and the greatest number of the type's range.
+fn ends<I: Inner>() -> (i128, i128)
+    ensures low { result.0 ≡ lowest I.SIGNED I.BITS }
+    ensures high { result.1 ≡ greatest I.SIGNED I.BITS }
+{
+    (I::MIN.value(), I::MAX.value())
 }

@@ -52,25 +52,6 @@ impl Inner for u8 {
         low_bits(v, 8) as u8
     }
 
-    fn saturate(v: i128) -> u8 {
-        if v < 0 {
-            0
-        } else if v > 255 {
-            255
-        } else {
-            v as u8
-        }
-    }
-
-    fn fits(v: i128) -> bool {
-        0 <= v && v <= 255
-    }
-
-    #[tactic(auto, using(crate::proofs::DownLemmas::down_by_shift, crate::proofs::DownLemmas::down_past, crate::proofs::DownLemmas::down_past_below))]
-    fn floor_shift(self, k: u32) -> u8 {
-        if k >= 8 { 0 } else { self >> k }
-    }
-
     ghost width_law = { width_8 };
 
     ghost zero_law = { refl };
@@ -119,25 +100,6 @@ impl Inner for u16 {
 
     fn wrap(v: i128) -> u16 {
         low_bits(v, 16) as u16
-    }
-
-    fn saturate(v: i128) -> u16 {
-        if v < 0 {
-            0
-        } else if v > 65535 {
-            65535
-        } else {
-            v as u16
-        }
-    }
-
-    fn fits(v: i128) -> bool {
-        0 <= v && v <= 65535
-    }
-
-    #[tactic(auto, using(crate::proofs::DownLemmas::down_by_shift, crate::proofs::DownLemmas::down_past, crate::proofs::DownLemmas::down_past_below))]
-    fn floor_shift(self, k: u32) -> u16 {
-        if k >= 16 { 0 } else { self >> k }
     }
 
     ghost width_law = { width_16 };
@@ -190,25 +152,6 @@ impl Inner for u32 {
         low_bits(v, 32) as u32
     }
 
-    fn saturate(v: i128) -> u32 {
-        if v < 0 {
-            0
-        } else if v > 4294967295 {
-            4294967295
-        } else {
-            v as u32
-        }
-    }
-
-    fn fits(v: i128) -> bool {
-        0 <= v && v <= 4294967295
-    }
-
-    #[tactic(auto, using(crate::proofs::DownLemmas::down_by_shift, crate::proofs::DownLemmas::down_past, crate::proofs::DownLemmas::down_past_below))]
-    fn floor_shift(self, k: u32) -> u32 {
-        if k >= 32 { 0 } else { self >> k }
-    }
-
     ghost width_law = { width_32 };
 
     ghost zero_law = { refl };
@@ -257,25 +200,6 @@ impl Inner for u64 {
 
     fn wrap(v: i128) -> u64 {
         low_bits(v, 64) as u64
-    }
-
-    fn saturate(v: i128) -> u64 {
-        if v < 0 {
-            0
-        } else if v > 18446744073709551615 {
-            18446744073709551615
-        } else {
-            v as u64
-        }
-    }
-
-    fn fits(v: i128) -> bool {
-        0 <= v && v <= 18446744073709551615
-    }
-
-    #[tactic(auto, using(crate::proofs::DownLemmas::down_by_shift, crate::proofs::DownLemmas::down_past, crate::proofs::DownLemmas::down_past_below))]
-    fn floor_shift(self, k: u32) -> u64 {
-        if k >= 64 { 0 } else { self >> k }
     }
 
     ghost width_law = { width_64 };
@@ -328,29 +252,6 @@ impl Inner for i8 {
         (low_bits(v, 8) as u8).cast_signed()
     }
 
-    fn saturate(v: i128) -> i8 {
-        if v < -128 {
-            -128
-        } else if v > 127 {
-            127
-        } else {
-            v as i8
-        }
-    }
-
-    fn fits(v: i128) -> bool {
-        -128 <= v && v <= 127
-    }
-
-    #[tactic(auto, using(crate::proofs::DownLemmas::down_by_shift, crate::proofs::DownLemmas::down_past, crate::proofs::DownLemmas::down_past_below))]
-    fn floor_shift(self, k: u32) -> i8 {
-        if k >= 8 {
-            if self < 0 { -1 } else { 0 }
-        } else {
-            self >> k
-        }
-    }
-
     ghost width_law = { width_8 };
 
     ghost zero_law = { refl };
@@ -399,29 +300,6 @@ impl Inner for i16 {
 
     fn wrap(v: i128) -> i16 {
         (low_bits(v, 16) as u16).cast_signed()
-    }
-
-    fn saturate(v: i128) -> i16 {
-        if v < -32768 {
-            -32768
-        } else if v > 32767 {
-            32767
-        } else {
-            v as i16
-        }
-    }
-
-    fn fits(v: i128) -> bool {
-        -32768 <= v && v <= 32767
-    }
-
-    #[tactic(auto, using(crate::proofs::DownLemmas::down_by_shift, crate::proofs::DownLemmas::down_past, crate::proofs::DownLemmas::down_past_below))]
-    fn floor_shift(self, k: u32) -> i16 {
-        if k >= 16 {
-            if self < 0 { -1 } else { 0 }
-        } else {
-            self >> k
-        }
     }
 
     ghost width_law = { width_16 };
@@ -474,29 +352,6 @@ impl Inner for i32 {
         (low_bits(v, 32) as u32).cast_signed()
     }
 
-    fn saturate(v: i128) -> i32 {
-        if v < -2147483648 {
-            -2147483648
-        } else if v > 2147483647 {
-            2147483647
-        } else {
-            v as i32
-        }
-    }
-
-    fn fits(v: i128) -> bool {
-        -2147483648 <= v && v <= 2147483647
-    }
-
-    #[tactic(auto, using(crate::proofs::DownLemmas::down_by_shift, crate::proofs::DownLemmas::down_past, crate::proofs::DownLemmas::down_past_below))]
-    fn floor_shift(self, k: u32) -> i32 {
-        if k >= 32 {
-            if self < 0 { -1 } else { 0 }
-        } else {
-            self >> k
-        }
-    }
-
     ghost width_law = { width_32 };
 
     ghost zero_law = { refl };
@@ -545,29 +400,6 @@ impl Inner for i64 {
 
     fn wrap(v: i128) -> i64 {
         (low_bits(v, 64) as u64).cast_signed()
-    }
-
-    fn saturate(v: i128) -> i64 {
-        if v < -9223372036854775808 {
-            -9223372036854775808
-        } else if v > 9223372036854775807 {
-            9223372036854775807
-        } else {
-            v as i64
-        }
-    }
-
-    fn fits(v: i128) -> bool {
-        -9223372036854775808 <= v && v <= 9223372036854775807
-    }
-
-    #[tactic(auto, using(crate::proofs::DownLemmas::down_by_shift, crate::proofs::DownLemmas::down_past, crate::proofs::DownLemmas::down_past_below))]
-    fn floor_shift(self, k: u32) -> i64 {
-        if k >= 64 {
-            if self < 0 { -1 } else { 0 }
-        } else {
-            self >> k
-        }
     }
 
     ghost width_law = { width_64 };

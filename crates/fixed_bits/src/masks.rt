@@ -1,10 +1,12 @@
-//! The last bits of a number.
+//! The last bits of a number, and what is left without them.
 
 ghost use Rattle.std.specs.Prelude.{◌≡◌, ◌≤◌, ◌<◌, ◌^◌, ◌-◌};
+ghost use Rattle.fixed_bits.specs.Down.{IsDown};
 ghost use Rattle.fixed_bits.specs.Images.{wrap_to_unsigned};
+ghost use Rattle.fixed_bits.specs.Ranges.{IsWide};
 
 /// A number of `n` ones.
-pub(crate) fn ones(n: u32) -> u64
+pub(crate) fn mask(n: u32) -> u64
     requires { n ≤ 64 }
     ensures { result ≡ 2 ^ n - 1 }
 {
@@ -17,5 +19,20 @@ pub(crate) fn low_bits(v: i128, n: u32) -> u64
     ensures bits { result ≡ wrap_to_unsigned n v }
     ensures below { result < 2 ^ n }
 {
-    (v.cast_unsigned() & ones(n) as u128) as u64
+    (v.cast_unsigned() & mask(n) as u128) as u64
+}
+
+/// The greatest whole number not above `v` over two to the power of `k`, for any `k`.
+#[tactic(auto, using(crate::proofs::DownLemmas::down_by_shift, crate::proofs::DownLemmas::down_past, crate::proofs::DownLemmas::down_past_below))]
+pub(crate) fn floor_quotient(v: i128, k: u32) -> i128
+    requires { IsWide v }
+    ensures { IsDown v k 0 result }
+{
+    if k < 64 {
+        v >> k
+    } else if v < 0 {
+        -1
+    } else {
+        0
+    }
 }
