@@ -7,7 +7,7 @@ use Rattle.std.proofs.lemmas.Nat.{pow_pos}
 use Rattle.std.proofs.Math.Pow.{pow_mono}
 use Rattle.fixed_bits.specs.Ranges.{IsInRange, IsOutOfRange, IsWidth, IsWide, lowest, greatest}
 use Rattle.fixed_bits.specs.Images.{IsImage, IsSaturated, IsWrapped, DiffersByMultiple, wrap_to_unsigned}
-use Rattle.fixed_bits.specs.InnerLaws.{below, near_unsigned}
+use Rattle.fixed_bits.specs.Lemmas.InnerLaws.{below, near_unsigned}
 use Rattle.fixed_bits.specs.declared.format.Policy.{Policy}
 use Rattle.fixed_bits.specs.declared.format.Policy.TheVariants.{Checked, Saturating, Wrapping}
 

@@ -1,7 +1,7 @@
 pub mod Ranges
 pub mod Images
 pub mod Down
-pub mod InnerLaws
+pub mod Lemmas
 pub mod Formats
 pub mod Nearest
 pub mod Rounded

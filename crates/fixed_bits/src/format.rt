@@ -1,6 +1,6 @@
 //! Formats chosen at run time, and what is done with a number that is out of range.
 
-ghost use Rattle.std.specs.Prelude.{◌≡◌, ◌↔◌, ◌≤◌, ◌<◌, ◌^◌, ◌-◌, ◌*◌, ◌/◌, ◌%◌, pos, IsSome, IsNone, IfSome, Option};
+ghost use Rattle.std.specs.Prelude.{◌≡◌, ◌↔◌, ◌≤◌, ◌<◌, ◌^◌, ◌-◌, ◌*◌, ◌/◌, ◌%◌, pos, false, IsTrue, IsSome, IsNone, IfSome, Option};
 ghost use Rattle.fixed_bits.specs.Ranges.{IsInRange, IsOutOfRange, IsWide, lowest, greatest};
 ghost use Rattle.fixed_bits.specs.Formats.{IsFormat};
 ghost use Rattle.fixed_bits.specs.Images.{IsImage, IsWrapped};
@@ -86,6 +86,14 @@ impl Format {
         };
         count - 1
     }
+
+    /// Whether a number is in the format's range.
+    pub fn contains(self, v: i128) -> bool
+        ensures inside { IsTrue result ↔ IsInRange self.signed self.width v }
+        ensures outside { (result ≡ false) ↔ IsOutOfRange self.signed self.width v }
+    {
+        self.lowest() <= v && v <= self.greatest()
+    }
 }
 
 /// What is done with a number that is out of range.
@@ -115,7 +123,7 @@ impl Policy {
         match self {
             Policy::Checked => None,
             Policy::Saturating => Some(if v < low { low } else { high }),
-            Policy::Wrapping => Some(wrapped(format, v, high)),
+            Policy::Wrapping => Some(wrapped_image(format, v, high)),
         }
     }
 }
@@ -138,7 +146,7 @@ fn power(n: u32) -> i128
 }
 
 /// The number in range that differs from `v` by a multiple of two to the power of the width.
-fn wrapped(format: Format, v: i128, high: i128) -> i128
+fn wrapped_image(format: Format, v: i128, high: i128) -> i128
     requires { high ≡ greatest format.signed format.width }
     ensures image { IsWrapped format.signed format.width v result }
     ensures wide { IsWide result }

@@ -2,7 +2,7 @@
 
 ghost use Rattle.std.specs.Prelude.{pos, negsuc, true, false, refl};
 ghost use Rattle.fixed_bits.specs.Images.{wrap_to_unsigned, wrap_to_signed};
-ghost use Rattle.fixed_bits.specs.InnerLaws.{
+ghost use Rattle.fixed_bits.specs.Lemmas.InnerLaws.{
   width_8,
   width_16,
   width_32,

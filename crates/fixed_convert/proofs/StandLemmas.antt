@@ -109,3 +109,7 @@ stand_none A P s n v w l st e = ((λ a. ((e.0 a).0, side_out s n w v l (side_tur
 pub flag_out : (t : Bool) (s : Bool) (n : ℕ) (v : ℤ) → (IsTrue t ↔ IsInRange s n v) → IsTrue (not t) ↔ IsOutOfRange s n v
 flag_out true s n v e = ((λ x. absurd (let y : false ≡ true = x in cc)), (λ o. absurd ((range_decided s n v).1 o (e.0 refl))))
 flag_out false s n v e = ((λ x. ⊎_elim (λ h. absurd (let y : false ≡ true = e.1 h in cc)) (λ o. o) (range_decided s n v).0), (λ o. refl))
+
+pub not_inside : (t : Bool) (P : Type 0) → ((t ≡ false) ↔ P) → IsTrue (not t) ↔ P
+not_inside true P e = ((λ x. absurd (let y : false ≡ true = x in cc)), (λ p. absurd (let y : true ≡ false = e.1 p in cc)))
+not_inside false P e = ((λ x. e.0 refl), (λ p. refl))

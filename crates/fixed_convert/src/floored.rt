@@ -117,14 +117,7 @@ pub fn reformat(format: Format, policy: Policy, b: i128, from: u32) -> Option<(i
 {
     let moved = floor_into(b, from, format.frac()).stand_in();
     match policy.image(format, moved) {
-        Some(c) => Some((c, is_out(format, moved))),
+        Some(c) => Some((c, !format.contains(moved))),
         None => None,
     }
-}
-
-/// Whether a number is out of the format's range.
-fn is_out(format: Format, v: i128) -> bool
-    ensures { IsTrue result ↔ IsOutOfRange format.signed format.width v }
-{
-    v < format.lowest() || v > format.greatest()
 }

@@ -7,6 +7,7 @@ ghost use Rattle.fixed_bits.specs.declared.format.Policy.TheVariants.{Saturating
 ghost use Rattle.fixed_convert.specs.Moved.{shifted, IsNumWidth};
 
 use crate::floored::Floored;
+use fixed_bits::Inner;
 
 /// A number with bits and a fraction length: its value is its bits over two to the power of the length.
 pub trait Num: Copy {
@@ -39,21 +40,41 @@ pub trait Num: Copy {
 
 /// A number that a conversion can make.
 pub trait NumTarget: Num {
+    /// The integer type that holds the bits.
+    type Holder: Inner;
+
+    /// The value of bits.
+    fn from_holder(bits: Self::Holder) -> Self
+        ensures { Self.wide result ≡ Self.Holder.number bits };
+
+    ghost signed_law: { Self.SIGNED ≡ Self.Holder.SIGNED };
+
+    ghost bits_law: { Self.WIDTH ≡ Self.Holder.BITS };
+
     /// The value whose bits are the Wrapping image of a number.
-    fn wrap_wide(v: Floored) -> Self
+    final fn wrap_wide(v: Floored) -> Self
         requires wide { IsWide v.bits }
         requires shift { v.shift ≤ 64 }
-        ensures { IsImage Wrapping Self.SIGNED Self.WIDTH (shifted v.bits v.shift) (Self.wide result) };
+        ensures { IsImage Wrapping Self.SIGNED Self.WIDTH (shifted v.bits v.shift) (Self.wide result) }
+    {
+        Self::from_holder(v.wrap())
+    }
 
     /// The value whose bits are the Saturating image of a number.
-    fn clamp_wide(v: Floored) -> Self
+    final fn clamp_wide(v: Floored) -> Self
         requires wide { IsWide v.bits }
         requires shift { v.shift ≤ 64 }
-        ensures { IsImage Saturating Self.SIGNED Self.WIDTH (shifted v.bits v.shift) (Self.wide result) };
+        ensures { IsImage Saturating Self.SIGNED Self.WIDTH (shifted v.bits v.shift) (Self.wide result) }
+    {
+        Self::from_holder(v.clamp())
+    }
 
     /// Whether a number is in the range of the bits.
-    fn fits_wide(v: Floored) -> bool
+    final fn fits_wide(v: Floored) -> bool
         requires wide { IsWide v.bits }
         requires shift { v.shift ≤ 64 }
-        ensures { IsTrue result ↔ IsInRange Self.SIGNED Self.WIDTH (shifted v.bits v.shift) };
+        ensures { IsTrue result ↔ IsInRange Self.SIGNED Self.WIDTH (shifted v.bits v.shift) }
+    {
+        v.fits::<Self::Holder>()
+    }
 }

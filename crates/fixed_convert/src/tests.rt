@@ -65,17 +65,15 @@ impl<I: Inner, const FRAC: u32> Num for Bits<I, FRAC> {
 }
 
 impl<I: Inner, const FRAC: u32> NumTarget for Bits<I, FRAC> {
-    fn wrap_wide(v: Floored) -> Self {
-        Bits { bits: v.wrap() }
+    type Holder = I;
+
+    fn from_holder(bits: I) -> Self {
+        Bits { bits }
     }
 
-    fn clamp_wide(v: Floored) -> Self {
-        Bits { bits: v.clamp() }
-    }
+    ghost signed_law = { refl };
 
-    fn fits_wide(v: Floored) -> bool {
-        v.fits::<I>()
-    }
+    ghost bits_law = { refl };
 }
 
 fn with_bits<I: Inner, const FRAC: u32>(bits: I) -> Bits<I, FRAC>

@@ -4,7 +4,7 @@ use Rattle.std.proofs.Math.Pow.{pow_mono}
 use Rattle.std.proofs.lemmas.Int.{ints, to_z-of_z}
 use Rattle.fixed_bits.specs.Images.{IsWrapped, wrap_to_unsigned}
 use Rattle.fixed_bits.proofs.ImageLemmas.{low_moved, low_kept, in_wide, width_most}
-use Rattle.fixed_bits.proofs.format.wrapped.Goals as goal
+use Rattle.fixed_bits.proofs.format.wrapped_image.Goals as goal
 
 pub returns-then-rest-high : goal.returns-then-rest-high
 returns-then-rest-high c =
