@@ -3,8 +3,8 @@
 ghost use Rattle.std.specs.Prelude.{◌≡◌, ◌<◌};
 
 use fixed_io::{StdSink, StdSource};
-use fixed_respell::{Answer, LineRule, Status, run_lines};
 use fixed_steps::Steps;
+use line_engine::{Answer, LineRule, MAX_LIMIT, Status, run_lines};
 use std::alloc::Global;
 use std::sync::ledger::{Blank, Ledger};
 
@@ -45,7 +45,7 @@ pub fn run_constant<L: Ledger>(rt: &HostRuntime, alloc: Global, blank: Blank) ->
     let mut sink = StdSink::new(rt.stdout());
     run_lines(
         alloc,
-        4_294_967_296,
+        MAX_LIMIT,
         &ConstantRule,
         &mut source,
         &mut sink,

@@ -16,7 +16,7 @@ mod constant;
 
 use calls::answer_all;
 use constant::run_constant;
-use fixed_respell::Status;
+use line_engine::Status;
 use std::marker::Brand;
 use std::sync::ledger::Blank;
 use std::{env, io};

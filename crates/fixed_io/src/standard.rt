@@ -8,23 +8,26 @@
 
 ghost use Rattle.std.specs.Prelude.{◌≡◌, ◌+◌, ◌-◌, ◌^◌, min, None};
 
-use fixed_respell::{Failed, Sink, Source};
+use line_engine::{Failed, Sink, Source};
 use std::io::{Read, Write};
 
 /// A source over a reader. It counts the reads that failed.
 #[derive(Drop)]
 pub struct StdSource<R: Read> {
     reader: R,
-    faults: u64,
+    failures: u64,
 }
 
 impl<R: Read> StdSource<R> {
     /// A source over this reader, with no failed read so far.
     pub fn new(reader: R) -> Self
-        ensures faults { result.faults ≡ 0 }
+        ensures failures { result.failures ≡ 0 }
         ensures reader { result.reader ≡ reader }
     {
-        StdSource { reader, faults: 0 }
+        StdSource {
+            reader,
+            failures: 0,
+        }
     }
 }
 
@@ -32,21 +35,21 @@ impl<R: Read> Source for StdSource<R> {
     ghost use Rattle.std.specs.Prelude.{◌≡◌, Ok, OnErr, length};
     ghost use Rattle.std.specs.Io.{ReadsAtMost};
     ghost use Rattle.std.specs.Io.KnownBytes.{ReadConsumes};
-    ghost use Rattle.fixed_respell.specs.Causes.{HasCause};
+    ghost use Rattle.line_engine.specs.Failures.{FailsOnlyCounted};
 
     ghost left = { λ s. R.remaining s.reader };
 
-    ghost faults = { λ s. s.faults };
+    ghost failures = { λ s. s.failures };
 
     ghost asked = { λ s. None };
 
-    /// Reads once; a buffer without room is left alone. An `Err` of the reader raises the count of faults by one.
+    /// Reads once; a buffer without room is left alone. An `Err` of the reader raises the count of failures by one.
     fn read(&mut self, buf: &mut [u8]) -> Result<usize, Failed>
         ensures bound { ReadsAtMost result buf.new }
         ensures bytes { ReadConsumes (R.remaining self.old.reader) (R.remaining self.new.reader) result buf.new }
         ensures empty { length buf.old ≡ 0 → result ≡ Ok 0 }
-        ensures cause { HasCause self.old.faults self.new.faults result }
-        ensures once { OnErr result (self.new.faults ≡ min (self.old.faults + 1) (2 ^ 64 - 1)) }
+        ensures failures { FailsOnlyCounted self.old.failures self.new.failures result }
+        ensures once { OnErr result (self.new.failures ≡ min (self.old.failures + 1) (2 ^ 64 - 1)) }
     {
         if buf.is_empty() {
             return Ok(0);
@@ -54,7 +57,7 @@ impl<R: Read> Source for StdSource<R> {
         match self.reader.read(buf) {
             Ok(count) => Ok(count),
             Err(_) => {
-                self.faults = self.faults.saturating_add(1);
+                self.failures = self.failures.saturating_add(1);
                 Err(Failed)
             }
         }
@@ -65,16 +68,19 @@ impl<R: Read> Source for StdSource<R> {
 #[derive(Drop)]
 pub struct StdSink<W: Write> {
     writer: W,
-    faults: u64,
+    failures: u64,
 }
 
 impl<W: Write> StdSink<W> {
     /// A sink over this writer, with no failed write so far.
     pub fn new(writer: W) -> Self
-        ensures faults { result.faults ≡ 0 }
+        ensures failures { result.failures ≡ 0 }
         ensures writer { result.writer ≡ writer }
     {
-        StdSink { writer, faults: 0 }
+        StdSink {
+            writer,
+            failures: 0,
+        }
     }
 }
 
@@ -82,25 +88,25 @@ impl<W: Write> Sink for StdSink<W> {
     ghost use Rattle.std.specs.Prelude.{◌<◌, IfOk, OnErr, length};
     ghost use Rattle.std.specs.Io.{WritesAtMost};
     ghost use Rattle.std.specs.Io.KnownBytes.{WriteAppends};
-    ghost use Rattle.fixed_respell.specs.Causes.{HasCause};
+    ghost use Rattle.line_engine.specs.Failures.{FailsOnlyCounted};
 
     ghost written = { λ s. W.contents s.writer };
 
-    ghost faults = { λ s. s.faults };
+    ghost failures = { λ s. s.failures };
 
-    /// Writes once. An `Err` of the writer raises the count of faults by one, and so does a write of no byte of a piece
+    /// Writes once. An `Err` of the writer raises the count of failures by one, and so does a write of no byte of a piece
     /// that isn't empty.
     fn write(&mut self, piece: &[u8]) -> Result<usize, Failed>
         ensures bound { WritesAtMost result piece.now }
         ensures bytes { WriteAppends (W.contents self.old.writer) (W.contents self.new.writer) result piece.now }
         ensures progress { 0 < length piece.now → IfOk result (λ n. 0 < n) }
-        ensures cause { HasCause self.old.faults self.new.faults result }
-        ensures once { OnErr result (self.new.faults ≡ min (self.old.faults + 1) (2 ^ 64 - 1)) }
+        ensures failures { FailsOnlyCounted self.old.failures self.new.failures result }
+        ensures once { OnErr result (self.new.failures ≡ min (self.old.failures + 1) (2 ^ 64 - 1)) }
     {
         match self.writer.write(piece) {
             Ok(count) if count > 0 || piece.is_empty() => Ok(count),
             _ => {
-                self.faults = self.faults.saturating_add(1);
+                self.failures = self.failures.saturating_add(1);
                 Err(Failed)
             }
         }

@@ -1,7 +1,7 @@
 //! The adapters over bytes in memory.
 
 use crate::{StdSink, StdSource};
-use fixed_respell::{Sink, Source};
+use line_engine::{Sink, Source};
 use std::alloc::Global;
 use std::test::Fail;
 

@@ -1,15 +1,6 @@
 mod NumberLemmas
-mod Answering
-mod Asking
-mod Complete
-mod Fed
-mod Feeding
 mod LaneLemmas
-mod LawLemmas
-mod LineLemmas
-mod Parts
 mod PlainLemmas
-mod Whole
 mod CommandLemmas
 mod SelfLemmas
 mod SelfRows

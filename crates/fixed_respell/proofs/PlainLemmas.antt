@@ -5,7 +5,7 @@ use Rattle.fixed_bits.specs.declared.mode.ReadMode.{ReadMode}
 use Rattle.fixed_respell.specs.Answer.{AsksBy, HasWords, IsAnswerBy, IsFirstFaultBy, LineWords, StandsBy, Task}
 use Rattle.fixed_respell.specs.AnswerLaws.{IsPlainLine, PlainLineHasThePlainAnswer}
 use Rattle.fixed_respell.specs.AnswerLemmas.{plain_word}
-use Rattle.fixed_respell.specs.Reply.{Reply}
+use Rattle.line_engine.specs.AnswerText.{AnswerText}
 use Rattle.fixed_respell.specs.Words.{IsPlainWord, IsPolicyWord}
 use Rattle.fixed_respell.specs.declared.fault.LineFault.{LineFault}
 use Rattle.fixed_respell.specs.declared.fault.LineFault.TheVariants.{LineTooLong, MissingField, BadRadix, BadSource, BadTarget, BadPolicy}
@@ -43,7 +43,7 @@ asks_too M N line agree t asks = record {
   numeral = asks.numeral;
 }
 
-answer_too : (M N : List ℕ → Policy → ReadMode → Type 0) (line : List ℕ) (reply : Reply) → Agree M N line → IsAnswerBy M line reply → IsAnswerBy N line reply
+answer_too : (M N : List ℕ → Policy → ReadMode → Type 0) (line : List ℕ) (reply : AnswerText) → Agree M N line → IsAnswerBy M line reply → IsAnswerBy N line reply
 answer_too M N line reply agree (inl a) = inl (record { line_fault = a.line_fault; first = first_too M N line agree a.line_fault a.first; reply_is = a.reply_is })
 answer_too M N line reply agree (inr (inl a)) = inr (inl (record { task = a.task; asks = asks_too M N line agree a.task a.asks; kind = a.kind; refusal = a.refusal; reply_is = a.reply_is }))
 answer_too M N line reply agree (inr (inr a)) =

@@ -12,7 +12,7 @@ use Rattle.fixed_numeral.specs.Numeral.{Parts, HasNumeral}
 use Rattle.fixed_numeral.specs.declared.radix.Radix.TheVariants.{Dec}
 use Rattle.fixed_read.specs.Reading.{IsReadNumber}
 use Rattle.fixed_respell.specs.Answer.{HasWords, line_words, respelled_reply, fault_reply, fault_words, Stands}
-use Rattle.fixed_respell.specs.Lines.{lines}
+use Rattle.line_engine.specs.Lines.{lines}
 use Rattle.fixed_respell.specs.Reached.{IsOverflow, IsRespelled}
 use Rattle.fixed_respell.specs.RowFormats.{unsigned_format}
 use Rattle.fixed_respell.specs.Words.{format_text, IsPolicyWord}

@@ -8,11 +8,11 @@ use Rattle.std.proofs.lemmas.List.Sums.{sum_by-append}
 use Rattle.std.specs.Prelude.{codes}
 use Rattle.std.specs.Int.{from_bool}
 use Rattle.std.specs.List.{count_by}
-use Rattle.fixed_respell.specs.Output.{AreAnswers, is_fault, reply_line, written_of}
-use Rattle.fixed_respell.specs.Reply.{Reply}
+use Rattle.line_engine.specs.Output.{AreAnswers, is_fault, reply_line, written_of}
+use Rattle.line_engine.specs.AnswerText.{AnswerText}
 use Rattle.fixed_respell.specs.SelfMode.{IsSummary, IsTally, IsWithin, Tally, digit_letter, ends_in, number_text, self_line, self_lines, summary_text, tally_of}
 use Rattle.fixed_respell.specs.Answer.{IsAnswer}
-use Rattle.fixed_respell.proofs.Answering.{AreAnswers-append, written_of-append}
+use Rattle.line_engine.proofs.AnsweredLemmas.{AreAnswers-append, written_of-append}
 
 not_zero : (n : ℕ) → 0 < n → (n == 0) ≡ false
 not_zero n p = grind arith
@@ -72,12 +72,12 @@ as_byte : (b : Bool) → cond b 1 0 ≡ from_bool b
 as_byte true = refl
 as_byte false = refl
 
-count_more : (p : Reply → Bool) (replies : List Reply) (reply : Reply) → count_by p (replies ++ reply ∷ []) ≡ count_by p replies + from_bool (p reply)
+count_more : (p : AnswerText → Bool) (replies : List AnswerText) (reply : AnswerText) → count_by p (replies ++ reply ∷ []) ≡ count_by p replies + from_bool (p reply)
 count_more p replies reply =
     let one : count_by p (reply ∷ []) ≡ 0 + cond (p reply) 1 0 = refl in
     omega (arith, sum_by-append (λ x. cond (p x) 1 0) replies (reply ∷ []), one, as_byte (p reply))
 
-bytes_more : (replies : List Reply) (reply : Reply) → length (written_of (replies ++ reply ∷ [])) ≡ length (written_of replies) + (length reply.text + 1)
+bytes_more : (replies : List AnswerText) (reply : AnswerText) → length (written_of (replies ++ reply ∷ [])) ≡ length (written_of replies) + (length reply.text + 1)
 bytes_more replies reply =
     omega (
       arith,
@@ -94,7 +94,7 @@ same_tally : (a b c d a' b' c' d' : ℕ) → a ≡ a' → b ≡ b' → c ≡ c' 
 same_tally a b c d a' b' c' d' p q r s = rw (p, q, r, s) refl
 
 -- one reply more
-pub tally_more : (replies : List Reply) (reply : Reply) (now : Tally) (a b c d : ℕ) → now ≡ tally_of replies
+pub tally_more : (replies : List AnswerText) (reply : AnswerText) (now : Tally) (a b c d : ℕ) → now ≡ tally_of replies
     → a ≡ now.fit + from_bool (ends_in (codes "fits") reply)
     → b ≡ now.overflowed + from_bool (ends_in (codes "overflowed") reply)
     → c ≡ now.faults + from_bool reply.fault
@@ -121,8 +121,8 @@ lines_next : (n : ℕ) → self_lines (n + 1) ≡ self_lines n ++ self_line n �
 unfolding self_lines
 lines_next n = let e : n + 1 ≡ suc n = omega arith in rw e refl
 
-pub tally_next : (n : ℕ) (now next : Tally) (reply : Reply) → IsTally n now → IsAnswer (self_line n) reply
-    → ((replies : List Reply) → now ≡ tally_of replies → next ≡ tally_of (replies ++ reply ∷ [])) → IsTally (n + 1) next
+pub tally_next : (n : ℕ) (now next : Tally) (reply : AnswerText) → IsTally n now → IsAnswer (self_line n) reply
+    → ((replies : List AnswerText) → now ≡ tally_of replies → next ≡ tally_of (replies ++ reply ∷ [])) → IsTally (n + 1) next
 tally_next n now next reply first answer step = record {
   replies = first.replies ++ reply ∷ [];
   answers = subst (λ lines. AreAnswers IsAnswer lines (first.replies ++ reply ∷ [])) (sym (lines_next n)) (AreAnswers-append IsAnswer (self_lines n) (self_line n ∷ []) first.replies (reply ∷ []) first.answers (answer, tt));

@@ -9,7 +9,7 @@ use Rattle.fixed_numeral.specs.declared.error.ParseErrorKind.{ParseErrorKind}
 use Rattle.fixed_numeral.specs.declared.radix.Radix.{Radix}
 use Rattle.fixed_respell.specs.Cutting.{count_of}
 use Rattle.fixed_respell.specs.Reached.{IsRespelled, IsRefusal}
-use Rattle.fixed_respell.specs.Reply.{Reply}
+use Rattle.line_engine.specs.AnswerText.{AnswerText}
 use Rattle.fixed_write.specs.Texts.{IsShortestText}
 use Rattle.fixed_respell.specs.Words.{radix_text, IsFormatWord, IsPlainWord, IsPolicyWord}
 use Rattle.fixed_respell.specs.declared.fault.LineFault.{LineFault}
@@ -106,7 +106,7 @@ pub record AsksBy (Names : List ℕ → Policy → ReadMode → Type 0) (line : 
   pub numeral : t.numeral ≡ words.numeral
 
 -- the answer that names a fault
-abbrev pub fault_reply : List ℕ → Reply
+abbrev pub fault_reply : List ℕ → AnswerText
 fault_reply words = record { text = codes "error: " ++ words; fault = true }
 
 -- the last word of an answer
@@ -115,17 +115,17 @@ verdict true = codes "overflowed"
 verdict false = codes "fits"
 
 -- the answer with a text, the bits in decimal, and whether a move left its format
-abbrev pub respelled_reply : List ℕ → ℤ → Bool → Reply
+abbrev pub respelled_reply : List ℕ → ℤ → Bool → AnswerText
 respelled_reply text bits overflowed = record { text = text ++ space ∷ (signed_decimal bits ++ space ∷ verdict overflowed); fault = false }
 
 -- the first fault of the line that stands
-pub record IsFaultAnswerBy (Names : List ℕ → Policy → ReadMode → Type 0) (line : List ℕ) (reply : Reply) : Type 0 where
+pub record IsFaultAnswerBy (Names : List ℕ → Policy → ReadMode → Type 0) (line : List ℕ) (reply : AnswerText) : Type 0 where
   pub line_fault : LineFault
   pub first : IsFirstFaultBy Names line_fault line
   pub reply_is : reply ≡ fault_reply (fault_words line_fault)
 
 -- the kind for which the line's numeral is refused
-pub record IsRefusalAnswerBy (Names : List ℕ → Policy → ReadMode → Type 0) (line : List ℕ) (reply : Reply) : Type 0 where
+pub record IsRefusalAnswerBy (Names : List ℕ → Policy → ReadMode → Type 0) (line : List ℕ) (reply : AnswerText) : Type 0 where
   pub task : Task
   pub asks : AsksBy Names line task
   pub kind : ParseErrorKind
@@ -133,7 +133,7 @@ pub record IsRefusalAnswerBy (Names : List ℕ → Policy → ReadMode → Type 
   pub reply_is : reply ≡ fault_reply (words_of kind)
 
 -- the bits that are reached from the line's numeral, and their shortest decimal
-pub record IsRespelledAnswerBy (Names : List ℕ → Policy → ReadMode → Type 0) (line : List ℕ) (reply : Reply) : Type 0 where
+pub record IsRespelledAnswerBy (Names : List ℕ → Policy → ReadMode → Type 0) (line : List ℕ) (reply : AnswerText) : Type 0 where
   pub task : Task
   pub asks : AsksBy Names line task
   pub bits : ℤ
@@ -144,7 +144,7 @@ pub record IsRespelledAnswerBy (Names : List ℕ → Policy → ReadMode → Typ
   pub reply_is : reply ≡ respelled_reply text bits overflowed
 
 -- the reply is the answer to the line
-abbrev pub IsAnswerBy : (List ℕ → Policy → ReadMode → Type 0) → List ℕ → Reply → Type 0
+abbrev pub IsAnswerBy : (List ℕ → Policy → ReadMode → Type 0) → List ℕ → AnswerText → Type 0
 IsAnswerBy Names line reply = IsFaultAnswerBy Names line reply ⊎ (IsRefusalAnswerBy Names line reply ⊎ IsRespelledAnswerBy Names line reply)
 
 -- with mode words
@@ -157,19 +157,19 @@ IsFirstFault = IsFirstFaultBy IsPolicyWord
 abbrev pub Asks : List ℕ → Task → Type 0
 Asks = AsksBy IsPolicyWord
 
-abbrev pub IsFaultAnswer : List ℕ → Reply → Type 0
+abbrev pub IsFaultAnswer : List ℕ → AnswerText → Type 0
 IsFaultAnswer = IsFaultAnswerBy IsPolicyWord
 
-abbrev pub IsRefusalAnswer : List ℕ → Reply → Type 0
+abbrev pub IsRefusalAnswer : List ℕ → AnswerText → Type 0
 IsRefusalAnswer = IsRefusalAnswerBy IsPolicyWord
 
-abbrev pub IsRespelledAnswer : List ℕ → Reply → Type 0
+abbrev pub IsRespelledAnswer : List ℕ → AnswerText → Type 0
 IsRespelledAnswer = IsRespelledAnswerBy IsPolicyWord
 
 -- the reply is the answer to the line, with mode words
-abbrev pub IsAnswer : List ℕ → Reply → Type 0
+abbrev pub IsAnswer : List ℕ → AnswerText → Type 0
 IsAnswer = IsAnswerBy IsPolicyWord
 
 -- and as if there were none
-abbrev pub IsPlainAnswer : List ℕ → Reply → Type 0
+abbrev pub IsPlainAnswer : List ℕ → AnswerText → Type 0
 IsPlainAnswer = IsAnswerBy IsPlainWord

@@ -6,8 +6,8 @@ use Rattle.fixed_bits.specs.declared.mode.ReadMode.{ReadMode}
 use Rattle.fixed_bits.specs.declared.mode.ReadMode.TheVariants.{NearestEven}
 use Rattle.fixed_respell.specs.Answer.{Asks, HasWords, IsAnswer, IsPlainAnswer, LineWords, Task}
 use Rattle.fixed_respell.specs.Cutting.{count_of}
-use Rattle.fixed_respell.specs.Lines.{kept_length}
-use Rattle.fixed_respell.specs.Reply.{Reply}
+use Rattle.line_engine.specs.Lines.{kept_length}
+use Rattle.line_engine.specs.AnswerText.{AnswerText}
 use Rattle.fixed_respell.specs.Words.{IsFormatWord, IsPlainWord, IsPolicyWord, policy_text, slash}
 
 -- a word is the word of one format at most, so the word of a format names that format again
@@ -16,11 +16,11 @@ FormatWordIsTheOne = (word : List ℕ) (f g : FormatParts) → IsFormatWord word
 
 -- a line has at most one answer
 abbrev pub AnswerIsTheOne : Type 0
-AnswerIsTheOne = (line : List ℕ) (a b : Reply) → IsAnswer line a → IsAnswer line b → a ≡ b
+AnswerIsTheOne = (line : List ℕ) (a b : AnswerText) → IsAnswer line a → IsAnswer line b → a ≡ b
 
 -- a line that is longer than what is kept of a line is answered like its front
 abbrev pub LongIsAnsweredByFront : Type 0
-LongIsAnsweredByFront = (line : List ℕ) (reply : Reply) → kept_length < length line → IsAnswer (take kept_length line) reply ↔ IsAnswer line reply
+LongIsAnsweredByFront = (line : List ℕ) (reply : AnswerText) → kept_length < length line → IsAnswer (take kept_length line) reply ↔ IsAnswer line reply
 
 -- without a slash a policy word is the name of a policy, and its mode is NearestEven
 abbrev pub PlainWordNamesNearest : Type 0
@@ -36,4 +36,4 @@ IsPlainLine line = (w : LineWords) → HasWords line w → count_of slash w.poli
 
 -- such a line is answered as if there were no mode words
 abbrev pub PlainLineHasThePlainAnswer : Type 0
-PlainLineHasThePlainAnswer = (line : List ℕ) (reply : Reply) → IsPlainLine line → IsAnswer line reply ↔ IsPlainAnswer line reply
+PlainLineHasThePlainAnswer = (line : List ℕ) (reply : AnswerText) → IsPlainLine line → IsAnswer line reply ↔ IsPlainAnswer line reply

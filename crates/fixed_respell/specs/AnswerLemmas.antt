@@ -14,9 +14,9 @@ use Rattle.fixed_numeral.specs.declared.radix.Radix.TheVariants.{Bin, Oct, Dec, 
 use Rattle.fixed_respell.specs.Answer.{Stands, place_of, IsFirstFault, longest_line, Task, task_of, Asks, IsAnswer, IsFaultAnswer, IsRefusalAnswer, IsRespelledAnswer, fault_reply, fault_words, respelled_reply}
 use Rattle.fixed_respell.specs.AnswerLaws.{AnswerIsTheOne, LongIsAnsweredByFront, PlainWordNamesNearest, PlainLineAsksNearest}
 use Rattle.fixed_respell.specs.Cutting.{count_of}
-use Rattle.fixed_respell.specs.Lines.{kept_length}
+use Rattle.line_engine.specs.Lines.{kept_length}
 use Rattle.fixed_respell.specs.Reached.{IsRespelled, IsRefusal}
-use Rattle.fixed_respell.specs.Reply.{Reply}
+use Rattle.line_engine.specs.AnswerText.{AnswerText}
 use Rattle.fixed_respell.specs.Words.{radix_text, format_text, policy_text, mode_text, IsFormatWord, IsPolicyWord, slash, sign_letter, fraction_letter}
 use Rattle.fixed_respell.specs.declared.fault.LineFault.{LineFault}
 use Rattle.fixed_respell.specs.declared.fault.LineFault.TheVariants.{LineTooLong, MissingField, BadRadix, BadSource, BadTarget, BadPolicy}
@@ -200,20 +200,20 @@ source_is line t asks = asks.source.format
 target_is : (line : List ℕ) (t : Task) → Asks line t → IsFormat t.target.width t.target.frac
 target_is line t asks = asks.target.format
 
-refusals : (line : List ℕ) (a b : Reply) → IsRefusalAnswer line a → IsRefusalAnswer line b → a ≡ b
+refusals : (line : List ℕ) (a b : AnswerText) → IsRefusalAnswer line a → IsRefusalAnswer line b → a ≡ b
 refusals line a b x y =
     let same = task_one line x.task y.task x.asks y.asks in
     let Q : Task → Type 0 = λ t. IsRefusal t.mode t.radix t.numeral t.policy t.source t.target x.kind in
     let kind = refusal_one y.task.mode y.task.radix y.task.numeral y.task.policy y.task.source y.task.target x.kind y.kind (subst Q same x.refusal) y.refusal in
     x.reply_is ∙ (ap (λ k. fault_reply (words_of k)) kind ∙ sym y.reply_is)
 
-refused_or_not : (line : List ℕ) (a b : Reply) → IsRefusalAnswer line a → IsRespelledAnswer line b → ⊥
+refused_or_not : (line : List ℕ) (a b : AnswerText) → IsRefusalAnswer line a → IsRespelledAnswer line b → ⊥
 refused_or_not line a b x y =
     let same = task_one line x.task y.task x.asks y.asks in
     let Q : Task → Type 0 = λ t. IsRefusal t.mode t.radix t.numeral t.policy t.source t.target x.kind in
     refusal_none y.task.mode y.task.radix y.task.numeral y.task.policy y.task.source y.task.target x.kind y.bits y.overflowed (subst Q same x.refusal) y.respelled
 
-respellings : (line : List ℕ) (a b : Reply) → IsRespelledAnswer line a → IsRespelledAnswer line b → a ≡ b
+respellings : (line : List ℕ) (a b : AnswerText) → IsRespelledAnswer line a → IsRespelledAnswer line b → a ≡ b
 respellings line a b x y =
     let same = task_one line x.task y.task x.asks y.asks in
     let Q : Task → Type 0 = λ t. IsRespelled t.mode t.radix t.numeral t.policy t.source t.target x.bits x.overflowed in
@@ -226,7 +226,7 @@ respellings line a b x y =
     respelled_alike : (s t : List ℕ) (b c : ℤ) (o u : Bool) → s ≡ t → b ≡ c → o ≡ u → respelled_reply s b o ≡ respelled_reply t c u
     respelled_alike s t b c o u e f g = ap (λ x. respelled_reply x b o) e ∙ (ap (λ x. respelled_reply t x o) f ∙ ap (λ x. respelled_reply t c x) g)
 
-faults : (line : List ℕ) (a b : Reply) → IsFaultAnswer line a → IsFaultAnswer line b → a ≡ b
+faults : (line : List ℕ) (a b : AnswerText) → IsFaultAnswer line a → IsFaultAnswer line b → a ≡ b
 faults line a b x y = x.reply_is ∙ (ap (λ f. fault_reply (fault_words f)) (fault_one line x.line_fault y.line_fault x.first y.first) ∙ sym y.reply_is)
 
 pub answer_one : AnswerIsTheOne
@@ -241,22 +241,22 @@ answer_one line a b (inr (inr x)) (inr (inl y)) = absurd (refused_or_not line b 
 answer_one line a b (inr (inr x)) (inr (inr y)) = respellings line a b x y
 
 -- a line that is too long is told so
-abbrev long_reply : Reply
+abbrev long_reply : AnswerText
 long_reply = fault_reply (fault_words LineTooLong)
 
 long_answer : (line : List ℕ) → longest_line < length line → IsAnswer line long_reply
 long_answer line long = inl (record { line_fault = LineTooLong; first = first_long line long; reply_is = refl })
 
-carried : (line front : List ℕ) (reply : Reply) → longest_line < length line → longest_line < length front → IsAnswer front reply → IsAnswer line reply
+carried : (line front : List ℕ) (reply : AnswerText) → longest_line < length line → longest_line < length front → IsAnswer front reply → IsAnswer line reply
 carried line front reply long still is =
     let same : long_reply ≡ reply = answer_one front long_reply reply (long_answer front still) is in
-    let P : Reply → Type 0 = λ r. IsAnswer line r in
+    let P : AnswerText → Type 0 = λ r. IsAnswer line r in
     subst P same (long_answer line long)
 
 front_is_long : (n : ℕ) (line : List ℕ) → longest_line < n → n < length line → longest_line < length (take n line)
 front_is_long n line past long = omega (arith, length-take n line)
 
-by_front : (n : ℕ) (line : List ℕ) (reply : Reply) → longest_line < n → n < length line → IsAnswer (take n line) reply ↔ IsAnswer line reply
+by_front : (n : ℕ) (line : List ℕ) (reply : AnswerText) → longest_line < n → n < length line → IsAnswer (take n line) reply ↔ IsAnswer line reply
 by_front n line reply past long =
     let whole : longest_line < length line = omega arith in
     let front = front_is_long n line past long in

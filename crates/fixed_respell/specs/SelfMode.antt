@@ -5,11 +5,11 @@ use Rattle.std.specs.Int.Digits.{digits_of}
 use Rattle.std.specs.Io.KnownBytes.{Appends}
 use Rattle.std.specs.List.{count_by, ends_with}
 use Rattle.fixed_respell.specs.Answer.{IsAnswer, space}
-use Rattle.fixed_respell.specs.Causes.{Rose}
-use Rattle.fixed_respell.specs.Output.{AreAnswers, is_fault, written_of, AppendsPart}
-use Rattle.fixed_respell.specs.Reply.{Reply}
-use Rattle.fixed_respell.specs.declared.status.Status.{Status}
-use Rattle.fixed_respell.specs.declared.status.Status.TheVariants.{Done, Faults, Usage, ReadFault, WriteFault, NoMemory, TooLong}
+use Rattle.line_engine.specs.Failures.{HasFailed}
+use Rattle.line_engine.specs.Output.{AreAnswers, is_fault, written_of, AppendsPrefix}
+use Rattle.line_engine.specs.AnswerText.{AnswerText}
+use Rattle.line_engine.specs.declared.status.Status.{Status}
+use Rattle.line_engine.specs.declared.status.Status.TheVariants.{Done, Faults, Usage, ReadFault, WriteFault, NoMemory, TooLong}
 
 -- how a digit below 16 is written
 abbrev pub digit_letter : ℕ → ℕ
@@ -57,7 +57,7 @@ self_lines zero = []
 self_lines (suc n) = self_lines n ++ self_line n ∷ []
 
 -- whether the text of a reply ends in the word
-abbrev pub ends_in : List ℕ → Reply → Bool
+abbrev pub ends_in : List ℕ → AnswerText → Bool
 ends_in word reply = ends_with (λ x y. x == y) reply.text word
 
 -- of some replies: how many end in `fits`, how many in `overflowed`, how many are faults, and the bytes of all, with a newline each
@@ -67,7 +67,7 @@ pub record Tally : Type 0 where
   pub faults : ℕ
   pub bytes : ℕ
 
-unfoldable pub tally_of : List Reply → Tally
+unfoldable pub tally_of : List AnswerText → Tally
 tally_of replies = record {
   fit = count_by (ends_in (codes "fits")) replies;
   overflowed = count_by (ends_in (codes "overflowed")) replies;
@@ -84,7 +84,7 @@ pub record IsWithin (n : ℕ) (tally : Tally) : Type 0 where
 
 -- the replies are the answers to the first n lines, and this their tally
 pub record IsTally (n : ℕ) (tally : Tally) : Type 0 where
-  pub replies : List Reply
+  pub replies : List AnswerText
   pub answers : AreAnswers IsAnswer (self_lines n) replies
   pub tally_is : tally ≡ tally_of replies
 
@@ -111,8 +111,8 @@ pub record BreaksSummary (n : ℕ) (written written' : Option (List ℕ)) (faile
   pub text : List ℕ
   pub faults : ℕ
   pub summary : IsSummary n text faults
-  pub output : AppendsPart written written' text
-  pub rose : Rose failed failed'
+  pub output : AppendsPrefix written written' text
+  pub rose : HasFailed failed failed'
 
 -- what a run over n lines of the program's own that ended so has written, and whether a write failed
 abbrev pub HasSelfRun : ℕ → Option (List ℕ) → Option (List ℕ) → ℕ → ℕ → Status → Type 0

@@ -5,9 +5,7 @@ ghost use Rattle.fixed_respell.specs.Command.{IsCommand, IsNumbered, IsUsageFaul
 ghost use Rattle.fixed_respell.specs.declared.command.Command.{Command};
 
 use crate::cutting::number_word;
-
-/// How many bytes are read without a word on it, and at most.
-const MOST_BYTES: u64 = 4_294_967_296;
+use line_engine::MAX_LIMIT;
 
 /// How many lines the program makes at most.
 const MOST_LINES: u64 = 1_000_000;
@@ -38,7 +36,7 @@ fn numbered_command(name: &[u8], number: &[u8]) -> Option<Command>
     ensures { MatchOption result ((c : Command) → ¬ IsNumbered name.now number.now c) (λ c. IsNumbered name.now number.now c) }
 {
     match name {
-        b"limit" => match count_word(number, MOST_BYTES) {
+        b"limit" => match count_word(number, MAX_LIMIT) {
             Some(limit) => Some(Command::Read(limit)),
             None => None,
         },
@@ -55,7 +53,7 @@ pub(crate) fn read_command(words: &[String]) -> Option<Command>
     ensures { MatchOption result (IsUsageFault words.now) (λ c. IsCommand words.now c) }
 {
     match words {
-        [] => Some(Command::Read(MOST_BYTES)),
+        [] => Some(Command::Read(MAX_LIMIT)),
         [name, number] => numbered_command(name.as_bytes(), number.as_bytes()),
         _ => None,
     }

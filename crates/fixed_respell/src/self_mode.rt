@@ -3,15 +3,15 @@
 ghost use Rattle.std.specs.Prelude.{◌≡◌, ◌≤◌, ◌<◌, ◌+◌, ◌*◌, ◌^◌, ◌++◌, ◌∷◌, ◌↔◌, [], IsTrue, ℕ, List, length};
 ghost use Rattle.std.specs.Int.{from_bool};
 ghost use Rattle.fixed_respell.specs.Answer.{space};
-ghost use Rattle.fixed_respell.specs.Output.{reply_line};
-ghost use Rattle.fixed_respell.specs.Reply.{Reply};
+ghost use Rattle.line_engine.specs.Output.{reply_line};
+ghost use Rattle.line_engine.specs.AnswerText.{AnswerText};
 ghost use Rattle.fixed_respell.specs.SelfMode.{HasSelfRun, IsTally, IsWithin, digit_letter, ends_in, format_at, number_text, policy_at, radix_at, self_exponent, self_line, self_numeral, self_sign, self_words, summary_text, tally_of};
 
 use crate::line_answer::answer;
-use crate::reading::write_whole;
 use crate::{Answer, Sink, Status};
 use arrayvec::ArrayVec;
 use fixed_steps::Steps;
+use line_engine::write_whole;
 use std::marker::Model;
 use std::sync::ledger::Ledger;
 
@@ -220,7 +220,7 @@ impl Counts {
     fn add(&mut self, reply: &Answer)
         requires { IsWithin 1000000 self.old }
         ensures within { (n : ℕ) → IsWithin n self.old → IsWithin (n + 1) self.new }
-        ensures tally { (replies : List Reply) → self.old ≡ tally_of replies → self.new ≡ tally_of (replies ++ reply.now ∷ []) }
+        ensures tally { (replies : List AnswerText) → self.old ≡ tally_of replies → self.new ≡ tally_of (replies ++ reply.now ∷ []) }
     {
         self.fit += times_at_the_end(b"fits", reply);
         self.overflowed += times_at_the_end(b"overflowed", reply);
@@ -284,7 +284,7 @@ fn summary(count: u64, counts: &Counts) -> Text
 /// where one is, and in `WriteFault` where a write failed.
 pub(crate) fn run_self<K: Sink, L: Ledger>(count: u64, sink: &mut K, steps: &mut Steps<L>) -> Status
     requires most { count ≤ 1000000 }
-    ensures run { HasSelfRun count (K.written sink.old) (K.written sink.new) (K.faults sink.old) (K.faults sink.new) result }
+    ensures run { HasSelfRun count (K.written sink.old) (K.written sink.new) (K.failures sink.old) (K.failures sink.new) result }
     ensures cost { steps.new ≤ steps.old + 1424 * count }
 {
     let counts = count_answers(count, steps);

@@ -1,6 +1,6 @@
 use Rattle.std.proofs.Common.{◌∙◌, subst}
 use Rattle.std.specs.Io.KnownBytes.{Appends}
-use Rattle.fixed_respell.specs.Output.{AppendsPart}
+use Rattle.line_engine.specs.Output.{AppendsPrefix}
 use Rattle.fixed_respell.specs.SelfMode.{summary_text}
 use Rattle.fixed_respell.proofs.SelfLemmas.{is_summary}
 use Rattle.fixed_respell.proofs.self_mode.run_self.Goals as goal
@@ -12,8 +12,8 @@ returns-in-Err-clause-run g c =
       text = summary_text c.args.count tally;
       faults = tally.faults;
       summary = is_summary c.args.count tally c.count_answers-counts.ensures.tally;
-      output = subst (AppendsPart (g.K.Sink.written c.args.sink.now) (g.K.Sink.written c.write_whole.new.sink)) (c.as_slice.ensures.value ∙ c.summary.ensures) c.in-Err.ensures.err;
-      rose = c.in-Err.ensures.cause.rose;
+      output = subst (AppendsPrefix (g.K.Sink.written c.args.sink.now) (g.K.Sink.written c.write_whole.new.sink)) (c.as_slice.ensures.value ∙ c.summary.ensures) c.in-Err.ensures.err;
+      rose = c.in-Err.ensures.failures.failed;
     }
 
 -- the summary is written whole
@@ -26,6 +26,6 @@ returns-in-Ok-clause-run g c =
         text = summary_text c.args.count tally;
         summary = is_summary c.args.count tally c.count_answers-counts.ensures.tally;
         output = subst (Appends (g.K.Sink.written c.args.sink.now) (g.K.Sink.written c.write_whole.new.sink)) (c.as_slice.ensures.value ∙ c.summary.ensures) c.in-Ok.ensures.ok;
-        calm = c.in-Ok.ensures.cause.same;
+        calm = c.in-Ok.ensures.failures.same;
       },
     )

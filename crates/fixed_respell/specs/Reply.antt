@@ -1,7 +1,0 @@
--- What is seen of an answer to a line.
-use Rattle.std.specs.Prelude.{ℕ, List, Bool}
-
--- the bytes of an answer, and whether they name a fault
-pub record Reply : Type 0 where
-  pub text : List ℕ
-  pub fault : Bool

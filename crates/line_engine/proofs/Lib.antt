@@ -1,0 +1,9 @@
+pub mod AnsweredLemmas
+mod AskedLemmas
+mod ChunkLemmas
+mod CompleteLemmas
+mod FedLemmas
+mod LineLawLemmas
+pub mod LineLemmas
+mod PrefixLemmas
+mod RunLemmas

@@ -1,0 +1,10 @@
+pub mod AnswerText
+pub mod Asked
+pub mod Failures
+pub mod LineLaws
+pub mod Lines
+pub mod Memory
+pub mod Output
+pub mod Progress
+pub mod Run
+pub mod Status

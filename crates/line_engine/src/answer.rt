@@ -1,0 +1,86 @@
+//! What a rule answers to a line.
+
+ghost use Rattle.std.specs.Prelude.{◌≡◌, ◌≤◌, ◌+◌, ◌++◌, [], length, false};
+
+use arrayvec::ArrayVec;
+use std::marker::Model;
+
+/// How many bytes an answer has at most.
+pub const MAX_ANSWER: usize = 192;
+
+/// The answer to a line: at most 192 bytes, and whether they name a fault.
+#[derive(Drop)]
+pub struct Answer {
+    bytes: ArrayVec<u8, MAX_ANSWER>,
+    is_fault: bool,
+}
+
+impl Model for Answer {
+    ghost use Rattle.line_engine.specs.AnswerText.{AnswerText};
+
+    ghost Value = { AnswerText };
+
+    ghost view = { λ a. record { text = a.bytes.items; fault = a.is_fault } };
+}
+
+impl Answer {
+    /// The answer of these bytes, at most 192, with whether they name a fault.
+    pub fn of(bytes: &[u8], is_fault: bool) -> Answer
+        requires { length bytes.now ≤ MAX_ANSWER }
+        ensures text { result.text ≡ bytes.now }
+        ensures fault { result.fault ≡ is_fault }
+    {
+        let mut text = ArrayVec::new();
+        text.try_extend_from_slice(bytes).unwrap();
+        Answer {
+            bytes: text,
+            is_fault,
+        }
+    }
+
+    /// An answer without a byte so far, which names no fault. It is put together where it stays.
+    #[inline]
+    pub fn empty() -> Answer
+        ensures text { result.text ≡ [] }
+        ensures fault { result.fault ≡ false }
+    {
+        Answer {
+            bytes: ArrayVec::new(),
+            is_fault: false,
+        }
+    }
+
+    /// Appends bytes, for which there is room.
+    #[inline]
+    pub fn push(&mut self, bytes: &[u8])
+        requires { length self.old.text + length bytes.now ≤ MAX_ANSWER }
+        ensures text { self.new.text ≡ self.old.text ++ bytes.now }
+        ensures fault { self.new.fault ≡ self.old.fault }
+    {
+        self.bytes.try_extend_from_slice(bytes).unwrap();
+    }
+
+    /// Says whether the bytes name a fault.
+    #[inline]
+    pub fn set_fault(&mut self, is_fault: bool)
+        ensures text { self.new.text ≡ self.old.text }
+        ensures fault { self.new.fault ≡ is_fault }
+    {
+        self.is_fault = is_fault;
+    }
+
+    /// The bytes, without a newline: at most 192.
+    pub fn as_bytes(&self) -> &[u8]
+        ensures bytes { result.now ≡ self.now.text }
+        ensures short { length result.now ≤ MAX_ANSWER }
+    {
+        self.bytes.as_slice()
+    }
+
+    /// Whether the bytes name a fault.
+    pub fn is_fault(&self) -> bool
+        ensures { result ≡ self.now.fault }
+    {
+        self.is_fault
+    }
+}

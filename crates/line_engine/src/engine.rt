@@ -1,0 +1,170 @@
+//! The line engine: lines in, answers out, whatever the rule that answers.
+
+ghost use Rattle.std.specs.Prelude.{◌≡◌, ◌≤◌, ◌<◌, ◌+◌, ◌⊎◌, List, ℕ, Some, [], length, take, false, IfOk, OnErr};
+ghost use Rattle.std.specs.Io.KnownBytes.{Consumes, IsAtEnd, Keeps};
+ghost use Rattle.line_engine.specs.Asked.{AskedWithin, HasAsked, longest_chunk};
+ghost use Rattle.line_engine.specs.Failures.{FailsOnlyCounted, HasFailed};
+ghost use Rattle.line_engine.specs.Lines.{kept_length, last_line, lines};
+ghost use Rattle.line_engine.specs.Output.{AppendsPrefix, AreAnswers, written_of};
+ghost use Rattle.line_engine.specs.Progress.{EndsLines, IsKept, state};
+ghost use Rattle.line_engine.specs.AnswerText.{AnswerText};
+ghost use Rattle.line_engine.specs.Run.{HasFailures, HasRun, Spends, WritesOutput};
+
+use crate::line_buffer::LineBuffer;
+use crate::splitter::{LineSplitter, Outgoing};
+use crate::{Failed, LineRule, Sink, Source, Status};
+use fixed_steps::Steps;
+use std::alloc::Global;
+use std::sync::ledger::Ledger;
+
+/// How many bytes an input has at most, whatever the limit: the greatest limit.
+pub const MAX_LIMIT: u64 = 4_294_967_296;
+
+/// How many bytes are read at a time at most.
+const CHUNK: usize = 4096;
+
+/// How many bytes are asked for next, with this many of the limit taken.
+fn next_room(limit: u64, taken: u64) -> usize
+    requires limit { limit ≤ MAX_LIMIT }
+    requires taken { taken ≤ limit }
+    ensures some { 0 < result }
+    ensures chunk { result ≤ longest_chunk }
+    ensures within { taken + result ≤ limit + 1 }
+{
+    (limit + 1 - taken).min(CHUNK as u64) as usize
+}
+
+/// Reads the next bytes into the start of a chunk, at most this many.
+fn read_prefix<S: Source>(source: &mut S, chunk: &mut [u8], most: usize) -> Result<usize, Failed>
+    requires room { most ≤ length chunk.old }
+    requires some { 0 < most }
+    ensures bound { IfOk result (λ count. count ≤ most) }
+    ensures bytes { IfOk result (λ count. Consumes (S.left source.old) (S.left source.new) (take count chunk.new)) }
+    ensures end { IfOk result (λ count. count ≡ 0 → IsAtEnd (S.left source.new)) }
+    ensures err { OnErr result (Keeps (S.left source.old) (S.left source.new)) }
+    ensures failures { FailsOnlyCounted (S.failures source.old) (S.failures source.new) result }
+    ensures asked { HasAsked (S.asked source.old) (S.asked source.new) most result }
+{
+    source.read(&mut chunk[..most])
+}
+
+/// Answers the rest of the input, and says how the run ended.
+fn end_lines<R: LineRule<L>, K: Sink, L: Ledger>(
+    rule: &R,
+    mut splitter: LineSplitter,
+    sink: &mut K,
+    steps: &mut Steps<L>,
+) -> Status
+    ensures ends { (whole : List ℕ) → IsKept kept_length whole splitter.line → EndsLines (R.Answers rule.now) R.PER_BYTE R.EXTRA (last_line whole) (state [] (K.written sink.old) splitter.has_fault steps.old) (K.written sink.new) steps.new (K.failures sink.old) (K.failures sink.new) result }
+    ensures began { ¬ (result ≡ Status.NoMemory) }
+{
+    match splitter.finish(rule, sink, steps) {
+        Err(_) => Status::WriteFault,
+        Ok(()) => {
+            if splitter.has_fault {
+                Status::Faults
+            } else {
+                Status::Done
+            }
+        }
+    }
+}
+
+/// Reads lines up to the limit, and has each answered.
+fn answer_lines<R: LineRule<L>, S: Source, K: Sink, L: Ledger>(
+    limit: u64,
+    rule: &R,
+    mut splitter: LineSplitter,
+    source: &mut S,
+    sink: &mut K,
+    steps: &mut Steps<L>,
+) -> Status
+    requires limit { limit ≤ MAX_LIMIT }
+    requires line { splitter.line ≡ [] }
+    requires fault { splitter.has_fault ≡ false }
+    ensures run { HasRun (R.Answers rule.now) limit (S.left source.old) (S.left source.new) (K.written sink.old) (K.written sink.new) result }
+    ensures failures { HasFailures (S.failures source.old) (S.failures source.new) (K.failures sink.old) (K.failures sink.new) result }
+    ensures cost { Spends limit R.PER_BYTE R.EXTRA (S.left source.old) (S.left source.new) steps.old steps.new }
+    ensures asked { AskedWithin limit (S.asked source.old) (S.asked source.new) }
+    ensures began { ¬ (result ≡ Status.NoMemory) }
+{
+    let mut chunk = [0u8; CHUNK];
+    let mut out = Outgoing::new();
+    let mut taken = 0u64;
+    while taken <= limit {
+        let room = next_room(limit, taken);
+        match read_prefix(source, &mut chunk, room) {
+            Err(_) => return Status::ReadFault,
+            Ok(0) => return end_lines(rule, splitter, sink, steps),
+            Ok(count) => {
+                let within = count.min((limit - taken) as usize);
+                match splitter.feed(rule, &chunk[..within], &mut out, sink, steps) {
+                    Err(_) => return Status::WriteFault,
+                    Ok(()) => taken += count as u64,
+                }
+            }
+        }
+    }
+    Status::TooLong
+}
+
+/// Has each line of a source answered by a rule, and writes each answer and a newline to a sink.
+///
+/// It takes memory for one line buffer of 1,048,577 bytes, and answers `NoMemory` where that fails; afterwards it takes
+/// none. Each read asks for at most 4,096 bytes, and for at most limit + 1 bytes less those already taken. The answers of the
+/// lines that ended in a chunk are written before the next is read. A line ends at a newline byte, which isn't part of
+/// it; the rule is given its first 1,048,577 bytes. What follows the last newline is a line where it isn't empty.
+///
+/// The limit is in bytes, from 1 to 4,294,967,296.
+pub fn run_lines<R: LineRule<L>, S: Source, K: Sink, L: Ledger>(
+    alloc: Global,
+    limit: u64,
+    rule: &R,
+    source: &mut S,
+    sink: &mut K,
+    steps: &mut Steps<L>,
+) -> Status
+    requires some { 1 ≤ limit }
+    requires most { limit ≤ MAX_LIMIT }
+
+    // What was taken and what stands written, by status.
+    ensures run { HasRun (R.Answers rule.now) limit (S.left source.old) (S.left source.new) (K.written sink.old) (K.written sink.new) result }
+
+    // Which count of failures rose, by status.
+    ensures failures { HasFailures (S.failures source.old) (S.failures source.new) (K.failures sink.old) (K.failures sink.new) result }
+
+    // With no count risen, an input within the limit is answered whole, and the status says whether an answer is a fault;
+    // or there was no memory.
+    ensures output { (input : List ℕ) → S.left source.old ≡ Some input → length input ≤ limit
+        → ¬ HasFailed (S.failures source.old) (S.failures source.new) → ¬ HasFailed (K.failures sink.old) (K.failures sink.new)
+        → (result ≡ Status.NoMemory) ⊎ WritesOutput (R.Answers rule.now) input (K.written sink.old) (K.written sink.new) result }
+
+    // A longer input is told so.
+    ensures too_long { (input : List ℕ) → S.left source.old ≡ Some input → limit < length input
+        → ¬ HasFailed (S.failures source.old) (S.failures source.new) → ¬ HasFailed (K.failures sink.old) (K.failures sink.new)
+        → (result ≡ Status.NoMemory) ⊎ (result ≡ Status.TooLong) }
+
+    // Where a write failed, a prefix of the whole output was written.
+    ensures prefix_on_write_fault { result ≡ Status.WriteFault → (input : List ℕ) (replies : List AnswerText) → S.left source.old ≡ Some input
+        → AreAnswers (R.Answers rule.now) (lines input) replies → AppendsPrefix (K.written sink.old) (K.written sink.new) (written_of replies) }
+
+    // How many bytes were taken, and how many steps.
+    ensures cost { Spends limit R.PER_BYTE R.EXTRA (S.left source.old) (S.left source.new) steps.old steps.new }
+
+    // What the source was asked for: no read asked for more than limit + 1 bytes less those taken, or for more than 4,096.
+    ensures asked { AskedWithin limit (S.asked source.old) (S.asked source.new) }
+
+    // Nothing was read or written.
+    ensures memory { result ≡ Status.NoMemory → (source.new ≡ source.old) × (sink.new ≡ sink.old) × (steps.new ≡ steps.old) }
+{
+    match LineBuffer::new(alloc) {
+        Err(_) => Status::NoMemory,
+        Ok(line) => {
+            let splitter = LineSplitter {
+                line,
+                has_fault: false,
+            };
+            answer_lines(limit, rule, splitter, source, sink, steps)
+        }
+    }
+}

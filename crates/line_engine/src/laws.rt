@@ -1,0 +1,18 @@
+//! Laws of the lines of an input, each the contract of a function that does nothing.
+
+ghost use Rattle.line_engine.specs.LineLaws.{CutAnywhere, LinesAreTheInput, NoLineHoldsNewline};
+
+/// The ended lines, each followed by a newline, and what stands behind the last newline are the input again.
+pub fn lines_are_the_input()
+    ensures { LinesAreTheInput }
+{}
+
+/// No line holds a newline.
+pub fn no_line_holds_newline()
+    ensures { NoLineHoldsNewline }
+{}
+
+/// An input that is cut in two anywhere and gone on with has the same lines.
+pub fn cut_anywhere()
+    ensures { CutAnywhere }
+{}

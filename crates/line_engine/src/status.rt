@@ -1,0 +1,40 @@
+//! How a run ends.
+
+ghost use Rattle.std.specs.Prelude.{◌≡◌};
+ghost use Rattle.line_engine.specs.Status.{code_of};
+
+/// How a run ended.
+#[derive(Clone, Copy, Debug, PartialEq, Eq)]
+pub enum Status {
+    /// Every line was answered, none by a fault.
+    Done,
+    /// Every line was answered, at least one by a fault.
+    Faults,
+    /// The words were no command, and the usage line was written.
+    Usage,
+    /// A read failed.
+    ReadFault,
+    /// A write failed.
+    WriteFault,
+    /// There was no memory to begin with; nothing was read or written.
+    NoMemory,
+    /// The input has more bytes than the limit.
+    TooLong,
+}
+
+impl Status {
+    /// The status with which the program ends: 0 to 6, in the order above.
+    pub fn code(self) -> u8
+        ensures { result ≡ code_of self }
+    {
+        match self {
+            Status::Done => 0,
+            Status::Faults => 1,
+            Status::Usage => 2,
+            Status::ReadFault => 3,
+            Status::WriteFault => 4,
+            Status::NoMemory => 5,
+            Status::TooLong => 6,
+        }
+    }
+}

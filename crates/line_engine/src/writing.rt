@@ -1,0 +1,33 @@
+//! The writing of a whole text, however little a sink takes at a time.
+
+ghost use Rattle.std.specs.Prelude.{◌≡◌, OnOk, OnErr};
+ghost use Rattle.std.specs.Io.KnownBytes.{Appends};
+ghost use Rattle.line_engine.specs.Failures.{FailsOnlyCounted};
+ghost use Rattle.line_engine.specs.Output.{AppendsPrefix};
+ghost use Rattle.line_engine.specs.Run.{WritesText};
+
+use crate::{Failed, Sink, Status};
+
+/// Writes the whole piece, however little the sink takes at a time.
+pub fn write_whole<K: Sink>(sink: &mut K, piece: &[u8]) -> Result<(), Failed>
+    ensures ok { OnOk result (Appends (K.written sink.old) (K.written sink.new) piece.now) }
+    ensures err { OnErr result (AppendsPrefix (K.written sink.old) (K.written sink.new) piece.now) }
+    ensures failures { FailsOnlyCounted (K.failures sink.old) (K.failures sink.new) result }
+{
+    let mut rest = piece;
+    while !rest.is_empty() {
+        let count = sink.write(rest)?;
+        rest = &rest[count..];
+    }
+    Ok(())
+}
+
+/// Writes a text whole, and then ends with the status `ending`; or with `WriteFault` where a write failed.
+pub fn write_text<K: Sink>(text: &[u8], ending: Status, sink: &mut K) -> Status
+    ensures { WritesText text.now ending (K.written sink.old) (K.written sink.new) (K.failures sink.old) (K.failures sink.new) result }
+{
+    match write_whole(sink, text) {
+        Ok(()) => ending,
+        Err(_) => Status::WriteFault,
+    }
+}
