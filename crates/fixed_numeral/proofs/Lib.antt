@@ -13,3 +13,4 @@ pub mod LiteralScanLemmas
 pub mod LawLemmas
 pub mod StripLemmas
 pub mod LaneLemmas
+pub mod CompactLemmas

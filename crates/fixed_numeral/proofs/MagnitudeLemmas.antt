@@ -96,20 +96,20 @@ by_exponent r two minus n m f s up down bits mag (Some e) a k l v =
     let l' : bits < unit_of r (is_two_separator r e.separator) = rw a.0 at l in
     same_scaled (is_two_separator r e.separator) (is_minus e.sign) (bits_of r) (base r) n m f s up down bits (digits_value 10 e.digits) (two_base r e.separator) k' l' v
 
-base_small : (r : Radix) → base r ≤ 16
+pub base_small : (r : Radix) → base r ≤ 16
 base_small Bin = omega arith
 base_small Oct = omega arith
 base_small Dec = omega arith
 base_small Hex = omega arith
 
-behind_digits : (b : ℕ) (o : Option (List ℕ)) → IfSome o (AllDigits b) → AllDigits b (digits_behind o)
+pub behind_digits : (b : ℕ) (o : Option (List ℕ)) → IfSome o (AllDigits b) → AllDigits b (digits_behind o)
 behind_digits b None h = tt
 behind_digits b (Some ds) h = h
 
 behind_length : (r : Radix) (p : Parts) (f : List ℕ) → IsPartsOf r p → f ≡ digits_in (digits_behind p.fraction) → length f ≡ length (digits_behind p.fraction)
 behind_length r p f h ef = ap length (ef ∙ digits_in_all (base r) (digits_behind p.fraction) (base_small r) (behind_digits (base r) p.fraction h.fraction)) ∙ length-map (digits_behind p.fraction) digit_value
 
-mantissa_value : (r : Radix) (p : Parts) (w f : List ℕ) → IsPartsOf r p → w ≡ digits_in p.whole → f ≡ digits_in (digits_behind p.fraction) → number_from_digits (base r) (w ++ f) ≡ digits_value (base r) (mantissa p)
+pub mantissa_value : (r : Radix) (p : Parts) (w f : List ℕ) → IsPartsOf r p → w ≡ digits_in p.whole → f ≡ digits_in (digits_behind p.fraction) → number_from_digits (base r) (w ++ f) ≡ digits_value (base r) (mantissa p)
 mantissa_value r p w f h ew ef =
     let a = ew ∙ digits_in_all (base r) p.whole (base_small r) h.whole in
     let b = ef ∙ digits_in_all (base r) (digits_behind p.fraction) (base_small r) (behind_digits (base r) p.fraction h.fraction) in

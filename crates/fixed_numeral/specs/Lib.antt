@@ -2,6 +2,7 @@ pub mod Numeral
 pub mod Value
 pub mod Cause
 pub mod Spelled
+pub mod PartNumbers
 pub mod Digits
 pub mod Place
 pub mod Scanned

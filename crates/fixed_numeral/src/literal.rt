@@ -92,7 +92,7 @@ fn rest_views<'a, L: Ledger>(
 ) -> Scanned<'a>
     requires { IsLiteralAfter radix bytes.now state }
     ensures value { (p : Parts) → HasRest radix bytes.now (record p { sign = None }) → IfSome p.sign (λ b. IsTrue (is_sign b)) → neg ≡ is_minus p.sign → IsScanned radix p result.neg result.whole result.fraction result.bit_shift }
-    ensures cost { steps.new ≤ steps.old + 2 * length bytes.now + 4 }
+    ensures cost { steps.new ≤ steps.old + length bytes.now + 2 }
 {
     let text = same_bytes(bytes);
     let (whole, behind) = Piece::front(text, state.whole);
@@ -166,7 +166,7 @@ fn after_prefix(bytes: &[u8]) -> (Radix, &[u8])
 ///
 /// Where `signed`, one `-` in front is the literal's sign. A prefix `0b`, `0o` or `0x` names the radix, which is 10 without
 /// one. Underscores may stand behind a prefix and behind a digit of their part. The views pass over them. The error is
-/// never `Overflow`. At most 4 steps a byte and 8 more are taken, and none for the bytes in front of the rest.
+/// never `Overflow`. At most 2 steps a byte and 2 more are taken, and none for the bytes in front of the rest.
 pub fn scan_lit<'a, L: Ledger>(
     bytes: &'a [u8],
     signed: bool,
@@ -176,7 +176,7 @@ pub fn scan_lit<'a, L: Ledger>(
     ensures cause { IfErr result (λ kind. HasLiteralCause signed bytes.now kind) }
     ensures radix { IfOk result (λ r. r.0 ≡ literal_radix signed bytes.now) }
     ensures value { IfOk result (λ r. (p : Parts) → HasLiteral signed bytes.now p → IsScanned r.0 p r.1.neg r.1.whole r.1.fraction r.1.bit_shift) }
-    ensures cost { steps.new ≤ steps.old + 4 * length bytes.now + 8 }
+    ensures cost { steps.new ≤ steps.old + 2 * length bytes.now + 2 }
 {
     let (neg, unsigned) = after_sign(bytes, signed);
     let (radix, rest) = after_prefix(unsigned);

@@ -77,7 +77,7 @@ fn low_number(bytes: &[u8], base: u64, start: u64) -> u64
 }
 
 /// The number that bytes spell in a base behind the digits of `start`, where each byte is a digit.
-fn plain_number(bytes: &[u8], base: u64, start: u64) -> u64
+pub(crate) fn plain_number(bytes: &[u8], base: u64, start: u64) -> u64
     requires plain { length (digits_in bytes.now) ≡ length bytes.now }
     requires digits { AllBelowBase base (digits_in bytes.now) }
     requires least { 2 ≤ base }

@@ -306,7 +306,7 @@ fn passed(state: State, count: u64) -> State
 }
 
 /// The state after all bytes. Mantissa digits are taken together, and then the byte behind them.
-fn read<L: Ledger>(
+pub(crate) fn read<L: Ledger>(
     bytes: &[u8],
     radix: Radix,
     steps: &mut Steps<L>,
@@ -347,7 +347,7 @@ pub(crate) fn complete(state: State) -> Result<State, ParseErrorKind>
 }
 
 /// So many bytes from a place on, which stand there if there are any.
-fn part(bytes: &[u8], from: usize, count: usize) -> &[u8]
+pub(crate) fn part(bytes: &[u8], from: usize, count: usize) -> &[u8]
     requires { 0 < count → from + count ≤ length bytes.now }
     ensures { result.now ≡ take count (drop from bytes.now) }
 {
@@ -375,7 +375,7 @@ fn views<'a, L: Ledger>(
 ) -> Scanned<'a>
     requires { IsAfter radix bytes.now state }
     ensures value { (p : Parts) → HasParts radix bytes.now p → IsScanned radix p result.neg result.whole result.fraction result.bit_shift }
-    ensures cost { steps.new ≤ steps.old + 2 * length bytes.now + 4 }
+    ensures cost { steps.new ≤ steps.old + length bytes.now + 2 }
 {
     let text = same_bytes(bytes);
     let point = state.start + state.whole;
@@ -403,7 +403,7 @@ fn moved_views<'a, L: Ledger>(
 ) -> Scanned<'a>
     requires { IsAfter radix bytes.now state }
     ensures value { (p : Parts) → HasParts radix bytes.now p → IsScanned radix p result.neg result.whole result.fraction result.bit_shift }
-    ensures cost { steps.new ≤ steps.old + 2 * length bytes.now + 4 }
+    ensures cost { steps.new ≤ steps.old + length bytes.now + 2 }
 {
     views(bytes, radix, state, steps)
 }
@@ -411,7 +411,7 @@ fn moved_views<'a, L: Ledger>(
 /// The views of a numeral, or why the bytes are none.
 ///
 /// `bytes` is a numeral of the radix whole: an optional sign, digits with an optional point, and an optional exponent.
-/// The error is never `MisplacedUnderscore` or `Overflow`. At most 4 steps a byte and 8 more are taken.
+/// The error is never `MisplacedUnderscore` or `Overflow`. At most 2 steps a byte and 2 more are taken.
 pub fn scan<'a, L: Ledger>(
     bytes: &'a [u8],
     radix: Radix,
@@ -420,7 +420,7 @@ pub fn scan<'a, L: Ledger>(
     ensures numeral { IsOk result ↔ IsNumeral radix bytes.now }
     ensures cause { IfErr result (λ kind. HasCause radix bytes.now kind) }
     ensures value { IfOk result (λ s. (p : Parts) → HasNumeral radix bytes.now p → IsScanned radix p s.neg s.whole s.fraction s.bit_shift) }
-    ensures cost { steps.new ≤ steps.old + 4 * length bytes.now + 8 }
+    ensures cost { steps.new ≤ steps.old + 2 * length bytes.now + 2 }
 {
     let state = match read(bytes, radix, steps) {
         Ok(state) => state,
