@@ -5,3 +5,4 @@ pub mod NearestLemmas
 pub mod RoundedLemmas
 pub mod LawLemmas
 pub mod MaskLemmas
+pub mod OrderLemmas

@@ -3,7 +3,9 @@ use Rattle.std.specs.Prelude.{◌≡◌, ℕ, ◌*◌, ◌<◌, ◌≤◌, ◌�
 use Rattle.fixed_bits.specs.Ranges.{IsInRange, IsOutOfRange, IsWidth, IsWide, lowest, greatest}
 use Rattle.fixed_bits.specs.Images.{IsImage}
 use Rattle.fixed_bits.specs.Down.{IsDown, down}
+use Rattle.fixed_bits.specs.Formats.{FormatParts, IsFormat}
 use Rattle.fixed_bits.specs.Nearest.{IsNearest}
+use Rattle.fixed_bits.specs.Order.{IsBefore, rank}
 use Rattle.fixed_bits.specs.Rounded.{IsRounded}
 use Rattle.fixed_bits.specs.declared.mode.ReadMode.{ReadMode}
 use Rattle.fixed_bits.specs.declared.format.Policy.{Policy}
@@ -52,3 +54,13 @@ DownIsTheOne = (b : ℤ) (f g : ℕ) (d : ℤ) → IsDown b f g d ↔ (d ≡ dow
 
 abbrev pub DownKeepsOrder : Type 0
 DownKeepsOrder = (b c : ℤ) (f g : ℕ) → b ≤ℤ c → down b f g ≤ℤ down c f g
+
+-- a format comes before another exactly where its number is less
+abbrev pub RankIsOrder : Type 0
+RankIsOrder = (f g : FormatParts) → IsFormat f.width f.frac → IsFormat g.width g.frac → IsBefore f g ↔ (rank f < rank g)
+
+-- each number below 248 is that of exactly one format, and no format has another number
+abbrev pub RankIsTheOne : Type 0
+RankIsTheOne = ((f : FormatParts) → IsFormat f.width f.frac → rank f < 248)
+    × ((n : ℕ) → n < 248 → (f : FormatParts) × IsFormat f.width f.frac × (rank f ≡ n))
+    × ((f g : FormatParts) → IsFormat f.width f.frac → IsFormat g.width g.frac → rank f ≡ rank g → f ≡ g)

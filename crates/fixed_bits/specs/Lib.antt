@@ -3,6 +3,7 @@ pub mod Images
 pub mod Down
 pub mod Lemmas
 pub mod Formats
+pub mod Order
 pub mod Nearest
 pub mod Rounded
 pub mod Laws

@@ -12,6 +12,8 @@ ghost use Rattle.fixed_bits.specs.Laws.{
   ImageIsInRange,
   DownIsTheOne,
   DownKeepsOrder,
+  RankIsOrder,
+  RankIsTheOne,
 };
 
 /// Each fraction has exactly one nearest number of steps.
@@ -67,4 +69,14 @@ pub fn down_is_the_one()
 /// Moving down keeps order.
 pub fn down_keeps_order()
     ensures { DownKeepsOrder }
+{}
+
+/// The rank of a format is its place in the order.
+pub fn rank_is_order()
+    ensures { RankIsOrder }
+{}
+
+/// Each of the 248 ranks is that of exactly one format.
+pub fn rank_is_the_one()
+    ensures { RankIsTheOne }
 {}

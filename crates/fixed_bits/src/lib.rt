@@ -8,8 +8,10 @@ mod integer_types;
 pub mod laws;
 mod masks;
 pub mod mode;
+pub mod order;
 
 pub use bits::FixedBits;
 pub use format::{Format, Policy, mul10};
 pub use inner::Inner;
 pub use mode::ReadMode;
+pub use order::{FORMAT_COUNT, format_at};
