@@ -5,3 +5,4 @@ pub mod NumberLemmas
 pub mod SideLemmas
 pub mod WholeLemmas
 pub mod ReadLemmas
+pub mod MultipleLemmas

@@ -1,11 +1,13 @@
 -- A read number, its images and whether it is out of range.
-use Rattle.std.proofs.Common.{◌≡◌, ℕ, zero, suc, ◌+◌, ◌-◌, ◌*◌, ◌^◌, ◌<◌, ◌≤◌, ◌⊎◌, ◌↔◌, Bool, true, false, IsTrue, List, length, refl, sym, ap, ◌∙◌, arith, pow_pos, inl, inr, ⊎_elim, mul-le-mul_right, ℤ, pos, neg_ℤ, ◌+ℤ◌, ◌≤ℤ◌}
+use Rattle.std.proofs.Common.{◌≡◌, ℕ, zero, suc, ◌+◌, ◌-◌, ◌*◌, ◌^◌, ◌<◌, ◌≤◌, ◌⊎◌, ◌↔◌, Bool, true, false, IsTrue, List, length, refl, sym, ap, ◌∙◌, arith, pow_pos, inl, inr, ⊎_elim, mul-le-mul_right, ℤ, pos, neg_ℤ, ◌+ℤ◌, ◌≤ℤ◌, IfSome, Option, Some, None, Result, Ok, Err, IsOk, IfOk, IfErr}
 use Rattle.std.specs.Prelude.{◌<ℤ◌}
 use Rattle.std.proofs.lemmas.Int.{ints}
-use Rattle.std.proofs.Math.Nat.{one-le-pow, pow-succ'}
-use Rattle.fixed_bits.specs.Images.{IsWrapped, IsSaturated, DiffersByMultiple}
+use Rattle.std.proofs.lemmas.Nat.{pow-add}
+use Rattle.std.proofs.Math.Nat.{one-le-pow, pow-succ', pow-le-pow_right}
+use Rattle.fixed_bits.specs.Images.{IsWrapped, IsSaturated, IsImage, DiffersByMultiple}
 use Rattle.fixed_bits.specs.Ranges.{IsInRange, IsOutOfRange, IsWidth, lowest, greatest}
 use Rattle.fixed_bits.specs.declared.mode.ReadMode.{ReadMode}
+use Rattle.fixed_bits.specs.declared.format.Policy.{Policy}
 use Rattle.fixed_numeral.specs.Numeral.{Parts, base, is_minus, signed}
 use Rattle.fixed_numeral.specs.Scanned.{IsScanned}
 use Rattle.fixed_numeral.specs.Spelled.{spelled}
@@ -13,19 +15,20 @@ use Rattle.fixed_numeral.specs.Value.{magnitude}
 use Rattle.fixed_numeral.specs.declared.radix.Radix.{Radix}
 use Rattle.fixed_numeral.specs.declared.radix.Radix.TheVariants.{Bin, Oct, Dec, Hex}
 use Rattle.fixed_numeral.proofs.ValueLemmas.{magnitude_pos}
-use Rattle.fixed_bits.specs.declared.format.Policy.TheVariants.{Saturating, Wrapping}
+use Rattle.fixed_bits.specs.declared.format.Policy.TheVariants.{Checked, Saturating, Wrapping}
 use Rattle.fixed_bits.proofs.RoundedLemmas.{rounded_same, rounded_unique, rounded_exists}
 use Rattle.fixed_bits.proofs.LawLemmas.{images_agree, range_decided}
-use Rattle.fixed_read.specs.Reading.{IsReadNumber, IsOverflowingRead, IsImageRead, IsReadInRange, IsReadOutOfRange}
+use Rattle.fixed_read.specs.Magnitudes.{greatest_magnitude}
+use Rattle.fixed_read.specs.Reading.{IsReadNumber, IsReading, HoldsNumber, IsReadInRange, IsReadOutOfRange, IsOverflowingRead, IsImageRead, with_sign}
+use Rattle.fixed_read.specs.declared.magnitude.Ulps.{Ulps}
+use Rattle.fixed_read.specs.declared.read_number.ReadNumber.{ReadNumber}
 use Rattle.fixed_read.specs.Laws.{ReadNumberIsTheOne}
 use Rattle.fixed_read.specs.Sides.{side}
-use Rattle.fixed_read.specs.Steps.{IsMagnitude, IsPlaced, IsResidue, with_sign}
+use Rattle.fixed_read.specs.Steps.{IsMagnitude, IsSplitNumeral}
+use Rattle.fixed_read.proofs.MultipleLemmas.{multiple_same}
 use Rattle.fixed_read.proofs.SideLemmas.{to_rounded}
 
--- ---- the image: high · m and low, with their sign
-split_out : (l g v : ℤ) → ((l ≤ℤ v) → (v ≤ℤ g) → ⊥) → (v <ℤ l) ⊎ (g <ℤ v)
-split_out l g v h = grind (arith, ints)
-
+-- ---- multiples
 beyond_is : (negative : Bool) (high m low : ℕ) → (with_sign negative (high * m + low) ≡ with_sign negative low +ℤ pos (high * m)) ⊎ (with_sign negative (high * m + low) +ℤ pos (high * m) ≡ with_sign negative low)
 beyond_is true high m low = inr (omega (arith, ints))
 beyond_is false high m low = inl (omega (arith, ints))
@@ -36,116 +39,132 @@ differs_beyond negative high m low c (j, k, e) = ⊎_elim
     (λ a. (j, k + high, omega (arith, ints)))
     (beyond_is negative high m low)
 
--- ---- the ends of a range lie within -2^n and 2^n
-low_end : (sign : Bool) (n : ℕ) → 2 ^ n ≡ 2 * 2 ^ (n - 1) → neg_ℤ (pos (2 ^ n)) <ℤ lowest sign n
-low_end true n e = let p = pow_pos (n - 1) in omega (arith, ints)
-low_end false n e = let p = pow_pos n in omega (arith, ints)
-
-high_end : (sign : Bool) (n : ℕ) → 2 ^ n ≡ 2 * 2 ^ (n - 1) → greatest sign n <ℤ pos (2 ^ n)
-high_end true n e = let p = pow_pos (n - 1) in omega (arith, ints)
-high_end false n e = omega (arith, ints)
-
-more_than : (high m low : ℕ) → 0 < high → m ≤ high * m + low
-more_than high m low h = omega (arith, mul-le-mul_right m h)
-
-none_beyond : (negative : Bool) (high m low : ℕ) → high ≡ 0 → with_sign negative (high * m + low) ≡ with_sign negative low
-none_beyond negative high m low e = let z : high * m + low ≡ low = rw e (omega arith) in ap (with_sign negative) z
-
-some_high : (h : ℕ) → (0 < h) ⊎ (h ≡ 0)
-some_high zero = inr refl
-some_high (suc h) = inl (omega arith)
-
+-- ---- the greatest magnitude bounds the range
 pub width_some : (n : ℕ) → IsWidth n → 0 < n
 width_some n w = grind arith
 
 pub width_most : (n : ℕ) → IsWidth n → n ≤ 64
 width_most n w = grind arith
 
--- ---- a magnitude of 2^n or more lies past an end of the range
-module _ (sign : Bool) (n high low : ℕ) (some : 0 < n) (more : 0 < high) where
-  twice : 2 ^ n ≡ 2 * 2 ^ (n - 1)
-  twice = ap (λ i. 2 ^ i) (let z : n ≡ suc (n - 1) = omega arith in z) ∙ pow-succ' 2 (n - 1)
+twice : (n : ℕ) → 0 < n → 2 ^ n ≡ 2 * 2 ^ (n - 1)
+twice n some = ap (λ i. 2 ^ i) (let z : n ≡ suc (n - 1) = omega arith in z) ∙ pow-succ' 2 (n - 1)
 
-  pub far_below : with_sign true (high * 2 ^ n + low) <ℤ lowest sign n
-  far_below = let big = more_than high (2 ^ n) low more in let end = low_end sign n twice in omega (arith, ints)
+greatest_below : (sign negative : Bool) (n : ℕ) → 0 < n → greatest_magnitude sign negative n < 2 ^ n
+greatest_below true true n some = let e = twice n some in let p = pow_pos (n - 1) in omega (arith, e, p)
+greatest_below true false n some = let e = twice n some in let p = pow_pos (n - 1) in omega (arith, e, p)
+greatest_below false true n some = pow_pos n
+greatest_below false false n some = let p = pow_pos n in omega (arith, p)
 
-  pub far_above : greatest sign n <ℤ with_sign false (high * 2 ^ n + low)
-  far_above = let big = more_than high (2 ^ n) low more in let end = high_end sign n twice in omega (arith, ints)
+pub out_by_magnitude : (sign negative : Bool) (n m : ℕ) → IsOutOfRange sign n (with_sign negative m) ↔ (greatest_magnitude sign negative n < m)
+out_by_magnitude true true n m = let p = pow_pos (n - 1) in (λ o. ⊎_elim (λ l. omega (arith, ints)) (λ h. absurd (omega (arith, ints))) o, λ l. inl (omega (arith, ints)))
+out_by_magnitude true false n m = let p = pow_pos (n - 1) in (λ o. ⊎_elim (λ l. absurd (omega (arith, ints))) (λ h. omega (arith, ints)) o, λ l. inr (omega (arith, ints)))
+out_by_magnitude false true n m = let p = pow_pos n in (λ o. ⊎_elim (λ l. omega (arith, ints)) (λ h. absurd (omega (arith, ints))) o, λ l. inl (omega (arith, ints)))
+out_by_magnitude false false n m = let p = pow_pos n in (λ o. ⊎_elim (λ l. absurd (omega (arith, ints))) (λ h. omega (arith, ints)) o, λ l. inr (omega (arith, ints)))
 
-far : (negative sign : Bool) (n high low : ℕ) → 0 < n → 0 < high → IsOutOfRange sign n (with_sign negative (high * 2 ^ n + low))
-far true sign n high low some more = inl (far_below sign n high low some more)
-far false sign n high low some more = inr (far_above sign n high low some more)
+pub end_saturates : (sign negative : Bool) (n m : ℕ) → greatest_magnitude sign negative n < m → IsSaturated sign n (with_sign negative m) (with_sign negative (greatest_magnitude sign negative n))
+end_saturates true true n m l = let p = pow_pos (n - 1) in record { same = λ h. absurd (omega (arith, ints, h.low)); below = λ b. omega (arith, ints); above = λ a. absurd (omega (arith, ints)) }
+end_saturates true false n m l = let p = pow_pos (n - 1) in record { same = λ h. absurd (omega (arith, ints, h.high)); below = λ b. absurd (omega (arith, ints)); above = λ a. omega (arith, ints) }
+end_saturates false true n m l = let p = pow_pos n in record { same = λ h. absurd (omega (arith, ints, h.low)); below = λ b. omega (arith, ints); above = λ a. absurd (omega (arith, ints)) }
+end_saturates false false n m l = let p = pow_pos n in record { same = λ h. absurd (omega (arith, ints, h.high)); below = λ b. absurd (omega (arith, ints)); above = λ a. omega (arith, ints) }
 
--- ---- whether it is out of range, from what the body tests
-pub out_of_range : (negative sign : Bool) (n high low : ℕ) (value : ℤ) (beyond past out : Bool) → 0 < n → value ≡ with_sign negative low → (IsTrue beyond ↔ (0 < high)) → (IsTrue past ↔ (IsInRange sign n value → ⊥)) → (IsTrue out ↔ (IsTrue beyond ⊎ IsTrue past)) → IsTrue out ↔ IsOutOfRange sign n (with_sign negative (high * 2 ^ n + low))
-out_of_range negative sign n high low value beyond past out some e over fit flag = (
-  (λ t. ⊎_elim (λ b. far negative sign n high low some (over.0 b)) (λ x. ⊎_elim (λ h. far negative sign n high low some h) (λ z. rw (none_beyond negative high (2 ^ n) low z) (out_of x)) (some_high high)) (flag.0 t)),
-  (λ o. ⊎_elim (λ p. flag.1 (inl (over.1 p))) (λ z. flag.1 (inr (not_fit (rw (none_beyond negative high (2 ^ n) low z) at o)))) (some_high high)),
-)
+-- ---- the number that an answer stands for
+some_high : (h : ℕ) → (0 < h) ⊎ (h ≡ 0)
+some_high zero = inr refl
+some_high (suc h) = inl (omega arith)
+
+more_than : (high m low : ℕ) → 0 < high → m ≤ high * m + low
+more_than high m low h = omega (arith, mul-le-mul_right m h)
+
+none_high : (high m low : ℕ) → high ≡ 0 → high * m + low ≡ low
+none_high high m low e = rw e (omega arith)
+
+-- a multiple of 2^64 is one of 2^n
+wide_multiple : (n : ℕ) → n ≤ 64 → 2 ^ 64 ≡ 2 ^ (64 - n) * 2 ^ n
+wide_multiple n l = ap (λ i. 2 ^ i) (let z : 64 ≡ (64 - n) + n = omega arith in z) ∙ pow-add 2 (64 - n) n
+
+module _ (found : ReadNumber) (v : ℤ) (n : ℕ) (width : IsWidth n) (h : HoldsNumber found v) where
+  most : 2 ^ n ≤ 2 ^ 64
+  most = pow-le-pow_right {n = 2} (omega arith) (width_most n width)
+
+  -- whether it is out of range, from what the body tests
+  pub out_test : (sign out : Bool) → (IsTrue out ↔ (IsTrue found.has_high_bits ⊎ (greatest_magnitude sign found.negative n < found.low))) → IsTrue out ↔ IsOutOfRange sign n v
+  out_test sign out flag =
+      let test = out_by_magnitude sign found.negative n (h.high * 2 ^ 64 + found.low) in
+      let below = greatest_below sign found.negative n (width_some n width) in
+      rw h.value (
+        λ t. test.1 (⊎_elim (λ b. over (2 ^ 64) below most (h.over.0 b)) (λ l. large (2 ^ 64) l) (flag.0 t)),
+        λ o. ⊎_elim (λ p. flag.1 (inl (h.over.1 p))) (λ z. flag.1 (inr (rw (none_high h.high (2 ^ 64) found.low z) at (test.0 o)))) (some_high h.high),
+      )
+    where
+      over : (m : ℕ) → greatest_magnitude sign found.negative n < 2 ^ n → 2 ^ n ≤ m → 0 < h.high → greatest_magnitude sign found.negative n < h.high * m + found.low
+      over m b l p = let big = more_than h.high m found.low p in omega arith
+
+      large : (m : ℕ) → greatest_magnitude sign found.negative n < found.low → greatest_magnitude sign found.negative n < h.high * m + found.low
+      large m l = omega arith
+
+  -- the Wrapping image of the lowest bits is that of the number
+  pub wrapped_same : (sign : Bool) (c : ℤ) → IsWrapped sign n (with_sign found.negative found.low) c → IsWrapped sign n v c
+  wrapped_same sign c image =
+      let number : h.high * 2 ^ 64 + found.low ≡ h.high * 2 ^ (64 - n) * 2 ^ n + found.low = multiple h.high (2 ^ 64) (2 ^ (64 - n)) (2 ^ n) found.low (wide_multiple n (width_most n width)) in
+      rw (h.value, number) (record { in_range = image.in_range; near = differs_beyond found.negative (h.high * 2 ^ (64 - n)) (2 ^ n) found.low c image.near })
+    where
+      multiple : (a m k q low : ℕ) → m ≡ k * q → a * m + low ≡ a * k * q + low
+      multiple a m k q low e = omega (arith, ap (λ x. a * x) e)
+
+  -- in range the number is that of the lowest bits
+  pub in_range_number : (sign : Bool) → IsInRange sign n v → v ≡ with_sign found.negative found.low
+  in_range_number sign i =
+      let test = out_by_magnitude sign found.negative n (h.high * 2 ^ 64 + found.low) in
+      let below = greatest_below sign found.negative n (width_some n width) in
+      ⊎_elim
+      (λ p. absurd ((range_decided sign n v).1 (rw h.value (test.1 (over (2 ^ 64) below most p))) i))
+      (λ z. h.value ∙ ap (with_sign found.negative) (none_high h.high (2 ^ 64) found.low z))
+      (some_high h.high)
+    where
+      over : (m : ℕ) → greatest_magnitude sign found.negative n < 2 ^ n → 2 ^ n ≤ m → 0 < h.high → greatest_magnitude sign found.negative n < h.high * m + found.low
+      over m b l p = let big = more_than h.high m found.low p in omega arith
+
+  -- out of range the Saturating image is the end on the number's side
+  pub end_same : (sign : Bool) → IsOutOfRange sign n v → IsSaturated sign n v (with_sign found.negative (greatest_magnitude sign found.negative n))
+  end_same sign o = rw h.value (end_saturates sign found.negative n (h.high * 2 ^ 64 + found.low) ((out_by_magnitude sign found.negative n (h.high * 2 ^ 64 + found.low)).0 (rw h.value at o)))
+
+-- ---- the ends of the range
+pub end_in_range : (sign negative : Bool) (n : ℕ) → IsInRange sign n (with_sign negative (greatest_magnitude sign negative n))
+end_in_range true true n = let p = pow_pos (n - 1) in record { low = omega (arith, ints); high = omega (arith, ints) }
+end_in_range true false n = let p = pow_pos (n - 1) in record { low = omega (arith, ints); high = omega (arith, ints) }
+end_in_range false true n = let p = pow_pos n in record { low = omega (arith, ints); high = omega (arith, ints) }
+end_in_range false false n = let p = pow_pos n in record { low = omega (arith, ints); high = omega (arith, ints) }
+
+pub low_end : (sign : Bool) (n : ℕ) → lowest sign n ≡ with_sign true (greatest_magnitude sign true n)
+low_end true n = refl
+low_end false n = refl
+
+pub high_end : (sign : Bool) (n : ℕ) → greatest sign n ≡ with_sign false (greatest_magnitude sign false n)
+high_end true n = let p = pow_pos (n - 1) in omega (arith, ints)
+high_end false n = let p = pow_pos n in omega (arith, ints)
+
+-- ---- each answer stands for a number
+pub holds_some : (found : ReadNumber) → (v : ℤ) × HoldsNumber found v
+holds_some found = some found.has_high_bits refl
   where
-    past_low : IsTrue past ↔ (IsInRange sign n (with_sign negative low) → ⊥)
-    past_low = rw e at fit
+    some : (b : Bool) → found.has_high_bits ≡ b → (v : ℤ) × HoldsNumber found v
+    some true e = (with_sign found.negative (1 * 2 ^ 64 + found.low), record { high = 1; value = refl; over = (λ t. omega arith, λ p. e) })
+    some false e = (with_sign found.negative (0 * 2 ^ 64 + found.low), record { high = 0; value = refl; over = (λ t. absurd (cc), λ l. absurd (omega (arith, l))) })
 
-    out_of : IsTrue past → IsOutOfRange sign n (with_sign negative low)
-    out_of x = split_out (lowest sign n) (greatest sign n) (with_sign negative low) (λ a b. past_low.0 x (record { low = a; high = b }))
+-- ---- a range test says where a number is
+pub inside : (sign : Bool) (n : ℕ) (v : ℤ) (out : Bool) → out ≡ false → (IsTrue out ↔ IsOutOfRange sign n v) → IsInRange sign n v
+inside sign n v out o test = ⊎_elim (λ i. i) (λ past. let t = test.1 past in absurd (cc)) (range_decided sign n v).0
 
-    not_fit : IsOutOfRange sign n (with_sign negative low) → IsTrue past
-    not_fit o = past_low.1 ((range_decided sign n (with_sign negative low)).1 o)
+-- ---- the images in range
+module _ (found : ReadNumber) (v : ℤ) (n : ℕ) (width : IsWidth n) (h : HoldsNumber found v) (sign : Bool) (i : IsInRange sign n v) where
+  pub image_inside : (policy : Policy) → IsImage policy sign n v (with_sign found.negative found.low)
+  image_inside policy = (images_agree policy sign n v (with_sign found.negative found.low) width i).1 (sym (in_range_number found v n width h sign i))
 
--- ---- the Saturating image
-pub saturated_below : (sign : Bool) (n high low : ℕ) (c : ℤ) → 0 < n → 0 < high → c ≡ lowest sign n → IsSaturated sign n (with_sign true (high * 2 ^ n + low)) c
-saturated_below sign n high low c some more e =
-    let past = far_below sign n high low some more in
-    record {
-      same = λ h. absurd ((range_decided sign n (with_sign true (high * 2 ^ n + low))).1 (inl past) h);
-      below = λ l. e;
-      above = λ l. absurd (let end = ends_order sign n in omega (arith, ints));
-    }
-  where
-    ends_order : (s : Bool) (m : ℕ) → lowest s m ≤ℤ greatest s m
-    ends_order true m = omega (arith, ints, pow_pos (m - 1))
-    ends_order false m = omega (arith, ints, pow_pos m)
+  pub wrapped_inside : (c : ℤ) → IsWrapped sign n v c → c ≡ v
+  wrapped_inside c image = (images_agree Wrapping sign n v c width i).0 image
 
-pub saturated_above : (sign : Bool) (n high low : ℕ) (c : ℤ) → 0 < n → 0 < high → c ≡ greatest sign n → IsSaturated sign n (with_sign false (high * 2 ^ n + low)) c
-saturated_above sign n high low c some more e =
-    let past = far_above sign n high low some more in
-    record {
-      same = λ h. absurd ((range_decided sign n (with_sign false (high * 2 ^ n + low))).1 (inr past) h);
-      below = λ l. absurd (let end = ends_order sign n in omega (arith, ints));
-      above = λ l. e;
-    }
-  where
-    ends_order : (s : Bool) (m : ℕ) → lowest s m ≤ℤ greatest s m
-    ends_order true m = omega (arith, ints, pow_pos (m - 1))
-    ends_order false m = omega (arith, ints, pow_pos m)
-
-pub saturated_within : (negative sign : Bool) (n high low : ℕ) (value c : ℤ) (beyond : Bool) → value ≡ with_sign negative low → (IsTrue beyond ↔ (0 < high)) → beyond ≡ false → IsSaturated sign n value c → IsSaturated sign n (with_sign negative (high * 2 ^ n + low)) c
-saturated_within negative sign n high low value c beyond e over none h =
-    let zero_high : high ≡ 0 = ⊎_elim (λ p. let t = over.1 p in absurd (cc)) (λ z. z) (some_high high) in
-    rw (none_beyond negative high (2 ^ n) low zero_high) (rw e at h)
-
--- ---- the calls' answers
-pub overflowing : (mode : ReadMode) (r : Radix) (p : Parts) (f : ℕ) (sign : Bool) (n : ℕ) (negative : Bool) (value : ℤ) (beyond : Bool) (c : ℤ) (out : Bool) → IsResidue mode r p f n negative value beyond → IsWrapped sign n value c → ((high low : ℕ) → value ≡ with_sign negative low → (IsTrue beyond ↔ (0 < high)) → IsTrue out ↔ IsOutOfRange sign n (with_sign negative (high * 2 ^ n + low))) → IsOverflowingRead mode r p f sign n c out
-overflowing mode r p f sign n negative value beyond c out h image flag = record {
-  number = with_sign negative (h.high * 2 ^ n + h.low);
-  read = h.read;
-  image = record { in_range = image.in_range; near = differs_beyond negative h.high (2 ^ n) h.low c (rw h.value_is at image.near) };
-  flag = flag h.high h.low h.value_is h.over;
-}
-
-pub saturating : (mode : ReadMode) (r : Radix) (p : Parts) (f : ℕ) (sign : Bool) (n : ℕ) (negative : Bool) (value : ℤ) (beyond : Bool) (c : ℤ) → IsResidue mode r p f n negative value beyond → ((high low : ℕ) → value ≡ with_sign negative low → (IsTrue beyond ↔ (0 < high)) → IsSaturated sign n (with_sign negative (high * 2 ^ n + low)) c) → IsImageRead Saturating mode r p f sign n c
-saturating mode r p f sign n negative value beyond c h image = record {
-  number = with_sign negative (h.high * 2 ^ n + h.low);
-  read = h.read;
-  image = image h.high h.low h.value_is h.over;
-}
-
-pub wrapping : (mode : ReadMode) (r : Radix) (p : Parts) (f : ℕ) (sign : Bool) (n : ℕ) (negative : Bool) (value : ℤ) (beyond : Bool) (c : ℤ) → IsResidue mode r p f n negative value beyond → IsWrapped sign n value c → IsImageRead Wrapping mode r p f sign n c
-wrapping mode r p f sign n negative value beyond c h image = record {
-  number = with_sign negative (h.high * 2 ^ n + h.low);
-  read = h.read;
-  image = record { in_range = image.in_range; near = differs_beyond negative h.high (2 ^ n) h.low c (rw h.value_is at image.near) };
-}
+  pub saturated_inside : (c : ℤ) → IsWrapped sign n v c → IsSaturated sign n v c
+  saturated_inside c image = (images_agree Saturating sign n v c width i).1 ((images_agree Wrapping sign n v c width i).0 image)
 
 -- ---- a numeral has one read number
 pub read_unique : (mode : ReadMode) (r : Radix) (p : Parts) (f : ℕ) (v w : ℤ) → IsReadNumber mode r p f v → IsReadNumber mode r p f w → v ≡ w
@@ -157,40 +176,49 @@ read_number_is_the_one mode r p f =
     let read : IsReadNumber mode r p f (signed p.sign found.0) = record { steps = found.0; rounded = found.1; value = refl } in
     (signed p.sign found.0, read, λ w h. read_unique mode r p f w (signed p.sign found.0) h read)
 
--- ---- in range or out of it, from the body's test
-module _ (mode : ReadMode) (r : Radix) (Has : Parts → Type 0) (f : ℕ) (sign : Bool) (n : ℕ) (negative : Bool) (value : ℤ) (beyond out : Bool)
-    (residue : (p : Parts) → Has p → IsResidue mode r p f n negative value beyond)
-    (flag : (high low : ℕ) → value ≡ with_sign negative low → (IsTrue beyond ↔ (0 < high)) → IsTrue out ↔ IsOutOfRange sign n (with_sign negative (high * 2 ^ n + low))) where
-  decides : (p : Parts) (h : Has p) (v : ℤ) → IsReadNumber mode r p f v → IsTrue out ↔ IsOutOfRange sign n v
-  decides p h v read =
-      let known = residue p h in
-      rw (read_unique mode r p f (with_sign negative (known.high * 2 ^ n + known.low)) v known.read read) at (flag known.high known.low known.value_is known.over)
+pub range_low : (found : ReadNumber) (n : ℕ) (sign : Bool) → IsWidth n → ((v : ℤ) → HoldsNumber found v → IsInRange sign n v) → IsInRange sign n (with_sign found.negative found.low)
+range_low found n sign width t =
+    let e = holds_some found in
+    rw (in_range_number found e.0 n width e.1 sign (t e.0 e.1)) at (t e.0 e.1)
 
-  pub never_in : IsTrue out → IsReadInRange mode r Has f sign n → ⊥
-  never_in o i = (range_decided sign n i.number).1 ((decides i.parts i.has i.number i.read).0 o) i.in_range
+-- ---- and out of range
+pub wrapped_some : (found : ReadNumber) (v : ℤ) (n : ℕ) → IsWidth n → HoldsNumber found v → (sign : Bool) (policy : Policy) → policy ≡ Wrapping → (o : Option ℤ) → IfSome o (λ c. IsImage Wrapping sign n (with_sign found.negative found.low) c) → IfSome o (λ c. IsImage policy sign n v c)
+wrapped_some found v n width h sign policy e None i = i
+wrapped_some found v n width h sign policy e (Some c) i = rw e (wrapped_same found v n width h sign c i)
 
-  pub never_out : out ≡ false → IsReadOutOfRange mode r Has f sign n → ⊥
-  never_out o i = let t = (decides i.parts i.has i.number i.read).1 i.out_of_range in absurd (cc)
+-- ---- a result's cases
+pub if_ok : {T E : Type 0} (P Q : T → Type 0) (r : Result T E) → ((x : T) → P x → Q x) → IfOk r P → IfOk r Q
+if_ok P Q (Ok x) f h = f x h
+if_ok P Q (Err e) f h = h
 
-  pub past : IsTrue out → ((p : Parts) × Has p) → IsReadOutOfRange mode r Has f sign n
-  past o (p, h) =
-      let known = residue p h in
-      record { parts = p; has = h; number = with_sign negative (known.high * 2 ^ n + known.low); read = known.read; out_of_range = (flag known.high known.low known.value_is known.over).0 o }
+pub overflow_if : {T E : Type 0} (overflow : E) (Out : Type 0) (r : Result T E) → (IsOk r → Out → ⊥) → IfErr r (λ kind. kind ≡ overflow) → Out → r ≡ Err overflow
+overflow_if overflow Out (Ok x) never h o = absurd (never refl o)
+overflow_if overflow Out (Err e) never h o = ap Err h
 
-  inside : out ≡ false → (v : ℤ) → (IsTrue out ↔ IsOutOfRange sign n v) → IsInRange sign n v
-  inside o v test = ⊎_elim (λ i. i) (λ past. let t = test.1 past in absurd (cc)) (range_decided sign n v).0
+pub cause_if : {T E : Type 0} (overflow : E) (Cause : E → Type 0) (Out : Type 0) (r : Result T E) → ((IsOk r → ⊥) → Out) → IfErr r (λ kind. kind ≡ overflow) → IfErr r (λ kind. Cause kind ⊎ ((kind ≡ overflow) × Out))
+cause_if overflow Cause Out (Ok x) f h = h
+cause_if overflow Cause Out (Err e) f h = inr (h, f (λ t. absurd (cc)))
 
-  pub within : out ≡ false → ((p : Parts) × Has p) → IsReadInRange mode r Has f sign n
-  within o (p, h) =
-      let known = residue p h in
-      record { parts = p; has = h; number = with_sign negative (known.high * 2 ^ n + known.low); read = known.read; in_range = inside o _ (flag known.high known.low known.value_is known.over) }
+-- ---- a reader in range or out of it
+module _ (mode : ReadMode) (r : Radix) (Has : Parts → Type 0) (f : ℕ) (sign : Bool) (n : ℕ) (found : ReadNumber) (frac : found.format.frac ≡ f)
+    (reading : (p : Parts) → Has p → IsReading mode r p found) where
+  read_at : (p : Parts) (h : Has p) → IsReadNumber mode r p f (reading p h).number
+  read_at p h = rw frac at (reading p h).read
 
-  pub number_is : (c : ℤ) → out ≡ false → IsWidth n → IsWrapped sign n value c → (p : Parts) → Has p → IsReadNumber mode r p f c
-  number_is c o width image p h =
-      let known = residue p h in
-      let moved : IsWrapped sign n (with_sign negative (known.high * 2 ^ n + known.low)) c = record { in_range = image.in_range; near = differs_beyond negative known.high (2 ^ n) known.low c (rw known.value_is at image.near) } in
-      let same : c ≡ with_sign negative (known.high * 2 ^ n + known.low) = (images_agree Wrapping sign n (with_sign negative (known.high * 2 ^ n + known.low)) c width (inside o _ (flag known.high known.low known.value_is known.over))).0 moved in
-      rw same known.read
+  pub range_iff : (ok : Type 0) → ((p : Parts) × Has p) → ((v : ℤ) → HoldsNumber found v → ok ↔ IsInRange sign n v) → ok ↔ IsReadInRange mode r Has f sign n
+  range_iff ok (p, h) test = (
+    λ t. record { parts = p; has = h; number = (reading p h).number; read = read_at p h; in_range = (test (reading p h).number (reading p h).holds).0 t },
+    λ i. (test (reading i.parts i.has).number (reading i.parts i.has).holds).1 (rw (read_unique mode r i.parts f i.number (reading i.parts i.has).number i.read (read_at i.parts i.has)) at i.in_range),
+  )
+
+  pub out_is : ((p : Parts) × Has p) → ((v : ℤ) → HoldsNumber found v → IsInRange sign n v → ⊥) → IsReadOutOfRange mode r Has f sign n
+  out_is (p, h) test = record { parts = p; has = h; number = (reading p h).number; read = read_at p h; out_of_range = ⊎_elim (λ i. absurd (test (reading p h).number (reading p h).holds i)) (λ o. o) (range_decided sign n (reading p h).number).0 }
+
+  pub not_out : ((v : ℤ) → HoldsNumber found v → IsInRange sign n v) → IsReadOutOfRange mode r Has f sign n → ⊥
+  not_out test o = (range_decided sign n o.number).1 o.out_of_range (rw (read_unique mode r o.parts f (reading o.parts o.has).number o.number (read_at o.parts o.has) o.read) at (test (reading o.parts o.has).number (reading o.parts o.has).holds))
+
+  pub number_is : (c : ℤ) → ((v : ℤ) → HoldsNumber found v → c ≡ v) → (p : Parts) → Has p → IsReadNumber mode r p f c
+  number_is c same p h = rw (same (reading p h).number (reading p h).holds) (read_at p h)
 
 -- ---- of a numeral
 base_some : (r : Radix) → 0 < base r
@@ -202,20 +230,24 @@ base_some Hex = omega arith
 scaled_cross : (n d m k t : ℕ) → n * k ≡ m * d → n * t * k ≡ m * t * d
 scaled_cross n d m k t e = omega (arith, ap (λ x. x * t) e)
 
-pub residue_is : (mode : ReadMode) (r : Radix) (p : Parts) (negative : Bool) (w f : List ℕ) (shift frac n low : ℕ) (value : ℤ) (beyond : Bool) → IsScanned r p negative w f shift → IsMagnitude (side mode negative) (spelled (base r) w f shift) frac n low beyond → value ≡ with_sign negative low → IsResidue mode r p frac n negative value beyond
-residue_is mode r p negative w f shift frac n low value beyond h mag e =
-    let cross = scaled_cross (spelled (base r) w f shift).num (spelled (base r) w f shift).den (magnitude r p).num (magnitude r p).den (2 ^ frac) h.value in
-    let rounded = rounded_same mode negative ((spelled (base r) w f shift).num * 2 ^ frac) (spelled (base r) w f shift).den ((magnitude r p).num * 2 ^ frac) (magnitude r p).den (mag.high * 2 ^ n + low) (one-le-pow (length f) (base r) (base_some r)) (magnitude_pos r p) cross (to_rounded mode negative _ _ _ mag.to) in
+pub reading_is : (mode : ReadMode) (r : Radix) (p : Parts) (w f : List ℕ) (shift : ℕ) (ulps : Ulps) (found : ReadNumber) → IsScanned r p found.negative w f shift → IsMagnitude (side mode found.negative) (spelled (base r) w f shift) found.format.frac ulps → found.low ≡ ulps.low → found.has_high_bits ≡ ulps.has_high_bits → found.exact ≡ ulps.is_exact → IsReading mode r p found
+reading_is mode r p w f shift ulps found h mag low high exact =
+    let cross = scaled_cross (spelled (base r) w f shift).num (spelled (base r) w f shift).den (magnitude r p).num (magnitude r p).den (2 ^ found.format.frac) h.value in
+    let some : 0 < (spelled (base r) w f shift).den = one-le-pow (length f) (base r) (base_some r) in
+    let rounded = rounded_same mode found.negative ((spelled (base r) w f shift).num * 2 ^ found.format.frac) (spelled (base r) w f shift).den ((magnitude r p).num * 2 ^ found.format.frac) (magnitude r p).den (mag.high * 2 ^ 64 + ulps.low) some (magnitude_pos r p) cross (to_rounded mode found.negative _ _ _ mag.to) in
     record {
-      high = mag.high;
-      low = low;
-      read = record { steps = mag.high * 2 ^ n + low; rounded = rw h.sign at rounded; value = ap (λ s. with_sign s (mag.high * 2 ^ n + low)) h.sign };
-      value_is = e;
-      over = mag.over;
+      number = with_sign found.negative (mag.high * 2 ^ 64 + ulps.low);
+      read = record { steps = mag.high * 2 ^ 64 + ulps.low; rounded = rw h.sign at rounded; value = ap (λ s. with_sign s (mag.high * 2 ^ 64 + ulps.low)) h.sign };
+      holds = record { high = mag.high; value = rw low refl; over = rw high mag.over };
+      sign = h.sign;
+      exact = rw exact (
+        λ t. multiple_same ((spelled (base r) w f shift).num * 2 ^ found.format.frac) (spelled (base r) w f shift).den ((magnitude r p).num * 2 ^ found.format.frac) (magnitude r p).den some cross (mag.exact.0 t),
+        λ m. mag.exact.1 (multiple_same ((magnitude r p).num * 2 ^ found.format.frac) (magnitude r p).den ((spelled (base r) w f shift).num * 2 ^ found.format.frac) (spelled (base r) w f shift).den (magnitude_pos r p) (sym cross) m),
+      );
     }
 
 -- ---- what a scan says of its views
-pub placed : (r : Radix) (Has : Parts → Type 0) (negative : Bool) (w f : List ℕ) (shift : ℕ) → ((p : Parts) × Has p) → ((p : Parts) → Has p → IsScanned r p negative w f shift) → IsPlaced r w f shift
-placed r Has negative w f shift (p, h) scanned =
+pub split_numeral : (r : Radix) (Has : Parts → Type 0) (negative : Bool) (w f : List ℕ) (shift : ℕ) → ((p : Parts) × Has p) → ((p : Parts) → Has p → IsScanned r p negative w f shift) → IsSplitNumeral r w f shift
+split_numeral r Has negative w f shift (p, h) scanned =
     let s = scanned p h in
     record { whole_digits = s.whole_digits; leading = s.leading; fraction_digits = s.fraction_digits; trailing = s.trailing; small = s.small }

@@ -1,5 +1,5 @@
 -- Whole steps modulo a power of two.
-use Rattle.std.proofs.Common.{◌≡◌, ℕ, ◌+◌, ◌-◌, ◌*◌, ◌/◌, ◌%◌, ◌^◌, ◌<◌, ◌≤◌, ◌⊎◌, ◌↔◌, Bool, IsTrue, List, ◌++◌, length, sym, ap, ◌∙◌, arith, pow_pos, mul-le-mul_right, div-add-mod', mod-lt, ⊎_elim, inl, inr}
+use Rattle.std.proofs.Common.{◌≡◌, ℕ, ◌+◌, ◌-◌, ◌*◌, ◌/◌, ◌%◌, ◌^◌, ◌<◌, ◌≤◌, ◌⊎◌, ◌↔◌, Bool, false, IsTrue, List, ◌++◌, length, sym, ap, ◌∙◌, arith, pow_pos, mul-le-mul_right, div-add-mod', mod-lt, ⊎_elim, inl, inr}
 use Rattle.std.proofs.lemmas.Bool.{cases_lt}
 use Rattle.std.proofs.lemmas.Nat.{pow-add}
 use Rattle.std.proofs.Math.Nat.{mul-le-mul_left, one-le-pow, pow-le-pow_right}
@@ -9,9 +9,11 @@ use Rattle.fixed_numeral.specs.Spelled.{spelled}
 use Rattle.fixed_read.specs.declared.side.Side.{Side}
 use Rattle.fixed_read.specs.declared.tail.Tail.{Tail}
 use Rattle.fixed_read.specs.Sides.{IsTo}
+use Rattle.fixed_read.specs.Reading.{IsMultipleOf}
 use Rattle.fixed_read.specs.Steps.{IsTail, IsPart, IsMagnitude}
-use Rattle.fixed_read.proofs.NumberLemmas.{quotient_some, quotient_least}
-use Rattle.fixed_read.proofs.SideLemmas.{to_same}
+use Rattle.fixed_read.specs.declared.magnitude.Ulps.{Ulps}
+use Rattle.fixed_read.proofs.SideLemmas.{to_same, tail_within}
+use Rattle.fixed_read.proofs.MultipleLemmas.{exact_rest}
 
 -- the low whole bits, moved up
 pub moved_room : (w m t n : ℕ) → m ≡ n - t → w < 2 ^ m → w * 2 ^ t < 2 ^ n + 2 ^ t
@@ -75,16 +77,19 @@ parity w m t n p pos e =
         rw more (omega arith)
 
 -- ---- together
-pub record Rounded (r : Side) (b : ℕ) (w f : List ℕ) (s frac number : ℕ) : Type 0 where
+pub record Rounded (r : Side) (b : ℕ) (w f : List ℕ) (s frac number : ℕ) (flag : Bool) : Type 0 where
   pub to : IsTo r ((spelled b w f s).num * 2 ^ frac) (spelled b w f s).den number
+  pub exact : IsTrue flag ↔ IsMultipleOf (spelled b w f s).den ((spelled b w f s).num * 2 ^ frac)
 
-pub rounded : (r : Side) (b : ℕ) (w f : List ℕ) (s frac t p more : ℕ) (tail : Tail) → 0 < b → t ≡ frac + s → (h : IsPart b f t p tail) → IsTo r ((number_from_digits b w * 2 ^ t + p) * h.den + h.rest) h.den (number_from_digits b w * 2 ^ t + p + more) → Rounded r b w f s frac (number_from_digits b w * 2 ^ t + p + more)
-rounded r b w f s frac t p more tail pos et h to =
+pub rounded : (r : Side) (b : ℕ) (w f : List ℕ) (s frac t p more : ℕ) (tail : Tail) (exact : Bool) → 0 < b → t ≡ frac + s → (h : IsPart b f t p tail) → IsTo r ((number_from_digits b w * 2 ^ t + p) * h.den + h.rest) h.den (number_from_digits b w * 2 ^ t + p + more) → ((y den : ℕ) → 0 < den → IsTail tail y den → IsTrue exact ↔ (y ≡ 0)) → Rounded r b w f s frac (number_from_digits b w * 2 ^ t + p + more) exact
+rounded r b w f s frac t p more tail exact pos et h to none =
     let number : number_from_digits b (w ++ f) ≡ number_from_digits b w * b ^ length f + number_from_digits b f = number_append b w f in
     let power : 2 ^ t ≡ 2 ^ frac * 2 ^ s = ap (λ i. 2 ^ i) et ∙ pow-add 2 frac s in
+    let cross : ((number_from_digits b w * 2 ^ t + p) * h.den + h.rest) * b ^ length f ≡ number_from_digits b (w ++ f) * 2 ^ s * 2 ^ frac * h.den = crossed (number_from_digits b w) (number_from_digits b f) (number_from_digits b (w ++ f)) (b ^ length f) (2 ^ t) (2 ^ frac) (2 ^ s) p h.den h.rest number power h.split in
+    let test = exact_rest (number_from_digits b (w ++ f) * 2 ^ s * 2 ^ frac) (b ^ length f) (number_from_digits b w * 2 ^ t + p) h.den h.rest (one-le-pow (length f) b pos) h.some (tail_within tail h.rest h.den h.some h.left) (sym cross) in
     record {
-      to = to_same r _ h.den _ (b ^ length f) _ h.some (one-le-pow (length f) b pos)
-          (crossed (number_from_digits b w) (number_from_digits b f) (number_from_digits b (w ++ f)) (b ^ length f) (2 ^ t) (2 ^ frac) (2 ^ s) p h.den h.rest number power h.split) to;
+      to = to_same r _ h.den _ (b ^ length f) _ h.some (one-le-pow (length f) b pos) cross to;
+      exact = (λ e. test.0 ((none h.rest h.den h.some h.left).0 e), λ m. (none h.rest h.den h.some h.left).1 (test.1 m));
     }
   where
     crossed : (w n a x t u v p d y : ℕ) → a ≡ w * x + n → t ≡ u * v → n * t * d ≡ (p * d + y) * x → ((w * t + p) * d + y) * x ≡ a * v * u * d
@@ -101,20 +106,22 @@ sum_room m t n w low moved p most hn ht e k em small one =
     let room = low_is m t n w low e k in
     omega (arith, room, pow-le-pow_right {n = 2} (omega arith) hn, pow-le-pow_right {n = 2} (omega arith) ht)
 
-pub magnitude_is : (r : Side) (b m n s frac t low moved p more bits high : ℕ) (w f : List ℕ) (tail : Tail) (over beyond : Bool) → 0 < b → 0 < n → t ≡ frac + s → m ≡ n - t → low ≡ number_from_digits b w % 2 ^ m → (IsTrue over ↔ (2 ^ m ≤ number_from_digits b w)) → moved ≡ low * 2 ^ t → IsPart b f t p tail → ((q y den : ℕ) → 0 < den → q % 2 ≡ (moved + p) % 2 → IsTail tail y den → IsTo r (q * den + y) den (q + more)) → high ≡ (moved + p + more) / 2 ^ n → bits ≡ (moved + p + more) % 2 ^ n → (IsTrue beyond ↔ (IsTrue over ⊎ (0 < high))) → IsMagnitude r (spelled b w f s) frac n bits beyond
-magnitude_is r b m n s frac t low moved p more bits high w f tail over beyond pos some et em el eo ev h up eh ebits eb =
+pub magnitude_is : (r : Side) (b m n s frac t low moved p more high : ℕ) (w f : List ℕ) (tail : Tail) (over : Bool) (ulps : Ulps) → 0 < b → n ≡ 64 → t ≡ frac + s → m ≡ n - t → low ≡ number_from_digits b w % 2 ^ m → (IsTrue over ↔ (2 ^ m ≤ number_from_digits b w)) → moved ≡ low * 2 ^ t → IsPart b f t p tail → ((q y den : ℕ) → 0 < den → q % 2 ≡ (moved + p) % 2 → IsTail tail y den → IsTo r (q * den + y) den (q + more)) → ((y den : ℕ) → 0 < den → IsTail tail y den → IsTrue ulps.is_exact ↔ (y ≡ 0)) → high ≡ (moved + p + more) / 2 ^ n → ulps.low ≡ (moved + p + more) % 2 ^ n → (IsTrue ulps.has_high_bits ↔ (IsTrue over ⊎ (0 < high))) → IsMagnitude r (spelled b w f s) frac ulps
+magnitude_is r b m n s frac t low moved p more high w f tail over ulps pos en et em el eo ev h up none eh ebits eb =
+    let some : 0 < n = omega (arith, en) in
     let low_is : moved ≡ number_from_digits b w % 2 ^ m * 2 ^ t = ev ∙ ap (λ x. x * 2 ^ t) el in
     let odd : (number_from_digits b w * 2 ^ t + p) % 2 ≡ (moved + p) % 2 = parity (number_from_digits b w) m t n p some em ∙ ap (λ x. (x + p) % 2) (sym low_is) in
-    let steps = rounded r b w f s frac t p more tail pos et h (up (number_from_digits b w * 2 ^ t + p) h.rest h.den h.some odd h.left) in
+    let steps = rounded r b w f s frac t p more tail ulps.is_exact pos et h (up (number_from_digits b w * 2 ^ t + p) h.rest h.den h.some odd h.left) none in
     let together : moved + p + more ≡ number_from_digits b w % 2 ^ m * 2 ^ t + (p + more) = omega (arith, low_is) in
-    let parts = cut (number_from_digits b w) m t n (p + more) over beyond em eo (rw (eh, together) at eb) in
+    let parts = cut (number_from_digits b w) m t n (p + more) over ulps.has_high_bits em eo (rw (eh, together) at eb) in
     let all : number_from_digits b w * 2 ^ t + p + more ≡ number_from_digits b w * 2 ^ t + (p + more) = omega arith in
-    let number : number_from_digits b w * 2 ^ t + p + more ≡ parts.high * 2 ^ n + (number_from_digits b w % 2 ^ m * 2 ^ t + (p + more)) % 2 ^ n = all ∙ parts.split in
-    rw (ebits, together) (record {
+    let number : number_from_digits b w * 2 ^ t + p + more ≡ parts.high * 2 ^ 64 + ulps.low = all ∙ parts.split ∙ ap (λ x. parts.high * 2 ^ n + x) (ap (λ x. x % 2 ^ n) (sym together) ∙ sym ebits) ∙ ap (λ i. parts.high * 2 ^ i + ulps.low) en in
+    record {
       high = parts.high;
       to = rw number at steps.to;
       over = parts.flag;
-    })
+      exact = steps.exact;
+    }
 
 -- ---- where all steps are in a word
 pub short_room : (x t p : ℕ) → x < 10 ^ 9 → t ≤ 32 → p < 2 ^ t → x * 2 ^ t + p + 1 < 2 ^ 63
@@ -122,12 +129,16 @@ short_room x t p l h s =
     let most : 2 ^ t ≤ 2 ^ 32 = pow-le-pow_right {n = 2} (omega arith) h in
     omega (arith, s, most, mul-le-mul_left x most)
 
-pub short_is : (r : Side) (b n s frac t moved p more bits : ℕ) (w f : List ℕ) (tail : Tail) (beyond : Bool) → 0 < b → t ≡ frac + s → moved ≡ number_from_digits b w * 2 ^ t → IsPart b f t p tail → ((q y den : ℕ) → 0 < den → q % 2 ≡ (moved + p) % 2 → IsTail tail y den → IsTo r (q * den + y) den (q + more)) → bits ≡ (moved + p + more) % 2 ^ n → (IsTrue beyond ↔ (2 ^ n ≤ moved + p + more)) → IsMagnitude r (spelled b w f s) frac n bits beyond
-short_is r b n s frac t moved p more bits w f tail beyond pos et em h up eb flag =
-    let steps = rounded r b w f s frac t p more tail pos et h (up (number_from_digits b w * 2 ^ t + p) h.rest h.den h.some (ap (λ x. (x + p) % 2) (sym em)) h.left) in
-    let number : number_from_digits b w * 2 ^ t + p + more ≡ (moved + p + more) / 2 ^ n * 2 ^ n + (moved + p + more) % 2 ^ n = ap (λ x. x + p + more) (sym em) ∙ sym (div-add-mod' (moved + p + more) (2 ^ n)) in
-    rw eb (record {
-      high = (moved + p + more) / 2 ^ n;
+pub short_is : (r : Side) (b s frac t moved p more : ℕ) (w f : List ℕ) (tail : Tail) (ulps : Ulps) → 0 < b → t ≡ frac + s → moved ≡ number_from_digits b w * 2 ^ t → IsPart b f t p tail → ((q y den : ℕ) → 0 < den → q % 2 ≡ (moved + p) % 2 → IsTail tail y den → IsTo r (q * den + y) den (q + more)) → ((y den : ℕ) → 0 < den → IsTail tail y den → IsTrue ulps.is_exact ↔ (y ≡ 0)) → ulps.low ≡ moved + p + more → ulps.has_high_bits ≡ false → IsMagnitude r (spelled b w f s) frac ulps
+short_is r b s frac t moved p more w f tail ulps pos et em h up none eb flag =
+    let steps = rounded r b w f s frac t p more tail ulps.is_exact pos et h (up (number_from_digits b w * 2 ^ t + p) h.rest h.den h.some (ap (λ x. (x + p) % 2) (sym em)) h.left) none in
+    let number : number_from_digits b w * 2 ^ t + p + more ≡ 0 * 2 ^ 64 + ulps.low = ap (λ x. x + p + more) (sym em) ∙ sym eb ∙ plain ulps.low (2 ^ 64) in
+    record {
+      high = 0;
       to = rw number at steps.to;
-      over = (λ v. quotient_some (moved + p + more) (2 ^ n) (pow_pos n) (flag.0 v), λ l. flag.1 (quotient_least (moved + p + more) (2 ^ n) l));
-    })
+      over = (λ v. absurd (cc), λ l. absurd (omega (arith, l)));
+      exact = steps.exact;
+    }
+  where
+    plain : (a m : ℕ) → a ≡ 0 * m + a
+    plain a m = omega arith

@@ -3,3 +3,4 @@ pub mod Sides
 pub mod Steps
 pub mod Blocks
 pub mod Laws
+pub mod Magnitudes

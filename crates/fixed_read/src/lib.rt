@@ -7,8 +7,9 @@ mod digits;
 pub mod laws;
 mod literal;
 mod magnitude;
+mod range;
 mod read;
-mod residue;
+mod read_number;
 mod side;
 mod tail;
 #[cfg(test)]
@@ -23,3 +24,4 @@ pub use read::{
     overflowing_from_str_radix_mode_counted, saturating_from_str_radix,
     saturating_from_str_radix_mode, wrapping_from_str_radix, wrapping_from_str_radix_mode,
 };
+pub use read_number::{ReadNumber, read_format, read_literal};

@@ -7,10 +7,10 @@ ghost use Rattle.fixed_numeral.specs.Numeral.{Parts};
 ghost use Rattle.fixed_numeral.specs.declared.error.ParseErrorKind.TheVariants.{Overflow};
 ghost use Rattle.fixed_read.specs.Reading.{IsReadInRange, IsReadNumber, IsReadOutOfRange};
 
-use crate::read::is_out;
-use crate::residue::read_literal;
+use crate::read::{format_of, in_range};
+use crate::read_number::read_literal;
 use fixed_bits::Inner;
-use fixed_numeral::{ParseErrorKind, ParseFixedError};
+use fixed_numeral::ParseFixedError;
 
 /// The bits that a literal reads as, rounded to the nearest step, ties to even.
 ///
@@ -27,14 +27,8 @@ pub fn lit<I: Inner>(s: &[u8], frac_nbits: u32) -> Result<I, ParseFixedError>
     ensures overflow { IsReadOutOfRange NearestEven (literal_radix I.SIGNED s.now) (HasLiteral I.SIGNED s.now) frac_nbits I.SIGNED I.BITS → result ≡ Err Overflow }
     ensures cause { IfErr result (λ kind. HasLiteralCause I.SIGNED s.now kind ⊎ ((kind ≡ Overflow) × IsReadOutOfRange NearestEven (literal_radix I.SIGNED s.now) (HasLiteral I.SIGNED s.now) frac_nbits I.SIGNED I.BITS)) }
 {
-    match read_literal(s, I::SIGNED, I::BITS, frac_nbits) {
-        Ok(residue) => {
-            if is_out::<I>(residue) {
-                Err(ParseFixedError::new(ParseErrorKind::Overflow))
-            } else {
-                Ok(I::wrap(residue.value))
-            }
-        }
+    match read_literal(s, format_of::<I>(frac_nbits)) {
+        Ok(found) => in_range(&found),
         Err(error) => Err(error),
     }
 }

@@ -1,56 +1,44 @@
-//! How many steps the magnitude of a numeral is.
+//! How many ulps the magnitude of a numeral is.
 
 ghost use Rattle.std.specs.Prelude.{◌≡◌, ◌+◌, ◌-◌, ◌*◌, ◌/◌, ◌%◌, ◌^◌, ◌<◌, ◌≤◌, ◌↔◌, ◌⊎◌, [], ℕ, List, IsTrue, length};
 ghost use Rattle.std.specs.Int.Digits.{number_from_digits, AllBelowBase};
-ghost use Rattle.fixed_bits.specs.Ranges.{IsWidth};
 ghost use Rattle.fixed_numeral.specs.Numeral.{base};
 ghost use Rattle.fixed_numeral.specs.Scanned.{bits_of};
 ghost use Rattle.fixed_numeral.specs.Spelled.{spelled};
 ghost use Rattle.fixed_numeral.specs.Place.{NoLeadingZero, NoTrailingZero};
-ghost use Rattle.fixed_read.specs.Steps.{IsPart, IsMagnitude};
+ghost use Rattle.fixed_read.specs.Steps.{IsPart, IsMagnitude, IsSplitNumeral};
 
 use crate::bits::bit_part;
 use crate::decimal::{decimal_part, narrow_part};
-use crate::digits::{all_of, cut, is_over, trailing};
+use crate::digits::{all_of, is_over, trailing};
 use crate::side::Side;
-use crate::tail::{Tail, up, up_narrow};
+use crate::tail::{Tail, is_nothing, up, up_narrow};
 use crate::words::{parted, scaled, scaled_narrow};
-use fixed_numeral::{DigitView, Radix};
+use fixed_numeral::{DigitView, Radix, Scanned};
 use fixed_steps::Steps;
 use std::sync::ledger::Ledger;
 
-/// The lowest bits of whole digits, so many as there are in front of the point, and whether there are more.
-fn whole_part<'a, L: Ledger>(
-    whole: &DigitView<'a>,
-    base: u32,
-    behind: u32,
-    width: u32,
-    steps: &mut Steps<L>,
-) -> (u64, bool)
-    requires digits { AllBelowBase base whole.now }
-    requires leading { NoLeadingZero whole.now }
-    requires base { 2 ≤ base }
-    requires small { base ≤ 16 }
-    requires even { base % 2 ≡ 0 }
-    requires width { width ≤ 64 }
-    ensures number { result.0 ≡ number_from_digits base whole.now % 2 ^ (width - behind) }
-    ensures over { IsTrue result.1 ↔ (2 ^ (width - behind) ≤ number_from_digits base whole.now) }
-    ensures cost { steps.new ≤ steps.old + (width - behind) + 15 }
-{
-    trailing(whole, base, width.saturating_sub(behind), steps)
+/// A magnitude rounded to whole ulps.
+#[derive(Clone, Copy, Debug, PartialEq, Eq)]
+pub struct Ulps {
+    /// The lowest 64 bits of the number of ulps.
+    pub low: u64,
+    /// Whether there are more bits.
+    pub has_high_bits: bool,
+    /// Whether it was a whole number of ulps before it was rounded.
+    pub is_exact: bool,
 }
 
-/// The lowest bits of how many steps whole digits and the steps behind them are, and whether there are more. For each base.
-fn joined<'a, L: Ledger>(
+/// The magnitude of whole digits and the ulps of the fraction behind them, for each base.
+fn rounded_magnitude<'a, L: Ledger>(
     whole: &DigitView<'a>,
     base: u32,
     more: u128,
     tail: Tail,
     behind: u32,
-    width: u32,
     side: Side,
     steps: &mut Steps<L>,
-) -> (u64, bool)
+) -> Ulps
     requires digits { AllBelowBase base whole.now }
     requires leading { NoLeadingZero whole.now }
     requires base { 2 ≤ base }
@@ -58,16 +46,18 @@ fn joined<'a, L: Ledger>(
     requires even { base % 2 ≡ 0 }
     requires more { more < 2 ^ behind }
     requires behind { behind ≤ 68 }
-    requires width { width ≤ 64 }
-    requires wide { 0 < width }
-    ensures is { (f : List ℕ) (frac s : ℕ) → behind ≡ frac + s → IsPart base f behind more tail → IsMagnitude side (spelled base whole.now f s) frac width result.0 result.1 }
-    ensures cost { steps.new ≤ steps.old + (width - behind) + 15 }
+    ensures magnitude { (f : List ℕ) (frac s : ℕ) → behind ≡ frac + s → IsPart base f behind more tail → IsMagnitude side (spelled base whole.now f s) frac result }
+    ensures cost { steps.new ≤ steps.old + (64 - behind) + 15 }
 {
-    let (low, over) = whole_part(whole, base, behind, width, steps);
+    let (low, over) = trailing(whole, base, 64_u32.saturating_sub(behind), steps);
     let sum = scaled(u128::from(low), behind) + more;
     let total = sum + up(tail, side, sum % 2);
-    let (high, bits) = parted(total, width);
-    (bits, is_over(over, high))
+    let (high, bits) = parted(total, 64);
+    Ulps {
+        low: bits,
+        has_high_bits: is_over(over, high),
+        is_exact: is_nothing(tail),
+    }
 }
 
 /// How many steps of 2^-behind are in 0.DIGITS, and what is left of a step.
@@ -75,17 +65,15 @@ fn part<'a, L: Ledger>(
     view: &DigitView<'a>,
     radix: Radix,
     bit_shift: u32,
-    width: u32,
     frac: u32,
     steps: &mut Steps<L>,
 ) -> (u128, Tail)
     requires digits { AllBelowBase (base radix) view.now }
     requires trailing { NoTrailingZero view.now }
     requires shift { bit_shift < bits_of radix }
-    requires width { IsWidth width }
-    requires frac { frac ≤ width }
+    requires frac { frac ≤ 64 }
     ensures part { IsPart (base radix) view.now (frac + bit_shift) result.0 result.1 }
-    ensures cost { steps.new ≤ steps.old + 2 * width + 4 }
+    ensures cost { steps.new ≤ steps.old + 2 * frac + 14 }
 {
     if view.is_empty() {
         return (0, Tail::Nothing);
@@ -101,126 +89,110 @@ fn part<'a, L: Ledger>(
     }
 }
 
-/// The lowest bits of how many steps of 2^-frac the number is, and whether there are more. For any digits.
+/// The magnitude of any digits in ulps of 2^-frac.
 #[inline(never)]
 fn long_magnitude<'a, L: Ledger>(
-    whole: &DigitView<'a>,
-    fraction: &DigitView<'a>,
+    found: &Scanned<'a>,
     radix: Radix,
-    bit_shift: u32,
-    width: u32,
     frac: u32,
     side: Side,
     steps: &mut Steps<L>,
-) -> (u64, bool)
-    requires whole_digits { AllBelowBase (base radix) whole.now }
-    requires leading { NoLeadingZero whole.now }
-    requires digits { AllBelowBase (base radix) fraction.now }
-    requires trailing { NoTrailingZero fraction.now }
-    requires shift { bit_shift < bits_of radix }
-    requires width { IsWidth width }
-    requires frac { frac ≤ width }
-    ensures is { IsMagnitude side (spelled (base radix) whole.now fraction.now bit_shift) frac width result.0 result.1 }
-    ensures cost { steps.new ≤ steps.old + 3 * width + 20 }
+) -> Ulps
+    requires split { IsSplitNumeral radix found.now.whole found.now.fraction found.now.bit_shift }
+    requires frac { frac ≤ 64 }
+    ensures magnitude { IsMagnitude side (spelled (base radix) found.now.whole found.now.fraction found.now.bit_shift) frac result }
+    ensures cost { steps.new ≤ steps.old + 2 * frac + 93 }
 {
-    let behind = frac + bit_shift;
-    let (more, tail) = part(fraction, radix, bit_shift, width, frac, steps);
-    joined(whole, radix.base(), more, tail, behind, width, side, steps)
+    let bit_shift = found.bit_shift();
+    let (more, tail) = part(found.fraction_view(), radix, bit_shift, frac, steps);
+    rounded_magnitude(
+        found.whole_view(),
+        radix.base(),
+        more,
+        tail,
+        frac + bit_shift,
+        side,
+        steps,
+    )
 }
 
-/// Whether the whole digits are so few, and the steps so coarse, that all of these are in a word.
+/// Whether the whole digits are so few, and the ulps so coarse, that all of these are in a word.
 fn is_short(whole: &DigitView, behind: u32) -> bool
     ensures { IsTrue result → ((length whole.now ≤ 9) × (behind ≤ 32)) }
 {
     whole.len() <= 9 && behind <= 32
 }
 
-/// The lowest bits of how many steps of 2^-behind a decimal number is, and whether there are more. For few whole digits.
+/// The magnitude of a decimal numeral with at most nine whole digits in ulps of 2^-behind.
 #[inline]
 fn short_magnitude<'a, L: Ledger>(
     whole: &DigitView<'a>,
     fraction: &DigitView<'a>,
     behind: u32,
-    width: u32,
     side: Side,
     steps: &mut Steps<L>,
-) -> (u64, bool)
+) -> Ulps
     requires whole_digits { AllBelowBase 10 whole.now }
     requires few_whole { length whole.now ≤ 9 }
     requires digits { AllBelowBase 10 fraction.now }
     requires trailing { NoTrailingZero fraction.now }
     requires behind { behind ≤ 32 }
-    requires width { width ≤ 64 }
-    ensures is { (frac s : ℕ) → behind ≡ frac + s → IsMagnitude side (spelled 10 whole.now fraction.now s) frac width result.0 result.1 }
+    ensures magnitude { (frac s : ℕ) → behind ≡ frac + s → IsMagnitude side (spelled 10 whole.now fraction.now s) frac result }
     ensures cost { steps.new ≤ steps.old + 23 + 2 * (behind - 13) }
 {
     let (more, tail) = narrow_part(fraction, behind, steps);
     let number = all_of(whole, 10, 9, steps);
     let sum = scaled_narrow(number, behind) + more;
     let total = sum + up_narrow(tail, side, sum % 2);
-    cut(total, width)
-}
-
-/// The lowest bits of how many steps of 2^-frac a decimal number is, and whether there are more.
-#[inline]
-fn decimal_magnitude<'a, L: Ledger>(
-    whole: &DigitView<'a>,
-    fraction: &DigitView<'a>,
-    bit_shift: u32,
-    width: u32,
-    frac: u32,
-    side: Side,
-    steps: &mut Steps<L>,
-) -> (u64, bool)
-    requires whole_digits { AllBelowBase 10 whole.now }
-    requires leading { NoLeadingZero whole.now }
-    requires digits { AllBelowBase 10 fraction.now }
-    requires trailing { NoTrailingZero fraction.now }
-    requires shift { bit_shift < 1 }
-    requires width { IsWidth width }
-    requires frac { frac ≤ width }
-    ensures is { IsMagnitude side (spelled 10 whole.now fraction.now bit_shift) frac width result.0 result.1 }
-    ensures cost { steps.new ≤ steps.old + 3 * width + 20 }
-{
-    if is_short(whole, frac + bit_shift) {
-        short_magnitude(whole, fraction, frac + bit_shift, width, side, steps)
-    } else {
-        long_magnitude(
-            whole,
-            fraction,
-            Radix::Dec,
-            bit_shift,
-            width,
-            frac,
-            side,
-            steps,
-        )
+    Ulps {
+        low: total,
+        has_high_bits: false,
+        is_exact: is_nothing(tail),
     }
 }
 
-/// The lowest bits of how many steps of 2^-frac the number is, and whether there are more.
-pub fn magnitude<'a, L: Ledger>(
-    whole: &DigitView<'a>,
-    fraction: &DigitView<'a>,
-    radix: Radix,
-    bit_shift: u32,
-    width: u32,
+/// The magnitude of a decimal numeral in ulps of 2^-frac.
+#[inline]
+fn decimal_magnitude<'a, L: Ledger>(
+    found: &Scanned<'a>,
     frac: u32,
     side: Side,
     steps: &mut Steps<L>,
-) -> (u64, bool)
-    requires whole_digits { AllBelowBase (base radix) whole.now }
-    requires leading { NoLeadingZero whole.now }
-    requires digits { AllBelowBase (base radix) fraction.now }
-    requires trailing { NoTrailingZero fraction.now }
-    requires shift { bit_shift < bits_of radix }
-    requires width { IsWidth width }
-    requires frac { frac ≤ width }
-    ensures is { IsMagnitude side (spelled (base radix) whole.now fraction.now bit_shift) frac width result.0 result.1 }
-    ensures cost { steps.new ≤ steps.old + 3 * width + 20 }
+) -> Ulps
+    requires split { IsSplitNumeral Radix.Dec found.now.whole found.now.fraction found.now.bit_shift }
+    requires frac { frac ≤ 64 }
+    ensures magnitude { IsMagnitude side (spelled 10 found.now.whole found.now.fraction found.now.bit_shift) frac result }
+    ensures cost { steps.new ≤ steps.old + 2 * frac + 93 }
+{
+    let behind = frac + found.bit_shift();
+    if is_short(found.whole_view(), behind) {
+        short_magnitude(
+            found.whole_view(),
+            found.fraction_view(),
+            behind,
+            side,
+            steps,
+        )
+    } else {
+        long_magnitude(found, Radix::Dec, frac, side, steps)
+    }
+}
+
+/// The magnitude of a scanned numeral in ulps of 2^-frac.
+pub fn magnitude<'a, L: Ledger>(
+    found: &Scanned<'a>,
+    radix: Radix,
+    frac: u32,
+    side: Side,
+    steps: &mut Steps<L>,
+) -> Ulps
+    requires split { IsSplitNumeral radix found.now.whole found.now.fraction found.now.bit_shift }
+    requires frac { frac ≤ 64 }
+    ensures magnitude { IsMagnitude side (spelled (base radix) found.now.whole found.now.fraction found.now.bit_shift) frac result }
+    ensures cost { steps.new ≤ steps.old + 2 * frac + 93 }
 {
     match radix {
-        Radix::Dec => decimal_magnitude(whole, fraction, bit_shift, width, frac, side, steps),
-        _ => long_magnitude(whole, fraction, radix, bit_shift, width, frac, side, steps),
+        Radix::Dec => decimal_magnitude(found, frac, side, steps),
+        _ => long_magnitude(found, radix, frac, side, steps),
     }
 }

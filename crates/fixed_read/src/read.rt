@@ -1,6 +1,6 @@
 //! Reading numerals into bits, in each radix and mode.
 
-ghost use Rattle.std.specs.Prelude.{◌≡◌, ◌+◌, ◌*◌, ◌^◌, ◌<◌, ◌≤◌, ◌↔◌, ◌⊎◌, IsTrue, ℕ, Err, IsOk, IfOk, IfErr, length};
+ghost use Rattle.std.specs.Prelude.{◌≡◌, ◌+◌, ◌*◌, ◌^◌, ◌<◌, ◌≤◌, ◌↔◌, ◌⊎◌, IsTrue, ℕ, ℤ, Err, IsOk, IfOk, IfErr, length};
 ghost use Rattle.fixed_bits.specs.Images.{IsSaturated, IsWrapped};
 ghost use Rattle.fixed_bits.specs.Ranges.{IsInRange, IsOutOfRange};
 ghost use Rattle.fixed_bits.specs.declared.format.Policy.TheVariants.{Saturating, Wrapping};
@@ -8,46 +8,111 @@ ghost use Rattle.fixed_bits.specs.declared.mode.ReadMode.TheVariants.{NearestEve
 ghost use Rattle.fixed_numeral.specs.Cause.{HasCause};
 ghost use Rattle.fixed_numeral.specs.Numeral.{Parts, HasNumeral, IsNumeral};
 ghost use Rattle.fixed_numeral.specs.declared.error.ParseErrorKind.TheVariants.{Overflow};
-ghost use Rattle.fixed_read.specs.Reading.{IsImageRead, IsOverflowingRead, IsReadInRange, IsReadNumber, IsReadOutOfRange};
-ghost use Rattle.fixed_read.specs.Steps.{with_sign};
+ghost use Rattle.fixed_read.specs.Magnitudes.{greatest_magnitude};
+ghost use Rattle.fixed_read.specs.Reading.{HoldsNumber, IsImageRead, IsOverflowingRead, IsReadInRange, IsReadNumber, IsReadOutOfRange, IsReading, with_sign};
 
-use crate::residue::{Residue, read_residue, read_residue_counted};
-use fixed_bits::{Inner, ReadMode};
+use crate::read_number::{ReadNumber, read_format};
+use fixed_bits::{Format, Inner, ReadMode};
 use fixed_numeral::{ParseErrorKind, ParseFixedError, Radix};
 use fixed_steps::Steps;
-use std::sync::ledger::Ledger;
+use std::marker::Brand;
+use std::sync::ledger::{Blank, Ledger};
 
-/// Whether the lowest bits of a read number, with their sign, are out of the range of a type.
-fn is_past<I: Inner>(residue: Residue) -> bool
-    ensures { IsTrue result ↔ (IsInRange I.SIGNED I.BITS residue.value → ⊥) }
+/// The format of an integer type with a fraction length.
+pub fn format_of<I: Inner>(frac: u32) -> Format
+    requires { frac ≤ I.BITS }
+    ensures signed { result.signed ≡ I.SIGNED }
+    ensures width { result.width ≡ I.BITS }
+    ensures frac { result.frac ≡ frac }
 {
-    !I::fits(residue.value)
+    Format::new(I::SIGNED, I::BITS, frac).unwrap()
 }
 
-/// Whether a read number is out of the range of a type.
-pub fn is_out<I: Inner>(residue: Residue) -> bool
-    ensures { (high low : ℕ) → residue.value ≡ with_sign residue.negative low → (IsTrue residue.beyond ↔ (0 < high)) → IsTrue result ↔ IsOutOfRange I.SIGNED I.BITS (with_sign residue.negative (high * 2 ^ I.BITS + low)) }
+/// The Wrapping image of a read number.
+fn wrapped<I: Inner>(found: &ReadNumber) -> I
+    ensures { (v : ℤ) → HoldsNumber found.now v → IsWrapped I.SIGNED I.BITS v (I.number result) }
 {
-    residue.beyond || is_past::<I>(residue)
+    I::wrap(found.low_number())
+}
+
+/// The end of a type's range on that side.
+fn nearer_end<I: Inner>(negative: bool) -> I
+    ensures { I.number result ≡ with_sign negative (greatest_magnitude I.SIGNED negative I.BITS) }
+{
+    if negative { I::MIN } else { I::MAX }
 }
 
 /// The Saturating image of a read number.
-fn saturated<I: Inner>(residue: Residue) -> I
-    ensures { (high low : ℕ) → residue.value ≡ with_sign residue.negative low → (IsTrue residue.beyond ↔ (0 < high)) → IsSaturated I.SIGNED I.BITS (with_sign residue.negative (high * 2 ^ I.BITS + low)) (I.number result) }
+fn saturated<I: Inner>(found: &ReadNumber) -> I
+    requires signed { found.now.format.signed ≡ I.SIGNED }
+    requires width { found.now.format.width ≡ I.BITS }
+    ensures { (v : ℤ) → HoldsNumber found.now v → IsSaturated I.SIGNED I.BITS v (I.number result) }
 {
-    if !residue.beyond {
-        I::saturate(residue.value)
-    } else if residue.negative {
-        I::MIN
+    if found.is_out_of_range() {
+        nearer_end(found.is_negative())
     } else {
-        I::MAX
+        wrapped(found)
     }
+}
+
+/// A read number where it is in range.
+///
+/// # Errors
+///
+/// One that is out of range is refused as Overflow.
+pub fn in_range<I: Inner>(found: &ReadNumber) -> Result<I, ParseFixedError>
+    requires signed { found.now.format.signed ≡ I.SIGNED }
+    requires width { found.now.format.width ≡ I.BITS }
+    ensures fits { (v : ℤ) → HoldsNumber found.now v → IsOk result ↔ IsInRange I.SIGNED I.BITS v }
+    ensures number { IfOk result (λ r. (v : ℤ) → HoldsNumber found.now v → I.number r ≡ v) }
+    ensures overflow { IfErr result (λ kind. kind ≡ Overflow) }
+{
+    if found.is_out_of_range() {
+        Err(ParseFixedError::new(ParseErrorKind::Overflow))
+    } else {
+        Ok(wrapped(found))
+    }
+}
+
+/// `read_format` over a ledger that no other counter uses.
+fn read_over<L: Ledger>(
+    s: &[u8],
+    radix: Radix,
+    format: Format,
+    mode: ReadMode,
+    blank: Blank,
+) -> Result<ReadNumber, ParseFixedError>
+    requires name { blank.name ≡ L.name }
+    requires parts { blank.parts ≡ L.parts }
+    requires backed { 0 < L.parts }
+    ensures numeral { IsOk result ↔ IsNumeral radix s.now }
+    ensures cause { IfErr result (λ kind. HasCause radix s.now kind) }
+    ensures reading { IfOk result (λ found. (p : Parts) → HasNumeral radix s.now p → IsReading mode radix p found) }
+    ensures format { IfOk result (λ found. found.format ≡ format) }
+{
+    let mut steps: Steps<L> = Steps::new(blank);
+    read_format(s, radix, format, mode, &mut steps)
+}
+
+/// `read_format` with a counter of its own.
+fn read_uncounted(
+    s: &[u8],
+    radix: Radix,
+    format: Format,
+    mode: ReadMode,
+) -> Result<ReadNumber, ParseFixedError>
+    ensures numeral { IsOk result ↔ IsNumeral radix s.now }
+    ensures cause { IfErr result (λ kind. HasCause radix s.now kind) }
+    ensures reading { IfOk result (λ found. (p : Parts) → HasNumeral radix s.now p → IsReading mode radix p found) }
+    ensures format { IfOk result (λ found. found.format ≡ format) }
+{
+    read_over::<Brand>(s, radix, format, mode, Blank::new(1))
 }
 
 /// The bits that a numeral reads as in a mode, brought into the type's range by a multiple of two to the power of its
 /// width, and whether that was needed.
 ///
-/// The number read is the numeral's magnitude in steps of two to the power of `-frac_nbits`, rounded in the mode, with
+/// The number read is the numeral's magnitude in ulps of two to the power of `-frac_nbits`, rounded in the mode, with
 /// the numeral's sign. It takes at most eight steps for each byte and each bit, and 64.
 ///
 /// # Errors
@@ -66,13 +131,13 @@ pub fn overflowing_from_str_radix_mode_counted<I: Inner, L: Ledger>(
     ensures read { IfOk result (λ r. (p : Parts) → HasNumeral radix s.now p → IsOverflowingRead mode radix p frac_nbits I.SIGNED I.BITS (I.number r.0) r.1) }
     ensures cost { steps.new ≤ steps.old + 8 * (length s.now + I.BITS) + 64 }
 {
-    match read_residue_counted(s, radix, I::BITS, frac_nbits, mode, steps) {
-        Ok(residue) => Ok((I::wrap(residue.value), is_out::<I>(residue))),
+    match read_format(s, radix, format_of::<I>(frac_nbits), mode, steps) {
+        Ok(found) => Ok((wrapped(&found), found.is_out_of_range())),
         Err(error) => Err(error),
     }
 }
 
-/// The bits that a numeral reads as, rounded to the nearest step, ties to even, brought into the type's range by a
+/// The bits that a numeral reads as, rounded to the nearest ulp, ties to even, brought into the type's range by a
 /// multiple of two to the power of its width, and whether that was needed. It takes at most eight steps for each byte
 /// and each bit, and 64.
 ///
@@ -111,13 +176,13 @@ pub fn overflowing_from_str_radix_mode<I: Inner>(
     ensures cause { IfErr result (λ kind. HasCause radix s.now kind) }
     ensures read { IfOk result (λ r. (p : Parts) → HasNumeral radix s.now p → IsOverflowingRead mode radix p frac_nbits I.SIGNED I.BITS (I.number r.0) r.1) }
 {
-    match read_residue(s, radix, I::BITS, frac_nbits, mode) {
-        Ok(residue) => Ok((I::wrap(residue.value), is_out::<I>(residue))),
+    match read_uncounted(s, radix, format_of::<I>(frac_nbits), mode) {
+        Ok(found) => Ok((wrapped(&found), found.is_out_of_range())),
         Err(error) => Err(error),
     }
 }
 
-/// The bits that a numeral reads as, rounded to the nearest step, ties to even, brought into the type's range by a
+/// The bits that a numeral reads as, rounded to the nearest ulp, ties to even, brought into the type's range by a
 /// multiple of two to the power of its width, and whether that was needed.
 ///
 /// # Errors
@@ -153,13 +218,13 @@ pub fn wrapping_from_str_radix_mode<I: Inner>(
     ensures cause { IfErr result (λ kind. HasCause radix s.now kind) }
     ensures read { IfOk result (λ r. (p : Parts) → HasNumeral radix s.now p → IsImageRead Wrapping mode radix p frac_nbits I.SIGNED I.BITS (I.number r)) }
 {
-    match read_residue(s, radix, I::BITS, frac_nbits, mode) {
-        Ok(residue) => Ok(I::wrap(residue.value)),
+    match read_uncounted(s, radix, format_of::<I>(frac_nbits), mode) {
+        Ok(found) => Ok(wrapped(&found)),
         Err(error) => Err(error),
     }
 }
 
-/// The bits that a numeral reads as, rounded to the nearest step, ties to even, brought into the type's range by a
+/// The bits that a numeral reads as, rounded to the nearest ulp, ties to even, brought into the type's range by a
 /// multiple of two to the power of its width.
 ///
 /// # Errors
@@ -194,13 +259,13 @@ pub fn saturating_from_str_radix_mode<I: Inner>(
     ensures cause { IfErr result (λ kind. HasCause radix s.now kind) }
     ensures read { IfOk result (λ r. (p : Parts) → HasNumeral radix s.now p → IsImageRead Saturating mode radix p frac_nbits I.SIGNED I.BITS (I.number r)) }
 {
-    match read_residue(s, radix, I::BITS, frac_nbits, mode) {
-        Ok(residue) => Ok(saturated(residue)),
+    match read_uncounted(s, radix, format_of::<I>(frac_nbits), mode) {
+        Ok(found) => Ok(saturated(&found)),
         Err(error) => Err(error),
     }
 }
 
-/// The bits that a numeral reads as, rounded to the nearest step, ties to even, or the nearer end of the type's range.
+/// The bits that a numeral reads as, rounded to the nearest ulp, ties to even, or the nearer end of the type's range.
 ///
 /// # Errors
 ///
@@ -235,19 +300,13 @@ pub fn from_str_radix_mode<I: Inner>(
     ensures overflow { IsReadOutOfRange mode radix (HasNumeral radix s.now) frac_nbits I.SIGNED I.BITS → result ≡ Err Overflow }
     ensures cause { IfErr result (λ kind. HasCause radix s.now kind ⊎ ((kind ≡ Overflow) × IsReadOutOfRange mode radix (HasNumeral radix s.now) frac_nbits I.SIGNED I.BITS)) }
 {
-    match read_residue(s, radix, I::BITS, frac_nbits, mode) {
-        Ok(residue) => {
-            if is_out::<I>(residue) {
-                Err(ParseFixedError::new(ParseErrorKind::Overflow))
-            } else {
-                Ok(I::wrap(residue.value))
-            }
-        }
+    match read_uncounted(s, radix, format_of::<I>(frac_nbits), mode) {
+        Ok(found) => in_range(&found),
         Err(error) => Err(error),
     }
 }
 
-/// The bits that a numeral reads as, rounded to the nearest step, ties to even.
+/// The bits that a numeral reads as, rounded to the nearest ulp, ties to even.
 ///
 /// # Errors
 ///

@@ -20,6 +20,18 @@ pub enum Tail {
     Above,
 }
 
+/// Whether nothing is left.
+pub fn is_nothing(tail: Tail) -> bool
+    ensures { (s den : ℕ) → 0 < den → IsTail tail s den → IsTrue result ↔ (s ≡ 0) }
+{
+    match tail {
+        Tail::Nothing => true,
+        Tail::Below => false,
+        Tail::Half => false,
+        Tail::Above => false,
+    }
+}
+
 /// What `rest` of two halves, and more behind that which is less than one of the rest, are of a step.
 pub fn tail_of(rest: u64, half: u64, more: bool) -> Tail
     requires { rest < 2 * half }

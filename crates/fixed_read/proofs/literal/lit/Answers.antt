@@ -1,28 +1,34 @@
-use Rattle.std.proofs.Common.{◌≡◌, refl, inr, to_z, of_z, FitsSigned, rules}
-use Rattle.std.specs.Int.{w128}
-use Rattle.std.proofs.lemmas.Int.{to_z-of_z}
-use Rattle.fixed_bits.specs.Images.{IsWrapped}
-use Rattle.fixed_numeral.specs.Literal.{HasLiteral, literal_radix}
+use Rattle.std.proofs.Common.{◌≡◌, ◌∙◌, ap, refl, IsOk}
+use Rattle.fixed_bits.specs.Ranges.{IsInRange}
+use Rattle.fixed_numeral.specs.Literal.{HasLiteral, HasLiteralCause, literal_radix}
 use Rattle.fixed_bits.specs.declared.mode.ReadMode.TheVariants.{NearestEven}
-use Rattle.fixed_read.proofs.ReadLemmas.{never_in, never_out, past, within, number_is}
+use Rattle.fixed_numeral.specs.declared.error.ParseErrorKind.TheVariants.{Overflow}
+use Rattle.fixed_read.specs.Reading.{HoldsNumber, IsReadOutOfRange}
+use Rattle.fixed_read.proofs.ReadLemmas.{range_iff, number_is, not_out, out_is, if_ok, overflow_if, cause_if}
 use Rattle.fixed_read.proofs.literal.lit.Goals as goal
 
-pub returns-then-is_out-clause-fits : goal.returns-then-is_out-clause-fits
-returns-then-is_out-clause-fits g c = (λ t. absurd (cc), λ i. absurd (never_in NearestEven (literal_radix g.I.Inner.SIGNED c.args.s.now) (HasLiteral g.I.Inner.SIGNED c.args.s.now) c.args.frac_nbits g.I.Inner.SIGNED g.I.Inner.BITS c.in-Ok.residue.negative c.in-Ok.residue.value c.in-Ok.residue.beyond c.is_out.result (λ p h. let bits : c.BITS.result ≡ g.I.Inner.BITS = c.BITS.ensures in let sign : c.SIGNED.result ≡ g.I.Inner.SIGNED = c.SIGNED.ensures in rw (bits, sign) at (c.in-Ok.ensures.residue p (rw sign h))) c.is_out.ensures c.if-is_out.true i))
+pub in_range-requires-clause-signed : goal.in_range-requires-clause-signed
+in_range-requires-clause-signed g c = ap (λ x. x.signed) c.in-Ok.ensures.format ∙ c.format_of.ensures.signed
 
-pub returns-then-is_out-clause-cause : goal.returns-then-is_out-clause-cause
-returns-then-is_out-clause-cause g c = inr (c.new.ensures, past NearestEven (literal_radix g.I.Inner.SIGNED c.args.s.now) (HasLiteral g.I.Inner.SIGNED c.args.s.now) c.args.frac_nbits g.I.Inner.SIGNED g.I.Inner.BITS c.in-Ok.residue.negative c.in-Ok.residue.value c.in-Ok.residue.beyond c.is_out.result (λ p h. let bits : c.BITS.result ≡ g.I.Inner.BITS = c.BITS.ensures in let sign : c.SIGNED.result ≡ g.I.Inner.SIGNED = c.SIGNED.ensures in rw (bits, sign) at (c.in-Ok.ensures.residue p (rw sign h))) c.is_out.ensures c.if-is_out.true (let sign : c.SIGNED.result ≡ g.I.Inner.SIGNED = c.SIGNED.ensures in rw sign at (c.in-Ok.ensures.literal.0 refl)))
+pub in_range-requires-clause-width : goal.in_range-requires-clause-width
+in_range-requires-clause-width g c = ap (λ x. x.width) c.in-Ok.ensures.format ∙ c.format_of.ensures.width
 
-pub returns-else-is_out-clause-fits : goal.returns-else-is_out-clause-fits
-returns-else-is_out-clause-fits g c = (λ t. within NearestEven (literal_radix g.I.Inner.SIGNED c.args.s.now) (HasLiteral g.I.Inner.SIGNED c.args.s.now) c.args.frac_nbits g.I.Inner.SIGNED g.I.Inner.BITS c.in-Ok.residue.negative c.in-Ok.residue.value c.in-Ok.residue.beyond c.is_out.result (λ p h. let bits : c.BITS.result ≡ g.I.Inner.BITS = c.BITS.ensures in let sign : c.SIGNED.result ≡ g.I.Inner.SIGNED = c.SIGNED.ensures in rw (bits, sign) at (c.in-Ok.ensures.residue p (rw sign h))) c.is_out.ensures c.if-is_out.false (let sign : c.SIGNED.result ≡ g.I.Inner.SIGNED = c.SIGNED.ensures in rw sign at (c.in-Ok.ensures.literal.0 refl)), λ i. refl)
+pub returns-in-Ok-clause-fits : goal.returns-in-Ok-clause-fits
+returns-in-Ok-clause-fits g c =
+    let frac : c.in-Ok.found.format.frac ≡ c.args.frac_nbits = ap (λ x. x.frac) c.in-Ok.ensures.format ∙ c.format_of.ensures.frac in
+    range_iff NearestEven (literal_radix g.I.Inner.SIGNED c.args.s.now) (HasLiteral g.I.Inner.SIGNED c.args.s.now) c.args.frac_nbits g.I.Inner.SIGNED g.I.Inner.BITS c.in-Ok.found frac (λ p h. rw c.format_of.ensures.signed at (c.in-Ok.ensures.reading p (rw c.format_of.ensures.signed h))) (IsOk c.in_range.result) (rw c.format_of.ensures.signed at (c.in-Ok.ensures.literal.0 refl)) c.in_range.ensures.fits
 
-pub returns-else-is_out-clause-number : goal.returns-else-is_out-clause-number
-returns-else-is_out-clause-number g c p h =
-    let fit : FitsSigned w128 c.in-Ok.residue.value = search rules in
-    let same : to_z w128 (of_z w128 c.in-Ok.residue.value) ≡ c.in-Ok.residue.value = to_z-of_z w128 c.in-Ok.residue.value fit in
-    let wrapped : c.wrap.result ≡ g.I.Inner.wrapped c.in-Ok.residue.value = rw same at c.wrap.ensures in
-    let image : IsWrapped g.I.Inner.SIGNED g.I.Inner.BITS c.in-Ok.residue.value (g.I.Inner.number c.wrap.result) = rw wrapped (g.met.I.Inner.wrap_law c.in-Ok.residue.value) in
-    number_is NearestEven (literal_radix g.I.Inner.SIGNED c.args.s.now) (HasLiteral g.I.Inner.SIGNED c.args.s.now) c.args.frac_nbits g.I.Inner.SIGNED g.I.Inner.BITS c.in-Ok.residue.negative c.in-Ok.residue.value c.in-Ok.residue.beyond c.is_out.result (λ p h. let bits : c.BITS.result ≡ g.I.Inner.BITS = c.BITS.ensures in let sign : c.SIGNED.result ≡ g.I.Inner.SIGNED = c.SIGNED.ensures in rw (bits, sign) at (c.in-Ok.ensures.residue p (rw sign h))) c.is_out.ensures (g.I.Inner.number c.wrap.result) c.if-is_out.false g.met.I.Inner.width_law image p h
+pub returns-in-Ok-clause-number : goal.returns-in-Ok-clause-number
+returns-in-Ok-clause-number g c =
+    let frac : c.in-Ok.found.format.frac ≡ c.args.frac_nbits = ap (λ x. x.frac) c.in-Ok.ensures.format ∙ c.format_of.ensures.frac in
+    if_ok _ _ c.in_range.result (λ x same. number_is NearestEven (literal_radix g.I.Inner.SIGNED c.args.s.now) (HasLiteral g.I.Inner.SIGNED c.args.s.now) c.args.frac_nbits g.I.Inner.SIGNED g.I.Inner.BITS c.in-Ok.found frac (λ p h. rw c.format_of.ensures.signed at (c.in-Ok.ensures.reading p (rw c.format_of.ensures.signed h))) (g.I.Inner.number x) same) c.in_range.ensures.number
 
-pub returns-else-is_out-clause-overflow : goal.returns-else-is_out-clause-overflow
-returns-else-is_out-clause-overflow g c i = absurd (never_out NearestEven (literal_radix g.I.Inner.SIGNED c.args.s.now) (HasLiteral g.I.Inner.SIGNED c.args.s.now) c.args.frac_nbits g.I.Inner.SIGNED g.I.Inner.BITS c.in-Ok.residue.negative c.in-Ok.residue.value c.in-Ok.residue.beyond c.is_out.result (λ p h. let bits : c.BITS.result ≡ g.I.Inner.BITS = c.BITS.ensures in let sign : c.SIGNED.result ≡ g.I.Inner.SIGNED = c.SIGNED.ensures in rw (bits, sign) at (c.in-Ok.ensures.residue p (rw sign h))) c.is_out.ensures c.if-is_out.false i)
+pub returns-in-Ok-clause-overflow : goal.returns-in-Ok-clause-overflow
+returns-in-Ok-clause-overflow g c =
+    let frac : c.in-Ok.found.format.frac ≡ c.args.frac_nbits = ap (λ x. x.frac) c.in-Ok.ensures.format ∙ c.format_of.ensures.frac in
+    overflow_if Overflow (IsReadOutOfRange NearestEven (literal_radix g.I.Inner.SIGNED c.args.s.now) (HasLiteral g.I.Inner.SIGNED c.args.s.now) c.args.frac_nbits g.I.Inner.SIGNED g.I.Inner.BITS) c.in_range.result (λ ok out. not_out NearestEven (literal_radix g.I.Inner.SIGNED c.args.s.now) (HasLiteral g.I.Inner.SIGNED c.args.s.now) c.args.frac_nbits g.I.Inner.SIGNED g.I.Inner.BITS c.in-Ok.found frac (λ p h. rw c.format_of.ensures.signed at (c.in-Ok.ensures.reading p (rw c.format_of.ensures.signed h))) (λ v h. (c.in_range.ensures.fits v h).0 ok) out) c.in_range.ensures.overflow
+
+pub returns-in-Ok-clause-cause : goal.returns-in-Ok-clause-cause
+returns-in-Ok-clause-cause g c =
+    let frac : c.in-Ok.found.format.frac ≡ c.args.frac_nbits = ap (λ x. x.frac) c.in-Ok.ensures.format ∙ c.format_of.ensures.frac in
+    cause_if Overflow (HasLiteralCause g.I.Inner.SIGNED c.args.s.now) (IsReadOutOfRange NearestEven (literal_radix g.I.Inner.SIGNED c.args.s.now) (HasLiteral g.I.Inner.SIGNED c.args.s.now) c.args.frac_nbits g.I.Inner.SIGNED g.I.Inner.BITS) c.in_range.result (λ no. out_is NearestEven (literal_radix g.I.Inner.SIGNED c.args.s.now) (HasLiteral g.I.Inner.SIGNED c.args.s.now) c.args.frac_nbits g.I.Inner.SIGNED g.I.Inner.BITS c.in-Ok.found frac (λ p h. rw c.format_of.ensures.signed at (c.in-Ok.ensures.reading p (rw c.format_of.ensures.signed h))) (rw c.format_of.ensures.signed at (c.in-Ok.ensures.literal.0 refl)) (λ v h i. no ((c.in_range.ensures.fits v h).1 i))) c.in_range.ensures.overflow

@@ -1,17 +1,14 @@
-use Rattle.std.proofs.Common.{◌≡◌, Bool, false, true, not, refl, to_z, of_z, FitsSigned, rules}
-use Rattle.std.specs.Int.{w128}
-use Rattle.std.proofs.lemmas.Int.{to_z-of_z}
-use Rattle.fixed_bits.specs.Images.{IsSaturated}
-use Rattle.fixed_read.proofs.ReadLemmas.{saturated_within}
+use Rattle.std.proofs.Common.{◌≡◌, ◌↔◌, IsTrue}
+use Rattle.fixed_bits.specs.Ranges.{IsOutOfRange}
+use Rattle.fixed_read.proofs.ReadLemmas.{end_same, inside, saturated_inside}
 use Rattle.fixed_read.proofs.read.saturated.Goals as goal
 
-none : (b : Bool) → not b ≡ true → b ≡ false
-none true e = absurd (cc)
-none false e = refl
+pub returns-then-is_out_of_range : goal.returns-then-is_out_of_range
+returns-then-is_out_of_range g c v h =
+    let test : IsTrue c.is_out_of_range.result ↔ IsOutOfRange g.I.Inner.SIGNED g.I.Inner.BITS v = rw (c.requires.signed, c.requires.width) at (c.is_out_of_range.ensures.range v h) in
+    rw (c.nearer_end.ensures, c.is_negative.ensures) (end_same c.args.found.now v g.I.Inner.BITS g.met.I.Inner.width_law h g.I.Inner.SIGNED (test.0 c.if-is_out_of_range.true))
 
-pub returns-then-not-residue : goal.returns-then-not-residue
-returns-then-not-residue g c high low e over =
-    let fit : FitsSigned w128 c.args.residue.value = search rules in
-    let same : to_z w128 (of_z w128 c.args.residue.value) ≡ c.args.residue.value = to_z-of_z w128 c.args.residue.value fit in
-    let image : IsSaturated g.I.Inner.SIGNED g.I.Inner.BITS c.args.residue.value (g.I.Inner.number c.saturate.result) = rw same at c.saturate.ensures in
-    saturated_within c.args.residue.negative g.I.Inner.SIGNED g.I.Inner.BITS high low c.args.residue.value (g.I.Inner.number c.saturate.result) c.args.residue.beyond e over (none c.args.residue.beyond c.if-not-residue.true) image
+pub returns-else-is_out_of_range : goal.returns-else-is_out_of_range
+returns-else-is_out_of_range g c v h =
+    let test : IsTrue c.is_out_of_range.result ↔ IsOutOfRange g.I.Inner.SIGNED g.I.Inner.BITS v = rw (c.requires.signed, c.requires.width) at (c.is_out_of_range.ensures.range v h) in
+    saturated_inside c.args.found.now v g.I.Inner.BITS g.met.I.Inner.width_law h g.I.Inner.SIGNED (inside g.I.Inner.SIGNED g.I.Inner.BITS v c.is_out_of_range.result c.if-is_out_of_range.false test) _ (c.wrapped.ensures v h)

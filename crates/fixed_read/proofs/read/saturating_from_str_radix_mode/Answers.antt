@@ -1,8 +1,14 @@
-use Rattle.std.proofs.Common.{◌≡◌}
-use Rattle.fixed_read.proofs.ReadLemmas.{saturating}
+use Rattle.std.proofs.Common.{◌≡◌, ◌∙◌, ap}
 use Rattle.fixed_read.proofs.read.saturating_from_str_radix_mode.Goals as goal
+
+pub saturated-requires-clause-signed : goal.saturated-requires-clause-signed
+saturated-requires-clause-signed g c = ap (λ x. x.signed) c.in-Ok.ensures.format ∙ c.format_of.ensures.signed
+
+pub saturated-requires-clause-width : goal.saturated-requires-clause-width
+saturated-requires-clause-width g c = ap (λ x. x.width) c.in-Ok.ensures.format ∙ c.format_of.ensures.width
 
 pub returns-in-Ok-clause-read : goal.returns-in-Ok-clause-read
 returns-in-Ok-clause-read g c p h =
-    let bits : c.BITS.result ≡ g.I.Inner.BITS = c.BITS.ensures in
-    saturating c.args.mode c.args.radix p c.args.frac_nbits g.I.Inner.SIGNED g.I.Inner.BITS c.in-Ok.residue.negative c.in-Ok.residue.value c.in-Ok.residue.beyond (g.I.Inner.number c.saturated.result) (rw bits at (c.in-Ok.ensures.residue p h)) c.saturated.ensures
+    let frac : c.in-Ok.found.format.frac ≡ c.args.frac_nbits = ap (λ x. x.frac) c.in-Ok.ensures.format ∙ c.format_of.ensures.frac in
+    let reading = c.in-Ok.ensures.reading p h in
+    record { number = reading.number; read = rw frac at reading.read; image = c.saturated.ensures reading.number reading.holds }

@@ -1,0 +1,211 @@
+//! One reading of a numeral into a format chosen at run time.
+
+ghost use Rattle.std.specs.Prelude.{◌≡◌, ◌+◌, ◌*◌, ◌^◌, ◌<◌, ◌≤◌, ◌↔◌, ℕ, ℤ, IsTrue, IsOk, IfOk, IfErr, IsNone, IfSome, length};
+ghost use Rattle.fixed_bits.specs.Formats.{IsFormat};
+ghost use Rattle.fixed_bits.specs.Images.{IsImage};
+ghost use Rattle.fixed_bits.specs.Ranges.{IsInRange, IsOutOfRange, IsWide};
+ghost use Rattle.fixed_bits.specs.declared.mode.ReadMode.TheVariants.{NearestEven};
+ghost use Rattle.fixed_numeral.specs.Cause.{HasCause};
+ghost use Rattle.fixed_numeral.specs.Literal.{HasLiteral, HasLiteralCause, IsLiteral, literal_radix};
+ghost use Rattle.fixed_numeral.specs.Numeral.{Parts, HasNumeral, IsNumeral};
+ghost use Rattle.fixed_numeral.specs.Scanned.{IsScanned};
+ghost use Rattle.fixed_read.specs.Reading.{IsReading, HoldsNumber, with_sign};
+ghost use Rattle.fixed_read.specs.Steps.{IsSplitNumeral};
+
+use crate::magnitude::magnitude;
+use crate::range::{greatest_magnitude, is_above, nearer_end, with_sign, wrapping_image};
+use crate::side::side_of;
+use fixed_bits::{Format, Policy, ReadMode};
+use fixed_numeral::{ParseFixedError, Radix, Scanned, scan, scan_lit};
+use fixed_steps::Steps;
+use std::marker::Brand;
+use std::sync::ledger::{Blank, Ledger};
+
+/// The number that a numeral reads as in a format: a whole number of the format's ulps with a sign, which may be out of the
+/// format's range.
+#[derive(Clone, Copy, Debug, PartialEq, Eq)]
+pub struct ReadNumber {
+    format: Format,
+    low: u64,
+    negative: bool,
+    has_high_bits: bool,
+    exact: bool,
+}
+
+impl ReadNumber {
+    /// The format that the numeral was read into.
+    pub fn format(&self) -> Format
+        ensures { result ≡ self.now.format }
+    {
+        self.format
+    }
+
+    /// Whether the numeral has a minus, also where the number is 0.
+    pub fn is_negative(&self) -> bool
+        ensures { result ≡ self.now.negative }
+    {
+        self.negative
+    }
+
+    /// The lowest 64 bits of the magnitude in ulps.
+    pub fn magnitude(&self) -> u64
+        ensures { result ≡ self.now.low }
+    {
+        self.low
+    }
+
+    /// Whether the magnitude has more than 64 bits.
+    pub fn has_high_bits(&self) -> bool
+        ensures { result ≡ self.now.has_high_bits }
+    {
+        self.has_high_bits
+    }
+
+    /// Whether the numeral was a whole number of ulps, so that nothing was rounded.
+    pub fn is_exact(&self) -> bool
+        ensures { result ≡ self.now.exact }
+    {
+        self.exact
+    }
+
+    /// The number that the magnitude's lowest 64 bits and the sign make: the whole number where there are no more bits.
+    pub fn low_number(&self) -> i128
+        ensures number { result ≡ with_sign self.now.negative self.now.low }
+    {
+        with_sign(self.negative, self.low)
+    }
+
+    /// Whether the number is out of the format's range.
+    pub fn is_out_of_range(&self) -> bool
+        ensures range { (v : ℤ) → HoldsNumber self.now v → IsTrue result ↔ IsOutOfRange self.now.format.signed self.now.format.width v }
+        ensures valid { IsFormat self.now.format.width self.now.format.frac }
+    {
+        let limit = greatest_magnitude(self.format, self.negative);
+        is_above(self.has_high_bits, self.low, limit)
+    }
+
+    /// The image of the number in the format: the number itself where it is in range. `None` exactly where it is out of
+    /// range and the policy is `Checked`.
+    pub fn image(&self, policy: Policy) -> Option<i128>
+        ensures image { (v : ℤ) → HoldsNumber self.now v → IfSome result (λ c. IsImage policy self.now.format.signed self.now.format.width v c) }
+        ensures none { (v : ℤ) → HoldsNumber self.now v → IsNone result ↔ ((policy ≡ Policy.Checked) × IsOutOfRange self.now.format.signed self.now.format.width v) }
+        ensures range { IfSome result (λ c. IsInRange self.now.format.signed self.now.format.width c) }
+        ensures wide { IfSome result IsWide }
+    {
+        if self.is_out_of_range() {
+            self.image_from_outside(policy)
+        } else {
+            Some(self.low_number())
+        }
+    }
+
+    /// The image of a number that is out of the format's range.
+    fn image_from_outside(&self, policy: Policy) -> Option<i128>
+        ensures image { (v : ℤ) → HoldsNumber self.now v → IsOutOfRange self.now.format.signed self.now.format.width v → IfSome result (λ c. IsImage policy self.now.format.signed self.now.format.width v c) }
+        ensures none { IsNone result ↔ (policy ≡ Policy.Checked) }
+        ensures range { IfSome result (λ c. IsInRange self.now.format.signed self.now.format.width c) }
+        ensures wide { IfSome result IsWide }
+    {
+        match policy {
+            Policy::Checked => None,
+            Policy::Saturating => Some(nearer_end(self.format, self.negative)),
+            Policy::Wrapping => wrapping_image(self.format, self.low_number()),
+        }
+    }
+}
+
+/// The number that a scanned numeral reads as.
+fn number_of<'a, L: Ledger>(
+    found: &Scanned<'a>,
+    radix: Radix,
+    format: Format,
+    mode: ReadMode,
+    steps: &mut Steps<L>,
+) -> ReadNumber
+    requires split { IsSplitNumeral radix found.now.whole found.now.fraction found.now.bit_shift }
+    ensures reading { (p : Parts) → IsScanned radix p found.now.neg found.now.whole found.now.fraction found.now.bit_shift → IsReading mode radix p result }
+    ensures format { result.format ≡ format }
+    ensures valid { IsFormat format.width format.frac }
+    ensures cost { steps.new ≤ steps.old + 2 * format.frac + 93 }
+{
+    let negative = found.neg();
+    let magnitude = magnitude(found, radix, format.frac(), side_of(mode, negative), steps);
+    ReadNumber {
+        format,
+        low: magnitude.low,
+        negative,
+        has_high_bits: magnitude.has_high_bits,
+        exact: magnitude.is_exact,
+    }
+}
+
+/// Reads a numeral into a format in a mode: the numeral's magnitude in ulps of the format, rounded in the mode, with the
+/// numeral's sign. It takes at most eight steps for each byte and each bit, and 64.
+///
+/// # Errors
+///
+/// Other bytes than a numeral of the radix are refused with the kind of their cause.
+pub fn read_format<L: Ledger>(
+    s: &[u8],
+    radix: Radix,
+    format: Format,
+    mode: ReadMode,
+    steps: &mut Steps<L>,
+) -> Result<ReadNumber, ParseFixedError>
+    ensures numeral { IsOk result ↔ IsNumeral radix s.now }
+    ensures cause { IfErr result (λ kind. HasCause radix s.now kind) }
+    ensures reading { IfOk result (λ found. (p : Parts) → HasNumeral radix s.now p → IsReading mode radix p found) }
+    ensures format { IfOk result (λ found. found.format ≡ format) }
+    ensures cost { steps.new ≤ steps.old + 8 * (length s.now + format.width) + 64 }
+{
+    // Matched by reference: moving the views out would copy them.
+    let scanned = scan(s, radix, steps);
+    match &scanned {
+        Ok(found) => Ok(number_of(found, radix, format, mode, steps)),
+        Err(error) => Err(*error),
+    }
+}
+
+/// The reading of a literal over a ledger that no other counter uses.
+fn read_literal_over<L: Ledger>(
+    s: &[u8],
+    format: Format,
+    blank: Blank,
+) -> Result<ReadNumber, ParseFixedError>
+    requires name { blank.name ≡ L.name }
+    requires parts { blank.parts ≡ L.parts }
+    requires backed { 0 < L.parts }
+    ensures literal { IsOk result ↔ IsLiteral format.signed s.now }
+    ensures cause { IfErr result (λ kind. HasLiteralCause format.signed s.now kind) }
+    ensures reading { IfOk result (λ found. (p : Parts) → HasLiteral format.signed s.now p → IsReading NearestEven (literal_radix format.signed s.now) p found) }
+    ensures format { IfOk result (λ found. found.format ≡ format) }
+{
+    let mut steps: Steps<L> = Steps::new(blank);
+    match scan_lit(s, format.signed(), &mut steps) {
+        Ok((radix, found)) => Ok(number_of(
+            &found,
+            radix,
+            format,
+            ReadMode::NearestEven,
+            &mut steps,
+        )),
+        Err(error) => Err(error),
+    }
+}
+
+/// Reads a literal into a format, rounded to the nearest ulp, ties to even.
+///
+/// One minus may come first for a signed format. A prefix `0b`, `0o` or `0x` names the radix, which is 10 without one.
+/// Underscores may follow a prefix and a digit of their part.
+///
+/// # Errors
+///
+/// Other bytes than a literal are refused with the kind of their cause.
+pub fn read_literal(s: &[u8], format: Format) -> Result<ReadNumber, ParseFixedError>
+    ensures literal { IsOk result ↔ IsLiteral format.signed s.now }
+    ensures cause { IfErr result (λ kind. HasLiteralCause format.signed s.now kind) }
+    ensures reading { IfOk result (λ found. (p : Parts) → HasLiteral format.signed s.now p → IsReading NearestEven (literal_radix format.signed s.now) p found) }
+    ensures format { IfOk result (λ found. found.format ≡ format) }
+{
+    read_literal_over::<Brand>(s, format, Blank::new(1))
+}
