@@ -78,10 +78,19 @@ install: build
 uninstall:
 	for program in $(PROGRAMS); do rm -f "$(DESTDIR)$(PREFIX)/bin/$$program"; done
 
-# Times, memory and instructions of the programs and of single calls.
+# Times, memory and instructions of the programs and of single calls, beside C, a reference in plain Rust, and PEER (see
+# bench/measure.py). What has no compiler here is left out.
 bench: build
 	@$(MAKE) -s --no-print-directory $(BENCH:%=build/%)
+	@if command -v rustc >/dev/null; then $(MAKE) -s --no-print-directory build/bench_ideal; fi
+	@if command -v cc >/dev/null; then $(MAKE) -s --no-print-directory build/bench_c; fi
 	python3 bench/measure.py
+
+build/bench_ideal: bench/ideal.rs
+	rustc --edition 2024 -A warnings -O -C codegen-units=1 -C panic=abort -C target-cpu=x86-64-v2 $< -o $@
+
+build/bench_c: bench/calls.c
+	cc -O2 -Wall -Wextra $< -o $@
 
 # Seeded inputs, answered by the programs and by whole-number arithmetic in Python.
 compare: build

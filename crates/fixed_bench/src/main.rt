@@ -1,34 +1,94 @@
-//! Makes single calls of the library so often that they can be timed, or runs the line engine with a rule that costs nothing.
+//! Times single library calls.
 //!
-//! With the word `engine` the lines of the input are answered by one constant answer. Without words each line of the
-//! input is a call, how often it is made, what it is made with, and a text:
+//! `fixed_bench CALL TIMES WORDS..` reads the lines of standard input once, makes the call with each line, as many times
+//! over as TIMES says, and prints the sum of what the calls answered, so that none can be left out. With TIMES 0 it makes
+//! no call, so that the difference of two runs is the time of the calls alone.
 //!
-//! - `scan TIMES RADIX TEXT` reads a numeral into its views,
-//! - `digits TIMES RADIX TEXT` hands out the whole digits of a decimal numeral as numbers of up to 19 digits,
-//! - `read TIMES TYPE FRAC TEXT` reads a decimal numeral into bits,
-//! - `write TIMES FRAC BITS` prints bits.
+//! | CALL | WORDS | A line | The call |
+//! |---|---|---|---|
+//! | `scan` | RADIX | a numeral | `scan` |
+//! | `read` | FORMAT | a decimal numeral | the overflowing reader, to the nearest |
+//! | `write` | FORMAT | bits | `shortest` |
+//! | `engine` | | a line | the line engine alone, with a rule of one constant answer; TIMES is not looked at |
 //!
-//! What the last call gave is printed, and each call depends on the one before it, so that none can be left out.
+//! FORMAT is one of `I4F4`, `U16F16`, `I32F32` and `U0F64`.
 #![tactic(auto)]
 
-mod calls;
-mod constant;
+ghost use Rattle.std.specs.Prelude.{◌≡◌, ◌<◌};
 
-use calls::answer_all;
+mod constant;
+mod printing;
+mod reading;
+
 use constant::run_constant;
+use fixed_steps::Steps;
 use line_engine::Status;
+use std::alloc::Global;
 use std::marker::Brand;
-use std::sync::ledger::Blank;
+use std::sync::ledger::{Blank, Ledger};
 use std::{env, io};
+
+/// The number that a word spells in decimal, 0 where it spells none.
+fn number(word: Option<&String>) -> u32 {
+    match word {
+        Some(digits) => match digits.as_str().parse::<u32>() {
+            Ok(n) => n,
+            Err(_) => 0,
+        },
+        None => 0,
+    }
+}
+
+/// A word, or nothing where there is none.
+fn text<'a>(word: Option<&'a String>) -> &'a str {
+    match word {
+        Some(word) => word.as_str(),
+        None => "",
+    }
+}
+
+/// The lines of standard input.
+fn lines(rt: &HostRuntime) -> io::Result<Vec<String>> {
+    let mut all = Vec::new(rt.alloc());
+    for line in rt.lines(rt.alloc()) {
+        all.push(line?)?;
+    }
+    Ok(all)
+}
+
+/// Makes the calls that the words name, and answers their sum.
+fn sum_of<L: Ledger>(
+    words: &[String],
+    inputs: &[String],
+    alloc: Global,
+    blank: Blank,
+) -> io::Result<i128>
+    requires name { blank.name ≡ L.name }
+    requires parts { blank.parts ≡ L.parts }
+    requires some { 0 < blank.parts }
+{
+    let mut steps = Steps::<L>::new(blank);
+    let times = number(words.get(1));
+    let word = text(words.get(2));
+    let sum = match text(words.get(0)) {
+        "scan" => reading::scan_all(inputs, reading::radix_of(word), times, &mut steps),
+        "read" => reading::read_as(word, inputs, times, &mut steps),
+        "write" => printing::write_as(word, &printing::bits_of(alloc, inputs)?, times, &mut steps),
+        _ => -1,
+    };
+    Ok(sum)
+}
 
 fn main(rt: HostRuntime) -> io::Result<()> {
     let words: Vec<String> = env::args(&rt)?.skip(1).collect(rt.alloc())?;
-    if !words.is_empty() {
+    if text(words.get(0)) == "engine" {
         let status = run_constant::<Brand>(&rt, rt.alloc(), Blank::new(1));
         if status != Status::Done {
             println!(rt; "stopped early")?;
         }
         return Ok(());
     }
-    answer_all::<Brand>(&rt, Blank::new(1))
+    let inputs = lines(&rt)?;
+    let sum = sum_of::<Brand>(&words, &inputs, rt.alloc(), Blank::new(1))?;
+    println!(rt; "{sum}")
 }

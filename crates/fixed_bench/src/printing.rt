@@ -1,0 +1,90 @@
+//! Printing bits.
+
+ghost use Rattle.std.specs.Prelude.{◌≤◌};
+ghost use Rattle.fixed_bits.specs.Ranges.{IsWide};
+
+use fixed_steps::Steps;
+use fixed_write::shortest;
+use std::alloc::{AllocError, Global};
+use std::sync::ledger::Ledger;
+
+/// Bits of at most 64 bits, as a sign and a magnitude.
+#[derive(Clone, Copy)]
+pub struct SignedBits {
+    negative: bool,
+    magnitude: u64,
+}
+
+impl SignedBits {
+    /// The bits that a line spells in decimal, 0 where it spells none.
+    fn of(line: &str) -> SignedBits {
+        let (negative, digits) = match line.strip_prefix('-') {
+            Some(digits) => (true, digits),
+            None => (false, line),
+        };
+        let magnitude = match digits.parse::<u64>() {
+            Ok(magnitude) => magnitude,
+            Err(_) => 0,
+        };
+        SignedBits {
+            negative,
+            magnitude,
+        }
+    }
+
+    /// The bits, 0 where they are below those of each signed type.
+    #[inline]
+    fn value(self) -> i128
+        ensures { IsWide result }
+    {
+        if self.negative && self.magnitude > 1 << 63 {
+            0
+        } else if self.negative {
+            -i128::from(self.magnitude)
+        } else {
+            i128::from(self.magnitude)
+        }
+    }
+}
+
+/// The bits of each line.
+pub fn bits_of(alloc: Global, inputs: &[String]) -> Result<Vec<SignedBits>, AllocError> {
+    let mut all = Vec::new(alloc);
+    for input in inputs {
+        all.push(SignedBits::of(input.as_str()))?;
+    }
+    Ok(all)
+}
+
+/// The fraction length of the format that a word names.
+fn frac_of(format: &str) -> u32
+    ensures { result ≤ 64 }
+{
+    match format {
+        "I4F4" => 4,
+        "U16F16" => 16,
+        "I32F32" => 32,
+        _ => 64,
+    }
+}
+
+/// The sum of the lengths and of the last bytes of the shortest texts.
+pub fn write_as<L: Ledger>(
+    format: &str,
+    all: &[SignedBits],
+    times: u32,
+    steps: &mut Steps<L>,
+) -> i128 {
+    let frac = frac_of(format);
+    let mut sum: i128 = 0;
+    for _pass in 0..times {
+        for bits in all {
+            let text = shortest(bits.value(), frac, steps);
+            sum = sum.wrapping_add(i128::from(text.as_bytes().len() as u64));
+            if let Some(last) = text.as_bytes().last() {
+                sum = sum.wrapping_add(i128::from(*last));
+            }
+        }
+    }
+    sum
+}
