@@ -1,4 +1,4 @@
--- The nearest number of steps: by sums alone, uniqueness, scaling, and by quotient and rest.
+-- The nearest whole number: by sums alone, uniqueness, scaling, and by quotient and rest.
 use Rattle.std.proofs.Common.{◌≡◌, ℕ, ◌+◌, ◌*◌, ◌/◌, ◌%◌, ◌<◌, ◌≤◌, ◌⊎◌, ◌↔◌, arith, mul-le-mul_right, mul-le-mul_left, sym, ap, ⊎_elim, div-add-mod', mod-lt}
 use Rattle.std.proofs.Math.Nat.{le_of_mul-le-mul_left, eq_of_mul-eq-mul_left}
 use Rattle.std.proofs.lemmas.Bool.{cases_lt}

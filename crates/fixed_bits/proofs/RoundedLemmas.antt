@@ -1,4 +1,4 @@
--- The number of steps in each mode: uniqueness, existence, and equal fractions.
+-- Rounding in each mode: uniqueness, existence, and equal fractions.
 use Rattle.std.proofs.Common.{◌≡◌, ℕ, ◌+◌, ◌*◌, ◌/◌, ◌%◌, ◌<◌, ◌≤◌, Bool, true, false, arith, sym, mul-le-mul_right, mul-le-mul_left, ⊎_elim, div-add-mod', mod-lt}
 use Rattle.std.proofs.Math.Nat.{le_of_mul-le-mul_left}
 use Rattle.std.proofs.lemmas.Bool.{cases_lt}
@@ -19,7 +19,7 @@ not_above_unique num den p q a b = grind (arith, not_above_order num den p q, no
 not_below_unique : (num den p q : ℕ) → IsNotBelow num den p → IsNotBelow num den q → p ≡ q
 not_below_unique num den p q a b = grind (arith, not_below_order num den p q, not_below_order num den q p)
 
--- exactly one number of steps is right
+-- no two numbers are the rounded one
 pub rounded_unique : (m : ReadMode) (negative : Bool) (num den p q : ℕ) → 0 < den → IsRounded m negative num den p → IsRounded m negative num den q → p ≡ q
 rounded_unique NearestEven n num den p q pos a b = nearest_unique num den p q pos a b
 rounded_unique TowardsZero n num den p q pos a b = not_above_unique num den p q a b
@@ -28,7 +28,7 @@ rounded_unique Floor true num den p q pos a b = not_below_unique num den p q a b
 rounded_unique Ceil false num den p q pos a b = not_below_unique num den p q a b
 rounded_unique Ceil true num den p q pos a b = not_above_unique num den p q a b
 
--- ---- some number of steps is right
+-- ---- some number is the rounded one
 not_above_exists : (num den : ℕ) → 0 < den → (q : ℕ) × IsNotAbove num den q
 not_above_exists num den some =
     let split : num ≡ num / den * den + num % den = sym (div-add-mod' num den) in

@@ -1,4 +1,4 @@
--- The number of steps in each reading mode.
+-- The whole number that a fraction is rounded to in each mode.
 use Rattle.std.specs.Prelude.{ℕ, ◌+◌, ◌*◌, ◌<◌, ◌≤◌, Bool, true, false}
 use Rattle.fixed_bits.specs.declared.mode.ReadMode.{ReadMode}
 use Rattle.fixed_bits.specs.declared.mode.ReadMode.TheVariants.{NearestEven, TowardsZero, Floor, Ceil}
@@ -14,7 +14,7 @@ pub record IsNotBelow (num den q : ℕ) : Type 0 where
   pub at_least : num ≤ q * den
   pub before : q * den < num + den
 
--- the steps of a magnitude num / den, for a number that is negative or not
+-- q is the rounded magnitude num / den of a number that is negative or not
 abbrev pub IsRounded : ReadMode → Bool → ℕ → ℕ → ℕ → Type 0
 IsRounded NearestEven negative num den q = IsNearest num den q
 IsRounded TowardsZero negative num den q = IsNotAbove num den q

@@ -9,7 +9,7 @@ pub trait FixedBits: Copy {
     /// The integer type of the bits.
     type Inner: Inner;
 
-    /// The fraction length: how many bits are behind the point.
+    /// The fraction length: how many bits are after the point.
     const FRAC_NBITS: u32;
 
     ghost FRAC_NBITS: { ℕ };

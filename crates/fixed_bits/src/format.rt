@@ -60,7 +60,7 @@ impl Format {
         u32::from(self.width)
     }
 
-    /// How many of the bits are behind the point.
+    /// The fraction length: how many of the bits are after the point.
     pub fn frac(self) -> u32
         ensures frac { result ≡ self.frac }
         ensures valid { IsFormat self.width self.frac }
@@ -159,7 +159,7 @@ fn wrapped_image(format: Format, v: i128, high: i128) -> i128
     }
 }
 
-/// Ten times a fraction of `bits` bits: the digit before the point, and the bits behind it.
+/// Ten times a fraction of `bits` bits: the digit before the point, and the fraction that is left, in the same unit.
 #[tactic(auto, using(std::proofs::lemmas::Nat::and_mask))]
 pub fn mul10(rest: u64, bits: u32) -> (u8, u64)
     requires width { bits ≤ 64 }

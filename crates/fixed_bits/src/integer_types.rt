@@ -423,14 +423,14 @@ impl Inner for i64 {
 mod tests {
     use super::*;
 
-    /// What the bound alone says of a type: its ends, and what lies one step behind them.
+    /// What the bound alone says of a type: its ends, and the numbers next to them that are out of range.
     fn ends_fit<I: Inner>() -> bool {
         let low = I::MIN.value();
         let high = I::MAX.value();
         I::fits(low) && I::fits(high) && !I::fits(low - 1) && !I::fits(high + 1)
     }
 
-    /// Whether one step behind an end is cut to it, or comes in at the other end.
+    /// Whether the number one past an end saturates to it and wraps to the other end.
     fn ends_meet<I: Inner>() -> bool {
         let low = I::MIN.value();
         let high = I::MAX.value();
@@ -462,7 +462,7 @@ mod tests {
     }
 
     #[test]
-    fn each_type_cuts_and_wraps_behind_its_ends(rt: HostRuntime) {
+    fn each_type_saturates_and_wraps_past_its_ends(rt: HostRuntime) {
         assert!(rt;
             ends_meet::<u8>() && ends_meet::<u16>() && ends_meet::<u32>() && ends_meet::<u64>()
         );

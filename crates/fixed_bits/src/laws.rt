@@ -16,17 +16,17 @@ ghost use Rattle.fixed_bits.specs.Laws.{
   RankIsTheOne,
 };
 
-/// Each fraction has exactly one nearest number of steps.
+/// Each fraction has exactly one nearest whole number, ties to even.
 pub fn nearest_is_the_one()
     ensures { NearestIsTheOne }
 {}
 
-/// Each fraction has exactly one number of steps in each mode, for either sign.
+/// Each fraction is rounded to exactly one whole number in each mode, for either sign.
 pub fn rounded_is_the_one()
     ensures { RoundedIsTheOne }
 {}
 
-/// Equal fractions are rounded to the same number of steps.
+/// Equal fractions are rounded to the same whole number.
 pub fn equal_fractions_round_alike()
     ensures { EqualFractionsRoundAlike }
 {}

@@ -1,14 +1,14 @@
-//! To which side a number between two steps is rounded.
+//! How a number between two multiples of an ulp (the unit in the last place, the crate's DELTA) is rounded.
 
-/// To which of the two steps around it a number is rounded.
+/// To which of the two numbers of a format around it a number is rounded.
 #[derive(Clone, Copy, Debug, PartialEq, Eq)]
 pub enum ReadMode {
-    /// The nearest step, of two equally near the even one.
+    /// The nearest one; of two equally near the one whose bits are even.
     NearestEven,
-    /// The greatest step that is not above the number.
+    /// The greatest one that is not above the number.
     Floor,
-    /// The least step that is not below the number.
+    /// The least one that is not below the number.
     Ceil,
-    /// The nearest step that is not farther from zero.
+    /// The nearest one that is not farther from zero.
     TowardsZero,
 }

@@ -10,10 +10,11 @@ use Rattle.std.proofs.lemmas.Nat.{pow_pos, pow-add}
 use Rattle.fixed_bits.specs.Ranges.{IsWide}
 use Rattle.fixed_bits.specs.Down.{down}
 use Rattle.fixed_bits.proofs.Integers.{times_times, lt_times, lt_cancel}
-use Rattle.fixed_convert.specs.Moved.{shifted, StandsFor, OnSameSide}
+use Rattle.fixed_convert.specs.Moved.{shifted}
+use Rattle.fixed_convert.specs.Inner.Representative.{Represents, OnSameSide}
 use Rattle.fixed_convert.specs.Order.{order_of, order}
 use Rattle.fixed_convert.specs.Laws.{OrderIsOfValues, OrderIsTotal, ExactIsEqual}
-use Rattle.fixed_convert.proofs.StandLemmas.{side_below, side_above}
+use Rattle.fixed_convert.proofs.RepresentativeLemmas.{side_below, side_above}
 
 ranked_as : (P Q R P' Q' R' : Type 0) (o : Ordering) → (P → P') → (Q → Q') → (R → R') → MatchOrdering o P Q R → MatchOrdering o P' Q' R'
 ranked_as P Q R P' Q' R' Less p q r h = p h
@@ -76,7 +77,7 @@ total = record {
 pub exact_alike : ExactIsEqual
 exact_alike b f g c h e = congr (down b f g) g b f c h e
 
--- ---- what stands in for a product is ordered like it
+-- ---- what represents a product is ordered like it
 side_cmp : (v w e : ℤ) → OnSameSide v w → IsWide e → int_cmp v e ≡ int_cmp w e
 side_cmp v w e o x = alike v e w e (side_below v w e o x) (λ q. at_side o (rw q x) ∙ q) (side_above v w e o x)
   where
@@ -94,14 +95,14 @@ grow b f c g l =
     cmp_times (shifted b (g - f)) c (2 ^ f) (pow_pos f)
     ∙ ap (λ z. int_cmp z (c *ℤ pos (2 ^ f))) (times_times b (2 ^ (g - f)) (2 ^ f) ∙ ap (λ k. b *ℤ pos k) e)
 
-pub compare_left : (b : ℤ) (f : ℕ) (c : ℤ) (g : ℕ) (w : ℤ) → f ≤ g → IsWide c → StandsFor (shifted b (g - f)) w → int_cmp w c ≡ order_of b f c g
+pub compare_left : (b : ℤ) (f : ℕ) (c : ℤ) (g : ℕ) (w : ℤ) → f ≤ g → IsWide c → Represents (shifted b (g - f)) w → int_cmp w c ≡ order_of b f c g
 compare_left b f c g w l x st = sym (side_cmp (shifted b (g - f)) w c st.side x) ∙ grow b f c g l
 
 turned : (b : ℤ) (f : ℕ) (c : ℤ) (g : ℕ) → order_of b f c g ≡ ordering_reverse (order_of c g b f)
 unfolding order_of
 turned b f c g = int_cmp_total.antisymm (b *ℤ pos (2 ^ g)) (c *ℤ pos (2 ^ f))
 
-pub compare_right : (b : ℤ) (f : ℕ) (c : ℤ) (g : ℕ) (w : ℤ) → g ≤ f → IsWide b → StandsFor (shifted c (f - g)) w → int_cmp b w ≡ order_of b f c g
+pub compare_right : (b : ℤ) (f : ℕ) (c : ℤ) (g : ℕ) (w : ℤ) → g ≤ f → IsWide b → Represents (shifted c (f - g)) w → int_cmp b w ≡ order_of b f c g
 compare_right b f c g w l x st = int_cmp_total.antisymm b w ∙ ap ordering_reverse (compare_left c g b f w l x st) ∙ sym (turned b f c g)
 
 -- what is used of a comparison of the code's numbers

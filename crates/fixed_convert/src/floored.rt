@@ -5,7 +5,8 @@ ghost use Rattle.fixed_bits.specs.Ranges.{IsInRange, IsOutOfRange, IsWide};
 ghost use Rattle.fixed_bits.specs.Images.{IsImage};
 ghost use Rattle.fixed_bits.specs.Down.{IsDown, down};
 ghost use Rattle.fixed_bits.specs.declared.format.Policy.TheVariants.{Checked, Saturating, Wrapping};
-ghost use Rattle.fixed_convert.specs.Moved.{shifted, StandsFor};
+ghost use Rattle.fixed_convert.specs.Moved.{shifted};
+ghost use Rattle.fixed_convert.specs.Inner.Representative.{Represents};
 
 use fixed_bits::{Format, Inner, Policy};
 
@@ -25,7 +26,7 @@ impl Floored {
         requires shift { self.shift ≤ 64 }
         ensures { IsImage Wrapping I.SIGNED I.BITS (shifted self.bits self.shift) (I.number result) }
     {
-        I::wrap(self.stand_in())
+        I::wrap(self.representative())
     }
 
     /// The Saturating image of the number in the type's range.
@@ -34,7 +35,7 @@ impl Floored {
         requires shift { self.shift ≤ 64 }
         ensures { IsImage Saturating I.SIGNED I.BITS (shifted self.bits self.shift) (I.number result) }
     {
-        I::saturate(self.stand_in())
+        I::saturate(self.representative())
     }
 
     /// Whether the number is in the type's range.
@@ -43,13 +44,13 @@ impl Floored {
         requires shift { self.shift ≤ 64 }
         ensures { IsTrue result ↔ IsInRange I.SIGNED I.BITS (shifted self.bits self.shift) }
     {
-        I::fits(self.stand_in())
+        I::fits(self.representative())
     }
 
     /// The number itself, or where it may be longer than 127 bits one with the same images.
-    pub(crate) fn stand_in(self) -> i128
+    pub(crate) fn representative(self) -> i128
         requires { IsWide self.bits }
-        ensures { StandsFor (shifted self.bits self.shift) result }
+        ensures { Represents (shifted self.bits self.shift) result }
     {
         if self.shift < 64 {
             times_power(self.bits, self.shift)
@@ -115,7 +116,7 @@ pub fn reformat(format: Format, policy: Policy, b: i128, from: u32) -> Option<(i
     ensures range { IfSome result (λ r. IsInRange format.signed format.width r.0) }
     ensures wide { IfSome result (λ r. IsWide r.0) }
 {
-    let moved = floor_into(b, from, format.frac()).stand_in();
+    let moved = floor_into(b, from, format.frac()).representative();
     match policy.image(format, moved) {
         Some(c) => Some((c, !format.contains(moved))),
         None => None,

@@ -17,7 +17,7 @@ pub trait Num: Copy {
     /// How many bits there are: 1, 8, 16, 32 or 64.
     const WIDTH: u32;
 
-    /// The fraction length: how many bits are behind the point.
+    /// The fraction length: how many bits are after the point.
     const FRAC: u32;
 
     ghost SIGNED: { Bool };

@@ -7,7 +7,7 @@ ghost use Rattle.fixed_convert.specs.Order.{order_of};
 use crate::floored::Floored;
 use std::cmp::Ordering;
 
-/// How `b` over two to the power of `f` stands to `c` over two to the power of `g`, for fraction lengths `f` and `g` of any size.
+/// The order of `b` over two to the power of `f` and `c` over two to the power of `g`, for fraction lengths `f` and `g` of any size.
 #[tactic(auto, using(crate::proofs::OrderLemmas::comparing))]
 pub fn compare(b: i128, f: u32, c: i128, g: u32) -> Ordering
     requires left { IsWide b }
@@ -19,12 +19,12 @@ pub fn compare(b: i128, f: u32, c: i128, g: u32) -> Ordering
             bits: b,
             shift: g - f,
         };
-        left.stand_in().cmp(&c)
+        left.representative().cmp(&c)
     } else {
         let right = Floored {
             bits: c,
             shift: f - g,
         };
-        b.cmp(&right.stand_in())
+        b.cmp(&right.representative())
     }
 }

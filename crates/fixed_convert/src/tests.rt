@@ -97,7 +97,7 @@ fn a_move_rounds_down(rt: HostRuntime) {
     let low = floor_into(-40, 4, 0);
     assert!(rt;
         low == Floored { bits: -3, shift: 0 },
-        "-2.5 in sixteenths, in whole steps"
+        "-2.5 in sixteenths, in whole numbers"
     );
     let high = floor_into(9223372036854775808, 0, 64);
     assert!(rt; !high.fits::<u64>() && high.wrap::<u64>() == 0);

@@ -1,4 +1,4 @@
--- Numbers that stand in for others: the same images, the same side of every range.
+-- Numbers that represent others: the same images, the same side of every range.
 use Rattle.std.proofs.Common.{IsTrue, not, ◌≡◌, ℕ, suc, ◌+◌, ◌-◌, ◌*◌, ◌^◌, ◌≤◌, Bool, true, false, ℤ, pos, negsuc, neg_ℤ, arith, refl, sym, ap, inl, inr, ⊎_elim, ◌∙◌, mul-le-mul_right}
 use Rattle.std.specs.Prelude.{◌<ℤ◌, ◌↔◌}
 use Rattle.std.proofs.lemmas.Int.{ints, by_lt_z}
@@ -10,7 +10,8 @@ use Rattle.fixed_bits.specs.declared.format.Policy.{Policy}
 use Rattle.fixed_bits.specs.declared.format.Policy.TheVariants.{Checked, Saturating, Wrapping}
 use Rattle.fixed_bits.proofs.ImageLemmas.{near_joined}
 use Rattle.fixed_bits.proofs.LawLemmas.{range_decided, ends_wide}
-use Rattle.fixed_convert.specs.Moved.{shifted, StandsFor, OnSameSide}
+use Rattle.fixed_convert.specs.Moved.{shifted}
+use Rattle.fixed_convert.specs.Inner.Representative.{Represents, OnSameSide}
 
 -- ---- both are on the same side of each wide number
 pub side_turned : (v w : ℤ) → OnSameSide v w → OnSameSide w v
@@ -56,26 +57,26 @@ near_less n a b l w =
     let q : w.1 * 2 ^ 64 ≡ w.1 * 2 ^ (64 - n) * 2 ^ n = ap (λ x. w.1 * x) e ∙ omega arith in
     (w.0 * 2 ^ (64 - n), w.1 * 2 ^ (64 - n), rw (p, q) at w.2)
 
-pub stand_image : (p : Policy) (s : Bool) (n : ℕ) (v w c : ℤ) → n ≤ 64 → StandsFor v w → IsImage p s n w c → IsImage p s n v c
-stand_image Checked s n v w c l st h =
+pub represents_image : (p : Policy) (s : Bool) (n : ℕ) (v w c : ℤ) → n ≤ 64 → Represents v w → IsImage p s n w c → IsImage p s n v c
+represents_image Checked s n v w c l st h =
     let back = side_turned v w st.side in
     record { in_range = side_in s n w v l back h.in_range; same = h.same ∙ sym (side_same s n w v l back h.in_range) }
-stand_image Saturating s n v w c l st h = record {
+represents_image Saturating s n v w c l st h = record {
   same = λ x. h.same (side_in s n v w l st.side x) ∙ side_same s n v w l st.side x;
   below = λ x. h.below (side_below v w (lowest s n) st.side (ends_wide s n l).0 x);
   above = λ x. h.above (side_above v w (greatest s n) st.side (ends_wide s n l).1 x);
 }
-stand_image Wrapping s n v w c l st h = record {
+represents_image Wrapping s n v w c l st h = record {
   in_range = h.in_range;
   near = near_joined (2 ^ n) c w v h.near (near_less n w v l st.near);
 }
 
--- ---- what stands in for a product
+-- ---- what represents a product
 split_power : (k : ℕ) → 64 ≤ k → 2 ^ k ≡ 2 ^ (k - 64) * 2 ^ 64
 split_power k l = let i : k ≡ (k - 64) + 64 = omega arith in ap (λ x. 2 ^ x) i ∙ pow-add 2 (k - 64) 64
 
-pub stand_above : (b : ℤ) (k : ℕ) → 64 ≤ k → pos 0 <ℤ b → StandsFor (shifted b k) (pos (2 ^ 64))
-stand_above (pos a) k l h =
+pub represents_above : (b : ℤ) (k : ℕ) → 64 ≤ k → pos 0 <ℤ b → Represents (shifted b k) (pos (2 ^ 64))
+represents_above (pos a) k l h =
     let e : a * 2 ^ k ≡ a * 2 ^ (k - 64) * 2 ^ 64 = ap (λ x. a * x) (split_power k l) ∙ omega arith in
     let p : 2 ^ 64 ≤ 2 ^ k = pow_mono l in
     let one : 1 ≤ a = omega (arith, ints) in
@@ -84,11 +85,11 @@ stand_above (pos a) k l h =
       near = (a * 2 ^ (k - 64), 1, omega (arith, ints, e));
       side = inr (inl (omega (arith, ints, p, q), omega (arith, ints)));
     }
-stand_above (negsuc a) k l h = absurd (omega (arith, ints))
+represents_above (negsuc a) k l h = absurd (omega (arith, ints))
 
-pub stand_below : (b : ℤ) (k : ℕ) → 64 ≤ k → b <ℤ pos 0 → StandsFor (shifted b k) (neg_ℤ (pos (2 ^ 64)))
-stand_below (pos a) k l h = absurd (omega (arith, ints))
-stand_below (negsuc a) k l h =
+pub represents_below : (b : ℤ) (k : ℕ) → 64 ≤ k → b <ℤ pos 0 → Represents (shifted b k) (neg_ℤ (pos (2 ^ 64)))
+represents_below (pos a) k l h = absurd (omega (arith, ints))
+represents_below (negsuc a) k l h =
     let e : suc a * 2 ^ k ≡ suc a * 2 ^ (k - 64) * 2 ^ 64 = ap (λ x. suc a * x) (split_power k l) ∙ omega arith in
     let p : 2 ^ 64 ≤ 2 ^ k = pow_mono l in
     let one : 1 ≤ suc a = omega arith in
@@ -99,11 +100,11 @@ stand_below (negsuc a) k l h =
     }
 
 -- ---- a test of the one is a test of the other
-pub stand_test : (A : Type 0) (s : Bool) (n : ℕ) (v w : ℤ) → n ≤ 64 → StandsFor v w → A ↔ IsOutOfRange s n w → A ↔ IsOutOfRange s n v
-stand_test A s n v w l st e = ((λ a. side_out s n w v l (side_turned v w st.side) (e.0 a)), (λ o. e.1 (side_out s n v w l st.side o)))
+pub represents_test : (A : Type 0) (s : Bool) (n : ℕ) (v w : ℤ) → n ≤ 64 → Represents v w → A ↔ IsOutOfRange s n w → A ↔ IsOutOfRange s n v
+represents_test A s n v w l st e = ((λ a. side_out s n w v l (side_turned v w st.side) (e.0 a)), (λ o. e.1 (side_out s n v w l st.side o)))
 
-pub stand_none : (A P : Type 0) (s : Bool) (n : ℕ) (v w : ℤ) → n ≤ 64 → StandsFor v w → A ↔ (P × IsOutOfRange s n w) → A ↔ (P × IsOutOfRange s n v)
-stand_none A P s n v w l st e = ((λ a. ((e.0 a).0, side_out s n w v l (side_turned v w st.side) (e.0 a).1)), (λ o. e.1 (o.0, side_out s n v w l st.side o.1)))
+pub represents_none : (A P : Type 0) (s : Bool) (n : ℕ) (v w : ℤ) → n ≤ 64 → Represents v w → A ↔ (P × IsOutOfRange s n w) → A ↔ (P × IsOutOfRange s n v)
+represents_none A P s n v w l st e = ((λ a. ((e.0 a).0, side_out s n w v l (side_turned v w st.side) (e.0 a).1)), (λ o. e.1 (o.0, side_out s n v w l st.side o.1)))
 
 -- the contrary of "in range"
 pub flag_out : (t : Bool) (s : Bool) (n : ℕ) (v : ℤ) → (IsTrue t ↔ IsInRange s n v) → IsTrue (not t) ↔ IsOutOfRange s n v
