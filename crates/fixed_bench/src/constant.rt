@@ -4,7 +4,7 @@ ghost use Rattle.std.specs.Prelude.{◌≡◌, ◌<◌};
 
 use fixed_io::{StdSink, StdSource};
 use fixed_steps::Steps;
-use line_engine::{Answer, LineRule, MAX_LIMIT, Status, run_lines};
+use line_engine::{LineRule, MAX_LIMIT, Output, Status, run_lines};
 use std::alloc::Global;
 use std::sync::ledger::{Blank, Ledger};
 
@@ -13,21 +13,28 @@ use std::sync::ledger::{Blank, Ledger};
 pub struct ConstantRule;
 
 impl<L: Ledger> LineRule<L> for ConstantRule {
-    ghost use Rattle.fixed_bench.specs.Constant.{IsConstant, constant_one, constant_kept};
+    ghost use Rattle.fixed_bench.specs.Constant.{IsConstant, constant_one, constant_kept, constant_room};
 
     const PER_BYTE: u64 = 0;
 
     const EXTRA: u64 = 0;
 
+    const MAX_ANSWER: usize = 8;
+
     ghost PER_BYTE = { 0 };
 
     ghost EXTRA = { 0 };
 
+    ghost MAX_ANSWER = { 8 };
+
     ghost Answers = { λ rule. IsConstant };
 
-    fn answer(&self, _line: &[u8], _steps: &mut Steps<L>) -> Answer {
-        Answer::of(b"0 0 fits", false)
+    fn answer(&self, _line: &[u8], out: &mut Output, _steps: &mut Steps<L>) -> bool {
+        out.push_bytes(b"0 0 fits");
+        false
     }
+
+    ghost room_law = { constant_room };
 
     ghost one_law = { λ rule. constant_one };
 

@@ -1,11 +1,12 @@
 //! The rule of the program: each line is answered by the shortest decimal that its numeral is respelled to.
 
+ghost use Rattle.std.proofs.Common.{lit<};
 ghost use Rattle.fixed_respell.specs.Answer.{IsAnswer};
 ghost use Rattle.fixed_respell.specs.AnswerLemmas.{answer_one, long_by_front};
 
 use crate::line_answer::answer;
-use crate::{Answer, LineRule};
 use fixed_steps::Steps;
+use line_engine::{LineRule, MAX_ANSWER, Output};
 use std::sync::ledger::Ledger;
 
 /// The rule that answers a line as `answer` does.
@@ -17,15 +18,23 @@ impl<L: Ledger> LineRule<L> for RespellRule {
 
     const EXTRA: u64 = 624;
 
+    const MAX_ANSWER: usize = MAX_ANSWER;
+
     ghost PER_BYTE = { 8 };
 
     ghost EXTRA = { 624 };
 
+    ghost MAX_ANSWER = { 192 };
+
     ghost Answers = { λ rule. IsAnswer };
 
-    fn answer(&self, line: &[u8], steps: &mut Steps<L>) -> Answer {
-        answer(line, steps)
+    fn answer(&self, line: &[u8], out: &mut Output, steps: &mut Steps<L>) -> bool {
+        let reply = answer(line, steps);
+        out.push_bytes(reply.as_bytes());
+        reply.is_fault()
     }
+
+    ghost room_law = { lit< tt };
 
     ghost one_law = { λ rule. answer_one };
 

@@ -7,7 +7,7 @@ use Rattle.std.proofs.lemmas.Bool.{cases_lt}
 use Rattle.std.proofs.KnownBytes.{Appends-trans}
 use Rattle.std.specs.Io.KnownBytes.{Appends}
 use Rattle.line_engine.specs.Output.{AreAnswers, reply_line, written_of, is_fault, any_fault}
-use Rattle.line_engine.specs.Progress.{AnsweredLine, AnswersLineUntilFailure, Answered, AnswersUntilFailure, Flushes, State, state, bytes_in}
+use Rattle.line_engine.specs.Progress.{AnsweredLine, StopsBefore, Answered, AnswersUntilFailure, Flushes, State, state, bytes_in}
 use Rattle.line_engine.specs.Output.{AppendsPrefix}
 use Rattle.line_engine.specs.AnswerText.{AnswerText}
 use Rattle.line_engine.proofs.PrefixLemmas.{part_second, flushes_both, flushes_part}
@@ -50,15 +50,16 @@ module _ (A : List ℕ → AnswerText → Type 0) (per_byte extra : ℕ) where
     cost = omega (arith, one.cost);
   }
 
-  pub broken_one : (line : List ℕ) (s : State) (written : Option (List ℕ)) (steps : ℕ) → AnswersLineUntilFailure A per_byte extra line s written steps → AnswersUntilFailure A per_byte extra (line ∷ []) s written steps
-  broken_one line s written steps one = record {
-    some = line ∷ [];
-    more = [];
+  -- a write failed before the first of these lines was answered
+  pub broken_none : (lines : List (List ℕ)) (s : State) (written : Option (List ℕ)) (steps : ℕ) → StopsBefore s written steps → AnswersUntilFailure A per_byte extra lines s written steps
+  broken_none lines s written steps stop = record {
+    some = [];
+    more = lines;
     cut = refl;
-    replies = one.reply ∷ [];
-    answers = (one.answer, tt);
-    part = subst (λ l. AppendsPrefix s.written written (s.held ++ l)) (sym (append-nil (reply_line one.reply))) one.part;
-    cost = omega (arith, one.cost);
+    replies = [];
+    answers = tt;
+    part = subst (AppendsPrefix s.written written) (sym (append-nil s.held)) stop.part;
+    cost = omega (arith, stop.cost);
   }
 
   -- some lines, and those behind them
@@ -148,12 +149,4 @@ answered_kept A per_byte extra n line s t keeping one = record {
   passes = one.passes;
   faulty = one.faulty;
   cost = cheaper per_byte extra n line s.steps t.steps one.cost;
-}
-
-pub broken_kept : (A : List ℕ → AnswerText → Type 0) (per_byte extra n : ℕ) (line : List ℕ) (s : State) (written : Option (List ℕ)) (steps : ℕ) → Keeping A n → AnswersLineUntilFailure A per_byte extra (take n line) s written steps → AnswersLineUntilFailure A per_byte extra line s written steps
-broken_kept A per_byte extra n line s written steps keeping one = record {
-  reply = one.reply;
-  answer = keeps A n line one.reply keeping one.answer;
-  part = one.part;
-  cost = cheaper per_byte extra n line s.steps steps one.cost;
 }

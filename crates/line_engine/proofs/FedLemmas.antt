@@ -1,13 +1,13 @@
--- What the next bytes of a piece make of the line that is kept, and of its answers.
+-- What the next bytes of a chunk make of the line that is kept, and of its answers.
 use Rattle.std.proofs.Common.{◌≡◌, ℕ, ◌+◌, List, [], ◌∷◌, ◌++◌, take, drop, sym, ap, ◌∙◌, subst, append-nil, Option}
 use Rattle.line_engine.specs.Lines.{ended_lines, unended}
-use Rattle.line_engine.specs.Progress.{Answered, AnsweredLine, AnswersUntilFailure, AnswersLineUntilFailure, IsKept, Flushes, State}
+use Rattle.line_engine.specs.Progress.{Answered, AnsweredLine, AnswersUntilFailure, StopsBefore, IsKept, Flushes, State}
 use Rattle.line_engine.specs.AnswerText.{AnswerText}
-use Rattle.line_engine.proofs.AnsweredLemmas.{answered_none, answered_one, answered_both, broken_one, broken_first, broken_second}
+use Rattle.line_engine.proofs.AnsweredLemmas.{answered_none, answered_one, answered_both, broken_first, broken_none, broken_second}
 use Rattle.line_engine.proofs.ChunkLemmas.{EndsAt, Next, next, kept_unended, nothing_kept}
 use Rattle.line_engine.proofs.LineLemmas.{unended_none}
 
--- behind a line that hasn't ended this prefix of a piece was fed: n bytes of the line are kept, and the lines that ended are answered
+-- behind a line that hasn't ended this prefix of a chunk was fed: n bytes of the line are kept, and the lines that ended are answered
 pub record Fed (A : List ℕ → AnswerText → Type 0) (per_byte extra n : ℕ) (whole prefix line : List ℕ) (before after : State) : Type 0 where
   pub kept : line ≡ take n (unended (whole ++ prefix))
   pub answered : Answered A per_byte extra (ended_lines (whole ++ prefix)) before after
@@ -21,11 +21,11 @@ module _ (A : List ℕ → AnswerText → Type 0) (per_byte extra n : ℕ) where
   }
 
   -- one more line was
-  pub fed_more : (whole piece prefix rest line new : List ℕ) (end : ℕ) (s t u : State) → piece ≡ prefix ++ rest → EndsAt rest end → Fed A per_byte extra n whole prefix line s t
+  pub fed_more : (whole chunk prefix rest line new : List ℕ) (end : ℕ) (s t u : State) → chunk ≡ prefix ++ rest → EndsAt rest end → Fed A per_byte extra n whole prefix line s t
       → ((whole : List ℕ) → IsKept n whole line → AnsweredLine A per_byte extra (whole ++ take end rest) t u) → new ≡ []
       → Fed A per_byte extra n whole (prefix ++ (take end rest ++ 10 ∷ [])) new s u
-  fed_more whole piece prefix rest line new end s t u split at fed one none =
-      let step : Next n whole piece prefix rest end = next n whole piece prefix rest end split at in
+  fed_more whole chunk prefix rest line new end s t u split at fed one none =
+      let step : Next n whole chunk prefix rest end = next n whole chunk prefix rest end split at in
       let here : List ℕ = unended (whole ++ prefix) ++ take end rest in
       record {
         kept = none ∙ sym (ap (take n) step.none_held ∙ nothing_kept n);
@@ -34,14 +34,13 @@ module _ (A : List ℕ → AnswerText → Type 0) (per_byte extra n : ℕ) where
             (answered_one A per_byte extra here t u (one (unended (whole ++ prefix)) (kept_unended n (whole ++ prefix) line fed.kept))));
       }
 
-  -- the next line broke off
-  pub fed_broken : (whole piece prefix rest line : List ℕ) (end : ℕ) (s t : State) (written : Option (List ℕ)) (steps : ℕ) → piece ≡ prefix ++ rest → EndsAt rest end → Fed A per_byte extra n whole prefix line s t
-      → ((whole : List ℕ) → IsKept n whole line → AnswersLineUntilFailure A per_byte extra (whole ++ take end rest) t written steps)
-      → AnswersUntilFailure A per_byte extra (ended_lines (whole ++ piece)) s written steps
-  fed_broken whole piece prefix rest line end s t written steps split at fed one =
-      let step : Next n whole piece prefix rest end = next n whole piece prefix rest end split at in
+  -- a write failed before the next line was answered
+  pub fed_broken : (whole chunk prefix rest line : List ℕ) (end : ℕ) (s t : State) (written : Option (List ℕ)) (steps : ℕ) → chunk ≡ prefix ++ rest → EndsAt rest end → Fed A per_byte extra n whole prefix line s t
+      → StopsBefore t written steps → AnswersUntilFailure A per_byte extra (ended_lines (whole ++ chunk)) s written steps
+  fed_broken whole chunk prefix rest line end s t written steps split at fed stop =
+      let step : Next n whole chunk prefix rest end = next n whole chunk prefix rest end split at in
       let here : List ℕ = unended (whole ++ prefix) ++ take end rest in
       subst (λ lines. AnswersUntilFailure A per_byte extra lines s written steps) (sym step.all)
       (broken_first A per_byte extra (ended_lines (whole ++ prefix) ++ here ∷ []) (ended_lines (drop (end + 1) rest)) s written steps
       (broken_second A per_byte extra (ended_lines (whole ++ prefix)) (here ∷ []) s t written steps fed.answered
-      (broken_one A per_byte extra here t written steps (one (unended (whole ++ prefix)) (kept_unended n (whole ++ prefix) line fed.kept)))))
+      (broken_none A per_byte extra (here ∷ []) t written steps stop)))

@@ -1,5 +1,5 @@
 -- The output of an input: the answers to its lines, each followed by a newline.
-use Rattle.std.specs.Prelude.{◌≡◌, ℕ, List, [], ◌∷◌, ◌++◌, Bool, flat_map}
+use Rattle.std.specs.Prelude.{◌≡◌, ℕ, ◌≤◌, List, [], ◌∷◌, ◌++◌, Bool, flat_map, length}
 use Rattle.std.specs.declared.option.Option.{Option}
 use Rattle.std.specs.Io.KnownBytes.{Appends}
 use Rattle.std.specs.List.{list_any}
@@ -11,6 +11,13 @@ AreAnswers A [] [] = Unit {0}
 AreAnswers A [] (reply ∷ replies) = ⊥
 AreAnswers A (line ∷ lines) [] = ⊥
 AreAnswers A (line ∷ lines) (reply ∷ replies) = A line reply × AreAnswers A lines replies
+
+-- to what was gathered before, the text of an answer to the line was appended, at most so many bytes, and the flag is the answer's
+pub record AppendsAnswer (A : List ℕ → AnswerText → Type 0) (most : ℕ) (line before after : List ℕ) (fault : Bool) : Type 0 where
+  pub text : List ℕ
+  pub answer : A line (record { text = text; fault = fault })
+  pub appended : after ≡ before ++ text
+  pub short : length text ≤ most
 
 -- what is written for a reply
 abbrev pub reply_line : AnswerText → List ℕ

@@ -39,12 +39,10 @@ pub record AnsweredLine (A : List ℕ → AnswerText → Type 0) (per_byte extra
   pub faulty : after.fault ≡ (before.fault || reply.fault)
   pub cost : after.steps ≤ before.steps + per_byte * length line + extra
 
--- this line was answered, and a prefix of what was to be written was written
-pub record AnswersLineUntilFailure (A : List ℕ → AnswerText → Type 0) (per_byte extra : ℕ) (line : List ℕ) (before : State) (written : Option (List ℕ)) (steps : ℕ) : Type 0 where
-  pub reply : AnswerText
-  pub answer : A line reply
-  pub part : AppendsPrefix before.written written (before.held ++ reply_line reply)
-  pub cost : steps ≤ before.steps + per_byte * length line + extra
+-- a write failed before the next line was answered: a prefix of what was held was written
+pub record StopsBefore (before : State) (written : Option (List ℕ)) (steps : ℕ) : Type 0 where
+  pub part : AppendsPrefix before.written written before.held
+  pub cost : steps ≡ before.steps
 
 -- these lines were answered, at most so many steps for each of their bytes and for each of them
 pub record Answered (A : List ℕ → AnswerText → Type 0) (per_byte extra : ℕ) (lines : List (List ℕ)) (before after : State) : Type 0 where

@@ -11,7 +11,8 @@ ghost use Rattle.line_engine.specs.AnswerText.{AnswerText};
 ghost use Rattle.line_engine.specs.Run.{HasFailures, HasRun, Spends, WritesOutput};
 
 use crate::line_buffer::LineBuffer;
-use crate::splitter::{LineSplitter, Outgoing};
+use crate::output::Output;
+use crate::splitter::LineSplitter;
 use crate::{Failed, LineRule, Sink, Source, Status};
 use fixed_steps::Steps;
 use std::alloc::Global;
@@ -52,13 +53,14 @@ fn read_prefix<S: Source>(source: &mut S, chunk: &mut [u8], most: usize) -> Resu
 fn end_lines<R: LineRule<L>, K: Sink, L: Ledger>(
     rule: &R,
     mut splitter: LineSplitter,
+    out: &mut Output,
     sink: &mut K,
     steps: &mut Steps<L>,
 ) -> Status
     ensures ends { (whole : List ℕ) → IsKept kept_length whole splitter.line → EndsLines (R.Answers rule.now) R.PER_BYTE R.EXTRA (last_line whole) (state [] (K.written sink.old) splitter.has_fault steps.old) (K.written sink.new) steps.new (K.failures sink.old) (K.failures sink.new) result }
     ensures began { ¬ (result ≡ Status.NoMemory) }
 {
-    match splitter.finish(rule, sink, steps) {
+    match splitter.finish(rule, out, sink, steps) {
         Err(_) => Status::WriteFault,
         Ok(()) => {
             if splitter.has_fault {
@@ -89,13 +91,13 @@ fn answer_lines<R: LineRule<L>, S: Source, K: Sink, L: Ledger>(
     ensures began { ¬ (result ≡ Status.NoMemory) }
 {
     let mut chunk = [0u8; CHUNK];
-    let mut out = Outgoing::new();
+    let mut out = Output::new();
     let mut taken = 0u64;
     while taken <= limit {
         let room = next_room(limit, taken);
         match read_prefix(source, &mut chunk, room) {
             Err(_) => return Status::ReadFault,
-            Ok(0) => return end_lines(rule, splitter, sink, steps),
+            Ok(0) => return end_lines(rule, splitter, &mut out, sink, steps),
             Ok(count) => {
                 let within = count.min((limit - taken) as usize);
                 match splitter.feed(rule, &chunk[..within], &mut out, sink, steps) {

@@ -3,8 +3,10 @@
 ghost use Rattle.std.specs.Prelude.{◌≡◌, ◌+◌, ◌*◌, ◌≤◌, ◌<◌, ◌↔◌, ℕ, List, length, take};
 ghost use Rattle.line_engine.specs.AnswerText.{AnswerText};
 ghost use Rattle.line_engine.specs.Lines.{kept_length};
+ghost use Rattle.line_engine.specs.Output.{AppendsAnswer};
+ghost use Rattle.line_engine.specs.declared.output.TheConstants.{OUTPUT_BUFFER};
 
-use crate::Answer;
+use crate::output::{OUTPUT_BUFFER, Output};
 use fixed_steps::Steps;
 use std::sync::ledger::Ledger;
 
@@ -16,22 +18,31 @@ pub trait LineRule<L: Ledger> {
     /// How many steps an answer takes at most beside those for the bytes.
     const EXTRA: u64;
 
+    /// How many bytes an answer has at most, without its newline: at most 8,191.
+    const MAX_ANSWER: usize;
+
     ghost PER_BYTE: { ℕ };
 
     ghost EXTRA: { ℕ };
 
-    /// Whether a reply is the answer to a line: the rule's meaning.
+    ghost MAX_ANSWER: { ℕ };
+
+    /// Whether a text with its flag is the answer to a line: the rule's meaning.
     ghost Answers: { Self → List ℕ → AnswerText → Type 0 };
 
-    /// The answer to a line.
-    fn answer(&self, line: &[u8], steps: &mut Steps<L>) -> Answer
-        ensures answer { Answers self.now line.now result }
+    /// Appends the answer to a line, without a newline, and answers whether it names a fault.
+    fn answer(&self, line: &[u8], out: &mut Output, steps: &mut Steps<L>) -> bool
+        requires room { length out.old + MAX_ANSWER ≤ OUTPUT_BUFFER }
+        ensures answer { AppendsAnswer (Answers self.now) MAX_ANSWER line.now out.old out.new result }
         ensures cost { steps.new ≤ steps.old + PER_BYTE * length line.now + EXTRA };
+
+    /// An answer and its newline fit the buffer.
+    ghost room_law: { MAX_ANSWER < OUTPUT_BUFFER };
 
     /// A line has at most one answer.
     ghost one_law: { (rule : Self) (line : List ℕ) (a b : AnswerText) → Answers rule line a → Answers rule line b → a ≡ b };
 
-    /// A line that is longer than what is kept of a line is answered like its prefix.
+    /// A line that is longer than what is kept of a line is answered like the prefix that is kept.
     ghost kept_law: { (rule : Self) (line : List ℕ) (reply : AnswerText) → kept_length < length line
         → (Answers rule (take kept_length line) reply ↔ Answers rule line reply) };
 }

@@ -1,70 +1,66 @@
 //! What is kept between two chunks of an input, and how its lines are answered.
 
-ghost use Rattle.std.specs.Prelude.{◌≡◌, ◌≤◌, ◌↔◌, IsTrue, ◌+◌, ◌*◌, ◌++◌, ◌||◌, [], ◌∷◌, List, ℕ, OnOk, OnErr, IfOk, length, take, true, false};
+ghost use Rattle.std.specs.Prelude.{◌≡◌, ◌≤◌, ◌<◌, ◌↔◌, IsTrue, ◌+◌, ◌*◌, ◌++◌, ◌||◌, [], ◌∷◌, List, ℕ, OnOk, OnErr, IfOk, length, take, true, false};
 ghost use Rattle.std.specs.Io.KnownBytes.{Appends};
 ghost use Rattle.line_engine.specs.Failures.{FailsOnlyCounted};
 ghost use Rattle.line_engine.specs.Lines.{ended_lines, kept_length, unended, last_line};
-ghost use Rattle.line_engine.specs.Progress.{Answered, AnsweredLine, AnswersUntilFailure, AnswersLineUntilFailure, IsKept, Flushes, state};
+ghost use Rattle.line_engine.specs.Progress.{Answered, AnsweredLine, AnswersUntilFailure, StopsBefore, IsKept, Flushes, state};
 ghost use Rattle.line_engine.specs.Output.{AppendsPrefix};
 
-use crate::answer::MAX_ANSWER;
 use crate::line_buffer::LineBuffer;
+use crate::output::{OUTPUT_BUFFER, Output};
 use crate::writing::write_whole;
 use crate::{Failed, LineRule, Sink};
-use arrayvec::ArrayVec;
 use fixed_steps::Steps;
 use memchr::memchr;
 use std::sync::ledger::Ledger;
 
-/// How many bytes of answers are held before they are written.
-const OUTPUT_BUFFER: usize = 8192;
-
-/// Answers that are still to be written.
-pub type Outgoing = ArrayVec<u8, OUTPUT_BUFFER>;
-
-/// Writes what is held.
-fn flush<K: Sink>(out: &mut Outgoing, sink: &mut K) -> Result<(), Failed>
-    ensures none { OnOk result (out.new.items ≡ []) }
-    ensures ok { OnOk result (Appends (K.written sink.old) (K.written sink.new) out.old.items) }
-    ensures err { OnErr result (AppendsPrefix (K.written sink.old) (K.written sink.new) out.old.items) }
+/// Writes what was gathered.
+#[inline]
+fn flush<K: Sink>(out: &mut Output, sink: &mut K) -> Result<(), Failed>
+    ensures none { OnOk result (out.new ≡ []) }
+    ensures ok { OnOk result (Appends (K.written sink.old) (K.written sink.new) out.old) }
+    ensures err { OnErr result (AppendsPrefix (K.written sink.old) (K.written sink.new) out.old) }
     ensures failures { FailsOnlyCounted (K.failures sink.old) (K.failures sink.new) result }
 {
-    write_whole(sink, out.as_slice())?;
+    write_whole(sink, out.as_bytes())?;
     out.clear();
     Ok(())
 }
 
-/// Holds an answer and a newline, and writes what was held before where there is no room.
-fn put_line<K: Sink>(out: &mut Outgoing, text: &[u8], sink: &mut K) -> Result<(), Failed>
-    requires { length text.now ≤ MAX_ANSWER }
-    ensures ok { OnOk result (Flushes out.old.items (text.now ++ 10 ∷ []) out.new.items (K.written sink.old) (K.written sink.new)) }
-    ensures err { OnErr result (AppendsPrefix (K.written sink.old) (K.written sink.new) (out.old.items ++ (text.now ++ 10 ∷ []))) }
+/// Makes room for an answer of `most` bytes and a newline: writes what was gathered where there is none.
+#[inline]
+fn make_room<K: Sink>(most: usize, out: &mut Output, sink: &mut K) -> Result<(), Failed>
+    requires { most < OUTPUT_BUFFER }
+    ensures room { OnOk result (length out.new + most < OUTPUT_BUFFER) }
+    ensures ok { OnOk result (Flushes out.old [] out.new (K.written sink.old) (K.written sink.new)) }
+    ensures err { OnErr result (AppendsPrefix (K.written sink.old) (K.written sink.new) out.old) }
     ensures failures { FailsOnlyCounted (K.failures sink.old) (K.failures sink.new) result }
 {
-    if out.remaining_capacity() <= text.len() {
-        flush(out, sink)?;
+    if out.room() <= most {
+        return flush(out, sink);
     }
-    out.try_extend_from_slice(text).unwrap();
-    out.push(b'\n');
     Ok(())
 }
 
-/// Has a line answered, and tells whether an answer was a fault, this one or one before it.
+/// Has a line answered, and answers whether an answer was a fault, this one or one before it.
+#[inline]
 fn answer_one<R: LineRule<L>, K: Sink, L: Ledger>(
     rule: &R,
     line: &[u8],
     before: bool,
-    out: &mut Outgoing,
+    out: &mut Output,
     sink: &mut K,
     steps: &mut Steps<L>,
 ) -> Result<bool, Failed>
-    ensures ok { IfOk result (λ fault. AnsweredLine (R.Answers rule.now) R.PER_BYTE R.EXTRA line.now (state out.old.items (K.written sink.old) before steps.old) (state out.new.items (K.written sink.new) fault steps.new)) }
-    ensures err { OnErr result (AnswersLineUntilFailure (R.Answers rule.now) R.PER_BYTE R.EXTRA line.now (state out.old.items (K.written sink.old) before steps.old) (K.written sink.new) steps.new) }
+    ensures ok { IfOk result (λ fault. AnsweredLine (R.Answers rule.now) R.PER_BYTE R.EXTRA line.now (state out.old (K.written sink.old) before steps.old) (state out.new (K.written sink.new) fault steps.new)) }
+    ensures err { OnErr result (StopsBefore (state out.old (K.written sink.old) before steps.old) (K.written sink.new) steps.new) }
     ensures failures { FailsOnlyCounted (K.failures sink.old) (K.failures sink.new) result }
 {
-    let reply = rule.answer(line, steps);
-    put_line(out, reply.as_bytes(), sink)?;
-    Ok(before || reply.is_fault())
+    make_room(R::MAX_ANSWER, out, sink)?;
+    let is_fault = rule.answer(line, out, steps);
+    out.push(b'\n');
+    Ok(before || is_fault)
 }
 
 /// The line whose end hasn't come, and whether an answer so far was a fault.
@@ -84,17 +80,18 @@ impl LineSplitter {
 
     /// Has the line answered that ends with this part, and begins a new one. A line that lies whole in the part isn't
     /// copied.
+    #[inline]
     fn end_line<R: LineRule<L>, K: Sink, L: Ledger>(
         &mut self,
         rule: &R,
         part: &[u8],
-        out: &mut Outgoing,
+        out: &mut Output,
         sink: &mut K,
         steps: &mut Steps<L>,
     ) -> Result<(), Failed>
         ensures line { OnOk result (self.new.line ≡ []) }
-        ensures ok { OnOk result ((whole : List ℕ) → IsKept kept_length whole self.old.line → AnsweredLine (R.Answers rule.now) R.PER_BYTE R.EXTRA (whole ++ part.now) (state out.old.items (K.written sink.old) self.old.has_fault steps.old) (state out.new.items (K.written sink.new) self.new.has_fault steps.new)) }
-        ensures err { OnErr result ((whole : List ℕ) → IsKept kept_length whole self.old.line → AnswersLineUntilFailure (R.Answers rule.now) R.PER_BYTE R.EXTRA (whole ++ part.now) (state out.old.items (K.written sink.old) self.old.has_fault steps.old) (K.written sink.new) steps.new) }
+        ensures ok { OnOk result ((whole : List ℕ) → IsKept kept_length whole self.old.line → AnsweredLine (R.Answers rule.now) R.PER_BYTE R.EXTRA (whole ++ part.now) (state out.old (K.written sink.old) self.old.has_fault steps.old) (state out.new (K.written sink.new) self.new.has_fault steps.new)) }
+        ensures err { OnErr result (StopsBefore (state out.old (K.written sink.old) self.old.has_fault steps.old) (K.written sink.new) steps.new) }
         ensures failures { FailsOnlyCounted (K.failures sink.old) (K.failures sink.new) result }
     {
         if self.is_empty() {
@@ -107,12 +104,12 @@ impl LineSplitter {
         Ok(())
     }
 
-    /// Answers the lines that end in the next bytes. What `out` held is let go: it only lends its room.
+    /// Answers the lines that end in the next bytes. What `out` held is discarded: it only lends its room.
     pub fn feed<R: LineRule<L>, K: Sink, L: Ledger>(
         &mut self,
         rule: &R,
         chunk: &[u8],
-        out: &mut Outgoing,
+        out: &mut Output,
         sink: &mut K,
         steps: &mut Steps<L>,
     ) -> Result<(), Failed>
@@ -131,10 +128,11 @@ impl LineSplitter {
         flush(out, sink)
     }
 
-    /// Answers a last line without a newline, where it isn't empty.
+    /// Answers a last line without a newline, where it isn't empty. What `out` held is discarded.
     pub fn finish<R: LineRule<L>, K: Sink, L: Ledger>(
         &mut self,
         rule: &R,
+        out: &mut Output,
         sink: &mut K,
         steps: &mut Steps<L>,
     ) -> Result<(), Failed>
@@ -145,8 +143,8 @@ impl LineSplitter {
         if self.is_empty() {
             return Ok(());
         }
-        let mut out = ArrayVec::new();
-        self.end_line(rule, &[], &mut out, sink, steps)?;
-        flush(&mut out, sink)
+        out.clear();
+        self.end_line(rule, &[], out, sink, steps)?;
+        flush(out, sink)
     }
 }

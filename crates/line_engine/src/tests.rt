@@ -2,7 +2,7 @@
 
 ghost use Rattle.std.specs.Prelude.{◌≡◌, ◌<◌, ◌≤◌};
 
-use crate::{Answer, Failed, LineRule, MemorySink, MemorySource, Status, run_lines};
+use crate::{Failed, LineRule, MemorySink, MemorySource, Output, Status, run_lines};
 use fixed_steps::Steps;
 use std::alloc::{AllocError, Global};
 use std::marker::Brand;
@@ -18,21 +18,28 @@ struct OneAnswer {
 
 impl<L: Ledger> LineRule<L> for OneAnswer {
     ghost use Rattle.std.specs.Prelude.{codes};
-    ghost use Rattle.std.proofs.Common.{◌∙◌, sym};
+    ghost use Rattle.std.proofs.Common.{◌∙◌, lit<, sym};
 
     const PER_BYTE: u64 = 0;
 
     const EXTRA: u64 = 0;
 
+    const MAX_ANSWER: usize = 8;
+
     ghost PER_BYTE = { 0 };
 
     ghost EXTRA = { 0 };
 
+    ghost MAX_ANSWER = { 8 };
+
     ghost Answers = { λ rule line reply. reply ≡ record { text = codes "7 7 fits"; fault = rule.is_fault } };
 
-    fn answer(&self, _line: &[u8], _steps: &mut Steps<L>) -> Answer {
-        Answer::of(b"7 7 fits", self.is_fault)
+    fn answer(&self, _line: &[u8], out: &mut Output, _steps: &mut Steps<L>) -> bool {
+        out.push_bytes(b"7 7 fits");
+        self.is_fault
     }
+
+    ghost room_law = { lit< tt };
 
     ghost one_law = { λ rule line a b is same. is ∙ sym same };
 

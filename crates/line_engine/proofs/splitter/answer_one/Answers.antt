@@ -1,17 +1,6 @@
-use Rattle.std.proofs.Common.{◌≡◌, Bool, true, false, ◌||◌, [], ◌∷◌, ◌++◌, subst}
+use Rattle.std.proofs.Common.{◌≡◌, Bool, true, false, ◌||◌, List, ℕ, Option, [], ◌∷◌, ◌++◌, ◌∙◌, sym, ap, append-nil, append_assoc}
 use Rattle.line_engine.specs.Progress.{Flushes}
-use Rattle.line_engine.specs.Output.{AppendsPrefix}
-use Rattle.line_engine.proofs.PrefixLemmas.{on_err}
 use Rattle.line_engine.proofs.splitter.answer_one.Goals as goal
-
-pub returns-in_err-put_line-clause-err : goal.returns-in_err-put_line-clause-err
-returns-in_err-put_line-clause-err g c =
-    on_err c.from_residual.result (record {
-      reply = c.answer-reply.result;
-      answer = c.answer-reply.ensures.answer;
-      part = subst (λ t. AppendsPrefix (g.K.Sink.written c.args.sink.now) (g.K.Sink.written c.put_line.new.sink) (c.args.out.now.items ++ (t ++ 10 ∷ []))) c.as_bytes.ensures.bytes c.in_err-put_line.ensures.err;
-      cost = c.answer-reply.ensures.cost;
-    })
 
 -- whether an answer so far is a fault
 now_true : (before fault : Bool) → before ≡ true → before ≡ (before || fault)
@@ -20,20 +9,10 @@ now_true before fault is = rw is
 now_false : (before fault result : Bool) → before ≡ false → result ≡ fault → result ≡ (before || fault)
 now_false before fault result is same = rw is same
 
-pub returns-then-before-clause-ok : goal.returns-then-before-clause-ok
-returns-then-before-clause-ok g c = record {
-  reply = c.answer-reply.result;
-  answer = c.answer-reply.ensures.answer;
-  passes = subst (λ t. Flushes c.args.out.now.items (t ++ 10 ∷ []) c.put_line.new.out.items (g.K.Sink.written c.args.sink.now) (g.K.Sink.written c.put_line.new.sink)) c.as_bytes.ensures.bytes c.in_ok-put_line.ensures.ok;
-  faulty = now_true c.args.before c.answer-reply.result.fault c.if-before.true;
-  cost = c.answer-reply.ensures.cost;
-}
-
-pub returns-else-before-clause-ok : goal.returns-else-before-clause-ok
-returns-else-before-clause-ok g c = record {
-  reply = c.answer-reply.result;
-  answer = c.answer-reply.ensures.answer;
-  passes = subst (λ t. Flushes c.args.out.now.items (t ++ 10 ∷ []) c.put_line.new.out.items (g.K.Sink.written c.args.sink.now) (g.K.Sink.written c.put_line.new.sink)) c.as_bytes.ensures.bytes c.in_ok-put_line.ensures.ok;
-  faulty = now_false c.args.before c.answer-reply.result.fault c.is_fault.result c.if-before.false c.is_fault.ensures;
-  cost = c.answer-reply.ensures.cost;
+-- what was appended after some was written
+flushes_then : (held held' text all : List ℕ) (a b : Option (List ℕ)) → Flushes held [] held' a b → all ≡ (held' ++ text) ++ 10 ∷ [] → Flushes held (text ++ 10 ∷ []) all a b
+flushes_then held held' text all a b passes is = record {
+  gone = passes.gone;
+  split = ap (λ l. l ++ (text ++ 10 ∷ [])) (sym (append-nil held) ∙ passes.split) ∙ append_assoc passes.gone held' (text ++ 10 ∷ []) ∙ ap (λ l. passes.gone ++ l) (sym (append_assoc held' text (10 ∷ [])) ∙ sym is);
+  appends = passes.appends;
 }

@@ -36,8 +36,8 @@ loop-end-preserved g c =
       split = step.cut;
       fed = λ whole kept.
           fed_more (g.R.LineRule.Answers c.args.rule.now) g.R.LineRule.PER_BYTE g.R.LineRule.EXTRA kept_length whole c.args.chunk.now inv.prefix rest c.loop-end.self.line c.end_line.new.self.line end
-          (state [] (g.K.Sink.written c.args.sink.now) c.args.self.now.has_fault c.args.steps.now) (state c.loop-end.out.items (g.K.Sink.written c.loop-end.sink) c.loop-end.self.has_fault c.loop-end.steps)
-          (state c.end_line.new.out.items (g.K.Sink.written c.end_line.new.sink) c.end_line.new.self.has_fault c.end_line.new.steps)
+          (state [] (g.K.Sink.written c.args.sink.now) c.args.self.now.has_fault c.args.steps.now) (state c.loop-end.out (g.K.Sink.written c.loop-end.sink) c.loop-end.self.has_fault c.loop-end.steps)
+          (state c.end_line.new.out (g.K.Sink.written c.end_line.new.sink) c.end_line.new.self.has_fault c.end_line.new.steps)
           inv.split at (inv.fed whole kept) c.in_ok-end_line.ensures.ok c.in_ok-end_line.ensures.line;
     }
 
@@ -49,7 +49,7 @@ returns-in_err-end_line-clause-err g c =
     let at : EndsAt rest end = ends_at rest end c.in-Some.ensures.0 c.in-Some.ensures.1 in
     on_err c.from_residual.result (λ whole kept.
     fed_broken (g.R.LineRule.Answers c.args.rule.now) g.R.LineRule.PER_BYTE g.R.LineRule.EXTRA kept_length whole c.args.chunk.now inv.prefix rest c.loop-end.self.line end
-    (state [] (g.K.Sink.written c.args.sink.now) c.args.self.now.has_fault c.args.steps.now) (state c.loop-end.out.items (g.K.Sink.written c.loop-end.sink) c.loop-end.self.has_fault c.loop-end.steps)
+    (state [] (g.K.Sink.written c.args.sink.now) c.args.self.now.has_fault c.args.steps.now) (state c.loop-end.out (g.K.Sink.written c.loop-end.sink) c.loop-end.self.has_fault c.loop-end.steps)
     (g.K.Sink.written c.end_line.new.sink) c.end_line.new.steps inv.split at (inv.fed whole kept) c.in_err-end_line.ensures.err)
 
 pub returns-clause-line : goal.returns-clause-line
@@ -64,10 +64,10 @@ returns-clause-ok g c =
     let inv = c.loop-end.invariant in
     let quiet : ended_lines c.loop-end.rest.now ≡ [] = ends_nowhere c.loop-end.rest.now c.in_default.ensures in
     let before = state [] (g.K.Sink.written c.args.sink.now) c.args.self.now.has_fault c.args.steps.now in
-    let held = state c.loop-end.out.items (g.K.Sink.written c.loop-end.sink) c.loop-end.self.has_fault c.loop-end.steps in
+    let held = state c.loop-end.out (g.K.Sink.written c.loop-end.sink) c.loop-end.self.has_fault c.loop-end.steps in
     let after = g.K.Sink.written c.flush.new.sink in
     on_ok_weaker c.flush.result
-    (λ (last : Appends (g.K.Sink.written c.loop-end.sink) after c.loop-end.out.items). λ whole kept.
+    (λ (last : Appends (g.K.Sink.written c.loop-end.sink) after c.loop-end.out). λ whole kept.
     subst (λ lines. Answered (g.R.LineRule.Answers c.args.rule.now) g.R.LineRule.PER_BYTE g.R.LineRule.EXTRA lines before (state [] after c.loop-end.self.has_fault c.loop-end.steps))
     (sym (same_lines whole c.args.chunk.now inv.prefix c.loop-end.rest.now inv.split quiet))
     (answered_flushed (g.R.LineRule.Answers c.args.rule.now) g.R.LineRule.PER_BYTE g.R.LineRule.EXTRA (ended_lines (whole ++ inv.prefix)) before held after (inv.fed whole kept).answered last))
@@ -78,10 +78,10 @@ returns-clause-err g c =
     let inv = c.loop-end.invariant in
     let quiet : ended_lines c.loop-end.rest.now ≡ [] = ends_nowhere c.loop-end.rest.now c.in_default.ensures in
     let before = state [] (g.K.Sink.written c.args.sink.now) c.args.self.now.has_fault c.args.steps.now in
-    let held = state c.loop-end.out.items (g.K.Sink.written c.loop-end.sink) c.loop-end.self.has_fault c.loop-end.steps in
+    let held = state c.loop-end.out (g.K.Sink.written c.loop-end.sink) c.loop-end.self.has_fault c.loop-end.steps in
     let after = g.K.Sink.written c.flush.new.sink in
     on_err_weaker c.flush.result
-    (λ (last : AppendsPrefix (g.K.Sink.written c.loop-end.sink) after c.loop-end.out.items). λ whole kept.
+    (λ (last : AppendsPrefix (g.K.Sink.written c.loop-end.sink) after c.loop-end.out). λ whole kept.
     subst (λ lines. AnswersUntilFailure (g.R.LineRule.Answers c.args.rule.now) g.R.LineRule.PER_BYTE g.R.LineRule.EXTRA lines before after c.loop-end.steps)
     (sym (same_lines whole c.args.chunk.now inv.prefix c.loop-end.rest.now inv.split quiet))
     (broken_flush (g.R.LineRule.Answers c.args.rule.now) g.R.LineRule.PER_BYTE g.R.LineRule.EXTRA (ended_lines (whole ++ inv.prefix)) before held after (inv.fed whole kept).answered last))

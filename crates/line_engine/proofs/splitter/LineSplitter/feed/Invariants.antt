@@ -10,7 +10,7 @@ invariant-loop-end g l = record {
   prefix : List ℕ;
   split : l.chunk ≡ prefix ++ l.rest;
   fed : (whole : List ℕ) → IsKept kept_length whole l.initial.self.line → Fed (g.R.LineRule.Answers l.rule) g.R.LineRule.PER_BYTE g.R.LineRule.EXTRA kept_length whole prefix l.self.line
-      (state [] (g.K.Sink.written l.initial.sink) l.initial.self.has_fault l.initial.steps) (state l.out.items (g.K.Sink.written l.sink) l.self.has_fault l.steps);
+      (state [] (g.K.Sink.written l.initial.sink) l.initial.self.has_fault l.initial.steps) (state l.out (g.K.Sink.written l.sink) l.self.has_fault l.steps);
 }
 
 abbrev pub decreases-loop-end : goal.decreases-loop-end
