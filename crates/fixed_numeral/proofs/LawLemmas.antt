@@ -7,7 +7,7 @@ use Rattle.fixed_numeral.specs.declared.error.ParseErrorKind.TheVariants.{NoDigi
 use Rattle.fixed_numeral.specs.Numeral.{Parts, Exponent, HasParts, HasNumeral, IsNumeral, mantissa}
 use Rattle.fixed_numeral.specs.Cause.{IsLongestBeginning, HasCause, is_nil, kind_of}
 use Rattle.fixed_numeral.specs.Literal.{IsLongestLiteral, HasLiteral, IsLiteral, HasLiteralCause, literal_radix, literal_rest, without_underscores}
-use Rattle.fixed_numeral.specs.Scan.{IsStuck}
+use Rattle.fixed_numeral.specs.Inner.Scan.{CannotExtend}
 use Rattle.fixed_numeral.proofs.NumeralLemmas.{parts, nothing, step, one_more, parts_unique}
 use Rattle.fixed_numeral.proofs.ScanLemmas.{stuck, stuck_cause, end_cause, nil_length, length_nil}
 use Rattle.fixed_numeral.proofs.LiteralScanLemmas.{no_literal}
@@ -75,8 +75,8 @@ at_byte r xs y ys p h e =
     let front : take (length xs) (xs ++ y ∷ ys) ≡ xs = take_at xs (y ∷ ys) (length xs) refl in
     let there : get_or (xs ++ y ∷ ys) (length xs) 0 ≡ y = byte_at xs in
     let h' : HasParts r (take (length xs) (xs ++ y ∷ ys)) p = rw front h in
-    let none : IsStuck r xs p y (kind_of r p (Some y)) = record { none = stuck r xs p y h e; is_kind = refl } in
-    let none' : IsStuck r (take (length xs) (xs ++ y ∷ ys)) p (get_or (xs ++ y ∷ ys) (length xs) 0) (kind_of r p (Some y)) = rw (front, there) none in
+    let none : CannotExtend r xs p y (kind_of r p (Some y)) = record { none = stuck r xs p y h e; is_kind = refl } in
+    let none' : CannotExtend r (take (length xs) (xs ++ y ∷ ys)) p (get_or (xs ++ y ∷ ys) (length xs) 0) (kind_of r p (Some y)) = rw (front, there) none in
     stuck_cause r (xs ++ y ∷ ys) (length xs) p (kind_of r p (Some y)) (omega (arith, length-append xs (y ∷ ys))) h' none'
   where
     byte_at : (xs : List ℕ) → get_or (xs ++ y ∷ ys) (length xs) 0 ≡ y

@@ -11,13 +11,13 @@ use Rattle.fixed_numeral.specs.declared.scanner.State.{State}
 use Rattle.fixed_numeral.specs.Numeral.{Parts, Exponent, HasParts, IsPartsOf, IsNumeral, is_sign, minus, digits_behind}
 use Rattle.fixed_numeral.specs.Cause.{is_nil, kind_of}
 use Rattle.fixed_numeral.proofs.NumeralLemmas.{parts_unique, beginning_prefix, parts}
-use Rattle.fixed_numeral.specs.Scan.{Agrees, GoesOn, IsStuck, IsAfter, IsComplete, IsIncomplete, most_magnitude}
+use Rattle.fixed_numeral.specs.Inner.Scan.{Agrees, Extends, CannotExtend, IsAfter, IsComplete, IsIncomplete, max_magnitude}
 use Rattle.fixed_numeral.specs.Literal.{underscore, without_underscores, begins_signed, last_part, HasLiteralParts, IsLiteralBeginning, HasRestCause, HasRest, HasLiteral, IsLiteral, HasLiteralCause, sign_of, literal_radix, literal_rest}
 use Rattle.fixed_numeral.specs.Digits.{digits_in}
 use Rattle.fixed_numeral.proofs.MagnitudeLemmas.{whole_count, behind_count}
 use Rattle.fixed_numeral.proofs.LiteralLemmas.{literal_whole, literal_fraction}
 use Rattle.fixed_numeral.proofs.ScanLemmas.{whole_fits, has_numeral, slice_get_past, incomplete_cause, kind_at_end}
-use Rattle.fixed_numeral.specs.LiteralScan.{LiteralGoesOn, IsLiteralStuck, IsLiteralAfter}
+use Rattle.fixed_numeral.specs.Inner.LiteralScan.{LiteralExtends, LiteralCannotExtend, IsLiteralAfter}
 
 some_inside : (xs ys : List ℕ) (c : ℕ) → [] ≡ xs ++ c ∷ ys → ⊥
 some_inside [] ys c e = absurd (cc)
@@ -48,7 +48,7 @@ push_underscore : (bs : List ℕ) (b : ℕ) → (b == underscore) ≡ true → w
 push_underscore bs b e = without_append bs (b ∷ []) ∙ (rw e (append-nil (without_underscores bs)))
 
 -- ---- an underscore
-pub underscore_passed : (r : Radix) (bs : List ℕ) (p : Parts) (st : State) (b : ℕ) → HasLiteralParts r bs p → Agrees r st p → st.magnitude ≤ most_magnitude true → b ≡ underscore → is_nil (last_part p) ≡ false → LiteralGoesOn r bs b st
+pub underscore_passed : (r : Radix) (bs : List ℕ) (p : Parts) (st : State) (b : ℕ) → HasLiteralParts r bs p → Agrees r st p → st.magnitude ≤ max_magnitude true → b ≡ underscore → is_nil (last_part p) ≡ false → LiteralExtends r bs b st
 underscore_passed r bs p st b h a m e n =
     let same = push_underscore bs b (rw e refl) in
     record {
@@ -65,7 +65,7 @@ underscore_passed r bs p st b h a m e n =
       room = m;
     }
 
-pub underscore_stuck : (r : Radix) (bs : List ℕ) (p : Parts) (b : ℕ) → HasLiteralParts r bs p → b ≡ underscore → is_nil (last_part p) ≡ true → IsLiteralStuck r bs p b MisplacedUnderscore
+pub underscore_stuck : (r : Radix) (bs : List ℕ) (p : Parts) (b : ℕ) → HasLiteralParts r bs p → b ≡ underscore → is_nil (last_part p) ≡ true → LiteralCannotExtend r bs p b MisplacedUnderscore
 underscore_stuck r bs p b h e n = record {
   none = λ (q, g). let s : bs ++ b ∷ [] ≡ bs ++ underscore ∷ [] = ap (λ x. bs ++ x ∷ []) e in
       let no = g.underscores bs [] s p h.beginning in
@@ -78,7 +78,7 @@ signed_push : (ws : List ℕ) (b : ℕ) → begins_signed ws ≡ false → (is_s
 signed_push [] b h k = ⊎_elim (λ e. e) (λ (l : 0 < 0). absurd (omega arith)) k
 signed_push (w ∷ ws) b h k = h
 
-other_goes_on : (r : Radix) (bs : List ℕ) (p : Parts) (b : ℕ) (next : State) → HasLiteralParts r bs p → (b ≡ underscore → ⊥) → (b == underscore) ≡ false → (is_sign b ≡ false) ⊎ (0 < length (without_underscores bs)) → GoesOn r (without_underscores bs) b next → LiteralGoesOn r bs b next
+other_goes_on : (r : Radix) (bs : List ℕ) (p : Parts) (b : ℕ) (next : State) → HasLiteralParts r bs p → (b ≡ underscore → ⊥) → (b == underscore) ≡ false → (is_sign b ≡ false) ⊎ (0 < length (without_underscores bs)) → Extends r (without_underscores bs) b next → LiteralExtends r bs b next
 other_goes_on r bs p b next h ne e k g =
     let same = push_other bs b e in
     record {
@@ -95,7 +95,7 @@ other_goes_on r bs p b next h ne e k g =
       room = g.room;
     }
 
-other_stuck : (r : Radix) (bs : List ℕ) (p : Parts) (b : ℕ) (kind : ParseErrorKind) → (b == underscore) ≡ false → IsStuck r (without_underscores bs) p b kind → IsLiteralStuck r bs p b kind
+other_stuck : (r : Radix) (bs : List ℕ) (p : Parts) (b : ℕ) (kind : ParseErrorKind) → (b == underscore) ≡ false → CannotExtend r (without_underscores bs) p b kind → LiteralCannotExtend r bs p b kind
 other_stuck r bs p b kind e s = record {
   none = λ (q, g). s.none (q, rw (push_other bs b e) at g.beginning);
   is_kind = rw e s.is_kind;
@@ -133,14 +133,14 @@ prefix_stuck r bs n l refuses m h = ⊎_elim (λ more. absurd (refuses (
     rw (first, take_more bs n 0 l) at front))) (λ less. less) (cases_lt n m)
 
 -- nothing was read, or something was
-front_nil : (r : Radix) (ws : List ℕ) (st : State) (s : Option ℕ) (w : List ℕ) (f : Option (List ℕ)) (x : Option Exponent) → HasParts r ws (parts s w f x) → Agrees r st (parts s w f x) → st.fresh ≡ true → st.separator ≡ false → ws ≡ []
+front_nil : (r : Radix) (ws : List ℕ) (st : State) (s : Option ℕ) (w : List ℕ) (f : Option (List ℕ)) (x : Option Exponent) → HasParts r ws (parts s w f x) → Agrees r st (parts s w f x) → st.sign_allowed ≡ true → st.has_separator ≡ false → ws ≡ []
 front_nil r ws st s w f (Some e) h a t k = let clash = a.separator in absurd (cc)
 front_nil r ws st (Some c) w f None h a t k = let clash = a.fresh in absurd (cc)
 front_nil r ws st None (y ∷ w) f None h a t k = let clash = a.fresh in absurd (cc)
 front_nil r ws st None [] (Some ds) None h a t k = let clash = a.fresh in absurd (cc)
 front_nil r ws st None [] None None h a t k = h.text
 
-behind_front : (r : Radix) (ws : List ℕ) (st : State) (s : Option ℕ) (w : List ℕ) (f : Option (List ℕ)) (x : Option Exponent) → HasParts r ws (parts s w f x) → Agrees r st (parts s w f x) → (st.fresh ≡ false) ⊎ (st.separator ≡ true) → 0 < length ws
+behind_front : (r : Radix) (ws : List ℕ) (st : State) (s : Option ℕ) (w : List ℕ) (f : Option (List ℕ)) (x : Option Exponent) → HasParts r ws (parts s w f x) → Agrees r st (parts s w f x) → (st.sign_allowed ≡ false) ⊎ (st.has_separator ≡ true) → 0 < length ws
 behind_front r ws st (Some c) w f x h a k = omega (arith, ap length h.text)
 behind_front r ws st None (y ∷ w) f x h a k = omega (arith, ap length h.text)
 behind_front r ws st None [] (Some ds) x h a k = omega (arith, ap length h.text)
@@ -159,9 +159,9 @@ leading true true true e = absurd (cc)
 leading true false z e = absurd (cc)
 leading false y z e = absurd (cc)
 
-pub sign_in_front : (r : Radix) (bs : List ℕ) (p : Parts) (st : State) (b : ℕ) → HasLiteralParts r bs p → Agrees r st p → (b == underscore) ≡ false → (is_sign b && (st.fresh && not st.separator)) ≡ true → IsLiteralStuck r bs p b MisplacedSign
+pub sign_in_front : (r : Radix) (bs : List ℕ) (p : Parts) (st : State) (b : ℕ) → HasLiteralParts r bs p → Agrees r st p → (b == underscore) ≡ false → (is_sign b && (st.sign_allowed && not st.has_separator)) ≡ true → LiteralCannotExtend r bs p b MisplacedSign
 sign_in_front r bs p st b h a e l =
-    let t = leading (is_sign b) st.fresh st.separator l in
+    let t = leading (is_sign b) st.sign_allowed st.has_separator l in
     let sign : is_sign b ≡ true = t.0 in
     let none : without_underscores bs ≡ [] = front_nil r (without_underscores bs) st p.sign p.whole p.fraction p.exponent h.beginning a t.1 t.2 in
     let same : without_underscores (bs ++ b ∷ []) ≡ b ∷ [] = push_other bs b e ∙ ap (λ ws. ws ++ b ∷ []) none in
@@ -171,9 +171,9 @@ sign_in_front r bs p st b h a e l =
       is_kind = rw (e, off, sign) refl;
     }
 
-step_goes_on : (r : Radix) (bs : List ℕ) (p : Parts) (st next : State) (b : ℕ) → HasLiteralParts r bs p → Agrees r st p → (b ≡ underscore → ⊥) → (b == underscore) ≡ false → (is_sign b && (st.fresh && not st.separator)) ≡ false → GoesOn r (without_underscores bs) b next → LiteralGoesOn r bs b next
+step_goes_on : (r : Radix) (bs : List ℕ) (p : Parts) (st next : State) (b : ℕ) → HasLiteralParts r bs p → Agrees r st p → (b ≡ underscore → ⊥) → (b == underscore) ≡ false → (is_sign b && (st.sign_allowed && not st.has_separator)) ≡ false → Extends r (without_underscores bs) b next → LiteralExtends r bs b next
 step_goes_on r bs p st next b h a ne e l g =
-    let t = not_leading (is_sign b) st.fresh st.separator l in
+    let t = not_leading (is_sign b) st.sign_allowed st.has_separator l in
     let k : (is_sign b ≡ false) ⊎ (0 < length (without_underscores bs)) = ⊎_elim (λ s. inl s) (λ s. inr (behind_front r (without_underscores bs) st p.sign p.whole p.fraction p.exponent h.beginning a s)) t in
     other_goes_on r bs p b next h ne e k g
 
@@ -183,7 +183,7 @@ literal_nothing r st start =
     let a = start r in
     record { parts = a.parts; beginning = record { beginning = a.beginning; unsigned = refl; underscores = λ xs ys e q g. absurd (some_inside xs ys underscore e) }; agrees = a.agrees; room = a.room }
 
-pub literal_more : (r : Radix) (bs : List ℕ) (i : ℕ) (st : State) → i < length bs → LiteralGoesOn r (take i bs) (get_or bs i 0) st → IsLiteralAfter r (take (i + 1) bs) st
+pub literal_more : (r : Radix) (bs : List ℕ) (i : ℕ) (st : State) → i < length bs → LiteralExtends r (take i bs) (get_or bs i 0) st → IsLiteralAfter r (take (i + 1) bs) st
 literal_more r bs i st l g = record { parts = g.parts; beginning = rw (take_more bs i 0 l) g.beginning; agrees = g.agrees; room = g.room }
 
 pub literal_all : (r : Radix) (bs : List ℕ) (i : ℕ) (st : State) → length bs ≤ i → IsLiteralAfter r (take i bs) st → IsLiteralAfter r bs st
@@ -200,13 +200,13 @@ without_shorter (b ∷ bs) = by_test (b == underscore) (without_shorter bs)
     by_test true h = omega arith
     by_test false h = omega arith
 
-pub literal_fits : (r : Radix) (bs : List ℕ) (st : State) → IsLiteralAfter r bs st → st.start + st.whole + st.fraction ≤ length bs
+pub literal_fits : (r : Radix) (bs : List ℕ) (st : State) → IsLiteralAfter r bs st → st.sign_len + st.whole_len + st.fraction_len ≤ length bs
 literal_fits r bs st a = omega (arith, whole_fits r (without_underscores bs) st (as_after r bs st a), without_shorter bs)
 
-pub literal_fits_at : (r : Radix) (bs : List ℕ) (i : ℕ) (st : State) → i < length bs → IsLiteralAfter r (take i bs) st → st.whole + st.fraction ≤ i
+pub literal_fits_at : (r : Radix) (bs : List ℕ) (i : ℕ) (st : State) → i < length bs → IsLiteralAfter r (take i bs) st → st.whole_len + st.fraction_len ≤ i
 literal_fits_at r bs i st l a = omega (arith, literal_fits r (take i bs) st a, length-take i bs)
 
-pub stuck_rest : (r : Radix) (bs : List ℕ) (n : ℕ) (p : Parts) (kind : ParseErrorKind) → n < length bs → HasLiteralParts r (take n bs) p → IsLiteralStuck r (take n bs) p (get_or bs n 0) kind → HasRestCause r bs kind
+pub stuck_rest : (r : Radix) (bs : List ℕ) (n : ℕ) (p : Parts) (kind : ParseErrorKind) → n < length bs → HasLiteralParts r (take n bs) p → LiteralCannotExtend r (take n bs) p (get_or bs n 0) kind → HasRestCause r bs kind
 stuck_rest r bs n p kind l h g = record {
   none = λ q k.
       let all : IsLiteralBeginning r (take (length bs) bs) = (q, rw (take_all (length bs) bs (omega arith)) k.literal) in
@@ -245,25 +245,25 @@ no_sign r ws (Some c) w f x h u =
 pub unsigned_parts : (r : Radix) (bs : List ℕ) (st : State) (a : IsLiteralAfter r bs st) → a.parts.sign ≡ None
 unsigned_parts r bs st a = no_sign r (without_underscores bs) a.parts.sign a.parts.whole a.parts.fraction a.parts.exponent a.beginning.beginning a.beginning.unsigned
 
-pub front_whole : (r : Radix) (bs : List ℕ) (st : State) (a : IsLiteralAfter r bs st) → take st.whole (digits_in bs) ≡ digits_in a.parts.whole
-front_whole r bs st a = literal_whole r bs a.parts st.whole a.beginning.beginning (unsigned_parts r bs st a) a.agrees.whole
+pub front_whole : (r : Radix) (bs : List ℕ) (st : State) (a : IsLiteralAfter r bs st) → take st.whole_len (digits_in bs) ≡ digits_in a.parts.whole
+front_whole r bs st a = literal_whole r bs a.parts st.whole_len a.beginning.beginning (unsigned_parts r bs st a) a.agrees.whole
 
-pub front_fraction : (r : Radix) (bs : List ℕ) (st : State) (a : IsLiteralAfter r bs st) → take st.fraction (drop st.whole (digits_in bs)) ≡ digits_in (digits_behind a.parts.fraction)
-front_fraction r bs st a = literal_fraction r bs a.parts st.whole st.fraction a.beginning.beginning (unsigned_parts r bs st a) a.agrees.whole a.agrees.fraction
+pub front_fraction : (r : Radix) (bs : List ℕ) (st : State) (a : IsLiteralAfter r bs st) → take st.fraction_len (drop st.whole_len (digits_in bs)) ≡ digits_in (digits_behind a.parts.fraction)
+front_fraction r bs st a = literal_fraction r bs a.parts st.whole_len st.fraction_len a.beginning.beginning (unsigned_parts r bs st a) a.agrees.whole a.agrees.fraction
 
 -- there are so many digits
-pub front_fits : (r : Radix) (bs : List ℕ) (st : State) (a : IsLiteralAfter r bs st) → st.whole ≤ length (digits_in bs)
-front_fits r bs st a = omega (arith, ap length (front_whole r bs st a), whole_count r a.parts a.beginning.beginning.parts, a.agrees.whole, length-take st.whole (digits_in bs))
+pub front_fits : (r : Radix) (bs : List ℕ) (st : State) (a : IsLiteralAfter r bs st) → st.whole_len ≤ length (digits_in bs)
+front_fits r bs st a = omega (arith, ap length (front_whole r bs st a), whole_count r a.parts a.beginning.beginning.parts, a.agrees.whole, length-take st.whole_len (digits_in bs))
 
-pub back_fits : (r : Radix) (bs : List ℕ) (st : State) (a : IsLiteralAfter r bs st) → st.fraction ≤ length (drop st.whole (digits_in bs))
-back_fits r bs st a = omega (arith, ap length (front_fraction r bs st a), behind_count r a.parts a.beginning.beginning.parts, a.agrees.fraction, length-take st.fraction (drop st.whole (digits_in bs)))
+pub back_fits : (r : Radix) (bs : List ℕ) (st : State) (a : IsLiteralAfter r bs st) → st.fraction_len ≤ length (drop st.whole_len (digits_in bs))
+back_fits r bs st a = omega (arith, ap length (front_fraction r bs st a), behind_count r a.parts a.beginning.beginning.parts, a.agrees.fraction, length-take st.fraction_len (drop st.whole_len (digits_in bs)))
 
 -- the parts of the rest with the sign that was taken first
 pub parts_of_rest : (r : Radix) (bs : List ℕ) (st : State) (a : IsLiteralAfter r bs st) (p : Parts) → HasRest r bs (record p { sign = None }) → record a.parts { sign = p.sign } ≡ p
 parts_of_rest r bs st a p h = let same = parts_unique r (without_underscores bs) a.parts (record p { sign = None }) a.beginning.beginning h.numeral.beginning in ap (λ (q : Parts). record q { sign = p.sign }) same
 
 -- ---- as the code has them
-pub step_result : (r : Radix) (bs : List ℕ) (p : Parts) (st : State) (b : ℕ) (o : Result State ParseErrorKind) → HasLiteralParts r bs p → Agrees r st p → (b ≡ underscore → ⊥) → (b == underscore) ≡ false → (is_sign b && (st.fresh && not st.separator)) ≡ false → MatchResult o (λ next. GoesOn r (without_underscores bs) b next) (λ kind. IsStuck r (without_underscores bs) p b kind) → MatchResult o (λ next. LiteralGoesOn r bs b next) (λ kind. IsLiteralStuck r bs p b kind)
+pub step_result : (r : Radix) (bs : List ℕ) (p : Parts) (st : State) (b : ℕ) (o : Result State ParseErrorKind) → HasLiteralParts r bs p → Agrees r st p → (b ≡ underscore → ⊥) → (b == underscore) ≡ false → (is_sign b && (st.sign_allowed && not st.has_separator)) ≡ false → MatchResult o (λ next. Extends r (without_underscores bs) b next) (λ kind. CannotExtend r (without_underscores bs) p b kind) → MatchResult o (λ next. LiteralExtends r bs b next) (λ kind. LiteralCannotExtend r bs p b kind)
 step_result r bs p st b (Ok next) h a ne e l m = step_goes_on r bs p st next b h a ne e l m
 step_result r bs p st b (Err kind) h a ne e l m = other_stuck r bs p b kind e m
 

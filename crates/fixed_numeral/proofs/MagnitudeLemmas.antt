@@ -15,8 +15,9 @@ use Rattle.fixed_numeral.specs.Value.{Fraction, magnitude, scaled, scaled_by}
 use Rattle.fixed_numeral.specs.Spelled.{spelled, IsSameNumber}
 use Rattle.fixed_numeral.proofs.SpelledLemmas.{pow-mul}
 use Rattle.fixed_numeral.specs.Digits.{digits_in}
-use Rattle.fixed_numeral.specs.Place.{moved}
-use Rattle.fixed_numeral.specs.Scanned.{bits_of, unit_of, IsShift, AgreesWithExponent}
+use Rattle.fixed_numeral.specs.Inner.MovedPoint.{moved}
+use Rattle.fixed_numeral.specs.Scanned.{exponent_unit}
+use Rattle.fixed_numeral.specs.Inner.Shift.{unit_of, IsShift, AgreesWithExponent}
 
 -- ---- bytes that are all digits
 pub digits_in_all : (b : ℕ) (ds : List ℕ) → b ≤ 16 → AllDigits b ds → digits_in ds ≡ map digit_value ds
@@ -62,7 +63,7 @@ two_backward b j n m f s up down bits mag eb e z v =
     omega (arith, h2)
 
 -- ---- by the exponent
-two_base : (r : Radix) (b : ℕ) → is_two_separator r b ≡ true → base r ≡ 2 ^ bits_of r
+two_base : (r : Radix) (b : ℕ) → is_two_separator r b ≡ true → base r ≡ 2 ^ exponent_unit r
 two_base Bin b h = refl
 two_base Oct b h = refl
 two_base Dec b h = absurd (cc)
@@ -94,7 +95,7 @@ by_exponent r two minus n m f s up down bits mag None a k l v =
 by_exponent r two minus n m f s up down bits mag (Some e) a k l v =
     let k' : IsShift (is_minus e.sign) (unit_of r (is_two_separator r e.separator)) (digits_value 10 e.digits) up down bits = rw (a.0, a.1, a.2) at k in
     let l' : bits < unit_of r (is_two_separator r e.separator) = rw a.0 at l in
-    same_scaled (is_two_separator r e.separator) (is_minus e.sign) (bits_of r) (base r) n m f s up down bits (digits_value 10 e.digits) (two_base r e.separator) k' l' v
+    same_scaled (is_two_separator r e.separator) (is_minus e.sign) (exponent_unit r) (base r) n m f s up down bits (digits_value 10 e.digits) (two_base r e.separator) k' l' v
 
 pub base_small : (r : Radix) → base r ≤ 16
 base_small Bin = omega arith
@@ -135,7 +136,7 @@ base_pos Oct = omega arith
 base_pos Dec = omega arith
 base_pos Hex = omega arith
 
-pub unit_small : (r : Radix) (two : Bool) (bits : ℕ) → bits < unit_of r two → bits < bits_of r
+pub unit_small : (r : Radix) (two : Bool) (bits : ℕ) → bits < unit_of r two → bits < exponent_unit r
 unit_small Bin true bits l = l
 unit_small Oct true bits l = l
 unit_small Dec true bits l = l

@@ -9,7 +9,8 @@ use Rattle.fixed_numeral.proofs.ViewLemmas.{length_between}
 use Rattle.fixed_numeral.specs.Spelled.{spelled, IsSameNumber}
 use Rattle.fixed_numeral.proofs.SpelledLemmas.{number_append, number_zeros}
 use Rattle.fixed_numeral.specs.Digits.{zeros, between_zeros}
-use Rattle.fixed_numeral.specs.Place.{NoLeadingZero, NoTrailingZero, IsWithoutLeading, IsWithoutTrailing, IsPlaced, moved}
+use Rattle.fixed_numeral.specs.Place.{NoLeadingZero, NoTrailingZero}
+use Rattle.fixed_numeral.specs.Inner.MovedPoint.{IsWithoutLeading, IsWithoutTrailing, IsPlaced, moved}
 
 -- ---- zeros before and behind a view
 pub zeros_before : (n b : ℕ) (l r : List ℕ) (a : ℕ) → between_zeros (n + b) l r a ≡ zeros n ++ between_zeros b l r a

@@ -19,7 +19,7 @@ use Rattle.fixed_numeral.specs.Digits.{digits_in}
 use Rattle.fixed_numeral.specs.Scanned.{IsScanned}
 use Rattle.fixed_numeral.proofs.ByteLemmas.{near_zero}
 use Rattle.fixed_numeral.proofs.MagnitudeLemmas.{whole_count, behind_count}
-use Rattle.fixed_numeral.specs.Scan.{Agrees, GoesOn, IsStuck, IsAfter, IsIncomplete, most_magnitude}
+use Rattle.fixed_numeral.specs.Inner.Scan.{Agrees, Extends, CannotExtend, IsAfter, IsIncomplete, max_magnitude}
 use Rattle.fixed_numeral.proofs.NumeralLemmas.{is_digit, is_in_range, exponent, parts, step, step_from_longer, more_point, more_separator, more_sign, more_exponent, more_exponent_sign, at_byte, at_bytes, at_three, or_cases, beginning_prefix, parts_unique}
 
 pub stuck : (r : Radix) (bs : List ℕ) (p : Parts) (b : ℕ) → HasParts r bs p → step r p b ≡ None → IsBeginning r (bs ++ b ∷ []) → ⊥
@@ -43,7 +43,7 @@ nil_more [] [] ys l = absurd (omega arith)
 nil_more [] (d ∷ ds) ys l = refl
 nil_more (x ∷ w) ds ys l = refl
 
-whole_more : (r : Radix) (st : State) (n : ℕ) (bs ds : List ℕ) (s : Option ℕ) (w : List ℕ) (f : Option (List ℕ)) (x : Option Exponent) → HasParts r bs (parts s w f x) → Agrees r st (parts s w f x) → st.separator ≡ false → st.magnitude ≤ most_magnitude true → AllDigits (base r) ds → length ds ≡ n → 0 < n → st.point ≡ false → IsAfter r (bs ++ ds) (record st { whole = st.whole + n; fresh = false })
+whole_more : (r : Radix) (st : State) (n : ℕ) (bs ds : List ℕ) (s : Option ℕ) (w : List ℕ) (f : Option (List ℕ)) (x : Option Exponent) → HasParts r bs (parts s w f x) → Agrees r st (parts s w f x) → st.has_separator ≡ false → st.magnitude ≤ max_magnitude true → AllDigits (base r) ds → length ds ≡ n → 0 < n → st.has_point ≡ false → IsAfter r (bs ++ ds) (record st { whole_len = st.whole_len + n; sign_allowed = false })
 whole_more r st n bs ds s w f (Some e) h a ns m d l pos np = let clash = a.separator in absurd (cc)
 whole_more r st n bs ds s w (Some es) None h a ns m d l pos np = let clash = a.point in absurd (cc)
 whole_more r st n bs ds s w None None h a ns m d l pos np = record {
@@ -66,7 +66,7 @@ whole_more r st n bs ds s w None None h a ns m d l pos np = record {
   room = m;
 }
 
-fraction_more : (r : Radix) (st : State) (n : ℕ) (bs ds : List ℕ) (s : Option ℕ) (w : List ℕ) (f : Option (List ℕ)) (x : Option Exponent) → HasParts r bs (parts s w f x) → Agrees r st (parts s w f x) → st.separator ≡ false → st.magnitude ≤ most_magnitude true → AllDigits (base r) ds → length ds ≡ n → st.point ≡ true → IsAfter r (bs ++ ds) (record st { fraction = st.fraction + n; fresh = false })
+fraction_more : (r : Radix) (st : State) (n : ℕ) (bs ds : List ℕ) (s : Option ℕ) (w : List ℕ) (f : Option (List ℕ)) (x : Option Exponent) → HasParts r bs (parts s w f x) → Agrees r st (parts s w f x) → st.has_separator ≡ false → st.magnitude ≤ max_magnitude true → AllDigits (base r) ds → length ds ≡ n → st.has_point ≡ true → IsAfter r (bs ++ ds) (record st { fraction_len = st.fraction_len + n; sign_allowed = false })
 fraction_more r st n bs ds s w f (Some e) h a ns m d l np = let clash = a.separator in absurd (cc)
 fraction_more r st n bs ds s w None None h a ns m d l np = let clash = a.point in absurd (cc)
 fraction_more r st n bs ds s w (Some es) None h a ns m d l np = record {
@@ -89,25 +89,25 @@ fraction_more r st n bs ds s w (Some es) None h a ns m d l np = record {
   room = m;
 }
 
-pub passed_whole : (r : Radix) (st : State) (n : ℕ) (bs ds : List ℕ) → IsAfter r bs st → st.separator ≡ false → AllDigits (base r) ds → length ds ≡ n → 0 < n → st.point ≡ false → IsAfter r (bs ++ ds) (record st { whole = st.whole + n; fresh = false })
+pub passed_whole : (r : Radix) (st : State) (n : ℕ) (bs ds : List ℕ) → IsAfter r bs st → st.has_separator ≡ false → AllDigits (base r) ds → length ds ≡ n → 0 < n → st.has_point ≡ false → IsAfter r (bs ++ ds) (record st { whole_len = st.whole_len + n; sign_allowed = false })
 passed_whole r st n bs ds a ns d l pos np = whole_more r st n bs ds a.parts.sign a.parts.whole a.parts.fraction a.parts.exponent a.beginning a.agrees ns a.room d l pos np
 
-pub passed_fraction : (r : Radix) (st : State) (n : ℕ) (bs ds : List ℕ) → IsAfter r bs st → st.separator ≡ false → AllDigits (base r) ds → length ds ≡ n → st.point ≡ true → IsAfter r (bs ++ ds) (record st { fraction = st.fraction + n; fresh = false })
+pub passed_fraction : (r : Radix) (st : State) (n : ℕ) (bs ds : List ℕ) → IsAfter r bs st → st.has_separator ≡ false → AllDigits (base r) ds → length ds ≡ n → st.has_point ≡ true → IsAfter r (bs ++ ds) (record st { fraction_len = st.fraction_len + n; sign_allowed = false })
 passed_fraction r st n bs ds a ns d l np = fraction_more r st n bs ds a.parts.sign a.parts.whole a.parts.fraction a.parts.exponent a.beginning a.agrees ns a.room d l np
 
 pub passed_none : (r : Radix) (st : State) (n : ℕ) (bs ds : List ℕ) → IsAfter r bs st → length ds ≡ n → n ≡ 0 → IsAfter r (bs ++ ds) st
 passed_none r st n bs [] a l z = rw (append-nil bs) a
 passed_none r st n bs (d ∷ ds) a l z = absurd (omega arith)
 
-goes_on : (r : Radix) (bs : List ℕ) (b : ℕ) (st : State) → IsAfter r (bs ++ b ∷ []) st → GoesOn r bs b st
+goes_on : (r : Radix) (bs : List ℕ) (b : ℕ) (st : State) → IsAfter r (bs ++ b ∷ []) st → Extends r bs b st
 goes_on r bs b st a = record { parts = a.parts; beginning = a.beginning; agrees = a.agrees; room = a.room }
 
 -- ---- before any separator
 
-pub before_digit : (r : Radix) (st next : State) (b : ℕ) (bs : List ℕ) (p : Parts) → HasParts r bs p → Agrees r st p → st.magnitude ≤ most_magnitude true → is_digit r b ≡ true → ((r : Radix) (bs ds : List ℕ) → IsAfter r bs st → AllDigits (base r) ds → length ds ≡ 1 → IsAfter r (bs ++ ds) next) → GoesOn r bs b next
+pub before_digit : (r : Radix) (st next : State) (b : ℕ) (bs : List ℕ) (p : Parts) → HasParts r bs p → Agrees r st p → st.magnitude ≤ max_magnitude true → is_digit r b ≡ true → ((r : Radix) (bs ds : List ℕ) → IsAfter r bs st → AllDigits (base r) ds → length ds ≡ 1 → IsAfter r (bs ++ ds) next) → Extends r bs b next
 before_digit r st next b bs p h a m d more = goes_on r bs b next (more r bs (b ∷ []) (record { parts = p; beginning = h; agrees = a; room = m }) (ltb-true _ _ d, tt) refl)
 
-pub before_separator : (r : Radix) (st : State) (b : ℕ) (bs : List ℕ) (s : Option ℕ) (w : List ℕ) (f : Option (List ℕ)) (x : Option Exponent) → HasParts r bs (parts s w f x) → Agrees r st (parts s w f x) → st.separator ≡ false → is_separator r b ≡ true → (t : Bool) → t ≡ is_two_separator r b → GoesOn r bs b (record st { separator = true; two = t; fresh = true; minus = false; magnitude = 0; counted = false })
+pub before_separator : (r : Radix) (st : State) (b : ℕ) (bs : List ℕ) (s : Option ℕ) (w : List ℕ) (f : Option (List ℕ)) (x : Option Exponent) → HasParts r bs (parts s w f x) → Agrees r st (parts s w f x) → st.has_separator ≡ false → is_separator r b ≡ true → (t : Bool) → t ≡ is_two_separator r b → Extends r bs b (record st { has_separator = true; scales_by_two = t; sign_allowed = true; exponent_negative = false; magnitude = 0; has_exponent_digit = false })
 before_separator r st b bs s w f (Some e) h a ns d t et = let clash = a.separator in absurd (cc)
 before_separator r st b bs s w f None h a ns d t et = record {
   parts = parts s w f (Some (exponent b None []));
@@ -116,7 +116,7 @@ before_separator r st b bs s w f None h a ns d t et = record {
   room = omega arith;
 }
 
-pub before_point : (r : Radix) (st : State) (b : ℕ) (bs : List ℕ) (s : Option ℕ) (w : List ℕ) (f : Option (List ℕ)) (x : Option Exponent) → HasParts r bs (parts s w f x) → Agrees r st (parts s w f x) → st.separator ≡ false → st.magnitude ≤ most_magnitude true → b ≡ 46 → st.point ≡ false → GoesOn r bs b (record st { point = true; fresh = false })
+pub before_point : (r : Radix) (st : State) (b : ℕ) (bs : List ℕ) (s : Option ℕ) (w : List ℕ) (f : Option (List ℕ)) (x : Option Exponent) → HasParts r bs (parts s w f x) → Agrees r st (parts s w f x) → st.has_separator ≡ false → st.magnitude ≤ max_magnitude true → b ≡ 46 → st.has_point ≡ false → Extends r bs b (record st { has_point = true; sign_allowed = false })
 before_point r st b bs s w f (Some e) h a ns m d np = let clash = a.separator in absurd (cc)
 before_point r st b bs s w (Some ds) None h a ns m d np = let clash = a.point in absurd (cc)
 before_point r st b bs s w None None h a ns m d np = record {
@@ -138,7 +138,7 @@ point_alone Oct b e = rw e (record { no_digit = refl; no_separator = refl; no_si
 point_alone Dec b e = rw e (record { no_digit = refl; no_separator = refl; no_sign = refl; is_point = refl })
 point_alone Hex b e = rw e (record { no_digit = refl; no_separator = refl; no_sign = refl; is_point = refl })
 
-pub second_point : (r : Radix) (st : State) (b : ℕ) (bs : List ℕ) (s : Option ℕ) (w : List ℕ) (f : Option (List ℕ)) (x : Option Exponent) → HasParts r bs (parts s w f x) → Agrees r st (parts s w f x) → st.separator ≡ false → b ≡ 46 → st.point ≡ true → IsStuck r bs (parts s w f x) b TooManyPoints
+pub second_point : (r : Radix) (st : State) (b : ℕ) (bs : List ℕ) (s : Option ℕ) (w : List ℕ) (f : Option (List ℕ)) (x : Option Exponent) → HasParts r bs (parts s w f x) → Agrees r st (parts s w f x) → st.has_separator ≡ false → b ≡ 46 → st.has_point ≡ true → CannotExtend r bs (parts s w f x) b TooManyPoints
 second_point r st b bs s w f (Some e) h a ns d yp = let clash = a.separator in absurd (cc)
 second_point r st b bs s w None None h a ns d yp = let clash = a.point in absurd (cc)
 second_point r st b bs s w (Some ds) None h a ns d yp =
@@ -151,7 +151,7 @@ second_point r st b bs s w (Some ds) None h a ns d yp =
 not_point : (b : ℕ) → is_sign b ≡ true → (b == point) ≡ false
 not_point b d = at_bytes (λ (x : ℕ). (x == point) ≡ false) b 43 45 d refl refl
 
-pub before_sign : (r : Radix) (st : State) (b : ℕ) (bs : List ℕ) (s : Option ℕ) (w : List ℕ) (f : Option (List ℕ)) (x : Option Exponent) → HasParts r bs (parts s w f x) → Agrees r st (parts s w f x) → st.separator ≡ false → st.magnitude ≤ most_magnitude true → is_sign b ≡ true → st.fresh ≡ true → GoesOn r bs b (record st { neg = b == minus; start = 1; fresh = false })
+pub before_sign : (r : Radix) (st : State) (b : ℕ) (bs : List ℕ) (s : Option ℕ) (w : List ℕ) (f : Option (List ℕ)) (x : Option Exponent) → HasParts r bs (parts s w f x) → Agrees r st (parts s w f x) → st.has_separator ≡ false → st.magnitude ≤ max_magnitude true → is_sign b ≡ true → st.sign_allowed ≡ true → Extends r bs b (record st { negative = b == minus; sign_len = 1; sign_allowed = false })
 before_sign r st b bs s w f (Some e) h a ns m d fr = let clash = a.separator in absurd (cc)
 before_sign r st b bs (Some c) w f None h a ns m d fr = let clash = a.fresh in absurd (cc)
 before_sign r st b bs None (c ∷ w) f None h a ns m d fr = let clash = a.fresh in absurd (cc)
@@ -170,7 +170,7 @@ and_turned true true = refl
 and_turned true false = refl
 and_turned false y = refl
 
-pub second_sign : (r : Radix) (st : State) (b : ℕ) (bs : List ℕ) (s : Option ℕ) (w : List ℕ) (f : Option (List ℕ)) (x : Option Exponent) → HasParts r bs (parts s w f x) → Agrees r st (parts s w f x) → st.separator ≡ false → is_digit r b ≡ false → is_separator r b ≡ false → is_sign b ≡ true → st.fresh ≡ false → IsStuck r bs (parts s w f x) b MisplacedSign
+pub second_sign : (r : Radix) (st : State) (b : ℕ) (bs : List ℕ) (s : Option ℕ) (w : List ℕ) (f : Option (List ℕ)) (x : Option Exponent) → HasParts r bs (parts s w f x) → Agrees r st (parts s w f x) → st.has_separator ≡ false → is_digit r b ≡ false → is_separator r b ≡ false → is_sign b ≡ true → st.sign_allowed ≡ false → CannotExtend r bs (parts s w f x) b MisplacedSign
 second_sign r st b bs s w f (Some e) h a ns nd nk d nf = let clash = a.separator in absurd (cc)
 second_sign r st b bs s w (Some ds) None h a ns nd nk d nf = record {
   none = stuck r bs _ b h (rw (nd, nk) refl);
@@ -184,7 +184,7 @@ second_sign r st b bs s w None None h a ns nd nk d nf =
       is_kind = rw d refl;
     }
 
-pub other_before : (r : Radix) (st : State) (b : ℕ) (bs : List ℕ) (s : Option ℕ) (w : List ℕ) (f : Option (List ℕ)) (x : Option Exponent) → HasParts r bs (parts s w f x) → Agrees r st (parts s w f x) → st.separator ≡ false → is_digit r b ≡ false → is_separator r b ≡ false → (b == point) ≡ false → is_sign b ≡ false → IsStuck r bs (parts s w f x) b InvalidDigit
+pub other_before : (r : Radix) (st : State) (b : ℕ) (bs : List ℕ) (s : Option ℕ) (w : List ℕ) (f : Option (List ℕ)) (x : Option Exponent) → HasParts r bs (parts s w f x) → Agrees r st (parts s w f x) → st.has_separator ≡ false → is_digit r b ≡ false → is_separator r b ≡ false → (b == point) ≡ false → is_sign b ≡ false → CannotExtend r bs (parts s w f x) b InvalidDigit
 other_before r st b bs s w f (Some e) h a ns nd nk np d = let clash = a.separator in absurd (cc)
 other_before r st b bs s w (Some ds) None h a ns nd nk np d = record {
   none = stuck r bs _ b h (rw (nd, nk) refl);
@@ -203,19 +203,19 @@ decimal_digit b d = decimal_by b (ltb-true _ _ d)
     decimal_by : (b : ℕ) → digit_value b < 10 → digit_value b ≡ b - 48
     decimal_by b h = grind arith
 
-in_range_most : (c : Bool) (n : ℕ) → n ≤ most_magnitude c → cond c (nat_lt n (2 ^ 31 + 1)) (nat_lt n (2 ^ 31)) ≡ true
+in_range_most : (c : Bool) (n : ℕ) → n ≤ max_magnitude c → cond c (nat_lt n (2 ^ 31 + 1)) (nat_lt n (2 ^ 31)) ≡ true
 in_range_most true n h = lt-ltb _ _ (omega arith)
 in_range_most false n h = lt-ltb _ _ (omega arith)
 
-most_at_most : (c : Bool) → most_magnitude c ≤ most_magnitude true
+most_at_most : (c : Bool) → max_magnitude c ≤ max_magnitude true
 most_at_most true = omega arith
 most_at_most false = omega arith
 
-pub behind_digit : (r : Radix) (st : State) (b m : ℕ) (bs : List ℕ) (s : Option ℕ) (w : List ℕ) (f : Option (List ℕ)) (x : Option Exponent) → HasParts r bs (parts s w f x) → Agrees r st (parts s w f x) → st.separator ≡ true → is_digit Dec b ≡ true → m ≡ st.magnitude * 10 + (b - 48) → m ≤ most_magnitude st.minus → GoesOn r bs b (record st { fresh = false; magnitude = m; counted = true })
+pub behind_digit : (r : Radix) (st : State) (b m : ℕ) (bs : List ℕ) (s : Option ℕ) (w : List ℕ) (f : Option (List ℕ)) (x : Option Exponent) → HasParts r bs (parts s w f x) → Agrees r st (parts s w f x) → st.has_separator ≡ true → is_digit Dec b ≡ true → m ≡ st.magnitude * 10 + (b - 48) → m ≤ max_magnitude st.exponent_negative → Extends r bs b (record st { sign_allowed = false; magnitude = m; has_exponent_digit = true })
 behind_digit r st b m bs s w f None h a ns d e l = let clash = a.separator in absurd (cc)
 behind_digit r st b m bs s w f (Some e) h a ns d is l =
     let value : digits_value 10 (e.digits ++ b ∷ []) ≡ m = digits_value_push 10 e.digits b ∙ omega (arith, decimal_digit b d, a.exponent.2) in
-    let fits : is_in_range e.sign (digits_value 10 (e.digits ++ b ∷ [])) ≡ true = rw (value, ← a.exponent.1) (in_range_most st.minus m l) in
+    let fits : is_in_range e.sign (digits_value 10 (e.digits ++ b ∷ [])) ≡ true = rw (value, ← a.exponent.1) (in_range_most st.exponent_negative m l) in
     record {
       parts = parts s w f (Some (exponent e.separator e.sign (e.digits ++ b ∷ [])));
       beginning = more_exponent r bs s w f e b d fits h;
@@ -230,10 +230,10 @@ behind_digit r st b m bs s w f (Some e) h a ns d is l =
         exponent = (a.exponent.0, a.exponent.1, sym value);
         counted = rw (rw (append-nil (e.digits ++ b ∷ [])) at (nil_push e.digits b [])) refl;
       };
-      room = omega (arith, most_at_most st.minus);
+      room = omega (arith, most_at_most st.exponent_negative);
     }
 
-too_much : (c : Bool) (n : ℕ) → most_magnitude c < n → cond c (nat_lt n (2 ^ 31 + 1)) (nat_lt n (2 ^ 31)) ≡ false
+too_much : (c : Bool) (n : ℕ) → max_magnitude c < n → cond c (nat_lt n (2 ^ 31 + 1)) (nat_lt n (2 ^ 31)) ≡ false
 too_much true n h = le-ltb _ _ (omega arith)
 too_much false n h = le-ltb _ _ (omega arith)
 
@@ -257,21 +257,21 @@ decimal_is_no_separator r b d = by_test (is_separator r b) refl
     by_test false e = e
     by_test true e = let no = separator_is_no_decimal r b e in cc
 
-pub exponent_overflow : (r : Radix) (st : State) (b m : ℕ) (bs : List ℕ) (s : Option ℕ) (w : List ℕ) (f : Option (List ℕ)) (x : Option Exponent) → HasParts r bs (parts s w f x) → Agrees r st (parts s w f x) → st.separator ≡ true → is_digit Dec b ≡ true → m ≡ st.magnitude * 10 + (b - 48) → most_magnitude st.minus < m → IsStuck r bs (parts s w f x) b ExpOverflow
+pub exponent_overflow : (r : Radix) (st : State) (b m : ℕ) (bs : List ℕ) (s : Option ℕ) (w : List ℕ) (f : Option (List ℕ)) (x : Option Exponent) → HasParts r bs (parts s w f x) → Agrees r st (parts s w f x) → st.has_separator ≡ true → is_digit Dec b ≡ true → m ≡ st.magnitude * 10 + (b - 48) → max_magnitude st.exponent_negative < m → CannotExtend r bs (parts s w f x) b ExpOverflow
 exponent_overflow r st b m bs s w f None h a ns d e l = let clash = a.separator in absurd (cc)
 exponent_overflow r st b m bs s w f (Some e) h a ns d is l =
     let value : digits_value 10 (e.digits ++ b ∷ []) ≡ m = digits_value_push 10 e.digits b ∙ omega (arith, decimal_digit b d, a.exponent.2) in
-    let out : is_in_range e.sign (digits_value 10 (e.digits ++ b ∷ [])) ≡ false = rw (value, ← a.exponent.1) (too_much st.minus m l) in
+    let out : is_in_range e.sign (digits_value 10 (e.digits ++ b ∷ [])) ≡ false = rw (value, ← a.exponent.1) (too_much st.exponent_negative m l) in
     record {
       none = stuck r bs _ b h (rw (d, out) refl);
       is_kind = rw (decimal_is_no_sign b d, decimal_is_no_separator r b d, d) refl;
     }
 
-pub behind_sign : (r : Radix) (st : State) (b : ℕ) (bs : List ℕ) (s : Option ℕ) (w : List ℕ) (f : Option (List ℕ)) (x : Option Exponent) → HasParts r bs (parts s w f x) → Agrees r st (parts s w f x) → st.separator ≡ true → st.magnitude ≤ most_magnitude true → is_sign b ≡ true → st.fresh ≡ true → GoesOn r bs b (record st { fresh = false; minus = b == minus })
-behind_sign r st b bs s w f None h a ns m d fr = let clash = a.separator in absurd (cc)
-behind_sign r st b bs s w f (Some e) h a ns m d fr = opened e.separator e.sign e.digits h a
+pub after_sign : (r : Radix) (st : State) (b : ℕ) (bs : List ℕ) (s : Option ℕ) (w : List ℕ) (f : Option (List ℕ)) (x : Option Exponent) → HasParts r bs (parts s w f x) → Agrees r st (parts s w f x) → st.has_separator ≡ true → st.magnitude ≤ max_magnitude true → is_sign b ≡ true → st.sign_allowed ≡ true → Extends r bs b (record st { sign_allowed = false; exponent_negative = b == minus })
+after_sign r st b bs s w f None h a ns m d fr = let clash = a.separator in absurd (cc)
+after_sign r st b bs s w f (Some e) h a ns m d fr = opened e.separator e.sign e.digits h a
   where
-    opened : (k : ℕ) (t : Option ℕ) (ds : List ℕ) → HasParts r bs (parts s w f (Some (exponent k t ds))) → Agrees r st (parts s w f (Some (exponent k t ds))) → GoesOn r bs b (record st { fresh = false; minus = b == minus })
+    opened : (k : ℕ) (t : Option ℕ) (ds : List ℕ) → HasParts r bs (parts s w f (Some (exponent k t ds))) → Agrees r st (parts s w f (Some (exponent k t ds))) → Extends r bs b (record st { sign_allowed = false; exponent_negative = b == minus })
     opened k (Some c) ds h a = let clash = a.fresh in absurd (cc)
     opened k None (y ∷ ds) h a = let clash = a.fresh in absurd (cc)
     opened k None [] h a = record {
@@ -284,7 +284,7 @@ behind_sign r st b bs s w f (Some e) h a ns m d fr = opened e.separator e.sign e
 sign_is_no_decimal : (b : ℕ) → is_sign b ≡ true → is_digit Dec b ≡ false
 sign_is_no_decimal b d = at_bytes (λ (x : ℕ). is_digit Dec x ≡ false) b 43 45 d refl refl
 
-pub second_sign_behind : (r : Radix) (st : State) (b : ℕ) (bs : List ℕ) (s : Option ℕ) (w : List ℕ) (f : Option (List ℕ)) (x : Option Exponent) → HasParts r bs (parts s w f x) → Agrees r st (parts s w f x) → st.separator ≡ true → is_sign b ≡ true → st.fresh ≡ false → IsStuck r bs (parts s w f x) b MisplacedSign
+pub second_sign_behind : (r : Radix) (st : State) (b : ℕ) (bs : List ℕ) (s : Option ℕ) (w : List ℕ) (f : Option (List ℕ)) (x : Option Exponent) → HasParts r bs (parts s w f x) → Agrees r st (parts s w f x) → st.has_separator ≡ true → is_sign b ≡ true → st.sign_allowed ≡ false → CannotExtend r bs (parts s w f x) b MisplacedSign
 second_sign_behind r st b bs s w f None h a ns d nf = let clash = a.separator in absurd (cc)
 second_sign_behind r st b bs s w f (Some e) h a ns d nf =
     let off : (is_none e.sign && is_nil e.digits) ≡ false = sym a.fresh ∙ nf in
@@ -293,14 +293,14 @@ second_sign_behind r st b bs s w f (Some e) h a ns d nf =
       is_kind = rw d refl;
     }
 
-pub second_separator : (r : Radix) (st : State) (b : ℕ) (bs : List ℕ) (s : Option ℕ) (w : List ℕ) (f : Option (List ℕ)) (x : Option Exponent) → HasParts r bs (parts s w f x) → Agrees r st (parts s w f x) → st.separator ≡ true → is_sign b ≡ false → is_separator r b ≡ true → IsStuck r bs (parts s w f x) b TooManyExp
+pub second_separator : (r : Radix) (st : State) (b : ℕ) (bs : List ℕ) (s : Option ℕ) (w : List ℕ) (f : Option (List ℕ)) (x : Option Exponent) → HasParts r bs (parts s w f x) → Agrees r st (parts s w f x) → st.has_separator ≡ true → is_sign b ≡ false → is_separator r b ≡ true → CannotExtend r bs (parts s w f x) b TooManyExp
 second_separator r st b bs s w f None h a ns d k = let clash = a.separator in absurd (cc)
 second_separator r st b bs s w f (Some e) h a ns d k = record {
   none = stuck r bs _ b h (rw (separator_is_no_decimal r b k, d) refl);
   is_kind = rw (d, k) refl;
 }
 
-pub other_behind : (r : Radix) (st : State) (b : ℕ) (bs : List ℕ) (s : Option ℕ) (w : List ℕ) (f : Option (List ℕ)) (x : Option Exponent) → HasParts r bs (parts s w f x) → Agrees r st (parts s w f x) → st.separator ≡ true → is_digit Dec b ≡ false → is_sign b ≡ false → is_separator r b ≡ false → IsStuck r bs (parts s w f x) b ExpInvalidDigit
+pub other_behind : (r : Radix) (st : State) (b : ℕ) (bs : List ℕ) (s : Option ℕ) (w : List ℕ) (f : Option (List ℕ)) (x : Option Exponent) → HasParts r bs (parts s w f x) → Agrees r st (parts s w f x) → st.has_separator ≡ true → is_digit Dec b ≡ false → is_sign b ≡ false → is_separator r b ≡ false → CannotExtend r bs (parts s w f x) b ExpInvalidDigit
 other_behind r st b bs s w f None h a ns nd d k = let clash = a.separator in absurd (cc)
 other_behind r st b bs s w f (Some e) h a ns nd d k = record {
   none = stuck r bs _ b h (rw (nd, d) refl);
@@ -309,7 +309,7 @@ other_behind r st b bs s w f (Some e) h a ns nd d k = record {
 
 -- ---- the whole scan
 
-pub after_nothing : (r : Radix) → IsAfter r [] (record { neg = false; start = 0; whole = 0; point = false; fraction = 0; separator = false; two = false; fresh = true; minus = false; magnitude = 0; counted = false })
+pub after_nothing : (r : Radix) → IsAfter r [] (record { negative = false; sign_len = 0; whole_len = 0; has_point = false; fraction_len = 0; has_separator = false; scales_by_two = false; sign_allowed = true; exponent_negative = false; magnitude = 0; has_exponent_digit = false })
 after_nothing r = record {
   parts = parts None [] None None;
   beginning = record { parts = record { sign = tt; whole = tt; fraction = tt; exponent = tt }; text = refl };
@@ -317,7 +317,7 @@ after_nothing r = record {
   room = omega arith;
 }
 
-pub after_more : (r : Radix) (bs : List ℕ) (i : ℕ) (st : State) → i < length bs → GoesOn r (take i bs) (get_or bs i 0) st → IsAfter r (take (i + 1) bs) st
+pub after_more : (r : Radix) (bs : List ℕ) (i : ℕ) (st : State) → i < length bs → Extends r (take i bs) (get_or bs i 0) st → IsAfter r (take (i + 1) bs) st
 after_more r bs i st l g = record { parts = g.parts; beginning = rw (take_more bs i 0 l) g.beginning; agrees = g.agrees; room = g.room }
 
 prefix_stuck : (r : Radix) (bs : List ℕ) (n : ℕ) (p : Parts) → n < length bs → (IsBeginning r (take n bs ++ get_or bs n 0 ∷ []) → ⊥) → (m : ℕ) → IsBeginning r (take m bs) → m ≤ n
@@ -327,13 +327,13 @@ prefix_stuck r bs n p l refuses m h = ⊎_elim (λ more. absurd (refuses (
     let front : IsBeginning r (take (n + 1) (take m bs)) = beginning_prefix r (take (n + 1) (take m bs)) (drop (n + 1) (take m bs)) (rw cut h) in
     rw (first, take_more bs n 0 l) at front))) (λ less. less) (cases_lt n m)
 
-pub stuck_no_numeral : (r : Radix) (bs : List ℕ) (n : ℕ) (p : Parts) (kind : ParseErrorKind) → n < length bs → IsStuck r (take n bs) p (get_or bs n 0) kind → IsNumeral r bs → ⊥
+pub stuck_no_numeral : (r : Radix) (bs : List ℕ) (n : ℕ) (p : Parts) (kind : ParseErrorKind) → n < length bs → CannotExtend r (take n bs) p (get_or bs n 0) kind → IsNumeral r bs → ⊥
 stuck_no_numeral r bs n p kind l g (q, h) =
     let whole : take (length bs) bs ≡ bs = take_all (length bs) bs (omega arith) in
     let all : IsBeginning r (take (length bs) bs) = (q, rw whole h.beginning) in
     omega (arith, prefix_stuck r bs n p l g.none (length bs) all)
 
-pub stuck_cause : (r : Radix) (bs : List ℕ) (n : ℕ) (p : Parts) (kind : ParseErrorKind) → n < length bs → HasParts r (take n bs) p → IsStuck r (take n bs) p (get_or bs n 0) kind → HasCause r bs kind
+pub stuck_cause : (r : Radix) (bs : List ℕ) (n : ℕ) (p : Parts) (kind : ParseErrorKind) → n < length bs → HasParts r (take n bs) p → CannotExtend r (take n bs) p (get_or bs n 0) kind → HasCause r bs kind
 stuck_cause r bs n p kind l h g = record {
   none = stuck_no_numeral r bs n p kind l g;
   count = n;
@@ -380,7 +380,7 @@ nil_by_length (d ∷ ds) h = absurd (omega arith)
 pub mantissa_length : (p : Parts) → length (mantissa p) ≡ length p.whole + length (digits_behind p.fraction)
 mantissa_length p = length-append p.whole (digits_behind p.fraction)
 
-pub no_digits : (r : Radix) (bs : List ℕ) (st : State) → IsAfter r bs st → st.whole ≡ 0 → st.fraction ≡ 0 → HasCause r bs NoDigits
+pub no_digits : (r : Radix) (bs : List ℕ) (st : State) → IsAfter r bs st → st.whole_len ≡ 0 → st.fraction_len ≡ 0 → HasCause r bs NoDigits
 no_digits r bs st a ew ef =
     let nil : is_nil (mantissa a.parts) ≡ true = nil_by_length _ (omega (arith, mantissa_length a.parts, a.agrees.whole, a.agrees.fraction)) in
     end_cause r bs a.parts NoDigits a.beginning (rw nil refl) (
@@ -389,7 +389,7 @@ no_digits r bs st a ew ef =
     let nil' : is_nil (mantissa q) ≡ true = rw same at nil in
     cc)
 
-at_exponent : (r : Radix) (bs : List ℕ) (st : State) (s : Option ℕ) (w : List ℕ) (f : Option (List ℕ)) (x : Option Exponent) → HasParts r bs (parts s w f x) → Agrees r st (parts s w f x) → 0 < st.whole + st.fraction → st.separator ≡ true → st.counted ≡ false → HasCause r bs ExpNoDigits
+at_exponent : (r : Radix) (bs : List ℕ) (st : State) (s : Option ℕ) (w : List ℕ) (f : Option (List ℕ)) (x : Option Exponent) → HasParts r bs (parts s w f x) → Agrees r st (parts s w f x) → 0 < st.whole_len + st.fraction_len → st.has_separator ≡ true → st.has_exponent_digit ≡ false → HasCause r bs ExpNoDigits
 at_exponent r bs st s w f None h a m k e = let clash = a.separator in absurd (cc)
 at_exponent r bs st s w f (Some y) h a m k e =
     let some : is_nil (mantissa (parts s w f (Some y))) ≡ false = nil_length _ (omega (arith, mantissa_length (parts s w f (Some y)), a.whole, a.fraction)) in
@@ -397,14 +397,14 @@ at_exponent r bs st s w f (Some y) h a m k e =
     let none : HasNumeral r bs (parts s w f (Some y)) → ⊥ = λ g. let there = nil_length y.digits g.exponent in cc in
     end_cause r bs (parts s w f (Some y)) ExpNoDigits h (rw some refl) (λ (q, g). let same = parts_unique r bs (parts s w f (Some y)) q h g.beginning in none (rw same g))
 
-pub exponent_no_digits : (r : Radix) (bs : List ℕ) (st : State) → IsAfter r bs st → 0 < st.whole + st.fraction → st.separator ≡ true → st.counted ≡ false → HasCause r bs ExpNoDigits
+pub exponent_no_digits : (r : Radix) (bs : List ℕ) (st : State) → IsAfter r bs st → 0 < st.whole_len + st.fraction_len → st.has_separator ≡ true → st.has_exponent_digit ≡ false → HasCause r bs ExpNoDigits
 exponent_no_digits r bs st a m k e = at_exponent r bs st a.parts.sign a.parts.whole a.parts.fraction a.parts.exponent a.beginning a.agrees m k e
 
-pub counted_at : (r : Radix) (st : State) (s : Option ℕ) (w : List ℕ) (f : Option (List ℕ)) (x : Option Exponent) → Agrees r st (parts s w f x) → (st.separator ≡ false) ⊎ (st.counted ≡ true) → IfSome x (λ e. 0 < length e.digits)
+pub counted_at : (r : Radix) (st : State) (s : Option ℕ) (w : List ℕ) (f : Option (List ℕ)) (x : Option Exponent) → Agrees r st (parts s w f x) → (st.has_separator ≡ false) ⊎ (st.has_exponent_digit ≡ true) → IfSome x (λ e. 0 < length e.digits)
 counted_at r st s w f None a h = tt
 counted_at r st s w f (Some y) a h = length_nil y.digits (⊎_elim (λ k. let clash = a.separator in absurd (cc)) (λ k. not_both_true _ (sym k ∙ a.counted)) h)
 
-pub has_numeral : (r : Radix) (bs : List ℕ) (st : State) (a : IsAfter r bs st) → 0 < st.whole + st.fraction → (st.separator ≡ false) ⊎ (st.counted ≡ true) → HasNumeral r bs a.parts
+pub has_numeral : (r : Radix) (bs : List ℕ) (st : State) (a : IsAfter r bs st) → 0 < st.whole_len + st.fraction_len → (st.has_separator ≡ false) ⊎ (st.has_exponent_digit ≡ true) → HasNumeral r bs a.parts
 has_numeral r bs st a m k = record {
   beginning = a.beginning;
   mantissa = omega (arith, mantissa_length a.parts, a.agrees.whole, a.agrees.fraction);
@@ -423,23 +423,23 @@ is_on false e = sym e
 text_length : (r : Radix) (bs : List ℕ) (s : Option ℕ) (w : List ℕ) (f : Option (List ℕ)) (x : Option Exponent) → HasParts r bs (parts s w f x) → length (option_to_list s) + length w + length (fraction_text f) ≤ length bs
 text_length r bs s w f x h = omega (arith, ap length h.text, length-append (option_to_list s) (w ++ (fraction_text f ++ exponent_text x)), length-append w (fraction_text f ++ exponent_text x), length-append (fraction_text f) (exponent_text x))
 
-pub whole_fits : (r : Radix) (bs : List ℕ) (st : State) → IsAfter r bs st → st.start + st.whole + st.fraction ≤ length bs
+pub whole_fits : (r : Radix) (bs : List ℕ) (st : State) → IsAfter r bs st → st.sign_len + st.whole_len + st.fraction_len ≤ length bs
 whole_fits r bs st a = at_fraction a.parts.fraction (a.agrees.start) (a.agrees.whole) a.agrees.fraction (text_length r bs a.parts.sign a.parts.whole a.parts.fraction a.parts.exponent a.beginning)
   where
     at_fraction : {n m k i j l : ℕ} (f : Option (List ℕ)) → i ≡ n → j ≡ m → l ≡ length (digits_behind f) → n + m + length (fraction_text f) ≤ k → i + j + l ≤ k
     at_fraction None p q t h = omega arith
     at_fraction (Some ds) p q t h = omega arith
 
-pub whole_is : (r : Radix) (bs : List ℕ) (st : State) (a : IsAfter r bs st) → take st.whole (drop st.start bs) ≡ a.parts.whole
+pub whole_is : (r : Radix) (bs : List ℕ) (st : State) (a : IsAfter r bs st) → take st.whole_len (drop st.sign_len bs) ≡ a.parts.whole
 whole_is r bs st a =
-    let rest : drop st.start bs ≡ a.parts.whole ++ (fraction_text a.parts.fraction ++ exponent_text a.parts.exponent) = ap (drop st.start) a.beginning.text ∙ drop_at (option_to_list a.parts.sign) (a.parts.whole ++ (fraction_text a.parts.fraction ++ exponent_text a.parts.exponent)) st.start (sym a.agrees.start) in
-    ap (take st.whole) rest ∙ take_at a.parts.whole (fraction_text a.parts.fraction ++ exponent_text a.parts.exponent) st.whole (sym a.agrees.whole)
+    let rest : drop st.sign_len bs ≡ a.parts.whole ++ (fraction_text a.parts.fraction ++ exponent_text a.parts.exponent) = ap (drop st.sign_len) a.beginning.text ∙ drop_at (option_to_list a.parts.sign) (a.parts.whole ++ (fraction_text a.parts.fraction ++ exponent_text a.parts.exponent)) st.sign_len (sym a.agrees.start) in
+    ap (take st.whole_len) rest ∙ take_at a.parts.whole (fraction_text a.parts.fraction ++ exponent_text a.parts.exponent) st.whole_len (sym a.agrees.whole)
 
-pub fraction_is : (r : Radix) (bs : List ℕ) (st : State) (a : IsAfter r bs st) → take st.fraction (drop (st.start + st.whole + 1) bs) ≡ digits_behind a.parts.fraction
+pub fraction_is : (r : Radix) (bs : List ℕ) (st : State) (a : IsAfter r bs st) → take st.fraction_len (drop (st.sign_len + st.whole_len + 1) bs) ≡ digits_behind a.parts.fraction
 fraction_is r bs st a =
     let front : bs ≡ (option_to_list a.parts.sign ++ a.parts.whole) ++ (fraction_text a.parts.fraction ++ exponent_text a.parts.exponent) = a.beginning.text ∙ sym (append_assoc (option_to_list a.parts.sign) a.parts.whole (fraction_text a.parts.fraction ++ exponent_text a.parts.exponent)) in
-    let count : length (option_to_list a.parts.sign ++ a.parts.whole) ≡ st.start + st.whole = length-append (option_to_list a.parts.sign) a.parts.whole ∙ omega (arith, a.agrees.start, a.agrees.whole) in
-    at_fraction (option_to_list a.parts.sign ++ a.parts.whole) a.parts.fraction (exponent_text a.parts.exponent) (st.start + st.whole) st.fraction bs front count a.agrees.fraction
+    let count : length (option_to_list a.parts.sign ++ a.parts.whole) ≡ st.sign_len + st.whole_len = length-append (option_to_list a.parts.sign) a.parts.whole ∙ omega (arith, a.agrees.start, a.agrees.whole) in
+    at_fraction (option_to_list a.parts.sign ++ a.parts.whole) a.parts.fraction (exponent_text a.parts.exponent) (st.sign_len + st.whole_len) st.fraction_len bs front count a.agrees.fraction
   where
     at_fraction : (xs : List ℕ) (f : Option (List ℕ)) (ys : List ℕ) (n l : ℕ) (bs : List ℕ) → bs ≡ xs ++ (fraction_text f ++ ys) → length xs ≡ n → l ≡ length (digits_behind f) → take l (drop (n + 1) bs) ≡ digits_behind f
     at_fraction xs None ys n l bs e c k = rw k refl
@@ -452,16 +452,16 @@ fraction_is r bs st a =
 pub after_all : (r : Radix) (bs : List ℕ) (i : ℕ) (st : State) → length bs ≤ i → IsAfter r (take i bs) st → IsAfter r bs st
 after_all r bs i st l a = rw (take_all i bs l) at a
 
-pub whole_digits : (r : Radix) (bs ds : List ℕ) (st : State) (a : IsAfter r bs st) → ds ≡ take st.whole (drop st.start bs) → digits_in ds ≡ digits_in a.parts.whole
+pub whole_digits : (r : Radix) (bs ds : List ℕ) (st : State) (a : IsAfter r bs st) → ds ≡ take st.whole_len (drop st.sign_len bs) → digits_in ds ≡ digits_in a.parts.whole
 whole_digits r bs ds st a e = ap digits_in (e ∙ whole_is r bs st a)
 
-pub fraction_digits : (r : Radix) (bs ds : List ℕ) (st : State) (a : IsAfter r bs st) → ds ≡ take st.fraction (drop (st.start + st.whole + 1) bs) → digits_in ds ≡ digits_in (digits_behind a.parts.fraction)
+pub fraction_digits : (r : Radix) (bs ds : List ℕ) (st : State) (a : IsAfter r bs st) → ds ≡ take st.fraction_len (drop (st.sign_len + st.whole_len + 1) bs) → digits_in ds ≡ digits_in (digits_behind a.parts.fraction)
 fraction_digits r bs ds st a e = ap digits_in (e ∙ fraction_is r bs st a)
 
-pub whole_counted : (r : Radix) (bs ds : List ℕ) (st : State) (a : IsAfter r bs st) → ds ≡ take st.whole (drop st.start bs) → st.whole ≡ length (digits_in ds)
+pub whole_counted : (r : Radix) (bs ds : List ℕ) (st : State) (a : IsAfter r bs st) → ds ≡ take st.whole_len (drop st.sign_len bs) → st.whole_len ≡ length (digits_in ds)
 whole_counted r bs ds st a e = a.agrees.whole ∙ sym (whole_count r a.parts a.beginning.parts) ∙ sym (ap length (whole_digits r bs ds st a e))
 
-pub fraction_counted : (r : Radix) (bs ds : List ℕ) (st : State) (a : IsAfter r bs st) → ds ≡ take st.fraction (drop (st.start + st.whole + 1) bs) → st.fraction ≡ length (digits_in ds)
+pub fraction_counted : (r : Radix) (bs ds : List ℕ) (st : State) (a : IsAfter r bs st) → ds ≡ take st.fraction_len (drop (st.sign_len + st.whole_len + 1) bs) → st.fraction_len ≡ length (digits_in ds)
 fraction_counted r bs ds st a e = a.agrees.fraction ∙ sym (behind_count r a.parts a.beginning.parts) ∙ sym (ap length (fraction_digits r bs ds st a e))
 
 pub is_scanned : (r : Radix) (bs : List ℕ) (p : Parts) (st : State) (a : IsAfter r bs st) (neg : Bool) (whole fraction : List ℕ) (bits : ℕ) → HasParts r bs p → IsScanned r a.parts neg whole fraction bits → IsScanned r p neg whole fraction bits
@@ -505,26 +505,26 @@ read_digits r bs at n st next old now new h l d e p = record {
   cost = omega (arith, e, h.cost);
 }
 
-pub read_byte : (r : Radix) (bs : List ℕ) (at : ℕ) (st next : State) (old now new : ℕ) → IsRead r bs at st old now → at < length bs → GoesOn r (take at bs) (get_or bs at 0) next → new ≡ now + 1 → IsRead r bs (at + 1) next old new
+pub read_byte : (r : Radix) (bs : List ℕ) (at : ℕ) (st next : State) (old now new : ℕ) → IsRead r bs at st old now → at < length bs → Extends r (take at bs) (get_or bs at 0) next → new ≡ now + 1 → IsRead r bs (at + 1) next old new
 read_byte r bs at st next old now new h l g e = record { within = omega arith; after = after_more r bs at next l g; cost = omega (arith, e, h.cost) }
 
-pub room_after : (r : Radix) (bs : List ℕ) (at n : ℕ) (st : State) (old now : ℕ) → IsRead r bs at st old now → at + n ≤ length bs → st.whole + st.fraction + n ≤ length bs
+pub room_after : (r : Radix) (bs : List ℕ) (at n : ℕ) (st : State) (old now : ℕ) → IsRead r bs at st old now → at + n ≤ length bs → st.whole_len + st.fraction_len + n ≤ length bs
 room_after r bs at n st old now h l = omega (arith, whole_fits r (take at bs) st h.after, length-take at bs)
 
 -- ---- at the end of the text
 pub incomplete_cause : (r : Radix) (bs : List ℕ) (st : State) (kind : ParseErrorKind) → IsAfter r bs st → IsIncomplete st kind → HasCause r bs kind
 incomplete_cause r bs st kind a i = ⊎_elim
-    (λ (t : (st.whole + st.fraction ≡ 0) × (kind ≡ NoDigits)). rw t.1 (no_digits r bs st a (omega (arith, t.0)) (omega (arith, t.0))))
-    (λ (t : (0 < st.whole + st.fraction) × (st.separator ≡ true) × (st.counted ≡ false) × (kind ≡ ExpNoDigits)). rw t.3 (exponent_no_digits r bs st a t.0 t.1 t.2))
+    (λ (t : (st.whole_len + st.fraction_len ≡ 0) × (kind ≡ NoDigits)). rw t.1 (no_digits r bs st a (omega (arith, t.0)) (omega (arith, t.0))))
+    (λ (t : (0 < st.whole_len + st.fraction_len) × (st.has_separator ≡ true) × (st.has_exponent_digit ≡ false) × (kind ≡ ExpNoDigits)). rw t.3 (exponent_no_digits r bs st a t.0 t.1 t.2))
     i
 
 -- the kind that the parts give at the end of the text
 pub kind_at_end : (r : Radix) (bs : List ℕ) (st : State) (kind : ParseErrorKind) (a : IsAfter r bs st) → IsIncomplete st kind → kind ≡ kind_of r a.parts None
 kind_at_end r bs st kind a i = ⊎_elim
-    (λ (t : (st.whole + st.fraction ≡ 0) × (kind ≡ NoDigits)).
+    (λ (t : (st.whole_len + st.fraction_len ≡ 0) × (kind ≡ NoDigits)).
     let nil : is_nil (mantissa a.parts) ≡ true = nil_by_length _ (omega (arith, mantissa_length a.parts, a.agrees.whole, a.agrees.fraction, t.0)) in
     rw (t.1, nil) refl)
-    (λ (t : (0 < st.whole + st.fraction) × (st.separator ≡ true) × (st.counted ≡ false) × (kind ≡ ExpNoDigits)).
+    (λ (t : (0 < st.whole_len + st.fraction_len) × (st.has_separator ≡ true) × (st.has_exponent_digit ≡ false) × (kind ≡ ExpNoDigits)).
     let some : is_nil (mantissa a.parts) ≡ false = nil_length _ (omega (arith, mantissa_length a.parts, a.agrees.whole, a.agrees.fraction, t.0)) in
     rw (t.3, some) refl)
     i

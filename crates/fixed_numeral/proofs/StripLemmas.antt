@@ -8,7 +8,7 @@ use Rattle.std.proofs.Math.Seq.{take-add}
 use Rattle.std.specs.Int.Digits.{number_from_digits, number_from_digits_after, AllBelowBase}
 use Rattle.std.specs.Char.{digit_value}
 use Rattle.fixed_numeral.specs.Digits.{digits_in, zeros}
-use Rattle.fixed_numeral.specs.Place.{IsWithoutLeading, IsWithoutTrailing}
+use Rattle.fixed_numeral.specs.Inner.MovedPoint.{IsWithoutLeading, IsWithoutTrailing}
 use Rattle.fixed_numeral.proofs.ByteLemmas.{value_zero, low_value_is}
 use Rattle.fixed_numeral.proofs.LaneLemmas.{after_eight}
 use Rattle.fixed_numeral.proofs.DigitLemmas.{digits_in_none, digits_in_append, digit_before, other_before, cut, digits_le, count_same, all_counted}

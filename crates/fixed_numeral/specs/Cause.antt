@@ -13,12 +13,12 @@ pub record IsLongestBeginning (r : Radix) (bs : List ℕ) (n : ℕ) (p : Parts) 
   pub longest : (m : ℕ) → m ≤ length bs → IsBeginning r (take m bs) → m ≤ n
 
 -- a byte that offends before any separator
-abbrev pub kind_before : ℕ → ParseErrorKind
-kind_before b = if is_sign b then MisplacedSign else (if b == point then TooManyPoints else InvalidDigit)
+abbrev pub kind_before_separator : ℕ → ParseErrorKind
+kind_before_separator b = if is_sign b then MisplacedSign else (if b == point then TooManyPoints else InvalidDigit)
 
 -- a byte that offends behind a separator
-abbrev pub kind_behind : Radix → ℕ → ParseErrorKind
-kind_behind r b = if is_sign b then MisplacedSign else (if is_separator r b then TooManyExp else (if nat_lt (digit_value b) 10 then ExpOverflow else ExpInvalidDigit))
+abbrev pub kind_after_separator : Radix → ℕ → ParseErrorKind
+kind_after_separator r b = if is_sign b then MisplacedSign else (if is_separator r b then TooManyExp else (if nat_lt (digit_value b) 10 then ExpOverflow else ExpInvalidDigit))
 
 abbrev pub is_nil : List ℕ → Bool
 is_nil [] = true
@@ -26,7 +26,7 @@ is_nil _ = false
 
 -- the kind for a longest beginning and the byte behind it
 abbrev pub kind_of : Radix → Parts → Option ℕ → ParseErrorKind
-kind_of r p (Some b) = if is_some p.exponent then kind_behind r b else kind_before b
+kind_of r p (Some b) = if is_some p.exponent then kind_after_separator r b else kind_before_separator b
 kind_of r p None = if is_nil (mantissa p) then NoDigits else ExpNoDigits
 
 -- bs is no numeral, and kind says why

@@ -6,8 +6,7 @@ pub mod PartNumbers
 pub mod Digits
 pub mod Place
 pub mod Scanned
-pub mod Scan
 pub mod Literal
-pub mod LiteralScan
 pub mod Words
 pub mod Laws
+pub mod Inner

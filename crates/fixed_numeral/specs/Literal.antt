@@ -69,9 +69,9 @@ sign_of of_signed [] = None
 sign_of of_signed (b ∷ bs) = if of_signed && (b == minus) then Some minus else None
 
 -- what stands behind that sign
-abbrev pub behind_sign : Bool → List ℕ → List ℕ
-behind_sign of_signed [] = []
-behind_sign of_signed (b ∷ bs) = if of_signed && (b == minus) then bs else b ∷ bs
+abbrev pub after_sign : Bool → List ℕ → List ℕ
+after_sign of_signed [] = []
+after_sign of_signed (b ∷ bs) = if of_signed && (b == minus) then bs else b ∷ bs
 
 -- 'b', 'o' and 'x' name a radix
 abbrev pub radix_named : ℕ → Option Radix
@@ -84,9 +84,9 @@ prefix_of (a ∷ []) = None
 prefix_of (a ∷ b ∷ bs) = if a == 48 then radix_named b else None
 
 -- the bytes without the underscores in front
-abbrev pub behind_underscores : List ℕ → List ℕ
-behind_underscores [] = []
-behind_underscores (b ∷ bs) = if b == underscore then behind_underscores bs else b ∷ bs
+abbrev pub after_underscores : List ℕ → List ℕ
+after_underscores [] = []
+after_underscores (b ∷ bs) = if b == underscore then after_underscores bs else b ∷ bs
 
 -- the radix is 10 where there is no prefix
 abbrev pub radix_by : Option Radix → Radix
@@ -96,13 +96,13 @@ radix_by (Some r) = r
 -- what stands behind a prefix and its underscores
 abbrev pub rest_by : Option Radix → List ℕ → List ℕ
 rest_by None bs = bs
-rest_by (Some r) bs = behind_underscores (drop 2 bs)
+rest_by (Some r) bs = after_underscores (drop 2 bs)
 
 abbrev pub literal_radix : Bool → List ℕ → Radix
-literal_radix of_signed bs = radix_by (prefix_of (behind_sign of_signed bs))
+literal_radix of_signed bs = radix_by (prefix_of (after_sign of_signed bs))
 
 abbrev pub literal_rest : Bool → List ℕ → List ℕ
-literal_rest of_signed bs = rest_by (prefix_of (behind_sign of_signed bs)) (behind_sign of_signed bs)
+literal_rest of_signed bs = rest_by (prefix_of (after_sign of_signed bs)) (after_sign of_signed bs)
 
 -- bs is a literal, with these parts: those of its rest, and the sign that was taken first
 pub record HasLiteral (of_signed : Bool) (bs : List ℕ) (p : Parts) : Type 0 where

@@ -3,11 +3,11 @@
 ghost use Rattle.std.specs.Prelude.{◌≡◌, ◌+◌, ◌<◌, ◌≤◌, IfSome, length, ℤ, pos, neg_ℤ, if◌then◌else◌};
 ghost use Rattle.fixed_numeral.specs.Numeral.{Parts, HasNumeral, IsNumeral};
 ghost use Rattle.fixed_numeral.specs.PartNumbers.{IsCompactNumeral, compact_limit};
-ghost use Rattle.fixed_numeral.specs.Scan.{IsAfter, IsComplete, most_magnitude};
+ghost use Rattle.fixed_numeral.specs.Inner.Scan.{IsAfter, IsComplete, max_magnitude};
 
-use crate::piece::plain_number;
+use crate::digit_slice::plain_number;
 use crate::radix::Radix;
-use crate::scanner::{State, complete, part, read, same_bytes};
+use crate::scanner::{State, check_complete, read, same_bytes, slice_at};
 use fixed_steps::Steps;
 use std::sync::ledger::Ledger;
 
@@ -29,7 +29,7 @@ pub struct CompactNumeral {
 
 /// An exponent by its sign and its magnitude.
 fn signed_exponent(minus: bool, magnitude: u64) -> i32
-    requires { magnitude ≤ most_magnitude minus }
+    requires { magnitude ≤ max_magnitude minus }
     ensures { result ≡ (if minus then neg_ℤ (pos magnitude) else pos magnitude) }
 {
     if minus {
@@ -47,22 +47,22 @@ fn numbers_of(bytes: &[u8], radix: Radix, state: State) -> Option<CompactNumeral
     ensures parts { IfSome result (λ c. (p : Parts) → HasNumeral radix bytes.now p → IsCompactNumeral radix p c.negative c.digits c.places c.exponent c.scales_by_two) }
     ensures limit { IfSome result (λ c. c.digits < compact_limit radix) }
 {
-    if state.whole + state.fraction > 15 {
+    if state.whole_len + state.fraction_len > 15 {
         return None;
     }
     let text = same_bytes(bytes);
-    let point = state.start + state.whole;
-    let whole = part(text, state.start as usize, state.whole as usize);
-    let fraction = part(text, point as usize + 1, state.fraction as usize);
+    let point = state.sign_len + state.whole_len;
+    let whole = slice_at(text, state.sign_len as usize, state.whole_len as usize);
+    let fraction = slice_at(text, point as usize + 1, state.fraction_len as usize);
     let base = u64::from(radix.base());
     let first = plain_number(whole, base, 0);
     let digits = plain_number(fraction, base, first);
     Some(CompactNumeral {
-        negative: state.neg,
+        negative: state.negative,
         digits: u128::from(digits),
-        places: state.fraction as u32,
-        exponent: signed_exponent(state.minus, state.magnitude),
-        scales_by_two: state.two,
+        places: state.fraction_len as u32,
+        exponent: signed_exponent(state.exponent_negative, state.magnitude),
+        scales_by_two: state.scales_by_two,
     })
 }
 
@@ -82,7 +82,7 @@ pub fn compact_numeral<L: Ledger>(
         Ok(state) => state,
         Err(_) => return None,
     };
-    match complete(state) {
+    match check_complete(state) {
         Ok(_) => numbers_of(s, radix, state),
         Err(_) => None,
     }

@@ -2,25 +2,25 @@
 #![tactic(auto)]
 
 mod compact;
-mod eight;
+mod digit_slice;
+mod digit_view;
 mod error;
 pub mod laws;
 mod literal;
-mod piece;
 mod radix;
 mod scanned;
 mod scanner;
 mod short;
-mod view;
+mod swar;
 
 pub use compact::{CompactNumeral, compact_numeral};
+pub use digit_view::DigitView;
 pub use error::{ParseErrorKind, ParseFixedError};
 pub use literal::scan_lit;
 pub use radix::Radix;
 pub use scanned::Scanned;
 pub use scanner::scan;
 pub use short::{ShortDecimal, short_decimal};
-pub use view::DigitView;
 
 #[cfg(test)]
 mod tests;

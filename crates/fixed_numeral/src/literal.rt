@@ -4,61 +4,61 @@ ghost use Rattle.std.specs.Prelude.{◌≡◌, ◌+◌, ◌*◌, ◌^◌, ◌<�
 ghost use Rattle.fixed_numeral.specs.declared.radix.Radix.{Radix as TheRadix};
 ghost use Rattle.fixed_numeral.specs.Numeral.{Parts, is_minus, is_sign};
 ghost use Rattle.fixed_numeral.specs.Cause.{is_nil};
-ghost use Rattle.fixed_numeral.specs.Scan.{Agrees, IsComplete, most_magnitude};
+ghost use Rattle.fixed_numeral.specs.Inner.Scan.{Agrees, IsComplete, max_magnitude};
 ghost use Rattle.fixed_numeral.specs.Scanned.{IsScanned};
-ghost use Rattle.fixed_numeral.specs.Literal.{HasLiteralParts, HasRest, HasRestCause, HasLiteral, IsLiteral, HasLiteralCause, last_part, sign_of, behind_sign, prefix_of, behind_underscores, radix_by, rest_by, literal_radix};
-ghost use Rattle.fixed_numeral.specs.LiteralScan.{LiteralGoesOn, IsLiteralStuck, IsLiteralAfter};
+ghost use Rattle.fixed_numeral.specs.Literal.{HasLiteralParts, HasRest, HasRestCause, HasLiteral, IsLiteral, HasLiteralCause, last_part, sign_of, after_sign, prefix_of, after_underscores, radix_by, rest_by, literal_radix};
+ghost use Rattle.fixed_numeral.specs.Inner.LiteralScan.{LiteralExtends, LiteralCannotExtend, IsLiteralAfter};
 
+use crate::digit_slice::DigitSlice;
 use crate::error::{ParseErrorKind, ParseFixedError};
-use crate::piece::Piece;
 use crate::radix::Radix;
 use crate::scanned::Scanned;
-use crate::scanner::{State, complete, same_bytes, sign, step};
+use crate::scanner::{State, check_complete, is_sign, same_bytes, transition};
 use fixed_steps::Steps;
 use std::sync::ledger::Ledger;
 
-fn some(count: u64) -> bool
+fn is_positive(count: u64) -> bool
     ensures { IsTrue result ↔ (0 < count) }
 {
     count > 0
 }
 
 /// Whether the part that stands last has a digit.
-fn part_counted(state: State) -> bool
+fn last_part_has_digit(state: State) -> bool
     ensures { (r : TheRadix) (p : Parts) → Agrees r state p → result ≡ not (is_nil (last_part p)) }
 {
-    if state.separator {
-        state.counted
-    } else if state.point {
-        some(state.fraction)
+    if state.has_separator {
+        state.has_exponent_digit
+    } else if state.has_point {
+        is_positive(state.fraction_len)
     } else {
-        some(state.whole)
+        is_positive(state.whole_len)
     }
 }
 
 /// Whether the byte is a sign in front of all others.
-fn leads(state: State, b: u8) -> bool
-    ensures { result ≡ (is_sign b && (state.fresh && not state.separator)) }
+fn is_leading_sign(state: State, b: u8) -> bool
+    ensures { result ≡ (is_sign b && (state.sign_allowed && not state.has_separator)) }
 {
-    sign(b) && state.fresh && !state.separator
+    is_sign(b) && state.sign_allowed && !state.has_separator
 }
 
 /// The next byte of a literal's rest.
-fn literal_step(state: State, radix: Radix, b: u8) -> Result<State, ParseErrorKind>
-    requires room { state.magnitude ≤ most_magnitude true }
-    requires counts { state.whole + state.fraction + 1 < 2 ^ 64 }
-    ensures { (bs : List ℕ) (p : Parts) → HasLiteralParts radix bs p → Agrees radix state p → MatchResult result (λ next. LiteralGoesOn radix bs b next) (λ kind. IsLiteralStuck radix bs p b kind) }
+fn literal_byte(state: State, radix: Radix, b: u8) -> Result<State, ParseErrorKind>
+    requires room { state.magnitude ≤ max_magnitude true }
+    requires counts { state.whole_len + state.fraction_len + 1 < 2 ^ 64 }
+    ensures { (bs : List ℕ) (p : Parts) → HasLiteralParts radix bs p → Agrees radix state p → MatchResult result (λ next. LiteralExtends radix bs b next) (λ kind. LiteralCannotExtend radix bs p b kind) }
 {
     if b == b'_' {
-        if part_counted(state) {
+        if last_part_has_digit(state) {
             Ok(state)
         } else {
             Err(ParseErrorKind::MisplacedUnderscore)
         }
-    } else if leads(state, b) {
+    } else if is_leading_sign(state, b) {
         Err(ParseErrorKind::MisplacedSign)
     } else {
-        step(state, radix, b)
+        transition(state, radix, b)
     }
 }
 
@@ -74,7 +74,7 @@ fn read_rest<L: Ledger>(
     let mut state = State::start();
     for b in bytes {
         steps.tick();
-        match literal_step(state, radix, *b) {
+        match literal_byte(state, radix, *b) {
             Ok(next) => state = next,
             Err(kind) => return Err(kind),
         }
@@ -95,15 +95,15 @@ fn rest_views<'a, L: Ledger>(
     ensures cost { steps.new ≤ steps.old + length bytes.now + 2 }
 {
     let text = same_bytes(bytes);
-    let (whole, behind) = Piece::front(text, state.whole);
-    let (fraction, _rest) = Piece::front(behind, state.fraction);
+    let (whole, behind) = DigitSlice::split_at_digit(text, state.whole_len);
+    let (fraction, _rest) = DigitSlice::split_at_digit(behind, state.fraction_len);
     Scanned::of(
         radix,
         neg,
         whole,
         fraction,
-        state.two,
-        state.minus,
+        state.scales_by_two,
+        state.exponent_negative,
         state.magnitude,
         steps,
     )
@@ -112,7 +112,7 @@ fn rest_views<'a, L: Ledger>(
 /// Whether a sign is taken first, and what stands behind it.
 fn after_sign(bytes: &[u8], signed: bool) -> (bool, &[u8])
     ensures sign { result.0 ≡ is_minus (sign_of signed bytes.now) }
-    ensures rest { result.1.now ≡ behind_sign signed bytes.now }
+    ensures rest { result.1.now ≡ after_sign signed bytes.now }
     ensures shorter { length result.1.now ≤ length bytes.now }
 {
     if signed && bytes.len() > 0 && bytes[0] == b'-' {
@@ -139,7 +139,7 @@ fn prefix(bytes: &[u8]) -> Option<Radix>
 
 /// The bytes without the underscores in front.
 fn after_underscores(bytes: &[u8]) -> &[u8]
-    ensures rest { result.now ≡ behind_underscores bytes.now }
+    ensures rest { result.now ≡ after_underscores bytes.now }
     ensures shorter { length result.now ≤ length bytes.now }
 {
     for (k, b) in bytes.iter().enumerate() {
@@ -184,7 +184,7 @@ pub fn scan_lit<'a, L: Ledger>(
         Ok(state) => state,
         Err(kind) => return Err(ParseFixedError::new(kind)),
     };
-    match complete(state) {
+    match check_complete(state) {
         Ok(all) => Ok((radix, rest_views(rest, radix, neg, all, steps))),
         Err(kind) => Err(ParseFixedError::new(kind)),
     }

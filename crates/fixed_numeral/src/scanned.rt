@@ -3,11 +3,12 @@
 ghost use Rattle.std.specs.Prelude.{◌≡◌, ◌+◌, ◌*◌, ◌<◌, ◌≤◌, ◌^◌, length};
 ghost use Rattle.fixed_numeral.specs.Numeral.{Parts, IsPartsOf, is_minus, digits_behind};
 ghost use Rattle.fixed_numeral.specs.Digits.{digits_in};
-ghost use Rattle.fixed_numeral.specs.Scanned.{bits_of, unit_of, IsShift, AgreesWithExponent, IsScanned};
+ghost use Rattle.fixed_numeral.specs.Scanned.{exponent_unit, IsScanned};
+ghost use Rattle.fixed_numeral.specs.Inner.Shift.{unit_of, IsShift, AgreesWithExponent};
 
-use crate::piece::Piece;
+use crate::digit_slice::DigitSlice;
+use crate::digit_view::{DigitView, views_at_moved_point, views_at_point};
 use crate::radix::Radix;
-use crate::view::{DigitView, at_point, moved_point};
 use fixed_steps::Steps;
 use std::sync::ledger::Ledger;
 
@@ -74,8 +75,8 @@ impl<'a> Scanned<'a> {
     pub(crate) fn of<L: Ledger>(
         radix: Radix,
         neg: bool,
-        whole: Piece<'a>,
-        fraction: Piece<'a>,
+        whole: DigitSlice<'a>,
+        fraction: DigitSlice<'a>,
         two: bool,
         minus: bool,
         magnitude: u64,
@@ -87,7 +88,7 @@ impl<'a> Scanned<'a> {
         ensures cost { steps.new ≤ steps.old + (length whole.entry + length fraction.entry) + 2 }
     {
         if magnitude == 0 {
-            let (left, right) = at_point(&whole, &fraction, steps);
+            let (left, right) = views_at_point(&whole, &fraction, steps);
             return Scanned {
                 neg,
                 whole: left,
@@ -96,7 +97,9 @@ impl<'a> Scanned<'a> {
             };
         }
         let shift = shift_of(unit_of(radix, two), minus, magnitude);
-        let (whole, fraction) = moved_point(&whole, &fraction, shift.up, shift.down, steps);
+        let (whole, fraction) = views_at_moved_point(
+            &whole, &fraction, shift.up, shift.down, steps,
+        );
         Scanned {
             neg,
             whole,

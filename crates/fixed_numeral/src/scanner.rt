@@ -6,14 +6,14 @@ ghost use Rattle.std.specs.Str.Parse.{AllDigits};
 ghost use Rattle.fixed_numeral.specs.declared.radix.Radix.{Radix as TheRadix};
 ghost use Rattle.fixed_numeral.specs.Cause.{HasCause};
 ghost use Rattle.fixed_numeral.specs.Numeral.{Parts, HasParts, HasNumeral, IsNumeral, base, is_sign, is_separator, is_two_separator};
-ghost use Rattle.fixed_numeral.specs.Scan.{Agrees, GoesOn, IsStuck, IsAfter, IsComplete, IsIncomplete, most_magnitude};
+ghost use Rattle.fixed_numeral.specs.Inner.Scan.{Agrees, Extends, CannotExtend, IsAfter, IsComplete, IsIncomplete, max_magnitude};
 ghost use Rattle.fixed_numeral.specs.Scanned.{IsScanned};
 
-use crate::eight::{are_decimal, word_at};
+use crate::digit_slice::{DigitSlice, is_digit};
 use crate::error::{ParseErrorKind, ParseFixedError};
-use crate::piece::{Piece, is_digit};
 use crate::radix::Radix;
 use crate::scanned::Scanned;
+use crate::swar::{are_decimal, word_at};
 use fixed_steps::Steps;
 use std::sync::ledger::Ledger;
 
@@ -21,27 +21,27 @@ use std::sync::ledger::Ledger;
 #[derive(Clone, Copy)]
 pub struct State {
     /// How many bytes the sign has.
-    pub start: u64,
+    pub sign_len: u64,
     /// How many digits stand in front of the point.
-    pub whole: u64,
+    pub whole_len: u64,
     /// How many digits stand behind the point.
-    pub fraction: u64,
+    pub fraction_len: u64,
     /// The magnitude of the exponent so far.
     pub magnitude: u64,
     /// Whether the sign is a minus.
-    pub neg: bool,
+    pub negative: bool,
     /// Whether a point stands.
-    pub point: bool,
+    pub has_point: bool,
     /// Whether a separator stands.
-    pub separator: bool,
+    pub has_separator: bool,
     /// Whether the separator scales by two.
-    pub two: bool,
+    pub scales_by_two: bool,
     /// Whether a sign may stand next.
-    pub fresh: bool,
+    pub sign_allowed: bool,
     /// Whether the exponent's sign is a minus.
-    pub minus: bool,
+    pub exponent_negative: bool,
     /// Whether an exponent digit stands.
-    pub counted: bool,
+    pub has_exponent_digit: bool,
 }
 
 impl State {
@@ -50,45 +50,34 @@ impl State {
         ensures { (radix : TheRadix) → IsAfter radix [] result }
     {
         State {
-            neg: false,
-            start: 0,
-            whole: 0,
-            point: false,
-            fraction: 0,
-            separator: false,
-            two: false,
-            fresh: true,
-            minus: false,
+            negative: false,
+            sign_len: 0,
+            whole_len: 0,
+            has_point: false,
+            fraction_len: 0,
+            has_separator: false,
+            scales_by_two: false,
+            sign_allowed: true,
+            exponent_negative: false,
             magnitude: 0,
-            counted: false,
+            has_exponent_digit: false,
         }
     }
 }
 
-fn base_of(radix: Radix) -> u32
-    ensures { result ≡ base radix }
-{
-    match radix {
-        Radix::Bin => 2,
-        Radix::Oct => 8,
-        Radix::Dec => 10,
-        Radix::Hex => 16,
-    }
-}
-
-fn digit(radix: Radix, b: u8) -> bool
+fn is_digit_of(radix: Radix, b: u8) -> bool
     ensures { result ≡ nat_lt (digit_value b) (base radix) }
 {
-    char::from(b).is_digit(base_of(radix))
+    char::from(b).is_digit(radix.base())
 }
 
-pub(crate) fn sign(b: u8) -> bool
+pub(crate) fn is_sign(b: u8) -> bool
     ensures { result ≡ is_sign b }
 {
     b == b'+' || b == b'-'
 }
 
-fn separator(radix: Radix, b: u8) -> bool
+fn is_separator(radix: Radix, b: u8) -> bool
     ensures { result ≡ is_separator radix b }
 {
     match radix {
@@ -98,7 +87,7 @@ fn separator(radix: Radix, b: u8) -> bool
     }
 }
 
-fn two_separator(radix: Radix, b: u8) -> bool
+fn is_two_separator(radix: Radix, b: u8) -> bool
     ensures { result ≡ is_two_separator radix b }
 {
     match radix {
@@ -107,47 +96,47 @@ fn two_separator(radix: Radix, b: u8) -> bool
     }
 }
 
-fn most(minus: bool) -> u64
-    ensures { result ≡ most_magnitude minus }
+fn max_magnitude(minus: bool) -> u64
+    ensures { result ≡ max_magnitude minus }
 {
     if minus { 0x8000_0000 } else { 0x7fff_ffff }
 }
 
 /// The next byte, where no separator stands yet.
-fn step_before(state: State, radix: Radix, b: u8) -> Result<State, ParseErrorKind>
-    requires separator { state.separator ≡ false }
-    requires room { state.magnitude ≤ most_magnitude true }
-    requires counts { state.whole + state.fraction + 1 < 2 ^ 64 }
-    ensures { (bs : List ℕ) (p : Parts) → HasParts radix bs p → Agrees radix state p → MatchResult result (λ next. GoesOn radix bs b next) (λ kind. IsStuck radix bs p b kind) }
+fn mantissa_byte(state: State, radix: Radix, b: u8) -> Result<State, ParseErrorKind>
+    requires separator { state.has_separator ≡ false }
+    requires room { state.magnitude ≤ max_magnitude true }
+    requires counts { state.whole_len + state.fraction_len + 1 < 2 ^ 64 }
+    ensures { (bs : List ℕ) (p : Parts) → HasParts radix bs p → Agrees radix state p → MatchResult result (λ next. Extends radix bs b next) (λ kind. CannotExtend radix bs p b kind) }
 {
-    if digit(radix, b) {
-        Ok(passed(state, 1))
-    } else if separator(radix, b) {
+    if is_digit_of(radix, b) {
+        Ok(after_digits(state, 1))
+    } else if is_separator(radix, b) {
         Ok(State {
-            separator: true,
-            two: two_separator(radix, b),
-            fresh: true,
-            minus: false,
+            has_separator: true,
+            scales_by_two: is_two_separator(radix, b),
+            sign_allowed: true,
+            exponent_negative: false,
             magnitude: 0,
-            counted: false,
+            has_exponent_digit: false,
             ..state
         })
     } else if b == b'.' {
-        if state.point {
+        if state.has_point {
             Err(ParseErrorKind::TooManyPoints)
         } else {
             Ok(State {
-                point: true,
-                fresh: false,
+                has_point: true,
+                sign_allowed: false,
                 ..state
             })
         }
-    } else if sign(b) {
-        if state.fresh {
+    } else if is_sign(b) {
+        if state.sign_allowed {
             Ok(State {
-                neg: b == b'-',
-                start: 1,
-                fresh: false,
+                negative: b == b'-',
+                sign_len: 1,
+                sign_allowed: false,
                 ..state
             })
         } else {
@@ -159,34 +148,34 @@ fn step_before(state: State, radix: Radix, b: u8) -> Result<State, ParseErrorKin
 }
 
 /// The next byte behind a separator.
-fn step_behind(state: State, radix: Radix, b: u8) -> Result<State, ParseErrorKind>
-    requires separator { state.separator ≡ true }
-    requires room { state.magnitude ≤ most_magnitude true }
-    ensures { (bs : List ℕ) (p : Parts) → HasParts radix bs p → Agrees radix state p → MatchResult result (λ next. GoesOn radix bs b next) (λ kind. IsStuck radix bs p b kind) }
+fn exponent_byte(state: State, radix: Radix, b: u8) -> Result<State, ParseErrorKind>
+    requires separator { state.has_separator ≡ true }
+    requires room { state.magnitude ≤ max_magnitude true }
+    ensures { (bs : List ℕ) (p : Parts) → HasParts radix bs p → Agrees radix state p → MatchResult result (λ next. Extends radix bs b next) (λ kind. CannotExtend radix bs p b kind) }
 {
-    if digit(Radix::Dec, b) {
+    if is_digit_of(Radix::Dec, b) {
         let magnitude = state.magnitude * 10 + u64::from(b - b'0');
-        if magnitude <= most(state.minus) {
+        if magnitude <= max_magnitude(state.exponent_negative) {
             Ok(State {
-                fresh: false,
+                sign_allowed: false,
                 magnitude,
-                counted: true,
+                has_exponent_digit: true,
                 ..state
             })
         } else {
             Err(ParseErrorKind::ExpOverflow)
         }
-    } else if sign(b) {
-        if !state.fresh {
+    } else if is_sign(b) {
+        if !state.sign_allowed {
             Err(ParseErrorKind::MisplacedSign)
         } else {
             Ok(State {
-                fresh: false,
-                minus: b == b'-',
+                sign_allowed: false,
+                exponent_negative: b == b'-',
                 ..state
             })
         }
-    } else if separator(radix, b) {
+    } else if is_separator(radix, b) {
         Err(ParseErrorKind::TooManyExp)
     } else {
         Err(ParseErrorKind::ExpInvalidDigit)
@@ -194,15 +183,15 @@ fn step_behind(state: State, radix: Radix, b: u8) -> Result<State, ParseErrorKin
 }
 
 /// The next byte.
-pub(crate) fn step(state: State, radix: Radix, b: u8) -> Result<State, ParseErrorKind>
-    requires room { state.magnitude ≤ most_magnitude true }
-    requires counts { state.whole + state.fraction + 1 < 2 ^ 64 }
-    ensures { (bs : List ℕ) (p : Parts) → HasParts radix bs p → Agrees radix state p → MatchResult result (λ next. GoesOn radix bs b next) (λ kind. IsStuck radix bs p b kind) }
+pub(crate) fn transition(state: State, radix: Radix, b: u8) -> Result<State, ParseErrorKind>
+    requires room { state.magnitude ≤ max_magnitude true }
+    requires counts { state.whole_len + state.fraction_len + 1 < 2 ^ 64 }
+    ensures { (bs : List ℕ) (p : Parts) → HasParts radix bs p → Agrees radix state p → MatchResult result (λ next. Extends radix bs b next) (λ kind. CannotExtend radix bs p b kind) }
 {
-    if state.separator {
-        step_behind(state, radix, b)
+    if state.has_separator {
+        exponent_byte(state, radix, b)
     } else {
-        step_before(state, radix, b)
+        mantissa_byte(state, radix, b)
     }
 }
 
@@ -273,9 +262,9 @@ fn mantissa_digits(state: State, bytes: &[u8], radix: Radix, from: usize) -> usi
     requires place { from ≤ length bytes.now }
     ensures within { from + result ≤ length bytes.now }
     ensures digits { AllDigits (base radix) (take result (drop from bytes.now)) }
-    ensures separator { 0 < result → state.separator ≡ false }
+    ensures separator { 0 < result → state.has_separator ≡ false }
 {
-    if state.separator {
+    if state.has_separator {
         0
     } else {
         digits_at(bytes, radix, from)
@@ -283,23 +272,23 @@ fn mantissa_digits(state: State, bytes: &[u8], radix: Radix, from: usize) -> usi
 }
 
 /// The state behind so many mantissa digits more.
-fn passed(state: State, count: u64) -> State
-    requires separator { 0 < count → state.separator ≡ false }
-    requires counts { state.whole + state.fraction + count < 2 ^ 64 }
+fn after_digits(state: State, count: u64) -> State
+    requires separator { 0 < count → state.has_separator ≡ false }
+    requires counts { state.whole_len + state.fraction_len + count < 2 ^ 64 }
     ensures { (radix : TheRadix) (bs ds : List ℕ) → IsAfter radix bs state → AllDigits (base radix) ds → length ds ≡ count → IsAfter radix (bs ++ ds) result }
 {
     if count == 0 {
         state
-    } else if state.point {
+    } else if state.has_point {
         State {
-            fraction: state.fraction + count,
-            fresh: false,
+            fraction_len: state.fraction_len + count,
+            sign_allowed: false,
             ..state
         }
     } else {
         State {
-            whole: state.whole + count,
-            fresh: false,
+            whole_len: state.whole_len + count,
+            sign_allowed: false,
             ..state
         }
     }
@@ -319,11 +308,11 @@ pub(crate) fn read<L: Ledger>(
     while at < bytes.len() {
         let count = mantissa_digits(state, bytes, radix, at);
         steps.advance(count as u64);
-        state = passed(state, count as u64);
+        state = after_digits(state, count as u64);
         at += count;
         if at < bytes.len() {
             steps.tick();
-            match step(state, radix, bytes[at]) {
+            match transition(state, radix, bytes[at]) {
                 Ok(next) => state = next,
                 Err(kind) => return Err(kind),
             }
@@ -334,12 +323,12 @@ pub(crate) fn read<L: Ledger>(
 }
 
 /// The state at the end of the text, where nothing is missing.
-pub(crate) fn complete(state: State) -> Result<State, ParseErrorKind>
+pub(crate) fn check_complete(state: State) -> Result<State, ParseErrorKind>
     ensures { MatchResult result (λ s. (s ≡ state) × IsComplete state) (λ kind. IsIncomplete state kind) }
 {
-    if state.whole == 0 && state.fraction == 0 {
+    if state.whole_len == 0 && state.fraction_len == 0 {
         Err(ParseErrorKind::NoDigits)
-    } else if state.separator && !state.counted {
+    } else if state.has_separator && !state.has_exponent_digit {
         Err(ParseErrorKind::ExpNoDigits)
     } else {
         Ok(state)
@@ -347,7 +336,7 @@ pub(crate) fn complete(state: State) -> Result<State, ParseErrorKind>
 }
 
 /// So many bytes from a place on, which stand there if there are any.
-pub(crate) fn part(bytes: &[u8], from: usize, count: usize) -> &[u8]
+pub(crate) fn slice_at(bytes: &[u8], from: usize, count: usize) -> &[u8]
     requires { 0 < count → from + count ≤ length bytes.now }
     ensures { result.now ≡ take count (drop from bytes.now) }
 {
@@ -367,7 +356,7 @@ pub(crate) fn same_bytes(bytes: &[u8]) -> &[u8]
 
 /// The views of the numeral that was read.
 #[inline(always)]
-fn views<'a, L: Ledger>(
+fn digit_views<'a, L: Ledger>(
     bytes: &'a [u8],
     radix: Radix,
     state: State,
@@ -378,16 +367,16 @@ fn views<'a, L: Ledger>(
     ensures cost { steps.new ≤ steps.old + length bytes.now + 2 }
 {
     let text = same_bytes(bytes);
-    let point = state.start + state.whole;
-    let whole = part(text, state.start as usize, state.whole as usize);
-    let fraction = part(text, point as usize + 1, state.fraction as usize);
+    let point = state.sign_len + state.whole_len;
+    let whole = slice_at(text, state.sign_len as usize, state.whole_len as usize);
+    let fraction = slice_at(text, point as usize + 1, state.fraction_len as usize);
     Scanned::of(
         radix,
-        state.neg,
-        Piece::of(whole, state.whole),
-        Piece::of(fraction, state.fraction),
-        state.two,
-        state.minus,
+        state.negative,
+        DigitSlice::of(whole, state.whole_len),
+        DigitSlice::of(fraction, state.fraction_len),
+        state.scales_by_two,
+        state.exponent_negative,
         state.magnitude,
         steps,
     )
@@ -395,7 +384,7 @@ fn views<'a, L: Ledger>(
 
 /// The same, apart from the path of most numerals, which have no exponent.
 #[inline(never)]
-fn moved_views<'a, L: Ledger>(
+fn moved_digit_views<'a, L: Ledger>(
     bytes: &'a [u8],
     radix: Radix,
     state: State,
@@ -405,7 +394,7 @@ fn moved_views<'a, L: Ledger>(
     ensures value { (p : Parts) → HasParts radix bytes.now p → IsScanned radix p result.neg result.whole result.fraction result.bit_shift }
     ensures cost { steps.new ≤ steps.old + length bytes.now + 2 }
 {
-    views(bytes, radix, state, steps)
+    digit_views(bytes, radix, state, steps)
 }
 
 /// The views of a numeral, or why the bytes are none.
@@ -426,9 +415,9 @@ pub fn scan<'a, L: Ledger>(
         Ok(state) => state,
         Err(kind) => return Err(ParseFixedError::new(kind)),
     };
-    match complete(state) {
-        Ok(all) if all.magnitude == 0 => Ok(views(bytes, radix, all, steps)),
-        Ok(all) => Ok(moved_views(bytes, radix, all, steps)),
+    match check_complete(state) {
+        Ok(all) if all.magnitude == 0 => Ok(digit_views(bytes, radix, all, steps)),
+        Ok(all) => Ok(moved_digit_views(bytes, radix, all, steps)),
         Err(kind) => Err(ParseFixedError::new(kind)),
     }
 }

@@ -4,11 +4,11 @@ ghost use Rattle.std.specs.Prelude.{◌≡◌, ◌+◌, ◌*◌, ◌^◌, ◌<�
 ghost use Rattle.fixed_numeral.specs.declared.radix.Radix.TheVariants.{Dec};
 ghost use Rattle.fixed_numeral.specs.Numeral.{Parts, HasNumeral, IsNumeral};
 ghost use Rattle.fixed_numeral.specs.PartNumbers.{IsShortDecimal};
-ghost use Rattle.fixed_numeral.specs.Scan.{IsAfter, IsComplete};
+ghost use Rattle.fixed_numeral.specs.Inner.Scan.{IsAfter, IsComplete};
 
-use crate::piece::plain_number;
+use crate::digit_slice::plain_number;
 use crate::radix::Radix;
-use crate::scanner::{State, complete, part, read, same_bytes};
+use crate::scanner::{State, check_complete, read, same_bytes, slice_at};
 use fixed_steps::Steps;
 use std::sync::ledger::Ledger;
 
@@ -30,8 +30,8 @@ pub struct ShortDecimal {
 fn numbers_of(bytes: &[u8], state: State) -> ShortDecimal
     requires after { IsAfter Dec bytes.now state }
     requires complete { IsComplete state }
-    requires plain { state.separator ≡ false }
-    requires few { state.whole + state.fraction ≤ 15 }
+    requires plain { state.has_separator ≡ false }
+    requires few { state.whole_len + state.fraction_len ≤ 15 }
     ensures numeral { IsNumeral Dec bytes.now }
     ensures parts { (p : Parts) → HasNumeral Dec bytes.now p → IsShortDecimal p result.negative result.whole result.fraction result.places }
     ensures fraction { result.fraction < 10 ^ result.places }
@@ -39,14 +39,14 @@ fn numbers_of(bytes: &[u8], state: State) -> ShortDecimal
     ensures places { result.places ≤ 16 }
 {
     let text = same_bytes(bytes);
-    let point = state.start + state.whole;
-    let whole = part(text, state.start as usize, state.whole as usize);
-    let fraction = part(text, point as usize + 1, state.fraction as usize);
+    let point = state.sign_len + state.whole_len;
+    let whole = slice_at(text, state.sign_len as usize, state.whole_len as usize);
+    let fraction = slice_at(text, point as usize + 1, state.fraction_len as usize);
     ShortDecimal {
-        negative: state.neg,
+        negative: state.negative,
         whole: plain_number(whole, 10, 0),
         fraction: plain_number(fraction, 10, 0),
-        places: state.fraction as u32,
+        places: state.fraction_len as u32,
     }
 }
 
@@ -67,8 +67,8 @@ pub fn short_decimal<L: Ledger>(s: &[u8], steps: &mut Steps<L>) -> Option<ShortD
         Ok(state) => state,
         Err(_) => return None,
     };
-    match complete(state) {
-        Ok(_) if !state.separator && state.whole + state.fraction <= 15 => {
+    match check_complete(state) {
+        Ok(_) if !state.has_separator && state.whole_len + state.fraction_len <= 15 => {
             Some(numbers_of(s, state))
         }
         _ => None,

@@ -5,8 +5,8 @@ use Rattle.fixed_numeral.proofs.literal.read_rest.Goals as goal
 pub loop-b-init : goal.loop-b-init
 loop-b-init g c = record { after = literal_nothing c.args.radix c.start-state.result c.start-state.ensures; cost = omega arith }
 
-pub literal_step-requires-clause-counts : goal.literal_step-requires-clause-counts
-literal_step-requires-clause-counts g c =
+pub literal_byte-requires-clause-counts : goal.literal_byte-requires-clause-counts
+literal_byte-requires-clause-counts g c =
     let few = literal_fits_at c.args.radix c.args.bytes.now c.loop-b.b-index c.loop-b.state c.loop-b-test.true c.loop-b.invariant.after in
     omega (arith, few, c.loop-b-test.true)
 

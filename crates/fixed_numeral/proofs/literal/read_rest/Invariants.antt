@@ -1,5 +1,5 @@
 use Rattle.std.proofs.Common.{take, ◌≡◌, ◌+◌}
-use Rattle.fixed_numeral.specs.LiteralScan.{IsLiteralAfter}
+use Rattle.fixed_numeral.specs.Inner.LiteralScan.{IsLiteralAfter}
 use Rattle.fixed_numeral.proofs.literal.read_rest.Given as goal
 
 abbrev pub invariant-loop-b : goal.invariant-loop-b

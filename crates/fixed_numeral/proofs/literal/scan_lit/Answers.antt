@@ -10,26 +10,26 @@ returns-in-Err-clause-literal g c =
     let eb : c.after_prefix-radix.result.1.now ≡ literal_rest c.args.signed c.args.bytes.now = c.after_prefix-radix.ensures.rest ∙ ap (λ bs. rest_by (prefix_of bs) bs) c.after_sign-neg.ensures.rest in
     (λ e. absurd (cc), λ n. absurd (no_literal c.args.signed c.args.bytes.now c.in-Err.kind (literal_cause c.args.signed c.args.bytes.now _ _ c.in-Err.kind er eb c.in-Err.ensures.end) n))
 
-pub returns-in-Ok-complete-clause-literal : goal.returns-in-Ok-complete-clause-literal
-returns-in-Ok-complete-clause-literal g c =
+pub returns-in-Ok-check_complete-clause-literal : goal.returns-in-Ok-check_complete-clause-literal
+returns-in-Ok-check_complete-clause-literal g c =
     let er : c.after_prefix-radix.result.0 ≡ literal_radix c.args.signed c.args.bytes.now = c.after_prefix-radix.ensures.radix ∙ ap (λ bs. radix_by (prefix_of bs)) c.after_sign-neg.ensures.rest in
     let eb : c.after_prefix-radix.result.1.now ≡ literal_rest c.args.signed c.args.bytes.now = c.after_prefix-radix.ensures.rest ∙ ap (λ bs. rest_by (prefix_of bs) bs) c.after_sign-neg.ensures.rest in
-    (λ e. is_literal c.args.signed c.args.bytes.now _ _ c.in-Ok.state er eb c.in-Ok.ensures.end c.in-Ok-complete.ensures.1, λ n. refl)
+    (λ e. is_literal c.args.signed c.args.bytes.now _ _ c.in-Ok.state er eb c.in-Ok.ensures.end c.in-Ok-check_complete.ensures.1, λ n. refl)
 
-pub returns-in-Ok-complete-clause-value : goal.returns-in-Ok-complete-clause-value
-returns-in-Ok-complete-clause-value g c =
+pub returns-in-Ok-check_complete-clause-value : goal.returns-in-Ok-check_complete-clause-value
+returns-in-Ok-check_complete-clause-value g c =
     let er : c.after_prefix-radix.result.0 ≡ literal_radix c.args.signed c.args.bytes.now = c.after_prefix-radix.ensures.radix ∙ ap (λ bs. radix_by (prefix_of bs)) c.after_sign-neg.ensures.rest in
     let eb : c.after_prefix-radix.result.1.now ≡ literal_rest c.args.signed c.args.bytes.now = c.after_prefix-radix.ensures.rest ∙ ap (λ bs. rest_by (prefix_of bs) bs) c.after_sign-neg.ensures.rest in
     λ p h. c.rest_views.ensures.value p (literal_rest_of c.args.signed c.args.bytes.now _ _ p er eb h) (rw h.sign (sign_is_one c.args.signed c.args.bytes.now)) (c.after_sign-neg.ensures.sign ∙ ap is_minus (sym h.sign))
 
-pub returns-in-Err-complete-clause-literal : goal.returns-in-Err-complete-clause-literal
-returns-in-Err-complete-clause-literal g c =
+pub returns-in-Err-check_complete-clause-literal : goal.returns-in-Err-check_complete-clause-literal
+returns-in-Err-check_complete-clause-literal g c =
     let er : c.after_prefix-radix.result.0 ≡ literal_radix c.args.signed c.args.bytes.now = c.after_prefix-radix.ensures.radix ∙ ap (λ bs. radix_by (prefix_of bs)) c.after_sign-neg.ensures.rest in
     let eb : c.after_prefix-radix.result.1.now ≡ literal_rest c.args.signed c.args.bytes.now = c.after_prefix-radix.ensures.rest ∙ ap (λ bs. rest_by (prefix_of bs) bs) c.after_sign-neg.ensures.rest in
-    (λ e. absurd (cc), λ n. absurd (no_literal c.args.signed c.args.bytes.now c.in-Err-complete.kind (literal_cause c.args.signed c.args.bytes.now _ _ c.in-Err-complete.kind er eb (incomplete_rest _ _ c.in-Ok.state c.in-Err-complete.kind c.in-Ok.ensures.end c.in-Err-complete.ensures)) n))
+    (λ e. absurd (cc), λ n. absurd (no_literal c.args.signed c.args.bytes.now c.in-Err-check_complete.kind (literal_cause c.args.signed c.args.bytes.now _ _ c.in-Err-check_complete.kind er eb (incomplete_rest _ _ c.in-Ok.state c.in-Err-check_complete.kind c.in-Ok.ensures.end c.in-Err-check_complete.ensures)) n))
 
-pub returns-in-Err-complete-clause-cause : goal.returns-in-Err-complete-clause-cause
-returns-in-Err-complete-clause-cause g c =
+pub returns-in-Err-check_complete-clause-cause : goal.returns-in-Err-check_complete-clause-cause
+returns-in-Err-check_complete-clause-cause g c =
     let er : c.after_prefix-radix.result.0 ≡ literal_radix c.args.signed c.args.bytes.now = c.after_prefix-radix.ensures.radix ∙ ap (λ bs. radix_by (prefix_of bs)) c.after_sign-neg.ensures.rest in
     let eb : c.after_prefix-radix.result.1.now ≡ literal_rest c.args.signed c.args.bytes.now = c.after_prefix-radix.ensures.rest ∙ ap (λ bs. rest_by (prefix_of bs) bs) c.after_sign-neg.ensures.rest in
-    rw c.new-in-Err-complete.ensures (literal_cause c.args.signed c.args.bytes.now _ _ c.in-Err-complete.kind er eb (incomplete_rest _ _ c.in-Ok.state c.in-Err-complete.kind c.in-Ok.ensures.end c.in-Err-complete.ensures))
+    rw c.new-in-Err-check_complete.ensures (literal_cause c.args.signed c.args.bytes.now _ _ c.in-Err-check_complete.kind er eb (incomplete_rest _ _ c.in-Ok.state c.in-Err-check_complete.kind c.in-Ok.ensures.end c.in-Err-check_complete.ensures))

@@ -2,28 +2,28 @@ use Rattle.std.proofs.Common.{◌+◌, arith}
 use Rattle.fixed_numeral.proofs.ScanLemmas.{read_digits, read_byte, room_after, stuck_cause}
 use Rattle.fixed_numeral.proofs.scanner.read.Goals as goal
 
-pub passed-state-requires-clause-counts : goal.passed-state-requires-clause-counts
-passed-state-requires-clause-counts g c = omega (arith, room_after c.args.radix c.args.bytes.now c.loop-at.at c.mantissa_digits-count.result c.loop-at.state c.args.steps.now c.loop-at.steps c.loop-at.invariant c.mantissa_digits-count.ensures.within, c.mantissa_digits-count.ensures.within)
+pub after_digits-state-requires-clause-counts : goal.after_digits-state-requires-clause-counts
+after_digits-state-requires-clause-counts g c = omega (arith, room_after c.args.radix c.args.bytes.now c.loop-at.at c.mantissa_digits-count.result c.loop-at.state c.args.steps.now c.loop-at.steps c.loop-at.invariant c.mantissa_digits-count.ensures.within, c.mantissa_digits-count.ensures.within)
 
-pub step-requires-clause-room : goal.step-requires-clause-room
-step-requires-clause-room g c =
-    let here = read_digits c.args.radix c.args.bytes.now c.loop-at.at c.mantissa_digits-count.result c.loop-at.state c.passed-state.result c.args.steps.now c.loop-at.steps c.advance.new.self c.loop-at.invariant c.mantissa_digits-count.ensures.within c.mantissa_digits-count.ensures.digits c.advance.ensures c.passed-state.ensures in
+pub transition-requires-clause-room : goal.transition-requires-clause-room
+transition-requires-clause-room g c =
+    let here = read_digits c.args.radix c.args.bytes.now c.loop-at.at c.mantissa_digits-count.result c.loop-at.state c.after_digits-state.result c.args.steps.now c.loop-at.steps c.advance.new.self c.loop-at.invariant c.mantissa_digits-count.ensures.within c.mantissa_digits-count.ensures.digits c.advance.ensures c.after_digits-state.ensures in
     here.after.room
 
-pub step-requires-clause-counts : goal.step-requires-clause-counts
-step-requires-clause-counts g c =
-    let here = read_digits c.args.radix c.args.bytes.now c.loop-at.at c.mantissa_digits-count.result c.loop-at.state c.passed-state.result c.args.steps.now c.loop-at.steps c.advance.new.self c.loop-at.invariant c.mantissa_digits-count.ensures.within c.mantissa_digits-count.ensures.digits c.advance.ensures c.passed-state.ensures in
-    omega (arith, room_after c.args.radix c.args.bytes.now (c.loop-at.at + c.mantissa_digits-count.result) 1 c.passed-state.result c.args.steps.now c.advance.new.self here (omega (arith, c.if-at-bytes.true)), c.if-at-bytes.true)
+pub transition-requires-clause-counts : goal.transition-requires-clause-counts
+transition-requires-clause-counts g c =
+    let here = read_digits c.args.radix c.args.bytes.now c.loop-at.at c.mantissa_digits-count.result c.loop-at.state c.after_digits-state.result c.args.steps.now c.loop-at.steps c.advance.new.self c.loop-at.invariant c.mantissa_digits-count.ensures.within c.mantissa_digits-count.ensures.digits c.advance.ensures c.after_digits-state.ensures in
+    omega (arith, room_after c.args.radix c.args.bytes.now (c.loop-at.at + c.mantissa_digits-count.result) 1 c.after_digits-state.result c.args.steps.now c.advance.new.self here (omega (arith, c.if-at-bytes.true)), c.if-at-bytes.true)
 
 pub returns-in-Err-clause-end : goal.returns-in-Err-clause-end
 returns-in-Err-clause-end g c =
-    let here = read_digits c.args.radix c.args.bytes.now c.loop-at.at c.mantissa_digits-count.result c.loop-at.state c.passed-state.result c.args.steps.now c.loop-at.steps c.advance.new.self c.loop-at.invariant c.mantissa_digits-count.ensures.within c.mantissa_digits-count.ensures.digits c.advance.ensures c.passed-state.ensures in
+    let here = read_digits c.args.radix c.args.bytes.now c.loop-at.at c.mantissa_digits-count.result c.loop-at.state c.after_digits-state.result c.args.steps.now c.loop-at.steps c.advance.new.self c.loop-at.invariant c.mantissa_digits-count.ensures.within c.mantissa_digits-count.ensures.digits c.advance.ensures c.after_digits-state.ensures in
     stuck_cause c.args.radix c.args.bytes.now (c.loop-at.at + c.mantissa_digits-count.result) here.after.parts c.in-Err.kind c.if-at-bytes.true here.after.beginning (c.in-Err.ensures _ here.after.parts here.after.beginning here.after.agrees)
 
 pub loop-at-preserved-then-at-bytes : goal.loop-at-preserved-then-at-bytes
 loop-at-preserved-then-at-bytes g c =
-    let here = read_digits c.args.radix c.args.bytes.now c.loop-at.at c.mantissa_digits-count.result c.loop-at.state c.passed-state.result c.args.steps.now c.loop-at.steps c.advance.new.self c.loop-at.invariant c.mantissa_digits-count.ensures.within c.mantissa_digits-count.ensures.digits c.advance.ensures c.passed-state.ensures in
-    read_byte c.args.radix c.args.bytes.now (c.loop-at.at + c.mantissa_digits-count.result) c.passed-state.result c.in-Ok.next c.args.steps.now c.advance.new.self c.tick.new.self here c.if-at-bytes.true (c.in-Ok.ensures _ here.after.parts here.after.beginning here.after.agrees) c.tick.ensures
+    let here = read_digits c.args.radix c.args.bytes.now c.loop-at.at c.mantissa_digits-count.result c.loop-at.state c.after_digits-state.result c.args.steps.now c.loop-at.steps c.advance.new.self c.loop-at.invariant c.mantissa_digits-count.ensures.within c.mantissa_digits-count.ensures.digits c.advance.ensures c.after_digits-state.ensures in
+    read_byte c.args.radix c.args.bytes.now (c.loop-at.at + c.mantissa_digits-count.result) c.after_digits-state.result c.in-Ok.next c.args.steps.now c.advance.new.self c.tick.new.self here c.if-at-bytes.true (c.in-Ok.ensures _ here.after.parts here.after.beginning here.after.agrees) c.tick.ensures
 
 pub loop-at-preserved : goal.loop-at-preserved
-loop-at-preserved g c = read_digits c.args.radix c.args.bytes.now c.loop-at.at c.mantissa_digits-count.result c.loop-at.state c.passed-state.result c.args.steps.now c.loop-at.steps c.advance.new.self c.loop-at.invariant c.mantissa_digits-count.ensures.within c.mantissa_digits-count.ensures.digits c.advance.ensures c.passed-state.ensures
+loop-at-preserved g c = read_digits c.args.radix c.args.bytes.now c.loop-at.at c.mantissa_digits-count.result c.loop-at.state c.after_digits-state.result c.args.steps.now c.loop-at.steps c.advance.new.self c.loop-at.invariant c.mantissa_digits-count.ensures.within c.mantissa_digits-count.ensures.digits c.advance.ensures c.after_digits-state.ensures

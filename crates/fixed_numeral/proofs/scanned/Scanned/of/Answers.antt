@@ -2,8 +2,9 @@ use Rattle.std.proofs.Common.{◌≡◌, ℕ, ◌<◌, Bool, true, false, List, 
 use Rattle.fixed_numeral.specs.declared.radix.Radix.{Radix}
 use Rattle.fixed_numeral.specs.Numeral.{Parts, IsPartsOf, is_minus, digits_behind}
 use Rattle.fixed_numeral.specs.Digits.{digits_in}
-use Rattle.fixed_numeral.specs.Place.{IsPlaced}
-use Rattle.fixed_numeral.specs.Scanned.{unit_of, IsShift, AgreesWithExponent, IsScanned}
+use Rattle.fixed_numeral.specs.Inner.MovedPoint.{IsPlaced}
+use Rattle.fixed_numeral.specs.Scanned.{IsScanned}
+use Rattle.fixed_numeral.specs.Inner.Shift.{unit_of, IsShift, AgreesWithExponent}
 use Rattle.fixed_numeral.proofs.MagnitudeLemmas.{same_magnitude, scanned_digits, base_pos, unit_small, unit_pos}
 use Rattle.fixed_numeral.proofs.ValueLemmas.{views_of_zero}
 use Rattle.fixed_numeral.proofs.scanned.Scanned.of.Goals as goal
@@ -32,9 +33,9 @@ no_shift false unit magnitude e = (omega (arith, e), refl)
 
 pub returns-then-magnitude-eq0-clause-value : goal.returns-then-magnitude-eq0-clause-value
 returns-then-magnitude-eq0-clause-value g c = λ p h s ew ef a.
-    placed_scanned c.args.radix p c.args.neg c.args.two c.args.minus c.args.whole c.args.fraction c.at_point-left.result.0 c.at_point-left.result.1 0 0 0 c.args.magnitude h s ew ef a (no_shift c.args.minus (unit_of c.args.radix c.args.two) c.args.magnitude c.if-magnitude-eq0.true) (unit_pos c.args.radix c.args.two) c.at_point-left.ensures.placed
+    placed_scanned c.args.radix p c.args.neg c.args.two c.args.minus c.args.whole c.args.fraction c.views_at_point-left.result.0 c.views_at_point-left.result.1 0 0 0 c.args.magnitude h s ew ef a (no_shift c.args.minus (unit_of c.args.radix c.args.two) c.args.magnitude c.if-magnitude-eq0.true) (unit_pos c.args.radix c.args.two) c.views_at_point-left.ensures.placed
 
 pub returns-clause-value : goal.returns-clause-value
 returns-clause-value g c = λ p h s ew ef a.
     let small : c.shift_of-shift.result.bits < unit_of c.args.radix c.args.two = rw c.unit_of.ensures at c.shift_of-shift.ensures.bits in
-    placed_scanned c.args.radix p c.args.neg c.args.two c.args.minus c.args.whole c.args.fraction c.moved_point-whole.result.0 c.moved_point-whole.result.1 c.shift_of-shift.result.up c.shift_of-shift.result.down c.shift_of-shift.result.bits c.args.magnitude h s ew ef a (rw c.unit_of.ensures at c.shift_of-shift.ensures.shift) small c.moved_point-whole.ensures.placed
+    placed_scanned c.args.radix p c.args.neg c.args.two c.args.minus c.args.whole c.args.fraction c.views_at_moved_point-whole.result.0 c.views_at_moved_point-whole.result.1 c.shift_of-shift.result.up c.shift_of-shift.result.down c.shift_of-shift.result.bits c.args.magnitude h s ew ef a (rw c.unit_of.ensures at c.shift_of-shift.ensures.shift) small c.views_at_moved_point-whole.ensures.placed

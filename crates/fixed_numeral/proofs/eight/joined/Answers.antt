@@ -1,5 +1,0 @@
-use Rattle.fixed_numeral.proofs.LaneLemmas.{eight_is}
-use Rattle.fixed_numeral.proofs.eight.joined.Goals as goal
-
-pub returns : goal.returns
-returns c ds eight below e = eight_is c.args.base c.args.digits ds c.requires eight below e

@@ -1,0 +1,5 @@
+-- Contracts of private functions. Nothing that is public cites them.
+pub mod Shift
+pub mod Scan
+pub mod LiteralScan
+pub mod MovedPoint

@@ -1,0 +1,57 @@
+-- What the scanner knows of the bytes that it has read.
+use Rattle.std.specs.Prelude.{ℕ, ◌+◌, ◌^◌, ◌-◌, ◌<◌, ◌≤◌, ◌⊎◌, true, false, if◌then◌else◌, List, [], ◌∷◌, ◌++◌, ◌≡◌, ◌&&◌, not, Bool, is_some, is_none, Option, Some, None, IfSome, option_to_list, length}
+use Rattle.fixed_numeral.specs.declared.scanner.State.{State}
+use Rattle.fixed_numeral.specs.Numeral.{Parts, Exponent, HasParts, IsBeginning, is_minus, digits_behind}
+use Rattle.fixed_numeral.specs.Cause.{is_nil, kind_of}
+use Rattle.fixed_numeral.specs.declared.radix.Radix.{Radix}
+use Rattle.fixed_numeral.specs.Inner.Shift.{AgreesWithExponent}
+use Rattle.fixed_numeral.specs.declared.error.ParseErrorKind.{ParseErrorKind}
+use Rattle.fixed_numeral.specs.declared.error.ParseErrorKind.TheVariants.{NoDigits, ExpNoDigits}
+
+-- the greatest magnitude of an exponent
+abbrev pub max_magnitude : Bool → ℕ
+max_magnitude negative = if negative then 2 ^ 31 else 2 ^ 31 - 1
+
+-- a sign may stand next
+abbrev pub is_fresh : Parts → Option Exponent → Bool
+is_fresh p None = is_none p.sign && (is_nil p.whole && is_none p.fraction)
+is_fresh p (Some e) = is_none e.sign && is_nil e.digits
+
+pub record Agrees (r : Radix) (s : State) (p : Parts) : Type 0 where
+  pub neg : s.negative ≡ is_minus p.sign
+  pub start : s.sign_len ≡ length (option_to_list p.sign)
+  pub whole : s.whole_len ≡ length p.whole
+  pub point : s.has_point ≡ is_some p.fraction
+  pub fraction : s.fraction_len ≡ length (digits_behind p.fraction)
+  pub separator : s.has_separator ≡ is_some p.exponent
+  pub fresh : s.sign_allowed ≡ is_fresh p p.exponent
+  pub exponent : AgreesWithExponent r s.scales_by_two s.exponent_negative s.magnitude p.exponent
+  pub counted : IfSome p.exponent (λ e. s.has_exponent_digit ≡ not (is_nil e.digits))
+
+-- the byte goes on, and next is what is known then
+pub record Extends (r : Radix) (bs : List ℕ) (b : ℕ) (next : State) : Type 0 where
+  pub parts : Parts
+  pub beginning : HasParts r (bs ++ b ∷ []) parts
+  pub agrees : Agrees r next parts
+  pub room : next.magnitude ≤ max_magnitude true
+
+-- the byte offends, with this kind
+pub record CannotExtend (r : Radix) (bs : List ℕ) (p : Parts) (b : ℕ) (kind : ParseErrorKind) : Type 0 where
+  pub none : IsBeginning r (bs ++ b ∷ []) → ⊥
+  pub is_kind : kind ≡ kind_of r p (Some b)
+
+-- the state after these bytes
+pub record IsAfter (r : Radix) (bs : List ℕ) (s : State) : Type 0 where
+  pub parts : Parts
+  pub beginning : HasParts r bs parts
+  pub agrees : Agrees r s parts
+  pub room : s.magnitude ≤ max_magnitude true
+
+-- at the end of the text nothing is missing
+pub record IsComplete (s : State) : Type 0 where
+  pub digits : 0 < s.whole_len + s.fraction_len
+  pub exponent : (s.has_separator ≡ false) ⊎ (s.has_exponent_digit ≡ true)
+
+-- a mantissa digit is missing, or else an exponent digit
+abbrev pub IsIncomplete : State → ParseErrorKind → Type 0
+IsIncomplete s kind = ((s.whole_len + s.fraction_len ≡ 0) × (kind ≡ NoDigits)) ⊎ ((0 < s.whole_len + s.fraction_len) × (s.has_separator ≡ true) × (s.has_exponent_digit ≡ false) × (kind ≡ ExpNoDigits))

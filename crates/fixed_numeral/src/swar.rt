@@ -1,0 +1,124 @@
+//! Eight digits at once, each in a byte of a word.
+
+ghost use Rattle.std.specs.Prelude.{◌≡◌, ◌+◌, ◌<◌, ◌≤◌, ◌^◌, List, ℕ, length, take, drop, IsTrue};
+ghost use Rattle.std.specs.Int.Digits.{AllBelowBase, number_from_digits};
+ghost use Rattle.std.specs.Simd.Lanes.{number_l};
+ghost use Rattle.std.specs.Str.Parse.{AllDigits};
+ghost use Rattle.fixed_numeral.specs.Digits.{digits_in};
+
+/// Eight bytes from a place on, the first of them in the lowest byte.
+#[inline(always)]
+pub(crate) fn word_at(bytes: &[u8], at: usize) -> u64
+    requires { at + 8 ≤ length bytes.now }
+    ensures { result ≡ number_l 256 (take 8 (drop at bytes.now)) }
+{
+    u64::from_le_bytes([
+        bytes[at],
+        bytes[at + 1],
+        bytes[at + 2],
+        bytes[at + 3],
+        bytes[at + 4],
+        bytes[at + 5],
+        bytes[at + 6],
+        bytes[at + 7],
+    ])
+}
+
+/// Whether each of the eight bytes of a word is a decimal digit. The upper half of each is 3 from '0' on to the
+/// sixth byte behind '9', and with 6 added it is still 3 for the digits alone.
+#[inline(always)]
+pub(crate) fn are_decimal(word: u64) -> bool
+    ensures { (bs : List ℕ) → length bs ≡ 8 → AllBelowBase 256 bs → word ≡ number_l 256 bs → IsTrue result → AllDigits 10 bs }
+{
+    (word & 0xf0f0_f0f0_f0f0_f0f0) == 0x3030_3030_3030_3030
+        && ((word + 0x0606_0606_0606_0606) & 0xf0f0_f0f0_f0f0_f0f0) == 0x3030_3030_3030_3030
+}
+
+/// The values of eight digits, each in the byte where the digit stands. A letter is told by the bit 64, and stands 9 places
+/// behind 16 times a number.
+#[inline(always)]
+fn digit_values(word: u64) -> u64
+    ensures { (bs : List ℕ) → length bs ≡ 8 → length (digits_in bs) ≡ length bs → word ≡ number_l 256 bs → result ≡ number_l 256 (digits_in bs) }
+{
+    (word & 0x0f0f_0f0f_0f0f_0f0f) + ((word >> 6) & 0x0101_0101_0101_0101) * 9
+}
+
+/// The number that eight digits, each in a byte, spell in a base. Neighbours are joined to pairs, pairs to fours, and the two
+/// fours to the number, each with one multiplication for all.
+#[inline(always)]
+fn number_of_eight(digits: u64, base: u64) -> u64
+    requires { base ≤ 16 }
+    ensures { (ds : List ℕ) → length ds ≡ 8 → AllBelowBase base ds → digits ≡ number_l 256 ds → result ≡ number_from_digits base ds }
+{
+    let square = base * base;
+    let fourth = square * square;
+    let pairs = (digits.wrapping_mul(base * 0x100 + 1) >> 8) & 0x00ff_00ff_00ff_00ff;
+    let fours = (pairs.wrapping_mul(square * 0x1_0000 + 1) >> 16) & 0x0000_ffff_0000_ffff;
+    fours.wrapping_mul(fourth * 0x1_0000_0000 + 1) >> 32
+}
+
+/// The number that the first digits of a slice spell in a base, fewer than eight, where each of its bytes is a digit, and
+/// there are at least eight. The word is moved up until zeros stand in front of them.
+#[inline(always)]
+fn number_of_first(bytes: &[u8], count: usize, base: u64) -> u64
+    requires long { 8 ≤ length bytes.now }
+    requires few { count < 8 }
+    requires plain { length (digits_in bytes.now) ≡ length bytes.now }
+    requires digits { AllBelowBase base (digits_in bytes.now) }
+    requires least { 2 ≤ base }
+    requires most { base ≤ 16 }
+    ensures { result ≡ number_from_digits base (digits_in (take count bytes.now)) }
+{
+    if count == 0 {
+        return 0;
+    }
+    number_of_eight(digit_values(word_at(bytes, 0)) << (64 - 8 * count), base)
+}
+
+/// The number that eight digits or more spell in a base, where each byte is a digit. Eight are taken at a time, behind the few
+/// in front that are left over.
+#[inline(always)]
+fn number_by_eights(bytes: &[u8], base: u64) -> u64
+    requires long { 8 ≤ length bytes.now }
+    requires plain { length (digits_in bytes.now) ≡ length bytes.now }
+    requires digits { AllBelowBase base (digits_in bytes.now) }
+    requires least { 2 ≤ base }
+    requires most { base ≤ 16 }
+    requires room { base ^ length (digits_in bytes.now) ≤ 2 ^ 64 }
+    ensures { result ≡ number_from_digits base (digits_in bytes.now) }
+{
+    let square = base * base;
+    let fourth = square * square;
+    let eighth = fourth * fourth;
+    let mut at = bytes.len() % 8;
+    let mut number = number_of_first(bytes, at, base);
+    while at < bytes.len() {
+        number = number * eighth + number_of_eight(digit_values(word_at(bytes, at)), base);
+        at += 8;
+    }
+    number
+}
+
+/// The number that eight digits or more spell in a base, where each byte is a digit.
+pub(crate) fn long_number(bytes: &[u8], base: u64) -> u64
+    requires long { 8 ≤ length bytes.now }
+    requires plain { length (digits_in bytes.now) ≡ length bytes.now }
+    requires digits { AllBelowBase base (digits_in bytes.now) }
+    requires least { 2 ≤ base }
+    requires most { base ≤ 16 }
+    requires room { base ^ length (digits_in bytes.now) ≤ 2 ^ 64 }
+    ensures { result ≡ number_from_digits base (digits_in bytes.now) }
+{
+    number_by_eights(bytes, base)
+}
+
+/// The same in base 10, whose powers are constants then.
+pub(crate) fn long_decimal(bytes: &[u8]) -> u64
+    requires long { 8 ≤ length bytes.now }
+    requires plain { length (digits_in bytes.now) ≡ length bytes.now }
+    requires digits { AllBelowBase 10 (digits_in bytes.now) }
+    requires room { 10 ^ length (digits_in bytes.now) ≤ 2 ^ 64 }
+    ensures { result ≡ number_from_digits 10 (digits_in bytes.now) }
+{
+    number_by_eights(bytes, 10)
+}
