@@ -1,0 +1,24 @@
+//! Fixed-point numbers: one type for each integer type of bits and each fraction length.
+//!
+//! `Fixed<I, FRAC>` holds bits of the integer type `I`, 8 to 64 of them, and is the number bits · 2^-FRAC. So its ulp,
+//! the distance between two neighbouring numbers, is 2^-FRAC. Contracts see a `Fixed` as its bits: `I.number x` is the
+//! whole number of ulps of `x`.
+#![tactic(auto)]
+
+pub mod conversion;
+mod ends;
+pub mod laws;
+pub mod literal;
+pub mod lossless;
+pub mod number;
+pub mod numerals;
+pub mod order;
+mod parsing;
+mod printing;
+mod reading;
+pub mod rounding;
+
+pub use ends::Ends;
+pub use number::{
+    Fixed, FixedI8, FixedI16, FixedI32, FixedI64, FixedU8, FixedU16, FixedU32, FixedU64,
+};
