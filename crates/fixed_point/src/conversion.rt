@@ -1,7 +1,7 @@
 //! Conversion from and to numbers of other types. The moved number is the source's bits moved down to the target's
 //! fraction length: the greatest number of ulps of the target that is not above the value.
 
-ghost use Rattle.std.specs.Prelude.{◌≡◌, ◌↔◌, ◌≤◌, ◌*ℤ◌, ◌^◌, pos, IsTrue, IsSome, IfSome};
+ghost use Rattle.std.specs.Prelude.{◌≡◌, ◌↔◌, ◌≤◌, ◌*ℤ◌, ◌^◌, pos, refl, IsTrue, IsSome, IfSome};
 ghost use Rattle.std.proofs.Common.{inr};
 ghost use Rattle.fixed_bits.specs.Ranges.{IsInRange, IsOutOfRange};
 ghost use Rattle.fixed_bits.specs.Images.{IsImage};
@@ -10,7 +10,7 @@ ghost use Rattle.fixed_bits.specs.declared.format.Policy.TheVariants.{Saturating
 
 use crate::number::Fixed;
 use fixed_bits::Inner;
-use fixed_convert::{Floored, FromFixed, Num, NumTarget, ToFixed, floor_into};
+use fixed_convert::{FromFixed, Num, NumTarget, ToFixed, floor_into};
 
 impl<I: Inner, const FRAC: u32> Num for Fixed<I, FRAC> {
     const SIGNED: bool = I::SIGNED;
@@ -36,20 +36,16 @@ impl<I: Inner, const FRAC: u32> Num for Fixed<I, FRAC> {
 }
 
 impl<I: Inner, const FRAC: u32> NumTarget for Fixed<I, FRAC> {
-    #[inline]
-    fn wrap_wide(v: Floored) -> Self {
-        Fixed::from_bits(v.wrap())
-    }
+    type Holder = I;
 
     #[inline]
-    fn clamp_wide(v: Floored) -> Self {
-        Fixed::from_bits(v.clamp())
+    fn from_holder(bits: I) -> Self {
+        Fixed::from_bits(bits)
     }
 
-    #[inline]
-    fn fits_wide(v: Floored) -> bool {
-        v.fits::<I>()
-    }
+    ghost signed_law = { refl };
+
+    ghost bits_law = { refl };
 }
 
 /// From the integers, `bool` and every `Fixed`.
