@@ -26,7 +26,7 @@ use Rattle.fixed_respell.specs.LineWordLemmas.{first_long, words_one, no_long, n
 use Rattle.fixed_respell.specs.ReachedLemmas.{respelled_one, refusal_none, refusal_one}
 use Rattle.fixed_respell.specs.WordLemmas.{no_slash}
 use Rattle.fixed_write.specs.Texts.{IsShortestText}
-use Rattle.fixed_write.proofs.DigitLemmas.{shortest_text_unique}
+use Rattle.fixed_write.proofs.TextLemmas.{shortest_text_unique}
 
 -- a fault is told by its place
 one_place : (f g : LineFault) → place_of f ≡ place_of g → f ≡ g

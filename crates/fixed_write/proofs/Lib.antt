@@ -1,4 +1,9 @@
 pub mod ShortestLemmas
 pub mod PassLemmas
+pub mod ComputedLemmas
 pub mod DigitLemmas
+pub mod AsciiLemmas
+pub mod EightLemmas
+pub mod IntegerLemmas
+pub mod TextLemmas
 pub mod PrintingLemmas

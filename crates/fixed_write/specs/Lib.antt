@@ -1,4 +1,4 @@
 pub mod Shortest
 pub mod Texts
-pub mod Fraction
 pub mod Laws
+pub mod inner

@@ -1,50 +1,78 @@
-//! Prints the shortest decimal in one pass.
+//! Prints the shortest decimal that reads back, in one pass.
+//!
+//! A value is a magnitude of ulps of 2^-`frac`. Its whole digits are printed first. What is left after the point is kept
+//! as a `rest` below one, in units of 2^-64: ten times the rest is the next digit and the next rest. After k digits the
+//! digits so far, or the same with the last digit raised by one, read back exactly where the value is at most half an
+//! ulp away from them. In units of 2^-64 of the last digit half an ulp is 10^k / 2 of 2^(64 - `frac`); this is `reach`,
+//! and one comparison of the rest with it, from below and from above, decides. No tie arises: a decimal with at most
+//! `frac` digits is never halfway between two ulps. So the first k at which the comparison holds is the least, and the
+//! digit is the nearer of the two by the rest alone.
+//!
+//! Most values need nearly as many digits as an ulp has, `frac` · log10(2) of them. So the pass begins at a likely count
+//! of digits, just below that: one multiplication by a power of ten gives all of these digits as one number, and the
+//! same comparison tells that they are too few (then fewer are too few as well). Where it does not, as for 0.5, the pass
+//! begins at the point. From there on it takes one digit after the other, keeps them as one number of at most nineteen
+//! digits, and appends them at once. Raising the last digit never carries, since a ten would mean that one digit less had
+//! read back already.
 
-ghost use Rattle.std.specs.Prelude.{◌≡◌, ◌+◌, ◌*◌, ◌/◌, ◌%◌, ◌-◌, ◌^◌, ◌<◌, ◌≤◌, ◌++◌, [], ◌∷◌, ℕ, List, length, min, unsigned_abs, ◌⊎◌, ◌↔◌, IsTrue};
+ghost use Rattle.std.specs.Prelude.{◌≡◌, ◌+◌, ◌*◌, ◌/◌, ◌%◌, ◌-◌, ◌^◌, ◌<◌, ◌≤◌, ◌++◌, length, min, unsigned_abs, ◌⊎◌, ◌↔◌, ℕ, IsTrue};
 ghost use Rattle.std.specs.Fmt.{sign_text};
 ghost use Rattle.std.specs.Int.{is_negative};
+ghost use Rattle.std.specs.Str.{IsAscii};
 ghost use Rattle.fixed_bits.specs.Ranges.{IsWide};
 ghost use Rattle.fixed_bits.specs.Nearest.{IsNearest, IsEven};
-ghost use Rattle.fixed_write.specs.Fraction.{HasFraction};
-ghost use Rattle.fixed_write.specs.Texts.{IsShortestText, whole_text};
+ghost use Rattle.fixed_write.specs.Texts.{IsShortestText, shortest_text};
+ghost use Rattle.fixed_write.specs.inner.Fraction.{AppendsFraction};
+ghost use Rattle.fixed_write.specs.inner.Passes.{IsStart};
 
-use crate::short::ShortText;
-use fixed_bits::mul10;
+use crate::digits::{power_of_ten, push_places, push_whole};
 use fixed_steps::Steps;
 use std::sync::ledger::Ledger;
+use text_buffer::TextBuffer;
 
-/// The shortest decimal text of `value` steps of 2^-`frac` that reads back as `value`.
+/// Appends the shortest decimal text of `value` ulps of 2^-`frac` that reads back as `value`.
 ///
-/// It has the least number of digits behind the point with which some decimal reads back; of the decimals with so
+/// It has the least number of digits after the point with which some decimal reads back; of the decimals with this
 /// many digits that read back it is the one nearest to the value, and of two equally near the even one.
-/// Takes one step for each digit.
-pub fn shortest<L: Ledger>(value: i128, frac: u32, steps: &mut Steps<L>) -> ShortText
+/// Takes one step for each byte, at most 48. There must be room for 48 bytes.
+#[inline]
+pub fn push_shortest<const N: usize, L: Ledger>(
+    out: &mut TextBuffer<N>,
+    value: i128,
+    frac: u32,
+    steps: &mut Steps<L>,
+)
     requires wide { IsWide value }
     requires frac { frac ≤ 64 }
-    ensures text { IsShortestText value frac result }
+    requires room { length out.old + 48 ≤ N }
+    ensures appended { out.new ≡ out.old ++ shortest_text value frac }
+    ensures shortest { IsShortestText value frac (shortest_text value frac) }
+    ensures short { length (shortest_text value frac) ≤ 48 }
+    ensures ascii { IsAscii (shortest_text value frac) }
     ensures cost { steps.new ≤ steps.old + 48 }
 {
-    let mut text = sign_of(value);
+    let before = out.len();
+    push_sign(out, value);
     let magnitude = magnitude_of(value);
-    push_whole(&mut text, whole_of(magnitude, frac), steps);
-    push_fraction(&mut text, magnitude, frac, steps);
-    text
+    push_whole(out, whole_of(magnitude, frac));
+    push_fraction(out, magnitude, frac);
+    steps.advance((out.len() - before) as u64);
 }
 
-/// The text of a number's sign: `-` where it is negative, else nothing.
-fn sign_of(value: i128) -> ShortText
-    ensures text { result ≡ sign_text (is_negative value) }
-    ensures short { length result ≤ 1 }
+/// Appends `-` where a number is negative, else nothing.
+#[inline]
+pub(crate) fn push_sign<const N: usize>(out: &mut TextBuffer<N>, value: i128)
+    requires { length out.old < N }
+    ensures { out.new ≡ out.old ++ sign_text (is_negative value) }
 {
-    let mut text = ShortText::new();
     if value < 0 {
-        text.push(b'-');
+        out.push(b'-');
     }
-    text
 }
 
 /// How far a number is from zero.
-fn magnitude_of(value: i128) -> u64
+#[inline]
+pub(crate) fn magnitude_of(value: i128) -> u64
     requires { IsWide value }
     ensures { result ≡ unsigned_abs value }
 {
@@ -52,105 +80,158 @@ fn magnitude_of(value: i128) -> u64
 }
 
 /// The whole part of a magnitude.
-fn whole_of(magnitude: u64, frac: u32) -> u64
+#[inline]
+pub(crate) fn whole_of(magnitude: u64, frac: u32) -> u64
     requires { frac ≤ 64 }
     ensures { result ≡ magnitude / 2 ^ frac }
 {
-    ((magnitude as u128) >> frac) as u64
+    if frac == 64 { 0 } else { magnitude >> frac }
 }
 
-/// What is left of a magnitude behind the point, in steps of 2^-64.
-fn rest_of(magnitude: u64, frac: u32) -> u64
+/// What is left of a magnitude after the point, in units of 2^-64.
+#[inline]
+pub(crate) fn rest_of(magnitude: u64, frac: u32) -> u64
     requires { frac ≤ 64 }
     ensures { result ≡ magnitude % 2 ^ frac * 2 ^ (64 - frac) }
 {
-    (((magnitude as u128) << (64 - frac)) % (1 << 64)) as u64
-}
-
-/// Five steps of 2^-`frac` in steps of 2^-64, or the greatest u64 where that is more.
-fn five_steps(frac: u32) -> u64
-    requires { frac ≤ 64 }
-    ensures { result ≡ min (5 * 2 ^ (64 - frac)) (2 ^ 64 - 1) }
-{
-    (5u128 << (64 - frac)).min(u64::MAX as u128) as u64
-}
-
-/// Appends a digit, for one step.
-fn push_digit<L: Ledger>(text: &mut ShortText, digit: u8, steps: &mut Steps<L>)
-    requires digit { digit < 10 }
-    requires room { length text.old < 48 }
-    ensures text { text.new ≡ text.old ++ (48 + digit) ∷ [] }
-    ensures cost { steps.new ≡ steps.old + 1 }
-{
-    text.push(b'0' + digit);
-    steps.tick();
-}
-
-/// Appends two digits.
-fn push_pair<L: Ledger>(text: &mut ShortText, pair: u8, steps: &mut Steps<L>)
-    requires pair { pair < 100 }
-    requires room { length text.old + 2 ≤ 48 }
-    ensures text { text.new ≡ text.old ++ (48 + pair / 10) ∷ (48 + pair % 10) ∷ [] }
-    ensures cost { steps.new ≡ steps.old + 2 }
-{
-    push_digit(text, pair / 10, steps);
-    push_digit(text, pair % 10, steps);
-}
-
-/// Appends the digits of a whole number, without a spare zero and at least one.
-#[tactic(auto, using(crate::proofs::DigitLemmas::whole_digit, crate::proofs::DigitLemmas::whole_pair, crate::proofs::DigitLemmas::pairs_length))]
-fn push_whole<L: Ledger>(text: &mut ShortText, number: u64, steps: &mut Steps<L>)
-    requires { length text.old + length (whole_text number) ≤ 48 }
-    ensures text { text.new ≡ text.old ++ whole_text number }
-    ensures cost { steps.new ≡ steps.old + length (whole_text number) }
-{
-    if number < 10 {
-        push_digit(text, number as u8, steps);
-    } else if number < 100 {
-        push_pair(text, number as u8, steps);
+    if frac == 0 {
+        0
     } else {
-        push_whole(text, number / 100, steps);
-        push_pair(text, (number % 100) as u8, steps);
+        magnitude << (64 - frac)
     }
 }
 
-/// Appends the point and the digits behind it, as many as are needed to read the magnitude back.
-///
-/// The rest is kept in steps of 2^-64, so that ten times it is a digit and the next rest. Beside it stands half of
-/// 10^k steps of 2^-`frac`, for the count k of digits: where the rest is at most that far from the digits so far or
-/// from the next number, that one reads back.
-fn push_fraction<L: Ledger>(text: &mut ShortText, magnitude: u64, frac: u32, steps: &mut Steps<L>)
-    requires frac { frac ≤ 64 }
-    requires room { length text.old ≤ 21 }
-    ensures text { HasFraction magnitude frac text.old text.new }
-    ensures cost { steps.new ≤ steps.old + 20 }
+/// A rest times a scale: the whole number, and the next rest.
+#[inline]
+pub(crate) fn scaled(rest: u64, scale: u64) -> (u64, u64)
+    ensures whole { result.0 ≡ rest * scale / 2 ^ 64 }
+    ensures rest { result.1 ≡ rest * scale % 2 ^ 64 }
 {
-    let first = rest_of(magnitude, frac);
-    if first == 0 {
+    let product = rest as u128 * scale as u128;
+    ((product >> 64) as u64, (product % (1 << 64)) as u64)
+}
+
+/// A count of ulps of 2^-`frac`, in units of 2^-64.
+#[inline]
+fn ulps(count: u64, frac: u32) -> u128
+    requires { frac ≤ 64 }
+    ensures { result ≡ count * 2 ^ (64 - frac) }
+{
+    (count as u128) << (64 - frac)
+}
+
+/// How far a rest may be after one digit more, where an ulp is `ulp` now: half of ten times it, or the greatest u64
+/// where that is more.
+#[inline]
+fn next_reach(ulp: u128) -> u64
+    requires { ulp < 2 ^ 125 }
+    ensures { result ≡ min (5 * ulp) (2 ^ 64 - 1) }
+{
+    (5 * ulp).min(u64::MAX as u128) as u64
+}
+
+/// Whether a rest is more than half an ulp away from the digits so far and from the next number.
+#[inline]
+fn is_far(rest: u64, ulp: u128) -> bool
+    ensures { IsTrue result ↔ ((ulp < 2 * rest) × (ulp < 2 * (2 ^ 64 - rest))) }
+{
+    let above = 2 * rest as u128;
+    let below = (1 << 65) - above;
+    ulp < above && ulp < below
+}
+
+/// Digits after the point that are too few, with which the pass begins: they spell `number`, `rest` is left, and with one
+/// digit more at most `reach` may be left.
+#[derive(Clone, Copy)]
+struct Start {
+    number: u64,
+    places: u32,
+    rest: u64,
+    reach: u64,
+}
+
+/// The greatest count of digits with which the pass begins.
+const MOST_LIKELY_PLACES: u32 = 18;
+
+/// A count of digits after the point that is mostly too small by one or two: one less than `frac` · log10(2), rounded
+/// down, with 1233 / 4096 for log10(2).
+#[inline]
+fn likely_places(frac: u32) -> u32
+    requires { frac ≤ 64 }
+    ensures few { result ≤ MOST_LIKELY_PLACES }
+    ensures within { result ≤ frac }
+{
+    (frac * 1233 / 4096).saturating_sub(1)
+}
+
+/// Where the pass begins: at the likely count of digits where these are too few, else at the point.
+#[inline]
+fn start_of(magnitude: u64, frac: u32) -> Start
+    requires frac { frac ≤ 64 }
+    requires some { (magnitude % 2 ^ frac ≡ 0) → ⊥ }
+    ensures { IsStart magnitude frac result.number result.places result.rest result.reach }
+{
+    let rest = rest_of(magnitude, frac);
+    let places = likely_places(frac);
+    let scale = power_of_ten(places);
+    let (number, left) = scaled(rest, scale);
+    let ulp = ulps(scale, frac);
+    if is_far(left, ulp) {
+        Start {
+            number,
+            places,
+            rest: left,
+            reach: next_reach(ulp),
+        }
+    } else {
+        Start {
+            number: 0,
+            places: 0,
+            rest,
+            reach: next_reach(ulps(1, frac)),
+        }
+    }
+}
+
+/// Appends the point and the digits after it, as many as are needed to read the magnitude back.
+#[inline]
+fn push_fraction<const N: usize>(out: &mut TextBuffer<N>, magnitude: u64, frac: u32)
+    requires frac { frac ≤ 64 }
+    requires room { length out.old + 21 ≤ N }
+    ensures { AppendsFraction magnitude frac out.old out.new }
+{
+    if rest_of(magnitude, frac) == 0 {
         return;
     }
-    text.push(b'.');
-    let (mut digit, mut rest) = mul10(first, 64);
-    let mut half = five_steps(frac);
-    'digits: while !is_close(rest, half) {
-        push_digit(text, digit, steps);
-        let (next, left) = mul10(rest, 64);
+    out.push(b'.');
+    let start = start_of(magnitude, frac);
+    let mut number = start.number;
+    let mut places = start.places;
+    let mut reach = start.reach;
+    let (mut digit, mut rest) = scaled(start.rest, 10);
+    'digits: while !is_close(rest, reach) {
+        number = number * 10 + digit;
+        places += 1;
+        let (next, left) = scaled(rest, 10);
         digit = next;
         rest = left;
-        half = half.saturating_mul(10);
+        reach = reach.saturating_mul(10);
     }
-    push_digit(text, rounded(digit, rest), steps);
+    push_places(out, number, places);
+    out.push(b'0' + nearer_digit(digit, rest) as u8);
 }
 
-/// Whether a rest is at most half away from the digits so far or from the next number.
-fn is_close(rest: u64, half: u64) -> bool
-    ensures { IsTrue result ↔ ((rest ≤ half) ⊎ (2 ^ 64 - 1 - rest < half)) }
+/// Whether a rest is at most `reach` away from the digits so far or from the next number.
+#[inline]
+fn is_close(rest: u64, reach: u64) -> bool
+    ensures { IsTrue result ↔ ((rest ≤ reach) ⊎ (2 ^ 64 - 1 - rest < reach)) }
 {
-    rest <= half || u64::MAX - rest < half
+    rest <= reach || u64::MAX - rest < reach
 }
 
-/// The digit, or the next one where the rest behind it reaches nearer to that, and of two equally near the even one.
-fn rounded(digit: u8, rest: u64) -> u8
+/// The digit, or the next one where the rest after it reaches nearer to that, and of two equally near the even one.
+#[inline]
+fn nearer_digit(digit: u64, rest: u64) -> u64
     requires { digit < 10 }
     ensures near { (above : ℕ) → (2 * rest ≡ 2 ^ 64 → IsEven above) → IsNearest ((above + digit) * 2 ^ 64 + rest) (2 ^ 64) (above + result) }
     ensures below { result ≤ digit + 1 }

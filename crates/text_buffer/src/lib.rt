@@ -5,8 +5,10 @@
 #![tactic(auto)]
 
 ghost use Rattle.std.specs.Prelude.{◌≡◌, ◌+◌, ◌<◌, ◌≤◌, ◌++◌, ◌↔◌, [], ◌∷◌, length, take, IsTrue};
+ghost use Rattle.std.specs.Str.{IsAscii};
 
 use std::marker::Model;
+use std::str;
 
 #[cfg(test)]
 mod tests;
@@ -111,6 +113,17 @@ impl<const N: usize> TextBuffer<N> {
         ensures within { length self.now ≤ N }
     {
         &self.bytes[..self.len]
+    }
+
+    /// The text, where all of its bytes are ASCII.
+    #[inline]
+    pub fn as_ascii_str(&self) -> &str
+        requires { IsAscii self.now }
+        ensures value { result.now ≡ self.now }
+        ensures within { length self.now ≤ N }
+    {
+        let bytes = self.as_bytes();
+        unsafe { str::from_utf8_unchecked(bytes) }
     }
 
     /// Keeps the first `len` bytes, or all of them where there are no more.

@@ -18,7 +18,7 @@ use Rattle.fixed_respell.specs.Words.{IsFormatWord, radix_text}
 use Rattle.fixed_respell.specs.declared.fault.LineFault.{LineFault}
 use Rattle.fixed_respell.specs.declared.fault.LineFault.TheVariants.{BadPolicy, BadRadix, BadSource, BadTarget, LineTooLong, MissingField}
 use Rattle.fixed_write.specs.Shortest.{IsShortest}
-use Rattle.fixed_write.specs.Texts.{decimal_text, fraction_part, IsShortestText, whole_text}
+use Rattle.fixed_write.specs.Texts.{decimal_text, point_text, fraction_part, IsShortestText, whole_digits}
 use Rattle.fixed_respell.proofs.Rows.{overflow_300, parts, plain_word, respelled_2_99}
 use Rattle.fixed_respell.proofs.laws.worked_answers.Goals as goal
 
@@ -68,7 +68,7 @@ pair_of_3 = record {
 }
 
 text_of_3 : IsShortestText (pos 3) 0 (codes "3")
-unfolding decimal_text whole_text fraction_part digits
+unfolding decimal_text point_text whole_digits fraction_part digits
 text_of_3 = record { number = 3; places = 0; shortest = pair_of_3; text_is = refl }
 
 pub returns-clause-respelled : goal.returns-clause-respelled

@@ -1,0 +1,3 @@
+-- What private functions promise each other. No public clause cites these.
+pub mod Fraction
+pub mod Passes
