@@ -3,6 +3,7 @@
 
 pub mod standard;
 
+pub use line_engine::{Filled, NoMemory, Whole, write_whole};
 pub use standard::{StdSink, StdSource};
 
 #[cfg(test)]

@@ -13,23 +13,7 @@ use Rattle.line_engine.specs.declared.status.Status.TheVariants.{Done, Faults, U
 use Rattle.line_engine.proofs.AnsweredLemmas.{written_of-append}
 use Rattle.line_engine.proofs.LineLawLemmas.{cut_anywhere}
 use Rattle.line_engine.proofs.PrefixLemmas.{part_first}
-
--- a source that was read to its end gave all its bytes
-pub all_taken : (left left' : Option (List ℕ)) (bytes input : List ℕ) → left ≡ Some input → Consumes left left' bytes → IsAtEnd left' → bytes ≡ input
-all_taken None left' bytes input is taken at_end = cc
-all_taken (Some xs) None bytes input is taken at_end = absurd taken
-all_taken (Some xs) (Some rest) bytes input is taken at_end =
-    let same : xs ≡ input = cc in
-    sym (append-nil bytes) ∙ ap (λ l. bytes ++ l) (sym at_end) ∙ sym taken ∙ same
-
--- no more can be taken than there is
-pub few_taken : (left left' : Option (List ℕ)) (bytes input : List ℕ) → left ≡ Some input → Consumes left left' bytes → length bytes ≤ length input
-few_taken None left' bytes input is taken = let no : ⊥ = cc in absurd no
-few_taken (Some xs) None bytes input is taken = absurd taken
-few_taken (Some xs) (Some rest) bytes input is taken =
-    let same : xs ≡ input = cc in
-    let count : length input ≡ length bytes + length rest = ap length (sym same ∙ taken) ∙ length-append bytes rest in
-    omega arith
+use Rattle.line_engine.proofs.TakenLemmas.{all_taken, few_taken}
 
 module _ (A : List ℕ → AnswerText → Type 0) (limit : ℕ) (left left' written written' : Option (List ℕ)) (input : List ℕ) (is : left ≡ Some input) where
   whole : (fault : Bool) (status : Status) → status ≡ status_of fault → AnswersAll A limit left left' written written' fault → WritesOutput A input written written' status

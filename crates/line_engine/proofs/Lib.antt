@@ -7,3 +7,5 @@ mod LineLawLemmas
 pub mod LineLemmas
 mod PrefixLemmas
 mod RunLemmas
+mod TakenLemmas
+mod WholeLemmas

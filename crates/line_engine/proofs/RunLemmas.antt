@@ -53,18 +53,6 @@ module _ (per_byte extra steps steps' : ℕ) where
       spent (bytes_in (ended_lines prefix)) (length bytes) (length (ended_lines prefix)) (length (lines bytes))
       (omega (arith, bytes_of_lines prefix, length-take n bytes)) (omega (arith, count, length-append (ended_lines bytes) (last_line (unended bytes)))) cost
 
--- bytes that stay are as good as taken
-pub Consumes-kept : (a b c : Option (List ℕ)) (bytes : List ℕ) → Consumes a b bytes → Keeps b c → Consumes a c bytes
-Consumes-kept None b c bytes taken kept = tt
-Consumes-kept (Some xs) None c bytes taken kept = absurd taken
-Consumes-kept (Some xs) (Some ys) None bytes taken kept = absurd kept
-Consumes-kept (Some xs) (Some ys) (Some zs) bytes taken kept = taken ∙ ap (λ l. bytes ++ l) (sym kept)
-
--- a read of no bytes took none
-pub Consumes-none : (a b c : Option (List ℕ)) (bytes buf : List ℕ) (count : ℕ) → Consumes a b bytes → Consumes b c (take count buf) → count ≡ 0 → Consumes a c bytes
-Consumes-none a b c bytes buf count taken more none =
-    subst (Consumes a c) (append-nil bytes) (Consumes-trans a b c bytes [] taken (subst (λ n. Consumes b c (take n buf)) none more))
-
 -- what was written where writing was cut short
 pub prefix_of : (A : List ℕ → AnswerText → Type 0) (per_byte extra : ℕ) (ls : List (List ℕ)) (written written' : Option (List ℕ)) (fault : Bool) (steps steps' : ℕ) → AnswersUntilFailure A per_byte extra ls (state [] written fault steps) written' steps' → AnswersPrefix A ls written written'
 prefix_of A per_byte extra ls written written' fault steps steps' broken = record {

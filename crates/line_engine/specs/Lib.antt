@@ -1,6 +1,7 @@
 pub mod AnswerText
 pub mod Asked
 pub mod Failures
+pub mod Filled
 pub mod LineLaws
 pub mod Lines
 pub mod Memory
@@ -8,3 +9,4 @@ pub mod Output
 pub mod Progress
 pub mod Run
 pub mod Status
+pub mod WholeRun

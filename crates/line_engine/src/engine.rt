@@ -1,53 +1,22 @@
 //! The line engine: lines in, answers out, whatever the rule that answers.
 
-ghost use Rattle.std.specs.Prelude.{◌≡◌, ◌≤◌, ◌<◌, ◌+◌, ◌⊎◌, List, ℕ, Some, [], length, take, false, IfOk, OnErr};
-ghost use Rattle.std.specs.Io.KnownBytes.{Consumes, IsAtEnd, Keeps};
-ghost use Rattle.line_engine.specs.Asked.{AskedWithin, HasAsked, longest_chunk};
-ghost use Rattle.line_engine.specs.Failures.{FailsOnlyCounted, HasFailed};
+ghost use Rattle.std.specs.Prelude.{◌≡◌, ◌≤◌, ◌<◌, ◌⊎◌, List, ℕ, Some, [], length, false};
+ghost use Rattle.line_engine.specs.Asked.{AskedWithin};
+ghost use Rattle.line_engine.specs.Failures.{HasFailed};
 ghost use Rattle.line_engine.specs.Lines.{kept_length, last_line, lines};
 ghost use Rattle.line_engine.specs.Output.{AppendsPrefix, AreAnswers, written_of};
 ghost use Rattle.line_engine.specs.Progress.{EndsLines, IsKept, state};
 ghost use Rattle.line_engine.specs.AnswerText.{AnswerText};
 ghost use Rattle.line_engine.specs.Run.{HasFailures, HasRun, Spends, WritesOutput};
 
+use crate::chunk::{CHUNK, MAX_LIMIT, next_room, read_prefix};
 use crate::line_buffer::LineBuffer;
 use crate::output::Output;
 use crate::splitter::LineSplitter;
-use crate::{Failed, LineRule, Sink, Source, Status};
+use crate::{LineRule, Sink, Source, Status};
 use fixed_steps::Steps;
 use std::alloc::Global;
 use std::sync::ledger::Ledger;
-
-/// How many bytes an input has at most, whatever the limit: the greatest limit.
-pub const MAX_LIMIT: u64 = 4_294_967_296;
-
-/// How many bytes are read at a time at most.
-const CHUNK: usize = 4096;
-
-/// How many bytes are asked for next, with this many of the limit taken.
-fn next_room(limit: u64, taken: u64) -> usize
-    requires limit { limit ≤ MAX_LIMIT }
-    requires taken { taken ≤ limit }
-    ensures some { 0 < result }
-    ensures chunk { result ≤ longest_chunk }
-    ensures within { taken + result ≤ limit + 1 }
-{
-    (limit + 1 - taken).min(CHUNK as u64) as usize
-}
-
-/// Reads the next bytes into the start of a chunk, at most this many.
-fn read_prefix<S: Source>(source: &mut S, chunk: &mut [u8], most: usize) -> Result<usize, Failed>
-    requires room { most ≤ length chunk.old }
-    requires some { 0 < most }
-    ensures bound { IfOk result (λ count. count ≤ most) }
-    ensures bytes { IfOk result (λ count. Consumes (S.left source.old) (S.left source.new) (take count chunk.new)) }
-    ensures end { IfOk result (λ count. count ≡ 0 → IsAtEnd (S.left source.new)) }
-    ensures err { OnErr result (Keeps (S.left source.old) (S.left source.new)) }
-    ensures failures { FailsOnlyCounted (S.failures source.old) (S.failures source.new) result }
-    ensures asked { HasAsked (S.asked source.old) (S.asked source.new) most result }
-{
-    source.read(&mut chunk[..most])
-}
 
 /// Answers the rest of the input, and says how the run ended.
 fn end_lines<R: LineRule<L>, K: Sink, L: Ledger>(

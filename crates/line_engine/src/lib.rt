@@ -6,6 +6,7 @@
 #![tactic(auto)]
 
 pub mod answer;
+mod chunk;
 pub mod device;
 pub mod engine;
 pub mod laws;
@@ -15,16 +16,24 @@ pub mod output;
 pub mod rule;
 mod splitter;
 pub mod status;
+pub mod whole;
+pub mod whole_engine;
+pub mod whole_rule;
 pub mod writing;
 
 pub use answer::{Answer, MAX_ANSWER};
+pub use chunk::MAX_LIMIT;
 pub use device::{Failed, Sink, Source};
-pub use engine::{MAX_LIMIT, run_lines};
+pub use engine::run_lines;
 pub use line_buffer::MAX_LINE;
 pub use memory::{MemorySink, MemorySource};
+pub use no_memory::NoMemory;
 pub use output::{OUTPUT_BUFFER, Output};
 pub use rule::LineRule;
 pub use status::Status;
+pub use whole::{Filled, MAX_WHOLE, Whole};
+pub use whole_engine::run_whole;
+pub use whole_rule::{WholeAnswer, WholeRule};
 pub use writing::{write_text, write_whole};
 
 #[cfg(test)]

@@ -9,7 +9,8 @@ use Rattle.line_engine.proofs.AskedLemmas.{so_far_more, so_far_none, so_far_with
 use Rattle.line_engine.proofs.ChunkLemmas.{kept_unended, nothing_kept, within_limit}
 use Rattle.line_engine.proofs.LineLemmas.{unended-append}
 use Rattle.line_engine.proofs.PrefixLemmas.{flushes_none}
-use Rattle.line_engine.proofs.RunLemmas.{Consumes-kept, Consumes-none, ended_run, limit_run, part_run, spends_ended, spends_part, last_run, last_spends, last_causes, grown, grown_broken}
+use Rattle.line_engine.proofs.RunLemmas.{ended_run, limit_run, part_run, spends_ended, spends_part, last_run, last_spends, last_causes, grown, grown_broken}
+use Rattle.line_engine.proofs.TakenLemmas.{Consumes-kept, Consumes-none, counted}
 use Rattle.line_engine.proofs.engine.answer_lines.Goals as goal
 
 pub loop-taken-init : goal.loop-taken-init
@@ -93,10 +94,6 @@ returns-in-Ok-eq0-clause-cost g c =
 fed : (limit count within taken : ℕ) (bytes buf : List ℕ) → length bytes ≤ limit → taken ≡ length bytes → within ≡ min count (limit - taken) → take limit (bytes ++ take count buf) ≡ bytes ++ take within buf
 fed limit count within taken bytes buf fits is here =
     within_limit limit count bytes buf fits ∙ ap (λ n. bytes ++ take n buf) (ap (λ n. min count (limit - n)) (sym is) ∙ sym here)
-
--- how many bytes were taken with these
-counted : (bytes buf : List ℕ) (taken count most : ℕ) → taken ≡ length bytes → count ≤ most → most ≤ length buf → taken + count ≡ length (bytes ++ take count buf)
-counted bytes buf taken count most is few room = omega (arith, length-append bytes (take count buf), length-take count buf)
 
 pub returns-in-Err-feed-clause-run : goal.returns-in-Err-feed-clause-run
 returns-in-Err-feed-clause-run g c =

@@ -1,0 +1,64 @@
+-- What a run over a whole input leaves.
+use Rattle.std.specs.Prelude.{◌≡◌, ◌+◌, ◌≤◌, ◌⊎◌, ℕ, Bool, true, false, List, length}
+use Rattle.std.specs.declared.option.Option.{Option}
+use Rattle.std.specs.Io.KnownBytes.{Appends, Consumes, IsAtEnd}
+use Rattle.line_engine.specs.AnswerText.{AnswerText}
+use Rattle.line_engine.specs.Filled.{TakesWithin}
+use Rattle.line_engine.specs.Output.{AppendsPrefix}
+use Rattle.line_engine.specs.Run.{status_of}
+use Rattle.line_engine.specs.declared.status.Status.{Status}
+use Rattle.line_engine.specs.declared.status.Status.TheVariants.{Done, Faults, Usage, ReadFault, WriteFault, NoMemory, TooLong}
+
+-- the answer to an input within the limit, which was read to its end, was written whole, and it holds a fault or none
+pub record AnswersWhole (A : List ℕ → AnswerText → Type 0) (limit : ℕ) (left left' written written' : Option (List ℕ)) (fault : Bool) : Type 0 where
+  pub input : List ℕ
+  pub taken : Consumes left left' input
+  pub at_end : IsAtEnd left'
+  pub within : length input ≤ limit
+  pub text : AnswerText
+  pub answer : A input text
+  pub output : Appends written written' text.text
+  pub faulty : text.fault ≡ fault
+
+-- a prefix of the answer to an input within the limit, which was read to its end, was written
+pub record AnswersWholeInPart (A : List ℕ → AnswerText → Type 0) (limit : ℕ) (left left' written written' : Option (List ℕ)) : Type 0 where
+  pub input : List ℕ
+  pub taken : Consumes left left' input
+  pub at_end : IsAtEnd left'
+  pub within : length input ≤ limit
+  pub text : AnswerText
+  pub answer : A input text
+  pub output : AppendsPrefix written written' text.text
+
+-- bytes within the limit were taken
+pub record TakesSome (limit : ℕ) (left left' : Option (List ℕ)) : Type 0 where
+  pub bytes : List ℕ
+  pub taken : Consumes left left' bytes
+  pub within : length bytes ≤ limit
+
+-- the byte past the limit was taken, and none after it
+pub record TakesPast (limit : ℕ) (left left' : Option (List ℕ)) : Type 0 where
+  pub bytes : List ℕ
+  pub taken : Consumes left left' bytes
+  pub past : length bytes ≡ limit + 1
+
+-- what a run that ended so has taken and written
+abbrev pub HasWholeRun : (List ℕ → AnswerText → Type 0) → ℕ → Option (List ℕ) → Option (List ℕ) → Option (List ℕ) → Option (List ℕ) → Status → Type 0
+HasWholeRun A limit left left' written written' Done = AnswersWhole A limit left left' written written' false
+HasWholeRun A limit left left' written written' Faults = AnswersWhole A limit left left' written written' true
+HasWholeRun A limit left left' written written' Usage = ⊥
+HasWholeRun A limit left left' written written' ReadFault = TakesSome limit left left' × (written' ≡ written)
+HasWholeRun A limit left left' written written' WriteFault = AnswersWholeInPart A limit left left' written written'
+HasWholeRun A limit left left' written written' NoMemory = TakesWithin limit left left' × (written' ≡ written)
+HasWholeRun A limit left left' written written' TooLong = TakesPast limit left left' × (written' ≡ written)
+
+-- a run that ended so ended before it wrote
+abbrev pub EndsBeforeWriting : Status → Type 0
+EndsBeforeWriting status = (status ≡ ReadFault) ⊎ ((status ≡ NoMemory) ⊎ (status ≡ TooLong))
+
+-- the answer to this input was written whole, and the status says whether it holds a fault
+pub record WritesAnswer (A : List ℕ → AnswerText → Type 0) (input : List ℕ) (written written' : Option (List ℕ)) (status : Status) : Type 0 where
+  pub text : AnswerText
+  pub answer : A input text
+  pub output : Appends written written' text.text
+  pub faulty : status ≡ status_of text.fault

@@ -1,0 +1,43 @@
+//! One read of an input: how much is asked for, and into which part of a chunk.
+
+ghost use Rattle.std.specs.Prelude.{◌≡◌, ◌≤◌, ◌<◌, ◌+◌, length, take, IfOk, OnErr};
+ghost use Rattle.std.specs.Io.KnownBytes.{Consumes, IsAtEnd, Keeps};
+ghost use Rattle.line_engine.specs.Asked.{HasAsked, longest_chunk};
+ghost use Rattle.line_engine.specs.Failures.{FailsOnlyCounted};
+
+use crate::{Failed, Source};
+
+/// How many bytes an input has at most, whatever the limit: the greatest limit.
+pub const MAX_LIMIT: u64 = 4_294_967_296;
+
+/// How many bytes are read at a time at most.
+pub const CHUNK: usize = 4096;
+
+/// How many bytes are asked for next, with this many of the limit taken.
+pub(crate) fn next_room(limit: u64, taken: u64) -> usize
+    requires limit { limit ≤ MAX_LIMIT }
+    requires taken { taken ≤ limit }
+    ensures some { 0 < result }
+    ensures chunk { result ≤ longest_chunk }
+    ensures within { taken + result ≤ limit + 1 }
+{
+    (limit + 1 - taken).min(CHUNK as u64) as usize
+}
+
+/// Reads the next bytes into the start of a chunk, at most this many.
+pub(crate) fn read_prefix<S: Source>(
+    source: &mut S,
+    chunk: &mut [u8],
+    most: usize,
+) -> Result<usize, Failed>
+    requires room { most ≤ length chunk.old }
+    requires some { 0 < most }
+    ensures bound { IfOk result (λ count. count ≤ most) }
+    ensures bytes { IfOk result (λ count. Consumes (S.left source.old) (S.left source.new) (take count chunk.new)) }
+    ensures end { IfOk result (λ count. count ≡ 0 → IsAtEnd (S.left source.new)) }
+    ensures err { OnErr result (Keeps (S.left source.old) (S.left source.new)) }
+    ensures failures { FailsOnlyCounted (S.failures source.old) (S.failures source.new) result }
+    ensures asked { HasAsked (S.asked source.old) (S.asked source.new) most result }
+{
+    source.read(&mut chunk[..most])
+}
