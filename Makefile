@@ -27,7 +27,7 @@ WORDS_fixed = -- --version
 below = $(filter $(CRATES),$(shell sed -n 's/^$(1)[^:]*: *//p' crates.txt))
 files = $(shell find crates/$(1) -path 'crates/$(1)/out' -prune -o -type f -print)
 
-.PHONY: build try demo test install uninstall bench compare clean
+.PHONY: build try demo test install uninstall bench compare scale clean
 .DELETE_ON_ERROR:
 
 build:
@@ -95,6 +95,10 @@ build/bench_c: bench/calls.c
 # Seeded inputs, answered by the programs and by whole-number arithmetic in Python.
 compare: build
 	python3 oracle/compare.py --count $(COUNT)
+
+# The recipes of docs/SCALING.md, each compared byte for byte with one process.
+scale: build
+	scale/scale.sh
 
 clean:
 	rm -rf build crates/*/out

@@ -1,0 +1,145 @@
+#!/usr/bin/env python3
+"""Checks what the documents say of the repository against the repository.
+
+    documents.py [--built build|out]
+
+README's answers against the program, the crates' table against crates.txt, the wrong bodies that docs/PROVED.md names against
+must-fail/, definitions that docs/RULES.md names against specs/, and every path that a document names.
+"""
+import argparse
+import glob
+import os
+import re
+import subprocess
+import sys
+
+TOP = os.path.dirname(os.path.dirname(os.path.abspath(__file__)))
+sys.path.insert(0, f"{TOP}/oracle")
+
+from compare import program  # noqa: E402
+
+DOCUMENTS = ("README.md", "CONTRIBUTING.md", "CHANGELOG.md", *sorted(f"docs/{os.path.basename(it)}" for it in glob.glob(f"{TOP}/docs/*.md")))
+LONGEST_README = 150
+# What is made by building, and so is named and not there.
+MADE = ("build/", "crates/*/out", "crates/NAME", "DIR/")
+
+
+def text_of(path):
+    with open(f"{TOP}/{path}", encoding="utf-8") as file:
+        return file.read()
+
+
+def answers_of(path, lines):
+    given = "".join(line + "\n" for line in lines).encode()
+    ran = subprocess.run([path], input=given, stdout=subprocess.PIPE, stderr=subprocess.DEVNULL, check=False)
+    return ran.stdout.decode().split("\n")[:-1]
+
+
+def readme_answers(built):
+    """README's lines and what it says that they are answered."""
+    path = program("fixed_tool", built)
+    if path is None:
+        print("fixed_tool is not built, and so README's answers were not compared")
+        return
+    readme = text_of("README.md")
+    said = re.findall(r"^ {4}(\S.*?) {2}-> {2}(.*)$", readme, re.M)
+    said += [(line, f"error: {message}") for message, line in re.findall(r"^\| `([^`]*)` \|.*\| `([0-9]+ [^`]*)` \|$", readme, re.M)]
+    said += [(f"10 U8F0 U8F0 checked {numeral}", f"error: {message}") for message, numeral in
+             re.findall(r"^\|.*\| `([a-z ]*)` \| `([^` ]+)` \|$", text_of("docs/RULES.md"), re.M)]
+    said += [(f"10 U8F0 U16F0 {policy} 300", answer) for policy, answer in
+             (("checked", "error: overflow"), ("saturating", "255 255 overflowed"), ("wrapping", "44 44 overflowed"))
+             if f"`{answer}`" in readme]
+    if len(said) < 20:
+        yield f"README.md shows {len(said)} answers only"
+    for (line, answer), got in zip(said, answers_of(path, [line for line, _ in said])):
+        if got != answer:
+            yield f"README.md: {line!r} is answered {got!r}, not {answer!r}"
+
+
+def readme_shape():
+    count = len(text_of("README.md").rstrip("\n").split("\n"))
+    if count > LONGEST_README:
+        yield f"README.md has {count} lines, and at most {LONGEST_README} are wanted"
+    example = re.search(r"```rust\n(.*?)```", text_of("README.md"), re.S)
+    source = "crates/fixed_example/src/main.rt"
+    if os.path.isfile(f"{TOP}/{source}") and (not example or example.group(1).strip() not in text_of(source)):
+        yield f"README.md's library example is not a part of {source}"
+
+
+def crates_of():
+    """The crates of crates.txt, and what each stands on."""
+    lines = [line.partition(":") for line in text_of("crates.txt").split("\n") if line and not line.startswith("#")]
+    return {head.split()[0]: deps.split() for head, _, deps in lines}
+
+
+def crates_table():
+    """The table of crates in docs/ARCHITECTURE.md: `| name | does | stands on |`."""
+    crates = crates_of()
+    rows = dict(re.findall(r"^\| `(\w+)` \|[^|]*\|([^|]*)\|$", text_of("docs/ARCHITECTURE.md"), re.M))
+    for name, deps in crates.items():
+        if name not in rows:
+            yield f"docs/ARCHITECTURE.md: no row for the crate {name}"
+        elif sorted(re.findall(r"`(\w+)`", rows[name])) != sorted(deps):
+            yield f"docs/ARCHITECTURE.md: {name} stands on {' '.join(deps)}"
+    yield from (f"docs/ARCHITECTURE.md: no crate {name}" for name in rows if name not in crates)
+
+
+def wrong_bodies():
+    """Each edit is named in docs/PROVED.md under its crate, once, and their count is told."""
+    proved = text_of("docs/PROVED.md")
+    edits = {(path.split("/")[-3], os.path.basename(path)[:-5]) for path in glob.glob(f"{TOP}/crates/*/must-fail/*.edit")}
+    named, crate = [], None
+    for line in proved.split("\n"):
+        head = re.match(r"#+ Wrong bodies of `(\w+)`", line)
+        crate = head.group(1) if head else None if line.startswith("#") else crate
+        row = re.match(r"\| `(\w+)` \|", line)
+        if crate and row:
+            named.append((crate, row.group(1)))
+    yield from (f"docs/PROVED.md names no wrong body {crate}/{name}" for crate, name in sorted(edits - set(named)))
+    yield from (f"docs/PROVED.md: there is no wrong body {crate}/{name}" for crate, name in named if (crate, name) not in edits)
+    for document in ("docs/PROVED.md", "README.md"):
+        for count in re.findall(r"(\d+) wrong bodies", text_of(document)):
+            if int(count) != len(edits):
+                yield f"{document} says {count} wrong bodies, and there are {len(edits)}"
+
+
+def definitions():
+    """Definitions that docs/RULES.md and docs/PROVED.md name as `crate`: `File` (`name`, ..)."""
+    for document in ("docs/RULES.md", "docs/PROVED.md"):
+        for crate, rest in re.findall(r"[Ii]n `(\w+)`: ((?:`\w+`(?: \((?:`[\w-]+`(?:, )?|[^`()]*)*\))?(?:, | and )?)+)", text_of(document)):
+            for file, names in re.findall(r"`(\w+)`(?: \(([^)]*)\))?", rest):
+                paths = glob.glob(f"{TOP}/crates/{crate}/specs/**/{file}.antt", recursive=True)
+                if not paths:
+                    yield f"{document}: no specs/{file}.antt in {crate}"
+                    continue
+                with open(paths[0], encoding="utf-8") as spec:
+                    stated = spec.read()
+                for name in re.findall(r"`([\w-]+)`", names):
+                    if not re.search(rf"\b{re.escape(name)}\b", stated):
+                        yield f"{document}: no {name} in {crate}/specs/{file}.antt"
+
+
+def paths():
+    """Files and folders that a document names in back quotes."""
+    for document in DOCUMENTS:
+        if not os.path.isfile(f"{TOP}/{document}"):
+            yield f"no {document}"
+            continue
+        for name in re.findall(r"`((?:crates|docs|bench|oracle|scale|examples|\.ci)/[\w./*-]*)`", text_of(document)):
+            if not name.startswith(MADE) and not glob.glob(f"{TOP}/{name}"):
+                yield f"{document}: no {name}"
+
+
+def main():
+    words = argparse.ArgumentParser(description=__doc__.split("\n", maxsplit=1)[0])
+    words.add_argument("--built", choices=("build", "out"), default="build")
+    given = words.parse_args()
+    wrong = [*readme_answers(given.built), *readme_shape(), *crates_table(), *wrong_bodies(), *definitions(), *paths()]
+    for it in wrong:
+        print(it)
+    print(f"documents: {len(wrong)} sentences that do not hold")
+    return 1 if wrong else 0
+
+
+if __name__ == "__main__":
+    sys.exit(main())
