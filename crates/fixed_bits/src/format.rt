@@ -91,6 +91,7 @@ impl Format {
     pub fn contains(self, v: i128) -> bool
         ensures inside { IsTrue result ↔ IsInRange self.signed self.width v }
         ensures outside { (result ≡ false) ↔ IsOutOfRange self.signed self.width v }
+        ensures wide { IsTrue result → IsWide v }
     {
         self.lowest() <= v && v <= self.greatest()
     }

@@ -1,0 +1,19 @@
+-- What the laws of this crate say.
+use Rattle.std.specs.Prelude.{◌≡◌, ◌↔◌, ◌≤◌, ℕ, List, ℤ, pos, ◌*ℤ◌, ◌≤ℤ◌}
+use Rattle.fixed_bits.specs.Formats.{FormatParts}
+use Rattle.fixed_numeral.specs.declared.error.ParseErrorKind.{ParseErrorKind}
+use Rattle.fixed_numeral.specs.declared.radix.Radix.{Radix}
+use Rattle.fixed_enclose.specs.Enclosure.{Encloses, IsEnclosed, IsRefusal}
+
+-- two whole numbers around a value do not lie inside its enclosure
+abbrev pub NoneIsTighter : Type 0
+NoneIsTighter = (y : ℤ) (den : ℕ) (lo hi a b : ℤ) → Encloses y den lo hi → (a *ℤ pos den) ≤ℤ y → y ≤ℤ (b *ℤ pos den) → (a ≤ℤ lo) × (hi ≤ℤ b)
+
+-- the ends are equal exactly where the value is a whole number
+abbrev pub ExactWhereEqual : Type 0
+ExactWhereEqual = (y : ℤ) (den : ℕ) (lo hi : ℤ) → Encloses y den lo hi → (lo ≡ hi) ↔ (y ≡ lo *ℤ pos den)
+
+-- bytes have one pair, and no refusal beside it
+abbrev pub PairIsTheOne : Type 0
+PairIsTheOne = (r : Radix) (bytes : List ℕ) (format : FormatParts) (lo hi : ℤ) → IsEnclosed r bytes format lo hi
+    → ((a b : ℤ) → IsEnclosed r bytes format a b → (lo ≡ a) × (hi ≡ b)) × ((kind : ParseErrorKind) → ¬ IsRefusal r bytes format kind)

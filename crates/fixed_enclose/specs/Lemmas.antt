@@ -1,0 +1,2 @@
+-- Proofs that traits need; no contract cites them.
+pub mod EnclosureLemmas

@@ -1,0 +1,3 @@
+pub mod Enclosure
+pub mod Laws
+pub mod Lemmas

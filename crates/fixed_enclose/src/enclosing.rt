@@ -1,0 +1,79 @@
+//! The two values of a format nearest to a numeral's value, below and above.
+
+ghost use Rattle.std.specs.Prelude.{◌≡◌, ◌↔◌, ◌≤◌, ◌+◌, ◌*◌, ◌⊎◌, ℤ, IsTrue, IsOk, IfOk, IfErr, IfSome, IfNone, length};
+ghost use Rattle.fixed_bits.specs.Ranges.{IsInRange, IsOutOfRange, IsWide};
+ghost use Rattle.fixed_read.specs.Reading.{HoldsNumber};
+ghost use Rattle.fixed_enclose.specs.Enclosure.{IsEnclosed, IsRefusal};
+ghost use Rattle.fixed_enclose.specs.Lemmas.EnclosureLemmas.{upper};
+
+use fixed_bits::{Format, Policy, ReadMode};
+use fixed_numeral::{ParseErrorKind, ParseFixedError, Radix};
+use fixed_read::{ReadNumber, read_format};
+use fixed_steps::Steps;
+use std::sync::ledger::Ledger;
+
+/// The bits of the two values of a format that are nearest to a number, below and above. Both are those of the number
+/// where the format has it.
+#[derive(Clone, Copy, Debug, PartialEq, Eq)]
+pub struct Enclosure {
+    /// The bits of the greatest value that is not above the number.
+    pub lo: i128,
+    /// The bits of the least value that is not below the number.
+    pub hi: i128,
+}
+
+/// The bits of the greatest value of a format that is not above a numeral's value, and of the least that is not below
+/// it. It takes no memory, and at most sixteen steps for each byte, and 1,152.
+///
+/// # Errors
+///
+/// A numeral whose value has no value of the format below or above it is refused as `Overflow`; other bytes are refused
+/// with the kind of their cause.
+pub fn enclose<L: Ledger>(
+    bytes: &[u8],
+    radix: Radix,
+    format: Format,
+    steps: &mut Steps<L>,
+) -> Result<Enclosure, ParseFixedError>
+    ensures ok { IsOk result ↔ ((lo : ℤ) × (hi : ℤ) × IsEnclosed radix bytes.now format lo hi) }
+    ensures pair { IfOk result (λ e. IsEnclosed radix bytes.now format e.lo e.hi) }
+    ensures wide { IfOk result (λ e. IsWide e.lo × IsWide e.hi) }
+    ensures refused { IfErr result (λ kind. IsRefusal radix bytes.now format kind) }
+    ensures cost { steps.new ≤ steps.old + 16 * length bytes.now + 1152 }
+{
+    let found = match read_format(bytes, radix, format, ReadMode::Floor, steps) {
+        Ok(found) => found,
+        Err(error) => return Err(error),
+    };
+    match ends_of(&found) {
+        Some(ends) => Ok(ends),
+        None => Err(ParseFixedError::new(ParseErrorKind::Overflow)),
+    }
+}
+
+/// The enclosure of a value that was read in mode `Floor`. The read number is the lower end; the upper end is the same
+/// where the value was a whole number of ulps, else the next. `None` where an end is out of range.
+fn ends_of(found: &ReadNumber) -> Option<Enclosure>
+    ensures ends { IfSome result (λ e. (v : ℤ) → HoldsNumber found.now v → (e.lo ≡ v) × (e.hi ≡ upper found.now.exact v)) }
+    ensures low { IfSome result (λ e. IsInRange found.now.format.signed found.now.format.width e.lo) }
+    ensures high { IfSome result (λ e. IsInRange found.now.format.signed found.now.format.width e.hi) }
+    ensures wide { IfSome result (λ e. IsWide e.lo × IsWide e.hi) }
+    ensures none { IfNone result ((v : ℤ) → HoldsNumber found.now v
+        → IsOutOfRange found.now.format.signed found.now.format.width v ⊎ IsOutOfRange found.now.format.signed found.now.format.width (upper found.now.exact v)) }
+{
+    let lo = found.image(Policy::Checked)?;
+    let hi = upper_end(lo, found.is_exact());
+    if found.format().contains(hi) {
+        Some(Enclosure { lo, hi })
+    } else {
+        None
+    }
+}
+
+/// The upper end of an enclosure by its lower end, and whether the value is that end.
+fn upper_end(lo: i128, exact: bool) -> i128
+    requires { IsWide lo }
+    ensures { result ≡ upper exact lo }
+{
+    if exact { lo } else { lo + 1 }
+}

@@ -1,0 +1,18 @@
+//! Laws of enclosures, each the contract of a function that does nothing.
+
+ghost use Rattle.fixed_enclose.specs.Laws.{ExactWhereEqual, NoneIsTighter, PairIsTheOne};
+
+/// No two whole numbers around a value are nearer to it than its enclosure.
+pub fn none_is_tighter()
+    ensures { NoneIsTighter }
+{}
+
+/// The two ends are equal exactly where the value is a whole number of ulps.
+pub fn exact_where_equal()
+    ensures { ExactWhereEqual }
+{}
+
+/// Bytes have at most one enclosure in a format, and where they have one they are not refused.
+pub fn pair_is_the_one()
+    ensures { PairIsTheOne }
+{}
