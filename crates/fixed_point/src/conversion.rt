@@ -3,14 +3,15 @@
 
 ghost use Rattle.std.specs.Prelude.{◌≡◌, ◌↔◌, ◌≤◌, ◌*ℤ◌, ◌^◌, pos, refl, IsTrue, IsSome, IfSome};
 ghost use Rattle.std.proofs.Common.{inr};
-ghost use Rattle.fixed_bits.specs.Ranges.{IsInRange, IsOutOfRange};
+ghost use Rattle.fixed_bits.specs.Ranges.{IsInRange, IsOutOfRange, IsWide};
 ghost use Rattle.fixed_bits.specs.Images.{IsImage};
 ghost use Rattle.fixed_bits.specs.Down.{down};
+ghost use Rattle.fixed_convert.specs.Moved.{shifted};
 ghost use Rattle.fixed_bits.specs.declared.format.Policy.TheVariants.{Saturating, Wrapping};
 
 use crate::number::Fixed;
 use fixed_bits::Inner;
-use fixed_convert::{FromFixed, Num, NumTarget, ToFixed, floor_into};
+use fixed_convert::{Floored, FromFixed, Num, NumTarget, ToFixed, floor_into};
 
 impl<I: Inner, const FRAC: u32> Num for Fixed<I, FRAC> {
     const SIGNED: bool = I::SIGNED;
@@ -132,7 +133,7 @@ impl<I: Inner, const FRAC: u32> Fixed<I, FRAC> {
         requires fits { IsInRange I.SIGNED I.BITS (I.number src *ℤ pos (2 ^ FRAC)) }
         ensures { I.number result ≡ I.number src *ℤ pos (2 ^ FRAC) }
     {
-        Fixed::from_bits(floor_into(src.value(), 0, FRAC).clamp())
+        Fixed::from_bits(fitting(ulps_of_whole(src.value(), FRAC)))
     }
 }
 
@@ -201,4 +202,27 @@ impl<I: Inner, const FRAC: u32> Fixed<I, FRAC> {
     {
         D::overflowing_from_fixed(self)
     }
+}
+
+/// The ulps of 2^-`frac` of a whole number.
+#[inline]
+fn ulps_of_whole(value: i128, frac: u32) -> Floored
+    requires wide { IsWide value }
+    requires frac { frac ≤ 64 }
+    ensures number { shifted result.bits result.shift ≡ value *ℤ pos (2 ^ frac) }
+    ensures wide { IsWide result.bits }
+    ensures shift { result.shift ≤ 64 }
+{
+    floor_into(value, 0, frac)
+}
+
+/// The bits of a moved number that fits.
+#[inline]
+fn fitting<I: Inner>(v: Floored) -> I
+    requires wide { IsWide v.bits }
+    requires shift { v.shift ≤ 64 }
+    requires fits { IsInRange I.SIGNED I.BITS (shifted v.bits v.shift) }
+    ensures { I.number result ≡ shifted v.bits v.shift }
+{
+    v.clamp()
 }

@@ -10,7 +10,7 @@ ghost use Rattle.fixed_bits.specs.declared.mode.ReadMode.TheVariants.{NearestEve
 ghost use Rattle.fixed_numeral.specs.Numeral.{Parts, HasNumeral};
 ghost use Rattle.fixed_numeral.specs.declared.radix.Radix.TheVariants.{Bin, Oct, Dec, Hex};
 ghost use Rattle.fixed_read.specs.Reading.{IsReadInRange, IsReadNumber};
-ghost use Rattle.fixed_point.specs.Readings.{IsReading, IsImageReading, IsOverflowingReading};
+ghost use Rattle.fixed_point.specs.Readings.{IsPlainReading, IsImageReading, IsOverflowingReading};
 
 use crate::number::Fixed;
 use crate::reading::{overflowing_read, read, saturating_read, strict_read, wrapping_read};
@@ -23,7 +23,7 @@ impl<I: Inner, const FRAC: u32> Fixed<I, FRAC> {
     #[inline]
     pub fn from_str(src: &str) -> Result<Self, ParseFixedError>
         requires { FRAC ≤ I.BITS }
-        ensures { IsReading I.number NearestEven Dec src.now FRAC I.SIGNED I.BITS result }
+        ensures { IsPlainReading I.number NearestEven Dec src.now FRAC I.SIGNED I.BITS result }
     {
         read(src.as_bytes(), Radix::Dec, ReadMode::NearestEven)
     }
@@ -32,7 +32,7 @@ impl<I: Inner, const FRAC: u32> Fixed<I, FRAC> {
     #[inline]
     pub fn from_str_binary(src: &str) -> Result<Self, ParseFixedError>
         requires { FRAC ≤ I.BITS }
-        ensures { IsReading I.number NearestEven Bin src.now FRAC I.SIGNED I.BITS result }
+        ensures { IsPlainReading I.number NearestEven Bin src.now FRAC I.SIGNED I.BITS result }
     {
         read(src.as_bytes(), Radix::Bin, ReadMode::NearestEven)
     }
@@ -41,7 +41,7 @@ impl<I: Inner, const FRAC: u32> Fixed<I, FRAC> {
     #[inline]
     pub fn from_str_octal(src: &str) -> Result<Self, ParseFixedError>
         requires { FRAC ≤ I.BITS }
-        ensures { IsReading I.number NearestEven Oct src.now FRAC I.SIGNED I.BITS result }
+        ensures { IsPlainReading I.number NearestEven Oct src.now FRAC I.SIGNED I.BITS result }
     {
         read(src.as_bytes(), Radix::Oct, ReadMode::NearestEven)
     }
@@ -50,7 +50,7 @@ impl<I: Inner, const FRAC: u32> Fixed<I, FRAC> {
     #[inline]
     pub fn from_str_hex(src: &str) -> Result<Self, ParseFixedError>
         requires { FRAC ≤ I.BITS }
-        ensures { IsReading I.number NearestEven Hex src.now FRAC I.SIGNED I.BITS result }
+        ensures { IsPlainReading I.number NearestEven Hex src.now FRAC I.SIGNED I.BITS result }
     {
         read(src.as_bytes(), Radix::Hex, ReadMode::NearestEven)
     }
@@ -59,7 +59,7 @@ impl<I: Inner, const FRAC: u32> Fixed<I, FRAC> {
     #[inline]
     pub fn from_ascii(src: &[u8]) -> Result<Self, ParseFixedError>
         requires { FRAC ≤ I.BITS }
-        ensures { IsReading I.number NearestEven Dec src.now FRAC I.SIGNED I.BITS result }
+        ensures { IsPlainReading I.number NearestEven Dec src.now FRAC I.SIGNED I.BITS result }
     {
         read(src, Radix::Dec, ReadMode::NearestEven)
     }
@@ -68,7 +68,7 @@ impl<I: Inner, const FRAC: u32> Fixed<I, FRAC> {
     #[inline]
     pub fn from_ascii_binary(src: &[u8]) -> Result<Self, ParseFixedError>
         requires { FRAC ≤ I.BITS }
-        ensures { IsReading I.number NearestEven Bin src.now FRAC I.SIGNED I.BITS result }
+        ensures { IsPlainReading I.number NearestEven Bin src.now FRAC I.SIGNED I.BITS result }
     {
         read(src, Radix::Bin, ReadMode::NearestEven)
     }
@@ -77,7 +77,7 @@ impl<I: Inner, const FRAC: u32> Fixed<I, FRAC> {
     #[inline]
     pub fn from_ascii_octal(src: &[u8]) -> Result<Self, ParseFixedError>
         requires { FRAC ≤ I.BITS }
-        ensures { IsReading I.number NearestEven Oct src.now FRAC I.SIGNED I.BITS result }
+        ensures { IsPlainReading I.number NearestEven Oct src.now FRAC I.SIGNED I.BITS result }
     {
         read(src, Radix::Oct, ReadMode::NearestEven)
     }
@@ -86,7 +86,7 @@ impl<I: Inner, const FRAC: u32> Fixed<I, FRAC> {
     #[inline]
     pub fn from_ascii_hex(src: &[u8]) -> Result<Self, ParseFixedError>
         requires { FRAC ≤ I.BITS }
-        ensures { IsReading I.number NearestEven Hex src.now FRAC I.SIGNED I.BITS result }
+        ensures { IsPlainReading I.number NearestEven Hex src.now FRAC I.SIGNED I.BITS result }
     {
         read(src, Radix::Hex, ReadMode::NearestEven)
     }
@@ -449,7 +449,7 @@ impl<I: Inner, const FRAC: u32> Fixed<I, FRAC> {
         mode: ReadMode,
     ) -> Result<Self, ParseFixedError>
         requires { FRAC ≤ I.BITS }
-        ensures { IsReading I.number mode radix src.now FRAC I.SIGNED I.BITS result }
+        ensures { IsPlainReading I.number mode radix src.now FRAC I.SIGNED I.BITS result }
     {
         read(src, radix, mode)
     }

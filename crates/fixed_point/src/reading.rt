@@ -5,7 +5,7 @@ ghost use Rattle.fixed_bits.specs.declared.format.Policy.TheVariants.{Saturating
 ghost use Rattle.fixed_bits.specs.declared.mode.ReadMode.TheVariants.{NearestEven};
 ghost use Rattle.fixed_numeral.specs.Numeral.{Parts, HasNumeral};
 ghost use Rattle.fixed_read.specs.Reading.{IsReadInRange, IsReadNumber};
-ghost use Rattle.fixed_point.specs.Readings.{IsReading, IsImageReading, IsOverflowingReading};
+ghost use Rattle.fixed_point.specs.Readings.{IsPlainReading, IsImageReading, IsOverflowingReading};
 
 use crate::number::Fixed;
 use fixed_bits::{Inner, ReadMode};
@@ -23,7 +23,7 @@ pub(crate) fn read<I: Inner, const FRAC: u32>(
     mode: ReadMode,
 ) -> Result<Fixed<I, FRAC>, ParseFixedError>
     requires { FRAC ≤ I.BITS }
-    ensures { IsReading I.number mode radix src.now FRAC I.SIGNED I.BITS result }
+    ensures { IsPlainReading I.number mode radix src.now FRAC I.SIGNED I.BITS result }
 {
     match from_str_radix_mode(src, radix, FRAC, mode) {
         Ok(bits) => Ok(Fixed::from_bits(bits)),
