@@ -14,3 +14,4 @@ pub mod LawLemmas
 pub mod StripLemmas
 pub mod LaneLemmas
 pub mod CompactLemmas
+pub mod SegmentLemmas

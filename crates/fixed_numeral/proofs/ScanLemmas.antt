@@ -34,7 +34,7 @@ and_false true y e = e
 and_false false y e = refl
 
 -- ---- digits, so many at once
-digits_append : (b : ℕ) (xs ys : List ℕ) → AllDigits b xs → AllDigits b ys → AllDigits b (xs ++ ys)
+pub digits_append : (b : ℕ) (xs ys : List ℕ) → AllDigits b xs → AllDigits b ys → AllDigits b (xs ++ ys)
 digits_append b [] ys h k = k
 digits_append b (x ∷ xs) ys h k = (h.0, digits_append b xs ys h.1 k)
 

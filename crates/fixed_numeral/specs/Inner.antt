@@ -3,3 +3,4 @@ pub mod Shift
 pub mod Scan
 pub mod LiteralScan
 pub mod MovedPoint
+pub mod Segments

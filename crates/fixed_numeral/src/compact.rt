@@ -1,13 +1,14 @@
 //! Numerals whose digits fit 128 bits: from bytes straight to numbers.
 
-ghost use Rattle.std.specs.Prelude.{◌≡◌, ◌+◌, ◌<◌, ◌≤◌, IfSome, length, ℤ, pos, neg_ℤ, if◌then◌else◌};
+ghost use Rattle.std.specs.Prelude.{◌≡◌, ◌+◌, ◌<◌, ◌≤◌, IfSome, IsTrue, length, ℤ, pos, neg_ℤ, if◌then◌else◌};
 ghost use Rattle.fixed_numeral.specs.Numeral.{Parts, HasNumeral, IsNumeral};
 ghost use Rattle.fixed_numeral.specs.PartNumbers.{IsCompactNumeral, compact_limit};
-ghost use Rattle.fixed_numeral.specs.Inner.Scan.{IsAfter, IsComplete, max_magnitude};
+ghost use Rattle.fixed_numeral.specs.Inner.Scan.{max_magnitude};
+ghost use Rattle.fixed_numeral.specs.Inner.Segments.{IsMantissaAt, IsExponentAt};
 
-use crate::digit_slice::plain_number;
 use crate::radix::Radix;
-use crate::scanner::{State, check_complete, read, same_bytes, slice_at};
+use crate::scanner::{is_separator, is_two_separator, max_magnitude};
+use crate::segment::{digit_run, sign_at};
 use fixed_steps::Steps;
 use std::sync::ledger::Ledger;
 
@@ -39,35 +40,105 @@ fn signed_exponent(minus: bool, magnitude: u64) -> i32
     }
 }
 
-/// The numbers of the numeral that was read. None where its digits are too many.
-fn numbers_of(bytes: &[u8], radix: Radix, state: State) -> Option<CompactNumeral>
-    requires after { IsAfter radix bytes.now state }
-    requires complete { IsComplete state }
-    ensures numeral { IfSome result (λ c. IsNumeral radix bytes.now) }
-    ensures parts { IfSome result (λ c. (p : Parts) → HasNumeral radix bytes.now p → IsCompactNumeral radix p c.negative c.digits c.places c.exponent c.scales_by_two) }
-    ensures limit { IfSome result (λ c. c.digits < compact_limit radix) }
+/// The digits of a mantissa.
+#[derive(Clone, Copy)]
+struct Mantissa {
+    /// The number that all of them spell.
+    number: u128,
+    /// How many there are after the point.
+    places: u32,
+    /// The place after them.
+    end: usize,
+}
+
+/// An exponent, and whether it counts powers of two.
+#[derive(Clone, Copy)]
+struct Power {
+    exponent: i32,
+    by_two: bool,
+}
+
+/// A count of fraction digits, of this many mantissa digits. None where there are none, or more than a u32 counts.
+#[inline(always)]
+fn counted_places(places: usize, digits: usize) -> Option<u32>
+    ensures { IfSome result (λ n. (n ≡ places) × (0 < digits)) }
 {
-    if state.whole_len + state.fraction_len > 15 {
+    if digits == 0 || places > 0xffff_ffff {
         return None;
     }
-    let text = same_bytes(bytes);
-    let point = state.sign_len + state.whole_len;
-    let whole = slice_at(text, state.sign_len as usize, state.whole_len as usize);
-    let fraction = slice_at(text, point as usize + 1, state.fraction_len as usize);
-    let base = u64::from(radix.base());
-    let first = plain_number(whole, base, 0);
-    let digits = plain_number(fraction, base, first);
-    Some(CompactNumeral {
-        negative: state.negative,
-        digits: u128::from(digits),
-        places: state.fraction_len as u32,
-        exponent: signed_exponent(state.exponent_negative, state.magnitude),
-        scales_by_two: state.scales_by_two,
+    Some(places as u32)
+}
+
+/// The mantissa from a place on. None where it has no digit, or its number does not fit 128 bits.
+#[inline(always)]
+fn mantissa_at(bytes: &[u8], base: u64, from: usize) -> Option<Mantissa>
+    requires least { 2 ≤ base }
+    requires most { base ≤ 16 }
+    requires place { from ≤ length bytes.now }
+    ensures { IfSome result (λ m. IsMantissaAt base bytes.now from m.end m.number m.places) }
+{
+    let whole = digit_run(bytes, base, from, 0)?;
+    let point = whole.end;
+    if point == bytes.len() || bytes[point] != b'.' {
+        let places = counted_places(0, point - from)?;
+        return Some(Mantissa {
+            number: whole.number,
+            places,
+            end: point,
+        });
+    }
+    let after = point + 1;
+    let fraction = digit_run(bytes, base, after, whole.number)?;
+    let count = fraction.end - after;
+    let places = counted_places(count, point - from + count)?;
+    Some(Mantissa {
+        number: fraction.number,
+        places,
+        end: fraction.end,
     })
 }
 
+/// The exponent from a place on, up to the end of the text, or 0 where the text ends there. None where it has no digit, its
+/// number is no i32, or something else is there.
+#[inline(always)]
+fn exponent_at(bytes: &[u8], radix: Radix, from: usize) -> Option<Power>
+    requires { from ≤ length bytes.now }
+    ensures { IfSome result (λ e. IsExponentAt radix bytes.now from e.exponent e.by_two) }
+{
+    if from == bytes.len() {
+        return Some(Power {
+            exponent: 0,
+            by_two: false,
+        });
+    }
+    let separator = bytes[from];
+    if !is_separator(radix, separator) {
+        return None;
+    }
+    let (negative, first) = sign_at(bytes, from + 1);
+    let run = digit_run(bytes, 10, first, 0)?;
+    if run.end != bytes.len() || run.end == first {
+        return None;
+    }
+    if run.number > u128::from(max_magnitude(negative)) {
+        return None;
+    }
+    Some(Power {
+        exponent: signed_exponent(negative, run.number as u64),
+        by_two: is_two_separator(radix, separator),
+    })
+}
+
+/// The limit of what the mantissa digits of a compact numeral spell.
+#[inline(always)]
+fn is_below_limit(radix: Radix, digits: u128) -> bool
+    ensures { IsTrue result → digits < compact_limit radix }
+{
+    radix != Radix::Dec || digits < 100_000_000_000_000_000_000_000_000_000_000_000_000
+}
+
 /// The numbers of a numeral, where its digits fit 128 bits: at most 38 significant digits in radix 10. None otherwise, and
-/// where the bytes are no numeral; `scan` then says more. At most a step a byte is taken.
+/// where the bytes are no numeral; `scan` then says more. A step a byte is taken.
 pub fn compact_numeral<L: Ledger>(
     s: &[u8],
     radix: Radix,
@@ -76,14 +147,20 @@ pub fn compact_numeral<L: Ledger>(
     ensures numeral { IfSome result (λ c. IsNumeral radix s.now) }
     ensures parts { IfSome result (λ c. (p : Parts) → HasNumeral radix s.now p → IsCompactNumeral radix p c.negative c.digits c.places c.exponent c.scales_by_two) }
     ensures limit { IfSome result (λ c. c.digits < compact_limit radix) }
-    ensures cost { steps.new ≤ steps.old + length s.now }
+    ensures cost { steps.new ≡ steps.old + length s.now }
 {
-    let state = match read(s, radix, steps) {
-        Ok(state) => state,
-        Err(_) => return None,
-    };
-    match check_complete(state) {
-        Ok(_) => numbers_of(s, radix, state),
-        Err(_) => None,
+    steps.advance(s.len() as u64);
+    let (negative, first) = sign_at(s, 0);
+    let mantissa = mantissa_at(s, u64::from(radix.base()), first)?;
+    let power = exponent_at(s, radix, mantissa.end)?;
+    if !is_below_limit(radix, mantissa.number) {
+        return None;
     }
+    Some(CompactNumeral {
+        negative,
+        digits: mantissa.number,
+        places: mantissa.places,
+        exponent: power.exponent,
+        scales_by_two: power.by_two,
+    })
 }

@@ -39,7 +39,7 @@ pub(crate) fn is_digit(b: u8) -> bool
 
 /// The value of a byte that is a digit of radix 16. The letters stand 9 places behind 16 times a number.
 #[tactic(auto, using(crate::proofs::ByteLemmas::value_is))]
-fn value_of_digit(b: u8) -> u8
+pub(crate) fn value_of_digit(b: u8) -> u8
     requires { digit_value b < 16 }
     ensures { result ≡ digit_value b }
 {

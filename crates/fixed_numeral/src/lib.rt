@@ -10,6 +10,7 @@ mod literal;
 mod radix;
 mod scanned;
 mod scanner;
+mod segment;
 mod short;
 mod swar;
 

@@ -77,7 +77,7 @@ pub(crate) fn is_sign(b: u8) -> bool
     b == b'+' || b == b'-'
 }
 
-fn is_separator(radix: Radix, b: u8) -> bool
+pub(crate) fn is_separator(radix: Radix, b: u8) -> bool
     ensures { result ≡ is_separator radix b }
 {
     match radix {
@@ -87,7 +87,7 @@ fn is_separator(radix: Radix, b: u8) -> bool
     }
 }
 
-fn is_two_separator(radix: Radix, b: u8) -> bool
+pub(crate) fn is_two_separator(radix: Radix, b: u8) -> bool
     ensures { result ≡ is_two_separator radix b }
 {
     match radix {
@@ -96,7 +96,7 @@ fn is_two_separator(radix: Radix, b: u8) -> bool
     }
 }
 
-fn max_magnitude(minus: bool) -> u64
+pub(crate) fn max_magnitude(minus: bool) -> u64
     ensures { result ≡ max_magnitude minus }
 {
     if minus { 0x8000_0000 } else { 0x7fff_ffff }

@@ -4,11 +4,9 @@ ghost use Rattle.std.specs.Prelude.{◌≡◌, ◌+◌, ◌*◌, ◌^◌, ◌<�
 ghost use Rattle.fixed_numeral.specs.declared.radix.Radix.TheVariants.{Dec};
 ghost use Rattle.fixed_numeral.specs.Numeral.{Parts, HasNumeral, IsNumeral};
 ghost use Rattle.fixed_numeral.specs.PartNumbers.{IsShortDecimal};
-ghost use Rattle.fixed_numeral.specs.Inner.Scan.{IsAfter, IsComplete};
+ghost use Rattle.fixed_numeral.specs.Inner.Segments.{IsSignAt, IsChunk, IsShortAt};
 
-use crate::digit_slice::plain_number;
-use crate::radix::Radix;
-use crate::scanner::{State, check_complete, read, same_bytes, slice_at};
+use crate::segment::{Chunk, digit_chunk, sign_at};
 use fixed_steps::Steps;
 use std::sync::ledger::Ledger;
 
@@ -26,32 +24,59 @@ pub struct ShortDecimal {
     pub places: u32,
 }
 
-/// The numbers of the decimal numeral that was read.
-fn numbers_of(bytes: &[u8], state: State) -> ShortDecimal
-    requires after { IsAfter Dec bytes.now state }
-    requires complete { IsComplete state }
-    requires plain { state.has_separator ≡ false }
-    requires few { state.whole_len + state.fraction_len ≤ 15 }
-    ensures numeral { IsNumeral Dec bytes.now }
-    ensures parts { (p : Parts) → HasNumeral Dec bytes.now p → IsShortDecimal p result.negative result.whole result.fraction result.places }
-    ensures fraction { result.fraction < 10 ^ result.places }
-    ensures digits { result.whole * 10 ^ result.places + result.fraction < 10 ^ 16 }
-    ensures places { result.places ≤ 16 }
+/// How many bytes a short decimal has at most.
+const MAX_LENGTH: usize = 16;
+
+/// The digits after a point, where they end with the text.
+#[inline(always)]
+fn fraction_at(bytes: &[u8], from: usize) -> Option<Chunk>
+    requires { from ≤ length bytes.now }
+    ensures { IfSome result (λ f. IsChunk 10 bytes.now from f.end f.number f.scale × (f.end ≡ length bytes.now)) }
 {
-    let text = same_bytes(bytes);
-    let point = state.sign_len + state.whole_len;
-    let whole = slice_at(text, state.sign_len as usize, state.whole_len as usize);
-    let fraction = slice_at(text, point as usize + 1, state.fraction_len as usize);
-    ShortDecimal {
-        negative: state.negative,
-        whole: plain_number(whole, 10, 0),
-        fraction: plain_number(fraction, 10, 0),
-        places: state.fraction_len as u32,
+    let fraction = digit_chunk(bytes, 10, from);
+    if fraction.end == bytes.len() {
+        Some(fraction)
+    } else {
+        None
     }
 }
 
+/// The numbers of the digits from a place on, a point among them or not, where they end with the text.
+#[inline(always)]
+fn decimal_at(bytes: &[u8], negative: bool, first: usize) -> Option<ShortDecimal>
+    requires place { first ≤ length bytes.now }
+    requires short { length bytes.now ≤ MAX_LENGTH }
+    requires sign { IsSignAt bytes.now 0 first negative }
+    ensures { IfSome result (λ d. IsShortAt bytes.now d.negative d.whole d.fraction d.places) }
+{
+    let whole = digit_chunk(bytes, 10, first);
+    let point = whole.end;
+    if point == bytes.len() {
+        if point == first {
+            return None;
+        }
+        return Some(ShortDecimal {
+            negative,
+            whole: whole.number,
+            fraction: 0,
+            places: 0,
+        });
+    }
+    if bytes[point] != b'.' || bytes.len() - first == 1 {
+        return None;
+    }
+    let fraction = fraction_at(bytes, point + 1)?;
+    Some(ShortDecimal {
+        negative,
+        whole: whole.number,
+        fraction: fraction.number,
+        places: (bytes.len() - point - 1) as u32,
+    })
+}
+
 /// The numbers of a decimal numeral of at most 16 bytes without an exponent. None otherwise; `compact_numeral` or `scan`
-/// then says more. At most a step a byte is taken.
+/// then says more. A step a byte is taken, and none where there are more than 16 bytes.
+#[inline]
 pub fn short_decimal<L: Ledger>(s: &[u8], steps: &mut Steps<L>) -> Option<ShortDecimal>
     ensures numeral { IfSome result (λ d. IsNumeral Dec s.now) }
     ensures parts { IfSome result (λ d. (p : Parts) → HasNumeral Dec s.now p → IsShortDecimal p d.negative d.whole d.fraction d.places) }
@@ -60,17 +85,11 @@ pub fn short_decimal<L: Ledger>(s: &[u8], steps: &mut Steps<L>) -> Option<ShortD
     ensures places { IfSome result (λ d. d.places ≤ 16) }
     ensures cost { steps.new ≤ steps.old + length s.now }
 {
-    if s.len() > 16 {
+    if s.len() > MAX_LENGTH {
         return None;
     }
-    let state = match read(s, Radix::Dec, steps) {
-        Ok(state) => state,
-        Err(_) => return None,
-    };
-    match check_complete(state) {
-        Ok(_) if !state.has_separator && state.whole_len + state.fraction_len <= 15 => {
-            Some(numbers_of(s, state))
-        }
-        _ => None,
-    }
+    steps.advance(s.len() as u64);
+    let (negative, first) = sign_at(s, 0);
+    let decimal = decimal_at(s, negative, first)?;
+    Some(decimal)
 }

@@ -1,0 +1,253 @@
+-- Stretches of a text, and the numbers that their digits spell.
+use Rattle.std.proofs.Common.{◌≡◌, ℕ, ◌+◌, ◌-◌, ◌*◌, ◌^◌, ◌%◌, ◌<◌, ◌≤◌, Bool, true, false, List, [], ◌∷◌, ◌++◌, length, drop, get_or, Option, Some, None, IfSome, option_to_list, ℤ, pos, neg_ℤ, cond, of_z, to_z, FitsSigned, w32, refl, sym, ap, ◌∙◌, ⊎_elim, arith, add-one, append_assoc, append-nil, length-append, mul-le-mul_right}
+use Rattle.std.proofs.lemmas.List.{drop_more, length_push, drop_all}
+use Rattle.std.proofs.lemmas.Bool.{cases_lt}
+use Rattle.std.proofs.lemmas.Int.{ints, to_z-of_z}
+use Rattle.std.proofs.lemmas.Nat.{pow-add}
+use Rattle.std.proofs.Math.Nat.{pow-zero, pow-suc, pow-le-pow_right}
+use Rattle.std.proofs.lemmas.Int.Digits.{digits_value_push, digits_push, digits_value-lt}
+use Rattle.std.specs.Char.{digit_value}
+use Rattle.std.specs.Str.Parse.{digits_value, digits_value_after}
+use Rattle.fixed_numeral.specs.Inner.Segments.{IsSignAt, IsDigitRun, IsChunk, IsMantissaAt, IsExponentAt, IsShortAt}
+use Rattle.fixed_numeral.specs.declared.radix.Radix.{Radix}
+use Rattle.fixed_numeral.specs.declared.radix.Radix.TheVariants.{Dec}
+use Rattle.fixed_numeral.specs.Numeral.{Parts, Exponent, HasNumeral, IsExponentOf, base, is_separator, is_two_separator, fraction_text}
+use Rattle.fixed_numeral.specs.PartNumbers.{exponent_value, IsShortDecimal, IsCompactNumeral}
+use Rattle.fixed_numeral.specs.Inner.Scan.{max_magnitude}
+use Rattle.fixed_numeral.proofs.NumeralLemmas.{parts, exponent, parts_unique}
+use Rattle.fixed_numeral.proofs.CompactLemmas.{compact_by, short_by, signed_fits}
+use Rattle.fixed_numeral.proofs.ScanLemmas.{digits_append}
+
+-- ---- numbers of digits after others
+pub value_after_append : (b n : ℕ) (xs ys : List ℕ) → digits_value_after b n (xs ++ ys) ≡ digits_value_after b (digits_value_after b n xs) ys
+value_after_append b n [] ys = refl
+value_after_append b n (x ∷ xs) ys = value_after_append b (n * b + digit_value x) xs ys
+
+pub value_after_is : (b n : ℕ) (ds : List ℕ) → digits_value_after b n ds ≡ n * b ^ length ds + digits_value b ds
+value_after_is b n [] = omega (arith, ap (λ i. n * i) (pow-zero b))
+value_after_is b n (d ∷ ds) =
+    value_after_is b (n * b + digit_value d) ds ∙
+    (let front = value_after_is b (0 * b + digit_value d) ds in
+    rw (pow-suc b (length ds)) (omega (arith, front)))
+
+-- ---- runs
+pub run_none : (b : ℕ) (bs : List ℕ) (from start : ℕ) → from ≤ length bs → IsDigitRun b bs from from start start
+run_none b bs from start l = record { digits = []; text = refl; count = omega arith; within = l; are_digits = tt; spelled = refl }
+
+pub run_joined : (b : ℕ) (bs : List ℕ) (from mid to start n m : ℕ) → IsDigitRun b bs from mid start n → IsDigitRun b bs mid to n m → IsDigitRun b bs from to start m
+run_joined b bs from mid to start n m p q = record {
+  digits = p.digits ++ q.digits;
+  text = p.text ∙ ap (λ ys. p.digits ++ ys) q.text ∙ sym (append_assoc p.digits q.digits (drop to bs));
+  count = omega (arith, length-append p.digits q.digits, p.count, q.count);
+  within = q.within;
+  are_digits = digits_append b p.digits q.digits p.are_digits q.are_digits;
+  spelled = q.spelled ∙ ap (λ i. digits_value_after b i q.digits) p.spelled ∙ sym (value_after_append b start p.digits q.digits);
+}
+
+pub run_after : (b : ℕ) (bs : List ℕ) (from to start number low scale : ℕ) → IsChunk b bs from to low scale → number ≡ start * scale + low → IsDigitRun b bs from to start number
+run_after b bs from to start number low scale h e = record {
+  digits = h.run.digits;
+  text = h.run.text;
+  count = h.run.count;
+  within = h.run.within;
+  are_digits = h.run.are_digits;
+  spelled = e ∙ rw (h.scale_is, h.run.spelled) (sym (value_after_is b start h.run.digits));
+}
+
+-- ---- chunks
+pub chunk_none : (b : ℕ) (bs : List ℕ) (from : ℕ) → from ≤ length bs → IsChunk b bs from from 0 1
+unfolding run_none
+chunk_none b bs from l = record { run = run_none b bs from 0 l; scale_is = sym (pow-zero b) }
+
+pub chunk_more : (b : ℕ) (bs : List ℕ) (from at n s d : ℕ) → IsChunk b bs from at n s → at < length bs → digit_value (get_or bs at 0) ≡ d → d < b → IsChunk b bs from (at + 1) (n * b + d) (s * b)
+chunk_more b bs from at n s d h l e below = record {
+  run = record {
+    digits = h.run.digits ++ get_or bs at 0 ∷ [];
+    text = h.run.text ∙ ap (λ ys. h.run.digits ++ ys) (drop_more bs at 0 l) ∙ sym (append_assoc h.run.digits (get_or bs at 0 ∷ []) (drop (at + 1) bs));
+    count = omega (arith, length_push h.run.digits (get_or bs at 0), h.run.count);
+    within = omega arith;
+    are_digits = digits_push b h.run.digits (get_or bs at 0) h.run.are_digits (omega arith);
+    spelled = sym (digits_value_push b h.run.digits (get_or bs at 0) ∙ omega (arith, e, ap (λ x. x * b) h.run.spelled));
+  };
+  scale_is = rw (length_push h.run.digits (get_or bs at 0)) (let more : b ^ (length h.run.digits + 1) ≡ b ^ length h.run.digits * b = rw add-one (pow-suc b (length h.run.digits)) in rw (more, ← h.scale_is) refl);
+}
+
+pub chunk_below : (b : ℕ) (bs : List ℕ) (from at n s : ℕ) → IsChunk b bs from at n s → n < s
+chunk_below b bs from at n s h = rw (h.scale_is, h.run.spelled) (digits_value-lt b h.run.digits h.run.are_digits)
+
+pub chunk_fits : (b : ℕ) (bs : List ℕ) (from at n s d : ℕ) → IsChunk b bs from at n s → s < 2 ^ 60 → b ≤ 16 → d < b → (n * b + d < 2 ^ 64) × (s * b < 2 ^ 64) × (n * b < 2 ^ 64)
+chunk_fits b bs from at n s d h l small below =
+    let under = chunk_below b bs from at n s h in
+    let one : (n + 1) * b ≤ s * b = mul-le-mul_right b (omega arith) in
+    let two : b * s ≤ 16 * s = mul-le-mul_right s small in
+    (omega arith, omega arith, omega arith)
+
+-- a digit below 10, by its distance from '0'
+pub near_digit : (b n : ℕ) → b < 256 → n ≤ 10 → (b + (256 - 48)) % 256 < n → digit_value b ≡ (b + (256 - 48)) % 256
+near_digit b n h s l = ⊎_elim (λ (k : b < 48). absurd (omega arith)) (λ (k : 48 ≤ b). from_zero b k (omega arith) (omega arith)) (cases_lt b 48)
+  where
+    from_zero : (b : ℕ) → 48 ≤ b → b < 58 → (b + 208) % 256 ≡ b - 48 → digit_value b ≡ (b + (256 - 48)) % 256
+    from_zero b k l e = grind arith
+
+pub digit_distance : (b : ℕ) → digit_value b < 10 → (b + (256 - 48)) % 256 ≡ digit_value b
+digit_distance b h = let e : (digit_value b ≡ b - 48) × (48 ≤ b) × (b < 58) = decimal_by b h in omega (arith, e.0, e.1, e.2)
+  where
+    decimal_by : (b : ℕ) → digit_value b < 10 → (digit_value b ≡ b - 48) × (48 ≤ b) × (b < 58)
+    decimal_by b h = (grind arith, grind arith, grind arith)
+
+-- ---- signs
+pub minus_stands : (bs : List ℕ) (from : ℕ) → from < length bs → get_or bs from 0 ≡ 45 → IsSignAt bs from (from + 1) true
+minus_stands bs from l e = record { sign = Some 45; text = drop_more bs from 0 l ∙ rw e refl; within = omega arith; is_sign = refl; is_negative = refl }
+
+pub plus_stands : (bs : List ℕ) (from : ℕ) → from < length bs → get_or bs from 0 ≡ 43 → IsSignAt bs from (from + 1) false
+plus_stands bs from l e = record { sign = Some 43; text = drop_more bs from 0 l ∙ rw e refl; within = omega arith; is_sign = refl; is_negative = refl }
+
+-- ---- mantissas
+at_end : (bs : List ℕ) (n : ℕ) → n ≡ length bs → drop n bs ≡ []
+at_end bs n e = drop_all n bs (omega arith)
+
+pub mantissa_whole : (b : ℕ) (bs : List ℕ) (from to number : ℕ) → IsDigitRun b bs from to 0 number → from < to → IsMantissaAt b bs from to number 0
+mantissa_whole b bs from to number h some = record {
+  whole = h.digits;
+  fraction = None;
+  text = h.text;
+  within = h.within;
+  whole_digits = h.are_digits;
+  fraction_digits = tt;
+  spelled = rw (append-nil h.digits) h.spelled;
+  places_are = refl;
+  some = rw (append-nil h.digits) (omega (arith, h.count));
+}
+
+pub mantissa_parted : (b : ℕ) (bs : List ℕ) (from point after to first number places : ℕ) → IsDigitRun b bs from point 0 first → point < length bs → get_or bs point 0 ≡ 46 → after ≡ point + 1 → IsDigitRun b bs after to first number → places + after ≡ to → from + 1 < to → IsMantissaAt b bs from to number places
+mantissa_parted b bs from point after to first number places h l e a k p some = record {
+  whole = h.digits;
+  fraction = Some k.digits;
+  text = h.text ∙ ap (λ ys. h.digits ++ ys) (drop_more bs point 0 l ∙ rw (e, ← a) (ap (λ ys. 46 ∷ ys) k.text));
+  within = k.within;
+  whole_digits = h.are_digits;
+  fraction_digits = k.are_digits;
+  spelled = k.spelled ∙ ap (λ i. digits_value_after b i k.digits) h.spelled ∙ sym (value_after_append b 0 h.digits k.digits);
+  places_are = omega (arith, k.count, p);
+  some = omega (arith, length-append h.digits k.digits, h.count, k.count, some, a);
+}
+
+-- ---- exponents
+pub exponent_none : (r : Radix) (bs : List ℕ) (from : ℕ) → from ≡ length bs → IsExponentAt r bs from (pos 0) false
+exponent_none r bs from e = record { exponent = None; text = at_end bs from e; is_exponent = tt; some = tt; is_number = refl; is_by_two = refl }
+
+pub exponent_stands : (r : Radix) (bs : List ℕ) (from after first to number : ℕ) (minus : Bool) → from < length bs → is_separator r (get_or bs from 0) ≡ true → after ≡ from + 1 → IsSignAt bs after first minus → IsDigitRun 10 bs first to 0 number → to ≡ length bs → first < to → number ≤ max_magnitude minus → IsExponentAt r bs from (cond minus (neg_ℤ (pos number)) (pos number)) (is_two_separator r (get_or bs from 0))
+exponent_stands r bs from after first to number minus l k a s d e some most = record {
+  exponent = Some (exponent (get_or bs from 0) s.sign d.digits);
+  text = drop_more bs from 0 l ∙ ap (λ ys. get_or bs from 0 ∷ ys) (rw (← a) (s.text ∙ ap (λ ys. option_to_list s.sign ++ ys) (d.text ∙ rw (at_end bs to e) (append-nil d.digits))));
+  is_exponent = record { separator = k; sign = s.is_sign; digits = d.are_digits; in_range = rw (← s.is_negative, ← d.spelled) (signed_fits minus number most) };
+  some = omega (arith, d.count, some);
+  is_number = rw (s.is_negative, d.spelled) refl;
+  is_by_two = refl;
+}
+
+-- ---- all of them
+record IsRead (r : Radix) (bs : List ℕ) (negative : Bool) (number places : ℕ) (x : ℤ) (two : Bool) : Type 0 where
+  pub parts : Parts
+  pub numeral : HasNumeral r bs parts
+  pub compact : IsCompactNumeral r parts negative number places x two
+
+read_is : (r : Radix) (bs : List ℕ) (first mid number places : ℕ) (negative two : Bool) (x : ℤ) → IsSignAt bs 0 first negative → IsMantissaAt (base r) bs first mid number places → IsExponentAt r bs mid x two → IsRead r bs negative number places x two
+read_is r bs first mid number places negative two x s m e = record {
+  parts = parts s.sign m.whole m.fraction e.exponent;
+  numeral = record {
+    beginning = record {
+      parts = record { sign = s.is_sign; whole = m.whole_digits; fraction = m.fraction_digits; exponent = e.is_exponent };
+      text = s.text ∙ ap (λ ys. option_to_list s.sign ++ ys) (m.text ∙ ap (λ ys. m.whole ++ (fraction_text m.fraction ++ ys)) e.text);
+    };
+    mantissa = m.some;
+    exponent = e.some;
+  };
+  compact = compact_by r (parts s.sign m.whole m.fraction e.exponent) negative number places x two s.is_negative m.spelled m.places_are e.is_number e.is_by_two;
+}
+
+pub read_numeral : (r : Radix) (bs : List ℕ) (first mid number places : ℕ) (negative two : Bool) (x : ℤ) → IsSignAt bs 0 first negative → IsMantissaAt (base r) bs first mid number places → IsExponentAt r bs mid x two → (p : Parts) × HasNumeral r bs p
+read_numeral r bs first mid number places negative two x s m e =
+    let h = read_is r bs first mid number places negative two x s m e in
+    (h.parts, h.numeral)
+
+pub read_parts : (r : Radix) (bs : List ℕ) (first mid number places : ℕ) (negative two : Bool) (x : ℤ) (p : Parts) → IsSignAt bs 0 first negative → IsMantissaAt (base r) bs first mid number places → IsExponentAt r bs mid x two → HasNumeral r bs p → IsCompactNumeral r p negative number places x two
+read_parts r bs first mid number places negative two x p s m e n =
+    let h = read_is r bs first mid number places negative two x s m e in
+    let same = parts_unique r bs p h.parts n.beginning h.numeral.beginning in
+    rw same h.compact
+
+-- ---- as the code has them
+exponent_fits : (r : Radix) (bs : List ℕ) (from : ℕ) (x : ℤ) (two : Bool) → IsExponentAt r bs from x two → FitsSigned w32 x
+exponent_fits r bs from x two h = by_cases h.exponent h.is_exponent h.is_number
+  where
+    by_cases : (e : Option Exponent) → IfSome e (IsExponentOf r) → x ≡ exponent_value e → FitsSigned w32 x
+    by_cases None k q = rw q (omega (arith, ints))
+    by_cases (Some e) k q = rw q k.in_range
+
+pub exponent_at : (r : Radix) (bs : List ℕ) (from first to number : ℕ) (minus : Bool) (x : ℤ) (two : Bool) → from < length bs → is_separator r (get_or bs from 0) ≡ true → IsSignAt bs (from + 1) first minus → IsDigitRun 10 bs first to 0 number → to ≡ length bs → (to ≡ first → ⊥) → number ≤ max_magnitude minus → x ≡ cond minus (neg_ℤ (pos number)) (pos number) → two ≡ is_two_separator r (get_or bs from 0) → IsExponentAt r bs from (to_z w32 (of_z w32 x)) two
+exponent_at r bs from first to number minus x two l k s d e ne most ex et =
+    let h = exponent_stands r bs from (from + 1) first to number minus l k refl s d e (omega (arith, d.count, ne)) most in
+    let same : to_z w32 (of_z w32 x) ≡ x = to_z-of_z w32 x (rw ex (signed_fits minus number most)) in
+    rw (same, ex, et) h
+
+pub parts_read : (r : Radix) (bs : List ℕ) (first mid number places : ℕ) (negative two : Bool) (x : ℤ) (p : Parts) → IsSignAt bs 0 first negative → IsMantissaAt (base r) bs first mid number places → IsExponentAt r bs mid x two → HasNumeral r bs p → IsCompactNumeral r p negative number places (to_z w32 (of_z w32 x)) two
+parts_read r bs first mid number places negative two x p s m e n =
+    let same : to_z w32 (of_z w32 x) ≡ x = to_z-of_z w32 x (exponent_fits r bs mid x two e) in
+    rw same (read_parts r bs first mid number places negative two x p s m e n)
+
+pub run_count : (b : ℕ) (bs : List ℕ) (from to start number : ℕ) → IsDigitRun b bs from to start number → from ≤ to
+run_count b bs from to start number h = omega (arith, h.count)
+
+-- ---- short decimals
+short_fits : (n m whole fraction s t : ℕ) → whole < s → fraction < t → s ≡ 10 ^ n → t ≡ 10 ^ m → n + m ≤ 16 → (fraction < 10 ^ m) × (whole * 10 ^ m + fraction < 10 ^ 16)
+short_fits n m whole fraction s t w f es et few =
+    let product : (whole + 1) * 10 ^ m ≤ 10 ^ n * 10 ^ m = mul-le-mul_right (10 ^ m) (omega arith) in
+    let most : 10 ^ (n + m) ≤ 10 ^ 16 = pow-le-pow_right (omega arith) few in
+    (omega arith, omega (arith, product, pow-add 10 n m, most))
+
+pub short_whole : (bs : List ℕ) (first to whole scale : ℕ) (negative : Bool) → IsSignAt bs 0 first negative → IsChunk 10 bs first to whole scale → to ≡ length bs → (to ≡ first → ⊥) → length bs ≤ 16 → IsShortAt bs negative whole 0 0
+short_whole bs first to whole scale negative s h e ne l =
+    let p : Parts = parts s.sign h.run.digits None None in
+    let fits = short_fits (length h.run.digits) 0 whole 0 scale 1 (chunk_below 10 bs first to whole scale h) (omega arith) h.scale_is (sym (pow-zero 10)) (omega (arith, h.run.count)) in
+    record {
+      parts = p;
+      numeral = record {
+        beginning = record {
+          parts = record { sign = s.is_sign; whole = h.run.are_digits; fraction = tt; exponent = tt };
+          text = s.text ∙ ap (λ ys. option_to_list s.sign ++ ys) (h.run.text ∙ ap (λ ys. h.run.digits ++ ys) (at_end bs to e));
+        };
+        mantissa = rw (append-nil h.run.digits) (omega (arith, h.run.count, ne));
+        exponent = tt;
+      };
+      short = short_by p negative whole 0 0 s.is_negative h.run.spelled refl refl refl;
+      below = fits.0;
+      digits = fits.1;
+      few = omega arith;
+    }
+
+pub short_parted : (bs : List ℕ) (first point to whole scale fraction scale2 places : ℕ) (negative : Bool) → IsSignAt bs 0 first negative → IsChunk 10 bs first point whole scale → point < length bs → get_or bs point 0 ≡ 46 → IsChunk 10 bs (point + 1) to fraction scale2 → to ≡ length bs → first + 1 < length bs → places + (point + 1) ≡ length bs → length bs ≤ 16 → IsShortAt bs negative whole fraction places
+short_parted bs first point to whole scale fraction scale2 places negative s h l dot k e some pl short =
+    let p : Parts = parts s.sign h.run.digits (Some k.run.digits) None in
+    let long : places ≡ length k.run.digits = omega (arith, k.run.count, pl, e) in
+    let fits = short_fits (length h.run.digits) places whole fraction scale scale2 (chunk_below 10 bs first point whole scale h) (chunk_below 10 bs (point + 1) to fraction scale2 k) h.scale_is (rw long k.scale_is) (omega (arith, h.run.count, k.run.count, long)) in
+    record {
+      parts = p;
+      numeral = record {
+        beginning = record {
+          parts = record { sign = s.is_sign; whole = h.run.are_digits; fraction = k.run.are_digits; exponent = tt };
+          text = s.text ∙ ap (λ ys. option_to_list s.sign ++ ys) (h.run.text ∙ ap (λ ys. h.run.digits ++ ys) (drop_more bs point 0 l ∙ rw dot (ap (λ ys. 46 ∷ ys) (k.run.text ∙ ap (λ ys. k.run.digits ++ ys) (at_end bs to e)))));
+        };
+        mantissa = omega (arith, length-append h.run.digits k.run.digits, h.run.count, k.run.count, some, l, e);
+        exponent = tt;
+      };
+      short = short_by p negative whole fraction places s.is_negative h.run.spelled k.run.spelled long refl;
+      below = fits.0;
+      digits = fits.1;
+      few = omega (arith, h.run.count, k.run.count, long);
+    }
+
+pub short_parts : (bs : List ℕ) (negative : Bool) (whole fraction places : ℕ) (p : Parts) → IsShortAt bs negative whole fraction places → HasNumeral Dec bs p → IsShortDecimal p negative whole fraction places
+short_parts bs negative whole fraction places p h n =
+    let same = parts_unique Dec bs p h.parts n.beginning h.numeral.beginning in
+    rw same h.short

@@ -1,0 +1,59 @@
+-- Stretches of a text, for the functions that read numbers straight from its bytes.
+use Rattle.std.specs.Prelude.{◌≡◌, ℕ, ◌+◌, ◌*◌, ◌^◌, ◌<◌, ◌≤◌, Bool, IsTrue, List, ◌++◌, length, drop, Option, IfSome, option_to_list, ℤ}
+use Rattle.std.specs.Str.Parse.{AllDigits, digits_value, digits_value_after}
+use Rattle.fixed_numeral.specs.declared.radix.Radix.{Radix}
+use Rattle.fixed_numeral.specs.declared.radix.Radix.TheVariants.{Dec}
+use Rattle.fixed_numeral.specs.Numeral.{Parts, Exponent, IsExponentOf, HasNumeral, is_sign, is_minus, fraction_text, exponent_text, digits_behind}
+use Rattle.fixed_numeral.specs.PartNumbers.{exponent_value, is_power_of_two, IsShortDecimal}
+
+-- the bytes between two places are an optional sign
+pub record IsSignAt (bs : List ℕ) (from to : ℕ) (negative : Bool) : Type 0 where
+  pub sign : Option ℕ
+  pub text : drop from bs ≡ option_to_list sign ++ drop to bs
+  pub within : to ≤ length bs
+  pub is_sign : IfSome sign (λ b. IsTrue (is_sign b))
+  pub is_negative : negative ≡ is_minus sign
+
+-- the bytes between two places are digits, and after those of `start` they spell this number
+pub record IsDigitRun (b : ℕ) (bs : List ℕ) (from to start number : ℕ) : Type 0 where
+  pub digits : List ℕ
+  pub text : drop from bs ≡ digits ++ drop to bs
+  pub count : from + length digits ≡ to
+  pub within : to ≤ length bs
+  pub are_digits : AllDigits b digits
+  pub spelled : number ≡ digits_value_after b start digits
+
+-- the same, and scale is the base to the power of their count
+pub record IsChunk (b : ℕ) (bs : List ℕ) (from to number scale : ℕ) : Type 0 where
+  pub run : IsDigitRun b bs from to 0 number
+  pub scale_is : scale ≡ b ^ length run.digits
+
+-- the bytes between two places are the digits of a mantissa and its point
+pub record IsMantissaAt (b : ℕ) (bs : List ℕ) (from to number places : ℕ) : Type 0 where
+  pub whole : List ℕ
+  pub fraction : Option (List ℕ)
+  pub text : drop from bs ≡ whole ++ (fraction_text fraction ++ drop to bs)
+  pub within : to ≤ length bs
+  pub whole_digits : AllDigits b whole
+  pub fraction_digits : IfSome fraction (AllDigits b)
+  pub spelled : number ≡ digits_value b (whole ++ digits_behind fraction)
+  pub places_are : places ≡ length (digits_behind fraction)
+  pub some : 0 < length (whole ++ digits_behind fraction)
+
+-- the bytes from a place on are an exponent or nothing
+pub record IsExponentAt (r : Radix) (bs : List ℕ) (from : ℕ) (number : ℤ) (by_two : Bool) : Type 0 where
+  pub exponent : Option Exponent
+  pub text : drop from bs ≡ exponent_text exponent
+  pub is_exponent : IfSome exponent (IsExponentOf r)
+  pub some : IfSome exponent (λ e. 0 < length e.digits)
+  pub is_number : number ≡ exponent_value exponent
+  pub is_by_two : by_two ≡ is_power_of_two r exponent
+
+-- the whole text is a decimal without an exponent, of at most 16 bytes
+pub record IsShortAt (bs : List ℕ) (negative : Bool) (whole fraction places : ℕ) : Type 0 where
+  pub parts : Parts
+  pub numeral : HasNumeral Dec bs parts
+  pub short : IsShortDecimal parts negative whole fraction places
+  pub below : fraction < 10 ^ places
+  pub digits : whole * 10 ^ places + fraction < 10 ^ 16
+  pub few : places ≤ 16

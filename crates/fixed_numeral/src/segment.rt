@@ -1,0 +1,150 @@
+//! Signs and digits of a text, read straight into numbers.
+//!
+//! Digits are taken in chunks that fit a word: up to 19 decimal digits, eight at a time, 15 of radix 16, 20 of radix 8 and
+//! 60 of radix 2. A longer run joins its chunks in 128 bits.
+
+ghost use Rattle.std.specs.Prelude.{◌≡◌, ◌+◌, ◌*◌, ◌^◌, ◌<◌, ◌≤◌, IfSome, length};
+ghost use Rattle.std.specs.Char.{digit_value};
+ghost use Rattle.fixed_numeral.specs.Inner.Segments.{IsSignAt, IsDigitRun, IsChunk};
+
+use crate::digit_slice::{is_digit, value_of_digit};
+
+/// Digits whose number fits a word.
+#[derive(Clone, Copy)]
+pub(crate) struct Chunk {
+    /// The number that they spell.
+    pub number: u64,
+    /// The base to the power of their count.
+    pub scale: u64,
+    /// The place after them.
+    pub end: usize,
+}
+
+/// Digits whose number fits 128 bits.
+#[derive(Clone, Copy)]
+pub(crate) struct Run {
+    /// The number that they spell, after those that were read before.
+    pub number: u128,
+    /// The place after them.
+    pub end: usize,
+}
+
+/// A chunk takes one more digit as long as its scale is below this, so that the next scale fits a word.
+const SCALE_LIMIT: u64 = 0x1000_0000_0000_0000;
+
+/// Whether the sign at a place is a minus, and the place after the sign.
+#[inline(always)]
+pub(crate) fn sign_at(bytes: &[u8], from: usize) -> (bool, usize)
+    requires { from ≤ length bytes.now }
+    ensures { IsSignAt bytes.now from result.1 result.0 }
+{
+    if from == bytes.len() {
+        return (false, from);
+    }
+    let first = bytes[from];
+    if first == b'-' {
+        (true, from + 1)
+    } else if first == b'+' {
+        (false, from + 1)
+    } else {
+        (false, from)
+    }
+}
+
+/// The value of a byte that is a digit of the base; of any other byte something that is not below the base.
+#[inline(always)]
+fn digit_below(b: u8, base: u64) -> u64
+    requires { base ≤ 16 }
+    ensures digit { result < base → digit_value b ≡ result }
+    ensures value { digit_value b < base → result ≡ digit_value b }
+{
+    if base <= 10 {
+        u64::from(b.wrapping_sub(b'0'))
+    } else if is_digit(b) {
+        u64::from(value_of_digit(b))
+    } else {
+        16
+    }
+}
+
+/// The digits from a place on, as many as fit a word.
+#[inline(always)]
+pub(crate) fn digit_chunk(bytes: &[u8], base: u64, from: usize) -> Chunk
+    requires least { 2 ≤ base }
+    requires most { base ≤ 16 }
+    requires place { from ≤ length bytes.now }
+    ensures chunk { IsChunk base bytes.now from result.end result.number result.scale }
+    ensures below { result.number < result.scale }
+{
+    let mut number: u64 = 0;
+    let mut scale: u64 = 1;
+    let mut at = from;
+    while at < bytes.len() && scale < SCALE_LIMIT && digit_below(bytes[at], base) < base {
+        number = number * base + digit_below(bytes[at], base);
+        scale = scale * base;
+        at += 1;
+    }
+    Chunk {
+        number,
+        scale,
+        end: at,
+    }
+}
+
+/// A number with the digits of a chunk after its own. None where it does not fit 128 bits.
+#[inline(always)]
+fn with_chunk(number: u128, chunk: Chunk) -> Option<u128>
+    requires { chunk.number < chunk.scale }
+    ensures { IfSome result (λ n. n ≡ number * chunk.scale + chunk.number) }
+{
+    if number < 0x1_0000_0000_0000_0000 {
+        return Some(number * u128::from(chunk.scale) + u128::from(chunk.number));
+    }
+    match number.checked_mul(u128::from(chunk.scale)) {
+        Some(product) => product.checked_add(u128::from(chunk.number)),
+        None => None,
+    }
+}
+
+/// The number of the digits from a place on, after those of a number. None where it does not fit 128 bits.
+#[inline(always)]
+pub(crate) fn digit_run(bytes: &[u8], base: u64, from: usize, start: u128) -> Option<Run>
+    requires least { 2 ≤ base }
+    requires most { base ≤ 16 }
+    requires place { from ≤ length bytes.now }
+    ensures { IfSome result (λ r. IsDigitRun base bytes.now from r.end start r.number) }
+{
+    let chunk = digit_chunk(bytes, base, from);
+    match with_chunk(start, chunk) {
+        Some(number) if chunk.scale < SCALE_LIMIT => Some(Run {
+            number,
+            end: chunk.end,
+        }),
+        Some(_) => long_digit_run(bytes, base, from, start),
+        None => None,
+    }
+}
+
+/// The number of digits that are many. Apart from the path of most numerals.
+#[inline(never)]
+fn long_digit_run(bytes: &[u8], base: u64, from: usize, start: u128) -> Option<Run>
+    requires least { 2 ≤ base }
+    requires most { base ≤ 16 }
+    requires place { from ≤ length bytes.now }
+    ensures { IfSome result (λ r. IsDigitRun base bytes.now from r.end start r.number) }
+{
+    let mut number = start;
+    let mut at = from;
+    while at < bytes.len() {
+        let chunk = digit_chunk(bytes, base, at);
+        if chunk.end <= at {
+            return Some(Run { number, end: at });
+        }
+        match with_chunk(number, chunk) {
+            Some(next) => number = next,
+            None => return None,
+        }
+        at = chunk.end;
+    }
+    Some(Run { number, end: at })
+}
