@@ -78,6 +78,9 @@ candidate_above block count frac fives number e most l n =
       most = most;
     }
 
+pub candidate_by : (block count frac fives q rest : ℕ) → fives ≡ 5 ^ count → fives < 2 ^ 63 → count ≤ frac → q * fives + rest ≡ block * 2 ^ (frac - count) → rest < fives → IsCandidate block count frac q rest fives (frac - count)
+candidate_by block count frac fives q rest e most l split small = record { split = split; small = small; scale = scale_up count frac fives e l; most = most }
+
 -- the quotient by five and two at once
 both : (block two fives : ℕ) → 0 < fives → 0 < two → block / two / fives ≡ block / (fives * two)
 both block two fives p q = div-div-eq-div-mul block two fives ∙ ap (λ x. block / x) (let z : two * fives ≡ fives * two = omega arith in z)

@@ -6,3 +6,4 @@ pub mod SideLemmas
 pub mod WholeLemmas
 pub mod ReadLemmas
 pub mod MultipleLemmas
+pub mod QuickLemmas

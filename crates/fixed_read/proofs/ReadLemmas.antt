@@ -1,17 +1,18 @@
 -- A read number, its images and whether it is out of range.
-use Rattle.std.proofs.Common.{◌≡◌, ℕ, zero, suc, ◌+◌, ◌-◌, ◌*◌, ◌^◌, ◌<◌, ◌≤◌, ◌⊎◌, ◌↔◌, Bool, true, false, IsTrue, List, length, refl, sym, ap, ◌∙◌, arith, pow_pos, inl, inr, ⊎_elim, mul-le-mul_right, ℤ, pos, neg_ℤ, ◌+ℤ◌, ◌≤ℤ◌, IfSome, Option, Some, None, Result, Ok, Err, IsOk, IfOk, IfErr}
+use Rattle.std.proofs.Common.{◌≡◌, ℕ, zero, suc, ◌+◌, ◌-◌, ◌*◌, ◌^◌, ◌<◌, ◌≤◌, ◌⊎◌, ◌↔◌, Bool, true, false, IsTrue, List, length, refl, sym, ap, subst, ◌∙◌, arith, pow_pos, inl, inr, ⊎_elim, mul-le-mul_right, ℤ, pos, neg_ℤ, ◌+ℤ◌, ◌≤ℤ◌, IfSome, Option, Some, None, Result, Ok, Err, IsOk, IfOk, IfErr}
 use Rattle.std.specs.Prelude.{◌<ℤ◌}
 use Rattle.std.proofs.lemmas.Int.{ints}
 use Rattle.std.proofs.lemmas.Nat.{pow-add}
 use Rattle.std.proofs.Math.Nat.{one-le-pow, pow-succ', pow-le-pow_right}
 use Rattle.fixed_bits.specs.Images.{IsWrapped, IsSaturated, IsImage, DiffersByMultiple}
+use Rattle.fixed_bits.specs.Rounded.{IsRounded}
 use Rattle.fixed_bits.specs.Ranges.{IsInRange, IsOutOfRange, IsWidth, lowest, greatest}
 use Rattle.fixed_bits.specs.declared.mode.ReadMode.{ReadMode}
 use Rattle.fixed_bits.specs.declared.format.Policy.{Policy}
 use Rattle.fixed_numeral.specs.Numeral.{Parts, base, is_minus, signed}
 use Rattle.fixed_numeral.specs.Scanned.{IsScanned}
-use Rattle.fixed_numeral.specs.Spelled.{spelled}
-use Rattle.fixed_numeral.specs.Value.{magnitude}
+use Rattle.fixed_numeral.specs.Spelled.{spelled, IsSameNumber}
+use Rattle.fixed_numeral.specs.Value.{Fraction, magnitude}
 use Rattle.fixed_numeral.specs.declared.radix.Radix.{Radix}
 use Rattle.fixed_numeral.specs.declared.radix.Radix.TheVariants.{Bin, Oct, Dec, Hex}
 use Rattle.fixed_numeral.proofs.ValueLemmas.{magnitude_pos}
@@ -25,7 +26,7 @@ use Rattle.fixed_read.specs.declared.read_number.ReadNumber.{ReadNumber}
 use Rattle.fixed_read.specs.Laws.{ReadNumberIsTheOne}
 use Rattle.fixed_read.specs.Sides.{side}
 use Rattle.fixed_read.specs.Steps.{IsMagnitude, IsSplitNumeral}
-use Rattle.fixed_read.proofs.MultipleLemmas.{multiple_same}
+use Rattle.fixed_read.proofs.QuickLemmas.{magnitude_same}
 use Rattle.fixed_read.proofs.SideLemmas.{to_rounded}
 
 -- ---- multiples
@@ -221,30 +222,27 @@ module _ (mode : ReadMode) (r : Radix) (Has : Parts → Type 0) (f : ℕ) (sign 
   number_is c same p h = rw (same (reading p h).number (reading p h).holds) (read_at p h)
 
 -- ---- of a numeral
-base_some : (r : Radix) → 0 < base r
+pub base_some : (r : Radix) → 0 < base r
 base_some Bin = omega arith
 base_some Oct = omega arith
 base_some Dec = omega arith
 base_some Hex = omega arith
 
-scaled_cross : (n d m k t : ℕ) → n * k ≡ m * d → n * t * k ≡ m * t * d
-scaled_cross n d m k t e = omega (arith, ap (λ x. x * t) e)
+-- the reading of a numeral whose magnitude is a number that was rounded
+pub reading_from : (mode : ReadMode) (r : Radix) (p : Parts) (number : Fraction) (ulps : Ulps) (found : ReadNumber) → found.negative ≡ is_minus p.sign → 0 < number.den → IsSameNumber number (magnitude r p) → IsMagnitude (side mode found.negative) number found.format.frac ulps → found.low ≡ ulps.low → found.has_high_bits ≡ ulps.has_high_bits → found.exact ≡ ulps.is_exact → IsReading mode r p found
+reading_from mode r p number ulps found sign some same mag low high exact =
+    let own = magnitude_same (side mode found.negative) number (magnitude r p) found.format.frac ulps some (magnitude_pos r p) same mag in
+    let rounded = to_rounded mode found.negative _ _ _ own.to in
+    record {
+      number = with_sign found.negative (own.high * 2 ^ 64 + ulps.low);
+      read = record { steps = own.high * 2 ^ 64 + ulps.low; rounded = subst (λ s. IsRounded mode s ((magnitude r p).num * 2 ^ found.format.frac) (magnitude r p).den (own.high * 2 ^ 64 + ulps.low)) sign rounded; value = ap (λ s. with_sign s (own.high * 2 ^ 64 + ulps.low)) sign };
+      holds = record { high = own.high; value = rw low refl; over = rw high own.over };
+      sign = sign;
+      exact = rw exact own.exact;
+    }
 
 pub reading_is : (mode : ReadMode) (r : Radix) (p : Parts) (w f : List ℕ) (shift : ℕ) (ulps : Ulps) (found : ReadNumber) → IsScanned r p found.negative w f shift → IsMagnitude (side mode found.negative) (spelled (base r) w f shift) found.format.frac ulps → found.low ≡ ulps.low → found.has_high_bits ≡ ulps.has_high_bits → found.exact ≡ ulps.is_exact → IsReading mode r p found
-reading_is mode r p w f shift ulps found h mag low high exact =
-    let cross = scaled_cross (spelled (base r) w f shift).num (spelled (base r) w f shift).den (magnitude r p).num (magnitude r p).den (2 ^ found.format.frac) h.value in
-    let some : 0 < (spelled (base r) w f shift).den = one-le-pow (length f) (base r) (base_some r) in
-    let rounded = rounded_same mode found.negative ((spelled (base r) w f shift).num * 2 ^ found.format.frac) (spelled (base r) w f shift).den ((magnitude r p).num * 2 ^ found.format.frac) (magnitude r p).den (mag.high * 2 ^ 64 + ulps.low) some (magnitude_pos r p) cross (to_rounded mode found.negative _ _ _ mag.to) in
-    record {
-      number = with_sign found.negative (mag.high * 2 ^ 64 + ulps.low);
-      read = record { steps = mag.high * 2 ^ 64 + ulps.low; rounded = rw h.sign at rounded; value = ap (λ s. with_sign s (mag.high * 2 ^ 64 + ulps.low)) h.sign };
-      holds = record { high = mag.high; value = rw low refl; over = rw high mag.over };
-      sign = h.sign;
-      exact = rw exact (
-        λ t. multiple_same ((spelled (base r) w f shift).num * 2 ^ found.format.frac) (spelled (base r) w f shift).den ((magnitude r p).num * 2 ^ found.format.frac) (magnitude r p).den some cross (mag.exact.0 t),
-        λ m. mag.exact.1 (multiple_same ((magnitude r p).num * 2 ^ found.format.frac) (magnitude r p).den ((spelled (base r) w f shift).num * 2 ^ found.format.frac) (spelled (base r) w f shift).den (magnitude_pos r p) (sym cross) m),
-      );
-    }
+reading_is mode r p w f shift ulps found h mag low high exact = reading_from mode r p (spelled (base r) w f shift) ulps found h.sign (one-le-pow (length f) (base r) (base_some r)) h.value mag low high exact
 
 -- ---- what a scan says of its views
 pub split_numeral : (r : Radix) (Has : Parts → Type 0) (negative : Bool) (w f : List ℕ) (shift : ℕ) → ((p : Parts) × Has p) → ((p : Parts) → Has p → IsScanned r p negative w f shift) → IsSplitNumeral r w f shift

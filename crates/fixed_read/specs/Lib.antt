@@ -4,3 +4,4 @@ pub mod Steps
 pub mod Blocks
 pub mod Laws
 pub mod Magnitudes
+pub mod Quick

@@ -26,6 +26,14 @@ pub record IsSettled (num den p : ℕ) (tail : Tail) : Type 0 where
   pub split : num ≡ p * den + rest
   pub left : IsTail tail rest den
 
+-- num / den is q ulps of 2^-frac and rest / unit of one
+pub record IsSplitUlps (num den frac q : ℕ) (tail : Tail) : Type 0 where
+  pub rest : ℕ
+  pub unit : ℕ
+  pub some : 0 < unit
+  pub split : num * 2 ^ frac * unit ≡ (q * unit + rest) * den
+  pub left : IsTail tail rest unit
+
 -- 0.DS is p steps of 2^-t and rest / den of a step
 pub record IsPart (b : ℕ) (ds : List ℕ) (t p : ℕ) (tail : Tail) : Type 0 where
   pub rest : ℕ

@@ -1,15 +1,16 @@
 //! How many steps a decimal fraction is, and what is left of a step.
 
-ghost use Rattle.std.specs.Prelude.{◌≡◌, ◌+◌, ◌-◌, ◌*◌, ◌^◌, ◌<◌, ◌≤◌, ◌⊎◌, ◌↔◌, [], IsTrue, List, ℕ, drop, false, length, MatchOption};
+ghost use Rattle.std.specs.Prelude.{◌≡◌, ◌+◌, ◌-◌, ◌*◌, ◌/◌, ◌^◌, ◌<◌, ◌≤◌, ◌⊎◌, ◌↔◌, [], IsTrue, List, ℕ, drop, false, length, MatchOption};
 ghost use Rattle.std.specs.Int.Digits.{number_from_digits, AllBelowBase};
 ghost use Rattle.std.specs.Ordering.{MatchOrdering};
 ghost use Rattle.fixed_numeral.specs.Place.{NoTrailingZero};
 ghost use Rattle.fixed_read.specs.Blocks.{IsCandidate, IsLed, part, whole};
-ghost use Rattle.fixed_read.specs.Steps.{IsPart, IsSettled, IsTail};
+ghost use Rattle.fixed_read.specs.Steps.{IsPart, IsSettled, IsSplitUlps, IsTail};
 
 use crate::digits::{is_longer, leading, leading_long, power_of_ten};
-use crate::tail::Tail;
-use crate::words::{narrow, power, scaled, scaled_narrow};
+use crate::reciprocal::{FIVE_TO_27, divided_by_five_to_27};
+use crate::tail::{Tail, has_rest, tail_of};
+use crate::words::{narrow, parted, power, scaled, scaled_narrow};
 use fixed_numeral::DigitView;
 use fixed_steps::Steps;
 use std::cmp::Ordering;
@@ -81,13 +82,95 @@ fn candidate_wide(block: u128, frac: u32) -> Candidate
     ensures bits { result.bits ≡ frac - 27 }
 {
     let bits = frac - 27;
-    let number = scaled(block, bits);
-    let whole = number / 7450580596923828125;
+    let (steps, rest) = divided_by_five_to_27(scaled(block, bits));
     Candidate {
-        steps: narrow(whole),
-        rest: narrow(number - whole * 7450580596923828125),
-        unit: 7450580596923828125,
+        steps,
+        rest,
+        unit: FIVE_TO_27,
         bits,
+    }
+}
+
+/// The candidate of a block of 13 digits.
+#[inline]
+fn candidate_of_13(block: u64, frac: u32) -> Candidate
+    requires block { block < 10 ^ 13 }
+    requires frac { frac ≤ 64 }
+    ensures { IsCandidate block 13 frac result.steps result.rest result.unit result.bits }
+{
+    if frac <= 32 {
+        candidate_narrow(block, frac)
+    } else {
+        candidate_fine(block, frac)
+    }
+}
+
+/// How many steps of 2^-frac a block of 13 digits makes, and what is left of a step.
+#[inline]
+fn block_of_13(block: u64, frac: u32) -> (u64, Tail)
+    requires block { block < 10 ^ 13 }
+    requires frac { frac ≤ 64 }
+    ensures split { IsSplitUlps block (10 ^ 13) frac result.0 result.1 }
+    ensures below { result.0 < 2 ^ frac }
+{
+    let found = candidate_of_13(block, frac);
+    (found.steps, tail_of_share(found.rest, found.unit))
+}
+
+/// Ulps and what is left of one, in ulps that are 2^bits times as coarse.
+fn coarser(ulps: u64, tail: Tail, bits: u32) -> (u64, Tail)
+    requires some { 0 < bits }
+    requires bits { bits ≤ 32 }
+    ensures split { (num den frac : ℕ) → IsSplitUlps num den (frac + bits) ulps tail → IsSplitUlps num den frac result.0 result.1 }
+    ensures whole { result.0 ≡ ulps / 2 ^ bits }
+{
+    let (whole, low) = parted(u128::from(ulps), bits);
+    (narrow(whole), tail_of(low, power(bits - 1), has_rest(tail)))
+}
+
+/// How many steps of 2^-frac a block of 27 digits makes, and what is left of a step, for at least 32 bits.
+#[inline]
+fn fine_block_of_27(block: u128, frac: u32) -> (u64, Tail)
+    requires block { block < 10 ^ 27 }
+    requires least { 32 ≤ frac }
+    requires frac { frac ≤ 64 }
+    ensures split { IsSplitUlps block (10 ^ 27) frac result.0 result.1 }
+    ensures below { result.0 < 2 ^ frac }
+{
+    let found = candidate_wide(block, frac);
+    (found.steps, tail_of_share(found.rest, found.unit))
+}
+
+/// How many steps of 2^-frac a block of 27 digits makes, and what is left of a step.
+#[inline]
+fn block_of_27(block: u128, frac: u32) -> (u64, Tail)
+    requires block { block < 10 ^ 27 }
+    requires frac { frac ≤ 64 }
+    ensures split { IsSplitUlps block (10 ^ 27) frac result.0 result.1 }
+    ensures below { result.0 < 2 ^ frac }
+{
+    if frac >= 32 {
+        return fine_block_of_27(block, frac);
+    }
+    let (ulps, tail) = fine_block_of_27(block, 32);
+    coarser(ulps, tail, 32 - frac)
+}
+
+/// How many steps of 2^-frac are in fraction / 10^places, and what is left of a step.
+#[inline]
+pub fn ulps_of_fraction(fraction: u128, places: u32, frac: u32) -> (u64, Tail)
+    requires fraction { fraction < 10 ^ places }
+    requires places { places ≤ 27 }
+    requires frac { frac ≤ 64 }
+    ensures split { IsSplitUlps fraction (10 ^ places) frac result.0 result.1 }
+    ensures below { result.0 < 2 ^ frac }
+{
+    if places <= 13 {
+        let block = narrow(fraction) * power_of_ten(13 - places);
+        block_of_13(block, frac)
+    } else {
+        let block = fraction * u128::from(power_of_ten(27 - places));
+        block_of_27(block, frac)
     }
 }
 

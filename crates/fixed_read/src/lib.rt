@@ -7,9 +7,11 @@ mod digits;
 pub mod laws;
 mod literal;
 mod magnitude;
+mod quick;
 mod range;
 mod read;
 mod read_number;
+mod reciprocal;
 mod side;
 mod tail;
 #[cfg(test)]

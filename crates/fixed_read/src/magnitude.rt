@@ -6,14 +6,14 @@ ghost use Rattle.fixed_numeral.specs.Numeral.{base};
 ghost use Rattle.fixed_numeral.specs.Scanned.{bits_of};
 ghost use Rattle.fixed_numeral.specs.Spelled.{spelled};
 ghost use Rattle.fixed_numeral.specs.Place.{NoLeadingZero, NoTrailingZero};
-ghost use Rattle.fixed_read.specs.Steps.{IsPart, IsMagnitude, IsSplitNumeral};
+ghost use Rattle.fixed_read.specs.Steps.{IsPart, IsMagnitude, IsSplitNumeral, IsSplitUlps};
 
 use crate::bits::bit_part;
 use crate::decimal::{decimal_part, narrow_part};
 use crate::digits::{all_of, is_over, trailing};
 use crate::side::Side;
 use crate::tail::{Tail, is_nothing, up, up_narrow};
-use crate::words::{parted, scaled, scaled_narrow};
+use crate::words::{is_some, parted, scaled, scaled_narrow};
 use fixed_numeral::{DigitView, Radix, Scanned};
 use fixed_steps::Steps;
 use std::sync::ledger::Ledger;
@@ -27,6 +27,21 @@ pub struct Ulps {
     pub has_high_bits: bool,
     /// Whether it was a whole number of ulps before it was rounded.
     pub is_exact: bool,
+}
+
+/// The magnitude of that many ulps and what is left of one, rounded.
+#[inline]
+pub fn rounded_ulps(count: u128, tail: Tail, side: Side) -> Ulps
+    requires { count + 1 < 2 ^ 128 }
+    ensures { (num den frac : ℕ) → 0 < den → IsSplitUlps num den frac count tail → IsMagnitude side (record { num = num; den = den }) frac result }
+{
+    let total = count + up(tail, side, count % 2);
+    let (high, low) = parted(total, 64);
+    Ulps {
+        low,
+        has_high_bits: is_some(high),
+        is_exact: is_nothing(tail),
+    }
 }
 
 /// The magnitude of whole digits and the ulps of the fraction behind them, for each base.

@@ -7,16 +7,27 @@ ghost use Rattle.fixed_bits.specs.Ranges.{IsInRange, IsOutOfRange, IsWide};
 ghost use Rattle.fixed_bits.specs.declared.mode.ReadMode.TheVariants.{NearestEven};
 ghost use Rattle.fixed_numeral.specs.Cause.{HasCause};
 ghost use Rattle.fixed_numeral.specs.Literal.{HasLiteral, HasLiteralCause, IsLiteral, literal_radix};
-ghost use Rattle.fixed_numeral.specs.Numeral.{Parts, HasNumeral, IsNumeral};
+ghost use Rattle.fixed_numeral.specs.Numeral.{Parts, HasNumeral, IsNumeral, is_minus};
+ghost use Rattle.fixed_numeral.specs.Spelled.{IsSameNumber};
+ghost use Rattle.fixed_numeral.specs.Value.{Fraction, magnitude};
+ghost use Rattle.fixed_numeral.specs.declared.radix.Radix.{Radix};
+ghost use Rattle.fixed_bits.specs.declared.mode.ReadMode.{ReadMode};
+ghost use Rattle.fixed_read.specs.Sides.{side};
+ghost use Rattle.fixed_numeral.specs.PartNumbers.{IsCompactNumeral, IsShortDecimal};
 ghost use Rattle.fixed_numeral.specs.Scanned.{IsScanned};
+ghost use Rattle.fixed_numeral.specs.declared.radix.Radix.TheVariants.{Dec};
 ghost use Rattle.fixed_read.specs.Reading.{IsReading, HoldsNumber, with_sign};
-ghost use Rattle.fixed_read.specs.Steps.{IsSplitNumeral};
+ghost use Rattle.fixed_read.specs.Steps.{IsMagnitude, IsSplitNumeral};
 
-use crate::magnitude::magnitude;
+use crate::magnitude::{Ulps, magnitude};
+use crate::quick::{compact_ulps, short_decimal_of, ulps_of_decimal};
 use crate::range::{greatest_magnitude, is_above, nearer_end, with_sign, wrapping_image};
 use crate::side::side_of;
 use fixed_bits::{Format, Policy, ReadMode};
-use fixed_numeral::{ParseFixedError, Radix, Scanned, scan, scan_lit};
+use fixed_numeral::{
+    CompactNumeral, ParseFixedError, Radix, Scanned, ShortDecimal, compact_numeral, scan, scan_lit,
+    short_decimal,
+};
 use fixed_steps::Steps;
 use std::marker::Brand;
 use std::sync::ledger::{Blank, Ledger};
@@ -129,13 +140,135 @@ fn number_of<'a, L: Ledger>(
     ensures cost { steps.new ≤ steps.old + 2 * format.frac + 93 }
 {
     let negative = found.neg();
-    let magnitude = magnitude(found, radix, format.frac(), side_of(mode, negative), steps);
+    let ulps = magnitude(found, radix, format.frac(), side_of(mode, negative), steps);
+    number_from(format, negative, ulps)
+}
+
+/// A magnitude as the number of a format.
+#[inline]
+fn number_from(format: Format, negative: bool, ulps: Ulps) -> ReadNumber
+    ensures reading { (mode : ReadMode) (r : Radix) (p : Parts) (number : Fraction) → negative ≡ is_minus p.sign → 0 < number.den → IsSameNumber number (magnitude r p) → IsMagnitude (side mode negative) number format.frac ulps → IsReading mode r p result }
+    ensures format { result.format ≡ format }
+{
     ReadNumber {
         format,
-        low: magnitude.low,
+        low: ulps.low,
         negative,
-        has_high_bits: magnitude.has_high_bits,
-        exact: magnitude.is_exact,
+        has_high_bits: ulps.has_high_bits,
+        exact: ulps.is_exact,
+    }
+}
+
+/// The number that a short decimal reads as.
+#[inline]
+fn number_of_short(found: ShortDecimal, format: Format, mode: ReadMode) -> ReadNumber
+    requires fraction { found.fraction < 10 ^ found.places }
+    requires digits { found.whole * 10 ^ found.places + found.fraction < 10 ^ 16 }
+    requires places { found.places ≤ 16 }
+    ensures reading { (p : Parts) → IsShortDecimal p found.negative found.whole found.fraction found.places → IsReading mode Dec p result }
+    ensures format { result.format ≡ format }
+{
+    let side = side_of(mode, found.negative);
+    let ulps = ulps_of_decimal(short_decimal_of(found), format.frac(), side);
+    number_from(format, found.negative, ulps)
+}
+
+/// The number that a compact numeral reads as. None where it takes a look at the digits.
+#[inline]
+fn number_of_compact(
+    found: CompactNumeral,
+    radix: Radix,
+    format: Format,
+    mode: ReadMode,
+) -> Option<ReadNumber>
+    ensures reading { IfSome result (λ n. (p : Parts) → IsCompactNumeral radix p found.negative found.digits found.places found.exponent found.scales_by_two → IsReading mode radix p n) }
+    ensures format { IfSome result (λ n. n.format ≡ format) }
+{
+    match compact_ulps(found, radix, format.frac(), side_of(mode, found.negative)) {
+        Some(ulps) => Some(number_from(format, found.negative, ulps)),
+        None => None,
+    }
+}
+
+/// Reads a numeral whose digits fit 128 bits. None says nothing.
+fn read_compact<L: Ledger>(
+    s: &[u8],
+    radix: Radix,
+    format: Format,
+    mode: ReadMode,
+    steps: &mut Steps<L>,
+) -> Option<ReadNumber>
+    ensures numeral { IfSome result (λ found. IsNumeral radix s.now) }
+    ensures reading { IfSome result (λ found. (p : Parts) → HasNumeral radix s.now p → IsReading mode radix p found) }
+    ensures format { IfSome result (λ found. found.format ≡ format) }
+    ensures cost { steps.new ≤ steps.old + length s.now }
+{
+    match compact_numeral(s, radix, steps) {
+        Some(found) => number_of_compact(found, radix, format, mode),
+        None => None,
+    }
+}
+
+/// Reads a decimal of at most 16 bytes without an exponent. None says nothing.
+#[inline]
+fn read_short<L: Ledger>(
+    s: &[u8],
+    format: Format,
+    mode: ReadMode,
+    steps: &mut Steps<L>,
+) -> Option<ReadNumber>
+    ensures numeral { IfSome result (λ found. IsNumeral Dec s.now) }
+    ensures reading { IfSome result (λ found. (p : Parts) → HasNumeral Dec s.now p → IsReading mode Dec p found) }
+    ensures format { IfSome result (λ found. found.format ≡ format) }
+    ensures cost { steps.new ≤ steps.old + length s.now }
+{
+    match short_decimal(s, steps) {
+        Some(found) => Some(number_of_short(found, format, mode)),
+        None => None,
+    }
+}
+
+/// Reads any numeral, by its digits.
+#[inline(never)]
+fn read_scanned<L: Ledger>(
+    s: &[u8],
+    radix: Radix,
+    format: Format,
+    mode: ReadMode,
+    steps: &mut Steps<L>,
+) -> Result<ReadNumber, ParseFixedError>
+    ensures numeral { IsOk result ↔ IsNumeral radix s.now }
+    ensures cause { IfErr result (λ kind. HasCause radix s.now kind) }
+    ensures reading { IfOk result (λ found. (p : Parts) → HasNumeral radix s.now p → IsReading mode radix p found) }
+    ensures format { IfOk result (λ found. found.format ≡ format) }
+    ensures cost { steps.new ≤ steps.old + 2 * length s.now + 8 * format.width + 64 }
+{
+    // Matched by reference: moving the views out would copy them.
+    let scanned = scan(s, radix, steps);
+    match &scanned {
+        Ok(found) => Ok(number_of(found, radix, format, mode, steps)),
+        Err(error) => Err(*error),
+    }
+}
+
+/// Reads any numeral but a short decimal.
+#[inline(never)]
+fn read_longer<L: Ledger>(
+    s: &[u8],
+    radix: Radix,
+    format: Format,
+    mode: ReadMode,
+    steps: &mut Steps<L>,
+) -> Result<ReadNumber, ParseFixedError>
+    ensures numeral { IsOk result ↔ IsNumeral radix s.now }
+    ensures cause { IfErr result (λ kind. HasCause radix s.now kind) }
+    ensures reading { IfOk result (λ found. (p : Parts) → HasNumeral radix s.now p → IsReading mode radix p found) }
+    ensures format { IfOk result (λ found. found.format ≡ format) }
+    ensures cost { steps.new ≤ steps.old + 3 * length s.now + 8 * format.width + 64 }
+{
+    match read_compact(s, radix, format, mode, steps) {
+        Some(found) => Ok(found),
+        None => read_scanned(s, radix, format, mode, steps),
     }
 }
 
@@ -145,6 +278,7 @@ fn number_of<'a, L: Ledger>(
 /// # Errors
 ///
 /// Other bytes than a numeral of the radix are refused with the kind of their cause.
+#[inline]
 pub fn read_format<L: Ledger>(
     s: &[u8],
     radix: Radix,
@@ -158,11 +292,12 @@ pub fn read_format<L: Ledger>(
     ensures format { IfOk result (λ found. found.format ≡ format) }
     ensures cost { steps.new ≤ steps.old + 8 * (length s.now + format.width) + 64 }
 {
-    // Matched by reference: moving the views out would copy them.
-    let scanned = scan(s, radix, steps);
-    match &scanned {
-        Ok(found) => Ok(number_of(found, radix, format, mode, steps)),
-        Err(error) => Err(*error),
+    match radix {
+        Radix::Dec => match read_short(s, format, mode, steps) {
+            Some(found) => Ok(found),
+            None => read_longer(s, radix, format, mode, steps),
+        },
+        _ => read_longer(s, radix, format, mode, steps),
     }
 }
 

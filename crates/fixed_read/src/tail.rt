@@ -32,6 +32,18 @@ pub fn is_nothing(tail: Tail) -> bool
     }
 }
 
+/// Whether something is left.
+pub fn has_rest(tail: Tail) -> bool
+    ensures { (s den : ℕ) → 0 < den → IsTail tail s den → IsTrue result ↔ (0 < s) }
+{
+    match tail {
+        Tail::Nothing => false,
+        Tail::Below => true,
+        Tail::Half => true,
+        Tail::Above => true,
+    }
+}
+
 /// What `rest` of two halves, and more behind that which is less than one of the rest, are of a step.
 pub fn tail_of(rest: u64, half: u64, more: bool) -> Tail
     requires { rest < 2 * half }

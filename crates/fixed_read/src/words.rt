@@ -1,6 +1,6 @@
 //! Numbers and powers of two.
 
-ghost use Rattle.std.specs.Prelude.{◌≡◌, ◌+◌, ◌*◌, ◌/◌, ◌%◌, ◌^◌, ◌<◌, ◌≤◌};
+ghost use Rattle.std.specs.Prelude.{◌≡◌, ◌+◌, ◌*◌, ◌/◌, ◌%◌, ◌^◌, ◌<◌, ◌≤◌, ◌↔◌, IsTrue};
 
 /// 2^bits.
 pub fn power(bits: u32) -> u64
@@ -44,4 +44,11 @@ pub fn parted(value: u128, bits: u32) -> (u128, u64)
 {
     let high = value >> bits;
     (high, (value - (high << bits)) as u64)
+}
+
+/// Whether a number is more than 0.
+pub fn is_some(value: u128) -> bool
+    ensures { IsTrue result ↔ (0 < value) }
+{
+    value != 0
 }
