@@ -5,8 +5,8 @@ use Rattle.std.proofs.lemmas.List.{length-map}
 use Rattle.std.proofs.lemmas.Simd.{first_set_mask_l, run_in_chunk_fails, run_in_chunk_le, run_in_chunk_stops, mask_l-mod, tops_compared, zip2_splat, length-chunk}
 use lib.Count.{count_trailing_zeros}
 use lib.Lanes.{chunk, zip2, mask_l, top}
-use Rattle.fixed_respell.specs.Cutting.{count_of}
-use Rattle.fixed_respell.specs.CutLemmas.{count_cons}
+use Rattle.fixed_respell.specs.Split.{count_of}
+use Rattle.fixed_respell.specs.Lemmas.SplitLemmas.{count_cons}
 
 -- none of the first r bytes is w
 count_none : (w r : ℕ) (bytes : List ℕ) → ((k : ℕ) → k < r → eqb (get_or bytes k 0) w ≡ false) → count_of w (take r bytes) ≡ 0

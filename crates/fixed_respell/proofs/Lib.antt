@@ -3,5 +3,5 @@ mod LaneLemmas
 mod PlainLemmas
 mod CommandLemmas
 mod SelfLemmas
-mod SelfRows
-mod Rows
+mod SelfExampleLemmas
+mod ExampleLemmas

@@ -1,66 +1,65 @@
 -- Where two ways to name a policy and a mode agree on a line's fourth word, the line has the same answers by both.
-use Rattle.std.proofs.Common.{ℕ, List, inl, inr, ◌↔◌}
+use Rattle.std.proofs.Common.{◌≡◌, ℕ, List, [], length, get_or, refl, inl, inr, ◌↔◌}
 use Rattle.fixed_bits.specs.declared.format.Policy.{Policy}
 use Rattle.fixed_bits.specs.declared.mode.ReadMode.{ReadMode}
-use Rattle.fixed_respell.specs.Answer.{AsksBy, HasWords, IsAnswerBy, IsFirstFaultBy, LineWords, StandsBy, Task}
+use Rattle.fixed_respell.specs.Answer.{AsksBy, HasFaultBy, IsFirstFaultBy, Task, respell_language}
 use Rattle.fixed_respell.specs.AnswerLaws.{IsPlainLine, PlainLineHasThePlainAnswer}
-use Rattle.fixed_respell.specs.AnswerLemmas.{plain_word}
+use Rattle.fixed_respell.specs.Language.{IsAnswerIn}
+use Rattle.fixed_respell.specs.LineWords.{HasWords}
 use Rattle.line_engine.specs.AnswerText.{AnswerText}
 use Rattle.fixed_respell.specs.Words.{IsPlainWord, IsPolicyWord}
 use Rattle.fixed_respell.specs.declared.fault.LineFault.{LineFault}
 use Rattle.fixed_respell.specs.declared.fault.LineFault.TheVariants.{LineTooLong, MissingField, BadRadix, BadSource, BadTarget, BadPolicy}
+use Rattle.fixed_respell.specs.Lemmas.AnswerLemmas.{plain_word}
 
 -- two ways to name a policy and a mode agree on the line's fourth word
 abbrev Agree : (M N : List ℕ → Policy → ReadMode → Type 0) → List ℕ → Type 0
-Agree M N line = (w : LineWords) → HasWords line w → (p : Policy) (m : ReadMode) → M w.policy p m ↔ N w.policy p m
+Agree M N line = (words : List (List ℕ)) (rest : List ℕ) → HasWords line words rest → length words ≡ 4 → (p : Policy) (m : ReadMode) → M (get_or words 3 []) p m ↔ N (get_or words 3 []) p m
 
 flipped : (M N : List ℕ → Policy → ReadMode → Type 0) (line : List ℕ) → Agree M N line → Agree N M line
-flipped M N line agree w cut p m = ((agree w cut p m).1, (agree w cut p m).0)
+flipped M N line agree words rest has count p m = ((agree words rest has count p m).1, (agree words rest has count p m).0)
 
-stands_too : (M N : List ℕ → Policy → ReadMode → Type 0) (line : List ℕ) → Agree M N line → (f : LineFault) → StandsBy M f line → StandsBy N f line
-stands_too M N line agree LineTooLong stands = stands
-stands_too M N line agree MissingField stands = stands
-stands_too M N line agree BadRadix stands = stands
-stands_too M N line agree BadSource stands = stands
-stands_too M N line agree BadTarget stands = stands
-stands_too M N line agree BadPolicy stands = (stands.0, stands.1, λ p m named. stands.2 p m ((agree stands.0 stands.1 p m).1 named))
+fault_too : (M N : List ℕ → Policy → ReadMode → Type 0) (line : List ℕ) → Agree M N line → (f : LineFault) → HasFaultBy M f line → HasFaultBy N f line
+fault_too M N line agree LineTooLong has = has
+fault_too M N line agree MissingField has = has
+fault_too M N line agree BadRadix has = has
+fault_too M N line agree BadSource has = has
+fault_too M N line agree BadTarget has = has
+fault_too M N line agree BadPolicy has = record {
+  words = has.words;
+  rest = has.rest;
+  has = has.has;
+  count_is = has.count_is;
+  bad = λ (p, m, named). has.bad (p, m, (agree has.words has.rest has.has has.count_is p m).1 named);
+}
 
 first_too : (M N : List ℕ → Policy → ReadMode → Type 0) (line : List ℕ) → Agree M N line → (f : LineFault) → IsFirstFaultBy M f line → IsFirstFaultBy N f line
 first_too M N line agree f is = record {
-  stands = stands_too M N line agree f is.stands;
-  first = λ other before stands. is.first other before (stands_too N M line (flipped M N line agree) other stands);
+  has = fault_too M N line agree f is.has;
+  first = λ other before has. is.first other before (fault_too N M line (flipped M N line agree) other has);
 }
 
 asks_too : (M N : List ℕ → Policy → ReadMode → Type 0) (line : List ℕ) → Agree M N line → (t : Task) → AsksBy M line t → AsksBy N line t
 asks_too M N line agree t asks = record {
   short = asks.short;
+  radix_word = asks.radix_word;
+  source_word = asks.source_word;
+  target_word = asks.target_word;
+  policy_word = asks.policy_word;
   words = asks.words;
-  cut = asks.cut;
   radix = asks.radix;
   source = asks.source;
   target = asks.target;
-  policy = (agree asks.words asks.cut t.policy t.mode).0 asks.policy;
-  numeral = asks.numeral;
+  policy = (agree _ t.numeral asks.words refl t.policy t.mode).0 asks.policy;
 }
 
-answer_too : (M N : List ℕ → Policy → ReadMode → Type 0) (line : List ℕ) (reply : AnswerText) → Agree M N line → IsAnswerBy M line reply → IsAnswerBy N line reply
-answer_too M N line reply agree (inl a) = inl (record { line_fault = a.line_fault; first = first_too M N line agree a.line_fault a.first; reply_is = a.reply_is })
-answer_too M N line reply agree (inr (inl a)) = inr (inl (record { task = a.task; asks = asks_too M N line agree a.task a.asks; kind = a.kind; refusal = a.refusal; reply_is = a.reply_is }))
-answer_too M N line reply agree (inr (inr a)) =
-    inr (inr (record {
-      task = a.task;
-      asks = asks_too M N line agree a.task a.asks;
-      bits = a.bits;
-      overflowed = a.overflowed;
-      respelled = a.respelled;
-      text = a.text;
-      shortest = a.shortest;
-      reply_is = a.reply_is;
-    }))
+answer_too : (M N : List ℕ → Policy → ReadMode → Type 0) (line : List ℕ) (reply : AnswerText) → Agree M N line → IsAnswerIn (respell_language M) line reply → IsAnswerIn (respell_language N) line reply
+answer_too M N line reply agree (inl a) = inl (record { fault = a.fault; first = first_too M N line agree a.fault a.first; answer_is = a.answer_is })
+answer_too M N line reply agree (inr a) = inr (record { task = a.task; asks = asks_too M N line agree a.task a.asks; answered = a.answered })
 
 -- without a slash the two languages agree
 plain_words : (line : List ℕ) → IsPlainLine line → Agree IsPolicyWord IsPlainWord line
-plain_words line plain w cut p m = plain_word w.policy p m (plain w cut)
+plain_words line plain words rest has count p m = plain_word (get_or words 3 []) p m (plain words rest has count)
 
 pub plain_answer : PlainLineHasThePlainAnswer
 plain_answer line reply plain = (

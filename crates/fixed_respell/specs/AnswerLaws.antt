@@ -1,13 +1,14 @@
 -- Laws of the answer to a line.
-use Rattle.std.specs.Prelude.{◌≡◌, ◌↔◌, ◌<◌, ℕ, List, length, take}
+use Rattle.std.specs.Prelude.{◌≡◌, ◌↔◌, ◌<◌, ℕ, List, [], length, take, get_or}
 use Rattle.fixed_bits.specs.Formats.{FormatParts}
 use Rattle.fixed_bits.specs.declared.format.Policy.{Policy}
 use Rattle.fixed_bits.specs.declared.mode.ReadMode.{ReadMode}
 use Rattle.fixed_bits.specs.declared.mode.ReadMode.TheVariants.{NearestEven}
-use Rattle.fixed_respell.specs.Answer.{Asks, HasWords, IsAnswer, IsPlainAnswer, LineWords, Task}
-use Rattle.fixed_respell.specs.Cutting.{count_of}
+use Rattle.fixed_respell.specs.Answer.{Asks, IsAnswer, IsPlainAnswer, Task}
 use Rattle.line_engine.specs.Lines.{kept_length}
+use Rattle.fixed_respell.specs.LineWords.{HasWords}
 use Rattle.line_engine.specs.AnswerText.{AnswerText}
+use Rattle.fixed_respell.specs.Split.{count_of}
 use Rattle.fixed_respell.specs.Words.{IsFormatWord, IsPlainWord, IsPolicyWord, policy_text, slash}
 
 -- a word is the word of one format at most, so the word of a format names that format again
@@ -18,9 +19,9 @@ FormatWordIsTheOne = (word : List ℕ) (f g : FormatParts) → IsFormatWord word
 abbrev pub AnswerIsTheOne : Type 0
 AnswerIsTheOne = (line : List ℕ) (a b : AnswerText) → IsAnswer line a → IsAnswer line b → a ≡ b
 
--- a line that is longer than what is kept of a line is answered like its front
-abbrev pub LongIsAnsweredByFront : Type 0
-LongIsAnsweredByFront = (line : List ℕ) (reply : AnswerText) → kept_length < length line → IsAnswer (take kept_length line) reply ↔ IsAnswer line reply
+-- a line that is longer than what is kept of a line is answered like its prefix of that length
+abbrev pub LongIsAnsweredByPrefix : Type 0
+LongIsAnsweredByPrefix = (line : List ℕ) (reply : AnswerText) → kept_length < length line → IsAnswer (take kept_length line) reply ↔ IsAnswer line reply
 
 -- without a slash a policy word is the name of a policy, and its mode is NearestEven
 abbrev pub PlainWordNamesNearest : Type 0
@@ -28,11 +29,11 @@ PlainWordNamesNearest = (word : List ℕ) (p : Policy) (m : ReadMode) → count_
 
 -- so a line whose fourth word holds no slash names its policy by that word alone, and its mode is NearestEven
 abbrev pub PlainLineAsksNearest : Type 0
-PlainLineAsksNearest = (line : List ℕ) (t : Task) (asks : Asks line t) → count_of slash asks.words.policy ≡ 0 → (asks.words.policy ≡ policy_text t.policy) × (t.mode ≡ NearestEven)
+PlainLineAsksNearest = (line : List ℕ) (t : Task) (asks : Asks line t) → count_of slash asks.policy_word ≡ 0 → (asks.policy_word ≡ policy_text t.policy) × (t.mode ≡ NearestEven)
 
 -- no fourth word of a line holds a slash; a line that has no fourth word is one of these
 abbrev pub IsPlainLine : List ℕ → Type 0
-IsPlainLine line = (w : LineWords) → HasWords line w → count_of slash w.policy ≡ 0
+IsPlainLine line = (words : List (List ℕ)) (rest : List ℕ) → HasWords line words rest → length words ≡ 4 → count_of slash (get_or words 3 []) ≡ 0
 
 -- such a line is answered as if there were no mode words
 abbrev pub PlainLineHasThePlainAnswer : Type 0

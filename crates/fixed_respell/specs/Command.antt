@@ -1,34 +1,34 @@
--- The words behind the program's name.
+-- The arguments of the program.
 use Rattle.std.specs.Prelude.{◌≡◌, ℕ, ◌≤◌, String, List, [], ◌∷◌, codes, decimal}
 use Rattle.std.specs.String.{string_bytes}
 use Rattle.std.specs.declared.alloc.Global.{Global}
 use Rattle.fixed_respell.specs.declared.command.Command.{Command}
-use Rattle.fixed_respell.specs.declared.command.Command.TheVariants.{Read, Own}
+use Rattle.fixed_respell.specs.declared.command.Command.TheVariants.{Read, SelfTest}
 
--- how many bytes are read at most
-abbrev pub most_bytes : ℕ
-most_bytes = 4294967296
+-- the greatest limit in bytes, and the one where no argument names a limit
+abbrev pub max_limit : ℕ
+max_limit = 4294967296
 
--- how many lines the program makes at most
-abbrev pub most_lines : ℕ
-most_lines = 1000000
+-- how many lines the self test generates at most
+abbrev pub max_self_lines : ℕ
+max_self_lines = 1000000
 
 -- a name and a number in decimal ask for this command
 abbrev pub IsNumbered : List ℕ → List ℕ → Command → Type 0
-IsNumbered name number (Read limit) = (name ≡ codes "limit") × (number ≡ decimal limit) × (1 ≤ limit) × (limit ≤ most_bytes)
-IsNumbered name number (Own count) = (name ≡ codes "self") × (number ≡ decimal count) × (1 ≤ count) × (count ≤ most_lines)
+IsNumbered name number (Read limit) = (name ≡ codes "limit") × (number ≡ decimal limit) × (1 ≤ limit) × (limit ≤ max_limit)
+IsNumbered name number (SelfTest count) = (name ≡ codes "self") × (number ≡ decimal count) × (1 ≤ count) × (count ≤ max_self_lines)
 
--- the words ask for this command
+-- the arguments ask for this command
 abbrev pub IsCommand : List (String Global) → Command → Type 0
-IsCommand [] command = command ≡ Read most_bytes
+IsCommand [] command = command ≡ Read max_limit
 IsCommand (name ∷ []) command = ⊥
 IsCommand (name ∷ number ∷ []) command = IsNumbered (string_bytes name) (string_bytes number) command
-IsCommand (name ∷ number ∷ more ∷ words) command = ⊥
+IsCommand (name ∷ number ∷ more ∷ others) command = ⊥
 
--- the words ask for no command
+-- the arguments are no command
 abbrev pub IsUsageFault : List (String Global) → Type 0
-IsUsageFault words = (command : Command) → ¬ IsCommand words command
+IsUsageFault args = (command : Command) → ¬ IsCommand args command
 
--- what such words are answered
+-- what is written for such arguments
 abbrev pub usage_line : List ℕ
 usage_line = codes "usage: fixed_tool [limit N | self N]\n"

@@ -6,15 +6,15 @@ use Rattle.fixed_bits.specs.declared.mode.ReadMode.{ReadMode}
 use Rattle.fixed_numeral.specs.Numeral.{Parts}
 use Rattle.fixed_numeral.specs.declared.error.ParseErrorKind.{ParseErrorKind}
 use Rattle.fixed_numeral.specs.declared.radix.Radix.{Radix}
-use Rattle.fixed_respell.specs.Reached.{IsReached, IsUnreached, IsRespelled, IsRefusal}
+use Rattle.fixed_respell.specs.Reached.{IsReached, IsOverflowed, IsRespelled, IsRefusal}
 
 -- from a numeral at most one pair of bits and a flag is reached
 abbrev pub ReachedIsTheOne : Type 0
 ReachedIsTheOne = (mode : ReadMode) (r : Radix) (p : Parts) (policy : Policy) (source target : FormatParts) (b c : ℤ) (o u : Bool) → IsFormat source.width source.frac → IsFormat target.width target.frac → IsReached mode r p policy source target b o → IsReached mode r p policy source target c u → (b ≡ c) × (o ≡ u)
 
 -- where nothing is reached there are no bits that are
-abbrev pub UnreachedHasNone : Type 0
-UnreachedHasNone = (mode : ReadMode) (r : Radix) (p : Parts) (policy : Policy) (source target : FormatParts) (b : ℤ) (o : Bool) → IsUnreached mode r p policy source target → ¬ IsReached mode r p policy source target b o
+abbrev pub OverflowedHasNone : Type 0
+OverflowedHasNone = (mode : ReadMode) (r : Radix) (p : Parts) (policy : Policy) (source target : FormatParts) (b : ℤ) (o : Bool) → IsOverflowed mode r p policy source target → ¬ IsReached mode r p policy source target b o
 
 -- bytes reach at most one pair of bits and a flag
 abbrev pub RespelledIsTheOne : Type 0

@@ -16,22 +16,22 @@ use Rattle.fixed_read.specs.Reading.{IsReadNumber}
 use Rattle.fixed_respell.specs.declared.respelling.Bits.{Bits}
 use Rattle.fixed_respell.specs.declared.respelling.Bits.TheVariants.{Signed, Unsigned}
 
--- `number` is the read number of a numeral with these parts, `held` its image in the source, `moved` that moved down
--- to the target's fraction length, and `bits` the image of this in the target; the flag says whether one of the two
--- numbers was out of its format
+-- `number` is the read number of a numeral with these parts, `in_source` its image in the source, `moved` that rounded
+-- down (floor) to the target's fraction length, and `bits` the image of this in the target; the flag says whether one of
+-- the two numbers was out of its format
 pub record IsReached (mode : ReadMode) (r : Radix) (p : Parts) (policy : Policy) (source target : FormatParts) (bits : ℤ) (overflowed : Bool) : Type 0 where
   pub number : ℤ
-  pub held : ℤ
+  pub in_source : ℤ
   pub moved : ℤ
   pub read : IsReadNumber mode r p source.frac number
-  pub source_image : IsImage policy source.signed source.width number held
-  pub down : IsDown held source.frac target.frac moved
+  pub source_image : IsImage policy source.signed source.width number in_source
+  pub down : IsDown in_source source.frac target.frac moved
   pub target_image : IsImage policy target.signed target.width moved bits
   pub flag : IsTrue overflowed ↔ (IsOutOfRange source.signed source.width number ⊎ IsOutOfRange target.signed target.width moved)
 
--- nothing is reached: under Checked the read number is out of the source's range, or moved down it is out of the
--- target's, and so it has no image there
-pub record IsUnreached (mode : ReadMode) (r : Radix) (p : Parts) (policy : Policy) (source target : FormatParts) : Type 0 where
+-- under Checked the read number is out of the source's range, or rounded down to the target's fraction length it is out
+-- of the target's, and so it has no image there and nothing is reached
+pub record IsOverflowed (mode : ReadMode) (r : Radix) (p : Parts) (policy : Policy) (source target : FormatParts) : Type 0 where
   pub number : ℤ
   pub moved : ℤ
   pub checked : policy ≡ Checked
@@ -46,14 +46,14 @@ pub record IsRespelled (mode : ReadMode) (r : Radix) (bytes : List ℕ) (policy 
   pub reached : IsReached mode r parts policy source target bits overflowed
 
 -- bytes are a numeral, and nothing is reached from it
-pub record IsOverflow (mode : ReadMode) (r : Radix) (bytes : List ℕ) (policy : Policy) (source target : FormatParts) : Type 0 where
+pub record OverflowsOn (mode : ReadMode) (r : Radix) (bytes : List ℕ) (policy : Policy) (source target : FormatParts) : Type 0 where
   pub parts : Parts
   pub numeral : HasNumeral r bytes parts
-  pub unreached : IsUnreached mode r parts policy source target
+  pub overflowed : IsOverflowed mode r parts policy source target
 
 -- kind says why no bits are reached: bytes are no numeral, or nothing is reached from it
 abbrev pub IsRefusal : ReadMode → Radix → List ℕ → Policy → FormatParts → FormatParts → ParseErrorKind → Type 0
-IsRefusal mode r bytes policy source target kind = HasCause r bytes kind ⊎ ((kind ≡ Overflow) × IsOverflow mode r bytes policy source target)
+IsRefusal mode r bytes policy source target kind = HasCause r bytes kind ⊎ ((kind ≡ Overflow) × OverflowsOn mode r bytes policy source target)
 
 -- the number of some bits
 abbrev pub number_of : Bits → ℤ

@@ -1,10 +1,11 @@
--- The mode that answers lines of the program's own and sums up their answers.
+-- The self test: generated lines, and the sums over their answers.
 use Rattle.std.specs.Prelude.{◌≡◌, ℕ, zero, suc, ◌*◌, ◌/◌, ◌%◌, ◌<◌, ◌≤◌, ◌==◌, Bool, if◌then◌else◌, List, [], ◌∷◌, ◌++◌, length, map, get_or, codes}
 use Rattle.std.specs.declared.option.Option.{Option}
 use Rattle.std.specs.Int.Digits.{digits_of}
 use Rattle.std.specs.Io.KnownBytes.{Appends}
 use Rattle.std.specs.List.{count_by, ends_with}
-use Rattle.fixed_respell.specs.Answer.{IsAnswer, space}
+use Rattle.fixed_respell.specs.Answer.{IsAnswer}
+use Rattle.fixed_respell.specs.LineWords.{space}
 use Rattle.line_engine.specs.Failures.{HasFailed}
 use Rattle.line_engine.specs.Output.{AreAnswers, is_fault, written_of, AppendsPrefix}
 use Rattle.line_engine.specs.AnswerText.{AnswerText}
@@ -15,7 +16,7 @@ use Rattle.line_engine.specs.declared.status.Status.TheVariants.{Done, Faults, U
 abbrev pub digit_letter : ℕ → ℕ
 digit_letter d = get_or (codes "0123456789abcdef") d 0
 
--- n in a base of at most 16, without a spare zero, zero as `0`
+-- n in a base of at most 16, without a leading zero, zero as `0`
 unfoldable pub number_text : ℕ → ℕ → List ℕ
 number_text base n = if n == 0 then digit_letter 0 ∷ [] else map digit_letter (digits_of base n)
 
@@ -23,7 +24,7 @@ number_text base n = if n == 0 then digit_letter 0 ∷ [] else map digit_letter 
 abbrev pub radix_at : ℕ → ℕ
 radix_at i = get_or (2 ∷ 8 ∷ 10 ∷ 16 ∷ []) (i % 4) 0
 
--- the format at place k of the list, which begins anew behind its end
+-- the format at place k of the list, which starts over after its end
 abbrev pub format_at : ℕ → List ℕ
 format_at k = get_or (codes "U8F0" ∷ codes "I4F4" ∷ codes "U0F8" ∷ codes "I8F8" ∷ codes "U16F16" ∷ codes "I1F31" ∷ codes "U0F64" ∷ codes "I32F32" ∷ []) (k % 8) []
 
@@ -31,7 +32,7 @@ format_at k = get_or (codes "U8F0" ∷ codes "I4F4" ∷ codes "U0F8" ∷ codes "
 abbrev pub policy_at : ℕ → List ℕ
 policy_at i = get_or (codes "checked" ∷ codes "saturating" ∷ codes "wrapping" ∷ []) (i % 3) []
 
--- the four words in front of the numeral of line i, each with a space behind it
+-- the four words before the numeral of line i, each followed by a space
 abbrev pub self_words : ℕ → List ℕ
 self_words i = (number_text 10 (radix_at i) ++ space ∷ []) ++ (format_at (i / 4) ++ space ∷ []) ++ (format_at (i / 32) ++ space ∷ []) ++ (policy_at i ++ space ∷ [])
 
@@ -92,7 +93,7 @@ pub record IsTally (n : ℕ) (tally : Tally) : Type 0 where
 unfoldable pub summary_text : ℕ → Tally → List ℕ
 summary_text n tally = number_text 10 n ++ codes " lines, " ++ number_text 10 tally.fit ++ codes " fit, " ++ number_text 10 tally.overflowed ++ codes " overflowed, " ++ number_text 10 tally.faults ++ codes " faults, " ++ number_text 10 tally.bytes ++ codes " bytes\n"
 
--- text is the summary of n lines, of whose answers so many are faults
+-- text is the summary of n lines, of whose answers `faults` are faults
 pub record IsSummary (n : ℕ) (text : List ℕ) (faults : ℕ) : Type 0 where
   pub tally : Tally
   pub is_tally : IsTally n tally
@@ -106,7 +107,7 @@ pub record WritesSummary (n faults : ℕ) (written written' : Option (List ℕ))
   pub output : Appends written written' text
   pub calm : failed' ≡ failed
 
--- a front of the summary was written and nothing else, and a write failed
+-- a prefix of the summary was written and nothing else, and a write failed
 pub record BreaksSummary (n : ℕ) (written written' : Option (List ℕ)) (failed failed' : ℕ) : Type 0 where
   pub text : List ℕ
   pub faults : ℕ
@@ -114,7 +115,7 @@ pub record BreaksSummary (n : ℕ) (written written' : Option (List ℕ)) (faile
   pub output : AppendsPrefix written written' text
   pub rose : HasFailed failed failed'
 
--- what a run over n lines of the program's own that ended so has written, and whether a write failed
+-- what a self test of n lines that ended with this status has written, and whether a write failed
 abbrev pub HasSelfRun : ℕ → Option (List ℕ) → Option (List ℕ) → ℕ → ℕ → Status → Type 0
 HasSelfRun n written written' failed failed' Done = WritesSummary n 0 written written' failed failed'
 HasSelfRun n written written' failed failed' Faults = (faults : ℕ) × (0 < faults) × WritesSummary n faults written written' failed failed'

@@ -20,7 +20,7 @@ abbrev pub sign_letter : Bool → ℕ
 sign_letter true = 73
 sign_letter false = 85
 
--- 'F', which stands between the counts of whole and of fraction bits
+-- 'F', between the counts of whole and of fraction bits
 abbrev pub fraction_letter : ℕ
 fraction_letter = 70
 
@@ -52,7 +52,7 @@ mode_text Floor = codes "floor"
 mode_text Ceil = codes "ceil"
 mode_text TowardsZero = codes "zero"
 
--- '/', which stands between a policy and a mode
+-- '/', between a policy and a mode
 abbrev pub slash : ℕ
 slash = 47
 

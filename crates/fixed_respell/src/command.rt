@@ -1,22 +1,55 @@
-//! What the words behind the program's name ask for.
+//! What the arguments of the program ask for.
 
-ghost use Rattle.std.specs.Prelude.{◌≡◌, ◌≤◌, ◌<◌, ◌^◌, ℕ, MatchOption, IfSome, decimal};
+ghost use Rattle.std.specs.Prelude.{◌≡◌, ◌≤◌, ◌<◌, ◌^◌, ℕ, length, MatchOption, IfSome, decimal};
+ghost use Rattle.std.specs.Str.Parse.{AllDigits, digits_value};
 ghost use Rattle.fixed_respell.specs.Command.{IsCommand, IsNumbered, IsUsageFault};
 ghost use Rattle.fixed_respell.specs.declared.command.Command.{Command};
 
-use crate::cutting::number_word;
 use line_engine::MAX_LIMIT;
 
-/// How many lines the program makes at most.
-const MOST_LINES: u64 = 1_000_000;
+/// How many lines the self test generates at most.
+const MAX_SELF_LINES: u64 = 1_000_000;
 
 /// What a run does.
 #[derive(Clone, Copy, Debug, PartialEq, Eq)]
 pub(crate) enum Command {
-    /// Lines of the input are answered, of at most so many bytes.
+    /// Answers the lines of an input of at most this many bytes.
     Read(u64),
-    /// So many lines of the program's own are answered, and their answers counted.
-    Own(u64),
+    /// Answers this many generated lines, and sums their answers up.
+    SelfTest(u64),
+}
+
+/// The number that the digits spell. None where a byte is no decimal digit.
+fn digits_number(digits: &[u8]) -> Option<u64>
+    requires { length digits.now ≤ 10 }
+    ensures { MatchOption result (¬ AllDigits 10 digits.now) (λ n. AllDigits 10 digits.now × (n ≡ digits_value 10 digits.now)) }
+{
+    let mut number = 0;
+    for b in digits {
+        if !b.is_ascii_digit() {
+            return None;
+        }
+        number = number * 10 + u64::from(*b - b'0');
+    }
+    Some(number)
+}
+
+/// The number of at most `most` that the word is in decimal, without a leading zero. None where it is none.
+fn number_word(word: &[u8], most: u64) -> Option<u64>
+    requires { most < 10 ^ 10 }
+    ensures number { MatchOption result ((n : ℕ) → n ≤ most → ¬ (word.now ≡ decimal n)) (λ n. word.now ≡ decimal n) }
+    ensures most { IfSome result (λ n. n ≤ most) }
+{
+    if word.is_empty() || word.len() > 10 {
+        return None;
+    }
+    if word[0] == b'0' && word.len() > 1 {
+        return None;
+    }
+    match digits_number(word) {
+        Some(number) if number <= most => Some(number),
+        _ => None,
+    }
 }
 
 /// The number from 1 to `most` that the word is in decimal. None where it is none.
@@ -31,7 +64,7 @@ fn count_word(word: &[u8], most: u64) -> Option<u64>
     }
 }
 
-/// The command of a name and a number. None where they ask for none.
+/// The command of a name and a number. None where they are no command.
 fn numbered_command(name: &[u8], number: &[u8]) -> Option<Command>
     ensures { MatchOption result ((c : Command) → ¬ IsNumbered name.now number.now c) (λ c. IsNumbered name.now number.now c) }
 {
@@ -40,19 +73,19 @@ fn numbered_command(name: &[u8], number: &[u8]) -> Option<Command>
             Some(limit) => Some(Command::Read(limit)),
             None => None,
         },
-        b"self" => match count_word(number, MOST_LINES) {
-            Some(count) => Some(Command::Own(count)),
+        b"self" => match count_word(number, MAX_SELF_LINES) {
+            Some(count) => Some(Command::SelfTest(count)),
             None => None,
         },
         _ => None,
     }
 }
 
-/// The command that the words ask for. None where they ask for none.
-pub(crate) fn read_command(words: &[String]) -> Option<Command>
-    ensures { MatchOption result (IsUsageFault words.now) (λ c. IsCommand words.now c) }
+/// The command that the arguments ask for. None where they are no command.
+pub(crate) fn read_command(args: &[String]) -> Option<Command>
+    ensures { MatchOption result (IsUsageFault args.now) (λ c. IsCommand args.now c) }
 {
-    match words {
+    match args {
         [] => Some(Command::Read(MAX_LIMIT)),
         [name, number] => numbered_command(name.as_bytes(), number.as_bytes()),
         _ => None,

@@ -2,15 +2,15 @@
 
 ghost use Rattle.std.specs.Prelude.{pos, negsuc, true, false, codes};
 ghost use Rattle.fixed_respell.specs.Answer.{IsAnswer};
-ghost use Rattle.fixed_respell.specs.AnswerLaws.{AnswerIsTheOne, FormatWordIsTheOne, LongIsAnsweredByFront, PlainLineAsksNearest, PlainLineHasThePlainAnswer, PlainWordNamesNearest};
+ghost use Rattle.fixed_respell.specs.AnswerLaws.{AnswerIsTheOne, FormatWordIsTheOne, LongIsAnsweredByPrefix, PlainLineAsksNearest, PlainLineHasThePlainAnswer, PlainWordNamesNearest};
 ghost use Rattle.fixed_bits.specs.declared.format.Policy.TheVariants.{Checked, Saturating, Wrapping};
 ghost use Rattle.fixed_bits.specs.declared.mode.ReadMode.TheVariants.{NearestEven, Ceil};
 ghost use Rattle.fixed_numeral.specs.declared.radix.Radix.TheVariants.{Dec};
-ghost use Rattle.fixed_respell.specs.Reached.{IsRespelled, IsOverflow};
-ghost use Rattle.fixed_respell.specs.RowFormats.{unsigned_format, signed_format};
+ghost use Rattle.fixed_respell.specs.Reached.{IsRespelled, OverflowsOn};
+ghost use Rattle.fixed_respell.specs.Examples.{unsigned_format, signed_format};
 ghost use Rattle.fixed_respell.specs.Laws.{
   ReachedIsTheOne,
-  UnreachedHasNone,
+  OverflowedHasNone,
   RespelledIsTheOne,
   RefusalHasNone,
   RefusalIsTheOne,
@@ -22,8 +22,8 @@ pub fn reached_is_the_one()
 {}
 
 /// Where nothing is reached there are no bits that are.
-pub fn unreached_has_none()
-    ensures { UnreachedHasNone }
+pub fn overflowed_has_none()
+    ensures { OverflowedHasNone }
 {}
 
 /// Bytes reach at most one pair of bits and a flag.
@@ -43,15 +43,15 @@ pub fn refusal_is_the_one()
 
 /// What some numerals reach. 2.99 is 48 steps of 1/16, and these are 3: the value moves to the source step first. 300 is
 /// brought into the source by the policy, and 17 into the target.
-pub fn worked_rows()
+pub fn worked_examples()
     ensures to_the_source_step_first { IsRespelled NearestEven Dec (codes "2.99") Checked (unsigned_format 4 4) (unsigned_format 8 0) (pos 3) false }
     ensures down_below_zero { IsRespelled NearestEven Dec (codes "-2.5") Checked (signed_format 4 4) (signed_format 8 0) (negsuc 2) false }
     ensures source_wraps { IsRespelled NearestEven Dec (codes "300") Wrapping (unsigned_format 8 0) (unsigned_format 16 0) (pos 44) true }
     ensures source_saturates { IsRespelled NearestEven Dec (codes "300") Saturating (unsigned_format 8 0) (unsigned_format 16 0) (pos 255) true }
-    ensures source_refuses { IsOverflow NearestEven Dec (codes "300") Checked (unsigned_format 8 0) (unsigned_format 16 0) }
+    ensures source_refuses { OverflowsOn NearestEven Dec (codes "300") Checked (unsigned_format 8 0) (unsigned_format 16 0) }
     ensures target_wraps { IsRespelled NearestEven Dec (codes "17") Wrapping (unsigned_format 8 0) (unsigned_format 4 4) (pos 16) true }
     ensures target_saturates { IsRespelled NearestEven Dec (codes "17") Saturating (unsigned_format 8 0) (unsigned_format 4 4) (pos 255) true }
-    ensures target_refuses { IsOverflow NearestEven Dec (codes "17") Checked (unsigned_format 8 0) (unsigned_format 4 4) }
+    ensures target_refuses { OverflowsOn NearestEven Dec (codes "17") Checked (unsigned_format 8 0) (unsigned_format 4 4) }
     ensures in_the_mode { IsRespelled Ceil Dec (codes "2.1") Checked (unsigned_format 8 0) (unsigned_format 8 0) (pos 3) false }
 {}
 
@@ -74,9 +74,9 @@ pub fn answer_is_the_one()
     ensures { AnswerIsTheOne }
 {}
 
-/// A line that is longer than what is kept of a line is answered like its front.
-pub fn long_is_answered_by_front()
-    ensures { LongIsAnsweredByFront }
+/// A line that is longer than what is kept of a line is answered like its prefix of that length.
+pub fn long_is_answered_by_prefix()
+    ensures { LongIsAnsweredByPrefix }
 {}
 
 /// A word without a slash names a policy and a mode exactly where it is the policy's own word and the mode is NearestEven.

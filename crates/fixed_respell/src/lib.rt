@@ -2,25 +2,26 @@
 //! answers is `line_engine`; its names are handed on from here.
 #![tactic(auto)]
 
+pub mod answering;
 mod command;
-mod cutting;
 pub mod fault;
 pub mod laws;
-pub mod line_answer;
+pub mod program;
 pub mod respell_rule;
 pub mod respelling;
 mod self_mode;
-pub mod top;
+pub mod split;
 pub mod words;
 
+pub use answering::answer;
 pub use fault::LineFault;
-pub use line_answer::answer;
 pub use line_engine::{
     Answer, Failed, LineRule, MemorySink, MemorySource, Sink, Source, Status, run_lines,
 };
+pub use program::run;
 pub use respell_rule::RespellRule;
 pub use respelling::{Bits, Respelled, respell, respell_mode};
-pub use top::run;
+pub use split::split_once;
 pub use words::{FormatName, format_name, format_word, policy_word, radix_word};
 
 #[cfg(test)]

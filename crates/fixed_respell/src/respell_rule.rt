@@ -1,10 +1,10 @@
-//! The rule of the program: each line is answered by the shortest decimal that its numeral is respelled to.
+//! The rule of the program: each line is answered as `answer` does.
 
 ghost use Rattle.std.proofs.Common.{lit<};
 ghost use Rattle.fixed_respell.specs.Answer.{IsAnswer};
-ghost use Rattle.fixed_respell.specs.AnswerLemmas.{answer_one, long_by_front};
+ghost use Rattle.fixed_respell.specs.Lemmas.AnswerLemmas.{answer_one, long_by_its_prefix};
 
-use crate::line_answer::answer;
+use crate::answering::answer;
 use fixed_steps::Steps;
 use line_engine::{LineRule, MAX_ANSWER, Output};
 use std::sync::ledger::Ledger;
@@ -38,5 +38,5 @@ impl<L: Ledger> LineRule<L> for RespellRule {
 
     ghost one_law = { λ rule. answer_one };
 
-    ghost kept_law = { λ rule. long_by_front };
+    ghost kept_law = { λ rule. long_by_its_prefix };
 }

@@ -8,7 +8,7 @@ ghost use Rattle.fixed_bits.specs.declared.mode.ReadMode.TheVariants.{NearestEve
 ghost use Rattle.fixed_numeral.specs.Cause.{HasCause};
 ghost use Rattle.fixed_numeral.specs.Numeral.{Parts, IsNumeral, is_minus};
 ghost use Rattle.fixed_write.specs.Texts.{IsShortestText};
-ghost use Rattle.fixed_respell.specs.Held.{IsHeld};
+ghost use Rattle.fixed_respell.specs.Inner.Held.{IsHeld};
 ghost use Rattle.fixed_respell.specs.Reached.{IsRespelled, IsRefusal, number_of, is_signed};
 
 use fixed_bits::{Format, Inner, Policy};

@@ -1,13 +1,13 @@
-//! The mode that answers lines of the program's own and sums up their answers.
+//! The self test: it answers generated lines and sums up their answers.
 
 ghost use Rattle.std.specs.Prelude.{◌≡◌, ◌≤◌, ◌<◌, ◌+◌, ◌*◌, ◌^◌, ◌++◌, ◌∷◌, ◌↔◌, [], IsTrue, ℕ, List, length};
 ghost use Rattle.std.specs.Int.{from_bool};
-ghost use Rattle.fixed_respell.specs.Answer.{space};
+ghost use Rattle.fixed_respell.specs.LineWords.{space};
 ghost use Rattle.line_engine.specs.Output.{reply_line};
 ghost use Rattle.line_engine.specs.AnswerText.{AnswerText};
 ghost use Rattle.fixed_respell.specs.SelfMode.{HasSelfRun, IsTally, IsWithin, digit_letter, ends_in, format_at, number_text, policy_at, radix_at, self_exponent, self_line, self_numeral, self_sign, self_words, summary_text, tally_of};
 
-use crate::line_answer::answer;
+use crate::answering::answer;
 use crate::{Answer, Sink, Status};
 use arrayvec::ArrayVec;
 use fixed_steps::Steps;
@@ -15,28 +15,28 @@ use line_engine::write_whole;
 use std::marker::Model;
 use std::sync::ledger::Ledger;
 
-/// How many bytes a line or the summary has at most.
-const ROOM: usize = 192;
+/// How many bytes a generated line or the summary has at most.
+const MAX_TEXT: usize = 192;
 
-/// A line of the program's own, or the summary.
-type Text = ArrayVec<u8, ROOM>;
+/// A generated line, or the summary.
+type Text = ArrayVec<u8, MAX_TEXT>;
 
 /// Appends a digit below 16.
 fn push_digit(text: &mut Text, digit: u8)
     requires digit { digit < 16 }
-    requires room { length text.old.items < ROOM }
+    requires room { length text.old.items < MAX_TEXT }
     ensures text { text.new.items ≡ text.old.items ++ digit_letter digit ∷ [] }
     ensures len { length text.new.items ≡ length text.old.items + 1 }
 {
     text.push(b"0123456789abcdef"[digit as usize]);
 }
 
-/// Appends a number in a base of at most 16, without a spare zero, zero as `0`.
+/// Appends a number in a base of at most 16, without a leading zero, zero as `0`.
 #[tactic(auto, using(crate::proofs::SelfLemmas::number_digit, crate::proofs::SelfLemmas::number_more, crate::proofs::SelfLemmas::digit_length, crate::proofs::SelfLemmas::more_length))]
 fn push_number(text: &mut Text, base: u64, number: u64)
     requires least { 2 ≤ base }
     requires most { base ≤ 16 }
-    requires room { length text.old.items + length (number_text base number) ≤ ROOM }
+    requires room { length text.old.items + length (number_text base number) ≤ MAX_TEXT }
     ensures text { text.new.items ≡ text.old.items ++ number_text base number }
     ensures len { length text.new.items ≡ length text.old.items + length (number_text base number) }
 {
@@ -48,22 +48,22 @@ fn push_number(text: &mut Text, base: u64, number: u64)
     }
 }
 
-/// Appends words, for which there is room.
-fn push_words(text: &mut Text, words: &str)
-    requires { length text.old.items + length words.now ≤ ROOM }
-    ensures text { text.new.items ≡ text.old.items ++ words.now }
-    ensures len { length text.new.items ≡ length text.old.items + length words.now }
+/// Appends a part of a text, for which there is room.
+fn push_part(text: &mut Text, part: &str)
+    requires { length text.old.items + length part.now ≤ MAX_TEXT }
+    ensures text { text.new.items ≡ text.old.items ++ part.now }
+    ensures len { length text.new.items ≡ length text.old.items + length part.now }
 {
-    text.try_extend_from_slice(words.as_bytes()).unwrap();
+    text.try_extend_from_slice(part.as_bytes()).unwrap();
 }
 
 /// Appends a word and a space.
 fn push_word(text: &mut Text, word: &str)
-    requires { length text.old.items + length word.now < ROOM }
+    requires { length text.old.items + length word.now < MAX_TEXT }
     ensures text { text.new.items ≡ text.old.items ++ word.now ++ space ∷ [] }
     ensures len { length text.new.items ≡ length text.old.items + length word.now + 1 }
 {
-    push_words(text, word);
+    push_part(text, word);
     text.push(b' ');
 }
 
@@ -81,7 +81,7 @@ fn radix_at(line: u64) -> u64
     }
 }
 
-/// The format at a place of the list, which begins anew behind its end.
+/// The format at a place of the list, which starts over after its end.
 fn format_at(place: u64) -> &'static str
     ensures word { result.now ≡ format_at place }
     ensures short { length result.now ≤ 6 }
@@ -126,15 +126,15 @@ fn exponent_of(line: u64) -> &'static str
     if line % 7 == 6 { "@-3" } else { "" }
 }
 
-/// The words of a line in front of its numeral, each with a space behind it.
+/// The words of a generated line, each followed by a space.
 #[tactic(auto, using(crate::proofs::SelfLemmas::radix_short))]
-fn words_of(line: u64) -> Text
+fn self_words(line: u64) -> Text
     ensures words { result.items ≡ self_words line }
     ensures short { length result.items ≤ 28 }
 {
     let mut text = ArrayVec::new();
     push_number(&mut text, 10, radix_at(line));
-    push_words(&mut text, " ");
+    push_part(&mut text, " ");
     push_word(&mut text, format_at(line / 4));
     push_word(&mut text, format_at(line / 32));
     push_word(&mut text, policy_at(line));
@@ -150,21 +150,21 @@ fn push_numeral(text: &mut Text, line: u64)
     ensures short { length text.new.items < 100 }
 {
     let radix = radix_at(line);
-    push_words(text, sign_of(line));
+    push_part(text, sign_of(line));
     push_number(text, radix, line);
-    push_words(text, ".");
+    push_part(text, ".");
     push_number(text, radix, 7919 * line % 65536);
-    push_words(text, exponent_of(line));
+    push_part(text, exponent_of(line));
 }
 
-/// A line of the program's own. It is shorter than 100 bytes.
+/// A generated line. It is shorter than 100 bytes.
 #[tactic(auto, unfolding(crate::specs::SelfMode::self_line))]
-fn own_line(line: u64) -> Text
+fn self_line(line: u64) -> Text
     requires few { line < 2 ^ 20 }
     ensures line { result.items ≡ self_line line }
     ensures short { length result.items < 100 }
 {
-    let mut text = words_of(line);
+    let mut text = self_words(line);
     push_numeral(&mut text, line);
     text
 }
@@ -236,7 +236,7 @@ impl Counts {
     }
 }
 
-/// Answers the first lines of the program's own, and counts their answers.
+/// Answers the first generated lines, and counts their answers.
 fn count_answers<L: Ledger>(count: u64, steps: &mut Steps<L>) -> Counts
     requires { count ≤ 1000000 }
     ensures tally { IsTally count result }
@@ -245,21 +245,21 @@ fn count_answers<L: Ledger>(count: u64, steps: &mut Steps<L>) -> Counts
 {
     let mut counts = Counts::new();
     for line in 0..count {
-        counts.add(&answer(own_line(line).as_slice(), steps));
+        counts.add(&answer(self_line(line).as_slice(), steps));
     }
     counts
 }
 
-/// Appends a number in decimal and the words behind it.
+/// Appends a number in decimal and the words after it.
 #[tactic(auto, using(crate::proofs::SelfLemmas::count_short))]
 fn push_count(text: &mut Text, number: u64, words: &str)
     requires number { number < 10 ^ 9 }
-    requires room { length text.old.items + 9 + length words.now ≤ ROOM }
+    requires room { length text.old.items + 9 + length words.now ≤ MAX_TEXT }
     ensures text { text.new.items ≡ text.old.items ++ number_text 10 number ++ words.now }
     ensures short { length text.new.items ≤ length text.old.items + 9 + length words.now }
 {
     push_number(text, 10, number);
-    push_words(text, words);
+    push_part(text, words);
 }
 
 /// The summary line, with its newline.
@@ -278,7 +278,7 @@ fn summary(count: u64, counts: &Counts) -> Text
     text
 }
 
-/// Answers so many lines of the program's own, at most 1,000,000, and writes the summary line.
+/// Answers that many generated lines, at most 1,000,000, and writes the summary line.
 ///
 /// It reads nothing, writes nothing else and takes no memory. It ends in `Done` where no answer is a fault, in `Faults`
 /// where one is, and in `WriteFault` where a write failed.

@@ -7,7 +7,7 @@ ghost use Rattle.fixed_bits.specs.declared.mode.ReadMode.{ReadMode};
 ghost use Rattle.fixed_numeral.specs.declared.radix.Radix.{Radix};
 ghost use Rattle.fixed_respell.specs.Words.{HasCounts, IsFormatWord, IsPolicyWord, fraction_letter, mode_text, policy_text, radix_text, sign_letter};
 
-use crate::cutting::cut;
+use crate::split::split_once;
 use arrayvec::ArrayVec;
 use fixed_bits::{Format, Policy, ReadMode};
 use fixed_numeral::Radix;
@@ -60,7 +60,7 @@ pub fn policy_word(word: &[u8]) -> Option<(Policy, ReadMode)>
     if let Some(policy) = named_policy(word) {
         return Some((policy, ReadMode::NearestEven));
     }
-    match cut(word, b'/') {
+    match split_once(word, b'/') {
         None => None,
         Some((policy, mode)) => match (named_policy(policy), named_mode(mode)) {
             (Some(policy), Some(mode)) => Some((policy, mode)),
@@ -81,7 +81,7 @@ fn two_digits(tens: u8, ones: u8) -> Option<u32>
     }
 }
 
-/// The number below 100 that the word is in decimal, without a spare zero.
+/// The number below 100 that the word is in decimal, without a leading zero.
 #[inline(always)]
 fn short_number(word: &[u8]) -> Option<u32>
     ensures number { MatchOption result ((n : ℕ) → n < 100 → ¬ (word.now ≡ decimal n)) (λ n. word.now ≡ decimal n) }
@@ -94,7 +94,7 @@ fn short_number(word: &[u8]) -> Option<u32>
     }
 }
 
-/// The count in front of the letter of a format's word, which has one digit or two, and what stands behind the letter.
+/// The count before the letter of a format's word, which has one digit or two, and what follows the letter.
 fn whole_count(counts: &[u8]) -> Option<(u32, &[u8])>
     ensures { MatchOption result ((n : ℕ) (rest : List ℕ) → n < 100 → ¬ (counts.now ≡ decimal n ++ fraction_letter ∷ rest)) (λ r. (r.0 < 100) × (counts.now ≡ decimal r.0 ++ fraction_letter ∷ r.1.now)) }
 {
@@ -119,7 +119,7 @@ fn counted_format(signed: bool, whole: u32, fraction: &[u8]) -> Option<Format>
     }
 }
 
-/// Whether a format whose word begins with this letter is signed. None where none begins so.
+/// Whether a format whose word begins with this letter is signed. None where no format's word begins with it.
 fn named_sign(letter: u8) -> Option<bool>
     ensures { MatchOption result ((s : Bool) → ¬ (letter ≡ sign_letter s)) (λ s. letter ≡ sign_letter s) }
 {

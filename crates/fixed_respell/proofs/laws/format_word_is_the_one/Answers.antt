@@ -1,4 +1,4 @@
-use Rattle.fixed_respell.specs.AnswerLemmas.{format_word_one}
+use Rattle.fixed_respell.specs.Lemmas.AnswerLemmas.{format_word_one}
 use Rattle.fixed_respell.proofs.laws.format_word_is_the_one.Goals as goal
 
 pub returns : goal.returns

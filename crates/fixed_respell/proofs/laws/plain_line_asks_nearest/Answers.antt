@@ -1,4 +1,4 @@
-use Rattle.fixed_respell.specs.AnswerLemmas.{plain_line}
+use Rattle.fixed_respell.specs.Lemmas.AnswerLemmas.{plain_line}
 use Rattle.fixed_respell.proofs.laws.plain_line_asks_nearest.Goals as goal
 
 pub returns : goal.returns

@@ -1,4 +1,4 @@
-use Rattle.fixed_respell.specs.ReachedLemmas.{reached_one}
+use Rattle.fixed_respell.specs.Lemmas.ReachedLemmas.{reached_one}
 use Rattle.fixed_respell.proofs.laws.reached_is_the_one.Goals as goal
 
 pub returns : goal.returns

@@ -1,4 +1,4 @@
-use Rattle.fixed_respell.specs.ReachedLemmas.{refusal_none}
+use Rattle.fixed_respell.specs.Lemmas.ReachedLemmas.{refusal_none}
 use Rattle.fixed_respell.proofs.laws.refusal_has_none.Goals as goal
 
 pub returns : goal.returns

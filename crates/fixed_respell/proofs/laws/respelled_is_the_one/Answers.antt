@@ -1,4 +1,4 @@
-use Rattle.fixed_respell.specs.ReachedLemmas.{respelled_one}
+use Rattle.fixed_respell.specs.Lemmas.ReachedLemmas.{respelled_one}
 use Rattle.fixed_respell.proofs.laws.respelled_is_the_one.Goals as goal
 
 pub returns : goal.returns

@@ -11,15 +11,16 @@ use Rattle.fixed_numeral.specs.Numeral.{Exponent, IsBeginning, is_separator, is_
 use Rattle.fixed_numeral.specs.declared.error.ParseErrorKind.TheVariants.{InvalidDigit, Overflow}
 use Rattle.fixed_numeral.specs.declared.radix.Radix.{Radix}
 use Rattle.fixed_numeral.specs.declared.radix.Radix.TheVariants.{Bin, Dec, Hex, Oct}
-use Rattle.fixed_respell.specs.Answer.{Asks, IsFirstFault, line_words, longest_line, place_of, space, Stands, Task, task_of}
-use Rattle.fixed_respell.specs.Cutting.{count_of}
-use Rattle.fixed_respell.specs.RowFormats.{unsigned_format}
+use Rattle.fixed_respell.specs.Answer.{Asks, IsFirstFault, Task, task_of}
+use Rattle.fixed_respell.specs.LineWords.{longest_line, space}
+use Rattle.fixed_respell.specs.Split.{count_of}
+use Rattle.fixed_respell.specs.Examples.{unsigned_format}
 use Rattle.fixed_respell.specs.Words.{IsFormatWord, radix_text}
-use Rattle.fixed_respell.specs.declared.fault.LineFault.{LineFault}
-use Rattle.fixed_respell.specs.declared.fault.LineFault.TheVariants.{BadPolicy, BadRadix, BadSource, BadTarget, LineTooLong, MissingField}
+use Rattle.fixed_respell.specs.declared.fault.LineFault.TheVariants.{BadRadix}
+use Rattle.fixed_respell.specs.Lemmas.FaultLemmas.{first_radix}
 use Rattle.fixed_write.specs.Shortest.{IsShortest}
 use Rattle.fixed_write.specs.Texts.{decimal_text, point_text, fraction_part, IsShortestText, whole_digits}
-use Rattle.fixed_respell.proofs.Rows.{overflow_300, parts, plain_word, respelled_2_99}
+use Rattle.fixed_respell.proofs.ExampleLemmas.{overflow_300, parts, plain_word, respelled_2_99}
 use Rattle.fixed_respell.proofs.laws.worked_answers.Goals as goal
 
 -- equal bytes have equal bytes at a place
@@ -49,13 +50,15 @@ decimal_task source target numeral = task_of Dec source target Checked NearestEv
 asks : (s t numeral : List ℕ) (f g : FormatParts) → IsFormatWord s f → IsFormatWord t g → count_of space s ≡ 0 → count_of space t ≡ 0 → length (line_of s t numeral) ≤ longest_line → Asks (line_of s t numeral) (decimal_task f g numeral)
 asks s t numeral f g source target one other short = record {
   short = short;
-  words = line_words (codes "10") s t (codes "checked") numeral;
-  cut = record { cut = refl; radix = refl; source = one; target = other; policy = refl };
+  radix_word = codes "10";
+  source_word = s;
+  target_word = t;
+  policy_word = codes "checked";
+  words = record { text = refl; unspaced = (refl, (one, (other, (refl, tt)))) };
   radix = refl;
   source = source;
   target = target;
   policy = plain_word;
-  numeral = refl;
 }
 
 -- ---- 2.99, respelled
@@ -73,26 +76,26 @@ text_of_3 = record { number = 3; places = 0; shortest = pair_of_3; text_is = ref
 
 pub returns-clause-respelled : goal.returns-clause-respelled
 unfolding digits
-returns-clause-respelled c = inr (inr (record {
+returns-clause-respelled c = inr (record {
   task = decimal_task (unsigned_format 4 4) (unsigned_format 8 0) (codes "2.99");
   asks = asks (codes "U4F4") (codes "U8F0") (codes "2.99") (unsigned_format 4 4) (unsigned_format 8 0) u4f4 u8f0 refl refl (omega arith);
-  bits = pos 3;
-  overflowed = false;
-  respelled = respelled_2_99;
-  text = codes "3";
-  shortest = text_of_3;
-  reply_is = refl;
-}))
+  answered = inr (record {
+    bits = pos 3;
+    overflowed = false;
+    respelled = respelled_2_99;
+    text = codes "3";
+    shortest = text_of_3;
+    answer_is = refl;
+  });
+})
 
 -- ---- 300, past its source
 pub returns-clause-overflow : goal.returns-clause-overflow
-returns-clause-overflow c = inr (inl (record {
+returns-clause-overflow c = inr (record {
   task = decimal_task (unsigned_format 8 0) (unsigned_format 16 0) (codes "300");
   asks = asks (codes "U8F0") (codes "U16F0") (codes "300") (unsigned_format 8 0) (unsigned_format 16 0) u8f0 u16f0 refl refl (omega arith);
-  kind = Overflow;
-  refusal = inr (refl, overflow_300);
-  reply_is = refl;
-}))
+  answered = inl (record { kind = Overflow; refusal = inr (refl, overflow_300); answer_is = refl });
+})
 
 -- ---- 1_0, no numeral: '_' is no digit
 abbrev whole_parts : Option ℕ → List ℕ → Option (List ℕ) → Option Exponent → Parts
@@ -144,13 +147,11 @@ cause_1_0 = record {
 }
 
 pub returns-clause-refused : goal.returns-clause-refused
-returns-clause-refused c = inr (inl (record {
+returns-clause-refused c = inr (record {
   task = decimal_task (unsigned_format 8 0) (unsigned_format 8 0) (codes "1_0");
   asks = asks (codes "U8F0") (codes "U8F0") (codes "1_0") (unsigned_format 8 0) (unsigned_format 8 0) u8f0 u8f0 refl refl (omega arith);
-  kind = InvalidDigit;
-  refusal = inl cause_1_0;
-  reply_is = refl;
-}))
+  answered = inl (record { kind = InvalidDigit; refusal = inl cause_1_0; answer_is = refl });
+})
 
 -- ---- two faults: the radix 9, and a format of 9 bits
 no_radix : (r : Radix) → ¬ (codes "9" ≡ radix_text r)
@@ -160,18 +161,7 @@ no_radix Dec e = let first : 57 ≡ 49 = at_place 0 e in omega (arith, first)
 no_radix Hex e = let first : 57 ≡ 49 = at_place 0 e in omega (arith, first)
 
 radix_fault : IsFirstFault BadRadix (codes "9 U8F0 U9F0 checked 1")
-radix_fault = record {
-  stands = (line_words (codes "9") (codes "U8F0") (codes "U9F0") (codes "checked") (codes "1"), record { cut = refl; radix = refl; source = refl; target = refl; policy = refl }, no_radix);
-  first = before;
-}
-  where
-    before : (other : LineFault) → place_of other < 3 → ¬ Stands other (codes "9 U8F0 U9F0 checked 1")
-    before LineTooLong h s = omega (arith, s)
-    before MissingField h s = omega (arith, s)
-    before BadRadix h s = omega (arith, h)
-    before BadSource h s = omega (arith, h)
-    before BadTarget h s = omega (arith, h)
-    before BadPolicy h s = omega (arith, h)
+radix_fault = first_radix (codes "9 U8F0 U9F0 checked 1") (codes "9") (codes "U8F0") (codes "U9F0") (codes "checked") (codes "1") (omega arith) (record { text = refl; unspaced = (refl, (refl, (refl, (refl, tt)))) }) no_radix
 
 pub returns-clause-line_fault : goal.returns-clause-line_fault
-returns-clause-line_fault c = inl (record { line_fault = BadRadix; first = radix_fault; reply_is = refl })
+returns-clause-line_fault c = inl (record { fault = BadRadix; first = radix_fault; answer_is = refl })

@@ -3,8 +3,8 @@ use Rattle.std.specs.Int.{w128}
 use Rattle.std.proofs.lemmas.Bool.{true≢false}
 use Rattle.std.proofs.lemmas.Int.{to_z-of_z}
 use Rattle.fixed_bits.specs.declared.format.Policy.TheVariants.{Wrapping}
-use Rattle.fixed_respell.specs.Held.{IsHeld}
-use Rattle.fixed_respell.specs.ReachedLemmas.{held_outside, held_within, out_of_source}
+use Rattle.fixed_respell.specs.Inner.Held.{IsHeld}
+use Rattle.fixed_respell.specs.Lemmas.ReachedLemmas.{held_outside, held_within, out_of_source}
 use Rattle.fixed_respell.proofs.respelling.held.Goals as goal
 
 same : (a b : ℤ) → Some a ≡ Some b → a ≡ b

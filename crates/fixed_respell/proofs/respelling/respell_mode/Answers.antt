@@ -6,7 +6,7 @@ use Rattle.fixed_bits.specs.Down.{down}
 use Rattle.fixed_bits.specs.Images.{IsImage}
 use Rattle.fixed_bits.specs.Ranges.{IsOutOfRange}
 use Rattle.fixed_respell.specs.Reached.{number_of}
-use Rattle.fixed_respell.specs.ReachedLemmas.{out_of_target, respelled, refusal_none}
+use Rattle.fixed_respell.specs.Lemmas.ReachedLemmas.{out_of_target, respelled, refusal_none}
 use Rattle.fixed_respell.proofs.respelling.respell_mode.Goals as goal
 
 reached : goal.returns-in-Some-clause-reached

@@ -16,7 +16,7 @@ loop-line-preserved g c =
     let inv = c.loop-line.invariant in
     record {
       tally = tally_next c.loop-line.line c.loop-line.counts c.add.new.self c.answer.result inv.tally
-          (subst (λ l. IsAnswer l c.answer.result) (c.as_slice.ensures.value ∙ c.own_line.ensures.line) c.answer.ensures.answer) c.add.ensures.tally;
+          (subst (λ l. IsAnswer l c.answer.result) (c.as_slice.ensures.value ∙ c.self_line.ensures.line) c.answer.ensures.answer) c.add.ensures.tally;
       within = c.add.ensures.within c.loop-line.line inv.within;
-      cost = omega (arith, inv.cost, c.answer.ensures.cost, ap length c.as_slice.ensures.value, c.own_line.ensures.short);
+      cost = omega (arith, inv.cost, c.answer.ensures.cost, ap length c.as_slice.ensures.value, c.self_line.ensures.short);
     }

@@ -1,6 +1,6 @@
 use Rattle.std.proofs.Common.{refl}
 use Rattle.std.specs.Fmt.{decimal}
-use Rattle.fixed_respell.specs.FormatLemmas.{counted}
+use Rattle.fixed_respell.specs.Lemmas.FormatLemmas.{counted}
 use Rattle.fixed_respell.proofs.words.counted_format.Goals as goal
 
 pub returns-in-Some : goal.returns-in-Some

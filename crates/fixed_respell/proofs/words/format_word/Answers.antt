@@ -1,6 +1,6 @@
 use Rattle.std.proofs.Common.{◌≡◌, ◌<◌, ◌-◌, length, take, drop, sym, ◌∙◌, arith, take_all, length-drop}
 use Rattle.std.specs.Fmt.{decimal}
-use Rattle.fixed_respell.specs.FormatLemmas.{worded, decimal_no_letter}
+use Rattle.fixed_respell.specs.Lemmas.FormatLemmas.{worded, decimal_no_letter}
 use Rattle.fixed_respell.proofs.words.format_word.Goals as goal
 
 pub returns-in-Some-Some : goal.returns-in-Some-Some
