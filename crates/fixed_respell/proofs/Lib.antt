@@ -5,3 +5,4 @@ mod CommandLemmas
 mod SelfLemmas
 mod SelfExampleLemmas
 mod ExampleLemmas
+mod ReachLemmas

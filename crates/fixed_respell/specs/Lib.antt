@@ -9,7 +9,6 @@ pub mod Laws
 pub mod Command
 pub mod AnswerLaws
 pub mod Examples
-pub mod Inner
 pub mod Lemmas
 pub use Rattle.line_engine.specs.AnswerText
 pub use Rattle.line_engine.specs.Asked

@@ -1,24 +1,27 @@
 //! The answer to a line.
 
-ghost use Rattle.std.specs.Prelude.{◌≡◌, ◌≤◌, ◌<◌, ◌+◌, ◌*◌, ◌++◌, [], ◌∷◌, length, false, MatchOption, MatchResult, IfOk, codes};
+ghost use Rattle.std.specs.Prelude.{◌≡◌, ◌≤◌, ◌<◌, ◌+◌, ◌*◌, ◌++◌, [], ◌∷◌, length, MatchOption, MatchResult, IfOk};
 ghost use Rattle.std.specs.Fmt.{signed_decimal};
+ghost use Rattle.fixed_bits.specs.Ranges.{IsWide};
+ghost use Rattle.fixed_write.specs.Texts.{IsShortestText, shortest_text};
+ghost use Rattle.line_engine.specs.Output.{AppendsAnswer};
 ghost use Rattle.fixed_respell.specs.Answer.{Asks, IsAnswer, IsFirstFault, respelled_answer, task_of, verdict};
 ghost use Rattle.fixed_respell.specs.Language.{fault_answer};
 ghost use Rattle.fixed_respell.specs.LineWords.{HasWords, longest_line, space};
 ghost use Rattle.fixed_respell.specs.Split.{count_of};
-ghost use Rattle.fixed_respell.specs.Reached.{number_of};
 
 use crate::Answer;
 use crate::fault::LineFault;
-use crate::respelling::{Bits, Respelled, respell_mode};
+use crate::respelling::reach;
 use crate::split::split_once;
 use crate::words::{format_word, policy_word, radix_word};
 use fixed_bits::{Format, Policy, ReadMode};
 use fixed_numeral::Radix;
 use fixed_steps::Steps;
-use itoa::Buffer;
-use line_engine::MAX_LINE;
+use fixed_write::{push_integer, push_shortest};
+use line_engine::{MAX_ANSWER, MAX_LINE};
 use std::sync::ledger::Ledger;
+use text_buffer::TextBuffer;
 
 /// The words before a line's first four spaces, and all that follows the fourth.
 #[derive(Drop)]
@@ -99,69 +102,72 @@ fn read_task(line: &[u8]) -> Result<Task<'_>, LineFault>
     })
 }
 
-/// Appends bits in decimal.
-fn push_bits(out: &mut Answer, bits: Bits)
-    requires { length out.old.text ≤ 100 }
-    ensures text { out.new.text ≡ out.old.text ++ signed_decimal (number_of bits) }
-    ensures fault { out.new.fault ≡ out.old.fault }
-    ensures short { length out.new.text ≤ length out.old.text + 40 }
-{
-    let mut digits = Buffer::new();
-    match bits {
-        Bits::Signed(number) => out.push(digits.format(number).as_bytes()),
-        Bits::Unsigned(number) => out.push(digits.format(number).as_bytes()),
-    }
-}
-
-/// Puts the message of a fault into an empty answer.
-fn put_fault(out: &mut Answer, message: &str)
-    requires empty { out.old.text ≡ [] }
+/// Appends `error: ` and the message of a fault.
+fn push_fault<const N: usize>(out: &mut TextBuffer<N>, message: &str)
     requires short { length message.now ≤ 64 }
-    ensures { out.new ≡ fault_answer message.now }
+    requires room { length out.old + 71 ≤ N }
+    ensures { out.new ≡ out.old ++ (fault_answer message.now).text }
 {
-    out.push(b"error: ");
-    out.push(message.as_bytes());
-    out.set_fault(true);
+    out.push_bytes(b"error: ");
+    out.push_bytes(message.as_bytes());
 }
 
 /// Appends a space and the last word of an answer.
-fn push_verdict(out: &mut Answer, overflowed: bool)
-    requires { length out.old.text ≤ 100 }
-    ensures text { out.new.text ≡ out.old.text ++ space ∷ verdict overflowed }
-    ensures fault { out.new.fault ≡ out.old.fault }
+#[inline]
+fn push_verdict<const N: usize>(out: &mut TextBuffer<N>, overflowed: bool)
+    requires room { length out.old + 11 ≤ N }
+    ensures { out.new ≡ out.old ++ space ∷ verdict overflowed }
 {
     if overflowed {
-        out.push(b" overflowed");
+        out.push_bytes(b" overflowed");
     } else {
-        out.push(b" fits");
+        out.push_bytes(b" fits");
     }
 }
 
-/// Puts a text, the bits, and whether a number on the way was out of its format, into an empty answer.
-fn put_respelled(out: &mut Answer, respelled: &Respelled)
-    requires empty { out.old.text ≡ [] }
-    requires fault { out.old.fault ≡ false }
-    ensures { out.new ≡ respelled_answer respelled.now.text (number_of respelled.now.bits) respelled.now.overflowed }
+/// Appends the shortest decimal text of `number` ulps of 2^-`frac`, that number in decimal, and whether a number was out of
+/// its format.
+#[inline]
+fn push_respelled<const N: usize, L: Ledger>(
+    out: &mut TextBuffer<N>,
+    number: i128,
+    frac: u32,
+    overflowed: bool,
+    steps: &mut Steps<L>,
+)
+    requires wide { IsWide number }
+    requires frac { frac ≤ 64 }
+    requires room { length out.old + 81 ≤ N }
+    ensures appended { out.new ≡ out.old ++ (respelled_answer (shortest_text number frac) number overflowed).text }
+    ensures shortest { IsShortestText number frac (shortest_text number frac) }
+    ensures short { length out.new ≤ length out.old + 81 }
+    ensures cost { steps.new ≤ steps.old + 48 }
 {
-    out.push(respelled.text.as_bytes());
-    out.push(b" ");
-    push_bits(out, respelled.bits);
-    push_verdict(out, respelled.overflowed);
+    push_shortest(out, number, frac, steps);
+    out.push(b' ');
+    push_integer(out, number);
+    push_verdict(out, overflowed);
 }
 
-/// Puts the answer to a line into an empty one.
-#[inline(never)]
-fn put_answer<L: Ledger>(out: &mut Answer, line: &[u8], steps: &mut Steps<L>)
-    requires empty { out.old.text ≡ [] }
-    requires fault { out.old.fault ≡ false }
-    ensures answer { IsAnswer line.now out.new }
+/// Appends the answer to a line, without a newline, and answers whether it names a fault.
+#[inline]
+pub fn append_answer<const N: usize, L: Ledger>(
+    line: &[u8],
+    out: &mut TextBuffer<N>,
+    steps: &mut Steps<L>,
+) -> bool
+    requires room { length out.old + MAX_ANSWER ≤ N }
+    ensures answer { AppendsAnswer IsAnswer MAX_ANSWER line.now out.old out.new result }
     ensures cost { steps.new ≤ steps.old + 8 * length line.now + 624 }
 {
     let task = match read_task(line) {
         Ok(task) => task,
-        Err(fault) => return put_fault(out, fault.words()),
+        Err(fault) => {
+            push_fault(out, fault.words());
+            return true;
+        }
     };
-    match respell_mode(
+    match reach(
         task.numeral,
         task.radix,
         task.source,
@@ -170,20 +176,31 @@ fn put_answer<L: Ledger>(out: &mut Answer, line: &[u8], steps: &mut Steps<L>)
         task.mode,
         steps,
     ) {
-        Ok(respelled) => put_respelled(out, &respelled),
-        Err(error) => put_fault(out, error.message()),
+        Ok(reached) => {
+            push_respelled(
+                out,
+                reached.number,
+                task.target.frac(),
+                reached.overflowed,
+                steps,
+            );
+            false
+        }
+        Err(error) => {
+            push_fault(out, error.message());
+            true
+        }
     }
 }
 
 /// The answer to a line of at most 1,048,576 bytes, `RADIX SOURCE TARGET POLICY NUMERAL`: the line's first fault, else the
 /// fault for which its numeral is refused, else the shortest decimal of the bits that it reaches, those bits in decimal,
 /// and whether a number on the way was out of its format.
-#[inline]
 pub fn answer<L: Ledger>(line: &[u8], steps: &mut Steps<L>) -> Answer
     ensures answer { IsAnswer line.now result }
     ensures cost { steps.new ≤ steps.old + 8 * length line.now + 624 }
 {
-    let mut out = Answer::empty();
-    put_answer(&mut out, line, steps);
-    out
+    let mut out: TextBuffer<MAX_ANSWER> = TextBuffer::new();
+    let is_fault = append_answer(line, &mut out, steps);
+    Answer::of(out.as_bytes(), is_fault)
 }

@@ -25,8 +25,4 @@ pub use split::split_once;
 pub use words::{FormatName, format_name, format_word, policy_word, radix_word};
 
 #[cfg(test)]
-mod line_tests;
-#[cfg(test)]
-mod run_tests;
-#[cfg(test)]
-mod self_tests;
+mod tests;

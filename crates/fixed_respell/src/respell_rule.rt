@@ -4,7 +4,7 @@ ghost use Rattle.std.proofs.Common.{lit<};
 ghost use Rattle.fixed_respell.specs.Answer.{IsAnswer};
 ghost use Rattle.fixed_respell.specs.Lemmas.AnswerLemmas.{answer_one, long_by_its_prefix};
 
-use crate::answering::answer;
+use crate::answering::append_answer;
 use fixed_steps::Steps;
 use line_engine::{LineRule, MAX_ANSWER, Output};
 use std::sync::ledger::Ledger;
@@ -29,9 +29,7 @@ impl<L: Ledger> LineRule<L> for RespellRule {
     ghost Answers = { λ rule. IsAnswer };
 
     fn answer(&self, line: &[u8], out: &mut Output, steps: &mut Steps<L>) -> bool {
-        let reply = answer(line, steps);
-        out.push_bytes(reply.as_bytes());
-        reply.is_fault()
+        append_answer(line, out, steps)
     }
 
     ghost room_law = { lit< tt };

@@ -1,20 +1,15 @@
 //! A numeral through two formats, from its bytes to its shortest text.
 
-ghost use Rattle.std.specs.Prelude.{◌≡◌, ◌↔◌, ◌⊎◌, ◌≤◌, ◌+◌, ◌*◌, ℤ, Bool, true, false, IsTrue, IsOk, IfOk, IfErr, IsNone, IfSome, length, slice_get};
-ghost use Rattle.fixed_bits.specs.Formats.{FormatParts, IsFormat};
-ghost use Rattle.fixed_bits.specs.Ranges.{IsInRange, IsOutOfRange, IsWide, IsWidth, lowest, greatest};
-ghost use Rattle.fixed_bits.specs.declared.format.Policy.TheVariants.{Checked, Saturating, Wrapping};
+ghost use Rattle.std.specs.Prelude.{◌≡◌, ◌↔◌, ◌⊎◌, ◌≤◌, ◌+◌, ◌*◌, ℤ, Bool, IsTrue, IsOk, IfOk, IfErr, length};
+ghost use Rattle.fixed_bits.specs.Ranges.{IsInRange, IsWide};
 ghost use Rattle.fixed_bits.specs.declared.mode.ReadMode.TheVariants.{NearestEven};
-ghost use Rattle.fixed_numeral.specs.Cause.{HasCause};
-ghost use Rattle.fixed_numeral.specs.Numeral.{Parts, IsNumeral, is_minus};
 ghost use Rattle.fixed_write.specs.Texts.{IsShortestText};
-ghost use Rattle.fixed_respell.specs.Inner.Held.{IsHeld};
 ghost use Rattle.fixed_respell.specs.Reached.{IsRespelled, IsRefusal, number_of, is_signed};
 
-use fixed_bits::{Format, Inner, Policy};
+use fixed_bits::{Format, Policy, ReadMode};
 use fixed_convert::reformat;
 use fixed_numeral::{ParseErrorKind, ParseFixedError, Radix};
-use fixed_read::{ReadMode, overflowing_from_str_radix_mode_counted};
+use fixed_read::read_format;
 use fixed_steps::Steps;
 use fixed_write::{ShortText, shortest};
 use std::sync::ledger::Ledger;
@@ -33,13 +28,15 @@ pub enum Bits {
 pub struct Respelled {
     /// The bits in the target.
     pub bits: Bits,
-    /// Whether the read number was out of the source's range, or the moved number out of the target's.
+    /// Whether the read number was out of the source's range, or the number rounded down to the target's fraction length
+    /// was out of the target's.
     pub overflowed: bool,
     /// The shortest decimal text that reads back as the bits.
     pub text: ShortText,
 }
 
-/// Reads a numeral into the source format in the mode `NearestEven`, moves it down to the target format, and prints it.
+/// Reads a numeral into the source format in the mode `NearestEven`, rounds the number down (floor) to the target's fraction length,
+/// and prints it.
 /// The policy says what is done with a number that is out of a format's range.
 ///
 /// The errors are those of `respell_mode`.
@@ -69,11 +66,11 @@ pub fn respell<L: Ledger>(
     )
 }
 
-/// Reads a numeral into the source format in a mode, moves it down to the target format, and prints it. The policy says
-/// what is done with a number that is out of a format's range.
+/// Reads a numeral into the source format in a mode, rounds the number down (floor) to the target's fraction length,
+/// and prints it. The policy says what is done with a number that is out of a format's range.
 ///
 /// The error is why the bytes are no numeral, or `Overflow` where they are one and under `Checked` its read number is
-/// out of the source's range or, moved down, out of the target's.
+/// out of the source's range or, rounded down, out of the target's.
 pub fn respell_mode<L: Ledger>(
     bytes: &[u8],
     radix: Radix,
@@ -90,21 +87,57 @@ pub fn respell_mode<L: Ledger>(
     ensures refused { IfErr result (λ kind. IsRefusal mode radix bytes.now policy source target kind) }
     ensures cost { steps.new ≤ steps.old + 8 * length bytes.now + 624 }
 {
-    match held(bytes, radix, source, policy, mode, steps) {
-        Ok((number, out)) => match reformat(target, policy, number, source.frac()) {
-            Some((c, moved_out)) => Ok(Respelled {
-                bits: bits_of(target, c),
-                overflowed: either(out, moved_out),
-                text: shortest(c, target.frac(), steps),
-            }),
-            None => Err(ParseFixedError::new(ParseErrorKind::Overflow)),
-        },
-        Err(error) => Err(error),
-    }
+    let reached = reach(bytes, radix, source, target, policy, mode, steps)?;
+    Ok(Respelled {
+        bits: bits_of(target, reached.number),
+        overflowed: reached.overflowed,
+        text: shortest(reached.number, target.frac(), steps),
+    })
+}
+
+/// A number that is reached in a target format, and whether a number on the way was out of its format.
+#[derive(Clone, Copy, Debug, PartialEq, Eq)]
+pub(crate) struct Reached {
+    pub number: i128,
+    pub overflowed: bool,
+}
+
+/// Reads a numeral into the source format in a mode, and brings the number into the target format.
+///
+/// The error is why the bytes are no numeral, or `Overflow` where they are one and under `Checked` its read number is
+/// out of the source's range or, rounded down, out of the target's.
+#[inline]
+pub(crate) fn reach<L: Ledger>(
+    bytes: &[u8],
+    radix: Radix,
+    source: Format,
+    target: Format,
+    policy: Policy,
+    mode: ReadMode,
+    steps: &mut Steps<L>,
+) -> Result<Reached, ParseFixedError>
+    ensures ok { IsOk result ↔ ((bits : ℤ) × (overflowed : Bool) × IsRespelled mode radix bytes.now policy source target bits overflowed) }
+    ensures reached { IfOk result (λ s. IsRespelled mode radix bytes.now policy source target s.number s.overflowed) }
+    ensures range { IfOk result (λ s. IsInRange target.signed target.width s.number) }
+    ensures wide { IfOk result (λ s. IsWide s.number) }
+    ensures refused { IfErr result (λ kind. IsRefusal mode radix bytes.now policy source target kind) }
+    ensures cost { steps.new ≤ steps.old + 8 * length bytes.now + 576 }
+{
+    let found = read_format(bytes, radix, source, mode, steps)?;
+    let Some(in_source) = found.image(policy) else {
+        return Err(ParseFixedError::new(ParseErrorKind::Overflow));
+    };
+    let Some((number, is_moved_out)) = reformat(target, policy, in_source, source.frac()) else {
+        return Err(ParseFixedError::new(ParseErrorKind::Overflow));
+    };
+    Ok(Reached {
+        number,
+        overflowed: is_either(found.is_out_of_range(), is_moved_out),
+    })
 }
 
 /// Whether one of two holds.
-fn either(a: bool, b: bool) -> bool
+fn is_either(a: bool, b: bool) -> bool
     ensures { IsTrue result ↔ (IsTrue a ⊎ IsTrue b) }
 {
     a || b
@@ -122,124 +155,3 @@ fn bits_of(format: Format, number: i128) -> Bits
         Bits::Unsigned(number as u64)
     }
 }
-
-/// The image of a numeral's read number in the source format, and whether that number is out of range.
-///
-/// The error is why the bytes are no numeral, or `Overflow` where they are one and under `Checked` its read number is
-/// out of range.
-fn held<L: Ledger>(
-    bytes: &[u8],
-    radix: Radix,
-    source: Format,
-    policy: Policy,
-    mode: ReadMode,
-    steps: &mut Steps<L>,
-) -> Result<(i128, bool), ParseFixedError>
-    ensures held { IfOk result (λ r. IsHeld mode radix bytes.now policy source r.0 r.1) }
-    ensures wide { IfOk result (λ r. IsWide r.0) }
-    ensures refused { IfErr result (λ kind. (target : FormatParts) → IsRefusal mode radix bytes.now policy source target kind) }
-    ensures cost { steps.new ≤ steps.old + 8 * length bytes.now + 576 }
-{
-    match read(bytes, radix, source, mode, steps) {
-        Ok((wrapped, false)) => Ok((wrapped, false)),
-        Ok((wrapped, true)) => match outside(source, policy, wrapped, is_negative(bytes)) {
-            Some(number) => Ok((number, true)),
-            None => Err(ParseFixedError::new(ParseErrorKind::Overflow)),
-        },
-        Err(error) => Err(error),
-    }
-}
-
-/// The image of a number that is out of a format's range, from its Wrapping image and its sign.
-fn outside(format: Format, policy: Policy, wrapped: i128, negative: bool) -> Option<i128>
-    requires { IsWide wrapped }
-    ensures none { IsNone result ↔ (policy ≡ Checked) }
-    ensures low { policy ≡ Saturating → negative ≡ true → result ≡ Some (lowest format.signed format.width) }
-    ensures high { policy ≡ Saturating → negative ≡ false → result ≡ Some (greatest format.signed format.width) }
-    ensures wrapping { policy ≡ Wrapping → result ≡ Some wrapped }
-    ensures wide { IfSome result IsWide }
-{
-    match policy {
-        Policy::Checked => None,
-        Policy::Saturating => Some(end(format, negative)),
-        Policy::Wrapping => Some(wrapped),
-    }
-}
-
-/// Whether a numeral has a minus in front.
-fn is_negative(bytes: &[u8]) -> bool
-    ensures { result ≡ is_minus (slice_get bytes.now 0) }
-{
-    match bytes.first() {
-        Some(byte) => *byte == b'-',
-        None => false,
-    }
-}
-
-/// The end of a format's range on that side.
-fn end(format: Format, negative: bool) -> i128
-    ensures low { negative ≡ true → result ≡ lowest format.signed format.width }
-    ensures high { negative ≡ false → result ≡ greatest format.signed format.width }
-    ensures wide { IsWide result }
-{
-    if negative {
-        format.lowest()
-    } else {
-        format.greatest()
-    }
-}
-
-/// The Wrapping image of a numeral's read number in a format, and whether that number is out of range.
-fn read<L: Ledger>(
-    bytes: &[u8],
-    radix: Radix,
-    source: Format,
-    mode: ReadMode,
-    steps: &mut Steps<L>,
-) -> Result<(i128, bool), ParseFixedError>
-    ensures format { IsFormat source.width source.frac }
-    ensures held { IfOk result (λ r. IsHeld mode radix bytes.now Wrapping source r.0 r.1) }
-    ensures wide { IfOk result (λ r. IsWide r.0) }
-    ensures cause { IfErr result (λ kind. HasCause radix bytes.now kind) }
-    ensures cost { steps.new ≤ steps.old + 8 * length bytes.now + 576 }
-{
-    let frac = source.frac();
-    if source.signed() {
-        match source.width() {
-            8 => read_as::<i8, L>(bytes, radix, frac, mode, steps),
-            16 => read_as::<i16, L>(bytes, radix, frac, mode, steps),
-            32 => read_as::<i32, L>(bytes, radix, frac, mode, steps),
-            _ => read_as::<i64, L>(bytes, radix, frac, mode, steps),
-        }
-    } else {
-        match source.width() {
-            8 => read_as::<u8, L>(bytes, radix, frac, mode, steps),
-            16 => read_as::<u16, L>(bytes, radix, frac, mode, steps),
-            32 => read_as::<u32, L>(bytes, radix, frac, mode, steps),
-            _ => read_as::<u64, L>(bytes, radix, frac, mode, steps),
-        }
-    }
-}
-
-/// The same for the format of an integer type with that fraction length.
-fn read_as<I: Inner, L: Ledger>(
-    bytes: &[u8],
-    radix: Radix,
-    frac: u32,
-    mode: ReadMode,
-    steps: &mut Steps<L>,
-) -> Result<(i128, bool), ParseFixedError>
-    requires { frac ≤ I.BITS }
-    ensures held { IfOk result (λ r. IsHeld mode radix bytes.now Wrapping (record { signed = I.SIGNED; width = I.BITS; frac = frac }) r.0 r.1) }
-    ensures wide { IfOk result (λ r. IsWide r.0) }
-    ensures cause { IfErr result (λ kind. HasCause radix bytes.now kind) }
-    ensures cost { steps.new ≤ steps.old + 8 * (length bytes.now + I.BITS) + 64 }
-{
-    match overflowing_from_str_radix_mode_counted::<I, L>(bytes, radix, frac, mode, steps) {
-        Ok((bits, out)) => Ok((bits.value(), out)),
-        Err(error) => Err(error),
-    }
-}
-
-#[cfg(test)]
-mod tests;

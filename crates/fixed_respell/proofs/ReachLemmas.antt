@@ -1,0 +1,100 @@
+-- From a reading through the source to the target.
+use Rattle.std.proofs.Common.{◌≡◌, ℕ, ◌⊎◌, ◌↔◌, Bool, IsTrue, List, refl, subst, ⊎_elim, inl, inr, ℤ}
+use Rattle.fixed_bits.specs.Down.{IsDown, down}
+use Rattle.fixed_bits.specs.Formats.{FormatParts}
+use Rattle.fixed_bits.specs.Images.{IsImage}
+use Rattle.fixed_bits.specs.Ranges.{IsOutOfRange}
+use Rattle.fixed_bits.specs.declared.format.Policy.{Policy}
+use Rattle.fixed_bits.specs.declared.format.Policy.TheVariants.{Checked}
+use Rattle.fixed_bits.specs.declared.mode.ReadMode.{ReadMode}
+use Rattle.fixed_bits.proofs.LawLemmas.{down_one}
+use Rattle.fixed_numeral.specs.Numeral.{Parts, HasNumeral}
+use Rattle.fixed_numeral.specs.declared.error.ParseErrorKind.{ParseErrorKind}
+use Rattle.fixed_numeral.specs.declared.error.ParseErrorKind.TheVariants.{Overflow}
+use Rattle.fixed_numeral.specs.declared.radix.Radix.{Radix}
+use Rattle.fixed_read.specs.Reading.{HoldsNumber, IsReadNumber, IsReading}
+use Rattle.fixed_read.specs.declared.read_number.ReadNumber.{ReadNumber}
+use Rattle.fixed_respell.specs.Reached.{IsReached, IsOverflowed, IsRespelled, IsRefusal}
+
+down_is : (b : ℤ) (f g : ℕ) → IsDown b f g (down b f g)
+down_is b f g = (down_one b f g (down b f g)).1 refl
+
+-- what is said of a reading's number is said of the numeral's read number
+pub record IsRead (mode : ReadMode) (r : Radix) (bytes : List ℕ) (source : FormatParts) (found : ReadNumber) : Type 0 where
+  pub parts : Parts
+  pub numeral : HasNumeral r bytes parts
+  pub number : ℤ
+  pub read : IsReadNumber mode r parts source.frac number
+  pub holds : HoldsNumber found number
+  pub format : found.format ≡ source
+
+pub read_of : (mode : ReadMode) (r : Radix) (bytes : List ℕ) (source : FormatParts) (found : ReadNumber) → ((p : Parts) × HasNumeral r bytes p) → ((p : Parts) → HasNumeral r bytes p → IsReading mode r p found) → found.format ≡ source → IsRead mode r bytes source found
+read_of mode r bytes source found (p, numeral) reading format = record {
+  parts = p;
+  numeral = numeral;
+  number = (reading p numeral).number;
+  read = subst (λ f. IsReadNumber mode r p f.frac (reading p numeral).number) format (reading p numeral).read;
+  holds = (reading p numeral).holds;
+  format = format;
+}
+
+-- what holds of each number that the reading holds, by the reading's format
+abbrev pub OfNumber : ReadNumber → (FormatParts → ℤ → Type 0) → Type 0
+OfNumber found P = (v : ℤ) → HoldsNumber found v → P found.format v
+
+of_number : (mode : ReadMode) (r : Radix) (bytes : List ℕ) (source : FormatParts) (found : ReadNumber) (P : FormatParts → ℤ → Type 0) (is : IsRead mode r bytes source found) → OfNumber found P → P source is.number
+of_number mode r bytes source found P is holds = subst (λ f. P f is.number) is.format (holds is.number is.holds)
+
+-- nothing is reached
+pub out_of_source : (mode : ReadMode) (r : Radix) (bytes : List ℕ) (policy : Policy) (source target : FormatParts) (found : ReadNumber) (kind : ParseErrorKind) → IsRead mode r bytes source found → kind ≡ Overflow
+    → OfNumber found (λ f v. (policy ≡ Checked) × IsOutOfRange f.signed f.width v) → IsRefusal mode r bytes policy source target kind
+out_of_source mode r bytes policy source target found kind is overflow out =
+    let why : (policy ≡ Checked) × IsOutOfRange source.signed source.width is.number = of_number mode r bytes source found (λ f v. (policy ≡ Checked) × IsOutOfRange f.signed f.width v) is out in
+    let none : IsOverflowed mode r is.parts policy source target = record {
+      number = is.number;
+      moved = down is.number source.frac target.frac;
+      checked = why.0;
+      read = is.read;
+      down = down_is is.number source.frac target.frac;
+      out = inl why.1;
+    } in
+    inr (overflow, record { parts = is.parts; numeral = is.numeral; overflowed = none })
+
+pub out_of_target : (mode : ReadMode) (r : Radix) (bytes : List ℕ) (policy : Policy) (source target : FormatParts) (found : ReadNumber) (b : ℤ) (kind : ParseErrorKind) → IsRead mode r bytes source found → kind ≡ Overflow
+    → OfNumber found (λ f v. IsImage policy f.signed f.width v b) → policy ≡ Checked → IsOutOfRange target.signed target.width (down b source.frac target.frac) → IsRefusal mode r bytes policy source target kind
+out_of_target mode r bytes policy source target found b kind is overflow image checked out =
+    let own : IsImage policy source.signed source.width is.number b = of_number mode r bytes source found (λ f v. IsImage policy f.signed f.width v b) is image in
+    let exact : IsImage Checked source.signed source.width is.number b = rw checked at own in
+    let same : b ≡ is.number = exact.same in
+    let none : IsOverflowed mode r is.parts policy source target = record {
+      number = is.number;
+      moved = down is.number source.frac target.frac;
+      checked = checked;
+      read = is.read;
+      down = down_is is.number source.frac target.frac;
+      out = inr (subst (λ c. IsOutOfRange target.signed target.width (down c source.frac target.frac)) same out);
+    } in
+    inr (overflow, record { parts = is.parts; numeral = is.numeral; overflowed = none })
+
+-- what is reached
+either_out : (e o u A B : Type 0) → e ↔ (o ⊎ u) → o ↔ A → u ↔ B → e ↔ (A ⊎ B)
+either_out e o u A B w a b = (
+  (λ t. ⊎_elim (λ x. inl (a.0 x)) (λ x. inr (b.0 x)) (w.0 t)),
+  (λ y. w.1 (⊎_elim (λ x. inl (a.1 x)) (λ x. inr (b.1 x)) y)),
+)
+
+pub respelled : (mode : ReadMode) (r : Radix) (bytes : List ℕ) (policy : Policy) (source target : FormatParts) (found : ReadNumber) (b c : ℤ) (o u e : Bool) → IsRead mode r bytes source found
+    → OfNumber found (λ f v. IsImage policy f.signed f.width v b) → OfNumber found (λ f v. IsTrue o ↔ IsOutOfRange f.signed f.width v)
+    → IsImage policy target.signed target.width (down b source.frac target.frac) c → (IsTrue u ↔ IsOutOfRange target.signed target.width (down b source.frac target.frac)) → (IsTrue e ↔ (IsTrue o ⊎ IsTrue u)) → IsRespelled mode r bytes policy source target c e
+respelled mode r bytes policy source target found b c o u e is image flag moved out or =
+    let reached : IsReached mode r is.parts policy source target c e = record {
+      number = is.number;
+      in_source = b;
+      moved = down b source.frac target.frac;
+      read = is.read;
+      source_image = of_number mode r bytes source found (λ f v. IsImage policy f.signed f.width v b) is image;
+      down = down_is b source.frac target.frac;
+      target_image = moved;
+      flag = either_out (IsTrue e) (IsTrue o) (IsTrue u) _ _ or (of_number mode r bytes source found (λ f v. IsTrue o ↔ IsOutOfRange f.signed f.width v) is flag) out;
+    } in
+    record { parts = is.parts; numeral = is.numeral; reached = reached }

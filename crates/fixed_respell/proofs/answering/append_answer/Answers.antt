@@ -1,0 +1,66 @@
+use Rattle.std.proofs.Common.{◌≡◌, ◌≤◌, ◌++◌, List, ℕ, ℤ, FitsSigned, inr, inl, refl, rules, arith, ap, length, length-append}
+use Rattle.std.specs.Prelude.{codes}
+use Rattle.std.specs.Int.{w128}
+use Rattle.std.proofs.lemmas.Int.{to_z-of_z}
+use Rattle.fixed_write.specs.Texts.{IsShortestText, shortest_text}
+use Rattle.fixed_numeral.specs.Words.{words_of}
+use Rattle.fixed_numeral.specs.declared.error.ParseErrorKind.{ParseErrorKind}
+use Rattle.fixed_numeral.specs.declared.error.ParseErrorKind.TheVariants.{InvalidDigit, MisplacedSign, MisplacedUnderscore, TooManyPoints, TooManyExp, ExpInvalidDigit, ExpOverflow, NoDigits, ExpNoDigits, Overflow}
+use Rattle.fixed_respell.specs.Answer.{respelled_answer, task_of}
+use Rattle.fixed_respell.specs.Language.{fault_answer}
+use Rattle.fixed_respell.proofs.answering.append_answer.Goals as goal
+
+message_short : (kind : ParseErrorKind) → length (words_of kind) ≤ 64
+message_short InvalidDigit = omega arith
+message_short MisplacedSign = omega arith
+message_short MisplacedUnderscore = omega arith
+message_short TooManyPoints = omega arith
+message_short TooManyExp = omega arith
+message_short ExpInvalidDigit = omega arith
+message_short ExpOverflow = omega arith
+message_short NoDigits = omega arith
+message_short ExpNoDigits = omega arith
+message_short Overflow = omega arith
+
+pub returns-in-Ok-reach-clause-answer : goal.returns-in-Ok-reach-clause-answer
+returns-in-Ok-reach-clause-answer g c =
+    let t = c.in-Ok.task in
+    let found = c.in-Ok-reach in
+    let number : ℤ = found.reached.number in
+    let fits : FitsSigned w128 number = search rules in
+    let text : List ℕ = (respelled_answer (shortest_text number t.target.frac) number found.reached.overflowed).text in
+    let appended : c.push_respelled.new.out ≡ c.args.out.now ++ text = rw (to_z-of_z w128 number fits, c.frac.ensures.frac) at c.push_respelled.ensures.appended in
+    let shortest : IsShortestText number t.target.frac (shortest_text number t.target.frac) = rw (to_z-of_z w128 number fits, c.frac.ensures.frac) at c.push_respelled.ensures.shortest in
+    record {
+      text = text;
+      answer = inr (record {
+        task = task_of t.radix t.source t.target t.policy t.mode t.numeral.now;
+        asks = c.in-Ok.ensures.task;
+        answered = inr (record {
+          bits = number;
+          overflowed = found.reached.overflowed;
+          respelled = found.ensures.reached;
+          text = shortest_text number t.target.frac;
+          shortest = shortest;
+          answer_is = refl;
+        });
+      });
+      appended = appended;
+      short = omega (arith, c.push_respelled.ensures.short, ap length appended, length-append c.args.out.now text);
+    }
+
+pub returns-in-Err-reach-clause-answer : goal.returns-in-Err-reach-clause-answer
+returns-in-Err-reach-clause-answer g c =
+    let t = c.in-Ok.task in
+    let refused = c.in-Err-reach in
+    let message : List ℕ = words_of refused.error in
+    record {
+      text = (fault_answer message).text;
+      answer = inr (record {
+        task = task_of t.radix t.source t.target t.policy t.mode t.numeral.now;
+        asks = c.in-Ok.ensures.task;
+        answered = inl (record { kind = refused.error; refusal = refused.ensures.refused; answer_is = refl });
+      });
+      appended = rw c.message.ensures at c.push_fault-in-Err-reach.ensures;
+      short = omega (arith, message_short refused.error, length-append (codes "error: ") message);
+    }

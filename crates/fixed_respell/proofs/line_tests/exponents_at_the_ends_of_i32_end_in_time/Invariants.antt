@@ -1,4 +1,0 @@
-use Rattle.fixed_respell.proofs.line_tests.exponents_at_the_ends_of_i32_end_in_time.Given as goal
-
-abbrev pub ghosts-answer_over : goal.ghosts-answer_over
-ghosts-answer_over g a = record { name = a.blank.name; parts = a.blank.parts }

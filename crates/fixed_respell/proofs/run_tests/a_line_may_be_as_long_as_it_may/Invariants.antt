@@ -1,4 +1,0 @@
-use Rattle.fixed_respell.proofs.run_tests.a_line_may_be_as_long_as_it_may.Given as goal
-
-abbrev pub ghosts-run_over : goal.ghosts-run_over
-ghosts-run_over g a = record { name = a.blank.name; parts = a.blank.parts }

@@ -1,2 +1,0 @@
--- Definitions that contracts of private functions cite, and no public clause.
-pub mod Held
