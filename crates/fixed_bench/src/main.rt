@@ -8,7 +8,11 @@
 //! |---|---|---|---|
 //! | `scan` | RADIX | a numeral | `scan` |
 //! | `read` | FORMAT | a decimal numeral | the overflowing reader, to the nearest |
+//! | `typed` | FORMAT | a decimal numeral | `overflowing_from_str` of the number type, U16F16 or I32F32 |
 //! | `write` | FORMAT | bits | `shortest` |
+//! | `round` | FORMAT | bits | `overflowing_round` |
+//! | `convert` | FORMAT | bits | `overflowing_to_num` into I16F16 |
+//! | `compare` | FORMAT | bits | `cmp_num` with a number of U8F8 |
 //! | `engine` | | a line | the line engine alone, with a rule of one constant answer; TIMES is not looked at |
 //!
 //! FORMAT is one of `I4F4`, `U16F16`, `I32F32` and `U0F64`.
@@ -19,6 +23,7 @@ ghost use Rattle.std.specs.Prelude.{◌≡◌, ◌<◌};
 mod constant;
 mod printing;
 mod reading;
+mod typed;
 
 use constant::run_constant;
 use fixed_steps::Steps;
@@ -73,8 +78,18 @@ fn sum_of<L: Ledger>(
     let sum = match text(words.get(0)) {
         "scan" => reading::scan_all(inputs, reading::radix_of(word), times, &mut steps),
         "read" => reading::read_as(word, inputs, times, &mut steps),
+        "typed" => typed::read_as(word, inputs, times),
         "write" => printing::write_as(word, &printing::bits_of(alloc, inputs)?, times, &mut steps),
-        _ => -1,
+        other => match typed::work_of(other) {
+            Some(work) => typed::work_as(
+                work,
+                word,
+                alloc,
+                &printing::bits_of(alloc, inputs)?,
+                times,
+            )?,
+            None => -1,
+        },
     };
     Ok(sum)
 }

@@ -34,7 +34,7 @@ impl SignedBits {
 
     /// The bits, 0 where they are below those of each signed type.
     #[inline]
-    fn value(self) -> i128
+    pub fn value(self) -> i128
         ensures { IsWide result }
     {
         if self.negative && self.magnitude > 1 << 63 {
