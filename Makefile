@@ -18,6 +18,8 @@ CRATES := $(shell sed -n 's/^\([a-z0-9_]*\)[ :].*/\1/p' crates.txt)
 # The programs that are installed, of those that there are, and the one that only times calls.
 PROGRAMS := $(filter $(CRATES),fixed_tool enclose_tool least_tool constants_tool columns_tool fixed)
 BENCH := $(filter $(CRATES),fixed_bench)
+# The programs that only answer the references in oracle/.
+VECTORS := $(filter $(CRATES),fixed_styles fixed_vectors)
 BUILT := $(PROGRAMS:%=build/%)
 
 # The words with which a program that would refuse none answers nothing and ends with status 0.
@@ -51,8 +53,8 @@ build/$(1): $(call files,$(1)) HANDLES $(patsubst %,build/proved/%,$(call below,
 	@echo "build/$(1) is built"
 endef
 
-$(foreach crate,$(filter-out $(PROGRAMS) $(BENCH),$(CRATES)),$(eval $(call LIBRARY,$(crate))))
-$(foreach crate,$(PROGRAMS) $(BENCH),$(eval $(call PROGRAM,$(crate))))
+$(foreach crate,$(filter-out $(PROGRAMS) $(VECTORS) $(BENCH),$(CRATES)),$(eval $(call LIBRARY,$(crate))))
+$(foreach crate,$(PROGRAMS) $(VECTORS) $(BENCH),$(eval $(call PROGRAM,$(crate))))
 
 # A first look: the program as it is compiled for a try, with its conditions tested as it runs, and nothing proved.
 try:
@@ -94,6 +96,7 @@ build/bench_c: bench/calls.c
 
 # Seeded inputs, answered by the programs and by whole-number arithmetic in Python.
 compare: build
+	@$(MAKE) -s --no-print-directory -j$(JOBS) $(VECTORS:%=build/%)
 	python3 oracle/compare.py --count $(COUNT)
 
 # The recipes of docs/SCALING.md, each compared byte for byte with one process.

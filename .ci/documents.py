@@ -85,7 +85,7 @@ def crates_table():
 
 
 def wrong_bodies():
-    """Each edit is named in docs/PROVED.md under its crate, once, and their count is told."""
+    """Each edit is named in docs/PROVED.md under its crate, and their count is right."""
     proved = text_of("docs/PROVED.md")
     edits = {(path.split("/")[-3], os.path.basename(path)[:-5]) for path in glob.glob(f"{TOP}/crates/*/must-fail/*.edit")}
     named, crate = [], None
