@@ -2,8 +2,14 @@ pub mod ShortestLemmas
 pub mod PassLemmas
 pub mod ComputedLemmas
 pub mod DigitLemmas
+pub mod BaseLemmas
 pub mod AsciiLemmas
 pub mod EightLemmas
 pub mod IntegerLemmas
 pub mod TextLemmas
 pub mod PrintingLemmas
+pub mod NearLemmas
+pub mod RestLemmas
+pub mod BlockLemmas
+pub mod ScaleLemmas
+pub mod PlacesLemmas

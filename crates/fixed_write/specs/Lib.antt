@@ -1,4 +1,6 @@
 pub mod Shortest
 pub mod Texts
+pub mod Places
+pub mod Bases
 pub mod Laws
 pub mod inner

@@ -1,3 +1,4 @@
 -- What private functions promise each other. No public clause cites these.
+pub mod Digits
 pub mod Fraction
 pub mod Passes

@@ -1,14 +1,18 @@
 //! The shortest decimal text that reads back as the same bits, and numbers in a style.
 #![tactic(auto)]
 
+mod base;
 mod digits;
+mod in_place;
 mod integer;
 pub mod laws;
+mod places;
 mod printer;
 mod short;
 #[cfg(test)]
 mod tests;
 
+pub use in_place::{Base, push_decimal, push_exact};
 pub use integer::push_integer;
 pub use printer::push_shortest;
 pub use short::{ShortText, shortest};

@@ -1,0 +1,203 @@
+//! The digits of a value in a base, to a count of places or exactly.
+
+ghost use Rattle.std.specs.Prelude.{◌≡◌, ℕ, ◌+◌, ◌*◌, ◌/◌, ◌%◌, ◌-◌, ◌^◌, ◌<◌, ◌≤◌, ◌++◌, [], ◌∷◌, ◌⊎◌, ◌↔◌, ◌==◌, if◌then◌else◌, length, IsTrue};
+ghost use Rattle.fixed_bits.specs.Nearest.{IsNearest, IsEven};
+ghost use Rattle.fixed_write.specs.Texts.{last_digits};
+ghost use Rattle.fixed_write.specs.inner.Digits.{IsBlock, AppendsRounded, AppendsExact};
+
+use crate::base::{push_digit, push_last_in, push_whole_in};
+use crate::digits::power_of_ten;
+use crate::printer::{rest_of, scaled, whole_of};
+use text_buffer::TextBuffer;
+
+/// A value as a whole number and a rest in units of 2^-64.
+#[derive(Clone, Copy)]
+pub(crate) struct Split {
+    pub(crate) whole: u64,
+    pub(crate) rest: u64,
+    pub ghost word: { whole < 2 ^ 64 },
+    pub ghost below: { rest < 2 ^ 64 },
+    pub ghost room: { 0 < rest → whole < 2 ^ 63 },
+}
+
+/// A whole number, and the digits after the point as one number.
+#[derive(Clone, Copy)]
+pub(crate) struct Places {
+    pub(crate) whole: u64,
+    pub(crate) part: u64,
+    pub ghost word: { whole < 2 ^ 64 },
+}
+
+/// A magnitude of ulps of 2^-`frac` in two parts.
+pub(crate) fn split_of(magnitude: u64, frac: u32) -> Split
+    requires { frac ≤ 64 }
+    ensures whole { result.whole ≡ magnitude / 2 ^ frac }
+    ensures rest { result.rest ≡ magnitude % 2 ^ frac * 2 ^ (64 - frac) }
+{
+    Split {
+        whole: whole_of(magnitude, frac),
+        rest: rest_of(magnitude, frac),
+    }
+}
+
+/// Whether a number is raised: where more than one half is left of it, or one half and it is odd.
+#[inline]
+pub(crate) fn is_raised(left: u64, number: u64) -> bool
+    ensures { IsTrue result ↔ ((2 ^ 63 < left) ⊎ ((left ≡ 2 ^ 63) × (number % 2 ≡ 1))) }
+{
+    left > HALF || (left == HALF && number % 2 == 1)
+}
+
+/// One half, in units of 2^-64.
+const HALF: u64 = 1 << 63;
+
+/// A rest times a scale as the nearest whole number, ties to even by the number that it ends, with `above` before it.
+pub(crate) fn nearest_part(rest: u64, scale: u64, above: u64) -> u64
+    requires scale { 1 ≤ scale }
+    requires even { (scale ≡ 1) ⊎ IsEven scale }
+    ensures near { IsNearest ((above * 2 ^ 64 + rest) * scale) (2 ^ 64) (above * scale + result) }
+    ensures most { result ≤ scale }
+    ensures none { rest ≡ 0 → result ≡ 0 }
+{
+    let (number, left) = scaled(rest, scale);
+    let last = if scale == 1 { above } else { number };
+    if is_raised(left, last) {
+        number + 1
+    } else {
+        number
+    }
+}
+
+/// The value to the places that the scale has, ties to even.
+pub(crate) fn rounded(value: Split, scale: u64) -> Places
+    requires scale { 1 ≤ scale }
+    requires even { (scale ≡ 1) ⊎ IsEven scale }
+    ensures near { IsNearest ((value.whole * 2 ^ 64 + value.rest) * scale) (2 ^ 64) (result.whole * scale + result.part) }
+    ensures part { result.part < scale }
+{
+    let part = nearest_part(value.rest, scale, value.whole);
+    if part == scale {
+        Places {
+            whole: value.whole + 1,
+            part: 0,
+        }
+    } else {
+        Places {
+            whole: value.whole,
+            part,
+        }
+    }
+}
+
+/// Appends the value to a count of places, at most 64.
+///
+/// The places that fit a word are one number, of which the rest decides; then it may be one whole, and the whole
+/// number is raised. Before the last block of a longer fraction there are single digits; then it never is.
+#[inline]
+pub(crate) fn push_rounded_in<const BASE: u64, const BLOCK: u32, const N: usize>(
+    out: &mut TextBuffer<N>,
+    value: Split,
+    places: u32,
+    upper: bool,
+)
+    requires block { IsBlock BASE BLOCK }
+    requires decimal { BASE ≡ 10 → BLOCK ≤ 19 }
+    requires places { places ≤ 64 }
+    requires room { length out.old + 129 ≤ N }
+    ensures { AppendsRounded BASE upper (value.whole * 2 ^ 64 + value.rest) 64 places out.old out.new }
+{
+    if places <= BLOCK {
+        let near = rounded(value, power::<BASE>(places));
+        push_whole_in::<BASE, N>(out, near.whole, upper);
+        if places > 0 {
+            out.push(b'.');
+            push_last_in::<BASE, N>(out, near.part, places, upper);
+        }
+    } else {
+        push_long::<BASE, BLOCK, N>(out, value, places, upper);
+    }
+}
+
+/// Appends the value to more places than fit a word.
+fn push_long<const BASE: u64, const BLOCK: u32, const N: usize>(
+    out: &mut TextBuffer<N>,
+    value: Split,
+    places: u32,
+    upper: bool,
+)
+    requires block { IsBlock BASE BLOCK }
+    requires decimal { BASE ≡ 10 → BLOCK ≤ 19 }
+    requires long { BLOCK < places }
+    requires places { places ≤ 64 }
+    requires room { length out.old + 129 ≤ N }
+    ensures { AppendsRounded BASE upper (value.whole * 2 ^ 64 + value.rest) 64 places out.old out.new }
+{
+    push_whole_in::<BASE, N>(out, value.whole, upper);
+    out.push(b'.');
+    let rest = push_rest_digits::<BASE, N>(out, value.rest, places - BLOCK, upper);
+    push_last_in::<BASE, N>(
+        out,
+        nearest_part(rest, power::<BASE>(BLOCK), 0),
+        BLOCK,
+        upper,
+    );
+}
+
+/// A power of the base that fits a word.
+#[inline]
+fn power<const BASE: u64>(places: u32) -> u64
+    requires { BASE ^ places < 2 ^ 64 }
+    ensures { result ≡ BASE ^ places }
+{
+    if BASE == 10 && places <= 19 {
+        power_of_ten(places)
+    } else {
+        BASE.pow(places)
+    }
+}
+
+/// Appends the first digits of a rest, and answers what is left of it.
+fn push_rest_digits<const BASE: u64, const N: usize>(
+    out: &mut TextBuffer<N>,
+    rest: u64,
+    places: u32,
+    upper: bool,
+) -> u64
+    requires low { 2 ≤ BASE }
+    requires high { BASE ≤ 16 }
+    requires room { length out.old + places ≤ N }
+    ensures text { out.new ≡ out.old ++ last_digits BASE upper places (rest * BASE ^ places / 2 ^ 64) }
+    ensures left { result ≡ rest * BASE ^ places % 2 ^ 64 }
+{
+    let mut left = rest;
+    'digits: for count in 0..places {
+        let (digit, next) = scaled(left, BASE);
+        push_digit(out, digit as u8, upper);
+        left = next;
+    }
+    left
+}
+
+/// Appends the value exactly.
+pub(crate) fn push_exact_in<const BASE: u64, const N: usize>(
+    out: &mut TextBuffer<N>,
+    value: Split,
+    upper: bool,
+)
+    requires low { 2 ≤ BASE }
+    requires high { BASE ≤ 16 }
+    requires even { IsEven BASE }
+    requires room { length out.old + 129 ≤ N }
+    ensures { AppendsExact BASE upper (value.whole * 2 ^ 64 + value.rest) 64 out.old out.new }
+{
+    push_whole_in::<BASE, N>(out, value.whole, upper);
+    if value.rest != 0 {
+        out.push(b'.');
+        let mut left = value.rest;
+        'digits: while left != 0 {
+            let (digit, next) = scaled(left, BASE);
+            push_digit(out, digit as u8, upper);
+            left = next;
+        }
+    }
+}
