@@ -1,8 +1,7 @@
 -- From the bytes taken so far to those taken next, and to the end of a run.
-use Rattle.std.proofs.Common.{◌≡◌, ℕ, suc, ◌+◌, ◌*◌, ◌≤◌, Bool, true, false, eqb, List, [], ◌∷◌, ◌++◌, length, take, drop, refl, sym, ap, ◌∙◌, subst, arith, length-append, append-nil, inl, inr, Option, None, Some, mul-le-mul_left}
+use Rattle.std.proofs.Common.{◌≡◌, ℕ, suc, ◌+◌, ◌*◌, ◌≤◌, Bool, true, false, eqb, List, [], ◌∷◌, ◌++◌, length, take, drop, refl, sym, ap, ◌∙◌, subst, arith, length-append, append-nil, inl, inr, Option, mul-le-mul_left}
 use Rattle.std.proofs.lemmas.List.{take_all, length-take, take-append-drop}
-use Rattle.std.proofs.KnownBytes.{Consumes-trans}
-use Rattle.std.specs.Io.KnownBytes.{Appends, Consumes, IsAtEnd, Keeps}
+use Rattle.std.specs.Io.KnownBytes.{Appends, Consumes, IsAtEnd}
 use Rattle.line_engine.specs.Failures.{HasFailed}
 use Rattle.line_engine.specs.Lines.{ended_lines, unended, last_line, lines, onto_first, onto_rest}
 use Rattle.line_engine.specs.Output.{AreAnswers, written_of}

@@ -6,6 +6,7 @@ pub mod LineLaws
 pub mod Lines
 pub mod Memory
 pub mod Output
+pub mod Program
 pub mod Progress
 pub mod Run
 pub mod Status

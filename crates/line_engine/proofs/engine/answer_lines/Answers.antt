@@ -10,7 +10,7 @@ use Rattle.line_engine.proofs.ChunkLemmas.{kept_unended, nothing_kept, within_li
 use Rattle.line_engine.proofs.LineLemmas.{unended-append}
 use Rattle.line_engine.proofs.PrefixLemmas.{flushes_none}
 use Rattle.line_engine.proofs.RunLemmas.{ended_run, limit_run, part_run, spends_ended, spends_part, last_run, last_spends, last_causes, grown, grown_broken}
-use Rattle.line_engine.proofs.TakenLemmas.{Consumes-kept, Consumes-none, counted}
+use Rattle.line_engine.proofs.TakenLemmas.{Consumes-kept, Consumes-none}
 use Rattle.line_engine.proofs.engine.answer_lines.Goals as goal
 
 pub loop-taken-init : goal.loop-taken-init

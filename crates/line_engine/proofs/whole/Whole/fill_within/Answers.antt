@@ -1,9 +1,8 @@
-use Rattle.std.proofs.Common.{◌≡◌, ℕ, ◌++◌, List, take, length, arith, refl, sym, ap, ◌∙◌, subst, Ok}
-use Rattle.std.proofs.lemmas.Grind.{common_steps}
+use Rattle.std.proofs.Common.{◌++◌, take, length, arith, refl, sym, ap, ◌∙◌, subst}
 use Rattle.std.proofs.KnownBytes.{Consumes-nil, Consumes-trans}
 use Rattle.std.specs.Io.KnownBytes.{Consumes}
-use Rattle.line_engine.proofs.AskedLemmas.{so_far_more, so_far_none, so_far_within}
-use Rattle.line_engine.proofs.TakenLemmas.{Consumes-kept, Consumes-none, counted, short_enough}
+use Rattle.line_engine.proofs.AskedLemmas.{so_far_none}
+use Rattle.line_engine.proofs.TakenLemmas.{short_enough}
 use Rattle.line_engine.proofs.whole.Whole.fill_within.Goals as goal
 
 pub loop-taken-init : goal.loop-taken-init

@@ -1,0 +1,60 @@
+//! A program over the streams and the arguments of its process.
+
+ghost use Rattle.std.specs.Prelude.{◌≡◌, ◌<◌, IfOk, Ok, Err, MatchResult};
+ghost use Rattle.std.specs.IoError.{error_kind};
+ghost use Rattle.fixed_io.specs.Process.{IsWhy, RunsFrom};
+ghost use Rattle.line_engine.specs.Program.{EndsAs};
+ghost use Rattle.line_engine.specs.declared.program.NoArgs.{NoArgs};
+
+use crate::{StdSink, StdSource};
+use fixed_steps::Steps;
+use line_engine::{NoArgs, Program, run_program};
+use std::alloc::{AllocGlobal, Global};
+use std::io::{ErrorKind, Read, Write};
+use std::rt::Env;
+use std::sync::ledger::{Blank, Ledger};
+use std::{env, io};
+
+/// The arguments, or why there are none: want of memory, or else one that is no text.
+fn args_or_why(args: io::Result<Vec<String>>) -> Result<Vec<String>, NoArgs>
+    ensures { MatchResult args (λ all. result ≡ Ok all) (λ error. (why : NoArgs) × (result ≡ Err why) × IsWhy (error_kind error) why) }
+{
+    match args {
+        Ok(args) => Ok(args),
+        Err(error) if error.kind() == ErrorKind::OutOfMemory => Err(NoArgs::NoMemory),
+        Err(_) => Err(NoArgs::NotText),
+    }
+}
+
+/// The arguments after the program's name, as the process has them.
+fn process_args<R: Env + AllocGlobal>(rt: &R) -> io::Result<Vec<String>> {
+    let args: Vec<String> = env::args(rt)?.skip(1).collect(rt.alloc())?;
+    Ok(args)
+}
+
+/// The arguments after the program's name; or why there are none.
+pub fn program_args<R: Env + AllocGlobal>(rt: &R) -> Result<Vec<String>, NoArgs> {
+    args_or_why(process_args(rt))
+}
+
+/// Runs a program by its arguments over a reader and a writer, with a counter of steps of its own, and answers the code with
+/// which its process ends.
+pub fn run_streams<P: Program<L>, R: Read + Drop, W: Write + Drop, L: Ledger>(
+    program: &P,
+    alloc: Global,
+    args: Result<Vec<String>, NoArgs>,
+    reader: R,
+    writer: W,
+    blank: Blank,
+) -> u8
+    requires name { blank.name ≡ L.name }
+    requires parts { blank.parts ≡ L.parts }
+    requires some { 0 < blank.parts }
+    ensures args { IfOk args (λ all. EndsAs (RunsFrom (R.remaining reader) (W.contents writer) (P.Runs program.now all.items)) result) }
+    ensures no_memory { args ≡ Err NoArgs.NoMemory → result ≡ 5 }
+{
+    let mut steps = Steps::<L>::new(blank);
+    let mut source = StdSource::new(reader);
+    let mut sink = StdSink::new(writer);
+    run_program(program, alloc, args, &mut source, &mut sink, &mut steps)
+}

@@ -1,0 +1,25 @@
+-- What a program leaves, and the code with which its process ends.
+use Rattle.std.specs.Prelude.{◌≡◌, ℕ, List}
+use Rattle.std.specs.declared.option.Option.{Option}
+use Rattle.line_engine.specs.Asked.{Asked}
+use Rattle.line_engine.specs.Status.{code_of}
+use Rattle.line_engine.specs.declared.status.Status.{Status}
+
+-- what is seen of a source, a sink and a counter of steps at one moment: the bytes that are left and what was asked for, the
+-- bytes that were written, how often reads and writes failed, and how many steps were taken
+pub record Outside : Type 0 where
+  pub left : Option (List ℕ)
+  pub asked : Option Asked
+  pub read_failures : ℕ
+  pub written : Option (List ℕ)
+  pub write_failures : ℕ
+  pub steps : ℕ
+
+abbrev pub outside : Option (List ℕ) → Option Asked → ℕ → Option (List ℕ) → ℕ → ℕ → Outside
+outside left asked read_failures written write_failures steps = record { left = left; asked = asked; read_failures = read_failures; written = written; write_failures = write_failures; steps = steps }
+
+-- the code is that of a status by which this holds
+pub record EndsAs (P : Status → Type 0) (code : ℕ) : Type 0 where
+  pub status : Status
+  pub holds : P status
+  pub code_is : code ≡ code_of status
