@@ -15,3 +15,4 @@ pub mod StripLemmas
 pub mod LaneLemmas
 pub mod CompactLemmas
 pub mod SegmentLemmas
+pub mod DecimalLemmas

@@ -1,13 +1,16 @@
 -- Stretches of a text, and the numbers that their digits spell.
-use Rattle.std.proofs.Common.{◌≡◌, ℕ, ◌+◌, ◌-◌, ◌*◌, ◌^◌, ◌%◌, ◌<◌, ◌≤◌, Bool, true, false, List, [], ◌∷◌, ◌++◌, length, drop, get_or, Option, Some, None, IfSome, option_to_list, ℤ, pos, neg_ℤ, cond, of_z, to_z, FitsSigned, w32, refl, sym, ap, ◌∙◌, ⊎_elim, arith, add-one, append_assoc, append-nil, length-append, mul-le-mul_right}
-use Rattle.std.proofs.lemmas.List.{drop_more, length_push, drop_all}
+use Rattle.std.proofs.Common.{◌≡◌, ℕ, ◌+◌, ◌-◌, ◌*◌, ◌^◌, ◌%◌, ◌<◌, ◌≤◌, Bool, true, false, List, [], ◌∷◌, ◌++◌, length, take, drop, get_or, Option, Some, None, IfSome, option_to_list, ℤ, pos, neg_ℤ, cond, of_z, to_z, FitsSigned, w32, refl, sym, ap, ◌∙◌, ⊎_elim, arith, add-one, append_assoc, append-nil, subst, length-append, length-take, length-drop, take-append-drop, mul-le-mul_right}
+use Rattle.std.proofs.lemmas.List.{drop_more, drop-drop, length_push, drop_all, take-take, take_all}
 use Rattle.std.proofs.lemmas.Bool.{cases_lt}
 use Rattle.std.proofs.lemmas.Int.{ints, to_z-of_z}
 use Rattle.std.proofs.lemmas.Nat.{pow-add}
 use Rattle.std.proofs.Math.Nat.{pow-zero, pow-suc, pow-le-pow_right}
 use Rattle.std.proofs.lemmas.Int.Digits.{digits_value_push, digits_push, digits_value-lt}
 use Rattle.std.specs.Char.{digit_value}
-use Rattle.std.specs.Str.Parse.{digits_value, digits_value_after}
+use Rattle.std.specs.Int.Digits.{AllBelowBase}
+use Rattle.std.specs.Simd.Lanes.{number_l}
+use Rattle.fixed_numeral.proofs.LaneLemmas.{eight_long, eight_below}
+use Rattle.std.specs.Str.Parse.{AllDigits, digits_value, digits_value_after}
 use Rattle.fixed_numeral.specs.Inner.Segments.{IsSignAt, IsDigitRun, IsChunk, IsMantissaAt, IsExponentAt, IsShortAt}
 use Rattle.fixed_numeral.specs.declared.radix.Radix.{Radix}
 use Rattle.fixed_numeral.specs.declared.radix.Radix.TheVariants.{Dec}
@@ -251,3 +254,66 @@ pub short_parts : (bs : List ℕ) (negative : Bool) (whole fraction places : ℕ
 short_parts bs negative whole fraction places p h n =
     let same = parts_unique Dec bs p h.parts n.beginning h.numeral.beginning in
     rw same h.short
+
+-- ---- digits that were looked at as words
+pub chunk_of : (bs : List ℕ) (from k to n : ℕ) → from + k ≡ to → to ≤ length bs → AllDigits 10 (take k (drop from bs)) → n ≡ digits_value 10 (take k (drop from bs)) → IsChunk 10 bs from to n (10 ^ (to - from))
+chunk_of bs from k to n e l h v =
+    let there : drop k (drop from bs) ≡ drop to bs = drop-drop k from bs ∙ ap (λ i. drop i bs) e in
+    let count : length (take k (drop from bs)) ≡ k = length-take k (drop from bs) ∙ omega (arith, length-drop from bs) in
+    record {
+      run = record {
+        digits = take k (drop from bs);
+        text = sym (take-append-drop k (drop from bs)) ∙ ap (λ ys. take k (drop from bs) ++ ys) there;
+        count = omega (arith, count);
+        within = l;
+        are_digits = h;
+        spelled = v;
+      };
+      scale_is = ap (λ i. 10 ^ i) (let same : to - from ≡ length (take k (drop from bs)) = omega (arith, count) in same);
+    }
+
+abbrev IsFirst : ℕ → ℕ → ℕ → Type 0
+IsFirst word count n = (xs : List ℕ) → length xs ≡ 8 → AllBelowBase 256 xs → word ≡ number_l 256 xs → AllDigits 10 (take count xs) × (n ≡ digits_value 10 (take count xs))
+
+abbrev IsLast : ℕ → ℕ → ℕ → Type 0
+IsLast word count n = (xs : List ℕ) → length xs ≡ 8 → AllBelowBase 256 xs → word ≡ number_l 256 xs → AllDigits 10 (drop (8 - count) xs) × (n ≡ digits_value 10 (drop (8 - count) xs))
+
+pub chunk_of_first : (bs : List ℕ) (from count to n word : ℕ) → from + 8 ≤ length bs → ((k : ℕ) → get_or bs k 0 < 256) → count ≤ 8 → from + count ≡ to → word ≡ number_l 256 (take 8 (drop from bs)) → IsFirst word count n → IsChunk 10 bs from to n (10 ^ (to - from))
+chunk_of_first bs from count to n word l t few e w h =
+    let found = h (take 8 (drop from bs)) (eight_long bs from l) (eight_below bs from l t) w in
+    let same : take count (take 8 (drop from bs)) ≡ take count (drop from bs) = take-take count 8 (drop from bs) few in
+    chunk_of bs from count to n e (omega arith) (rw same at found.0) (rw same at found.1)
+
+pub chunk_of_last : (bs : List ℕ) (from count to n word : ℕ) → 8 ≤ length bs → ((k : ℕ) → get_or bs k 0 < 256) → count ≤ 8 → from + count ≡ to → to ≡ length bs → word ≡ number_l 256 (take 8 (drop (length bs - 8) bs)) → IsLast word count n → IsChunk 10 bs from to n (10 ^ (to - from))
+chunk_of_last bs from count to n word l t few e end w h =
+    let found = h (take 8 (drop (length bs - 8) bs)) (eight_long bs (length bs - 8) (omega arith)) (eight_below bs (length bs - 8) (omega arith) t) w in
+    let whole : take 8 (drop (length bs - 8) bs) ≡ drop (length bs - 8) bs = take_all 8 (drop (length bs - 8) bs) (omega (arith, length-drop (length bs - 8) bs)) in
+    let there : (length bs - 8) + (8 - count) ≡ from = omega arith in
+    let rest : drop (8 - count) (take 8 (drop (length bs - 8) bs)) ≡ drop from bs = ap (drop (8 - count)) whole ∙ drop-drop (8 - count) (length bs - 8) bs ∙ ap (λ i. drop i bs) there in
+    let all : take count (drop from bs) ≡ drop from bs = take_all count (drop from bs) (omega (arith, length-drop from bs)) in
+    let digits : AllDigits 10 (take count (drop from bs)) = rw all (rw rest at found.0) in
+    let value : n ≡ digits_value 10 (take count (drop from bs)) = rw all (rw rest at found.1) in
+    chunk_of bs from count to n e (omega arith) digits value
+
+pub chunk_joined : (b : ℕ) (bs : List ℕ) (from mid to n m s t : ℕ) → IsChunk b bs from mid n s → IsChunk b bs mid to m t → IsChunk b bs from to (n * t + m) (s * t)
+unfolding run_joined run_after
+chunk_joined b bs from mid to n m s t p q = record {
+  run = run_joined b bs from mid to 0 n (n * t + m) p.run (run_after b bs mid to n (n * t + m) m t q refl);
+  scale_is = rw (length-append p.run.digits q.run.digits, pow-add b (length p.run.digits) (length q.run.digits), p.scale_is, q.scale_is) refl;
+}
+
+pub chunk_of_both : (bs : List ℕ) (from mid to n m : ℕ) → from ≤ mid → mid ≤ to → IsChunk 10 bs from mid n (10 ^ (mid - from)) → IsChunk 10 bs mid to m (10 ^ (to - mid)) → to - mid ≡ 8 → IsChunk 10 bs from to (n * 100000000 + m) (10 ^ (to - from))
+chunk_of_both bs from mid to n m l k p q e =
+    let both = chunk_joined 10 bs from mid to n m (10 ^ (mid - from)) (10 ^ (to - mid)) p q in
+    let eight : 10 ^ (to - mid) ≡ 100000000 = ap (λ i. 10 ^ i) e in
+    let scale : 10 ^ (mid - from) * 10 ^ (to - mid) ≡ 10 ^ (to - from) = sym (pow-add 10 (mid - from) (to - mid)) ∙ ap (λ i. 10 ^ i) (omega arith) in
+    subst (λ i. IsChunk 10 bs from to (n * i + m) (10 ^ (to - from))) eight (subst (λ i. IsChunk 10 bs from to (n * 10 ^ (to - mid) + m) i) scale both)
+
+pub high_fits : (bs : List ℕ) (from mid n m : ℕ) → IsChunk 10 bs from mid n (10 ^ (mid - from)) → mid - from ≤ 8 → m < 10 ^ 8 → (n * 100000000 < 2 ^ 64) × (n * 100000000 + m < 2 ^ 64)
+high_fits bs from mid n m h few l =
+    let under = chunk_below 10 bs from mid n (10 ^ (mid - from)) h in
+    let most : 10 ^ (mid - from) ≤ 10 ^ 8 = pow-le-pow_right (omega arith) few in
+    (omega arith, omega arith)
+
+pub low_below : (bs : List ℕ) (mid to m : ℕ) → IsChunk 10 bs mid to m (10 ^ (to - mid)) → to - mid ≡ 8 → m < 10 ^ 8
+low_below bs mid to m h e = let under = chunk_below 10 bs mid to m (10 ^ (to - mid)) h in rw e at under

@@ -3,11 +3,12 @@
 //! Digits are taken in chunks that fit a word: up to 19 decimal digits, eight at a time, 15 of radix 16, 20 of radix 8 and
 //! 60 of radix 2. A longer run joins its chunks in 128 bits.
 
-ghost use Rattle.std.specs.Prelude.{◌≡◌, ◌+◌, ◌*◌, ◌^◌, ◌<◌, ◌≤◌, IfSome, length};
+ghost use Rattle.std.specs.Prelude.{◌≡◌, ◌+◌, ◌-◌, ◌*◌, ◌^◌, ◌<◌, ◌≤◌, IfSome, length};
 ghost use Rattle.std.specs.Char.{digit_value};
 ghost use Rattle.fixed_numeral.specs.Inner.Segments.{IsSignAt, IsDigitRun, IsChunk};
 
 use crate::digit_slice::{is_digit, value_of_digit};
+use crate::swar::{first_decimals, last_decimals, likely_digits, word_at};
 
 /// Digits whose number fits a word.
 #[derive(Clone, Copy)]
@@ -16,6 +17,15 @@ pub(crate) struct Chunk {
     pub number: u64,
     /// The base to the power of their count.
     pub scale: u64,
+    /// The place after them.
+    pub end: usize,
+}
+
+/// At most eight digits.
+#[derive(Clone, Copy)]
+pub(crate) struct Few {
+    /// The number that they spell.
+    pub number: u64,
     /// The place after them.
     pub end: usize,
 }
@@ -147,4 +157,48 @@ fn long_digit_run(bytes: &[u8], base: u64, from: usize, start: u128) -> Option<R
         at = chunk.end;
     }
     Some(Run { number, end: at })
+}
+
+/// The decimal digits from a place on, at most eight, where at least eight bytes are left. None only where they are not what
+/// they seemed.
+#[inline(always)]
+pub(crate) fn leading_decimals(bytes: &[u8], from: usize) -> Option<Few>
+    requires { from + 8 ≤ length bytes.now }
+    ensures { IfSome result (λ r. IsChunk 10 bytes.now from r.end r.number (10 ^ (r.end - from))) }
+{
+    let word = word_at(bytes, from);
+    let count = likely_digits(word);
+    if count == 0 {
+        return Some(Few {
+            number: 0,
+            end: from,
+        });
+    }
+    let number = first_decimals(word, count)?;
+    Some(Few {
+        number,
+        end: from + count,
+    })
+}
+
+/// The number of the bytes from a place on, at most 16 of at least eight, where they are decimal digits.
+#[inline(always)]
+pub(crate) fn final_decimals(bytes: &[u8], from: usize) -> Option<u64>
+    requires long { 8 ≤ length bytes.now }
+    requires place { from ≤ length bytes.now }
+    requires few { length bytes.now ≤ from + 16 }
+    ensures { IfSome result (λ n. IsChunk 10 bytes.now from (length bytes.now) n (10 ^ (length bytes.now - from))) }
+{
+    let count = bytes.len() - from;
+    if count == 0 {
+        return Some(0);
+    }
+    let last = word_at(bytes, bytes.len() - 8);
+    if count <= 8 {
+        let number = last_decimals(last, count)?;
+        return Some(number);
+    }
+    let high = first_decimals(word_at(bytes, from), count - 8)?;
+    let low = last_decimals(last, 8)?;
+    Some(high * 100_000_000 + low)
 }

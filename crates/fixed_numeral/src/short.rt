@@ -6,7 +6,7 @@ ghost use Rattle.fixed_numeral.specs.Numeral.{Parts, HasNumeral, IsNumeral};
 ghost use Rattle.fixed_numeral.specs.PartNumbers.{IsShortDecimal};
 ghost use Rattle.fixed_numeral.specs.Inner.Segments.{IsSignAt, IsChunk, IsShortAt};
 
-use crate::segment::{Chunk, digit_chunk, sign_at};
+use crate::segment::{Chunk, digit_chunk, final_decimals, leading_decimals, sign_at};
 use fixed_steps::Steps;
 use std::sync::ledger::Ledger;
 
@@ -74,6 +74,40 @@ fn decimal_at(bytes: &[u8], negative: bool, first: usize) -> Option<ShortDecimal
     })
 }
 
+/// What `decimal_at` answers, by looking at eight bytes at a time where there are as many.
+#[inline(always)]
+fn decimal_by_words(bytes: &[u8], negative: bool, first: usize) -> Option<ShortDecimal>
+    requires place { first ≤ length bytes.now }
+    requires short { length bytes.now ≤ MAX_LENGTH }
+    requires sign { IsSignAt bytes.now 0 first negative }
+    ensures { IfSome result (λ d. IsShortAt bytes.now d.negative d.whole d.fraction d.places) }
+{
+    if bytes.len() - first < 8 {
+        return decimal_at(bytes, negative, first);
+    }
+    let whole = leading_decimals(bytes, first)?;
+    let point = whole.end;
+    if point == bytes.len() {
+        return Some(ShortDecimal {
+            negative,
+            whole: whole.number,
+            fraction: 0,
+            places: 0,
+        });
+    }
+    if bytes[point] != b'.' {
+        // (more than eight whole digits, or another byte)
+        return decimal_at(bytes, negative, first);
+    }
+    let fraction = final_decimals(bytes, point + 1)?;
+    Some(ShortDecimal {
+        negative,
+        whole: whole.number,
+        fraction,
+        places: (bytes.len() - point - 1) as u32,
+    })
+}
+
 /// The numbers of a decimal numeral of at most 16 bytes without an exponent. None otherwise; `compact_numeral` or `scan`
 /// then says more. A step a byte is taken, and none where there are more than 16 bytes.
 #[inline]
@@ -90,6 +124,6 @@ pub fn short_decimal<L: Ledger>(s: &[u8], steps: &mut Steps<L>) -> Option<ShortD
     }
     steps.advance(s.len() as u64);
     let (negative, first) = sign_at(s, 0);
-    let decimal = decimal_at(s, negative, first)?;
+    let decimal = decimal_by_words(s, negative, first)?;
     Some(decimal)
 }

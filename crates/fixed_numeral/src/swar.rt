@@ -1,9 +1,9 @@
 //! Eight digits at once, each in a byte of a word.
 
-ghost use Rattle.std.specs.Prelude.{◌≡◌, ◌+◌, ◌<◌, ◌≤◌, ◌^◌, List, ℕ, length, take, drop, IsTrue};
+ghost use Rattle.std.specs.Prelude.{◌≡◌, ◌+◌, ◌-◌, ◌<◌, ◌≤◌, ◌^◌, List, ℕ, length, take, drop, IsTrue, IfSome};
 ghost use Rattle.std.specs.Int.Digits.{AllBelowBase, number_from_digits};
 ghost use Rattle.std.specs.Simd.Lanes.{number_l};
-ghost use Rattle.std.specs.Str.Parse.{AllDigits};
+ghost use Rattle.std.specs.Str.Parse.{AllDigits, digits_value};
 ghost use Rattle.fixed_numeral.specs.Digits.{digits_in};
 
 /// Eight bytes from a place on, the first of them in the lowest byte.
@@ -55,6 +55,60 @@ fn number_of_eight(digits: u64, base: u64) -> u64
     let pairs = (digits.wrapping_mul(base * 0x100 + 1) >> 8) & 0x00ff_00ff_00ff_00ff;
     let fours = (pairs.wrapping_mul(square * 0x1_0000 + 1) >> 16) & 0x0000_ffff_0000_ffff;
     fours.wrapping_mul(fourth * 0x1_0000_0000 + 1) >> 32
+}
+
+/// The number that eight decimal digits spell.
+#[inline(always)]
+pub(crate) fn number_of_decimals(word: u64) -> u64
+    ensures { (bs : List ℕ) → length bs ≡ 8 → AllDigits 10 bs → word ≡ number_l 256 bs → result ≡ digits_value 10 bs }
+{
+    number_of_eight(word & 0x0f0f_0f0f_0f0f_0f0f, 10)
+}
+
+/// How many decimal digits a word begins with, for the choice of a path alone: no clause says so, since whoever asks looks at
+/// the digits again. A byte of the sum has its highest bit from the one after '9' on, and one of the difference before '0';
+/// what a byte carries over to the next does not matter, since it is the first other byte that counts.
+#[inline(always)]
+pub(crate) fn likely_digits(word: u64) -> usize
+    ensures { result ≤ 8 }
+{
+    let over = word.wrapping_add(0x4646_4646_4646_4646);
+    let under = word.wrapping_sub(0x3030_3030_3030_3030);
+    ((over | under) & 0x8080_8080_8080_8080).trailing_zeros() as usize / 8
+}
+
+/// The number that the first bytes of a word spell, one to eight, where they are decimal digits. Zeros are put before them.
+#[inline(always)]
+pub(crate) fn first_decimals(word: u64, count: usize) -> Option<u64>
+    requires some { 0 < count }
+    requires few { count ≤ 8 }
+    ensures { IfSome result (λ n. (bs : List ℕ) → length bs ≡ 8 → AllBelowBase 256 bs → word ≡ number_l 256 bs → AllDigits 10 (take count bs) × (n ≡ digits_value 10 (take count bs))) }
+{
+    let zeros = 0x0030_3030_3030_3030u64 >> (8 * count - 8);
+    let padded = (word << (64 - 8 * count)) + zeros;
+    if are_decimal(padded) {
+        Some(number_of_decimals(padded))
+    } else {
+        None
+    }
+}
+
+/// The number that the last bytes of a word spell, one to eight, where they are decimal digits. The bytes before them are
+/// made zeros.
+#[inline(always)]
+pub(crate) fn last_decimals(word: u64, count: usize) -> Option<u64>
+    requires some { 0 < count }
+    requires few { count ≤ 8 }
+    ensures { IfSome result (λ n. (bs : List ℕ) → length bs ≡ 8 → AllBelowBase 256 bs → word ≡ number_l 256 bs → AllDigits 10 (drop (8 - count) bs) × (n ≡ digits_value 10 (drop (8 - count) bs))) }
+{
+    let shift = 64 - 8 * count;
+    let zeros = 0x0030_3030_3030_3030u64 >> (8 * count - 8);
+    let padded = ((word >> shift) << shift) + zeros;
+    if are_decimal(padded) {
+        Some(number_of_decimals(padded))
+    } else {
+        None
+    }
 }
 
 /// The number that the first digits of a slice spell in a base, fewer than eight, where each of its bytes is a digit, and

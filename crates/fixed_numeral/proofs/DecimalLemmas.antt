@@ -1,0 +1,141 @@
+-- Decimal digits in the bytes of a word.
+use Rattle.std.proofs.Common.{◌≡◌, ℕ, zero, suc, ◌+◌, ◌-◌, ◌*◌, ◌/◌, ◌%◌, ◌^◌, ◌<◌, ◌≤◌, List, [], ◌∷◌, ◌++◌, length, take, drop, replicate, map, refl, ap, ◌∙◌, arith, length-append, length-drop, length-take}
+use Rattle.std.specs.Int.Bits.{bit_and}
+use Rattle.std.proofs.lemmas.Nat.{and_mask, and_block}
+use Rattle.std.proofs.Math.Nat.{mod-eq_of_lt}
+use Rattle.std.proofs.lemmas.List.{length-replicate}
+use Rattle.std.specs.Simd.Lanes.{number_l}
+use Rattle.std.specs.Int.Digits.{AllBelowBase}
+use Rattle.std.specs.Char.{digit_value}
+use Rattle.std.specs.Str.Parse.{AllDigits, digits_value, digits_value_after}
+use Rattle.fixed_numeral.proofs.ByteLemmas.{low_value_is}
+
+-- the low halves of decimal digits are their values
+small_digit : (b : ℕ) → digit_value b < 10 → (b < 64) × (b % 16 ≡ digit_value b)
+small_digit b h = let small : b < 64 = below b h in (small, low_value_is b h)
+  where
+    below : (b : ℕ) → digit_value b < 10 → b < 64
+    below b h = grind arith
+
+low_halves : (bs : List ℕ) → AllDigits 10 bs → bit_and (number_l 256 bs) (number_l 256 (replicate (length bs) 15)) ≡ number_l 256 (map digit_value bs)
+low_halves [] h = refl
+low_halves (b ∷ bs) h =
+    let small = small_digit b h.0 in
+    let n : ℕ = number_l 256 bs in
+    let low : ℕ = number_l 256 (replicate (length bs) 15) in
+    let rest = low_halves bs h.1 in
+    let order : b + 256 * n ≡ n * 2 ^ 8 + b = omega arith in
+    let first : bit_and (b + 256 * n) (15 + 256 * low) ≡ bit_and n low * 2 ^ 8 + bit_and b 15 = ap (λ x. bit_and x (15 + 256 * low)) order ∙ ap (λ y. bit_and (n * 2 ^ 8 + b) y) (omega arith) ∙ and_block 8 n low b 15 (omega (arith, small.0)) (omega arith) in
+    let kept : bit_and b 15 ≡ b % 16 = and_mask b 4 in
+    omega (arith, first, kept, small.1, rest)
+
+pub decimals_are : (word : ℕ) (bs : List ℕ) → length bs ≡ 8 → AllDigits 10 bs → word ≡ number_l 256 bs → bit_and word 0x0f0f_0f0f_0f0f_0f0f ≡ number_l 256 (map digit_value bs)
+decimals_are word bs l h e = rw e (rw l at (low_halves bs h))
+
+-- ---- the last few of eight bytes, behind zeros
+few_last : (r a b c d f g i j : ℕ) → 0 < r → r ≤ 8 → AllBelowBase 256 (a ∷ b ∷ c ∷ d ∷ f ∷ g ∷ i ∷ j ∷ []) → number_l 256 (a ∷ b ∷ c ∷ d ∷ f ∷ g ∷ i ∷ j ∷ []) / 2 ^ (64 - 8 * r) * 2 ^ (64 - 8 * r) + 0x0030_3030_3030_3030 / 2 ^ (8 * r - 8) ≡ number_l 256 (replicate (8 - r) 48 ++ drop (8 - r) (a ∷ b ∷ c ∷ d ∷ f ∷ g ∷ i ∷ j ∷ []))
+few_last zero a b c d f g i j p s h = absurd (omega arith)
+few_last (suc zero) a b c d f g i j p s h = omega arith
+few_last (suc (suc zero)) a b c d f g i j p s h = omega arith
+few_last (suc (suc (suc zero))) a b c d f g i j p s h = omega arith
+few_last (suc (suc (suc (suc zero)))) a b c d f g i j p s h = omega arith
+few_last (suc (suc (suc (suc (suc zero))))) a b c d f g i j p s h = omega arith
+few_last (suc (suc (suc (suc (suc (suc zero)))))) a b c d f g i j p s h = omega arith
+few_last (suc (suc (suc (suc (suc (suc (suc zero))))))) a b c d f g i j p s h = omega arith
+few_last (suc (suc (suc (suc (suc (suc (suc (suc zero)))))))) a b c d f g i j p s h = omega arith
+few_last (suc (suc (suc (suc (suc (suc (suc (suc (suc r))))))))) a b c d f g i j p s h = absurd (omega arith)
+
+pub last_lanes : (r : ℕ) (ds : List ℕ) → 0 < r → r ≤ 8 → length ds ≡ 8 → AllBelowBase 256 ds → number_l 256 ds / 2 ^ (64 - 8 * r) * 2 ^ (64 - 8 * r) + 0x0030_3030_3030_3030 / 2 ^ (8 * r - 8) ≡ number_l 256 (replicate (8 - r) 48 ++ drop (8 - r) ds)
+last_lanes r [] p s l h = absurd (omega arith)
+last_lanes r (a ∷ []) p s l h = absurd (omega arith)
+last_lanes r (a ∷ b ∷ []) p s l h = absurd (omega arith)
+last_lanes r (a ∷ b ∷ c ∷ []) p s l h = absurd (omega arith)
+last_lanes r (a ∷ b ∷ c ∷ d ∷ []) p s l h = absurd (omega arith)
+last_lanes r (a ∷ b ∷ c ∷ d ∷ f ∷ []) p s l h = absurd (omega arith)
+last_lanes r (a ∷ b ∷ c ∷ d ∷ f ∷ g ∷ []) p s l h = absurd (omega arith)
+last_lanes r (a ∷ b ∷ c ∷ d ∷ f ∷ g ∷ i ∷ []) p s l h = absurd (omega arith)
+last_lanes r (a ∷ b ∷ c ∷ d ∷ f ∷ g ∷ i ∷ j ∷ k ∷ ds) p s l h = absurd (omega arith)
+last_lanes r (a ∷ b ∷ c ∷ d ∷ f ∷ g ∷ i ∷ j ∷ []) p s l h = few_last r a b c d f g i j p s h
+
+pub below_bytes : (n : ℕ) (k : ℕ) (ds : List ℕ) → AllBelowBase 256 ds → AllBelowBase 256 (replicate n 48 ++ drop k ds)
+below_bytes zero zero ds h = h
+below_bytes zero (suc k) [] h = tt
+below_bytes zero (suc k) (d ∷ ds) h = below_bytes zero k ds h.1
+below_bytes (suc n) k ds h = (omega arith, below_bytes n k ds h)
+
+pub zeros_before : (n m : ℕ) (ds : List ℕ) → digits_value_after 10 0 (replicate n 48 ++ ds) ≡ digits_value 10 ds
+zeros_before zero m ds = refl
+zeros_before (suc n) m ds = zeros_before n m ds
+
+pub digits_after : (n : ℕ) (ds : List ℕ) → AllDigits 10 (replicate n 48 ++ ds) → AllDigits 10 ds
+digits_after zero ds h = h
+digits_after (suc n) ds h = digits_after n ds h.1
+
+pub last_count : (r : ℕ) (ds : List ℕ) → r ≤ 8 → length ds ≡ 8 → length (replicate (8 - r) 48 ++ drop (8 - r) ds) ≡ 8
+last_count r ds s l = omega (arith, length-append (replicate (8 - r) 48) (drop (8 - r) ds), length-replicate {A = ℕ} (8 - r) 48, length-drop (8 - r) ds)
+
+pub pad_fits : (r word : ℕ) → 0 < r → r ≤ 8 → word < 2 ^ 64 → (word / 2 ^ (64 - 8 * r) * 2 ^ (64 - 8 * r) < 2 ^ 64) × (word / 2 ^ (64 - 8 * r) * 2 ^ (64 - 8 * r) + 0x0030_3030_3030_3030 / 2 ^ (8 * r - 8) < 2 ^ 64)
+pad_fits zero word p s h = absurd (omega arith)
+pad_fits (suc zero) word p s h = (omega arith, omega arith)
+pad_fits (suc (suc zero)) word p s h = (omega arith, omega arith)
+pad_fits (suc (suc (suc zero))) word p s h = (omega arith, omega arith)
+pad_fits (suc (suc (suc (suc zero)))) word p s h = (omega arith, omega arith)
+pad_fits (suc (suc (suc (suc (suc zero))))) word p s h = (omega arith, omega arith)
+pad_fits (suc (suc (suc (suc (suc (suc zero)))))) word p s h = (omega arith, omega arith)
+pad_fits (suc (suc (suc (suc (suc (suc (suc zero))))))) word p s h = (omega arith, omega arith)
+pad_fits (suc (suc (suc (suc (suc (suc (suc (suc zero)))))))) word p s h = (omega arith, omega arith)
+pad_fits (suc (suc (suc (suc (suc (suc (suc (suc (suc r))))))))) word p s h = absurd (omega arith)
+
+pub padded_is : (r word : ℕ) (bs : List ℕ) → 0 < r → r ≤ 8 → word < 2 ^ 64 → length bs ≡ 8 → AllBelowBase 256 bs → word ≡ number_l 256 bs → word / 2 ^ (64 - 8 * r) * 2 ^ (64 - 8 * r) % 2 ^ 64 + 0x0030_3030_3030_3030 / 2 ^ (8 * r - 8) ≡ number_l 256 (replicate (8 - r) 48 ++ drop (8 - r) bs)
+padded_is r word bs p s w l h e =
+    let same : word / 2 ^ (64 - 8 * r) * 2 ^ (64 - 8 * r) % 2 ^ 64 ≡ word / 2 ^ (64 - 8 * r) * 2 ^ (64 - 8 * r) = mod-eq_of_lt (pad_fits r word p s w).0 in
+    rw (same, e) (last_lanes r bs p s l h)
+
+-- ---- the first few of eight bytes, after zeros
+few_first : (r a b c d f g i j : ℕ) → 0 < r → r ≤ 8 → AllBelowBase 256 (a ∷ b ∷ c ∷ d ∷ f ∷ g ∷ i ∷ j ∷ []) → number_l 256 (a ∷ b ∷ c ∷ d ∷ f ∷ g ∷ i ∷ j ∷ []) * 2 ^ (64 - 8 * r) % 2 ^ 64 + 0x0030_3030_3030_3030 / 2 ^ (8 * r - 8) ≡ number_l 256 (replicate (8 - r) 48 ++ take r (a ∷ b ∷ c ∷ d ∷ f ∷ g ∷ i ∷ j ∷ []))
+few_first zero a b c d f g i j p s h = absurd (omega arith)
+few_first (suc zero) a b c d f g i j p s h = omega arith
+few_first (suc (suc zero)) a b c d f g i j p s h = omega arith
+few_first (suc (suc (suc zero))) a b c d f g i j p s h = omega arith
+few_first (suc (suc (suc (suc zero)))) a b c d f g i j p s h = omega arith
+few_first (suc (suc (suc (suc (suc zero))))) a b c d f g i j p s h = omega arith
+few_first (suc (suc (suc (suc (suc (suc zero)))))) a b c d f g i j p s h = omega arith
+few_first (suc (suc (suc (suc (suc (suc (suc zero))))))) a b c d f g i j p s h = omega arith
+few_first (suc (suc (suc (suc (suc (suc (suc (suc zero)))))))) a b c d f g i j p s h = omega arith
+few_first (suc (suc (suc (suc (suc (suc (suc (suc (suc r))))))))) a b c d f g i j p s h = absurd (omega arith)
+
+first_lanes : (r : ℕ) (ds : List ℕ) → 0 < r → r ≤ 8 → length ds ≡ 8 → AllBelowBase 256 ds → number_l 256 ds * 2 ^ (64 - 8 * r) % 2 ^ 64 + 0x0030_3030_3030_3030 / 2 ^ (8 * r - 8) ≡ number_l 256 (replicate (8 - r) 48 ++ take r ds)
+first_lanes r [] p s l h = absurd (omega arith)
+first_lanes r (a ∷ []) p s l h = absurd (omega arith)
+first_lanes r (a ∷ b ∷ []) p s l h = absurd (omega arith)
+first_lanes r (a ∷ b ∷ c ∷ []) p s l h = absurd (omega arith)
+first_lanes r (a ∷ b ∷ c ∷ d ∷ []) p s l h = absurd (omega arith)
+first_lanes r (a ∷ b ∷ c ∷ d ∷ f ∷ []) p s l h = absurd (omega arith)
+first_lanes r (a ∷ b ∷ c ∷ d ∷ f ∷ g ∷ []) p s l h = absurd (omega arith)
+first_lanes r (a ∷ b ∷ c ∷ d ∷ f ∷ g ∷ i ∷ []) p s l h = absurd (omega arith)
+first_lanes r (a ∷ b ∷ c ∷ d ∷ f ∷ g ∷ i ∷ j ∷ k ∷ ds) p s l h = absurd (omega arith)
+first_lanes r (a ∷ b ∷ c ∷ d ∷ f ∷ g ∷ i ∷ j ∷ []) p s l h = few_first r a b c d f g i j p s h
+
+pub first_padded : (r word : ℕ) (bs : List ℕ) → 0 < r → r ≤ 8 → length bs ≡ 8 → AllBelowBase 256 bs → word ≡ number_l 256 bs → word * 2 ^ (64 - 8 * r) % 2 ^ 64 + 0x0030_3030_3030_3030 / 2 ^ (8 * r - 8) ≡ number_l 256 (replicate (8 - r) 48 ++ take r bs)
+first_padded r word bs p s l h e = rw e (first_lanes r bs p s l h)
+
+pub first_pad_fits : (r word : ℕ) → 0 < r → r ≤ 8 → word < 2 ^ 64 → word * 2 ^ (64 - 8 * r) % 2 ^ 64 + 0x0030_3030_3030_3030 / 2 ^ (8 * r - 8) < 2 ^ 64
+first_pad_fits zero word p s h = absurd (omega arith)
+first_pad_fits (suc zero) word p s h = omega arith
+first_pad_fits (suc (suc zero)) word p s h = omega arith
+first_pad_fits (suc (suc (suc zero))) word p s h = omega arith
+first_pad_fits (suc (suc (suc (suc zero)))) word p s h = omega arith
+first_pad_fits (suc (suc (suc (suc (suc zero))))) word p s h = omega arith
+first_pad_fits (suc (suc (suc (suc (suc (suc zero)))))) word p s h = omega arith
+first_pad_fits (suc (suc (suc (suc (suc (suc (suc zero))))))) word p s h = omega arith
+first_pad_fits (suc (suc (suc (suc (suc (suc (suc (suc zero)))))))) word p s h = omega arith
+first_pad_fits (suc (suc (suc (suc (suc (suc (suc (suc (suc r))))))))) word p s h = absurd (omega arith)
+
+pub below_first : (n k : ℕ) (ds : List ℕ) → AllBelowBase 256 ds → AllBelowBase 256 (replicate n 48 ++ take k ds)
+below_first zero zero ds h = tt
+below_first zero (suc k) [] h = tt
+below_first zero (suc k) (d ∷ ds) h = (h.0, below_first zero k ds h.1)
+below_first (suc n) k ds h = (omega arith, below_first n k ds h)
+
+pub first_count : (r : ℕ) (ds : List ℕ) → r ≤ 8 → length ds ≡ 8 → length (replicate (8 - r) 48 ++ take r ds) ≡ 8
+first_count r ds s l = omega (arith, length-append (replicate (8 - r) 48) (take r ds), length-replicate {A = ℕ} (8 - r) 48, length-take r ds)
