@@ -13,3 +13,5 @@ pub mod RestLemmas
 pub mod BlockLemmas
 pub mod ScaleLemmas
 pub mod PlacesLemmas
+pub mod PaddingLemmas
+pub mod StyledLemmas

@@ -2,3 +2,4 @@
 pub mod Digits
 pub mod Fraction
 pub mod Passes
+pub mod Styling

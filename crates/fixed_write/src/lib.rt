@@ -9,10 +9,16 @@ pub mod laws;
 mod places;
 mod printer;
 mod short;
+pub mod style;
+mod styled;
 #[cfg(test)]
 mod tests;
+pub mod text;
 
 pub use in_place::{Base, push_decimal, push_exact};
 pub use integer::push_integer;
 pub use printer::push_shortest;
 pub use short::{ShortText, shortest};
+pub use style::{Align, Notation, Style};
+pub use styled::to_text;
+pub use text::{NoMemory, Text};

@@ -1,0 +1,172 @@
+-- Bodies of numbers with a point.
+use Rattle.std.proofs.Common.{◌≡◌, ℕ, zero, suc, ◌+◌, ◌-◌, ◌*◌, ◌/◌, ◌%◌, ◌^◌, ◌<◌, ◌≤◌, Bool, true, false, List, [], ◌∷◌, ◌++◌, replicate, ℤ, pos, refl, sym, ap, ◌∙◌, arith, pow_pos, append-nil, append_assoc, mod-lt, div-add-mod', mul-lt-mul_of_pos_right, ⊎_elim}
+use Rattle.std.proofs.lemmas.Bool.{cases_lt}
+use Rattle.std.specs.Prelude.{Option, Some, None, min}
+use Rattle.std.specs.Fmt.{digit_glyph}
+use Rattle.std.specs.Int.{is_negative}
+use Rattle.std.proofs.Math.Nat.{one-le-pow}
+use Rattle.std.proofs.lemmas.Nat.{pow-add, mul-pow}
+use Rattle.fixed_bits.specs.Nearest.{IsNearest}
+use Rattle.fixed_bits.proofs.NearestLemmas.{nearest_by_rest, nearest_unique}
+use Rattle.fixed_write.specs.declared.style.Notation.{Notation}
+use Rattle.fixed_write.specs.declared.style.Notation.TheVariants.{Dec, LowerExp, UpperExp, Bin, Oct, LowerHex, UpperHex}
+use Rattle.fixed_write.specs.Texts.{IsShortestText, decimal_text, whole_digits, last_digits, fraction_part, point_text, point, zero_digit}
+use Rattle.fixed_write.specs.inner.Digits.{AppendsRounded, AppendsExact}
+use Rattle.fixed_write.specs.Styled.{base_of, is_upper}
+use Rattle.fixed_write.specs.inner.Styling.{AppendsBody}
+use Rattle.fixed_write.proofs.DigitLemmas.{last_digits_joined, last_digits_suc, last_digits_none, parts_are, fraction_some}
+
+-- ---- the shortest text has no sign
+not_negative : (c : ℕ) → is_negative (pos c) ≡ false
+not_negative zero = refl
+not_negative (suc c) = grind arith
+
+decimal_ten : (c n k : ℕ) → decimal_text (is_negative (pos c)) n k ≡ point_text 10 false k n
+unfolding decimal_text
+decimal_ten c n k = rw (not_negative c) refl
+
+pub shortest_body : (v : ℤ) (c g : ℕ) (text : List ℕ) → IsShortestText v g text → v ≡ pos c → AppendsBody Dec None c g [] text 0
+shortest_body v c g text h e =
+    let h' : IsShortestText (pos c) g text = rw e at h in
+    record {
+      body = text;
+      is_body = record { number = h'.number; places = h'.places; shown = h'.shortest; body_is = h'.text_is ∙ decimal_ten c h'.number h'.places };
+      text = append-nil text;
+    }
+
+pub behind_text : (notation : Notation) (precision : Option ℕ) (c g : ℕ) (before text after : List ℕ) → AppendsBody notation precision c g [] text 0 → after ≡ before ++ text → AppendsBody notation precision c g before after 0
+behind_text notation precision c g before text after h e = record {
+  body = h.body;
+  is_body = h.is_body;
+  text = append-nil after ∙ (e ∙ ap (λ (t : List ℕ). before ++ t) (sym (append-nil text) ∙ h.text));
+}
+
+-- ---- exact bodies
+pub exact_two : (c g : ℕ) (before after : List ℕ) → AppendsExact 2 false c g before after → AppendsBody Bin None c g before after 0
+exact_two c g before after h = record {
+  body = point_text 2 false h.places h.number;
+  is_body = record { number = h.number; places = h.places; shown = h.exact; body_is = refl };
+  text = append-nil after ∙ h.text_is;
+}
+
+pub exact_eight : (c g : ℕ) (before after : List ℕ) → AppendsExact 8 false c g before after → AppendsBody Oct None c g before after 0
+exact_eight c g before after h = record {
+  body = point_text 8 false h.places h.number;
+  is_body = record { number = h.number; places = h.places; shown = h.exact; body_is = refl };
+  text = append-nil after ∙ h.text_is;
+}
+
+pub exact_lower : (c g : ℕ) (before after : List ℕ) → AppendsExact 16 false c g before after → AppendsBody LowerHex None c g before after 0
+exact_lower c g before after h = record {
+  body = point_text 16 false h.places h.number;
+  is_body = record { number = h.number; places = h.places; shown = h.exact; body_is = refl };
+  text = append-nil after ∙ h.text_is;
+}
+
+pub exact_upper : (c g : ℕ) (before after : List ℕ) → AppendsExact 16 true c g before after → AppendsBody UpperHex None c g before after 0
+exact_upper c g before after h = record {
+  body = point_text 16 true h.places h.number;
+  is_body = record { number = h.number; places = h.places; shown = h.exact; body_is = refl };
+  text = append-nil after ∙ h.text_is;
+}
+
+-- ---- places past 64 are zeros
+pub base_even : (notation : Notation) → (h : ℕ) × (base_of notation ≡ 2 * h)
+base_even Dec = (5, refl)
+base_even LowerExp = (5, refl)
+base_even UpperExp = (5, refl)
+base_even Bin = (1, refl)
+base_even Oct = (4, refl)
+base_even LowerHex = (8, refl)
+base_even UpperHex = (8, refl)
+
+base_some : (notation : Notation) → 0 < base_of notation
+base_some Dec = omega arith
+base_some LowerExp = omega arith
+base_some UpperExp = omega arith
+base_some Bin = omega arith
+base_some Oct = omega arith
+base_some LowerHex = omega arith
+base_some UpperHex = omega arith
+
+-- 64 places of an even base hold every value
+all_exact : (b h c g n : ℕ) → b ≡ 2 * h → g ≤ 64 → IsNearest (c * b ^ 64) (2 ^ g) n → c * b ^ 64 ≡ n * 2 ^ g
+all_exact b h c g n e l near =
+    let power : b ^ 64 ≡ 2 ^ 64 * h ^ 64 = ap (λ x. x ^ 64) e ∙ mul-pow 2 h 64 in
+    let whole : 2 ^ 64 ≡ 2 ^ (64 - g) * 2 ^ g = (let s : 64 ≡ (64 - g) + g = omega arith in ap (λ x. 2 ^ x) s ∙ pow-add 2 (64 - g) g) in
+    let steps : c * b ^ 64 ≡ c * (2 ^ (64 - g) * h ^ 64) * 2 ^ g = ap (λ x. c * x) (power ∙ ap (λ x. x * h ^ 64) whole) ∙ regroup c (2 ^ (64 - g)) (2 ^ g) (h ^ 64) in
+    let exact : IsNearest (c * b ^ 64) (2 ^ g) (c * (2 ^ (64 - g) * h ^ 64)) = nearest_by_rest (c * b ^ 64) (2 ^ g) (c * (2 ^ (64 - g) * h ^ 64)) 0 (omega (arith, steps)) (omega arith) (λ t. absurd (omega (arith, one-le-pow g 2 (omega arith)))) in
+    let same : c * (2 ^ (64 - g) * h ^ 64) ≡ n = nearest_unique (c * b ^ 64) (2 ^ g) (c * (2 ^ (64 - g) * h ^ 64)) n (pow_pos g) exact near in
+    steps ∙ ap (λ x. x * 2 ^ g) same
+  where
+    regroup : (c x u y : ℕ) → c * (x * u * y) ≡ c * (x * y) * u
+    regroup c x u y = omega arith
+
+zeros_push : (z x : ℕ) → replicate z x ++ x ∷ [] ≡ replicate (suc z) x
+zeros_push zero x = refl
+zeros_push (suc z) x = ap (λ (t : List ℕ). x ∷ t) (zeros_push z x)
+
+glyph_none : (u : Bool) → digit_glyph u 0 ≡ zero_digit
+glyph_none true = refl
+glyph_none false = refl
+
+zeros_last : (b : ℕ) (u : Bool) (z : ℕ) → 0 < b → last_digits b u z 0 ≡ replicate z zero_digit
+zeros_last b u zero p = last_digits_none b u 0
+zeros_last b u (suc z) p =
+    let parts = parts_are 0 b 0 0 p (omega arith) in
+    last_digits_suc b u z 0 ∙ rw (parts.0, parts.1, zeros_last b u z p, glyph_none u) (zeros_push z zero_digit)
+
+-- so many zeros more
+scaled_whole : (n t s : ℕ) → 0 < t → 0 < s → n * s / (t * s) ≡ n / t
+scaled_whole n t s p q =
+    let low : n % t < t = mod-lt n p in
+    let less : n % t * s < t * s = mul-lt-mul_of_pos_right low q in
+    let parts : n ≡ n / t * t + n % t = sym (div-add-mod' n t) in
+    let all : n * s ≡ n / t * (t * s) + n % t * s = ap (λ x. x * s) parts ∙ product (n / t) t (n % t) s in
+    (parts_are (n * s) (t * s) (n / t) (n % t * s) less all).0
+  where
+    product : (q t r s : ℕ) → (q * t + r) * s ≡ q * (t * s) + r * s
+    product q t r s = omega arith
+
+more_places : (b : ℕ) (u : Bool) (n k z : ℕ) → 0 < b → 0 < k → point_text b u (k + z) (n * b ^ z) ≡ point_text b u k n ++ replicate z zero_digit
+unfolding point_text
+more_places b u n k z p some =
+    let t : 0 < b ^ k = one-le-pow k b p in
+    let s : 0 < b ^ z = one-le-pow z b p in
+    let whole : n * b ^ z / b ^ (k + z) ≡ n / b ^ k = rw pow-add (scaled_whole n (b ^ k) (b ^ z) t s) in
+    let number : n * b ^ z ≡ n * b ^ z + 0 = omega arith in
+    let last : last_digits b u (k + z) (n * b ^ z) ≡ last_digits b u k n ++ replicate z zero_digit = ap (last_digits b u (k + z)) number ∙ (last_digits_joined b u k z n 0 p s ∙ ap (λ (x : List ℕ). last_digits b u k n ++ x) (zeros_last b u z p)) in
+    let fraction : fraction_part b u (k + z) (n * b ^ z) ≡ fraction_part b u k n ++ replicate z zero_digit = fraction_some b u (k + z) (n * b ^ z) (omega arith) ∙ (ap (λ (x : List ℕ). point ∷ x) last ∙ ap (λ (x : List ℕ). x ++ replicate z zero_digit) (sym (fraction_some b u k n some))) in
+    rw (whole, fraction) (sym (append_assoc (whole_digits b u (n / b ^ k)) (fraction_part b u k n) (replicate z zero_digit)))
+
+short_body : (notation : Notation) (p c g k z : ℕ) (before after : List ℕ) → k ≡ p → z ≡ 0 → AppendsRounded (base_of notation) (is_upper notation) c g k before after → AppendsBody notation (Some p) c g before after z
+short_body notation p c g k z before after e f h = record {
+  body = point_text (base_of notation) (is_upper notation) k h.number;
+  is_body = record { number = h.number; places = k; shown = (e, rw e at h.near); body_is = refl };
+  text = rw f (append-nil after ∙ h.text_is);
+}
+
+long_body : (notation : Notation) (p c g z : ℕ) (before after : List ℕ) → g ≤ 64 → p ≡ 64 + z → AppendsRounded (base_of notation) (is_upper notation) c g 64 before after → AppendsBody notation (Some p) c g before after z
+long_body notation p c g z before after l e h =
+    let even = base_even notation in
+    let some : 0 < base_of notation = base_some notation in
+    let exact : c * base_of notation ^ 64 ≡ h.number * 2 ^ g = all_exact (base_of notation) even.0 c g h.number even.1 l h.near in
+    let power : base_of notation ^ p ≡ base_of notation ^ 64 * base_of notation ^ z = ap (λ x. base_of notation ^ x) e ∙ pow-add (base_of notation) 64 z in
+    let steps : c * base_of notation ^ p ≡ h.number * base_of notation ^ z * 2 ^ g = ap (λ x. c * x) power ∙ moved c (base_of notation ^ 64) (base_of notation ^ z) h.number (2 ^ g) exact in
+    record {
+      body = point_text (base_of notation) (is_upper notation) p (h.number * base_of notation ^ z);
+      is_body = record { number = h.number * base_of notation ^ z; places = p; shown = (refl, nearest_by_rest (c * base_of notation ^ p) (2 ^ g) (h.number * base_of notation ^ z) 0 (omega (arith, steps)) (omega arith) (λ t. absurd (omega (arith, one-le-pow g 2 (omega arith))))); body_is = refl };
+      text = rw (h.text_is, e, more_places (base_of notation) (is_upper notation) h.number 64 z some (omega arith)) (append_assoc before (point_text (base_of notation) (is_upper notation) 64 h.number) (replicate z zero_digit));
+    }
+  where
+    moved : (c x y n u : ℕ) → c * x ≡ n * u → c * (x * y) ≡ n * y * u
+    moved c x y n u e = let f : c * x * y ≡ n * u * y = ap (λ t. t * y) e in omega arith
+
+pub rounded_body : (notation : Notation) (p c g k z : ℕ) (before after : List ℕ) → g ≤ 64 → k ≡ min p 64 → z ≡ p - k → AppendsRounded (base_of notation) (is_upper notation) c g k before after → AppendsBody notation (Some p) c g before after z
+rounded_body notation p c g k z before after l e f h = ⊎_elim
+    (λ (a : p < 65). short_body notation p c g k z before after (omega arith) (omega arith) h)
+    (λ (a : 65 ≤ p).
+    let all : k ≡ 64 = omega arith in
+    let h' : AppendsRounded (base_of notation) (is_upper notation) c g 64 before after = rw all at h in
+    long_body notation p c g z before after l (omega arith) h')
+    (cases_lt p 65)

@@ -1,0 +1,153 @@
+//! Numbers in a style.
+
+ghost use Rattle.std.specs.Prelude.{◌≡◌, ◌+◌, ◌*◌, ◌^◌, ◌≤◌, ◌<◌, ◌++◌, [], ◌∷◌, length, IfOk, Some, None};
+ghost use Rattle.fixed_bits.specs.Ranges.{IsWide};
+ghost use Rattle.fixed_write.specs.Styled.{IsStyledText, sign_and_prefix, base_of, is_upper, prefix_of};
+ghost use Rattle.fixed_write.specs.inner.Digits.{AppendsRounded};
+ghost use Rattle.fixed_write.specs.inner.Styling.{IsPointNotation, AppendsBody};
+
+use crate::places::{Split, push_exact_in, push_rounded_in, split_of};
+use crate::printer::{magnitude_of, push_shortest};
+use crate::style::{Notation, Style};
+use crate::text::{BodyParts, NoMemory, Text, padded};
+use fixed_steps::Steps;
+use std::alloc::Global;
+use std::marker::Brand;
+use std::sync::ledger::{Blank, Ledger};
+use text_buffer::TextBuffer;
+
+/// Every value is exact with this many places, in each base: the others are zeros, which are counted.
+const EXACT_PLACES: u32 = 64;
+
+/// Digits of a body, without the zeros that are counted.
+type Digits = TextBuffer<136>;
+
+/// Appends the shortest decimal of a magnitude.
+fn push_shortest_body<L: Ledger>(out: &mut Digits, magnitude: u64, frac: u32, blank: Blank)
+    requires name { blank.name ≡ L.name }
+    requires parts { blank.parts ≡ L.parts }
+    requires backed { 0 < L.parts }
+    requires frac { frac ≤ 64 }
+    requires room { length out.old ≤ 7 }
+    ensures { AppendsBody Notation.Dec None magnitude frac out.old out.new 0 }
+{
+    let mut steps: Steps<L> = Steps::new(blank);
+    push_shortest(out, i128::from(magnitude), frac, &mut steps);
+}
+
+/// Appends a value to a count of places in the base of a notation.
+fn push_rounded_body(out: &mut Digits, value: Split, notation: Notation, places: u32)
+    requires notation { IsPointNotation notation }
+    requires places { places ≤ 64 }
+    requires room { length out.old ≤ 7 }
+    ensures { AppendsRounded (base_of notation) (is_upper notation) (value.whole * 2 ^ 64 + value.rest) 64 places out.old out.new }
+{
+    match notation {
+        Notation::Bin => push_rounded_in::<2, 63, 136>(out, value, places, false),
+        Notation::Oct => push_rounded_in::<8, 21, 136>(out, value, places, false),
+        Notation::LowerHex => push_rounded_in::<16, 15, 136>(out, value, places, false),
+        Notation::UpperHex => push_rounded_in::<16, 15, 136>(out, value, places, true),
+        _ => push_rounded_in::<10, 19, 136>(out, value, places, false),
+    }
+}
+
+/// Appends a magnitude as it is shown without a precision.
+fn push_plain_body(out: &mut Digits, magnitude: u64, frac: u32, notation: Notation)
+    requires notation { IsPointNotation notation }
+    requires frac { frac ≤ 64 }
+    requires room { length out.old ≤ 7 }
+    ensures { AppendsBody notation None magnitude frac out.old out.new 0 }
+{
+    let value = split_of(magnitude, frac);
+    match notation {
+        Notation::Bin => push_exact_in::<2, 136>(out, value, false),
+        Notation::Oct => push_exact_in::<8, 136>(out, value, false),
+        Notation::LowerHex => push_exact_in::<16, 136>(out, value, false),
+        Notation::UpperHex => push_exact_in::<16, 136>(out, value, true),
+        _ => push_shortest_body::<Brand>(out, magnitude, frac, Blank::new(1)),
+    }
+}
+
+/// Appends the body of a number with a point, and answers how many zeros come after it.
+fn push_point_body(out: &mut Digits, magnitude: u64, frac: u32, style: &Style) -> usize
+    requires notation { IsPointNotation style.now.notation }
+    requires frac { frac ≤ 64 }
+    requires room { length out.old ≤ 7 }
+    ensures body { AppendsBody style.now.notation style.now.precision magnitude frac out.old out.new result }
+    ensures zeros { result < 2 ^ 16 }
+{
+    match style.precision {
+        Some(precision) => {
+            let places = (precision as u32).min(EXACT_PLACES);
+            push_rounded_body(out, split_of(magnitude, frac), style.notation, places);
+            (precision as u32 - places) as usize
+        }
+        None => {
+            push_plain_body(out, magnitude, frac, style.notation);
+            0
+        }
+    }
+}
+
+/// What comes before a body: the sign and the prefix.
+fn sign_and_prefix(negative: bool, style: &Style) -> TextBuffer<8>
+    ensures text { result ≡ sign_and_prefix style.now negative }
+    ensures short { length result ≤ 3 }
+{
+    let mut out = TextBuffer::new();
+    if negative {
+        out.push(b'-');
+    } else if style.plus {
+        out.push(b'+');
+    }
+    if style.prefix {
+        push_prefix(&mut out, style.notation);
+    }
+    out
+}
+
+/// Appends the prefix of a notation.
+fn push_prefix(out: &mut TextBuffer<8>, notation: Notation)
+    requires { length out.old ≤ 1 }
+    ensures { out.new ≡ out.old ++ prefix_of notation }
+{
+    match notation {
+        Notation::Bin => push_zero_and(out, b'b'),
+        Notation::Oct => push_zero_and(out, b'o'),
+        Notation::LowerHex | Notation::UpperHex => push_zero_and(out, b'x'),
+        _ => {}
+    }
+}
+
+/// Appends `0` and a letter.
+fn push_zero_and(out: &mut TextBuffer<8>, letter: u8)
+    requires { length out.old ≤ 1 }
+    ensures { out.new ≡ out.old ++ 48 ∷ letter ∷ [] }
+{
+    out.push(b'0');
+    out.push(letter);
+}
+
+/// `value` ulps of 2^-`frac` in a style, in memory that is taken once and is exactly as much as the text needs.
+///
+/// The error is that there is no memory, and nothing else.
+pub fn to_text(alloc: Global, value: i128, frac: u32, style: &Style) -> Result<Text, NoMemory>
+    requires notation { IsPointNotation style.now.notation }
+    requires wide { IsWide value }
+    requires frac { frac ≤ 64 }
+    ensures { IfOk result (λ t. IsStyledText style.now value frac t) }
+{
+    let before = sign_and_prefix(value < 0, style);
+    let mut digits = TextBuffer::new();
+    let zeros = push_point_body(&mut digits, magnitude_of(value), frac, style);
+    padded(
+        alloc,
+        style,
+        before.as_bytes(),
+        &BodyParts {
+            digits: digits.as_bytes(),
+            zeros,
+            tail: &[],
+        },
+    )
+}
