@@ -5,4 +5,5 @@ mod CommandLemmas
 mod SelfLemmas
 mod SelfExampleLemmas
 mod ExampleLemmas
+mod ReachedExampleLemmas
 mod ReachLemmas

@@ -106,7 +106,7 @@ pub(crate) struct Reached {
 ///
 /// The error is why the bytes are no numeral, or `Overflow` where they are one and under `Checked` its read number is
 /// out of the source's range or, rounded down, out of the target's.
-#[inline]
+#[inline(always)]
 pub(crate) fn reach<L: Ledger>(
     bytes: &[u8],
     radix: Radix,
@@ -137,6 +137,7 @@ pub(crate) fn reach<L: Ledger>(
 }
 
 /// Whether one of two holds.
+#[inline]
 fn is_either(a: bool, b: bool) -> bool
     ensures { IsTrue result ↔ (IsTrue a ⊎ IsTrue b) }
 {

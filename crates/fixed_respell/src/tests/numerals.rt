@@ -9,7 +9,6 @@ use fixed_steps::Steps;
 use std::marker::Brand;
 use std::process::Abort;
 use std::sync::ledger::{Blank, Ledger};
-use std::test::Fail;
 
 /// A numeral, its way, and what it reaches: bits and their text, or why it reaches none.
 #[derive(Drop)]
@@ -182,22 +181,24 @@ fn the_mode_rounds_the_numeral(rt: HostRuntime) {
     assert_reached(&rt, &cases);
 }
 
-/// Why a decimal is refused under Checked in two formats: `None` where it is not.
-fn refusal_over<L: Ledger>(
-    bytes: &[u8],
-    source: &str,
-    target: &str,
-    blank: Blank,
-) -> Option<ParseErrorKind>
+/// A decimal that is read into U8F0, its target, and the kind of its refusal.
+#[derive(Drop)]
+struct Refused {
+    numeral: &'static str,
+    target: &'static str,
+    kind: ParseErrorKind,
+}
+
+fn refusal_over<L: Ledger>(case: &Refused, blank: Blank) -> Option<ParseErrorKind>
     requires name { blank.name ≡ L.name }
     requires parts { blank.parts ≡ L.parts }
     requires backed { 0 < L.parts }
 {
     let mut steps: Steps<L> = Steps::new(blank);
-    let source = format_word(source.as_bytes())?;
-    let target = format_word(target.as_bytes())?;
+    let source = format_word(b"U8F0")?;
+    let target = format_word(case.target.as_bytes())?;
     match respell(
-        bytes,
+        case.numeral.as_bytes(),
         Radix::Dec,
         source,
         target,
@@ -209,12 +210,9 @@ fn refusal_over<L: Ledger>(
     }
 }
 
-/// A decimal, its formats, and the kind of its refusal.
-#[derive(Drop)]
-struct Refused {
-    numeral: &'static str,
-    target: &'static str,
-    kind: ParseErrorKind,
+/// Why a decimal is refused under Checked: `None` where it is not.
+fn refusal(case: &Refused) -> Option<ParseErrorKind> {
+    refusal_over::<Brand>(case, Blank::new(1))
 }
 
 #[test]
@@ -247,12 +245,6 @@ fn a_numeral_is_refused_with_its_kind(rt: HostRuntime) {
         },
     ];
     for case in &cases {
-        let refusal = refusal_over::<Brand>(
-            case.numeral.as_bytes(),
-            "U8F0",
-            case.target,
-            Blank::new(1),
-        );
-        assert!(rt; refusal == Some(case.kind), "{}", case.numeral);
+        assert!(rt; refusal(case) == Some(case.kind), "{}", case.numeral);
     }
 }
