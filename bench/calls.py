@@ -9,22 +9,23 @@ DIGITS = (1, 6, 13, 19, 27, 80)
 PASSES, COUNTED = 100, 1
 
 
-def nanoseconds(contenders, path, tries):
-    """The least time of one call of each contender, a program and its words, None standing for one that is absent."""
-    present = [it for it in contenders if it]
+def nanoseconds(contenders, tries):
+    """The least time of one call of each contender: a program, a call, its words and an input, or None for one that is absent."""
     runs = []
-    for program, call, words in present:
-        runs += [([program, call, str(PASSES), *words], path), ([program, call, "0", *words], path)]
+    for it in contenders:
+        if it:
+            program, call, words, path = it
+            runs += [([program, call, str(PASSES), *words], path), ([program, call, "0", *words], path)]
     times = in_turn(runs, tries)
     each = iter(max(0.0, times[at] - times[at + 1]) / (PASSES * INPUTS) * 1e9 for at in range(0, len(times), 2))
     return [f"{next(each):.1f}" if it else "" for it in contenders]
 
 
-def counted(contender, path):
+def counted(contender):
     """Instructions of one call."""
     if not contender or not VALGRIND:
         return ""
-    program, call, words = contender
+    program, call, words, path = contender
     some, none = (instructions([program, call, str(passes), *words], path) for passes in (COUNTED, 0))
     return f"{(some - none) / (COUNTED * INPUTS):.0f}"
 
@@ -35,19 +36,20 @@ class Bench:
     def __init__(self, programs, inputs, tries):
         self.programs, self.inputs, self.tries = programs, inputs, tries
 
-    def row(self, name, path, ours, peer=None, in_c=None):
-        """A row: ours, the crate's and C's nanoseconds, and instructions of the first two. Each call is a word and its words."""
-        def given(program, call):
-            return (program, *call) if program and call else None
-        all_three = (given(self.programs.calls, ours), given(self.programs.peer, peer), given(self.programs.in_c, in_c))
-        return [name, *nanoseconds(all_three, path, self.tries), counted(all_three[0], path), counted(all_three[1], path)]
+    def row(self, name, path, ours, peer=None, in_c=None, path_of_c=None):
+        """A row: ours, the crate's and C's nanoseconds, and instructions of the first two. A call is a word and its words."""
+        def given(program, call, path):
+            return (program, *call, path) if program and call else None
+        programs = self.programs
+        all_three = (given(programs.calls, ours, path), given(programs.peer, peer, path), given(programs.in_c, in_c, path_of_c or path))
+        return [name, *nanoseconds(all_three, self.tries), counted(all_three[0]), counted(all_three[1])]
 
     def numerals(self, form, digits, repeated=False):
         words = ["numerals", "--lines", str(INPUTS), "--format", form, "--digits", str(digits)]
         return self.inputs.path(*words, *(["--repeat"] if repeated else []))
 
-    def bits(self, form):
-        return self.inputs.path("bits", "--lines", str(INPUTS), "--format", form)
+    def bits(self, form, kind="bits"):
+        return self.inputs.path(kind, "--lines", str(INPUTS), "--format", form)
 
 
 HEADS = ["ns a call", "ours", "the crate's", "C's", "instr: ours", "the crate's"]
@@ -67,9 +69,42 @@ def reading(bench):
 def printing(bench):
     rows = []
     for form in PRINTED:
+        path, values = bench.bits(form), bench.bits(form, "values")
+        rows.append(bench.row(form, path, ("append", [form]), ("write", [form]), ("shortest", []), values))
+    print("printing the shortest text in place, 4,096 different numbers (C: %.17g)")
+    table(rows, HEADS)
+    rows = [bench.row(form, bench.bits(form), ("write", [form])) for form in PRINTED]
+    print("printing the shortest text as a text of its own")
+    table(rows, HEADS)
+
+
+def styled(bench):
+    for places in (2, 6):
+        rows = []
+        for form in FORMATS:
+            path, values = bench.bits(form), bench.bits(form, "values")
+            words = [form, str(places)]
+            rows.append(bench.row(form, path, ("places", words), ("places", words), ("write", [str(places)]), values))
+        print(f"printing to {places} places in place (the crate: write! of {{:.{places}}}, C: %.{places}f)")
+        table(rows, HEADS)
+    rows = []
+    for form in FORMATS[:2]:
         path = bench.bits(form)
-        rows.append(bench.row(form, path, ("write", [form]), ("write", [form])))
-    print("printing the shortest text, 4,096 different numbers")
+        rows.append(bench.row(f"{form}, {{}}", path, ("display", [form]), ("write", [form])))
+        rows.append(bench.row(f"{form}, {{:.2}}", path, ("display_places", [form]), ("places", [form, "2"])))
+    print("write! into one String")
+    table(rows, HEADS)
+
+
+def typed(bench):
+    rows = []
+    for form in FORMATS[:2]:
+        path = bench.numerals(form, 6)
+        rows.append(bench.row(f"{form}, reading 6 digits", path, ("typed", [form]), ("read", [form])))
+        rows.append(bench.row(f"{form}, the reader below", path, ("read", [form])))
+        for work in ("round", "convert", "compare"):
+            rows.append(bench.row(f"{form}, {work}", bench.bits(form), (work, [form])))
+    print("the number type")
     table(rows, HEADS)
 
 
@@ -84,5 +119,5 @@ def scanning(bench):
 def measure(programs, inputs, tries):
     if programs.calls:
         bench = Bench(programs, inputs, tries)
-        for subject in (reading, printing, scanning):
+        for subject in (reading, printing, styled, typed, scanning):
             subject(bench)

@@ -10,6 +10,7 @@ Lines of fixed_tool:
 Inputs of single calls:
     numerals  decimal numerals with --digits fraction digits that --format holds
     bits      bits of --format, evenly spread
+    values    the same numbers in decimal, for C
 Inputs of the further programs:
     enclose   lines of enclose_tool, with the numerals of typical
     plain     the numerals of typical alone
@@ -79,6 +80,10 @@ def bits(pick, given):
     return str(low + pick.randrange(1 << width))
 
 
+def values(pick, given):
+    return repr(int(bits(pick, given)) / 2 ** FORMATS[given.format][2])
+
+
 def enclose(pick, _given):
     numeral = typical_numeral(pick)
     return f"10 {pick.choice(list(FORMATS))} {numeral}"
@@ -94,7 +99,8 @@ def cells(pick, _given):
 
 
 KINDS = {
-    "typical": typical, "radix": radix, "long": long, "numerals": numerals, "bits": bits, "enclose": enclose,
+    "typical": typical, "radix": radix, "long": long, "numerals": numerals, "bits": bits, "values": values,
+    "enclose": enclose,
     "plain": lambda pick, _given: typical_numeral(pick), "zeros": lambda _pick, _given: "0",
     "constants": constants, "cells": cells,
 }
@@ -111,7 +117,7 @@ def main():
     words.add_argument("--bytes", type=int, help="stop before the line that would pass this many bytes")
     given = words.parse_args()
     given.entry = 0
-    pick = random.Random(f"{given.kind} {given.seed}")
+    pick = random.Random(f"{'bits' if given.kind == 'values' else given.kind} {given.seed}")
     make = KINDS[given.kind]
     line, size = None, 0
     for _ in range(given.lines):
