@@ -11,8 +11,6 @@ import re
 import sys
 
 TOP = os.path.dirname(os.path.dirname(os.path.abspath(__file__)))
-# The functions of the whole repository that may make a blank: programs, and calls that are offered without a counter.
-MAKERS = {"main", "read_uncounted", "read_literal", "shortest_in_place"}
 # Names that say nothing of what is called.
 COMMON = {"fmt", "new", "main", "from_str", "of", "run"}
 
@@ -49,8 +47,8 @@ def main():
             where = os.path.relpath(path, TOP)
             crate = where.split("/")[1]
             every += [(where, crate, name, counted, body, called(crate, text, body)) for name, counted, body in functions(path)]
-    wrong = [f"{where}: {name} makes a counter of its own" for where, _, name, _, body, _ in every
-             if "Blank::new" in body and name not in MAKERS]
+    wrong = [f"{where}: {name}, which is handed a counter, makes one of its own" for where, _, name, counted, body, _ in every
+             if "Blank::new" in body and counted]
     uncounted = set()
     grown = {(crate, name) for _, crate, name, _, body, _ in every if "Blank::new" in body and name not in COMMON}
     while grown:
