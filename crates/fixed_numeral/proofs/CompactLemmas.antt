@@ -41,7 +41,7 @@ compact_by r p negative digits places exponent two n d f e t = record {
 }
 
 -- ---- short decimals
-value_append : (b : ℕ) (xs ys : List ℕ) → digits_value b (xs ++ ys) ≡ digits_value b xs * b ^ length ys + digits_value b ys
+pub value_append : (b : ℕ) (xs ys : List ℕ) → digits_value b (xs ++ ys) ≡ digits_value b xs * b ^ length ys + digits_value b ys
 value_append b xs ys =
     let whole = digits_value_is b (xs ++ ys) ∙ ap (number_from_digits b) (map-append digit_value xs ys) ∙ number_append b (map digit_value xs) (map digit_value ys) in
     rw (digits_value_is b xs, digits_value_is b ys) (whole ∙ rw (length-map ys digit_value) refl)

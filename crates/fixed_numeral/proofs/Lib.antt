@@ -16,3 +16,4 @@ pub mod LaneLemmas
 pub mod CompactLemmas
 pub mod SegmentLemmas
 pub mod DecimalLemmas
+pub mod ExponentLemmas

@@ -29,7 +29,7 @@ nil_push : (w : List ℕ) (b : ℕ) (ys : List ℕ) → is_nil ((w ++ b ∷ []) 
 nil_push [] b ys = refl
 nil_push (x ∷ w) b ys = refl
 
-and_false : (x y : Bool) → y ≡ false → (x && y) ≡ false
+pub and_false : (x y : Bool) → y ≡ false → (x && y) ≡ false
 and_false true y e = e
 and_false false y e = refl
 
@@ -38,7 +38,7 @@ pub digits_append : (b : ℕ) (xs ys : List ℕ) → AllDigits b xs → AllDigit
 digits_append b [] ys h k = k
 digits_append b (x ∷ xs) ys h k = (h.0, digits_append b xs ys h.1 k)
 
-nil_more : (w ds ys : List ℕ) → 0 < length ds → is_nil ((w ++ ds) ++ ys) ≡ false
+pub nil_more : (w ds ys : List ℕ) → 0 < length ds → is_nil ((w ++ ds) ++ ys) ≡ false
 nil_more [] [] ys l = absurd (omega arith)
 nil_more [] (d ∷ ds) ys l = refl
 nil_more (x ∷ w) ds ys l = refl
@@ -207,7 +207,7 @@ in_range_most : (c : Bool) (n : ℕ) → n ≤ max_magnitude c → cond c (nat_l
 in_range_most true n h = lt-ltb _ _ (omega arith)
 in_range_most false n h = lt-ltb _ _ (omega arith)
 
-most_at_most : (c : Bool) → max_magnitude c ≤ max_magnitude true
+pub most_at_most : (c : Bool) → max_magnitude c ≤ max_magnitude true
 most_at_most true = omega arith
 most_at_most false = omega arith
 

@@ -317,3 +317,16 @@ high_fits bs from mid n m h few l =
 
 pub low_below : (bs : List ℕ) (mid to m : ℕ) → IsChunk 10 bs mid to m (10 ^ (to - mid)) → to - mid ≡ 8 → m < 10 ^ 8
 low_below bs mid to m h e = let under = chunk_below 10 bs mid to m (10 ^ (to - mid)) h in rw e at under
+
+-- ---- eight more decimal digits
+pub chunk_eight : (bs : List ℕ) (from at n s m : ℕ) → IsChunk 10 bs from at n s → at + 8 ≤ length bs → AllDigits 10 (take 8 (drop at bs)) → m ≡ digits_value 10 (take 8 (drop at bs)) → IsChunk 10 bs from (at + 8) (n * 100000000 + m) (s * 100000000)
+chunk_eight bs from at n s m h l d v =
+    let next = chunk_of bs at 8 (at + 8) m refl l d v in
+    let eight : 10 ^ (at + 8 - at) ≡ 100000000 = ap (λ i. 10 ^ i) (let e : at + 8 - at ≡ 8 = omega arith in e) in
+    subst (λ i. IsChunk 10 bs from (at + 8) (n * i + m) (s * i)) eight (chunk_joined 10 bs from at (at + 8) n m s (10 ^ (at + 8 - at)) h next)
+
+pub eight_fits : (bs : List ℕ) (from at n s m : ℕ) → IsChunk 10 bs from at n s → s ≤ 100000000000 → at + 8 ≤ length bs → AllDigits 10 (take 8 (drop at bs)) → m ≡ digits_value 10 (take 8 (drop at bs)) → (n * 100000000 < 2 ^ 64) × (n * 100000000 + m < 2 ^ 64) × (s * 100000000 < 2 ^ 64)
+eight_fits bs from at n s m h l k d v =
+    let under = chunk_below 10 bs from at n s h in
+    let next = chunk_below 10 bs from (at + 8) _ _ (chunk_eight bs from at n s m h k d v) in
+    (omega arith, omega (arith, next), omega arith)

@@ -1,6 +1,8 @@
 //! Reading a numeral from the left.
 
-ghost use Rattle.std.specs.Prelude.{◌≡◌, ◌+◌, ◌*◌, ◌^◌, ◌<◌, ◌≤◌, ℕ, nat_lt, true, false, List, [], ◌++◌, length, take, drop, MatchResult, IsOk, IfOk, IfErr, ◌↔◌};
+ghost use Rattle.std.specs.Prelude.{◌≡◌, ◌+◌, ◌*◌, ◌^◌, ◌<◌, ◌≤◌, ℕ, nat_lt, true, false, List, [], ◌++◌, length, take, drop, MatchResult, IfSome, IsOk, IfOk, IfErr, ◌↔◌};
+ghost use Rattle.std.specs.Int.Digits.{AllBelowBase};
+ghost use Rattle.std.specs.Simd.Lanes.{number_l};
 ghost use Rattle.std.specs.Char.{digit_value};
 ghost use Rattle.std.specs.Str.Parse.{AllDigits};
 ghost use Rattle.fixed_numeral.specs.declared.radix.Radix.{Radix as TheRadix};
@@ -13,7 +15,7 @@ use crate::digit_slice::{DigitSlice, is_digit};
 use crate::error::{ParseErrorKind, ParseFixedError};
 use crate::radix::Radix;
 use crate::scanned::Scanned;
-use crate::swar::{are_decimal, word_at};
+use crate::swar::{are_decimal, number_of_decimals, word_at};
 use fixed_steps::Steps;
 use std::sync::ledger::Ledger;
 
@@ -294,6 +296,50 @@ fn after_digits(state: State, count: u64) -> State
     }
 }
 
+/// The state after eight exponent digits more. None where they are not all digits, or the exponent leaves its range.
+#[inline(always)]
+fn after_eight_exponent_digits(state: State, word: u64) -> Option<State>
+    requires room { state.magnitude ≤ max_magnitude true }
+    requires separator { state.has_separator ≡ true }
+    ensures after { IfSome result (λ next. (radix : TheRadix) (bs ds : List ℕ) → IsAfter radix bs state → length ds ≡ 8 → AllBelowBase 256 ds → word ≡ number_l 256 ds → IsAfter radix (bs ++ ds) next) }
+    ensures room { IfSome result (λ next. next.magnitude ≤ max_magnitude true) }
+{
+    if !are_decimal(word) {
+        return None;
+    }
+    let magnitude = state.magnitude * 100_000_000 + number_of_decimals(word);
+    if magnitude > max_magnitude(state.exponent_negative) {
+        return None;
+    }
+    Some(State {
+        sign_allowed: false,
+        magnitude,
+        has_exponent_digit: true,
+        ..state
+    })
+}
+
+/// The state after the exponent digits from a place on, eight at a time, and the place after them.
+#[inline(always)]
+fn after_exponent_digits(state: State, bytes: &[u8], from: usize) -> (State, usize)
+    requires place { from ≤ length bytes.now }
+    requires room { state.magnitude ≤ max_magnitude true }
+    ensures after { (radix : TheRadix) → IsAfter radix (take from bytes.now) state → IsAfter radix (take result.1 bytes.now) result.0 }
+    ensures place { from ≤ result.1 }
+    ensures within { result.1 ≤ length bytes.now }
+{
+    let mut next = state;
+    let mut at = from;
+    while next.has_separator && bytes.len() - at >= 8 {
+        match after_eight_exponent_digits(next, word_at(bytes, at)) {
+            Some(after) => next = after,
+            None => return (next, at),
+        }
+        at += 8;
+    }
+    (next, at)
+}
+
 /// The state after all bytes. Mantissa digits are taken together, and then the byte behind them.
 pub(crate) fn read<L: Ledger>(
     bytes: &[u8],
@@ -310,6 +356,10 @@ pub(crate) fn read<L: Ledger>(
         steps.advance(count as u64);
         state = after_digits(state, count as u64);
         at += count;
+        let (next, place) = after_exponent_digits(state, bytes, at);
+        steps.advance((place - at) as u64);
+        state = next;
+        at = place;
         if at < bytes.len() {
             steps.tick();
             match transition(state, radix, bytes[at]) {

@@ -8,7 +8,9 @@ ghost use Rattle.std.specs.Char.{digit_value};
 ghost use Rattle.fixed_numeral.specs.Inner.Segments.{IsSignAt, IsDigitRun, IsChunk};
 
 use crate::digit_slice::{is_digit, value_of_digit};
-use crate::swar::{first_decimals, last_decimals, likely_digits, word_at};
+use crate::swar::{
+    are_decimal, first_decimals, last_decimals, likely_digits, number_of_decimals, word_at,
+};
 
 /// Digits whose number fits a word.
 #[derive(Clone, Copy)]
@@ -77,6 +79,50 @@ fn digit_below(b: u8, base: u64) -> u64
     }
 }
 
+/// A chunk takes eight more decimal digits as long as its scale is at most this, so that the next scale fits a word.
+const SCALE_LIMIT_FOR_EIGHT: u64 = 100_000_000_000;
+
+/// The decimal digits from a place on by eights, as many eights as fit a word.
+#[inline(always)]
+fn decimal_eights(bytes: &[u8], from: usize) -> Chunk
+    requires { from ≤ length bytes.now }
+    ensures { IsChunk 10 bytes.now from result.end result.number result.scale }
+{
+    let mut number: u64 = 0;
+    let mut scale: u64 = 1;
+    let mut at = from;
+    while bytes.len() - at >= 8
+        && scale <= SCALE_LIMIT_FOR_EIGHT
+        && are_decimal(word_at(bytes, at))
+    {
+        number = number * 100_000_000 + number_of_decimals(word_at(bytes, at));
+        scale = scale * 100_000_000;
+        at += 8;
+    }
+    Chunk {
+        number,
+        scale,
+        end: at,
+    }
+}
+
+/// The chunk that single digits are added to.
+#[inline(always)]
+fn first_chunk(bytes: &[u8], base: u64, from: usize) -> Chunk
+    requires { from ≤ length bytes.now }
+    ensures { IsChunk base bytes.now from result.end result.number result.scale }
+{
+    if base == 10 {
+        decimal_eights(bytes, from)
+    } else {
+        Chunk {
+            number: 0,
+            scale: 1,
+            end: from,
+        }
+    }
+}
+
 /// The digits from a place on, as many as fit a word.
 #[inline(always)]
 pub(crate) fn digit_chunk(bytes: &[u8], base: u64, from: usize) -> Chunk
@@ -86,9 +132,10 @@ pub(crate) fn digit_chunk(bytes: &[u8], base: u64, from: usize) -> Chunk
     ensures chunk { IsChunk base bytes.now from result.end result.number result.scale }
     ensures below { result.number < result.scale }
 {
-    let mut number: u64 = 0;
-    let mut scale: u64 = 1;
-    let mut at = from;
+    let first = first_chunk(bytes, base, from);
+    let mut number = first.number;
+    let mut scale = first.scale;
+    let mut at = first.end;
     while at < bytes.len() && scale < SCALE_LIMIT && digit_below(bytes[at], base) < base {
         number = number * base + digit_below(bytes[at], base);
         scale = scale * base;

@@ -48,7 +48,8 @@ fn digit_values(word: u64) -> u64
 #[inline(always)]
 fn number_of_eight(digits: u64, base: u64) -> u64
     requires { base ≤ 16 }
-    ensures { (ds : List ℕ) → length ds ≡ 8 → AllBelowBase base ds → digits ≡ number_l 256 ds → result ≡ number_from_digits base ds }
+    ensures number { (ds : List ℕ) → length ds ≡ 8 → AllBelowBase base ds → digits ≡ number_l 256 ds → result ≡ number_from_digits base ds }
+    ensures small { result < 2 ^ 32 }
 {
     let square = base * base;
     let fourth = square * square;
@@ -60,7 +61,8 @@ fn number_of_eight(digits: u64, base: u64) -> u64
 /// The number that eight decimal digits spell.
 #[inline(always)]
 pub(crate) fn number_of_decimals(word: u64) -> u64
-    ensures { (bs : List ℕ) → length bs ≡ 8 → AllDigits 10 bs → word ≡ number_l 256 bs → result ≡ digits_value 10 bs }
+    ensures number { (bs : List ℕ) → length bs ≡ 8 → AllDigits 10 bs → word ≡ number_l 256 bs → result ≡ digits_value 10 bs }
+    ensures small { result < 2 ^ 32 }
 {
     number_of_eight(word & 0x0f0f_0f0f_0f0f_0f0f, 10)
 }

@@ -1,9 +1,6 @@
 use Rattle.std.proofs.Common.{arith}
-use Rattle.fixed_numeral.proofs.SegmentLemmas.{chunk_none, chunk_more, chunk_below, chunk_fits}
+use Rattle.fixed_numeral.proofs.SegmentLemmas.{chunk_more, chunk_below, chunk_fits}
 use Rattle.fixed_numeral.proofs.segment.digit_chunk.Goals as goal
-
-pub loop-at-init : goal.loop-at-init
-loop-at-init c = chunk_none c.args.base c.args.bytes.now c.args.from c.requires.place
 
 pub overflow_mul-number : goal.overflow_mul-number
 overflow_mul-number c =

@@ -14,4 +14,4 @@ returns-then-are_decimal c bs eight below e =
     let padded = padded_is c.args.count c.args.word bs c.requires.some c.requires.few (omega (arith, c.ranges.word.fits)) eight below e in
     let long = last_count c.args.count bs c.requires.few eight in
     let digits = c.are_decimal.ensures (replicate (8 - c.args.count) 48 ++ drop (8 - c.args.count) bs) long (below_bytes (8 - c.args.count) (8 - c.args.count) bs below) padded c.if-are_decimal.true in
-    (digits_after (8 - c.args.count) (drop (8 - c.args.count) bs) digits, c.number_of_decimals.ensures (replicate (8 - c.args.count) 48 ++ drop (8 - c.args.count) bs) long digits padded ∙ zeros_before (8 - c.args.count) 0 (drop (8 - c.args.count) bs))
+    (digits_after (8 - c.args.count) (drop (8 - c.args.count) bs) digits, c.number_of_decimals.ensures.number (replicate (8 - c.args.count) 48 ++ drop (8 - c.args.count) bs) long digits padded ∙ zeros_before (8 - c.args.count) 0 (drop (8 - c.args.count) bs))

@@ -11,7 +11,7 @@ next c =
     let room = aligned_room c.args.base c.args.bytes.now c.loop-at.at c.loop-at.number c.loop-at.invariant c.loop-at-test.true in
     let stand = eight_stand c.args.base c.args.bytes.now c.loop-at.at c.requires.plain c.requires.digits room in
     let long : length (take 8 (drop c.loop-at.at c.args.bytes.now)) ≡ 8 = omega (arith, length-take 8 (drop c.loop-at.at c.args.bytes.now), length-drop c.loop-at.at c.args.bytes.now, room) in
-    c.number_of_eight.ensures (digits_in (take 8 (drop c.loop-at.at c.args.bytes.now))) stand.count stand.below (c.digit_values.ensures (take 8 (drop c.loop-at.at c.args.bytes.now)) long (omega (arith, stand.count, long)) c.word_at.ensures)
+    c.number_of_eight.ensures.number (digits_in (take 8 (drop c.loop-at.at c.args.bytes.now))) stand.count stand.below (c.digit_values.ensures (take 8 (drop c.loop-at.at c.args.bytes.now)) long (omega (arith, stand.count, long)) c.word_at.ensures)
 
 pub overflow_mul-number : goal.overflow_mul-number
 overflow_mul-number c =

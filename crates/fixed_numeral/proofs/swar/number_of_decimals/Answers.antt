@@ -5,5 +5,5 @@ use Rattle.std.proofs.lemmas.Int.Digits.{digits_value_is, all_below_base_from_di
 use Rattle.fixed_numeral.proofs.DecimalLemmas.{decimals_are}
 use Rattle.fixed_numeral.proofs.swar.number_of_decimals.Goals as goal
 
-pub returns : goal.returns
-returns c bs eight digits e = c.number_of_eight.ensures (map digit_value bs) (length-map bs digit_value ∙ eight) (all_below_base_from_digits 10 bs digits) (decimals_are c.args.word bs eight digits e) ∙ sym (digits_value_is 10 bs)
+pub returns-clause-number : goal.returns-clause-number
+returns-clause-number c bs eight digits e = c.number_of_eight.ensures.number (map digit_value bs) (length-map bs digit_value ∙ eight) (all_below_base_from_digits 10 bs digits) (decimals_are c.args.word bs eight digits e) ∙ sym (digits_value_is 10 bs)

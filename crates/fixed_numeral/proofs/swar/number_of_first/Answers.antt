@@ -23,4 +23,4 @@ returns c =
     let whole = split_front c.args.bytes.now 8 8 (all_counted c.args.bytes.now 8 c.requires.plain c.requires.long) in
     let front = split_front c.args.bytes.now c.args.count c.args.count (all_counted c.args.bytes.now c.args.count c.requires.plain (omega (arith, c.requires.few, c.requires.long))) in
     let same : take c.args.count (digits_in (take 8 c.args.bytes.now)) ≡ digits_in (take c.args.count c.args.bytes.now) = ap (take c.args.count) whole ∙ take-take c.args.count 8 (digits_in c.args.bytes.now) (omega (arith, c.requires.few)) ∙ sym front in
-    c.number_of_eight.ensures (zeros (8 - c.args.count) ++ take c.args.count (digits_in (take 8 c.args.bytes.now))) (few_count c.args.count _ c.requires.few stand.count) (few_below c.args.base c.args.count _ c.requires.least stand.below) moved ∙ zeros_front c.args.base (8 - c.args.count) _ ∙ ap (number_from_digits c.args.base) same
+    c.number_of_eight.ensures.number (zeros (8 - c.args.count) ++ take c.args.count (digits_in (take 8 c.args.bytes.now))) (few_count c.args.count _ c.requires.few stand.count) (few_below c.args.base c.args.count _ c.requires.least stand.below) moved ∙ zeros_front c.args.base (8 - c.args.count) _ ∙ ap (number_from_digits c.args.base) same
