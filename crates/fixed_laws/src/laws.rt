@@ -1,0 +1,18 @@
+//! Laws of texts, each the contract of a function that does nothing.
+
+ghost use Rattle.fixed_laws.specs.Laws.{DefaultTextReadsBack, ExactTextReadsBack, RoundedTextIsNumeral};
+
+/// The default text of a value is a decimal numeral, and is read as the bits that it came from.
+pub fn default_text_reads_back()
+    ensures { DefaultTextReadsBack }
+{}
+
+/// The exact text of a value in a base is a numeral of that base, and is read as the bits that it came from.
+pub fn exact_text_reads_back()
+    ensures { ExactTextReadsBack }
+{}
+
+/// The text of a value to any count of places is a numeral too.
+pub fn rounded_text_is_numeral()
+    ensures { RoundedTextIsNumeral }
+{}
