@@ -10,6 +10,7 @@ pub mod Command
 pub mod AnswerLaws
 pub mod Examples
 pub mod Lemmas
+pub mod ProgramRun
 pub use Rattle.line_engine.specs.AnswerText
 pub use Rattle.line_engine.specs.Asked
 pub use Rattle.line_engine.specs.Failures

@@ -3,44 +3,61 @@
 
 ghost use Rattle.std.specs.Prelude.{◌≡◌, ◌<◌};
 
-use fixed_io::{StdSink, StdSource};
-use fixed_respell::{Status, run};
+use fixed_io::{program_args, run_streams};
+use fixed_respell::{Sink, Source, Status, run};
 use fixed_steps::Steps;
+use line_engine::Program;
 use std::alloc::Global;
-use std::io::ErrorKind;
+use std::io::{Stdin, Stdout};
 use std::marker::Brand;
 use std::process::ExitCode;
 use std::sync::ledger::{Blank, Ledger};
-use std::{env, io};
 
-/// Does what the words say over the standard streams, with a counter of steps of its own.
-fn run_words<L: Ledger>(rt: &HostRuntime, alloc: Global, words: &[String], blank: Blank) -> Status
+/// The program: its run is the one of fixed_respell.
+#[derive(Clone, Copy, Debug, PartialEq, Eq)]
+struct FixedTool;
+
+impl<L: Ledger> Program<L> for FixedTool {
+    ghost use Rattle.fixed_respell.specs.Command.{IsUsageFault, usage_line};
+    ghost use Rattle.fixed_respell.specs.ProgramRun.{HasProgramRun};
+
+    ghost IsUsageFault = { λ tool args. IsUsageFault args };
+
+    ghost usage_line = { λ tool. usage_line };
+
+    ghost Runs = { λ tool args before after status. HasProgramRun args before after status };
+
+    fn run<S: Source, K: Sink>(
+        &self,
+        alloc: Global,
+        args: &[String],
+        source: &mut S,
+        sink: &mut K,
+        steps: &mut Steps<L>,
+    ) -> Status {
+        run(alloc, args, source, sink, steps)
+    }
+
+    ghost empty_law = { λ tool word empty command asks. asks };
+}
+
+/// Runs the program by the arguments of the process, from standard input to standard output.
+fn run_process<L: Ledger>(rt: &HostRuntime, blank: Blank) -> u8
     requires name { blank.name ≡ L.name }
     requires parts { blank.parts ≡ L.parts }
     requires some { 0 < blank.parts }
 {
-    let mut steps = Steps::<L>::new(blank);
-    let mut source = StdSource::new(rt.stdin());
-    let mut sink = StdSink::new(rt.stdout());
-    run(alloc, words, &mut source, &mut sink, &mut steps)
+    let args = program_args(rt);
+    run_streams::<FixedTool, Stdin, Stdout, L>(
+        &FixedTool,
+        rt.alloc(),
+        args,
+        rt.stdin(),
+        rt.stdout(),
+        blank,
+    )
 }
 
-/// The words behind the program's name.
-fn words_of(rt: &HostRuntime) -> io::Result<Vec<String>> {
-    let words: Vec<String> = env::args(rt)?.skip(1).collect(rt.alloc())?;
-    Ok(words)
-}
-
-/// Ends with the code of the status. Words that there is no memory for end it at once; words that are no text, as one
-/// that isn't UTF-8, are no command.
 fn main(rt: HostRuntime) -> ExitCode {
-    let status = match words_of(&rt) {
-        Ok(words) => run_words::<Brand>(&rt, rt.alloc(), &words, Blank::new(1)),
-        Err(error) if error.kind() == ErrorKind::OutOfMemory => Status::NoMemory,
-        Err(_) => {
-            let words = [String::new(rt.alloc())];
-            run_words::<Brand>(&rt, rt.alloc(), &words, Blank::new(1))
-        }
-    };
-    ExitCode::from(status.code())
+    ExitCode::from(run_process::<Brand>(&rt, Blank::new(1)))
 }
