@@ -10,6 +10,10 @@
 //! | `read` | FORMAT | a decimal numeral | the overflowing reader, to the nearest |
 //! | `typed` | FORMAT | a decimal numeral | `overflowing_from_str` of the number type, U16F16 or I32F32 |
 //! | `write` | FORMAT | bits | `shortest` |
+//! | `append` | FORMAT | bits | `push_shortest`, in place |
+//! | `places` | FORMAT N | bits | `push_decimal` to N places, in place |
+//! | `display` | FORMAT | bits | `write!` of `{}` into one String, U16F16 or I32F32 |
+//! | `display_places` | FORMAT | bits | `write!` of `{:.2}` into one String, U16F16 or I32F32 |
 //! | `round` | FORMAT | bits | `overflowing_round` |
 //! | `convert` | FORMAT | bits | `overflowing_to_num` into I16F16 |
 //! | `compare` | FORMAT | bits | `cmp_num` with a number of U8F8 |
@@ -80,6 +84,23 @@ fn sum_of<L: Ledger>(
         "read" => reading::read_as(word, inputs, times, &mut steps),
         "typed" => typed::read_as(word, inputs, times),
         "write" => printing::write_as(word, &printing::bits_of(alloc, inputs)?, times, &mut steps),
+        "append" => printing::append_as(
+            word,
+            &printing::bits_of(alloc, inputs)?,
+            times,
+            &mut steps,
+        ),
+        "places" => {
+            let places = number(words.get(3));
+            printing::places_as(word, &printing::bits_of(alloc, inputs)?, places, times)
+        }
+        "display" => typed::display_as(word, alloc, &printing::bits_of(alloc, inputs)?, times)?,
+        "display_places" => typed::display_places_as(
+            word,
+            alloc,
+            &printing::bits_of(alloc, inputs)?,
+            times,
+        )?,
         other => match typed::work_of(other) {
             Some(work) => typed::work_as(
                 work,

@@ -4,9 +4,10 @@ ghost use Rattle.std.specs.Prelude.{◌≤◌};
 ghost use Rattle.fixed_bits.specs.Ranges.{IsWide};
 
 use fixed_steps::Steps;
-use fixed_write::shortest;
+use fixed_write::{push_decimal, push_shortest, shortest};
 use std::alloc::{AllocError, Global};
 use std::sync::ledger::Ledger;
+use text_buffer::TextBuffer;
 
 /// Bits of at most 64 bits, as a sign and a magnitude.
 #[derive(Clone, Copy)]
@@ -68,7 +69,7 @@ fn frac_of(format: &str) -> u32
     }
 }
 
-/// The sum of the lengths and of the last bytes of the shortest texts.
+/// The sum of the lengths and of the last bytes of the shortest texts, each a text of its own.
 pub fn write_as<L: Ledger>(
     format: &str,
     all: &[SignedBits],
@@ -80,11 +81,56 @@ pub fn write_as<L: Ledger>(
     for _pass in 0..times {
         for bits in all {
             let text = shortest(bits.value(), frac, steps);
-            sum = sum.wrapping_add(i128::from(text.as_bytes().len() as u64));
-            if let Some(last) = text.as_bytes().last() {
-                sum = sum.wrapping_add(i128::from(*last));
-            }
+            sum = sum.wrapping_add(weight(text.as_bytes()));
         }
     }
     sum
+}
+
+/// The sum of the lengths and of the last bytes of the shortest texts, written in place.
+pub fn append_as<L: Ledger>(
+    format: &str,
+    all: &[SignedBits],
+    times: u32,
+    steps: &mut Steps<L>,
+) -> i128 {
+    let frac = frac_of(format);
+    let mut out: TextBuffer<256> = TextBuffer::new();
+    let mut sum: i128 = 0;
+    for _pass in 0..times {
+        for bits in all {
+            out.clear();
+            push_shortest(&mut out, bits.value(), frac, steps);
+            sum = sum.wrapping_add(weight(out.as_bytes()));
+        }
+    }
+    sum
+}
+
+/// The sum of the lengths and of the last bytes of the texts to a count of places, written in place.
+pub fn places_as(format: &str, all: &[SignedBits], places: u32, times: u32) -> i128 {
+    let frac = frac_of(format);
+    let mut out: TextBuffer<256> = TextBuffer::new();
+    let mut sum: i128 = 0;
+    if places > 64 {
+        return sum;
+    }
+    for _pass in 0..times {
+        for bits in all {
+            out.clear();
+            push_decimal(&mut out, bits.value(), frac, places);
+            sum = sum.wrapping_add(weight(out.as_bytes()));
+        }
+    }
+    sum
+}
+
+/// The length of a text and its last byte.
+#[inline]
+fn weight(text: &[u8]) -> i128 {
+    let last = match text.last() {
+        Some(last) => i128::from(*last),
+        None => 0,
+    };
+    last + i128::from(text.len() as u64)
 }

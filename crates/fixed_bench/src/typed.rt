@@ -7,6 +7,7 @@ use fixed_bits::Inner;
 use fixed_point::{Fixed, FixedI32, FixedI64, FixedU16, FixedU32};
 use std::alloc::{AllocError, Global};
 use std::cmp::Ordering;
+use std::fmt::Write;
 
 /// What is done with each number.
 #[derive(Clone, Copy, PartialEq, Eq)]
@@ -143,6 +144,76 @@ pub fn work_as(
         "U16F16" => work_all(work, &numbers_of::<u32, 16>(alloc, all)?, times),
         "I32F32" => work_all(work, &numbers_of::<i64, 32>(alloc, all)?, times),
         "U0F64" => work_all(work, &numbers_of::<u64, 64>(alloc, all)?, times),
+        _ => -1,
+    };
+    Ok(sum)
+}
+
+/// The sum of the lengths of the texts that Display writes.
+fn display_all<I: Inner, const FRAC: u32>(
+    alloc: Global,
+    numbers: &[Fixed<I, FRAC>],
+    times: u32,
+) -> i128 {
+    let mut text = String::new(alloc);
+    let mut sum: i128 = 0;
+    for _pass in 0..times {
+        for number in numbers {
+            text.clear();
+            if write!(text, "{number}").is_err() {
+                return -1;
+            }
+            sum = sum.wrapping_add(i128::from(text.len() as u64));
+        }
+    }
+    sum
+}
+
+/// The sum of the lengths of the texts that Display writes with two places.
+fn display_places_all<I: Inner, const FRAC: u32>(
+    alloc: Global,
+    numbers: &[Fixed<I, FRAC>],
+    times: u32,
+) -> i128 {
+    let mut text = String::new(alloc);
+    let mut sum: i128 = 0;
+    for _pass in 0..times {
+        for number in numbers {
+            text.clear();
+            if write!(text, "{number:.2}").is_err() {
+                return -1;
+            }
+            sum = sum.wrapping_add(i128::from(text.len() as u64));
+        }
+    }
+    sum
+}
+
+/// `display_all` for the format that a word names.
+pub fn display_as(
+    format: &str,
+    alloc: Global,
+    all: &[SignedBits],
+    times: u32,
+) -> Result<i128, AllocError> {
+    let sum = match format {
+        "U16F16" => display_all(alloc, &numbers_of::<u32, 16>(alloc, all)?, times),
+        "I32F32" => display_all(alloc, &numbers_of::<i64, 32>(alloc, all)?, times),
+        _ => -1,
+    };
+    Ok(sum)
+}
+
+/// `display_places_all` for the format that a word names.
+pub fn display_places_as(
+    format: &str,
+    alloc: Global,
+    all: &[SignedBits],
+    times: u32,
+) -> Result<i128, AllocError> {
+    let sum = match format {
+        "U16F16" => display_places_all(alloc, &numbers_of::<u32, 16>(alloc, all)?, times),
+        "I32F32" => display_places_all(alloc, &numbers_of::<i64, 32>(alloc, all)?, times),
         _ => -1,
     };
     Ok(sum)
