@@ -33,15 +33,6 @@ five_pos n = one-le-pow n 5 (omega arith)
 pub fives_pos : (n fives : ℕ) → fives ≡ 5 ^ n → 0 < fives
 fives_pos n fives e = rw e (five_pos n)
 
-pub unit_room : (frac : ℕ) → 1220703125 * 2 ^ (13 - frac) < 2 ^ 63
-unit_room frac =
-    let b = two_up (13 - frac) 13 (omega arith) in
-    let h : 1220703125 * 2 ^ (13 - frac) ≤ 1220703125 * 2 ^ 13 = mul-le-mul_left 1220703125 b in
-    omega (arith, h)
-
-pub unit_pos : (fives n unit : ℕ) → 0 < fives → unit ≡ fives * 2 ^ n → 0 < unit
-unit_pos fives n unit p e = rw e (mul-pos p (pow_pos n))
-
 pub block_room : (block count bits most : ℕ) → block < 10 ^ count → bits ≤ most → block * 2 ^ bits < 10 ^ count * 2 ^ most
 block_room block count bits most s l =
     let b = two_up bits most l in
@@ -63,85 +54,8 @@ scale_up count frac fives e l =
     let two : 2 ^ frac ≡ 2 ^ (frac - count) * 2 ^ count = ap (λ i. 2 ^ i) (let z : frac ≡ (frac - count) + count = omega arith in z) ∙ pow-add 2 (frac - count) count in
     rw (two, e, ten_is count) (omega arith)
 
-scale_down : (count frac fives unit : ℕ) → fives ≡ 5 ^ count → frac ≤ count → unit ≡ fives * 2 ^ (count - frac) → unit * 2 ^ frac ≡ 2 ^ 0 * 10 ^ count
-scale_down count frac fives unit e l u =
-    let two : 2 ^ count ≡ 2 ^ (count - frac) * 2 ^ frac = ap (λ i. 2 ^ i) (let z : count ≡ (count - frac) + frac = omega arith in z) ∙ pow-add 2 (count - frac) frac in
-    rw (u, e, ten_is count) (omega (arith, ap (λ x. 5 ^ count * x) two))
-
-pub candidate_above : (block count frac fives number : ℕ) → fives ≡ 5 ^ count → fives < 2 ^ 63 → count ≤ frac → number ≡ block * 2 ^ (frac - count) → IsCandidate block count frac (number / fives) (number - number / fives * fives) fives (frac - count)
-candidate_above block count frac fives number e most l n =
-    let back = div-add-mod' number fives in
-    record {
-      split = omega (arith, back, n);
-      small = omega (arith, back, mod-lt number (fives_pos count fives e));
-      scale = scale_up count frac fives e l;
-      most = most;
-    }
-
 pub candidate_by : (block count frac fives q rest : ℕ) → fives ≡ 5 ^ count → fives < 2 ^ 63 → count ≤ frac → q * fives + rest ≡ block * 2 ^ (frac - count) → rest < fives → IsCandidate block count frac q rest fives (frac - count)
 candidate_by block count frac fives q rest e most l split small = record { split = split; small = small; scale = scale_up count frac fives e l; most = most }
-
--- the quotient by five and two at once
-both : (block two fives : ℕ) → 0 < fives → 0 < two → block / two / fives ≡ block / (fives * two)
-both block two fives p q = div-div-eq-div-mul block two fives ∙ ap (λ x. block / x) (let z : two * fives ≡ fives * two = omega arith in z)
-
-pub below_back : (block count frac fives unit : ℕ) → fives ≡ 5 ^ count → unit ≡ fives * 2 ^ (count - frac) → block / 2 ^ (count - frac) / fives * unit ≤ block
-below_back block count frac fives unit e u =
-    let same : block / 2 ^ (count - frac) / fives ≡ block / unit = both block (2 ^ (count - frac)) fives (fives_pos count fives e) (pow_pos (count - frac)) ∙ ap (λ x. block / x) (sym u) in
-    rw same (omega (arith, div-add-mod' block unit))
-
-pub candidate_below : (block count frac fives unit : ℕ) → fives ≡ 5 ^ count → unit < 2 ^ 63 → frac ≤ count → unit ≡ fives * 2 ^ (count - frac) → IsCandidate block count frac (block / 2 ^ (count - frac) / fives) (block - block / 2 ^ (count - frac) / fives * unit) unit 0
-candidate_below block count frac fives unit e most l u =
-    let scale = scale_down count frac fives unit e l u in
-    let same : block / 2 ^ (count - frac) / fives ≡ block / unit = both block (2 ^ (count - frac)) fives (fives_pos count fives e) (pow_pos (count - frac)) ∙ ap (λ x. block / x) (sym u) in
-    let back = div-add-mod' block unit in
-    rw same (record {
-      split = omega (arith, back);
-      small = omega (arith, back, mod-lt block (unit_pos fives (count - frac) unit (fives_pos count fives e) u));
-      scale = scale;
-      most = most;
-    })
-
--- ---- a candidate for steps of 2^-(frac + more), from that for steps of 2^-frac
-plain_finer : (q rest unit block a m whole number : ℕ) → q * unit + rest ≡ block * a → number ≡ rest * m → whole * unit ≤ number → (q * m + whole) * unit + (number - whole * unit) ≡ block * (a * m)
-plain_finer q rest unit block a m whole number e n l =
-    let back : whole * unit + (number - whole * unit) ≡ number = omega (arith, l) in
-    omega (arith, back, n, ap (λ x. x * m) e)
-
-candidate_finer : (block count frac more q rest unit bits number : ℕ) → IsCandidate block count frac q rest unit bits → 0 < unit → number ≡ rest * 2 ^ more → IsCandidate block count (frac + more) (q * 2 ^ more + number / unit) (number - number / unit * unit) unit (bits + more)
-candidate_finer block count frac more q rest unit bits number c some n =
-    let back = div-add-mod' number unit in
-    record {
-      split = rw (pow-add 2 bits more) (plain_finer q rest unit block (2 ^ bits) (2 ^ more) (number / unit) number c.split n (omega (arith, back)));
-      small = omega (arith, back, mod-lt number some);
-      scale = rw (pow-add 2 frac more, pow-add 2 bits more) (plain (2 ^ frac) (2 ^ bits) (2 ^ more) (10 ^ count) c.scale);
-      most = c.most;
-    }
-  where
-    plain : (p a m ten : ℕ) → unit * p ≡ a * ten → unit * (p * m) ≡ a * m * ten
-    plain p a m ten e = omega (arith, ap (λ x. x * m) e)
-
--- the unit of a block of 13 digits for 32 bits
-unit_at : (block q rest unit bits : ℕ) → IsCandidate block 13 32 q rest unit bits → bits ≡ 19 → unit ≡ 1220703125
-unit_at block q rest unit bits c e =
-    let scale : unit * 2 ^ 32 ≡ 2 ^ 19 * 10 ^ 13 = rw e at c.scale in
-    omega (arith, scale)
-
--- more than 32 bits, in two divisions
-pub candidate_fine : (block frac q rest unit bits number : ℕ) → 32 ≤ frac → IsCandidate block 13 32 q rest unit bits → bits ≡ 19 → number ≡ rest * 2 ^ (frac - 32) → IsCandidate block 13 frac (q * 2 ^ (frac - 32) + number / 1220703125) (number - number / 1220703125 * 1220703125) 1220703125 (frac - 13)
-candidate_fine block frac q rest unit bits number l c e n =
-    let unit_is : unit ≡ 1220703125 = unit_at block q rest unit bits c e in
-    let some : 0 < 1220703125 = omega arith in
-    let whole : 32 + (frac - 32) ≡ frac = omega arith in
-    let fine : 19 + (frac - 32) ≡ frac - 13 = omega arith in
-    rw (whole, fine) at (candidate_finer block 13 32 (frac - 32) q rest 1220703125 19 number (rw (unit_is, e) at c) some n)
-
-pub fine_room : (block frac q rest unit bits : ℕ) → frac ≤ 64 → IsCandidate block 13 32 q rest unit bits → bits ≡ 19 → rest * 2 ^ (frac - 32) < 2 ^ 64
-fine_room block frac q rest unit bits l c e =
-    let few = two_up (frac - 32) 32 (omega arith) in
-    let small = c.small in
-    let below : rest ≤ 1220703125 = omega (arith, small, unit_at block q rest unit bits c e) in
-    omega (arith, mul-le-mul_right (2 ^ (frac - 32)) below, few)
 
 pub candidate_steps : (block count frac q rest unit bits : ℕ) → block < 10 ^ count → IsCandidate block count frac q rest unit bits → q < 2 ^ frac
 candidate_steps block count frac q rest unit bits s c = cancel_lt unit q (2 ^ frac) (plain (2 ^ frac) (2 ^ bits) (10 ^ count) (pow_pos bits) c.split c.scale s)
@@ -313,13 +227,12 @@ module _ (ds rest : List ℕ) (block count frac q left unit bits : ℕ) (below :
       let some = whole_pos rest left unit candidate.small in
       let split = settled_same block (number_from_digits 10 rest) (10 ^ length rest) (10 ^ length ds) (number_from_digits 10 ds) (10 ^ count) (2 ^ frac) (2 ^ bits) unit q left p settled.rest candidate.split candidate.scale led_at settled.split in
       record {
-        rest = settled.rest;
-        den = whole unit rest;
-        some = some;
-        split = split;
-        left = settled.left;
+        ulps = record { rest = settled.rest; unit = whole unit rest; some = some; split = split; left = settled.left };
         small = few_steps (number_from_digits 10 ds) (10 ^ length ds) (2 ^ frac) p (whole unit rest) settled.rest (pow_pos frac) some (number_lt 10 ds below) split;
       }
+
+pub room_of : (bits : ℕ) → bits ≤ 37 → 2 * 2 ^ bits ≤ 7450580596923828125
+room_of bits l = let most = two_up bits 37 l in omega (arith, most)
 
 -- ---- what is left behind the candidate, by its comparisons
 -- the step behind the candidate's fits a word

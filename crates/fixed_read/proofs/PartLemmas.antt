@@ -19,11 +19,13 @@ part_is : (b c t half block p r : ℕ) (ds rest : List ℕ) (tail : Tail) → 0 
 part_is b c t half block p r ds rest tail pos base power split h left =
     let joined : b ^ (c + length rest) ≡ 2 * half * 2 ^ t * b ^ length rest = pow-add b c (length rest) ∙ ap (λ x. x * b ^ length rest) power in
     record {
-      rest = r * b ^ length rest + number_from_digits b rest;
-      den = 2 * half * b ^ length rest;
-      some = mul-pos (omega (arith, pos)) (one-le-pow (length rest) b base);
-      split = plain_split (number_from_digits b ds) p r (2 * half) (2 ^ t) (b ^ length rest) (number_from_digits b rest) (b ^ length ds) block split (rw joined at h.same);
-      left = left (b ^ length rest) (number_from_digits b rest) (number_lt b rest h.digits) (some_digits b rest base h.trailing);
+      ulps = record {
+        rest = r * b ^ length rest + number_from_digits b rest;
+        unit = 2 * half * b ^ length rest;
+        some = mul-pos (omega (arith, pos)) (one-le-pow (length rest) b base);
+        split = plain_split (number_from_digits b ds) p r (2 * half) (2 ^ t) (b ^ length rest) (number_from_digits b rest) (b ^ length ds) block split (rw joined at h.same);
+        left = left (b ^ length rest) (number_from_digits b rest) (number_lt b rest h.digits) (some_digits b rest base h.trailing);
+      };
       small = cancel_lt (2 * half) p (2 ^ t) (omega (arith, split, rw power at h.small));
     }
 
@@ -76,4 +78,4 @@ part_at bits t c block p r half base ds rest more tail some ec eb eh ep er h em 
 
 -- no digits are no steps
 pub part_none : (b t : ℕ) (ds : List ℕ) → ds ≡ [] → IsPart b ds t 0 Nothing
-part_none b t ds e = rw e (record { rest = 0; den = 1; some = omega arith; split = omega arith; left = refl; small = pow_pos t })
+part_none b t ds e = rw e (record { ulps = record { rest = 0; unit = 1; some = omega arith; split = omega arith; left = refl }; small = pow_pos t })

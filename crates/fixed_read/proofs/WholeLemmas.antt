@@ -81,15 +81,15 @@ pub record Rounded (r : Side) (b : ℕ) (w f : List ℕ) (s frac number : ℕ) (
   pub to : IsTo r ((spelled b w f s).num * 2 ^ frac) (spelled b w f s).den number
   pub exact : IsTrue flag ↔ IsMultipleOf (spelled b w f s).den ((spelled b w f s).num * 2 ^ frac)
 
-pub rounded : (r : Side) (b : ℕ) (w f : List ℕ) (s frac t p more : ℕ) (tail : Tail) (exact : Bool) → 0 < b → t ≡ frac + s → (h : IsPart b f t p tail) → IsTo r ((number_from_digits b w * 2 ^ t + p) * h.den + h.rest) h.den (number_from_digits b w * 2 ^ t + p + more) → ((y den : ℕ) → 0 < den → IsTail tail y den → IsTrue exact ↔ (y ≡ 0)) → Rounded r b w f s frac (number_from_digits b w * 2 ^ t + p + more) exact
+pub rounded : (r : Side) (b : ℕ) (w f : List ℕ) (s frac t p more : ℕ) (tail : Tail) (exact : Bool) → 0 < b → t ≡ frac + s → (h : IsPart b f t p tail) → IsTo r ((number_from_digits b w * 2 ^ t + p) * h.ulps.unit + h.ulps.rest) h.ulps.unit (number_from_digits b w * 2 ^ t + p + more) → ((y den : ℕ) → 0 < den → IsTail tail y den → IsTrue exact ↔ (y ≡ 0)) → Rounded r b w f s frac (number_from_digits b w * 2 ^ t + p + more) exact
 rounded r b w f s frac t p more tail exact pos et h to none =
     let number : number_from_digits b (w ++ f) ≡ number_from_digits b w * b ^ length f + number_from_digits b f = number_append b w f in
     let power : 2 ^ t ≡ 2 ^ frac * 2 ^ s = ap (λ i. 2 ^ i) et ∙ pow-add 2 frac s in
-    let cross : ((number_from_digits b w * 2 ^ t + p) * h.den + h.rest) * b ^ length f ≡ number_from_digits b (w ++ f) * 2 ^ s * 2 ^ frac * h.den = crossed (number_from_digits b w) (number_from_digits b f) (number_from_digits b (w ++ f)) (b ^ length f) (2 ^ t) (2 ^ frac) (2 ^ s) p h.den h.rest number power h.split in
-    let test = exact_rest (number_from_digits b (w ++ f) * 2 ^ s * 2 ^ frac) (b ^ length f) (number_from_digits b w * 2 ^ t + p) h.den h.rest (one-le-pow (length f) b pos) h.some (tail_within tail h.rest h.den h.some h.left) (sym cross) in
+    let cross : ((number_from_digits b w * 2 ^ t + p) * h.ulps.unit + h.ulps.rest) * b ^ length f ≡ number_from_digits b (w ++ f) * 2 ^ s * 2 ^ frac * h.ulps.unit = crossed (number_from_digits b w) (number_from_digits b f) (number_from_digits b (w ++ f)) (b ^ length f) (2 ^ t) (2 ^ frac) (2 ^ s) p h.ulps.unit h.ulps.rest number power h.ulps.split in
+    let test = exact_rest (number_from_digits b (w ++ f) * 2 ^ s * 2 ^ frac) (b ^ length f) (number_from_digits b w * 2 ^ t + p) h.ulps.unit h.ulps.rest (one-le-pow (length f) b pos) h.ulps.some (tail_within tail h.ulps.rest h.ulps.unit h.ulps.some h.ulps.left) (sym cross) in
     record {
-      to = to_same r _ h.den _ (b ^ length f) _ h.some (one-le-pow (length f) b pos) cross to;
-      exact = (λ e. test.0 ((none h.rest h.den h.some h.left).0 e), λ m. (none h.rest h.den h.some h.left).1 (test.1 m));
+      to = to_same r _ h.ulps.unit _ (b ^ length f) _ h.ulps.some (one-le-pow (length f) b pos) cross to;
+      exact = (λ e. test.0 ((none h.ulps.rest h.ulps.unit h.ulps.some h.ulps.left).0 e), λ m. (none h.ulps.rest h.ulps.unit h.ulps.some h.ulps.left).1 (test.1 m));
     }
   where
     crossed : (w n a x t u v p d y : ℕ) → a ≡ w * x + n → t ≡ u * v → n * t * d ≡ (p * d + y) * x → ((w * t + p) * d + y) * x ≡ a * v * u * d
@@ -111,7 +111,7 @@ magnitude_is r b m n s frac t low moved p more high w f tail over ulps pos en et
     let some : 0 < n = omega (arith, en) in
     let low_is : moved ≡ number_from_digits b w % 2 ^ m * 2 ^ t = ev ∙ ap (λ x. x * 2 ^ t) el in
     let odd : (number_from_digits b w * 2 ^ t + p) % 2 ≡ (moved + p) % 2 = parity (number_from_digits b w) m t n p some em ∙ ap (λ x. (x + p) % 2) (sym low_is) in
-    let steps = rounded r b w f s frac t p more tail ulps.is_exact pos et h (up (number_from_digits b w * 2 ^ t + p) h.rest h.den h.some odd h.left) none in
+    let steps = rounded r b w f s frac t p more tail ulps.is_exact pos et h (up (number_from_digits b w * 2 ^ t + p) h.ulps.rest h.ulps.unit h.ulps.some odd h.ulps.left) none in
     let together : moved + p + more ≡ number_from_digits b w % 2 ^ m * 2 ^ t + (p + more) = omega (arith, low_is) in
     let parts = cut (number_from_digits b w) m t n (p + more) over ulps.has_high_bits em eo (rw (eh, together) at eb) in
     let all : number_from_digits b w * 2 ^ t + p + more ≡ number_from_digits b w * 2 ^ t + (p + more) = omega arith in
@@ -122,23 +122,3 @@ magnitude_is r b m n s frac t low moved p more high w f tail over ulps pos en et
       over = parts.flag;
       exact = steps.exact;
     }
-
--- ---- where all steps are in a word
-pub short_room : (x t p : ℕ) → x < 10 ^ 9 → t ≤ 32 → p < 2 ^ t → x * 2 ^ t + p + 1 < 2 ^ 63
-short_room x t p l h s =
-    let most : 2 ^ t ≤ 2 ^ 32 = pow-le-pow_right {n = 2} (omega arith) h in
-    omega (arith, s, most, mul-le-mul_left x most)
-
-pub short_is : (r : Side) (b s frac t moved p more : ℕ) (w f : List ℕ) (tail : Tail) (ulps : Ulps) → 0 < b → t ≡ frac + s → moved ≡ number_from_digits b w * 2 ^ t → IsPart b f t p tail → ((q y den : ℕ) → 0 < den → q % 2 ≡ (moved + p) % 2 → IsTail tail y den → IsTo r (q * den + y) den (q + more)) → ((y den : ℕ) → 0 < den → IsTail tail y den → IsTrue ulps.is_exact ↔ (y ≡ 0)) → ulps.low ≡ moved + p + more → ulps.has_high_bits ≡ false → IsMagnitude r (spelled b w f s) frac ulps
-short_is r b s frac t moved p more w f tail ulps pos et em h up none eb flag =
-    let steps = rounded r b w f s frac t p more tail ulps.is_exact pos et h (up (number_from_digits b w * 2 ^ t + p) h.rest h.den h.some (ap (λ x. (x + p) % 2) (sym em)) h.left) none in
-    let number : number_from_digits b w * 2 ^ t + p + more ≡ 0 * 2 ^ 64 + ulps.low = ap (λ x. x + p + more) (sym em) ∙ sym eb ∙ plain ulps.low (2 ^ 64) in
-    record {
-      high = 0;
-      to = rw number at steps.to;
-      over = (λ v. absurd (cc), λ l. absurd (omega (arith, l)));
-      exact = steps.exact;
-    }
-  where
-    plain : (a m : ℕ) → a ≡ 0 * m + a
-    plain a m = omega arith

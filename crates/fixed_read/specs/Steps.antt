@@ -34,13 +34,9 @@ pub record IsSplitUlps (num den frac q : ℕ) (tail : Tail) : Type 0 where
   pub split : num * 2 ^ frac * unit ≡ (q * unit + rest) * den
   pub left : IsTail tail rest unit
 
--- 0.DS is p steps of 2^-t and rest / den of a step
+-- 0.DS is p ulps of 2^-t and what is lost
 pub record IsPart (b : ℕ) (ds : List ℕ) (t p : ℕ) (tail : Tail) : Type 0 where
-  pub rest : ℕ
-  pub den : ℕ
-  pub some : 0 < den
-  pub split : number_from_digits b ds * 2 ^ t * den ≡ (p * den + rest) * b ^ length ds
-  pub left : IsTail tail rest den
+  pub ulps : IsSplitUlps (number_from_digits b ds) (b ^ length ds) t p tail
   pub small : p < 2 ^ t
 
 -- number rounded to ulps of 2^-frac: its lowest 64 bits, whether there are more, and whether nothing was rounded

@@ -166,29 +166,6 @@ pub fn leading_long<'a, L: Ledger>(
     }
 }
 
-/// The number that all digits spell, for at most so many.
-#[inline]
-pub fn all_of<'a, L: Ledger>(
-    view: &DigitView<'a>,
-    base: u32,
-    count: u32,
-    steps: &mut Steps<L>,
-) -> u64
-    requires digits { AllBelowBase base view.now }
-    requires base { 2 ≤ base }
-    requires small { base ≤ 16 }
-    requires room { base ^ count ≤ 2 ^ 64 }
-    requires few { length view.now ≤ count }
-    ensures number { result ≡ number_from_digits base view.now }
-    ensures below { result < base ^ count }
-    ensures cost { steps.new ≤ steps.old + count }
-{
-    if view.is_empty() {
-        return 0;
-    }
-    view.first_number(base, count, steps)
-}
-
 /// Whether there are more digits than so many.
 fn exceeds(count: u64, width: u64) -> bool
     ensures { IsTrue result ↔ (width < count) }

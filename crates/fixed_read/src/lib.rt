@@ -3,6 +3,7 @@
 
 mod bits;
 mod decimal;
+mod decimal_block;
 mod digits;
 pub mod laws;
 mod literal;

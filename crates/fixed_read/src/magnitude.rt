@@ -9,11 +9,11 @@ ghost use Rattle.fixed_numeral.specs.Place.{NoLeadingZero, NoTrailingZero};
 ghost use Rattle.fixed_read.specs.Steps.{IsPart, IsMagnitude, IsSplitNumeral, IsSplitUlps};
 
 use crate::bits::bit_part;
-use crate::decimal::{decimal_part, narrow_part};
-use crate::digits::{all_of, is_over, trailing};
+use crate::decimal::decimal_ulps;
+use crate::digits::{is_over, trailing};
 use crate::side::Side;
-use crate::tail::{Tail, is_nothing, up, up_narrow};
-use crate::words::{is_some, parted, scaled, scaled_narrow};
+use crate::tail::{Tail, is_nothing, up};
+use crate::words::{is_some, parted, scaled};
 use fixed_numeral::{DigitView, Radix, Scanned};
 use fixed_steps::Steps;
 use std::sync::ledger::Ledger;
@@ -88,7 +88,7 @@ fn part<'a, L: Ledger>(
     requires shift { bit_shift < bits_of radix }
     requires frac { frac ≤ 64 }
     ensures part { IsPart (base radix) view.now (frac + bit_shift) result.0 result.1 }
-    ensures cost { steps.new ≤ steps.old + 2 * frac + 14 }
+    ensures cost { steps.new ≤ steps.old + 38 + 2 * (frac - 32) }
 {
     if view.is_empty() {
         return (0, Tail::Nothing);
@@ -97,99 +97,10 @@ fn part<'a, L: Ledger>(
         Radix::Bin => bit_part(view, 1, frac + bit_shift, steps),
         Radix::Oct => bit_part(view, 3, frac + bit_shift, steps),
         Radix::Dec => {
-            let (more, tail) = decimal_part(view, frac, steps);
+            let (more, tail) = decimal_ulps(view, frac, steps);
             (u128::from(more), tail)
         }
         Radix::Hex => bit_part(view, 4, frac + bit_shift, steps),
-    }
-}
-
-/// The magnitude of any digits in ulps of 2^-frac.
-#[inline(never)]
-fn long_magnitude<'a, L: Ledger>(
-    found: &Scanned<'a>,
-    radix: Radix,
-    frac: u32,
-    side: Side,
-    steps: &mut Steps<L>,
-) -> Ulps
-    requires split { IsSplitNumeral radix found.now.whole found.now.fraction found.now.bit_shift }
-    requires frac { frac ≤ 64 }
-    ensures magnitude { IsMagnitude side (spelled (base radix) found.now.whole found.now.fraction found.now.bit_shift) frac result }
-    ensures cost { steps.new ≤ steps.old + 2 * frac + 93 }
-{
-    let bit_shift = found.bit_shift();
-    let (more, tail) = part(found.fraction_view(), radix, bit_shift, frac, steps);
-    rounded_magnitude(
-        found.whole_view(),
-        radix.base(),
-        more,
-        tail,
-        frac + bit_shift,
-        side,
-        steps,
-    )
-}
-
-/// Whether the whole digits are so few, and the ulps so coarse, that all of these are in a word.
-fn is_short(whole: &DigitView, behind: u32) -> bool
-    ensures { IsTrue result → ((length whole.now ≤ 9) × (behind ≤ 32)) }
-{
-    whole.len() <= 9 && behind <= 32
-}
-
-/// The magnitude of a decimal numeral with at most nine whole digits in ulps of 2^-behind.
-#[inline]
-fn short_magnitude<'a, L: Ledger>(
-    whole: &DigitView<'a>,
-    fraction: &DigitView<'a>,
-    behind: u32,
-    side: Side,
-    steps: &mut Steps<L>,
-) -> Ulps
-    requires whole_digits { AllBelowBase 10 whole.now }
-    requires few_whole { length whole.now ≤ 9 }
-    requires digits { AllBelowBase 10 fraction.now }
-    requires trailing { NoTrailingZero fraction.now }
-    requires behind { behind ≤ 32 }
-    ensures magnitude { (frac s : ℕ) → behind ≡ frac + s → IsMagnitude side (spelled 10 whole.now fraction.now s) frac result }
-    ensures cost { steps.new ≤ steps.old + 23 + 2 * (behind - 13) }
-{
-    let (more, tail) = narrow_part(fraction, behind, steps);
-    let number = all_of(whole, 10, 9, steps);
-    let sum = scaled_narrow(number, behind) + more;
-    let total = sum + up_narrow(tail, side, sum % 2);
-    Ulps {
-        low: total,
-        has_high_bits: false,
-        is_exact: is_nothing(tail),
-    }
-}
-
-/// The magnitude of a decimal numeral in ulps of 2^-frac.
-#[inline]
-fn decimal_magnitude<'a, L: Ledger>(
-    found: &Scanned<'a>,
-    frac: u32,
-    side: Side,
-    steps: &mut Steps<L>,
-) -> Ulps
-    requires split { IsSplitNumeral Radix.Dec found.now.whole found.now.fraction found.now.bit_shift }
-    requires frac { frac ≤ 64 }
-    ensures magnitude { IsMagnitude side (spelled 10 found.now.whole found.now.fraction found.now.bit_shift) frac result }
-    ensures cost { steps.new ≤ steps.old + 2 * frac + 93 }
-{
-    let behind = frac + found.bit_shift();
-    if is_short(found.whole_view(), behind) {
-        short_magnitude(
-            found.whole_view(),
-            found.fraction_view(),
-            behind,
-            side,
-            steps,
-        )
-    } else {
-        long_magnitude(found, Radix::Dec, frac, side, steps)
     }
 }
 
@@ -204,10 +115,17 @@ pub fn magnitude<'a, L: Ledger>(
     requires split { IsSplitNumeral radix found.now.whole found.now.fraction found.now.bit_shift }
     requires frac { frac ≤ 64 }
     ensures magnitude { IsMagnitude side (spelled (base radix) found.now.whole found.now.fraction found.now.bit_shift) frac result }
-    ensures cost { steps.new ≤ steps.old + 2 * frac + 93 }
+    ensures cost { steps.new ≤ steps.old + 117 }
 {
-    match radix {
-        Radix::Dec => decimal_magnitude(found, frac, side, steps),
-        _ => long_magnitude(found, radix, frac, side, steps),
-    }
+    let bit_shift = found.bit_shift();
+    let (more, tail) = part(found.fraction_view(), radix, bit_shift, frac, steps);
+    rounded_magnitude(
+        found.whole_view(),
+        radix.base(),
+        more,
+        tail,
+        frac + bit_shift,
+        side,
+        steps,
+    )
 }

@@ -11,7 +11,7 @@ ghost use Rattle.fixed_numeral.specs.Value.{scaled, magnitude};
 ghost use Rattle.fixed_read.specs.Quick.{up_of, down_of, ups, downs};
 ghost use Rattle.fixed_read.specs.Steps.{IsMagnitude, IsTail};
 
-use crate::decimal::ulps_of_fraction;
+use crate::decimal_block::ulps_of_fraction;
 use crate::digits::power_of_ten;
 use crate::magnitude::{Ulps, rounded_ulps};
 use crate::side::Side;

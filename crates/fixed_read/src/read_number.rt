@@ -137,7 +137,7 @@ fn number_of<'a, L: Ledger>(
     ensures reading { (p : Parts) → IsScanned radix p found.now.neg found.now.whole found.now.fraction found.now.bit_shift → IsReading mode radix p result }
     ensures format { result.format ≡ format }
     ensures valid { IsFormat format.width format.frac }
-    ensures cost { steps.new ≤ steps.old + 2 * format.frac + 93 }
+    ensures cost { steps.new ≤ steps.old + 117 }
 {
     let negative = found.neg();
     let ulps = magnitude(found, radix, format.frac(), side_of(mode, negative), steps);

@@ -6,10 +6,8 @@
 
 ghost use Rattle.std.specs.Prelude.{◌≡◌, ◌+◌, ◌*◌, ◌^◌, ◌<◌, ◌≤◌};
 
+use crate::decimal_block::FIVE_TO_27;
 use crate::words::{narrow, parted};
-
-/// 5^27.
-pub const FIVE_TO_27: u64 = 7450580596923828125;
 
 /// 2^126 / 5^27, rounded down.
 const RECIPROCAL: u64 = 11417981541647679048;

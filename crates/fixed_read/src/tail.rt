@@ -5,7 +5,6 @@ ghost use Rattle.fixed_read.specs.Sides.{IsTo};
 ghost use Rattle.fixed_read.specs.Steps.{IsTail};
 
 use crate::side::Side;
-use crate::words::narrow;
 
 /// How what is left of a step stands to nothing, to half a step and to a step.
 #[derive(Clone, Copy, Debug, PartialEq, Eq)]
@@ -88,13 +87,4 @@ pub fn up(tail: Tail, side: Side, odd: u128) -> u128
             Tail::Above => 1,
         },
     }
-}
-
-/// The same in 64 bits.
-pub fn up_narrow(tail: Tail, side: Side, odd: u64) -> u64
-    requires { odd < 2 }
-    ensures to { (q s den : ℕ) → 0 < den → q % 2 ≡ odd → IsTail tail s den → IsTo side (q * den + s) den (q + result) }
-    ensures most { result ≤ 1 }
-{
-    narrow(up(tail, side, u128::from(odd)))
 }

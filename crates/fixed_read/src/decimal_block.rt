@@ -1,0 +1,166 @@
+//! How many ulps a block of decimal digits makes.
+//!
+//! A block of n digits spells a number F below 10^n, and the fraction is F / 10^n. In ulps of 2^-frac that is
+//! F * 2^frac / 10^n, which is F * 2^(frac - n) / 5^n: one division by a constant finds the whole ulps, and its rest over 5^n
+//! is what is lost. With 13 digits all of this fits 64 bits, with 27 it fits 128. Ulps coarser than 2^-32 are made of those.
+
+ghost use Rattle.std.specs.Prelude.{◌≡◌, ◌+◌, ◌-◌, ◌*◌, ◌/◌, ◌^◌, ◌<◌, ◌≤◌, ℕ};
+ghost use Rattle.fixed_read.specs.Blocks.{IsCandidate};
+ghost use Rattle.fixed_read.specs.Steps.{IsSplitUlps, IsTail};
+
+use crate::digits::power_of_ten;
+use crate::reciprocal::divided_by_five_to_27;
+use crate::tail::{Tail, has_rest, tail_of};
+use crate::words::{narrow, parted, power, scaled, scaled_narrow};
+
+/// 5^13.
+const FIVE_TO_13: u64 = 1220703125;
+
+/// 5^27.
+pub const FIVE_TO_27: u64 = 7450580596923828125;
+
+/// The whole ulps of a block of 27 digits, and the rest over 5^27 of an ulp.
+#[derive(Clone, Copy, Debug, PartialEq, Eq)]
+pub struct Candidate {
+    /// The whole ulps.
+    pub ulps: u64,
+    /// What is left of an ulp, over 5^27.
+    pub rest: u64,
+    /// A digit after the block counts at most 2^bits / 5^27 of an ulp, as do all digits after it together.
+    pub bits: u32,
+    ghost small: { rest < 7450580596923828125 },
+    ghost few: { bits ≤ 37 },
+}
+
+/// What a share of an ulp is.
+#[inline]
+pub fn lost_share(rest: u64, unit: u64) -> Tail
+    requires small { rest < unit }
+    requires most { unit < 2 ^ 63 }
+    ensures { IsTail result rest unit }
+{
+    let twice = rest + rest;
+    if rest == 0 {
+        Tail::Nothing
+    } else if twice < unit {
+        Tail::Below
+    } else if twice == unit {
+        Tail::Half
+    } else {
+        Tail::Above
+    }
+}
+
+/// Ulps and what is lost, in ulps that are 2^bits times as coarse.
+#[inline]
+pub fn coarser_ulps(ulps: u64, tail: Tail, bits: u32) -> (u64, Tail)
+    requires some { 0 < bits }
+    requires bits { bits ≤ 32 }
+    ensures split { (num den frac : ℕ) → IsSplitUlps num den (frac + bits) ulps tail → IsSplitUlps num den frac result.0 result.1 }
+    ensures whole { result.0 ≡ ulps / 2 ^ bits }
+{
+    let (whole, low) = parted(u128::from(ulps), bits);
+    (narrow(whole), tail_of(low, power(bits - 1), has_rest(tail)))
+}
+
+/// A number divided by 5^13, and the rest.
+#[inline]
+fn divided_by_five_to_13(number: u64) -> (u64, u64)
+    ensures split { result.0 * 1220703125 + result.1 ≡ number }
+    ensures small { result.1 < 1220703125 }
+{
+    let quotient = number / FIVE_TO_13;
+    (quotient, number - quotient * FIVE_TO_13)
+}
+
+/// Ulps and rest / 5^13 of one, in ulps that are 2^bits times as fine.
+#[inline]
+fn finer_ulps(ulps: u64, rest: u64, bits: u32) -> (u64, Tail)
+    requires ulps { ulps < 2 ^ 32 }
+    requires rest { rest < 1220703125 }
+    requires bits { bits ≤ 32 }
+    ensures split { (num den frac : ℕ) → num * 2 ^ frac * 1220703125 ≡ (ulps * 1220703125 + rest) * den → IsSplitUlps num den (frac + bits) result.0 result.1 }
+    ensures below { result.0 < 2 ^ (32 + bits) }
+{
+    let (more, left) = divided_by_five_to_13(scaled_narrow(rest, bits));
+    (
+        scaled_narrow(ulps, bits) + more,
+        lost_share(left, FIVE_TO_13),
+    )
+}
+
+/// The ulps of 2^-frac in a block of 13 digits, and what is lost.
+#[inline]
+fn block_of_13(block: u64, frac: u32) -> (u64, Tail)
+    requires block { block < 10 ^ 13 }
+    requires frac { frac ≤ 64 }
+    ensures split { IsSplitUlps block (10 ^ 13) frac result.0 result.1 }
+    ensures below { result.0 < 2 ^ frac }
+{
+    let (ulps, rest) = divided_by_five_to_13(scaled_narrow(block, 19));
+    if frac < 32 {
+        coarser_ulps(ulps, lost_share(rest, FIVE_TO_13), 32 - frac)
+    } else {
+        finer_ulps(ulps, rest, frac - 32)
+    }
+}
+
+/// The candidate of a block of 27 digits, for ulps of at most 2^-32.
+#[inline]
+pub fn candidate_of(block: u128, frac: u32) -> Candidate
+    requires block { block < 10 ^ 27 }
+    requires least { 32 ≤ frac }
+    requires frac { frac ≤ 64 }
+    ensures candidate { IsCandidate block 27 frac result.ulps result.rest 7450580596923828125 result.bits }
+    ensures bits { result.bits ≡ frac - 27 }
+{
+    let bits = frac - 27;
+    let (ulps, rest) = divided_by_five_to_27(scaled(block, bits));
+    Candidate { ulps, rest, bits }
+}
+
+/// The ulps of 2^-frac in a block of 27 digits, and what is lost, for ulps of at most 2^-32.
+#[inline]
+fn fine_block_of_27(block: u128, frac: u32) -> (u64, Tail)
+    requires block { block < 10 ^ 27 }
+    requires least { 32 ≤ frac }
+    requires frac { frac ≤ 64 }
+    ensures split { IsSplitUlps block (10 ^ 27) frac result.0 result.1 }
+    ensures below { result.0 < 2 ^ frac }
+{
+    let found = candidate_of(block, frac);
+    (found.ulps, lost_share(found.rest, FIVE_TO_27))
+}
+
+/// The ulps of 2^-frac in a block of 27 digits, and what is lost.
+#[inline]
+fn block_of_27(block: u128, frac: u32) -> (u64, Tail)
+    requires block { block < 10 ^ 27 }
+    requires frac { frac ≤ 64 }
+    ensures split { IsSplitUlps block (10 ^ 27) frac result.0 result.1 }
+    ensures below { result.0 < 2 ^ frac }
+{
+    if frac >= 32 {
+        return fine_block_of_27(block, frac);
+    }
+    let (ulps, tail) = fine_block_of_27(block, 32);
+    coarser_ulps(ulps, tail, 32 - frac)
+}
+
+/// The ulps of 2^-frac in fraction / 10^places, and what is lost.
+#[inline]
+pub fn ulps_of_fraction(fraction: u128, places: u32, frac: u32) -> (u64, Tail)
+    requires fraction { fraction < 10 ^ places }
+    requires places { places ≤ 27 }
+    requires frac { frac ≤ 64 }
+    ensures split { IsSplitUlps fraction (10 ^ places) frac result.0 result.1 }
+    ensures below { result.0 < 2 ^ frac }
+{
+    if places <= 13 {
+        let block = narrow(fraction) * power_of_ten(13 - places);
+        block_of_13(block, frac)
+    } else {
+        let block = fraction * u128::from(power_of_ten(27 - places));
+        block_of_27(block, frac)
+    }
+}
