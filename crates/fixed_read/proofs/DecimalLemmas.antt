@@ -7,10 +7,10 @@ use Rattle.std.specs.Int.Digits.{number_from_digits, AllBelowBase}
 use Rattle.std.proofs.Common.{Ordering, Less, Equal, Greater}
 use Rattle.std.specs.Ordering.{MatchOrdering}
 use Rattle.fixed_numeral.specs.Place.{NoTrailingZero}
-use Rattle.fixed_read.specs.Blocks.{IsLed, IsCandidate, part, whole}
-use Rattle.fixed_read.specs.Steps.{IsPart, IsSettled, IsTail}
-use Rattle.fixed_read.specs.declared.tail.Tail.{Tail}
-use Rattle.fixed_read.specs.declared.tail.Tail.TheVariants.{Below, Above}
+use Rattle.fixed_read.specs.Inner.Blocks.{IsBlockOf, IsCandidate, scaled_rest, scaled_unit}
+use Rattle.fixed_read.specs.Inner.Rounding.{IsFractionUlps, IsSettled, IsLostFraction}
+use Rattle.fixed_read.specs.declared.lost_fraction.LostFraction.{LostFraction}
+use Rattle.fixed_read.specs.declared.lost_fraction.LostFraction.TheVariants.{LessThanHalf, MoreThanHalf}
 use Rattle.fixed_read.proofs.DigitLemmas.{cancel_lt, some_number, some_digits, none_number}
 
 ten_pos : (n : ℕ) → 0 < 10 ^ n
@@ -63,7 +63,7 @@ candidate_steps block count frac q rest unit bits s c = cancel_lt unit q (2 ^ fr
     plain : (p a ten : ℕ) → 0 < a → q * unit + rest ≡ block * a → unit * p ≡ a * ten → block < ten → unit * q < unit * p
     plain p a ten pos e f l = omega (arith, e, f, mul-le-mul_left a l)
 
--- ---- against a half, or a whole step
+-- ---- against a half, or a scaled_unit step
 pub order_map : (r : Ordering) (P Q R P2 Q2 R2 : Type 0) → (P → P2) → (Q → Q2) → (R → R2) → MatchOrdering r P Q R → MatchOrdering r P2 Q2 R2
 order_map Less P Q R P2 Q2 R2 f g h x = f x
 order_map Equal P Q R P2 Q2 R2 f g h x = g x
@@ -101,7 +101,7 @@ module _ (block t w n l two five start : ℕ) (led : (block * t + w) * l ≡ n *
       plain : (x y : ℕ) → x < y → x * l < y * l
       plain x y k = omega (arith, mul-le-mul_right l k, some_l)
 
-pub block_order : (r : Ordering) (ds rest : List ℕ) (block start mark bits : ℕ) (longer : Bool) → AllBelowBase 10 ds → IsLed 10 ds rest block bits → mark ≡ start * 5 ^ bits → (IsTrue longer ↔ (0 < length rest)) → MatchOrdering r (block < mark) ((block ≡ mark) × (longer ≡ false)) ((mark < block) ⊎ ((block ≡ mark) × IsTrue longer)) → MatchOrdering r (number_from_digits 10 ds * 2 ^ bits < start * 10 ^ length ds) (number_from_digits 10 ds * 2 ^ bits ≡ start * 10 ^ length ds) (start * 10 ^ length ds < number_from_digits 10 ds * 2 ^ bits)
+pub block_order : (r : Ordering) (ds rest : List ℕ) (block start mark bits : ℕ) (longer : Bool) → AllBelowBase 10 ds → IsBlockOf 10 ds rest block bits → mark ≡ start * 5 ^ bits → (IsTrue longer ↔ (0 < length rest)) → MatchOrdering r (block < mark) ((block ≡ mark) × (longer ≡ false)) ((mark < block) ⊎ ((block ≡ mark) × IsTrue longer)) → MatchOrdering r (number_from_digits 10 ds * 2 ^ bits < start * 10 ^ length ds) (number_from_digits 10 ds * 2 ^ bits ≡ start * 10 ^ length ds) (start * 10 ^ length ds < number_from_digits 10 ds * 2 ^ bits)
 block_order r ds rest block start mark bits longer below led em el m =
     let power : 10 ^ (bits + length rest) ≡ 5 ^ bits * 2 ^ bits * 10 ^ length rest = pow-add 10 bits (length rest) ∙ ap (λ x. x * 10 ^ length rest) (ten_is bits) in
     let led_at = led.same ∙ ap (λ x. number_from_digits 10 ds * x) power in
@@ -131,7 +131,7 @@ plain_stands r k a t w rest unit share start e f m =
     let f' = ap (λ x. x * t) f in
     order_map r _ _ _ _ _ _ (λ h. omega (arith, e', f', h)) (λ h. omega (arith, e', f', h)) (λ h. omega (arith, e', f', h)) m
 
-pub stands_behind : (r : Ordering) (ds : List ℕ) (halves bits rest unit share : ℕ) → share ≡ rest * 2 ^ halves → share < unit → MatchOrdering r (number_from_digits 10 ds * 2 ^ (bits + halves) < (unit - share) * 10 ^ length ds) (number_from_digits 10 ds * 2 ^ (bits + halves) ≡ (unit - share) * 10 ^ length ds) ((unit - share) * 10 ^ length ds < number_from_digits 10 ds * 2 ^ (bits + halves)) → MatchOrdering r (2 ^ halves * part rest bits ds < whole unit ds) (2 ^ halves * part rest bits ds ≡ whole unit ds) (whole unit ds < 2 ^ halves * part rest bits ds)
+pub stands_behind : (r : Ordering) (ds : List ℕ) (halves bits rest unit share : ℕ) → share ≡ rest * 2 ^ halves → share < unit → MatchOrdering r (number_from_digits 10 ds * 2 ^ (bits + halves) < (unit - share) * 10 ^ length ds) (number_from_digits 10 ds * 2 ^ (bits + halves) ≡ (unit - share) * 10 ^ length ds) ((unit - share) * 10 ^ length ds < number_from_digits 10 ds * 2 ^ (bits + halves)) → MatchOrdering r (2 ^ halves * scaled_rest rest bits ds < scaled_unit unit ds) (2 ^ halves * scaled_rest rest bits ds ≡ scaled_unit unit ds) (scaled_unit unit ds < 2 ^ halves * scaled_rest rest bits ds)
 stands_behind r ds halves bits rest unit share e l m = plain_stands r (2 ^ halves) (2 ^ bits) (10 ^ length ds) (number_from_digits 10 ds) rest unit share (unit - share) e (omega arith) (rw (pow-add 2 bits halves) at m)
 
 plain_more : (k a t w rest unit share : ℕ) → 0 < k → 0 < a → 0 < t → share ≡ rest * k → unit < share → unit * t < k * (rest * t + w * a)
@@ -140,13 +140,13 @@ plain_more k a t w rest unit share pk pa pt e l = omega (arith, ap (λ x. x * t)
 plain_some : (k a t w rest unit share : ℕ) → 0 < k → 0 < a → 0 < w → share ≡ rest * k → unit ≡ share → unit * t < k * (rest * t + w * a)
 plain_some k a t w rest unit share pk pa pw e l = omega (arith, ap (λ x. x * t) e, ap (λ x. x * t) l, mul-pos pk (mul-pos pw pa))
 
-pub stands_above : (ds : List ℕ) (halves bits rest unit share : ℕ) → share ≡ rest * 2 ^ halves → unit < share → whole unit ds < 2 ^ halves * part rest bits ds
+pub stands_above : (ds : List ℕ) (halves bits rest unit share : ℕ) → share ≡ rest * 2 ^ halves → unit < share → scaled_unit unit ds < 2 ^ halves * scaled_rest rest bits ds
 stands_above ds halves bits rest unit share e l = plain_more (2 ^ halves) (2 ^ bits) (10 ^ length ds) (number_from_digits 10 ds) rest unit share (pow_pos halves) (pow_pos bits) (ten_pos (length ds)) e l
 
-pub stands_beyond : (ds : List ℕ) (halves bits rest unit share : ℕ) → NoTrailingZero ds → share ≡ rest * 2 ^ halves → unit ≡ share → (ds ≡ [] → ⊥) → whole unit ds < 2 ^ halves * part rest bits ds
+pub stands_beyond : (ds : List ℕ) (halves bits rest unit share : ℕ) → NoTrailingZero ds → share ≡ rest * 2 ^ halves → unit ≡ share → (ds ≡ [] → ⊥) → scaled_unit unit ds < 2 ^ halves * scaled_rest rest bits ds
 stands_beyond ds halves bits rest unit share n e l some = plain_some (2 ^ halves) (2 ^ bits) (10 ^ length ds) (number_from_digits 10 ds) rest unit share (pow_pos halves) (pow_pos bits) (some_number 10 ds (omega arith) n some) e l
 
--- ---- a whole step is not met by the digits' share alone
+-- ---- a scaled_unit step is not met by the digits' share alone
 pub far_below : (ds : List ℕ) (start bits : ℕ) → AllBelowBase 10 ds → 2 ^ bits ≤ start → number_from_digits 10 ds * 2 ^ bits < start * 10 ^ length ds
 far_below ds start bits b l = plain (number_from_digits 10 ds) (10 ^ length ds) (2 ^ bits) (pow_pos bits) (number_lt 10 ds b) l
   where
@@ -154,19 +154,19 @@ far_below ds start bits b l = plain (number_from_digits 10 ds) (10 ^ length ds) 
     plain w t a p h k = omega (arith, mul-le-mul_right a h, mul-le-mul_right t k)
 
 -- ---- less than one and a half
-pub part_near : (ds : List ℕ) (rest unit bits : ℕ) → AllBelowBase 10 ds → rest < unit → 2 * 2 ^ bits ≤ unit → 2 * part rest bits ds < 3 * whole unit ds
+pub part_near : (ds : List ℕ) (rest unit bits : ℕ) → AllBelowBase 10 ds → rest < unit → 2 * 2 ^ bits ≤ unit → 2 * scaled_rest rest bits ds < 3 * scaled_unit unit ds
 part_near ds rest unit bits b l h = plain (number_from_digits 10 ds) (10 ^ length ds) (2 ^ bits) (ten_pos (length ds)) (pow_pos bits) (number_lt 10 ds b) l h
   where
     plain : (w t a : ℕ) → 0 < t → 0 < a → w < t → rest < unit → 2 * a ≤ unit → 2 * (rest * t + w * a) < 3 * (unit * t)
     plain w t a pt pa k m n = omega (arith, mul-le-mul_right t m, mul-le-mul_right a k, mul-le-mul_right t n)
 
-pub whole_pos : (ds : List ℕ) (rest unit : ℕ) → rest < unit → 0 < whole unit ds
+pub whole_pos : (ds : List ℕ) (rest unit : ℕ) → rest < unit → 0 < scaled_unit unit ds
 whole_pos ds rest unit l = let p : 0 < unit = omega (arith, l) in mul-pos p (ten_pos (length ds))
 
-pub part_some : (ds : List ℕ) (rest bits : ℕ) → 0 < rest → 0 < part rest bits ds
+pub part_some : (ds : List ℕ) (rest bits : ℕ) → 0 < rest → 0 < scaled_rest rest bits ds
 part_some ds rest bits l = let m = mul-pos l (ten_pos (length ds)) in omega (arith, m)
 
-pub part_beyond : (ds : List ℕ) (rest bits : ℕ) → NoTrailingZero ds → (ds ≡ [] → ⊥) → 0 < part rest bits ds
+pub part_beyond : (ds : List ℕ) (rest bits : ℕ) → NoTrailingZero ds → (ds ≡ [] → ⊥) → 0 < scaled_rest rest bits ds
 part_beyond ds rest bits n some = let m = mul-pos (some_number 10 ds (omega arith) n some) (pow_pos bits) in omega (arith, m)
 
 -- ---- where no digits behind the block matter
@@ -179,13 +179,13 @@ plain_over w t a rest half unit p l h = omega (arith, mul-le-mul_right t l, mul-
 plain_within : (w t a rest unit : ℕ) → 0 < a → w < t → rest + a ≤ unit → rest * t + w * a < unit * t
 plain_within w t a rest unit p k l = omega (arith, mul-le-mul_right a k, mul-le-mul_right t l)
 
-pub under_half : (ds : List ℕ) (rest bits unit gap : ℕ) → gap ≡ 2 ^ bits → AllBelowBase 10 ds → NoTrailingZero ds → (ds ≡ [] → ⊥) → rest + gap ≤ unit / 2 → IsTail Below (part rest bits ds) (whole unit ds)
+pub under_half : (ds : List ℕ) (rest bits unit gap : ℕ) → gap ≡ 2 ^ bits → AllBelowBase 10 ds → NoTrailingZero ds → (ds ≡ [] → ⊥) → rest + gap ≤ unit / 2 → IsLostFraction LessThanHalf (scaled_rest rest bits ds) (scaled_unit unit ds)
 under_half ds rest bits unit gap e b n some l = (
   part_beyond ds rest bits n some,
   plain_under (number_from_digits 10 ds) (10 ^ length ds) (2 ^ bits) rest (unit / 2) unit (pow_pos bits) (number_lt 10 ds b) (rw e at l) (omega (arith, div-add-mod' unit 2)),
 )
 
-pub over_half : (ds : List ℕ) (rest bits unit gap : ℕ) → gap ≡ 2 ^ bits → AllBelowBase 10 ds → unit / 2 < rest → rest + gap ≤ unit → IsTail Above (part rest bits ds) (whole unit ds)
+pub over_half : (ds : List ℕ) (rest bits unit gap : ℕ) → gap ≡ 2 ^ bits → AllBelowBase 10 ds → unit / 2 < rest → rest + gap ≤ unit → IsLostFraction MoreThanHalf (scaled_rest rest bits ds) (scaled_unit unit ds)
 over_half ds rest bits unit gap e b h l = (
   plain_over (number_from_digits 10 ds) (10 ^ length ds) (2 ^ bits) rest (unit / 2) unit (ten_pos (length ds)) h (omega (arith, div-add-mod' unit 2, mod-lt unit two_some)),
   plain_within (number_from_digits 10 ds) (10 ^ length ds) (2 ^ bits) rest unit (pow_pos bits) (number_lt 10 ds b) (rw e at l),
@@ -209,26 +209,26 @@ all_few v den p d x some pos l e = cancel_lt den x (p * d) (omega (arith, e, mul
 few_steps : (v den p k d s : ℕ) → 0 < p → 0 < d → v < den → v * p * d ≡ (k * d + s) * den → k < p
 few_steps v den p k d s some pos l e = cancel_lt d k p (cancel_lt den (d * k) (d * p) (omega (arith, e, mul-le-mul_right (p * d) l, mul-pos some pos)))
 
-module _ (ds rest : List ℕ) (block count frac q left unit bits : ℕ) (below : AllBelowBase 10 ds) (led : IsLed 10 ds rest block count) (candidate : IsCandidate block count frac q left unit bits) where
+module _ (ds rest : List ℕ) (block count frac q left unit bits : ℕ) (below : AllBelowBase 10 ds) (led : IsBlockOf 10 ds rest block count) (candidate : IsCandidate block count frac q left unit bits) where
   led_at : (block * 10 ^ length rest + number_from_digits 10 rest) * 10 ^ length ds ≡ number_from_digits 10 ds * (10 ^ count * 10 ^ length rest)
   led_at = led.same ∙ ap (λ x. number_from_digits 10 ds * x) (pow-add 10 count (length rest))
 
   -- all steps fit a word
-  pub candidate_word : frac ≤ 64 → q * whole unit rest + part left bits rest < 2 ^ 64 * whole unit rest
+  pub candidate_word : frac ≤ 64 → q * scaled_unit unit rest + scaled_rest left bits rest < 2 ^ 64 * scaled_unit unit rest
   candidate_word most =
-      let few = mul-le-mul_right (whole unit rest) (two_up frac 64 most) in
+      let few = mul-le-mul_right (scaled_unit unit rest) (two_up frac 64 most) in
       let same = plain_same block (number_from_digits 10 rest) (10 ^ length rest) (10 ^ length ds) (number_from_digits 10 ds) (10 ^ count) (2 ^ frac) (2 ^ bits) unit q left 0 candidate.split candidate.scale led_at in
-      let below_all = all_few (number_from_digits 10 ds) (10 ^ length ds) (2 ^ frac) (whole unit rest) (q * whole unit rest + part left bits rest) (pow_pos frac) (whole_pos rest left unit candidate.small) (number_lt 10 ds below) same in
+      let below_all = all_few (number_from_digits 10 ds) (10 ^ length ds) (2 ^ frac) (scaled_unit unit rest) (q * scaled_unit unit rest + scaled_rest left bits rest) (pow_pos frac) (whole_pos rest left unit candidate.small) (number_lt 10 ds below) same in
       omega (arith, below_all, few)
 
-  -- what the candidate and the digits behind it settle to is the fraction's part
-  pub part_settled : (p : ℕ) (tail : Tail) → IsSettled (q * whole unit rest + part left bits rest) (whole unit rest) p tail → IsPart 10 ds frac p tail
-  part_settled p tail settled =
+  -- what the candidate and the digits behind it settle to is the fraction's scaled_rest
+  pub part_settled : (p : ℕ) (lost : LostFraction) → IsSettled (q * scaled_unit unit rest + scaled_rest left bits rest) (scaled_unit unit rest) p lost → IsFractionUlps 10 ds frac p lost
+  part_settled p lost settled =
       let some = whole_pos rest left unit candidate.small in
       let split = settled_same block (number_from_digits 10 rest) (10 ^ length rest) (10 ^ length ds) (number_from_digits 10 ds) (10 ^ count) (2 ^ frac) (2 ^ bits) unit q left p settled.rest candidate.split candidate.scale led_at settled.split in
       record {
-        ulps = record { rest = settled.rest; unit = whole unit rest; some = some; split = split; left = settled.left };
-        small = few_steps (number_from_digits 10 ds) (10 ^ length ds) (2 ^ frac) p (whole unit rest) settled.rest (pow_pos frac) some (number_lt 10 ds below) split;
+        ulps = record { rest = settled.rest; unit = scaled_unit unit rest; some = some; split = split; left = settled.left };
+        small = few_steps (number_from_digits 10 ds) (10 ^ length ds) (2 ^ frac) p (scaled_unit unit rest) settled.rest (pow_pos frac) some (number_lt 10 ds below) split;
       }
 
 pub room_of : (bits : ℕ) → bits ≤ 37 → 2 * 2 ^ bits ≤ 7450580596923828125
@@ -239,17 +239,17 @@ room_of bits l = let most = two_up bits 37 l in omega (arith, most)
 pub next_room : (q s den n : ℕ) → q * den + s < n * den → den ≤ s → q + 1 < n
 next_room q s den n h l = cancel_lt den (q + 1) n (omega (arith, h, l))
 
-pub settled_over : (q s den : ℕ) → den < s → 2 * s < 3 * den → IsSettled (q * den + s) den (q + 1) Below
+pub settled_over : (q s den : ℕ) → den < s → 2 * s < 3 * den → IsSettled (q * den + s) den (q + 1) LessThanHalf
 settled_over q s den l near =
     let over : s ≡ den + (s - den) = omega arith in
     record { rest = s - den; split = omega (arith, over); left = (omega arith, omega (arith, over)) }
 
-pub settled_tail : (q s den : ℕ) (tail : Tail) → IsTail tail s den → IsSettled (q * den + s) den q tail
-settled_tail q s den tail h = record { rest = s; split = refl; left = h }
+pub settled_tail : (q s den : ℕ) (lost : LostFraction) → IsLostFraction lost s den → IsSettled (q * den + s) den q lost
+settled_tail q s den lost h = record { rest = s; split = refl; left = h }
 
 -- ---- no digit is left
-pub settled_share : (rest : List ℕ) (q left unit bits : ℕ) (tail : Tail) → rest ≡ [] → IsTail tail left unit → IsSettled (q * whole unit rest + part left bits rest) (whole unit rest) q tail
-settled_share rest q left unit bits tail e h =
+pub settled_share : (rest : List ℕ) (q left unit bits : ℕ) (lost : LostFraction) → rest ≡ [] → IsLostFraction lost left unit → IsSettled (q * scaled_unit unit rest + scaled_rest left bits rest) (scaled_unit unit rest) q lost
+settled_share rest q left unit bits lost e h =
     let one : left * 10 ^ 0 + 0 * 2 ^ bits ≡ left = omega arith in
     let all : unit * 10 ^ 0 ≡ unit = omega arith in
     rw e (record { rest = left * 10 ^ 0 + 0 * 2 ^ bits; split = refl; left = rw (one, all) h })

@@ -9,7 +9,7 @@ use Rattle.std.specs.Int.Digits.{number_from_digits, AllBelowBase}
 use Rattle.fixed_numeral.proofs.SpelledLemmas.{number_append}
 use Rattle.fixed_numeral.proofs.PlaceLemmas.{below_split, trailing_back}
 use Rattle.fixed_numeral.specs.Place.{NoTrailingZero}
-use Rattle.fixed_read.specs.Blocks.{IsLed}
+use Rattle.fixed_read.specs.Inner.Blocks.{IsBlockOf}
 
 pub number_cons : (b d : ℕ) (ds : List ℕ) → number_from_digits b (d ∷ ds) ≡ d * b ^ length ds + number_from_digits b ds
 number_cons b d ds = let e = number_append b (d ∷ []) ds in omega (arith, e)
@@ -72,22 +72,22 @@ short_small b ds number count p below l e =
     let small = number_lt b ds below in
     rw (all, power) (omega (arith, mul-le-mul_right (b ^ (count - length ds)) small))
 
-pub led : (b : ℕ) (ds rest : List ℕ) (number count missing block : ℕ) → 0 < b → AllBelowBase b ds → NoTrailingZero ds → number ≡ number_from_digits b (take count ds) → number < b ^ count → rest ≡ drop count ds → missing ≡ count - length ds → block ≡ number * b ^ missing → IsLed b ds rest block count
-led b ds rest number count missing block p below trailing e small er em eb = rw (eb, em, er) (record {
+pub led : (b : ℕ) (ds rest : List ℕ) (number count missing_digits block : ℕ) → 0 < b → AllBelowBase b ds → NoTrailingZero ds → number ≡ number_from_digits b (take count ds) → number < b ^ count → rest ≡ drop count ds → missing_digits ≡ count - length ds → block ≡ number * b ^ missing_digits → IsBlockOf b ds rest block count
+led b ds rest number count missing_digits block p below trailing e small er em eb = rw (eb, em, er) (record {
   same = ⊎_elim (λ (l : length ds < count). led_short b ds number count (omega arith) e) (λ (l : count ≤ length ds). let z : b ^ (count - length ds) ≡ 1 = ap (λ i. b ^ i) (let k : count - length ds ≡ 0 = omega arith in k) ∙ pow-zero b in rw z (led_enough b ds number count l e)) (cases_lt (length ds) count);
   small = ⊎_elim (λ (l : length ds < count). short_small b ds number count p below (omega arith) e) (λ (l : count ≤ length ds). let z : b ^ (count - length ds) ≡ 1 = ap (λ i. b ^ i) (let k : count - length ds ≡ 0 = omega arith in k) ∙ pow-zero b in rw z (omega (arith, small))) (cases_lt (length ds) count);
   digits = (below_split b ds count below).1;
   trailing = trailing_back ds count trailing;
 })
 
-pub led_room : (b : ℕ) (ds : List ℕ) (number count missing : ℕ) → 0 < b → AllBelowBase b ds → number ≡ number_from_digits b (take count ds) → number < b ^ count → missing ≡ count - length ds → number * b ^ missing < b ^ count
-led_room b ds number count missing p below e small em = rw em (⊎_elim (λ (l : length ds < count). short_small b ds number count p below (omega arith) e) (λ (l : count ≤ length ds). let z : b ^ (count - length ds) ≡ 1 = ap (λ i. b ^ i) (let k : count - length ds ≡ 0 = omega arith in k) ∙ pow-zero b in rw z (omega (arith, small))) (cases_lt (length ds) count))
+pub led_room : (b : ℕ) (ds : List ℕ) (number count missing_digits : ℕ) → 0 < b → AllBelowBase b ds → number ≡ number_from_digits b (take count ds) → number < b ^ count → missing_digits ≡ count - length ds → number * b ^ missing_digits < b ^ count
+led_room b ds number count missing_digits p below e small em = rw em (⊎_elim (λ (l : length ds < count). short_small b ds number count p below (omega arith) e) (λ (l : count ≤ length ds). let z : b ^ (count - length ds) ≡ 1 = ap (λ i. b ^ i) (let k : count - length ds ≡ 0 = omega arith in k) ∙ pow-zero b in rw z (omega (arith, small))) (cases_lt (length ds) count))
 
 -- ---- one block behind another
 plain_join : (b1 b2 t1 t2 n1 n2 v l i j : ℕ) → 0 < t1 → (b1 * t1 + n1) * l ≡ v * (i * t1) → (b2 * t2 + n2) * t1 ≡ n1 * (j * t2) → ((b1 * j + b2) * t2 + n2) * l ≡ v * (i * j * t2)
 plain_join b1 b2 t1 t2 n1 n2 v l i j pos e f = eq_of_mul-eq-mul_left t1 pos _ _ (omega (arith, ap (λ x. x * (j * t2)) e, ap (λ x. x * l) f))
 
-pub led_join : (b : ℕ) (ds middle rest : List ℕ) (b1 b2 i j : ℕ) → 0 < b → IsLed b ds middle b1 i → IsLed b middle rest b2 j → IsLed b ds rest (b1 * b ^ j + b2) (i + j)
+pub led_join : (b : ℕ) (ds middle rest : List ℕ) (b1 b2 i j : ℕ) → 0 < b → IsBlockOf b ds middle b1 i → IsBlockOf b middle rest b2 j → IsBlockOf b ds rest (b1 * b ^ j + b2) (i + j)
 led_join b ds middle rest b1 b2 i j p h k =
     let e : b ^ (i + length middle) ≡ b ^ i * b ^ length middle = pow-add b i (length middle) in
     let f : b ^ (j + length rest) ≡ b ^ j * b ^ length rest = pow-add b j (length rest) in
@@ -106,9 +106,9 @@ led_join b ds middle rest b1 b2 i j p h k =
 zeros_same : (block n x i z t : ℕ) → (block * z + 0) * x ≡ n * i → (block * t * z + 0) * x ≡ n * (i * t)
 zeros_same block n x i z t e = omega (arith, ap (λ y. y * t) e)
 
-pub led_zeros : (b : ℕ) (ds rest : List ℕ) (block i j : ℕ) → 0 < b → IsLed b ds rest block i → rest ≡ [] → IsLed b ds rest (block * b ^ j) (i + j)
+pub led_zeros : (b : ℕ) (ds rest : List ℕ) (block i j : ℕ) → 0 < b → IsBlockOf b ds rest block i → rest ≡ [] → IsBlockOf b ds rest (block * b ^ j) (i + j)
 led_zeros b ds rest block i j p h e =
-    let g : IsLed b ds [] block i = rw e at h in
+    let g : IsBlockOf b ds [] block i = rw e at h in
     let first : i + 0 ≡ i = omega arith in
     let both : i + j + 0 ≡ i + j = omega arith in
     let same = rw first at g.same in
@@ -122,7 +122,7 @@ led_zeros b ds rest block i j p h e =
     below : (x y : ℕ) → 0 < y → block < x → block * y < x * y
     below x y pos l = omega (arith, mul-le-mul_right y l)
 
-pub led_nothing : (b : ℕ) (ds : List ℕ) (count : ℕ) → 0 < b → AllBelowBase b ds → NoTrailingZero ds → ds ≡ [] → IsLed b ds (drop count ds) 0 count
+pub led_nothing : (b : ℕ) (ds : List ℕ) (count : ℕ) → 0 < b → AllBelowBase b ds → NoTrailingZero ds → ds ≡ [] → IsBlockOf b ds (drop count ds) 0 count
 led_nothing b ds count p below trailing e =
     let none : drop count ds ≡ [] = drop_all count ds (rw e (omega arith)) in
     rw none (record {

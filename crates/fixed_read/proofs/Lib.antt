@@ -2,8 +2,8 @@ pub mod DigitLemmas
 pub mod PartLemmas
 pub mod DecimalLemmas
 pub mod NumberLemmas
-pub mod SideLemmas
+pub mod DirectionLemmas
 pub mod WholeLemmas
 pub mod ReadLemmas
 pub mod MultipleLemmas
-pub mod QuickLemmas
+pub mod ShortNumeralLemmas

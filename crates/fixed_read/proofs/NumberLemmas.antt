@@ -61,7 +61,7 @@ quotient_least x d l = omega (arith, div-add-mod' x d, mul-le-mul_right d l)
 pub trailing_more : (b m : ℕ) (last rest others : List ℕ) (value count number whole high less : ℕ) (long : Type 0) (over next : Bool) (before now then : ℕ) → 0 < b → 0 < m → Trailing b m last rest value long over before now → count ≤ length rest → number ≡ number_from_digits b (take count rest) → others ≡ drop count rest → whole ≡ value * b ^ count + number → high ≡ whole / m → less ≡ whole % m → (IsTrue next ↔ (IsTrue over ⊎ (0 < high))) → then ≡ now + min count (length rest) → Trailing b m last others less long next before then
 trailing_more b m last rest others value count number whole high less long over next before now then pos some h within en eo ew eh el k c =
     let long_is : length (take count rest) ≡ count = length-take-le count rest within in
-    let pushed : number_from_digits b (h.taken ++ take count rest) ≡ number_from_digits b h.taken * b ^ count + number = number_append b h.taken (take count rest) ∙ rw (long_is, sym en) refl in
+    let with_digits : number_from_digits b (h.taken ++ take count rest) ≡ number_from_digits b h.taken * b ^ count + number = number_append b h.taken (take count rest) ∙ rw (long_is, sym en) refl in
     let split : number_from_digits b h.taken * b ^ count + number ≡ (number_from_digits b h.taken / m * b ^ count) * m + (value * b ^ count + number) = omega (arith, ap (λ x. x * b ^ count) (div-add-mod' (number_from_digits b h.taken) m), ap (λ x. x * b ^ count) h.number) in
     let bound : IsTrue next ↔ (IsTrue over ⊎ (m ≤ value * b ^ count + number)) = (
       λ t. ⊎_elim (λ o. inl o) (λ (l : 0 < high). inr (rw ew at (quotient_least whole m (rw eh at l)))) (k.0 t),
@@ -70,8 +70,8 @@ trailing_more b m last rest others value count number whole high less long over 
     record {
       taken = h.taken ++ take count rest;
       split = h.split ∙ ap (λ xs. h.taken ++ xs) (sym (take-append-drop count rest)) ∙ sym (append_assoc h.taken (take count rest) (drop count rest)) ∙ ap (λ xs. (h.taken ++ take count rest) ++ xs) (sym eo);
-      number = el ∙ ap (λ x. x % m) ew ∙ sym (rw (pushed, split) (mul-add-mod_self_right (number_from_digits b h.taken / m * b ^ count) m (value * b ^ count + number)));
-      full = rw pushed (over_more m (number_from_digits b h.taken) (b ^ count) value number long over next (one-le-pow count b pos) h.number h.full bound);
+      number = el ∙ ap (λ x. x % m) ew ∙ sym (rw (with_digits, split) (mul-add-mod_self_right (number_from_digits b h.taken / m * b ^ count) m (value * b ^ count + number)));
+      full = rw with_digits (over_more m (number_from_digits b h.taken) (b ^ count) value number long over next (one-le-pow count b pos) h.number h.full bound);
       digits = rw eo (below_split b rest count h.digits).1;
       cost = omega (arith, h.cost, c, ap length eo, length-drop count rest);
     }

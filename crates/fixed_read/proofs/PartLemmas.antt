@@ -5,18 +5,18 @@ use Rattle.std.proofs.lemmas.Int.Digits.{number_lt}
 use Rattle.std.proofs.Math.Nat.{one-le-pow, pow-le-pow_right}
 use Rattle.std.specs.Int.Digits.{number_from_digits}
 use Rattle.fixed_numeral.proofs.SpelledLemmas.{pow-mul}
-use Rattle.fixed_read.specs.declared.tail.Tail.{Tail}
-use Rattle.fixed_read.specs.declared.tail.Tail.TheVariants.{Nothing}
-use Rattle.fixed_read.specs.Blocks.{IsLed}
-use Rattle.fixed_read.specs.Steps.{IsTail, IsPart}
+use Rattle.fixed_read.specs.declared.lost_fraction.LostFraction.{LostFraction}
+use Rattle.fixed_read.specs.declared.lost_fraction.LostFraction.TheVariants.{Zero}
+use Rattle.fixed_read.specs.Inner.Blocks.{IsBlockOf}
+use Rattle.fixed_read.specs.Inner.Rounding.{IsLostFraction, IsFractionUlps}
 use Rattle.fixed_read.proofs.DigitLemmas.{cancel_lt, some_digits}
 
 -- ---- the block in steps, over plain numbers: x and w the powers of the base for all digits and for those behind the block
 plain_split : (n p r unit t w y x block : ℕ) → p * unit + r ≡ block → (block * w + y) * x ≡ n * (unit * t * w) → n * t * (unit * w) ≡ (p * (unit * w) + (r * w + y)) * x
 plain_split n p r unit t w y x block e k = omega (arith, k, ap (λ z. z * (w * x)) e)
 
-part_is : (b c t half block p r : ℕ) (ds rest : List ℕ) (tail : Tail) → 0 < half → 0 < b → b ^ c ≡ 2 * half * 2 ^ t → p * (2 * half) + r ≡ block → IsLed b ds rest block c → ((d y : ℕ) → y < d → ((0 < length rest) ↔ (0 < y)) → IsTail tail (r * d + y) (2 * half * d)) → IsPart b ds t p tail
-part_is b c t half block p r ds rest tail pos base power split h left =
+part_is : (b c t half block p r : ℕ) (ds rest : List ℕ) (lost : LostFraction) → 0 < half → 0 < b → b ^ c ≡ 2 * half * 2 ^ t → p * (2 * half) + r ≡ block → IsBlockOf b ds rest block c → ((d y : ℕ) → y < d → ((0 < length rest) ↔ (0 < y)) → IsLostFraction lost (r * d + y) (2 * half * d)) → IsFractionUlps b ds t p lost
+part_is b c t half block p r ds rest lost pos base power split h left =
     let joined : b ^ (c + length rest) ≡ 2 * half * 2 ^ t * b ^ length rest = pow-add b c (length rest) ∙ ap (λ x. x * b ^ length rest) power in
     record {
       ulps = record {
@@ -65,17 +65,17 @@ pub spare_half : (bits t : ℕ) → 0 < bits → 2 ^ ((t / bits + 1) * bits - t)
 spare_half bits t some = ap (λ i. 2 ^ i) (let z : (t / bits + 1) * bits - t ≡ ((t / bits + 1) * bits - t - 1) + 1 = omega (arith, count_enough bits t some) in z) ∙ pow-add 2 ((t / bits + 1) * bits - t - 1) 1 ∙ omega arith
 
 -- as the body computes it
-pub part_at : (bits t c block p r half base : ℕ) (ds rest : List ℕ) (more : Bool) (tail : Tail) → 0 < bits → c ≡ t / bits + 1 → base ≡ 2 ^ bits → half ≡ 2 ^ (c * bits - t - 1) → p ≡ block / 2 ^ (c * bits - t) → r ≡ block % 2 ^ (c * bits - t) → IsLed base ds rest block c → (IsTrue more ↔ (0 < length rest)) → ((d y : ℕ) → y < d → (IsTrue more ↔ (0 < y)) → IsTail tail (r * d + y) (2 * half * d)) → IsPart base ds t p tail
-part_at bits t c block p r half base ds rest more tail some ec eb eh ep er h em left =
+pub part_at : (bits t c block p r half base : ℕ) (ds rest : List ℕ) (more : Bool) (lost : LostFraction) → 0 < bits → c ≡ t / bits + 1 → base ≡ 2 ^ bits → half ≡ 2 ^ (c * bits - t - 1) → p ≡ block / 2 ^ (c * bits - t) → r ≡ block % 2 ^ (c * bits - t) → IsBlockOf base ds rest block c → (IsTrue more ↔ (0 < length rest)) → ((d y : ℕ) → y < d → (IsTrue more ↔ (0 < y)) → IsLostFraction lost (r * d + y) (2 * half * d)) → IsFractionUlps base ds t p lost
+part_at bits t c block p r half base ds rest more lost some ec eb eh ep er h em left =
     let enough : t + 1 ≤ c * bits = rw ec (count_enough bits t some) in
     let two : 2 ^ (c * bits - t) ≡ 2 * half = ap (λ i. 2 ^ i) (let z : c * bits - t ≡ (c * bits - t - 1) + 1 = omega arith in z) ∙ pow-add 2 (c * bits - t - 1) 1 ∙ omega (arith, eh) in
     let power : base ^ c ≡ 2 * half * 2 ^ t = ap (λ x. x ^ c) eb ∙ block_power bits c t (c * bits - t) (omega arith) ∙ ap (λ x. x * 2 ^ t) two in
     let split : p * 2 ^ (c * bits - t) + r ≡ block = rw (ep, er) (div-add-mod' block (2 ^ (c * bits - t))) in
     let positive : 0 < half = rw eh (pow_pos (c * bits - t - 1)) in
     let some_base : 0 < base = rw eb (pow_pos bits) in
-    part_is base c t half block p r ds rest tail positive some_base power (rw two at split) h
+    part_is base c t half block p r ds rest lost positive some_base power (rw two at split) h
     (λ d y low e. left d y low (λ m. e.0 (em.0 m), λ q. em.1 (e.1 q)))
 
 -- no digits are no steps
-pub part_none : (b t : ℕ) (ds : List ℕ) → ds ≡ [] → IsPart b ds t 0 Nothing
+pub part_none : (b t : ℕ) (ds : List ℕ) → ds ≡ [] → IsFractionUlps b ds t 0 Zero
 part_none b t ds e = rw e (record { ulps = record { rest = 0; unit = 1; some = omega arith; split = omega arith; left = refl }; small = pow_pos t })

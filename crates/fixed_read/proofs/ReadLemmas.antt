@@ -19,15 +19,15 @@ use Rattle.fixed_numeral.proofs.ValueLemmas.{magnitude_pos}
 use Rattle.fixed_bits.specs.declared.format.Policy.TheVariants.{Checked, Saturating, Wrapping}
 use Rattle.fixed_bits.proofs.RoundedLemmas.{rounded_same, rounded_unique, rounded_exists}
 use Rattle.fixed_bits.proofs.LawLemmas.{images_agree, range_decided}
-use Rattle.fixed_read.specs.Magnitudes.{greatest_magnitude}
+use Rattle.fixed_read.specs.Inner.Magnitudes.{greatest_magnitude}
 use Rattle.fixed_read.specs.Reading.{IsReadNumber, IsReading, HoldsNumber, IsReadInRange, IsReadOutOfRange, IsOverflowingRead, IsImageRead, with_sign}
 use Rattle.fixed_read.specs.declared.magnitude.Ulps.{Ulps}
 use Rattle.fixed_read.specs.declared.read_number.ReadNumber.{ReadNumber}
 use Rattle.fixed_read.specs.Laws.{ReadNumberIsTheOne}
-use Rattle.fixed_read.specs.Sides.{side}
-use Rattle.fixed_read.specs.Steps.{IsMagnitude, IsSplitNumeral}
-use Rattle.fixed_read.proofs.QuickLemmas.{magnitude_same}
-use Rattle.fixed_read.proofs.SideLemmas.{to_rounded}
+use Rattle.fixed_read.specs.Inner.Directions.{direction}
+use Rattle.fixed_read.specs.Inner.Rounding.{IsMagnitude, IsSplitNumeral}
+use Rattle.fixed_read.proofs.ShortNumeralLemmas.{magnitude_same}
+use Rattle.fixed_read.proofs.DirectionLemmas.{to_rounded}
 
 -- ---- multiples
 beyond_is : (negative : Bool) (high m low : ℕ) → (with_sign negative (high * m + low) ≡ with_sign negative low +ℤ pos (high * m)) ⊎ (with_sign negative (high * m + low) +ℤ pos (high * m) ≡ with_sign negative low)
@@ -125,7 +125,7 @@ module _ (found : ReadNumber) (v : ℤ) (n : ℕ) (width : IsWidth n) (h : Holds
       over : (m : ℕ) → greatest_magnitude sign found.negative n < 2 ^ n → 2 ^ n ≤ m → 0 < h.high → greatest_magnitude sign found.negative n < h.high * m + found.low
       over m b l p = let big = more_than h.high m found.low p in omega arith
 
-  -- out of range the Saturating image is the end on the number's side
+  -- out of range the Saturating image is the end on the number's direction
   pub end_same : (sign : Bool) → IsOutOfRange sign n v → IsSaturated sign n v (with_sign found.negative (greatest_magnitude sign found.negative n))
   end_same sign o = rw h.value (end_saturates sign found.negative n (h.high * 2 ^ 64 + found.low) ((out_by_magnitude sign found.negative n (h.high * 2 ^ 64 + found.low)).0 (rw h.value at o)))
 
@@ -229,9 +229,9 @@ base_some Dec = omega arith
 base_some Hex = omega arith
 
 -- the reading of a numeral whose magnitude is a number that was rounded
-pub reading_from : (mode : ReadMode) (r : Radix) (p : Parts) (number : Fraction) (ulps : Ulps) (found : ReadNumber) → found.negative ≡ is_minus p.sign → 0 < number.den → IsSameNumber number (magnitude r p) → IsMagnitude (side mode found.negative) number found.format.frac ulps → found.low ≡ ulps.low → found.has_high_bits ≡ ulps.has_high_bits → found.exact ≡ ulps.is_exact → IsReading mode r p found
+pub reading_from : (mode : ReadMode) (r : Radix) (p : Parts) (number : Fraction) (ulps : Ulps) (found : ReadNumber) → found.negative ≡ is_minus p.sign → 0 < number.den → IsSameNumber number (magnitude r p) → IsMagnitude (direction mode found.negative) number found.format.frac ulps → found.low ≡ ulps.low → found.has_high_bits ≡ ulps.has_high_bits → found.exact ≡ ulps.is_exact → IsReading mode r p found
 reading_from mode r p number ulps found sign some same mag low high exact =
-    let own = magnitude_same (side mode found.negative) number (magnitude r p) found.format.frac ulps some (magnitude_pos r p) same mag in
+    let own = magnitude_same (direction mode found.negative) number (magnitude r p) found.format.frac ulps some (magnitude_pos r p) same mag in
     let rounded = to_rounded mode found.negative _ _ _ own.to in
     record {
       number = with_sign found.negative (own.high * 2 ^ 64 + ulps.low);
@@ -241,7 +241,7 @@ reading_from mode r p number ulps found sign some same mag low high exact =
       exact = rw exact own.exact;
     }
 
-pub reading_is : (mode : ReadMode) (r : Radix) (p : Parts) (w f : List ℕ) (shift : ℕ) (ulps : Ulps) (found : ReadNumber) → IsScanned r p found.negative w f shift → IsMagnitude (side mode found.negative) (spelled (base r) w f shift) found.format.frac ulps → found.low ≡ ulps.low → found.has_high_bits ≡ ulps.has_high_bits → found.exact ≡ ulps.is_exact → IsReading mode r p found
+pub reading_is : (mode : ReadMode) (r : Radix) (p : Parts) (w f : List ℕ) (shift : ℕ) (ulps : Ulps) (found : ReadNumber) → IsScanned r p found.negative w f shift → IsMagnitude (direction mode found.negative) (spelled (base r) w f shift) found.format.frac ulps → found.low ≡ ulps.low → found.has_high_bits ≡ ulps.has_high_bits → found.exact ≡ ulps.is_exact → IsReading mode r p found
 reading_is mode r p w f shift ulps found h mag low high exact = reading_from mode r p (spelled (base r) w f shift) ulps found h.sign (one-le-pow (length f) (base r) (base_some r)) h.value mag low high exact
 
 -- ---- what a scan says of its views

@@ -6,13 +6,13 @@ use Rattle.std.proofs.Math.Nat.{mul-le-mul_left, one-le-pow, pow-le-pow_right}
 use Rattle.std.specs.Int.Digits.{number_from_digits}
 use Rattle.fixed_numeral.proofs.SpelledLemmas.{number_append}
 use Rattle.fixed_numeral.specs.Spelled.{spelled}
-use Rattle.fixed_read.specs.declared.side.Side.{Side}
-use Rattle.fixed_read.specs.declared.tail.Tail.{Tail}
-use Rattle.fixed_read.specs.Sides.{IsTo}
+use Rattle.fixed_read.specs.declared.direction.Direction.{Direction}
+use Rattle.fixed_read.specs.declared.lost_fraction.LostFraction.{LostFraction}
+use Rattle.fixed_read.specs.Inner.Directions.{IsRoundedTo}
 use Rattle.fixed_read.specs.Reading.{IsMultipleOf}
-use Rattle.fixed_read.specs.Steps.{IsTail, IsPart, IsMagnitude}
+use Rattle.fixed_read.specs.Inner.Rounding.{IsLostFraction, IsFractionUlps, IsMagnitude}
 use Rattle.fixed_read.specs.declared.magnitude.Ulps.{Ulps}
-use Rattle.fixed_read.proofs.SideLemmas.{to_same, tail_within}
+use Rattle.fixed_read.proofs.DirectionLemmas.{to_same, tail_within}
 use Rattle.fixed_read.proofs.MultipleLemmas.{exact_rest}
 
 -- the low whole bits, moved up
@@ -77,16 +77,16 @@ parity w m t n p pos e =
         rw more (omega arith)
 
 -- ---- together
-pub record Rounded (r : Side) (b : ℕ) (w f : List ℕ) (s frac number : ℕ) (flag : Bool) : Type 0 where
-  pub to : IsTo r ((spelled b w f s).num * 2 ^ frac) (spelled b w f s).den number
+pub record Rounded (r : Direction) (b : ℕ) (w f : List ℕ) (s frac number : ℕ) (flag : Bool) : Type 0 where
+  pub to : IsRoundedTo r ((spelled b w f s).num * 2 ^ frac) (spelled b w f s).den number
   pub exact : IsTrue flag ↔ IsMultipleOf (spelled b w f s).den ((spelled b w f s).num * 2 ^ frac)
 
-pub rounded : (r : Side) (b : ℕ) (w f : List ℕ) (s frac t p more : ℕ) (tail : Tail) (exact : Bool) → 0 < b → t ≡ frac + s → (h : IsPart b f t p tail) → IsTo r ((number_from_digits b w * 2 ^ t + p) * h.ulps.unit + h.ulps.rest) h.ulps.unit (number_from_digits b w * 2 ^ t + p + more) → ((y den : ℕ) → 0 < den → IsTail tail y den → IsTrue exact ↔ (y ≡ 0)) → Rounded r b w f s frac (number_from_digits b w * 2 ^ t + p + more) exact
-rounded r b w f s frac t p more tail exact pos et h to none =
+pub rounded : (r : Direction) (b : ℕ) (w f : List ℕ) (s frac t p more : ℕ) (lost : LostFraction) (exact : Bool) → 0 < b → t ≡ frac + s → (h : IsFractionUlps b f t p lost) → IsRoundedTo r ((number_from_digits b w * 2 ^ t + p) * h.ulps.unit + h.ulps.rest) h.ulps.unit (number_from_digits b w * 2 ^ t + p + more) → ((y den : ℕ) → 0 < den → IsLostFraction lost y den → IsTrue exact ↔ (y ≡ 0)) → Rounded r b w f s frac (number_from_digits b w * 2 ^ t + p + more) exact
+rounded r b w f s frac t p more lost exact pos et h to none =
     let number : number_from_digits b (w ++ f) ≡ number_from_digits b w * b ^ length f + number_from_digits b f = number_append b w f in
     let power : 2 ^ t ≡ 2 ^ frac * 2 ^ s = ap (λ i. 2 ^ i) et ∙ pow-add 2 frac s in
     let cross : ((number_from_digits b w * 2 ^ t + p) * h.ulps.unit + h.ulps.rest) * b ^ length f ≡ number_from_digits b (w ++ f) * 2 ^ s * 2 ^ frac * h.ulps.unit = crossed (number_from_digits b w) (number_from_digits b f) (number_from_digits b (w ++ f)) (b ^ length f) (2 ^ t) (2 ^ frac) (2 ^ s) p h.ulps.unit h.ulps.rest number power h.ulps.split in
-    let test = exact_rest (number_from_digits b (w ++ f) * 2 ^ s * 2 ^ frac) (b ^ length f) (number_from_digits b w * 2 ^ t + p) h.ulps.unit h.ulps.rest (one-le-pow (length f) b pos) h.ulps.some (tail_within tail h.ulps.rest h.ulps.unit h.ulps.some h.ulps.left) (sym cross) in
+    let test = exact_rest (number_from_digits b (w ++ f) * 2 ^ s * 2 ^ frac) (b ^ length f) (number_from_digits b w * 2 ^ t + p) h.ulps.unit h.ulps.rest (one-le-pow (length f) b pos) h.ulps.some (tail_within lost h.ulps.rest h.ulps.unit h.ulps.some h.ulps.left) (sym cross) in
     record {
       to = to_same r _ h.ulps.unit _ (b ^ length f) _ h.ulps.some (one-le-pow (length f) b pos) cross to;
       exact = (λ e. test.0 ((none h.ulps.rest h.ulps.unit h.ulps.some h.ulps.left).0 e), λ m. (none h.ulps.rest h.ulps.unit h.ulps.some h.ulps.left).1 (test.1 m));
@@ -106,12 +106,12 @@ sum_room m t n w low moved p most hn ht e k em small one =
     let room = low_is m t n w low e k in
     omega (arith, room, pow-le-pow_right {n = 2} (omega arith) hn, pow-le-pow_right {n = 2} (omega arith) ht)
 
-pub magnitude_is : (r : Side) (b m n s frac t low moved p more high : ℕ) (w f : List ℕ) (tail : Tail) (over : Bool) (ulps : Ulps) → 0 < b → n ≡ 64 → t ≡ frac + s → m ≡ n - t → low ≡ number_from_digits b w % 2 ^ m → (IsTrue over ↔ (2 ^ m ≤ number_from_digits b w)) → moved ≡ low * 2 ^ t → IsPart b f t p tail → ((q y den : ℕ) → 0 < den → q % 2 ≡ (moved + p) % 2 → IsTail tail y den → IsTo r (q * den + y) den (q + more)) → ((y den : ℕ) → 0 < den → IsTail tail y den → IsTrue ulps.is_exact ↔ (y ≡ 0)) → high ≡ (moved + p + more) / 2 ^ n → ulps.low ≡ (moved + p + more) % 2 ^ n → (IsTrue ulps.has_high_bits ↔ (IsTrue over ⊎ (0 < high))) → IsMagnitude r (spelled b w f s) frac ulps
-magnitude_is r b m n s frac t low moved p more high w f tail over ulps pos en et em el eo ev h up none eh ebits eb =
+pub magnitude_is : (r : Direction) (b m n s frac t low moved p more high : ℕ) (w f : List ℕ) (lost : LostFraction) (over : Bool) (ulps : Ulps) → 0 < b → n ≡ 64 → t ≡ frac + s → m ≡ n - t → low ≡ number_from_digits b w % 2 ^ m → (IsTrue over ↔ (2 ^ m ≤ number_from_digits b w)) → moved ≡ low * 2 ^ t → IsFractionUlps b f t p lost → ((q y den : ℕ) → 0 < den → q % 2 ≡ (moved + p) % 2 → IsLostFraction lost y den → IsRoundedTo r (q * den + y) den (q + more)) → ((y den : ℕ) → 0 < den → IsLostFraction lost y den → IsTrue ulps.is_exact ↔ (y ≡ 0)) → high ≡ (moved + p + more) / 2 ^ n → ulps.low ≡ (moved + p + more) % 2 ^ n → (IsTrue ulps.has_high_bits ↔ (IsTrue over ⊎ (0 < high))) → IsMagnitude r (spelled b w f s) frac ulps
+magnitude_is r b m n s frac t low moved p more high w f lost over ulps pos en et em el eo ev h up none eh ebits eb =
     let some : 0 < n = omega (arith, en) in
     let low_is : moved ≡ number_from_digits b w % 2 ^ m * 2 ^ t = ev ∙ ap (λ x. x * 2 ^ t) el in
     let odd : (number_from_digits b w * 2 ^ t + p) % 2 ≡ (moved + p) % 2 = parity (number_from_digits b w) m t n p some em ∙ ap (λ x. (x + p) % 2) (sym low_is) in
-    let steps = rounded r b w f s frac t p more tail ulps.is_exact pos et h (up (number_from_digits b w * 2 ^ t + p) h.ulps.rest h.ulps.unit h.ulps.some odd h.ulps.left) none in
+    let steps = rounded r b w f s frac t p more lost ulps.is_exact pos et h (up (number_from_digits b w * 2 ^ t + p) h.ulps.rest h.ulps.unit h.ulps.some odd h.ulps.left) none in
     let together : moved + p + more ≡ number_from_digits b w % 2 ^ m * 2 ^ t + (p + more) = omega (arith, low_is) in
     let parts = cut (number_from_digits b w) m t n (p + more) over ulps.has_high_bits em eo (rw (eh, together) at eb) in
     let all : number_from_digits b w * 2 ^ t + p + more ≡ number_from_digits b w * 2 ^ t + (p + more) = omega arith in

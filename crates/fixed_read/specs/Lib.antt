@@ -1,7 +1,3 @@
 pub mod Reading
-pub mod Sides
-pub mod Steps
-pub mod Blocks
 pub mod Laws
-pub mod Magnitudes
-pub mod Quick
+pub mod Inner

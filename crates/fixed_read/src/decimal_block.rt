@@ -5,13 +5,13 @@
 //! is what is lost. With 13 digits all of this fits 64 bits, with 27 it fits 128. Ulps coarser than 2^-32 are made of those.
 
 ghost use Rattle.std.specs.Prelude.{◌≡◌, ◌+◌, ◌-◌, ◌*◌, ◌/◌, ◌^◌, ◌<◌, ◌≤◌, ℕ};
-ghost use Rattle.fixed_read.specs.Blocks.{IsCandidate};
-ghost use Rattle.fixed_read.specs.Steps.{IsSplitUlps, IsTail};
+ghost use Rattle.fixed_read.specs.Inner.Blocks.{IsCandidate};
+ghost use Rattle.fixed_read.specs.Inner.Rounding.{IsSplitUlps, IsLostFraction};
 
 use crate::digits::power_of_ten;
+use crate::lost_fraction::{LostFraction, is_above_zero, lost_fraction_of};
 use crate::reciprocal::divided_by_five_to_27;
-use crate::tail::{Tail, has_rest, tail_of};
-use crate::words::{narrow, parted, power, scaled, scaled_narrow};
+use crate::shifts::{power_of_two, shl, shl_u64, split_bits, to_u64};
 
 /// 5^13.
 const FIVE_TO_13: u64 = 1220703125;
@@ -34,33 +34,36 @@ pub struct Candidate {
 
 /// What a share of an ulp is.
 #[inline]
-pub fn lost_share(rest: u64, unit: u64) -> Tail
+pub fn lost_fraction_of_share(rest: u64, unit: u64) -> LostFraction
     requires small { rest < unit }
     requires most { unit < 2 ^ 63 }
-    ensures { IsTail result rest unit }
+    ensures { IsLostFraction result rest unit }
 {
     let twice = rest + rest;
     if rest == 0 {
-        Tail::Nothing
+        LostFraction::Zero
     } else if twice < unit {
-        Tail::Below
+        LostFraction::LessThanHalf
     } else if twice == unit {
-        Tail::Half
+        LostFraction::Half
     } else {
-        Tail::Above
+        LostFraction::MoreThanHalf
     }
 }
 
 /// Ulps and what is lost, in ulps that are 2^bits times as coarse.
 #[inline]
-pub fn coarser_ulps(ulps: u64, tail: Tail, bits: u32) -> (u64, Tail)
+pub fn coarser_ulps(ulps: u64, lost: LostFraction, bits: u32) -> (u64, LostFraction)
     requires some { 0 < bits }
     requires bits { bits ≤ 32 }
-    ensures split { (num den frac : ℕ) → IsSplitUlps num den (frac + bits) ulps tail → IsSplitUlps num den frac result.0 result.1 }
+    ensures split { (num den frac : ℕ) → IsSplitUlps num den (frac + bits) ulps lost → IsSplitUlps num den frac result.0 result.1 }
     ensures whole { result.0 ≡ ulps / 2 ^ bits }
 {
-    let (whole, low) = parted(u128::from(ulps), bits);
-    (narrow(whole), tail_of(low, power(bits - 1), has_rest(tail)))
+    let (whole, low) = split_bits(u128::from(ulps), bits);
+    (
+        to_u64(whole),
+        lost_fraction_of(low, power_of_two(bits - 1), is_above_zero(lost)),
+    )
 }
 
 /// A number divided by 5^13, and the rest.
@@ -75,31 +78,31 @@ fn divided_by_five_to_13(number: u64) -> (u64, u64)
 
 /// Ulps and rest / 5^13 of one, in ulps that are 2^bits times as fine.
 #[inline]
-fn finer_ulps(ulps: u64, rest: u64, bits: u32) -> (u64, Tail)
+fn finer_ulps(ulps: u64, rest: u64, bits: u32) -> (u64, LostFraction)
     requires ulps { ulps < 2 ^ 32 }
     requires rest { rest < 1220703125 }
     requires bits { bits ≤ 32 }
     ensures split { (num den frac : ℕ) → num * 2 ^ frac * 1220703125 ≡ (ulps * 1220703125 + rest) * den → IsSplitUlps num den (frac + bits) result.0 result.1 }
     ensures below { result.0 < 2 ^ (32 + bits) }
 {
-    let (more, left) = divided_by_five_to_13(scaled_narrow(rest, bits));
+    let (more, left) = divided_by_five_to_13(shl_u64(rest, bits));
     (
-        scaled_narrow(ulps, bits) + more,
-        lost_share(left, FIVE_TO_13),
+        shl_u64(ulps, bits) + more,
+        lost_fraction_of_share(left, FIVE_TO_13),
     )
 }
 
 /// The ulps of 2^-frac in a block of 13 digits, and what is lost.
 #[inline]
-fn block_of_13(block: u64, frac: u32) -> (u64, Tail)
+fn block_of_13(block: u64, frac: u32) -> (u64, LostFraction)
     requires block { block < 10 ^ 13 }
     requires frac { frac ≤ 64 }
     ensures split { IsSplitUlps block (10 ^ 13) frac result.0 result.1 }
     ensures below { result.0 < 2 ^ frac }
 {
-    let (ulps, rest) = divided_by_five_to_13(scaled_narrow(block, 19));
+    let (ulps, rest) = divided_by_five_to_13(shl_u64(block, 19));
     if frac < 32 {
-        coarser_ulps(ulps, lost_share(rest, FIVE_TO_13), 32 - frac)
+        coarser_ulps(ulps, lost_fraction_of_share(rest, FIVE_TO_13), 32 - frac)
     } else {
         finer_ulps(ulps, rest, frac - 32)
     }
@@ -115,13 +118,13 @@ pub fn candidate_of(block: u128, frac: u32) -> Candidate
     ensures bits { result.bits ≡ frac - 27 }
 {
     let bits = frac - 27;
-    let (ulps, rest) = divided_by_five_to_27(scaled(block, bits));
+    let (ulps, rest) = divided_by_five_to_27(shl(block, bits));
     Candidate { ulps, rest, bits }
 }
 
 /// The ulps of 2^-frac in a block of 27 digits, and what is lost, for ulps of at most 2^-32.
 #[inline]
-fn fine_block_of_27(block: u128, frac: u32) -> (u64, Tail)
+fn fine_block_of_27(block: u128, frac: u32) -> (u64, LostFraction)
     requires block { block < 10 ^ 27 }
     requires least { 32 ≤ frac }
     requires frac { frac ≤ 64 }
@@ -129,12 +132,12 @@ fn fine_block_of_27(block: u128, frac: u32) -> (u64, Tail)
     ensures below { result.0 < 2 ^ frac }
 {
     let found = candidate_of(block, frac);
-    (found.ulps, lost_share(found.rest, FIVE_TO_27))
+    (found.ulps, lost_fraction_of_share(found.rest, FIVE_TO_27))
 }
 
 /// The ulps of 2^-frac in a block of 27 digits, and what is lost.
 #[inline]
-fn block_of_27(block: u128, frac: u32) -> (u64, Tail)
+fn block_of_27(block: u128, frac: u32) -> (u64, LostFraction)
     requires block { block < 10 ^ 27 }
     requires frac { frac ≤ 64 }
     ensures split { IsSplitUlps block (10 ^ 27) frac result.0 result.1 }
@@ -143,13 +146,13 @@ fn block_of_27(block: u128, frac: u32) -> (u64, Tail)
     if frac >= 32 {
         return fine_block_of_27(block, frac);
     }
-    let (ulps, tail) = fine_block_of_27(block, 32);
-    coarser_ulps(ulps, tail, 32 - frac)
+    let (ulps, lost) = fine_block_of_27(block, 32);
+    coarser_ulps(ulps, lost, 32 - frac)
 }
 
 /// The ulps of 2^-frac in fraction / 10^places, and what is lost.
 #[inline]
-pub fn ulps_of_fraction(fraction: u128, places: u32, frac: u32) -> (u64, Tail)
+pub fn ulps_of_fraction(fraction: u128, places: u32, frac: u32) -> (u64, LostFraction)
     requires fraction { fraction < 10 ^ places }
     requires places { places ≤ 27 }
     requires frac { frac ≤ 64 }
@@ -157,7 +160,7 @@ pub fn ulps_of_fraction(fraction: u128, places: u32, frac: u32) -> (u64, Tail)
     ensures below { result.0 < 2 ^ frac }
 {
     if places <= 13 {
-        let block = narrow(fraction) * power_of_ten(13 - places);
+        let block = to_u64(fraction) * power_of_ten(13 - places);
         block_of_13(block, frac)
     } else {
         let block = fraction * u128::from(power_of_ten(27 - places));

@@ -3,9 +3,9 @@
 ghost use Rattle.std.specs.Prelude.{◌≡◌, ◌+◌, ◌-◌, ◌*◌, ◌%◌, ◌^◌, ◌<◌, ◌≤◌, ◌↔◌, ◌⊎◌, IsTrue, drop, length};
 ghost use Rattle.std.specs.Int.Digits.{number_from_digits, AllBelowBase};
 ghost use Rattle.fixed_numeral.specs.Place.{NoLeadingZero, NoTrailingZero};
-ghost use Rattle.fixed_read.specs.Blocks.{IsLed};
+ghost use Rattle.fixed_read.specs.Inner.Blocks.{IsBlockOf};
 
-use crate::words::{parted, power};
+use crate::shifts::{power_of_two, split_bits};
 use fixed_numeral::DigitView;
 use fixed_steps::Steps;
 use std::sync::ledger::Ledger;
@@ -39,7 +39,7 @@ pub fn power_of_ten(n: u32) -> u64
     }
 }
 
-/// The same where it fits a word.
+/// 10^n, for what is known to fit 64 bits.
 fn ten_to(n: u32) -> u64
     requires { 10 ^ n < 2 ^ 64 }
     ensures { result ≡ 10 ^ n }
@@ -52,7 +52,7 @@ fn eight_to(n: u32) -> u64
     requires { 8 ^ n < 2 ^ 64 }
     ensures { result ≡ 8 ^ n }
 {
-    power(3 * n)
+    power_of_two(3 * n)
 }
 
 /// 16^n.
@@ -60,7 +60,7 @@ fn sixteen_to(n: u32) -> u64
     requires { 16 ^ n < 2 ^ 64 }
     ensures { result ≡ 16 ^ n }
 {
-    power(4 * n)
+    power_of_two(4 * n)
 }
 
 /// base^n: by a table or a shift where the base is that of a radix.
@@ -78,7 +78,7 @@ fn power_of(base: u32, n: u32) -> u64
 
 /// number * base^count.
 fn with_zeros(number: u64, base: u32, count: u32) -> u64
-    requires base { 2 ≤ base }
+    requires least { 2 ≤ base }
     requires room { number * base ^ count < 2 ^ 64 }
     ensures { result ≡ number * base ^ count }
 {
@@ -88,8 +88,8 @@ fn with_zeros(number: u64, base: u32, count: u32) -> u64
     number * power_of(base, count)
 }
 
-/// How many digits less than so many a view has.
-fn missing(view: &DigitView, count: u32) -> u32
+/// By how many digits a view is shorter than `count`.
+fn missing_digits(view: &DigitView, count: u32) -> u32
     ensures { result ≡ count - length view.now }
 {
     let length = view.len();
@@ -100,9 +100,9 @@ fn missing(view: &DigitView, count: u32) -> u32
     }
 }
 
-/// The number that the first digits spell, so many, with zeros behind them where there are fewer.
+/// The number that the first `count` digits spell, with zeros at their end where there are fewer.
 #[inline(always)]
-pub fn leading<'a, L: Ledger>(
+pub fn leading_number<'a, L: Ledger>(
     view: &DigitView<'a>,
     base: u32,
     count: u32,
@@ -110,35 +110,36 @@ pub fn leading<'a, L: Ledger>(
 ) -> u64
     requires digits { AllBelowBase base view.now }
     requires trailing { NoTrailingZero view.now }
-    requires base { 2 ≤ base }
-    requires small { base ≤ 16 }
+    requires least { 2 ≤ base }
+    requires most { base ≤ 16 }
     requires room { base ^ count ≤ 2 ^ 64 }
-    ensures led { IsLed base view.now (drop count view.now) result count }
+    ensures led { IsBlockOf base view.now (drop count view.now) result count }
     ensures cost { steps.new ≤ steps.old + count }
 {
     if view.is_empty() {
         return 0;
     }
     let number = view.first_number(base, count, steps);
-    with_zeros(number, base, missing(view, count))
+    with_zeros(number, base, missing_digits(view, count))
 }
 
 /// high * power + low.
-fn joined(high: u64, power: u64, low: u64) -> u128
+fn high_low(high: u64, power: u64, low: u64) -> u128
     ensures { result ≡ high * power + low }
 {
     u128::from(high) * u128::from(power) + u128::from(low)
 }
 
-/// Whether there are more digits than so many.
+/// Whether a view has more than `count` digits.
 pub fn is_longer(view: &DigitView, count: u32) -> bool
     ensures { IsTrue result ↔ (count < length view.now) }
 {
     view.len() > u64::from(count)
 }
 
-/// The same for more digits than a word holds, so many in front and so many behind these.
-pub fn leading_long<'a, L: Ledger>(
+/// The number that the first digits spell, with zeros at their end where there are fewer, in two words of digits: `power` is
+/// the base to the power of the second count.
+pub fn leading_number_u128<'a, L: Ledger>(
     view: &DigitView<'a>,
     base: u32,
     front: u32,
@@ -148,32 +149,32 @@ pub fn leading_long<'a, L: Ledger>(
 ) -> u128
     requires digits { AllBelowBase base view.now }
     requires trailing { NoTrailingZero view.now }
-    requires base { 2 ≤ base }
-    requires small { base ≤ 16 }
+    requires least { 2 ≤ base }
+    requires most { base ≤ 16 }
     requires front { base ^ front ≤ 2 ^ 64 }
     requires back { base ^ back ≤ 2 ^ 64 }
     requires power { power ≡ base ^ back }
-    ensures led { IsLed base view.now (drop (front + back) view.now) result (front + back) }
+    ensures led { IsBlockOf base view.now (drop (front + back) view.now) result (front + back) }
     ensures cost { steps.new ≤ steps.old + front + back }
 {
-    let high = leading(view, base, front, steps);
+    let high = leading_number(view, base, front, steps);
     if is_longer(view, front) {
         let (_front, rest) = view.split_at(u64::from(front));
-        let low = leading(&rest, base, back, steps);
-        joined(high, power, low)
+        let low = leading_number(&rest, base, back, steps);
+        high_low(high, power, low)
     } else {
-        joined(high, power, 0)
+        high_low(high, power, 0)
     }
 }
 
-/// Whether there are more digits than so many.
-fn exceeds(count: u64, width: u64) -> bool
+/// Whether a count is more than a width.
+fn has_more_than(count: u64, width: u64) -> bool
     ensures { IsTrue result ↔ (width < count) }
 {
     count > width
 }
 
-/// Whether it was over before, or is now.
+/// Whether a number had more bits before, or has them now.
 pub fn is_over(over: bool, high: u128) -> bool
     ensures { IsTrue result ↔ (IsTrue over ⊎ (0 < high)) }
 {
@@ -190,20 +191,20 @@ fn next_count(view: &DigitView) -> u32
 }
 
 /// low * base^count + number.
-fn pushed(low: u64, base: u32, count: u32, number: u64) -> u128
-    requires base { 2 ≤ base }
-    requires small { base ≤ 16 }
+fn with_digits(low: u64, base: u32, count: u32, number: u64) -> u128
+    requires least { 2 ≤ base }
+    requires most { base ≤ 16 }
     requires count { count ≤ 15 }
     ensures { result ≡ low * base ^ count + number }
 {
     if low == 0 {
         return u128::from(number);
     }
-    joined(low, power_of(base, count), number)
+    high_low(low, power_of(base, count), number)
 }
 
 /// The number that the digits spell modulo 2^width, and whether it is 2^width or more.
-fn trailing_many<'a, L: Ledger>(
+fn number_mod_power_long<'a, L: Ledger>(
     view: &DigitView<'a>,
     base: u32,
     width: u32,
@@ -211,21 +212,21 @@ fn trailing_many<'a, L: Ledger>(
 ) -> (u64, bool)
     requires digits { AllBelowBase base view.now }
     requires leading { NoLeadingZero view.now }
-    requires base { 2 ≤ base }
-    requires small { base ≤ 16 }
+    requires least { 2 ≤ base }
+    requires most { base ≤ 16 }
     requires even { base % 2 ≡ 0 }
     requires width { width ≤ 64 }
     ensures number { result.0 ≡ number_from_digits base view.now % 2 ^ width }
     ensures over { IsTrue result.1 ↔ (2 ^ width ≤ number_from_digits base view.now) }
     ensures cost { steps.new ≤ steps.old + width }
 {
-    let mut over = exceeds(view.len(), u64::from(width));
+    let mut over = has_more_than(view.len(), u64::from(width));
     let mut rest = view.last_n(u64::from(width));
     let mut low: u64 = 0;
     while !rest.is_empty() {
         let count = next_count(&rest);
         let (number, others) = rest.take_number(base, count, steps);
-        let (high, less) = parted(pushed(low, base, count, number), width);
+        let (high, less) = split_bits(with_digits(low, base, count, number), width);
         over = is_over(over, high);
         low = less;
         rest = others;
@@ -234,7 +235,7 @@ fn trailing_many<'a, L: Ledger>(
 }
 
 /// The lowest bits of a word, and whether it has more.
-pub fn cut(value: u64, width: u32) -> (u64, bool)
+pub fn low_bits_and_rest(value: u64, width: u32) -> (u64, bool)
     requires { width ≤ 64 }
     ensures low { result.0 ≡ value % 2 ^ width }
     ensures over { IsTrue result.1 ↔ (2 ^ width ≤ value) }
@@ -243,30 +244,30 @@ pub fn cut(value: u64, width: u32) -> (u64, bool)
         return (value, false);
     }
     let high = value >> width;
-    (value - (high << width), value >= power(width))
+    (value - (high << width), value >= power_of_two(width))
 }
 
-/// The same for at most 15 digits.
-fn trailing_few<'a, L: Ledger>(
+/// The number that at most 15 digits spell modulo 2^width, and whether it is 2^width or more.
+fn number_mod_power_short<'a, L: Ledger>(
     view: &DigitView<'a>,
     base: u32,
     width: u32,
     steps: &mut Steps<L>,
 ) -> (u64, bool)
     requires digits { AllBelowBase base view.now }
-    requires base { 2 ≤ base }
-    requires small { base ≤ 16 }
+    requires least { 2 ≤ base }
+    requires most { base ≤ 16 }
     requires width { width ≤ 64 }
     requires few { length view.now ≤ 15 }
     ensures number { result.0 ≡ number_from_digits base view.now % 2 ^ width }
     ensures over { IsTrue result.1 ↔ (2 ^ width ≤ number_from_digits base view.now) }
     ensures cost { steps.new ≤ steps.old + 15 }
 {
-    cut(view.first_number(base, 15, steps), width)
+    low_bits_and_rest(view.first_number(base, 15, steps), width)
 }
 
 /// The number that the digits spell modulo 2^width, and whether it is 2^width or more.
-pub fn trailing<'a, L: Ledger>(
+pub fn number_mod_power<'a, L: Ledger>(
     view: &DigitView<'a>,
     base: u32,
     width: u32,
@@ -274,8 +275,8 @@ pub fn trailing<'a, L: Ledger>(
 ) -> (u64, bool)
     requires digits { AllBelowBase base view.now }
     requires leading { NoLeadingZero view.now }
-    requires base { 2 ≤ base }
-    requires small { base ≤ 16 }
+    requires least { 2 ≤ base }
+    requires most { base ≤ 16 }
     requires even { base % 2 ≡ 0 }
     requires width { width ≤ 64 }
     ensures number { result.0 ≡ number_from_digits base view.now % 2 ^ width }
@@ -286,8 +287,8 @@ pub fn trailing<'a, L: Ledger>(
         return (0, false);
     }
     if view.len() <= 15 {
-        trailing_few(view, base, width, steps)
+        number_mod_power_short(view, base, width, steps)
     } else {
-        trailing_many(view, base, width, steps)
+        number_mod_power_long(view, base, width, steps)
     }
 }

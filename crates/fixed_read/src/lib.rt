@@ -1,23 +1,23 @@
 //! Reading numerals into the bits of fixed-point numbers.
 #![tactic(auto)]
 
-mod bits;
 mod decimal;
 mod decimal_block;
 mod digits;
+mod direction;
 pub mod laws;
 mod literal;
+mod lost_fraction;
 mod magnitude;
-mod quick;
+mod power_of_two_radix;
 mod range;
 mod read;
 mod read_number;
 mod reciprocal;
-mod side;
-mod tail;
+mod shifts;
+mod short_numeral;
 #[cfg(test)]
 mod tests;
-mod words;
 
 pub use fixed_bits::ReadMode;
 pub use literal::lit;

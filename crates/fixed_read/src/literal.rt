@@ -12,10 +12,10 @@ use crate::read_number::read_literal;
 use fixed_bits::Inner;
 use fixed_numeral::ParseFixedError;
 
-/// The bits that a literal reads as, rounded to the nearest step, ties to even.
+/// The bits that a literal reads as, rounded to the nearest ulp, ties to even.
 ///
-/// One minus may stand in front for a signed type. A prefix `0b`, `0o` or `0x` names the radix, which is 10 without
-/// one. Underscores may stand behind a prefix and behind a digit of their part.
+/// One minus may come first for a signed type. A prefix `0b`, `0o` or `0x` names the radix, which is 10 without
+/// one. Underscores may follow a prefix and a digit of their part.
 ///
 /// # Errors
 ///

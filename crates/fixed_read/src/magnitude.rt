@@ -3,17 +3,17 @@
 ghost use Rattle.std.specs.Prelude.{◌≡◌, ◌+◌, ◌-◌, ◌*◌, ◌/◌, ◌%◌, ◌^◌, ◌<◌, ◌≤◌, ◌↔◌, ◌⊎◌, [], ℕ, List, IsTrue, length};
 ghost use Rattle.std.specs.Int.Digits.{number_from_digits, AllBelowBase};
 ghost use Rattle.fixed_numeral.specs.Numeral.{base};
-ghost use Rattle.fixed_numeral.specs.Scanned.{bits_of};
+ghost use Rattle.fixed_numeral.specs.Scanned.{exponent_unit};
 ghost use Rattle.fixed_numeral.specs.Spelled.{spelled};
 ghost use Rattle.fixed_numeral.specs.Place.{NoLeadingZero, NoTrailingZero};
-ghost use Rattle.fixed_read.specs.Steps.{IsPart, IsMagnitude, IsSplitNumeral, IsSplitUlps};
+ghost use Rattle.fixed_read.specs.Inner.Rounding.{IsFractionUlps, IsMagnitude, IsSplitNumeral, IsSplitUlps};
 
-use crate::bits::bit_part;
 use crate::decimal::decimal_ulps;
-use crate::digits::{is_over, trailing};
-use crate::side::Side;
-use crate::tail::{Tail, is_nothing, up};
-use crate::words::{is_some, parted, scaled};
+use crate::digits::{is_over, number_mod_power};
+use crate::direction::Direction;
+use crate::lost_fraction::{LostFraction, is_zero, rounding_increment};
+use crate::power_of_two_radix::bit_fraction_ulps;
+use crate::shifts::{is_some, shl, split_bits};
 use fixed_numeral::{DigitView, Radix, Scanned};
 use fixed_steps::Steps;
 use std::sync::ledger::Ledger;
@@ -29,78 +29,78 @@ pub struct Ulps {
     pub is_exact: bool,
 }
 
-/// The magnitude of that many ulps and what is left of one, rounded.
+/// The magnitude of `count` ulps and a lost fraction, rounded.
 #[inline]
-pub fn rounded_ulps(count: u128, tail: Tail, side: Side) -> Ulps
+pub fn rounded_ulps(count: u128, lost: LostFraction, direction: Direction) -> Ulps
     requires { count + 1 < 2 ^ 128 }
-    ensures { (num den frac : ℕ) → 0 < den → IsSplitUlps num den frac count tail → IsMagnitude side (record { num = num; den = den }) frac result }
+    ensures { (num den frac : ℕ) → 0 < den → IsSplitUlps num den frac count lost → IsMagnitude direction (record { num = num; den = den }) frac result }
 {
-    let total = count + up(tail, side, count % 2);
-    let (high, low) = parted(total, 64);
+    let total = count + rounding_increment(lost, direction, count % 2);
+    let (high, low) = split_bits(total, 64);
     Ulps {
         low,
         has_high_bits: is_some(high),
-        is_exact: is_nothing(tail),
+        is_exact: is_zero(lost),
     }
 }
 
-/// The magnitude of whole digits and the ulps of the fraction behind them, for each base.
+/// The magnitude of whole digits and of `more` ulps of 2^-fraction_bits, for each base.
 fn rounded_magnitude<'a, L: Ledger>(
     whole: &DigitView<'a>,
     base: u32,
     more: u128,
-    tail: Tail,
-    behind: u32,
-    side: Side,
+    lost: LostFraction,
+    fraction_bits: u32,
+    direction: Direction,
     steps: &mut Steps<L>,
 ) -> Ulps
     requires digits { AllBelowBase base whole.now }
     requires leading { NoLeadingZero whole.now }
-    requires base { 2 ≤ base }
-    requires small { base ≤ 16 }
+    requires least { 2 ≤ base }
+    requires most { base ≤ 16 }
     requires even { base % 2 ≡ 0 }
-    requires more { more < 2 ^ behind }
-    requires behind { behind ≤ 68 }
-    ensures magnitude { (f : List ℕ) (frac s : ℕ) → behind ≡ frac + s → IsPart base f behind more tail → IsMagnitude side (spelled base whole.now f s) frac result }
-    ensures cost { steps.new ≤ steps.old + (64 - behind) + 15 }
+    requires more { more < 2 ^ fraction_bits }
+    requires fraction_bits { fraction_bits ≤ 68 }
+    ensures magnitude { (f : List ℕ) (frac s : ℕ) → fraction_bits ≡ frac + s → IsFractionUlps base f fraction_bits more lost → IsMagnitude direction (spelled base whole.now f s) frac result }
+    ensures cost { steps.new ≤ steps.old + (64 - fraction_bits) + 15 }
 {
-    let (low, over) = trailing(whole, base, 64_u32.saturating_sub(behind), steps);
-    let sum = scaled(u128::from(low), behind) + more;
-    let total = sum + up(tail, side, sum % 2);
-    let (high, bits) = parted(total, 64);
+    let (low, over) = number_mod_power(whole, base, 64_u32.saturating_sub(fraction_bits), steps);
+    let sum = shl(u128::from(low), fraction_bits) + more;
+    let total = sum + rounding_increment(lost, direction, sum % 2);
+    let (high, bits) = split_bits(total, 64);
     Ulps {
         low: bits,
         has_high_bits: is_over(over, high),
-        is_exact: is_nothing(tail),
+        is_exact: is_zero(lost),
     }
 }
 
-/// How many steps of 2^-behind are in 0.DIGITS, and what is left of a step.
-fn part<'a, L: Ledger>(
+/// The ulps of 2^-(frac + bit_shift) in 0.DIGITS, and what is lost.
+fn fraction_ulps<'a, L: Ledger>(
     view: &DigitView<'a>,
     radix: Radix,
     bit_shift: u32,
     frac: u32,
     steps: &mut Steps<L>,
-) -> (u128, Tail)
+) -> (u128, LostFraction)
     requires digits { AllBelowBase (base radix) view.now }
     requires trailing { NoTrailingZero view.now }
-    requires shift { bit_shift < bits_of radix }
+    requires shift { bit_shift < exponent_unit radix }
     requires frac { frac ≤ 64 }
-    ensures part { IsPart (base radix) view.now (frac + bit_shift) result.0 result.1 }
+    ensures ulps { IsFractionUlps (base radix) view.now (frac + bit_shift) result.0 result.1 }
     ensures cost { steps.new ≤ steps.old + 38 + 2 * (frac - 32) }
 {
     if view.is_empty() {
-        return (0, Tail::Nothing);
+        return (0, LostFraction::Zero);
     }
     match radix {
-        Radix::Bin => bit_part(view, 1, frac + bit_shift, steps),
-        Radix::Oct => bit_part(view, 3, frac + bit_shift, steps),
+        Radix::Bin => bit_fraction_ulps(view, 1, frac + bit_shift, steps),
+        Radix::Oct => bit_fraction_ulps(view, 3, frac + bit_shift, steps),
         Radix::Dec => {
-            let (more, tail) = decimal_ulps(view, frac, steps);
-            (u128::from(more), tail)
+            let (more, lost) = decimal_ulps(view, frac, steps);
+            (u128::from(more), lost)
         }
-        Radix::Hex => bit_part(view, 4, frac + bit_shift, steps),
+        Radix::Hex => bit_fraction_ulps(view, 4, frac + bit_shift, steps),
     }
 }
 
@@ -109,23 +109,23 @@ pub fn magnitude<'a, L: Ledger>(
     found: &Scanned<'a>,
     radix: Radix,
     frac: u32,
-    side: Side,
+    direction: Direction,
     steps: &mut Steps<L>,
 ) -> Ulps
     requires split { IsSplitNumeral radix found.now.whole found.now.fraction found.now.bit_shift }
     requires frac { frac ≤ 64 }
-    ensures magnitude { IsMagnitude side (spelled (base radix) found.now.whole found.now.fraction found.now.bit_shift) frac result }
+    ensures magnitude { IsMagnitude direction (spelled (base radix) found.now.whole found.now.fraction found.now.bit_shift) frac result }
     ensures cost { steps.new ≤ steps.old + 117 }
 {
     let bit_shift = found.bit_shift();
-    let (more, tail) = part(found.fraction_view(), radix, bit_shift, frac, steps);
+    let (more, lost) = fraction_ulps(found.fraction_view(), radix, bit_shift, frac, steps);
     rounded_magnitude(
         found.whole_view(),
         radix.base(),
         more,
-        tail,
+        lost,
         frac + bit_shift,
-        side,
+        direction,
         steps,
     )
 }

@@ -5,7 +5,7 @@ ghost use Rattle.fixed_bits.specs.Formats.{IsFormat};
 ghost use Rattle.fixed_bits.specs.Images.{IsImage};
 ghost use Rattle.fixed_bits.specs.Ranges.{IsInRange, IsWide};
 ghost use Rattle.fixed_read.specs.Reading.{with_sign};
-ghost use Rattle.fixed_read.specs.Magnitudes.{greatest_magnitude};
+ghost use Rattle.fixed_read.specs.Inner.Magnitudes.{greatest_magnitude};
 
 use fixed_bits::{Format, Policy};
 
@@ -44,7 +44,7 @@ pub fn greatest_magnitude(format: Format, negative: bool) -> u64
     if negative { below + 1 } else { below }
 }
 
-/// The end of a format's range on that side.
+/// The end of a format's range on that direction.
 pub fn nearer_end(format: Format, negative: bool) -> i128
     ensures valid { IsFormat format.width format.frac }
     ensures number { result ≡ with_sign negative (greatest_magnitude format.signed negative format.width) }

@@ -8,7 +8,7 @@ ghost use Rattle.fixed_bits.specs.declared.mode.ReadMode.TheVariants.{NearestEve
 ghost use Rattle.fixed_numeral.specs.Cause.{HasCause};
 ghost use Rattle.fixed_numeral.specs.Numeral.{Parts, HasNumeral, IsNumeral};
 ghost use Rattle.fixed_numeral.specs.declared.error.ParseErrorKind.TheVariants.{Overflow};
-ghost use Rattle.fixed_read.specs.Magnitudes.{greatest_magnitude};
+ghost use Rattle.fixed_read.specs.Inner.Magnitudes.{greatest_magnitude};
 ghost use Rattle.fixed_read.specs.Reading.{HoldsNumber, IsImageRead, IsOverflowingRead, IsReadInRange, IsReadNumber, IsReadOutOfRange, IsReading, with_sign};
 
 use crate::read_number::{ReadNumber, read_format};
@@ -35,7 +35,7 @@ fn wrapped<I: Inner>(found: &ReadNumber) -> I
     I::wrap(found.low_number())
 }
 
-/// The end of a type's range on that side.
+/// The end of a type's range on that direction.
 fn nearer_end<I: Inner>(negative: bool) -> I
     ensures { I.number result ≡ with_sign negative (greatest_magnitude I.SIGNED negative I.BITS) }
 {

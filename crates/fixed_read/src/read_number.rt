@@ -1,4 +1,7 @@
-//! One reading of a numeral into a format chosen at run time.
+//! The core of reading: one reading of a numeral into a format chosen at run time.
+//!
+//! A decimal of at most 16 bytes and a numeral whose digits fit 128 bits are read from the numbers of their parts
+//! (`short_numeral`). Any other is scanned, and its digits are looked at (`magnitude`). All other readers are shells over this.
 
 ghost use Rattle.std.specs.Prelude.{◌≡◌, ◌+◌, ◌*◌, ◌^◌, ◌<◌, ◌≤◌, ◌↔◌, ℕ, ℤ, IsTrue, IsOk, IfOk, IfErr, IsNone, IfSome, length};
 ghost use Rattle.fixed_bits.specs.Formats.{IsFormat};
@@ -12,17 +15,17 @@ ghost use Rattle.fixed_numeral.specs.Spelled.{IsSameNumber};
 ghost use Rattle.fixed_numeral.specs.Value.{Fraction, magnitude};
 ghost use Rattle.fixed_numeral.specs.declared.radix.Radix.{Radix};
 ghost use Rattle.fixed_bits.specs.declared.mode.ReadMode.{ReadMode};
-ghost use Rattle.fixed_read.specs.Sides.{side};
+ghost use Rattle.fixed_read.specs.Inner.Directions.{direction};
 ghost use Rattle.fixed_numeral.specs.PartNumbers.{IsCompactNumeral, IsShortDecimal};
 ghost use Rattle.fixed_numeral.specs.Scanned.{IsScanned};
 ghost use Rattle.fixed_numeral.specs.declared.radix.Radix.TheVariants.{Dec};
 ghost use Rattle.fixed_read.specs.Reading.{IsReading, HoldsNumber, with_sign};
-ghost use Rattle.fixed_read.specs.Steps.{IsMagnitude, IsSplitNumeral};
+ghost use Rattle.fixed_read.specs.Inner.Rounding.{IsMagnitude, IsSplitNumeral};
 
+use crate::direction::direction_of;
 use crate::magnitude::{Ulps, magnitude};
-use crate::quick::{compact_ulps, short_decimal_of, ulps_of_decimal};
 use crate::range::{greatest_magnitude, is_above, nearer_end, with_sign, wrapping_image};
-use crate::side::side_of;
+use crate::short_numeral::{compact_ulps, short_decimal_of, ulps_of_decimal};
 use fixed_bits::{Format, Policy, ReadMode};
 use fixed_numeral::{
     CompactNumeral, ParseFixedError, Radix, Scanned, ShortDecimal, compact_numeral, scan, scan_lit,
@@ -140,14 +143,20 @@ fn number_of<'a, L: Ledger>(
     ensures cost { steps.new ≤ steps.old + 117 }
 {
     let negative = found.neg();
-    let ulps = magnitude(found, radix, format.frac(), side_of(mode, negative), steps);
+    let ulps = magnitude(
+        found,
+        radix,
+        format.frac(),
+        direction_of(mode, negative),
+        steps,
+    );
     number_from(format, negative, ulps)
 }
 
 /// A magnitude as the number of a format.
 #[inline]
 fn number_from(format: Format, negative: bool, ulps: Ulps) -> ReadNumber
-    ensures reading { (mode : ReadMode) (r : Radix) (p : Parts) (number : Fraction) → negative ≡ is_minus p.sign → 0 < number.den → IsSameNumber number (magnitude r p) → IsMagnitude (side mode negative) number format.frac ulps → IsReading mode r p result }
+    ensures reading { (mode : ReadMode) (r : Radix) (p : Parts) (number : Fraction) → negative ≡ is_minus p.sign → 0 < number.den → IsSameNumber number (magnitude r p) → IsMagnitude (direction mode negative) number format.frac ulps → IsReading mode r p result }
     ensures format { result.format ≡ format }
 {
     ReadNumber {
@@ -168,12 +177,12 @@ fn number_of_short(found: ShortDecimal, format: Format, mode: ReadMode) -> ReadN
     ensures reading { (p : Parts) → IsShortDecimal p found.negative found.whole found.fraction found.places → IsReading mode Dec p result }
     ensures format { result.format ≡ format }
 {
-    let side = side_of(mode, found.negative);
-    let ulps = ulps_of_decimal(short_decimal_of(found), format.frac(), side);
+    let direction = direction_of(mode, found.negative);
+    let ulps = ulps_of_decimal(short_decimal_of(found), format.frac(), direction);
     number_from(format, found.negative, ulps)
 }
 
-/// The number that a compact numeral reads as. None where it takes a look at the digits.
+/// The number that a compact numeral reads as. None where its digits have to be looked at.
 #[inline]
 fn number_of_compact(
     found: CompactNumeral,
@@ -184,9 +193,23 @@ fn number_of_compact(
     ensures reading { IfSome result (λ n. (p : Parts) → IsCompactNumeral radix p found.negative found.digits found.places found.exponent found.scales_by_two → IsReading mode radix p n) }
     ensures format { IfSome result (λ n. n.format ≡ format) }
 {
-    match compact_ulps(found, radix, format.frac(), side_of(mode, found.negative)) {
+    match compact_ulps(
+        found,
+        radix,
+        format.frac(),
+        direction_of(mode, found.negative),
+    ) {
         Some(ulps) => Some(number_from(format, found.negative, ulps)),
         None => None,
+    }
+}
+
+/// The length of the longest numeral that `compact_numeral` is asked to read: as many digits as fit 128 bits, a sign, a point and
+/// an exponent.
+fn compact_length(radix: Radix) -> usize {
+    match radix {
+        Radix::Dec => 52,
+        _ => 142,
     }
 }
 
@@ -203,6 +226,9 @@ fn read_compact<L: Ledger>(
     ensures format { IfSome result (λ found. found.format ≡ format) }
     ensures cost { steps.new ≤ steps.old + length s.now }
 {
+    if s.len() > compact_length(radix) {
+        return None;
+    }
     match compact_numeral(s, radix, steps) {
         Some(found) => number_of_compact(found, radix, format, mode),
         None => None,

@@ -7,7 +7,7 @@
 ghost use Rattle.std.specs.Prelude.{◌≡◌, ◌+◌, ◌*◌, ◌^◌, ◌<◌, ◌≤◌};
 
 use crate::decimal_block::FIVE_TO_27;
-use crate::words::{narrow, parted};
+use crate::shifts::{split_bits, to_u64};
 
 /// 2^126 / 5^27, rounded down.
 const RECIPROCAL: u64 = 11417981541647679048;
@@ -19,10 +19,10 @@ fn estimated_quotient(number: u128) -> u64
     ensures least { result * 2 ^ 126 ≤ number * 11417981541647679048 }
     ensures most { number * 11417981541647679048 < (result + 1) * 2 ^ 126 }
 {
-    let (high, low) = parted(number, 64);
+    let (high, low) = split_bits(number, 64);
     let upper = high * u128::from(RECIPROCAL);
     let lower = (u128::from(low) * u128::from(RECIPROCAL)) >> 64;
-    narrow((upper + lower) >> 62)
+    to_u64((upper + lower) >> 62)
 }
 
 /// A number divided by 5^27, and the rest.
@@ -33,7 +33,7 @@ pub fn divided_by_five_to_27(number: u128) -> (u64, u64)
     ensures small { result.1 < 5 ^ 27 }
 {
     let quotient = estimated_quotient(number);
-    let rest = narrow(number - u128::from(quotient) * u128::from(FIVE_TO_27));
+    let rest = to_u64(number - u128::from(quotient) * u128::from(FIVE_TO_27));
     if rest < FIVE_TO_27 {
         (quotient, rest)
     } else {

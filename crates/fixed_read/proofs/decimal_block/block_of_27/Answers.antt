@@ -1,6 +1,6 @@
 use Rattle.std.proofs.Common.{◌≡◌, ◌+◌, ◌-◌, ◌^◌, ◌<◌, arith, subst}
-use Rattle.fixed_read.specs.Steps.{IsSplitUlps}
-use Rattle.fixed_read.proofs.QuickLemmas.{coarser_small}
+use Rattle.fixed_read.specs.Inner.Rounding.{IsSplitUlps}
+use Rattle.fixed_read.proofs.ShortNumeralLemmas.{coarser_small}
 use Rattle.fixed_read.proofs.decimal_block.block_of_27.Goals as goal
 
 pub returns-clause-split : goal.returns-clause-split

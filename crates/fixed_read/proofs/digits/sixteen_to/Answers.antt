@@ -12,8 +12,8 @@ few n h = two_exponent (4 * n) (rw (same n) at h)
 pub overflow_mul-n : goal.overflow_mul-n
 overflow_mul-n c = omega (arith, few c.args.n c.requires)
 
-pub power-requires : goal.power-requires
-power-requires c = few c.args.n c.requires
+pub power_of_two-requires : goal.power_of_two-requires
+power_of_two-requires c = few c.args.n c.requires
 
 pub returns : goal.returns
-returns c = c.power.ensures ∙ sym (same c.args.n)
+returns c = c.power_of_two.ensures ∙ sym (same c.args.n)

@@ -3,24 +3,24 @@ use Rattle.std.specs.Int.Digits.{number_from_digits}
 use Rattle.fixed_read.proofs.WholeLemmas.{sum_room, magnitude_is}
 use Rattle.fixed_read.proofs.magnitude.rounded_magnitude.Goals as goal
 
-pub scaled-requires-clause-room : goal.scaled-requires-clause-room
-scaled-requires-clause-room g c =
-    let room = sum_room c.saturating_sub.result c.args.behind 64 (number_from_digits c.args.base c.args.whole.now) c.trailing-low.result.0 (c.trailing-low.result.0 * 2 ^ c.args.behind) c.args.more 0 (omega arith) c.requires.behind c.saturating_sub.ensures c.trailing-low.ensures.number refl c.requires.more (omega arith) in
+pub shl-requires-clause-room : goal.shl-requires-clause-room
+shl-requires-clause-room g c =
+    let room = sum_room c.saturating_sub.result c.args.fraction_bits 64 (number_from_digits c.args.base c.args.whole.now) c.number_mod_power-low.result.0 (c.number_mod_power-low.result.0 * 2 ^ c.args.fraction_bits) c.args.more 0 (omega arith) c.requires.fraction_bits c.saturating_sub.ensures c.number_mod_power-low.ensures.number refl c.requires.more (omega arith) in
     rw c.from.ensures (omega (arith, room))
 
 pub overflow_add-sum : goal.overflow_add-sum
 overflow_add-sum g c =
-    let moved : c.scaled.result ≡ c.trailing-low.result.0 * 2 ^ c.args.behind = c.scaled.ensures ∙ ap (λ x. x * 2 ^ c.args.behind) c.from.ensures in
-    let room = sum_room c.saturating_sub.result c.args.behind 64 (number_from_digits c.args.base c.args.whole.now) c.trailing-low.result.0 c.scaled.result c.args.more 0 (omega arith) c.requires.behind c.saturating_sub.ensures c.trailing-low.ensures.number moved c.requires.more (omega arith) in
+    let moved : c.shl.result ≡ c.number_mod_power-low.result.0 * 2 ^ c.args.fraction_bits = c.shl.ensures ∙ ap (λ x. x * 2 ^ c.args.fraction_bits) c.from.ensures in
+    let room = sum_room c.saturating_sub.result c.args.fraction_bits 64 (number_from_digits c.args.base c.args.whole.now) c.number_mod_power-low.result.0 c.shl.result c.args.more 0 (omega arith) c.requires.fraction_bits c.saturating_sub.ensures c.number_mod_power-low.ensures.number moved c.requires.more (omega arith) in
     omega (arith, room)
 
 pub overflow_add-total : goal.overflow_add-total
 overflow_add-total g c =
-    let moved : c.scaled.result ≡ c.trailing-low.result.0 * 2 ^ c.args.behind = c.scaled.ensures ∙ ap (λ x. x * 2 ^ c.args.behind) c.from.ensures in
-    let room = sum_room c.saturating_sub.result c.args.behind 64 (number_from_digits c.args.base c.args.whole.now) c.trailing-low.result.0 c.scaled.result c.args.more c.up.result (omega arith) c.requires.behind c.saturating_sub.ensures c.trailing-low.ensures.number moved c.requires.more c.up.ensures.most in
+    let moved : c.shl.result ≡ c.number_mod_power-low.result.0 * 2 ^ c.args.fraction_bits = c.shl.ensures ∙ ap (λ x. x * 2 ^ c.args.fraction_bits) c.from.ensures in
+    let room = sum_room c.saturating_sub.result c.args.fraction_bits 64 (number_from_digits c.args.base c.args.whole.now) c.number_mod_power-low.result.0 c.shl.result c.args.more c.rounding_increment.result (omega arith) c.requires.fraction_bits c.saturating_sub.ensures c.number_mod_power-low.ensures.number moved c.requires.more c.rounding_increment.ensures.most in
     omega (arith, room)
 
 pub returns-clause-magnitude : goal.returns-clause-magnitude
 returns-clause-magnitude g c f frac s behind h =
-    let moved : c.scaled.result ≡ c.trailing-low.result.0 * 2 ^ c.args.behind = c.scaled.ensures ∙ ap (λ x. x * 2 ^ c.args.behind) c.from.ensures in
-    magnitude_is c.args.side c.args.base c.saturating_sub.result 64 s frac c.args.behind c.trailing-low.result.0 c.scaled.result c.args.more c.up.result c.parted-high.result.0 c.args.whole.now f c.args.tail c.trailing-low.result.1 _ (omega (arith, c.requires.base)) refl behind c.saturating_sub.ensures c.trailing-low.ensures.number c.trailing-low.ensures.over moved h c.up.ensures.to c.is_nothing.ensures c.parted-high.ensures.high c.parted-high.ensures.low c.is_over.ensures
+    let moved : c.shl.result ≡ c.number_mod_power-low.result.0 * 2 ^ c.args.fraction_bits = c.shl.ensures ∙ ap (λ x. x * 2 ^ c.args.fraction_bits) c.from.ensures in
+    magnitude_is c.args.direction c.args.base c.saturating_sub.result 64 s frac c.args.fraction_bits c.number_mod_power-low.result.0 c.shl.result c.args.more c.rounding_increment.result c.split_bits-high.result.0 c.args.whole.now f c.args.lost c.number_mod_power-low.result.1 _ (omega (arith, c.requires.least)) refl behind c.saturating_sub.ensures c.number_mod_power-low.ensures.number c.number_mod_power-low.ensures.over moved h c.rounding_increment.ensures.to c.is_zero.ensures c.split_bits-high.ensures.high c.split_bits-high.ensures.low c.is_over.ensures

@@ -1,4 +1,4 @@
-use Rattle.fixed_read.proofs.QuickLemmas.{if_some}
+use Rattle.fixed_read.proofs.ShortNumeralLemmas.{if_some}
 use Rattle.fixed_read.proofs.read_number.read_compact.Goals as goal
 
 pub returns-in-Some-clause-numeral : goal.returns-in-Some-clause-numeral

@@ -1,0 +1,297 @@
+-- Readings from the numbers of a numeral's parts.
+use Rattle.std.proofs.Common.{◌≡◌, ℕ, zero, suc, ◌+◌, ◌-◌, ◌*◌, ◌/◌, ◌%◌, ◌^◌, ◌<◌, ◌≤◌, ◌⊎◌, ◌↔◌, Bool, true, false, IsTrue, refl, sym, ap, ◌∙◌, arith, pow_pos, mul-pos, mul-le-mul_right, mul-le-mul_left, div-add-mod', ℤ, pos, negsuc, ◌-ℤ◌, subst, Option, Some, None, IfSome}
+use Rattle.std.specs.Prelude.{◌<ℤ◌, ◌≤ℤ◌}
+use Rattle.std.proofs.lemmas.Int.{ints}
+use Rattle.std.proofs.lemmas.Nat.{pow-add}
+use Rattle.std.proofs.Math.Nat.{one-le-pow, pow-le-pow_right}
+use Rattle.fixed_numeral.proofs.SpelledLemmas.{pow-mul}
+use Rattle.fixed_numeral.specs.Numeral.{Parts, Exponent, base}
+use Rattle.fixed_numeral.specs.PartNumbers.{IsCompactNumeral, is_power_of_two, placed_magnitude}
+use Rattle.fixed_numeral.specs.Spelled.{IsSameNumber}
+use Rattle.fixed_numeral.specs.Value.{Fraction, scaled, magnitude}
+use Rattle.fixed_numeral.specs.declared.radix.Radix.{Radix}
+use Rattle.fixed_numeral.specs.declared.radix.Radix.TheVariants.{Dec}
+use Rattle.fixed_read.specs.Inner.Blocks.{IsCandidate}
+use Rattle.fixed_read.specs.Inner.BinaryPower.{up_of, down_of, ups, downs}
+use Rattle.fixed_read.specs.Inner.Directions.{IsRoundedTo}
+use Rattle.fixed_read.specs.Inner.Rounding.{IsSplitUlps, IsMagnitude, IsLostFraction}
+use Rattle.fixed_read.specs.declared.magnitude.Ulps.{Ulps}
+use Rattle.fixed_read.specs.declared.direction.Direction.{Direction}
+use Rattle.fixed_read.specs.declared.direction.Direction.TheVariants.{Nearest, Down, Up}
+use Rattle.fixed_read.specs.declared.lost_fraction.LostFraction.{LostFraction}
+use Rattle.fixed_read.specs.declared.lost_fraction.LostFraction.TheVariants.{Zero}
+use Rattle.fixed_read.proofs.MultipleLemmas.{cancel_eq, exact_rest, multiple_same}
+use Rattle.fixed_read.proofs.DirectionLemmas.{to_same, tail_within, near_nothing, down_any, up_nothing}
+
+-- ---- an option's cases
+pub if_some : {T : Type 0} (P Q : T → Type 0) (o : Option T) → ((x : T) → P x → Q x) → IfSome o P → IfSome o Q
+if_some P Q None f h = h
+if_some P Q (Some x) f h = f x h
+
+-- ---- ulps, and what is left of one
+pub candidate_split : (block count frac q rest unit bits : ℕ) (lost : LostFraction) → IsCandidate block count frac q rest unit bits → IsLostFraction lost rest unit → IsSplitUlps block (10 ^ count) frac q lost
+candidate_split block count frac q rest unit bits lost c left = record {
+  rest = rest;
+  unit = unit;
+  some = omega (arith, c.small);
+  split = plain (2 ^ frac) (2 ^ bits) (10 ^ count) c.split c.scale;
+  left = left;
+}
+  where
+    plain : (p a ten : ℕ) → q * unit + rest ≡ block * a → unit * p ≡ a * ten → block * p * unit ≡ (q * unit + rest) * ten
+    plain p a ten e f = omega (arith, ap (λ x. x * ten) e, ap (λ x. block * x) f)
+
+pub split_narrower : (num x den frac q : ℕ) (lost : LostFraction) → 0 < x → IsSplitUlps (num * x) (den * x) frac q lost → IsSplitUlps num den frac q lost
+split_narrower num x den frac q lost some h = record {
+  rest = h.rest;
+  unit = h.unit;
+  some = h.some;
+  split = cancel_eq (num * 2 ^ frac * h.unit) ((q * h.unit + h.rest) * den) x some (plain (2 ^ frac) h.unit h.rest h.split);
+  left = h.left;
+}
+  where
+    plain : (p u r : ℕ) → num * x * p * u ≡ (q * u + r) * (den * x) → num * p * u * x ≡ (q * u + r) * den * x
+    plain p u r e = omega (arith, e)
+
+pub split_whole : (w num den frac q count : ℕ) (lost : LostFraction) → count ≡ w * 2 ^ frac + q → IsSplitUlps num den frac q lost → IsSplitUlps (w * den + num) den frac count lost
+split_whole w num den frac q count lost e h = record {
+  rest = h.rest;
+  unit = h.unit;
+  some = h.some;
+  split = rw e (plain (2 ^ frac) h.unit h.rest h.split);
+  left = h.left;
+}
+  where
+    plain : (p u r : ℕ) → num * p * u ≡ (q * u + r) * den → (w * den + num) * p * u ≡ ((w * p + q) * u + r) * den
+    plain p u r e = omega (arith, e)
+
+pub split_coarser : (num den frac bits ulps w low half : ℕ) (lost coarse : LostFraction) → 2 ^ bits ≡ 2 * half → ulps ≡ w * 2 ^ bits + low → IsSplitUlps num den (frac + bits) ulps lost → ((d y : ℕ) → y < d → 0 < d → IsLostFraction lost y d → IsLostFraction coarse (low * d + y) (2 * half * d)) → IsSplitUlps num den frac w coarse
+split_coarser num den frac bits ulps w low half lost coarse two e h left = record {
+  rest = low * h.unit + h.rest;
+  unit = 2 * half * h.unit;
+  some = mul-pos (rw two at (pow_pos bits)) h.some;
+  split = plain (2 ^ frac) (2 * half) h.unit h.rest (rw (pow-add 2 frac bits, two) at h.split) (rw two at e);
+  left = left h.unit h.rest (tail_within lost h.rest h.unit h.some h.left) h.some h.left;
+}
+  where
+    plain : (p t u r : ℕ) → num * (p * t) * u ≡ (ulps * u + r) * den → ulps ≡ w * t + low → num * p * (t * u) ≡ (w * (t * u) + (low * u + r)) * den
+    plain p t u r f g = omega (arith, f, ap (λ x. x * u * den) g)
+
+-- ---- a fraction with zeros at its end
+ten_split : (p n : ℕ) → p ≤ n → 10 ^ n ≡ 10 ^ p * 10 ^ (n - p)
+ten_split p n l = ap (λ i. 10 ^ i) (let z : n ≡ p + (n - p) = omega arith in z) ∙ pow-add 10 p (n - p)
+
+pub padded_room : (f p n : ℕ) → f < 10 ^ p → p ≤ n → f * 10 ^ (n - p) < 10 ^ n
+padded_room f p n below l = plain (10 ^ p) (10 ^ (n - p)) (10 ^ n) (ten_split p n l) (one-le-pow (n - p) 10 (omega arith)) below
+  where
+    plain : (a b t : ℕ) → t ≡ a * b → 0 < b → f < a → f * b < t
+    plain a b t e q k = omega (arith, e, mul-le-mul_right b k)
+
+pub padded_split : (f p n frac q : ℕ) (lost : LostFraction) → p ≤ n → IsSplitUlps (f * 10 ^ (n - p)) (10 ^ n) frac q lost → IsSplitUlps f (10 ^ p) frac q lost
+padded_split f p n frac q lost l h = split_narrower f (10 ^ (n - p)) (10 ^ p) frac q lost (one-le-pow (n - p) 10 (omega arith)) (rw (ten_split p n l) at h)
+
+-- ---- a block of 13 digits
+pub coarse_cross : (block ulps rest : ℕ) → ulps * 1220703125 + rest ≡ block * 2 ^ 19 → block * 2 ^ 32 * 1220703125 ≡ (ulps * 1220703125 + rest) * 10 ^ 13
+coarse_cross block ulps rest e = omega (arith, e)
+
+pub coarse_split : (block ulps rest : ℕ) (lost : LostFraction) → ulps * 1220703125 + rest ≡ block * 2 ^ 19 → IsLostFraction lost rest 1220703125 → IsSplitUlps block (10 ^ 13) 32 ulps lost
+coarse_split block ulps rest lost e left = record { rest = rest; unit = 1220703125; some = omega arith; split = coarse_cross block ulps rest e; left = left }
+
+pub finer_split : (num den frac ulps rest bits more left : ℕ) (lost : LostFraction) → more * 1220703125 + left ≡ rest * 2 ^ bits → IsLostFraction lost left 1220703125 → num * 2 ^ frac * 1220703125 ≡ (ulps * 1220703125 + rest) * den → IsSplitUlps num den (frac + bits) (ulps * 2 ^ bits + more) lost
+finer_split num den frac ulps rest bits more left lost e loses h = record {
+  rest = left;
+  unit = 1220703125;
+  some = omega arith;
+  split = rw (pow-add 2 frac bits) (plain (2 ^ frac) (2 ^ bits) 1220703125 e h);
+  left = loses;
+}
+  where
+    plain : (p t u : ℕ) → more * u + left ≡ rest * t → num * p * u ≡ (ulps * u + rest) * den → num * (p * t) * u ≡ ((ulps * t + more) * u + left) * den
+    plain p t u f g = omega (arith, ap (λ x. x * den) f, ap (λ x. x * t) g)
+
+pub finer_room : (rest bits : ℕ) → rest < 1220703125 → bits ≤ 32 → rest * 2 ^ bits < 2 ^ 64
+finer_room rest bits l h =
+    let most : 2 ^ bits ≤ 2 ^ 32 = pow-le-pow_right {n = 2} (omega arith) h in
+    omega (arith, mul-le-mul_left rest most, l)
+
+pub finer_below : (ulps rest bits most more left : ℕ) → ulps < 2 ^ 32 → rest < 1220703125 → 32 + bits ≤ most → (moved : ℕ) → moved ≡ ulps * 2 ^ bits → more * 1220703125 + left ≡ rest * 2 ^ bits → moved + more < 2 ^ most
+finer_below ulps rest bits most more left lu lr h moved em e =
+    let power : 2 ^ (32 + bits) ≡ 2 ^ 32 * 2 ^ bits = pow-add 2 32 bits in
+    let all : 2 ^ (32 + bits) ≤ 2 ^ most = pow-le-pow_right {n = 2} (omega arith) h in
+    plain (2 ^ bits) (2 ^ (32 + bits)) (2 ^ most) (pow_pos bits) power all em e
+  where
+    plain : (t q m : ℕ) → 0 < t → q ≡ 2 ^ 32 * t → q ≤ m → moved ≡ ulps * t → more * 1220703125 + left ≡ rest * t → moved + more < m
+    plain t q m some eq l f g = omega (arith, eq, l, f, g, mul-le-mul_right t lu, mul-le-mul_right t lr)
+
+pub half_of : (bits : ℕ) → 0 < bits → 2 ^ bits ≡ 2 * 2 ^ (bits - 1)
+half_of bits some = ap (λ i. 2 ^ i) (let z : bits ≡ (bits - 1) + 1 = omega arith in z) ∙ pow-add 2 (bits - 1) 1 ∙ omega arith
+
+pub coarser_small : (ulps w frac bits : ℕ) → w ≡ ulps / 2 ^ bits → ulps < 2 ^ (frac + bits) → w < 2 ^ frac
+coarser_small ulps w frac bits e l = cancel (2 ^ bits) (2 ^ frac) (ulps % 2 ^ bits) (rw (pow-add 2 frac bits) at l) (rw (← e) at (div-add-mod' ulps (2 ^ bits)))
+  where
+    cancel : (b f r : ℕ) → ulps < f * b → w * b + r ≡ ulps → w < f
+    cancel b f r k d = grind (arith, k, d)
+
+-- ---- rounding
+pub magnitude_is_rounded : (direction : Direction) (num den frac q more high : ℕ) (lost : LostFraction) (ulps : Ulps) → 0 < den → (h : IsSplitUlps num den frac q lost) → IsRoundedTo direction (q * h.unit + h.rest) h.unit (q + more) → ((y d : ℕ) → 0 < d → IsLostFraction lost y d → IsTrue ulps.is_exact ↔ (y ≡ 0)) → q + more ≡ high * 2 ^ 64 + ulps.low → (IsTrue ulps.has_high_bits ↔ (0 < high)) → IsMagnitude direction (record { num = num; den = den }) frac ulps
+magnitude_is_rounded direction num den frac q more high lost ulps some h to none e over =
+    let test = exact_rest (num * 2 ^ frac) den q h.unit h.rest some h.some (tail_within lost h.rest h.unit h.some h.left) h.split in
+    record {
+      high = high;
+      to = rw e at (to_same direction (q * h.unit + h.rest) h.unit (num * 2 ^ frac) den (q + more) h.some some (sym h.split) to);
+      over = over;
+      exact = (λ t. test.0 ((none h.rest h.unit h.some h.left).0 t), λ m. (none h.rest h.unit h.some h.left).1 (test.1 m));
+    }
+
+-- as the body computes it
+pub split_high : (total high low m : ℕ) → high ≡ total / m → low ≡ total % m → total ≡ high * m + low
+split_high total high low m eh el = rw (eh, el) (sym (div-add-mod' total m))
+
+-- ---- the magnitude of an equal fraction
+pub magnitude_same : (direction : Direction) (a b : Fraction) (frac : ℕ) (ulps : Ulps) → 0 < a.den → 0 < b.den → IsSameNumber a b → IsMagnitude direction a frac ulps → IsMagnitude direction b frac ulps
+magnitude_same direction a b frac ulps pa pb same h =
+    let cross = times a.num a.den b.num b.den (2 ^ frac) same in
+    record {
+      high = h.high;
+      to = to_same direction (a.num * 2 ^ frac) a.den (b.num * 2 ^ frac) b.den (h.high * 2 ^ 64 + ulps.low) pa pb cross h.to;
+      over = h.over;
+      exact = (λ t. multiple_same (a.num * 2 ^ frac) a.den (b.num * 2 ^ frac) b.den pa cross (h.exact.0 t), λ m. h.exact.1 (multiple_same (b.num * 2 ^ frac) b.den (a.num * 2 ^ frac) a.den pb (sym cross) m));
+    }
+  where
+    times : (n d m k t : ℕ) → n * k ≡ m * d → n * t * k ≡ m * t * d
+    times n d m k t e = omega (arith, ap (λ x. x * t) e)
+
+-- ---- decimals
+ten_pos : (n : ℕ) → 0 < 10 ^ n
+ten_pos n = one-le-pow n 10 (omega arith)
+
+pub scaled_den : (digits : ℕ) (z : ℤ) → 0 < (scaled digits 1 10 z).den
+scaled_den digits (pos x) = omega arith
+scaled_den digits (negsuc x) = mul-pos (omega arith) (ten_pos (suc x))
+
+pub whole_same : (w f p digits : ℕ) (z : ℤ) → pos 0 <ℤ z → w ≡ digits * 10 ^ up_of z → f ≡ 0 → p ≡ 0 → IsSameNumber (record { num = w * 10 ^ p + f; den = 10 ^ p }) (scaled digits 1 10 z)
+whole_same w f p digits (pos x) l ew ef ep = rw (ep, ef) (omega (arith, ew))
+whole_same w f p digits (negsuc x) l ew ef ep = absurd (omega (arith, ints))
+
+pub fraction_same : (w f p digits : ℕ) (z : ℤ) → (pos 0 <ℤ z → ⊥) → w * 10 ^ down_of z + f ≡ digits → p ≡ down_of z → IsSameNumber (record { num = w * 10 ^ p + f; den = 10 ^ p }) (scaled digits 1 10 z)
+fraction_same w f p digits (pos zero) l e ep = rw ep (omega (arith, e))
+fraction_same w f p digits (pos (suc x)) l e ep = absurd (l (omega (arith, ints)))
+fraction_same w f p digits (negsuc x) l e ep = rw ep (plain (10 ^ suc x) e)
+  where
+    plain : (t : ℕ) → w * t + f ≡ digits → (w * t + f) * (1 * t) ≡ digits * t
+    plain t k = omega (arith, ap (λ y. y * t) k)
+
+-- ---- powers of two
+pub whole_to : (direction : Direction) (q : ℕ) → IsRoundedTo direction (q * 1 + 0) 1 (q + 0)
+whole_to Nearest q = near_nothing q 0 1 0 (omega arith) refl
+whole_to Down q = down_any q 0 1 0 (omega arith) (omega arith)
+whole_to Up q = up_nothing q 0 1 0 (omega arith) refl
+
+pub raised : (direction : Direction) (num den frac q high : ℕ) (ulps : Ulps) → 0 < den → q * den ≡ num * 2 ^ frac → ulps.is_exact ≡ true → q ≡ high * 2 ^ 64 + ulps.low → (IsTrue ulps.has_high_bits ↔ (0 < high)) → IsMagnitude direction (record { num = num; den = den }) frac ulps
+raised direction num den frac q high ulps some e exact split over = magnitude_is_rounded direction num den frac q 0 high Zero ulps some (record { rest = 0; unit = 1; some = omega arith; split = plain (2 ^ frac) e; left = refl }) (whole_to direction q) (λ y d p left. (λ t. left, λ z. exact)) (let z : q + 0 ≡ q = omega arith in z ∙ split) over
+  where
+    plain : (p : ℕ) → q * den ≡ num * p → num * p * 1 ≡ (q * 1 + 0) * den
+    plain p k = omega (arith, k)
+
+pub far_up : (digits by : ℕ) → 64 ≤ by → digits * 2 ^ by ≡ digits * 2 ^ (by - 64) * 2 ^ 64 + 0
+far_up digits by l =
+    let p : 2 ^ by ≡ 2 ^ (by - 64) * 2 ^ 64 = ap (λ i. 2 ^ i) (let z : by ≡ (by - 64) + 64 = omega arith in z) ∙ pow-add 2 (by - 64) 64 in
+    plain (2 ^ (by - 64)) (2 ^ 64) (2 ^ by) p
+  where
+    plain : (a m t : ℕ) → t ≡ a * m → digits * t ≡ digits * a * m + 0
+    plain a m t e = omega (arith, ap (λ x. digits * x) e)
+
+pub far_some : (digits by : ℕ) (b : Bool) → (IsTrue b ↔ (0 < digits)) → IsTrue b ↔ (0 < digits * 2 ^ (by - 64))
+far_some digits by b e = (λ t. mul-pos (e.0 t) (pow_pos (by - 64)), λ l. e.1 (some digits (2 ^ (by - 64)) l))
+  where
+    some : (d t : ℕ) → 0 < d * t → 0 < d
+    some zero t l = absurd (omega (arith, l))
+    some (suc d) t l = omega arith
+
+pub near_up : (digits bits high low : ℕ) → bits < 64 → high ≡ digits / 2 ^ (64 - bits) → low ≡ digits % 2 ^ (64 - bits) → digits * 2 ^ bits ≡ high * 2 ^ 64 + low * 2 ^ bits
+near_up digits bits high low l eh el =
+    let p : 2 ^ 64 ≡ 2 ^ (64 - bits) * 2 ^ bits = ap (λ i. 2 ^ i) (let z : 64 ≡ (64 - bits) + bits = omega arith in z) ∙ pow-add 2 (64 - bits) bits in
+    plain (2 ^ (64 - bits)) (2 ^ bits) (2 ^ 64) p (rw (← eh, ← el) at (div-add-mod' digits (2 ^ (64 - bits))))
+  where
+    plain : (a b m : ℕ) → m ≡ a * b → high * a + low ≡ digits → digits * b ≡ high * m + low * b
+    plain a b m e f = omega (arith, ap (λ x. high * x) e, ap (λ x. x * b) f)
+
+pub low_room : (low bits : ℕ) → bits < 64 → low < 2 ^ (64 - bits) → low * 2 ^ bits < 2 ^ 64
+low_room low bits l s =
+    let p : 2 ^ 64 ≡ 2 ^ (64 - bits) * 2 ^ bits = ap (λ i. 2 ^ i) (let z : 64 ≡ (64 - bits) + bits = omega arith in z) ∙ pow-add 2 (64 - bits) bits in
+    plain (2 ^ (64 - bits)) (2 ^ bits) (2 ^ 64) p (pow_pos bits) s
+  where
+    plain : (a b m : ℕ) → m ≡ a * b → 0 < b → low < a → low * b < m
+    plain a b m e q k = omega (arith, e, mul-le-mul_right b k)
+
+pub lowered_split : (num den frac digits by count rest : ℕ) (lost : LostFraction) → digits ≡ count * 2 ^ by + rest → IsLostFraction lost rest (2 ^ by) → digits * den ≡ num * 2 ^ frac * 2 ^ by → IsSplitUlps num den frac count lost
+lowered_split num den frac digits by count rest lost e left same = record {
+  rest = rest;
+  unit = 2 ^ by;
+  some = pow_pos by;
+  split = sym same ∙ ap (λ x. x * den) e;
+  left = left;
+}
+
+pub cross_up : (digits up down num den frac : ℕ) → down ≤ up → digits * 2 ^ up * den ≡ num * 2 ^ frac * 2 ^ down → digits * 2 ^ (up - down) * den ≡ num * 2 ^ frac
+cross_up digits up down num den frac l e =
+    let p : 2 ^ up ≡ 2 ^ (up - down) * 2 ^ down = ap (λ i. 2 ^ i) (let z : up ≡ (up - down) + down = omega arith in z) ∙ pow-add 2 (up - down) down in
+    cancel_eq (digits * 2 ^ (up - down) * den) (num * 2 ^ frac) (2 ^ down) (pow_pos down) (plain (2 ^ (up - down)) (2 ^ down) ∙ (rw p at e))
+  where
+    plain : (a d : ℕ) → digits * a * den * d ≡ digits * (a * d) * den
+    plain a d = omega arith
+
+pub cross_down : (digits up down num den frac : ℕ) → up ≤ down → digits * 2 ^ up * den ≡ num * 2 ^ frac * 2 ^ down → digits * den ≡ num * 2 ^ frac * 2 ^ (down - up)
+cross_down digits up down num den frac l e =
+    let p : 2 ^ down ≡ 2 ^ (down - up) * 2 ^ up = ap (λ i. 2 ^ i) (let z : down ≡ (down - up) + up = omega arith in z) ∙ pow-add 2 (down - up) up in
+    cancel_eq (digits * den) (num * 2 ^ frac * 2 ^ (down - up)) (2 ^ up) (pow_pos up) (one (2 ^ up) ∙ (rw p at e) ∙ two (num * 2 ^ frac) (2 ^ (down - up)) (2 ^ up))
+  where
+    one : (u : ℕ) → digits * den * u ≡ digits * u * den
+    one u = omega arith
+
+    two : (n a u : ℕ) → n * (a * u) ≡ n * a * u
+    two n a u = omega arith
+
+pub shifted_down_far : (digits by : ℕ) → 128 ≤ by → digits < 2 ^ 127 → 2 * digits < 2 ^ by
+shifted_down_far digits by l s = let p : 2 ^ 128 ≤ 2 ^ by = pow-le-pow_right {n = 2} (omega arith) l in omega (arith, p, s)
+
+pub cross_frac : (digits up down num den frac : ℕ) → digits * 2 ^ up * den ≡ num * 2 ^ down → digits * 2 ^ (up + frac) * den ≡ num * 2 ^ frac * 2 ^ down
+cross_frac digits up down num den frac e = rw (pow-add 2 up frac) (plain (2 ^ up) (2 ^ frac) (2 ^ down) e)
+  where
+    plain : (u f d : ℕ) → digits * u * den ≡ num * d → digits * (u * f) * den ≡ num * f * d
+    plain u f d k = omega (arith, ap (λ x. x * f) k)
+
+-- ---- the power of two of a numeral
+scaled_two : (digits bits b : ℕ) (z : ℤ) → b ≡ 2 ^ bits → digits * 2 ^ (bits * up_of z) * (scaled digits 1 b z).den ≡ (scaled digits 1 b z).num * 2 ^ (bits * down_of z)
+scaled_two digits bits b (pos x) e = rw (e, pow-mul 2 bits x) (plain (2 ^ (bits * x)) (2 ^ (bits * 0)) (ap (λ i. 2 ^ i) (let z : bits * 0 ≡ 0 = omega arith in z)))
+  where
+    plain : (t u : ℕ) → u ≡ 2 ^ 0 → digits * t * 1 ≡ digits * t * u
+    plain t u k = rw k (omega arith)
+scaled_two digits bits b (negsuc x) e = rw (e, pow-mul 2 bits (suc x)) (plain (2 ^ (bits * suc x)) (2 ^ (bits * 0)) (ap (λ i. 2 ^ i) (let z : bits * 0 ≡ 0 = omega arith in z)))
+  where
+    plain : (t u : ℕ) → u ≡ 2 ^ 0 → digits * u * (1 * t) ≡ digits * t
+    plain t u k = rw k (omega arith)
+
+placed_two : (digits bits b places : ℕ) (z : ℤ) → b ≡ 2 ^ bits → digits * 2 ^ up_of z * (scaled digits (b ^ places) 2 z).den ≡ (scaled digits (b ^ places) 2 z).num * 2 ^ (bits * places + down_of z)
+placed_two digits bits b places (pos x) e = rw (e, pow-mul 2 bits places, pow-add 2 (bits * places) 0) (plain (2 ^ x) (2 ^ (bits * places)))
+  where
+    plain : (t u : ℕ) → digits * t * u ≡ digits * t * (u * 2 ^ 0)
+    plain t u = omega arith
+placed_two digits bits b places (negsuc x) e = rw (e, pow-mul 2 bits places, pow-add 2 (bits * places) (suc x)) (plain (2 ^ suc x) (2 ^ (bits * places)))
+  where
+    plain : (t u : ℕ) → digits * 2 ^ 0 * (u * t) ≡ digits * (u * t)
+    plain t u = omega arith
+
+pub placed_value : (r : Radix) (bits digits places : ℕ) (exponent : ℤ) (two : Bool) → base r ≡ 2 ^ bits → digits * 2 ^ ups bits places exponent two * (placed_magnitude r digits places exponent two).den ≡ (placed_magnitude r digits places exponent two).num * 2 ^ downs bits places exponent two
+placed_value r bits digits places exponent false e = scaled_two digits bits (base r) (exponent -ℤ pos places) e
+placed_value r bits digits places exponent true e = placed_two digits bits (base r) places exponent e
+
+-- ---- a decimal numeral has no power of two
+never_two : (e : Option Exponent) → is_power_of_two Dec e ≡ false
+never_two None = refl
+never_two (Some e) = refl
+
+pub decimal_value : (r : Radix) (p : Parts) (negative : Bool) (digits places : ℕ) (exponent : ℤ) (two : Bool) → r ≡ Dec → IsCompactNumeral r p negative digits places exponent two → magnitude r p ≡ scaled digits 1 10 (exponent -ℤ pos places)
+decimal_value r p negative digits places exponent two e h =
+    let none : two ≡ false = h.separator ∙ subst (λ x. is_power_of_two x p.exponent ≡ false) (sym e) (never_two p.exponent) in
+    h.value ∙ ap (placed_magnitude r digits places exponent) none ∙ ap (λ x. placed_magnitude x digits places exponent false) e

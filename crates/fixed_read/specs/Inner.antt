@@ -1,0 +1,6 @@
+-- What private functions keep: no public clause cites these.
+pub mod Blocks
+pub mod Rounding
+pub mod Directions
+pub mod BinaryPower
+pub mod Magnitudes
