@@ -162,41 +162,6 @@ digit_below base bs i below l s =
 pub number_next_fits : (base start : ℕ) (bs : List ℕ) (i number d : ℕ) → IsNumberOf base start bs i number → i < length bs → d ≡ digit_value (get_or bs i 0) → d < 16 → AllBelowBase base (digits_in bs) → 2 ≤ base → (start + 1) * base ^ length (digits_in bs) ≤ 2 ^ 64 → number * base + d < 2 ^ 64
 number_next_fits base start bs i number d h l e s below two room = number_fits base start bs (i + 1) (number * base + d) (number_step base start bs i number d h l e s) below two room
 
--- in a base of at most 10 a digit is the low half of its byte
-pub low_at : (base : ℕ) (bs : List ℕ) (i : ℕ) → length (digits_in bs) ≡ length bs → AllBelowBase base (digits_in bs) → base ≤ 10 → i < length bs → (get_or bs i 0 % 16 ≡ digit_value (get_or bs i 0)) × (get_or bs i 0 % 16 < 16)
-low_at base bs i plain below most l =
-    let small = plain_at bs i plain l in
-    let under = digit_below base bs i below l small in
-    let same = low_value_is (get_or bs i 0) (omega (arith, under)) in
-    (same, omega (arith, same, small))
-
--- ---- digits of a base of at most 10, by the low halves of their bytes
-pub record IsSpelled (base start : ℕ) (bs : List ℕ) (at number : ℕ) : Type 0 where
-  pub within : at ≤ length bs
-  pub number_is : IsNumberOf base start bs at number
-
--- what is asked of the bytes
-pub record IsLow (base start : ℕ) (bs : List ℕ) : Type 0 where
-  pub plain : length (digits_in bs) ≡ length bs
-  pub digits : AllBelowBase base (digits_in bs)
-  pub least : 2 ≤ base
-  pub most : base ≤ 10
-  pub room : (start + 1) * base ^ length (digits_in bs) ≤ 2 ^ 64
-
-pub low_none : (base start : ℕ) (bs : List ℕ) → IsSpelled base start bs 0 start
-low_none base start bs = record { within = omega arith; number_is = number_none base start bs }
-
-pub low_step : (base start : ℕ) (bs : List ℕ) (at number d : ℕ) → IsLow base start bs → IsSpelled base start bs at number → at < length bs → d ≡ get_or bs at 0 % 16 → IsSpelled base start bs (at + 1) (number * base + d)
-low_step base start bs at number d w h l e =
-    let t = low_at base bs at w.plain w.digits w.most l in
-    record { within = omega arith; number_is = number_step base start bs at number d h.number_is l (e ∙ t.0) (omega (arith, e, t.1)) }
-
-pub low_fits : (base start : ℕ) (bs : List ℕ) (at number d : ℕ) → IsLow base start bs → IsSpelled base start bs at number → at < length bs → d ≡ get_or bs at 0 % 16 → number * base + d < 2 ^ 64
-low_fits base start bs at number d w h l e = number_fits base start bs (at + 1) (number * base + d) (low_step base start bs at number d w h l e).number_is w.digits w.least w.room
-
-pub low_end : (base start : ℕ) (bs : List ℕ) (at number : ℕ) → IsSpelled base start bs at number → length bs ≤ at → number ≡ number_from_digits_after base start (digits_in bs)
-low_end base start bs at number h l = number_end base start bs at number h.number_is l
-
 -- ---- eight digits at once
 -- eight digits that stand from a place on
 pub record IsEightAt (base : ℕ) (bs : List ℕ) (at : ℕ) : Type 0 where

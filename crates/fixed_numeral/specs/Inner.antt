@@ -4,3 +4,4 @@ pub mod Scan
 pub mod LiteralScan
 pub mod MovedPoint
 pub mod Segments
+pub mod Prefix

@@ -57,31 +57,8 @@ fn digit_of_byte(b: u8) -> Option<u8>
     }
 }
 
-/// The number that bytes spell in a base of at most 10 behind the digits of `start`, where each byte is a digit. Two are
-/// taken at a time, since this is the innermost loop of reading a decimal.
-fn low_number(bytes: &[u8], base: u64, start: u64) -> u64
-    requires plain { length (digits_in bytes.now) ≡ length bytes.now }
-    requires digits { AllBelowBase base (digits_in bytes.now) }
-    requires least { 2 ≤ base }
-    requires most { base ≤ 10 }
-    requires room { (start + 1) * base ^ length (digits_in bytes.now) ≤ 2 ^ 64 }
-    ensures { result ≡ number_from_digits_after base start (digits_in bytes.now) }
-{
-    let mut number = start;
-    let mut at: usize = 0;
-    while at + 1 < bytes.len() {
-        let first = number * base + u64::from(bytes[at] % 16);
-        number = first * base + u64::from(bytes[at + 1] % 16);
-        at += 2;
-    }
-    if at < bytes.len() {
-        return number * base + u64::from(bytes[at] % 16);
-    }
-    number
-}
-
 /// The number that bytes spell in a base behind the digits of `start`, where each byte is a digit.
-pub(crate) fn plain_number(bytes: &[u8], base: u64, start: u64) -> u64
+fn plain_number(bytes: &[u8], base: u64, start: u64) -> u64
     requires plain { length (digits_in bytes.now) ≡ length bytes.now }
     requires digits { AllBelowBase base (digits_in bytes.now) }
     requires least { 2 ≤ base }
@@ -110,8 +87,6 @@ fn whole_number(bytes: &[u8], base: u64) -> u64
         long_decimal(bytes)
     } else if bytes.len() >= 8 {
         long_number(bytes, base)
-    } else if base <= 10 {
-        low_number(bytes, base, 0)
     } else {
         plain_number(bytes, base, 0)
     }
@@ -266,8 +241,6 @@ impl<'a> DigitSlice<'a> {
         let bytes = self.bytes;
         if self.count != bytes.len() as u64 {
             mixed_number(bytes, base, start)
-        } else if base <= 10 {
-            low_number(bytes, base, start)
         } else {
             plain_number(bytes, base, start)
         }

@@ -4,6 +4,7 @@ ghost use Rattle.std.specs.Prelude.{◌≡◌, ◌+◌, ◌<◌, ◌≤◌, ◌^
 ghost use Rattle.std.specs.Prelude.{ℕ, ◌*◌, min};
 ghost use Rattle.std.specs.Int.Digits.{AllBelowBase, number_from_digits};
 ghost use Rattle.fixed_numeral.specs.Digits.{between_zeros, zeros};
+ghost use Rattle.fixed_numeral.specs.Inner.Prefix.{HasPrefixNumber};
 ghost use Rattle.fixed_numeral.specs.Inner.MovedPoint.{IsWithoutLeading, IsWithoutTrailing, IsPlaced};
 
 use crate::digit_slice::DigitSlice;
@@ -162,7 +163,7 @@ impl<'a> DigitView<'a> {
         let number = self.first_number(base, count, steps);
         let taken = u64::from(count).min(self.len());
         if self.before == 0 && taken <= self.left.len() {
-            // All of them stood in one slice, as they nearly always do.
+            // All of them lay in one slice, as they nearly always do.
             return (
                 number,
                 DigitView {
@@ -195,11 +196,7 @@ impl<'a> DigitView<'a> {
     /// The number that the first i digits spell in a base. There are at least i.
     #[inline(always)]
     fn prefix_number(&self, base: u64, i: u64) -> u64
-        requires within { i ≤ length self.now }
-        requires digits { AllBelowBase base self.now }
-        requires least { 2 ≤ base }
-        requires most { base ≤ 16 }
-        requires room { base ^ i ≤ 2 ^ 64 }
+        requires { HasPrefixNumber base i self.now }
         ensures { result ≡ number_from_digits base (take i self.now) }
     {
         if self.before == 0 && i <= self.left.len() {
@@ -208,20 +205,16 @@ impl<'a> DigitView<'a> {
         self.prefix_number_slow(base, i)
     }
 
-    /// The same, wherever they stand, asked of a copy: so the view itself need not stand in memory for it.
+    /// Slow path of `prefix_number`. Works on a copy so that the compiler can keep `self` in registers.
     #[inline(always)]
     fn prefix_number_slow(&self, base: u64, i: u64) -> u64
-        requires within { i ≤ length self.now }
-        requires digits { AllBelowBase base self.now }
-        requires least { 2 ≤ base }
-        requires most { base ≤ 16 }
-        requires room { base ^ i ≤ 2 ^ 64 }
+        requires { HasPrefixNumber base i self.now }
         ensures { result ≡ number_from_digits base (take i self.now) }
     {
         self.same().prefix_number_by_parts(base, i)
     }
 
-    /// A number, and the digits behind the first i, wherever they stand, asked of a copy too.
+    /// A number, and the digits after the first i: slow path of `take_number`. Works on a copy, as `prefix_number_slow` does.
     #[inline(always)]
     fn suffix_slow(&self, number: u64, i: u64) -> (u64, DigitView<'a>)
         requires { i ≤ length self.now }
@@ -231,14 +224,10 @@ impl<'a> DigitView<'a> {
         (number, self.same().suffix_by_split(i))
     }
 
-    /// The number that the first i digits spell in a base, wherever they stand. There are at least i.
+    /// The number that the first i digits spell, where all of them lie in the second slice, or in any other case.
     #[inline(never)]
     fn prefix_number_by_parts(&self, base: u64, i: u64) -> u64
-        requires within { i ≤ length self.now }
-        requires digits { AllBelowBase base self.now }
-        requires least { 2 ≤ base }
-        requires most { base ≤ 16 }
-        requires room { base ^ i ≤ 2 ^ 64 }
+        requires { HasPrefixNumber base i self.now }
         ensures { result ≡ number_from_digits base (take i self.now) }
     {
         if self.before == 0 && self.left.len() == 0 && i <= self.right.len() {
@@ -250,21 +239,17 @@ impl<'a> DigitView<'a> {
         self.prefix_number_by_split(base, i)
     }
 
-    /// The same where there are more, cut off behind them.
+    /// The number that the first i digits spell, by splitting the view after them.
     #[inline(never)]
     fn prefix_number_by_split(&self, base: u64, i: u64) -> u64
-        requires within { i ≤ length self.now }
-        requires digits { AllBelowBase base self.now }
-        requires least { 2 ≤ base }
-        requires most { base ≤ 16 }
-        requires room { base ^ i ≤ 2 ^ 64 }
+        requires { HasPrefixNumber base i self.now }
         ensures { result ≡ number_from_digits base (take i self.now) }
     {
         let (front, _back) = self.split_at(i);
         front.number(base)
     }
 
-    /// The digits behind the first i, wherever they stand. There are at least i.
+    /// The digits after the first i, wherever they lie. There are at least i.
     #[inline(never)]
     fn suffix_by_split(&self, i: u64) -> DigitView<'a>
         requires { i ≤ length self.now }

@@ -3,11 +3,11 @@ use Rattle.std.proofs.Math.Nat.{pow-le-pow_right}
 use Rattle.fixed_numeral.proofs.NumberLemmas.{first_below, first_number}
 use Rattle.fixed_numeral.proofs.digit_view.DigitView.first_number.Goals as goal
 
-pub prefix_number-requires-clause-room : goal.prefix_number-requires-clause-room
-prefix_number-requires-clause-room g c =
+pub prefix_number-requires : goal.prefix_number-requires
+prefix_number-requires g c =
     let n : c.min-wanted.result ≡ min c.args.count (length c.args.self.now) = rw (c.from.ensures, c.len.ensures) at c.min-wanted.ensures in
     let le : c.args.base ^ c.min-wanted.result ≤ c.args.base ^ c.args.count = pow-le-pow_right (omega (arith, c.requires.least)) (omega arith) in
-    rw c.from-2.ensures (omega (arith, le, c.requires.room))
+    rw c.from-2.ensures (record { within = omega arith; digits = c.requires.digits; least = c.requires.least; most = c.requires.most; room = omega (arith, le, c.requires.room) })
 
 pub returns-clause-below : goal.returns-clause-below
 returns-clause-below g c =
