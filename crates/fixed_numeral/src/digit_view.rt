@@ -391,6 +391,7 @@ pub(crate) fn views_at_point<'a, L: Ledger>(
 ) -> (DigitView<'a>, DigitView<'a>)
     requires digits { length whole.now + length fraction.now < 2 ^ 63 }
     ensures placed { IsPlaced whole.now fraction.now result.0 result.1 0 0 }
+    ensures counted { steps.old ≤ steps.new }
     ensures cost { steps.new ≤ steps.old + (length whole.now + length fraction.now) + 2 }
 {
     let left = whole.without_leading();
@@ -413,6 +414,7 @@ pub(crate) fn views_at_moved_point<'a, L: Ledger>(
     requires up { up ≤ 2 ^ 31 }
     requires down { down ≤ 2 ^ 31 }
     ensures placed { IsPlaced whole.now fraction.now result.0 result.1 up down }
+    ensures counted { steps.old ≤ steps.new }
     ensures cost { steps.new ≤ steps.old + (length whole.now + length fraction.now) + 2 }
 {
     let (left, right) = without_leading(whole, fraction);

@@ -347,6 +347,7 @@ pub(crate) fn read<L: Ledger>(
     steps: &mut Steps<L>,
 ) -> Result<State, ParseErrorKind>
     ensures end { MatchResult result (λ state. IsAfter radix bytes.now state) (λ kind. HasCause radix bytes.now kind) }
+    ensures counted { IfOk result (λ s. steps.new ≡ steps.old + length bytes.now) }
     ensures cost { steps.new ≤ steps.old + length bytes.now }
 {
     let mut state = State::start();
@@ -414,6 +415,7 @@ fn digit_views<'a, L: Ledger>(
 ) -> Scanned<'a>
     requires { IsAfter radix bytes.now state }
     ensures value { (p : Parts) → HasParts radix bytes.now p → IsScanned radix p result.neg result.whole result.fraction result.bit_shift }
+    ensures counted { steps.old ≤ steps.new }
     ensures cost { steps.new ≤ steps.old + length bytes.now + 2 }
 {
     let text = same_bytes(bytes);
@@ -442,6 +444,7 @@ fn moved_digit_views<'a, L: Ledger>(
 ) -> Scanned<'a>
     requires { IsAfter radix bytes.now state }
     ensures value { (p : Parts) → HasParts radix bytes.now p → IsScanned radix p result.neg result.whole result.fraction result.bit_shift }
+    ensures counted { steps.old ≤ steps.new }
     ensures cost { steps.new ≤ steps.old + length bytes.now + 2 }
 {
     digit_views(bytes, radix, state, steps)
@@ -459,6 +462,7 @@ pub fn scan<'a, L: Ledger>(
     ensures numeral { IsOk result ↔ IsNumeral radix bytes.now }
     ensures cause { IfErr result (λ kind. HasCause radix bytes.now kind) }
     ensures value { IfOk result (λ s. (p : Parts) → HasNumeral radix bytes.now p → IsScanned radix p s.neg s.whole s.fraction s.bit_shift) }
+    ensures counted { IfOk result (λ s. steps.old + length bytes.now ≤ steps.new) }
     ensures cost { steps.new ≤ steps.old + 2 * length bytes.now + 2 }
 {
     let state = match read(bytes, radix, steps) {

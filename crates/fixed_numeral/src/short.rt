@@ -117,6 +117,7 @@ pub fn short_decimal<L: Ledger>(s: &[u8], steps: &mut Steps<L>) -> Option<ShortD
     ensures fraction { IfSome result (λ d. d.fraction < 10 ^ d.places) }
     ensures digits { IfSome result (λ d. d.whole * 10 ^ d.places + d.fraction < 10 ^ 16) }
     ensures places { IfSome result (λ d. d.places ≤ 16) }
+    ensures counted { IfSome result (λ d. steps.new ≡ steps.old + length s.now) }
     ensures cost { steps.new ≤ steps.old + length s.now }
 {
     if s.len() > MAX_LENGTH {
