@@ -125,7 +125,7 @@ def paths():
         if not os.path.isfile(f"{TOP}/{document}"):
             yield f"no {document}"
             continue
-        for name in re.findall(r"`((?:crates|docs|bench|oracle|scale|examples|\.ci)/[\w./*-]*)`", text_of(document)):
+        for name in re.findall(r"`((?:crates|docs|bench|oracle|scale|examples|include|man|packaging|completion|\.ci)/[\w./*-]*)`", text_of(document)):
             if not name.startswith(MADE) and not glob.glob(f"{TOP}/{name}"):
                 yield f"{document}: no {name}"
 
