@@ -7,6 +7,7 @@
 
 pub mod conversion;
 mod ends;
+mod in_base;
 pub mod laws;
 pub mod literal;
 pub mod lossless;
@@ -17,8 +18,10 @@ mod parsing;
 mod printing;
 mod reading;
 pub mod rounding;
+mod text;
 
 pub use ends::Ends;
+pub use in_base::InBase;
 pub use number::{
     Fixed, FixedI8, FixedI16, FixedI32, FixedI64, FixedU8, FixedU16, FixedU32, FixedU64,
 };

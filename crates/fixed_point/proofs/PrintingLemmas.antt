@@ -1,0 +1,79 @@
+-- What is written is what the definitions say.
+use Rattle.std.proofs.Common.{◌≡◌, ℕ, ◌≤◌, ◌++◌, List, [], ℤ, pos, refl, sym, ap, ◌∙◌, arith, append-nil}
+use Rattle.std.specs.Prelude.{zero, suc, Bool, Result, Option, Some, None, unsigned_abs, nat_le, true, false, if◌then◌else◌, length, replicate, ◌-◌, ◌/◌, ◌==◌}
+use Rattle.std.specs.Fmt.{sign_text, WritesOnOk, WritesStyledOnOk, padded_integral, IsPlainFormatter, formatter_spec, padding_before, char_count, spec_width, spec_sign_plus, spec_alternate}
+use Rattle.std.specs.Int.{is_negative}
+use Rattle.std.specs.declared.fmt.Formatter.{Formatter}
+use Rattle.std.specs.declared.fmt.Error.{Error}
+use Rattle.std.specs.List.{repeat}
+use Rattle.std.specs.Char.{encode_utf8}
+use Rattle.fixed_write.specs.Texts.{shortest_text, decimal_text}
+use Rattle.fixed_write.specs.Places.{exact_text}
+use Rattle.fixed_write.specs.Bases.{number_of, has_capitals}
+use Rattle.fixed_write.specs.declared.in_place.Base.{Base}
+use Rattle.fixed_point.specs.Texts.{shown_text, styled_text, exact_shown_text}
+
+-- ---- a sign before the text of the magnitude
+not_negative : (m : ℕ) → is_negative (pos m) ≡ false
+not_negative zero = refl
+not_negative (suc m) = grind arith
+
+pub shortest_text_split : (c : ℤ) (f : ℕ) → shortest_text c f ≡ sign_text (is_negative c) ++ shortest_text (pos (unsigned_abs c)) f
+unfolding shortest_text decimal_text
+shortest_text_split c f = rw (not_negative (unsigned_abs c)) refl
+
+pub exact_text_split : (base : ℕ) (upper : Bool) (c : ℤ) (f : ℕ) → exact_text base upper c f ≡ sign_text (is_negative c) ++ exact_text base upper (pos (unsigned_abs c)) f
+unfolding exact_text
+exact_text_split base upper c f = rw (not_negative (unsigned_abs c)) refl
+
+-- ---- a formatter without a width, `+` and `#` adds nothing but the sign
+either : (t : Bool) (x y z : ℕ) → x ≡ z → y ≡ z → (if t then x else y) ≡ z
+either true x y z a b = a
+either false x y z a b = b
+
+nothing_added : (t u : Bool) (fill sign digits : List ℕ) → repeat (if t then 0 else 0) fill ++ sign ++ [] ++ replicate (if t then 0 else 0) 48 ++ (digits ++ repeat (if t then 0 else 0) fill) ≡ sign ++ digits
+nothing_added true u fill sign digits = simp append-nil
+nothing_added false u fill sign digits = simp append-nil
+
+side_none : (a : ℕ) → (if a == 1 then 0 else (if a == 2 then 0 / 2 else 0)) ≡ 0
+side_none a = either (a == 1) 0 (if a == 2 then 0 / 2 else 0) 0 refl (either (a == 2) 0 0 0 refl refl)
+
+padding_none : {W : Type 0} (f : Formatter W) → padding_before (formatter_spec f) 0 3 ≡ 0
+padding_none f = side_none (if (formatter_spec f).align == 0 then 3 else (formatter_spec f).align)
+
+no_width : (w : ℕ) → (if w == 0 then None else Some w) ≡ None → w ≡ 0
+no_width zero e = refl
+no_width (suc w) e = grind arith
+
+pub bare_text : {W : Type 0} (f : Formatter W) (negative : Bool) (prefix digits : List ℕ) → spec_width (formatter_spec f) ≡ None → spec_sign_plus (formatter_spec f) ≡ false → spec_alternate (formatter_spec f) ≡ false → padded_integral (formatter_spec f) negative prefix digits ≡ sign_text negative ++ digits
+unfolding padded_integral
+bare_text f negative prefix digits width plus alternate =
+    let flat : (formatter_spec f).width ≡ 0 = no_width (formatter_spec f).width width in
+    let none : (formatter_spec f).width - length digits - length (sign_text negative) - char_count [] ≡ 0 = omega (arith, flat) in
+    rw (plus, alternate, none, padding_none f) (nothing_added (formatter_spec f).zero false (encode_utf8 (formatter_spec f).fill) (sign_text negative) digits)
+
+plain_width : {W : Type 0} (f : Formatter W) → IsPlainFormatter f → spec_width (formatter_spec f) ≡ None
+plain_width f plain = rw plain.bare.width refl
+
+pub writes_plain : {W : Type 0} (took : W → List ℕ → W → Type 0) (f g : Formatter W) (r : Result (Unit {0}) Error) (negative : Bool) (prefix digits : List ℕ) → WritesStyledOnOk took f r (padded_integral (formatter_spec f) negative prefix digits) g → WritesOnOk took f r (sign_text negative ++ digits) g
+writes_plain took f g r negative prefix digits h plain ok =
+    let w = h plain.flush ok in
+    record {
+      wrote = rw (bare_text f negative prefix digits (plain_width f plain) plain.bare.plus plain.bare.alternate) at w.wrote;
+      plain = record { bare = rw w.spec plain.bare; flush = w.flush };
+    }
+
+-- ---- the cases of the definitions
+le_is : (m n : ℕ) → m ≤ n → nat_le m n ≡ true
+le_is m n l = grind arith
+
+pub shown_magnitude : (n f : ℕ) (c : ℤ) (text : List ℕ) → f ≤ n → text ≡ shortest_text (pos (unsigned_abs c)) f → shown_text n f c ≡ sign_text (is_negative c) ++ text
+shown_magnitude n f c text l t = rw (le_is f n l, t) (shortest_text_split c f)
+
+pub exact_magnitude : (base : Base) (n f : ℕ) (c : ℤ) (text : List ℕ) → f ≤ n → text ≡ exact_text (number_of base) (has_capitals base) (pos (unsigned_abs c)) f → exact_shown_text base n f c ≡ sign_text (is_negative c) ++ text
+exact_magnitude base n f c text l t = rw (le_is f n l, t) (exact_text_split (number_of base) (has_capitals base) c f)
+
+pub styled_bare : {W : Type 0} (g : Formatter W) (precision : Option ℕ) (n f : ℕ) (c : ℤ) (text : List ℕ) → precision ≡ None → f ≤ n → spec_width (formatter_spec g) ≡ None → spec_sign_plus (formatter_spec g) ≡ false → spec_alternate (formatter_spec g) ≡ false → text ≡ shortest_text c f → styled_text precision (padded_integral (formatter_spec g) (is_negative c) []) n f c ≡ Some text
+styled_bare g precision n f c text e l width plus alternate t =
+    let same : padded_integral (formatter_spec g) (is_negative c) [] (shortest_text (pos (unsigned_abs c)) f) ≡ text = bare_text g (is_negative c) [] (shortest_text (pos (unsigned_abs c)) f) width plus alternate ∙ sym (t ∙ shortest_text_split c f) in
+    rw (e, le_is f n l, same) refl

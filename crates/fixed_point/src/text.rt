@@ -1,0 +1,91 @@
+//! The texts of a number, in buffers that take no memory.
+
+ghost use Rattle.std.specs.Prelude.{◌≡◌, ◌≤◌, ◌<◌, false};
+ghost use Rattle.std.specs.Str.{IsAscii};
+ghost use Rattle.fixed_bits.specs.Ranges.{IsWide};
+ghost use Rattle.fixed_write.specs.Bases.{number_of, has_capitals};
+ghost use Rattle.fixed_write.specs.Places.{rounded_text, exact_text};
+ghost use Rattle.fixed_write.specs.Texts.{shortest_text};
+ghost use Rattle.fixed_point.specs.Texts.{shift_text};
+
+use fixed_steps::Steps;
+use fixed_write::{Base, push_decimal, push_exact, push_integer, push_shortest};
+use std::marker::Brand;
+use std::sync::ledger::{Blank, Ledger};
+use text_buffer::TextBuffer;
+
+/// A default text, or one that shows a fraction length above the width.
+pub(crate) type ShownText = TextBuffer<48>;
+
+/// A text with up to 64 places, or an exact one.
+pub(crate) type PlacesText = TextBuffer<136>;
+
+/// The shortest decimal text.
+#[inline]
+pub(crate) fn default_text(value: i128, frac: u32) -> ShownText
+    requires wide { IsWide value }
+    requires frac { frac ≤ 64 }
+    ensures text { result ≡ shortest_text value frac }
+    ensures ascii { IsAscii result }
+{
+    counted_text::<Brand>(value, frac, Blank::new(1))
+}
+
+/// The shortest decimal text, with its steps on a counter that nobody reads.
+#[inline]
+fn counted_text<L: Ledger>(value: i128, frac: u32, blank: Blank) -> ShownText
+    requires wide { IsWide value }
+    requires frac { frac ≤ 64 }
+    requires name { blank.name ≡ L.name }
+    requires parts { blank.parts ≡ L.parts }
+    requires backed { 0 < L.parts }
+    ensures text { result ≡ shortest_text value frac }
+    ensures ascii { IsAscii result }
+{
+    let mut steps: Steps<L> = Steps::new(blank);
+    let mut text = TextBuffer::new();
+    push_shortest(&mut text, value, frac, &mut steps);
+    text
+}
+
+/// The bits and the fraction length, as `(bits >> FRAC)`.
+pub(crate) fn shift_text(value: i128, frac: u32) -> ShownText
+    requires { IsWide value }
+    ensures text { result ≡ shift_text value frac }
+    ensures ascii { IsAscii result }
+{
+    let mut text = TextBuffer::new();
+    text.push_bytes(b"(");
+    push_integer(&mut text, value);
+    text.push_bytes(b" >> ");
+    push_integer(&mut text, i128::from(frac));
+    text.push_bytes(b")");
+    text
+}
+
+/// The text with `places` digits after the point, rounded to the nearest with ties to even.
+#[inline]
+pub(crate) fn places_text(value: i128, frac: u32, places: u32) -> PlacesText
+    requires wide { IsWide value }
+    requires frac { frac ≤ 64 }
+    requires places { places ≤ 64 }
+    ensures text { result ≡ rounded_text 10 false places value frac }
+    ensures ascii { IsAscii result }
+{
+    let mut text = TextBuffer::new();
+    push_decimal(&mut text, value, frac, places);
+    text
+}
+
+/// The exact text in a base, in the fewest places.
+#[inline]
+pub(crate) fn exact_text(value: i128, frac: u32, base: Base) -> PlacesText
+    requires wide { IsWide value }
+    requires frac { frac ≤ 64 }
+    ensures text { result ≡ exact_text (number_of base) (has_capitals base) value frac }
+    ensures ascii { IsAscii result }
+{
+    let mut text = TextBuffer::new();
+    push_exact(&mut text, value, frac, base);
+    text
+}
