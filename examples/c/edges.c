@@ -1,0 +1,119 @@
+/* Calls the library with random arguments, good and bad, over blocks of exactly the size that a call is given, so that a
+ * sanitizer sees any byte that is read or written beyond them; from one thread and from four. */
+#define _GNU_SOURCE
+#include <pthread.h>
+#include <stdio.h>
+#include <stdlib.h>
+#include <string.h>
+
+#include "fixed.h"
+
+#define CHECK(holds)                                          \
+  do {                                                        \
+    if (!(holds)) {                                           \
+      fprintf(stderr, "line %d: %s\n", __LINE__, #holds);     \
+      abort();                                                \
+    }                                                         \
+  } while (0)
+
+static void *block(size_t size) {
+  void *made = malloc(size ? size : 1);
+  CHECK(made);
+  return made;
+}
+
+static fixed_format some_format(unsigned *seed) {
+  static const uint32_t widths[] = {8, 16, 32, 64, 64, 32, 24, 0};
+  fixed_format format = {(uint32_t)rand_r(seed) & 1u, widths[rand_r(seed) % 8], (uint32_t)rand_r(seed) % 70};
+  if (format.frac > format.width && rand_r(seed) % 8) format.frac = format.width;
+  return format;
+}
+
+/* Prints bits into a block of some size, and reads them back where the text fits. */
+static uint64_t print_and_read(int64_t bits, fixed_format format, unsigned *seed) {
+  size_t size = (size_t)rand_r(seed) % 60, len = 0;
+  char *out = block(size);
+  uint32_t code = fixed_print_bits(bits, format, out, size, &len);
+  CHECK(code == FIXED_OK || code == FIXED_NO_ROOM);
+  CHECK(len > 0 && len <= 48 && (code == FIXED_OK) == (len < size));
+  if (code == FIXED_OK) {
+    fixed_number again;
+    CHECK(out[len] == 0);
+    CHECK(fixed_read_text(out, len, 10, format, FIXED_CHECKED, FIXED_NEAREST, &again) == FIXED_OK);
+    CHECK(again.bits == bits && again.overflowed == 0);
+  }
+  free(out);
+  return len;
+}
+
+static uint64_t use_number(int64_t bits, fixed_format format, unsigned *seed) {
+  fixed_number moved = {0, 0};
+  fixed_format target = some_format(seed);
+  uint64_t sum = print_and_read(bits, format, seed);
+  sum = sum * 31 + fixed_convert_bits(bits, format, target, (uint32_t)rand_r(seed) % 4, &moved);
+  sum = sum * 31 + (uint64_t)moved.bits + moved.overflowed;
+  int32_t order = 7;
+  CHECK(fixed_compare_bits(bits, format, bits, format, &order) == FIXED_OK && order == 0);
+  return sum;
+}
+
+static uint64_t some_calls(unsigned seed, int times) {
+  static const char alphabet[] = "0123456789.-+eEpP@_aFf 0123456789";
+  static const uint32_t radices[] = {2, 8, 10, 16, 10, 7};
+  uint64_t sum = 0;
+  for (int k = 0; k < times; k++) {
+    size_t count = (size_t)rand_r(&seed) % 40;
+    char *text = block(count);
+    for (size_t i = 0; i < count; i++) text[i] = alphabet[(size_t)rand_r(&seed) % (sizeof alphabet - 1)];
+    fixed_format format = some_format(&seed);
+    uint32_t radix = radices[rand_r(&seed) % 6], policy = (uint32_t)rand_r(&seed) % 4, mode = (uint32_t)rand_r(&seed) % 5;
+    fixed_number *number = block(sizeof *number);
+    *number = (fixed_number){99, 99};
+    uint32_t code = fixed_read_text(text, count, radix, format, policy, mode, number);
+    if (code == FIXED_OK) {
+      sum = sum * 31 + use_number(number->bits, format, &seed);
+    } else {
+      CHECK(number->bits == 99 && number->overflowed == 99);
+    }
+    fixed_number through = {99, 99};
+    sum = sum * 31 + fixed_respell_text(text, count, radix, format, some_format(&seed), policy, mode, &through);
+    fixed_enclosure ends = {99, 99};
+    if (fixed_enclose_text(text, count, radix, format, &ends) == FIXED_OK) sum += (uint64_t)ends.lo ^ (uint64_t)ends.hi;
+
+    size_t size = (size_t)rand_r(&seed) % 200, len = 0;
+    char *out = block(size);
+    uint32_t is_fault = 9;
+    char *line = block(count + 24);
+    memcpy(line, "10 U8F0 I16F16 wrapping ", 24);
+    memcpy(line + 24, text, count);
+    code = fixed_answer_line(line, count + 24, out, size, &len, &is_fault);
+    CHECK(code == FIXED_OK || code == FIXED_NO_ROOM);
+    CHECK(len <= 192 && (code == FIXED_OK) == (len < size));
+    code = fixed_message((uint32_t)rand_r(&seed) % 24, out, size, &len);
+    CHECK(code == FIXED_OK || code == FIXED_NO_ROOM);
+    CHECK(len < FIXED_MESSAGE_SIZE);
+    sum = sum * 31 + len + is_fault;
+    free(line);
+    free(out);
+    free(number);
+    free(text);
+  }
+  return sum;
+}
+
+static void *in_a_thread(void *at) {
+  uint64_t *given = at;
+  *given = some_calls((unsigned)*given, 5000);
+  return NULL;
+}
+
+int main(int argc, char **argv) {
+  uint64_t sums[4] = {7, 7, 7, 8};
+  pthread_t threads[4];
+  printf("%llu\n", (unsigned long long)some_calls(1, argc > 1 ? atoi(argv[1]) : 100000));
+  for (int i = 0; i < 4; i++) CHECK(pthread_create(&threads[i], NULL, in_a_thread, &sums[i]) == 0);
+  for (int i = 0; i < 4; i++) CHECK(pthread_join(threads[i], NULL) == 0);
+  CHECK(sums[0] == sums[1] && sums[1] == sums[2] && sums[0] != sums[3] && sums[0] == some_calls(7, 5000));
+  puts("the threads agree");
+  return 0;
+}

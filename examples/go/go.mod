@@ -1,0 +1,3 @@
+module example/fixed
+
+go 1.19

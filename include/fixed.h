@@ -1,0 +1,108 @@
+/* fixed.h: fixed-point numbers as text, from libfixed.a or libfixed.so.
+ *
+ * A number of a format is its bits, a whole number, over two to the power of the format's fraction length. The code of the
+ * library is proved; this file and its callers are not. Nothing checks what a caller owes:
+ *  - no pointer is null, not even with a length of 0;
+ *  - text[0..len) is readable, out[0..size) and what the other pointers name are writable, and what a call writes overlaps
+ *    nothing else that it is given;
+ *  - these declarations are those of the library that is linked (FIXED_ABI).
+ * Every other argument is tested: whatever it is, the call returns and says by its code what was wrong. No call takes memory,
+ * keeps state, or depends on a locale, so each may be made from any thread and from a signal handler.
+ *
+ * Each call returns a code, FIXED_OK or what was wrong first in the order of the codes below; with any other code than FIXED_OK
+ * and FIXED_NO_ROOM it writes nothing. */
+#ifndef FIXED_H
+#define FIXED_H
+
+#include <stddef.h>
+#include <stdint.h>
+
+#define FIXED_ABI 1
+
+#ifdef __cplusplus
+extern "C" {
+#endif
+
+/* A format: signed where is_signed is not 0; width bits, 8, 16, 32 or 64; and frac of them after the point, at most width. */
+typedef struct {
+  uint32_t is_signed, width, frac;
+} fixed_format;
+
+/* The bits of a number, and whether a number on the way to it was out of its format (1) or not (0). Bits of an unsigned format
+ * of 64 bits are the same 64 bits: cast them to uint64_t. */
+typedef struct {
+  int64_t bits;
+  uint32_t overflowed;
+} fixed_number;
+
+/* The bits of the greatest number not above a value and of the least not below it; the same where the value is a number of
+ * the format. */
+typedef struct {
+  int64_t lo, hi;
+} fixed_enclosure;
+
+/* What is done with a number that its format does not hold: it is refused, becomes the nearer end, or loses its high bits. */
+enum fixed_policy { FIXED_CHECKED = 0, FIXED_SATURATING = 1, FIXED_WRAPPING = 2 };
+
+/* How a numeral between two numbers of a format is rounded: to the nearest with ties to even, down, up, towards zero. */
+enum fixed_mode { FIXED_NEAREST = 0, FIXED_FLOOR = 1, FIXED_CEIL = 2, FIXED_ZERO = 3 };
+
+enum fixed_code {
+  FIXED_OK = 0,
+  /* Why a text is no numeral of its radix. */
+  FIXED_INVALID_DIGIT = 1,
+  FIXED_MISPLACED_SIGN = 2,
+  FIXED_MISPLACED_UNDERSCORE = 3, /* of literals alone, so no call returns it */
+  FIXED_TOO_MANY_POINTS = 4,
+  FIXED_TOO_MANY_EXPONENTS = 5,
+  FIXED_EXPONENT_INVALID_DIGIT = 6,
+  FIXED_EXPONENT_OVERFLOW = 7,
+  FIXED_NO_DIGITS = 8,
+  FIXED_EXPONENT_NO_DIGITS = 9,
+  /* The format, or with FIXED_CHECKED one of two, does not hold the number. */
+  FIXED_OVERFLOW = 10,
+  /* Which argument was none of its kind. */
+  FIXED_BAD_RADIX = 11,
+  FIXED_BAD_FORMAT = 12,
+  FIXED_BAD_TARGET = 13,
+  FIXED_BAD_POLICY = 14,
+  FIXED_BAD_MODE = 15,
+  FIXED_BAD_BITS = 16, /* bits that their format does not hold */
+  /* The text and a zero byte do not fit into size bytes: nothing of it was written, but *len is its length. */
+  FIXED_NO_ROOM = 17
+};
+
+/* Sizes that are always enough, the zero byte included. */
+enum { FIXED_TEXT_SIZE = 49, FIXED_ANSWER_SIZE = 193, FIXED_MESSAGE_SIZE = 48 };
+
+/* text[0..len), a numeral in a radix of 2, 8, 10 or 16, as a number of a format. */
+uint32_t fixed_read_text(const char *text, size_t len, uint32_t radix, fixed_format format, uint32_t policy, uint32_t mode,
+                         fixed_number *out);
+
+/* The shortest decimal that reads back as the bits, and a zero byte; *len is its length, at most 48. */
+uint32_t fixed_print_bits(int64_t bits, fixed_format format, char *out, size_t size, size_t *len);
+
+/* Bits of one format as those of the greatest number not above it in another. */
+uint32_t fixed_convert_bits(int64_t bits, fixed_format source, fixed_format target, uint32_t policy, fixed_number *out);
+
+/* text[0..len) read into the source format, and then converted to the target format. */
+uint32_t fixed_respell_text(const char *text, size_t len, uint32_t radix, fixed_format source, fixed_format target,
+                            uint32_t policy, uint32_t mode, fixed_number *out);
+
+/* *order is -1, 0 or 1, as the value of a is less than that of b, equal to it, or greater. */
+uint32_t fixed_compare_bits(int64_t a, fixed_format a_format, int64_t b, fixed_format b_format, int32_t *order);
+
+/* The numbers of a format between which the value of text[0..len) lies. FIXED_OVERFLOW where one of the two is missing. */
+uint32_t fixed_enclose_text(const char *text, size_t len, uint32_t radix, fixed_format format, fixed_enclosure *out);
+
+/* The answer of fixed_tool to a line, without a newline, and a zero byte; *len is its length, at most 192, and *is_fault is 1
+ * where the answer is a fault, else 0. */
+uint32_t fixed_answer_line(const char *line, size_t line_len, char *out, size_t size, size_t *len, uint32_t *is_fault);
+
+/* The message of a code, and a zero byte; *len is its length. */
+uint32_t fixed_message(uint32_t code, char *out, size_t size, size_t *len);
+
+#ifdef __cplusplus
+}
+#endif
+#endif
