@@ -1,0 +1,32 @@
+-- What the numbers that C hands over name.
+use Rattle.std.specs.Prelude.{◌≡◌, ℕ}
+use Rattle.fixed_bits.specs.declared.format.Policy.{Policy}
+use Rattle.fixed_bits.specs.declared.mode.ReadMode.{ReadMode}
+use Rattle.fixed_numeral.specs.Numeral.{base}
+use Rattle.fixed_numeral.specs.declared.radix.Radix.{Radix}
+use Rattle.fixed_c.specs.Codes.{mode_code, policy_code}
+
+abbrev pub NamesRadix : ℕ → Type 0
+NamesRadix code = (r : Radix) × (code ≡ base r)
+
+abbrev pub NamesNoRadix : ℕ → Type 0
+NamesNoRadix code = (r : Radix) → ¬ (code ≡ base r)
+
+abbrev pub NamesPolicy : ℕ → Type 0
+NamesPolicy code = (p : Policy) × (code ≡ policy_code p)
+
+abbrev pub NamesNoPolicy : ℕ → Type 0
+NamesNoPolicy code = (p : Policy) → ¬ (code ≡ policy_code p)
+
+abbrev pub NamesNoMode : ℕ → Type 0
+NamesNoMode code = (m : ReadMode) → ¬ (code ≡ mode_code m)
+
+-- the three numbers name a radix, a policy and a mode of which something holds
+pub record Names (radix policy mode : ℕ) (Holds : Radix → Policy → ReadMode → Type 0) : Type 0 where
+  pub the_radix : Radix
+  pub the_policy : Policy
+  pub the_mode : ReadMode
+  pub radix_is : radix ≡ base the_radix
+  pub policy_is : policy ≡ policy_code the_policy
+  pub mode_is : mode ≡ mode_code the_mode
+  pub holds : Holds the_radix the_policy the_mode

@@ -1,0 +1,11 @@
+pub mod Answer
+pub mod Arguments
+pub mod Codes
+pub mod Convert
+pub mod Enclose
+pub mod Message
+pub mod Numbers
+pub mod Outcome
+pub mod Read
+pub mod Respell
+pub mod Texts

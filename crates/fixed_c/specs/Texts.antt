@@ -1,0 +1,15 @@
+-- A text that a buffer of C takes.
+use Rattle.std.specs.Prelude.{◌≡◌, ◌⊎◌, ◌<◌, ◌≤◌, ◌+◌, ◌++◌, ◌∷◌, [], ℕ, List, length, take, drop}
+use Rattle.fixed_c.specs.Codes.{refusal_code}
+use Rattle.fixed_c.specs.declared.refusal.Refusal.TheVariants.{NoRoom}
+
+-- the buffer begins with the text and a zero byte, and ends as it did
+pub record IsPlaced (text old new : List ℕ) : Type 0 where
+  pub fits : length text < length old
+  pub text_is : take (length text + 1) new ≡ text ++ 0 ∷ []
+  pub rest_is : drop (length text + 1) new ≡ drop (length text + 1) old
+
+-- the length is that of the text; the code is 0 and the text was placed, or there was no room for it and the buffer is as it was
+pub record PutsText (text old new : List ℕ) (len code : ℕ) : Type 0 where
+  pub len_is : len ≡ length text
+  pub placed : ((code ≡ 0) × IsPlaced text old new) ⊎ ((code ≡ refusal_code NoRoom) × (length old ≤ length text) × (new ≡ old))

@@ -1,0 +1,63 @@
+//! Bits as C holds them.
+
+ghost use Rattle.std.specs.Prelude.{◌≡◌, ◌≤◌, MatchOption, IfSome};
+ghost use Rattle.fixed_bits.specs.Ranges.{IsInRange, IsWide};
+ghost use Rattle.fixed_c.specs.Numbers.{flag_of, has_bits, IsBadBits};
+
+use fixed_bits::Format;
+
+/// The bits of a number, `fixed_number` of the header. Those of an unsigned format of 64 bits are the same 64 bits.
+#[repr(C)]
+#[derive(Clone, Copy)]
+pub struct FixedNumber {
+    /// The bits.
+    pub bits: i64,
+    /// 1 where a number on the way was out of its format, else 0.
+    pub overflowed: u32,
+}
+
+/// The bits of the two numbers that enclose a value, `fixed_enclosure` of the header.
+#[repr(C)]
+#[derive(Clone, Copy)]
+pub struct FixedEnclosure {
+    /// Those of the greatest number that is not above the value.
+    pub lo: i64,
+    /// Those of the least number that is not below it.
+    pub hi: i64,
+}
+
+/// The bits of a number that its format holds, as C has them.
+pub fn bits_for_c(format: Format, number: i128) -> i64
+    requires { IsInRange format.signed format.width number }
+    ensures { has_bits format.signed result number }
+{
+    if format.signed() {
+        number as i64
+    } else {
+        (number as u64).cast_signed()
+    }
+}
+
+/// The number that bits of C are in a format. None where the format does not hold it.
+pub fn number_in(bits: i64, format: Format) -> Option<i128>
+    ensures wide { IfSome result IsWide }
+    ensures number { MatchOption result (IsBadBits bits format) (λ n. IsInRange format.signed format.width n × has_bits format.signed bits n) }
+{
+    let number = if format.signed() {
+        i128::from(bits)
+    } else {
+        i128::from(bits.cast_unsigned())
+    };
+    if format.contains(number) {
+        Some(number)
+    } else {
+        None
+    }
+}
+
+/// 1 for true and 0 for false.
+pub fn flag(is: bool) -> u32
+    ensures { result ≡ flag_of is }
+{
+    if is { 1 } else { 0 }
+}

@@ -1,0 +1,215 @@
+//! The calls that give numbers, before they are handed over.
+
+ghost use Rattle.std.specs.Prelude.{◌≡◌, ◌<◌, MatchResult};
+ghost use Rattle.fixed_c.specs.Arguments.{Names};
+ghost use Rattle.fixed_c.specs.Convert.{CompareIsRefused, ConvertIsRefused, IsCompared, IsConverted, order_code};
+ghost use Rattle.fixed_c.specs.Enclose.{EncloseIsRefused, IsEnclosedBy};
+ghost use Rattle.fixed_c.specs.Numbers.{format_of, has_bits};
+ghost use Rattle.fixed_c.specs.Read.{IsReadAs, ReadIsRefused};
+ghost use Rattle.fixed_c.specs.Respell.{IsReachedAs, RespellIsRefused};
+ghost use Rattle.fixed_respell.specs.Reached.{is_signed, number_of};
+
+use crate::arguments::{FixedFormat, format_of, mode_of, policy_of, radix_of};
+use crate::number::{FixedEnclosure, FixedNumber, bits_for_c, flag, number_in};
+use crate::refusal::Refusal;
+use fixed_convert::{compare, reformat};
+use fixed_enclose::enclose;
+use fixed_numeral::ParseErrorKind;
+use fixed_read::read_format;
+use fixed_respell::{Bits, respell_mode};
+use fixed_steps::Steps;
+use std::cmp::Ordering;
+use std::sync::ledger::{Blank, Ledger};
+
+/// A text read into a format.
+pub fn read<L: Ledger>(
+    text: &[u8],
+    radix: u32,
+    format: FixedFormat,
+    policy: u32,
+    mode: u32,
+    blank: Blank,
+) -> Result<FixedNumber, Refusal>
+    requires name { blank.name ≡ L.name }
+    requires parts { blank.parts ≡ L.parts }
+    requires backed { 0 < blank.parts }
+    ensures { MatchResult result
+        (λ n. Names radix policy mode (IsReadAs text.now (format_of format.is_signed format.width format.frac) n.bits n.overflowed))
+        (λ refusal. ReadIsRefused text.now radix (format_of format.is_signed format.width format.frac) policy mode refusal) }
+{
+    let Some(radix) = radix_of(radix) else {
+        return Err(Refusal::BadRadix);
+    };
+    let Some(format) = format_of(format) else {
+        return Err(Refusal::BadFormat);
+    };
+    let Some(policy) = policy_of(policy) else {
+        return Err(Refusal::BadPolicy);
+    };
+    let Some(mode) = mode_of(mode) else {
+        return Err(Refusal::BadMode);
+    };
+    let mut steps = Steps::<L>::new(blank);
+    let found = match read_format(text, radix, format, mode, &mut steps) {
+        Ok(found) => found,
+        Err(error) => return Err(Refusal::Numeral(error.kind())),
+    };
+    match found.image(policy) {
+        Some(number) => Ok(FixedNumber {
+            bits: bits_for_c(format, number),
+            overflowed: flag(found.is_out_of_range()),
+        }),
+        None => Err(Refusal::Numeral(ParseErrorKind::Overflow)),
+    }
+}
+
+/// Bits of one format, rounded down to another.
+pub fn convert(
+    bits: i64,
+    source: FixedFormat,
+    target: FixedFormat,
+    policy: u32,
+) -> Result<FixedNumber, Refusal>
+    ensures { MatchResult result
+        (λ n. IsConverted (format_of source.is_signed source.width source.frac) (format_of target.is_signed target.width target.frac) policy bits n.bits n.overflowed)
+        (λ refusal. ConvertIsRefused (format_of source.is_signed source.width source.frac) (format_of target.is_signed target.width target.frac) policy bits refusal) }
+{
+    let Some(source) = format_of(source) else {
+        return Err(Refusal::BadFormat);
+    };
+    let Some(target) = format_of(target) else {
+        return Err(Refusal::BadTarget);
+    };
+    let Some(policy) = policy_of(policy) else {
+        return Err(Refusal::BadPolicy);
+    };
+    let Some(number) = number_in(bits, source) else {
+        return Err(Refusal::BadBits);
+    };
+    match reformat(target, policy, number, source.frac()) {
+        Some((image, overflowed)) => Ok(FixedNumber {
+            bits: bits_for_c(target, image),
+            overflowed: flag(overflowed),
+        }),
+        None => Err(Refusal::Numeral(ParseErrorKind::Overflow)),
+    }
+}
+
+/// -1, 0 or 1.
+fn order_of(order: Ordering) -> i32
+    ensures { result ≡ order_code order }
+{
+    match order {
+        Ordering::Less => -1,
+        Ordering::Equal => 0,
+        Ordering::Greater => 1,
+    }
+}
+
+/// The order of the values of bits of two formats.
+pub fn order_by_value(
+    a: i64,
+    a_format: FixedFormat,
+    b: i64,
+    b_format: FixedFormat,
+) -> Result<i32, Refusal>
+    ensures { MatchResult result
+        (λ order. IsCompared (format_of a_format.is_signed a_format.width a_format.frac) (format_of b_format.is_signed b_format.width b_format.frac) a b order)
+        (λ refusal. CompareIsRefused (format_of a_format.is_signed a_format.width a_format.frac) (format_of b_format.is_signed b_format.width b_format.frac) a b refusal) }
+{
+    let Some(f) = format_of(a_format) else {
+        return Err(Refusal::BadFormat);
+    };
+    let Some(g) = format_of(b_format) else {
+        return Err(Refusal::BadTarget);
+    };
+    let Some(left) = number_in(a, f) else {
+        return Err(Refusal::BadBits);
+    };
+    let Some(right) = number_in(b, g) else {
+        return Err(Refusal::BadBits);
+    };
+    Ok(order_of(compare(left, f.frac(), right, g.frac())))
+}
+
+/// The two numbers of a format between which the value of a text lies.
+pub fn ends_around<L: Ledger>(
+    text: &[u8],
+    radix: u32,
+    format: FixedFormat,
+    blank: Blank,
+) -> Result<FixedEnclosure, Refusal>
+    requires name { blank.name ≡ L.name }
+    requires parts { blank.parts ≡ L.parts }
+    requires backed { 0 < blank.parts }
+    ensures { MatchResult result
+        (λ ends. IsEnclosedBy text.now radix (format_of format.is_signed format.width format.frac) ends.lo ends.hi)
+        (λ refusal. EncloseIsRefused text.now radix (format_of format.is_signed format.width format.frac) refusal) }
+{
+    let Some(radix) = radix_of(radix) else {
+        return Err(Refusal::BadRadix);
+    };
+    let Some(format) = format_of(format) else {
+        return Err(Refusal::BadFormat);
+    };
+    let mut steps = Steps::<L>::new(blank);
+    match enclose(text, radix, format, &mut steps) {
+        Ok(ends) => Ok(FixedEnclosure {
+            lo: bits_for_c(format, ends.lo),
+            hi: bits_for_c(format, ends.hi),
+        }),
+        Err(error) => Err(Refusal::Numeral(error.kind())),
+    }
+}
+
+/// Bits by their sign rule, as C has them.
+fn given_bits(bits: Bits) -> i64
+    ensures { has_bits (is_signed bits) result (number_of bits) }
+{
+    match bits {
+        Bits::Signed(bits) => bits,
+        Bits::Unsigned(bits) => bits.cast_signed(),
+    }
+}
+
+/// A text read into one format and rounded down to another.
+pub fn respelled<L: Ledger>(
+    text: &[u8],
+    radix: u32,
+    source: FixedFormat,
+    target: FixedFormat,
+    policy: u32,
+    mode: u32,
+    blank: Blank,
+) -> Result<FixedNumber, Refusal>
+    requires name { blank.name ≡ L.name }
+    requires parts { blank.parts ≡ L.parts }
+    requires backed { 0 < blank.parts }
+    ensures { MatchResult result
+        (λ n. Names radix policy mode (IsReachedAs text.now (format_of source.is_signed source.width source.frac) (format_of target.is_signed target.width target.frac) n.bits n.overflowed))
+        (λ refusal. RespellIsRefused text.now radix (format_of source.is_signed source.width source.frac) (format_of target.is_signed target.width target.frac) policy mode refusal) }
+{
+    let Some(radix) = radix_of(radix) else {
+        return Err(Refusal::BadRadix);
+    };
+    let Some(source) = format_of(source) else {
+        return Err(Refusal::BadFormat);
+    };
+    let Some(target) = format_of(target) else {
+        return Err(Refusal::BadTarget);
+    };
+    let Some(policy) = policy_of(policy) else {
+        return Err(Refusal::BadPolicy);
+    };
+    let Some(mode) = mode_of(mode) else {
+        return Err(Refusal::BadMode);
+    };
+    let mut steps = Steps::<L>::new(blank);
+    match respell_mode(text, radix, source, target, policy, mode, &mut steps) {
+        Ok(reached) => Ok(FixedNumber {
+            bits: given_bits(reached.bits),
+            overflowed: flag(reached.overflowed),
+        }),
+        Err(error) => Err(Refusal::Numeral(error.kind())),
+    }
+}

@@ -1,0 +1,135 @@
+//! Why a call is refused, and the codes that say so.
+
+ghost use Rattle.std.specs.Prelude.{◌≡◌, ◌⊎◌, ◌<◌, ◌≤◌, length, MatchOption};
+ghost use Rattle.fixed_c.specs.Codes.{IsMessage, kind_code, refusal_code, refusal_message};
+ghost use Rattle.fixed_c.specs.Outcome.{HandsOver};
+
+use fixed_numeral::{ParseErrorKind, ParseFixedError};
+
+/// The code of a call that did what it was asked for.
+pub const OK: u32 = 0;
+
+/// Why a call is refused.
+#[derive(Clone, Copy, Debug, PartialEq, Eq)]
+pub enum Refusal {
+    /// The text is no numeral, or a format does not hold its number.
+    Numeral(ParseErrorKind),
+    /// The radix is none of 2, 8, 10 and 16.
+    BadRadix,
+    /// The only format, or the first of two, has no width of 8, 16, 32 or 64 bits, or a longer fraction.
+    BadFormat,
+    /// The second format is none.
+    BadTarget,
+    /// The policy is none of 0 to 2.
+    BadPolicy,
+    /// The mode is none of 0 to 3.
+    BadMode,
+    /// The bits are out of the range of their format.
+    BadBits,
+    /// The text and a zero byte do not fit into the buffer.
+    NoRoom,
+}
+
+/// The code of a kind, 1 to 10.
+fn kind_code(kind: ParseErrorKind) -> u32
+    ensures { result ≡ kind_code kind }
+{
+    match kind {
+        ParseErrorKind::InvalidDigit => 1,
+        ParseErrorKind::MisplacedSign => 2,
+        ParseErrorKind::MisplacedUnderscore => 3,
+        ParseErrorKind::TooManyPoints => 4,
+        ParseErrorKind::TooManyExp => 5,
+        ParseErrorKind::ExpInvalidDigit => 6,
+        ParseErrorKind::ExpOverflow => 7,
+        ParseErrorKind::NoDigits => 8,
+        ParseErrorKind::ExpNoDigits => 9,
+        ParseErrorKind::Overflow => 10,
+    }
+}
+
+impl Refusal {
+    /// The code of the refusal, 1 to 17.
+    pub fn code(self) -> u32
+        ensures { result ≡ refusal_code self }
+    {
+        match self {
+            Refusal::Numeral(kind) => kind_code(kind),
+            Refusal::BadRadix => 11,
+            Refusal::BadFormat => 12,
+            Refusal::BadTarget => 13,
+            Refusal::BadPolicy => 14,
+            Refusal::BadMode => 15,
+            Refusal::BadBits => 16,
+            Refusal::NoRoom => 17,
+        }
+    }
+
+    /// The message of the refusal, at most 47 bytes.
+    fn message(self) -> &'static str
+        ensures message { result.now ≡ refusal_message self }
+        ensures short { length result.now ≤ 47 }
+    {
+        match self {
+            Refusal::Numeral(kind) => ParseFixedError::new(kind).message(),
+            Refusal::BadRadix => "bad radix",
+            Refusal::BadFormat => "bad format",
+            Refusal::BadTarget => "bad target format",
+            Refusal::BadPolicy => "bad policy",
+            Refusal::BadMode => "bad mode",
+            Refusal::BadBits => "bits out of range",
+            Refusal::NoRoom => "no room for the text",
+        }
+    }
+}
+
+/// The refusal of a code. None where it is that of none.
+fn refusal_of(code: u32) -> Option<Refusal>
+    ensures { MatchOption result ((code ≡ 0) ⊎ (17 < code)) (λ refusal. code ≡ refusal_code refusal) }
+{
+    match code {
+        1 => Some(Refusal::Numeral(ParseErrorKind::InvalidDigit)),
+        2 => Some(Refusal::Numeral(ParseErrorKind::MisplacedSign)),
+        3 => Some(Refusal::Numeral(ParseErrorKind::MisplacedUnderscore)),
+        4 => Some(Refusal::Numeral(ParseErrorKind::TooManyPoints)),
+        5 => Some(Refusal::Numeral(ParseErrorKind::TooManyExp)),
+        6 => Some(Refusal::Numeral(ParseErrorKind::ExpInvalidDigit)),
+        7 => Some(Refusal::Numeral(ParseErrorKind::ExpOverflow)),
+        8 => Some(Refusal::Numeral(ParseErrorKind::NoDigits)),
+        9 => Some(Refusal::Numeral(ParseErrorKind::ExpNoDigits)),
+        10 => Some(Refusal::Numeral(ParseErrorKind::Overflow)),
+        11 => Some(Refusal::BadRadix),
+        12 => Some(Refusal::BadFormat),
+        13 => Some(Refusal::BadTarget),
+        14 => Some(Refusal::BadPolicy),
+        15 => Some(Refusal::BadMode),
+        16 => Some(Refusal::BadBits),
+        17 => Some(Refusal::NoRoom),
+        _ => None,
+    }
+}
+
+/// The message of a code, at most 47 bytes.
+pub fn message_of(code: u32) -> &'static str
+    ensures message { IsMessage code result.now }
+    ensures short { length result.now ≤ 47 }
+{
+    match refusal_of(code) {
+        Some(refusal) => refusal.message(),
+        None if code == OK => "done",
+        None => "unknown code",
+    }
+}
+
+/// Hands an answer over to C and returns 0, or returns the code of a refusal and leaves what C has as it was.
+pub fn hand_over<T: Copy>(answer: Result<T, Refusal>, out: &mut T) -> u32
+    ensures { HandsOver answer out.old out.new result }
+{
+    match answer {
+        Ok(answer) => {
+            *out = answer;
+            OK
+        }
+        Err(refusal) => refusal.code(),
+    }
+}
