@@ -6,7 +6,7 @@ use Rattle.fixed_numeral.specs.declared.error.ParseErrorKind.{ParseErrorKind}
 use Rattle.fixed_numeral.specs.declared.error.ParseErrorKind.TheVariants.{InvalidDigit, MisplacedSign, TooManyPoints, TooManyExp, ExpInvalidDigit, ExpOverflow, NoDigits, ExpNoDigits}
 use Rattle.fixed_numeral.specs.Numeral.{Parts, HasParts, IsBeginning, IsNumeral, is_sign, is_separator, point, mantissa}
 
--- the first n bytes are the longest front of bs that is a beginning, and p are its parts
+-- the first n bytes are the longest prefix of bs that is a beginning, and p are its parts
 pub record IsLongestBeginning (r : Radix) (bs : List ℕ) (n : ℕ) (p : Parts) : Type 0 where
   pub within : n ≤ length bs
   pub beginning : HasParts r (take n bs) p
@@ -16,7 +16,7 @@ pub record IsLongestBeginning (r : Radix) (bs : List ℕ) (n : ℕ) (p : Parts) 
 abbrev pub kind_before_separator : ℕ → ParseErrorKind
 kind_before_separator b = if is_sign b then MisplacedSign else (if b == point then TooManyPoints else InvalidDigit)
 
--- a byte that offends behind a separator
+-- a byte that offends after a separator
 abbrev pub kind_after_separator : Radix → ℕ → ParseErrorKind
 kind_after_separator r b = if is_sign b then MisplacedSign else (if is_separator r b then TooManyExp else (if nat_lt (digit_value b) 10 then ExpOverflow else ExpInvalidDigit))
 
@@ -24,7 +24,7 @@ abbrev pub is_nil : List ℕ → Bool
 is_nil [] = true
 is_nil _ = false
 
--- the kind for a longest beginning and the byte behind it
+-- the kind for a longest beginning and the byte after it
 abbrev pub kind_of : Radix → Parts → Option ℕ → ParseErrorKind
 kind_of r p (Some b) = if is_some p.exponent then kind_after_separator r b else kind_before_separator b
 kind_of r p None = if is_nil (mantissa p) then NoDigits else ExpNoDigits

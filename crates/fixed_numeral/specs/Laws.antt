@@ -11,7 +11,7 @@ use Rattle.fixed_numeral.specs.Literal.{HasLiteral, IsLiteral, HasLiteralCause}
 abbrev pub PartsAreDetermined : Type 0
 PartsAreDetermined = (r : Radix) (bs : List ℕ) (p q : Parts) → HasParts r bs p → HasParts r bs q → p ≡ q
 
--- each front of a beginning is a beginning
+-- each prefix of a beginning is a beginning
 abbrev pub FrontIsBeginning : Type 0
 FrontIsBeginning = (r : Radix) (xs ys : List ℕ) → IsBeginning r (xs ++ ys) → IsBeginning r xs
 

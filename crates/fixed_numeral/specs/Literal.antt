@@ -16,12 +16,12 @@ abbrev pub without_underscores : List ℕ → List ℕ
 without_underscores [] = []
 without_underscores (b ∷ bs) = if b == underscore then without_underscores bs else b ∷ without_underscores bs
 
--- a sign stands at the front
+-- the first byte is a sign
 abbrev pub begins_signed : List ℕ → Bool
 begins_signed [] = false
 begins_signed (b ∷ bs) = is_sign b
 
--- the digits of the part that stands last
+-- the digits of the last part
 abbrev pub part_of : List ℕ → Option (List ℕ) → Option Exponent → List ℕ
 part_of w f (Some e) = e.digits
 part_of w (Some ds) None = ds
@@ -39,13 +39,13 @@ pub record HasLiteralParts (r : Radix) (bs : List ℕ) (p : Parts) : Type 0 wher
 abbrev pub IsLiteralBeginning : Radix → List ℕ → Type 0
 IsLiteralBeginning r bs = (p : Parts) × HasLiteralParts r bs p
 
--- the first n bytes are the longest front of bs that is a literal beginning, and p are its parts
+-- the first n bytes are the longest prefix of bs that is a literal beginning, and p are its parts
 pub record IsLongestLiteral (r : Radix) (bs : List ℕ) (n : ℕ) (p : Parts) : Type 0 where
   pub within : n ≤ length bs
   pub beginning : HasLiteralParts r (take n bs) p
   pub longest : (m : ℕ) → m ≤ length bs → IsLiteralBeginning r (take m bs) → m ≤ n
 
--- the kind for a longest beginning and the byte behind it
+-- the kind for a longest beginning and the byte after it
 abbrev pub literal_kind : Radix → Parts → Option ℕ → ParseErrorKind
 literal_kind r p (Some b) = if b == underscore then MisplacedUnderscore else kind_of r p (Some b)
 literal_kind r p None = kind_of r p None
@@ -68,7 +68,7 @@ abbrev pub sign_of : Bool → List ℕ → Option ℕ
 sign_of of_signed [] = None
 sign_of of_signed (b ∷ bs) = if of_signed && (b == minus) then Some minus else None
 
--- what stands behind that sign
+-- the bytes after that sign
 abbrev pub after_sign : Bool → List ℕ → List ℕ
 after_sign of_signed [] = []
 after_sign of_signed (b ∷ bs) = if of_signed && (b == minus) then bs else b ∷ bs
@@ -83,7 +83,7 @@ prefix_of [] = None
 prefix_of (a ∷ []) = None
 prefix_of (a ∷ b ∷ bs) = if a == 48 then radix_named b else None
 
--- the bytes without the underscores in front
+-- the bytes without leading underscores
 abbrev pub after_underscores : List ℕ → List ℕ
 after_underscores [] = []
 after_underscores (b ∷ bs) = if b == underscore then after_underscores bs else b ∷ bs
@@ -93,7 +93,7 @@ abbrev pub radix_by : Option Radix → Radix
 radix_by None = Dec
 radix_by (Some r) = r
 
--- what stands behind a prefix and its underscores
+-- the bytes after a prefix and its underscores
 abbrev pub rest_by : Option Radix → List ℕ → List ℕ
 rest_by None bs = bs
 rest_by (Some r) bs = after_underscores (drop 2 bs)

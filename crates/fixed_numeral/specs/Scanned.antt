@@ -15,10 +15,6 @@ exponent_unit Oct = 3
 exponent_unit Dec = 1
 exponent_unit Hex = 4
 
--- the former name, until the crates above follow
-abbrev pub bits_of : Radix → ℕ
-bits_of r = exponent_unit r
-
 -- the sign, the digits before the point and after it, and the bits are those of the numeral
 pub record IsScanned (r : Radix) (p : Parts) (neg : Bool) (whole fraction : List ℕ) (bits : ℕ) : Type 0 where
   pub sign : neg ≡ is_minus p.sign

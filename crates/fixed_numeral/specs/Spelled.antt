@@ -1,4 +1,4 @@
--- The number that two lists of digits spell, one in front of a point and one behind it.
+-- The number that two lists of digits spell, one before a point and one after it.
 use Rattle.std.specs.Prelude.{◌≡◌, ℕ, ◌*◌, ◌^◌, List, ◌++◌, length}
 use Rattle.std.specs.Int.Digits.{number_from_digits}
 use Rattle.fixed_numeral.specs.Value.{Fraction}

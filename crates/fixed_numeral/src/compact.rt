@@ -137,8 +137,13 @@ fn is_below_limit(radix: Radix, digits: u128) -> bool
     radix != Radix::Dec || digits < 100_000_000_000_000_000_000_000_000_000_000_000_000
 }
 
-/// The numbers of a numeral, where its digits fit 128 bits: at most 38 significant digits in radix 10. None otherwise, and
-/// where the bytes are no numeral; `scan` then says more. A step a byte is taken.
+/// How many bytes a compact numeral has at most: the 128 digits of radix 2 and what else belongs to them, with room for
+/// zeros. A longer numeral is left alone at once, since nearly all of those have too many digits.
+const MAX_LENGTH: usize = 192;
+
+/// The numbers of a numeral of at most 192 bytes, where its digits fit 128 bits: at most 38 significant digits in radix 10.
+/// None otherwise, and where the bytes are no numeral; `scan` then says more. A step a byte is taken, and none where there
+/// are more than 192 bytes.
 pub fn compact_numeral<L: Ledger>(
     s: &[u8],
     radix: Radix,
@@ -147,8 +152,12 @@ pub fn compact_numeral<L: Ledger>(
     ensures numeral { IfSome result (λ c. IsNumeral radix s.now) }
     ensures parts { IfSome result (λ c. (p : Parts) → HasNumeral radix s.now p → IsCompactNumeral radix p c.negative c.digits c.places c.exponent c.scales_by_two) }
     ensures limit { IfSome result (λ c. c.digits < compact_limit radix) }
-    ensures cost { steps.new ≡ steps.old + length s.now }
+    ensures counted { IfSome result (λ c. steps.new ≡ steps.old + length s.now) }
+    ensures cost { steps.new ≤ steps.old + length s.now }
 {
+    if s.len() > MAX_LENGTH {
+        return None;
+    }
     steps.advance(s.len() as u64);
     let (negative, first) = sign_at(s, 0);
     let mantissa = mantissa_at(s, u64::from(radix.base()), first)?;

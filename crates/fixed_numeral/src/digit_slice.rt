@@ -37,7 +37,7 @@ pub(crate) fn is_digit(b: u8) -> bool
     }
 }
 
-/// The value of a byte that is a digit of radix 16. The letters stand 9 places behind 16 times a number.
+/// The value of a byte that is a digit of radix 16. The low half of a letter's byte is 9 less than its value.
 #[tactic(auto, using(crate::proofs::ByteLemmas::value_is))]
 pub(crate) fn value_of_digit(b: u8) -> u8
     requires { digit_value b < 16 }
@@ -57,7 +57,7 @@ fn digit_of_byte(b: u8) -> Option<u8>
     }
 }
 
-/// The number that bytes spell in a base behind the digits of `start`, where each byte is a digit.
+/// The number that bytes spell in a base after the digits of `start`, where each byte is a digit.
 fn plain_number(bytes: &[u8], base: u64, start: u64) -> u64
     requires plain { length (digits_in bytes.now) ≡ length bytes.now }
     requires digits { AllBelowBase base (digits_in bytes.now) }
@@ -92,7 +92,7 @@ fn whole_number(bytes: &[u8], base: u64) -> u64
     }
 }
 
-/// The number that the digits among bytes spell in a base behind the digits of `start`.
+/// The number that the digits among bytes spell in a base after the digits of `start`.
 fn mixed_number(bytes: &[u8], base: u64, start: u64) -> u64
     requires digits { AllBelowBase base (digits_in bytes.now) }
     requires least { 2 ≤ base }
@@ -120,7 +120,7 @@ impl<'a> DigitSlice<'a> {
         }
     }
 
-    /// The digits of a slice, which are so many.
+    /// The digits of a slice, of which there are this many.
     pub fn of(bytes: &'a [u8], count: u64) -> DigitSlice<'a>
         requires { count ≡ length (digits_in bytes.now) }
         ensures { result ≡ digits_in bytes.now }
@@ -128,7 +128,7 @@ impl<'a> DigitSlice<'a> {
         DigitSlice { bytes, count }
     }
 
-    /// The first i digits of a slice, and the bytes behind them.
+    /// The first i digits of a slice, and the bytes after them.
     pub fn split_at_digit(bytes: &'a [u8], i: u64) -> (DigitSlice<'a>, &'a [u8])
         requires { i ≤ length (digits_in bytes.now) }
         ensures front { result.0 ≡ take i (digits_in bytes.now) }
@@ -184,7 +184,7 @@ impl<'a> DigitSlice<'a> {
         None
     }
 
-    /// The digits without zeros in front.
+    /// The digits without leading zeros.
     #[inline(always)]
     pub fn without_leading(&self) -> DigitSlice<'a>
         ensures { IsWithoutLeading self.now result }
@@ -205,7 +205,7 @@ impl<'a> DigitSlice<'a> {
         DigitSlice::none()
     }
 
-    /// The digits without zeros behind.
+    /// The digits without trailing zeros.
     #[inline(always)]
     pub fn without_trailing(&self) -> DigitSlice<'a>
         ensures { IsWithoutTrailing self.now result }
@@ -229,7 +229,7 @@ impl<'a> DigitSlice<'a> {
         DigitSlice::none()
     }
 
-    /// The number that these digits spell in a base behind the digits of `start`.
+    /// The number that these digits spell in a base after the digits of `start`.
     #[inline(always)]
     pub fn number_onto(&self, base: u64, start: u64) -> u64
         requires digits { AllBelowBase base self.now }
@@ -263,7 +263,7 @@ impl<'a> DigitSlice<'a> {
         whole_number(&bytes[..i as usize], base)
     }
 
-    /// The digits behind the first i.
+    /// The digits after the first i.
     #[inline(always)]
     pub fn suffix(&self, i: u64) -> DigitSlice<'a>
         requires { i ≤ length self.now }
@@ -302,7 +302,7 @@ impl<'a> DigitSlice<'a> {
     }
 }
 
-/// The place in the bytes, which hold so many digits, in front of which i digits stand.
+/// The place in the bytes, which hold this many digits, with i digits before it.
 #[inline(always)]
 fn byte_index(bytes: &[u8], count: u64, i: u64) -> usize
     requires count { count ≡ length (digits_in bytes.now) }
@@ -316,7 +316,7 @@ fn byte_index(bytes: &[u8], count: u64, i: u64) -> usize
     byte_index_by_search(bytes, i)
 }
 
-/// The place in the bytes in front of which i digits stand, by looking at them.
+/// The place in the bytes with i digits before it, by looking at them.
 fn byte_index_by_search(bytes: &[u8], i: u64) -> usize
     requires { i ≤ length (digits_in bytes.now) }
     ensures within { result ≤ length bytes.now }

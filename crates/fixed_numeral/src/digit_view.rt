@@ -52,7 +52,7 @@ impl<'a> DigitView<'a> {
         }
     }
 
-    /// The digits of a piece.
+    /// The digits of a slice.
     #[tactic(auto, using(crate::proofs::ViewLemmas::between_left))]
     fn of(piece: DigitSlice<'a>) -> DigitView<'a>
         requires { length piece < 2 ^ 64 }
@@ -143,7 +143,7 @@ impl<'a> DigitView<'a> {
     }
 
     /// The number that the first `count` digits spell in the base, or all where there are fewer, and the digits
-    /// behind them, for a step a digit.
+    /// after them, for a step a digit.
     #[inline(always)]
     pub fn take_number<L: Ledger>(
         &self,
@@ -309,7 +309,7 @@ impl<'a> DigitView<'a> {
         back
     }
 
-    /// So many zeros, and these digits.
+    /// This many zeros, and these digits.
     fn with_zeros_before(&self, n: u64) -> DigitView<'a>
         requires { n + length self.now < 2 ^ 64 }
         ensures { result ≡ zeros n ++ self.now }
@@ -322,7 +322,7 @@ impl<'a> DigitView<'a> {
         }
     }
 
-    /// These digits, and so many zeros.
+    /// These digits, and this many zeros.
     fn with_zeros_after(&self, n: u64) -> DigitView<'a>
         requires { n + length self.now < 2 ^ 64 }
         ensures { result ≡ self.now ++ zeros n }
@@ -349,7 +349,7 @@ fn times_power(number: u64, base: u64, count: u64) -> u64
     product
 }
 
-/// The digits of two pieces without the zeros in front.
+/// The digits of two slices without leading zeros.
 fn without_leading<'a>(
     whole: &DigitSlice<'a>,
     fraction: &DigitSlice<'a>,
@@ -365,7 +365,7 @@ fn without_leading<'a>(
     }
 }
 
-/// The digits of two pieces without the zeros behind.
+/// The digits of two slices without trailing zeros.
 fn without_trailing<'a>(
     whole: &DigitSlice<'a>,
     fraction: &DigitSlice<'a>,
@@ -381,7 +381,7 @@ fn without_trailing<'a>(
     }
 }
 
-/// The digits in front of the point and behind it, where the point stays.
+/// The digits before the point and after it, where the point stays.
 /// The steps are the bytes that are looked at: the zeros at the two ends, and one more at each.
 #[inline(always)]
 pub(crate) fn views_at_point<'a, L: Ledger>(
@@ -400,8 +400,8 @@ pub(crate) fn views_at_point<'a, L: Ledger>(
     (DigitView::of(left), DigitView::of(right))
 }
 
-/// The digits in front of the point and behind it, where it goes up digits to the right and down digits to the left.
-/// The steps are as where it stays.
+/// The digits before the point and after it, where it moves `up` digits to the right and `down` digits to the left.
+/// The steps are those of `views_at_point`.
 #[inline(always)]
 pub(crate) fn views_at_moved_point<'a, L: Ledger>(
     whole: &DigitSlice<'a>,

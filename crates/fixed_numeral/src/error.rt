@@ -6,28 +6,28 @@ use std::error::Error;
 use std::fmt;
 use std::marker::Model;
 
-/// Why bytes are no numeral, or a numeral has no place in a format.
+/// Why bytes are no numeral, or a numeral does not fit a format.
 #[derive(Clone, Copy, Debug, PartialEq, Eq)]
 pub enum ParseErrorKind {
-    /// A byte that may not stand in front of a separator.
+    /// A byte that is not allowed before a separator.
     InvalidDigit,
-    /// A sign that stands behind another byte of its part, or in front of a literal's rest.
+    /// A sign after another byte of its part, or at the beginning of a literal's rest.
     MisplacedSign,
     /// An underscore without a digit before it in its part. Only literals have it.
     MisplacedUnderscore,
-    /// A second point in front of a separator.
+    /// A second point before a separator.
     TooManyPoints,
     /// A second separator.
     TooManyExp,
-    /// A byte that may not stand behind a separator.
+    /// A byte that is not allowed after a separator.
     ExpInvalidDigit,
     /// The decimal digit with which the exponent leaves the range of i32.
     ExpOverflow,
-    /// No digit in front of a separator.
+    /// No digit before a separator.
     NoDigits,
-    /// No digit behind a separator.
+    /// No digit after a separator.
     ExpNoDigits,
-    /// A numeral without a place in the format.
+    /// A numeral that does not fit the format.
     Overflow,
 }
 

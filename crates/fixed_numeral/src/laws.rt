@@ -7,7 +7,7 @@ pub fn parts_are_determined()
     ensures { PartsAreDetermined }
 {}
 
-/// Each front of a beginning is a beginning.
+/// Each prefix of a beginning is a beginning.
 pub fn front_is_beginning()
     ensures { FrontIsBeginning }
 {}

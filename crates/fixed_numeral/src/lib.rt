@@ -1,4 +1,4 @@
-//! Numerals in radix 2, 8, 10 and 16: what is one, what it is worth, and why bytes are none.
+//! Numerals in radix 2, 8, 10 and 16: parsing, value, and the reason for each rejection.
 #![tactic(auto)]
 
 mod compact;

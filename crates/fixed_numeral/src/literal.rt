@@ -1,4 +1,4 @@
-//! Reading a literal: its sign, its prefix, and a numeral in which underscores may stand.
+//! Reading a literal: its sign, its prefix, and a numeral that may have underscores.
 
 ghost use Rattle.std.specs.Prelude.{◌≡◌, ◌+◌, ◌*◌, ◌^◌, ◌<◌, ◌≤◌, ℕ, ◌&&◌, not, true, IsTrue, IfSome, None, Bool, List, length, MatchResult, IsOk, IfOk, IfErr, ◌↔◌};
 ghost use Rattle.fixed_numeral.specs.declared.radix.Radix.{Radix as TheRadix};
@@ -6,7 +6,7 @@ ghost use Rattle.fixed_numeral.specs.Numeral.{Parts, is_minus, is_sign};
 ghost use Rattle.fixed_numeral.specs.Cause.{is_nil};
 ghost use Rattle.fixed_numeral.specs.Inner.Scan.{Agrees, IsComplete, max_magnitude};
 ghost use Rattle.fixed_numeral.specs.Scanned.{IsScanned};
-ghost use Rattle.fixed_numeral.specs.Literal.{HasLiteralParts, HasRest, HasRestCause, HasLiteral, IsLiteral, HasLiteralCause, last_part, sign_of, after_sign, prefix_of, after_underscores, radix_by, rest_by, literal_radix};
+ghost use Rattle.fixed_numeral.specs.Literal.{HasLiteralParts, HasRest, HasRestCause, HasLiteral, IsLiteral, HasLiteralCause, last_part, sign_of, after_sign, prefix_of, after_underscores, radix_by, rest_by, literal_radix, literal_rest};
 ghost use Rattle.fixed_numeral.specs.Inner.LiteralScan.{LiteralExtends, LiteralCannotExtend, IsLiteralAfter};
 
 use crate::digit_slice::DigitSlice;
@@ -23,7 +23,7 @@ fn is_positive(count: u64) -> bool
     count > 0
 }
 
-/// Whether the part that stands last has a digit.
+/// Whether the last part has a digit.
 fn last_part_has_digit(state: State) -> bool
     ensures { (r : TheRadix) (p : Parts) → Agrees r state p → result ≡ not (is_nil (last_part p)) }
 {
@@ -36,7 +36,7 @@ fn last_part_has_digit(state: State) -> bool
     }
 }
 
-/// Whether the byte is a sign in front of all others.
+/// Whether the byte is a sign before all others.
 fn is_leading_sign(state: State, b: u8) -> bool
     ensures { result ≡ (is_sign b && (state.sign_allowed && not state.has_separator)) }
 {
@@ -69,6 +69,7 @@ fn read_rest<L: Ledger>(
     steps: &mut Steps<L>,
 ) -> Result<State, ParseErrorKind>
     ensures end { MatchResult result (λ state. IsLiteralAfter radix bytes.now state) (λ kind. HasRestCause radix bytes.now kind) }
+    ensures counted { IfOk result (λ s. steps.new ≡ steps.old + length bytes.now) }
     ensures cost { steps.new ≤ steps.old + length bytes.now }
 {
     let mut state = State::start();
@@ -92,6 +93,7 @@ fn rest_views<'a, L: Ledger>(
 ) -> Scanned<'a>
     requires { IsLiteralAfter radix bytes.now state }
     ensures value { (p : Parts) → HasRest radix bytes.now (record p { sign = None }) → IfSome p.sign (λ b. IsTrue (is_sign b)) → neg ≡ is_minus p.sign → IsScanned radix p result.neg result.whole result.fraction result.bit_shift }
+    ensures counted { steps.old ≤ steps.new }
     ensures cost { steps.new ≤ steps.old + length bytes.now + 2 }
 {
     let text = same_bytes(bytes);
@@ -109,7 +111,7 @@ fn rest_views<'a, L: Ledger>(
     )
 }
 
-/// Whether a sign is taken first, and what stands behind it.
+/// Whether a sign is taken first, and the bytes after it.
 fn after_sign(bytes: &[u8], signed: bool) -> (bool, &[u8])
     ensures sign { result.0 ≡ is_minus (sign_of signed bytes.now) }
     ensures rest { result.1.now ≡ after_sign signed bytes.now }
@@ -122,7 +124,7 @@ fn after_sign(bytes: &[u8], signed: bool) -> (bool, &[u8])
     }
 }
 
-/// The radix of the prefix in front.
+/// The radix of the prefix.
 fn prefix(bytes: &[u8]) -> Option<Radix>
     ensures { result ≡ prefix_of bytes.now }
 {
@@ -137,7 +139,7 @@ fn prefix(bytes: &[u8]) -> Option<Radix>
     }
 }
 
-/// The bytes without the underscores in front.
+/// The bytes without leading underscores.
 fn after_underscores(bytes: &[u8]) -> &[u8]
     ensures rest { result.now ≡ after_underscores bytes.now }
     ensures shorter { length result.now ≤ length bytes.now }
@@ -150,7 +152,7 @@ fn after_underscores(bytes: &[u8]) -> &[u8]
     &[]
 }
 
-/// The radix by the prefix, and what stands behind the prefix and its underscores.
+/// The radix by the prefix, and the bytes after the prefix and its underscores.
 fn after_prefix(bytes: &[u8]) -> (Radix, &[u8])
     ensures radix { result.0 ≡ radix_by (prefix_of bytes.now) }
     ensures rest { result.1.now ≡ rest_by (prefix_of bytes.now) bytes.now }
@@ -164,9 +166,9 @@ fn after_prefix(bytes: &[u8]) -> (Radix, &[u8])
 
 /// The radix and the views of a literal, or why the bytes are none.
 ///
-/// Where `signed`, one `-` in front is the literal's sign. A prefix `0b`, `0o` or `0x` names the radix, which is 10 without
-/// one. Underscores may stand behind a prefix and behind a digit of their part. The views pass over them. The error is
-/// never `Overflow`. At most 2 steps a byte and 2 more are taken, and none for the bytes in front of the rest.
+/// Where `signed`, one leading `-` is the literal's sign. A prefix `0b`, `0o` or `0x` names the radix, which is 10 without
+/// one. Underscores are allowed after a prefix and after a digit of their part. The views pass over them. The error is
+/// never `Overflow`. At most 2 steps a byte and 2 more are taken, and none for the bytes before the rest.
 pub fn scan_lit<'a, L: Ledger>(
     bytes: &'a [u8],
     signed: bool,
@@ -176,6 +178,7 @@ pub fn scan_lit<'a, L: Ledger>(
     ensures cause { IfErr result (λ kind. HasLiteralCause signed bytes.now kind) }
     ensures radix { IfOk result (λ r. r.0 ≡ literal_radix signed bytes.now) }
     ensures value { IfOk result (λ r. (p : Parts) → HasLiteral signed bytes.now p → IsScanned r.0 p r.1.neg r.1.whole r.1.fraction r.1.bit_shift) }
+    ensures counted { IfOk result (λ r. steps.old + length (literal_rest signed bytes.now) ≤ steps.new) }
     ensures cost { steps.new ≤ steps.old + 2 * length bytes.now + 2 }
 {
     let (neg, unsigned) = after_sign(bytes, signed);

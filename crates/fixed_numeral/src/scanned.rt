@@ -12,7 +12,7 @@ use crate::radix::Radix;
 use fixed_steps::Steps;
 use std::sync::ledger::Ledger;
 
-/// A numeral's sign, the digits in front of its point and behind it after the point was moved by the exponent, and the
+/// A numeral's sign, the digits before its point and after it once the exponent has moved the point, and the
 /// power of two, 0 to 3, that is left of the exponent.
 #[derive(Drop)]
 pub struct Scanned<'a> {
@@ -117,7 +117,7 @@ impl<'a> Scanned<'a> {
         self.neg
     }
 
-    /// The digits in front of the point.
+    /// The digits before the point.
     #[inline]
     pub fn whole(&self) -> DigitView<'a>
         ensures { result ≡ self.now.whole }
@@ -125,7 +125,7 @@ impl<'a> Scanned<'a> {
         self.whole.same()
     }
 
-    /// The digits behind the point.
+    /// The digits after the point.
     #[inline]
     pub fn fraction(&self) -> DigitView<'a>
         ensures { result ≡ self.now.fraction }
@@ -133,7 +133,7 @@ impl<'a> Scanned<'a> {
         self.fraction.same()
     }
 
-    /// The digits in front of the point, without a copy.
+    /// The digits before the point, without a copy.
     #[inline]
     pub fn whole_view(&self) -> &DigitView<'a>
         ensures { result.now ≡ self.now.whole }
@@ -141,7 +141,7 @@ impl<'a> Scanned<'a> {
         &self.whole
     }
 
-    /// The digits behind the point, without a copy.
+    /// The digits after the point, without a copy.
     #[inline]
     pub fn fraction_view(&self) -> &DigitView<'a>
         ensures { result.now ≡ self.now.fraction }
@@ -149,7 +149,7 @@ impl<'a> Scanned<'a> {
         &self.fraction
     }
 
-    /// The power of two that the digits are to be multiplied with.
+    /// The exponent s, 0 to 3: the digits are to be multiplied by 2^s.
     #[inline]
     pub fn bit_shift(&self) -> u32
         ensures { result ≡ self.now.bit_shift }

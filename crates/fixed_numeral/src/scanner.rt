@@ -24,25 +24,25 @@ use std::sync::ledger::Ledger;
 pub struct State {
     /// How many bytes the sign has.
     pub sign_len: u64,
-    /// How many digits stand in front of the point.
+    /// How many digits there are before the point.
     pub whole_len: u64,
-    /// How many digits stand behind the point.
+    /// How many digits there are after the point.
     pub fraction_len: u64,
     /// The magnitude of the exponent so far.
     pub magnitude: u64,
     /// Whether the sign is a minus.
     pub negative: bool,
-    /// Whether a point stands.
+    /// Whether there is a point.
     pub has_point: bool,
-    /// Whether a separator stands.
+    /// Whether there is a separator.
     pub has_separator: bool,
     /// Whether the separator scales by two.
     pub scales_by_two: bool,
-    /// Whether a sign may stand next.
+    /// Whether a sign may come next.
     pub sign_allowed: bool,
     /// Whether the exponent's sign is a minus.
     pub exponent_negative: bool,
-    /// Whether an exponent digit stands.
+    /// Whether there is an exponent digit.
     pub has_exponent_digit: bool,
 }
 
@@ -104,7 +104,7 @@ pub(crate) fn max_magnitude(minus: bool) -> u64
     if minus { 0x8000_0000 } else { 0x7fff_ffff }
 }
 
-/// The next byte, where no separator stands yet.
+/// The next byte, where there is no separator yet.
 fn mantissa_byte(state: State, radix: Radix, b: u8) -> Result<State, ParseErrorKind>
     requires separator { state.has_separator ≡ false }
     requires room { state.magnitude ≤ max_magnitude true }
@@ -149,7 +149,7 @@ fn mantissa_byte(state: State, radix: Radix, b: u8) -> Result<State, ParseErrorK
     }
 }
 
-/// The next byte behind a separator.
+/// The next byte after a separator.
 fn exponent_byte(state: State, radix: Radix, b: u8) -> Result<State, ParseErrorKind>
     requires separator { state.has_separator ≡ true }
     requires room { state.magnitude ≤ max_magnitude true }
@@ -197,7 +197,7 @@ pub(crate) fn transition(state: State, radix: Radix, b: u8) -> Result<State, Par
     }
 }
 
-/// How many digits of a base of at most 10 stand from a place on, in front of some other byte.
+/// How many digits of a base of at most 10 there are from a place on, before some other byte.
 fn low_digits(bytes: &[u8], base: u8, from: usize) -> usize
     requires base { base ≤ 10 }
     requires place { from ≤ length bytes.now }
@@ -211,11 +211,11 @@ fn low_digits(bytes: &[u8], base: u8, from: usize) -> usize
     at - from
 }
 
-/// How many bytes a text has at least whose decimal digits are looked at eight at a time. With as many, mostly a whole eight of
-/// them stand on one side of the point; with fewer, the looking would cost more than it saves.
+/// Shortest text for which testing eight bytes at a time pays: with as many bytes there are mostly eight digits on one side
+/// of the point.
 const LONG: usize = 16;
 
-/// How many decimal digits stand from a place on, in front of some other byte.
+/// How many decimal digits there are from a place on, before some other byte.
 fn decimal_digits(bytes: &[u8], from: usize) -> usize
     requires place { from ≤ length bytes.now }
     ensures within { from + result ≤ length bytes.now }
@@ -232,7 +232,7 @@ fn decimal_digits(bytes: &[u8], from: usize) -> usize
     at - from
 }
 
-/// How many digits of radix 16 stand from a place on, in front of some other byte.
+/// How many digits of radix 16 there are from a place on, before some other byte.
 fn hex_digits(bytes: &[u8], from: usize) -> usize
     requires place { from ≤ length bytes.now }
     ensures within { from + result ≤ length bytes.now }
@@ -245,7 +245,7 @@ fn hex_digits(bytes: &[u8], from: usize) -> usize
     at - from
 }
 
-/// How many digits of the radix stand from a place on, in front of some other byte.
+/// How many digits of the radix there are from a place on, before some other byte.
 fn digits_at(bytes: &[u8], radix: Radix, from: usize) -> usize
     requires place { from ≤ length bytes.now }
     ensures within { from + result ≤ length bytes.now }
@@ -259,7 +259,7 @@ fn digits_at(bytes: &[u8], radix: Radix, from: usize) -> usize
     }
 }
 
-/// How many mantissa digits stand from a place on.
+/// How many mantissa digits there are from a place on.
 fn mantissa_digits(state: State, bytes: &[u8], radix: Radix, from: usize) -> usize
     requires place { from ≤ length bytes.now }
     ensures within { from + result ≤ length bytes.now }
@@ -273,7 +273,7 @@ fn mantissa_digits(state: State, bytes: &[u8], radix: Radix, from: usize) -> usi
     }
 }
 
-/// The state behind so many mantissa digits more.
+/// The state after this many mantissa digits more.
 fn after_digits(state: State, count: u64) -> State
     requires separator { 0 < count → state.has_separator ≡ false }
     requires counts { state.whole_len + state.fraction_len + count < 2 ^ 64 }
@@ -340,7 +340,7 @@ fn after_exponent_digits(state: State, bytes: &[u8], from: usize) -> (State, usi
     (next, at)
 }
 
-/// The state after all bytes. Mantissa digits are taken together, and then the byte behind them.
+/// The state after all bytes. Digits are taken together, and then the byte after them.
 pub(crate) fn read<L: Ledger>(
     bytes: &[u8],
     radix: Radix,
@@ -386,7 +386,7 @@ pub(crate) fn check_complete(state: State) -> Result<State, ParseErrorKind>
     }
 }
 
-/// So many bytes from a place on, which stand there if there are any.
+/// This many bytes from a place on; where there are none, the place may lie past the end.
 pub(crate) fn slice_at(bytes: &[u8], from: usize, count: usize) -> &[u8]
     requires { 0 < count → from + count ≤ length bytes.now }
     ensures { result.now ≡ take count (drop from bytes.now) }
@@ -398,7 +398,7 @@ pub(crate) fn slice_at(bytes: &[u8], from: usize, count: usize) -> &[u8]
     }
 }
 
-/// The same bytes, whose count is known to be below 2^63 behind a call.
+/// Identity. Calling it gives the proof the bound on the slice's length.
 pub(crate) fn same_bytes(bytes: &[u8]) -> &[u8]
     ensures { result.now ≡ bytes.now }
 {
@@ -434,7 +434,7 @@ fn digit_views<'a, L: Ledger>(
     )
 }
 
-/// The same, apart from the path of most numerals, which have no exponent.
+/// What `digit_views` answers, apart from the path of most numerals, which have no exponent.
 #[inline(never)]
 fn moved_digit_views<'a, L: Ledger>(
     bytes: &'a [u8],

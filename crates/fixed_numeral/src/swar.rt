@@ -25,7 +25,7 @@ pub(crate) fn word_at(bytes: &[u8], at: usize) -> u64
 }
 
 /// Whether each of the eight bytes of a word is a decimal digit. The upper half of each is 3 from '0' on to the
-/// sixth byte behind '9', and with 6 added it is still 3 for the digits alone.
+/// sixth byte after '9', and with 6 added it is still 3 for the digits alone.
 #[inline(always)]
 pub(crate) fn are_decimal(word: u64) -> bool
     ensures { (bs : List ℕ) → length bs ≡ 8 → AllBelowBase 256 bs → word ≡ number_l 256 bs → IsTrue result → AllDigits 10 bs }
@@ -34,8 +34,8 @@ pub(crate) fn are_decimal(word: u64) -> bool
         && ((word + 0x0606_0606_0606_0606) & 0xf0f0_f0f0_f0f0_f0f0) == 0x3030_3030_3030_3030
 }
 
-/// The values of eight digits, each in the byte where the digit stands. A letter is told by the bit 64, and stands 9 places
-/// behind 16 times a number.
+/// The values of eight digits, each in the byte of its digit. A letter has the bit 64, and the low half of its byte is 9
+/// less than its value.
 #[inline(always)]
 fn digit_values(word: u64) -> u64
     ensures { (bs : List ℕ) → length bs ≡ 8 → length (digits_in bs) ≡ length bs → word ≡ number_l 256 bs → result ≡ number_l 256 (digits_in bs) }
@@ -114,7 +114,7 @@ pub(crate) fn last_decimals(word: u64, count: usize) -> Option<u64>
 }
 
 /// The number that the first digits of a slice spell in a base, fewer than eight, where each of its bytes is a digit, and
-/// there are at least eight. The word is moved up until zeros stand in front of them.
+/// there are at least eight. The word is moved up until there are zeros before them.
 #[inline(always)]
 fn number_of_first(bytes: &[u8], count: usize, base: u64) -> u64
     requires long { 8 ≤ length bytes.now }
@@ -131,8 +131,8 @@ fn number_of_first(bytes: &[u8], count: usize, base: u64) -> u64
     number_of_eight(digit_values(word_at(bytes, 0)) << (64 - 8 * count), base)
 }
 
-/// The number that eight digits or more spell in a base, where each byte is a digit. Eight are taken at a time, behind the few
-/// in front that are left over.
+/// The number that eight digits or more spell in a base, where each byte is a digit. Eight are taken at a time, after the
+/// first few that are left over.
 #[inline(always)]
 fn number_by_eights(bytes: &[u8], base: u64) -> u64
     requires long { 8 ≤ length bytes.now }
@@ -168,7 +168,7 @@ pub(crate) fn long_number(bytes: &[u8], base: u64) -> u64
     number_by_eights(bytes, base)
 }
 
-/// The same in base 10, whose powers are constants then.
+/// What `long_number` answers in base 10, whose powers are then constants.
 pub(crate) fn long_decimal(bytes: &[u8]) -> u64
     requires long { 8 ≤ length bytes.now }
     requires plain { length (digits_in bytes.now) ≡ length bytes.now }

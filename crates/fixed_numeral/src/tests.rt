@@ -1,213 +1,16 @@
 //! What texts read as. The kinds and digits are those of worked examples, or follow from the rule that a row names.
 
-ghost use Rattle.std.specs.Prelude.{◌≡◌, ◌<◌, ◌^◌, ◌≤◌};
-
 use crate::error::{ParseErrorKind, ParseFixedError};
 use crate::radix::Radix;
-use crate::scanned::Scanned;
-use crate::{DigitView, scan, scan_lit};
-use fixed_steps::Steps;
-use std::marker::Brand;
-use std::sync::ledger::{Blank, Ledger};
+use crate::{CompactNumeral, ShortDecimal};
 use std::test::Fail;
 
-/// Whether the view's digits are those of the text, in radix 16.
-fn shows<L: Ledger>(view: &DigitView, digits: &[u8], steps: &mut Steps<L>) -> bool {
-    let mut rest = view.same();
-    for digit in digits {
-        match rest.take(steps) {
-            Some((found, others)) => {
-                if char::from(*digit).to_digit(16) != Some(u32::from(found)) {
-                    return false;
-                }
-                rest = others;
-            }
-            None => return false,
-        }
-    }
-    rest.is_empty()
-}
+mod support;
 
-/// What a numeral is to read as.
-#[derive(Clone, Copy)]
-struct Views {
-    neg: bool,
-    whole: &'static str,
-    fraction: &'static str,
-    bits: u32,
-}
-
-fn spelled_by(whole: &'static str, fraction: &'static str, bits: u32) -> Views {
-    Views {
-        neg: false,
-        whole,
-        fraction,
-        bits,
-    }
-}
-
-fn fits<L: Ledger>(
-    found: &Scanned,
-    neg: bool,
-    whole: &[u8],
-    fraction: &[u8],
-    bits: u32,
-    steps: &mut Steps<L>,
-) -> bool {
-    found.neg() == neg
-        && found.bit_shift() == bits
-        && shows(&found.whole(), whole, steps)
-        && shows(&found.fraction(), fraction, steps)
-}
-
-fn reads_over<L: Ledger>(
-    radix: Radix,
-    text: &[u8],
-    neg: bool,
-    whole: &[u8],
-    fraction: &[u8],
-    bits: u32,
-    blank: Blank,
-) -> bool
-    requires name { blank.name ≡ L.name }
-    requires parts { blank.parts ≡ L.parts }
-    requires backed { 0 < L.parts }
-{
-    let mut steps: Steps<L> = Steps::new(blank);
-    match scan(text, radix, &mut steps) {
-        Ok(found) => fits(&found, neg, whole, fraction, bits, &mut steps),
-        Err(_error) => false,
-    }
-}
-
-fn reads(radix: Radix, text: &str, want: Views) -> bool {
-    let whole = want.whole.as_bytes();
-    let fraction = want.fraction.as_bytes();
-    reads_over::<Brand>(
-        radix,
-        text.as_bytes(),
-        want.neg,
-        whole,
-        fraction,
-        want.bits,
-        Blank::new(1),
-    )
-}
-
-fn refused_over<L: Ledger>(radix: Radix, text: &[u8], blank: Blank) -> Option<ParseErrorKind>
-    requires name { blank.name ≡ L.name }
-    requires parts { blank.parts ≡ L.parts }
-    requires backed { 0 < L.parts }
-{
-    let mut steps: Steps<L> = Steps::new(blank);
-    match scan(text, radix, &mut steps) {
-        Ok(_found) => None,
-        Err(error) => Some(error.kind()),
-    }
-}
-
-fn refused_bytes(radix: Radix, text: &[u8]) -> Option<ParseErrorKind> {
-    refused_over::<Brand>(radix, text, Blank::new(1))
-}
-
-fn refused(radix: Radix, text: &str) -> Option<ParseErrorKind> {
-    refused_bytes(radix, text.as_bytes())
-}
-
-fn lengths_over<L: Ledger>(text: &[u8], blank: Blank) -> Option<(u64, u64)>
-    requires name { blank.name ≡ L.name }
-    requires parts { blank.parts ≡ L.parts }
-    requires backed { 0 < L.parts }
-{
-    let mut steps: Steps<L> = Steps::new(blank);
-    match scan(text, Radix::Dec, &mut steps) {
-        Ok(found) => Some((found.whole_view().len(), found.fraction_view().len())),
-        Err(_error) => None,
-    }
-}
-
-fn lengths(text: &[u8]) -> Option<(u64, u64)> {
-    lengths_over::<Brand>(text, Blank::new(1))
-}
-
-fn literal_over<L: Ledger>(
-    signed: bool,
-    text: &[u8],
-    radix: Radix,
-    neg: bool,
-    whole: &[u8],
-    fraction: &[u8],
-    bits: u32,
-    blank: Blank,
-) -> bool
-    requires name { blank.name ≡ L.name }
-    requires parts { blank.parts ≡ L.parts }
-    requires backed { 0 < L.parts }
-{
-    let mut steps: Steps<L> = Steps::new(blank);
-    match scan_lit(text, signed, &mut steps) {
-        Ok((found_radix, found)) => {
-            found_radix == radix && fits(&found, neg, whole, fraction, bits, &mut steps)
-        }
-        Err(_error) => false,
-    }
-}
-
-fn literal(signed: bool, text: &str, radix: Radix, want: Views) -> bool {
-    let whole = want.whole.as_bytes();
-    let fraction = want.fraction.as_bytes();
-    literal_over::<Brand>(
-        signed,
-        text.as_bytes(),
-        radix,
-        want.neg,
-        whole,
-        fraction,
-        want.bits,
-        Blank::new(1),
-    )
-}
-
-fn no_literal_over<L: Ledger>(signed: bool, text: &[u8], blank: Blank) -> Option<ParseErrorKind>
-    requires name { blank.name ≡ L.name }
-    requires parts { blank.parts ≡ L.parts }
-    requires backed { 0 < L.parts }
-{
-    let mut steps: Steps<L> = Steps::new(blank);
-    match scan_lit(text, signed, &mut steps) {
-        Ok((_radix, _found)) => None,
-        Err(error) => Some(error.kind()),
-    }
-}
-
-fn no_literal(signed: bool, text: &str) -> Option<ParseErrorKind> {
-    no_literal_over::<Brand>(signed, text.as_bytes(), Blank::new(1))
-}
-
-fn first_over<L: Ledger>(text: &[u8], blank: Blank) -> Option<(u64, u64)>
-    requires name { blank.name ≡ L.name }
-    requires parts { blank.parts ≡ L.parts }
-    requires backed { 0 < L.parts }
-{
-    let mut steps: Steps<L> = Steps::new(blank);
-    match scan(text, Radix::Hex, &mut steps) {
-        Ok(found) => {
-            let whole = found.whole_view();
-            let alone = whole.first_number(16, 4, &mut steps);
-            let (number, rest) = whole.take_number(16, 4, &mut steps);
-            if number == alone {
-                Some((number, rest.len()))
-            } else {
-                None
-            }
-        }
-        Err(_error) => None,
-    }
-}
-
-fn first(text: &str) -> Option<(u64, u64)> {
-    first_over::<Brand>(text.as_bytes(), Blank::new(1))
-}
+use support::{
+    Views, compact, first, kind_of_bad, lengths, literal, no_literal, reads, refused,
+    refused_bytes, short, short_with, spelled_by,
+};
 
 #[test]
 fn point_is_moved_and_zeros_are_stripped(rt: HostRuntime) {
@@ -237,7 +40,7 @@ fn point_is_moved_and_zeros_are_stripped(rt: HostRuntime) {
 }
 
 #[test]
-fn each_kind_in_each_radix(rt: HostRuntime) {
+fn each_radix_reports_each_kind(rt: HostRuntime) {
     for radix in [Radix::Bin, Radix::Oct, Radix::Dec, Radix::Hex] {
         for (text, kind) in [
             (b"g".as_slice(), ParseErrorKind::InvalidDigit),
@@ -260,18 +63,8 @@ fn each_kind_in_each_radix(rt: HostRuntime) {
     }
 }
 
-/// Why so many ones, at most 24, are no numeral once another byte stands in the place of one of them.
-fn kind_of_bad(digits: usize, place: usize, bad: u8) -> Option<ParseErrorKind> {
-    let mut text = [b'1'; 24];
-    let end = digits.min(24);
-    if place < end {
-        text[place] = bad;
-    }
-    refused_bytes(Radix::Dec, &text[..end])
-}
-
 #[test]
-fn other_byte_among_digits(rt: HostRuntime) {
+fn another_byte_among_digits_is_reported(rt: HostRuntime) {
     for digits in [7, 8, 9, 15, 16, 17, 23, 24] {
         assert_eq!(rt; kind_of_bad(digits, digits, b'/'), None);
         for place in 0..digits {
@@ -286,7 +79,7 @@ fn other_byte_among_digits(rt: HostRuntime) {
 }
 
 #[test]
-fn long_runs_of_digits(rt: HostRuntime) {
+fn long_runs_of_digits_are_read(rt: HostRuntime) {
     for (text, whole, fraction) in [
         ("1234567", 7, 0),
         ("12345678", 8, 0),
@@ -306,7 +99,7 @@ fn long_runs_of_digits(rt: HostRuntime) {
 }
 
 #[test]
-fn refused_by_radix(rt: HostRuntime) {
+fn each_radix_refuses_what_it_has_no_use_for(rt: HostRuntime) {
     for (radix, text, kind) in [
         (Radix::Bin, "2", ParseErrorKind::InvalidDigit),
         (Radix::Oct, "8", ParseErrorKind::InvalidDigit),
@@ -325,7 +118,7 @@ fn refused_by_radix(rt: HostRuntime) {
 }
 
 #[test]
-fn exponents_at_the_ends(rt: HostRuntime) {
+fn exponents_at_the_ends_of_their_range_move_the_point(rt: HostRuntime) {
     assert_eq!(rt; lengths(b"1e2147483647"), Some((2147483648, 0)));
     assert_eq!(rt; lengths(b"1e-2147483648"), Some((0, 2147483648)));
     assert_eq!(rt; lengths(b"0.5e-2147483648"), Some((0, 2147483649)));
@@ -334,7 +127,7 @@ fn exponents_at_the_ends(rt: HostRuntime) {
 }
 
 #[test]
-fn million_zeros(rt: HostRuntime) -> Result<(), Fail> {
+fn a_million_zeros_count_for_nothing(rt: HostRuntime) -> Result<(), Fail> {
     let mut text = Vec::new(rt.alloc());
     for _i in 0..1_000_000 {
         text.push(b'0')?;
@@ -346,14 +139,14 @@ fn million_zeros(rt: HostRuntime) -> Result<(), Fail> {
 }
 
 #[test]
-fn digits_in_bulk(rt: HostRuntime) {
+fn digits_are_taken_in_bulk(rt: HostRuntime) {
     assert_eq!(rt; first("12aBcd"), Some((0x12ab, 2)));
     assert_eq!(rt; first("f@5"), Some((0xf000, 2)));
     assert_eq!(rt; first("7"), Some((7, 0)));
 }
 
 #[test]
-fn literals(rt: HostRuntime) {
+fn literals_are_read(rt: HostRuntime) {
     for (text, radix, want) in [
         ("0b_111e-2", Radix::Bin, spelled_by("1", "11", 0)),
         ("0_.017_5_e+0_2", Radix::Dec, spelled_by("1", "75", 0)),
@@ -374,7 +167,7 @@ fn literals(rt: HostRuntime) {
 }
 
 #[test]
-fn no_literals(rt: HostRuntime) {
+fn what_is_no_literal_is_refused(rt: HostRuntime) {
     for (signed, text, kind) in [
         (false, "-0x1.C", ParseErrorKind::MisplacedSign),
         (false, "+1", ParseErrorKind::MisplacedSign),
@@ -393,7 +186,7 @@ fn no_literals(rt: HostRuntime) {
 }
 
 #[test]
-fn words(rt: HostRuntime) -> Result<(), Fail> {
+fn each_kind_has_its_message(rt: HostRuntime) -> Result<(), Fail> {
     for (kind, words) in [
         (
             ParseErrorKind::InvalidDigit,
@@ -427,4 +220,173 @@ fn words(rt: HostRuntime) -> Result<(), Fail> {
         assert!(rt; text.as_str() == words, "at {words}");
     }
     Ok(())
+}
+
+#[test]
+fn exponents_of_many_digits_are_read(rt: HostRuntime) {
+    for (text, whole, fraction) in [
+        ("1e00000000000000000000000000000005", 6, 0),
+        ("1e+0000000000000005", 6, 0),
+        ("1e-000000000000000000000003", 0, 3),
+        ("1e02147483647", 2147483648, 0),
+    ] {
+        assert_eq!(rt;
+            lengths(text.as_bytes()),
+            Some((whole, fraction)),
+            "at {text}"
+        );
+    }
+    for (text, kind) in [
+        ("1e2147483648", ParseErrorKind::ExpOverflow),
+        ("1e0000000021474836480", ParseErrorKind::ExpOverflow),
+        ("1e-00000000:", ParseErrorKind::ExpInvalidDigit),
+        ("1e0000000:", ParseErrorKind::ExpInvalidDigit),
+    ] {
+        assert_eq!(rt; refused(Radix::Dec, text), Some(kind), "at {text}");
+    }
+}
+
+#[test]
+fn short_decimals_are_read(rt: HostRuntime) {
+    for (text, negative, whole, fraction, places) in [
+        (b"7".as_slice(), false, 7, 0, 0),
+        (b"+7", false, 7, 0, 0),
+        (b"-0.001", true, 0, 1, 3),
+        (b"9.38", false, 9, 38, 2),
+        (b"5.", false, 5, 0, 0),
+        (b"00.50", false, 0, 50, 2),
+        (b"12345678", false, 12345678, 0, 0),
+        (b"-12345678", true, 12345678, 0, 0),
+        (b".29632730058", false, 0, 29632730058, 11),
+        (b"1234.567", false, 1234, 567, 3),
+        (b"12345678.1234567", false, 12345678, 1234567, 7),
+        (b"123456789.5", false, 123456789, 5, 1),
+        (b"-1234567890.1234", true, 1234567890, 1234, 4),
+        (b"1234567890123456", false, 1234567890123456, 0, 0),
+        (b".123456789012345", false, 0, 123456789012345, 15),
+    ] {
+        let want = ShortDecimal {
+            negative,
+            whole,
+            fraction,
+            places,
+        };
+        assert!(rt; short(text) == Some(want));
+    }
+}
+
+#[test]
+fn what_is_no_short_decimal_is_left_alone(rt: HostRuntime) {
+    for text in [
+        b"".as_slice(),
+        b"-",
+        b".",
+        b"+.",
+        b"1.2.3",
+        b"1e5",
+        b"--1",
+        b"1 ",
+        b"1234567e1",
+        b"0x10000000",
+        b"123456789.123e45",
+        b"12345678901234567",
+    ] {
+        assert!(rt; short(text) == None);
+    }
+    for digits in [1, 4, 7, 8, 9, 12, 15, 16] {
+        for place in 0..digits {
+            for other in [b'/', b':', b'e', b' ', 0, 0x80, 0xb0, 0xba, 0xff] {
+                assert!(rt; short_with(digits, place, other) == None);
+            }
+        }
+    }
+}
+
+#[test]
+fn compact_numerals_are_read(rt: HostRuntime) {
+    for (radix, text, digits, places, exponent, scales_by_two) in [
+        (Radix::Dec, "1e2147483647", 1, 0, 2147483647, false),
+        (Radix::Dec, "00.00012@-7", 12, 5, -7, false),
+        (Radix::Dec, "1.5e-2147483648", 15, 1, -2147483648, false),
+        (
+            Radix::Dec,
+            "1.5E+0000000000000000000000005",
+            15,
+            1,
+            5,
+            false,
+        ),
+        (
+            Radix::Dec,
+            "0000000000000000000000000000000000000000000000001",
+            1,
+            0,
+            0,
+            false,
+        ),
+        (
+            Radix::Dec,
+            "12345678901234567890.123456789012345678",
+            12345678901234567890123456789012345678,
+            18,
+            0,
+            false,
+        ),
+        (
+            Radix::Dec,
+            "99999999999999999999999999999999999999",
+            99999999999999999999999999999999999999,
+            0,
+            0,
+            false,
+        ),
+        (Radix::Hex, "ff.8p-3", 0xff8, 1, -3, true),
+        (Radix::Hex, "FE@10", 0xfe, 0, 10, false),
+        (Radix::Hex, "1e5", 0x1e5, 0, 0, false),
+        (Radix::Oct, "7.7p5", 63, 1, 5, true),
+        (Radix::Oct, "7.7e5", 63, 1, 5, false),
+        (Radix::Bin, "101.1P1", 11, 1, 1, true),
+    ] {
+        let want = CompactNumeral {
+            negative: false,
+            digits,
+            places,
+            exponent,
+            scales_by_two,
+        };
+        assert!(rt; compact(radix, text) == Some(want), "at {text}");
+    }
+    let ones =
+        "11111111111111111111111111111111111111111111111111111111111111111111111111111111111111111111111111111111111111111111111111111111";
+    let want = CompactNumeral {
+        negative: false,
+        digits: u128::MAX,
+        places: 0,
+        exponent: 0,
+        scales_by_two: false,
+    };
+    assert!(rt; compact(Radix::Bin, ones) == Some(want));
+}
+
+#[test]
+fn what_is_no_compact_numeral_is_left_alone(rt: HostRuntime) {
+    for (radix, text) in [
+        (Radix::Dec, "100000000000000000000000000000000000000"),
+        (Radix::Dec, "1.00000000000000000000000000000000000000"),
+        (Radix::Hex, "100000000000000000000000000000000"),
+        (Radix::Dec, "1e2147483648"),
+        (Radix::Dec, "1e-2147483649"),
+        (Radix::Dec, "1@"),
+        (Radix::Dec, "1@+"),
+        (Radix::Dec, "1e5x"),
+        (Radix::Dec, "1p5"),
+        (Radix::Hex, "g"),
+        (Radix::Oct, "8"),
+        (Radix::Bin, "1.2"),
+        (Radix::Dec, ".e5"),
+        (Radix::Dec, "1.5.5"),
+        (Radix::Dec, ""),
+    ] {
+        assert!(rt; compact(radix, text) == None, "at {text}");
+    }
 }

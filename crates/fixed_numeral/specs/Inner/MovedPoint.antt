@@ -6,23 +6,23 @@ use Rattle.fixed_numeral.specs.Spelled.{spelled, IsSameNumber}
 use Rattle.fixed_numeral.specs.Digits.{zeros}
 use Rattle.fixed_numeral.specs.Place.{NoLeadingZero, NoTrailingZero}
 
--- rest is ds without the zeros in front
+-- rest is ds without its leading zeros
 pub record IsWithoutLeading (ds rest : List ℕ) : Type 0 where
   pub count : ℕ
   pub split : ds ≡ zeros count ++ rest
   pub none : NoLeadingZero rest
 
--- rest is ds without the zeros behind
+-- rest is ds without its trailing zeros
 pub record IsWithoutTrailing (ds rest : List ℕ) : Type 0 where
   pub count : ℕ
   pub split : ds ≡ rest ++ zeros count
   pub none : NoTrailingZero rest
 
--- the number of digits in front of the point and behind it, times b to the power u - d
+-- the number of the digits before the point and after it, times b to the power u - d
 abbrev pub moved : ℕ → List ℕ → List ℕ → ℕ → ℕ → Fraction
 moved b whole fraction u d = record { num = number_from_digits b (whole ++ fraction) * b ^ u; den = b ^ d }
 
--- the digits W in front of the point and F behind it are those of w and r where the point goes up digits to the right and down digits to the left
+-- the digits W before the point and F after it are those of w and r where the point moves up digits to the right and down digits to the left
 pub record IsPlaced (w r W F : List ℕ) (up down : ℕ) : Type 0 where
   pub leading : NoLeadingZero W
   pub trailing : NoTrailingZero F

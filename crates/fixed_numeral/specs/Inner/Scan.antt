@@ -12,7 +12,7 @@ use Rattle.fixed_numeral.specs.declared.error.ParseErrorKind.TheVariants.{NoDigi
 abbrev pub max_magnitude : Bool → ℕ
 max_magnitude negative = if negative then 2 ^ 31 else 2 ^ 31 - 1
 
--- a sign may stand next
+-- a sign may come next
 abbrev pub is_fresh : Parts → Option Exponent → Bool
 is_fresh p None = is_none p.sign && (is_nil p.whole && is_none p.fraction)
 is_fresh p (Some e) = is_none e.sign && is_nil e.digits

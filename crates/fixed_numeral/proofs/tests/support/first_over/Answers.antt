@@ -1,5 +1,5 @@
 use Rattle.std.proofs.Common.{refl}
-use Rattle.fixed_numeral.proofs.tests.first_over.Goals as goal
+use Rattle.fixed_numeral.proofs.tests.support.first_over.Goals as goal
 
 pub first_number-alone-requires-clause-digits : goal.first_number-alone-requires-clause-digits
 first_number-alone-requires-clause-digits g c = let (p, h) = c.in-Ok.ensures.numeral.0 refl in rw c.whole_view-whole.ensures (c.in-Ok.ensures.value p h).whole_digits
