@@ -1,6 +1,6 @@
-//! A source over any reader and a sink over any writer. They tell the bytes that the reader has left and that the writer
-//! holds, where these tell them: readers and writers of memory do, the process's own streams do not. The source tells
-//! nothing of what it was asked for.
+//! A source over any reader and a sink over any writer. They expose the bytes that the reader has left and that the
+//! writer holds, where these are known: those of readers and writers of memory are, those of the process's own streams are
+//! not. The source doesn't expose what it was asked for.
 //!
 //! Each `Err` of the reader or the writer counts as a failure, an interrupted call too: a program that sets no handler
 //! for signals meets none. What a writer keeps for itself, as a `BufWriter` does, is written only once its owner flushes

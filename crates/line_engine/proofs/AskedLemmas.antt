@@ -2,12 +2,12 @@
 use Rattle.std.proofs.Common.{◌≡◌, ℕ, ◌+◌, ◌≤◌, Option, Some, None, Result, refl, sym, subst, arith}
 use Rattle.line_engine.specs.Asked.{Asked, AskedWithin, HasAsked, IsAskedWithin, count_given, longest_chunk, one_more}
 
--- so many bytes were given since then, and no read asked for too much
+-- this many bytes were given since then, and no read asked for too much
 pub record IsAskedSoFar (limit taken : ℕ) (old now : Asked) : Type 0 where
   pub given : now.given ≡ old.given + taken
   pub within : IsAskedWithin limit old now
 
--- and so where it is told
+-- and so where the source exposes it
 abbrev pub AskedSoFar : ℕ → ℕ → Option Asked → Option Asked → Type 0
 AskedSoFar limit taken None now = now ≡ None
 AskedSoFar limit taken (Some old) None = ⊥

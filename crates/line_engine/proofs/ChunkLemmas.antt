@@ -6,10 +6,10 @@ use Rattle.std.proofs.lemmas.Bool.{cases_lt}
 use Rattle.std.proofs.Math.Seq.{take-append-add}
 use Rattle.memchr.specs.Find.{NoneBefore, Nowhere, Passes, is_byte}
 use Rattle.line_engine.specs.Lines.{ended_lines, unended, last_line}
-use Rattle.line_engine.specs.Progress.{IsKept}
+use Rattle.line_engine.specs.Inner.Progress.{IsKept}
 use Rattle.line_engine.proofs.LineLemmas.{ended_lines-append, unended-append, ended_lines-unended, unended_none, ended_lines_at, unended_at, ended_lines_without, ended_lines_both}
 
--- the first newline of these bytes stands at this place
+-- the first newline of these bytes is at this place
 pub record EndsAt (bytes : List ℕ) (end : ℕ) : Type 0 where
   pub fits : end < length bytes
   pub cut : bytes ≡ take end bytes ++ 10 ∷ drop (end + 1) bytes
@@ -34,13 +34,13 @@ ends_at bytes end first here = record {
 pub ends_nowhere : (bytes : List ℕ) → Nowhere (Passes (is_byte 10) bytes) 0 (length bytes) → ended_lines bytes ≡ []
 ends_nowhere bytes none = ended_lines_without bytes (λ k below is. none k (omega arith) below is)
 
--- bytes behind a prefix that is kept
+-- bytes after a prefix that is kept
 pub take_kept : (n : ℕ) (xs ys : List ℕ) → take n (take n xs ++ ys) ≡ take n (xs ++ ys)
 take_kept zero xs ys = refl
 take_kept (suc n) [] ys = refl
 take_kept (suc n) (x ∷ xs) ys = ap (λ l. x ∷ l) (take_kept n xs ys)
 
--- the lines of bytes, and of a newline behind a piece of a line
+-- the lines of bytes, and of a newline after a piece of a line
 pub ended_lines_line : (bytes part more : List ℕ) → ended_lines part ≡ [] → ended_lines (bytes ++ (part ++ 10 ∷ more)) ≡ ended_lines bytes ++ (unended bytes ++ part) ∷ ended_lines more
 ended_lines_line bytes part more quiet =
     let none : ended_lines (unended bytes ++ part) ≡ [] = ended_lines_both (unended bytes) part (ended_lines-unended bytes) quiet in
@@ -89,7 +89,7 @@ pub same_lines : (whole piece prefix rest : List ℕ) → piece ≡ prefix ++ re
 same_lines whole piece prefix rest split quiet =
     ap (λ l. ended_lines (whole ++ l)) split ∙ ap ended_lines (sym (append_assoc whole prefix rest)) ∙ ended_lines_quiet (whole ++ prefix) rest quiet
 
--- and what is kept behind it
+-- and what is kept after it
 pub last_line_kept : (n : ℕ) (whole piece prefix rest line : List ℕ) → piece ≡ prefix ++ rest → line ≡ take n (unended (whole ++ prefix)) → ended_lines rest ≡ [] → take n (line ++ rest) ≡ take n (unended (whole ++ piece))
 last_line_kept n whole piece prefix rest line split kept quiet =
     ap (λ l. take n (l ++ rest)) kept ∙ take_kept n (unended (whole ++ prefix)) rest
@@ -110,11 +110,11 @@ none_kept (suc n) (b ∷ whole) some none = let no : ⊥ = cc in absurd no
 pub kept_unended : (n : ℕ) (bytes line : List ℕ) → line ≡ take n (unended bytes) → IsKept n (unended bytes) line
 kept_unended n bytes line is = record { quiet = ended_lines-unended bytes; prefix = is }
 
--- a part behind a line of which nothing is kept is the whole line
+-- a part after a line of which nothing is kept is the whole line
 pub whole_part : (n : ℕ) (whole kept part : List ℕ) → 0 < n → IsKept n whole kept → kept ≡ [] → part ≡ whole ++ part
 whole_part n whole kept part some is none = ap (λ l. l ++ part) (sym (none_kept n whole some (sym none ∙ is.prefix)))
 
--- and behind one of which some is kept it is kept with it
+-- and after one of which some is kept it is kept with it
 pub part_kept : (n : ℕ) (whole kept part appended slice : List ℕ) → IsKept n whole kept → appended ≡ take n (kept ++ part) → slice ≡ appended → slice ≡ take n (whole ++ part)
 part_kept n whole kept part appended slice is more same = same ∙ more ∙ ap (λ l. take n (l ++ part)) is.prefix ∙ take_kept n whole part
 

@@ -1,13 +1,13 @@
 -- What the next bytes of a chunk make of the line that is kept, and of its answers.
 use Rattle.std.proofs.Common.{◌≡◌, ℕ, ◌+◌, List, [], ◌∷◌, ◌++◌, take, drop, sym, ap, ◌∙◌, subst, append-nil, Option}
 use Rattle.line_engine.specs.Lines.{ended_lines, unended}
-use Rattle.line_engine.specs.Progress.{Answered, AnsweredLine, AnswersUntilFailure, StopsBefore, IsKept, Flushes, State}
+use Rattle.line_engine.specs.Inner.Progress.{Answered, AnsweredLine, AnswersUntilFailure, StopsBefore, IsKept, Flushes, State}
 use Rattle.line_engine.specs.AnswerText.{AnswerText}
 use Rattle.line_engine.proofs.AnsweredLemmas.{answered_none, answered_one, answered_both, broken_first, broken_none, broken_second}
 use Rattle.line_engine.proofs.ChunkLemmas.{EndsAt, Next, next, kept_unended, nothing_kept}
 use Rattle.line_engine.proofs.LineLemmas.{unended_none}
 
--- behind a line that hasn't ended this prefix of a chunk was fed: n bytes of the line are kept, and the lines that ended are answered
+-- after a line that hasn't ended this prefix of a chunk was fed: n bytes of the line are kept, and the lines that ended are answered
 pub record Fed (A : List ℕ → AnswerText → Type 0) (per_byte extra n : ℕ) (whole prefix line : List ℕ) (before after : State) : Type 0 where
   pub kept : line ≡ take n (unended (whole ++ prefix))
   pub answered : Answered A per_byte extra (ended_lines (whole ++ prefix)) before after

@@ -3,7 +3,7 @@ use Rattle.std.proofs.Common.{List, ℕ, [], ◌++◌, refl, sym, ap, ◌∙◌,
 use Rattle.std.proofs.KnownBytes.{Appends-trans, Appends-nil}
 use Rattle.std.specs.Prelude.{Option, Result, Ok, Err, OnErr, OnOk}
 use Rattle.std.specs.Io.KnownBytes.{Appends, Keeps}
-use Rattle.line_engine.specs.Progress.{Flushes}
+use Rattle.line_engine.specs.Inner.Progress.{Flushes}
 use Rattle.line_engine.specs.Output.{AppendsPrefix}
 
 Appends-kept : (a b : Option (List ℕ)) → Keeps a b → Appends a b []
@@ -58,11 +58,11 @@ flushes_both held more most held' held'' a b c first next = record {
   appends = Appends-trans a b c first.gone next.gone first.appends next.appends;
 }
 
--- what is held was written behind what passed
+-- what is gathered was written after what passed
 pub flushes_flushed : (held more held' : List ℕ) (a b c : Option (List ℕ)) → Flushes held more held' a b → Appends b c held' → Appends a c (held ++ more)
 flushes_flushed held more held' a b c first last = subst (Appends a c) (sym first.split) (Appends-trans a b c first.gone held' first.appends last)
 
--- a prefix of what is held and comes was written behind what passed
+-- a prefix of what is gathered and comes was written after what passed
 pub flushes_part : (held more held' most : List ℕ) (a b c : Option (List ℕ)) → Flushes held more held' a b → AppendsPrefix b c (held' ++ most) → AppendsPrefix a c ((held ++ more) ++ most)
 flushes_part held more held' most a b c first part =
     subst (AppendsPrefix a c) (sym (ap (λ l. l ++ most) first.split ∙ append_assoc first.gone held' most)) (part_second a b c first.gone (held' ++ most) first.appends part)

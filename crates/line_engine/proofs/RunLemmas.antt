@@ -5,7 +5,7 @@ use Rattle.std.specs.Io.KnownBytes.{Appends, Consumes, IsAtEnd}
 use Rattle.line_engine.specs.Failures.{HasFailed}
 use Rattle.line_engine.specs.Lines.{ended_lines, unended, last_line, lines, onto_first, onto_rest}
 use Rattle.line_engine.specs.Output.{AreAnswers, written_of}
-use Rattle.line_engine.specs.Progress.{Answered, AnswersUntilFailure, State, state, EndsLines, bytes_in}
+use Rattle.line_engine.specs.Inner.Progress.{Answered, AnswersUntilFailure, State, state, EndsLines, bytes_in}
 use Rattle.line_engine.specs.AnswerText.{AnswerText}
 use Rattle.line_engine.specs.Run.{AnswersAll, AnswersEnded, AnswersLimit, AnswersPrefix, AnswersUntilWriteFault, HasRun, HasFailures, Spends}
 use Rattle.line_engine.specs.declared.status.Status.{Status}
@@ -13,7 +13,7 @@ use Rattle.line_engine.specs.declared.status.Status.TheVariants.{Done, Faults, U
 use Rattle.line_engine.proofs.AnsweredLemmas.{answered_both, broken_second, bytes_in-append}
 use Rattle.line_engine.proofs.LineLemmas.{ended_lines-append, ended_newline, ended_other, unended_newline, unended_other}
 
--- each byte is in a line, ends one, or stands behind the last newline
+-- each byte is in a line, ends one, or follows the last newline
 first_in : (b : ℕ) (ls : List (List ℕ)) (rest : List ℕ) → bytes_in (onto_first b ls) + length (onto_first b ls) + length (onto_rest b ls rest) ≡ suc (bytes_in ls + length ls + length rest)
 first_in b [] rest = omega arith
 first_in b (line ∷ ls) rest = omega arith
@@ -63,7 +63,7 @@ prefix_of A per_byte extra ls written written' fault steps steps' broken = recor
   output = broken.part;
 }
 
--- what was written where nothing is held
+-- what was written where nothing is gathered
 pub written_out : (old new : Option (List ℕ)) (more : List ℕ) → (gone : List ℕ) → more ≡ gone ++ [] → Appends old new gone → Appends old new more
 written_out old new more gone split appends = subst (Appends old new) (sym (split ∙ append-nil gone)) appends
 

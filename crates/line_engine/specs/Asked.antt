@@ -21,7 +21,7 @@ abbrev pub count_given : {E : Type 0} → Result ℕ E → ℕ
 count_given (Ok n) = n
 count_given (Err _) = 0
 
--- where it is told, a read into a buffer of `room` bytes was added to it
+-- where the source exposes it, a read into a buffer of `room` bytes was added to it
 abbrev pub HasAsked : {E : Type 0} → Option Asked → Option Asked → ℕ → Result ℕ E → Type 0
 HasAsked None new room result = new ≡ None
 HasAsked (Some asked) new room result = new ≡ Some (one_more asked room (count_given result))
@@ -30,13 +30,13 @@ HasAsked (Some asked) new room result = new ≡ Some (one_more asked room (count
 abbrev pub longest_chunk : ℕ
 longest_chunk = 4096
 
--- as far as the two greatest numbers show, no read since then reached further than limit + 1 bytes behind those given before,
+-- as far as the two greatest numbers show, no read since then asked for a byte more than limit + 1 bytes after those given before,
 -- and none asked for more than a chunk
 pub record IsAskedWithin (limit : ℕ) (old new : Asked) : Type 0 where
   pub furthest : new.furthest ≤ max old.furthest (old.given + (limit + 1))
   pub longest : new.longest ≤ max old.longest longest_chunk
 
--- and so where it is told
+-- the bound on reads, where the source exposes what they asked for
 abbrev pub AskedWithin : ℕ → Option Asked → Option Asked → Type 0
 AskedWithin limit None new = new ≡ None
 AskedWithin limit (Some old) None = ⊥

@@ -1,7 +1,7 @@
 -- When a device may answer that it failed.
 use Rattle.std.specs.Prelude.{◌≡◌, ℕ, ◌+◌, ◌-◌, ◌^◌, ◌≤◌, min, Result, OnOk, OnErr}
 
--- a count of failures rose, or it stands at its last value
+-- a count of failures rose, or it is at its last value
 abbrev pub HasFailed : ℕ → ℕ → Type 0
 HasFailed before now = min (before + 1) (2 ^ 64 - 1) ≤ now
 

@@ -2,12 +2,12 @@ pub mod AnswerText
 pub mod Asked
 pub mod Failures
 pub mod Filled
+pub mod Inner
 pub mod LineLaws
 pub mod Lines
 pub mod Memory
 pub mod Output
 pub mod Program
-pub mod Progress
 pub mod Run
 pub mod Status
 pub mod WholeRun

@@ -6,7 +6,7 @@ use Rattle.line_engine.specs.Lines.{ended_lines, lines, unended}
 abbrev pub with_newline : List ℕ → List ℕ
 with_newline line = line ++ 10 ∷ []
 
--- the ended lines, each followed by a newline, and then what stands behind the last newline are the input again
+-- the ended lines, each followed by a newline, and then what follows the last newline are the input again
 abbrev pub LinesAreTheInput : Type 0
 LinesAreTheInput = (input : List ℕ) → flat_map with_newline (ended_lines input) ++ unended input ≡ input
 

@@ -78,7 +78,7 @@ HasFailures read read' write write' WriteFault = HasFailed write write'
 HasFailures read read' write write' NoMemory = NoFailure read read' write write'
 HasFailures read read' write write' TooLong = NoFailure read read' write write'
 
--- at most one byte past the limit was taken, and at most so many steps for each byte taken and for each line of them
+-- at most one byte past the limit was taken, and at most per_byte steps for each byte taken and extra for each line of them
 pub record Spends (limit per_byte extra : ℕ) (left left' : Option (List ℕ)) (steps steps' : ℕ) : Type 0 where
   pub bytes : List ℕ
   pub taken : Consumes left left' bytes

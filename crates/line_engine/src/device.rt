@@ -16,13 +16,13 @@ pub struct Failed;
 
 /// Where bytes come from.
 pub trait Source {
-    /// The bytes that are left, where the source tells them.
+    /// The bytes that are left, where the source exposes them.
     ghost left: { Self → Option (List ℕ) };
 
     /// How often a read has failed; it stays at the last value of u64.
     ghost failures: { Self → ℕ };
 
-    /// What its reads have asked for, where the source tells it: how many bytes they gave, the furthest byte that one asked
+    /// What its reads have asked for, where the source exposes it: how many bytes they gave, the furthest byte that one asked
     /// for, and the longest buffer of one.
     ghost asked: { Self → Option Asked };
 
@@ -40,7 +40,7 @@ pub trait Source {
 
 /// Where bytes go.
 pub trait Sink {
-    /// The bytes that were written, where the sink tells them.
+    /// The bytes that were written, where the sink exposes them.
     ghost written: { Self → Option (List ℕ) };
 
     /// How often a write has failed; it stays at the last value of u64.

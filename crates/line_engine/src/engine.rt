@@ -5,7 +5,7 @@ ghost use Rattle.line_engine.specs.Asked.{AskedWithin};
 ghost use Rattle.line_engine.specs.Failures.{HasFailed};
 ghost use Rattle.line_engine.specs.Lines.{kept_length, last_line, lines};
 ghost use Rattle.line_engine.specs.Output.{AppendsPrefix, AreAnswers, written_of};
-ghost use Rattle.line_engine.specs.Progress.{EndsLines, IsKept, state};
+ghost use Rattle.line_engine.specs.Inner.Progress.{EndsLines, IsKept, state};
 ghost use Rattle.line_engine.specs.AnswerText.{AnswerText};
 ghost use Rattle.line_engine.specs.Run.{HasFailures, HasRun, Spends, WritesOutput};
 
@@ -98,7 +98,7 @@ pub fn run_lines<R: LineRule<L>, S: Source, K: Sink, L: Ledger>(
     requires some { 1 ≤ limit }
     requires most { limit ≤ MAX_LIMIT }
 
-    // What was taken and what stands written, by status.
+    // What was taken and what was written, by status.
     ensures run { HasRun (R.Answers rule.now) limit (S.left source.old) (S.left source.new) (K.written sink.old) (K.written sink.new) result }
 
     // Which count of failures rose, by status.
@@ -110,7 +110,7 @@ pub fn run_lines<R: LineRule<L>, S: Source, K: Sink, L: Ledger>(
         → ¬ HasFailed (S.failures source.old) (S.failures source.new) → ¬ HasFailed (K.failures sink.old) (K.failures sink.new)
         → (result ≡ Status.NoMemory) ⊎ WritesOutput (R.Answers rule.now) input (K.written sink.old) (K.written sink.new) result }
 
-    // A longer input is told so.
+    // A longer input is reported as too long.
     ensures too_long { (input : List ℕ) → S.left source.old ≡ Some input → limit < length input
         → ¬ HasFailed (S.failures source.old) (S.failures source.new) → ¬ HasFailed (K.failures sink.old) (K.failures sink.new)
         → (result ≡ Status.NoMemory) ⊎ (result ≡ Status.TooLong) }

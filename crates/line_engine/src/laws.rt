@@ -2,7 +2,7 @@
 
 ghost use Rattle.line_engine.specs.LineLaws.{CutAnywhere, LinesAreTheInput, NoLineHoldsNewline};
 
-/// The ended lines, each followed by a newline, and what stands behind the last newline are the input again.
+/// The ended lines, each followed by a newline, and what follows the last newline are the input again.
 pub fn lines_are_the_input()
     ensures { LinesAreTheInput }
 {}
@@ -12,7 +12,7 @@ pub fn no_line_holds_newline()
     ensures { NoLineHoldsNewline }
 {}
 
-/// An input that is cut in two anywhere and gone on with has the same lines.
+/// An input that is cut in two anywhere has the lines of its two parts, where what is unended in the first begins the second.
 pub fn cut_anywhere()
     ensures { CutAnywhere }
 {}

@@ -1,10 +1,10 @@
-//! A source and a sink in memory, which fail at the calls that they are told.
+//! A source and a sink in memory, which fail at the calls that they were given.
 
 ghost use Rattle.std.specs.Prelude.{◌≡◌, ◌≤◌, ◌<◌, Some, [], length, take, drop};
 
 use crate::{Failed, Sink, Source};
 
-/// A source over bytes in memory. It tells the bytes that are left and what its reads have asked for.
+/// A source over bytes in memory. It exposes the bytes that are left and what its reads have asked for.
 #[derive(Drop)]
 pub struct MemorySource {
     bytes: Vec<u8>,
@@ -77,7 +77,7 @@ impl Source for MemorySource {
 
     ghost asked = { λ s. Some (asked_of s) };
 
-    /// It fails exactly at the calls that it was told. Otherwise it moves as many bytes as the smallest of `most`, the
+    /// It fails exactly at the calls that it was given. Otherwise it moves as many bytes as the smallest of `most`, the
     /// buffer's length and the count of bytes left. A call on an empty buffer has no number. Each call, also one that
     /// fails, is kept in what was asked for.
     fn read(&mut self, buf: &mut [u8]) -> Result<usize, Failed>
@@ -167,7 +167,7 @@ impl Sink for MemorySink {
 
     ghost failures = { λ s. s.failures };
 
-    /// It fails exactly at the calls that it was told, and where the piece isn't empty and the room is filled. Otherwise
+    /// It fails exactly at the calls that it was given, and where the piece isn't empty and the room is filled. Otherwise
     /// it moves as many bytes as the smallest of `most`, the piece's length and the room that is left.
     fn write(&mut self, piece: &[u8]) -> Result<usize, Failed>
         ensures bound { WritesAtMost result piece.now }

@@ -4,7 +4,7 @@ ghost use Rattle.std.specs.Prelude.{◌≡◌, ◌≤◌, ◌<◌, ◌↔◌, Is
 ghost use Rattle.std.specs.Io.KnownBytes.{Appends};
 ghost use Rattle.line_engine.specs.Failures.{FailsOnlyCounted};
 ghost use Rattle.line_engine.specs.Lines.{ended_lines, kept_length, unended, last_line};
-ghost use Rattle.line_engine.specs.Progress.{Answered, AnsweredLine, AnswersUntilFailure, StopsBefore, IsKept, Flushes, state};
+ghost use Rattle.line_engine.specs.Inner.Progress.{Answered, AnsweredLine, AnswersUntilFailure, StopsBefore, IsKept, Flushes, state};
 ghost use Rattle.line_engine.specs.Output.{AppendsPrefix};
 
 use crate::line_buffer::LineBuffer;

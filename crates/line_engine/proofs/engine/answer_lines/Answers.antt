@@ -3,7 +3,7 @@ use Rattle.std.proofs.lemmas.Grind.{common_steps}
 use Rattle.std.proofs.lemmas.List.{take_all, length-take}
 use Rattle.std.proofs.KnownBytes.{Consumes-trans, Consumes-nil}
 use Rattle.line_engine.specs.Lines.{ended_lines, kept_length, last_line, unended}
-use Rattle.line_engine.specs.Progress.{Answered, AnswersUntilFailure, IsKept, state}
+use Rattle.line_engine.specs.Inner.Progress.{Answered, AnswersUntilFailure, IsKept, state}
 use Rattle.line_engine.proofs.AnsweredLemmas.{answered_none}
 use Rattle.line_engine.proofs.AskedLemmas.{so_far_more, so_far_none, so_far_within}
 use Rattle.line_engine.proofs.ChunkLemmas.{kept_unended, nothing_kept, within_limit}

@@ -1,7 +1,7 @@
 use Rattle.std.proofs.Common.{◌+◌, ◌-◌, ◌≤◌, ◌≡◌, List, [], ℕ, length, take, false}
 use Rattle.std.specs.Io.KnownBytes.{Consumes}
 use Rattle.line_engine.specs.Lines.{ended_lines, kept_length, unended}
-use Rattle.line_engine.specs.Progress.{Answered, state}
+use Rattle.line_engine.specs.Inner.Progress.{Answered, state}
 use Rattle.line_engine.proofs.AskedLemmas.{AskedSoFar}
 use Rattle.line_engine.proofs.engine.answer_lines.Given as goal
 

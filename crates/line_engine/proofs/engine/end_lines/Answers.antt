@@ -1,6 +1,6 @@
 use Rattle.std.proofs.Common.{[], subst}
 use Rattle.line_engine.specs.Lines.{last_line}
-use Rattle.line_engine.specs.Progress.{Answered, state}
+use Rattle.line_engine.specs.Inner.Progress.{Answered, state}
 use Rattle.line_engine.proofs.engine.end_lines.Goals as goal
 
 pub returns-then-splitter-clause-ends : goal.returns-then-splitter-clause-ends

@@ -1,5 +1,5 @@
 use Rattle.std.proofs.Common.{◌≡◌, Bool, true, false, ◌||◌, List, ℕ, Option, [], ◌∷◌, ◌++◌, ◌∙◌, sym, ap, append-nil, append_assoc}
-use Rattle.line_engine.specs.Progress.{Flushes}
+use Rattle.line_engine.specs.Inner.Progress.{Flushes}
 
 -- whether an answer so far is a fault
 now_true : (before fault : Bool) → before ≡ true → before ≡ (before || fault)

@@ -1,6 +1,6 @@
 use Rattle.std.proofs.Common.{◌<◌, ◌++◌, subst, lit<}
 use Rattle.line_engine.specs.Lines.{kept_length}
-use Rattle.line_engine.specs.Progress.{AnsweredLine, state}
+use Rattle.line_engine.specs.Inner.Progress.{AnsweredLine, state}
 use Rattle.line_engine.proofs.AnsweredLemmas.{answered_kept}
 use Rattle.line_engine.proofs.ChunkLemmas.{whole_part, part_kept}
 use Rattle.line_engine.proofs.splitter.LineSplitter.end_line.Goals as goal

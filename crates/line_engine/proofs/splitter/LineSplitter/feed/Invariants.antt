@@ -1,6 +1,6 @@
 use Rattle.std.proofs.Common.{◌≡◌, ◌++◌, List, [], ℕ, length}
 use Rattle.line_engine.specs.Lines.{kept_length}
-use Rattle.line_engine.specs.Progress.{IsKept, state}
+use Rattle.line_engine.specs.Inner.Progress.{IsKept, state}
 use Rattle.line_engine.proofs.FedLemmas.{Fed}
 use Rattle.line_engine.proofs.splitter.LineSplitter.feed.Given as goal
 

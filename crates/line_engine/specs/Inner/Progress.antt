@@ -9,7 +9,7 @@ use Rattle.line_engine.specs.AnswerText.{AnswerText}
 use Rattle.line_engine.specs.declared.status.Status.{Status}
 use Rattle.line_engine.specs.declared.status.Status.TheVariants.{Done, Faults, Usage, ReadFault, WriteFault, NoMemory, TooLong}
 
--- of the bytes held and those that came, a prefix was written, and the rest is held
+-- of the bytes gathered and those that came, a prefix was written, and the rest is gathered
 pub record Flushes (held more held' : List ℕ) (old new : Option (List ℕ)) : Type 0 where
   pub gone : List ℕ
   pub split : held ++ more ≡ gone ++ held'
@@ -20,7 +20,7 @@ abbrev pub bytes_in : List (List ℕ) → ℕ
 bytes_in [] = 0
 bytes_in (line ∷ lines) = length line + bytes_in lines
 
--- the answers that are held, what was written, whether an answer so far names a fault, and the steps so far
+-- the answers that are gathered, what was written, whether an answer so far names a fault, and the steps so far
 pub record State : Type 0 where
   pub held : List ℕ
   pub written : Option (List ℕ)
@@ -31,7 +31,7 @@ pub record State : Type 0 where
 abbrev pub state : List ℕ → Option (List ℕ) → Bool → ℕ → State
 state held written fault steps = record { held = held; written = written; fault = fault; steps = steps }
 
--- this line was answered, at most so many steps for each of its bytes and once more
+-- this line was answered, in at most per_byte steps for each of its bytes and extra more
 pub record AnsweredLine (A : List ℕ → AnswerText → Type 0) (per_byte extra : ℕ) (line : List ℕ) (before after : State) : Type 0 where
   pub reply : AnswerText
   pub answer : A line reply
@@ -39,12 +39,12 @@ pub record AnsweredLine (A : List ℕ → AnswerText → Type 0) (per_byte extra
   pub faulty : after.fault ≡ (before.fault || reply.fault)
   pub cost : after.steps ≤ before.steps + per_byte * length line + extra
 
--- a write failed before the next line was answered: a prefix of what was held was written
+-- a write failed before the next line was answered: a prefix of what was gathered was written
 pub record StopsBefore (before : State) (written : Option (List ℕ)) (steps : ℕ) : Type 0 where
   pub part : AppendsPrefix before.written written before.held
   pub cost : steps ≡ before.steps
 
--- these lines were answered, at most so many steps for each of their bytes and for each of them
+-- these lines were answered, in at most per_byte steps for each of their bytes and extra for each of them
 pub record Answered (A : List ℕ → AnswerText → Type 0) (per_byte extra : ℕ) (lines : List (List ℕ)) (before after : State) : Type 0 where
   pub replies : List AnswerText
   pub answers : AreAnswers A lines replies
