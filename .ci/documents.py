@@ -119,6 +119,21 @@ def definitions():
                         yield f"{document}: no {name} in {crate}/specs/{file}.antt"
 
 
+def headline():
+    """The definitions of the headline's reading order, each in a file that its row names."""
+    for line in text_of("docs/PROVED.md").split("\n"):
+        row = re.match(r"\| `(crates/[\w/]+/specs/)(\w+\.antt)`(.*?) \| (.*?) \|", line)
+        if not row:
+            continue
+        folder, first, others, names = row.groups()
+        files = [first, *re.findall(r"`(\w+\.antt)`", others)]
+        there = [it for it in files if os.path.isfile(f"{TOP}/{folder}{it}")]
+        yield from (f"docs/PROVED.md: no {folder}{it}" for it in files if it not in there)
+        stated = "".join(text_of(folder + it) for it in there)
+        yield from (f"docs/PROVED.md: no {name} in {folder}{' '.join(there)}" for name in re.findall(r"`(\w+)`", names)
+                    if not re.search(rf"^(?:abbrev |unfoldable )?pub (?:record )?{name}\b", stated, re.M))
+
+
 def paths():
     """Files and folders that a document names in back quotes."""
     for document in DOCUMENTS:
@@ -134,7 +149,7 @@ def main():
     words = argparse.ArgumentParser(description=__doc__.split("\n", maxsplit=1)[0])
     words.add_argument("--built", choices=("build", "out"), default="build")
     given = words.parse_args()
-    wrong = [*readme_answers(given.built), *readme_shape(), *crates_table(), *wrong_bodies(), *definitions(), *paths()]
+    wrong = [*readme_answers(given.built), *readme_shape(), *crates_table(), *wrong_bodies(), *definitions(), *headline(), *paths()]
     for it in wrong:
         print(it)
     print(f"documents: {len(wrong)} sentences that do not hold")
