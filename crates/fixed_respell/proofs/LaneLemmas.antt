@@ -9,7 +9,7 @@ use Rattle.fixed_respell.specs.Split.{count_of}
 use Rattle.fixed_respell.specs.Lemmas.SplitLemmas.{count_cons}
 
 -- none of the first r bytes is w
-count_none : (w r : ℕ) (bytes : List ℕ) → ((k : ℕ) → k < r → eqb (get_or bytes k 0) w ≡ false) → count_of w (take r bytes) ≡ 0
+pub count_none : (w r : ℕ) (bytes : List ℕ) → ((k : ℕ) → k < r → eqb (get_or bytes k 0) w ≡ false) → count_of w (take r bytes) ≡ 0
 count_none w zero bytes none = refl
 count_none w (suc r) [] none = refl
 count_none w (suc r) (b ∷ bytes) none =

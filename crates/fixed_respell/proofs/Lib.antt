@@ -1,5 +1,6 @@
 mod NumberLemmas
 mod LaneLemmas
+mod MaskLemmas
 mod PlainLemmas
 mod CommandLemmas
 mod SelfLemmas

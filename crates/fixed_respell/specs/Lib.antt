@@ -9,6 +9,7 @@ pub mod Laws
 pub mod Command
 pub mod AnswerLaws
 pub mod Examples
+pub mod Inner
 pub mod Lemmas
 pub mod ProgramRun
 pub use Rattle.line_engine.specs.AnswerText

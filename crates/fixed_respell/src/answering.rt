@@ -7,13 +7,12 @@ ghost use Rattle.fixed_write.specs.Texts.{IsShortestText, shortest_text};
 ghost use Rattle.line_engine.specs.Output.{AppendsAnswer};
 ghost use Rattle.fixed_respell.specs.Answer.{Asks, IsAnswer, IsFirstFault, respelled_answer, task_of, verdict};
 ghost use Rattle.fixed_respell.specs.Language.{fault_answer};
-ghost use Rattle.fixed_respell.specs.LineWords.{HasWords, longest_line, space};
-ghost use Rattle.fixed_respell.specs.Split.{count_of};
+ghost use Rattle.fixed_respell.specs.LineWords.{longest_line, space};
 
 use crate::Answer;
 use crate::fault::LineFault;
+use crate::fields::split_line;
 use crate::respelling::reach;
-use crate::split::split_once;
 use crate::words::{format_word, policy_word, radix_word};
 use fixed_bits::{Format, Policy, ReadMode};
 use fixed_numeral::Radix;
@@ -22,41 +21,6 @@ use fixed_write::{push_integer, push_shortest};
 use line_engine::{MAX_ANSWER, MAX_LINE};
 use std::sync::ledger::Ledger;
 use text_buffer::TextBuffer;
-
-/// The words before a line's first four spaces, and all that follows the fourth.
-#[derive(Drop)]
-struct Fields<'a> {
-    radix: &'a [u8],
-    source: &'a [u8],
-    target: &'a [u8],
-    policy: &'a [u8],
-    numeral: &'a [u8],
-}
-
-/// The words of a line, split at its first four spaces. None where it has fewer.
-fn split_line(line: &[u8]) -> Option<Fields<'_>>
-    ensures { MatchOption result (count_of space line.now < 4) (λ f. HasWords line.now (f.radix.now ∷ f.source.now ∷ f.target.now ∷ f.policy.now ∷ []) f.numeral.now) }
-{
-    let Some((radix, rest)) = split_once(line, b' ') else {
-        return None;
-    };
-    let Some((source, rest)) = split_once(rest, b' ') else {
-        return None;
-    };
-    let Some((target, rest)) = split_once(rest, b' ') else {
-        return None;
-    };
-    let Some((policy, numeral)) = split_once(rest, b' ') else {
-        return None;
-    };
-    Some(Fields {
-        radix,
-        source,
-        target,
-        policy,
-        numeral,
-    })
-}
 
 /// What a line asks for.
 #[derive(Drop)]

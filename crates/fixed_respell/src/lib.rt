@@ -5,6 +5,7 @@
 pub mod answering;
 mod command;
 pub mod fault;
+mod fields;
 pub mod laws;
 pub mod program;
 pub mod respell_rule;

@@ -1,6 +1,6 @@
 use Rattle.std.proofs.Common.{arith}
 use Rattle.fixed_respell.specs.Lemmas.LineWordLemmas.{one_fewer}
-use Rattle.fixed_respell.proofs.answering.split_line.Goals as goal
+use Rattle.fixed_respell.proofs.fields.split_one_by_one.Goals as goal
 
 pub returns-in_default-split_once-2 : goal.returns-in_default-split_once-2
 returns-in_default-split_once-2 c =

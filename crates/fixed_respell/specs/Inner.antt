@@ -1,0 +1,2 @@
+-- Definitions that contracts of private functions cite, and no public clause.
+pub mod Spaces
