@@ -18,6 +18,8 @@ mod parsing;
 mod printing;
 mod reading;
 pub mod rounding;
+#[cfg(test)]
+mod tests;
 mod text;
 
 pub use ends::Ends;

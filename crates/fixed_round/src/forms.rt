@@ -11,6 +11,7 @@ use crate::whole::whole_of;
 use fixed_bits::Inner;
 
 /// The bits of the rounded number, which has to fit.
+#[inline]
 pub fn plain_whole<I: Inner>(bits: I, frac_nbits: u32, rounding: Rounding) -> I
     requires frac { frac_nbits ≤ I.BITS }
     requires fits { IsInRange I.SIGNED I.BITS (whole_bits rounding (I.number bits) frac_nbits) }
@@ -20,6 +21,7 @@ pub fn plain_whole<I: Inner>(bits: I, frac_nbits: u32, rounding: Rounding) -> I
 }
 
 /// The bits of the rounded number; `None` exactly where it does not fit.
+#[inline]
 pub fn checked_whole<I: Inner>(bits: I, frac_nbits: u32, rounding: Rounding) -> Option<I>
     requires { frac_nbits ≤ I.BITS }
     ensures exists { IsSome result ↔ IsInRange I.SIGNED I.BITS (whole_bits rounding (I.number bits) frac_nbits) }
@@ -34,6 +36,7 @@ pub fn checked_whole<I: Inner>(bits: I, frac_nbits: u32, rounding: Rounding) -> 
 }
 
 /// The Saturating image of the bits of the rounded number: the nearer end of the range where it does not fit.
+#[inline]
 pub fn saturating_whole<I: Inner>(bits: I, frac_nbits: u32, rounding: Rounding) -> I
     requires { frac_nbits ≤ I.BITS }
     ensures { IsImage Saturating I.SIGNED I.BITS (whole_bits rounding (I.number bits) frac_nbits) (I.number result) }
@@ -42,6 +45,7 @@ pub fn saturating_whole<I: Inner>(bits: I, frac_nbits: u32, rounding: Rounding) 
 }
 
 /// The Wrapping image of the bits of the rounded number: reduced modulo two to the power of the width where it does not fit.
+#[inline]
 pub fn wrapping_whole<I: Inner>(bits: I, frac_nbits: u32, rounding: Rounding) -> I
     requires { frac_nbits ≤ I.BITS }
     ensures { IsImage Wrapping I.SIGNED I.BITS (whole_bits rounding (I.number bits) frac_nbits) (I.number result) }
@@ -50,6 +54,7 @@ pub fn wrapping_whole<I: Inner>(bits: I, frac_nbits: u32, rounding: Rounding) ->
 }
 
 /// The Wrapping image of the bits of the rounded number, and whether it does not fit.
+#[inline]
 pub fn overflowing_whole<I: Inner>(bits: I, frac_nbits: u32, rounding: Rounding) -> (I, bool)
     requires { frac_nbits ≤ I.BITS }
     ensures image { IsImage Wrapping I.SIGNED I.BITS (whole_bits rounding (I.number bits) frac_nbits) (I.number result.0) }
@@ -60,6 +65,7 @@ pub fn overflowing_whole<I: Inner>(bits: I, frac_nbits: u32, rounding: Rounding)
 }
 
 /// The Wrapping image of a number.
+#[inline]
 fn wrapping_image<I: Inner>(v: i128) -> I
     ensures { IsImage Wrapping I.SIGNED I.BITS v (I.number result) }
 {

@@ -12,6 +12,7 @@ use crate::rounding::Rounding;
 use fixed_bits::Inner;
 
 /// The bits of the least whole number that is not below the number: their Wrapping image, and whether they are out of the range.
+#[inline]
 pub fn overflowing_ceil<I: Inner>(bits: I, frac_nbits: u32) -> (I, bool)
     requires { frac_nbits ≤ I.BITS }
     ensures image { IsImage Wrapping I.SIGNED I.BITS (whole_bits Ceil (I.number bits) frac_nbits) (I.number result.0) }
@@ -21,6 +22,7 @@ pub fn overflowing_ceil<I: Inner>(bits: I, frac_nbits: u32) -> (I, bool)
 }
 
 /// The bits of the greatest whole number that is not above the number: their Wrapping image, and whether they are out of the range.
+#[inline]
 pub fn overflowing_floor<I: Inner>(bits: I, frac_nbits: u32) -> (I, bool)
     requires { frac_nbits ≤ I.BITS }
     ensures image { IsImage Wrapping I.SIGNED I.BITS (whole_bits Floor (I.number bits) frac_nbits) (I.number result.0) }
@@ -30,6 +32,7 @@ pub fn overflowing_floor<I: Inner>(bits: I, frac_nbits: u32) -> (I, bool)
 }
 
 /// The bits of the nearest whole number, ties away from zero: their Wrapping image, and whether they are out of the range.
+#[inline]
 pub fn overflowing_round<I: Inner>(bits: I, frac_nbits: u32) -> (I, bool)
     requires { frac_nbits ≤ I.BITS }
     ensures image { IsImage Wrapping I.SIGNED I.BITS (whole_bits Round (I.number bits) frac_nbits) (I.number result.0) }
@@ -39,6 +42,7 @@ pub fn overflowing_round<I: Inner>(bits: I, frac_nbits: u32) -> (I, bool)
 }
 
 /// The bits of the nearest whole number, ties to even: their Wrapping image, and whether they are out of the range.
+#[inline]
 pub fn overflowing_round_ties_even<I: Inner>(bits: I, frac_nbits: u32) -> (I, bool)
     requires { frac_nbits ≤ I.BITS }
     ensures image { IsImage Wrapping I.SIGNED I.BITS (whole_bits RoundTiesEven (I.number bits) frac_nbits) (I.number result.0) }

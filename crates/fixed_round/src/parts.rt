@@ -9,6 +9,7 @@ use crate::whole::whole_of;
 use fixed_bits::Inner;
 
 /// The bits of the greatest whole number that is not above the number; 0 where the format has no whole bits.
+#[inline]
 pub fn int<I: Inner>(bits: I, frac_nbits: u32) -> I
     requires { frac_nbits ≤ I.BITS }
     ensures { I.number result ≡ int_bits I.BITS (I.number bits) frac_nbits }
@@ -17,6 +18,7 @@ pub fn int<I: Inner>(bits: I, frac_nbits: u32) -> I
 }
 
 /// The bits less those of the whole part. They are never negative where the format has whole bits.
+#[inline]
 pub fn frac<I: Inner>(bits: I, frac_nbits: u32) -> I
     requires { frac_nbits ≤ I.BITS }
     ensures { I.number result ≡ I.number bits -ℤ int_bits I.BITS (I.number bits) frac_nbits }
@@ -25,6 +27,7 @@ pub fn frac<I: Inner>(bits: I, frac_nbits: u32) -> I
 }
 
 /// The bits of the nearest whole number whose magnitude is not above that of the number.
+#[inline]
 pub fn round_to_zero<I: Inner>(bits: I, frac_nbits: u32) -> I
     requires { frac_nbits ≤ I.BITS }
     ensures { I.number result ≡ round_to_zero_bits (I.number bits) frac_nbits }
@@ -33,6 +36,7 @@ pub fn round_to_zero<I: Inner>(bits: I, frac_nbits: u32) -> I
 }
 
 /// The number of the whole part, which leaves a fraction part in the type's range.
+#[inline]
 fn whole_part<I: Inner>(bits: I, frac_nbits: u32) -> i128
     requires { frac_nbits ≤ I.BITS }
     ensures number { result ≡ int_bits I.BITS (I.number bits) frac_nbits }
@@ -49,6 +53,7 @@ fn whole_part<I: Inner>(bits: I, frac_nbits: u32) -> i128
 }
 
 /// The ceil of a negative number, the floor of any other.
+#[inline]
 fn towards_zero(b: i128, f: u32) -> i128
     requires wide { IsWide b }
     requires frac { f ≤ 64 }
@@ -62,6 +67,7 @@ fn towards_zero(b: i128, f: u32) -> i128
 }
 
 /// The value of a number that is in its type's range.
+#[inline]
 fn in_range<I: Inner>(v: i128) -> I
     requires { IsInRange I.SIGNED I.BITS v }
     ensures { I.number result ≡ v }

@@ -12,6 +12,7 @@ ghost use Rattle.fixed_round.specs.Whole.{is_up, whole_bits};
 use crate::rounding::Rounding;
 
 /// The bits of the whole number that `b` over two to the power of `f` is rounded to. They may be out of the range of `b`.
+#[inline]
 pub(crate) fn whole_of(b: i128, f: u32, rounding: Rounding) -> i128
     requires wide { IsWide b }
     requires frac { f ≤ 64 }
@@ -29,6 +30,7 @@ pub(crate) fn whole_of(b: i128, f: u32, rounding: Rounding) -> i128
 }
 
 /// The greatest whole number that is not above a value.
+#[inline]
 fn floor_of(b: i128, f: u32) -> i128
     requires wide { IsWide b }
     requires frac { f ≤ 64 }
@@ -39,6 +41,7 @@ fn floor_of(b: i128, f: u32) -> i128
 }
 
 /// The bits of a whole number.
+#[inline]
 fn bits_of_whole(w: i128, f: u32) -> i128
     requires frac { f ≤ 64 }
     requires low { neg_ℤ (pos (2 ^ 66)) ≤ℤ (w *ℤ pos (2 ^ f)) }
@@ -49,6 +52,7 @@ fn bits_of_whole(w: i128, f: u32) -> i128
 }
 
 /// The bits of the number one.
+#[inline]
 fn unit(f: u32) -> i128
     requires { f ≤ 64 }
     ensures { result ≡ pos (2 ^ f) }
@@ -57,6 +61,7 @@ fn unit(f: u32) -> i128
 }
 
 /// Whether a value is rounded to the whole number above its floor, for what its bits are above those of the floor.
+#[inline]
 fn is_rounded_up(rounding: Rounding, negative: bool, floor: i128, rest: u128, unit: u128) -> bool
     requires { rest < 2 ^ 66 }
     ensures { result ≡ is_up rounding negative floor rest unit }
@@ -70,6 +75,7 @@ fn is_rounded_up(rounding: Rounding, negative: bool, floor: i128, rest: u128, un
 }
 
 /// Whether twice a rest is above the unit, or equal to it where a tie is not rounded down.
+#[inline]
 fn is_past_half(rest: u128, unit: u128, is_tie_down: bool) -> bool
     requires { rest < 2 ^ 66 }
     ensures { result ≡ (if is_tie_down then nat_lt unit (2 * rest) else nat_le unit (2 * rest)) }
