@@ -1,5 +1,5 @@
 -- Decimal digits in the bytes of a word.
-use Rattle.std.proofs.Common.{◌≡◌, ℕ, zero, suc, ◌+◌, ◌-◌, ◌*◌, ◌/◌, ◌%◌, ◌^◌, ◌<◌, ◌≤◌, List, [], ◌∷◌, ◌++◌, length, take, drop, replicate, map, refl, ap, ◌∙◌, arith, length-append, length-drop, length-take}
+use Rattle.std.proofs.Common.{◌≡◌, ℕ, zero, suc, ◌+◌, ◌-◌, ◌*◌, ◌/◌, ◌%◌, ◌^◌, ◌<◌, ◌≤◌, List, [], ◌∷◌, ◌++◌, length, take, drop, replicate, map, refl, ap, ◌∙◌, arith, cond, nat_lt, Bool, true, false, length-append, length-drop, length-take}
 use Rattle.std.specs.Int.Bits.{bit_and}
 use Rattle.std.proofs.lemmas.Nat.{and_mask, and_block}
 use Rattle.std.proofs.Math.Nat.{mod-eq_of_lt}
@@ -8,7 +8,9 @@ use Rattle.std.specs.Simd.Lanes.{number_l}
 use Rattle.std.specs.Int.Digits.{AllBelowBase}
 use Rattle.std.specs.Char.{digit_value}
 use Rattle.std.specs.Str.Parse.{AllDigits, digits_value, digits_value_after}
-use Rattle.fixed_numeral.proofs.ByteLemmas.{low_value_is}
+use Rattle.std.specs.Simd.Lanes.{mask_l}
+use borrow.Author.Tests.{ltb-false}
+use Rattle.fixed_numeral.proofs.ByteLemmas.{low_value_is, near_zero}
 
 -- the low halves of decimal digits are their values
 small_digit : (b : ℕ) → digit_value b < 10 → (b < 64) × (b % 16 ≡ digit_value b)
@@ -139,3 +141,17 @@ below_first (suc n) k ds h = (omega arith, below_first n k ds h)
 
 pub first_count : (r : ℕ) (ds : List ℕ) → r ≤ 8 → length ds ≡ 8 → length (replicate (8 - r) 48 ++ take r ds) ≡ 8
 first_count r ds s l = omega (arith, length-append (replicate (8 - r) 48) (take r ds), length-replicate {A = ℕ} (8 - r) 48, length-take r ds)
+
+-- ---- many bytes that are decimal digits
+no_marks : (c : Bool) (n : ℕ) → cond c 1 0 + 2 * n ≡ 0 → (c ≡ false) × (n ≡ 0)
+no_marks true n h = absurd (omega arith)
+no_marks false n h = (refl, omega arith)
+
+pub unmarked_digits : (xs : List ℕ) → mask_l (map (λ x. nat_lt x 48) xs) ≡ 0 → mask_l (map (λ x. nat_lt 57 x) xs) ≡ 0 → AllDigits 10 xs
+unmarked_digits [] p q = tt
+unmarked_digits (x ∷ xs) p q =
+    let low = no_marks (nat_lt x 48) (mask_l (map (λ y. nat_lt y 48) xs)) p in
+    let high = no_marks (nat_lt 57 x) (mask_l (map (λ y. nat_lt 57 y) xs)) q in
+    let least : 48 ≤ x = ltb-false x 48 low.0 in
+    let most : x ≤ 57 = ltb-false 57 x high.0 in
+    (near_zero x 10 (omega arith) least (omega arith), unmarked_digits xs low.1 high.1)

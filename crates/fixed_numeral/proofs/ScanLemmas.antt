@@ -17,6 +17,7 @@ use Rattle.fixed_numeral.specs.Numeral.{Parts, Exponent, HasParts, HasNumeral, I
 use Rattle.fixed_numeral.specs.Cause.{is_nil, kind_of, HasCause}
 use Rattle.fixed_numeral.specs.Digits.{digits_in}
 use Rattle.fixed_numeral.specs.Scanned.{IsScanned}
+use Rattle.fixed_numeral.specs.Inner.Run.{IsRun}
 use Rattle.fixed_numeral.proofs.ByteLemmas.{near_zero}
 use Rattle.fixed_numeral.proofs.MagnitudeLemmas.{whole_count, behind_count}
 use Rattle.fixed_numeral.specs.Inner.Scan.{Agrees, Extends, CannotExtend, IsAfter, IsIncomplete, max_magnitude}
@@ -468,11 +469,6 @@ pub is_scanned : (r : Radix) (bs : List ℕ) (p : Parts) (st : State) (a : IsAft
 is_scanned r bs p st a neg whole fraction bits n h = let same = parts_unique r bs p a.parts n a.beginning in rw same h
 
 -- ---- digits from a place on
-pub record IsRun (b : ℕ) (bs : List ℕ) (from at : ℕ) : Type 0 where
-  pub front : from ≤ at
-  pub within : at ≤ length bs
-  pub digits : AllDigits b (take (at - from) (drop from bs))
-
 pub run_more : (b : ℕ) (bs : List ℕ) (from at : ℕ) → IsRun b bs from at → at < length bs → digit_value (get_or bs at 0) < b → IsRun b bs from (at + 1)
 run_more b bs from at h l d =
     let e : at + 1 - from ≡ at - from + 1 = omega (arith, h.front) in

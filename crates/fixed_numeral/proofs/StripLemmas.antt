@@ -9,7 +9,7 @@ use Rattle.std.specs.Int.Digits.{number_from_digits, number_from_digits_after, A
 use Rattle.std.specs.Char.{digit_value}
 use Rattle.fixed_numeral.specs.Digits.{digits_in, zeros}
 use Rattle.fixed_numeral.specs.Inner.MovedPoint.{IsWithoutLeading, IsWithoutTrailing}
-use Rattle.fixed_numeral.proofs.ByteLemmas.{value_zero, low_value_is}
+use Rattle.fixed_numeral.proofs.ByteLemmas.{value_zero}
 use Rattle.fixed_numeral.proofs.LaneLemmas.{after_eight}
 use Rattle.fixed_numeral.proofs.DigitLemmas.{digits_in_none, digits_in_append, digit_before, other_before, cut, digits_le, count_same, all_counted}
 use Rattle.fixed_numeral.proofs.PlaceLemmas.{no_leading, no_trailing, none_leading, none_trailing, below_parts}

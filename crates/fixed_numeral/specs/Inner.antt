@@ -5,3 +5,4 @@ pub mod LiteralScan
 pub mod MovedPoint
 pub mod Segments
 pub mod Prefix
+pub mod Run

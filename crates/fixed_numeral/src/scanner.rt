@@ -1,6 +1,6 @@
 //! Reading a numeral from the left.
 
-ghost use Rattle.std.specs.Prelude.{◌≡◌, ◌+◌, ◌*◌, ◌^◌, ◌<◌, ◌≤◌, ℕ, nat_lt, true, false, List, [], ◌++◌, length, take, drop, MatchResult, IfSome, IsOk, IfOk, IfErr, ◌↔◌};
+ghost use Rattle.std.specs.Prelude.{◌≡◌, ◌+◌, ◌*◌, ◌^◌, ◌<◌, ◌≤◌, ℕ, nat_lt, true, false, IsTrue, List, [], ◌++◌, length, take, drop, MatchResult, IfSome, IsOk, IfOk, IfErr, ◌↔◌};
 ghost use Rattle.std.specs.Int.Digits.{AllBelowBase};
 ghost use Rattle.std.specs.Simd.Lanes.{number_l};
 ghost use Rattle.std.specs.Char.{digit_value};
@@ -9,6 +9,7 @@ ghost use Rattle.fixed_numeral.specs.declared.radix.Radix.{Radix as TheRadix};
 ghost use Rattle.fixed_numeral.specs.Cause.{HasCause};
 ghost use Rattle.fixed_numeral.specs.Numeral.{Parts, HasParts, HasNumeral, IsNumeral, base, is_sign, is_separator, is_two_separator};
 ghost use Rattle.fixed_numeral.specs.Inner.Scan.{Agrees, Extends, CannotExtend, IsAfter, IsComplete, IsIncomplete, max_magnitude};
+ghost use Rattle.fixed_numeral.specs.Inner.Run.{IsRun};
 ghost use Rattle.fixed_numeral.specs.Scanned.{IsScanned};
 
 use crate::digit_slice::{DigitSlice, is_digit};
@@ -17,6 +18,7 @@ use crate::radix::Radix;
 use crate::scanned::Scanned;
 use crate::swar::{are_decimal, number_of_decimals, word_at};
 use fixed_steps::Steps;
+use std::simd::prelude::*;
 use std::sync::ledger::Ledger;
 
 /// What the scanner knows of the bytes so far.
@@ -215,6 +217,34 @@ fn low_digits(bytes: &[u8], base: u8, from: usize) -> usize
 /// of the point.
 const LONG: usize = 16;
 
+/// Whether the sixteen bytes from a place on are decimal digits.
+#[inline(always)]
+fn are_sixteen_decimal(bytes: &[u8], at: usize) -> bool
+    requires { at + 16 ≤ length bytes.now }
+    ensures { IsTrue result → AllDigits 10 (take 16 (drop at bytes.now)) }
+{
+    let lanes = u8x16::from_slice(&bytes[at..]);
+    let below = lanes.simd_lt(u8x16::splat(b'0')).to_bitmask();
+    let above = lanes.simd_gt(u8x16::splat(b'9')).to_bitmask();
+    if below != 0 || above != 0 {
+        return false;
+    }
+    true
+}
+
+/// The place after the decimal digits from a place on that come in sixteens.
+#[inline(always)]
+fn after_decimal_sixteens(bytes: &[u8], from: usize) -> usize
+    requires { from ≤ length bytes.now }
+    ensures { IsRun 10 bytes.now from result }
+{
+    let mut at = from;
+    while bytes.len() - at >= 16 && are_sixteen_decimal(bytes, at) {
+        at += 16;
+    }
+    at
+}
+
 /// How many decimal digits there are from a place on, before some other byte.
 fn decimal_digits(bytes: &[u8], from: usize) -> usize
     requires place { from ≤ length bytes.now }
@@ -224,7 +254,7 @@ fn decimal_digits(bytes: &[u8], from: usize) -> usize
     if bytes.len() < LONG {
         return low_digits(bytes, 10, from);
     }
-    let mut at = from;
+    let mut at = after_decimal_sixteens(bytes, from);
     while bytes.len() - at >= 8 && are_decimal(word_at(bytes, at)) {
         at += 8;
     }

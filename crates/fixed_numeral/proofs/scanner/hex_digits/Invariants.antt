@@ -1,5 +1,5 @@
 use Rattle.std.proofs.Common.{length, ◌-◌}
-use Rattle.fixed_numeral.proofs.ScanLemmas.{IsRun}
+use Rattle.fixed_numeral.specs.Inner.Run.{IsRun}
 use Rattle.fixed_numeral.proofs.scanner.hex_digits.Given as goal
 
 abbrev pub invariant-loop-at : goal.invariant-loop-at

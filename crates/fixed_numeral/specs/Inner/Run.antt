@@ -1,0 +1,9 @@
+-- Digits between two places of a text, for the functions that count them.
+use Rattle.std.specs.Prelude.{ℕ, ◌-◌, ◌≤◌, List, length, take, drop}
+use Rattle.std.specs.Str.Parse.{AllDigits}
+
+-- the bytes between two places are digits
+pub record IsRun (b : ℕ) (bs : List ℕ) (from at : ℕ) : Type 0 where
+  pub front : from ≤ at
+  pub within : at ≤ length bs
+  pub digits : AllDigits b (take (at - from) (drop from bs))
