@@ -1,4 +1,4 @@
--- Worked examples of the definitions that the answer to a line stands on.
+-- Worked examples of the definitions that the answer to a line is made of.
 use Rattle.std.proofs.Common.{◌≡◌, ℕ, ◌<◌, ◌⊎◌, ◌↔◌, Bool, IsTrue, List, Option, Some, None, [], ◌∷◌, true, false, refl, arith, inl, inr, ℤ, pos, negsuc, ⊎_elim}
 use Rattle.std.proofs.lemmas.Bool.{false≢true}
 use Rattle.std.proofs.lemmas.Int.{ints}

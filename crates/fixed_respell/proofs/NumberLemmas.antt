@@ -33,7 +33,7 @@ plain word n small e =
       value = d.1;
     })
 
--- digits without a spare zero are those of their number
+-- digits without a leading zero are those of their number
 pub plain_is : (word : List ℕ) → 0 < length word → length word ≤ 10 → (get_or word 0 0 ≡ 48 → length word ≡ 1) → AllDigits 10 word → word ≡ decimal (digits_value 10 word)
 plain_is word some short no_spare digits =
     let below : digits_value 10 word < 10 ^ 10 = digits_value_short own word 10 digits short in
@@ -133,13 +133,13 @@ spare_zero (x ∷ []) n some most spare below e = omega (arith, some)
 spare_zero (x ∷ y ∷ []) n some most spare below e = let d = two_are x y n below (short (x ∷ y ∷ []) n below e) in omega (arith, d.no_spare, spare)
 spare_zero (x ∷ y ∷ z ∷ rest) n some most spare below e = omega (arith, most)
 
--- the letter of a format's word stands behind one digit, d
+-- the letter of a format's word comes after one digit, d
 pub record IsBehindOne (counts d : List ℕ) : Type 0 where
   pub long : 1 < length counts
   pub letter : get_or counts 1 0 ≡ 70
   pub front : take 1 counts ≡ d
 
--- or behind two
+-- or after two
 pub record IsBehindTwo (counts d : List ℕ) : Type 0 where
   pub long : 2 < length counts
   pub other : get_or counts 1 0 ≡ 70 → ⊥
@@ -150,6 +150,6 @@ behind_digits : (n : ℕ) (d rest : List ℕ) → IsOne d n ⊎ IsTwo d n → Is
 behind_digits n d rest (inl is) = subst (λ d. IsBehindOne (d ++ 70 ∷ rest) d ⊎ IsBehindTwo (d ++ 70 ∷ rest) d) (sym is.one) (inl (record { long = omega arith; letter = refl; front = refl }))
 behind_digits n d rest (inr is) = subst (λ d. IsBehindOne (d ++ 70 ∷ rest) d ⊎ IsBehindTwo (d ++ 70 ∷ rest) d) (sym is.two) (inr (record { long = omega arith; other = λ e. omega (arith, e); letter = refl; front = refl }))
 
--- where the letter stands behind a number below 100
+-- where the letter comes after a number below 100
 pub letter_place : (counts rest : List ℕ) (n : ℕ) → n < 100 → counts ≡ decimal n ++ 70 ∷ rest → IsBehindOne counts (decimal n) ⊎ IsBehindTwo counts (decimal n)
 letter_place counts rest n below e = subst (λ w. IsBehindOne w (decimal n) ⊎ IsBehindTwo w (decimal n)) (sym e) (behind_digits n (decimal n) rest (short (decimal n) n below refl))

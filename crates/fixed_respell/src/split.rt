@@ -27,6 +27,7 @@ fn first_place(bytes: &[u8], wanted: u8) -> usize
 }
 
 /// The bytes before the first `wanted`, and those after it. None where there is none.
+#[inline(never)]
 pub fn split_once(bytes: &[u8], wanted: u8) -> Option<(&[u8], &[u8])>
     ensures { MatchOption result (count_of wanted bytes.now ≡ 0) (λ r. IsSplit wanted bytes.now r.0.now r.1.now) }
 {

@@ -54,6 +54,8 @@ fn named_mode(name: &[u8]) -> Option<ReadMode>
 }
 
 /// The policy and the mode that a word names: NearestEven where it names no mode. None where it is no policy word.
+// In line, since each line has one; a word with a mode, which few lines have, is split by a call.
+#[inline(always)]
 pub fn policy_word(word: &[u8]) -> Option<(Policy, ReadMode)>
     ensures { MatchOption result ((p : Policy) (m : ReadMode) → ¬ IsPolicyWord word.now p m) (λ r. IsPolicyWord word.now r.0 r.1) }
 {

@@ -30,7 +30,7 @@ use Rattle.fixed_respell.specs.Lemmas.WordLemmas.{no_slash}
 use Rattle.fixed_write.specs.Texts.{IsShortestText}
 use Rattle.fixed_write.proofs.TextLemmas.{shortest_text_unique}
 
--- ---- words name one thing: what each names is told by a byte of it
+-- ---- words name one thing: one byte of each says which
 first_byte : List ℕ → ℕ
 first_byte word = get_or word 0 0
 

@@ -5,7 +5,7 @@ use Rattle.fixed_respell.specs.LineWords.{IsFirst, longest_line}
 use Rattle.line_engine.specs.AnswerText.{AnswerText}
 use Rattle.fixed_respell.specs.Lemmas.LineWordLemmas.{RanksTellApart, first_one}
 
--- faults are told apart by their ranks, a line with a task has no fault and no other task, and a task has one answer
+-- faults differ in their ranks, a line with a task has no fault and no other task, and a task has one answer
 pub record IsDefinite (L : Language) : Type 0 where
   pub apart : RanksTellApart L.Fault L.rank
   pub no_fault : (line : List ℕ) (t : L.Task) (f : L.Fault) → L.Asks line t → L.HasFault f line → ⊥

@@ -52,7 +52,7 @@ overflowed_none mode r p policy source target b o n x =
     (λ out. has_none target.signed target.width n.moved b out (rw d at t))
     n.out
 
--- ---- the same of bytes, whose parts are the one pair
+-- ---- bytes have one list of parts
 parts_one : (r : Radix) (bytes : List ℕ) (p q : Parts) → HasNumeral r bytes p → HasNumeral r bytes q → p ≡ q
 parts_one r bytes p q a b = parts_unique r bytes p q a.beginning b.beginning
 
