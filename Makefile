@@ -5,6 +5,7 @@
 #   make demo      answers the demo's lines with the program that was proved
 #   make test      the gate
 #   make install   puts the programs below PREFIX (and DESTDIR); make uninstall removes them
+#   make library   the library for C, in build/lib; make check-library tries it; make deb makes packages, make dist an archive
 #   make bench     times, memory and instructions; make compare: seeded inputs against the reference in oracle/
 
 PREFIX ?= /usr/local
@@ -73,11 +74,11 @@ demo:
 test:
 	rt ci
 
-install: build
+install: build install-library
 	install -d "$(DESTDIR)$(PREFIX)/bin"
 	for program in $(PROGRAMS); do install -m 755 "build/$$program" "$(DESTDIR)$(PREFIX)/bin/$$program" || exit 1; done
 
-uninstall:
+uninstall: uninstall-library
 	for program in $(PROGRAMS); do rm -f "$(DESTDIR)$(PREFIX)/bin/$$program"; done
 
 # Times, memory and instructions of the programs and of single calls, beside C, a reference in plain Rust, and PEER (see
@@ -85,7 +86,7 @@ uninstall:
 bench: build
 	@$(MAKE) -s --no-print-directory $(BENCH:%=build/%)
 	@if command -v rustc >/dev/null; then $(MAKE) -s --no-print-directory build/bench_ideal; fi
-	@if command -v cc >/dev/null; then $(MAKE) -s --no-print-directory build/bench_c; fi
+	@if command -v cc >/dev/null; then $(MAKE) -s --no-print-directory build/bench_c library build/bench_library; fi
 	python3 bench/measure.py
 
 build/bench_ideal: bench/ideal.rs
@@ -93,6 +94,9 @@ build/bench_ideal: bench/ideal.rs
 
 build/bench_c: bench/calls.c
 	cc -O2 -Wall -Wextra $< -o $@
+
+build/bench_library: bench/library.c build/lib/libfixed.a
+	cc -O2 -Wall -Wextra -Iinclude $^ -o $@
 
 # Seeded inputs, answered by the programs and by whole-number arithmetic in Python.
 compare: build
@@ -105,3 +109,5 @@ scale: build
 
 clean:
 	rm -rf build crates/*/out
+
+include packaging/library.mk

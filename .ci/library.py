@@ -1,0 +1,177 @@
+#!/usr/bin/env python3
+"""Tries the library for C from outside: its symbols, and the callers in examples/ with what compilers there are.
+
+    library.py [--built build|out] [--lines N]
+
+With `--built out` it has `rt lib` make the archive and takes the program that the gate built; with `--built build` it takes what
+`make library` and `make build` left. A compiler that is not on this machine is named and passed over.
+"""
+import argparse
+import os
+import re
+import shutil
+import subprocess
+import sys
+import tempfile
+
+TOP = os.path.dirname(os.path.dirname(os.path.abspath(__file__)))
+HEADER = f"{TOP}/include"
+STRICT = ["-Wall", "-Wextra", "-Werror", "-Wpedantic", "-O1", "-g", "-I", HEADER]
+SANITIZED = ["-fsanitize=address,undefined", "-fno-sanitize-recover=all"]
+# What an archive may want from outside: moves and fills of bytes, and the helpers that compilers call for wide numbers.
+WANTED = re.compile(r"mem(cpy|move|set|cmp)|__[a-z0-9]+ti[0-9]?|_GLOBAL_OFFSET_TABLE_")
+EXAMPLE = """3.14159 is 205887 of 65536 and prints as 3.14159
+in a byte it is 3
+the two compare as 1
+it lies between 205887 and 205888 of 65536
+10 U4F4 U8F0 checked 2.99 -> 3 3 fits
+"""
+PYTHON = "(205887, False) 3.14159\nmore than one point found in string\n"
+RUST = 'Ok(Number { bits: 205887, overflowed: 0 }) Ok("3.14159")\nErr(8) Err(10)\n'
+CPP = "205887 3.14159\nrefused\n"
+GO = "205887 0 3.14159\n"
+
+
+class Failed(Exception):
+    """Something came out otherwise."""
+
+
+def run(words, **how):
+    """What a command writes; a status other than 0 fails."""
+    ran = subprocess.run(words, stdout=subprocess.PIPE, stderr=subprocess.STDOUT, check=False, **how)
+    if ran.returncode:
+        raise Failed(f"{' '.join(words)}: status {ran.returncode}\n{ran.stdout.decode(errors='replace')[-2000:]}")
+    return ran.stdout.decode(errors="replace")
+
+
+def wanted(what, found, right):
+    """Fails where two texts differ."""
+    if found != right:
+        raise Failed(f"{what} wrote {found!r}, not {right!r}")
+    print(f"{what}: as it should be", flush=True)
+
+
+def calls():
+    """The calls that the header declares."""
+    with open(f"{HEADER}/fixed.h", encoding="utf-8") as header:
+        return set(re.findall(r"^uint32_t (fixed_[a-z_]+)\(", header.read(), re.M))
+
+
+def archive(built):
+    """The path of the archive."""
+    if built == "build":
+        return f"{TOP}/build/lib/libfixed.a"
+    made = subprocess.run(["rt", "lib"], cwd=f"{TOP}/crates/fixed_c", stdin=subprocess.DEVNULL, stdout=subprocess.PIPE,
+                          stderr=subprocess.STDOUT, check=False)
+    if made.returncode:
+        raise Failed(f"rt lib: {made.stdout.decode(errors='replace')[-2000:]}")
+    return f"{TOP}/crates/fixed_c/out/libfixed_c.a"
+
+
+def check_symbols(library, shared):
+    """Only the header's calls are public, and next to nothing is wanted."""
+    defined, undefined = set(), set()
+    for line in run(["nm", "--extern-only", library]).splitlines():
+        fields = line.split()
+        if len(fields) >= 2 and fields[-2] in "UTDBRVW":
+            (undefined if fields[-2] == "U" else defined).add(fields[-1])
+    undefined -= defined
+    public = {name for name in defined if name.startswith("fixed_")}
+    if public != calls():
+        raise Failed(f"the archive has {sorted(public)}, and the header {sorted(calls())}")
+    strange = sorted(name for name in undefined if not WANTED.fullmatch(name))
+    if strange:
+        raise Failed(f"the archive wants {strange}")
+    names = {line.split()[-1].split("@")[0] for line in run(["nm", "-D", "--defined-only", shared]).splitlines()}
+    if names - {"FIXED_1"} != calls():
+        raise Failed(f"the shared library has {sorted(names)}")
+    if "libfixed.so.1" not in run(["readelf", "-d", shared]):
+        raise Failed("the shared library has no SONAME")
+    print(f"{len(public)} public symbols; wanted from outside: {', '.join(sorted(undefined)) or 'nothing'}", flush=True)
+
+
+def check_c(folder, library, program, lines):
+    """The callers in C, with each compiler."""
+    for compiler in ("gcc", "clang"):
+        if not shutil.which(compiler):
+            print(f"{compiler} is not on this machine")
+            continue
+        for name in ("example", "edges", "lines"):
+            source, out = f"{TOP}/examples/c/{name}.c", f"{folder}/{compiler}_{name}"
+            run([compiler, "-std=c11", *STRICT, source, library, "-o", out + "_plain", "-pthread"])
+            try:
+                run([compiler, "-std=c11", *STRICT, *SANITIZED, source, library, "-o", out, "-pthread"])
+            except Failed as why:
+                print(f"{compiler} has no sanitizers here: {str(why).splitlines()[-1]:.120}")
+                os.replace(out + "_plain", out)
+        wanted(f"{compiler}, example", run([f"{folder}/{compiler}_example"]), EXAMPLE)
+        if not run([f"{folder}/{compiler}_edges"]).endswith("the threads agree\n"):
+            raise Failed(f"{compiler}, edges")
+        print(f"{compiler}, edges: nothing read or written out of place", flush=True)
+    if program and lines and os.path.isfile(f"{folder}/gcc_lines_plain"):
+        compare_lines(f"{folder}/gcc_lines_plain", program, lines)
+
+
+def compare_lines(caller, program, count):
+    """A caller in C answers each line as the program does."""
+    given = b""
+    for kind in ("typical", "radix"):
+        given += subprocess.run([sys.executable, f"{TOP}/bench/generate.py", kind, "--lines", str(count // 2)],
+                                stdout=subprocess.PIPE, check=True).stdout
+    answers = [subprocess.run([path], input=given, stdout=subprocess.PIPE, check=False).stdout for path in (caller, program)]
+    if answers[0] != answers[1] or not answers[0]:
+        raise Failed("the library and the program answer differently")
+    print(f"{given.count(10)} lines: the library and the program write the same bytes", flush=True)
+
+
+def check_others(folder, library, shared):
+    """The callers in other languages, where there is a compiler."""
+    if shutil.which("g++"):
+        run(["g++", "-std=c++17", *STRICT, f"{TOP}/examples/cpp/example.cpp", library, "-o", f"{folder}/cpp"])
+        wanted("C++", run([f"{folder}/cpp"]), CPP)
+    wanted("Python", run([sys.executable, f"{TOP}/examples/python/fixed.py"], env=os.environ | {"LIBFIXED": shared}), PYTHON)
+    if shutil.which("rustc"):
+        run(["rustc", "--edition", "2021", "-O", f"{TOP}/examples/rust/src/main.rs", "-L", os.path.dirname(shared), "-l", "static=fixed",
+             "-o", f"{folder}/rust"])
+        wanted("Rust", run([f"{folder}/rust"]), RUST)
+    else:
+        print("rustc is not on this machine")
+    if shutil.which("go"):
+        env = os.environ | {"CGO_CFLAGS": f"-I{HEADER}", "CGO_LDFLAGS": f"-L{os.path.dirname(shared)}", "GOCACHE": f"{folder}/go", "GOFLAGS": "-mod=mod"}
+        run(["go", "build", "-o", f"{folder}/golang", "."], cwd=f"{TOP}/examples/go", env=env)
+        wanted("Go", run([f"{folder}/golang"], env=env | {"LD_LIBRARY_PATH": os.path.dirname(shared)}), GO)
+    else:
+        print("go is not on this machine")
+
+
+def main():
+    words = argparse.ArgumentParser(description=__doc__.split("\n", maxsplit=1)[0])
+    words.add_argument("--built", choices=("build", "out"), default="build")
+    words.add_argument("--lines", type=int, default=200_000)
+    given = words.parse_args()
+    if not shutil.which("gcc") or not shutil.which("nm"):
+        print("gcc is not on this machine, and so the library for C was not tried")
+        return 0
+    program = f"{TOP}/build/fixed_tool" if given.built == "build" else f"{TOP}/crates/fixed_tool/out/fixed_tool"
+    if not os.path.isfile(program):
+        print("fixed_tool is not built, and so the library was not compared with it")
+        program = None
+    try:
+        with tempfile.TemporaryDirectory() as folder:
+            library, shared = f"{folder}/libfixed.a", f"{folder}/libfixed.so.1"
+            shutil.copy(archive(given.built), library)
+            undefined = [word for call in sorted(calls()) for word in ("-Wl,-u," + call,)]
+            run(["gcc", "-shared", "-o", shared, "-Wl,-soname,libfixed.so.1", f"-Wl,--version-script={TOP}/packaging/fixed.map",
+                 "-Wl,--gc-sections", *undefined, library, "-nostartfiles", "-lc"])
+            os.symlink("libfixed.so.1", f"{folder}/libfixed.so")
+            check_symbols(library, shared)
+            check_c(folder, library, program, given.lines)
+            check_others(folder, library, shared)
+    except Failed as why:
+        print(why)
+        return 1
+    return 0
+
+
+if __name__ == "__main__":
+    sys.exit(main())

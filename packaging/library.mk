@@ -1,0 +1,55 @@
+# The library for C: what make library, make dist and make deb make, and what make install puts in place beside the programs.
+
+VERSION := $(shell cat packaging/VERSION)
+CALLS := fixed_answer_line fixed_compare_bits fixed_convert_bits fixed_enclose_text fixed_message fixed_print_bits fixed_read_text fixed_respell_text
+MANUALS := $(patsubst man/%,%,$(wildcard man/*.1)) fixed.3
+CC ?= cc
+
+.PHONY: library dist deb check-library install-library uninstall-library
+
+# Proves the library, and leaves it as an archive, as a shared library with the header's symbols alone, and with a file for pkg-config.
+library:
+	@$(MAKE) -s --no-print-directory build/proved/fixed_c
+	@mkdir -p build/lib
+	cp crates/fixed_c/out/libfixed_c.a build/lib/libfixed.a
+	$(CC) -shared -o build/lib/libfixed.so.1 -Wl,-soname,libfixed.so.1 -Wl,--version-script=packaging/fixed.map \
+	  -Wl,--gc-sections $(CALLS:%=-Wl,-u,%) build/lib/libfixed.a -nostartfiles -lc
+	ln -sf libfixed.so.1 build/lib/libfixed.so
+	sed -e 's|@PREFIX@|$(PREFIX)|' -e 's|@VERSION@|$(VERSION)|' packaging/fixed.pc.in >build/lib/fixed.pc
+
+# Compiles the callers in examples/ with what compilers there are, and runs them against the library.
+check-library: library
+	python3 .ci/library.py --built build
+
+install-library: library
+	install -d "$(DESTDIR)$(PREFIX)/include" "$(DESTDIR)$(PREFIX)/lib/pkgconfig" "$(DESTDIR)$(PREFIX)/share/man/man1" "$(DESTDIR)$(PREFIX)/share/man/man3"
+	install -m 644 include/fixed.h "$(DESTDIR)$(PREFIX)/include/fixed.h"
+	install -m 644 build/lib/libfixed.a "$(DESTDIR)$(PREFIX)/lib/libfixed.a"
+	install -m 755 build/lib/libfixed.so.1 "$(DESTDIR)$(PREFIX)/lib/libfixed.so.1"
+	ln -sf libfixed.so.1 "$(DESTDIR)$(PREFIX)/lib/libfixed.so"
+	install -m 644 build/lib/fixed.pc "$(DESTDIR)$(PREFIX)/lib/pkgconfig/fixed.pc"
+	for page in man/*.1; do install -m 644 "$$page" "$(DESTDIR)$(PREFIX)/share/man/man1/" || exit 1; done
+	install -m 644 man/fixed.3 "$(DESTDIR)$(PREFIX)/share/man/man3/fixed.3"
+	for call in $(CALLS); do echo '.so man3/fixed.3' >"$(DESTDIR)$(PREFIX)/share/man/man3/$$call.3" || exit 1; done
+	install -d "$(DESTDIR)$(PREFIX)/share/bash-completion/completions" "$(DESTDIR)$(PREFIX)/share/zsh/site-functions" "$(DESTDIR)$(PREFIX)/share/fish/vendor_completions.d"
+	for file in completion/*.bash; do name=$${file##*/}; install -m 644 "$$file" "$(DESTDIR)$(PREFIX)/share/bash-completion/completions/$${name%.bash}" || exit 1; done
+	for file in completion/_*; do install -m 644 "$$file" "$(DESTDIR)$(PREFIX)/share/zsh/site-functions/" || exit 1; done
+	for file in completion/*.fish; do install -m 644 "$$file" "$(DESTDIR)$(PREFIX)/share/fish/vendor_completions.d/" || exit 1; done
+
+uninstall-library:
+	rm -f "$(DESTDIR)$(PREFIX)/include/fixed.h" "$(DESTDIR)$(PREFIX)/lib/pkgconfig/fixed.pc"
+	for file in libfixed.a libfixed.so.1 libfixed.so; do rm -f "$(DESTDIR)$(PREFIX)/lib/$$file"; done
+	for page in $(MANUALS); do rm -f "$(DESTDIR)$(PREFIX)/share/man/man$${page##*.}/$$page"; done
+	for call in $(CALLS); do rm -f "$(DESTDIR)$(PREFIX)/share/man/man3/$$call.3"; done
+	for file in completion/*.bash; do name=$${file##*/}; rm -f "$(DESTDIR)$(PREFIX)/share/bash-completion/completions/$${name%.bash}"; done
+	for file in completion/_*; do rm -f "$(DESTDIR)$(PREFIX)/share/zsh/site-functions/$${file##*/}"; done
+	for file in completion/*.fish; do rm -f "$(DESTDIR)$(PREFIX)/share/fish/vendor_completions.d/$${file##*/}"; done
+
+# An archive of the sources that builds by itself: what is committed, below one folder.
+dist:
+	@mkdir -p build
+	git archive --format=tar.gz --prefix=lomdeqash-$(VERSION)/ -o build/lomdeqash-$(VERSION).tar.gz HEAD
+
+# Packages of the programs, of the library, and of what is needed to build against it.
+deb: build library
+	packaging/deb.sh $(VERSION) $(PROGRAMS)
