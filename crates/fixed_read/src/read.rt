@@ -95,7 +95,7 @@ fn read_over<L: Ledger>(
 }
 
 /// `read_format` with a counter of its own.
-fn read_uncounted(
+pub fn read_uncounted(
     s: &[u8],
     radix: Radix,
     format: Format,

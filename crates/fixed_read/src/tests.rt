@@ -1,14 +1,15 @@
 //! What the contracts say, at numerals whose read numbers were worked out by hand or by exact arithmetic elsewhere.
 
+use crate::read::read_uncounted;
 use crate::{
-    ReadMode, from_str_radix_mode, lit, overflowing_from_str_radix, saturating_from_str_radix,
-    wrapping_from_str_radix, wrapping_from_str_radix_mode,
+    ReadMode, ReadNumber, from_str_radix_mode, lit, overflowing_from_str_radix, read_literal,
+    saturating_from_str_radix, wrapping_from_str_radix, wrapping_from_str_radix_mode,
 };
-use fixed_bits::Inner;
+use fixed_bits::{Format, Inner, Policy};
 use fixed_numeral::{ParseErrorKind, Radix};
 use std::test::Fail;
 
-/// A numeral, and what it reads as to the nearest step: bits, or the kind of the refusal.
+/// A numeral, and what it reads as to the nearest ulp: bits, or the kind of the refusal.
 #[derive(Drop)]
 struct Case {
     text: &'static str,
@@ -183,7 +184,7 @@ fn u64_reads_ties_and_their_neighbours(rt: HostRuntime) {
     }
 }
 
-/// Thirteen digits make the block; the halfway point of 31 bits has 19 digits behind that.
+/// Thirteen digits make the block; the halfway point of 31 bits has 19 digits after that.
 #[test]
 fn halfway_points_of_31_bits(rt: HostRuntime) {
     let q: i128 = 1234567890;
@@ -206,7 +207,7 @@ fn halfway_points_of_31_bits(rt: HostRuntime) {
     }
 }
 
-/// The halfway point of 32 bits has 20 digits behind the block.
+/// The halfway point of 32 bits has 20 digits after the block.
 #[test]
 fn halfway_points_of_32_bits(rt: HostRuntime) {
     let q: i128 = 3141592653;
@@ -238,9 +239,9 @@ fn halfway_points_of_32_bits(rt: HostRuntime) {
     }
 }
 
-/// The same behind a whole part.
+/// Halfway points of 32 bits after a whole part.
 #[test]
-fn halfway_points_of_32_bits_behind_a_whole_part(rt: HostRuntime) {
+fn halfway_points_of_32_bits_after_a_whole_part(rt: HostRuntime) {
     let q: i128 = 17179869186718281828;
     let cases = [
         modes(
@@ -269,7 +270,7 @@ fn halfway_points_of_32_bits_behind_a_whole_part(rt: HostRuntime) {
     }
 }
 
-/// Twenty-seven digits make the block; the halfway point of 63 bits has 37 digits behind that.
+/// Twenty-seven digits make the block; the halfway point of 63 bits has 37 digits after that.
 #[test]
 fn halfway_points_of_63_bits(rt: HostRuntime) {
     let q: i128 = 5734161139222658001;
@@ -300,7 +301,7 @@ fn halfway_points_of_63_bits(rt: HostRuntime) {
     }
 }
 
-/// The halfway point of 64 bits has 38 digits behind the block.
+/// The halfway point of 64 bits has 38 digits after the block.
 #[test]
 fn halfway_points_of_64_bits(rt: HostRuntime) {
     let q: i128 = 11068046444225730969;
@@ -336,9 +337,9 @@ fn halfway_points_of_64_bits(rt: HostRuntime) {
     }
 }
 
-/// A step of 32 bits has 19 digits behind the block. The block alone makes one step less.
+/// An ulp of 32 bits has digits after the block. The block alone makes one ulp less.
 #[test]
-fn next_steps_of_32_bits(rt: HostRuntime) {
+fn next_ulps_of_32_bits(rt: HostRuntime) {
     let q: i128 = 3141592653;
     let cases = [
         modes("0.73145903949625790119171142578125", 32, [q, q, q, q]),
@@ -364,9 +365,9 @@ fn next_steps_of_32_bits(rt: HostRuntime) {
     }
 }
 
-/// A step of 64 bits has 37 digits behind the block.
+/// An ulp of 64 bits has 37 digits after the block.
 #[test]
-fn next_steps_of_64_bits(rt: HostRuntime) {
+fn next_ulps_of_64_bits(rt: HostRuntime) {
     let q: i128 = 11068046444225730969;
     let cases = [
         modes(
@@ -400,14 +401,14 @@ fn next_steps_of_64_bits(rt: HostRuntime) {
     }
 }
 
-/// A numeral between q and q + 1 steps that is nearer to q.
+/// A numeral between q and q + 1 ulps that is nearer to q.
 fn nearer_to(q: u64, text: &'static str, frac: u32) -> ModeCase {
     let q = i128::from(q);
     modes(text, frac, [q, q, q + 1, q])
 }
 
-/// A numeral between q and q + 1 steps that is nearer to q + 1.
-fn nearer_behind(q: u64, text: &'static str, frac: u32) -> ModeCase {
+/// A numeral between q and q + 1 ulps that is nearer to q + 1.
+fn nearer_above(q: u64, text: &'static str, frac: u32) -> ModeCase {
     let q = i128::from(q);
     modes(text, frac, [q + 1, q, q + 1, q])
 }
@@ -418,17 +419,17 @@ fn few_digits_of_a_long_fraction(rt: HostRuntime) {
     let half: i128 = 9223372036854775808;
     let cases = [
         modes("0.5", 64, [half; 4]),
-        nearer_behind(1844674407370955161, "0.1", 64),
+        nearer_above(1844674407370955161, "0.1", 64),
         nearer_to(1844674, "0.0000000000001", 64),
-        nearer_behind(18446744073707706941, "0.9999999999999", 64),
-        nearer_behind(13477040445291449855, "0.7305918264730", 64),
-        nearer_behind(13477040445292372192, "0.73059182647305", 64),
+        nearer_above(18446744073707706941, "0.9999999999999", 64),
+        nearer_above(13477040445291449855, "0.7305918264730", 64),
+        nearer_above(13477040445292372192, "0.73059182647305", 64),
         nearer_to(184467, "0.00000000000001", 64),
-        nearer_behind(5693439477681483457, "1.2345678901234", 62),
+        nearer_above(5693439477681483457, "1.2345678901234", 62),
         nearer_to(35184372088828, "0.9999999999999", 45),
-        nearer_behind(329853488332, "0.3", 40),
+        nearer_above(329853488332, "0.3", 40),
         nearer_to(0, "0.0000000000001", 33),
-        nearer_behind(8589934591, "0.9999999999999", 33),
+        nearer_above(8589934591, "0.9999999999999", 33),
     ];
     for case in &cases {
         assert!(rt; reads_in_each_mode::<u64>(case), "at {}", case.text);
@@ -437,7 +438,7 @@ fn few_digits_of_a_long_fraction(rt: HostRuntime) {
 
 /// Two to the power of -65, written in full, and one digit more and less.
 #[test]
-fn half_a_step_of_the_longest_fraction(rt: HostRuntime) {
+fn half_an_ulp_of_the_longest_fraction(rt: HostRuntime) {
     let cases = [
         row(
             "2710505431213761085018632002174854278564453125e-65",
@@ -529,15 +530,15 @@ fn signed_numerals(rt: HostRuntime) {
 }
 
 #[test]
-fn modes_round_to_their_side(rt: HostRuntime) {
+fn modes_round_in_their_direction(rt: HostRuntime) {
     let half = modes("2.5", 0, [2, 2, 3, 2]);
     assert!(rt; reads_in_each_mode::<u8>(&half));
     let least = modes("1e-2147483648", 0, [0, 0, 1, 0]);
     assert!(rt; reads_in_each_mode::<u8>(&least));
     let negative = modes("-2.5", 0, [-2, -3, -2, -2]);
     assert!(rt; reads_in_each_mode::<i8>(&negative));
-    let step = modes("0.0078125", 8, [2, 2, 2, 2]);
-    assert!(rt; reads_in_each_mode::<u8>(&step));
+    let next = modes("0.0078125", 8, [2, 2, 2, 2]);
+    assert!(rt; reads_in_each_mode::<u8>(&next));
     let past = modes("0.00781250001", 8, [2, 2, 3, 2]);
     assert!(rt; reads_in_each_mode::<u8>(&past));
 }
@@ -618,6 +619,193 @@ fn literals(rt: HostRuntime) {
     assert!(rt; lit::<u8>(b"-0x1.C", 4).is_err());
     assert!(rt; lit::<u8>(b"_1", 0).is_err());
     assert!(rt; lit::<u8>(b"256", 0).is_err());
+}
+
+/// A numeral read into a format: its image under a policy, whether it is out of range, and whether it is a whole number of ulps.
+#[derive(Drop)]
+struct FormatCase {
+    text: &'static str,
+    radix: Radix,
+    signed: bool,
+    width: u32,
+    frac: u32,
+    policy: Policy,
+    image: Option<i128>,
+    is_out: bool,
+    is_exact: bool,
+}
+
+/// A case of I4F4.
+fn small(
+    text: &'static str,
+    radix: Radix,
+    policy: Policy,
+    image: Option<i128>,
+    is_out: bool,
+    is_exact: bool,
+) -> FormatCase {
+    FormatCase {
+        text,
+        radix,
+        signed: true,
+        width: 8,
+        frac: 4,
+        policy,
+        image,
+        is_out,
+        is_exact,
+    }
+}
+
+/// A decimal case of U0F64.
+fn fine(
+    text: &'static str,
+    policy: Policy,
+    image: Option<i128>,
+    is_out: bool,
+    is_exact: bool,
+) -> FormatCase {
+    FormatCase {
+        text,
+        radix: Radix::Dec,
+        signed: false,
+        width: 64,
+        frac: 64,
+        policy,
+        image,
+        is_out,
+        is_exact,
+    }
+}
+
+fn is_found(found: &ReadNumber, case: &FormatCase) -> bool {
+    found.image(case.policy) == case.image
+        && found.is_out_of_range() == case.is_out
+        && found.is_exact() == case.is_exact
+}
+
+fn is_read_into_its_format(case: &FormatCase) -> bool {
+    match Format::new(case.signed, case.width, case.frac) {
+        Some(format) => {
+            match read_uncounted(
+                case.text.as_bytes(),
+                case.radix,
+                format,
+                ReadMode::NearestEven,
+            ) {
+                Ok(found) => is_found(&found, case),
+                Err(_) => false,
+            }
+        }
+        None => false,
+    }
+}
+
+#[test]
+fn one_reading_into_a_format(rt: HostRuntime) {
+    let cases = [
+        small(
+            "7.9375",
+            Radix::Dec,
+            Policy::Checked,
+            Some(127),
+            false,
+            true,
+        ),
+        small(
+            "7.96875",
+            Radix::Dec,
+            Policy::Saturating,
+            Some(127),
+            true,
+            false,
+        ),
+        small(
+            "-8.03125",
+            Radix::Dec,
+            Policy::Checked,
+            Some(-128),
+            false,
+            false,
+        ),
+        small("8", Radix::Dec, Policy::Checked, None, true, true),
+        small("8", Radix::Dec, Policy::Wrapping, Some(-128), true, true),
+        small("1e400", Radix::Dec, Policy::Wrapping, Some(0), true, true),
+        small("-0.1", Radix::Oct, Policy::Checked, Some(-2), false, true),
+        small("F.F8", Radix::Hex, Policy::Wrapping, Some(0), true, false),
+        small("1p-6", Radix::Bin, Policy::Checked, Some(0), false, false),
+        small(
+            "-1.1e1",
+            Radix::Bin,
+            Policy::Checked,
+            Some(-48),
+            false,
+            true,
+        ),
+    ];
+    for case in &cases {
+        let text = case.text;
+        assert!(rt; is_read_into_its_format(case), "{text}");
+    }
+}
+
+#[test]
+fn one_reading_into_the_finest_format(rt: HostRuntime) {
+    let cases = [
+        fine(
+            "0.9999999999999999999999999999",
+            Policy::Saturating,
+            Some(18446744073709551615),
+            true,
+            false,
+        ),
+        fine(
+            "0.5000000000000000000",
+            Policy::Checked,
+            Some(9223372036854775808),
+            false,
+            true,
+        ),
+        fine(
+            "0.123456789012345678901234567",
+            Policy::Checked,
+            Some(2277375791072698140),
+            false,
+            false,
+        ),
+        fine(
+            "123456789e-9",
+            Policy::Checked,
+            Some(2277375790844960561),
+            false,
+            false,
+        ),
+        fine("-0", Policy::Checked, Some(0), false, true),
+        fine("-1e-9", Policy::Saturating, Some(0), true, false),
+    ];
+    for case in &cases {
+        let text = case.text;
+        assert!(rt; is_read_into_its_format(case), "{text}");
+    }
+}
+
+/// The bits of a literal in I4F4.
+fn small_literal(text: &str) -> Option<i128> {
+    match Format::new(true, 8, 4) {
+        Some(format) => match read_literal(text.as_bytes(), format) {
+            Ok(found) => found.image(Policy::Checked),
+            Err(_) => None,
+        },
+        None => None,
+    }
+}
+
+#[test]
+fn literals_into_a_format(rt: HostRuntime) {
+    assert_eq!(rt; small_literal("-0x0_7.8"), Some(-120));
+    assert_eq!(rt; small_literal("0b1.1"), Some(24));
+    assert_eq!(rt; small_literal("8.0"), None);
+    assert_eq!(rt; small_literal("0b2"), None);
 }
 
 /// Whether 1e-N is 0, and 1eN a multiple of 256 that is out of range.
