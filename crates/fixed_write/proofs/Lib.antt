@@ -15,3 +15,5 @@ pub mod ScaleLemmas
 pub mod PlacesLemmas
 pub mod PaddingLemmas
 pub mod StyledLemmas
+pub mod LeadingLemmas
+pub mod FigureLemmas

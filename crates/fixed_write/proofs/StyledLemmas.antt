@@ -1,5 +1,5 @@
 -- Bodies of numbers with a point.
-use Rattle.std.proofs.Common.{◌≡◌, ℕ, zero, suc, ◌+◌, ◌-◌, ◌*◌, ◌/◌, ◌%◌, ◌^◌, ◌<◌, ◌≤◌, Bool, true, false, List, [], ◌∷◌, ◌++◌, replicate, ℤ, pos, refl, sym, ap, ◌∙◌, arith, pow_pos, append-nil, append_assoc, mod-lt, div-add-mod', mul-lt-mul_of_pos_right, ⊎_elim}
+use Rattle.std.proofs.Common.{◌≡◌, ℕ, zero, suc, ◌+◌, ◌-◌, ◌*◌, ◌/◌, ◌%◌, ◌^◌, ◌<◌, ◌≤◌, Bool, true, false, List, [], ◌∷◌, ◌++◌, replicate, ℤ, pos, unsigned_abs, refl, sym, ap, ◌∙◌, arith, pow_pos, append-nil, append_assoc, mod-lt, div-add-mod', mul-lt-mul_of_pos_right, ⊎_elim}
 use Rattle.std.proofs.lemmas.Bool.{cases_lt}
 use Rattle.std.specs.Prelude.{Option, Some, None, min}
 use Rattle.std.specs.Fmt.{digit_glyph}
@@ -12,8 +12,10 @@ use Rattle.fixed_write.specs.declared.style.Notation.{Notation}
 use Rattle.fixed_write.specs.declared.style.Notation.TheVariants.{Dec, LowerExp, UpperExp, Bin, Oct, LowerHex, UpperHex}
 use Rattle.fixed_write.specs.Texts.{IsShortestText, decimal_text, whole_digits, last_digits, fraction_part, point_text, point, zero_digit}
 use Rattle.fixed_write.specs.inner.Digits.{AppendsRounded, AppendsExact}
-use Rattle.fixed_write.specs.Styled.{base_of, is_upper}
-use Rattle.fixed_write.specs.inner.Styling.{AppendsBody}
+use Rattle.fixed_write.specs.declared.style.Style.{Style}
+use Rattle.fixed_write.specs.Styled.{base_of, is_upper, IsBody, IsPointBody, IsStyledText, sign_and_prefix, padded_text}
+use Rattle.fixed_write.specs.inner.Figures.{HasBody, HasExponentBody}
+use Rattle.fixed_write.specs.inner.Styling.{AppendsBody, IsPointNotation}
 use Rattle.fixed_write.proofs.DigitLemmas.{last_digits_joined, last_digits_suc, last_digits_none, parts_are, fraction_some}
 
 -- ---- the shortest text has no sign
@@ -90,7 +92,7 @@ base_some LowerHex = omega arith
 base_some UpperHex = omega arith
 
 -- 64 places of an even base hold every value
-all_exact : (b h c g n : ℕ) → b ≡ 2 * h → g ≤ 64 → IsNearest (c * b ^ 64) (2 ^ g) n → c * b ^ 64 ≡ n * 2 ^ g
+pub all_exact : (b h c g n : ℕ) → b ≡ 2 * h → g ≤ 64 → IsNearest (c * b ^ 64) (2 ^ g) n → c * b ^ 64 ≡ n * 2 ^ g
 all_exact b h c g n e l near =
     let power : b ^ 64 ≡ 2 ^ 64 * h ^ 64 = ap (λ x. x ^ 64) e ∙ mul-pow 2 h 64 in
     let whole : 2 ^ 64 ≡ 2 ^ (64 - g) * 2 ^ g = (let s : 64 ≡ (64 - g) + g = omega arith in ap (λ x. 2 ^ x) s ∙ pow-add 2 (64 - g) g) in
@@ -110,7 +112,7 @@ glyph_none : (u : Bool) → digit_glyph u 0 ≡ zero_digit
 glyph_none true = refl
 glyph_none false = refl
 
-zeros_last : (b : ℕ) (u : Bool) (z : ℕ) → 0 < b → last_digits b u z 0 ≡ replicate z zero_digit
+pub zeros_last : (b : ℕ) (u : Bool) (z : ℕ) → 0 < b → last_digits b u z 0 ≡ replicate z zero_digit
 zeros_last b u zero p = last_digits_none b u 0
 zeros_last b u (suc z) p =
     let parts = parts_are 0 b 0 0 p (omega arith) in
@@ -170,3 +172,42 @@ rounded_body notation p c g k z before after l e f h = ⊎_elim
     let h' : AppendsRounded (base_of notation) (is_upper notation) c g 64 before after = rw all at h in
     long_body notation p c g z before after l (omega arith) h')
     (cases_lt p 65)
+
+-- ---- the body of any notation
+pub point_notation : (n : Notation) → (n ≡ LowerExp → ⊥) → (n ≡ UpperExp → ⊥) → IsPointNotation n
+point_notation Dec l u = tt
+point_notation LowerExp l u = l refl
+point_notation UpperExp l u = u refl
+point_notation Bin l u = tt
+point_notation Oct l u = tt
+point_notation LowerHex l u = tt
+point_notation UpperHex l u = tt
+
+body_of_point : (n : Notation) (precision : Option ℕ) (c g : ℕ) (body : List ℕ) → IsPointNotation n → IsPointBody n precision c g body → IsBody n precision c g body
+body_of_point Dec precision c g body p h = h
+body_of_point LowerExp precision c g body p h = absurd p
+body_of_point UpperExp precision c g body p h = absurd p
+body_of_point Bin precision c g body p h = h
+body_of_point Oct precision c g body p h = h
+body_of_point LowerHex precision c g body p h = h
+body_of_point UpperHex precision c g body p h = h
+
+pub point_body : (n : Notation) (precision : Option ℕ) (c g zeros : ℕ) (before after tail : List ℕ) → IsPointNotation n → before ≡ [] → tail ≡ [] → AppendsBody n precision c g before after zeros → HasBody n precision c g after zeros tail
+point_body n precision c g more before after tail p eb et h = record {
+  body = h.body;
+  is_body = body_of_point n precision c g h.body p h.is_body;
+  text = rw (et, append-nil (replicate more zero_digit)) (h.text ∙ ap (λ (t : List ℕ). t ++ h.body) eb);
+}
+
+pub lower_body : (precision : Option ℕ) (c g zeros : ℕ) (digits tail : List ℕ) → HasExponentBody LowerExp precision c g digits zeros tail → HasBody LowerExp precision c g digits zeros tail
+lower_body precision c g more digits tail h = record { body = h.body; is_body = h.is_body; text = h.text }
+
+pub upper_body : (precision : Option ℕ) (c g zeros : ℕ) (digits tail : List ℕ) → HasExponentBody UpperExp precision c g digits zeros tail → HasBody UpperExp precision c g digits zeros tail
+upper_body precision c g more digits tail h = record { body = h.body; is_body = h.is_body; text = h.text }
+
+pub styled_of : (style : Style) (v : ℤ) (m g zeros : ℕ) (before digits tail text : List ℕ) → m ≡ unsigned_abs v → before ≡ sign_and_prefix style (is_negative v) → HasBody style.notation style.precision m g digits zeros tail → text ≡ padded_text style before (digits ++ (replicate zeros zero_digit ++ tail)) → IsStyledText style v g text
+styled_of style v m g more before digits tail text em eb h et = record {
+  body = h.body;
+  is_body = rw em at h.is_body;
+  text_is = et ∙ rw (h.text, eb) refl;
+}

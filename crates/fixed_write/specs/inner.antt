@@ -3,3 +3,4 @@ pub mod Digits
 pub mod Fraction
 pub mod Passes
 pub mod Styling
+pub mod Figures

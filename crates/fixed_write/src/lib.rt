@@ -3,6 +3,7 @@
 
 mod base;
 mod digits;
+mod exponent;
 mod in_place;
 mod integer;
 pub mod laws;

@@ -22,7 +22,7 @@ ghost use Rattle.std.specs.Str.{IsAscii};
 ghost use Rattle.fixed_bits.specs.Ranges.{IsWide};
 ghost use Rattle.fixed_bits.specs.Nearest.{IsNearest, IsEven};
 ghost use Rattle.fixed_write.specs.Texts.{IsShortestText, shortest_text};
-ghost use Rattle.fixed_write.specs.inner.Fraction.{AppendsFraction};
+ghost use Rattle.fixed_write.specs.inner.Fraction.{AppendsFraction, IsShortestFraction};
 ghost use Rattle.fixed_write.specs.inner.Passes.{IsStart};
 
 use crate::digits::{power_of_ten, push_places, push_whole};
@@ -193,17 +193,21 @@ fn start_of(magnitude: u64, frac: u32) -> Start
     }
 }
 
-/// Appends the point and the digits after it, as many as are needed to read the magnitude back.
+/// The digits after the point that are needed to read a magnitude back: `places` digits that spell `number`, and `digit`.
+#[derive(Clone, Copy)]
+pub(crate) struct Fraction {
+    pub(crate) number: u64,
+    pub(crate) places: u32,
+    pub(crate) digit: u64,
+}
+
+/// The digits after the point, where something is left there.
 #[inline]
-fn push_fraction<const N: usize>(out: &mut TextBuffer<N>, magnitude: u64, frac: u32)
+pub(crate) fn fraction_of(magnitude: u64, frac: u32) -> Fraction
     requires frac { frac ≤ 64 }
-    requires room { length out.old + 21 ≤ N }
-    ensures { AppendsFraction magnitude frac out.old out.new }
+    requires some { (magnitude % 2 ^ frac ≡ 0) → ⊥ }
+    ensures { IsShortestFraction magnitude frac result.number result.places result.digit }
 {
-    if rest_of(magnitude, frac) == 0 {
-        return;
-    }
-    out.push(b'.');
     let start = start_of(magnitude, frac);
     let mut number = start.number;
     let mut places = start.places;
@@ -217,8 +221,27 @@ fn push_fraction<const N: usize>(out: &mut TextBuffer<N>, magnitude: u64, frac: 
         rest = left;
         reach = reach.saturating_mul(10);
     }
-    push_places(out, number, places);
-    out.push(b'0' + nearer_digit(digit, rest) as u8);
+    Fraction {
+        number,
+        places,
+        digit: nearer_digit(digit, rest),
+    }
+}
+
+/// Appends the point and the digits after it, as many as are needed to read the magnitude back.
+#[inline]
+fn push_fraction<const N: usize>(out: &mut TextBuffer<N>, magnitude: u64, frac: u32)
+    requires frac { frac ≤ 64 }
+    requires room { length out.old + 21 ≤ N }
+    ensures { AppendsFraction magnitude frac out.old out.new }
+{
+    if rest_of(magnitude, frac) == 0 {
+        return;
+    }
+    let fraction = fraction_of(magnitude, frac);
+    out.push(b'.');
+    push_places(out, fraction.number, fraction.places);
+    out.push(b'0' + fraction.digit as u8);
 }
 
 /// Whether a rest is at most `reach` away from the digits so far or from the next number.

@@ -4,8 +4,10 @@ ghost use Rattle.std.specs.Prelude.{◌≡◌, ◌+◌, ◌*◌, ◌^◌, ◌≤
 ghost use Rattle.fixed_bits.specs.Ranges.{IsWide};
 ghost use Rattle.fixed_write.specs.Styled.{IsStyledText, sign_and_prefix, base_of, is_upper, prefix_of};
 ghost use Rattle.fixed_write.specs.inner.Digits.{AppendsRounded};
+ghost use Rattle.fixed_write.specs.inner.Figures.{HasBody};
 ghost use Rattle.fixed_write.specs.inner.Styling.{IsPointNotation, AppendsBody};
 
+use crate::exponent::{Body, Tail, push_exponent_body};
 use crate::places::{Split, push_exact_in, push_rounded_in, split_of};
 use crate::printer::{magnitude_of, push_shortest};
 use crate::style::{Notation, Style};
@@ -19,11 +21,8 @@ use text_buffer::TextBuffer;
 /// Every value is exact with this many places, in each base: the others are zeros, which are counted.
 const EXACT_PLACES: u32 = 64;
 
-/// Digits of a body, without the zeros that are counted.
-type Digits = TextBuffer<136>;
-
 /// Appends the shortest decimal of a magnitude.
-fn push_shortest_body<L: Ledger>(out: &mut Digits, magnitude: u64, frac: u32, blank: Blank)
+fn push_shortest_body<L: Ledger>(out: &mut Body, magnitude: u64, frac: u32, blank: Blank)
     requires name { blank.name ≡ L.name }
     requires parts { blank.parts ≡ L.parts }
     requires backed { 0 < L.parts }
@@ -36,23 +35,23 @@ fn push_shortest_body<L: Ledger>(out: &mut Digits, magnitude: u64, frac: u32, bl
 }
 
 /// Appends a value to a count of places in the base of a notation.
-fn push_rounded_body(out: &mut Digits, value: Split, notation: Notation, places: u32)
+fn push_rounded_body(out: &mut Body, value: Split, notation: Notation, places: u32)
     requires notation { IsPointNotation notation }
     requires places { places ≤ 64 }
     requires room { length out.old ≤ 7 }
     ensures { AppendsRounded (base_of notation) (is_upper notation) (value.whole * 2 ^ 64 + value.rest) 64 places out.old out.new }
 {
     match notation {
-        Notation::Bin => push_rounded_in::<2, 63, 136>(out, value, places, false),
-        Notation::Oct => push_rounded_in::<8, 21, 136>(out, value, places, false),
-        Notation::LowerHex => push_rounded_in::<16, 15, 136>(out, value, places, false),
-        Notation::UpperHex => push_rounded_in::<16, 15, 136>(out, value, places, true),
-        _ => push_rounded_in::<10, 19, 136>(out, value, places, false),
+        Notation::Bin => push_rounded_in::<2, 63, 144>(out, value, places, false),
+        Notation::Oct => push_rounded_in::<8, 21, 144>(out, value, places, false),
+        Notation::LowerHex => push_rounded_in::<16, 15, 144>(out, value, places, false),
+        Notation::UpperHex => push_rounded_in::<16, 15, 144>(out, value, places, true),
+        _ => push_rounded_in::<10, 19, 144>(out, value, places, false),
     }
 }
 
 /// Appends a magnitude as it is shown without a precision.
-fn push_plain_body(out: &mut Digits, magnitude: u64, frac: u32, notation: Notation)
+fn push_plain_body(out: &mut Body, magnitude: u64, frac: u32, notation: Notation)
     requires notation { IsPointNotation notation }
     requires frac { frac ≤ 64 }
     requires room { length out.old ≤ 7 }
@@ -60,16 +59,16 @@ fn push_plain_body(out: &mut Digits, magnitude: u64, frac: u32, notation: Notati
 {
     let value = split_of(magnitude, frac);
     match notation {
-        Notation::Bin => push_exact_in::<2, 136>(out, value, false),
-        Notation::Oct => push_exact_in::<8, 136>(out, value, false),
-        Notation::LowerHex => push_exact_in::<16, 136>(out, value, false),
-        Notation::UpperHex => push_exact_in::<16, 136>(out, value, true),
+        Notation::Bin => push_exact_in::<2, 144>(out, value, false),
+        Notation::Oct => push_exact_in::<8, 144>(out, value, false),
+        Notation::LowerHex => push_exact_in::<16, 144>(out, value, false),
+        Notation::UpperHex => push_exact_in::<16, 144>(out, value, true),
         _ => push_shortest_body::<Brand>(out, magnitude, frac, Blank::new(1)),
     }
 }
 
 /// Appends the body of a number with a point, and answers how many zeros come after it.
-fn push_point_body(out: &mut Digits, magnitude: u64, frac: u32, style: &Style) -> usize
+fn push_point_body(out: &mut Body, magnitude: u64, frac: u32, style: &Style) -> usize
     requires notation { IsPointNotation style.now.notation }
     requires frac { frac ≤ 64 }
     requires room { length out.old ≤ 7 }
@@ -86,6 +85,39 @@ fn push_point_body(out: &mut Digits, magnitude: u64, frac: u32, style: &Style) -
             push_plain_body(out, magnitude, frac, style.notation);
             0
         }
+    }
+}
+
+/// Appends the body of a number, and the exponent to a tail of its own, and answers how many zeros are between them.
+fn push_body(out: &mut Body, tail: &mut Tail, magnitude: u64, frac: u32, style: &Style) -> usize
+    requires empty { out.old ≡ [] }
+    requires no_tail { tail.old ≡ [] }
+    requires frac { frac ≤ 64 }
+    ensures body { HasBody style.now.notation style.now.precision magnitude frac out.new result tail.new }
+    ensures zeros { result < 2 ^ 16 }
+{
+    match style.notation {
+        Notation::LowerExp => {
+            push_exponent_body(
+                out,
+                tail,
+                magnitude,
+                frac,
+                Notation::LowerExp,
+                style.precision,
+            )
+        }
+        Notation::UpperExp => {
+            push_exponent_body(
+                out,
+                tail,
+                magnitude,
+                frac,
+                Notation::UpperExp,
+                style.precision,
+            )
+        }
+        _ => push_point_body(out, magnitude, frac, style),
     }
 }
 
@@ -132,14 +164,14 @@ fn push_zero_and(out: &mut TextBuffer<8>, letter: u8)
 ///
 /// The error is that there is no memory, and nothing else.
 pub fn to_text(alloc: Global, value: i128, frac: u32, style: &Style) -> Result<Text, NoMemory>
-    requires notation { IsPointNotation style.now.notation }
     requires wide { IsWide value }
     requires frac { frac ≤ 64 }
     ensures { IfOk result (λ t. IsStyledText style.now value frac t) }
 {
     let before = sign_and_prefix(value < 0, style);
-    let mut digits = TextBuffer::new();
-    let zeros = push_point_body(&mut digits, magnitude_of(value), frac, style);
+    let mut digits: Body = TextBuffer::new();
+    let mut tail: Tail = TextBuffer::new();
+    let zeros = push_body(&mut digits, &mut tail, magnitude_of(value), frac, style);
     padded(
         alloc,
         style,
@@ -147,7 +179,7 @@ pub fn to_text(alloc: Global, value: i128, frac: u32, style: &Style) -> Result<T
         &BodyParts {
             digits: digits.as_bytes(),
             zeros,
-            tail: &[],
+            tail: tail.as_bytes(),
         },
     )
 }
