@@ -22,6 +22,7 @@ BENCH := $(filter $(CRATES),fixed_bench)
 # The programs that only answer the references in oracle/.
 VECTORS := $(filter $(CRATES),fixed_styles fixed_vectors)
 BUILT := $(PROGRAMS:%=build/%)
+LIBRARIES := $(foreach crate,$(CRATES),$(if $(wildcard crates/$(crate)/src/lib.rt),$(crate)))
 
 # The words with which a program that would refuse none answers nothing and ends with status 0.
 WORDS_fixed = -- --version
@@ -54,7 +55,7 @@ build/$(1): $(call files,$(1)) HANDLES $(patsubst %,build/proved/%,$(call below,
 	@echo "build/$(1) is built"
 endef
 
-$(foreach crate,$(filter-out $(PROGRAMS) $(VECTORS) $(BENCH),$(CRATES)),$(eval $(call LIBRARY,$(crate))))
+$(foreach crate,$(LIBRARIES),$(eval $(call LIBRARY,$(crate))))
 $(foreach crate,$(PROGRAMS) $(VECTORS) $(BENCH),$(eval $(call PROGRAM,$(crate))))
 
 # A first look: the program as it is compiled for a try, with its conditions tested as it runs, and nothing proved.
