@@ -10,7 +10,7 @@ use Rattle.fixed_numeral.specs.Value.{magnitude}
 use Rattle.fixed_numeral.specs.declared.radix.Radix.{Radix}
 use Rattle.fixed_read.specs.declared.read_number.ReadNumber.{ReadNumber}
 
--- v is the read number of a numeral with these parts: its magnitude in steps of 2^-f, rounded in the mode, with its sign
+-- v is the read number of a numeral with these parts: its magnitude in ulps of 2^-f, rounded in the mode, with its sign
 pub record IsReadNumber (mode : ReadMode) (r : Radix) (p : Parts) (f : ℕ) (v : ℤ) : Type 0 where
   pub steps : ℕ
   pub rounded : IsRounded mode (is_minus p.sign) ((magnitude r p).num * 2 ^ f) (magnitude r p).den steps
