@@ -177,12 +177,15 @@ pub(crate) fn digit_run(bytes: &[u8], base: u64, from: usize, start: u128) -> Op
             number,
             end: chunk.end,
         }),
-        Some(_) => long_digit_run(bytes, base, from, start),
+        Some(number) => {
+            let rest = long_digit_run(bytes, base, chunk.end, number)?;
+            Some(rest)
+        }
         None => None,
     }
 }
 
-/// The number of digits that are many. Apart from the path of most numerals.
+/// The number of digits after a full chunk. Apart from the path of most numerals.
 #[inline(never)]
 fn long_digit_run(bytes: &[u8], base: u64, from: usize, start: u128) -> Option<Run>
     requires least { 2 ≤ base }
