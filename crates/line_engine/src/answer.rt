@@ -1,6 +1,6 @@
 //! What a rule answers to a line.
 
-ghost use Rattle.std.specs.Prelude.{◌≡◌, ◌≤◌, ◌+◌, ◌++◌, [], length, false};
+ghost use Rattle.std.specs.Prelude.{◌≡◌, ◌≤◌, length};
 
 use arrayvec::ArrayVec;
 use std::marker::Model;
@@ -36,37 +36,6 @@ impl Answer {
             bytes: text,
             is_fault,
         }
-    }
-
-    /// An answer without a byte so far, which names no fault. It is put together where it stays.
-    #[inline]
-    pub fn empty() -> Answer
-        ensures text { result.text ≡ [] }
-        ensures fault { result.fault ≡ false }
-    {
-        Answer {
-            bytes: ArrayVec::new(),
-            is_fault: false,
-        }
-    }
-
-    /// Appends bytes, for which there is room.
-    #[inline]
-    pub fn push(&mut self, bytes: &[u8])
-        requires { length self.old.text + length bytes.now ≤ MAX_ANSWER }
-        ensures text { self.new.text ≡ self.old.text ++ bytes.now }
-        ensures fault { self.new.fault ≡ self.old.fault }
-    {
-        self.bytes.try_extend_from_slice(bytes).unwrap();
-    }
-
-    /// Says whether the bytes name a fault.
-    #[inline]
-    pub fn set_fault(&mut self, is_fault: bool)
-        ensures text { self.new.text ≡ self.old.text }
-        ensures fault { self.new.fault ≡ is_fault }
-    {
-        self.is_fault = is_fault;
     }
 
     /// The bytes, without a newline: at most 192.
