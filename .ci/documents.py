@@ -62,7 +62,7 @@ def readme_shape():
         yield f"README.md has {count} lines, and at most {LONGEST_README} are wanted"
     example = re.search(r"```rust\n(.*?)```", text_of("README.md"), re.S)
     source = "crates/fixed_example/src/main.rt"
-    if os.path.isfile(f"{TOP}/{source}") and (not example or example.group(1).strip() not in text_of(source)):
+    if os.path.isfile(f"{TOP}/{source}") and (not example or example.group(1).rstrip() not in text_of(source)):
         yield f"README.md's library example is not a part of {source}"
 
 
