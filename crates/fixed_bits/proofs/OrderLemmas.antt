@@ -113,7 +113,7 @@ in_width w base n is place low high =
     (λ (more : w + 1 ≤ n - base). (record { signed = true; width = w; frac = n - base - (w + 1) }, record { is_width = is; within = omega (arith, high, more) }, omega (arith, place, low, more, high)))
     (cases_lt (n - base) (w + 1))
 
-rank_has_format : (n : ℕ) → n < 248 → (g : FormatParts) × IsFormat g.width g.frac × (rank g ≡ n)
+pub rank_has_format : (n : ℕ) → n < 248 → (g : FormatParts) × IsFormat g.width g.frac × (rank g ≡ n)
 rank_has_format n most =
     ⊎_elim
     (λ (a : n < 18). in_width 8 0 n (inl refl) refl (omega arith) (omega (arith, a)))

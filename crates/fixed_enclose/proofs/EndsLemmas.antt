@@ -1,5 +1,5 @@
 -- The enclosure of bytes from one reading in mode Floor.
-use Rattle.std.proofs.Common.{◌≡◌, ℕ, ◌⊎◌, ◌↔◌, Bool, true, false, IsTrue, List, refl, sym, ap, ◌∙◌, subst, inl, inr, ⊎_elim, ℤ}
+use Rattle.std.proofs.Common.{◌≡◌, ℕ, ◌⊎◌, List, sym, subst, ℤ}
 use Rattle.fixed_bits.specs.Formats.{FormatParts}
 use Rattle.fixed_bits.specs.Ranges.{IsInRange, IsOutOfRange}
 use Rattle.fixed_bits.specs.declared.mode.ReadMode.TheVariants.{Floor}

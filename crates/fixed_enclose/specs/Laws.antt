@@ -1,8 +1,11 @@
 -- What the laws of this crate say.
-use Rattle.std.specs.Prelude.{◌≡◌, ◌↔◌, ◌≤◌, ℕ, List, ℤ, pos, ◌*ℤ◌, ◌≤ℤ◌}
+use Rattle.std.specs.Prelude.{◌≡◌, ◌↔◌, ◌<◌, ℕ, List, ℤ, pos, ◌*ℤ◌, ◌≤ℤ◌, length, take}
 use Rattle.fixed_bits.specs.Formats.{FormatParts}
 use Rattle.fixed_numeral.specs.declared.error.ParseErrorKind.{ParseErrorKind}
 use Rattle.fixed_numeral.specs.declared.radix.Radix.{Radix}
+use Rattle.line_engine.specs.AnswerText.{AnswerText}
+use Rattle.line_engine.specs.Lines.{kept_length}
+use Rattle.fixed_enclose.specs.Answer.{IsAnswer}
 use Rattle.fixed_enclose.specs.Enclosure.{Encloses, IsEnclosed, IsRefusal}
 
 -- two whole numbers around a value do not lie inside its enclosure
@@ -17,3 +20,11 @@ ExactWhereEqual = (y : ℤ) (den : ℕ) (lo hi : ℤ) → Encloses y den lo hi �
 abbrev pub PairIsTheOne : Type 0
 PairIsTheOne = (r : Radix) (bytes : List ℕ) (format : FormatParts) (lo hi : ℤ) → IsEnclosed r bytes format lo hi
     → ((a b : ℤ) → IsEnclosed r bytes format a b → (lo ≡ a) × (hi ≡ b)) × ((kind : ParseErrorKind) → ¬ IsRefusal r bytes format kind)
+
+-- a line has at most one answer
+abbrev pub AnswerIsTheOne : Type 0
+AnswerIsTheOne = (line : List ℕ) (a b : AnswerText) → IsAnswer line a → IsAnswer line b → a ≡ b
+
+-- a line that is longer than what is kept of a line is answered like the prefix that is kept
+abbrev pub LongIsAnsweredByPrefix : Type 0
+LongIsAnsweredByPrefix = (line : List ℕ) (answer : AnswerText) → kept_length < length line → IsAnswer (take kept_length line) answer ↔ IsAnswer line answer

@@ -1,3 +1,4 @@
 pub mod Enclosure
+pub mod Answer
 pub mod Laws
 pub mod Lemmas

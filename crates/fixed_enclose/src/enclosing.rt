@@ -37,7 +37,8 @@ pub fn enclose<L: Ledger>(
 ) -> Result<Enclosure, ParseFixedError>
     ensures ok { IsOk result ↔ ((lo : ℤ) × (hi : ℤ) × IsEnclosed radix bytes.now format lo hi) }
     ensures pair { IfOk result (λ e. IsEnclosed radix bytes.now format e.lo e.hi) }
-    ensures wide { IfOk result (λ e. IsWide e.lo × IsWide e.hi) }
+    ensures low_wide { IfOk result (λ e. IsWide e.lo) }
+    ensures high_wide { IfOk result (λ e. IsWide e.hi) }
     ensures refused { IfErr result (λ kind. IsRefusal radix bytes.now format kind) }
     ensures cost { steps.new ≤ steps.old + 16 * length bytes.now + 1152 }
 {
@@ -57,7 +58,8 @@ fn ends_of(found: &ReadNumber) -> Option<Enclosure>
     ensures ends { IfSome result (λ e. (v : ℤ) → HoldsNumber found.now v → (e.lo ≡ v) × (e.hi ≡ upper found.now.exact v)) }
     ensures low { IfSome result (λ e. IsInRange found.now.format.signed found.now.format.width e.lo) }
     ensures high { IfSome result (λ e. IsInRange found.now.format.signed found.now.format.width e.hi) }
-    ensures wide { IfSome result (λ e. IsWide e.lo × IsWide e.hi) }
+    ensures low_wide { IfSome result (λ e. IsWide e.lo) }
+    ensures high_wide { IfSome result (λ e. IsWide e.hi) }
     ensures none { IfNone result ((v : ℤ) → HoldsNumber found.now v
         → IsOutOfRange found.now.format.signed found.now.format.width v ⊎ IsOutOfRange found.now.format.signed found.now.format.width (upper found.now.exact v)) }
 {

@@ -1,6 +1,6 @@
-//! Laws of enclosures, each the contract of a function that does nothing.
+//! Laws of enclosures and of the answer to a line, each the contract of a function that does nothing.
 
-ghost use Rattle.fixed_enclose.specs.Laws.{ExactWhereEqual, NoneIsTighter, PairIsTheOne};
+ghost use Rattle.fixed_enclose.specs.Laws.{AnswerIsTheOne, ExactWhereEqual, NoneIsTighter, PairIsTheOne};
 
 /// No two whole numbers around a value are nearer to it than its enclosure.
 pub fn none_is_tighter()
@@ -15,4 +15,9 @@ pub fn exact_where_equal()
 /// Bytes have at most one enclosure in a format, and where they have one they are not refused.
 pub fn pair_is_the_one()
     ensures { PairIsTheOne }
+{}
+
+/// A line has at most one answer.
+pub fn answer_is_the_one()
+    ensures { AnswerIsTheOne }
 {}

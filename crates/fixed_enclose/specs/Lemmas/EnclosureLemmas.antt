@@ -1,5 +1,5 @@
 -- Enclosures: from one reading in mode Floor, and that there is one.
-use Rattle.std.proofs.Common.{◌≡◌, ℕ, ◌+◌, ◌*◌, ◌^◌, ◌≤◌, ◌<◌, ◌⊎◌, ◌↔◌, Bool, true, false, IsTrue, List, take, slice_get, refl, sym, ap, ◌∙◌, subst, arith, inl, inr, ⊎_elim, ℤ, pos, neg_ℤ, ◌+ℤ◌, ◌*ℤ◌, ◌≤ℤ◌, mul-le-mul_right}
+use Rattle.std.proofs.Common.{◌≡◌, ℕ, ◌*◌, ◌^◌, ◌≤◌, ◌<◌, ◌↔◌, Bool, true, false, IsTrue, List, take, slice_get, refl, sym, ap, ◌∙◌, subst, arith, inl, inr, ⊎_elim, ℤ, pos, neg_ℤ, ◌+ℤ◌, ◌*ℤ◌, ◌≤ℤ◌}
 use Rattle.std.specs.Prelude.{if◌then◌else◌, ◌-ℤ◌, ◌<ℤ◌}
 use Rattle.std.proofs.lemmas.Bool.{cases_lt, false≢true}
 use Rattle.std.proofs.lemmas.Int.{ints}
@@ -14,12 +14,11 @@ use Rattle.fixed_numeral.specs.Cause.{HasCause, kind_of}
 use Rattle.fixed_numeral.specs.Numeral.{Parts, HasNumeral, is_minus}
 use Rattle.fixed_numeral.specs.Value.{magnitude}
 use Rattle.fixed_numeral.specs.declared.error.ParseErrorKind.{ParseErrorKind}
-use Rattle.fixed_numeral.specs.declared.error.ParseErrorKind.TheVariants.{Overflow}
 use Rattle.fixed_numeral.specs.declared.radix.Radix.{Radix}
 use Rattle.fixed_numeral.proofs.NumeralLemmas.{parts_unique}
 use Rattle.fixed_numeral.proofs.ValueLemmas.{magnitude_pos}
 use Rattle.fixed_read.specs.Reading.{IsReadNumber, IsWholeUlps, IsMultipleOf, with_sign}
-use Rattle.fixed_enclose.specs.Enclosure.{Encloses, in_ulps, IsEnclosed, IsUnenclosed, IsRefusal}
+use Rattle.fixed_enclose.specs.Enclosure.{Encloses, in_ulps, IsEnclosed, IsRefusal}
 use Rattle.fixed_enclose.specs.Laws.{NoneIsTighter, ExactWhereEqual, PairIsTheOne}
 
 -- ---- one ulp down

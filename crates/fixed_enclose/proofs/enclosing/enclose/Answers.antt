@@ -1,8 +1,5 @@
-use Rattle.std.proofs.Common.{refl, inr, FitsSigned, rules}
-use Rattle.std.specs.Int.{w128}
+use Rattle.std.proofs.Common.{refl, inr}
 use Rattle.std.proofs.lemmas.Bool.{false≢true}
-use Rattle.std.proofs.lemmas.Int.{to_z-of_z}
-use Rattle.fixed_enclose.specs.Enclosure.{IsEnclosed, IsRefusal}
 use Rattle.fixed_enclose.specs.Lemmas.EnclosureLemmas.{refusal_none}
 use Rattle.fixed_enclose.proofs.EndsLemmas.{enclosed, unenclosed}
 use Rattle.fixed_enclose.proofs.enclosing.enclose.Goals as goal

@@ -1,7 +1,7 @@
-use Rattle.std.proofs.Common.{◌≡◌, ◌∙◌, ap, sym, subst, inr, refl, ℤ, FitsSigned, rules}
+use Rattle.std.proofs.Common.{◌≡◌, ◌∙◌, ap, subst, inr, refl, ℤ, FitsSigned, rules}
 use Rattle.std.specs.Int.{w128}
 use Rattle.std.proofs.lemmas.Int.{to_z-of_z}
-use Rattle.fixed_bits.specs.Ranges.{IsInRange, IsOutOfRange}
+use Rattle.fixed_bits.specs.Ranges.{IsOutOfRange}
 use Rattle.fixed_enclose.specs.Lemmas.EnclosureLemmas.{upper}
 use Rattle.fixed_enclose.proofs.enclosing.ends_of.Goals as goal
 
@@ -15,7 +15,8 @@ returns-then-contains c =
       ends = λ v holds. let same = (c.in_ok-lo.ensures.image v holds).same in (same, next ∙ ap (λ w. upper found.exact w) same);
       low = c.in_ok-lo.ensures.range;
       high = rw (to_z-of_z w128 c.upper_end-hi.result hi, c.format.ensures) at (c.if-contains.ensures.inside.0 refl);
-      wide = (c.in_ok-lo.ensures.wide, rw (to_z-of_z w128 c.upper_end-hi.result hi) at (c.if-contains.ensures.wide refl));
+      low_wide = c.in_ok-lo.ensures.wide;
+      high_wide = rw (to_z-of_z w128 c.upper_end-hi.result hi) at (c.if-contains.ensures.wide refl);
       none = tt;
     })
 

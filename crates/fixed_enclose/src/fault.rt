@@ -1,0 +1,32 @@
+//! The faults of a line.
+
+ghost use Rattle.std.specs.Prelude.{◌≡◌};
+
+/// Why a line asks for no enclosure, in the order in which the faults are looked for.
+#[derive(Clone, Copy, Debug, PartialEq, Eq)]
+pub enum EncloseFault {
+    /// It has more than 1,048,576 bytes.
+    LineTooLong,
+    /// It has fewer than two spaces.
+    MissingField,
+    /// Its first word is not a radix.
+    BadRadix,
+    /// Its second word is not a format.
+    BadFormat,
+}
+
+impl EncloseFault {
+    ghost use Rattle.fixed_enclose.specs.Answer.{fault_message};
+
+    /// The message of the fault, as an answer reports it.
+    pub fn words(self) -> &'static str
+        ensures { result.now ≡ fault_message self }
+    {
+        match self {
+            EncloseFault::LineTooLong => "line too long",
+            EncloseFault::MissingField => "missing field",
+            EncloseFault::BadRadix => "bad radix",
+            EncloseFault::BadFormat => "bad format",
+        }
+    }
+}

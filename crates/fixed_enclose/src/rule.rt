@@ -1,0 +1,42 @@
+//! The rule of the program: each line is answered with the two values of its format that enclose its numeral.
+
+ghost use Rattle.std.proofs.Common.{lit<};
+ghost use Rattle.fixed_enclose.specs.Answer.{IsAnswer};
+ghost use Rattle.fixed_enclose.specs.Lemmas.AnswerLemmas.{answer_one, long_by_its_prefix};
+
+use crate::answering::append_answer;
+use fixed_steps::Steps;
+use line_engine::{LineRule, MAX_ANSWER, Output};
+use std::sync::ledger::Ledger;
+
+/// The rule that answers a line `RADIX FORMAT NUMERAL`: with the line's first fault; else with the fault for which its
+/// numeral is refused; else with the shortest decimal and the bits of the greatest value of the format that is not above
+/// the numeral's, those of the least that is not below it, and `exact` where they are equal, else `wide`.
+#[derive(Clone, Copy, Debug, PartialEq, Eq)]
+pub struct EncloseRule;
+
+impl<L: Ledger> LineRule<L> for EncloseRule {
+    const PER_BYTE: u64 = 16;
+
+    const EXTRA: u64 = 1248;
+
+    const MAX_ANSWER: usize = MAX_ANSWER;
+
+    ghost PER_BYTE = { 16 };
+
+    ghost EXTRA = { 1248 };
+
+    ghost MAX_ANSWER = { 192 };
+
+    ghost Answers = { λ rule. IsAnswer };
+
+    fn answer(&self, line: &[u8], out: &mut Output, steps: &mut Steps<L>) -> bool {
+        append_answer(line, out, steps)
+    }
+
+    ghost room_law = { lit< tt };
+
+    ghost one_law = { λ rule. answer_one };
+
+    ghost kept_law = { λ rule. long_by_its_prefix };
+}
