@@ -1,8 +1,13 @@
 //! The two values of a format nearest to a numeral's value, below and above.
 
-ghost use Rattle.std.specs.Prelude.{◌≡◌, ◌↔◌, ◌≤◌, ◌+◌, ◌*◌, ◌⊎◌, ℤ, IsTrue, IsOk, IfOk, IfErr, IfSome, IfNone, length};
+ghost use Rattle.std.specs.Prelude.{◌≡◌, ◌↔◌, ◌≤◌, ◌+◌, ◌*◌, ◌⊎◌, ℤ, IsTrue, IsNone, IsOk, IfOk, IfErr, IfSome, IfNone, length};
 ghost use Rattle.fixed_bits.specs.Ranges.{IsInRange, IsOutOfRange, IsWide};
-ghost use Rattle.fixed_read.specs.Reading.{HoldsNumber};
+ghost use Rattle.fixed_bits.specs.Images.{IsImage};
+ghost use Rattle.fixed_bits.specs.declared.format.Policy.TheVariants.{Checked};
+ghost use Rattle.fixed_bits.specs.declared.mode.ReadMode.TheVariants.{Floor};
+ghost use Rattle.fixed_numeral.specs.Cause.{HasCause};
+ghost use Rattle.fixed_numeral.specs.Numeral.{Parts, HasNumeral, IsNumeral};
+ghost use Rattle.fixed_read.specs.Reading.{HoldsNumber, IsReading};
 ghost use Rattle.fixed_enclose.specs.Enclosure.{IsEnclosed, IsRefusal};
 ghost use Rattle.fixed_enclose.specs.Lemmas.EnclosureLemmas.{upper};
 
@@ -42,7 +47,7 @@ pub fn enclose<L: Ledger>(
     ensures refused { IfErr result (λ kind. IsRefusal radix bytes.now format kind) }
     ensures cost { steps.new ≤ steps.old + 16 * length bytes.now + 1152 }
 {
-    let found = match read_format(bytes, radix, format, ReadMode::Floor, steps) {
+    let found = match read_floor(bytes, radix, format, steps) {
         Ok(found) => found,
         Err(error) => return Err(error),
     };
@@ -50,6 +55,32 @@ pub fn enclose<L: Ledger>(
         Some(ends) => Ok(ends),
         None => Err(ParseFixedError::new(ParseErrorKind::Overflow)),
     }
+}
+
+/// Reads a numeral in mode `Floor`.
+fn read_floor<L: Ledger>(
+    bytes: &[u8],
+    radix: Radix,
+    format: Format,
+    steps: &mut Steps<L>,
+) -> Result<ReadNumber, ParseFixedError>
+    ensures numeral { IsOk result ↔ IsNumeral radix bytes.now }
+    ensures cause { IfErr result (λ kind. HasCause radix bytes.now kind) }
+    ensures reading { IfOk result (λ found. (p : Parts) → HasNumeral radix bytes.now p → IsReading Floor radix p found) }
+    ensures format { IfOk result (λ found. found.format ≡ format) }
+    ensures cost { steps.new ≤ steps.old + 8 * (length bytes.now + format.width) + 64 }
+{
+    read_format(bytes, radix, format, ReadMode::Floor, steps)
+}
+
+/// The read number, which is the lower end of the enclosure. `None` where it is out of range.
+fn lower_end(found: &ReadNumber) -> Option<i128>
+    ensures image { (v : ℤ) → HoldsNumber found.now v → IfSome result (λ c. IsImage Checked found.now.format.signed found.now.format.width v c) }
+    ensures none { (v : ℤ) → HoldsNumber found.now v → IsNone result ↔ IsOutOfRange found.now.format.signed found.now.format.width v }
+    ensures range { IfSome result (λ c. IsInRange found.now.format.signed found.now.format.width c) }
+    ensures wide { IfSome result IsWide }
+{
+    found.image(Policy::Checked)
 }
 
 /// The enclosure of a value that was read in mode `Floor`. The read number is the lower end; the upper end is the same
@@ -63,7 +94,7 @@ fn ends_of(found: &ReadNumber) -> Option<Enclosure>
     ensures none { IfNone result ((v : ℤ) → HoldsNumber found.now v
         → IsOutOfRange found.now.format.signed found.now.format.width v ⊎ IsOutOfRange found.now.format.signed found.now.format.width (upper found.now.exact v)) }
 {
-    let lo = found.image(Policy::Checked)?;
+    let lo = lower_end(found)?;
     let hi = upper_end(lo, found.is_exact());
     if found.format().contains(hi) {
         Some(Enclosure { lo, hi })
