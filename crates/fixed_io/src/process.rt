@@ -2,7 +2,7 @@
 
 ghost use Rattle.std.specs.Prelude.{◌≡◌, ◌<◌, IfOk, Ok, Err, MatchResult};
 ghost use Rattle.std.specs.IoError.{error_kind};
-ghost use Rattle.fixed_io.specs.Process.{IsWhy, RunsFrom};
+ghost use Rattle.fixed_io.specs.Process.{IsWhy, RunsFrom, SaysUsage};
 ghost use Rattle.line_engine.specs.Program.{EndsAs};
 ghost use Rattle.line_engine.specs.declared.program.NoArgs.{NoArgs};
 
@@ -52,6 +52,7 @@ pub fn run_streams<P: Program<L>, R: Read + Drop, W: Write + Drop, L: Ledger>(
     requires some { 0 < blank.parts }
     ensures args { IfOk args (λ all. EndsAs (RunsFrom (R.remaining reader) (W.contents writer) (P.Runs program.now all.items)) result) }
     ensures no_memory { args ≡ Err NoArgs.NoMemory → result ≡ 5 }
+    ensures not_text { args ≡ Err NoArgs.NotText → EndsAs (SaysUsage (P.usage_line program.now) (W.contents writer)) result }
 {
     let mut steps = Steps::<L>::new(blank);
     let mut source = StdSource::new(reader);
