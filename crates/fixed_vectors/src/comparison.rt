@@ -1,0 +1,112 @@
+//! The comparisons, and what Display writes.
+
+use crate::words::{at_format, at_pair_format};
+use fixed_bits::Inner;
+use fixed_convert::NumTarget;
+use fixed_point::Fixed;
+use std::cmp::Ordering;
+use std::io;
+
+/// Writes what Display writes: `TYPE BITS`.
+pub fn show(rt: &impl Print, word: &str, bits: i128) -> io::Result<()> {
+    match word {
+        "i8.100" => show_number(rt, Fixed::<i8, 100>::from_bits(Inner::wrap(bits))),
+        "u8.100" => show_number(rt, Fixed::<u8, 100>::from_bits(Inner::wrap(bits))),
+        "i64.64" => show_number(rt, Fixed::<i64, 64>::from_bits(Inner::wrap(bits))),
+        "u64.3000" => show_number(rt, Fixed::<u64, 3000>::from_bits(Inner::wrap(bits))),
+        _ => at_format!(word, bits, show_number(), rt),
+    }
+}
+
+fn show_number<I: Inner, const FRAC: u32>(rt: &impl Print, x: Fixed<I, FRAC>) -> io::Result<()> {
+    println!(rt; "{x}")
+}
+
+/// Writes the order of two numbers and what the five comparisons answer: `TYPE TYPE BITS BITS`.
+pub fn answer(
+    rt: &impl Print,
+    one: &str,
+    other: &str,
+    bits: i128,
+    against: i128,
+) -> io::Result<()> {
+    match one {
+        "i8.100" => with_each(
+            rt,
+            Fixed::<i8, 100>::from_bits(Inner::wrap(bits)),
+            other,
+            against,
+        ),
+        "u8.100" => with_each(
+            rt,
+            Fixed::<u8, 100>::from_bits(Inner::wrap(bits)),
+            other,
+            against,
+        ),
+        "i64.64" => with_each(
+            rt,
+            Fixed::<i64, 64>::from_bits(Inner::wrap(bits)),
+            other,
+            against,
+        ),
+        "u64.3000" => with_each(
+            rt,
+            Fixed::<u64, 3000>::from_bits(Inner::wrap(bits)),
+            other,
+            against,
+        ),
+        _ => at_pair_format!(
+            one,
+            bits,
+            with_each(other, against),
+            rt,
+            println!(rt; "unknown type")
+        ),
+    }
+}
+
+fn with_each<I: Inner, const FRAC: u32>(
+    rt: &impl Print,
+    x: Fixed<I, FRAC>,
+    other: &str,
+    against: i128,
+) -> io::Result<()> {
+    match other {
+        "i8" => compare(rt, i8::wrap(against), x),
+        "u8" => compare(rt, u8::wrap(against), x),
+        "i64" => compare(rt, i64::wrap(against), x),
+        "u64" => compare(rt, u64::wrap(against), x),
+        "i8.100" => compare(rt, Fixed::<i8, 100>::from_bits(Inner::wrap(against)), x),
+        "u8.100" => compare(rt, Fixed::<u8, 100>::from_bits(Inner::wrap(against)), x),
+        "i64.64" => compare(rt, Fixed::<i64, 64>::from_bits(Inner::wrap(against)), x),
+        "u64.3000" => compare(rt, Fixed::<u64, 3000>::from_bits(Inner::wrap(against)), x),
+        _ => with_format(rt, x, other, against),
+    }
+}
+
+fn with_format<I: Inner, const FRAC: u32>(
+    rt: &impl Print,
+    x: Fixed<I, FRAC>,
+    other: &str,
+    against: i128,
+) -> io::Result<()> {
+    at_pair_format!(other, against, compare(x), rt, println!(rt; "unknown type"))
+}
+
+fn compare<R: NumTarget, I: Inner, const FRAC: u32>(
+    rt: &impl Print,
+    rhs: R,
+    x: Fixed<I, FRAC>,
+) -> io::Result<()> {
+    let name = match x.cmp_num(rhs) {
+        Ordering::Less => "less",
+        Ordering::Equal => "equal",
+        Ordering::Greater => "greater",
+    };
+    let equal = x.eq_num(rhs);
+    let less = x.lt_num(rhs);
+    let at_most = x.le_num(rhs);
+    let greater = x.gt_num(rhs);
+    let at_least = x.ge_num(rhs);
+    println!(rt; "{name} {equal} {less} {at_most} {greater} {at_least}")
+}
