@@ -23,10 +23,6 @@ NumeralOrCause = (r : Radix) (bs : List ℕ) → IsNumeral r bs ⊎ ((kind : Par
 abbrev pub OneCause : Type 0
 OneCause = (r : Radix) (bs : List ℕ) (kind other : ParseErrorKind) → HasCause r bs kind → HasCause r bs other → kind ≡ other
 
--- a numeral has none
-abbrev pub NeverBoth : Type 0
-NeverBoth = (r : Radix) (bs : List ℕ) (kind : ParseErrorKind) → HasCause r bs kind → IsNumeral r bs → ⊥
-
 -- the denominator of a magnitude is at least 1
 abbrev pub DenominatorIsPositive : Type 0
 DenominatorIsPositive = (r : Radix) (p : Parts) → 1 ≤ (magnitude r p).den

@@ -1,6 +1,6 @@
 //! Laws of numerals and literals, each the contract of a function that does nothing.
 
-ghost use Rattle.fixed_numeral.specs.Laws.{PartsAreDetermined, FrontIsBeginning, NumeralOrCause, OneCause, NeverBoth, DenominatorIsPositive, LiteralIsDetermined, OneLiteralCause};
+ghost use Rattle.fixed_numeral.specs.Laws.{PartsAreDetermined, FrontIsBeginning, NumeralOrCause, OneCause, DenominatorIsPositive, LiteralIsDetermined, OneLiteralCause};
 
 /// The parts of a beginning, and so those of a numeral, are determined by its bytes.
 pub fn parts_are_determined()
@@ -20,11 +20,6 @@ pub fn numeral_or_cause()
 /// Bytes have at most one cause.
 pub fn one_cause()
     ensures { OneCause }
-{}
-
-/// A numeral has no cause.
-pub fn never_both()
-    ensures { NeverBoth }
 {}
 
 /// The denominator of a magnitude is at least 1.
