@@ -12,6 +12,7 @@
 //! | `write` | FORMAT | bits | `shortest` |
 //! | `append` | FORMAT | bits | `push_shortest`, in place |
 //! | `places` | FORMAT N | bits | `push_decimal` to N places, in place |
+//! | `styled` | FORMAT N | bits | `to_text` in decimal to N places |
 //! | `display` | FORMAT | bits | `write!` of `{}` into one String, U16F16 or I32F32 |
 //! | `display_places` | FORMAT | bits | `write!` of `{:.2}` into one String, U16F16 or I32F32 |
 //! | `round` | FORMAT | bits | `overflowing_round` |
@@ -93,6 +94,19 @@ fn sum_of<L: Ledger>(
         "places" => {
             let places = number(words.get(3));
             printing::places_as(word, &printing::bits_of(alloc, inputs)?, places, times)
+        }
+        "styled" => {
+            let places = match text(words.get(3)).parse::<u16>() {
+                Ok(places) => places,
+                Err(_) => 0,
+            };
+            printing::styled_as(
+                word,
+                alloc,
+                &printing::bits_of(alloc, inputs)?,
+                places,
+                times,
+            )
         }
         "display" => typed::display_as(word, alloc, &printing::bits_of(alloc, inputs)?, times)?,
         "display_places" => typed::display_places_as(

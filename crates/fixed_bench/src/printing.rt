@@ -4,7 +4,7 @@ ghost use Rattle.std.specs.Prelude.{◌≤◌};
 ghost use Rattle.fixed_bits.specs.Ranges.{IsWide};
 
 use fixed_steps::Steps;
-use fixed_write::{push_decimal, push_shortest, shortest};
+use fixed_write::{Notation, Style, push_decimal, push_shortest, shortest, to_text};
 use std::alloc::{AllocError, Global};
 use std::sync::ledger::Ledger;
 use text_buffer::TextBuffer;
@@ -120,6 +120,24 @@ pub fn places_as(format: &str, all: &[SignedBits], places: u32, times: u32) -> i
             out.clear();
             push_decimal(&mut out, bits.value(), frac, places);
             sum = sum.wrapping_add(weight(out.as_bytes()));
+        }
+    }
+    sum
+}
+
+/// The sum of the lengths and of the last bytes of the texts to a count of places, each in memory of its own.
+pub fn styled_as(format: &str, alloc: Global, all: &[SignedBits], places: u16, times: u32) -> i128 {
+    let frac = frac_of(format);
+    let mut style = Style::plain(Notation::Dec);
+    style.precision = Some(places);
+    let mut sum: i128 = 0;
+    for _pass in 0..times {
+        for bits in all {
+            let part = match to_text(alloc, bits.value(), frac, &style) {
+                Ok(text) => weight(text.as_bytes()),
+                Err(_) => 1,
+            };
+            sum = sum.wrapping_add(part);
         }
     }
     sum
