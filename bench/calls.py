@@ -87,6 +87,9 @@ def styled(bench):
             rows.append(bench.row(form, path, ("places", words), ("places", words), ("write", [str(places)]), values))
         print(f"printing to {places} places in place (the crate: write! of {{:.{places}}}, C: %.{places}f)")
         table(rows, HEADS)
+    rows = [bench.row(form, bench.bits(form), ("styled", [form, "2"]), ("places", [form, "2"])) for form in FORMATS]
+    print("to_text with 2 places, in memory of its own")
+    table(rows, HEADS)
     rows = []
     for form in FORMATS[:2]:
         path = bench.bits(form)
