@@ -19,7 +19,9 @@ def function_at(path, line):
     """The function that a line of a source file belongs to."""
     with open(path, encoding="utf-8") as file:
         lines = file.read().split("\n")
-    for text in (*reversed(lines[:line]), *lines[line:]):
+    # (an item is named by the line on which its attributes begin)
+    is_head = re.match(r"\s*(#\[|///|(pub(\(crate\))? )?(final )?fn )", lines[line - 1])
+    for text in lines[line - 1:] if is_head else (*reversed(lines[:line]), *lines[line:]):
         found = re.search(r"\bfn (\w+)", text)
         if found:
             return found.group(1)
@@ -29,27 +31,39 @@ def function_at(path, line):
     return "?"
 
 
-def refusal(crate, message):
+def edited_function(crate, name):
+    """The function that an edit changes."""
+    with open(f"{TOP}/crates/{crate}/must-fail/{name}.edit", encoding="utf-8") as file:
+        edit = file.read()
+    path = re.search(r"^file: (.*)$", edit, re.M).group(1)
+    old = re.search(r"^old: (.*)$", edit, re.M).group(1)
+    with open(f"{TOP}/crates/{crate}/{path}", encoding="utf-8") as file:
+        before = file.read().partition(old)[0]
+    return function_at(f"{TOP}/crates/{crate}/{path}", before.count("\n") + 1)
+
+
+def refusal(crate, name, message):
     """What refuses an edit, and where, from the first line that the check said of it."""
-    proof = re.search(r"proofs/(\S+?)/(?:Answers|Proof|Invariants)\.antt:\d+", message)
-    if proof:
-        return f"`{proof.group(1).split('/')[-1]}`", "inside a written answer"
-    if re.search(r"proofs/\S+\.antt:\d+", message):
-        return "a lemma of `proofs/`", "inside a written answer"
+    if "proofs/" in message or "only because a proof file" in message:
+        return f"`{edited_function(crate, name)}`", "inside a written answer"
+    if "only by a limit of the prover" in message:
+        return f"`{edited_function(crate, name)}`", "at a limit of the prover"
     place = re.search(r"(src/\S+?\.rt):(\d+):\d+", message)
-    function = function_at(f"{TOP}/crates/{crate}/{place.group(1)}", int(place.group(2))) if place else "?"
+    function = function_at(f"{TOP}/crates/{crate}/{place.group(1)}", int(place.group(2))) if place else edited_function(crate, name)
     requires = re.search(r"what `(\w+)` requires holds at this call(?: \(`[^`]*?(?:-clause-(\w+))?[`)])?", message)
     if requires:
         clause = f"condition `{requires.group(2)}`" if requires.group(2) else "a condition"
-        return f"`{function}`: {clause} of `{requires.group(1)}`", "goal"
+        return f"`{function}`: {clause} of `{requires.group(1)}`", "at a goal"
     if "ensures holds" in message:
         clause = re.search(r"-clause-(\w+)", message)
-        return f"`{function}`: " + (f"clause `{clause.group(1)}`" if clause else "its clause"), "goal"
-    fits = re.search(r"not proved that (the \w+) (fits its type|.*?)[;(]", message)
+        return f"`{function}`: " + (f"clause `{clause.group(1)}`" if clause else "its clause"), "at a goal"
+    if "`invariant`" in message:
+        return f"`{function}`: the invariant of its type", "at a goal"
+    fits = re.search(r"not proved that (the \w+) fits its type", message)
     if fits:
-        return f"`{function}`: {fits.group(1)} {fits.group(2).strip()}", "goal"
+        return f"`{function}`: {fits.group(1)} fits its type", "at a goal"
     other = re.search(r"not proved that ([^;(]*)", message)
-    return f"`{function}`: {other.group(1).strip() if other else 'a law'}", "goal"
+    return f"`{function}`: {other.group(1).strip() if other else 'a law'}", "at a goal"
 
 
 def refusals(log):
@@ -60,7 +74,8 @@ def refusals(log):
             told = re.search(r"must-fail (\w+)/(\w+)\.edit: refused, as it must be(.*)", line)
             if told:
                 crate, name, message = told.groups()
-                found[crate, name] = refusal(crate, message)
+                if os.path.isfile(f"{TOP}/crates/{crate}/must-fail/{name}.edit"):
+                    found[crate, name] = refusal(crate, name, message)
     return found
 
 
@@ -68,13 +83,13 @@ def section(found):
     """The section's text, crate by crate as in crates.txt."""
     with open(f"{TOP}/crates.txt", encoding="utf-8") as file:
         order = [line.partition(":")[0].split()[0] for line in file if line.strip() and not line.startswith("#")]
-    inside = sum(where != "goal" for _, where in found.values())
-    text = [f"There are {len(found)} wrong bodies; {len(found) - inside} stop at a goal that is open or false, and {inside} inside a written answer.", ""]
+    inside = sum(where != "at a goal" for _, where in found.values())
+    text = [f"There are {len(found)} wrong bodies; {len(found) - inside} stop at a goal that is open or false, and {inside} elsewhere.", ""]
     for crate in order:
         rows = sorted((name, *what) for (of, name), what in found.items() if of == crate)
         if rows:
             text += [f"### Wrong bodies of `{crate}`", "", "| Wrong body | Refused by | Stops |", "|---|---|---|"]
-            text += [f"| `{name}` | {by} | {'at a goal' if where == 'goal' else where} |" for name, by, where in rows] + [""]
+            text += [f"| `{name}` | {by} | {where} |" for name, by, where in rows] + [""]
     return "\n".join(text)
 
 
@@ -82,7 +97,6 @@ def main():
     found = {}
     for log in sys.argv[1:]:
         found |= refusals(log)
-    found = {key: it for key, it in found.items() if os.path.isfile(f"{TOP}/crates/{key[0]}/must-fail/{key[1]}.edit")}
     with open(DOCUMENT, encoding="utf-8") as file:
         before, _, rest = file.read().partition(BEGIN)
     _, _, after = rest.partition(END)
