@@ -2,3 +2,4 @@
 pub mod EnclosureLemmas
 pub mod FaultLemmas
 pub mod AnswerLemmas
+pub mod ProgramLemmas

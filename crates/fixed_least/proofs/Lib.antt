@@ -1,0 +1,6 @@
+mod HoldLemmas
+mod ExactLemmas
+mod CellLemmas
+mod LineLemmas
+mod ListLemmas
+mod ProgramLemmas

@@ -1,0 +1,41 @@
+use Rattle.std.proofs.Common.{◌≡◌, ◌+◌, ◌∷◌, ◌++◌, [], ℕ, List, length, get_or, refl, ap, ◌∙◌, arith, inl, length-append}
+use Rattle.std.proofs.lemmas.Grind.{common_steps}
+use Rattle.line_engine.specs.Lines.{lines}
+use Rattle.fixed_least.specs.Inner.Cells.{cell_of}
+use Rattle.fixed_least.proofs.ListLemmas.{all_living, least_found, nil_of, noted_one_more, numerals_one_more, split_more, zeros_at}
+use Rattle.fixed_least.proofs.least.least_format.Goals as goal
+
+pub loop-rest-init : goal.loop-rest-init
+loop-rest-init g c =
+    let none = λ (i : ℕ). ap (λ l. get_or l i 0) c.no_places-cells.ensures ∙ zeros_at 520 i in
+    record {
+      done = [];
+      split = refl;
+      count = refl;
+      room = omega arith;
+      numerals = tt;
+      living = all_living c.no_places-cells.result c.all_lengths.result.0 c.all_lengths.result.1 none c.all_lengths.ensures.low c.all_lengths.ensures.high;
+      noted = λ f is. inl (none (cell_of f), tt);
+    }
+
+pub loop-rest-preserved : goal.loop-rest-preserved
+loop-rest-preserved g c =
+    let inv = c.loop-rest.invariant in
+    let line = c.first_line.result.0.now in
+    let next : c.loop-rest.place + 1 ≡ length inv.done + 1 = omega (arith, inv.count) in
+    record {
+      done = inv.done ++ line ∷ [];
+      split = split_more (lines c.args.text.now) inv.done (lines c.loop-rest.rest.now) (lines c.first_line.result.1.now) line inv.split c.first_line.ensures.lines;
+      count = omega (arith, next, length-append inv.done (line ∷ []));
+      room = omega (arith, inv.room, c.first_line.ensures.shorter);
+      numerals = numerals_one_more c.args.radix inv.done line inv.numerals (c.in-Ok.ensures.numeral.0 refl);
+      living = c.refute.ensures.living;
+      noted = λ f is. noted_one_more c.args.radix f inv.done line c.in-Ok.value (c.loop-rest.place + 1) (get_or c.loop-rest.cells (cell_of f) 0) (get_or c.refute.new.cells (cell_of f) 0) is c.in-Ok.ensures.exact next (inv.noted f is) (c.refute.ensures.noted f is);
+    }
+
+pub returns-clause-least : goal.returns-clause-least
+returns-clause-least g c =
+    let inv = c.loop-rest.invariant in
+    let none : length c.loop-rest.rest.now ≡ 0 = grind (arith, common_steps, c.loop-rest-test.false, c.is_empty.ensures) in
+    let empty : c.loop-rest.rest.now ≡ [] = nil_of c.loop-rest.rest.now none in
+    least_found c.args.radix (lines c.args.text.now) inv.done (lines c.loop-rest.rest.now) c.loop-rest.cells c.least_of.result inv.split (ap lines empty) inv.numerals inv.noted c.least_of.ensures.short c.least_of.ensures.places c.least_of.ensures.first

@@ -1,0 +1,4 @@
+-- Contracts of private functions.
+pub mod Exact
+pub mod Valued
+pub mod Cells

@@ -1,0 +1,23 @@
+//! Laws of the least format of a list, each the contract of a function that does nothing.
+
+ghost use Rattle.fixed_least.specs.Laws.{AnswerIsTheOne, LeastIsTheOne, LongerHasNoLesser, PlacesAreTheOnes};
+
+/// The format whose rank is the count of places is the least one that holds each numeral, and there is no other.
+pub fn least_is_the_one()
+    ensures { LeastIsTheOne }
+{}
+
+/// A list has one outcome.
+pub fn places_are_the_ones()
+    ensures { PlacesAreTheOnes }
+{}
+
+/// An input has one answer.
+pub fn answer_is_the_one()
+    ensures { AnswerIsTheOne }
+{}
+
+/// The least format of a longer list does not come before that of the shorter one.
+pub fn longer_has_no_lesser()
+    ensures { LongerHasNoLesser }
+{}

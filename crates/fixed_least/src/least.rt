@@ -1,0 +1,198 @@
+//! The least format that holds a list exactly, and for each lesser one a numeral that it does not hold.
+
+ghost use Rattle.std.specs.Prelude.{◌≡◌, ◌≤◌, ◌<◌, ◌^◌, ◌+◌, ◌++◌, ◌↔◌, IsTrue, ℕ, List, length, false, get_or, replicate, decimal, IfOk, IfErr, MatchOption};
+ghost use Rattle.fixed_bits.specs.Formats.{FormatParts, IsFormat};
+ghost use Rattle.fixed_bits.specs.Order.{rank};
+ghost use Rattle.line_engine.specs.Lines.{lines};
+ghost use Rattle.fixed_least.specs.Inner.Cells.{cell_of};
+ghost use Rattle.fixed_least.specs.Least.{IsHeadText, IsLeast, IsLeastLine, IsNoNumeral, IsRefutedText};
+
+use crate::cells::{CELLS, all_lengths, cell_of, refute};
+use crate::exact::exact_of;
+use crate::lines::first_line;
+use fixed_bits::{FORMAT_COUNT, Format, format_at};
+use fixed_numeral::{ParseFixedError, Radix};
+use fixed_respell::format_name;
+use fixed_steps::Steps;
+use itoa::Buffer;
+use line_engine::Answer;
+use std::marker::Model;
+use std::sync::ledger::Ledger;
+use text_buffer::TextBuffer;
+
+/// Why a text is no list of numerals.
+#[derive(Clone, Copy, Debug, PartialEq, Eq)]
+pub enum LeastFault {
+    /// The line at this place, from 1, is no numeral, for this reason.
+    NotNumeral {
+        /// Which line.
+        place: u64,
+        /// Why.
+        error: ParseFixedError,
+    },
+}
+
+/// For each format before the least one, in the order of formats, the place of a numeral that it does not hold.
+#[derive(Drop)]
+pub struct Least {
+    places: [u64; FORMAT_COUNT],
+    refuted: usize,
+}
+
+impl Model for Least {
+    ghost use Rattle.std.specs.Prelude.{List, ℕ, take, ◌≤◌};
+    ghost use Rattle.fixed_bits.specs.declared.order.TheConstants.{FORMAT_COUNT};
+
+    ghost Value = { List ℕ };
+
+    ghost view = { λ l. take l.refuted l.places };
+
+    ghost invariant = { λ l. l.refuted ≤ FORMAT_COUNT };
+}
+
+/// The format with a rank.
+fn format_of_rank(i: usize) -> Format
+    requires { i < FORMAT_COUNT }
+    ensures format { IsFormat result.width result.frac }
+    ensures rank { rank result ≡ i }
+{
+    format_at(i).unwrap()
+}
+
+/// The place in the cell of the format with a rank.
+fn place_of_rank(cells: &[u64; CELLS], i: usize) -> u64
+    requires { i < FORMAT_COUNT }
+    ensures { (f : FormatParts) → IsFormat f.width f.frac → rank f ≡ i → result ≡ get_or cells.now (cell_of f) 0 }
+{
+    cells[cell_of(format_of_rank(i))]
+}
+
+/// The least format without a place in its cell, and the places of those before it.
+fn least_of(cells: &[u64; CELLS]) -> Least
+    ensures short { length result ≤ FORMAT_COUNT }
+    ensures places { (f : FormatParts) → IsFormat f.width f.frac → rank f < length result
+        → (get_or result (rank f) 0 ≡ get_or cells.now (cell_of f) 0) × ¬ (get_or cells.now (cell_of f) 0 ≡ 0) }
+    ensures first { (f : FormatParts) → IsFormat f.width f.frac → rank f ≡ length result → get_or cells.now (cell_of f) 0 ≡ 0 }
+{
+    let mut places = [0u64; FORMAT_COUNT];
+    for i in 0..FORMAT_COUNT {
+        let place = place_of_rank(cells, i);
+        if place == 0 {
+            return Least { places, refuted: i };
+        }
+        places[i] = place;
+    }
+    Least {
+        places,
+        refuted: FORMAT_COUNT,
+    }
+}
+
+/// No place in any cell.
+fn no_places() -> [u64; CELLS]
+    ensures { result ≡ replicate CELLS 0 }
+{
+    [0u64; CELLS]
+}
+
+/// The least format that holds each line of a text exactly, as a numeral of the radix. It takes no memory, and reads a
+/// line at most twice.
+///
+/// # Errors
+///
+/// The first line that is no numeral is reported with its place and the kind of its cause.
+pub fn least_format<L: Ledger>(
+    text: &[u8],
+    radix: Radix,
+    steps: &mut Steps<L>,
+) -> Result<Least, LeastFault>
+    requires { length text.now < 2 ^ 63 }
+    ensures least { IfOk result (λ l. IsLeast radix (lines text.now) l) }
+    ensures refused { IfErr result (λ fault. IsNoNumeral radix (lines text.now) fault) }
+{
+    let mut cells = no_places();
+    let (mut lows, mut highs) = all_lengths();
+    let mut place = 0u64;
+    let mut rest = text;
+    while !rest.is_empty() {
+        let (line, after) = first_line(rest);
+        place += 1;
+        match exact_of(line, radix, steps) {
+            Err(error) => return Err(LeastFault::NotNumeral { place, error }),
+            Ok(value) => refute(&mut cells, &mut lows, &mut highs, value, place),
+        }
+        rest = after;
+    }
+    Ok(least_of(&cells))
+}
+
+impl Least {
+    /// The least format that holds each numeral; `None` where no format does.
+    pub fn chosen(&self) -> Option<Format>
+        ensures { MatchOption result (length self.now ≡ FORMAT_COUNT) (λ f. IsFormat f.width f.frac × (rank f ≡ length self.now)) }
+    {
+        format_at(self.refuted)
+    }
+
+    /// How many formats come before it: 248 where there is none.
+    pub fn refuted(&self) -> usize
+        ensures count { result ≡ length self.now }
+        ensures most { result ≤ FORMAT_COUNT }
+    {
+        self.refuted
+    }
+
+    /// The first place whose numeral the format with this number does not hold.
+    pub fn place(&self, i: usize) -> u64
+        requires { i < length self.now }
+        ensures { result ≡ get_or self.now i 0 }
+    {
+        let _ = &self.places;
+        self.places[i]
+    }
+
+    /// The line that names the format.
+    fn head_line(&self) -> Answer
+        ensures text { IsHeadText self.now result.text }
+        ensures fault { result.fault ≡ false }
+    {
+        let mut out: TextBuffer<64> = TextBuffer::new();
+        match self.chosen() {
+            Some(format) => {
+                out.push_bytes(b"least ");
+                out.push_bytes(format_name(format).as_bytes());
+            }
+            None => out.push_bytes(b"none"),
+        }
+        Answer::of(out.as_bytes(), false)
+    }
+
+    /// The line that names a lesser format and the place that refutes it.
+    fn refuted_line(&self, k: usize) -> Answer
+        requires low { k < length self.now }
+        requires most { k < FORMAT_COUNT }
+        ensures text { IsRefutedText self.now k result.text }
+        ensures fault { result.fault ≡ false }
+    {
+        let mut digits = Buffer::new();
+        let mut out: TextBuffer<64> = TextBuffer::new();
+        out.push_bytes(format_name(format_of_rank(k)).as_bytes());
+        out.push_bytes(b" line ");
+        out.push_bytes(digits.format(self.place(k)).as_bytes());
+        Answer::of(out.as_bytes(), false)
+    }
+
+    /// A line about the outcome: line 0 names the format, and each further line a lesser format and the place that refutes
+    /// it.
+    pub fn line(&self, i: usize) -> Answer
+        requires { i ≤ length self.now }
+        ensures { IsLeastLine self.now i result }
+    {
+        let _ = &self.places;
+        if i == 0 {
+            self.head_line()
+        } else {
+            self.refuted_line(i - 1)
+        }
+    }
+}

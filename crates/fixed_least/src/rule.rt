@@ -1,0 +1,84 @@
+//! The rule of the program: an input is answered with the least format of its lines, and what refutes the lesser ones.
+
+ghost use Rattle.std.specs.Prelude.{◌≡◌, ◌++◌, IfOk, OnOk};
+ghost use Rattle.line_engine.specs.Output.{reply_line};
+ghost use Rattle.fixed_least.specs.Least.{IsLeastText, IsWholeAnswer, fault_line};
+ghost use Rattle.fixed_least.specs.Lemmas.LeastLemmas.{answer_one};
+
+use crate::least::{Least, LeastFault, least_format};
+use fixed_numeral::Radix;
+use fixed_steps::Steps;
+use itoa::Buffer;
+use line_engine::{Answer, WholeAnswer, WholeRule};
+use no_memory::NoMemory;
+use std::alloc::{AllocError, Global};
+use std::sync::ledger::Ledger;
+
+/// The rule that answers an input as a list of numerals of a radix.
+#[derive(Clone, Copy, Debug, PartialEq, Eq)]
+pub struct LeastRule {
+    /// The radix of the numerals.
+    pub radix: Radix,
+}
+
+/// Appends an answer and a newline.
+fn push_line(text: &mut Vec<u8>, answer: &Answer) -> Result<(), AllocError>
+    ensures { OnOk result (text.new.items ≡ text.old.items ++ reply_line answer.now) }
+{
+    text.extend_from_slice(answer.as_bytes())?;
+    text.push(b'\n')?;
+    Ok(())
+}
+
+/// The lines about the outcome, each with a newline.
+fn least_text(alloc: Global, least: &Least) -> Result<Vec<u8>, AllocError>
+    ensures { IfOk result (λ text. IsLeastText least.now text.items) }
+{
+    let mut text = Vec::new(alloc);
+    let count = least.refuted();
+    let mut i = 0;
+    while i <= count {
+        push_line(&mut text, &least.line(i))?;
+        i += 1;
+    }
+    Ok(text)
+}
+
+/// What is written for a line that is no numeral.
+fn fault_text(alloc: Global, fault: LeastFault) -> Result<Vec<u8>, AllocError>
+    ensures { IfOk result (λ text. text.items ≡ fault_line fault) }
+{
+    let LeastFault::NotNumeral { place, error } = fault;
+    let mut digits = Buffer::new();
+    let mut text = Vec::new(alloc);
+    text.extend_from_slice(b"error: line ")?;
+    text.extend_from_slice(digits.format(place).as_bytes())?;
+    text.extend_from_slice(b": ")?;
+    text.extend_from_slice(error.message().as_bytes())?;
+    text.push(b'\n')?;
+    Ok(text)
+}
+
+impl<L: Ledger> WholeRule<L> for LeastRule {
+    ghost Answers = { λ rule. IsWholeAnswer rule.radix };
+
+    fn answer(
+        &self,
+        alloc: Global,
+        input: &[u8],
+        steps: &mut Steps<L>,
+    ) -> Result<WholeAnswer, NoMemory> {
+        match least_format(input, self.radix, steps) {
+            Ok(least) => match least_text(alloc, &least) {
+                Ok(text) => Ok(WholeAnswer::new(text, false)),
+                Err(_) => Err(NoMemory),
+            },
+            Err(fault) => match fault_text(alloc, fault) {
+                Ok(text) => Ok(WholeAnswer::new(text, true)),
+                Err(_) => Err(NoMemory),
+            },
+        }
+    }
+
+    ghost one_law = { λ rule. answer_one rule.radix };
+}
