@@ -1,0 +1,64 @@
+//! Encloses the numerals of lines from standard input, and writes their answers to standard output.
+#![tactic(auto)]
+
+ghost use Rattle.std.specs.Prelude.{◌≡◌, ◌<◌};
+
+use fixed_enclose::run_enclose;
+use fixed_io::{program_args, run_streams};
+use fixed_steps::Steps;
+use line_engine::{Program, Sink, Source, Status};
+use std::alloc::Global;
+use std::io::{Stdin, Stdout};
+use std::marker::Brand;
+use std::process::ExitCode;
+use std::sync::ledger::{Blank, Ledger};
+
+/// The program: its run is the one of fixed_enclose.
+#[derive(Clone, Copy, Debug, PartialEq, Eq)]
+struct EncloseTool;
+
+impl<L: Ledger> Program<L> for EncloseTool {
+    ghost use Rattle.fixed_enclose.specs.Answer.{usage_line};
+    ghost use Rattle.fixed_enclose.specs.Lemmas.ProgramLemmas.{one_argument};
+    ghost use Rattle.fixed_enclose.specs.ProgramRun.{HasEncloseRun, IsUsageFault};
+
+    ghost IsUsageFault = { λ tool args. IsUsageFault args };
+
+    ghost usage_line = { λ tool. usage_line };
+
+    ghost Runs = { λ tool args before after status. HasEncloseRun args before after status };
+
+    fn run<S: Source, K: Sink>(
+        &self,
+        alloc: Global,
+        args: &[String],
+        source: &mut S,
+        sink: &mut K,
+        steps: &mut Steps<L>,
+    ) -> Status {
+        run_enclose(alloc, args, source, sink, steps)
+    }
+
+    ghost empty_law = { λ tool word empty. one_argument word };
+}
+
+/// Runs the program by the arguments of the process, from standard input to standard output.
+fn run_process<L: Ledger>(rt: &HostRuntime, blank: Blank) -> u8
+    requires name { blank.name ≡ L.name }
+    requires parts { blank.parts ≡ L.parts }
+    requires some { 0 < blank.parts }
+{
+    let args = program_args(rt);
+    run_streams::<EncloseTool, Stdin, Stdout, L>(
+        &EncloseTool,
+        rt.alloc(),
+        args,
+        rt.stdin(),
+        rt.stdout(),
+        blank,
+    )
+}
+
+fn main(rt: HostRuntime) -> ExitCode {
+    ExitCode::from(run_process::<Brand>(&rt, Blank::new(1)))
+}
