@@ -18,6 +18,7 @@ mod parsing;
 mod printing;
 mod reading;
 pub mod rounding;
+pub mod styled;
 #[cfg(test)]
 mod tests;
 mod text;
