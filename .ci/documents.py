@@ -36,24 +36,25 @@ def answers_of(path, lines):
 
 
 def readme_answers(built):
-    """README's lines and what it says that they are answered."""
+    """The lines of README and docs/RULES.md, and what these say that they are answered."""
     path = program("fixed_tool", built)
     if path is None:
         print("fixed_tool is not built, and so README's answers were not compared")
         return
     readme = text_of("README.md")
     said = re.findall(r"^ {4}(\S.*?) {2}-> {2}(.*)$", readme, re.M)
-    said += [(line, f"error: {message}") for message, line in re.findall(r"^\| `([^`]*)` \|.*\| `([0-9]+ [^`]*)` \|$", readme, re.M)]
+    rules = text_of("docs/RULES.md")
+    said += [(line, f"error: {message}") for message, line in re.findall(r"^\|.*\| `([a-z ]*)` \|.*\| `([0-9]+ [^`]*)` \|$", rules, re.M)]
     said += [(f"10 U8F0 U8F0 checked {numeral}", f"error: {message}") for message, numeral in
-             re.findall(r"^\|.*\| `([a-z ]*)` \| `([^` ]+)` \|$", text_of("docs/RULES.md"), re.M)]
+             re.findall(r"^\|.*\| `([a-z ]*)` \| `([^` ]+)` \|$", rules, re.M)]
     said += [(f"10 U8F0 U16F0 {policy} 300", answer) for policy, answer in
              (("checked", "error: overflow"), ("saturating", "255 255 overflowed"), ("wrapping", "44 44 overflowed"))
              if f"`{answer}`" in readme]
-    if len(said) < 20:
-        yield f"README.md shows {len(said)} answers only"
+    if len(said) < 18:
+        yield f"README.md and docs/RULES.md show {len(said)} answers only"
     for (line, answer), got in zip(said, answers_of(path, [line for line, _ in said])):
         if got != answer:
-            yield f"README.md: {line!r} is answered {got!r}, not {answer!r}"
+            yield f"{line!r} is answered {got!r}, not {answer!r}"
 
 
 def readme_shape():
