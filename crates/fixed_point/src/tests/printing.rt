@@ -2,6 +2,7 @@
 
 use crate::tests::support::displays;
 use crate::{Fixed, FixedI8, FixedI16, FixedI32, FixedI64, FixedU8, FixedU16, FixedU32, FixedU64};
+use fixed_write::{Notation, Style};
 use std::test::Fail;
 
 #[test]
@@ -64,5 +65,14 @@ fn a_base_shows_the_exact_value(rt: HostRuntime) -> Result<(), Fail> {
         format!(in rt.alloc(); "{negative:#010}")?.as_str(),
         "-0x00003.3"
     );
+    Ok(())
+}
+
+#[test]
+fn a_style_is_obeyed(rt: HostRuntime) -> Result<(), Fail> {
+    let mut style = Style::plain(Notation::Dec);
+    style.precision = Some(3);
+    let text = FixedU8::<8>::from_bits(25).to_text(rt.alloc(), &style)?;
+    assert!(rt; text.as_bytes() == b"0.098".as_slice());
     Ok(())
 }
