@@ -47,9 +47,9 @@ power_one : (b k : ℕ) → k ≡ 0 → b ^ suc k ≡ b
 power_one b k e = rw (pow-suc, e, pow-zero) (omega arith)
 
 pub record IsWholeText (b n : ℕ) (ds : List ℕ) : Type 0 where
-  value : digits_value b ds ≡ n
-  digits : AllDigits b ds
-  some : 0 < length ds
+  pub value : digits_value b ds ≡ n
+  pub digits : AllDigits b ds
+  pub some : 0 < length ds
 
 whole_is : (fuel b : ℕ) (u : Bool) (n : ℕ) → 2 ≤ b → b ≤ 16 → n < b ^ suc fuel → IsWholeText b n (whole_digits b u n)
 whole_is zero b u n two q l =
@@ -103,15 +103,15 @@ pub whole_text_is : (b : ℕ) (u : Bool) (n : ℕ) → 2 ≤ b → b ≤ 16 → 
 whole_text_is b u n two q = whole_is n b u n two q (power_above b n two)
 
 -- ---- the parts of the text
-abbrev sign_of : Bool → Option ℕ
+abbrev pub sign_of : Bool → Option ℕ
 sign_of true = Some minus
 sign_of false = None
 
-abbrev fraction_of : ℕ → Bool → ℕ → ℕ → Option (List ℕ)
+abbrev pub fraction_of : ℕ → Bool → ℕ → ℕ → Option (List ℕ)
 fraction_of b u zero n = None
 fraction_of b u (suc k) n = Some (last_digits b u (suc k) n)
 
-abbrev text_parts : ℕ → Bool → Bool → ℕ → ℕ → Parts
+abbrev pub text_parts : ℕ → Bool → Bool → ℕ → ℕ → Parts
 text_parts b u negative k n = record { sign = sign_of negative; whole = whole_digits b u (n / b ^ k); fraction = fraction_of b u k n; exponent = None }
 
 text_of_parts : (b : ℕ) (u negative : Bool) (k n : ℕ) → sign_text negative ++ point_text b u k n ≡ text_of (text_parts b u negative k n)
@@ -121,7 +121,7 @@ text_of_parts b u true (suc k) n = simp append-nil
 text_of_parts b u false zero n = simp append-nil
 text_of_parts b u false (suc k) n = simp append-nil
 
-sign_is : (negative : Bool) → IfSome (sign_of negative) (λ b. IsTrue (is_sign b))
+pub sign_is : (negative : Bool) → IfSome (sign_of negative) (λ b. IsTrue (is_sign b))
 sign_is true = refl
 sign_is false = tt
 
@@ -198,7 +198,7 @@ not_negative : (n : ℕ) → is_negative (pos n) ≡ false
 not_negative zero = refl
 not_negative (suc n) = grind arith
 
-with_sign : (c : ℤ) → c ≡ signed (sign_of (is_negative c)) (unsigned_abs c)
+pub with_sign : (c : ℤ) → c ≡ signed (sign_of (is_negative c)) (unsigned_abs c)
 with_sign (pos n) = rw (not_negative n) refl
 with_sign (negsuc n) = refl
 

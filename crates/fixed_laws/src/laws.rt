@@ -1,6 +1,7 @@
 //! Laws of texts, each the contract of a function that does nothing.
 
 ghost use Rattle.fixed_laws.specs.Laws.{DefaultTextReadsBack, ExactTextReadsBack, RoundedTextIsNumeral};
+ghost use Rattle.fixed_laws.specs.Plain.{PlainTextReadsBack};
 
 /// The default text of a value is a decimal numeral, and is read as the bits that it came from.
 pub fn default_text_reads_back()
@@ -15,4 +16,10 @@ pub fn exact_text_reads_back()
 /// The text of a value to any count of places is a numeral too.
 pub fn rounded_text_is_numeral()
     ensures { RoundedTextIsNumeral }
+{}
+
+/// The plain text of a value in any of the seven notations is a numeral of its radix, and is read as the bits that it came
+/// from.
+pub fn plain_text_reads_back()
+    ensures { PlainTextReadsBack }
 {}
