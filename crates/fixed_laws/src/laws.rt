@@ -1,6 +1,7 @@
 //! Laws of texts, each the contract of a function that does nothing.
 
 ghost use Rattle.fixed_laws.specs.Laws.{DefaultTextReadsBack, ExactTextReadsBack, RoundedTextIsNumeral};
+ghost use Rattle.fixed_laws.specs.Padding.{PaddingIsTheToolchains};
 ghost use Rattle.fixed_laws.specs.Plain.{PlainTextReadsBack};
 
 /// The default text of a value is a decimal numeral, and is read as the bits that it came from.
@@ -22,4 +23,9 @@ pub fn rounded_text_is_numeral()
 /// from.
 pub fn plain_text_reads_back()
     ensures { PlainTextReadsBack }
+{}
+
+/// A styled text is padded as the toolchain pads a whole number under the same options.
+pub fn padding_is_the_toolchains()
+    ensures { PaddingIsTheToolchains }
 {}
