@@ -62,6 +62,9 @@ def reading(bench):
             for digits in DIGITS if not repeated else (1, 6, 13, 27):
                 path = bench.numerals(form, digits, repeated)
                 rows.append(bench.row(f"{form}, {digits} digits", path, ("read", [form]), ("read", [form]), ("read", [])))
+        if repeated:
+            path = bench.inputs.of("seven", "7\n" * INPUTS)
+            rows = [bench.row(f"{form}, `7`", path, ("read", [form]), ("read", [form]), ("read", [])) for form in FORMATS] + rows
         print("reading, " + ("one numeral repeated 4,096 times" if repeated else "4,096 different numerals"))
         table(rows, HEADS)
 
