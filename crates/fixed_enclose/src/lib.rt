@@ -12,3 +12,6 @@ pub use enclosing::{Enclosure, enclose};
 pub use fault::EncloseFault;
 pub use program::run_enclose;
 pub use rule::EncloseRule;
+
+#[cfg(test)]
+mod tests;

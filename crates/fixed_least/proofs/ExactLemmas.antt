@@ -1,11 +1,11 @@
 -- A numeral's value from one reading or two: its ulps of 2^-64, and its whole part.
-use Rattle.std.proofs.Common.{◌≡◌, ℕ, ◌+◌, ◌-◌, ◌*◌, ◌^◌, ◌<◌, ◌≤◌, ◌↔◌, Bool, true, false, IsTrue, List, refl, sym, ap, ◌∙◌, subst, arith, pow_pos, ⊎_elim, ℤ, mul-le-mul_right, mul-le-mul_left}
-use Rattle.std.specs.Prelude.{Option, Some, None}
+use Rattle.std.proofs.Common.{◌≡◌, ℕ, ◌+◌, ◌-◌, ◌*◌, ◌^◌, ◌<◌, ◌≤◌, ◌↔◌, Bool, true, false, IsTrue, List, sym, ap, ◌∙◌, subst, arith, pow_pos, ⊎_elim, mul-le-mul_right, mul-le-mul_left}
+use Rattle.std.specs.Prelude.{Some, None}
 use Rattle.std.proofs.Math.Nat.{le_of_mul-le-mul_left}
 use Rattle.std.proofs.lemmas.Bool.{cases_lt, false≢true}
 use Rattle.std.proofs.lemmas.Int.{ints}
 use Rattle.fixed_bits.specs.Formats.{FormatParts, IsFormat}
-use Rattle.fixed_bits.specs.Ranges.{IsInRange, IsWidth}
+use Rattle.fixed_bits.specs.Ranges.{IsInRange}
 use Rattle.fixed_bits.specs.Rounded.{IsNotAbove, IsRounded}
 use Rattle.fixed_bits.specs.declared.mode.ReadMode.TheVariants.{TowardsZero}
 use Rattle.fixed_bits.proofs.LawLemmas.{ends_wide}
@@ -14,10 +14,9 @@ use Rattle.fixed_numeral.specs.Numeral.{Parts, HasNumeral, is_minus}
 use Rattle.fixed_numeral.specs.Value.{magnitude}
 use Rattle.fixed_numeral.specs.declared.radix.Radix.{Radix}
 use Rattle.fixed_numeral.proofs.ValueLemmas.{magnitude_pos}
-use Rattle.fixed_read.specs.Reading.{HoldsNumber, IsReading, IsWholeUlps, with_sign}
+use Rattle.fixed_read.specs.Reading.{IsReading, IsWholeUlps, with_sign}
 use Rattle.fixed_read.specs.declared.read_number.ReadNumber.{ReadNumber}
 use Rattle.fixed_least.specs.Holding.{Holds}
-use Rattle.fixed_least.specs.Inner.Exact.{IsExact}
 use Rattle.fixed_least.specs.Inner.Valued.{IsExactOf}
 use Rattle.fixed_least.specs.declared.exact.Exact.{Exact}
 use Rattle.fixed_least.specs.Lemmas.HoldingLemmas.{frac_most, split_power, width_most}

@@ -1,9 +1,8 @@
 -- Lists of lines that grow by one, and what is found of them.
-use Rattle.std.proofs.Common.{◌≡◌, ℕ, ◌+◌, ◌<◌, ◌≤◌, ◌⊎◌, ◌↔◌, List, [], ◌∷◌, ◌++◌, length, refl, sym, ap, ◌∙◌, subst, arith, inl, inr, Option, Some, None, get_or, replicate, zero, suc, append_assoc, length-append, append-nil}
+use Rattle.std.proofs.Common.{◌≡◌, ℕ, ◌+◌, ◌<◌, ◌≤◌, ◌⊎◌, List, [], ◌∷◌, ◌++◌, length, refl, sym, ap, ◌∙◌, subst, arith, inl, inr, Option, Some, None, get_or, replicate, zero, suc, append_assoc, append-nil}
 use Rattle.std.proofs.lemmas.Grind.{flat_map-append}
 use Rattle.fixed_bits.specs.Formats.{FormatParts, IsFormat}
 use Rattle.fixed_bits.specs.Order.{rank}
-use Rattle.fixed_bits.proofs.OrderLemmas.{rank_below}
 use Rattle.line_engine.specs.Output.{reply_line, written_of}
 use Rattle.line_engine.specs.AnswerText.{AnswerText}
 use Rattle.fixed_numeral.specs.Numeral.{IsNumeral}

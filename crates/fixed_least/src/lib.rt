@@ -18,3 +18,6 @@ pub use fixed_bits::format_at;
 pub use least::{Least, LeastFault, least_format};
 pub use program::run_least;
 pub use rule::LeastRule;
+
+#[cfg(test)]
+mod tests;

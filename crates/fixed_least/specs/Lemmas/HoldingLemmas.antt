@@ -1,11 +1,10 @@
 -- A value in ulps of 2^-64 decides for each format whether it holds a numeral of this value.
-use Rattle.std.proofs.Common.{◌≡◌, ℕ, ◌+◌, ◌-◌, ◌*◌, ◌^◌, ◌<◌, ◌≤◌, ◌⊎◌, ◌↔◌, Bool, true, false, refl, sym, ap, ◌∙◌, subst, arith, pow_pos, inl, inr, ⊎_elim, ℤ}
+use Rattle.std.proofs.Common.{◌≡◌, ℕ, ◌+◌, ◌-◌, ◌*◌, ◌^◌, ◌<◌, ◌≤◌, ◌↔◌, Bool, sym, ap, ◌∙◌, subst, arith, pow_pos, inl, inr}
 use Rattle.std.proofs.Math.Nat.{le_of_mul-le-mul_left}
-use Rattle.std.proofs.lemmas.Bool.{cases_lt, false≢true}
 use Rattle.std.proofs.lemmas.Nat.{pow-add}
 use Rattle.fixed_bits.specs.Formats.{FormatParts, IsFormat}
 use Rattle.fixed_bits.specs.Ranges.{IsInRange, IsWidth}
-use Rattle.fixed_numeral.specs.Numeral.{Parts, is_minus}
+use Rattle.fixed_numeral.specs.Numeral.{Parts}
 use Rattle.fixed_numeral.specs.Value.{magnitude}
 use Rattle.fixed_numeral.specs.declared.radix.Radix.{Radix}
 use Rattle.fixed_numeral.proofs.ValueLemmas.{magnitude_pos}

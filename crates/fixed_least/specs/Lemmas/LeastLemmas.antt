@@ -1,10 +1,10 @@
 -- A list has one outcome.
-use Rattle.std.proofs.Common.{◌≡◌, ℕ, ◌+◌, ◌-◌, ◌*◌, ◌<◌, ◌≤◌, ◌⊎◌, ◌↔◌, Bool, true, false, List, [], ◌∷◌, ◌++◌, length, get_or, zero, suc, refl, sym, ap, ◌∙◌, subst, arith, inl, inr, ⊎_elim}
+use Rattle.std.proofs.Common.{◌≡◌, ℕ, ◌+◌, ◌<◌, ◌≤◌, Bool, List, [], ◌∷◌, ◌++◌, length, get_or, zero, suc, refl, sym, ap, ◌∙◌, subst, arith, inl, inr, ⊎_elim}
 use Rattle.std.specs.Prelude.{codes, decimal}
 use Rattle.std.proofs.lemmas.Bool.{cases_lt}
-use Rattle.fixed_bits.specs.Formats.{FormatParts, IsFormat}
+use Rattle.fixed_bits.specs.Formats.{FormatParts}
 use Rattle.fixed_numeral.specs.Cause.{HasCause}
-use Rattle.fixed_numeral.specs.Numeral.{Parts, HasNumeral, IsNumeral}
+use Rattle.fixed_numeral.specs.Numeral.{Parts, IsNumeral}
 use Rattle.fixed_numeral.specs.Words.{words_of}
 use Rattle.fixed_numeral.specs.declared.error.ParseErrorKind.{ParseErrorKind}
 use Rattle.fixed_numeral.proofs.LawLemmas.{one_cause}
@@ -17,7 +17,7 @@ use Rattle.fixed_respell.specs.Words.{format_text}
 use Rattle.fixed_least.specs.Holding.{AllHold, AllNumerals, Holds, HoldsLine, IsFirstRefused, IsLeastFormat, RefusesLine}
 use Rattle.fixed_bits.proofs.OrderLemmas.{rank_below, rank_has_format, rank_order, rank_unique}
 use Rattle.fixed_least.specs.Laws.{AnswerIsTheOne, LeastIsTheOne, LongerHasNoLesser, PlacesAreTheOnes}
-use Rattle.fixed_least.specs.Least.{AreLines, IsFaultAnswer, IsHeadText, IsLeast, IsLeastAnswer, IsLeastLine, IsLeastText, IsNoNumeral, IsRefutedText, IsWholeAnswer, fault_line, kind_at, place_of}
+use Rattle.fixed_least.specs.Least.{AreLines, IsFaultAnswer, IsHeadText, IsLeast, IsLeastAnswer, IsLeastLine, IsLeastText, IsNoNumeral, IsRefutedText, fault_line, kind_at, place_of}
 use Rattle.fixed_bits.specs.Order.{rank}
 use Rattle.fixed_least.specs.declared.least.LeastFault.{LeastFault}
 

@@ -1,6 +1,6 @@
 -- An empty argument is a usage fault.
-use Rattle.std.specs.Prelude.{String, codes}
-use Rattle.std.proofs.Common.{◌≡◌, ℕ, List, [], ◌∷◌, sym, ◌∙◌}
+use Rattle.std.specs.Prelude.{String}
+use Rattle.std.proofs.Common.{◌≡◌, [], ◌∷◌, sym, ◌∙◌}
 use Rattle.std.specs.String.{string_bytes}
 use Rattle.std.specs.declared.alloc.Global.{Global}
 use Rattle.fixed_numeral.specs.declared.radix.Radix.{Radix}

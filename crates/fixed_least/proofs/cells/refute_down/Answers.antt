@@ -1,4 +1,4 @@
-use Rattle.std.proofs.Common.{◌≡◌, ◌∙◌, ◌<◌, ◌-◌, sym, arith, length, inl, inr, ⊎_elim}
+use Rattle.std.proofs.Common.{◌∙◌, ◌<◌, ◌-◌, sym, arith, length, inl, inr, ⊎_elim}
 use Rattle.std.proofs.lemmas.Bool.{false≢true}
 use Rattle.std.proofs.lemmas.Grind.{common_steps}
 use Rattle.fixed_least.specs.Inner.Cells.{cell, kind_format}

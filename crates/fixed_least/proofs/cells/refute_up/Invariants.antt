@@ -1,4 +1,4 @@
-use Rattle.std.proofs.Common.{◌≡◌, ◌⊎◌, ◌+◌, ◌*◌, ◌<◌, ◌≤◌, ℕ, get_or, length}
+use Rattle.std.proofs.Common.{◌≡◌, ◌⊎◌, ◌<◌, ◌≤◌, ℕ, get_or, length}
 use Rattle.fixed_least.specs.Inner.Cells.{cell, kind_format}
 use Rattle.fixed_least.specs.Inner.Valued.{HasValue}
 use Rattle.fixed_least.proofs.cells.refute_up.Given as goal

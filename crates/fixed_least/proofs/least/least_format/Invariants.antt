@@ -1,4 +1,4 @@
-use Rattle.std.proofs.Common.{◌≡◌, ◌+◌, ◌-◌, ◌<◌, ◌≤◌, ◌++◌, ℕ, List, get_or, length}
+use Rattle.std.proofs.Common.{◌≡◌, ◌+◌, ◌≤◌, ◌++◌, ℕ, List, get_or, length}
 use Rattle.fixed_bits.specs.Formats.{FormatParts, IsFormat}
 use Rattle.line_engine.specs.Lines.{lines}
 use Rattle.fixed_least.specs.Holding.{AllNumerals}

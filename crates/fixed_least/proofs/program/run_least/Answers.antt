@@ -1,4 +1,3 @@
-use Rattle.fixed_numeral.specs.declared.radix.Radix.{Radix}
 use Rattle.std.proofs.Common.{◌≡◌}
 use Rattle.fixed_least.proofs.ProgramLemmas.{radix_named}
 use Rattle.fixed_least.proofs.program.run_least.Goals as goal

@@ -1,4 +1,4 @@
-use Rattle.std.proofs.Common.{◌≡◌, ◌+◌, ◌-◌, ◌≤◌, ℕ, List, length}
+use Rattle.std.proofs.Common.{◌≡◌, ◌+◌, ◌-◌, ◌≤◌, List, length}
 use Rattle.line_engine.specs.Output.{written_of}
 use Rattle.line_engine.specs.AnswerText.{AnswerText}
 use Rattle.fixed_least.specs.Least.{AreLines}

@@ -1,0 +1,81 @@
+//! Whole runs over bytes in memory.
+
+use crate::tests::support::{NEVER, Run, run_case, unfailing};
+use line_engine::Status;
+use std::alloc::{AllocError, Global};
+use std::process::Abort;
+use std::test::Fail;
+
+/// Asserts that what the run writes begins as the case says, and that it ends so.
+fn assert_run(rt: &impl Abort, alloc: Global, case: &Run) -> Result<(), AllocError> {
+    let input = case.input.as_bytes().to_vec(alloc)?;
+    let (status, written) = run_case(alloc, case, input)?;
+    assert_eq!(rt; status, case.status, "at {} {}", case.arg, case.input);
+    assert!(rt;
+        written.starts_with(case.prefix.as_bytes()),
+        "at {} {}",
+        case.arg,
+        case.input
+    );
+    Ok(())
+}
+
+/// What refutes the formats before the least one of -1 and 0.25.
+const NINE: &str =
+    "least I6F2\nU8F0 line 1\nU7F1 line 1\nU6F2 line 1\nU5F3 line 1\nU4F4 line 1\nU3F5 line 1\nU2F6 line 1\nU1F7 line 1\nU0F8 line 1\nI8F0 line 2\nI7F1 line 2\n";
+
+#[test]
+fn lists_are_answered_as_worked_out(rt: HostRuntime) -> Result<(), Fail> {
+    let cases = [
+        unfailing("10", "0.5\n3\n", "least U7F1\nU8F0 line 1\n", Status::Done),
+        unfailing("10", "-1\n0.25\n", NINE, Status::Done),
+        unfailing(
+            "10",
+            "0.1\n",
+            "none\nU8F0 line 1\nU7F1 line 1\n",
+            Status::Done,
+        ),
+        unfailing("10", "", "least U8F0\n", Status::Done),
+        unfailing("16", "ffffffffffffffff.8\n", "none\n", Status::Done),
+        unfailing("", "18446744073709551615\n", "least U64F0\n", Status::Done),
+        unfailing(
+            "10",
+            "1\nx\n",
+            "error: line 2: invalid digit found in string\n",
+            Status::Faults,
+        ),
+        unfailing("9", "1\n", "usage: least_tool [RADIX]\n", Status::Usage),
+    ];
+    for case in &cases {
+        assert_run(&rt, rt.alloc(), case)?;
+    }
+    Ok(())
+}
+
+#[test]
+fn a_failing_read_and_a_failing_write_end_the_run(rt: HostRuntime) -> Result<(), Fail> {
+    let read = Run {
+        failing_read: 0,
+        ..unfailing("10", "1\n", "", Status::ReadFault)
+    };
+    let write = Run {
+        failing_write: 0,
+        ..unfailing("10", "1\n", "", Status::WriteFault)
+    };
+    assert_run(&rt, rt.alloc(), &read)?;
+    assert_run(&rt, rt.alloc(), &write)?;
+    Ok(())
+}
+
+#[test]
+fn a_longer_input_is_reported(rt: HostRuntime) -> Result<(), Fail> {
+    let mut input = Vec::new(rt.alloc());
+    for _ in 0..1_048_577u64 {
+        input.push(b'1')?;
+    }
+    let case = unfailing("", "", "", Status::TooLong);
+    let (status, written) = run_case(rt.alloc(), &case, input)?;
+    assert_eq!(rt; status, Status::TooLong);
+    assert!(rt; written.is_empty());
+    Ok(())
+}
