@@ -3,6 +3,7 @@
 ghost use Rattle.fixed_laws.specs.Laws.{DefaultTextReadsBack, ExactTextReadsBack, RoundedTextIsNumeral};
 ghost use Rattle.fixed_laws.specs.Padding.{PaddingIsTheToolchains};
 ghost use Rattle.fixed_laws.specs.Plain.{PlainTextReadsBack};
+ghost use Rattle.fixed_laws.specs.Styling.{StyledTextExists, StyledTextIsTheOne};
 
 /// The default text of a value is a decimal numeral, and is read as the bits that it came from.
 pub fn default_text_reads_back()
@@ -28,4 +29,14 @@ pub fn plain_text_reads_back()
 /// A styled text is padded as the toolchain pads a whole number under the same options.
 pub fn padding_is_the_toolchains()
     ensures { PaddingIsTheToolchains }
+{}
+
+/// Each value has a text in each style.
+pub fn styled_text_exists()
+    ensures { StyledTextExists }
+{}
+
+/// Each value has at most one text in a style.
+pub fn styled_text_is_the_one()
+    ensures { StyledTextIsTheOne }
 {}
