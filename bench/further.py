@@ -12,7 +12,7 @@ def enclosing(programs, inputs, tries):
     enclose = inputs.path("enclose", "--lines", str(lines))
     with open(enclose, encoding="ascii") as given:
         rows = [line.split(" ", 2) for line in given]
-    same = inputs.of("same", "".join(f"{radix} {form} {form} saturating {numeral}" for radix, form, numeral in rows))
+    same = inputs.of("same", "".join(f"{radix} {form} {form} checked {numeral}" for radix, form, numeral in rows))
     took = in_turn([([programs.built("enclose_tool")], enclose), ([programs.tool], same)], tries)
     each = [lines / it / 1e6 for it in took]
     table([["enclose_tool", f"{each[0]:.2f}", f"{each[0] / each[1]:.0%}"], ["fixed_tool", f"{each[1]:.2f}", ""]],

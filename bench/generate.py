@@ -12,7 +12,7 @@ Inputs of single calls:
     bits      bits of --format, evenly spread
     values    the same numbers in decimal, for C
 Inputs of the further programs:
-    enclose   lines of enclose_tool, with the numerals of typical
+    enclose   lines of enclose_tool, with the numerals of typical, into I32F32
     plain     the numerals of typical alone
     zeros     `0` on each line
     constants entries of constants_tool
@@ -85,8 +85,7 @@ def values(pick, given):
 
 
 def enclose(pick, _given):
-    numeral = typical_numeral(pick)
-    return f"10 {pick.choice(list(FORMATS))} {numeral}"
+    return f"10 I32F32 {typical_numeral(pick)}"
 
 
 def constants(pick, given):
