@@ -1,0 +1,64 @@
+//! Reads a constants file from standard input, and writes its canonical text to standard output.
+#![tactic(auto)]
+
+ghost use Rattle.std.specs.Prelude.{◌≡◌, ◌<◌};
+
+use fixed_constants::run_constants;
+use fixed_io::{program_args, run_streams};
+use fixed_steps::Steps;
+use line_engine::{Program, Sink, Source, Status};
+use std::alloc::Global;
+use std::io::{Stdin, Stdout};
+use std::marker::Brand;
+use std::process::ExitCode;
+use std::sync::ledger::{Blank, Ledger};
+
+/// The program: its run is the one of fixed_constants.
+#[derive(Clone, Copy, Debug, PartialEq, Eq)]
+struct ConstantsTool;
+
+impl<L: Ledger> Program<L> for ConstantsTool {
+    ghost use Rattle.fixed_constants.specs.Program.{usage_line};
+    ghost use Rattle.fixed_constants.specs.Lemmas.ProgramLemmas.{empty_argument};
+    ghost use Rattle.fixed_constants.specs.Program.{HasConstantsRun, IsUsageFault};
+
+    ghost IsUsageFault = { λ tool args. IsUsageFault args };
+
+    ghost usage_line = { λ tool. usage_line };
+
+    ghost Runs = { λ tool args before after status. HasConstantsRun args before after status };
+
+    fn run<S: Source, K: Sink>(
+        &self,
+        alloc: Global,
+        args: &[String],
+        source: &mut S,
+        sink: &mut K,
+        steps: &mut Steps<L>,
+    ) -> Status {
+        run_constants(alloc, args, source, sink, steps)
+    }
+
+    ghost empty_law = { λ tool word empty. empty_argument word empty };
+}
+
+/// Runs the program by the arguments of the process, from standard input to standard output.
+fn run_process<L: Ledger>(rt: &HostRuntime, blank: Blank) -> u8
+    requires name { blank.name ≡ L.name }
+    requires parts { blank.parts ≡ L.parts }
+    requires some { 0 < blank.parts }
+{
+    let args = program_args(rt);
+    run_streams::<ConstantsTool, Stdin, Stdout, L>(
+        &ConstantsTool,
+        rt.alloc(),
+        args,
+        rt.stdin(),
+        rt.stdout(),
+        blank,
+    )
+}
+
+fn main(rt: HostRuntime) -> ExitCode {
+    ExitCode::from(run_process::<Brand>(&rt, Blank::new(1)))
+}

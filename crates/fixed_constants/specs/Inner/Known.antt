@@ -1,0 +1,36 @@
+-- On which line each name was declared, in a map.
+use Rattle.std.specs.Prelude.{◌≡◌, ◌⊎◌, ℕ, List, [], ◌∷◌, ◌++◌, Bool, Option, Some, None, Ok, bytes_eq}
+use Rattle.std.proofs.Common.{Bor}
+use Rattle.std.specs.HashMap.{HashMap, get_by}
+use Rattle.fixed_constants.specs.Constants.{ConstantParts, HasFault, IsNamedOn, IsPassedOver, Says}
+use Rattle.fixed_constants.specs.declared.fault.ConstantsError.{ConstantsError}
+use Rattle.fixed_constants.specs.declared.fault.ConstantsError.TheVariants.{Refused, NoMemory}
+
+-- the line on which a map has a name
+abbrev pub line_of : {S : Type 0} → HashMap (Bor (List ℕ)) ℕ S → List ℕ → Option ℕ
+line_of m name = get_by (λ k. bytes_eq name k.now) m
+
+-- the answer for one name: the first of these lines that names it
+abbrev pub IsLineOf : List (List ℕ) → List ℕ → Option ℕ → Type 0
+IsLineOf before name (Some p) = IsNamedOn before name p
+IsLineOf before name None = (p : ℕ) → ¬ IsNamedOn before name p
+
+-- the map knows of each name on which of these lines it is declared first
+abbrev pub Knows : {S : Type 0} → List (List ℕ) → HashMap (Bor (List ℕ)) ℕ S → Type 0
+Knows before m = (name : List ℕ) → IsLineOf before name (line_of m name)
+
+-- a line that comes after these adds a constant to a list, and its name to the map
+pub record AddsConstant {S : Type 0} (before : List (List ℕ)) (line : List ℕ) (old new : List ConstantParts) (known : HashMap (Bor (List ℕ)) ℕ S) : Type 0 where
+  pub constant : ConstantParts
+  pub says : Says before line (Ok constant)
+  pub added : new ≡ old ++ constant ∷ []
+  pub knows : Knows (before ++ line ∷ []) known
+
+-- or it is passed over
+abbrev pub AddsLine : {S : Type 0} → List (List ℕ) → List ℕ → List ConstantParts → List ConstantParts → HashMap (Bor (List ℕ)) ℕ S → Type 0
+AddsLine before line old new known = (IsPassedOver line × (new ≡ old) × Knows (before ++ line ∷ []) known) ⊎ AddsConstant before line old new known
+
+-- what an error says of a line that comes after these
+abbrev pub IsLineError : List (List ℕ) → List ℕ → ℕ → ConstantsError → Type 0
+IsLineError before line number (Refused p fault) = HasFault before line fault × (p ≡ number)
+IsLineError before line number NoMemory = Unit {0}

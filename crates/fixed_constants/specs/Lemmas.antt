@@ -1,0 +1,4 @@
+-- Proofs that traits need; no contract cites them.
+pub mod NameLemmas
+pub mod ConstantsLemmas
+pub mod ProgramLemmas

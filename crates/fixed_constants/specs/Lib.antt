@@ -1,0 +1,6 @@
+pub mod Constants
+pub mod Canonical
+pub mod Answer
+pub mod Program
+pub mod Inner
+pub mod Lemmas

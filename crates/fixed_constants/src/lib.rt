@@ -1,0 +1,25 @@
+//! Files of named constants, and their one canonical form.
+//!
+//! A line `NAME = LITERAL FORMAT` declares a constant (`declaration`). `constants` reads a text line by line and keeps the
+//! constants in order; `canonical` writes them with hexadecimal literals, each value in one way.
+#![tactic(auto)]
+
+pub mod canonical;
+pub mod constant;
+pub mod constants;
+mod declaration;
+pub mod fault;
+mod lines;
+pub mod program;
+pub mod rule;
+
+pub use canonical::{FileText, write_constants};
+pub use constant::{Constant, Constants};
+pub use constants::read_constants;
+pub use fault::{ConstantFault, ConstantsError};
+pub use no_memory::NoMemory;
+pub use program::run_constants;
+pub use rule::ConstantsRule;
+
+#[cfg(test)]
+mod tests;
