@@ -2,5 +2,6 @@ pub mod Constants
 pub mod Canonical
 pub mod Answer
 pub mod Program
+pub mod Laws
 pub mod Inner
 pub mod Lemmas

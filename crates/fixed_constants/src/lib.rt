@@ -9,6 +9,7 @@ pub mod constant;
 pub mod constants;
 mod declaration;
 pub mod fault;
+pub mod laws;
 mod lines;
 pub mod program;
 pub mod rule;

@@ -192,11 +192,11 @@ declare_one before (l ∷ ls) t u (inr a) (inr b) =
     let right : u ≡ b.0 ∷ b.1 = b.3 in
     cc
 
-record IsSameFault (p q : ℕ) (f g : ConstantFault) : Type 0 where
-  line : p ≡ q
-  fault : f ≡ g
+pub record IsSameFault (p q : ℕ) (f g : ConstantFault) : Type 0 where
+  pub line : p ≡ q
+  pub fault : f ≡ g
 
-fail_one : (before lines : List (List ℕ)) (p q : ℕ) (f g : ConstantFault) → FailAt before lines p f → FailAt before lines q g → IsSameFault p q f g
+pub fail_one : (before lines : List (List ℕ)) (p q : ℕ) (f g : ConstantFault) → FailAt before lines p f → FailAt before lines q g → IsSameFault p q f g
 fail_one before [] p q f g a b = absurd a
 fail_one before (l ∷ ls) p q f g (inl a) (inl b) = let outcome = says_one before l (Err f) (Err g) a.0 b.0 in record { line = a.1 ∙ sym b.1; fault = cc }
 fail_one before (l ∷ ls) p q f g (inl a) (inr (inl x, b)) = absurd (spoken_fault before l f a.0 x)
