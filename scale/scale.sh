@@ -146,8 +146,8 @@ PartitionName=all Nodes=ALL Default=YES MaxTime=INFINITE State=UP
 END
   mkdir -p "$folder/state" "$folder/spool"
   export SLURM_CONF=$folder/slurm.conf
-  slurmctld -f "$SLURM_CONF" && slurmd -f "$SLURM_CONF" || return 1
   slurm_is_up=yes
+  slurmctld -f "$SLURM_CONF" && slurmd -f "$SLURM_CONF" || return 1
   for _ in $(seq 30); do
     sinfo -h -o %T 2>/dev/null | grep -q idle && return 0
     sleep 1
@@ -155,11 +155,14 @@ END
   return 1
 }
 
+# Ends only the two that were started here, by the numbers that they wrote down.
 stop_slurm() {
+  local daemon
   [ -n "$slurm_is_up" ] || return 0
-  scontrol shutdown >/dev/null 2>&1
+  for daemon in slurmd slurmctld; do
+    [ -f "$folder/$daemon.pid" ] && kill "$(cat "$folder/$daemon.pid")" 2>/dev/null
+  done
   sleep 1
-  pkill -x slurmd; pkill -x slurmctld
   slurm_is_up=""
 }
 
