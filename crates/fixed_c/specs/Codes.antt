@@ -4,7 +4,7 @@ use Rattle.fixed_bits.specs.declared.format.Policy.{Policy}
 use Rattle.fixed_bits.specs.declared.format.Policy.TheVariants.{Checked, Saturating, Wrapping}
 use Rattle.fixed_bits.specs.declared.mode.ReadMode.{ReadMode}
 use Rattle.fixed_bits.specs.declared.mode.ReadMode.TheVariants.{NearestEven, Floor, Ceil, TowardsZero}
-use Rattle.fixed_numeral.specs.Words.{words_of}
+use Rattle.fixed_numeral.specs.Messages.{message_of}
 use Rattle.fixed_numeral.specs.declared.error.ParseErrorKind.{ParseErrorKind}
 use Rattle.fixed_numeral.specs.declared.error.ParseErrorKind.TheVariants.{InvalidDigit, MisplacedSign, MisplacedUnderscore, TooManyPoints, TooManyExp, ExpInvalidDigit, ExpOverflow, NoDigits, ExpNoDigits, Overflow}
 use Rattle.fixed_c.specs.declared.refusal.Refusal.{Refusal}
@@ -44,7 +44,7 @@ refusal_code BadBits = 16
 refusal_code NoRoom = 17
 
 abbrev pub refusal_message : Refusal → List ℕ
-refusal_message (Numeral kind) = words_of kind
+refusal_message (Numeral kind) = message_of kind
 refusal_message BadRadix = codes "bad radix"
 refusal_message BadFormat = codes "bad format"
 refusal_message BadTarget = codes "bad target format"

@@ -1,6 +1,6 @@
 -- What is written for a constants file.
 use Rattle.std.specs.Prelude.{◌≡◌, ◌⊎◌, ℕ, List, [], ◌∷◌, ◌++◌, true, false, codes, decimal}
-use Rattle.fixed_numeral.specs.Words.{words_of}
+use Rattle.fixed_numeral.specs.Messages.{message_of}
 use Rattle.line_engine.specs.AnswerText.{AnswerText}
 use Rattle.fixed_constants.specs.Canonical.{canonical_text}
 use Rattle.fixed_constants.specs.Constants.{ConstantParts, IsConstantsOf, IsFaultOf}
@@ -13,7 +13,7 @@ fault_message MissingField = codes "missing field"
 fault_message BadName = codes "bad name"
 fault_message MissingEquals = codes "missing equals sign"
 fault_message BadFormat = codes "bad format"
-fault_message (BadLiteral kind) = words_of kind
+fault_message (BadLiteral kind) = message_of kind
 fault_message (Duplicate first) = codes "duplicate of line " ++ decimal first
 
 -- what is written for a fault on line p

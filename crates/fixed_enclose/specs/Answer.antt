@@ -2,7 +2,7 @@
 use Rattle.std.specs.Prelude.{◌≡◌, ◌⊎◌, ◌↔◌, ◌<◌, ◌≤◌, ℕ, List, [], ◌∷◌, ◌++◌, ℤ, Bool, true, false, IsTrue, length, codes}
 use Rattle.std.specs.Fmt.{signed_decimal}
 use Rattle.fixed_bits.specs.Formats.{FormatParts}
-use Rattle.fixed_numeral.specs.Words.{words_of}
+use Rattle.fixed_numeral.specs.Messages.{message_of}
 use Rattle.fixed_numeral.specs.declared.error.ParseErrorKind.{ParseErrorKind}
 use Rattle.fixed_numeral.specs.declared.radix.Radix.{Radix}
 use Rattle.fixed_respell.specs.Answer.{NamesFormat, NamesRadix}
@@ -70,7 +70,7 @@ pub record Asks (line : List ℕ) (t : Task) : Type 0 where
 pub record IsRefusalAnswer (t : Task) (answer : AnswerText) : Type 0 where
   pub kind : ParseErrorKind
   pub refusal : IsRefusal t.radix t.numeral t.format kind
-  pub answer_is : answer ≡ fault_answer (words_of kind)
+  pub answer_is : answer ≡ fault_answer (message_of kind)
 
 -- the last word of an answer
 abbrev pub verdict : Bool → List ℕ

@@ -11,7 +11,7 @@ use Rattle.fixed_bits.specs.Nearest.{IsNearest}
 use Rattle.fixed_bits.specs.declared.mode.ReadMode.TheVariants.{NearestEven}
 use Rattle.fixed_bits.proofs.NearestLemmas.{nearest_scaled}
 use Rattle.std.specs.Prelude.{IfSome}
-use Rattle.fixed_numeral.specs.Numeral.{Parts, Exponent, HasNumeral, IsExponentOf, text_of, minus, fraction_text, exponent_text, digits_behind, exponent_number, is_separator}
+use Rattle.fixed_numeral.specs.Numeral.{Parts, Exponent, HasNumeral, IsExponentOf, text_of, minus, fraction_text, exponent_text, fractional_digits, exponent_number, is_separator}
 use Rattle.fixed_numeral.specs.Value.{scaled}
 use Rattle.fixed_read.specs.Reading.{IsReadNumber}
 use Rattle.fixed_write.specs.Shortest.{ReadsBack}
@@ -74,7 +74,7 @@ fraction_figures (d ∷ ds) = Some (d ∷ ds)
 abbrev figure_parts : ℕ → Bool → ℕ → List ℕ → ℤ → Parts
 figure_parts mark negative d ds e = record { sign = sign_of negative; whole = d ∷ []; fraction = fraction_figures ds; exponent = Some (exponent_of mark e) }
 
-behind_is : (ds : List ℕ) → digits_behind (fraction_figures ds) ≡ ds
+behind_is : (ds : List ℕ) → fractional_digits (fraction_figures ds) ≡ ds
 behind_is [] = refl
 behind_is (d ∷ ds) = refl
 

@@ -14,7 +14,7 @@ use Rattle.fixed_bits.specs.declared.mode.ReadMode.TheVariants.{NearestEven}
 use Rattle.fixed_bits.proofs.NearestLemmas.{nearest_by_rest}
 use Rattle.fixed_numeral.specs.declared.radix.Radix.{Radix}
 use Rattle.fixed_numeral.specs.declared.radix.Radix.TheVariants.{Bin, Oct, Dec, Hex}
-use Rattle.fixed_numeral.specs.Numeral.{Parts, HasNumeral, IsNumeral, base, minus, text_of, digits_behind, signed, is_sign}
+use Rattle.fixed_numeral.specs.Numeral.{Parts, HasNumeral, IsNumeral, base, minus, text_of, fractional_digits, signed, is_sign}
 use Rattle.fixed_numeral.specs.Value.{scaled}
 use Rattle.fixed_read.specs.Reading.{IsReadNumber}
 use Rattle.fixed_write.specs.Shortest.{ReadsBack}
@@ -149,11 +149,11 @@ text_is_numeral r u negative k n =
         parts = record { sign = sign_is negative; whole = whole.digits; fraction = fraction_is (base r) u k n (base_low r) (base_high r); exponent = tt };
         text = text_of_parts (base r) u negative k n;
       };
-      mantissa = omega (arith, length-append (whole_digits (base r) u (n / base r ^ k)) (digits_behind (fraction_of (base r) u k n)), whole.some);
+      mantissa = omega (arith, length-append (whole_digits (base r) u (n / base r ^ k)) (fractional_digits (fraction_of (base r) u k n)), whole.some);
       exponent = tt;
     }
 
-behind_length : (b : ℕ) (u : Bool) (k n : ℕ) → length (digits_behind (fraction_of b u k n)) ≡ k
+behind_length : (b : ℕ) (u : Bool) (k n : ℕ) → length (fractional_digits (fraction_of b u k n)) ≡ k
 behind_length b u zero n = refl
 behind_length b u (suc k) n = last_digits_length b u (suc k) n
 
@@ -172,7 +172,7 @@ value_append b xs ys = after_append 0 xs ∙ value_after b (digits_value b xs) y
     after_append n [] = refl
     after_append n (x ∷ xs) = after_append (n * b + digit_value x) xs
 
-mantissa_value : (b : ℕ) (u : Bool) (k n : ℕ) (w : List ℕ) → 2 ≤ b → b ≤ 16 → digits_value b w ≡ n / b ^ k → digits_value b (w ++ digits_behind (fraction_of b u k n)) ≡ n
+mantissa_value : (b : ℕ) (u : Bool) (k n : ℕ) (w : List ℕ) → 2 ≤ b → b ≤ 16 → digits_value b w ≡ n / b ^ k → digits_value b (w ++ fractional_digits (fraction_of b u k n)) ≡ n
 mantissa_value b u zero n w two q e = rw append-nil (e ∙ rw pow-zero (div-one n))
 mantissa_value b u (suc k) n w two q e =
     value_append b w (last_digits b u (suc k) n) ∙

@@ -2,7 +2,7 @@
 use Rattle.std.specs.Prelude.{◌≡◌, ◌⊎◌, ◌+◌, ◌≤◌, ◌<◌, ℕ, List, [], ◌∷◌, ◌++◌, length, get_or, codes, decimal, true, false}
 use Rattle.fixed_bits.specs.Formats.{FormatParts, IsFormat}
 use Rattle.fixed_numeral.specs.Cause.{HasCause}
-use Rattle.fixed_numeral.specs.Words.{words_of}
+use Rattle.fixed_numeral.specs.Messages.{message_of}
 use Rattle.fixed_numeral.specs.declared.error.ParseErrorKind.{ParseErrorKind}
 use Rattle.fixed_numeral.specs.declared.radix.Radix.{Radix}
 use Rattle.line_engine.specs.Lines.{lines}
@@ -66,7 +66,7 @@ pub record IsLeastText (places text : List ℕ) : Type 0 where
 
 -- what is written for a line that is no numeral
 abbrev pub fault_line : LeastFault → List ℕ
-fault_line why = codes "error: line " ++ (decimal (place_of why) ++ (codes ": " ++ (words_of (kind_at why) ++ 10 ∷ [])))
+fault_line why = codes "error: line " ++ (decimal (place_of why) ++ (codes ": " ++ (message_of (kind_at why) ++ 10 ∷ [])))
 
 -- the answer to an input that is a list of numerals
 pub record IsLeastAnswer (r : Radix) (input : List ℕ) (answer : AnswerText) : Type 0 where

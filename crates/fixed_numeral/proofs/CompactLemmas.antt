@@ -9,7 +9,7 @@ use Rattle.std.specs.Int.Digits.{number_from_digits}
 use Rattle.std.specs.Str.Parse.{digits_value}
 use Rattle.fixed_numeral.specs.declared.radix.Radix.{Radix}
 use Rattle.fixed_numeral.specs.declared.radix.Radix.TheVariants.{Dec}
-use Rattle.fixed_numeral.specs.Numeral.{Parts, Exponent, base, is_minus, is_two_separator, exponent_number, mantissa, digits_behind}
+use Rattle.fixed_numeral.specs.Numeral.{Parts, Exponent, base, is_minus, is_two_separator, exponent_number, mantissa, fractional_digits}
 use Rattle.fixed_numeral.specs.Value.{scaled, scaled_by}
 use Rattle.fixed_numeral.specs.Inner.Scan.{max_magnitude}
 use Rattle.fixed_numeral.specs.Spelled.{IsSameNumber}
@@ -30,14 +30,14 @@ placed_is r m s (Some e) = by_kind (is_two_separator r e.separator)
     by_kind true = refl
     by_kind false = refl
 
-pub compact_by : (r : Radix) (p : Parts) (negative : Bool) (digits places : ℕ) (exponent : ℤ) (two : Bool) → negative ≡ is_minus p.sign → digits ≡ digits_value (base r) (mantissa p) → places ≡ length (digits_behind p.fraction) → exponent ≡ exponent_value p.exponent → two ≡ is_power_of_two r p.exponent → IsCompactNumeral r p negative digits places exponent two
+pub compact_by : (r : Radix) (p : Parts) (negative : Bool) (digits places : ℕ) (exponent : ℤ) (two : Bool) → negative ≡ is_minus p.sign → digits ≡ digits_value (base r) (mantissa p) → places ≡ length (fractional_digits p.fraction) → exponent ≡ exponent_value p.exponent → two ≡ is_power_of_two r p.exponent → IsCompactNumeral r p negative digits places exponent two
 compact_by r p negative digits places exponent two n d f e t = record {
   sign = n;
   mantissa_number = d;
   fraction_length = f;
   exponent_is = e;
   separator = t;
-  value = rw (d, f, e, t) (placed_is r (digits_value (base r) (mantissa p)) (length (digits_behind p.fraction)) p.exponent);
+  value = rw (d, f, e, t) (placed_is r (digits_value (base r) (mantissa p)) (length (fractional_digits p.fraction)) p.exponent);
 }
 
 -- ---- short decimals
@@ -54,7 +54,7 @@ short_value m (suc s) None e =
     let z : pos 0 -ℤ pos (suc s) ≡ negsuc s = omega (arith, ints) in
     rw z (omega arith)
 
-pub short_by : (p : Parts) (negative : Bool) (whole fraction places : ℕ) → negative ≡ is_minus p.sign → whole ≡ digits_value 10 p.whole → fraction ≡ digits_value 10 (digits_behind p.fraction) → places ≡ length (digits_behind p.fraction) → p.exponent ≡ None → IsShortDecimal p negative whole fraction places
+pub short_by : (p : Parts) (negative : Bool) (whole fraction places : ℕ) → negative ≡ is_minus p.sign → whole ≡ digits_value 10 p.whole → fraction ≡ digits_value 10 (fractional_digits p.fraction) → places ≡ length (fractional_digits p.fraction) → p.exponent ≡ None → IsShortDecimal p negative whole fraction places
 short_by p negative whole fraction places n w f l x = record {
   sign = n;
   whole_number = w;
@@ -62,6 +62,6 @@ short_by p negative whole fraction places n w f l x = record {
   fraction_length = l;
   no_exponent = x;
   value =
-      let joined : digits_value 10 (mantissa p) ≡ whole * 10 ^ places + fraction = value_append 10 p.whole (digits_behind p.fraction) ∙ rw (w, f, l) refl in
-      rw (← joined) (rw l (short_value (digits_value 10 (mantissa p)) (length (digits_behind p.fraction)) p.exponent x));
+      let joined : digits_value 10 (mantissa p) ≡ whole * 10 ^ places + fraction = value_append 10 p.whole (fractional_digits p.fraction) ∙ rw (w, f, l) refl in
+      rw (← joined) (rw l (short_value (digits_value 10 (mantissa p)) (length (fractional_digits p.fraction)) p.exponent x));
 }

@@ -18,8 +18,8 @@ one_longest r bs m n p q g h = omega (arith, g.longest n h.within (q, h.beginnin
 
 pub one_cause : (r : Radix) (bs : List ℕ) (kind other : ParseErrorKind) → HasCause r bs kind → HasCause r bs other → kind ≡ other
 one_cause r bs kind other g h =
-    let count : g.count ≡ h.count = one_longest r bs g.count h.count g.parts h.parts g.front h.front in
-    let same : g.parts ≡ h.parts = parts_unique r (take h.count bs) g.parts h.parts (rw count at g.front.beginning) h.front.beginning in
+    let count : g.count ≡ h.count = one_longest r bs g.count h.count g.parts h.parts g.prefix h.prefix in
+    let same : g.parts ≡ h.parts = parts_unique r (take h.count bs) g.parts h.parts (rw count at g.prefix.beginning) h.prefix.beginning in
     g.is_kind ∙ rw (count, same) (sym h.is_kind)
 
 one_longest_literal : (r : Radix) (bs : List ℕ) (m n : ℕ) (p q : Parts) → IsLongestLiteral r bs m p → IsLongestLiteral r bs n q → m ≡ n
@@ -28,8 +28,8 @@ one_longest_literal r bs m n p q g h = omega (arith, g.longest n h.within (q, h.
 pub one_literal_cause : (s : Bool) (bs : List ℕ) (kind other : ParseErrorKind) → HasLiteralCause s bs kind → (HasLiteralCause s bs other → kind ≡ other) × (IsLiteral s bs → ⊥)
 one_literal_cause s bs kind other g = (
   λ h.
-      let count : g.count ≡ h.count = one_longest_literal (literal_radix s bs) (literal_rest s bs) g.count h.count g.parts h.parts g.front h.front in
-      let same : g.parts ≡ h.parts = parts_unique (literal_radix s bs) (without_underscores (take h.count (literal_rest s bs))) g.parts h.parts (rw count at g.front.beginning.beginning) h.front.beginning.beginning in
+      let count : g.count ≡ h.count = one_longest_literal (literal_radix s bs) (literal_rest s bs) g.count h.count g.parts h.parts g.prefix h.prefix in
+      let same : g.parts ≡ h.parts = parts_unique (literal_radix s bs) (without_underscores (take h.count (literal_rest s bs))) g.parts h.parts (rw count at g.prefix.beginning.beginning) h.prefix.beginning.beginning in
       g.is_kind ∙ rw (count, same) (sym h.is_kind),
   no_literal s bs kind g,
 )

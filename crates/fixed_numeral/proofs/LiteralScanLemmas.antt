@@ -8,7 +8,7 @@ use Rattle.fixed_numeral.specs.declared.radix.Radix.{Radix}
 use Rattle.fixed_numeral.specs.declared.error.ParseErrorKind.{ParseErrorKind}
 use Rattle.fixed_numeral.specs.declared.error.ParseErrorKind.TheVariants.{MisplacedSign, MisplacedUnderscore}
 use Rattle.fixed_numeral.specs.declared.scanner.State.{State}
-use Rattle.fixed_numeral.specs.Numeral.{Parts, Exponent, HasParts, IsPartsOf, IsNumeral, is_sign, minus, digits_behind}
+use Rattle.fixed_numeral.specs.Numeral.{Parts, Exponent, HasParts, IsPartsOf, IsNumeral, is_sign, minus, fractional_digits}
 use Rattle.fixed_numeral.specs.Cause.{is_nil, kind_of}
 use Rattle.fixed_numeral.proofs.NumeralLemmas.{parts_unique, beginning_prefix, parts}
 use Rattle.fixed_numeral.specs.Inner.Scan.{Agrees, Extends, CannotExtend, IsAfter, IsComplete, IsIncomplete, max_magnitude}
@@ -213,7 +213,7 @@ stuck_rest r bs n p kind l h g = record {
       omega (arith, prefix_stuck r bs n l g.none (length bs) all);
   count = n;
   parts = p;
-  front = record { within = omega arith; beginning = h; longest = λ m ml b. prefix_stuck r bs n l g.none m b };
+  prefix = record { within = omega arith; beginning = h; longest = λ m ml b. prefix_stuck r bs n l g.none m b };
   is_kind = rw (slice_get-get_or bs n 0 l) g.is_kind;
 }
 
@@ -222,7 +222,7 @@ end_rest r bs p kind h k none = record {
   none = λ q g. none (q, g.numeral);
   count = length bs;
   parts = p;
-  front = record { within = omega arith; beginning = rw (take_all (length bs) bs (omega arith)) h; longest = λ m ml b. ml };
+  prefix = record { within = omega arith; beginning = rw (take_all (length bs) bs (omega arith)) h; longest = λ m ml b. ml };
   is_kind = rw (slice_get_past bs) k;
 }
 
@@ -248,7 +248,7 @@ unsigned_parts r bs st a = no_sign r (without_underscores bs) a.parts.sign a.par
 pub front_whole : (r : Radix) (bs : List ℕ) (st : State) (a : IsLiteralAfter r bs st) → take st.whole_len (digits_in bs) ≡ digits_in a.parts.whole
 front_whole r bs st a = literal_whole r bs a.parts st.whole_len a.beginning.beginning (unsigned_parts r bs st a) a.agrees.whole
 
-pub front_fraction : (r : Radix) (bs : List ℕ) (st : State) (a : IsLiteralAfter r bs st) → take st.fraction_len (drop st.whole_len (digits_in bs)) ≡ digits_in (digits_behind a.parts.fraction)
+pub front_fraction : (r : Radix) (bs : List ℕ) (st : State) (a : IsLiteralAfter r bs st) → take st.fraction_len (drop st.whole_len (digits_in bs)) ≡ digits_in (fractional_digits a.parts.fraction)
 front_fraction r bs st a = literal_fraction r bs a.parts st.whole_len st.fraction_len a.beginning.beginning (unsigned_parts r bs st a) a.agrees.whole a.agrees.fraction
 
 -- there are so many digits

@@ -54,21 +54,21 @@ pub trailing_back : (core : List ℕ) (p : ℕ) → NoTrailingZero core → NoTr
 trailing_back core p n = λ xs e. n (take p core ++ xs) (sym (take-append-drop p core) ∙ ap (λ ys. take p core ++ ys) e ∙ sym (append_assoc (take p core) xs (0 ∷ [])))
 
 record IsPushed (ds : List ℕ) : Type 0 where
-  front : List ℕ
+  prefix : List ℕ
   last : ℕ
-  is : ds ≡ front ++ last ∷ []
+  is : ds ≡ prefix ++ last ∷ []
 
 pushed : (ds : List ℕ) → 0 < length ds → IsPushed ds
 pushed [] l = absurd (omega arith)
-pushed (d ∷ []) l = record { front = []; last = d; is = refl }
-pushed (d ∷ e ∷ ds) l = let p = pushed (e ∷ ds) (omega arith) in record { front = d ∷ p.front; last = p.last; is = ap (λ ys. d ∷ ys) p.is }
+pushed (d ∷ []) l = record { prefix = []; last = d; is = refl }
+pushed (d ∷ e ∷ ds) l = let p = pushed (e ∷ ds) (omega arith) in record { prefix = d ∷ p.prefix; last = p.last; is = ap (λ ys. d ∷ ys) p.is }
 
 pub trailing_zeros_before : (core : List ℕ) (k : ℕ) → 0 < length core → NoTrailingZero core → NoTrailingZero (zeros k ++ core)
 trailing_zeros_before core k l n =
     let p = pushed core l in
-    λ xs e. let same : (zeros k ++ p.front) ++ p.last ∷ [] ≡ xs ++ 0 ∷ [] = append_assoc (zeros k) p.front (p.last ∷ []) ∙ sym (ap (λ ys. zeros k ++ ys) p.is) ∙ e in
-    let z = (same_from_push (zeros k ++ p.front) xs p.last 0 same).1 in
-    n p.front (p.is ∙ ap (λ d. p.front ++ d ∷ []) z)
+    λ xs e. let same : (zeros k ++ p.prefix) ++ p.last ∷ [] ≡ xs ++ 0 ∷ [] = append_assoc (zeros k) p.prefix (p.last ∷ []) ∙ sym (ap (λ ys. zeros k ++ ys) p.is) ∙ e in
+    let z = (same_from_push (zeros k ++ p.prefix) xs p.last 0 same).1 in
+    n p.prefix (p.is ∙ ap (λ d. p.prefix ++ d ∷ []) z)
 
 -- ---- numbers
 pub zeros_front : (b k : ℕ) (ds : List ℕ) → number_from_digits b (zeros k ++ ds) ≡ number_from_digits b ds
@@ -126,7 +126,7 @@ view_before v l' r' l r n b a e f g = rw (f, g) (zeros_before n b l r a ∙ ap (
 pub view_behind : (v l' r' l r : List ℕ) (n b a : ℕ) → between_zeros b l r a ≡ v → l' ≡ l → r' ≡ r → between_zeros b l' r' (a + n) ≡ v ++ zeros n
 view_behind v l' r' l r n b a e f g = rw (f, g) (zeros_behind n b l r a ∙ ap (λ ds. ds ++ zeros n) e)
 
--- core is w and r without k zeros in front, and without those behind
+-- core is w and r without k leading zeros, and without trailing ones
 pub record Cored (w r core : List ℕ) (k : ℕ) : Type 0 where
   pub count : ℕ
   pub trimmed : IsTrimmed (w ++ r) core k count
@@ -231,9 +231,9 @@ trailed_fraction w r g a l =
       count = a.count;
       split = ap (λ xs. w ++ xs) a.split ∙ sym (append_assoc w g (zeros a.count));
       none = λ xs e.
-          let same : (w ++ p.front) ++ p.last ∷ [] ≡ xs ++ 0 ∷ [] = append_assoc w p.front (p.last ∷ []) ∙ sym (ap (λ ys. w ++ ys) p.is) ∙ e in
-          let z = (same_from_push (w ++ p.front) xs p.last 0 same).1 in
-          a.none p.front (p.is ∙ ap (λ d. p.front ++ d ∷ []) z);
+          let same : (w ++ p.prefix) ++ p.last ∷ [] ≡ xs ++ 0 ∷ [] = append_assoc w p.prefix (p.last ∷ []) ∙ sym (ap (λ ys. w ++ ys) p.is) ∙ e in
+          let z = (same_from_push (w ++ p.prefix) xs p.last 0 same).1 in
+          a.none p.prefix (p.is ∙ ap (λ d. p.prefix ++ d ∷ []) z);
     }
 
 pub trailed_both : (w f r g : List ℕ) → IsWithoutTrailing w f → length g ≤ 0 → IsWithoutTrailing r g → IsWithoutTrailing (w ++ r) (f ++ g)

@@ -13,7 +13,7 @@ use Rattle.fixed_numeral.specs.declared.radix.Radix.TheVariants.{Bin, Oct, Dec, 
 use Rattle.fixed_numeral.specs.declared.scanner.State.{State}
 use Rattle.fixed_numeral.specs.declared.error.ParseErrorKind.{ParseErrorKind}
 use Rattle.fixed_numeral.specs.declared.error.ParseErrorKind.TheVariants.{InvalidDigit, MisplacedSign, TooManyPoints, TooManyExp, ExpInvalidDigit, ExpOverflow, NoDigits, ExpNoDigits}
-use Rattle.fixed_numeral.specs.Numeral.{Parts, Exponent, HasParts, HasNumeral, IsNumeral, IsBeginning, is_sign, is_separator, is_radix_separator, is_two_separator, point, minus, mantissa, digits_behind, fraction_text, exponent_text, base}
+use Rattle.fixed_numeral.specs.Numeral.{Parts, Exponent, HasParts, HasNumeral, IsNumeral, IsBeginning, is_sign, is_separator, is_radix_separator, is_two_separator, point, minus, mantissa, fractional_digits, fraction_text, exponent_text, base}
 use Rattle.fixed_numeral.specs.Cause.{is_nil, kind_of, HasCause}
 use Rattle.fixed_numeral.specs.Digits.{digits_in}
 use Rattle.fixed_numeral.specs.Scanned.{IsScanned}
@@ -339,7 +339,7 @@ stuck_cause r bs n p kind l h g = record {
   none = stuck_no_numeral r bs n p kind l g;
   count = n;
   parts = p;
-  front = record { within = omega arith; beginning = h; longest = λ m ml b. prefix_stuck r bs n p l g.none m b };
+  prefix = record { within = omega arith; beginning = h; longest = λ m ml b. prefix_stuck r bs n p l g.none m b };
   is_kind = rw (slice_get-get_or bs n 0 l) g.is_kind;
 }
 
@@ -354,7 +354,7 @@ end_cause r bs p kind h k none = record {
   none = none;
   count = length bs;
   parts = p;
-  front = record { within = omega arith; beginning = rw (take_all (length bs) bs (omega arith)) h; longest = λ m ml b. ml };
+  prefix = record { within = omega arith; beginning = rw (take_all (length bs) bs (omega arith)) h; longest = λ m ml b. ml };
   is_kind = rw (slice_get_past bs) k;
 }
 
@@ -378,8 +378,8 @@ pub nil_by_length : (ds : List ℕ) → length ds ≡ 0 → is_nil ds ≡ true
 nil_by_length [] h = refl
 nil_by_length (d ∷ ds) h = absurd (omega arith)
 
-pub mantissa_length : (p : Parts) → length (mantissa p) ≡ length p.whole + length (digits_behind p.fraction)
-mantissa_length p = length-append p.whole (digits_behind p.fraction)
+pub mantissa_length : (p : Parts) → length (mantissa p) ≡ length p.whole + length (fractional_digits p.fraction)
+mantissa_length p = length-append p.whole (fractional_digits p.fraction)
 
 pub no_digits : (r : Radix) (bs : List ℕ) (st : State) → IsAfter r bs st → st.whole_len ≡ 0 → st.fraction_len ≡ 0 → HasCause r bs NoDigits
 no_digits r bs st a ew ef =
@@ -427,7 +427,7 @@ text_length r bs s w f x h = omega (arith, ap length h.text, length-append (opti
 pub whole_fits : (r : Radix) (bs : List ℕ) (st : State) → IsAfter r bs st → st.sign_len + st.whole_len + st.fraction_len ≤ length bs
 whole_fits r bs st a = at_fraction a.parts.fraction (a.agrees.start) (a.agrees.whole) a.agrees.fraction (text_length r bs a.parts.sign a.parts.whole a.parts.fraction a.parts.exponent a.beginning)
   where
-    at_fraction : {n m k i j l : ℕ} (f : Option (List ℕ)) → i ≡ n → j ≡ m → l ≡ length (digits_behind f) → n + m + length (fraction_text f) ≤ k → i + j + l ≤ k
+    at_fraction : {n m k i j l : ℕ} (f : Option (List ℕ)) → i ≡ n → j ≡ m → l ≡ length (fractional_digits f) → n + m + length (fraction_text f) ≤ k → i + j + l ≤ k
     at_fraction None p q t h = omega arith
     at_fraction (Some ds) p q t h = omega arith
 
@@ -436,13 +436,13 @@ whole_is r bs st a =
     let rest : drop st.sign_len bs ≡ a.parts.whole ++ (fraction_text a.parts.fraction ++ exponent_text a.parts.exponent) = ap (drop st.sign_len) a.beginning.text ∙ drop_at (option_to_list a.parts.sign) (a.parts.whole ++ (fraction_text a.parts.fraction ++ exponent_text a.parts.exponent)) st.sign_len (sym a.agrees.start) in
     ap (take st.whole_len) rest ∙ take_at a.parts.whole (fraction_text a.parts.fraction ++ exponent_text a.parts.exponent) st.whole_len (sym a.agrees.whole)
 
-pub fraction_is : (r : Radix) (bs : List ℕ) (st : State) (a : IsAfter r bs st) → take st.fraction_len (drop (st.sign_len + st.whole_len + 1) bs) ≡ digits_behind a.parts.fraction
+pub fraction_is : (r : Radix) (bs : List ℕ) (st : State) (a : IsAfter r bs st) → take st.fraction_len (drop (st.sign_len + st.whole_len + 1) bs) ≡ fractional_digits a.parts.fraction
 fraction_is r bs st a =
     let front : bs ≡ (option_to_list a.parts.sign ++ a.parts.whole) ++ (fraction_text a.parts.fraction ++ exponent_text a.parts.exponent) = a.beginning.text ∙ sym (append_assoc (option_to_list a.parts.sign) a.parts.whole (fraction_text a.parts.fraction ++ exponent_text a.parts.exponent)) in
     let count : length (option_to_list a.parts.sign ++ a.parts.whole) ≡ st.sign_len + st.whole_len = length-append (option_to_list a.parts.sign) a.parts.whole ∙ omega (arith, a.agrees.start, a.agrees.whole) in
     at_fraction (option_to_list a.parts.sign ++ a.parts.whole) a.parts.fraction (exponent_text a.parts.exponent) (st.sign_len + st.whole_len) st.fraction_len bs front count a.agrees.fraction
   where
-    at_fraction : (xs : List ℕ) (f : Option (List ℕ)) (ys : List ℕ) (n l : ℕ) (bs : List ℕ) → bs ≡ xs ++ (fraction_text f ++ ys) → length xs ≡ n → l ≡ length (digits_behind f) → take l (drop (n + 1) bs) ≡ digits_behind f
+    at_fraction : (xs : List ℕ) (f : Option (List ℕ)) (ys : List ℕ) (n l : ℕ) (bs : List ℕ) → bs ≡ xs ++ (fraction_text f ++ ys) → length xs ≡ n → l ≡ length (fractional_digits f) → take l (drop (n + 1) bs) ≡ fractional_digits f
     at_fraction xs None ys n l bs e c k = rw k refl
     at_fraction xs (Some ds) ys n l bs e c k =
         let e' : bs ≡ (xs ++ 46 ∷ []) ++ (ds ++ ys) = e ∙ sym (append_assoc xs (46 ∷ []) (ds ++ ys)) in
@@ -456,7 +456,7 @@ after_all r bs i st l a = rw (take_all i bs l) at a
 pub whole_digits : (r : Radix) (bs ds : List ℕ) (st : State) (a : IsAfter r bs st) → ds ≡ take st.whole_len (drop st.sign_len bs) → digits_in ds ≡ digits_in a.parts.whole
 whole_digits r bs ds st a e = ap digits_in (e ∙ whole_is r bs st a)
 
-pub fraction_digits : (r : Radix) (bs ds : List ℕ) (st : State) (a : IsAfter r bs st) → ds ≡ take st.fraction_len (drop (st.sign_len + st.whole_len + 1) bs) → digits_in ds ≡ digits_in (digits_behind a.parts.fraction)
+pub fraction_digits : (r : Radix) (bs ds : List ℕ) (st : State) (a : IsAfter r bs st) → ds ≡ take st.fraction_len (drop (st.sign_len + st.whole_len + 1) bs) → digits_in ds ≡ digits_in (fractional_digits a.parts.fraction)
 fraction_digits r bs ds st a e = ap digits_in (e ∙ fraction_is r bs st a)
 
 pub whole_counted : (r : Radix) (bs ds : List ℕ) (st : State) (a : IsAfter r bs st) → ds ≡ take st.whole_len (drop st.sign_len bs) → st.whole_len ≡ length (digits_in ds)
@@ -471,18 +471,18 @@ is_scanned r bs p st a neg whole fraction bits n h = let same = parts_unique r b
 -- ---- digits from a place on
 pub run_more : (b : ℕ) (bs : List ℕ) (from at : ℕ) → IsRun b bs from at → at < length bs → digit_value (get_or bs at 0) < b → IsRun b bs from (at + 1)
 run_more b bs from at h l d =
-    let e : at + 1 - from ≡ at - from + 1 = omega (arith, h.front) in
-    let there : from + (at - from) ≡ at = omega (arith, h.front) in
+    let e : at + 1 - from ≡ at - from + 1 = omega (arith, h.prefix) in
+    let there : from + (at - from) ≡ at = omega (arith, h.prefix) in
     let same : get_or (drop from bs) (at - from) 0 ≡ get_or bs at 0 = get_or-drop from bs (at - from) 0 ∙ ap (λ i. get_or bs i 0) there in
-    record { front = omega (arith, h.front); within = omega arith; digits = rw e (digits_more b (drop from bs) (at - from) (omega (arith, length-drop from bs, h.front)) h.digits (rw same d)) }
+    record { prefix = omega (arith, h.prefix); within = omega arith; digits = rw e (digits_more b (drop from bs) (at - from) (omega (arith, length-drop from bs, h.prefix)) h.digits (rw same d)) }
 
 -- so many more of them
 pub run_on : (b : ℕ) (bs : List ℕ) (from at n : ℕ) → IsRun b bs from at → at + n ≤ length bs → AllDigits b (take n (drop at bs)) → IsRun b bs from (at + n)
 run_on b bs from at n h l d =
-    let e : at + n - from ≡ at - from + n = omega (arith, h.front) in
-    let there : from + (at - from) ≡ at = omega (arith, h.front) in
+    let e : at + n - from ≡ at - from + n = omega (arith, h.prefix) in
+    let there : from + (at - from) ≡ at = omega (arith, h.prefix) in
     let next : take n (drop (at - from) (drop from bs)) ≡ take n (drop at bs) = ap (take n) (drop-drop (at - from) from bs ∙ ap (λ i. drop i bs) there) in
-    record { front = omega (arith, h.front); within = l; digits = rw (e, take-add (at - from) n (drop from bs), next) (digits_append b (take (at - from) (drop from bs)) (take n (drop at bs)) h.digits d) }
+    record { prefix = omega (arith, h.prefix); within = l; digits = rw (e, take-add (at - from) n (drop from bs), next) (digits_append b (take (at - from) (drop from bs)) (take n (drop at bs)) h.digits d) }
 
 -- a byte that is so near behind '0'
 pub low_digit : (b n : ℕ) → b < 256 → n ≤ 10 → (b + (256 - 48)) % 256 < n → digit_value b < n

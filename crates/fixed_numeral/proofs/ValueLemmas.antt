@@ -3,7 +3,7 @@ use Rattle.std.proofs.Common.{◌≡◌, ℕ, zero, suc, ◌*◌, ◌^◌, ◌<�
 use Rattle.std.proofs.Math.Nat.{one-le-pow}
 use Rattle.fixed_numeral.specs.declared.radix.Radix.{Radix}
 use Rattle.fixed_numeral.specs.Spelled.{spelled, IsSameNumber}
-use Rattle.fixed_numeral.specs.Numeral.{Parts, Exponent, base, exponent_number, is_two_separator, digits_behind, mantissa}
+use Rattle.fixed_numeral.specs.Numeral.{Parts, Exponent, base, exponent_number, is_two_separator, fractional_digits, mantissa}
 use Rattle.fixed_numeral.specs.Value.{scaled, scaled_by, magnitude}
 use Rattle.std.specs.Str.Parse.{digits_value}
 use Rattle.fixed_numeral.specs.Place.{NoLeadingZero, NoTrailingZero}
@@ -23,7 +23,7 @@ scaled_by_pos r m s (Some e) = by_kind (is_two_separator r e.separator)
     by_kind false = scaled_pos m 1 (base r) (exponent_number e -ℤ pos s) (omega arith) (base_pos r)
 
 pub magnitude_pos : (r : Radix) (p : Parts) → 0 < (magnitude r p).den
-magnitude_pos r p = scaled_by_pos r (digits_value (base r) (mantissa p)) (length (digits_behind p.fraction)) p.exponent
+magnitude_pos r p = scaled_by_pos r (digits_value (base r) (mantissa p)) (length (fractional_digits p.fraction)) p.exponent
 
 -- a numeral of value zero has two empty views
 pub views_of_zero : (r : Radix) (p : Parts) (w f : List ℕ) (bits : ℕ) → NoLeadingZero w → NoTrailingZero f → IsSameNumber (spelled (base r) w f bits) (magnitude r p) → (magnitude r p).num ≡ 0 → (w ≡ []) × (f ≡ [])

@@ -34,5 +34,5 @@ pub record HasCause (r : Radix) (bs : List ℕ) (kind : ParseErrorKind) : Type 0
   pub none : IsNumeral r bs → ⊥
   pub count : ℕ
   pub parts : Parts
-  pub front : IsLongestBeginning r bs count parts
+  pub prefix : IsLongestBeginning r bs count parts
   pub is_kind : kind ≡ kind_of r parts (slice_get bs count)

@@ -12,8 +12,8 @@ abbrev pub PartsAreDetermined : Type 0
 PartsAreDetermined = (r : Radix) (bs : List ℕ) (p q : Parts) → HasParts r bs p → HasParts r bs q → p ≡ q
 
 -- each prefix of a beginning is a beginning
-abbrev pub FrontIsBeginning : Type 0
-FrontIsBeginning = (r : Radix) (xs ys : List ℕ) → IsBeginning r (xs ++ ys) → IsBeginning r xs
+abbrev pub PrefixIsBeginning : Type 0
+PrefixIsBeginning = (r : Radix) (xs ys : List ℕ) → IsBeginning r (xs ++ ys) → IsBeginning r xs
 
 -- bytes are a numeral, or have a cause
 abbrev pub NumeralOrCause : Type 0

@@ -7,6 +7,6 @@ pub mod Digits
 pub mod Place
 pub mod Scanned
 pub mod Literal
-pub mod Words
+pub mod Messages
 pub mod Laws
 pub mod Inner

@@ -60,7 +60,7 @@ pub record HasRestCause (r : Radix) (bs : List ℕ) (kind : ParseErrorKind) : Ty
   pub none : (p : Parts) → HasRest r bs p → ⊥
   pub count : ℕ
   pub parts : Parts
-  pub front : IsLongestLiteral r bs count parts
+  pub prefix : IsLongestLiteral r bs count parts
   pub is_kind : kind ≡ literal_kind r parts (slice_get bs count)
 
 -- the sign that is taken first: one '-', where the type is signed

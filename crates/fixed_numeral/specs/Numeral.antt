@@ -95,13 +95,13 @@ pub record HasParts (r : Radix) (bs : List ℕ) (p : Parts) : Type 0 where
 abbrev pub IsBeginning : Radix → List ℕ → Type 0
 IsBeginning r bs = (p : Parts) × HasParts r bs p
 
-abbrev pub digits_behind : Option (List ℕ) → List ℕ
-digits_behind None = []
-digits_behind (Some ds) = ds
+abbrev pub fractional_digits : Option (List ℕ) → List ℕ
+fractional_digits None = []
+fractional_digits (Some ds) = ds
 
 -- all mantissa digits
 abbrev pub mantissa : Parts → List ℕ
-mantissa p = p.whole ++ digits_behind p.fraction
+mantissa p = p.whole ++ fractional_digits p.fraction
 
 -- bs is a numeral, with these parts
 pub record HasNumeral (r : Radix) (bs : List ℕ) (p : Parts) : Type 0 where

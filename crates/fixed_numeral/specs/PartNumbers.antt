@@ -3,7 +3,7 @@ use Rattle.std.specs.Prelude.{◌≡◌, ℕ, ◌+◌, ◌*◌, ◌^◌, Bool, t
 use Rattle.std.specs.Str.Parse.{digits_value}
 use Rattle.fixed_numeral.specs.declared.radix.Radix.{Radix}
 use Rattle.fixed_numeral.specs.declared.radix.Radix.TheVariants.{Bin, Oct, Dec, Hex}
-use Rattle.fixed_numeral.specs.Numeral.{Parts, Exponent, base, is_minus, is_two_separator, exponent_number, mantissa, digits_behind}
+use Rattle.fixed_numeral.specs.Numeral.{Parts, Exponent, base, is_minus, is_two_separator, exponent_number, mantissa, fractional_digits}
 use Rattle.fixed_numeral.specs.Value.{Fraction, scaled, magnitude}
 use Rattle.fixed_numeral.specs.Spelled.{IsSameNumber}
 
@@ -33,8 +33,8 @@ compact_limit Hex = 2 ^ 128
 pub record IsShortDecimal (p : Parts) (negative : Bool) (whole fraction places : ℕ) : Type 0 where
   pub sign : negative ≡ is_minus p.sign
   pub whole_number : whole ≡ digits_value 10 p.whole
-  pub fraction_number : fraction ≡ digits_value 10 (digits_behind p.fraction)
-  pub fraction_length : places ≡ length (digits_behind p.fraction)
+  pub fraction_number : fraction ≡ digits_value 10 (fractional_digits p.fraction)
+  pub fraction_length : places ≡ length (fractional_digits p.fraction)
   pub no_exponent : p.exponent ≡ None
   pub value : IsSameNumber (record { num = whole * 10 ^ places + fraction; den = 10 ^ places }) (magnitude Dec p)
 
@@ -42,7 +42,7 @@ pub record IsShortDecimal (p : Parts) (negative : Bool) (whole fraction places :
 pub record IsCompactNumeral (r : Radix) (p : Parts) (negative : Bool) (digits places : ℕ) (exponent : ℤ) (scales_by_two : Bool) : Type 0 where
   pub sign : negative ≡ is_minus p.sign
   pub mantissa_number : digits ≡ digits_value (base r) (mantissa p)
-  pub fraction_length : places ≡ length (digits_behind p.fraction)
+  pub fraction_length : places ≡ length (fractional_digits p.fraction)
   pub exponent_is : exponent ≡ exponent_value p.exponent
   pub separator : scales_by_two ≡ is_power_of_two r p.exponent
   pub value : magnitude r p ≡ placed_magnitude r digits places exponent scales_by_two

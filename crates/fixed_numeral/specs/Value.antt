@@ -2,7 +2,7 @@
 use Rattle.std.specs.Prelude.{ℕ, suc, ◌*◌, ◌^◌, if◌then◌else◌, length, Option, Some, None, ℤ, pos, negsuc, ◌-ℤ◌}
 use Rattle.std.specs.Str.Parse.{digits_value}
 use Rattle.fixed_numeral.specs.declared.radix.Radix.{Radix}
-use Rattle.fixed_numeral.specs.Numeral.{Parts, Exponent, base, is_two_separator, exponent_number, mantissa, digits_behind}
+use Rattle.fixed_numeral.specs.Numeral.{Parts, Exponent, base, is_two_separator, exponent_number, mantissa, fractional_digits}
 
 -- a number that isn't negative, as a fraction
 pub record Fraction : Type 0 where
@@ -22,4 +22,4 @@ scaled_by r m s (Some e) = if is_two_separator r e.separator
 
 -- the magnitude of a numeral
 abbrev pub magnitude : Radix → Parts → Fraction
-magnitude r p = scaled_by r (digits_value (base r) (mantissa p)) (length (digits_behind p.fraction)) p.exponent
+magnitude r p = scaled_by r (digits_value (base r) (mantissa p)) (length (fractional_digits p.fraction)) p.exponent

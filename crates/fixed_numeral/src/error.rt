@@ -48,7 +48,7 @@ impl Model for ParseFixedError {
 }
 
 impl ParseFixedError {
-    ghost use Rattle.fixed_numeral.specs.Words.{words_of};
+    ghost use Rattle.fixed_numeral.specs.Messages.{message_of};
 
     /// The error of that kind.
     pub fn new(kind: ParseErrorKind) -> ParseFixedError
@@ -66,7 +66,7 @@ impl ParseFixedError {
 
     /// The words of the kind, which Display writes too.
     pub fn message(self) -> &'static str
-        ensures { result.now ≡ words_of self }
+        ensures { result.now ≡ message_of self }
     {
         match self.kind {
             ParseErrorKind::InvalidDigit => "invalid digit found in string",
@@ -85,9 +85,9 @@ impl ParseFixedError {
 
 impl fmt::Display for ParseFixedError {
     ghost use Rattle.std.specs.Prelude.{Some};
-    ghost use Rattle.fixed_numeral.specs.Words.{words_of};
+    ghost use Rattle.fixed_numeral.specs.Messages.{message_of};
 
-    ghost output = { λ e. Some (words_of e) };
+    ghost output = { λ e. Some (message_of e) };
 
     fn fmt<W: fmt::Write>(&self, f: &mut fmt::Formatter<W>) -> fmt::Result {
         f.write_str(self.message())

@@ -1,6 +1,6 @@
 //! Laws of numerals and literals, each the contract of a function that does nothing.
 
-ghost use Rattle.fixed_numeral.specs.Laws.{PartsAreDetermined, FrontIsBeginning, NumeralOrCause, OneCause, DenominatorIsPositive, LiteralIsDetermined, OneLiteralCause};
+ghost use Rattle.fixed_numeral.specs.Laws.{PartsAreDetermined, PrefixIsBeginning, NumeralOrCause, OneCause, DenominatorIsPositive, LiteralIsDetermined, OneLiteralCause};
 
 /// The parts of a beginning, and so those of a numeral, are determined by its bytes.
 pub fn parts_are_determined()
@@ -8,8 +8,8 @@ pub fn parts_are_determined()
 {}
 
 /// Each prefix of a beginning is a beginning.
-pub fn front_is_beginning()
-    ensures { FrontIsBeginning }
+pub fn prefix_is_beginning()
+    ensures { PrefixIsBeginning }
 {}
 
 /// Bytes are a numeral, or there is a cause why they are none.

@@ -10,7 +10,7 @@ use Rattle.fixed_bits.specs.Ranges.{IsInRange}
 use Rattle.fixed_bits.specs.Nearest.{IsNearest, distance}
 use Rattle.fixed_bits.proofs.NearestLemmas.{nearest_by_rest, nearest_by_rest_up}
 use Rattle.fixed_bits.specs.declared.mode.ReadMode.TheVariants.{NearestEven}
-use Rattle.fixed_numeral.specs.Numeral.{Parts, HasParts, HasNumeral, IsPartsOf, base, point, is_sign, is_minus, signed, fraction_text, text_of, digits_behind, mantissa}
+use Rattle.fixed_numeral.specs.Numeral.{Parts, HasParts, HasNumeral, IsPartsOf, base, point, is_sign, is_minus, signed, fraction_text, text_of, fractional_digits, mantissa}
 use Rattle.fixed_numeral.specs.Value.{magnitude}
 use Rattle.fixed_numeral.proofs.ValueLemmas.{magnitude_pos}
 use Rattle.fixed_numeral.specs.declared.radix.Radix.{Radix}
@@ -43,7 +43,7 @@ are_digits radix [] = true
 are_digits radix (c ∷ cs) = nat_lt (digit_value c) radix && are_digits radix cs
 
 abbrev pub is_plain_numeral : Radix → List ℕ → Bool
-is_plain_numeral r bs = are_digits (base r) (whole_of (after_sign bs)) && (are_digits (base r) (digits_behind (fraction_of (after_sign bs))) && nat_lt 0 (length (mantissa (parts_of bs))))
+is_plain_numeral r bs = are_digits (base r) (whole_of (after_sign bs)) && (are_digits (base r) (fractional_digits (fraction_of (after_sign bs))) && nat_lt 0 (length (mantissa (parts_of bs))))
 
 -- the nearest whole number to num / den, ties to even
 abbrev pub nearest_of : ℕ → ℕ → ℕ
@@ -95,7 +95,7 @@ digits_hold radix (c ∷ cs) e =
     let h = both (nat_lt (digit_value c) radix) (are_digits radix cs) e in
     (grind (arith, nat_tests, h.0), digits_hold radix cs h.1)
 
-fraction_holds : (radix : ℕ) (f : Option (List ℕ)) → IsTrue (are_digits radix (digits_behind f)) → IfSome f (AllDigits radix)
+fraction_holds : (radix : ℕ) (f : Option (List ℕ)) → IsTrue (are_digits radix (fractional_digits f)) → IfSome f (AllDigits radix)
 fraction_holds radix None e = tt
 fraction_holds radix (Some cs) e = digits_hold radix cs e
 
@@ -103,8 +103,8 @@ pub has_numeral : (r : Radix) (bs : List ℕ) → IsTrue (is_plain_numeral r bs)
 has_numeral r bs e =
     let whole = whole_of (after_sign bs) in
     let fraction = fraction_of (after_sign bs) in
-    let h = both (are_digits (base r) whole) (are_digits (base r) (digits_behind fraction) && nat_lt 0 (length (mantissa (parts_of bs)))) e in
-    let k = both (are_digits (base r) (digits_behind fraction)) (nat_lt 0 (length (mantissa (parts_of bs)))) h.1 in
+    let h = both (are_digits (base r) whole) (are_digits (base r) (fractional_digits fraction) && nat_lt 0 (length (mantissa (parts_of bs)))) e in
+    let k = both (are_digits (base r) (fractional_digits fraction)) (nat_lt 0 (length (mantissa (parts_of bs)))) h.1 in
     record {
       beginning = record {
         parts = record { sign = sign_holds bs; whole = digits_hold (base r) whole h.0; fraction = fraction_holds (base r) fraction k.0; exponent = tt };

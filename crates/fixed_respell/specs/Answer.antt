@@ -4,7 +4,7 @@ use Rattle.std.specs.Fmt.{signed_decimal}
 use Rattle.fixed_bits.specs.Formats.{FormatParts}
 use Rattle.fixed_bits.specs.declared.format.Policy.{Policy}
 use Rattle.fixed_bits.specs.declared.mode.ReadMode.{ReadMode}
-use Rattle.fixed_numeral.specs.Words.{words_of}
+use Rattle.fixed_numeral.specs.Messages.{message_of}
 use Rattle.fixed_numeral.specs.declared.error.ParseErrorKind.{ParseErrorKind}
 use Rattle.fixed_numeral.specs.declared.radix.Radix.{Radix}
 use Rattle.fixed_respell.specs.Language.{Language, IsAnswerIn, fault_answer}
@@ -96,7 +96,7 @@ pub record AsksBy (NamesPolicy : List ℕ → Policy → ReadMode → Type 0) (l
 pub record IsRefusalAnswer (t : Task) (answer : AnswerText) : Type 0 where
   pub kind : ParseErrorKind
   pub refusal : IsRefusal t.mode t.radix t.numeral t.policy t.source t.target kind
-  pub answer_is : answer ≡ fault_answer (words_of kind)
+  pub answer_is : answer ≡ fault_answer (message_of kind)
 
 -- the last word of an answer
 abbrev pub verdict : Bool → List ℕ

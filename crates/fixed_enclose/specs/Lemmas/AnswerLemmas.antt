@@ -1,7 +1,7 @@
 -- A line has one answer.
 use Rattle.std.proofs.Common.{◌≡◌, ℕ, ◌<◌, List, [], Bool, true, false, IsTrue, length, get_or, refl, sym, ap, ◌∙◌, subst, arith, ℤ, inl, inr, ◌↔◌}
 use Rattle.std.proofs.lemmas.Bool.{false≢true}
-use Rattle.fixed_numeral.specs.Words.{words_of}
+use Rattle.fixed_numeral.specs.Messages.{message_of}
 use Rattle.fixed_respell.specs.Language.{fault_answer}
 use Rattle.fixed_respell.specs.LineWords.{longest_line}
 use Rattle.fixed_respell.specs.Words.{IsFormatWord}
@@ -37,7 +37,7 @@ task_one line t u a b =
 
 -- ---- a task has one answer
 refusals : (t : Task) (a b : AnswerText) → IsRefusalAnswer t a → IsRefusalAnswer t b → a ≡ b
-refusals t a b x y = x.answer_is ∙ (ap (λ k. fault_answer (words_of k)) (refusal_one t.radix t.numeral t.format x.kind y.kind x.refusal y.refusal) ∙ sym y.answer_is)
+refusals t a b x y = x.answer_is ∙ (ap (λ k. fault_answer (message_of k)) (refusal_one t.radix t.numeral t.format x.kind y.kind x.refusal y.refusal) ∙ sym y.answer_is)
 
 refused_or_not : (t : Task) (a b : AnswerText) → IsRefusalAnswer t a → IsEnclosedAnswer t b → ⊥
 refused_or_not t a b x y = refusal_none t.radix t.numeral t.format y.lo y.hi x.kind y.enclosed x.refusal

@@ -170,10 +170,10 @@ pair_one r bytes format lo hi x = ((λ a b y. enclosed_one r bytes format lo hi 
 cause_one : (r : Radix) (bytes : List ℕ) (k l : ParseErrorKind) → HasCause r bytes k → HasCause r bytes l → k ≡ l
 cause_one r bytes k l x y =
     let longest : x.count ≡ y.count =
-    let a = y.front.longest x.count x.front.within (x.parts, x.front.beginning) in
-    let b = x.front.longest y.count y.front.within (y.parts, y.front.beginning) in
+    let a = y.prefix.longest x.count x.prefix.within (x.parts, x.prefix.beginning) in
+    let b = x.prefix.longest y.count y.prefix.within (y.parts, y.prefix.beginning) in
     omega (arith, a, b) in
-    let p : x.parts ≡ y.parts = parts_unique r (take y.count bytes) x.parts y.parts (rw longest at x.front.beginning) y.front.beginning in
+    let p : x.parts ≡ y.parts = parts_unique r (take y.count bytes) x.parts y.parts (rw longest at x.prefix.beginning) y.prefix.beginning in
     x.is_kind ∙ ap (λ n. kind_of r x.parts (slice_get bytes n)) longest ∙ ap (λ q. kind_of r q (slice_get bytes y.count)) p ∙ sym y.is_kind
 
 pub refusal_one : (r : Radix) (bytes : List ℕ) (format : FormatParts) (k l : ParseErrorKind) → IsRefusal r bytes format k → IsRefusal r bytes format l → k ≡ l

@@ -5,7 +5,7 @@ use Rattle.std.proofs.lemmas.Bool.{cases_lt}
 use Rattle.fixed_bits.specs.Formats.{FormatParts}
 use Rattle.fixed_numeral.specs.Cause.{HasCause}
 use Rattle.fixed_numeral.specs.Numeral.{Parts, IsNumeral}
-use Rattle.fixed_numeral.specs.Words.{words_of}
+use Rattle.fixed_numeral.specs.Messages.{message_of}
 use Rattle.fixed_numeral.specs.declared.error.ParseErrorKind.{ParseErrorKind}
 use Rattle.fixed_numeral.proofs.LawLemmas.{one_cause}
 use Rattle.fixed_numeral.specs.declared.radix.Radix.{Radix}
@@ -160,8 +160,8 @@ faults_one r lines a b x y =
     let C : List ℕ → Type 0 = λ l. HasCause r l (kind_at a) in
     let kind : kind_at a ≡ kind_at b = one_cause r y.line (kind_at a) (kind_at b) (subst C same.line_is x.cause) y.cause in
     let place : place_of a ≡ place_of b = x.place_is ∙ (ap (λ l. length l + 1) same.before_is ∙ sym y.place_is) in
-    ap (λ p. codes "error: line " ++ (decimal p ++ (codes ": " ++ (words_of (kind_at a) ++ 10 ∷ [])))) place
-    ∙ ap (λ k. codes "error: line " ++ (decimal (place_of b) ++ (codes ": " ++ (words_of k ++ 10 ∷ [])))) kind
+    ap (λ p. codes "error: line " ++ (decimal p ++ (codes ": " ++ (message_of (kind_at a) ++ 10 ∷ [])))) place
+    ∙ ap (λ k. codes "error: line " ++ (decimal (place_of b) ++ (codes ": " ++ (message_of k ++ 10 ∷ [])))) kind
 
 both_not : (r : Radix) (input : List ℕ) (a b : AnswerText) → IsLeastAnswer r input a → IsFaultAnswer r input b → ⊥
 both_not r input a b x y =

@@ -4,6 +4,6 @@ use Rattle.std.specs.Str.Parse.{AllDigits}
 
 -- the bytes between two places are digits
 pub record IsRun (b : ℕ) (bs : List ℕ) (from at : ℕ) : Type 0 where
-  pub front : from ≤ at
+  pub prefix : from ≤ at
   pub within : at ≤ length bs
   pub digits : AllDigits b (take (at - from) (drop from bs))

@@ -1,7 +1,7 @@
 -- What the scanner knows of the bytes that it has read.
 use Rattle.std.specs.Prelude.{ℕ, ◌+◌, ◌^◌, ◌-◌, ◌<◌, ◌≤◌, ◌⊎◌, true, false, if◌then◌else◌, List, [], ◌∷◌, ◌++◌, ◌≡◌, ◌&&◌, not, Bool, is_some, is_none, Option, Some, None, IfSome, option_to_list, length}
 use Rattle.fixed_numeral.specs.declared.scanner.State.{State}
-use Rattle.fixed_numeral.specs.Numeral.{Parts, Exponent, HasParts, IsBeginning, is_minus, digits_behind}
+use Rattle.fixed_numeral.specs.Numeral.{Parts, Exponent, HasParts, IsBeginning, is_minus, fractional_digits}
 use Rattle.fixed_numeral.specs.Cause.{is_nil, kind_of}
 use Rattle.fixed_numeral.specs.declared.radix.Radix.{Radix}
 use Rattle.fixed_numeral.specs.Inner.Shift.{AgreesWithExponent}
@@ -22,7 +22,7 @@ pub record Agrees (r : Radix) (s : State) (p : Parts) : Type 0 where
   pub start : s.sign_len ≡ length (option_to_list p.sign)
   pub whole : s.whole_len ≡ length p.whole
   pub point : s.has_point ≡ is_some p.fraction
-  pub fraction : s.fraction_len ≡ length (digits_behind p.fraction)
+  pub fraction : s.fraction_len ≡ length (fractional_digits p.fraction)
   pub separator : s.has_separator ≡ is_some p.exponent
   pub fresh : s.sign_allowed ≡ is_fresh p p.exponent
   pub exponent : AgreesWithExponent r s.scales_by_two s.exponent_negative s.magnitude p.exponent

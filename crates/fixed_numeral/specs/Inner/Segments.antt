@@ -3,7 +3,7 @@ use Rattle.std.specs.Prelude.{◌≡◌, ℕ, ◌+◌, ◌*◌, ◌^◌, ◌<◌
 use Rattle.std.specs.Str.Parse.{AllDigits, digits_value, digits_value_after}
 use Rattle.fixed_numeral.specs.declared.radix.Radix.{Radix}
 use Rattle.fixed_numeral.specs.declared.radix.Radix.TheVariants.{Dec}
-use Rattle.fixed_numeral.specs.Numeral.{Parts, Exponent, IsExponentOf, HasNumeral, is_sign, is_minus, fraction_text, exponent_text, digits_behind}
+use Rattle.fixed_numeral.specs.Numeral.{Parts, Exponent, IsExponentOf, HasNumeral, is_sign, is_minus, fraction_text, exponent_text, fractional_digits}
 use Rattle.fixed_numeral.specs.PartNumbers.{exponent_value, is_power_of_two, IsShortDecimal}
 
 -- the bytes between two places are an optional sign
@@ -36,9 +36,9 @@ pub record IsMantissaAt (b : ℕ) (bs : List ℕ) (from to number places : ℕ) 
   pub within : to ≤ length bs
   pub whole_digits : AllDigits b whole
   pub fraction_digits : IfSome fraction (AllDigits b)
-  pub spelled : number ≡ digits_value b (whole ++ digits_behind fraction)
-  pub places_are : places ≡ length (digits_behind fraction)
-  pub some : 0 < length (whole ++ digits_behind fraction)
+  pub spelled : number ≡ digits_value b (whole ++ fractional_digits fraction)
+  pub places_are : places ≡ length (fractional_digits fraction)
+  pub some : 0 < length (whole ++ fractional_digits fraction)
 
 -- the bytes from a place on are an exponent or nothing
 pub record IsExponentAt (r : Radix) (bs : List ℕ) (from : ℕ) (number : ℤ) (by_two : Bool) : Type 0 where

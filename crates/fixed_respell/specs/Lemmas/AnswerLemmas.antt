@@ -7,7 +7,7 @@ use Rattle.fixed_bits.specs.declared.format.Policy.{Policy}
 use Rattle.fixed_bits.specs.declared.format.Policy.TheVariants.{Checked, Saturating, Wrapping}
 use Rattle.fixed_bits.specs.declared.mode.ReadMode.{ReadMode}
 use Rattle.fixed_bits.specs.declared.mode.ReadMode.TheVariants.{NearestEven, Floor, Ceil, TowardsZero}
-use Rattle.fixed_numeral.specs.Words.{words_of}
+use Rattle.fixed_numeral.specs.Messages.{message_of}
 use Rattle.fixed_numeral.specs.declared.radix.Radix.{Radix}
 use Rattle.fixed_numeral.specs.declared.radix.Radix.TheVariants.{Bin, Oct, Dec, Hex}
 use Rattle.fixed_respell.specs.Answer.{Task, task_of, Asks, IsAnswer, IsRefusalAnswer, IsRespelledAnswer, IsTaskAnswered, fault_message, respell_language, respelled_answer}
@@ -132,7 +132,7 @@ task_one line t u a b =
 refusals : (t : Task) (a b : AnswerText) → IsRefusalAnswer t a → IsRefusalAnswer t b → a ≡ b
 refusals t a b x y =
     let kind = refusal_one t.mode t.radix t.numeral t.policy t.source t.target x.kind y.kind x.refusal y.refusal in
-    x.answer_is ∙ (ap (λ k. fault_answer (words_of k)) kind ∙ sym y.answer_is)
+    x.answer_is ∙ (ap (λ k. fault_answer (message_of k)) kind ∙ sym y.answer_is)
 
 refused_or_not : (t : Task) (a b : AnswerText) → IsRefusalAnswer t a → IsRespelledAnswer t b → ⊥
 refused_or_not t a b x y = refusal_none t.mode t.radix t.numeral t.policy t.source t.target x.kind y.bits y.overflowed x.refusal y.respelled

@@ -3,14 +3,14 @@ use Rattle.std.specs.Prelude.{codes}
 use Rattle.std.specs.Int.{w128}
 use Rattle.std.proofs.lemmas.Int.{to_z-of_z}
 use Rattle.fixed_write.specs.Texts.{IsShortestText, shortest_text}
-use Rattle.fixed_numeral.specs.Words.{words_of}
+use Rattle.fixed_numeral.specs.Messages.{message_of}
 use Rattle.fixed_numeral.specs.declared.error.ParseErrorKind.{ParseErrorKind}
 use Rattle.fixed_numeral.specs.declared.error.ParseErrorKind.TheVariants.{InvalidDigit, MisplacedSign, MisplacedUnderscore, TooManyPoints, TooManyExp, ExpInvalidDigit, ExpOverflow, NoDigits, ExpNoDigits, Overflow}
 use Rattle.fixed_respell.specs.Answer.{respelled_answer, task_of}
 use Rattle.fixed_respell.specs.Language.{fault_answer}
 use Rattle.fixed_respell.proofs.answering.append_answer.Goals as goal
 
-message_short : (kind : ParseErrorKind) → length (words_of kind) ≤ 64
+message_short : (kind : ParseErrorKind) → length (message_of kind) ≤ 64
 message_short InvalidDigit = omega arith
 message_short MisplacedSign = omega arith
 message_short MisplacedUnderscore = omega arith
@@ -53,7 +53,7 @@ pub returns-in-Err-reach-clause-answer : goal.returns-in-Err-reach-clause-answer
 returns-in-Err-reach-clause-answer g c =
     let t = c.in-Ok.task in
     let refused = c.in-Err-reach in
-    let message : List ℕ = words_of refused.error in
+    let message : List ℕ = message_of refused.error in
     record {
       text = (fault_answer message).text;
       answer = inr (record {

@@ -203,7 +203,7 @@ cause_1_0 = record {
   none = λ (p, h). no_beginning (48 ∷ []) (p, h.beginning);
   count = 1;
   parts = parts None (49 ∷ []) None;
-  front = record {
+  prefix = record {
     within = omega arith;
     beginning = record {
       parts = record { sign = tt; whole = (omega arith, tt); fraction = tt; exponent = tt };

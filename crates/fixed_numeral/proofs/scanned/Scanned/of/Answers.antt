@@ -1,6 +1,6 @@
 use Rattle.std.proofs.Common.{◌≡◌, ℕ, ◌<◌, Bool, true, false, List, refl, arith}
 use Rattle.fixed_numeral.specs.declared.radix.Radix.{Radix}
-use Rattle.fixed_numeral.specs.Numeral.{Parts, IsPartsOf, is_minus, digits_behind}
+use Rattle.fixed_numeral.specs.Numeral.{Parts, IsPartsOf, is_minus, fractional_digits}
 use Rattle.fixed_numeral.specs.Digits.{digits_in}
 use Rattle.fixed_numeral.specs.Inner.MovedPoint.{IsPlaced}
 use Rattle.fixed_numeral.specs.Scanned.{IsScanned}
@@ -10,7 +10,7 @@ use Rattle.fixed_numeral.proofs.ValueLemmas.{views_of_zero}
 use Rattle.fixed_numeral.proofs.scanned.Scanned.of.Goals as goal
 
 -- the digits that the point's new place gives are those of the numeral
-placed_scanned : (r : Radix) (p : Parts) (neg two minus : Bool) (w f W F : List ℕ) (up down bits magnitude : ℕ) → IsPartsOf r p → neg ≡ is_minus p.sign → w ≡ digits_in p.whole → f ≡ digits_in (digits_behind p.fraction) → AgreesWithExponent r two minus magnitude p.exponent → IsShift minus (unit_of r two) magnitude up down bits → bits < unit_of r two → IsPlaced w f W F up down → IsScanned r p neg W F bits
+placed_scanned : (r : Radix) (p : Parts) (neg two minus : Bool) (w f W F : List ℕ) (up down bits magnitude : ℕ) → IsPartsOf r p → neg ≡ is_minus p.sign → w ≡ digits_in p.whole → f ≡ digits_in (fractional_digits p.fraction) → AgreesWithExponent r two minus magnitude p.exponent → IsShift minus (unit_of r two) magnitude up down bits → bits < unit_of r two → IsPlaced w f W F up down → IsScanned r p neg W F bits
 placed_scanned r p neg two minus w f W F up down bits magnitude h s ew ef a shift small placed =
     let digits = scanned_digits r p w f h ew ef in
     let below = placed.below _ (base_pos r) digits.0 digits.1 in
