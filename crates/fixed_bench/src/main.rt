@@ -33,6 +33,7 @@ mod typed;
 use constant::run_constant;
 use fixed_steps::Steps;
 use line_engine::Status;
+use printing::SignedBits;
 use std::alloc::Global;
 use std::marker::Brand;
 use std::sync::ledger::{Blank, Ledger};
@@ -80,53 +81,46 @@ fn sum_of<L: Ledger>(
     let mut steps = Steps::<L>::new(blank);
     let times = number(words.get(1));
     let word = text(words.get(2));
-    let sum = match text(words.get(0)) {
-        "scan" => reading::scan_all(inputs, reading::radix_of(word), times, &mut steps),
-        "read" => reading::read_as(word, inputs, times, &mut steps),
-        "typed" => typed::read_as(word, inputs, times),
-        "write" => printing::write_as(word, &printing::bits_of(alloc, inputs)?, times, &mut steps),
-        "append" => printing::append_as(
-            word,
-            &printing::bits_of(alloc, inputs)?,
-            times,
-            &mut steps,
-        ),
-        "places" => {
-            let places = number(words.get(3));
-            printing::places_as(word, &printing::bits_of(alloc, inputs)?, places, times)
+    match text(words.get(0)) {
+        "scan" => Ok(reading::scan_all(inputs, reading::radix_of(word), times, &mut steps)),
+        "read" => Ok(reading::read_as(word, inputs, times, &mut steps)),
+        "typed" => Ok(typed::read_as(word, inputs, times)),
+        work => {
+            let bits = printing::bits_of(alloc, inputs)?;
+            sum_over_bits(work, word, words.get(3), alloc, &bits, times, &mut steps)
         }
+    }
+}
+
+/// The sum of what one work answers for numbers that are given by their bits; -1 where there is no such work.
+fn sum_over_bits<L: Ledger>(
+    work: &str,
+    word: &str,
+    places: Option<&String>,
+    alloc: Global,
+    bits: &[SignedBits],
+    times: u32,
+    steps: &mut Steps<L>,
+) -> io::Result<i128>
+{
+    Ok(match work {
+        "write" => printing::write_as(word, bits, times, steps),
+        "append" => printing::append_as(word, bits, times, steps),
+        "places" => printing::places_as(word, bits, number(places), times),
         "styled" => {
-            let places = match text(words.get(3)).parse::<u16>() {
+            let places = match text(places).parse::<u16>() {
                 Ok(places) => places,
                 Err(_) => 0,
             };
-            printing::styled_as(
-                word,
-                alloc,
-                &printing::bits_of(alloc, inputs)?,
-                places,
-                times,
-            )
+            printing::styled_as(word, alloc, bits, places, times)
         }
-        "display" => typed::display_as(word, alloc, &printing::bits_of(alloc, inputs)?, times)?,
-        "display_places" => typed::display_places_as(
-            word,
-            alloc,
-            &printing::bits_of(alloc, inputs)?,
-            times,
-        )?,
+        "display" => typed::display_as(word, alloc, bits, times)?,
+        "display_places" => typed::display_places_as(word, alloc, bits, times)?,
         other => match typed::work_of(other) {
-            Some(work) => typed::work_as(
-                work,
-                word,
-                alloc,
-                &printing::bits_of(alloc, inputs)?,
-                times,
-            )?,
+            Some(work) => typed::work_as(work, word, alloc, bits, times)?,
             None => -1,
         },
-    };
-    Ok(sum)
+    })
 }
 
 fn main(rt: HostRuntime) -> io::Result<()> {
