@@ -6,7 +6,7 @@ use Rattle.std.proofs.lemmas.Bool.{cases_lt}
 use Rattle.std.specs.Fmt.{digit_glyph}
 use Rattle.fixed_bits.specs.Nearest.{IsNearest, IsEven}
 use Rattle.fixed_write.specs.Texts.{point, whole_digits, last_digits, fraction_part, point_text}
-use Rattle.fixed_write.specs.inner.Digits.{AppendsRounded, AppendsExact, IsBlock}
+use Rattle.fixed_write.specs.Inner.Digits.{AppendsRounded, AppendsExact, IsBlock}
 use Rattle.fixed_write.proofs.DigitLemmas.{parts_are, whole_digits_short, last_digits_joined, fraction_none, fraction_some, fraction_same}
 use Rattle.fixed_write.proofs.NearLemmas.{even_product, near_behind}
 use Rattle.fixed_write.proofs.RestLemmas.{Digits, digits_length, digits_none, digits_more}

@@ -12,10 +12,10 @@ use Rattle.fixed_write.specs.declared.style.Notation.{Notation}
 use Rattle.fixed_write.specs.Shortest.{IsShortest, ReadsBack}
 use Rattle.fixed_write.specs.Texts.{whole_digits, last_digits, zero_digit}
 use Rattle.fixed_write.specs.Styled.{IsExponentBody, ten_up, ten_down, pointed, exponent_text}
-use Rattle.fixed_write.specs.inner.Fraction.{IsShortestFraction}
-use Rattle.fixed_write.specs.inner.Figures.{IsLeading, HasRoundedFigures, HasShortFigures, HasFigureText, HasExponentBody}
+use Rattle.fixed_write.specs.Inner.Fraction.{IsShortestFraction}
+use Rattle.fixed_write.specs.Inner.Figures.{IsLeading, HasRoundedFigures, HasShortFigures, HasFigureText, HasExponentBody}
 use Rattle.fixed_write.proofs.DigitLemmas.{whole_digits_split, whole_digits_more, last_digits_push}
-use Rattle.fixed_write.proofs.EightLemmas.{whole_digit}
+use Rattle.fixed_write.proofs.SixteenLemmas.{whole_digit}
 use Rattle.fixed_write.proofs.ShortestLemmas.{tenth_reads_back}
 use Rattle.fixed_write.proofs.ScaleLemmas.{in_units, whole_power}
 use Rattle.fixed_write.proofs.PrintingLemmas.{whole_shortest}

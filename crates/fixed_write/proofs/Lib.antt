@@ -4,7 +4,8 @@ pub mod ComputedLemmas
 pub mod DigitLemmas
 pub mod BaseLemmas
 pub mod AsciiLemmas
-pub mod EightLemmas
+pub mod SixteenLemmas
+pub mod LaneLemmas
 pub mod IntegerLemmas
 pub mod TextLemmas
 pub mod PrintingLemmas

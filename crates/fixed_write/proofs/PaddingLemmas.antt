@@ -5,7 +5,7 @@ use Rattle.std.specs.List.{repeat}
 use Rattle.std.specs.Char.{encode_utf8}
 use Rattle.fixed_write.specs.declared.style.Style.{Style}
 use Rattle.fixed_write.specs.Styled.{padded_text, fills_before}
-use Rattle.fixed_write.specs.inner.Styling.{laid_out}
+use Rattle.fixed_write.specs.Inner.Styling.{laid_out}
 
 pub repeat_more : (n : ℕ) (xs : List ℕ) → repeat (suc n) xs ≡ repeat n xs ++ xs
 repeat_more zero xs = append-nil xs

@@ -19,7 +19,7 @@ use Rattle.fixed_bits.specs.Ranges.{IsWide}
 use Rattle.fixed_write.specs.Bases.{number_of, has_capitals}
 use Rattle.fixed_write.specs.declared.in_place.Base.{Base}
 use Rattle.fixed_write.specs.declared.in_place.Base.TheVariants.{Bin, Oct, Dec, LowerHex, UpperHex}
-use Rattle.fixed_write.specs.inner.Digits.{AppendsRounded, AppendsExact}
+use Rattle.fixed_write.specs.Inner.Digits.{AppendsRounded, AppendsExact}
 use Rattle.fixed_write.proofs.ScaleLemmas.{places_of, exact_places_of}
 use Rattle.fixed_write.proofs.ComputedLemmas.{nearest_number_is}
 use Rattle.fixed_write.proofs.AsciiLemmas.{sign_ascii, point_text_ascii}

@@ -7,7 +7,7 @@ use Rattle.std.specs.Int.{is_negative}
 use Rattle.fixed_bits.specs.Nearest.{IsNearest}
 use Rattle.fixed_bits.proofs.NearestLemmas.{nearest_scaled}
 use Rattle.fixed_write.specs.Places.{IsExact, IsRoundedText, IsExactText}
-use Rattle.fixed_write.specs.inner.Digits.{AppendsRounded, AppendsExact, IsBlock}
+use Rattle.fixed_write.specs.Inner.Digits.{AppendsRounded, AppendsExact, IsBlock}
 
 pub whole_power : (g : ℕ) → g ≤ 64 → 2 ^ 64 ≡ 2 ^ g * 2 ^ (64 - g)
 whole_power g l = let e : 64 ≡ g + (64 - g) = omega arith in ap (λ y. 2 ^ y) e ∙ pow-add 2 g (64 - g)

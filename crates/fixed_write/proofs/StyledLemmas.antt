@@ -11,11 +11,11 @@ use Rattle.fixed_bits.proofs.NearestLemmas.{nearest_by_rest, nearest_unique}
 use Rattle.fixed_write.specs.declared.style.Notation.{Notation}
 use Rattle.fixed_write.specs.declared.style.Notation.TheVariants.{Dec, LowerExp, UpperExp, Bin, Oct, LowerHex, UpperHex}
 use Rattle.fixed_write.specs.Texts.{IsShortestText, decimal_text, whole_digits, last_digits, fraction_part, point_text, point, zero_digit}
-use Rattle.fixed_write.specs.inner.Digits.{AppendsRounded, AppendsExact}
+use Rattle.fixed_write.specs.Inner.Digits.{AppendsRounded, AppendsExact}
 use Rattle.fixed_write.specs.declared.style.Style.{Style}
 use Rattle.fixed_write.specs.Styled.{base_of, is_upper, IsBody, IsPointBody, IsStyledText, sign_and_prefix, padded_text}
-use Rattle.fixed_write.specs.inner.Figures.{HasBody, HasExponentBody}
-use Rattle.fixed_write.specs.inner.Styling.{AppendsBody, IsPointNotation}
+use Rattle.fixed_write.specs.Inner.Figures.{HasBody, HasExponentBody}
+use Rattle.fixed_write.specs.Inner.Styling.{AppendsBody, IsPointNotation}
 use Rattle.fixed_write.proofs.DigitLemmas.{last_digits_joined, last_digits_suc, last_digits_none, parts_are, fraction_some}
 
 -- ---- the shortest text has no sign

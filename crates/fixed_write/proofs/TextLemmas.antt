@@ -4,7 +4,7 @@ use Rattle.std.specs.Fmt.{sign_text}
 use Rattle.std.specs.Int.{is_negative}
 use Rattle.fixed_write.specs.Texts.{IsShortestText, decimal_text, point_text, whole_digits, fraction_part, shortest_text}
 use Rattle.fixed_write.specs.Shortest.{shortest_number, shortest_places}
-use Rattle.fixed_write.specs.inner.Fraction.{AppendsFraction}
+use Rattle.fixed_write.specs.Inner.Fraction.{AppendsFraction}
 use Rattle.fixed_write.proofs.ShortestLemmas.{shortest_unique, shortest_at_most}
 use Rattle.fixed_write.proofs.DigitLemmas.{fraction_none, fraction_suc, last_digits_length}
 use Rattle.fixed_write.proofs.PassLemmas.{shortest_exists}

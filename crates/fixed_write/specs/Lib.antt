@@ -4,4 +4,4 @@ pub mod Places
 pub mod Bases
 pub mod Styled
 pub mod Laws
-pub mod inner
+pub mod Inner

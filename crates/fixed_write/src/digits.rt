@@ -1,11 +1,14 @@
-//! Decimal digits, eight of them at a time.
+//! Decimal digits, sixteen of them at a time.
 //!
-//! Up to eight digits are one array: the number is moved up by a power of ten so that its first digit comes first, and
-//! the array is written by one store, whatever the count of digits. So digits need no loop and no branch on their count.
+//! A number below 10^16 is split in the lanes of a vector: into four digits a lane, then two, then one. Before that it is
+//! moved up by a power of ten so that its first digit comes first, and all sixteen characters are written by one store,
+//! whatever the count of digits. So digits need no loop and no branch on their count.
 
-ghost use Rattle.std.specs.Prelude.{◌≡◌, false, ◌+◌, ◌-◌, ◌*◌, ◌^◌, ◌<◌, ◌≤◌, ◌++◌, length};
+ghost use Rattle.std.specs.Prelude.{◌≡◌, false, ◌+◌, ◌-◌, ◌*◌, ◌/◌, ◌%◌, ◌^◌, ◌<◌, ◌≤◌, [], ◌∷◌, ◌++◌, length};
+ghost use Rattle.fixed_write.specs.Inner.Lanes.{pairs_of, digits_of_pairs};
 ghost use Rattle.fixed_write.specs.Texts.{whole_digits, last_digits};
 
+use std::simd::prelude::*;
 use text_buffer::TextBuffer;
 
 /// Every power of ten below 2^64.
@@ -41,65 +44,82 @@ pub(crate) fn power_of_ten(exponent: u32) -> u64
     POWERS_OF_TEN[exponent as usize]
 }
 
-/// The eight digits of a number, with leading zeros where it has fewer.
-#[inline]
-fn eight_digits(number: u32) -> [u8; 8]
+/// The upper four of eight digits in the lower 16 bits, and the lower four above them. 109_951_163 is 2^40 / 10_000,
+/// rounded up.
+#[inline(always)]
+fn halves(number: u64) -> u64
     requires { number < 10 ^ 8 }
-    ensures { result ≡ last_digits 10 false 8 number }
+    ensures { result ≡ number / 10000 + number % 10000 * 2 ^ 16 }
 {
-    let (high, low) = (number / 10_000, number % 10_000);
-    let (a, b, c, d) = (high / 100, high % 100, low / 100, low % 100);
-    [
-        b'0' + (a / 10) as u8,
-        b'0' + (a % 10) as u8,
-        b'0' + (b / 10) as u8,
-        b'0' + (b % 10) as u8,
-        b'0' + (c / 10) as u8,
-        b'0' + (c % 10) as u8,
-        b'0' + (d / 10) as u8,
-        b'0' + (d % 10) as u8,
-    ]
+    (number << 16) - ((number * 109_951_163) >> 40) * ((10_000 << 16) - 1)
 }
 
-/// A number of at most `places` digits, followed by zeros up to eight digits.
-#[inline]
-fn moved_up(number: u64, places: u32) -> u32
-    requires places { places ≤ 8 }
-    requires number { number < 10 ^ places }
-    ensures value { result ≡ number * 10 ^ (8 - places) }
-    ensures eight { result < 10 ^ 8 }
+/// Four digits a lane.
+#[inline(always)]
+fn fours(number: u64) -> u16x8
+    requires { number < 10 ^ 16 }
+    ensures { result ≡ number / 10 ^ 12 ∷ number / 10 ^ 8 % 10000 ∷ number / 10000 % 10000 ∷ number % 10000 ∷ 0 ∷ 0 ∷ 0 ∷ 0 ∷ [] }
 {
-    (number * power_of_ten(8 - places)) as u32
+    let word = halves(number / 100_000_000) + (halves(number % 100_000_000) << 32);
+    u16x8::from_le_bytes(u64x2::from_array([word, 0]).to_le_bytes())
 }
 
-/// Appends a number of at most `places` digits, up to eight, with leading zeros where it has fewer.
-#[inline]
-fn push_eight<const N: usize>(out: &mut TextBuffer<N>, number: u64, places: u32)
-    requires places { places ≤ 8 }
-    requires number { number < 10 ^ places }
-    requires room { length out.old + places ≤ N }
-    ensures { out.new ≡ out.old ++ last_digits 10 false places number }
+/// Two digits a lane.
+#[inline(always)]
+fn pairs(number: u64) -> u16x8
+    requires { number < 10 ^ 16 }
+    ensures { result ≡ pairs_of number }
 {
-    out.push_prefix(eight_digits(moved_up(number, places)), places as usize);
+    let fours = fours(number);
+    let hundreds = fours / u16x8::splat(100);
+    let rests = fours - hundreds * u16x8::splat(100);
+    hundreds.shuffle(rests, [0, 8, 1, 9, 2, 10, 3, 11])
+}
+
+/// One digit a lane: the tens in the lower byte of each pair, and the ones above them.
+#[inline(always)]
+fn digits(number: u64) -> u8x16
+    requires { number < 10 ^ 16 }
+    ensures { result ≡ digits_of_pairs (pairs_of number) }
+{
+    let pairs = pairs(number);
+    let tens = pairs / u16x8::splat(10);
+    ((pairs << 8) - tens * u16x8::splat(2559)).to_le_bytes()
+}
+
+/// The sixteen digits of a number, with leading zeros where it has fewer.
+#[inline(always)]
+fn sixteen_digits(number: u64) -> [u8; 16]
+    requires { number < 10 ^ 16 }
+    ensures { result ≡ last_digits 10 false 16 number }
+{
+    (u8x16::splat(b'0') + digits(number)).to_array()
+}
+
+/// A number of at most `places` digits, followed by zeros up to sixteen digits.
+#[inline(always)]
+fn moved_up(number: u64, places: u32) -> u64
+    requires places { places ≤ 16 }
+    requires number { number < 10 ^ places }
+    ensures value { result ≡ number * 10 ^ (16 - places) }
+    ensures most { result < 10 ^ 16 }
+{
+    number * power_of_ten(16 - places)
 }
 
 /// Appends a number of at most `places` digits, up to sixteen, with leading zeros where it has fewer.
 #[inline]
-fn push_sixteen<const N: usize>(out: &mut TextBuffer<N>, number: u64, places: u32)
+pub(crate) fn push_sixteen<const N: usize>(out: &mut TextBuffer<N>, number: u64, places: u32)
     requires places { places ≤ 16 }
     requires number { number < 10 ^ places }
     requires room { length out.old + places ≤ N }
     ensures { out.new ≡ out.old ++ last_digits 10 false places number }
 {
-    if places <= 8 {
-        push_eight(out, number, places);
-    } else {
-        push_eight(out, number / 100_000_000, places - 8);
-        push_eight(out, number % 100_000_000, 8);
-    }
+    out.push_prefix(sixteen_digits(moved_up(number, places)), places as usize);
 }
 
 /// Appends a number of at most `places` digits, up to nineteen, with leading zeros where it has fewer.
+#[inline]
 pub(crate) fn push_places<const N: usize>(out: &mut TextBuffer<N>, number: u64, places: u32)
     requires places { places ≤ 19 }
     requires number { number < 10 ^ places }
@@ -109,39 +129,46 @@ pub(crate) fn push_places<const N: usize>(out: &mut TextBuffer<N>, number: u64, 
     if places <= 16 {
         push_sixteen(out, number, places);
     } else {
-        push_eight(out, number / 10_000_000_000_000_000, places - 16);
-        push_sixteen(out, number % 10_000_000_000_000_000, 16);
+        push_long_places(out, number, places);
     }
 }
 
-/// The count of a number's digits, up to eight. It is a sum of comparisons, so that it takes no branch.
-#[inline]
+/// Appends a number of at most `places` digits, from sixteen to nineteen.
+fn push_long_places<const N: usize>(out: &mut TextBuffer<N>, number: u64, places: u32)
+    requires long { 16 ≤ places }
+    requires places { places ≤ 19 }
+    requires number { number < 10 ^ places }
+    requires room { length out.old + places ≤ N }
+    ensures { out.new ≡ out.old ++ last_digits 10 false places number }
+{
+    push_sixteen(out, number / 10_000_000_000_000_000, places - 16);
+    push_sixteen(out, number % 10_000_000_000_000_000, 16);
+}
+
+/// The count of a number's digits, up to sixteen. A number of `bits` bits has `bits` · log10(2) digits, rounded down, or one
+/// more, with 1233 / 4096 for log10(2); a power of ten tells which.
+#[inline(always)]
 fn digit_count(number: u64) -> u32
     requires some { 0 < number }
-    requires eight { number < 10 ^ 8 }
+    requires sixteen { number < 10 ^ 16 }
     ensures some { 0 < result }
-    ensures eight { result ≤ 8 }
+    ensures sixteen { result ≤ 16 }
     ensures low { 10 ^ (result - 1) ≤ number }
     ensures high { number < 10 ^ result }
 {
-    1 + (number >= 10) as u32
-        + (number >= 100) as u32
-        + (number >= 1_000) as u32
-        + (number >= 10_000) as u32
-        + (number >= 100_000) as u32
-        + (number >= 1_000_000) as u32
-        + (number >= 10_000_000) as u32
+    let fewest = (64 - number.leading_zeros()) * 1233 / 4096;
+    fewest + (number >= power_of_ten(fewest)) as u32
 }
 
-/// Appends a number of at most eight digits, without a leading zero.
+/// Appends a number of at most sixteen digits, without a leading zero.
 #[inline]
 fn push_short_whole<const N: usize>(out: &mut TextBuffer<N>, number: u64)
     requires some { 0 < number }
-    requires eight { number < 10 ^ 8 }
+    requires sixteen { number < 10 ^ 16 }
     requires room { length out.old + length (whole_digits 10 false number) ≤ N }
     ensures { out.new ≡ out.old ++ whole_digits 10 false number }
 {
-    push_eight(out, number, digit_count(number));
+    push_sixteen(out, number, digit_count(number));
 }
 
 /// Appends the digits of a whole number, without a leading zero and at least one.
@@ -152,24 +179,19 @@ pub(crate) fn push_whole<const N: usize>(out: &mut TextBuffer<N>, number: u64)
 {
     if number < 10 {
         out.push(b'0' + number as u8);
-    } else if number < 100_000_000 {
+    } else if number < 10_000_000_000_000_000 {
         push_short_whole(out, number);
     } else {
         push_long_whole(out, number);
     }
 }
 
-/// Appends a number of more than eight digits.
+/// Appends a number of more than sixteen digits.
 fn push_long_whole<const N: usize>(out: &mut TextBuffer<N>, number: u64)
-    requires long { 10 ^ 8 ≤ number }
+    requires long { 10 ^ 16 ≤ number }
     requires room { length out.old + length (whole_digits 10 false number) ≤ N }
     ensures { out.new ≡ out.old ++ whole_digits 10 false number }
 {
-    if number < 10_000_000_000_000_000 {
-        push_short_whole(out, number / 100_000_000);
-        push_eight(out, number % 100_000_000, 8);
-    } else {
-        push_short_whole(out, number / 10_000_000_000_000_000);
-        push_sixteen(out, number % 10_000_000_000_000_000, 16);
-    }
+    push_short_whole(out, number / 10_000_000_000_000_000);
+    push_sixteen(out, number % 10_000_000_000_000_000, 16);
 }

@@ -10,7 +10,7 @@ ghost use Rattle.std.specs.Prelude.{◌≡◌, ℕ, ◌+◌, ◌*◌, ◌/◌, �
 ghost use Rattle.fixed_bits.specs.Nearest.{IsNearest, IsEven};
 ghost use Rattle.fixed_write.specs.Texts.{whole_digits};
 ghost use Rattle.fixed_write.specs.Styled.{mark_of, exponent_text, pointed};
-ghost use Rattle.fixed_write.specs.inner.Figures.{IsLeading, HasRoundedFigures, HasShortFigures, HasFigureText, HasExponentBody};
+ghost use Rattle.fixed_write.specs.Inner.Figures.{IsLeading, HasRoundedFigures, HasShortFigures, HasFigureText, HasExponentBody};
 
 use crate::digits::{power_of_ten, push_places, push_whole};
 use crate::integer::push_integer;

@@ -4,7 +4,7 @@ ghost use Rattle.std.specs.Prelude.{◌≡◌, ◌+◌, ◌*◌, ◌^◌, ◌≤
 ghost use Rattle.std.specs.Str.{IsAscii};
 ghost use Rattle.fixed_bits.specs.Ranges.{IsWide};
 ghost use Rattle.fixed_write.specs.Places.{IsRoundedText, IsExactText, rounded_text, exact_text};
-ghost use Rattle.fixed_write.specs.inner.Digits.{AppendsExact};
+ghost use Rattle.fixed_write.specs.Inner.Digits.{AppendsExact};
 ghost use Rattle.fixed_write.specs.Bases.{number_of, has_capitals};
 
 use crate::places::{Split, push_exact_in, push_rounded_in, split_of};

@@ -1,13 +1,13 @@
 //! The digits of a value in a base, to a count of places or exactly.
 
-ghost use Rattle.std.specs.Prelude.{◌≡◌, ℕ, ◌+◌, ◌*◌, ◌/◌, ◌%◌, ◌-◌, ◌^◌, ◌<◌, ◌≤◌, ◌++◌, [], ◌∷◌, ◌⊎◌, ◌↔◌, ◌==◌, if◌then◌else◌, length, IsTrue};
+ghost use Rattle.std.specs.Prelude.{◌≡◌, ℕ, ◌+◌, ◌*◌, ◌/◌, ◌%◌, ◌-◌, ◌^◌, ◌<◌, ◌≤◌, ◌++◌, [], ◌∷◌, ◌⊎◌, ◌==◌, if◌then◌else◌, length};
 ghost use Rattle.fixed_bits.specs.Nearest.{IsNearest, IsEven};
 ghost use Rattle.fixed_write.specs.Texts.{last_digits};
-ghost use Rattle.fixed_write.specs.inner.Digits.{IsBlock, AppendsRounded, AppendsExact};
+ghost use Rattle.fixed_write.specs.Inner.Digits.{IsBlock, AppendsRounded, AppendsExact};
 
 use crate::base::{push_digit, push_last_in, push_whole_in};
 use crate::digits::power_of_ten;
-use crate::printer::{rest_of, scaled, whole_of};
+use crate::printer::{is_raised, rest_of, scaled, whole_of};
 use text_buffer::TextBuffer;
 
 /// A value as a whole number and a rest in units of 2^-64.
@@ -39,17 +39,6 @@ pub(crate) fn split_of(magnitude: u64, frac: u32) -> Split
         rest: rest_of(magnitude, frac),
     }
 }
-
-/// Whether a number is raised: where more than one half is left of it, or one half and it is odd.
-#[inline]
-pub(crate) fn is_raised(left: u64, number: u64) -> bool
-    ensures { IsTrue result ↔ ((2 ^ 63 < left) ⊎ ((left ≡ 2 ^ 63) × (number % 2 ≡ 1))) }
-{
-    left > HALF || (left == HALF && number % 2 == 1)
-}
-
-/// One half, in units of 2^-64.
-const HALF: u64 = 1 << 63;
 
 /// A rest times a scale as the nearest whole number, ties to even by the number that it ends, with `above` before it.
 pub(crate) fn nearest_part(rest: u64, scale: u64, above: u64) -> u64

@@ -15,17 +15,17 @@
 //! digits, and appends them at once. Raising the last digit never carries, since a ten would mean that one digit less had
 //! read back already.
 
-ghost use Rattle.std.specs.Prelude.{◌≡◌, ◌+◌, ◌*◌, ◌/◌, ◌%◌, ◌-◌, ◌^◌, ◌<◌, ◌≤◌, ◌++◌, length, min, unsigned_abs, ◌⊎◌, ◌↔◌, ℕ, IsTrue};
+ghost use Rattle.std.specs.Prelude.{◌≡◌, false, ◌+◌, ◌*◌, ◌/◌, ◌%◌, ◌-◌, ◌^◌, ◌<◌, ◌≤◌, ◌++◌, length, min, unsigned_abs, ◌⊎◌, ◌↔◌, ℕ, IsTrue};
 ghost use Rattle.std.specs.Fmt.{sign_text};
 ghost use Rattle.std.specs.Int.{is_negative};
 ghost use Rattle.std.specs.Str.{IsAscii};
 ghost use Rattle.fixed_bits.specs.Ranges.{IsWide};
 ghost use Rattle.fixed_bits.specs.Nearest.{IsNearest, IsEven};
-ghost use Rattle.fixed_write.specs.Texts.{IsShortestText, shortest_text};
-ghost use Rattle.fixed_write.specs.inner.Fraction.{AppendsFraction, IsShortestFraction};
-ghost use Rattle.fixed_write.specs.inner.Passes.{IsStart};
+ghost use Rattle.fixed_write.specs.Texts.{IsShortestText, shortest_text, last_digits};
+ghost use Rattle.fixed_write.specs.Inner.Fraction.{AppendsFraction, IsShortestFraction};
+ghost use Rattle.fixed_write.specs.Inner.Passes.{IsStart, Printing};
 
-use crate::digits::{power_of_ten, push_places, push_whole};
+use crate::digits::{power_of_ten, push_places, push_sixteen, push_whole};
 use fixed_steps::Steps;
 use std::sync::ledger::Ledger;
 use text_buffer::TextBuffer;
@@ -111,23 +111,24 @@ pub(crate) fn scaled(rest: u64, scale: u64) -> (u64, u64)
     ((product >> 64) as u64, (product % (1 << 64)) as u64)
 }
 
-/// A count of ulps of 2^-`frac`, in units of 2^-64.
+/// An ulp of 2^-`frac`, in units of 2^-64.
 #[inline]
-fn ulps(count: u64, frac: u32) -> u128
-    requires { frac ≤ 64 }
-    ensures { result ≡ count * 2 ^ (64 - frac) }
+fn ulp_of(frac: u32) -> u64
+    requires some { 0 < frac }
+    requires frac { frac ≤ 64 }
+    ensures value { result ≡ 2 ^ (64 - frac) }
+    ensures word { result < 2 ^ 64 }
 {
-    (count as u128) << (64 - frac)
+    1 << (64 - frac)
 }
 
 /// How far a rest may be after one digit more, where an ulp is `ulp` now: half of ten times it, or the greatest u64
 /// where that is more.
 #[inline]
-fn next_reach(ulp: u128) -> u64
-    requires { ulp < 2 ^ 125 }
+fn next_reach(ulp: u64) -> u64
     ensures { result ≡ min (5 * ulp) (2 ^ 64 - 1) }
 {
-    (5 * ulp).min(u64::MAX as u128) as u64
+    ulp.saturating_mul(5)
 }
 
 /// Whether a rest is more than half an ulp away from the digits so far and from the next number.
@@ -135,9 +136,7 @@ fn next_reach(ulp: u128) -> u64
 fn is_far(rest: u64, ulp: u128) -> bool
     ensures { IsTrue result ↔ ((ulp < 2 * rest) × (ulp < 2 * (2 ^ 64 - rest))) }
 {
-    let above = 2 * rest as u128;
-    let below = (1 << 65) - above;
-    ulp < above && ulp < below
+    ulp <= u64::MAX as u128 && !is_close(rest, ulp as u64 / 2)
 }
 
 /// Digits after the point that are too few, with which the pass begins: they spell `number`, `rest` is left, and with one
@@ -169,27 +168,93 @@ fn likely_places(frac: u32) -> u32
 fn start_of(magnitude: u64, frac: u32) -> Start
     requires frac { frac ≤ 64 }
     requires some { (magnitude % 2 ^ frac ≡ 0) → ⊥ }
-    ensures { IsStart magnitude frac result.number result.places result.rest result.reach }
+    ensures start { IsStart magnitude frac result.number result.places result.rest result.reach }
+    ensures number { result.number < 10 ^ 18 }
+    ensures places { result.places ≤ 18 }
 {
     let rest = rest_of(magnitude, frac);
     let places = likely_places(frac);
     let scale = power_of_ten(places);
     let (number, left) = scaled(rest, scale);
-    let ulp = ulps(scale, frac);
+    let unit = ulp_of(frac);
+    let ulp = scale as u128 * unit as u128;
     if is_far(left, ulp) {
         Start {
             number,
             places,
             rest: left,
-            reach: next_reach(ulp),
+            reach: next_reach(ulp as u64),
         }
     } else {
         Start {
             number: 0,
             places: 0,
             rest,
-            reach: next_reach(ulps(1, frac)),
+            reach: next_reach(unit),
         }
+    }
+}
+
+/// What the pass keeps: digits after the point that spell `number`, and one more, after which `rest` is left. It ends where
+/// that is at most `reach` away from the digits or from the next number.
+#[derive(Clone, Copy)]
+struct Pass {
+    number: u64,
+    places: u32,
+    digit: u64,
+    rest: u64,
+    reach: u64,
+}
+
+/// The pass with the first digit after a start.
+#[inline]
+fn first_pass(start: Start) -> Pass
+    ensures pass { (c g : ℕ) → g ≤ 64 → IsStart c g start.number start.places start.rest start.reach → Printing c g result.number result.places result.digit result.rest result.reach }
+    ensures number { result.number ≡ start.number }
+    ensures places { result.places ≡ start.places }
+    ensures digit { result.digit < 10 }
+{
+    let (digit, rest) = scaled(start.rest, 10);
+    Pass {
+        number: start.number,
+        places: start.places,
+        digit,
+        rest,
+        reach: start.reach,
+    }
+}
+
+/// The pass with one digit more.
+#[inline]
+fn next_pass(pass: Pass) -> Pass
+    requires word { pass.number * 10 + pass.digit < 2 ^ 64 }
+    requires few { pass.places < 20 }
+    ensures pass { (c g : ℕ) → g ≤ 64 → Printing c g pass.number pass.places pass.digit pass.rest pass.reach → (pass.reach < pass.rest) × (pass.reach ≤ 2 ^ 64 - 1 - pass.rest) → Printing c g result.number result.places result.digit result.rest result.reach }
+    ensures places { result.places ≡ pass.places + 1 }
+{
+    let (digit, rest) = scaled(pass.rest, 10);
+    Pass {
+        number: pass.number * 10 + pass.digit,
+        places: pass.places + 1,
+        digit,
+        rest,
+        reach: pass.reach.saturating_mul(10),
+    }
+}
+
+/// The pass with the first digit where it ends there, else with two. Both are at hand, so that the choice takes no branch.
+#[inline]
+fn likely_pass(start: Start) -> Pass
+    requires number { start.number < 10 ^ 18 }
+    requires places { start.places ≤ 18 }
+    ensures { (c g : ℕ) → g ≤ 64 → IsStart c g start.number start.places start.rest start.reach → Printing c g result.number result.places result.digit result.rest result.reach }
+{
+    let one = first_pass(start);
+    let two = next_pass(one);
+    if is_close(one.rest, one.reach) {
+        one
+    } else {
+        two
     }
 }
 
@@ -208,23 +273,14 @@ pub(crate) fn fraction_of(magnitude: u64, frac: u32) -> Fraction
     requires some { (magnitude % 2 ^ frac ≡ 0) → ⊥ }
     ensures { IsShortestFraction magnitude frac result.number result.places result.digit }
 {
-    let start = start_of(magnitude, frac);
-    let mut number = start.number;
-    let mut places = start.places;
-    let mut reach = start.reach;
-    let (mut digit, mut rest) = scaled(start.rest, 10);
-    'digits: while !is_close(rest, reach) {
-        number = number * 10 + digit;
-        places += 1;
-        let (next, left) = scaled(rest, 10);
-        digit = next;
-        rest = left;
-        reach = reach.saturating_mul(10);
+    let mut pass = likely_pass(start_of(magnitude, frac));
+    'digits: while !is_close(pass.rest, pass.reach) {
+        pass = next_pass(pass);
     }
     Fraction {
-        number,
-        places,
-        digit: nearer_digit(digit, rest),
+        number: pass.number,
+        places: pass.places,
+        digit: nearer_digit(pass.digit, pass.rest),
     }
 }
 
@@ -240,8 +296,28 @@ fn push_fraction<const N: usize>(out: &mut TextBuffer<N>, magnitude: u64, frac: 
     }
     let fraction = fraction_of(magnitude, frac);
     out.push(b'.');
-    push_places(out, fraction.number, fraction.places);
-    out.push(b'0' + fraction.digit as u8);
+    push_digits(out, fraction);
+}
+
+/// Appends the digits after the point: all at once where there are at most sixteen.
+#[inline]
+fn push_digits<const N: usize>(out: &mut TextBuffer<N>, fraction: Fraction)
+    requires places { fraction.places ≤ 19 }
+    requires fits { fraction.number < 10 ^ fraction.places }
+    requires digit { fraction.digit < 10 }
+    requires room { length out.old + fraction.places + 1 ≤ N }
+    ensures { out.new ≡ out.old ++ last_digits 10 false (fraction.places + 1) (fraction.number * 10 + fraction.digit) }
+{
+    if fraction.places < 16 {
+        push_sixteen(
+            out,
+            fraction.number * 10 + fraction.digit,
+            fraction.places + 1,
+        );
+    } else {
+        push_places(out, fraction.number, fraction.places);
+        out.push(b'0' + fraction.digit as u8);
+    }
 }
 
 /// Whether a rest is at most `reach` away from the digits so far or from the next number.
@@ -259,12 +335,20 @@ fn nearer_digit(digit: u64, rest: u64) -> u64
     ensures near { (above : ℕ) → (2 * rest ≡ 2 ^ 64 → IsEven above) → IsNearest ((above + digit) * 2 ^ 64 + rest) (2 ^ 64) (above + result) }
     ensures below { result ≤ digit + 1 }
 {
-    let short = u64::MAX - rest;
-    if rest <= short {
-        digit
-    } else if rest - short == 1 {
-        digit + digit % 2
-    } else {
+    if is_raised(rest, digit) {
         digit + 1
+    } else {
+        digit
     }
+}
+
+/// One half, in units of 2^-64.
+const HALF: u64 = 1 << 63;
+
+/// Whether a number is raised: where more than one half is left of it, or one half and it is odd.
+#[inline]
+pub(crate) fn is_raised(left: u64, number: u64) -> bool
+    ensures { IsTrue result ↔ ((2 ^ 63 < left) ⊎ ((left ≡ 2 ^ 63) × (number % 2 ≡ 1))) }
+{
+    left > HALF - number % 2
 }

@@ -3,9 +3,9 @@
 ghost use Rattle.std.specs.Prelude.{◌≡◌, ◌+◌, ◌*◌, ◌^◌, ◌≤◌, ◌<◌, ◌++◌, [], ◌∷◌, length, IfOk, Some, None};
 ghost use Rattle.fixed_bits.specs.Ranges.{IsWide};
 ghost use Rattle.fixed_write.specs.Styled.{IsStyledText, sign_and_prefix, base_of, is_upper, prefix_of};
-ghost use Rattle.fixed_write.specs.inner.Digits.{AppendsRounded};
-ghost use Rattle.fixed_write.specs.inner.Figures.{HasBody};
-ghost use Rattle.fixed_write.specs.inner.Styling.{IsPointNotation, AppendsBody};
+ghost use Rattle.fixed_write.specs.Inner.Digits.{AppendsRounded};
+ghost use Rattle.fixed_write.specs.Inner.Figures.{HasBody};
+ghost use Rattle.fixed_write.specs.Inner.Styling.{IsPointNotation, AppendsBody};
 
 use crate::exponent::{Body, Tail, push_exponent_body};
 use crate::places::{Split, push_exact_in, push_rounded_in, split_of};

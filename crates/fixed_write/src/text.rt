@@ -3,7 +3,7 @@
 ghost use Rattle.std.specs.Prelude.{◌≡◌, ◌+◌, ◌*◌, ◌^◌, ◌<◌, ◌≤◌, ◌++◌, [], length, replicate, vec_len, vec_capacity, IfOk};
 ghost use Rattle.std.specs.List.{repeat};
 ghost use Rattle.fixed_write.specs.Styled.{padded_text, fills_before};
-ghost use Rattle.fixed_write.specs.inner.Styling.{laid_out};
+ghost use Rattle.fixed_write.specs.Inner.Styling.{laid_out};
 
 use crate::style::{Align, Style};
 use std::alloc::{AllocError, Global};

@@ -88,18 +88,18 @@ impl<const N: usize> TextBuffer<N> {
         self.len = end;
     }
 
-    /// Appends the first `count` of eight bytes. There must be room for those; where there is room for eight, this is
-    /// one write of eight bytes and costs the same for each `count`.
+    /// Appends the first `count` of sixteen bytes. There must be room for those; where there is room for sixteen, this is
+    /// one write of sixteen bytes and costs the same for each `count`.
     #[inline]
-    pub fn push_prefix(&mut self, bytes: [u8; 8], count: usize)
-        requires count { count ≤ 8 }
+    pub fn push_prefix(&mut self, bytes: [u8; 16], count: usize)
+        requires count { count ≤ 16 }
         requires room { length self.old + count ≤ N }
         ensures { self.new ≡ self.old ++ take count bytes }
     {
-        if N - self.len < 8 {
+        if N - self.len < 16 {
             self.push_bytes(&bytes[..count]);
         } else {
-            let end = self.len + 8;
+            let end = self.len + 16;
             let all = &mut self.bytes[..];
             all[self.len..end].copy_from_slice(&bytes);
             self.len += count;

@@ -4,21 +4,21 @@ use crate::TextBuffer;
 
 #[test]
 fn each_call_appends_what_it_is_given(rt: HostRuntime) {
-    let mut text: TextBuffer<16> = TextBuffer::new();
+    let mut text: TextBuffer<20> = TextBuffer::new();
     assert!(rt; text.is_empty());
     text.push(b'-');
     text.push_bytes(b"12");
-    text.push_prefix([b'3', b'4', b'5', b'6', b'7', b'8', b'9', b'0'], 3);
+    text.push_prefix(*b"3456789012345678", 3);
     assert!(rt; text.as_bytes() == b"-12345".as_slice());
     assert_eq!(rt; text.len(), 6);
-    assert_eq!(rt; text.room(), 10);
+    assert_eq!(rt; text.room(), 14);
 }
 
 #[test]
 fn a_prefix_fits_exactly_at_the_end(rt: HostRuntime) {
     let mut text: TextBuffer<4> = TextBuffer::new();
     text.push(b'a');
-    text.push_prefix([b'b', b'c', b'd', b'e', b'f', b'g', b'h', b'i'], 3);
+    text.push_prefix(*b"bcdefghijklmnopq", 3);
     assert!(rt; text.as_bytes() == b"abcd".as_slice());
     assert_eq!(rt; text.room(), 0);
 }

@@ -1,5 +1,5 @@
 use Rattle.std.proofs.Common.{arith, ap, ◌∙◌, length, refl}
-use Rattle.fixed_write.proofs.EightLemmas.{whole_digit}
+use Rattle.fixed_write.proofs.SixteenLemmas.{whole_digit}
 use Rattle.fixed_write.proofs.digits.push_whole.Goals as goal
 
 pub push-requires : goal.push-requires

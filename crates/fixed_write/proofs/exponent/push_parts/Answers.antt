@@ -1,7 +1,7 @@
 use Rattle.std.proofs.Common.{arith, rules, ap, ◌≡◌, ◌++◌, [], ◌∷◌, ◌+◌, false, length}
 use Rattle.fixed_write.specs.Texts.{whole_digits}
 use Rattle.fixed_write.proofs.IntegerLemmas.{word_digits}
-use Rattle.fixed_write.proofs.EightLemmas.{pushed_length}
+use Rattle.fixed_write.proofs.SixteenLemmas.{pushed_length}
 use Rattle.fixed_write.proofs.FigureLemmas.{parts_above, parts_below, parts_one, places_word}
 use Rattle.fixed_write.proofs.exponent.push_parts.Goals as goal
 

@@ -1,5 +1,5 @@
 use Rattle.std.proofs.Common.{arith, rules, ap, ◌∙◌, ◌≡◌, ◌+◌, ◌*◌, ◌^◌, false, length, pos, ◌-ℤ◌, to_z, of_z, w32}
-use Rattle.fixed_write.specs.inner.Figures.{HasShortFigures}
+use Rattle.fixed_write.specs.Inner.Figures.{HasShortFigures}
 use Rattle.fixed_write.specs.Texts.{whole_digits}
 use Rattle.fixed_write.proofs.IntegerLemmas.{word_digits}
 use Rattle.fixed_write.proofs.LeadingLemmas.{whole_nonempty}

@@ -1,5 +1,5 @@
 -- What the one pass of the printer keeps.
-use Rattle.std.specs.Prelude.{◌≡◌, ℕ, ◌+◌, ◌-◌, ◌*◌, ◌/◌, ◌^◌, ◌<◌, ◌≤◌, min}
+use Rattle.std.specs.Prelude.{◌≡◌, ℕ, suc, ◌+◌, ◌-◌, ◌*◌, ◌/◌, ◌^◌, ◌<◌, ◌≤◌, min}
 use Rattle.fixed_write.specs.Shortest.{ReadsBack}
 
 -- what the pass keeps after k digits after the point, in units u = 2^g and with s = 10^k:
@@ -22,3 +22,18 @@ pub record IsStart (c g number places rest reach : ℕ) : Type 0 where
   pub low : 10 ^ places < 2 * coarse
   pub high : 10 ^ places < 2 * (2 ^ g - coarse)
   pub reach_is : reach ≡ min (5 * (10 ^ places * 2 ^ (64 - g))) (2 ^ 64 - 1)
+
+-- half of s, or the greatest u64 where it is above that
+pub record IsHalf (half s : ℕ) : Type 0 where
+  pub at_most : 2 * half ≤ s
+  pub exact : half + 1 < 2 ^ 64 → 2 * half ≡ s
+
+-- some digits after the point spell `number`, and one more is in hand;
+-- counted in ulps of 2^-g, t of which are a unit of 2^-64, rest is the pass's
+pub record Printing (c g : ℕ) (number places digit rest reach : ℕ) : Type 0 where
+  pub coarse : ℕ
+  pub pass : Pass c g (2 ^ g) (c / 2 ^ g) coarse (number * 10 + digit) (10 ^ suc places) (suc places)
+  pub rest_is : rest ≡ coarse * 2 ^ (64 - g)
+  pub digit_small : digit < 10
+  pub reach_is : IsHalf reach (10 ^ suc places * 2 ^ (64 - g))
+  pub few : places < 20

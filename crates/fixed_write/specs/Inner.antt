@@ -1,5 +1,6 @@
 -- What private functions promise each other. No public clause cites these.
 pub mod Digits
+pub mod Lanes
 pub mod Fraction
 pub mod Passes
 pub mod Styling
