@@ -1,5 +1,5 @@
-use Rattle.std.proofs.Common.{arith, refl}
-use Rattle.fixed_write.proofs.SixteenLemmas.{IsCount, counted}
+use Rattle.std.proofs.Common.{refl}
+use Rattle.fixed_write.proofs.SixteenLemmas.{counted}
 use Rattle.fixed_write.proofs.digits.digit_count.Goals as goal
 
 pub returns-clause-some : goal.returns-clause-some

@@ -1,4 +1,3 @@
-use Rattle.std.proofs.Common.{arith}
 use Rattle.fixed_write.proofs.PrintingLemmas.{far}
 use Rattle.fixed_write.proofs.printer.likely_pass.Goals as goal
 

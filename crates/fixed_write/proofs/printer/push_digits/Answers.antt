@@ -1,4 +1,4 @@
-use Rattle.std.proofs.Common.{arith, rules, ap, ◌∙◌, length, length-append}
+use Rattle.std.proofs.Common.{arith, rules}
 use Rattle.fixed_write.proofs.SixteenLemmas.{pushed_length}
 use Rattle.fixed_write.proofs.PrintingLemmas.{digits_joined, joined_word}
 use Rattle.fixed_write.proofs.printer.push_digits.Goals as goal
