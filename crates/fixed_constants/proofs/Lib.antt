@@ -1,5 +1,4 @@
 -- Lemmas of this crate.
-mod LineLemmas
 mod KnownLemmas
 mod ReadingLemmas
 mod CanonicalLemmas

@@ -9,11 +9,11 @@ ghost use Rattle.fixed_constants.specs.Inner.Known.{AddsConstant, AddsLine, IsLi
 use crate::constant::{Constant, Constants};
 use crate::declaration::{is_passed_over, read_line};
 use crate::fault::{ConstantFault, ConstantsError};
-use crate::lines::first_line;
 use fixed_bits::Format;
 use no_memory::NoMemory;
 use std::alloc::{AllocError, Global};
 use std::collections::HashMap;
+use text_lines::first_line;
 
 /// Notes that a name is declared on a line. Answers the line on which it was declared before.
 fn note_name<'a>(
@@ -115,7 +115,6 @@ fn add_line<'a>(
 ///
 /// The first line with a fault is reported with its number and its first fault. It may find no memory.
 pub fn read_constants(alloc: Global, text: &[u8]) -> Result<Constants, ConstantsError>
-    requires { length text.now < 2 ^ 63 }
     ensures constants { IfOk result (λ t. IsConstantsOf text.now t) }
     ensures refused { IfErr result (λ error. IsErrorOf text.now error) }
 {

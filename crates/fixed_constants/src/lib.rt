@@ -10,7 +10,6 @@ pub mod constants;
 mod declaration;
 pub mod fault;
 pub mod laws;
-mod lines;
 pub mod program;
 pub mod rule;
 

@@ -1,6 +1,5 @@
 mod HoldLemmas
 mod ExactLemmas
 mod CellLemmas
-mod LineLemmas
 mod ListLemmas
 mod ProgramLemmas

@@ -9,7 +9,6 @@ ghost use Rattle.fixed_least.specs.Least.{IsHeadText, IsLeast, IsLeastLine, IsNo
 
 use crate::cells::{CELLS, all_lengths, cell_of, refute};
 use crate::exact::exact_of;
-use crate::lines::first_line;
 use fixed_bits::{FORMAT_COUNT, Format, format_at};
 use fixed_numeral::{ParseFixedError, Radix};
 use fixed_respell::format_name;
@@ -19,6 +18,7 @@ use line_engine::Answer;
 use std::marker::Model;
 use std::sync::ledger::Ledger;
 use text_buffer::TextBuffer;
+use text_lines::first_line;
 
 /// Why a text is no list of numerals.
 #[derive(Clone, Copy, Debug, PartialEq, Eq)]
@@ -106,7 +106,6 @@ pub fn least_format<L: Ledger>(
     radix: Radix,
     steps: &mut Steps<L>,
 ) -> Result<Least, LeastFault>
-    requires { length text.now < 2 ^ 63 }
     ensures least { IfOk result (λ l. IsLeast radix (lines text.now) l) }
     ensures refused { IfErr result (λ fault. IsNoNumeral radix (lines text.now) fault) }
 {

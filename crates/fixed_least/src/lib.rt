@@ -10,7 +10,6 @@ mod exact;
 mod holding;
 pub mod laws;
 pub mod least;
-mod lines;
 pub mod program;
 pub mod rule;
 
