@@ -1,29 +1,29 @@
 -- The map of names, and what a line adds to it.
-use Rattle.std.proofs.Common.{◌≡◌, ℕ, ◌+◌, Bool, true, false, cond, List, [], ◌∷◌, ◌++◌, length, refl, sym, ap, ◌∙◌, subst, arith, inl, inr, ⊎_elim, append-nil, append_assoc, Bor}
-use Rattle.std.specs.Prelude.{Option, Some, None, Ok, Err, bytes_eq}
+use Rattle.std.proofs.Common.{◌≡◌, ℕ, ◌+◌, Bool, true, false, cond, List, [], ◌∷◌, ◌++◌, length, refl, sym, ap, ◌∙◌, subst, arith, inl, inr, append_assoc, Bor}
+use Rattle.std.specs.Prelude.{Option, Some, None, bytes_eq}
 use Rattle.std.proofs.lemmas.Bool.{false≢true}
 use Rattle.std.specs.HashMap.{HashMap}
 use Rattle.std.specs.Map.{update}
 use Rattle.line_engine.specs.Lines.{lines}
 use Rattle.fixed_constants.specs.Lemmas.NameLemmas.{names_one, spelled_name}
 use Rattle.std.proofs.lemmas.Slice.Eq.{bytes_eq-Decides}
-use Rattle.fixed_constants.specs.Constants.{ConstantParts, Declare, FailAt, HasFault, IsNamedOn, IsPassedOver, NamedFrom, Names, Says, Spells}
-use Rattle.fixed_constants.specs.Inner.Known.{AddsConstant, AddsLine, IsLineError, IsLineOf, Knows, line_of}
+use Rattle.fixed_constants.specs.Constants.{ConstantParts, Declare, FailAt, HasFault, IsNamedOn, IsPassedOver, NamedFrom, Names, Spells}
+use Rattle.fixed_constants.specs.Inner.Known.{AddsConstant, AddsLine, IsLineOf, Knows, line_of}
 use Rattle.fixed_constants.specs.declared.fault.ConstantFault.{ConstantFault}
 
 -- ---- names of lines
-named_longer : (n : ℕ) (before : List (List ℕ)) (line name : List ℕ) (p : ℕ) → NamedFrom n before name p → NamedFrom n (before ++ line ∷ []) name p
+pub named_longer : (n : ℕ) (before : List (List ℕ)) (line name : List ℕ) (p : ℕ) → NamedFrom n before name p → NamedFrom n (before ++ line ∷ []) name p
 named_longer n [] line name p h = absurd h
 named_longer n (l ∷ ls) line name p (inl h) = inl h
 named_longer n (l ∷ ls) line name p (inr h) = inr (h.0, named_longer (n + 1) ls line name p h.1)
 
-named_back : (n : ℕ) (before : List (List ℕ)) (line name : List ℕ) (p : ℕ) → (Names line name → ⊥) → NamedFrom n (before ++ line ∷ []) name p → NamedFrom n before name p
+pub named_back : (n : ℕ) (before : List (List ℕ)) (line name : List ℕ) (p : ℕ) → (Names line name → ⊥) → NamedFrom n (before ++ line ∷ []) name p → NamedFrom n before name p
 named_back n [] line name p never (inl h) = absurd (never h.0)
 named_back n [] line name p never (inr h) = absurd h.1
 named_back n (l ∷ ls) line name p never (inl h) = inl h
 named_back n (l ∷ ls) line name p never (inr h) = inr (h.0, named_back (n + 1) ls line name p never h.1)
 
-named_here : (n : ℕ) (before : List (List ℕ)) (line name : List ℕ) (p : ℕ) → ((q : ℕ) → NamedFrom n before name q → ⊥) → Names line name → p ≡ n + length before → NamedFrom n (before ++ line ∷ []) name p
+pub named_here : (n : ℕ) (before : List (List ℕ)) (line name : List ℕ) (p : ℕ) → ((q : ℕ) → NamedFrom n before name q → ⊥) → Names line name → p ≡ n + length before → NamedFrom n (before ++ line ∷ []) name p
 named_here n [] line name p none h e = inl (h, omega (arith, e))
 named_here n (l ∷ ls) line name p none h e =
     let never : Names l name → ⊥ = λ names. none n (inl (names, refl)) in

@@ -3,3 +3,6 @@ mod KnownLemmas
 mod ReadingLemmas
 mod CanonicalLemmas
 mod ListLemmas
+mod LiteralLemmas
+mod EntryLemmas
+mod OwnAnswerLemmas

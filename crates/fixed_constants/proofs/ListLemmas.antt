@@ -1,5 +1,5 @@
 -- What is left of a list at a place.
-use Rattle.std.proofs.Common.{◌≡◌, ℕ, ◌+◌, List, [], ◌∷◌, ◌++◌, drop, slice_get, zero, suc, refl, sym, ap, ◌∙◌, Option, Some, None, inl, inr, append_assoc, append-nil, length, ◌⊎◌, arith}
+use Rattle.std.proofs.Common.{◌≡◌, ℕ, List, [], ◌∷◌, ◌++◌, drop, slice_get, zero, suc, refl, sym, ap, ◌∙◌, Some, None, inl, inr, append_assoc, append-nil, length, arith}
 use Rattle.fixed_constants.specs.Canonical.{canonical_text, entry_text}
 use Rattle.fixed_constants.specs.Constants.{ConstantParts, HasName, IsFirstNamed}
 

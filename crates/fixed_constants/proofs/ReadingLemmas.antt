@@ -1,5 +1,5 @@
 -- What the reading of a literal says of it.
-use Rattle.std.proofs.Common.{◌≡◌, ℕ, List, ℤ, sym, ◌∙◌, subst, ap, refl, inr, Bool, true, false, IsTrue, ◌↔◌, [], ◌∷◌}
+use Rattle.std.proofs.Common.{◌≡◌, ℕ, List, ℤ, sym, ◌∙◌, subst, refl, inr, Bool, true, false, IsTrue, ◌↔◌, [], ◌∷◌}
 use Rattle.std.proofs.lemmas.Bool.{false≢true}
 use Rattle.fixed_respell.specs.LineWords.{HasWords}
 use Rattle.fixed_bits.specs.Formats.{FormatParts}

@@ -1,10 +1,19 @@
 -- What the laws of this crate say.
-use Rattle.std.specs.Prelude.{◌≡◌, ℕ, List}
+use Rattle.std.specs.Prelude.{◌≡◌, ℕ, List, ℤ, None, true, false}
+use Rattle.fixed_write.specs.declared.style.Notation.TheVariants.{LowerHex}
+use Rattle.fixed_write.specs.declared.style.Align.TheVariants.{Right}
+use Rattle.fixed_write.specs.declared.style.Style.{Style}
+use Rattle.fixed_write.specs.Styled.{IsStyledText}
 use Rattle.line_engine.specs.AnswerText.{AnswerText}
 use Rattle.fixed_constants.specs.Answer.{IsWholeAnswer}
-use Rattle.fixed_constants.specs.Constants.{ConstantParts, IsConstantsOf, IsFaultOf}
+use Rattle.fixed_constants.specs.Canonical.{canonical_text, literal_text}
+use Rattle.fixed_constants.specs.Constants.{ConstantParts, IsConstantsOf, IsFaultOf, IsLiteralOf}
+use Rattle.fixed_constants.specs.Entries.{AreEntries}
 use Rattle.fixed_constants.specs.declared.fault.ConstantFault.{ConstantFault}
+use Rattle.fixed_bits.specs.Formats.{FormatParts}
+use Rattle.fixed_bits.specs.Ranges.{IsInRange}
 
+-- ---- one outcome
 -- a text has at most one list of constants
 abbrev pub ConstantsAreTheOnes : Type 0
 ConstantsAreTheOnes = (text : List ℕ) (a b : List ConstantParts) → IsConstantsOf text a → IsConstantsOf text b → a ≡ b
@@ -20,3 +29,38 @@ NeverBoth = (text : List ℕ) (constants : List ConstantParts) (p : ℕ) (f : Co
 -- an input has one answer
 abbrev pub AnswerIsTheOne : Type 0
 AnswerIsTheOne = (input : List ℕ) (a b : AnswerText) → IsWholeAnswer input a → IsWholeAnswer input b → a ≡ b
+
+-- ---- literals
+-- lower-case hexadecimal, exactly, with the prefix and nothing else
+abbrev pub literal_style : Style
+literal_style = record { notation = LowerHex; precision = None; width = 0; fill = 32; align = Right; plus = false; prefix = true; zero_pad = false }
+
+-- the literal that is written for a value is its styled text
+abbrev pub LiteralIsStyled : Type 0
+LiteralIsStyled = (c : ℤ) (g : ℕ) → IsStyledText literal_style c g (literal_text c g)
+
+-- and is read as the same bits in every format that has them
+abbrev pub LiteralReadsBack : Type 0
+LiteralReadsBack = (f : FormatParts) (c : ℤ) → IsInRange f.signed f.width c → IsLiteralOf f (literal_text c f.frac) c
+
+-- ---- what is written is read
+-- the constants of a text are entries with different names
+abbrev pub ConstantsAreEntries : Type 0
+ConstantsAreEntries = (text : List ℕ) (constants : List ConstantParts) → IsConstantsOf text constants → AreEntries constants
+
+-- the canonical text of entries has these constants
+abbrev pub CanonicalTextReadsBack : Type 0
+CanonicalTextReadsBack = (constants : List ConstantParts) → AreEntries constants → IsConstantsOf (canonical_text constants) constants
+
+-- so the constants that were read and written are read again
+abbrev pub WrittenReadsBack : Type 0
+WrittenReadsBack = (text : List ℕ) (constants : List ConstantParts) → IsConstantsOf text constants → IsConstantsOf (canonical_text constants) constants
+
+-- two inputs with the same constants have one answer
+abbrev pub EntriesHaveOneAnswer : Type 0
+EntriesHaveOneAnswer = (input other : List ℕ) (constants : List ConstantParts) (a b : AnswerText) → IsConstantsOf input constants → IsConstantsOf other constants
+    → IsWholeAnswer input a → IsWholeAnswer other b → a ≡ b
+
+-- and an answer without a fault is answered with itself
+abbrev pub AnswerIsItsOwn : Type 0
+AnswerIsItsOwn = (input : List ℕ) (a : AnswerText) → IsWholeAnswer input a → a.fault ≡ false → IsWholeAnswer a.text a

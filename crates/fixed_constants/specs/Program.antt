@@ -7,7 +7,7 @@ use Rattle.line_engine.specs.Failures.{HasFailed}
 use Rattle.line_engine.specs.Output.{AppendsPrefix}
 use Rattle.line_engine.specs.Program.{Outside}
 use Rattle.line_engine.specs.Run.{HasFailures, WritesText}
-use Rattle.line_engine.specs.WholeRun.{EndsBeforeWriting, HasWholeRun, WritesAnswer}
+use Rattle.line_engine.specs.WholeRun.{HasWholeRun, WritesAnswer}
 use Rattle.line_engine.specs.declared.status.Status.{Status}
 use Rattle.line_engine.specs.declared.status.Status.TheVariants.{Usage, WriteFault, NoMemory, TooLong}
 use Rattle.fixed_constants.specs.Answer.{IsWholeAnswer}

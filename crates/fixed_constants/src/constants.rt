@@ -1,6 +1,6 @@
 //! Reading a constants file.
 
-ghost use Rattle.std.specs.Prelude.{◌≡◌, ◌<◌, ◌+◌, ◌^◌, ℕ, List, [], ◌∷◌, ◌++◌, Ok, Err, length, IfOk, IfErr, OnOk, Some, bytes_eq};
+ghost use Rattle.std.specs.Prelude.{◌≡◌, ◌<◌, ◌+◌, ℕ, List, [], ◌∷◌, ◌++◌, Ok, Err, length, IfOk, IfErr, OnOk, Some, bytes_eq};
 ghost use Rattle.std.specs.Map.{update};
 ghost use Rattle.fixed_bits.specs.Ranges.{IsWide};
 ghost use Rattle.fixed_constants.specs.Constants.{IsConstantsOf, IsErrorOf, IsPassedOver, Says};

@@ -1,6 +1,9 @@
-//! Laws of constants files, each the contract of a function that does nothing.
+//! Laws of constants files, each the contract of a function that does nothing but call the laws that it follows from.
 
-ghost use Rattle.fixed_constants.specs.Laws.{AnswerIsTheOne, ConstantsAreTheOnes, FaultIsTheOne, NeverBoth};
+ghost use Rattle.fixed_constants.specs.Laws.{AnswerIsItsOwn, AnswerIsTheOne, CanonicalTextReadsBack, ConstantsAreEntries, ConstantsAreTheOnes, EntriesHaveOneAnswer, FaultIsTheOne, LiteralIsStyled, LiteralReadsBack, NeverBoth, WrittenReadsBack};
+
+use fixed_laws::laws::exact_text_reads_back;
+use text_lines::laws::line_comes_first;
 
 /// A text has at most one list of constants.
 pub fn constants_are_the_ones()
@@ -21,3 +24,48 @@ pub fn never_both()
 pub fn answer_is_the_one()
     ensures { AnswerIsTheOne }
 {}
+
+/// The literal of a value is its styled text in lower-case hexadecimal with the prefix.
+pub fn literal_is_styled()
+    ensures { LiteralIsStyled }
+{}
+
+/// The literal of a value is read as the same bits in every format that has them.
+pub fn literal_reads_back()
+    ensures { LiteralReadsBack }
+{
+    exact_text_reads_back();
+}
+
+/// The constants of a text are names, formats and bits in their range, and no name occurs twice.
+pub fn constants_are_entries()
+    ensures { ConstantsAreEntries }
+{}
+
+/// The canonical text of such constants is read as these constants.
+pub fn canonical_text_reads_back()
+    ensures { CanonicalTextReadsBack }
+{
+    line_comes_first();
+    literal_reads_back();
+}
+
+/// Constants that were read from any text and written are read again, in the same order.
+pub fn written_reads_back()
+    ensures { WrittenReadsBack }
+{
+    constants_are_entries();
+    canonical_text_reads_back();
+}
+
+/// Two inputs with the same constants in the same order have one answer.
+pub fn entries_have_one_answer()
+    ensures { EntriesHaveOneAnswer }
+{}
+
+/// An answer that is no fault is answered with itself.
+pub fn answer_is_its_own()
+    ensures { AnswerIsItsOwn }
+{
+    written_reads_back();
+}

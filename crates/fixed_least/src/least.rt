@@ -1,6 +1,6 @@
 //! The least format that holds a list exactly, and for each lesser one a numeral that it does not hold.
 
-ghost use Rattle.std.specs.Prelude.{◌≡◌, ◌≤◌, ◌<◌, ◌^◌, ◌+◌, ◌++◌, ◌↔◌, IsTrue, ℕ, List, length, false, get_or, replicate, decimal, IfOk, IfErr, MatchOption};
+ghost use Rattle.std.specs.Prelude.{◌≡◌, ◌≤◌, ◌<◌, ◌+◌, ◌++◌, ◌↔◌, IsTrue, ℕ, List, length, false, get_or, replicate, decimal, IfOk, IfErr, MatchOption};
 ghost use Rattle.fixed_bits.specs.Formats.{FormatParts, IsFormat};
 ghost use Rattle.fixed_bits.specs.Order.{rank};
 ghost use Rattle.line_engine.specs.Lines.{lines};

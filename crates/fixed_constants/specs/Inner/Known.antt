@@ -1,5 +1,5 @@
 -- On which line each name was declared, in a map.
-use Rattle.std.specs.Prelude.{◌≡◌, ◌⊎◌, ℕ, List, [], ◌∷◌, ◌++◌, Bool, Option, Some, None, Ok, bytes_eq}
+use Rattle.std.specs.Prelude.{◌≡◌, ◌⊎◌, ℕ, List, [], ◌∷◌, ◌++◌, Option, Some, None, Ok, bytes_eq}
 use Rattle.std.proofs.Common.{Bor}
 use Rattle.std.specs.HashMap.{HashMap, get_by}
 use Rattle.fixed_constants.specs.Constants.{ConstantParts, HasFault, IsNamedOn, IsPassedOver, Says}

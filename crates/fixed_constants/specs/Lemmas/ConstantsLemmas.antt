@@ -1,29 +1,28 @@
 -- A text has one outcome.
-use Rattle.std.proofs.Common.{◌≡◌, ℕ, ◌+◌, ◌<◌, ◌⊎◌, Bool, List, [], ◌∷◌, ◌++◌, ℤ, length, refl, sym, ap, ◌∙◌, subst, arith, inl, inr, ⊎_elim}
+use Rattle.std.proofs.Common.{◌≡◌, ℕ, ◌<◌, ◌⊎◌, Bool, List, [], ◌∷◌, ◌++◌, ℤ, refl, sym, ap, ◌∙◌, subst, arith, inl, inr}
 use Rattle.std.specs.Prelude.{Result, Ok, Err}
 use Rattle.std.proofs.lemmas.Int.{ints}
 use Rattle.fixed_bits.specs.Formats.{FormatParts}
 use Rattle.fixed_bits.specs.Ranges.{IsInRange, IsOutOfRange}
 use Rattle.fixed_bits.specs.declared.mode.ReadMode.TheVariants.{NearestEven}
 use Rattle.fixed_bits.proofs.LawLemmas.{rounded_one}
-use Rattle.fixed_numeral.specs.Literal.{HasLiteral, HasLiteralCause, literal_radix}
+use Rattle.fixed_numeral.specs.Literal.{HasLiteral, literal_radix}
 use Rattle.fixed_numeral.specs.Numeral.{Parts, is_minus, signed}
 use Rattle.fixed_numeral.specs.declared.error.ParseErrorKind.{ParseErrorKind}
-use Rattle.fixed_numeral.specs.declared.error.ParseErrorKind.TheVariants.{Overflow}
 use Rattle.fixed_numeral.specs.declared.radix.Radix.{Radix}
 use Rattle.fixed_numeral.proofs.LawLemmas.{one_literal, one_literal_cause}
 use Rattle.fixed_numeral.proofs.ValueLemmas.{magnitude_pos}
-use Rattle.fixed_read.specs.Reading.{IsReadNumber, IsReadOutOfRange}
+use Rattle.fixed_read.specs.Reading.{IsReadNumber}
 use Rattle.fixed_respell.specs.Words.{IsFormatWord}
-use Rattle.fixed_respell.specs.LineWords.{HasWords, space}
+use Rattle.fixed_respell.specs.LineWords.{space}
 use Rattle.fixed_respell.specs.Split.{count_of}
 use Rattle.fixed_respell.specs.Lemmas.AnswerLemmas.{format_word_one}
 use Rattle.fixed_respell.specs.Lemmas.LineWordLemmas.{not_missing, words_one}
 use Rattle.line_engine.specs.AnswerText.{AnswerText}
 use Rattle.line_engine.specs.Lines.{lines}
-use Rattle.fixed_constants.specs.Answer.{IsCanonicalAnswer, IsFaultAnswer, IsWholeAnswer, fault_line}
+use Rattle.fixed_constants.specs.Answer.{IsWholeAnswer, fault_line}
 use Rattle.fixed_constants.specs.Canonical.{canonical_text}
-use Rattle.fixed_constants.specs.Constants.{ConstantParts, Declare, FailAt, Fields, HasFault, HasHead, IsLiteralOf, IsName, IsNamedOn, IsPassedOver, IsRefusedLiteral, Says, Spells, equals_sign}
+use Rattle.fixed_constants.specs.Constants.{ConstantParts, Declare, FailAt, Fields, HasFault, IsLiteralOf, IsName, IsNamedOn, IsPassedOver, IsRefusedLiteral, Says, Spells, equals_sign}
 use Rattle.fixed_constants.specs.Lemmas.NameLemmas.{named_one}
 use Rattle.fixed_constants.specs.declared.fault.ConstantFault.{ConstantFault}
 use Rattle.fixed_constants.specs.declared.fault.ConstantFault.TheVariants.{MissingField, BadName, MissingEquals, BadFormat, BadLiteral, Duplicate}

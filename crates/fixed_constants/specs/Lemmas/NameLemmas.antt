@@ -1,5 +1,5 @@
 -- A line has one name, and one line is the first that names it.
-use Rattle.std.proofs.Common.{◌≡◌, ℕ, ◌+◌, List, [], ◌∷◌, ◌++◌, sym, ◌∙◌, subst, inl, inr}
+use Rattle.std.proofs.Common.{◌≡◌, ℕ, ◌+◌, List, [], ◌∷◌, sym, ◌∙◌, subst, inl, inr}
 use Rattle.fixed_respell.specs.LineWords.{space}
 use Rattle.fixed_respell.specs.Lemmas.SplitLemmas.{split_is_one}
 use Rattle.fixed_constants.specs.Constants.{ConstantParts, NamedFrom, Names, Spells}

@@ -1,6 +1,6 @@
 -- An empty argument is a usage fault.
 use Rattle.std.specs.Prelude.{String}
-use Rattle.std.proofs.Common.{◌≡◌, List, [], ◌∷◌}
+use Rattle.std.proofs.Common.{◌≡◌, [], ◌∷◌}
 use Rattle.std.specs.String.{string_bytes}
 use Rattle.std.specs.declared.alloc.Global.{Global}
 use Rattle.fixed_constants.specs.Program.{IsUsageFault}

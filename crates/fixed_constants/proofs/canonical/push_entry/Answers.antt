@@ -1,4 +1,4 @@
-use Rattle.std.proofs.Common.{rules, ◌≡◌, ◌++◌, ◌∷◌, [], List, ℕ}
+use Rattle.std.proofs.Common.{rules, ◌≡◌, ◌++◌, ◌∷◌, []}
 use Rattle.fixed_respell.specs.Words.{format_text}
 use Rattle.fixed_constants.specs.Canonical.{literal_text}
 use Rattle.fixed_constants.proofs.CanonicalLemmas.{entry_pieces}

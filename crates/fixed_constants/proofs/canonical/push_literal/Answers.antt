@@ -1,4 +1,4 @@
-use Rattle.std.proofs.Common.{rules, ◌≡◌, ◌++◌, List, ℕ, pos, unsigned_abs, false, FitsSigned, to_z, of_z}
+use Rattle.std.proofs.Common.{rules, ◌≡◌, ◌++◌, pos, unsigned_abs, FitsSigned}
 use Rattle.std.specs.Int.{is_negative, w128}
 use Rattle.std.specs.Fmt.{sign_text}
 use Rattle.std.proofs.lemmas.Int.{to_z-of_z}

@@ -1,8 +1,8 @@
-use Rattle.std.proofs.Common.{rules, ◌≡◌, ◌+◌, ◌∷◌, ◌++◌, [], ℕ, List, length, refl, sym, ap, ◌∙◌, subst, arith, length-append, append-nil}
+use Rattle.std.proofs.Common.{◌≡◌, ◌+◌, ◌∷◌, ◌++◌, [], ℕ, List, length, refl, sym, ap, ◌∙◌, subst, arith, length-append, append-nil}
 use Rattle.std.proofs.lemmas.Grind.{common_steps}
 use Rattle.line_engine.specs.Lines.{lines}
 use Rattle.fixed_constants.specs.Constants.{ConstantParts, Declare, FailAt, IsConstantsOf}
-use Rattle.fixed_constants.proofs.KnownLemmas.{knows_nothing, line_continues, line_knows}
+use Rattle.fixed_constants.proofs.KnownLemmas.{line_continues, line_knows}
 use Rattle.fixed_constants.proofs.ListLemmas.{nil_of}
 use Rattle.fixed_constants.proofs.constants.read_constants.Goals as goal
 

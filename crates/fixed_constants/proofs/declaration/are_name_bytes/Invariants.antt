@@ -1,4 +1,4 @@
-use Rattle.std.proofs.Common.{◌≡◌, ◌<◌, ℕ, get_or}
+use Rattle.std.proofs.Common.{◌<◌, ℕ, get_or}
 use Rattle.fixed_constants.specs.Constants.{IsNameByte}
 use Rattle.fixed_constants.proofs.declaration.are_name_bytes.Given as goal
 

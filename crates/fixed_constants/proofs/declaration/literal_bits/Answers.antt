@@ -1,9 +1,7 @@
-use Rattle.std.proofs.Common.{rules, ◌≡◌, refl, FitsSigned, to_z, of_z, subst, sym}
+use Rattle.std.proofs.Common.{rules, refl, FitsSigned, subst, sym}
 use Rattle.std.specs.Int.{w128}
 use Rattle.std.proofs.lemmas.Int.{to_z-of_z}
-use Rattle.std.specs.Prelude.{ℤ}
-use Rattle.fixed_constants.specs.Constants.{IsLiteralOf, IsRefusedLiteral}
-use Rattle.fixed_numeral.specs.declared.error.ParseErrorKind.TheVariants.{Overflow}
+use Rattle.fixed_constants.specs.Constants.{IsRefusedLiteral}
 use Rattle.fixed_numeral.specs.declared.error.ParseErrorKind.{ParseErrorKind}
 use Rattle.fixed_constants.proofs.ReadingLemmas.{literal_in, literal_out}
 use Rattle.fixed_constants.proofs.declaration.literal_bits.Goals as goal

@@ -1,7 +1,7 @@
-use Rattle.std.proofs.Common.{rules, ◌≡◌, ◌∷◌, [], true, false, refl, FitsSigned, to_z, of_z}
+use Rattle.std.proofs.Common.{rules, ◌≡◌, true, false, refl, FitsSigned}
 use Rattle.std.specs.Int.{w128}
 use Rattle.std.proofs.lemmas.Int.{to_z-of_z}
-use Rattle.fixed_constants.specs.Constants.{IsLiteralOf, IsName, equals_sign}
+use Rattle.fixed_constants.specs.Constants.{IsName, equals_sign}
 use Rattle.fixed_constants.proofs.ReadingLemmas.{fields_of, no_by, yes_by}
 use Rattle.fixed_constants.proofs.declaration.read_line.Goals as goal
 

@@ -1,4 +1,4 @@
-use Rattle.std.proofs.Common.{◌≡◌, ◌++◌, ◌∙◌, sym, ap, List, ℕ}
+use Rattle.std.proofs.Common.{◌≡◌, ◌++◌, ◌∙◌, sym, ap}
 use Rattle.std.specs.Prelude.{codes, decimal}
 use Rattle.fixed_constants.specs.Answer.{fault_message}
 use Rattle.fixed_constants.specs.declared.fault.ConstantFault.TheVariants.{Duplicate}
