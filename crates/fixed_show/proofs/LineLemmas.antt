@@ -1,0 +1,44 @@
+-- Lines that are appended part by part.
+use Rattle.std.proofs.Common.{◌≡◌, ℕ, ◌+◌, ◌≤◌, List, [], ◌∷◌, ◌++◌, length, ap, ◌∙◌, arith, append_assoc, length-append}
+use Rattle.fixed_show.specs.Blocks.{line}
+
+pub line_pushed : (old a b c label text : List ℕ) → a ≡ old ++ label → b ≡ a ++ text → c ≡ b ++ 10 ∷ [] → c ≡ old ++ line label text
+unfolding line
+line_pushed old a b c label text p q r =
+    let e : c ≡ ((old ++ label) ++ text) ++ 10 ∷ [] = cc in
+    e ∙ simp append_assoc
+
+pub line_length : (label text : List ℕ) → length (line label text) ≡ length label + (length text + 1)
+unfolding line
+line_length label text = omega (arith, length-append label (text ++ 10 ∷ []), length-append text (10 ∷ []))
+
+-- a line of three texts
+pub three_pushed : (old o1 o2 o3 o4 o5 l a b c : List ℕ) → o1 ≡ old ++ l → o2 ≡ o1 ++ a → o3 ≡ o2 ++ b → o4 ≡ o3 ++ c → o5 ≡ o4 ++ 10 ∷ [] → o5 ≡ old ++ line l (a ++ (b ++ c))
+unfolding line
+three_pushed old o1 o2 o3 o4 o5 l a b c p q r s t =
+    let e : o5 ≡ ((((old ++ l) ++ a) ++ b) ++ c) ++ 10 ∷ [] = cc in
+    e ∙ simp append_assoc
+
+-- a line of four texts
+pub four_pushed : (old o1 o2 o3 o4 o5 o6 l a b c d : List ℕ) → o1 ≡ old ++ l → o2 ≡ o1 ++ a → o3 ≡ o2 ++ b → o4 ≡ o3 ++ c → o5 ≡ o4 ++ d → o6 ≡ o5 ++ 10 ∷ [] → o6 ≡ old ++ line l (a ++ (b ++ (c ++ d)))
+unfolding line
+four_pushed old o1 o2 o3 o4 o5 o6 l a b c d p q r s t u =
+    let e : o6 ≡ (((((old ++ l) ++ a) ++ b) ++ c) ++ d) ++ 10 ∷ [] = cc in
+    e ∙ simp append_assoc
+
+pub pushed_length : (old new t : List ℕ) (n : ℕ) → new ≡ old ++ t → length t ≤ n → length new ≤ length old + n
+pushed_length old new t n e h = omega (arith, ap length e, length-append old t)
+
+-- blocks of four and of six lines
+pub four_lines : (old o1 o2 o3 o4 a b c d : List ℕ) → o1 ≡ old ++ a → o2 ≡ o1 ++ b → o3 ≡ o2 ++ c → o4 ≡ o3 ++ d → o4 ≡ old ++ (a ++ (b ++ (c ++ d)))
+four_lines old o1 o2 o3 o4 a b c d p q r s =
+    let e : o4 ≡ ((((old ++ a) ++ b) ++ c) ++ d) = cc in
+    e ∙ simp append_assoc
+
+pub six_lines : (old o1 o2 o3 o4 o5 o6 a b c d f g : List ℕ) → o1 ≡ old ++ a → o2 ≡ o1 ++ b → o3 ≡ o2 ++ c → o4 ≡ o3 ++ d → o5 ≡ o4 ++ f → o6 ≡ o5 ++ g → o6 ≡ old ++ (a ++ (b ++ (c ++ (d ++ (f ++ g)))))
+six_lines old o1 o2 o3 o4 o5 o6 a b c d f g p q r s t u =
+    let e : o6 ≡ ((((((old ++ a) ++ b) ++ c) ++ d) ++ f) ++ g) = cc in
+    e ∙ simp append_assoc
+
+pub text_short : (old new text : List ℕ) (n : ℕ) → new ≡ old ++ text → length new ≤ length old + n → length text ≤ n
+text_short old new text n e h = omega (arith, ap length e, length-append old text)

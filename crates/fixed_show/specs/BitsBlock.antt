@@ -1,0 +1,51 @@
+-- What number the bits of a register are.
+use Rattle.std.specs.Prelude.{◌≡◌, ℕ, ◌<◌, ◌^◌, List, ◌++◌, ℤ, pos, Bool, true, false, codes}
+use Rattle.std.specs.Fmt.{signed_decimal}
+use Rattle.fixed_bits.specs.Formats.{FormatParts}
+use Rattle.fixed_bits.specs.Images.{IsWrapped}
+use Rattle.fixed_write.specs.Places.{IsExactText}
+use Rattle.fixed_write.specs.Texts.{IsShortestText}
+use Rattle.fixed_show.specs.Blocks.{IsHexText, line, refusal_block}
+use Rattle.fixed_show.specs.WordText.{HasWordFault, IsWordText}
+use Rattle.fixed_show.specs.declared.words.WordFault.{WordFault}
+use Rattle.fixed_show.specs.declared.words.WordFault.TheVariants.{MisplacedUnderscore, InvalidDigit, NoDigits, TooWide}
+
+-- the message of a fault
+abbrev pub fault_message : WordFault → List ℕ
+fault_message MisplacedUnderscore = codes "misplaced underscore found in string"
+fault_message InvalidDigit = codes "invalid digit found in string"
+fault_message NoDigits = codes "string has no digits"
+fault_message TooWide = codes "word is wider than the format"
+
+-- lines says the exact value of bits in a format, their shortest text, and the bits in decimal and in hexadecimal
+pub record AreValueLines (f : FormatParts) (bits : ℤ) (lines : List ℕ) : Type 0 where
+  pub value : List ℕ
+  pub is_value : IsExactText 10 false bits f.frac value
+  pub shortest : List ℕ
+  pub is_shortest : IsShortestText bits f.frac shortest
+  pub hex : List ℕ
+  pub is_hex : IsHexText f.width bits hex
+  pub lines_are : lines ≡ line (codes "text      ") shortest
+      ++ (line (codes "bits      ") (signed_decimal bits)
+      ++ (line (codes "hex       ") hex
+      ++ line (codes "value     ") value))
+
+-- the word spells a number of the format's width, and in two's complement this is the number `bits`
+pub record IsWordBlock (f : FormatParts) (text block : List ℕ) : Type 0 where
+  pub word : ℕ
+  pub is_word : IsWordText text word
+  pub fits : word < 2 ^ f.width
+  pub bits : ℤ
+  pub is_bits : IsWrapped f.signed f.width (pos word) bits
+  pub lines : AreValueLines f bits block
+
+-- the text is no word of the format
+pub record IsRefusedWord (f : FormatParts) (text block : List ℕ) : Type 0 where
+  pub fault : WordFault
+  pub is_fault : HasWordFault f.width text fault
+  pub block_is : block ≡ refusal_block (fault_message fault)
+
+-- block is the answer to a word, and `refused` says which of the two
+abbrev pub IsBitsBlock : FormatParts → List ℕ → Bool → List ℕ → Type 0
+IsBitsBlock f text true block = IsRefusedWord f text block
+IsBitsBlock f text false block = IsWordBlock f text block

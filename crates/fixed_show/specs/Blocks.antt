@@ -1,0 +1,29 @@
+-- Blocks of lines, and the texts that their lines hold.
+use Rattle.std.specs.Prelude.{◌≡◌, ℕ, ◌≤◌, ◌/◌, List, [], ◌∷◌, ◌++◌, ℤ, pos, false, length, codes}
+use Rattle.fixed_bits.specs.Images.{IsWrapped}
+use Rattle.fixed_write.specs.Texts.{last_digits}
+
+-- a label, a text and a newline
+unfoldable pub line : List ℕ → List ℕ → List ℕ
+line label text = label ++ (text ++ 10 ∷ [])
+
+-- what reports a refusal
+abbrev pub refusal_block : List ℕ → List ℕ
+refusal_block message = line (codes "error: ") message
+
+-- a text of this meaning, of at most `most` bytes, was appended
+pub record Appends (Is : List ℕ → Type 0) (most : ℕ) (before after : List ℕ) : Type 0 where
+  pub text : List ℕ
+  pub is_text : Is text
+  pub appended : after ≡ before ++ text
+  pub short : length text ≤ most
+
+-- `0x` and n bits, four to a digit
+unfoldable pub hex_text : ℕ → ℕ → List ℕ
+hex_text n word = codes "0x" ++ last_digits 16 false (n / 4) word
+
+-- text is the n bits of v in two's complement, in hexadecimal
+pub record IsHexText (n : ℕ) (v : ℤ) (text : List ℕ) : Type 0 where
+  pub word : ℕ
+  pub is_word : IsWrapped false n v (pos word)
+  pub text_is : text ≡ hex_text n word

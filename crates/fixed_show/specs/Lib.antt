@@ -1,0 +1,4 @@
+pub mod Blocks
+pub mod FormatBlock
+pub mod WordText
+pub mod BitsBlock

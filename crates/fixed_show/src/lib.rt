@@ -1,0 +1,18 @@
+//! What there is to know of a format, of a register's word, and of a numeral in a format: blocks of lines for people.
+//!
+//! Each function appends one block to a text. A line of a block is a label in ten columns, a text, and a newline.
+#![tactic(auto)]
+
+pub mod bits;
+pub mod formats;
+pub mod laws;
+mod lines;
+pub mod words;
+
+pub use bits::bits_block;
+pub use formats::format_block;
+pub use lines::MAX_BLOCK;
+pub use words::WordFault;
+
+#[cfg(test)]
+mod tests;
