@@ -74,9 +74,9 @@ fraction_figures (d ∷ ds) = Some (d ∷ ds)
 abbrev figure_parts : ℕ → Bool → ℕ → List ℕ → ℤ → Parts
 figure_parts mark negative d ds e = record { sign = sign_of negative; whole = d ∷ []; fraction = fraction_figures ds; exponent = Some (exponent_of mark e) }
 
-behind_is : (ds : List ℕ) → fractional_digits (fraction_figures ds) ≡ ds
-behind_is [] = refl
-behind_is (d ∷ ds) = refl
+fraction_is : (ds : List ℕ) → fractional_digits (fraction_figures ds) ≡ ds
+fraction_is [] = refl
+fraction_is (d ∷ ds) = refl
 
 pointed_is : (d : ℕ) (ds : List ℕ) → pointed (d ∷ ds) ≡ d ∷ fraction_text (fraction_figures ds)
 pointed_is d [] = refl
@@ -143,7 +143,7 @@ exponent_reads mark c g m z k e text ok h reads ee et = by_figures (whole_digits
       (let shift : e -ℤ pos (length ds) ≡ pos z -ℤ pos k = omega (arith, ints, ee) in
           record {
             steps = unsigned_abs c;
-            rounded = rw (behind_is ds, exponent_value mark e, w.value, shift) (read_power m z k (unsigned_abs c) g reads);
+            rounded = rw (fraction_is ds, exponent_value mark e, w.value, shift) (read_power m z k (unsigned_abs c) g reads);
             value = with_sign c;
           }),
     )

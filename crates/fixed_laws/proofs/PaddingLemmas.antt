@@ -81,8 +81,8 @@ pad_of s negative body = s.width - length body - length (sign_text_with s.plus n
 pad_is : (s : Style) (negative : Bool) (body : List ℕ) → pad_of s negative body ≡ s.width - (length (sign_and_prefix s negative) + length body)
 pad_is s negative body =
     let chars : char_count (shown_of s) ≡ length (shown_of s) = prefix_chars s.notation s.prefix in
-    let front : length (sign_and_prefix s negative) ≡ length (sign_text_with s.plus negative) + length (shown_of s) = length-append (sign_text_with s.plus negative) (shown_of s) in
-    ap (λ x. s.width - length body - length (sign_text_with s.plus negative) - x) chars ∙ (pads_are s.width (length body) (length (sign_text_with s.plus negative)) (length (shown_of s)) ∙ ap (λ x. s.width - (x + length body)) (sym front))
+    let lead : length (sign_and_prefix s negative) ≡ length (sign_text_with s.plus negative) + length (shown_of s) = length-append (sign_text_with s.plus negative) (shown_of s) in
+    ap (λ x. s.width - length body - length (sign_text_with s.plus negative) - x) chars ∙ (pads_are s.width (length body) (length (sign_text_with s.plus negative)) (length (shown_of s)) ∙ ap (λ x. s.width - (x + length body)) (sym lead))
 
 padded_is : (s : Style) (negative : Bool) (body : List ℕ) → laid s.zero_pad (before_number (align_number s.align) (pad_of s negative body)) (pad_of s negative body) (encode_utf8 s.fill) (sign_text_with s.plus negative) (shown_of s) body ≡ padded_text s (sign_and_prefix s negative) body
 unfolding padded_text

@@ -15,29 +15,29 @@ use Rattle.fixed_write.specs.declared.style.Notation.{Notation}
 use Rattle.fixed_write.specs.declared.style.Notation.TheVariants.{Dec, LowerExp, UpperExp, Bin, Oct, LowerHex, UpperHex}
 use Rattle.fixed_write.specs.Shortest.{IsShortest, ReadsBack}
 use Rattle.fixed_write.specs.Texts.{decimal_text, whole_digits, point_text, zero_digit}
-use Rattle.fixed_write.specs.Styled.{IsStyledText, IsPointBody, IsExponentBody, HasFigures, IsShortFigures, padded_text, sign_and_prefix, mark_of}
+use Rattle.fixed_write.specs.Styled.{IsStyledText, IsPointBody, IsExponentBody, HasFigures, IsShortFigures, padded_text, sign_and_prefix, mark_of, plain_style}
 use Rattle.fixed_write.proofs.DigitLemmas.{whole_digits_short, whole_digits_digit}
 use Rattle.fixed_write.proofs.LeadingLemmas.{whole_zeros}
 use Rattle.fixed_write.proofs.PlacesLemmas.{wide_magnitude}
 use Rattle.fixed_write.proofs.ShortestLemmas.{shortest_is_nearest, shortest_at_most}
 use Rattle.fixed_laws.specs.Radices.{decimal_radix, binary, octal, hexadecimal}
-use Rattle.fixed_laws.specs.Plain.{plain_style, radix_of}
+use Rattle.fixed_laws.specs.Plain.{radix_of}
 use Rattle.fixed_laws.proofs.TextLemmas.{exact_reads_back, default_reads_back}
 use Rattle.fixed_laws.proofs.ExponentLemmas.{IsShortExponent, exponent_reads}
 
 -- ---- a plain text is a sign and a body
-front_is : (n : Notation) (negative : Bool) → sign_and_prefix (plain_style n) negative ≡ sign_text negative
-front_is n true = refl
-front_is n false = refl
+prefix_is : (n : Notation) (negative : Bool) → sign_and_prefix (plain_style n) negative ≡ sign_text negative
+prefix_is n true = refl
+prefix_is n false = refl
 
-plain_text : (n : Notation) (front body : List ℕ) → padded_text (plain_style n) front body ≡ front ++ body
+plain_text : (n : Notation) (prefix body : List ℕ) → padded_text (plain_style n) prefix body ≡ prefix ++ body
 unfolding padded_text
-plain_text n front body =
-    let none : 0 - (length front + length body) ≡ 0 = omega arith in
-    rw none (append-nil (front ++ body))
+plain_text n prefix body =
+    let none : 0 - (length prefix + length body) ≡ 0 = omega arith in
+    rw none (append-nil (prefix ++ body))
 
 plain_is : (n : Notation) (negative : Bool) (body text : List ℕ) → text ≡ padded_text (plain_style n) (sign_and_prefix (plain_style n) negative) body → text ≡ sign_text negative ++ body
-plain_is n negative body text e = e ∙ (plain_text n (sign_and_prefix (plain_style n) negative) body ∙ ap (λ (t : List ℕ). t ++ body) (front_is n negative))
+plain_is n negative body text e = e ∙ (plain_text n (sign_and_prefix (plain_style n) negative) body ∙ ap (λ (t : List ℕ). t ++ body) (prefix_is n negative))
 
 decimal_is_text : (negative : Bool) (n k : ℕ) → sign_text negative ++ point_text 10 false k n ≡ decimal_text negative n k
 unfolding decimal_text

@@ -64,8 +64,8 @@ whole_is (suc fuel) b u n two q l = ⊎_elim
     (λ small. whole_digit_is b u n two q small)
     (λ big.
     let fewer : n / b < b ^ suc fuel = less b (suc fuel) n two l in
-    let front : IsWholeText b (n / b) (whole_digits b u (n / b)) = whole_is fuel b u (n / b) two q fewer in
-    whole_more_is b u n two q big front)
+    let lead : IsWholeText b (n / b) (whole_digits b u (n / b)) = whole_is fuel b u (n / b) two q fewer in
+    whole_more_is b u n two q big lead)
     (cases_lt n b)
   where
     whole_digit_is : (b : ℕ) (u : Bool) (n : ℕ) → 2 ≤ b → b ≤ 16 → n < b → IsWholeText b n (whole_digits b u n)
@@ -153,9 +153,9 @@ text_is_numeral r u negative k n =
       exponent = tt;
     }
 
-behind_length : (b : ℕ) (u : Bool) (k n : ℕ) → length (fractional_digits (fraction_of b u k n)) ≡ k
-behind_length b u zero n = refl
-behind_length b u (suc k) n = last_digits_length b u (suc k) n
+fraction_length : (b : ℕ) (u : Bool) (k n : ℕ) → length (fractional_digits (fraction_of b u k n)) ≡ k
+fraction_length b u zero n = refl
+fraction_length b u (suc k) n = last_digits_length b u (suc k) n
 
 -- digits after digits
 value_after : (b n : ℕ) (ys : List ℕ) → digits_value_after b n ys ≡ n * b ^ length ys + digits_value b ys
@@ -208,7 +208,7 @@ exact_reads_back r u c g text h = (
   rw h.text_is (text_is_numeral r u (is_negative c) h.places h.number),
   record {
     steps = unsigned_abs c;
-    rounded = rw (mantissa_value (base r) u h.places h.number (whole_digits (base r) u (h.number / base r ^ h.places)) (base_low r) (base_high r) (whole_text_is (base r) u (h.number / base r ^ h.places) (base_low r) (base_high r)).value, behind_length (base r) u h.places h.number) (read_scaled (base r) h.number h.places (unsigned_abs c) g (base_low r) h.exact.same);
+    rounded = rw (mantissa_value (base r) u h.places h.number (whole_digits (base r) u (h.number / base r ^ h.places)) (base_low r) (base_high r) (whole_text_is (base r) u (h.number / base r ^ h.places) (base_low r) (base_high r)).value, fraction_length (base r) u h.places h.number) (read_scaled (base r) h.number h.places (unsigned_abs c) g (base_low r) h.exact.same);
     value = with_sign c;
   },
 )
@@ -234,7 +234,7 @@ default_reads_back c g text h = (
   rw (h.text_is ∙ decimal_places (is_negative c) h.number h.places) (text_is_numeral Dec false (is_negative c) h.places h.number),
   record {
     steps = unsigned_abs c;
-    rounded = rw (mantissa_value 10 false h.places h.number (whole_digits 10 false (h.number / 10 ^ h.places)) (omega arith) (omega arith) (whole_text_is 10 false (h.number / 10 ^ h.places) (omega arith) (omega arith)).value, behind_length 10 false h.places h.number) (read_back h.number h.places (unsigned_abs c) g h.shortest.reads_back);
+    rounded = rw (mantissa_value 10 false h.places h.number (whole_digits 10 false (h.number / 10 ^ h.places)) (omega arith) (omega arith) (whole_text_is 10 false (h.number / 10 ^ h.places) (omega arith) (omega arith)).value, fraction_length 10 false h.places h.number) (read_back h.number h.places (unsigned_abs c) g h.shortest.reads_back);
     value = with_sign c;
   },
 )

@@ -10,11 +10,13 @@ use Rattle.fixed_write.specs.Places.{IsExactText, IsRoundedText}
 
 -- the default text of c / 2^g is a decimal numeral whose read number for g is c
 abbrev pub DefaultTextReadsBack : Type 0
-DefaultTextReadsBack = (c : ℤ) (g : ℕ) (text : List ℕ) → IsShortestText c g text → (p : Parts) × HasNumeral Dec text p × IsReadNumber NearestEven Dec p g c
+DefaultTextReadsBack = (c : ℤ) (g : ℕ) (text : List ℕ) → IsShortestText c g text
+    → (p : Parts) × HasNumeral Dec text p × IsReadNumber NearestEven Dec p g c
 
 -- the exact text of c / 2^g in a base is a numeral of the base whose read number for g is c
 abbrev pub ExactTextReadsBack : Type 0
-ExactTextReadsBack = (r : Radix) (upper : Bool) (c : ℤ) (g : ℕ) (text : List ℕ) → IsExactText (base r) upper c g text → (p : Parts) × HasNumeral r text p × IsReadNumber NearestEven r p g c
+ExactTextReadsBack = (r : Radix) (upper : Bool) (c : ℤ) (g : ℕ) (text : List ℕ) → IsExactText (base r) upper c g text
+    → (p : Parts) × HasNumeral r text p × IsReadNumber NearestEven r p g c
 
 -- the text to any count of places is a numeral of the base
 abbrev pub RoundedTextIsNumeral : Type 0

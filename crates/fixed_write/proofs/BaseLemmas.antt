@@ -32,14 +32,14 @@ last_digits_case u (suc k) n =
     last_digits_suc 10 u k n ∙ (rw (last_digits_case u k (n / 10), glyph_case u (n % 10) small) refl ∙ sym (last_digits_suc 10 false k n))
 
 -- ---- the first digit and the others
-pub record Front (b : ℕ) (n first k : ℕ) : Type 0 where
+pub record IsFirst (b : ℕ) (n first k : ℕ) : Type 0 where
   pub is_first : first ≡ n / b ^ k
   pub whole : (u : Bool) → whole_digits b u n ≡ whole_digits b u first ++ last_digits b u k n
   pub few : k ≤ 64
   pub scale : first * b ^ k ≤ n
 
-pub front_none : (b n : ℕ) → Front b n n 0
-front_none b n = record {
+pub leading_none : (b n : ℕ) → IsFirst b n n 0
+leading_none b n = record {
   is_first = rw pow-zero (sym (div-one n));
   whole = λ u. rw last_digits_none (sym (append-nil (whole_digits b u n)));
   few = omega arith;
@@ -47,8 +47,8 @@ front_none b n = record {
 }
 
 -- the digit before the last ones
-last_digits_front : (b : ℕ) (u : Bool) (k n : ℕ) → 0 < b → last_digits b u (suc k) n ≡ digit_glyph u (n / b ^ k % b) ∷ last_digits b u k n
-last_digits_front b u k n p =
+last_digits_first : (b : ℕ) (u : Bool) (k n : ℕ) → 0 < b → last_digits b u (suc k) n ≡ digit_glyph u (n / b ^ k % b) ∷ last_digits b u k n
+last_digits_first b u k n p =
     let some : 0 < b ^ k = omega (arith, one-le-pow k b p) in
     let parts : n ≡ n / b ^ k * b ^ k + n % b ^ k = sym (div-add-mod' n (b ^ k)) in
     let below : n % b ^ k < b ^ k = mod-lt n some in
@@ -60,10 +60,10 @@ last_digits_front b u k n p =
     last_digits_one : (b : ℕ) (u : Bool) (n : ℕ) → last_digits b u 1 n ≡ digit_glyph u (n % b) ∷ []
     last_digits_one b u n = last_digits_suc b u 0 n ∙ ap (λ (t : List ℕ). t ++ digit_glyph u (n % b) ∷ []) (last_digits_none b u (n / b))
 
-pub front_more : (b n first k : ℕ) → 2 ≤ b → n < 2 ^ 64 → Front b n first k → b ≤ first → Front b n (first / b) (suc k)
-front_more b n first k two small h l = record {
+pub leading_more : (b n first k : ℕ) → 2 ≤ b → n < 2 ^ 64 → IsFirst b n first k → b ≤ first → IsFirst b n (first / b) (suc k)
+leading_more b n first k two small h l = record {
   is_first = rw (h.is_first, pow-suc) (div-div-eq-div-mul n (b ^ k) b);
-  whole = λ u. h.whole u ∙ rw (whole_digits_more b u first two l, h.is_first, last_digits_front b u k n (omega arith)) (append_assoc (whole_digits b u (n / b ^ k / b)) (digit_glyph u (n / b ^ k % b) ∷ []) (last_digits b u k n));
+  whole = λ u. h.whole u ∙ rw (whole_digits_more b u first two l, h.is_first, last_digits_first b u k n (omega arith)) (append_assoc (whole_digits b u (n / b ^ k / b)) (digit_glyph u (n / b ^ k % b) ∷ []) (last_digits b u k n));
   few = few_digits b k n first two small h.scale l;
   scale = rw pow-suc (scale_more b (b ^ k) n first (omega arith) h.scale);
 }
@@ -81,11 +81,11 @@ front_more b n first k two small h l = record {
         let all : first / b * b * s ≤ first * s = mul-le-mul_right s less in
         omega arith
 
-pub front_room : (b : ℕ) (u : Bool) (n first k x most : ℕ) → 2 ≤ b → Front b n first k → first < b → x + length (whole_digits b u n) ≤ most → (x < most) × (x + 1 + k ≤ most)
-front_room b u n first k x most two h l room =
+pub leading_room : (b : ℕ) (u : Bool) (n first k x most : ℕ) → 2 ≤ b → IsFirst b n first k → first < b → x + length (whole_digits b u n) ≤ most → (x < most) × (x + 1 + k ≤ most)
+leading_room b u n first k x most two h l room =
     let long : length (whole_digits b u n) ≡ 1 + k = ap length (h.whole u) ∙ (length-append (whole_digits b u first) (last_digits b u k n) ∙ rw (whole_digits_digit b u first two l, last_digits_length) refl) in
     (omega arith, omega arith)
 
-pub front_text : (b : ℕ) (u : Bool) (n first k : ℕ) (before text after : List ℕ) → 2 ≤ b → Front b n first k → first < b → text ≡ before ++ digit_glyph u first ∷ [] → after ≡ text ++ last_digits b u k n → after ≡ before ++ whole_digits b u n
-front_text b u n first k before text after two h l t a =
+pub leading_text : (b : ℕ) (u : Bool) (n first k : ℕ) (before text after : List ℕ) → 2 ≤ b → IsFirst b n first k → first < b → text ≡ before ++ digit_glyph u first ∷ [] → after ≡ text ++ last_digits b u k n → after ≡ before ++ whole_digits b u n
+leading_text b u n first k before text after two h l t a =
     a ∙ rw (t, h.whole u, whole_digits_digit b u first two l) (append_assoc before (digit_glyph u first ∷ []) (last_digits b u k n))

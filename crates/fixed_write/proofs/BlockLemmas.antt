@@ -8,7 +8,7 @@ use Rattle.fixed_bits.specs.Nearest.{IsNearest, IsEven}
 use Rattle.fixed_write.specs.Texts.{point, whole_digits, last_digits, fraction_part, point_text}
 use Rattle.fixed_write.specs.Inner.Digits.{AppendsRounded, AppendsExact, IsBlock}
 use Rattle.fixed_write.proofs.DigitLemmas.{parts_are, whole_digits_short, last_digits_joined, fraction_none, fraction_some, fraction_same}
-use Rattle.fixed_write.proofs.NearLemmas.{even_product, near_behind}
+use Rattle.fixed_write.proofs.NearLemmas.{even_product, near_after}
 use Rattle.fixed_write.proofs.RestLemmas.{Digits, digits_length, digits_none, digits_more}
 
 -- ---- room and powers
@@ -58,7 +58,7 @@ block_places_some b u c k w d s before text dot after p e l h t some f a =
     block_places b u c k w d s before text after p e l h t (a ∙ rw (f, fraction_some b u k d some) (append_assoc text (point ∷ []) (last_digits b u k d)))
 
 -- ---- digits and a block
--- a rest behind at least one digit ends in as many zeros as the block needs: it never comes as near to one
+-- a rest after at least one digit ends in as many zeros as the block needs: it never comes as near to one
 multiple_left : (x step rest n : ℕ) → 2 ^ 64 ≡ rest * step → n ≡ x * step % 2 ^ 64 → n + step ≤ 2 ^ 64
 multiple_left x step rest n e is =
     let some : 0 < step = ⊎_elim (λ a. a) (λ (a : step ≤ 0). let none : step ≡ 0 = omega arith in let e' : 2 ^ 64 ≡ rest * 0 = rw none at e in absurd (omega arith)) (cases_lt 0 step) in
@@ -111,8 +111,8 @@ block_below b block a r left f s block_is some e left_is h most =
 split_more : (w r b a block f : ℕ) → (w * 2 ^ 64 + r) * b ^ (a + block) ≡ ((w * b ^ a + r * b ^ a / 2 ^ 64) * 2 ^ 64 + r * b ^ a % 2 ^ 64) * b ^ block
 split_more w r b a block f =
     let parts : r * b ^ a ≡ r * b ^ a / 2 ^ 64 * 2 ^ 64 + r * b ^ a % 2 ^ 64 = omega arith in
-    let front : (w * 2 ^ 64 + r) * b ^ a ≡ (w * b ^ a + r * b ^ a / 2 ^ 64) * 2 ^ 64 + r * b ^ a % 2 ^ 64 = omega (arith, parts) in
-    rw pow-add (sym (mul_assoc (w * 2 ^ 64 + r) (b ^ a) (b ^ block)) ∙ ap (λ x. x * b ^ block) front)
+    let lead : (w * 2 ^ 64 + r) * b ^ a ≡ (w * b ^ a + r * b ^ a / 2 ^ 64) * 2 ^ 64 + r * b ^ a % 2 ^ 64 = omega (arith, parts) in
+    rw pow-add (sym (mul_assoc (w * 2 ^ 64 + r) (b ^ a) (b ^ block)) ∙ ap (λ x. x * b ^ block) lead)
 
 pub long_places : (b block : ℕ) (u : Bool) (w r a left f k s : ℕ) (before text dot digits after : List ℕ) → IsBlock b block → r < 2 ^ 64 → 0 < a → a + block ≡ k → s ≡ b ^ block → text ≡ before ++ whole_digits b u w → dot ≡ text ++ point ∷ [] → digits ≡ dot ++ last_digits b u a (r * b ^ a / 2 ^ 64) → left ≡ r * b ^ a % 2 ^ 64 → IsNearest ((0 * 2 ^ 64 + left) * s) (2 ^ 64) (0 * s + f) → f ≤ s → after ≡ digits ++ last_digits b u block f → AppendsRounded b u (w * 2 ^ 64 + r) 64 k before after
 long_places b block u w r a left f k s before text dot digits after block_is small some total e t d g left_is h most x =
@@ -120,13 +120,13 @@ long_places b block u w r a left f k s before text dot digits after block_is sma
     let near : IsNearest (left * s) (2 ^ 64) f = from_none left s f h in
     let two : 0 < b = omega (arith, block_is.low) in
     let even : IsEven s = rw e (even_power_some b block block_is.some block_is.even) in
-    let behind : IsNearest (((w * b ^ a + r * b ^ a / 2 ^ 64) * 2 ^ 64 + left) * s) (2 ^ 64) ((w * b ^ a + r * b ^ a / 2 ^ 64) * s + f) = near_behind (w * b ^ a + r * b ^ a / 2 ^ 64) left s (2 ^ 64) f even near in
+    let later : IsNearest (((w * b ^ a + r * b ^ a / 2 ^ 64) * 2 ^ 64 + left) * s) (2 ^ 64) ((w * b ^ a + r * b ^ a / 2 ^ 64) * s + f) = near_after (w * b ^ a + r * b ^ a / 2 ^ 64) left s (2 ^ 64) f even near in
     let all : (w * 2 ^ 64 + r) * b ^ (a + block) ≡ ((w * b ^ a + r * b ^ a / 2 ^ 64) * 2 ^ 64 + left) * s = rw (e, left_is) (split_more w r b a block f) in
-    let front : r * b ^ a / 2 ^ 64 < b ^ a = div_below (r * b ^ a) (2 ^ 64) (b ^ a) (omega arith) (times_less r (b ^ a) (pow_pos' b a two) small) in
+    let lead : r * b ^ a / 2 ^ 64 < b ^ a = div_below (r * b ^ a) (2 ^ 64) (b ^ a) (omega arith) (times_less r (b ^ a) (pow_pos' b a two) small) in
     rw (← total) (record {
       number = w * b ^ (a + block) + (r * b ^ a / 2 ^ 64 * b ^ block + f);
-      near = rw (all, number_is w b a block (r * b ^ a / 2 ^ 64) f, ← e) behind;
-      text_is = x ∙ rw (g, d, t, point_text_parts b u (a + block) w (r * b ^ a / 2 ^ 64 * b ^ block + f) two (joined_less (b ^ a) (b ^ block) (r * b ^ a / 2 ^ 64) f (b ^ (a + block)) (pow-add b a block) front less'), fraction_some b u (a + block) (r * b ^ a / 2 ^ 64 * b ^ block + f) (omega arith), last_digits_joined b u a block (r * b ^ a / 2 ^ 64) f two less') (regroup before (whole_digits b u w) (last_digits b u a (r * b ^ a / 2 ^ 64)) (last_digits b u block f));
+      near = rw (all, number_is w b a block (r * b ^ a / 2 ^ 64) f, ← e) later;
+      text_is = x ∙ rw (g, d, t, point_text_parts b u (a + block) w (r * b ^ a / 2 ^ 64 * b ^ block + f) two (joined_less (b ^ a) (b ^ block) (r * b ^ a / 2 ^ 64) f (b ^ (a + block)) (pow-add b a block) lead less'), fraction_some b u (a + block) (r * b ^ a / 2 ^ 64 * b ^ block + f) (omega arith), last_digits_joined b u a block (r * b ^ a / 2 ^ 64) f two less') (regroup before (whole_digits b u w) (last_digits b u a (r * b ^ a / 2 ^ 64)) (last_digits b u block f));
     })
   where
     times_less : (r s : ℕ) → 0 < s → r < 2 ^ 64 → r * s < s * 2 ^ 64

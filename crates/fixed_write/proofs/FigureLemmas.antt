@@ -216,9 +216,9 @@ pub parts_below : (w number places digit : ℕ) (a c : List ℕ) → w ≤ 0 →
 parts_below w number places digit a c none some small ea ec =
     let zero_w : w ≡ 0 = omega arith in
     let n : w * 10 ^ (places + 1) + (number * 10 + digit) ≡ number * 10 + digit = rw zero_w (omega arith) in
-    let front : (number * 10 + digit) / 10 ≡ number = omega arith in
+    let lead : (number * 10 + digit) / 10 ≡ number = omega arith in
     let last : (number * 10 + digit) % 10 ≡ digit = omega arith in
-    ec ∙ rw (ea, n, whole_digits_more 10 false (number * 10 + digit) (omega arith) (omega arith), front, last, glyph_is digit small) refl
+    ec ∙ rw (ea, n, whole_digits_more 10 false (number * 10 + digit) (omega arith) (omega arith), lead, last, glyph_is digit small) refl
   where
     glyph_is : (d : ℕ) → d < 10 → digit_glyph false d ≡ 48 + d
     glyph_is d l = grind arith

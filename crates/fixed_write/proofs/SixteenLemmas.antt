@@ -43,6 +43,13 @@ two_digits k n =
     let one : n % 100 % 10 < 10 = omega arith in
     last_digits_suc 10 false (suc k) n ∙ rw (last_digits_suc 10 false k (n / 10), hundreds, tens, ones, glyph_is (n % 100 / 10) ten, glyph_is (n % 100 % 10) one) (append_assoc (last_digits 10 false k (n / 100)) ((48 + n % 100 / 10) ∷ []) ((48 + n % 100 % 10) ∷ []))
 
+-- a pair
+pub pair_pushed : (n : ℕ) (old mid new : List ℕ) → n < 100 → mid ≡ old ++ (48 + n / 10) ∷ [] → new ≡ mid ++ (48 + n % 10) ∷ [] → new ≡ old ++ last_digits 10 false 2 n
+pair_pushed n old mid new l e f =
+    let same : n % 100 ≡ n = omega arith in
+    let pair : last_digits 10 false 2 n ≡ (48 + n / 10) ∷ (48 + n % 10) ∷ [] = two_digits 0 n ∙ rw (last_digits_none, same) refl in
+    f ∙ rw (e, pair) (append_assoc old ((48 + n / 10) ∷ []) ((48 + n % 10) ∷ []))
+
 -- sixteen digits are eight pairs
 pub sixteen_digits_are : (n : ℕ) → n < 10 ^ 16 → map (λ d. 48 + d) (digits_of_pairs (pairs_of n)) ≡ last_digits 10 false 16 n
 sixteen_digits_are n l =

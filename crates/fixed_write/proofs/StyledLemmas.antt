@@ -36,8 +36,8 @@ shortest_body v c g text h e =
       text = append-nil text;
     }
 
-pub behind_text : (notation : Notation) (precision : Option ℕ) (c g : ℕ) (before text after : List ℕ) → AppendsBody notation precision c g [] text 0 → after ≡ before ++ text → AppendsBody notation precision c g before after 0
-behind_text notation precision c g before text after h e = record {
+pub body_appended : (notation : Notation) (precision : Option ℕ) (c g : ℕ) (before text after : List ℕ) → AppendsBody notation precision c g [] text 0 → after ≡ before ++ text → AppendsBody notation precision c g before after 0
+body_appended notation precision c g before text after h e = record {
   body = h.body;
   is_body = h.is_body;
   text = append-nil after ∙ (e ∙ ap (λ (t : List ℕ). before ++ t) (sym (append-nil text) ∙ h.text));
@@ -118,7 +118,7 @@ zeros_last b u (suc z) p =
     let parts = parts_are 0 b 0 0 p (omega arith) in
     last_digits_suc b u z 0 ∙ rw (parts.0, parts.1, zeros_last b u z p, glyph_none u) (zeros_push z zero_digit)
 
--- so many zeros more
+-- zeros more
 scaled_whole : (n t s : ℕ) → 0 < t → 0 < s → n * s / (t * s) ≡ n / t
 scaled_whole n t s p q =
     let low : n % t < t = mod-lt n p in

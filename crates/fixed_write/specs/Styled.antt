@@ -15,6 +15,10 @@ use Rattle.fixed_write.specs.Texts.{point, zero_digit, point_text, whole_digits}
 use Rattle.fixed_write.specs.Places.{IsExact}
 
 -- ---- notations
+-- a notation and nothing else
+abbrev pub plain_style : Notation → Style
+plain_style n = record { notation = n; precision = None; width = 0; fill = 32; align = Right; plus = false; prefix = false; zero_pad = false }
+
 abbrev pub base_of : Notation → ℕ
 base_of Bin = 2
 base_of Oct = 8
@@ -138,12 +142,12 @@ abbrev pub fills : Style → ℕ → List ℕ
 fills s n = repeat n (encode_utf8 s.fill)
 
 abbrev pub padding : Style → List ℕ → List ℕ → ℕ
-padding s front body = s.width - (length front + length body)
+padding s prefix body = s.width - (length prefix + length body)
 
 -- the body padded up to the width
 unfoldable pub padded_text : Style → List ℕ → List ℕ → List ℕ
-padded_text s front body = if s.zero_pad then front ++ replicate (padding s front body) zero_digit ++ body
-    else fills s (fills_before s.align (padding s front body)) ++ (front ++ body) ++ fills s (padding s front body - fills_before s.align (padding s front body))
+padded_text s prefix body = if s.zero_pad then prefix ++ replicate (padding s prefix body) zero_digit ++ body
+    else fills s (fills_before s.align (padding s prefix body)) ++ (prefix ++ body) ++ fills s (padding s prefix body - fills_before s.align (padding s prefix body))
 
 -- text shows c / 2^g in the style
 pub record IsStyledText (style : Style) (c : ℤ) (g : ℕ) (text : List ℕ) : Type 0 where

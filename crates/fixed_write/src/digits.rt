@@ -108,7 +108,7 @@ fn moved_up(number: u64, places: u32) -> u64
 }
 
 /// Appends a number of at most `places` digits, up to sixteen, with leading zeros where it has fewer.
-#[inline]
+#[inline(always)]
 pub(crate) fn push_sixteen<const N: usize>(out: &mut TextBuffer<N>, number: u64, places: u32)
     requires places { places ≤ 16 }
     requires number { number < 10 ^ places }
@@ -119,21 +119,35 @@ pub(crate) fn push_sixteen<const N: usize>(out: &mut TextBuffer<N>, number: u64,
 }
 
 /// Appends a number of at most `places` digits, up to nineteen, with leading zeros where it has fewer.
-#[inline]
+#[inline(always)]
 pub(crate) fn push_places<const N: usize>(out: &mut TextBuffer<N>, number: u64, places: u32)
     requires places { places ≤ 19 }
     requires number { number < 10 ^ places }
     requires room { length out.old + places ≤ N }
     ensures { out.new ≡ out.old ++ last_digits 10 false places number }
 {
-    if places <= 16 {
+    if places == 2 {
+        push_pair(out, number);
+    } else if places <= 16 {
         push_sixteen(out, number, places);
     } else {
         push_long_places(out, number, places);
     }
 }
 
+/// Appends the two digits of a number below a hundred.
+#[inline(always)]
+fn push_pair<const N: usize>(out: &mut TextBuffer<N>, number: u64)
+    requires number { number < 100 }
+    requires room { length out.old + 2 ≤ N }
+    ensures { out.new ≡ out.old ++ last_digits 10 false 2 number }
+{
+    out.push(b'0' + (number / 10) as u8);
+    out.push(b'0' + (number % 10) as u8);
+}
+
 /// Appends a number of at most `places` digits, from sixteen to nineteen.
+#[inline(never)]
 fn push_long_places<const N: usize>(out: &mut TextBuffer<N>, number: u64, places: u32)
     requires long { 16 ≤ places }
     requires places { places ≤ 19 }
@@ -161,7 +175,7 @@ fn digit_count(number: u64) -> u32
 }
 
 /// Appends a number of at most sixteen digits, without a leading zero.
-#[inline]
+#[inline(always)]
 fn push_short_whole<const N: usize>(out: &mut TextBuffer<N>, number: u64)
     requires some { 0 < number }
     requires sixteen { number < 10 ^ 16 }
@@ -172,7 +186,7 @@ fn push_short_whole<const N: usize>(out: &mut TextBuffer<N>, number: u64)
 }
 
 /// Appends the digits of a whole number, without a leading zero and at least one.
-#[inline]
+#[inline(always)]
 pub(crate) fn push_whole<const N: usize>(out: &mut TextBuffer<N>, number: u64)
     requires { length out.old + length (whole_digits 10 false number) ≤ N }
     ensures { out.new ≡ out.old ++ whole_digits 10 false number }
@@ -187,6 +201,7 @@ pub(crate) fn push_whole<const N: usize>(out: &mut TextBuffer<N>, number: u64)
 }
 
 /// Appends a number of more than sixteen digits.
+#[inline(never)]
 fn push_long_whole<const N: usize>(out: &mut TextBuffer<N>, number: u64)
     requires long { 10 ^ 16 ≤ number }
     requires room { length out.old + length (whole_digits 10 false number) ≤ N }

@@ -71,7 +71,7 @@ fn leading_of(value: Split) -> Leading
     }
 }
 
-/// The same for a value below one.
+/// A value below one that is not zero, moved so that its first digit is before the point.
 fn leading_below_one(rest: u64) -> Leading
     requires { 0 < rest }
     ensures { IsLeading rest result.value.whole result.value.rest result.decade result.shift }

@@ -18,8 +18,9 @@ pub mod text;
 
 pub use in_place::{Base, push_decimal, push_exact};
 pub use integer::push_integer;
+pub use no_memory::NoMemory;
 pub use printer::push_shortest;
 pub use short::{ShortText, shortest};
 pub use style::{Align, Notation, Style};
 pub use styled::to_text;
-pub use text::{NoMemory, Text};
+pub use text::Text;

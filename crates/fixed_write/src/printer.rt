@@ -23,7 +23,8 @@ ghost use Rattle.fixed_bits.specs.Ranges.{IsWide};
 ghost use Rattle.fixed_bits.specs.Nearest.{IsNearest, IsEven};
 ghost use Rattle.fixed_write.specs.Texts.{IsShortestText, shortest_text, last_digits};
 ghost use Rattle.fixed_write.specs.Inner.Fraction.{AppendsFraction, IsShortestFraction};
-ghost use Rattle.fixed_write.specs.Inner.Passes.{IsStart, Printing};
+ghost use Rattle.fixed_write.specs.Inner.Passes.{IsStart};
+ghost use Rattle.fixed_write.specs.Inner.Moves.{Begins, Continues};
 
 use crate::digits::{power_of_ten, push_places, push_sixteen, push_whole};
 use fixed_steps::Steps;
@@ -209,7 +210,7 @@ struct Pass {
 /// The pass with the first digit after a start.
 #[inline]
 fn first_pass(start: Start) -> Pass
-    ensures pass { (c g : ℕ) → g ≤ 64 → IsStart c g start.number start.places start.rest start.reach → Printing c g result.number result.places result.digit result.rest result.reach }
+    ensures pass { Begins start result }
     ensures number { result.number ≡ start.number }
     ensures places { result.places ≡ start.places }
     ensures digit { result.digit < 10 }
@@ -229,7 +230,7 @@ fn first_pass(start: Start) -> Pass
 fn next_pass(pass: Pass) -> Pass
     requires word { pass.number * 10 + pass.digit < 2 ^ 64 }
     requires few { pass.places < 20 }
-    ensures pass { (c g : ℕ) → g ≤ 64 → Printing c g pass.number pass.places pass.digit pass.rest pass.reach → (pass.reach < pass.rest) × (pass.reach ≤ 2 ^ 64 - 1 - pass.rest) → Printing c g result.number result.places result.digit result.rest result.reach }
+    ensures pass { Continues pass result }
     ensures places { result.places ≡ pass.places + 1 }
 {
     let (digit, rest) = scaled(pass.rest, 10);
@@ -247,7 +248,7 @@ fn next_pass(pass: Pass) -> Pass
 fn likely_pass(start: Start) -> Pass
     requires number { start.number < 10 ^ 18 }
     requires places { start.places ≤ 18 }
-    ensures { (c g : ℕ) → g ≤ 64 → IsStart c g start.number start.places start.rest start.reach → Printing c g result.number result.places result.digit result.rest result.reach }
+    ensures { Begins start result }
 {
     let one = first_pass(start);
     let two = next_pass(one);

@@ -1,6 +1,7 @@
 //! How a number is shown: the options of a styled text.
 
-ghost use Rattle.std.specs.Prelude.{◌≡◌, false};
+ghost use Rattle.std.specs.Prelude.{◌≡◌};
+ghost use Rattle.fixed_write.specs.Styled.{plain_style};
 
 /// What the value is shown in: decimal, decimal with an exponent, or a base of two, eight or sixteen.
 #[derive(Clone, Copy, Debug, PartialEq, Eq)]
@@ -44,7 +45,7 @@ pub struct Style {
 impl Style {
     /// The number and nothing else: no precision, width 0, a space as fill, right-aligned, and no flag.
     pub fn plain(notation: Notation) -> Style
-        ensures { result ≡ record { notation = notation; precision = None; width = 0; fill = 32; align = Align.Right; plus = false; prefix = false; zero_pad = false } }
+        ensures { result ≡ plain_style notation }
     {
         Style {
             notation,

@@ -2,7 +2,7 @@
 
 ghost use Rattle.std.specs.Prelude.{◌≡◌, ◌<◌, ◌≤◌};
 
-use crate::{ShortText, shortest};
+use crate::{Align, NoMemory, Notation, ShortText, Style, shortest, to_text};
 use fixed_steps::Steps;
 use std::alloc::{AllocError, Global};
 use std::marker::Brand;
@@ -108,7 +108,7 @@ fn ends_of_the_long_formats(rt: HostRuntime) {
     }
 }
 
-/// Whether number / scale is read as so many steps of 1 / unit.
+/// Whether number / scale is read as `steps` steps of 1 / unit.
 fn reads_back(number: u32, scale: u32, steps: u32, unit: u32) -> bool {
     let apart = 2 * distance(number, scale, steps, unit);
     apart < scale as u128 || (apart == scale as u128 && steps % 2 == 0)
@@ -190,4 +190,111 @@ fn a_plain_search_finds_the_same(rt: HostRuntime) -> Result<(), Fail> {
     assert!(rt; all_agree(rt.alloc(), true, 4, 16)?);
     assert!(rt; all_agree(rt.alloc(), false, 4, 16)?);
     Ok(())
+}
+
+/// What a style shows of a value: true where it is `wanted`.
+fn shows(
+    alloc: Global,
+    bits: i128,
+    frac: u32,
+    style: &Style,
+    wanted: &str,
+) -> Result<bool, NoMemory> {
+    if frac > 64 || bits < i64::MIN as i128 || bits > u64::MAX as i128 {
+        return Ok(false);
+    }
+    match to_text(alloc, bits, frac, style) {
+        Ok(text) => Ok(text.as_bytes() == wanted.as_bytes()),
+        Err(error) => Err(error),
+    }
+}
+
+/// A style of a notation with a precision.
+fn places(notation: Notation, precision: u16) -> Style {
+    let mut style = Style::plain(notation);
+    style.precision = Some(precision);
+    style
+}
+
+/// A decimal style of a width, with a fill and an alignment.
+fn field(width: u16, fill: char, align: Align) -> Style {
+    let mut style = Style::plain(Notation::Dec);
+    style.width = width;
+    style.fill = fill;
+    style.align = align;
+    style
+}
+
+#[test]
+fn plain_and_rounded_texts(rt: HostRuntime) {
+    let rows = [
+        (25, 8, places(Notation::Dec, 3), "0.098"),
+        (77, 8, places(Notation::LowerExp, 0), "3e-1"),
+        (-4, 4, places(Notation::Dec, 0), "-0"),
+        (51, 4, Style::plain(Notation::Bin), "11.0011"),
+        (51, 4, Style::plain(Notation::Oct), "3.14"),
+        (51, 4, Style::plain(Notation::LowerHex), "3.3"),
+        (51, 4, places(Notation::Bin, 2), "11.01"),
+        (255, 8, places(Notation::UpperHex, 1), "1.0"),
+        (255, 0, Style::plain(Notation::UpperHex), "FF"),
+        (40, 4, places(Notation::Oct, 0), "2"),
+        (1200, 0, Style::plain(Notation::LowerExp), "1.2e3"),
+        (1250, 0, places(Notation::UpperExp, 1), "1.2E3"),
+        (999, 0, places(Notation::LowerExp, 1), "1.0e3"),
+        (0, 0, places(Notation::LowerExp, 2), "0.00e0"),
+        (25, 8, Style::plain(Notation::LowerExp), "9.8e-2"),
+    ];
+    for (bits, frac, style, wanted) in &rows {
+        assert_eq!(rt;
+            shows(rt.alloc(), *bits, *frac, style, wanted),
+            Ok(true),
+            "{wanted}"
+        );
+    }
+}
+
+#[test]
+fn texts_padded_up_to_a_width(rt: HostRuntime) {
+    let mut hexadecimal = Style::plain(Notation::LowerHex);
+    hexadecimal.prefix = true;
+    hexadecimal.width = 10;
+    hexadecimal.zero_pad = true;
+    let mut plus = Style::plain(Notation::Dec);
+    plus.plus = true;
+    let rows = [
+        (-51, hexadecimal, "-0x00003.3"),
+        (51, field(8, '*', Align::Center), "**3.2***"),
+        (51, field(8, '*', Align::Left), "3.2*****"),
+        (51, field(4, 'é', Align::Right), "é3.2"),
+        (51, plus, "+3.2"),
+    ];
+    for (bits, style, wanted) in &rows {
+        assert_eq!(rt;
+            shows(rt.alloc(), *bits, 4, style, wanted),
+            Ok(true),
+            "{wanted}"
+        );
+    }
+}
+
+/// Each call takes memory once. Where an allocation fails, its call says so and the others are not affected.
+#[test]
+fn refused_memory_is_reported_by_its_call_alone(rt: HostRuntime) {
+    let rows = [
+        (Style::plain(Notation::Dec), "3.2"),
+        (
+            places(Notation::Dec, 66),
+            "3.187500000000000000000000000000000000000000000000000000000000000000",
+        ),
+        (places(Notation::LowerExp, 3), "3.188e0"),
+        (Style::plain(Notation::Bin), "11.0011"),
+    ];
+    let mut refused = 0u32;
+    for (style, wanted) in &rows {
+        match shows(rt.alloc(), 51, 4, style, wanted) {
+            Ok(is_shown) => assert!(rt; is_shown, "{wanted}"),
+            Err(NoMemory) => refused = refused.saturating_add(1),
+        }
+    }
+    assert!(rt; refused <= 1);
 }

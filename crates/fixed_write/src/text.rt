@@ -3,17 +3,12 @@
 ghost use Rattle.std.specs.Prelude.{◌≡◌, ◌+◌, ◌*◌, ◌^◌, ◌<◌, ◌≤◌, ◌++◌, [], length, replicate, vec_len, vec_capacity, IfOk};
 ghost use Rattle.std.specs.List.{repeat};
 ghost use Rattle.fixed_write.specs.Styled.{padded_text, fills_before};
-ghost use Rattle.fixed_write.specs.Inner.Styling.{laid_out};
+ghost use Rattle.fixed_write.specs.Inner.Styling.{laid_out, body_text};
 
 use crate::style::{Align, Style};
+use no_memory::NoMemory;
 use std::alloc::{AllocError, Global};
 use std::marker::Model;
-use thiserror::Error;
-
-/// The allocator gave no memory for the text.
-#[derive(Clone, Copy, Debug, PartialEq, Eq, Error)]
-#[error("no memory")]
-pub struct NoMemory;
 
 /// A text in memory.
 #[derive(Drop)]
@@ -77,23 +72,23 @@ fn written(
     alloc: Global,
     fill: &[u8],
     before: usize,
-    front: &[u8],
+    prefix: &[u8],
     inner: usize,
     body: &BodyParts,
-    behind: usize,
+    after: usize,
 ) -> Result<Text, NoMemory>
     requires fill { length fill.now ≤ 4 }
     requires before { before < 2 ^ 20 }
-    requires front { length front.now ≤ 200 }
+    requires prefix { length prefix.now ≤ 200 }
     requires inner { inner < 2 ^ 20 }
     requires digits { length body.now.digits.now ≤ 200 }
     requires zeros { body.now.zeros < 2 ^ 20 }
     requires tail { length body.now.tail.now ≤ 200 }
-    requires behind { behind < 2 ^ 20 }
-    ensures { IfOk result (λ t. t ≡ laid_out fill.now before front.now inner (body.now.digits.now ++ (replicate body.now.zeros 48 ++ body.now.tail.now)) behind) }
+    requires after { after < 2 ^ 20 }
+    ensures { IfOk result (λ t. t ≡ laid_out fill.now before prefix.now inner (body_text body.now.digits.now body.now.zeros body.now.tail.now) after) }
 {
-    let length = (before + behind) * fill.len()
-        + front.len()
+    let length = (before + after) * fill.len()
+        + prefix.len()
         + inner
         + body.digits.len()
         + body.zeros
@@ -102,12 +97,12 @@ fn written(
         Ok(room) => {
             let mut bytes = room;
             append_times(&mut bytes, fill, before);
-            append(&mut bytes, front);
+            append(&mut bytes, prefix);
             append_times(&mut bytes, b"0", inner);
             append(&mut bytes, body.digits);
             append_times(&mut bytes, b"0", body.zeros);
             append(&mut bytes, body.tail);
-            append_times(&mut bytes, fill, behind);
+            append_times(&mut bytes, fill, after);
             Ok(Text { bytes })
         }
         Err(AllocError) => Err(NoMemory),
@@ -126,23 +121,23 @@ pub(crate) struct BodyParts<'a> {
 pub(crate) fn padded(
     alloc: Global,
     style: &Style,
-    front: &[u8],
+    prefix: &[u8],
     body: &BodyParts,
 ) -> Result<Text, NoMemory>
-    requires front { length front.now ≤ 200 }
+    requires prefix { length prefix.now ≤ 200 }
     requires digits { length body.now.digits.now ≤ 200 }
     requires zeros { body.now.zeros < 2 ^ 16 }
     requires tail { length body.now.tail.now ≤ 200 }
-    ensures { IfOk result (λ t. t ≡ padded_text style.now front.now (body.now.digits.now ++ (replicate body.now.zeros 48 ++ body.now.tail.now))) }
+    ensures { IfOk result (λ t. t ≡ padded_text style.now prefix.now (body_text body.now.digits.now body.now.zeros body.now.tail.now)) }
 {
-    let shown = front.len() + body.digits.len() + body.zeros + body.tail.len();
+    let shown = prefix.len() + body.digits.len() + body.zeros + body.tail.len();
     let padding = (style.width as usize).saturating_sub(shown);
     let mut buffer = [0u8; 4];
     let fill = style.fill.encode_utf8(&mut buffer).as_bytes();
     if style.zero_pad {
-        written(alloc, fill, 0, front, padding, body, 0)
+        written(alloc, fill, 0, prefix, padding, body, 0)
     } else {
         let before = fills_before(style.align, padding);
-        written(alloc, fill, before, front, 0, body, padding - before)
+        written(alloc, fill, before, prefix, 0, body, padding - before)
     }
 }

@@ -17,8 +17,8 @@ pub record AppendsExact (base : ℕ) (upper : Bool) (c g : ℕ) (before after : 
   pub exact : IsExact base c g places number
   pub text_is : after ≡ before ++ point_text base upper places number
 
--- so many digits of the base fit a word, and one more does not: a step of 2^-64 that ends in a zero digit of
--- `step` is never lost behind them
+-- `block` digits of the base fit a word, and one more does not: what is left of a rest after one digit is a multiple of
+-- `step`, so it is never nearer to one whole than these digits show
 pub record IsBlock (base block : ℕ) : Type 0 where
   pub low : 2 ≤ base
   pub high : base ≤ 16

@@ -6,8 +6,13 @@ use Rattle.fixed_write.specs.declared.style.Notation.TheVariants.{LowerExp, Uppe
 use Rattle.fixed_write.specs.Texts.{zero_digit}
 use Rattle.fixed_write.specs.Styled.{IsPointBody}
 
+-- a body in its parts: digits, zeros after them, and a tail
+abbrev pub body_text : List ℕ → ℕ → List ℕ → List ℕ
+body_text digits zeros tail = digits ++ (replicate zeros zero_digit ++ tail)
+
+-- fills, sign and prefix, zeros, the body, and fills
 abbrev pub laid_out : List ℕ → ℕ → List ℕ → ℕ → List ℕ → ℕ → List ℕ
-laid_out fill before front inner body behind = repeat before fill ++ (front ++ (replicate inner 48 ++ (body ++ repeat behind fill)))
+laid_out fill before prefix inner body after = repeat before fill ++ (prefix ++ (replicate inner zero_digit ++ (body ++ repeat after fill)))
 
 -- the notations with a point and no exponent
 abbrev pub IsPointNotation : Notation → Type 0
@@ -15,7 +20,7 @@ IsPointNotation LowerExp = ⊥
 IsPointNotation UpperExp = ⊥
 IsPointNotation _ = Unit {0}
 
--- after, and so many zeros behind it, is before with the body behind it
+-- after, followed by zeros, is before followed by the body
 pub record AppendsBody (notation : Notation) (precision : Option ℕ) (c g : ℕ) (before after : List ℕ) (zeros : ℕ) : Type 0 where
   pub body : List ℕ
   pub is_body : IsPointBody notation precision c g body
