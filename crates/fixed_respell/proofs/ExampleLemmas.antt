@@ -1,19 +1,13 @@
 -- Worked examples of the definitions that the answer to a line is made of.
-use Rattle.std.proofs.Common.{◌≡◌, ℕ, ◌<◌, ◌⊎◌, ◌↔◌, Bool, IsTrue, List, Option, Some, None, [], ◌∷◌, true, false, refl, arith, inl, inr, ℤ, pos, negsuc, ⊎_elim}
-use Rattle.std.proofs.lemmas.Bool.{false≢true}
-use Rattle.std.proofs.lemmas.Int.{ints}
+use Rattle.std.proofs.Common.{◌≡◌, [], ◌∷◌, true, false, refl, arith, inl, inr, pos, negsuc}
 use Rattle.std.specs.Prelude.{codes}
 use Rattle.std.specs.Fmt.{digits}
-use Rattle.fixed_bits.proofs.LawLemmas.{range_decided}
-use Rattle.fixed_bits.specs.Ranges.{IsInRange, IsOutOfRange}
 use Rattle.fixed_bits.specs.declared.format.Policy.TheVariants.{Checked}
 use Rattle.fixed_bits.specs.declared.mode.ReadMode.TheVariants.{NearestEven, Floor}
-use Rattle.fixed_numeral.specs.declared.radix.Radix.TheVariants.{Dec}
 use Rattle.fixed_respell.specs.Answer.{respelled_answer, fault_message, HasFault}
 use Rattle.fixed_respell.specs.Language.{fault_answer}
 use Rattle.fixed_respell.specs.LineWords.{HasWords}
 use Rattle.line_engine.specs.Lines.{lines}
-use Rattle.fixed_respell.specs.Examples.{unsigned_format}
 use Rattle.fixed_respell.specs.Words.{format_text, IsPolicyWord}
 use Rattle.fixed_respell.specs.declared.fault.LineFault.TheVariants.{MissingField}
 

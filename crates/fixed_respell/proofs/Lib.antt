@@ -8,3 +8,4 @@ mod SelfExampleLemmas
 mod ExampleLemmas
 mod ReachedExampleLemmas
 mod ReachLemmas
+mod MovingLemmas

@@ -38,18 +38,10 @@ read_of mode r bytes source found (p, numeral) reading format = record {
   format = format;
 }
 
--- what holds of each number that the reading holds, by the reading's format
-abbrev pub OfNumber : ReadNumber → (FormatParts → ℤ → Type 0) → Type 0
-OfNumber found P = (v : ℤ) → HoldsNumber found v → P found.format v
-
-of_number : (mode : ReadMode) (r : Radix) (bytes : List ℕ) (source : FormatParts) (found : ReadNumber) (P : FormatParts → ℤ → Type 0) (is : IsRead mode r bytes source found) → OfNumber found P → P source is.number
-of_number mode r bytes source found P is holds = subst (λ f. P f is.number) is.format (holds is.number is.holds)
-
 -- nothing is reached
-pub out_of_source : (mode : ReadMode) (r : Radix) (bytes : List ℕ) (policy : Policy) (source target : FormatParts) (found : ReadNumber) (kind : ParseErrorKind) → IsRead mode r bytes source found → kind ≡ Overflow
-    → OfNumber found (λ f v. (policy ≡ Checked) × IsOutOfRange f.signed f.width v) → IsRefusal mode r bytes policy source target kind
-out_of_source mode r bytes policy source target found kind is overflow out =
-    let why : (policy ≡ Checked) × IsOutOfRange source.signed source.width is.number = of_number mode r bytes source found (λ f v. (policy ≡ Checked) × IsOutOfRange f.signed f.width v) is out in
+pub out_of_source : (mode : ReadMode) (r : Radix) (bytes : List ℕ) (policy : Policy) (source target : FormatParts) (found : ReadNumber) (kind : ParseErrorKind) (is : IsRead mode r bytes source found) → kind ≡ Overflow
+    → (policy ≡ Checked) × IsOutOfRange source.signed source.width is.number → IsRefusal mode r bytes policy source target kind
+out_of_source mode r bytes policy source target found kind is overflow why =
     let none : IsOverflowed mode r is.parts policy source target = record {
       number = is.number;
       moved = down is.number source.frac target.frac;
@@ -60,19 +52,18 @@ out_of_source mode r bytes policy source target found kind is overflow out =
     } in
     inr (overflow, record { parts = is.parts; numeral = is.numeral; overflowed = none })
 
-pub out_of_target : (mode : ReadMode) (r : Radix) (bytes : List ℕ) (policy : Policy) (source target : FormatParts) (found : ReadNumber) (b : ℤ) (kind : ParseErrorKind) → IsRead mode r bytes source found → kind ≡ Overflow
-    → OfNumber found (λ f v. IsImage policy f.signed f.width v b) → policy ≡ Checked → IsOutOfRange target.signed target.width (down b source.frac target.frac) → IsRefusal mode r bytes policy source target kind
-out_of_target mode r bytes policy source target found b kind is overflow image checked out =
-    let own : IsImage policy source.signed source.width is.number b = of_number mode r bytes source found (λ f v. IsImage policy f.signed f.width v b) is image in
-    let exact : IsImage Checked source.signed source.width is.number b = rw checked at own in
+pub out_of_target : (mode : ReadMode) (r : Radix) (bytes : List ℕ) (policy : Policy) (source target : FormatParts) (found : ReadNumber) (b : ℤ) (kind : ParseErrorKind) (is : IsRead mode r bytes source found) → kind ≡ Overflow
+    → IsImage policy source.signed source.width is.number b → (policy ≡ Checked) × IsOutOfRange target.signed target.width (down b source.frac target.frac) → IsRefusal mode r bytes policy source target kind
+out_of_target mode r bytes policy source target found b kind is overflow image why =
+    let exact : IsImage Checked source.signed source.width is.number b = rw why.0 at image in
     let same : b ≡ is.number = exact.same in
     let none : IsOverflowed mode r is.parts policy source target = record {
       number = is.number;
       moved = down is.number source.frac target.frac;
-      checked = checked;
+      checked = why.0;
       read = is.read;
       down = down_is is.number source.frac target.frac;
-      out = inr (subst (λ c. IsOutOfRange target.signed target.width (down c source.frac target.frac)) same out);
+      out = inr (subst (λ c. IsOutOfRange target.signed target.width (down c source.frac target.frac)) same why.1);
     } in
     inr (overflow, record { parts = is.parts; numeral = is.numeral; overflowed = none })
 
@@ -83,8 +74,8 @@ either_out e o u A B w a b = (
   (λ y. w.1 (⊎_elim (λ x. inl (a.1 x)) (λ x. inr (b.1 x)) y)),
 )
 
-pub respelled : (mode : ReadMode) (r : Radix) (bytes : List ℕ) (policy : Policy) (source target : FormatParts) (found : ReadNumber) (b c : ℤ) (o u e : Bool) → IsRead mode r bytes source found
-    → OfNumber found (λ f v. IsImage policy f.signed f.width v b) → OfNumber found (λ f v. IsTrue o ↔ IsOutOfRange f.signed f.width v)
+pub respelled : (mode : ReadMode) (r : Radix) (bytes : List ℕ) (policy : Policy) (source target : FormatParts) (found : ReadNumber) (b c : ℤ) (o u e : Bool) (is : IsRead mode r bytes source found)
+    → IsImage policy source.signed source.width is.number b → (IsTrue o ↔ IsOutOfRange source.signed source.width is.number)
     → IsImage policy target.signed target.width (down b source.frac target.frac) c → (IsTrue u ↔ IsOutOfRange target.signed target.width (down b source.frac target.frac)) → (IsTrue e ↔ (IsTrue o ⊎ IsTrue u)) → IsRespelled mode r bytes policy source target c e
 respelled mode r bytes policy source target found b c o u e is image flag moved out or =
     let reached : IsReached mode r is.parts policy source target c e = record {
@@ -92,9 +83,9 @@ respelled mode r bytes policy source target found b c o u e is image flag moved 
       in_source = b;
       moved = down b source.frac target.frac;
       read = is.read;
-      source_image = of_number mode r bytes source found (λ f v. IsImage policy f.signed f.width v b) is image;
+      source_image = image;
       down = down_is b source.frac target.frac;
       target_image = moved;
-      flag = either_out (IsTrue e) (IsTrue o) (IsTrue u) _ _ or (of_number mode r bytes source found (λ f v. IsTrue o ↔ IsOutOfRange f.signed f.width v) is flag) out;
+      flag = either_out (IsTrue e) (IsTrue o) (IsTrue u) _ _ or flag out;
     } in
     record { parts = is.parts; numeral = is.numeral; reached = reached }

@@ -1,2 +1,3 @@
 -- Definitions that contracts of private functions cite, and no public clause.
 pub mod Spaces
+pub mod Numbers

@@ -7,6 +7,7 @@ mod command;
 pub mod fault;
 mod fields;
 pub mod laws;
+mod moving;
 pub mod program;
 pub mod respell_rule;
 pub mod respelling;

@@ -6,8 +6,8 @@ ghost use Rattle.fixed_bits.specs.declared.mode.ReadMode.TheVariants.{NearestEve
 ghost use Rattle.fixed_write.specs.Texts.{IsShortestText};
 ghost use Rattle.fixed_respell.specs.Reached.{IsRespelled, IsRefusal, number_of, is_signed};
 
+use crate::moving::{image_of, moved, number_read, signed_number};
 use fixed_bits::{Format, Policy, ReadMode};
-use fixed_convert::reformat;
 use fixed_numeral::{ParseErrorKind, ParseFixedError, Radix};
 use fixed_read::read_format;
 use fixed_steps::Steps;
@@ -124,15 +124,21 @@ pub(crate) fn reach<L: Ledger>(
     ensures cost { steps.new ≤ steps.old + 8 * length bytes.now + 576 }
 {
     let found = read_format(bytes, radix, source, mode, steps)?;
-    let Some(in_source) = found.image(policy) else {
+    let Some(in_source) = image_of(source, policy, number_read(&found)) else {
         return Err(ParseFixedError::new(ParseErrorKind::Overflow));
     };
-    let Some((number, is_moved_out)) = reformat(target, policy, in_source, source.frac()) else {
+    let number = moved(
+        in_source.negative,
+        in_source.magnitude,
+        source.frac(),
+        target.frac(),
+    );
+    let Some(reached) = image_of(target, policy, number) else {
         return Err(ParseFixedError::new(ParseErrorKind::Overflow));
     };
     Ok(Reached {
-        number,
-        overflowed: is_either(found.is_out_of_range(), is_moved_out),
+        number: signed_number(reached.negative, reached.magnitude),
+        overflowed: is_either(in_source.is_out_of_range, reached.is_out_of_range),
     })
 }
 

@@ -1,5 +1,5 @@
 -- A line has one answer.
-use Rattle.std.proofs.Common.{◌≡◌, ℕ, ◌-◌, ◌<◌, List, [], ◌∷◌, ◌++◌, Bool, length, take, get_or, refl, sym, ap, ◌∙◌, subst, arith, ℤ, inl, inr, ◌↔◌, if◌then◌else◌, ◌==◌}
+use Rattle.std.proofs.Common.{◌≡◌, ℕ, ◌-◌, ◌<◌, List, [], ◌∷◌, ◌++◌, Bool, length, get_or, refl, sym, ap, ◌∙◌, subst, arith, ℤ, inl, inr, if◌then◌else◌, ◌==◌}
 use Rattle.std.specs.Fmt.{decimal}
 use Rattle.std.proofs.lemmas.Fmt.{decimal_injective}
 use Rattle.fixed_bits.specs.Formats.{FormatParts}
@@ -15,7 +15,6 @@ use Rattle.fixed_respell.specs.AnswerLaws.{AnswerIsTheOne, LongIsAnsweredByPrefi
 use Rattle.fixed_respell.specs.Language.{fault_answer}
 use Rattle.line_engine.specs.Lines.{kept_length}
 use Rattle.fixed_respell.specs.LineWords.{longest_line}
-use Rattle.fixed_respell.specs.Reached.{IsRespelled, IsRefusal}
 use Rattle.line_engine.specs.AnswerText.{AnswerText}
 use Rattle.fixed_respell.specs.Split.{count_of}
 use Rattle.fixed_respell.specs.Words.{radix_text, format_text, policy_text, mode_text, IsFormatWord, IsPolicyWord, slash, sign_letter, fraction_letter}

@@ -1,7 +1,7 @@
 -- In a language of lines, a line has one answer, and a line that is too long is answered like its prefix.
 use Rattle.std.proofs.Common.{◌≡◌, ℕ, ◌<◌, List, length, take, sym, ap, ◌∙◌, subst, arith, inl, inr, ◌↔◌, length-take}
 use Rattle.fixed_respell.specs.Language.{Language, IsAnswerIn, IsFaultAnswer, IsTaskAnswer, fault_answer}
-use Rattle.fixed_respell.specs.LineWords.{IsFirst, longest_line}
+use Rattle.fixed_respell.specs.LineWords.{longest_line}
 use Rattle.line_engine.specs.AnswerText.{AnswerText}
 use Rattle.fixed_respell.specs.Lemmas.LineWordLemmas.{RanksTellApart, first_one}
 

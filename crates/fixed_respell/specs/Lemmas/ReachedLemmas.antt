@@ -1,9 +1,7 @@
 -- What is reached is the one.
-use Rattle.std.proofs.Common.{◌≡◌, ℕ, ◌⊎◌, ◌↔◌, Bool, true, false, IsTrue, List, take, slice_get, refl, sym, ap, ◌∙◌, arith, ⊎_elim, ℤ}
+use Rattle.std.proofs.Common.{◌≡◌, ℕ, ◌↔◌, Bool, true, false, IsTrue, List, take, slice_get, refl, sym, ap, ◌∙◌, arith, ⊎_elim, ℤ}
 use Rattle.fixed_bits.specs.Down.{IsDown}
-use Rattle.fixed_bits.specs.Formats.{FormatParts}
 use Rattle.fixed_bits.specs.Images.{IsImage}
-use Rattle.fixed_bits.specs.declared.format.Policy.{Policy}
 use Rattle.fixed_bits.specs.declared.format.Policy.TheVariants.{Checked}
 use Rattle.fixed_bits.specs.declared.mode.ReadMode.{ReadMode}
 use Rattle.fixed_bits.proofs.LawLemmas.{rounded_one, image_one, has_none, down_one}
@@ -16,7 +14,7 @@ use Rattle.fixed_numeral.proofs.NumeralLemmas.{parts_unique}
 use Rattle.fixed_numeral.proofs.ValueLemmas.{magnitude_pos}
 use Rattle.fixed_read.specs.Reading.{IsReadNumber}
 use Rattle.fixed_respell.specs.Laws.{ReachedIsTheOne, OverflowedHasNone, RespelledIsTheOne, RefusalHasNone, RefusalIsTheOne}
-use Rattle.fixed_respell.specs.Reached.{IsReached, IsOverflowed, IsRespelled, OverflowsOn, IsRefusal}
+use Rattle.fixed_respell.specs.Reached.{OverflowsOn}
 
 read_one : (mode : ReadMode) (r : Radix) (p : Parts) (f : ℕ) (v w : ℤ) → IsReadNumber mode r p f v → IsReadNumber mode r p f w → v ≡ w
 read_one mode r p f v w a b =

@@ -1,0 +1,218 @@
+//! Numbers on their way through the formats of a line, by sign and magnitude.
+//!
+//! A number in a format's range has a magnitude of at most 64 bits; one that was read, or moved to another fraction length, may
+//! have more. Whether it is in range, and what its image is, depends on three things alone: its sign, the lowest 64 bits of its
+//! magnitude, and whether there are more. These stay in registers, where a signed number of 128 bits takes two of them and
+//! two instructions for each step.
+
+ghost use Rattle.std.specs.Prelude.{◌≡◌, ◌↔◌, ◌⊎◌, ◌≤◌, ◌<◌, ◌-◌, ◌*◌, ◌^◌, ◌%◌, ◌/◌, ℤ, IsTrue, IsNone, IfSome, unsigned_abs};
+ghost use Rattle.std.specs.Int.{is_negative};
+ghost use Rattle.fixed_bits.specs.Down.{IsDown, down};
+ghost use Rattle.fixed_bits.specs.Formats.{IsFormat};
+ghost use Rattle.fixed_bits.specs.Images.{IsImage, IsWrapped};
+ghost use Rattle.fixed_bits.specs.Ranges.{IsInRange, IsOutOfRange, IsWide};
+ghost use Rattle.fixed_read.specs.Inner.Magnitudes.{greatest_magnitude};
+ghost use Rattle.fixed_read.specs.Reading.{HoldsNumber, with_sign};
+ghost use Rattle.fixed_respell.specs.Inner.Numbers.{IsNumber};
+
+use fixed_bits::{Format, Policy};
+use fixed_read::ReadNumber;
+
+/// A number that may be out of a format's range: its sign, the lowest 64 bits of its magnitude, and whether there are more.
+#[derive(Clone, Copy, Debug, PartialEq, Eq)]
+pub(crate) struct Number {
+    pub negative: bool,
+    pub low: u64,
+    pub has_high_bits: bool,
+}
+
+/// The image of a number in a format by its sign and magnitude, and whether the number was out of the format's range.
+#[derive(Clone, Copy, Debug, PartialEq, Eq)]
+pub(crate) struct Image {
+    pub negative: bool,
+    pub magnitude: u64,
+    pub is_out_of_range: bool,
+}
+
+/// The number that a numeral reads as.
+#[inline(always)]
+pub(crate) fn number_read(found: &ReadNumber) -> Number
+    ensures { (v : ℤ) → HoldsNumber found.now v → IsNumber result v }
+{
+    Number {
+        negative: found.is_negative(),
+        low: found.magnitude(),
+        has_high_bits: found.has_high_bits(),
+    }
+}
+
+/// The number with that sign and magnitude.
+#[inline(always)]
+pub(crate) fn signed_number(negative: bool, magnitude: u64) -> i128
+    ensures { result ≡ with_sign negative magnitude }
+{
+    if negative {
+        -i128::from(magnitude)
+    } else {
+        i128::from(magnitude)
+    }
+}
+
+/// A number of that many ones, where that is the width of a format.
+#[inline(always)]
+fn ones(format: Format) -> u64
+    ensures ones { result ≡ 2 ^ format.width - 1 }
+    ensures valid { IsFormat format.width format.frac }
+{
+    u64::MAX >> (64 - format.width())
+}
+
+/// The greatest magnitude of a format's numbers with that sign.
+#[inline(always)]
+fn greatest_magnitude(format: Format, negative: bool) -> u64
+    ensures magnitude { result ≡ greatest_magnitude format.signed negative format.width }
+    ensures valid { IsFormat format.width format.frac }
+{
+    let ones = ones(format);
+    if format.signed() {
+        (ones >> 1) + u64::from(negative)
+    } else if negative {
+        0
+    } else {
+        ones
+    }
+}
+
+/// Whether a number's magnitude is above a limit.
+#[inline(always)]
+fn is_above(number: Number, limit: u64) -> bool
+    ensures { IsTrue result ↔ (IsTrue number.has_high_bits ⊎ (limit < number.low)) }
+{
+    number.has_high_bits || number.low > limit
+}
+
+/// Whether a number is negative.
+#[inline(always)]
+fn is_below_zero(number: i128) -> bool
+    ensures { result ≡ is_negative number }
+{
+    number < 0
+}
+
+/// How far a number is from zero.
+#[inline(always)]
+fn magnitude_of(number: i128) -> u64
+    requires { IsWide number }
+    ensures { result ≡ unsigned_abs number }
+{
+    number.unsigned_abs() as u64
+}
+
+/// The Wrapping image of the number with that sign and magnitude.
+#[inline(never)]
+fn wrapped(format: Format, negative: bool, magnitude: u64) -> Image
+    ensures image { IsWrapped format.signed format.width (with_sign negative magnitude) (with_sign result.negative result.magnitude) }
+    ensures flag { IsTrue result.is_out_of_range }
+{
+    match Policy::Wrapping.image(format, signed_number(negative, magnitude)) {
+        Some(image) => Image {
+            negative: is_below_zero(image),
+            magnitude: magnitude_of(image),
+            is_out_of_range: true,
+        },
+        None => Image {
+            negative,
+            magnitude,
+            is_out_of_range: true,
+        },
+    }
+}
+
+/// The image of a number in a format: the number itself where it is in range. None exactly where it is out of range and the
+/// policy is `Checked`.
+#[inline(always)]
+pub(crate) fn image_of(format: Format, policy: Policy, number: Number) -> Option<Image>
+    ensures image { (v : ℤ) → IsNumber number v → IfSome result (λ i. IsImage policy format.signed format.width v (with_sign i.negative i.magnitude)) }
+    ensures flag { (v : ℤ) → IsNumber number v → IfSome result (λ i. IsTrue i.is_out_of_range ↔ IsOutOfRange format.signed format.width v) }
+    ensures none { (v : ℤ) → IsNumber number v → IsNone result → (policy ≡ Policy.Checked) × IsOutOfRange format.signed format.width v }
+{
+    let end = greatest_magnitude(format, number.negative);
+    if !is_above(number, end) {
+        return Some(Image {
+            negative: number.negative,
+            magnitude: number.low,
+            is_out_of_range: false,
+        });
+    }
+    match policy {
+        Policy::Checked => None,
+        Policy::Saturating => Some(Image {
+            negative: number.negative,
+            magnitude: end,
+            is_out_of_range: true,
+        }),
+        Policy::Wrapping => Some(wrapped(format, number.negative, number.low)),
+    }
+}
+
+/// The magnitude over two to the power of `k`, rounded down, and what is left of it.
+#[inline(always)]
+fn split_low_bits(magnitude: u64, k: u32) -> (u64, u64)
+    requires { k ≤ 64 }
+    ensures whole { result.0 ≡ magnitude / 2 ^ k }
+    ensures rest { result.1 ≡ magnitude % 2 ^ k }
+{
+    if k == 64 {
+        (0, magnitude)
+    } else {
+        (magnitude >> k, magnitude % (1 << k))
+    }
+}
+
+/// The magnitude of the number that is left where the last `k` bits are taken off and the number is rounded down.
+#[inline(always)]
+fn floored_magnitude(negative: bool, magnitude: u64, k: u32) -> u64
+    requires { k ≤ 64 }
+    ensures { IsDown (with_sign negative magnitude) k 0 (with_sign negative result) }
+{
+    let (whole, rest) = split_low_bits(magnitude, k);
+    if negative && rest > 0 {
+        whole + 1
+    } else {
+        whole
+    }
+}
+
+/// The magnitude times two to the power of `k`: its lowest 64 bits, and whether there are more.
+#[inline(always)]
+fn grown_magnitude(magnitude: u64, k: u32) -> (u64, bool)
+    requires { k ≤ 64 }
+    ensures low { result.0 ≡ magnitude * 2 ^ k % 2 ^ 64 }
+    ensures high { IsTrue result.1 ↔ (2 ^ 64 ≤ magnitude * 2 ^ k) }
+{
+    let product = u128::from(magnitude) << k;
+    ((product % (1 << 64)) as u64, product >= 1 << 64)
+}
+
+/// The number with that sign and magnitude moved from fraction length `from` to `to`, rounded down (floor).
+#[inline(always)]
+pub(crate) fn moved(negative: bool, magnitude: u64, from: u32, to: u32) -> Number
+    requires from { from ≤ 64 }
+    requires to { to ≤ 64 }
+    ensures { IsNumber result (down (with_sign negative magnitude) from to) }
+{
+    if from >= to {
+        Number {
+            negative,
+            low: floored_magnitude(negative, magnitude, from - to),
+            has_high_bits: false,
+        }
+    } else {
+        let (low, has_high_bits) = grown_magnitude(magnitude, to - from);
+        Number {
+            negative,
+            low,
+            has_high_bits,
+        }
+    }
+}
