@@ -68,8 +68,8 @@ fn read_task(line: &[u8]) -> Result<Task<'_>, LineFault>
     })
 }
 
-/// Appends `error: ` and the message of a fault.
-fn push_fault<const N: usize>(out: &mut TextBuffer<N>, message: &str)
+/// Appends `error: ` and the message of a fault. There must be room for 71 bytes.
+pub fn push_fault<const N: usize>(out: &mut TextBuffer<N>, message: &str)
     requires short { length message.now ≤ 64 }
     requires room { length out.old + 71 ≤ N }
     ensures { out.new ≡ out.old ++ (fault_answer message.now).text }
@@ -78,9 +78,9 @@ fn push_fault<const N: usize>(out: &mut TextBuffer<N>, message: &str)
     out.push_bytes(message.as_bytes());
 }
 
-/// Appends a space and the last word of an answer.
+/// Appends a space and the last word of an answer. There must be room for 11 bytes.
 #[inline]
-fn push_verdict<const N: usize>(out: &mut TextBuffer<N>, overflowed: bool)
+pub fn push_verdict<const N: usize>(out: &mut TextBuffer<N>, overflowed: bool)
     requires room { length out.old + 11 ≤ N }
     ensures { out.new ≡ out.old ++ space ∷ verdict overflowed }
 {
@@ -94,7 +94,7 @@ fn push_verdict<const N: usize>(out: &mut TextBuffer<N>, overflowed: bool)
 /// Appends the shortest decimal text of `number` ulps of 2^-`frac`, that number in decimal, and whether a number was out of
 /// its format.
 #[inline]
-fn push_respelled<const N: usize, L: Ledger>(
+pub fn push_respelled<const N: usize, L: Ledger>(
     out: &mut TextBuffer<N>,
     number: i128,
     frac: u32,

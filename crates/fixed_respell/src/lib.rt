@@ -15,14 +15,14 @@ mod self_mode;
 pub mod split;
 pub mod words;
 
-pub use answering::answer;
+pub use answering::{answer, push_fault, push_respelled, push_verdict};
 pub use fault::LineFault;
 pub use line_engine::{
     Answer, Failed, LineRule, MemorySink, MemorySource, Sink, Source, Status, run_lines,
 };
 pub use program::run;
 pub use respell_rule::RespellRule;
-pub use respelling::{Bits, Respelled, respell, respell_mode};
+pub use respelling::{Bits, Reached, Respelled, reach, respell, respell_mode};
 pub use split::split_once;
 pub use words::{FormatName, format_name, format_word, policy_word, radix_word};
 

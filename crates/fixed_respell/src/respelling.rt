@@ -97,17 +97,19 @@ pub fn respell_mode<L: Ledger>(
 
 /// A number that is reached in a target format, and whether a number on the way was out of its format.
 #[derive(Clone, Copy, Debug, PartialEq, Eq)]
-pub(crate) struct Reached {
+pub struct Reached {
+    /// The bits in the target, as a number.
     pub number: i128,
+    /// Whether a number on the way was out of its format's range.
     pub overflowed: bool,
 }
 
-/// Reads a numeral into the source format in a mode, and brings the number into the target format.
+/// Reads a numeral into the source format in a mode, and brings the number into the target format by the policy.
 ///
 /// The error is why the bytes are no numeral, or `Overflow` where they are one and under `Checked` its read number is
 /// out of the source's range or, rounded down, out of the target's.
 #[inline(always)]
-pub(crate) fn reach<L: Ledger>(
+pub fn reach<L: Ledger>(
     bytes: &[u8],
     radix: Radix,
     source: Format,
