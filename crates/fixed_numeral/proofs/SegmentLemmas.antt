@@ -4,7 +4,7 @@ use Rattle.std.proofs.lemmas.List.{drop_more, drop-drop, length_push, drop_all, 
 use Rattle.std.proofs.lemmas.Bool.{cases_lt}
 use Rattle.std.proofs.lemmas.Int.{ints, to_z-of_z}
 use Rattle.std.proofs.lemmas.Nat.{pow-add}
-use Rattle.std.proofs.Math.Nat.{pow-zero, pow-suc, pow-le-pow_right}
+use Rattle.std.proofs.Math.Nat.{pow-zero, pow-suc, pow-le-pow_left, pow-le-pow_right}
 use Rattle.std.proofs.lemmas.Int.Digits.{digits_value_push, digits_push, digits_value-lt}
 use Rattle.std.specs.Char.{digit_value}
 use Rattle.std.specs.Int.Digits.{AllBelowBase}
@@ -330,3 +330,26 @@ eight_fits bs from at n s m h l k d v =
     let under = chunk_below 10 bs from at n s h in
     let next = chunk_below 10 bs from (at + 8) _ _ (chunk_eight bs from at n s m h k d v) in
     (omega arith, omega (arith, next), omega arith)
+
+-- ---- digits of a text of at most 16 bytes
+pub run_more : (b : ℕ) (bs : List ℕ) (from at start n d : ℕ) → IsDigitRun b bs from at start n → at < length bs → digit_value (get_or bs at 0) ≡ d → d < b → IsDigitRun b bs from (at + 1) start (n * b + d)
+run_more b bs from at start n d h l e below = record {
+  digits = h.digits ++ get_or bs at 0 ∷ [];
+  text = h.text ∙ ap (λ ys. h.digits ++ ys) (drop_more bs at 0 l) ∙ sym (append_assoc h.digits (get_or bs at 0 ∷ []) (drop (at + 1) bs));
+  count = omega (arith, length_push h.digits (get_or bs at 0), h.count);
+  within = omega arith;
+  are_digits = digits_push b h.digits (get_or bs at 0) h.are_digits (omega arith);
+  spelled = rw (value_after_append b start h.digits (get_or bs at 0 ∷ []), ← h.spelled, e) refl;
+}
+
+pub run_room : (b at n d : ℕ) → n < b ^ at → d < b → b ≤ 16 → at < 16 → (n * b < 2 ^ 64) × (n * b + d < 2 ^ 64) × (n * b + d < b ^ (at + 1))
+run_room b at n d h l s t =
+    let one : (n + 1) * b ≤ b ^ at * b = mul-le-mul_right b (omega arith) in
+    let up : b ^ (at + 1) ≡ b ^ at * b = rw add-one (pow-suc b at) in
+    let few : at + 1 ≤ 16 = omega arith in
+    let wide : 16 ^ (at + 1) ≤ 16 ^ 16 = pow-le-pow_right (omega arith) few in
+    let high : b ^ (at + 1) ≤ 16 ^ (at + 1) = pow-le-pow_left s (at + 1) in
+    (omega arith, omega arith, omega arith)
+
+pub room_up : (b at n : ℕ) → 0 < b → n < b ^ at → n < b ^ (at + 1)
+room_up b at n p h = let up : b ^ (at + 1) ≡ b ^ at * b = rw add-one (pow-suc b at) in let more : 1 * b ^ at ≤ b * b ^ at = mul-le-mul_right (b ^ at) p in omega arith

@@ -29,7 +29,7 @@ pub struct CompactNumeral {
 }
 
 /// An exponent by its sign and its magnitude.
-fn signed_exponent(minus: bool, magnitude: u64) -> i32
+pub(crate) fn signed_exponent(minus: bool, magnitude: u64) -> i32
     requires { magnitude ≤ max_magnitude minus }
     ensures { result ≡ (if minus then neg_ℤ (pos magnitude) else pos magnitude) }
 {

@@ -12,6 +12,7 @@ mod scanned;
 mod scanner;
 mod segment;
 mod short;
+mod short_radix;
 mod swar;
 
 pub use compact::{CompactNumeral, compact_numeral};
@@ -22,6 +23,7 @@ pub use radix::Radix;
 pub use scanned::Scanned;
 pub use scanner::scan;
 pub use short::{ShortDecimal, short_decimal};
+pub use short_radix::{ShortNumeral, short_numeral};
 
 #[cfg(test)]
 mod tests;

@@ -65,7 +65,7 @@ pub(crate) fn sign_at(bytes: &[u8], from: usize) -> (bool, usize)
 
 /// The value of a byte that is a digit of the base; of any other byte something that is not below the base.
 #[inline(always)]
-fn digit_below(b: u8, base: u64) -> u64
+pub(crate) fn digit_below(b: u8, base: u64) -> u64
     requires { base ≤ 16 }
     ensures digit { result < base → digit_value b ≡ result }
     ensures value { digit_value b < base → result ≡ digit_value b }

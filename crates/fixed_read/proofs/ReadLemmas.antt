@@ -1,6 +1,5 @@
 -- A read number, its images and whether it is out of range.
-use Rattle.std.proofs.Common.{◌≡◌, ℕ, zero, suc, ◌+◌, ◌-◌, ◌*◌, ◌^◌, ◌<◌, ◌≤◌, ◌⊎◌, ◌↔◌, Bool, true, false, IsTrue, List, length, refl, sym, ap, subst, ◌∙◌, arith, pow_pos, inl, inr, ⊎_elim, mul-le-mul_right, ℤ, pos, neg_ℤ, ◌+ℤ◌, ◌≤ℤ◌, IfSome, Option, Some, None, Result, Ok, Err, IsOk, IfOk, IfErr}
-use Rattle.std.specs.Prelude.{◌<ℤ◌}
+use Rattle.std.proofs.Common.{◌≡◌, ℕ, zero, suc, ◌+◌, ◌-◌, ◌*◌, ◌^◌, ◌<◌, ◌≤◌, ◌⊎◌, ◌↔◌, Bool, true, false, IsTrue, List, length, refl, sym, ap, subst, ◌∙◌, arith, pow_pos, inl, inr, ⊎_elim, mul-le-mul_right, ℤ, pos, ◌+ℤ◌, IfSome, Option, Some, None, Result, Ok, Err, IsOk, IfOk, IfErr}
 use Rattle.std.proofs.lemmas.Int.{ints}
 use Rattle.std.proofs.lemmas.Nat.{pow-add}
 use Rattle.std.proofs.Math.Nat.{one-le-pow, pow-succ', pow-le-pow_right}
@@ -16,11 +15,11 @@ use Rattle.fixed_numeral.specs.Value.{Fraction, magnitude}
 use Rattle.fixed_numeral.specs.declared.radix.Radix.{Radix}
 use Rattle.fixed_numeral.specs.declared.radix.Radix.TheVariants.{Bin, Oct, Dec, Hex}
 use Rattle.fixed_numeral.proofs.ValueLemmas.{magnitude_pos}
-use Rattle.fixed_bits.specs.declared.format.Policy.TheVariants.{Checked, Saturating, Wrapping}
-use Rattle.fixed_bits.proofs.RoundedLemmas.{rounded_same, rounded_unique, rounded_exists}
+use Rattle.fixed_bits.specs.declared.format.Policy.TheVariants.{Saturating, Wrapping}
+use Rattle.fixed_bits.proofs.RoundedLemmas.{rounded_unique, rounded_exists}
 use Rattle.fixed_bits.proofs.LawLemmas.{images_agree, range_decided}
 use Rattle.fixed_read.specs.Inner.Magnitudes.{greatest_magnitude}
-use Rattle.fixed_read.specs.Reading.{IsReadNumber, IsReading, HoldsNumber, IsReadInRange, IsReadOutOfRange, IsOverflowingRead, IsImageRead, with_sign}
+use Rattle.fixed_read.specs.Reading.{IsReadNumber, IsReading, HoldsNumber, IsReadInRange, IsReadOutOfRange, with_sign}
 use Rattle.fixed_read.specs.declared.magnitude.Ulps.{Ulps}
 use Rattle.fixed_read.specs.declared.read_number.ReadNumber.{ReadNumber}
 use Rattle.fixed_read.specs.Laws.{ReadNumberIsTheOne}

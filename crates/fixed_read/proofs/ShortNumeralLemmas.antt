@@ -1,6 +1,6 @@
 -- Readings from the numbers of a numeral's parts.
-use Rattle.std.proofs.Common.{◌≡◌, ℕ, zero, suc, ◌+◌, ◌-◌, ◌*◌, ◌/◌, ◌%◌, ◌^◌, ◌<◌, ◌≤◌, ◌⊎◌, ◌↔◌, Bool, true, false, IsTrue, refl, sym, ap, ◌∙◌, arith, pow_pos, mul-pos, mul-le-mul_right, mul-le-mul_left, div-add-mod', ℤ, pos, negsuc, ◌-ℤ◌, subst, Option, Some, None, IfSome}
-use Rattle.std.specs.Prelude.{◌<ℤ◌, ◌≤ℤ◌}
+use Rattle.std.proofs.Common.{◌≡◌, ℕ, zero, suc, ◌+◌, ◌-◌, ◌*◌, ◌/◌, ◌%◌, ◌^◌, ◌<◌, ◌≤◌, ◌↔◌, Bool, true, false, IsTrue, refl, sym, ap, ◌∙◌, arith, pow_pos, mul-pos, mul-le-mul_right, mul-le-mul_left, div-add-mod', mod-lt, ℤ, pos, negsuc, ◌-ℤ◌, subst, Option, Some, None, IfSome}
+use Rattle.std.specs.Prelude.{◌<ℤ◌}
 use Rattle.std.proofs.lemmas.Int.{ints}
 use Rattle.std.proofs.lemmas.Nat.{pow-add}
 use Rattle.std.proofs.Math.Nat.{one-le-pow, pow-le-pow_right}
@@ -295,3 +295,22 @@ pub decimal_value : (r : Radix) (p : Parts) (negative : Bool) (digits places : �
 decimal_value r p negative digits places exponent two e h =
     let none : two ≡ false = h.separator ∙ subst (λ x. is_power_of_two x p.exponent ≡ false) (sym e) (never_two p.exponent) in
     h.value ∙ ap (placed_magnitude r digits places exponent) none ∙ ap (λ x. placed_magnitude x digits places exponent false) e
+
+-- ---- digits that fit a word
+-- x is above n / d exactly where x * d is above n
+pub above_quotient : (x n d : ℕ) → 0 < d → (n / d < x) ↔ (n < x * d)
+above_quotient x n d some =
+    let parts : n ≡ n / d * d + n % d = sym (div-add-mod' n d) in
+    let rest : n % d < d = mod-lt n some in
+    (λ l. let more : (n / d + 1) * d ≤ x * d = mul-le-mul_right d (omega arith) in omega (arith, parts, rest, more), λ l. cancel (n / d) (n % d) (omega (arith, parts, rest, l)))
+  where
+    cancel : (q r : ℕ) → q * d + r < x * d → q < x
+    cancel q r l = grind (arith, l)
+
+pub word_up : (digits bits : ℕ) → digits * 2 ^ bits ≡ digits * 2 ^ bits / 2 ^ 64 * 2 ^ 64 + digits * 2 ^ bits % 2 ^ 64
+word_up digits bits = sym (div-add-mod' (digits * 2 ^ bits) (2 ^ 64))
+
+pub word_over : (digits bits : ℕ) (b : Bool) → (IsTrue b ↔ (18446744073709551615 / 2 ^ bits < digits)) → IsTrue b ↔ (0 < digits * 2 ^ bits / 2 ^ 64)
+word_over digits bits b e =
+    let above = above_quotient digits 18446744073709551615 (2 ^ bits) (pow_pos bits) in
+    (λ t. let l = above.0 (e.0 t) in omega (arith, l), λ l. e.1 (above.1 (omega (arith, l))))

@@ -1,8 +1,8 @@
 -- Whole steps modulo a power of two.
-use Rattle.std.proofs.Common.{◌≡◌, ℕ, ◌+◌, ◌-◌, ◌*◌, ◌/◌, ◌%◌, ◌^◌, ◌<◌, ◌≤◌, ◌⊎◌, ◌↔◌, Bool, false, IsTrue, List, ◌++◌, length, sym, ap, ◌∙◌, arith, pow_pos, mul-le-mul_right, div-add-mod', mod-lt, ⊎_elim, inl, inr}
+use Rattle.std.proofs.Common.{◌≡◌, ℕ, ◌+◌, ◌-◌, ◌*◌, ◌/◌, ◌%◌, ◌^◌, ◌<◌, ◌≤◌, ◌⊎◌, ◌↔◌, Bool, IsTrue, List, ◌++◌, length, sym, ap, ◌∙◌, arith, pow_pos, mul-le-mul_right, div-add-mod', mod-lt, ⊎_elim, inl, inr}
 use Rattle.std.proofs.lemmas.Bool.{cases_lt}
 use Rattle.std.proofs.lemmas.Nat.{pow-add}
-use Rattle.std.proofs.Math.Nat.{mul-le-mul_left, one-le-pow, pow-le-pow_right}
+use Rattle.std.proofs.Math.Nat.{one-le-pow, pow-le-pow_right}
 use Rattle.std.specs.Int.Digits.{number_from_digits}
 use Rattle.fixed_numeral.proofs.SpelledLemmas.{number_append}
 use Rattle.fixed_numeral.specs.Spelled.{spelled}

@@ -25,11 +25,11 @@ ghost use Rattle.fixed_read.specs.Inner.Rounding.{IsMagnitude, IsSplitNumeral};
 use crate::direction::direction_of;
 use crate::magnitude::{Ulps, magnitude};
 use crate::range::{greatest_magnitude, is_above, nearer_end, with_sign, wrapping_image};
-use crate::short_numeral::{compact_ulps, short_decimal_of, ulps_of_decimal};
+use crate::short_numeral::{compact_ulps, short_decimal_of, short_ulps, ulps_of_decimal};
 use fixed_bits::{Format, Policy, ReadMode};
 use fixed_numeral::{
-    CompactNumeral, ParseFixedError, Radix, Scanned, ShortDecimal, compact_numeral, scan, scan_lit,
-    short_decimal,
+    CompactNumeral, ParseFixedError, Radix, Scanned, ShortDecimal, ShortNumeral, compact_numeral,
+    scan, scan_lit, short_decimal, short_numeral,
 };
 use fixed_steps::Steps;
 use std::marker::Brand;
@@ -204,6 +204,28 @@ fn number_of_compact(
     }
 }
 
+/// The number that a short numeral reads as. None where its digits have to be looked at.
+#[inline(always)]
+fn number_of_short_numeral(
+    found: ShortNumeral,
+    radix: Radix,
+    format: Format,
+    mode: ReadMode,
+) -> Option<ReadNumber>
+    ensures reading { IfSome result (λ n. (p : Parts) → IsCompactNumeral radix p found.negative found.digits found.places found.exponent found.scales_by_two → IsReading mode radix p n) }
+    ensures format { IfSome result (λ n. n.format ≡ format) }
+{
+    match short_ulps(
+        found,
+        radix,
+        format.frac(),
+        direction_of(mode, found.negative),
+    ) {
+        Some(ulps) => Some(number_from(format, found.negative, ulps)),
+        None => None,
+    }
+}
+
 /// The length of the longest numeral that `compact_numeral` is asked to read: as many digits as fit 128 bits, a sign, a point and
 /// an exponent.
 fn compact_length(radix: Radix) -> usize {
@@ -213,7 +235,29 @@ fn compact_length(radix: Radix) -> usize {
     }
 }
 
+/// Reads a numeral of at most 16 bytes. None says nothing. A function of its own, as is each of the ways to read, so that none
+/// pays for the room that another one needs.
+#[inline(never)]
+fn read_short_numeral<L: Ledger>(
+    s: &[u8],
+    radix: Radix,
+    format: Format,
+    mode: ReadMode,
+    steps: &mut Steps<L>,
+) -> Option<ReadNumber>
+    ensures numeral { IfSome result (λ found. IsNumeral radix s.now) }
+    ensures reading { IfSome result (λ found. (p : Parts) → HasNumeral radix s.now p → IsReading mode radix p found) }
+    ensures format { IfSome result (λ found. found.format ≡ format) }
+    ensures cost { steps.new ≤ steps.old + length s.now }
+{
+    match short_numeral(s, radix, steps) {
+        Some(found) => number_of_short_numeral(found, radix, format, mode),
+        None => None,
+    }
+}
+
 /// Reads a numeral whose digits fit 128 bits. None says nothing.
+#[inline(never)]
 fn read_compact<L: Ledger>(
     s: &[u8],
     radix: Radix,
@@ -278,7 +322,6 @@ fn read_scanned<L: Ledger>(
 }
 
 /// Reads any numeral but a short decimal.
-#[inline(never)]
 fn read_longer<L: Ledger>(
     s: &[u8],
     radix: Radix,
@@ -290,11 +333,14 @@ fn read_longer<L: Ledger>(
     ensures cause { IfErr result (λ kind. HasCause radix s.now kind) }
     ensures reading { IfOk result (λ found. (p : Parts) → HasNumeral radix s.now p → IsReading mode radix p found) }
     ensures format { IfOk result (λ found. found.format ≡ format) }
-    ensures cost { steps.new ≤ steps.old + 3 * length s.now + 8 * format.width + 64 }
+    ensures cost { steps.new ≤ steps.old + 4 * length s.now + 8 * format.width + 64 }
 {
-    match read_compact(s, radix, format, mode, steps) {
+    match read_short_numeral(s, radix, format, mode, steps) {
         Some(found) => Ok(found),
-        None => read_scanned(s, radix, format, mode, steps),
+        None => match read_compact(s, radix, format, mode, steps) {
+            Some(found) => Ok(found),
+            None => read_scanned(s, radix, format, mode, steps),
+        },
     }
 }
 

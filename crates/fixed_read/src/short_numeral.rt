@@ -3,7 +3,7 @@
 //! Nearly all numerals are read here: a decimal of at most 27 places is a whole number and a fraction, and a numeral of
 //! radix 2, 8 or 16 is a number and a power of two, whatever its exponent. The others are scanned (`read_number`).
 
-ghost use Rattle.std.specs.Prelude.{◌≡◌, ◌+◌, ◌*◌, ◌^◌, ◌<◌, ◌≤◌, ◌-ℤ◌, ◌≤ℤ◌, ℕ, ℤ, pos, IfSome};
+ghost use Rattle.std.specs.Prelude.{◌≡◌, ◌+◌, ◌*◌, ◌^◌, ◌<◌, ◌≤◌, ◌↔◌, ◌-ℤ◌, ◌≤ℤ◌, ℕ, ℤ, pos, IsTrue, IfSome};
 ghost use Rattle.fixed_numeral.specs.Numeral.{Parts};
 ghost use Rattle.fixed_numeral.specs.PartNumbers.{IsCompactNumeral};
 ghost use Rattle.fixed_numeral.specs.Spelled.{IsSameNumber};
@@ -16,8 +16,8 @@ use crate::digits::power_of_ten;
 use crate::direction::Direction;
 use crate::lost_fraction::LostFraction;
 use crate::magnitude::{Ulps, rounded_ulps};
-use crate::shifts::{is_some, shl, shl_u64, split_bits};
-use fixed_numeral::{CompactNumeral, Radix, ShortDecimal};
+use crate::shifts::{is_some, power_of_two, shl, shl_u64, split_bits, to_u64};
+use fixed_numeral::{CompactNumeral, Radix, ShortDecimal, ShortNumeral};
 
 /// A whole number and a decimal fraction of at most 27 places.
 #[derive(Clone, Copy, Debug, PartialEq, Eq)]
@@ -271,6 +271,119 @@ fn shifted_ulps(digits: u128, up: u64, down: u64, direction: Direction) -> Ulps
         raised_ulps(digits, up - down)
     } else {
         lowered_ulps(digits, down - up, direction)
+    }
+}
+
+/// The whole number in digits / 2^by, and what is lost, where no bit of the digits is a whole one.
+fn word_shifted_far_down(digits: u64, by: u64) -> (u64, LostFraction)
+    requires some { 0 < by }
+    ensures { (rest : ℕ) × (digits ≡ result.0 * 2 ^ by + rest) × IsLostFraction result.1 rest (2 ^ by) }
+{
+    let (count, lost) = shifted_down(u128::from(digits), by);
+    (to_u64(count), lost)
+}
+
+/// The whole number in digits / 2^by, and what is lost, for digits that fit a word.
+#[inline(always)]
+fn word_shifted_down(digits: u64, by: u64) -> (u64, LostFraction)
+    requires some { 0 < by }
+    ensures { (rest : ℕ) × (digits ≡ result.0 * 2 ^ by + rest) × IsLostFraction result.1 rest (2 ^ by) }
+{
+    if by >= 64 {
+        return word_shifted_far_down(digits, by);
+    }
+    let bits = by as u32;
+    let count = digits >> bits;
+    let rest = digits - shl_u64(count, bits);
+    (
+        count,
+        lost_fraction_of_bits(u128::from(rest), u128::from(power_of_two(bits - 1))),
+    )
+}
+
+/// The magnitude of digits / 2^by ulps, for digits that fit a word.
+#[inline(always)]
+fn word_lowered_ulps(digits: u64, by: u64, direction: Direction) -> Ulps
+    requires { 0 < by }
+    ensures { (num den frac : ℕ) → 0 < den → digits * den ≡ num * 2 ^ frac * 2 ^ by → IsMagnitude direction (record { num = num; den = den }) frac result }
+{
+    let (count, lost) = word_shifted_down(digits, by);
+    rounded_ulps(u128::from(count), lost, direction)
+}
+
+/// Whether a number is above a limit.
+fn exceeds(number: u64, limit: u64) -> bool
+    ensures { IsTrue result ↔ (limit < number) }
+{
+    number > limit
+}
+
+/// The magnitude of digits * 2^by ulps, for digits that fit a word.
+#[inline(always)]
+fn word_raised_ulps(digits: u64, by: u64) -> Ulps
+    ensures { (direction : Direction) (num den frac : ℕ) → 0 < den → digits * 2 ^ by * den ≡ num * 2 ^ frac → IsMagnitude direction (record { num = num; den = den }) frac result }
+{
+    if by >= 64 {
+        return Ulps {
+            low: 0,
+            has_high_bits: exceeds(digits, 0),
+            is_exact: true,
+        };
+    }
+    let bits = by as u32;
+    Ulps {
+        low: digits << bits,
+        has_high_bits: exceeds(digits, u64::MAX >> bits),
+        is_exact: true,
+    }
+}
+
+/// The magnitude of digits * 2^up / 2^down ulps, for digits that fit a word.
+#[inline(always)]
+fn word_shifted_ulps(digits: u64, up: u64, down: u64, direction: Direction) -> Ulps
+    ensures { (num den frac : ℕ) → 0 < den → digits * 2 ^ up * den ≡ num * 2 ^ frac * 2 ^ down → IsMagnitude direction (record { num = num; den = den }) frac result }
+{
+    if up >= down {
+        word_raised_ulps(digits, up - down)
+    } else {
+        word_lowered_ulps(digits, down - up, direction)
+    }
+}
+
+/// The magnitude of a short numeral whose digits have that many bits, in ulps of 2^-frac.
+#[inline(always)]
+fn short_binary_ulps(found: ShortNumeral, bits: u64, frac: u32, direction: Direction) -> Ulps
+    requires bits { bits ≤ 4 }
+    requires frac { frac ≤ 64 }
+    ensures { (num den : ℕ) → 0 < den → found.digits * 2 ^ ups bits found.places found.exponent found.scales_by_two * den ≡ num * 2 ^ downs bits found.places found.exponent found.scales_by_two → IsMagnitude direction (record { num = num; den = den }) frac result }
+{
+    let up = ups(bits, found.places, found.exponent, found.scales_by_two) + u64::from(frac);
+    let down = downs(bits, found.places, found.exponent, found.scales_by_two);
+    word_shifted_ulps(found.digits, up, down, direction)
+}
+
+/// The magnitude of a short numeral in ulps of 2^-frac. None where its digits have to be looked at.
+#[inline(always)]
+pub fn short_ulps(
+    found: ShortNumeral,
+    radix: Radix,
+    frac: u32,
+    direction: Direction,
+) -> Option<Ulps>
+    requires { frac ≤ 64 }
+    ensures { IfSome result (λ ulps. (p : Parts) → IsCompactNumeral radix p found.negative found.digits found.places found.exponent found.scales_by_two → IsMagnitude direction (magnitude radix p) frac ulps) }
+{
+    match radix {
+        Radix::Bin => Some(short_binary_ulps(found, 1, frac, direction)),
+        Radix::Oct => Some(short_binary_ulps(found, 3, frac, direction)),
+        Radix::Dec => compact_decimal_ulps(
+            u128::from(found.digits),
+            found.places,
+            found.exponent,
+            frac,
+            direction,
+        ),
+        Radix::Hex => Some(short_binary_ulps(found, 4, frac, direction)),
     }
 }
 

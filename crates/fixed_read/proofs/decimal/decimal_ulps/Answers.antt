@@ -1,4 +1,4 @@
-use Rattle.std.proofs.Common.{◌≡◌, ◌+◌, ◌-◌, ◌*◌, ◌^◌, ◌<◌, arith, subst, length}
+use Rattle.std.proofs.Common.{◌≡◌, ◌+◌, ◌-◌, ◌^◌, ◌<◌, arith, subst, length}
 use Rattle.std.specs.Int.Digits.{number_from_digits}
 use Rattle.fixed_read.proofs.ShortNumeralLemmas.{coarser_small}
 use Rattle.fixed_read.proofs.decimal.decimal_ulps.Goals as goal

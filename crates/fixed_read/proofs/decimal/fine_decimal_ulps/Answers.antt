@@ -1,4 +1,4 @@
-use Rattle.std.proofs.Common.{drop, arith}
+use Rattle.std.proofs.Common.{drop}
 use Rattle.fixed_read.proofs.DecimalLemmas.{candidate_word, part_settled}
 use Rattle.fixed_read.proofs.decimal.fine_decimal_ulps.Goals as goal
 

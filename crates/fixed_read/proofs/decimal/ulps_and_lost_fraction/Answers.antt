@@ -1,4 +1,4 @@
-use Rattle.std.proofs.Common.{◌≡◌, ℕ, ◌<◌, ◌≤◌, List, [], drop, length, ap, arith, length-drop}
+use Rattle.std.proofs.Common.{◌≡◌, ℕ, ◌<◌, List, [], drop, length, ap, arith, length-drop}
 use Rattle.std.proofs.lemmas.List.{drop_all}
 use Rattle.fixed_numeral.proofs.PlaceLemmas.{below_split, trailing_back}
 use Rattle.fixed_read.proofs.DecimalLemmas.{settled_tail, settled_share}

@@ -1,4 +1,4 @@
-use Rattle.std.proofs.Common.{◌≡◌, ◌+◌, ◌-◌, ◌*◌, ◌/◌, ◌^◌, ◌<◌, ◌∙◌, arith, subst}
+use Rattle.std.proofs.Common.{◌≡◌, ◌+◌, ◌-◌, ◌^◌, ◌<◌, ◌∙◌, arith, subst}
 use Rattle.fixed_read.specs.Inner.Rounding.{IsSplitUlps}
 use Rattle.fixed_read.proofs.ShortNumeralLemmas.{coarser_small, coarse_cross, coarse_split}
 use Rattle.fixed_read.proofs.decimal_block.block_of_13.Goals as goal

@@ -1,5 +1,4 @@
 use Rattle.std.proofs.Common.{◌≡◌, ◌+◌, ◌-◌, ◌^◌, ◌<◌, arith, subst}
-use Rattle.fixed_read.specs.Inner.Rounding.{IsSplitUlps}
 use Rattle.fixed_read.proofs.ShortNumeralLemmas.{coarser_small}
 use Rattle.fixed_read.proofs.decimal_block.block_of_27.Goals as goal
 

@@ -1,4 +1,4 @@
-use Rattle.std.proofs.Common.{◌≡◌, ◌-◌, ◌*◌, ◌^◌, ◌<◌, refl, arith}
+use Rattle.std.proofs.Common.{◌-◌, refl, arith}
 use Rattle.fixed_read.proofs.DecimalLemmas.{block_room, candidate_by}
 use Rattle.fixed_read.proofs.decimal_block.candidate_of.Goals as goal
 

@@ -1,4 +1,4 @@
-use Rattle.std.proofs.Common.{◌≡◌, ◌+◌, ◌*◌, ◌^◌, ◌/◌, ◌%◌, sym, ◌∙◌, ap, arith, div-add-mod', mod-lt, pow_pos}
+use Rattle.std.proofs.Common.{◌≡◌, ◌+◌, ◌*◌, ◌^◌, ◌/◌, ◌%◌, sym, ◌∙◌, ap, div-add-mod', mod-lt, pow_pos}
 use Rattle.fixed_read.proofs.ShortNumeralLemmas.{split_coarser, half_of}
 use Rattle.fixed_read.proofs.decimal_block.coarser_ulps.Goals as goal
 

@@ -1,4 +1,4 @@
-use Rattle.std.proofs.Common.{◌≡◌, ◌+◌, ◌*◌, ◌^◌, ◌<◌, ◌∙◌, arith}
+use Rattle.std.proofs.Common.{◌+◌, ◌∙◌, arith}
 use Rattle.fixed_read.proofs.ShortNumeralLemmas.{finer_split, finer_room, finer_below}
 use Rattle.fixed_read.proofs.decimal_block.finer_ulps.Goals as goal
 

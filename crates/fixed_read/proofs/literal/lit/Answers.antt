@@ -1,9 +1,8 @@
 use Rattle.std.proofs.Common.{◌≡◌, ◌∙◌, ap, refl, IsOk}
-use Rattle.fixed_bits.specs.Ranges.{IsInRange}
 use Rattle.fixed_numeral.specs.Literal.{HasLiteral, HasLiteralCause, literal_radix}
 use Rattle.fixed_bits.specs.declared.mode.ReadMode.TheVariants.{NearestEven}
 use Rattle.fixed_numeral.specs.declared.error.ParseErrorKind.TheVariants.{Overflow}
-use Rattle.fixed_read.specs.Reading.{HoldsNumber, IsReadOutOfRange}
+use Rattle.fixed_read.specs.Reading.{IsReadOutOfRange}
 use Rattle.fixed_read.proofs.ReadLemmas.{range_iff, number_is, not_out, out_is, if_ok, overflow_if, cause_if}
 use Rattle.fixed_read.proofs.literal.lit.Goals as goal
 

@@ -1,4 +1,4 @@
-use Rattle.std.proofs.Common.{◌≡◌, refl, ◌∙◌, ap, ◌+◌}
+use Rattle.std.proofs.Common.{◌≡◌, refl}
 use Rattle.fixed_numeral.specs.Numeral.{base}
 use Rattle.fixed_read.proofs.magnitude.magnitude.Goals as goal
 

@@ -1,4 +1,4 @@
-use Rattle.std.proofs.Common.{◌≡◌, ◌-◌, refl, ◌*◌, ◌^◌, arith, ◌∙◌, ap}
+use Rattle.std.proofs.Common.{◌≡◌, refl, ◌*◌, ◌^◌, arith, ◌∙◌, ap}
 use Rattle.std.specs.Int.Digits.{number_from_digits}
 use Rattle.fixed_read.proofs.WholeLemmas.{sum_room, magnitude_is}
 use Rattle.fixed_read.proofs.magnitude.rounded_magnitude.Goals as goal

@@ -1,4 +1,4 @@
-use Rattle.std.proofs.Common.{◌≡◌, ◌+◌, ◌*◌, ◌^◌, ◌∙◌, refl, arith}
+use Rattle.std.proofs.Common.{◌≡◌, ◌+◌, ◌*◌, ◌^◌, refl}
 use Rattle.fixed_read.proofs.ShortNumeralLemmas.{magnitude_is_rounded, split_high}
 use Rattle.fixed_read.proofs.magnitude.rounded_ulps.Goals as goal
 

@@ -1,4 +1,4 @@
-use Rattle.std.proofs.Common.{◌≡◌, ◌↔◌, IsTrue, refl}
+use Rattle.std.proofs.Common.{◌↔◌, IsTrue, refl}
 use Rattle.fixed_bits.specs.Ranges.{IsOutOfRange}
 use Rattle.fixed_bits.proofs.LawLemmas.{range_decided}
 use Rattle.fixed_read.proofs.ReadLemmas.{inside, wrapped_inside}

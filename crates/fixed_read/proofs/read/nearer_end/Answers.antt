@@ -1,6 +1,4 @@
-use Rattle.std.proofs.Common.{◌≡◌, ◌∙◌, ap, true, false}
-use Rattle.fixed_read.specs.Inner.Magnitudes.{greatest_magnitude}
-use Rattle.fixed_read.specs.Reading.{with_sign}
+use Rattle.std.proofs.Common.{◌∙◌, ap}
 use Rattle.fixed_read.proofs.ReadLemmas.{low_end, high_end}
 use Rattle.fixed_read.proofs.read.nearer_end.Goals as goal
 

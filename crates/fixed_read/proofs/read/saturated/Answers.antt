@@ -1,4 +1,4 @@
-use Rattle.std.proofs.Common.{◌≡◌, ◌↔◌, IsTrue}
+use Rattle.std.proofs.Common.{◌↔◌, IsTrue}
 use Rattle.fixed_bits.specs.Ranges.{IsOutOfRange}
 use Rattle.fixed_read.proofs.ReadLemmas.{end_same, inside, saturated_inside}
 use Rattle.fixed_read.proofs.read.saturated.Goals as goal

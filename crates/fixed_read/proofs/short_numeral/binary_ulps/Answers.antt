@@ -1,4 +1,4 @@
-use Rattle.std.proofs.Common.{◌≡◌, ◌+◌, to_z, of_z, FitsSigned, rules}
+use Rattle.std.proofs.Common.{◌≡◌, to_z, of_z, FitsSigned, rules}
 use Rattle.std.specs.Int.{w32}
 use Rattle.std.proofs.lemmas.Int.{to_z-of_z}
 use Rattle.fixed_read.specs.Inner.BinaryPower.{ups, downs}

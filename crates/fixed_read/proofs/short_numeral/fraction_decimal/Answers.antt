@@ -1,4 +1,4 @@
-use Rattle.std.proofs.Common.{◌≡◌, ℕ, ◌+◌, ◌-◌, ◌*◌, ◌/◌, ◌^◌, ◌<◌, arith, subst, div-add-mod', mod-lt}
+use Rattle.std.proofs.Common.{ℕ, ◌-◌, ◌*◌, ◌/◌, ◌<◌, arith, subst, div-add-mod', mod-lt}
 use Rattle.std.proofs.Math.Nat.{one-le-pow}
 use Rattle.fixed_read.proofs.short_numeral.fraction_decimal.Goals as goal
 

@@ -1,4 +1,4 @@
-use Rattle.std.proofs.Common.{◌≡◌, ◌+◌, ◌-◌, ◌*◌, ◌^◌, ◌<◌, ◌∙◌, ap, sym, arith, refl, mod-lt, pow_pos}
+use Rattle.std.proofs.Common.{◌+◌, ◌-◌, ◌*◌, ◌^◌, ◌∙◌, ap, sym, arith, refl, mod-lt, pow_pos}
 use Rattle.fixed_read.proofs.ShortNumeralLemmas.{raised, far_up, far_some, near_up, low_room}
 use Rattle.fixed_read.proofs.short_numeral.raised_ulps.Goals as goal
 

@@ -1,4 +1,4 @@
-use Rattle.std.proofs.Common.{◌≤◌, arith}
+use Rattle.std.proofs.Common.{arith}
 use Rattle.fixed_read.proofs.ShortNumeralLemmas.{cross_up, cross_down}
 use Rattle.fixed_read.proofs.short_numeral.shifted_ulps.Goals as goal
 

@@ -1,7 +1,6 @@
-use Rattle.std.proofs.Common.{◌≡◌, ◌∙◌, to_z, of_z, FitsSigned, rules, refl}
+use Rattle.std.proofs.Common.{◌≡◌, ◌∙◌, to_z, of_z, FitsSigned, rules}
 use Rattle.std.specs.Int.{w128}
 use Rattle.std.proofs.lemmas.Int.{to_z-of_z}
-use Rattle.fixed_bits.specs.Ranges.{IsInRange}
 use Rattle.fixed_bits.proofs.ImageLemmas.{in_wide, width_most}
 use Rattle.fixed_read.specs.Reading.{with_sign}
 use Rattle.fixed_read.proofs.ReadLemmas.{inside, image_inside, range_low}

@@ -1,4 +1,4 @@
-use Rattle.std.proofs.Common.{◌≡◌, ◌<◌, ◌↔◌, ◌⊎◌, IsTrue}
+use Rattle.std.proofs.Common.{◌≡◌}
 use Rattle.fixed_read.specs.Inner.Magnitudes.{greatest_magnitude}
 use Rattle.fixed_read.proofs.ReadLemmas.{out_test}
 use Rattle.fixed_read.proofs.read_number.ReadNumber.is_out_of_range.Goals as goal
