@@ -7,11 +7,13 @@ pub mod bits;
 pub mod formats;
 pub mod laws;
 mod lines;
+pub mod show;
 pub mod words;
 
 pub use bits::bits_block;
 pub use formats::format_block;
 pub use lines::MAX_BLOCK;
+pub use show::show_block;
 pub use words::WordFault;
 
 #[cfg(test)]

@@ -1,20 +1,62 @@
-//! Blocks of formats and words.
+//! Blocks of formats, words and numerals.
 
 ghost use Rattle.std.specs.Prelude.{◌≡◌, ◌<◌};
 
-use crate::{MAX_BLOCK, bits_block, format_block};
+use crate::{MAX_BLOCK, bits_block, format_block, show_block};
+use fixed_bits::{Policy, ReadMode};
+use fixed_numeral::Radix;
 use fixed_respell::format_word;
 use fixed_steps::Steps;
 use std::marker::Brand;
 use std::sync::ledger::{Blank, Ledger};
 use text_buffer::TextBuffer;
 
-/// What is asked for, and the block that answers it.
+/// What is asked for, and the block that answers it. A numeral is read in radix 10 in the mode `NearestEven`.
 #[derive(Drop)]
 struct Case {
     format: &'static str,
     word: &'static str,
+    numeral: &'static str,
+    policy: Policy,
     block: &'static str,
+}
+
+/// A format's block.
+fn of_format(format: &'static str, block: &'static str) -> Case {
+    Case {
+        format,
+        word: "",
+        numeral: "",
+        policy: Policy::Checked,
+        block,
+    }
+}
+
+/// A word's block.
+fn of_word(format: &'static str, word: &'static str, block: &'static str) -> Case {
+    Case {
+        format,
+        word,
+        numeral: "",
+        policy: Policy::Checked,
+        block,
+    }
+}
+
+/// A numeral's block.
+fn of_numeral(
+    format: &'static str,
+    policy: Policy,
+    numeral: &'static str,
+    block: &'static str,
+) -> Case {
+    Case {
+        format,
+        word: "",
+        numeral,
+        policy,
+        block,
+    }
 }
 
 fn block_over<L: Ledger>(case: &Case, blank: Blank) -> TextBuffer<MAX_BLOCK>
@@ -25,10 +67,20 @@ fn block_over<L: Ledger>(case: &Case, blank: Blank) -> TextBuffer<MAX_BLOCK>
     let mut steps = Steps::<L>::new(blank);
     let mut out: TextBuffer<MAX_BLOCK> = TextBuffer::new();
     if let Some(format) = format_word(case.format.as_bytes()) {
-        if case.word.is_empty() {
-            format_block(format, &mut out, &mut steps);
-        } else {
+        if !case.word.is_empty() {
             let _refused = bits_block(case.word.as_bytes(), format, &mut out, &mut steps);
+        } else if !case.numeral.is_empty() {
+            let _refused = show_block(
+                case.numeral.as_bytes(),
+                Radix::Dec,
+                format,
+                case.policy,
+                ReadMode::NearestEven,
+                &mut out,
+                &mut steps,
+            );
+        } else {
+            format_block(format, &mut out, &mut steps);
         }
     }
     out
@@ -41,50 +93,59 @@ fn is_answered(case: &Case) -> bool {
 }
 
 #[test]
-fn each_format_and_word_has_its_block(rt: HostRuntime) {
+fn each_format_word_and_numeral_has_its_block(rt: HostRuntime) {
     let cases = [
-        Case {
-            format: "I16F16",
-            word: "",
-            block: "format    I16F16\nleast     -32768\ngreatest  32767.9999847412109375\nulp       0.0000152587890625\ndigits    4 before the point, 4 after it\nshortest  -32768 to 32767.99998\n",
-        },
-        Case {
-            format: "I0F8",
-            word: "",
-            block: "format    I0F8\nleast     -0.5\ngreatest  0.49609375\nulp       0.00390625\ndigits    0 before the point, 2 after it\nshortest  -0.5 to 0.496\n",
-        },
-        Case {
-            format: "I16F16",
-            word: "0xfffc_0000",
-            block: "text      -4\nbits      -262144\nhex       0xfffc0000\nvalue     -4\n",
-        },
-        Case {
-            format: "U4F4",
-            word: "51",
-            block: "text      3.2\nbits      51\nhex       0x33\nvalue     3.1875\n",
-        },
-        Case {
-            format: "U4F4",
-            word: "0b1_0000_0000",
-            block: "error: word is wider than the format\n",
-        },
-        Case {
-            format: "U4F4",
-            word: "0o38",
-            block: "error: invalid digit found in string\n",
-        },
-        Case {
-            format: "U4F4",
-            word: "0x_",
-            block: "error: string has no digits\n",
-        },
-        Case {
-            format: "U4F4",
-            word: "_1",
-            block: "error: misplaced underscore found in string\n",
-        },
+        of_format(
+            "I16F16",
+            "format    I16F16\nleast     -32768\ngreatest  32767.9999847412109375\nulp       0.0000152587890625\ndigits    4 before the point, 4 after it\nshortest  -32768 to 32767.99998\n",
+        ),
+        of_format(
+            "I0F8",
+            "format    I0F8\nleast     -0.5\ngreatest  0.49609375\nulp       0.00390625\ndigits    0 before the point, 2 after it\nshortest  -0.5 to 0.496\n",
+        ),
+        of_word(
+            "I16F16",
+            "0xfffc_0000",
+            "text      -4\nbits      -262144\nhex       0xfffc0000\nvalue     -4\n",
+        ),
+        of_word(
+            "U4F4",
+            "51",
+            "text      3.2\nbits      51\nhex       0x33\nvalue     3.1875\n",
+        ),
+        of_word(
+            "U4F4",
+            "0b1_0000_0000",
+            "error: word is wider than the format\n",
+        ),
+        of_word("U4F4", "0o38", "error: invalid digit found in string\n"),
+        of_word("U4F4", "0x_", "error: string has no digits\n"),
+        of_word(
+            "U4F4",
+            "_1",
+            "error: misplaced underscore found in string\n",
+        ),
+        of_numeral(
+            "I16F16",
+            Policy::Checked,
+            "3.14159",
+            "text      3.14159\nbits      205887\nhex       0x0003243f\nvalue     3.1415863037109375\nbetween   3.14159 (205887) and 3.1416 (205888)\nrange     fits\n",
+        ),
+        of_numeral(
+            "U8F0",
+            Policy::Wrapping,
+            "-1",
+            "text      255\nbits      255\nhex       0xff\nvalue     255\nbetween   no two values of the format\nrange     overflowed\n",
+        ),
+        of_numeral("U8F0", Policy::Checked, "300", "error: overflow\n"),
     ];
     for case in &cases {
-        assert!(rt; is_answered(case), "{} {}", case.format, case.word);
+        assert!(rt;
+            is_answered(case),
+            "{} {}{}",
+            case.format,
+            case.word,
+            case.numeral
+        );
     }
 }

@@ -1,0 +1,66 @@
+-- A numeral that was read into a format.
+use Rattle.std.proofs.Common.{◌≡◌, inl, inr, ◌↔◌, ℕ, List, [], ◌∷◌, ◌++◌, Bool, IsTrue, ℤ, subst, ◌∙◌, append_assoc, codes}
+use Rattle.std.specs.Fmt.{signed_decimal}
+use Rattle.fixed_bits.specs.Formats.{FormatParts}
+use Rattle.fixed_bits.specs.Images.{IsImage}
+use Rattle.fixed_bits.specs.Ranges.{IsOutOfRange}
+use Rattle.fixed_bits.specs.declared.format.Policy.{Policy}
+use Rattle.fixed_bits.specs.declared.format.Policy.TheVariants.{Checked}
+use Rattle.fixed_bits.specs.declared.mode.ReadMode.{ReadMode}
+use Rattle.fixed_enclose.specs.Enclosure.{IsRefusal, IsUnenclosed}
+use Rattle.fixed_numeral.specs.Numeral.{Parts, HasNumeral, IsNumeral}
+use Rattle.fixed_numeral.specs.declared.error.ParseErrorKind.{ParseErrorKind}
+use Rattle.fixed_numeral.specs.declared.error.ParseErrorKind.TheVariants.{Overflow}
+use Rattle.fixed_numeral.specs.declared.radix.Radix.{Radix}
+use Rattle.fixed_read.specs.Reading.{HoldsNumber, IsReading, IsReadNumber}
+use Rattle.fixed_read.specs.declared.read_number.ReadNumber.{ReadNumber}
+use Rattle.fixed_show.specs.Blocks.{line}
+use Rattle.fixed_show.specs.ShowBlock.{IsReadAs, IsUnread, neighbours_text}
+
+pub read_as : (mode : ReadMode) (r : Radix) (bytes : List ℕ) (f : FormatParts) (policy : Policy) (p : Parts) (found : ReadNumber) (bits : ℤ) (flag : Bool)
+    → HasNumeral r bytes p → IsReading mode r p found → found.format ≡ f
+    → ((v : ℤ) → HoldsNumber found v → IsImage policy found.format.signed found.format.width v bits)
+    → ((v : ℤ) → HoldsNumber found v → IsTrue flag ↔ IsOutOfRange found.format.signed found.format.width v)
+    → IsReadAs mode r bytes f policy bits flag
+read_as mode r bytes f policy p found bits flag numeral reading e image out = record {
+  parts = p;
+  numeral = numeral;
+  number = reading.number;
+  read = subst (λ (t : FormatParts). IsReadNumber mode r p t.frac reading.number) e reading.read;
+  image = subst (λ (t : FormatParts). IsImage policy t.signed t.width reading.number bits) e (image reading.number reading.holds);
+  flag = subst (λ (t : FormatParts). IsTrue flag ↔ IsOutOfRange t.signed t.width reading.number) e (out reading.number reading.holds);
+}
+
+pub unread : (mode : ReadMode) (r : Radix) (bytes : List ℕ) (f : FormatParts) (policy : Policy) (p : Parts) (found : ReadNumber) (kind : ParseErrorKind)
+    → HasNumeral r bytes p → IsReading mode r p found → found.format ≡ f → kind ≡ Overflow
+    → ((v : ℤ) → HoldsNumber found v → (policy ≡ Checked) × IsOutOfRange found.format.signed found.format.width v)
+    → IsUnread mode r bytes f policy kind
+unread mode r bytes f policy p found kind numeral reading e is out =
+    let none = out reading.number reading.holds in
+    inr (
+      is,
+      none.0,
+      record {
+        parts = p;
+        has = numeral;
+        number = reading.number;
+        read = subst (λ (t : FormatParts). IsReadNumber mode r p t.frac reading.number) e reading.read;
+        out_of_range = subst (λ (t : FormatParts). IsOutOfRange t.signed t.width reading.number) e none.1;
+      },
+    )
+
+pub neighbours_pushed : (old o1 o2 o3 o4 o5 l s t : List ℕ) (lo hi : ℤ) → o1 ≡ old ++ l → o2 ≡ o1 ++ (s ++ (codes " (" ++ (signed_decimal lo ++ codes ")"))) → o3 ≡ o2 ++ codes " and "
+    → o4 ≡ o3 ++ (t ++ (codes " (" ++ (signed_decimal hi ++ codes ")"))) → o5 ≡ o4 ++ 10 ∷ [] → o5 ≡ old ++ line l (neighbours_text s lo t hi)
+unfolding line
+neighbours_pushed old o1 o2 o3 o4 o5 l s t lo hi a b c d e =
+    let x : o5 ≡ ((((old ++ l) ++ (s ++ (codes " (" ++ (signed_decimal lo ++ codes ")")))) ++ codes " and ") ++ (t ++ (codes " (" ++ (signed_decimal hi ++ codes ")")))) ++ 10 ∷ [] = cc in
+    x ∙ simp append_assoc
+
+pub not_enclosed : (r : Radix) (bytes : List ℕ) (f : FormatParts) (kind : ParseErrorKind) → IsNumeral r bytes → IsRefusal r bytes f kind → IsUnenclosed r bytes f
+not_enclosed r bytes f kind n (inl c) = absurd (c.none n)
+not_enclosed r bytes f kind n (inr h) = h.1
+
+pub three_blocks : (old o1 o2 o3 a b c : List ℕ) → o1 ≡ old ++ a → o2 ≡ o1 ++ b → o3 ≡ o2 ++ c → o3 ≡ old ++ (a ++ (b ++ c))
+three_blocks old o1 o2 o3 a b c p q r =
+    let e : o3 ≡ ((old ++ a) ++ b) ++ c = cc in
+    e ∙ simp append_assoc

@@ -1,0 +1,83 @@
+-- What there is to know of a numeral in a format.
+use Rattle.std.specs.Prelude.{◌≡◌, ◌⊎◌, ◌↔◌, ℕ, List, ◌++◌, ℤ, Bool, true, false, IsTrue, codes}
+use Rattle.std.specs.Fmt.{signed_decimal}
+use Rattle.fixed_bits.specs.Formats.{FormatParts}
+use Rattle.fixed_bits.specs.Images.{IsImage}
+use Rattle.fixed_bits.specs.Ranges.{IsOutOfRange}
+use Rattle.fixed_bits.specs.declared.format.Policy.{Policy}
+use Rattle.fixed_bits.specs.declared.format.Policy.TheVariants.{Checked}
+use Rattle.fixed_bits.specs.declared.mode.ReadMode.{ReadMode}
+use Rattle.fixed_enclose.specs.Enclosure.{IsEnclosed, IsUnenclosed}
+use Rattle.fixed_numeral.specs.Cause.{HasCause}
+use Rattle.fixed_numeral.specs.Messages.{message_of}
+use Rattle.fixed_numeral.specs.Numeral.{Parts, HasNumeral}
+use Rattle.fixed_numeral.specs.declared.error.ParseErrorKind.{ParseErrorKind}
+use Rattle.fixed_numeral.specs.declared.error.ParseErrorKind.TheVariants.{Overflow}
+use Rattle.fixed_numeral.specs.declared.radix.Radix.{Radix}
+use Rattle.fixed_read.specs.Reading.{IsReadNumber, IsReadOutOfRange}
+use Rattle.fixed_write.specs.Texts.{IsShortestText}
+use Rattle.fixed_show.specs.Blocks.{line, refusal_block}
+use Rattle.fixed_show.specs.BitsBlock.{AreValueLines}
+
+-- bytes are a numeral, bits are the image of its read number, and overflowed says whether that is out of range
+pub record IsReadAs (mode : ReadMode) (r : Radix) (bytes : List ℕ) (f : FormatParts) (policy : Policy) (bits : ℤ) (overflowed : Bool) : Type 0 where
+  pub parts : Parts
+  pub numeral : HasNumeral r bytes parts
+  pub number : ℤ
+  pub read : IsReadNumber mode r parts f.frac number
+  pub image : IsImage policy f.signed f.width number bits
+  pub flag : IsTrue overflowed ↔ IsOutOfRange f.signed f.width number
+
+-- kind says why there are no bits: bytes are no numeral, or under Checked the read number is out of range
+abbrev pub IsUnread : ReadMode → Radix → List ℕ → FormatParts → Policy → ParseErrorKind → Type 0
+IsUnread mode r bytes f policy kind = HasCause r bytes kind
+    ⊎ ((kind ≡ Overflow) × (policy ≡ Checked) × IsReadOutOfRange mode r (HasNumeral r bytes) f.frac f.signed f.width)
+
+-- two texts, each with its bits
+abbrev pub neighbours_text : List ℕ → ℤ → List ℕ → ℤ → List ℕ
+neighbours_text low lo high hi = low ++ (codes " (" ++ (signed_decimal lo ++ (codes ") and " ++ (high ++ (codes " (" ++ (signed_decimal hi ++ codes ")"))))))
+
+-- text says the two values of the format that enclose the numeral, by their shortest texts and their bits
+pub record HasNeighbours (r : Radix) (bytes : List ℕ) (f : FormatParts) (text : List ℕ) : Type 0 where
+  pub lo : ℤ
+  pub hi : ℤ
+  pub enclosed : IsEnclosed r bytes f lo hi
+  pub low : List ℕ
+  pub is_low : IsShortestText lo f.frac low
+  pub high : List ℕ
+  pub is_high : IsShortestText hi f.frac high
+  pub text_is : text ≡ neighbours_text low lo high hi
+
+-- the format lacks one of the two, and text says so
+abbrev pub HasNoNeighbours : Radix → List ℕ → FormatParts → List ℕ → Type 0
+HasNoNeighbours r bytes f text = IsUnenclosed r bytes f × (text ≡ codes "no two values of the format")
+
+abbrev pub IsBetween : Radix → List ℕ → FormatParts → List ℕ → Type 0
+IsBetween r bytes f text = HasNeighbours r bytes f text ⊎ HasNoNeighbours r bytes f text
+
+-- whether the read number is in range
+abbrev pub range_text : Bool → List ℕ
+range_text true = codes "overflowed"
+range_text false = codes "fits"
+
+-- block says all of this of the numeral
+pub record IsShown (mode : ReadMode) (r : Radix) (bytes : List ℕ) (f : FormatParts) (policy : Policy) (block : List ℕ) : Type 0 where
+  pub bits : ℤ
+  pub overflowed : Bool
+  pub read : IsReadAs mode r bytes f policy bits overflowed
+  pub values : List ℕ
+  pub are_values : AreValueLines f bits values
+  pub between : List ℕ
+  pub is_between : IsBetween r bytes f between
+  pub block_is : block ≡ values ++ (line (codes "between   ") between ++ line (codes "range     ") (range_text overflowed))
+
+-- block says why there is nothing to show
+pub record IsRefusedNumeral (mode : ReadMode) (r : Radix) (bytes : List ℕ) (f : FormatParts) (policy : Policy) (block : List ℕ) : Type 0 where
+  pub kind : ParseErrorKind
+  pub unread : IsUnread mode r bytes f policy kind
+  pub block_is : block ≡ refusal_block (message_of kind)
+
+-- block is the answer to a numeral, and `refused` says which of the two
+abbrev pub IsShowBlock : ReadMode → Radix → List ℕ → FormatParts → Policy → Bool → List ℕ → Type 0
+IsShowBlock mode r bytes f policy true block = IsRefusedNumeral mode r bytes f policy block
+IsShowBlock mode r bytes f policy false block = IsShown mode r bytes f policy block

@@ -1,0 +1,168 @@
+//! What there is to know of a numeral in a format.
+
+ghost use Rattle.std.specs.Prelude.{◌≡◌, ◌+◌, ◌*◌, ◌≤◌, ◌++◌, length, codes, IfOk, IfErr, ℤ, Bool};
+ghost use Rattle.std.specs.Fmt.{signed_decimal};
+ghost use Rattle.fixed_bits.specs.Ranges.{IsWide};
+ghost use Rattle.fixed_numeral.specs.Numeral.{IsNumeral};
+ghost use Rattle.fixed_write.specs.Texts.{IsShortestText, shortest_text};
+ghost use Rattle.fixed_show.specs.Blocks.{Appends, line};
+ghost use Rattle.fixed_show.specs.ShowBlock.{IsBetween, IsReadAs, IsShowBlock, IsUnread, neighbours_text, range_text};
+ghost use Rattle.fixed_show.specs.Inner.Lines.{IsBetweenLine};
+
+use crate::bits::push_value_lines;
+use crate::lines::{MAX_BLOCK, frac_of, push_line, push_refusal};
+use fixed_bits::{Format, Policy, ReadMode};
+use fixed_enclose::enclose;
+use fixed_numeral::{ParseErrorKind, ParseFixedError, Radix};
+use fixed_read::read_format;
+use fixed_steps::Steps;
+use fixed_write::{push_integer, push_shortest};
+use std::sync::ledger::Ledger;
+use text_buffer::TextBuffer;
+
+/// The bits that a numeral is read as, and whether the read number was out of the format's range.
+#[derive(Drop)]
+struct Shown {
+    bits: i128,
+    overflowed: bool,
+}
+
+/// Reads a numeral into a format.
+///
+/// # Errors
+///
+/// Other bytes are refused with the kind of their cause, and under `Checked` a read number out of range as `Overflow`.
+fn read_shown<L: Ledger>(
+    text: &[u8],
+    radix: Radix,
+    format: Format,
+    policy: Policy,
+    mode: ReadMode,
+    steps: &mut Steps<L>,
+) -> Result<Shown, ParseFixedError>
+    ensures read { IfOk result (λ s. IsReadAs mode radix text.now format policy s.bits s.overflowed) }
+    ensures wide { IfOk result (λ s. IsWide s.bits) }
+    ensures unread { IfErr result (λ kind. IsUnread mode radix text.now format policy kind) }
+    ensures cost { steps.new ≤ steps.old + 8 * (length text.now + format.width) + 64 }
+{
+    let found = match read_format(text, radix, format, mode, steps) {
+        Ok(found) => found,
+        Err(error) => return Err(error),
+    };
+    match found.image(policy) {
+        Some(bits) => Ok(Shown {
+            bits,
+            overflowed: found.is_out_of_range(),
+        }),
+        None => Err(ParseFixedError::new(ParseErrorKind::Overflow)),
+    }
+}
+
+/// Appends the line of two neighbours, each as its shortest text and its bits.
+fn push_neighbours<const N: usize, L: Ledger>(
+    out: &mut TextBuffer<N>,
+    low: i128,
+    high: i128,
+    frac: u32,
+    steps: &mut Steps<L>,
+)
+    requires low { IsWide low }
+    requires high { IsWide high }
+    requires frac { frac ≤ 64 }
+    requires room { length out.old + 180 ≤ N }
+    ensures appended { out.new ≡ out.old ++ line (codes "between   ") (neighbours_text (shortest_text low frac) low (shortest_text high frac) high) }
+    ensures low { IsShortestText low frac (shortest_text low frac) }
+    ensures high { IsShortestText high frac (shortest_text high frac) }
+    ensures short { length out.new ≤ length out.old + 180 }
+    ensures cost { steps.new ≤ steps.old + 96 }
+{
+    out.push_bytes(b"between   ");
+    push_neighbour(out, low, frac, steps);
+    out.push_bytes(b" and ");
+    push_neighbour(out, high, frac, steps);
+    out.push(b'\n');
+}
+
+/// Appends a number of ulps of 2^-`frac` as its shortest text, and that number.
+fn push_neighbour<const N: usize, L: Ledger>(
+    out: &mut TextBuffer<N>,
+    bits: i128,
+    frac: u32,
+    steps: &mut Steps<L>,
+)
+    requires wide { IsWide bits }
+    requires frac { frac ≤ 64 }
+    requires room { length out.old + 72 ≤ N }
+    ensures appended { out.new ≡ out.old ++ (shortest_text bits frac ++ (codes " (" ++ (signed_decimal bits ++ codes ")"))) }
+    ensures shortest { IsShortestText bits frac (shortest_text bits frac) }
+    ensures short { length out.new ≤ length out.old + 72 }
+    ensures cost { steps.new ≤ steps.old + 48 }
+{
+    push_shortest(out, bits, frac, steps);
+    out.push_bytes(b" (");
+    push_integer(out, bits);
+    out.push_bytes(b")");
+}
+
+/// Appends the line of the neighbours of a numeral.
+fn push_between<const N: usize, L: Ledger>(
+    text: &[u8],
+    radix: Radix,
+    format: Format,
+    out: &mut TextBuffer<N>,
+    steps: &mut Steps<L>,
+)
+    requires numeral { IsNumeral radix text.now }
+    requires room { length out.old + 180 ≤ N }
+    ensures between { Appends (IsBetweenLine radix text.now format) 180 out.old out.new }
+    ensures cost { steps.new ≤ steps.old + 16 * length text.now + 1248 }
+{
+    match enclose(text, radix, format, steps) {
+        Ok(ends) => push_neighbours(out, ends.lo, ends.hi, frac_of(format), steps),
+        Err(_) => push_line(out, b"between   ", b"no two values of the format"),
+    }
+}
+
+/// Appends the line of whether a read number was in range.
+fn push_range<const N: usize>(out: &mut TextBuffer<N>, overflowed: bool)
+    requires room { length out.old + 21 ≤ N }
+    ensures appended { out.new ≡ out.old ++ line (codes "range     ") (range_text overflowed) }
+    ensures short { length out.new ≤ length out.old + 21 }
+{
+    if overflowed {
+        push_line(out, b"range     ", b"overflowed");
+    } else {
+        push_line(out, b"range     ", b"fits");
+    }
+}
+
+/// Appends the block of a numeral in a format: the shortest text of the bits that it is read as, the bits in decimal and in
+/// hexadecimal, their exact value, the two values of the format that enclose the numeral, and whether the read number was in
+/// range. A numeral that is refused is answered by one line `error: ` and why. Answers whether it was. There must be room
+/// for `MAX_BLOCK` bytes. It takes at most 24 steps for each byte, and 1,936.
+pub fn show_block<const N: usize, L: Ledger>(
+    text: &[u8],
+    radix: Radix,
+    format: Format,
+    policy: Policy,
+    mode: ReadMode,
+    out: &mut TextBuffer<N>,
+    steps: &mut Steps<L>,
+) -> bool
+    requires room { length out.old + MAX_BLOCK ≤ N }
+    ensures block { Appends (IsShowBlock mode radix text.now format policy result) MAX_BLOCK out.old out.new }
+    ensures cost { steps.new ≤ steps.old + 24 * length text.now + 1936 }
+{
+    match read_shown(text, radix, format, policy, mode, steps) {
+        Ok(shown) => {
+            push_value_lines(out, shown.bits, format, steps);
+            push_between(text, radix, format, out, steps);
+            push_range(out, shown.overflowed);
+            false
+        }
+        Err(error) => {
+            push_refusal(out, error.message());
+            true
+        }
+    }
+}
