@@ -1,5 +1,5 @@
 -- What is written is what the definitions say.
-use Rattle.std.proofs.Common.{◌≡◌, ℕ, ◌≤◌, ◌++◌, List, [], ℤ, pos, refl, sym, ap, ◌∙◌, arith, append-nil}
+use Rattle.std.proofs.Common.{◌≡◌, ℕ, ◌≤◌, ◌++◌, List, [], ℤ, pos, refl, sym, ◌∙◌, arith, append-nil}
 use Rattle.std.specs.Prelude.{zero, suc, Bool, Result, Option, Some, None, unsigned_abs, nat_le, true, false, if◌then◌else◌, length, replicate, ◌-◌, ◌/◌, ◌==◌}
 use Rattle.std.specs.Fmt.{sign_text, WritesOnOk, WritesStyledOnOk, padded_integral, IsPlainFormatter, formatter_spec, padding_before, char_count, spec_width, spec_sign_plus, spec_alternate}
 use Rattle.std.specs.Int.{is_negative}
@@ -8,7 +8,7 @@ use Rattle.std.specs.declared.fmt.Error.{Error}
 use Rattle.std.specs.List.{repeat}
 use Rattle.std.specs.Char.{encode_utf8}
 use Rattle.fixed_write.specs.Texts.{shortest_text, decimal_text}
-use Rattle.fixed_write.specs.Places.{exact_text}
+use Rattle.fixed_write.specs.Places.{exact_text, rounded_text}
 use Rattle.fixed_write.specs.Bases.{number_of, has_capitals}
 use Rattle.fixed_write.specs.declared.in_place.Base.{Base}
 use Rattle.fixed_point.specs.Texts.{shown_text, styled_text, exact_shown_text}
@@ -25,6 +25,10 @@ shortest_text_split c f = rw (not_negative (unsigned_abs c)) refl
 pub exact_text_split : (base : ℕ) (upper : Bool) (c : ℤ) (f : ℕ) → exact_text base upper c f ≡ sign_text (is_negative c) ++ exact_text base upper (pos (unsigned_abs c)) f
 unfolding exact_text
 exact_text_split base upper c f = rw (not_negative (unsigned_abs c)) refl
+
+rounded_text_split : (k : ℕ) (c : ℤ) (f : ℕ) → rounded_text 10 false k c f ≡ sign_text (is_negative c) ++ rounded_text 10 false k (pos (unsigned_abs c)) f
+unfolding rounded_text
+rounded_text_split k c f = rw (not_negative (unsigned_abs c)) refl
 
 -- ---- a formatter without a width, `+` and `#` adds nothing but the sign
 either : (t : Bool) (x y z : ℕ) → x ≡ z → y ≡ z → (if t then x else y) ≡ z
@@ -77,3 +81,8 @@ pub styled_bare : {W : Type 0} (g : Formatter W) (precision : Option ℕ) (n f :
 styled_bare g precision n f c text e l width plus alternate t =
     let same : padded_integral (formatter_spec g) (is_negative c) [] (shortest_text (pos (unsigned_abs c)) f) ≡ text = bare_text g (is_negative c) [] (shortest_text (pos (unsigned_abs c)) f) width plus alternate ∙ sym (t ∙ shortest_text_split c f) in
     rw (e, le_is f n l, same) refl
+
+pub styled_bare_places : {W : Type 0} (g : Formatter W) (precision : Option ℕ) (k n f : ℕ) (c : ℤ) (text : List ℕ) → precision ≡ Some k → k ≤ 64 → f ≤ n → spec_width (formatter_spec g) ≡ None → spec_sign_plus (formatter_spec g) ≡ false → spec_alternate (formatter_spec g) ≡ false → text ≡ rounded_text 10 false k c f → styled_text precision (padded_integral (formatter_spec g) (is_negative c) []) n f c ≡ Some text
+styled_bare_places g precision k n f c text e few l width plus alternate t =
+    let same : padded_integral (formatter_spec g) (is_negative c) [] (rounded_text 10 false k (pos (unsigned_abs c)) f) ≡ text = bare_text g (is_negative c) [] (rounded_text 10 false k (pos (unsigned_abs c)) f) width plus alternate ∙ sym (t ∙ rounded_text_split k c f) in
+    rw (e, le_is f n l, le_is k 64 few, same) refl
