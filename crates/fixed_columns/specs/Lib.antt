@@ -1,0 +1,7 @@
+pub mod Cells
+pub mod Rows
+pub mod Column
+pub mod Answer
+pub mod Program
+pub mod Laws
+pub mod Lemmas

@@ -1,0 +1,66 @@
+-- The arguments of the program, and what a run leaves, seen from outside.
+use Rattle.std.specs.Prelude.{◌≡◌, ◌⊎◌, ◌≤◌, ◌<◌, ℕ, String, List, [], ◌∷◌, Some, codes, decimal, length}
+use Rattle.std.specs.String.{string_bytes}
+use Rattle.std.specs.declared.alloc.Global.{Global}
+use Rattle.line_engine.specs.AnswerText.{AnswerText}
+use Rattle.line_engine.specs.Asked.{AskedWithin}
+use Rattle.line_engine.specs.Failures.{HasFailed}
+use Rattle.line_engine.specs.Output.{AppendsPrefix}
+use Rattle.line_engine.specs.Program.{Outside}
+use Rattle.line_engine.specs.Run.{HasFailures, WritesText}
+use Rattle.line_engine.specs.WholeRun.{HasWholeRun, WritesAnswer}
+use Rattle.line_engine.specs.declared.status.Status.{Status}
+use Rattle.line_engine.specs.declared.status.Status.TheVariants.{Usage, WriteFault, NoMemory, TooLong}
+use Rattle.fixed_columns.specs.Answer.{IsWholeAnswer}
+
+-- how many bytes an input has at most, where no argument names a limit, and the greatest limit
+abbrev pub most_bytes : ℕ
+most_bytes = 1048576
+
+abbrev pub max_limit : ℕ
+max_limit = 4294967296
+
+-- a name and a number in decimal name this limit
+pub record NamesLimit (name number : List ℕ) (limit : ℕ) : Type 0 where
+  pub named : name ≡ codes "limit"
+  pub numbered : number ≡ decimal limit
+  pub some : 1 ≤ limit
+  pub most : limit ≤ max_limit
+
+-- the arguments ask for the column of an input of at most this many bytes
+abbrev pub AsksWithin : List (String Global) → ℕ → Type 0
+AsksWithin [] limit = limit ≡ most_bytes
+AsksWithin (name ∷ []) limit = ⊥
+AsksWithin (name ∷ number ∷ []) limit = NamesLimit (string_bytes name) (string_bytes number) limit
+AsksWithin (name ∷ number ∷ more ∷ others) limit = ⊥
+
+-- the arguments ask for nothing
+abbrev pub IsUsageFault : List (String Global) → Type 0
+IsUsageFault args = (limit : ℕ) → ¬ AsksWithin args limit
+
+-- what is written for such arguments
+abbrev pub usage_line : List ℕ
+usage_line = codes "usage: columns_tool\n"
+
+-- all that `run_columns` promises of a run by these arguments that ended so
+pub record HasColumnsRun (args : List (String Global)) (before after : Outside) (status : Status) : Type 0 where
+  -- the answer to an input within the limit is written where no read and no write failed, or there was no memory
+  pub output : (limit : ℕ) → AsksWithin args limit → (input : List ℕ) → before.left ≡ Some input → length input ≤ limit
+      → ¬ HasFailed before.read_failures after.read_failures → ¬ HasFailed before.write_failures after.write_failures
+      → (status ≡ NoMemory) ⊎ WritesAnswer IsWholeAnswer input before.written after.written status
+  -- and a longer one is reported
+  pub too_long : (limit : ℕ) → AsksWithin args limit → (input : List ℕ) → before.left ≡ Some input → limit < length input
+      → ¬ HasFailed before.read_failures after.read_failures → ¬ HasFailed before.write_failures after.write_failures
+      → (status ≡ NoMemory) ⊎ (status ≡ TooLong)
+  -- what was taken and what was written, by status
+  pub run : (limit : ℕ) → AsksWithin args limit → HasWholeRun IsWholeAnswer limit before.left after.left before.written after.written status
+  -- a prefix of the answer, where a write failed
+  pub prefix_on_write_fault : (limit : ℕ) → AsksWithin args limit → status ≡ WriteFault → (input : List ℕ) (answer : AnswerText) → before.left ≡ Some input
+      → IsWholeAnswer input answer → AppendsPrefix before.written after.written answer.text
+  -- what the source was asked for
+  pub asked : (limit : ℕ) → AsksWithin args limit → AskedWithin limit before.asked after.asked
+  -- other arguments
+  pub usage : IsUsageFault args → WritesText usage_line Usage before.written after.written before.write_failures after.write_failures status
+  pub usage_only : status ≡ Usage → IsUsageFault args
+  -- which count of failures rose, by status
+  pub failures : HasFailures before.read_failures after.read_failures before.write_failures after.write_failures status

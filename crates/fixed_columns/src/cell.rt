@@ -1,0 +1,136 @@
+//! Numbers of a format chosen at run time, and their order by value.
+
+ghost use Rattle.std.specs.Prelude.{◌≡◌, ◌↔◌, ◌≤◌, ℤ, IsSome, IfSome};
+ghost use Rattle.std.proofs.Common.{rules};
+ghost use Rattle.std.specs.Bool.{one_answer};
+ghost use Rattle.std.specs.Cmp.{po};
+ghost use Rattle.std.specs.Cmp.Rules.{comparing};
+ghost use Rattle.std.specs.Ordering.{as_partial_cmp};
+ghost use Rattle.fixed_bits.specs.Ranges.{IsInRange, IsWide};
+ghost use Rattle.fixed_columns.specs.Cells.{CellParts, IsCell, cell_of, format_order};
+
+use fixed_bits::{Format, Inner};
+use fixed_convert::compare;
+use fixed_point::Fixed;
+use std::cmp::Ordering;
+use std::marker::Model;
+
+/// A number of a format. Equal cells have the same format and the same bits; their order is that of their values, ties in
+/// the order of their formats: by width, then unsigned before signed, then by fraction length.
+#[derive(Clone, Copy, Debug, PartialEq, Eq)]
+pub struct Cell {
+    format: Format,
+    bits: i128,
+}
+
+impl Model for Cell {
+    ghost use Rattle.fixed_columns.specs.Cells.{CellParts, IsCell};
+
+    ghost Value = { CellParts };
+
+    ghost view = { λ c. record { format = c.format; bits = c.bits } };
+
+    ghost invariant = { λ c. IsCell (record { format = c.format; bits = c.bits }) };
+
+    ghost inverse = { λ c. record { format = c.format; bits = c.bits } };
+}
+
+impl Cell {
+    /// The cell of a format with these bits. `None` exactly where the bits are out of the format's range.
+    pub fn new(format: Format, bits: i128) -> Option<Cell>
+        ensures exists { IsSome result ↔ IsInRange format.signed format.width bits }
+        ensures parts { IfSome result (λ c. c ≡ record { format = format; bits = bits }) }
+    {
+        if format.contains(bits) {
+            Some(Cell { format, bits })
+        } else {
+            None
+        }
+    }
+
+    /// The cell of a format with these bits, which are in the format's range.
+    pub(crate) fn within(format: Format, bits: i128) -> Cell
+        requires { IsInRange format.signed format.width bits }
+        ensures { result ≡ record { format = format; bits = bits } }
+    {
+        let _ = format.width();
+        Cell { format, bits }
+    }
+
+    /// The cell of a number, with its format and its bits.
+    pub fn of<I: Inner, const FRAC: u32>(value: Fixed<I, FRAC>) -> Cell
+        requires { FRAC ≤ I.BITS }
+        ensures { result ≡ cell_of I.SIGNED I.BITS FRAC (I.number value) }
+    {
+        match Format::new(I::SIGNED, I::BITS, FRAC) {
+            Some(format) => Cell {
+                format,
+                bits: value.to_bits().value(),
+            },
+            None => unreachable!(),
+        }
+    }
+
+    /// The format.
+    pub fn format(self) -> Format
+        ensures { result ≡ self.format }
+    {
+        self.format
+    }
+
+    /// The bits: the value is this many ulps of the format.
+    pub fn bits(self) -> i128
+        ensures bits { result ≡ self.bits }
+        ensures cell { IsCell self }
+        ensures wide { IsWide result }
+    {
+        self.bits
+    }
+}
+
+/// The order of formats: by width, then unsigned before signed, then by fraction length.
+fn compare_formats(a: Format, b: Format) -> Ordering
+    ensures { result ≡ format_order a b }
+{
+    a.width()
+        .cmp(&b.width())
+        .then(a.signed().cmp(&b.signed()))
+        .then(a.frac().cmp(&b.frac()))
+}
+
+impl Ord for Cell {
+    ghost use Rattle.fixed_columns.specs.Cells.{cell_order};
+    ghost use Rattle.fixed_columns.specs.Lemmas.OrderLemmas.{cell_decides, cell_total};
+
+    ghost cmp = { cell_order };
+
+    ghost total = { cell_total };
+
+    ghost matches_partial_cmp = { Prim.search (rules) };
+
+    ghost matches_eq = { λ a b. one_answer _ _ (Prim.search (comparing, rules)) (cell_decides a b) };
+
+    fn cmp(&self, other: &Cell) -> Ordering {
+        let (format, other_format) = (self.format(), other.format());
+        compare(
+            self.bits(),
+            format.frac(),
+            other.bits(),
+            other_format.frac(),
+        )
+        .then(compare_formats(format, other_format))
+    }
+}
+
+impl PartialOrd for Cell {
+    ghost use Rattle.fixed_columns.specs.Cells.{cell_order};
+    ghost use Rattle.fixed_columns.specs.Lemmas.OrderLemmas.{cell_decides, cell_total};
+
+    ghost partial_cmp = { as_partial_cmp cell_order };
+
+    ghost laws = { po cell_total (λ a b. one_answer _ _ (Prim.search (comparing, rules)) (cell_decides a b)) };
+
+    fn partial_cmp(&self, other: &Cell) -> Option<Ordering> {
+        Some(self.cmp(other))
+    }
+}

@@ -1,0 +1,28 @@
+//! Why a text is no column.
+
+use fixed_numeral::ParseFixedError;
+
+/// The fault of a line, in the order in which they are looked for.
+#[derive(Clone, Copy, Debug, PartialEq, Eq)]
+pub enum CellFault {
+    /// No space after the leading spaces.
+    MissingField,
+    /// What follows the space after the numeral is no format word.
+    BadFormat,
+    /// The numeral is refused for the format, for this reason.
+    BadNumeral(ParseFixedError),
+}
+
+/// Why a text was not read.
+#[derive(Clone, Copy, Debug, PartialEq, Eq)]
+pub enum CellsError {
+    /// The first line with a fault.
+    Refused {
+        /// The number of the line, from 1.
+        line: u64,
+        /// Its fault.
+        fault: CellFault,
+    },
+    /// There was no memory.
+    NoMemory,
+}

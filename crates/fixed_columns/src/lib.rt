@@ -1,0 +1,26 @@
+//! Columns of fixed-point numbers of mixed formats, in the order of their values.
+//!
+//! A line is a decimal numeral, a space and a format (`row`): a `Cell`. `cells` reads a text line by line and keeps its
+//! cells, and sorts them; `column` writes them in one aligned column, which reads back as the same cells.
+#![tactic(auto)]
+
+pub mod cell;
+pub mod cells;
+pub mod column;
+mod command;
+pub mod fault;
+pub mod laws;
+pub mod program;
+mod row;
+pub mod rule;
+
+pub use cell::Cell;
+pub use cells::{Cells, read_cells};
+pub use column::{ColumnText, write_cells};
+pub use fault::{CellFault, CellsError};
+pub use no_memory::NoMemory;
+pub use program::run_columns;
+pub use rule::ColumnsRule;
+
+#[cfg(test)]
+mod tests;

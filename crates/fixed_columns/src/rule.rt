@@ -1,0 +1,84 @@
+//! The rule of the program: a text is answered with the column of its cells in order.
+
+ghost use Rattle.std.specs.Prelude.{◌≡◌, ◌++◌, IfOk, OnOk};
+ghost use Rattle.fixed_columns.specs.Answer.{IsWholeAnswer, column_style, fault_line, fault_message};
+ghost use Rattle.fixed_columns.specs.Lemmas.ColumnsLemmas.{answer_one};
+
+use crate::cells::read_cells;
+use crate::column::write_cells;
+use crate::fault::{CellFault, CellsError};
+use fixed_steps::Steps;
+use fixed_write::{Notation, Style};
+use itoa::Buffer;
+use line_engine::{WholeAnswer, WholeRule};
+use no_memory::NoMemory;
+use std::alloc::{AllocError, Global};
+use std::sync::ledger::Ledger;
+
+/// The rule that answers a text of cells.
+#[derive(Clone, Copy, Debug, PartialEq, Eq)]
+pub struct ColumnsRule;
+
+/// How many characters a number has at least in a column.
+const COLUMN_WIDTH: u16 = 24;
+
+/// How a column shows a number: the default text, to the right of its spaces.
+fn column_style() -> Style
+    ensures { result ≡ column_style }
+{
+    Style {
+        width: COLUMN_WIDTH,
+        ..Style::plain(Notation::Dec)
+    }
+}
+
+/// The message of a fault.
+fn message(fault: CellFault) -> &'static [u8]
+    ensures { result.now ≡ fault_message fault }
+{
+    match fault {
+        CellFault::MissingField => b"missing field",
+        CellFault::BadFormat => b"bad format",
+        CellFault::BadNumeral(error) => error.message().as_bytes(),
+    }
+}
+
+/// What is written for a line with a fault.
+fn fault_text(alloc: Global, line: u64, fault: CellFault) -> Result<Vec<u8>, AllocError>
+    ensures { IfOk result (λ text. text.items ≡ fault_line line fault) }
+{
+    let mut digits = Buffer::new();
+    let mut text = Vec::new(alloc);
+    text.extend_from_slice(b"error: line ")?;
+    text.extend_from_slice(digits.format(line).as_bytes())?;
+    text.extend_from_slice(b": ")?;
+    text.extend_from_slice(message(fault))?;
+    text.push(b'\n')?;
+    Ok(text)
+}
+
+impl<L: Ledger> WholeRule<L> for ColumnsRule {
+    ghost Answers = { λ rule. IsWholeAnswer };
+
+    fn answer(
+        &self,
+        alloc: Global,
+        input: &[u8],
+        steps: &mut Steps<L>,
+    ) -> Result<WholeAnswer, NoMemory> {
+        match read_cells(alloc, input) {
+            Ok(mut cells) => {
+                cells.sort();
+                let text = write_cells(alloc, &cells, &column_style())?;
+                Ok(WholeAnswer::new(text.into_bytes(), false))
+            }
+            Err(CellsError::Refused { line, fault }) => {
+                let text = fault_text(alloc, line, fault)?;
+                Ok(WholeAnswer::new(text, true))
+            }
+            Err(CellsError::NoMemory) => Err(NoMemory),
+        }
+    }
+
+    ghost one_law = { λ rule. answer_one };
+}

@@ -1,0 +1,155 @@
+//! Whole runs over bytes in memory.
+
+use crate::tests::support::{Run, run_case, unfailing};
+use line_engine::Status;
+use std::alloc::{AllocError, Global};
+use std::process::Abort;
+use std::test::Fail;
+
+/// Asserts that what the run writes is as the case says, and that it ends so.
+fn assert_run(rt: &impl Abort, alloc: Global, case: &Run) -> Result<(), AllocError> {
+    let input = case.input.as_bytes().to_vec(alloc)?;
+    let (status, written) = run_case(alloc, case, input)?;
+    assert_eq!(rt; status, case.status, "at {}", case.input);
+    assert_eq!(rt;
+        written.as_slice(),
+        case.written.as_bytes(),
+        "at {}",
+        case.input
+    );
+    Ok(())
+}
+
+#[test]
+fn columns_are_written_in_order(rt: HostRuntime) -> Result<(), Fail> {
+    let cases = [
+        unfailing(
+            "0.5 U7F1\n-1 I8F0\n0.5 I4F4\n0.25 U6F2\n",
+            "                      -1 I8F0\n                     0.2 U6F2\n                     0.5 U7F1\n                     0.5 I4F4\n",
+            Status::Done,
+        ),
+        unfailing(
+            "1 U8F0\n1 U8F0\n",
+            "                       1 U8F0\n                       1 U8F0\n",
+            Status::Done,
+        ),
+        unfailing(
+            "10 U8F0\n   9 U8F0\n-9 I64F0\n-10 I8F0",
+            "                     -10 I8F0\n                      -9 I64F0\n                       9 U8F0\n                      10 U8F0\n",
+            Status::Done,
+        ),
+        unfailing(
+            "0 I8F0\n0 U16F0\n0 U8F0\n0 U0F8\n0 I8F0\n",
+            "                       0 U8F0\n                       0 U0F8\n                       0 I8F0\n                       0 I8F0\n                       0 U16F0\n",
+            Status::Done,
+        ),
+        unfailing(
+            "-0.49999999999999999995 I0F64\n18446744073709551615 U64F0\n0.00000000000000000005 U0F64",
+            " -0.49999999999999999995 I0F64\n  0.00000000000000000005 U0F64\n    18446744073709551615 U64F0\n",
+            Status::Done,
+        ),
+        unfailing("", "", Status::Done),
+    ];
+    for case in &cases {
+        assert_run(&rt, rt.alloc(), case)?;
+    }
+    Ok(())
+}
+
+/// An input that is refused with this line.
+fn refused(input: &'static str, written: &'static str) -> Run {
+    unfailing(input, written, Status::Faults)
+}
+
+#[test]
+fn each_fault_is_reported_with_its_line(rt: HostRuntime) -> Result<(), Fail> {
+    let cases = [
+        refused("1 U8F0\n300 U8F0\n", "error: line 2: overflow\n"),
+        refused("1 U8F0\n\nx y\n", "error: line 2: missing field\n"),
+        refused("   1\n", "error: line 1: missing field\n"),
+        refused("    ", "error: line 1: missing field\n"),
+        refused("x U9F0\n300 U8F0\n", "error: line 1: bad format\n"),
+        refused("1  U8F0\n", "error: line 1: bad format\n"),
+        refused("1 U8F0 \n", "error: line 1: bad format\n"),
+        refused("1 \n", "error: line 1: bad format\n"),
+        refused("x U8F0\n", "error: line 1: invalid digit found in string\n"),
+        refused("-1 U8F0\n", "error: line 1: overflow\n"),
+        refused(
+            "1 U8F0\n2 U8F0\n- U8F0\n",
+            "error: line 3: string has no digits\n",
+        ),
+    ];
+    for case in &cases {
+        assert_run(&rt, rt.alloc(), case)?;
+    }
+    Ok(())
+}
+
+/// A run by these arguments.
+fn asked(
+    args: &'static [&'static str],
+    input: &'static str,
+    written: &'static str,
+    status: Status,
+) -> Run {
+    Run {
+        args,
+        ..unfailing(input, written, status)
+    }
+}
+
+/// A run by arguments that ask for nothing.
+fn unasked(args: &'static [&'static str]) -> Run {
+    asked(args, "1 U8F0\n", "usage: columns_tool\n", Status::Usage)
+}
+
+#[test]
+fn arguments_name_a_limit_or_are_refused(rt: HostRuntime) -> Result<(), Fail> {
+    let one = "                       1 U8F0\n";
+    let cases = [
+        asked(&["limit", "7"], "1 U8F0\n", one, Status::Done),
+        asked(&["limit", "6"], "1 U8F0\n", "", Status::TooLong),
+        asked(&["limit", "4294967296"], "1 U8F0\n", one, Status::Done),
+        unasked(&["limit", "4294967297"]),
+        unasked(&["limit", "0"]),
+        unasked(&["limit", "07"]),
+        unasked(&["limit", "+7"]),
+        unasked(&["limit", ""]),
+        unasked(&["limit"]),
+        unasked(&["limits", "7"]),
+        unasked(&["limit", "7", "7"]),
+        unasked(&[""]),
+    ];
+    for case in &cases {
+        assert_run(&rt, rt.alloc(), case)?;
+    }
+    Ok(())
+}
+
+#[test]
+fn a_failing_read_and_a_failing_write_end_the_run(rt: HostRuntime) -> Result<(), Fail> {
+    let read = Run {
+        failing_read: 0,
+        ..unfailing("1 U8F0\n", "", Status::ReadFault)
+    };
+    let write = Run {
+        failing_write: 0,
+        ..unfailing("1 U8F0\n", "", Status::WriteFault)
+    };
+    assert_run(&rt, rt.alloc(), &read)?;
+    assert_run(&rt, rt.alloc(), &write)?;
+    Ok(())
+}
+
+#[test]
+fn a_longer_input_is_reported(rt: HostRuntime) -> Result<(), Fail> {
+    let mut input = Vec::new(rt.alloc());
+    for _ in 0..1_048_577u64 {
+        input.push(b' ')?;
+    }
+    let case = unfailing("", "", Status::TooLong);
+    let (status, written) = run_case(rt.alloc(), &case, input)?;
+    assert_eq!(rt; status, Status::TooLong);
+    assert!(rt; written.is_empty());
+    Ok(())
+}
