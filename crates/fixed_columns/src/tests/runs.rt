@@ -141,6 +141,24 @@ fn a_failing_read_and_a_failing_write_end_the_run(rt: HostRuntime) -> Result<(),
     Ok(())
 }
 
+/// Where an allocation fails, the run ends as `NoMemory` and has written nothing; in any other case its output is whole.
+#[test]
+fn refused_memory_writes_nothing(rt: HostRuntime) {
+    let wanted = "                       1 U8F0\n                       2 U8F0\n";
+    let case = unfailing("2 U8F0\n1 U8F0\n", wanted, Status::Done);
+    let Ok(input) = case.input.as_bytes().to_vec(rt.alloc()) else {
+        return;
+    };
+    match run_case(rt.alloc(), &case, input) {
+        Ok((Status::NoMemory, written)) => assert!(rt; written.is_empty()),
+        Ok((status, written)) => {
+            assert_eq!(rt; status, Status::Done);
+            assert_eq!(rt; written.as_slice(), wanted.as_bytes());
+        }
+        Err(_) => {}
+    }
+}
+
 #[test]
 fn a_longer_input_is_reported(rt: HostRuntime) -> Result<(), Fail> {
     let mut input = Vec::new(rt.alloc());
