@@ -203,16 +203,22 @@ pub run_count : (b : ℕ) (bs : List ℕ) (from to start number : ℕ) → IsDig
 run_count b bs from to start number h = omega (arith, h.count)
 
 -- ---- short decimals
-short_fits : (n m whole fraction s t : ℕ) → whole < s → fraction < t → s ≡ 10 ^ n → t ≡ 10 ^ m → n + m ≤ 16 → (fraction < 10 ^ m) × (whole * 10 ^ m + fraction < 10 ^ 16)
-short_fits n m whole fraction s t w f es et few =
+short_fits : (n m k whole fraction s t : ℕ) → whole < s → fraction < t → s ≡ 10 ^ n → t ≡ 10 ^ m → n + m ≤ k → (fraction < 10 ^ m) × (whole * 10 ^ m + fraction < 10 ^ k)
+short_fits n m k whole fraction s t w f es et few =
     let product : (whole + 1) * 10 ^ m ≤ 10 ^ n * 10 ^ m = mul-le-mul_right (10 ^ m) (omega arith) in
-    let most : 10 ^ (n + m) ≤ 10 ^ 16 = pow-le-pow_right (omega arith) few in
+    let most : 10 ^ (n + m) ≤ 10 ^ k = pow-le-pow_right (omega arith) few in
     (omega arith, omega (arith, product, pow-add 10 n m, most))
 
-pub short_whole : (bs : List ℕ) (first to whole scale : ℕ) (negative : Bool) → IsSignAt bs 0 first negative → IsChunk 10 bs first to whole scale → to ≡ length bs → (to ≡ first → ⊥) → length bs ≤ 16 → IsShortAt bs negative whole 0 0
+pub chunk_of_run : (b : ℕ) (bs : List ℕ) (from to n : ℕ) → IsDigitRun b bs from to 0 n → IsChunk b bs from to n (b ^ (to - from))
+chunk_of_run b bs from to n h = record { run = h; scale_is = ap (λ i. b ^ i) (let same : to - from ≡ length h.digits = omega (arith, h.count) in same) }
+
+pub few_digits : (n e : ℕ) → n < 10 ^ e → e ≤ 16 → n < 10 ^ 16
+few_digits n e h l = let most : 10 ^ e ≤ 10 ^ 16 = pow-le-pow_right (omega arith) l in omega arith
+
+pub short_whole : (bs : List ℕ) (first to whole scale : ℕ) (negative : Bool) → IsSignAt bs 0 first negative → IsChunk 10 bs first to whole scale → to ≡ length bs → (to ≡ first → ⊥) → whole < 10 ^ 16 → IsShortAt bs negative whole 0 0
 short_whole bs first to whole scale negative s h e ne l =
     let p : Parts = parts s.sign h.run.digits None None in
-    let fits = short_fits (length h.run.digits) 0 whole 0 scale 1 (chunk_below 10 bs first to whole scale h) (omega arith) h.scale_is (sym (pow-zero 10)) (omega (arith, h.run.count)) in
+    let fits = short_fits (length h.run.digits) 0 (length bs) whole 0 scale 1 (chunk_below 10 bs first to whole scale h) (omega arith) h.scale_is (sym (pow-zero 10)) (omega (arith, h.run.count)) in
     record {
       parts = p;
       numeral = record {
@@ -226,14 +232,15 @@ short_whole bs first to whole scale negative s h e ne l =
       short = short_by p negative whole 0 0 s.is_negative h.run.spelled refl refl refl;
       below = fits.0;
       digits = fits.1;
+      whole_fits = l;
       few = omega arith;
     }
 
-pub short_parted : (bs : List ℕ) (first point to whole scale fraction scale2 places : ℕ) (negative : Bool) → IsSignAt bs 0 first negative → IsChunk 10 bs first point whole scale → point < length bs → get_or bs point 0 ≡ 46 → IsChunk 10 bs (point + 1) to fraction scale2 → to ≡ length bs → first + 1 < length bs → places + (point + 1) ≡ length bs → length bs ≤ 16 → IsShortAt bs negative whole fraction places
-short_parted bs first point to whole scale fraction scale2 places negative s h l dot k e some pl short =
+pub short_parted : (bs : List ℕ) (first point to whole scale fraction scale2 places : ℕ) (negative : Bool) → IsSignAt bs 0 first negative → IsChunk 10 bs first point whole scale → point < length bs → get_or bs point 0 ≡ 46 → IsChunk 10 bs (point + 1) to fraction scale2 → to ≡ length bs → first + 1 < length bs → places + (point + 1) ≡ length bs → whole < 10 ^ 16 → places ≤ 16 → IsShortAt bs negative whole fraction places
+short_parted bs first point to whole scale fraction scale2 places negative s h l dot k e some pl fit few =
     let p : Parts = parts s.sign h.run.digits (Some k.run.digits) None in
     let long : places ≡ length k.run.digits = omega (arith, k.run.count, pl, e) in
-    let fits = short_fits (length h.run.digits) places whole fraction scale scale2 (chunk_below 10 bs first point whole scale h) (chunk_below 10 bs (point + 1) to fraction scale2 k) h.scale_is (rw long k.scale_is) (omega (arith, h.run.count, k.run.count, long)) in
+    let fits = short_fits (length h.run.digits) places (length bs) whole fraction scale scale2 (chunk_below 10 bs first point whole scale h) (chunk_below 10 bs (point + 1) to fraction scale2 k) h.scale_is (rw long k.scale_is) (omega (arith, h.run.count, k.run.count, long)) in
     record {
       parts = p;
       numeral = record {
@@ -247,7 +254,8 @@ short_parted bs first point to whole scale fraction scale2 places negative s h l
       short = short_by p negative whole fraction places s.is_negative h.run.spelled k.run.spelled long refl;
       below = fits.0;
       digits = fits.1;
-      few = omega (arith, h.run.count, k.run.count, long);
+      whole_fits = fit;
+      few = few;
     }
 
 pub short_parts : (bs : List ℕ) (negative : Bool) (whole fraction places : ℕ) (p : Parts) → IsShortAt bs negative whole fraction places → HasNumeral Dec bs p → IsShortDecimal p negative whole fraction places

@@ -5,14 +5,14 @@
 
 ghost use Rattle.std.specs.Prelude.{◌≡◌, ◌+◌, ◌-◌, ◌*◌, ◌^◌, ◌<◌, ◌≤◌, IfSome, length};
 ghost use Rattle.std.specs.Char.{digit_value};
+ghost use Rattle.fixed_numeral.specs.Numeral.{base};
 ghost use Rattle.fixed_numeral.specs.Inner.Segments.{IsSignAt, IsDigitRun, IsChunk};
 
 use crate::digit_slice::{is_digit, value_of_digit};
-use crate::swar::{
-    are_decimal, first_decimals, last_decimals, likely_digits, number_of_decimals, word_at,
-};
+use crate::radix::Radix;
+use crate::swar::{are_decimal, first_decimals, last_decimals, number_of_decimals, word_at};
 
-/// Digits whose number fits a word.
+/// Digits whose number fits a word, and the scale of what comes after them.
 #[derive(Clone, Copy)]
 pub(crate) struct Chunk {
     /// The number that they spell.
@@ -23,7 +23,7 @@ pub(crate) struct Chunk {
     pub end: usize,
 }
 
-/// At most eight digits.
+/// Digits whose number fits a word.
 #[derive(Clone, Copy)]
 pub(crate) struct Few {
     /// The number that they spell.
@@ -77,6 +77,32 @@ pub(crate) fn digit_below(b: u8, base: u64) -> u64
     } else {
         16
     }
+}
+
+/// The digits of a radix from a place on and before another place, and the number that they spell after the digits of another
+/// number. These come before the first place, so that all of them are at most 16 and fit a word.
+#[inline(always)]
+pub(crate) fn digits_at(bytes: &[u8], radix: Radix, from: usize, limit: usize, start: u64) -> Few
+    requires few { limit ≤ 16 }
+    requires within { limit ≤ length bytes.now }
+    requires place { from ≤ limit }
+    requires start { start < base radix ^ from }
+    ensures run { IsDigitRun (base radix) bytes.now from result.end start result.number }
+    ensures end { result.end ≤ limit }
+    ensures below { result.number < base radix ^ result.end }
+{
+    let base = u64::from(radix.base());
+    let mut number = start;
+    let mut at = from;
+    while at < limit {
+        let digit = digit_below(bytes[at], base);
+        if digit >= base {
+            return Few { number, end: at };
+        }
+        number = number * base + digit;
+        at += 1;
+    }
+    Few { number, end: at }
 }
 
 /// A chunk takes eight more decimal digits as long as its scale is at most this, so that the next scale fits a word.
@@ -207,28 +233,6 @@ fn long_digit_run(bytes: &[u8], base: u64, from: usize, start: u128) -> Option<R
         at = chunk.end;
     }
     Some(Run { number, end: at })
-}
-
-/// The decimal digits from a place on, at most eight, where at least eight bytes are left. None only where they are not what
-/// they seemed.
-#[inline(always)]
-pub(crate) fn leading_decimals(bytes: &[u8], from: usize) -> Option<Few>
-    requires { from + 8 ≤ length bytes.now }
-    ensures { IfSome result (λ r. IsChunk 10 bytes.now from r.end r.number (10 ^ (r.end - from))) }
-{
-    let word = word_at(bytes, from);
-    let count = likely_digits(word);
-    if count == 0 {
-        return Some(Few {
-            number: 0,
-            end: from,
-        });
-    }
-    let number = first_decimals(word, count)?;
-    Some(Few {
-        number,
-        end: from + count,
-    })
 }
 
 /// The number of the bytes from a place on, at most 16 of at least eight, where they are decimal digits.

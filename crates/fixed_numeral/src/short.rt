@@ -1,12 +1,13 @@
 //! Short decimals: from bytes straight to numbers.
 
-ghost use Rattle.std.specs.Prelude.{◌≡◌, ◌+◌, ◌*◌, ◌^◌, ◌<◌, ◌≤◌, false, IfSome, length};
+ghost use Rattle.std.specs.Prelude.{◌≡◌, ◌+◌, ◌-◌, ◌*◌, ◌^◌, ◌<◌, ◌≤◌, false, IfSome, length};
 ghost use Rattle.fixed_numeral.specs.declared.radix.Radix.TheVariants.{Dec};
 ghost use Rattle.fixed_numeral.specs.Numeral.{Parts, HasNumeral, IsNumeral};
 ghost use Rattle.fixed_numeral.specs.PartNumbers.{IsShortDecimal};
 ghost use Rattle.fixed_numeral.specs.Inner.Segments.{IsSignAt, IsChunk, IsShortAt};
 
-use crate::segment::{Chunk, digit_chunk, final_decimals, leading_decimals, sign_at};
+use crate::radix::Radix;
+use crate::segment::{digits_at, final_decimals, sign_at};
 use fixed_steps::Steps;
 use std::sync::ledger::Ledger;
 
@@ -25,17 +26,27 @@ pub struct ShortDecimal {
 }
 
 /// How many bytes a short decimal has at most.
-const MAX_LENGTH: usize = 16;
+const MAX_LENGTH: usize = 24;
 
-/// The digits after a point, where they end with the text.
+/// The place before which the digits before a point end.
+const WHOLE_LIMIT: usize = 16;
+
+/// The number of the digits after a point, at most 16, where they end with the text.
 #[inline(always)]
-fn fraction_at(bytes: &[u8], from: usize) -> Option<Chunk>
-    requires { from ≤ length bytes.now }
-    ensures { IfSome result (λ f. IsChunk 10 bytes.now from f.end f.number f.scale × (f.end ≡ length bytes.now)) }
+fn fraction_at(bytes: &[u8], from: usize) -> Option<u64>
+    requires place { from ≤ length bytes.now }
+    ensures { IfSome result (λ n. IsChunk 10 bytes.now from (length bytes.now) n (10 ^ (length bytes.now - from)) × (length bytes.now ≤ from + 16)) }
 {
-    let fraction = digit_chunk(bytes, 10, from);
-    if fraction.end == bytes.len() {
-        Some(fraction)
+    if bytes.len() >= 8 {
+        if bytes.len() - from > 16 {
+            return None;
+        }
+        let number = final_decimals(bytes, from)?;
+        return Some(number);
+    }
+    let run = digits_at(bytes, Radix::Dec, from, bytes.len(), 0);
+    if run.end == bytes.len() {
+        Some(run.number)
     } else {
         None
     }
@@ -49,7 +60,8 @@ fn decimal_at(bytes: &[u8], negative: bool, first: usize) -> Option<ShortDecimal
     requires sign { IsSignAt bytes.now 0 first negative }
     ensures { IfSome result (λ d. IsShortAt bytes.now d.negative d.whole d.fraction d.places) }
 {
-    let whole = digit_chunk(bytes, 10, first);
+    let limit = bytes.len().min(WHOLE_LIMIT);
+    let whole = digits_at(bytes, Radix::Dec, first, limit, 0);
     let point = whole.end;
     if point == bytes.len() {
         if point == first {
@@ -69,53 +81,21 @@ fn decimal_at(bytes: &[u8], negative: bool, first: usize) -> Option<ShortDecimal
     Some(ShortDecimal {
         negative,
         whole: whole.number,
-        fraction: fraction.number,
-        places: (bytes.len() - point - 1) as u32,
-    })
-}
-
-/// What `decimal_at` answers, by looking at eight bytes at a time where there are as many.
-#[inline(always)]
-fn decimal_by_words(bytes: &[u8], negative: bool, first: usize) -> Option<ShortDecimal>
-    requires place { first ≤ length bytes.now }
-    requires short { length bytes.now ≤ MAX_LENGTH }
-    requires sign { IsSignAt bytes.now 0 first negative }
-    ensures { IfSome result (λ d. IsShortAt bytes.now d.negative d.whole d.fraction d.places) }
-{
-    if bytes.len() - first < 8 {
-        return decimal_at(bytes, negative, first);
-    }
-    let whole = leading_decimals(bytes, first)?;
-    let point = whole.end;
-    if point == bytes.len() {
-        return Some(ShortDecimal {
-            negative,
-            whole: whole.number,
-            fraction: 0,
-            places: 0,
-        });
-    }
-    if bytes[point] != b'.' {
-        // (more than eight whole digits, or another byte)
-        return decimal_at(bytes, negative, first);
-    }
-    let fraction = final_decimals(bytes, point + 1)?;
-    Some(ShortDecimal {
-        negative,
-        whole: whole.number,
         fraction,
         places: (bytes.len() - point - 1) as u32,
     })
 }
 
-/// The numbers of a decimal numeral of at most 16 bytes without an exponent. None otherwise; `compact_numeral` or `scan`
-/// then says more. A step a byte is taken, and none where there are more than 16 bytes.
+/// The numbers of a decimal numeral of at most 24 bytes without an exponent, where the digits before the point come to an end
+/// within the first 16 bytes, and at most 16 come after it. None otherwise; `compact_numeral` or `scan` then says more. A step
+/// a byte is taken, and none where there are more than 24 bytes.
 #[inline]
 pub fn short_decimal<L: Ledger>(s: &[u8], steps: &mut Steps<L>) -> Option<ShortDecimal>
     ensures numeral { IfSome result (λ d. IsNumeral Dec s.now) }
     ensures parts { IfSome result (λ d. (p : Parts) → HasNumeral Dec s.now p → IsShortDecimal p d.negative d.whole d.fraction d.places) }
     ensures fraction { IfSome result (λ d. d.fraction < 10 ^ d.places) }
-    ensures digits { IfSome result (λ d. d.whole * 10 ^ d.places + d.fraction < 10 ^ 16) }
+    ensures digits { IfSome result (λ d. d.whole * 10 ^ d.places + d.fraction < 10 ^ length s.now) }
+    ensures whole { IfSome result (λ d. d.whole < 10 ^ 16) }
     ensures places { IfSome result (λ d. d.places ≤ 16) }
     ensures counted { IfSome result (λ d. steps.new ≡ steps.old + length s.now) }
     ensures cost { steps.new ≤ steps.old + length s.now }
@@ -125,6 +105,6 @@ pub fn short_decimal<L: Ledger>(s: &[u8], steps: &mut Steps<L>) -> Option<ShortD
     }
     steps.advance(s.len() as u64);
     let (negative, first) = sign_at(s, 0);
-    let decimal = decimal_by_words(s, negative, first)?;
+    let decimal = decimal_at(s, negative, first)?;
     Some(decimal)
 }

@@ -8,7 +8,7 @@ ghost use Rattle.fixed_numeral.specs.Inner.Segments.{IsDigitRun, IsMantissaAt, I
 use crate::compact::signed_exponent;
 use crate::radix::Radix;
 use crate::scanner::{is_separator, is_two_separator, max_magnitude};
-use crate::segment::{Few, digit_below, sign_at};
+use crate::segment::{digits_at, sign_at};
 use fixed_steps::Steps;
 use std::sync::ledger::Ledger;
 
@@ -49,30 +49,6 @@ struct ShortPower {
 /// How many bytes a short numeral has at most.
 const MAX_LENGTH: usize = 16;
 
-/// The digits of a radix from a place on, and the number that they spell after the digits of another number. These come before
-/// that place, so that all of them are at most 16 and fit a word.
-#[inline(always)]
-fn digits_at(bytes: &[u8], radix: Radix, from: usize, start: u64) -> Few
-    requires short { length bytes.now ≤ MAX_LENGTH }
-    requires place { from ≤ length bytes.now }
-    requires start { start < base radix ^ from }
-    ensures run { IsDigitRun (base radix) bytes.now from result.end start result.number }
-    ensures below { result.number < base radix ^ result.end }
-{
-    let base = u64::from(radix.base());
-    let mut number = start;
-    let mut at = from;
-    while at < bytes.len() {
-        let digit = digit_below(bytes[at], base);
-        if digit >= base {
-            return Few { number, end: at };
-        }
-        number = number * base + digit;
-        at += 1;
-    }
-    Few { number, end: at }
-}
-
 /// The mantissa from a place on. None where it has no digit.
 #[inline(always)]
 fn mantissa_at(bytes: &[u8], radix: Radix, from: usize) -> Option<ShortMantissa>
@@ -80,7 +56,7 @@ fn mantissa_at(bytes: &[u8], radix: Radix, from: usize) -> Option<ShortMantissa>
     requires place { from ≤ length bytes.now }
     ensures { IfSome result (λ m. IsMantissaAt (base radix) bytes.now from m.end m.number m.places) }
 {
-    let whole = digits_at(bytes, radix, from, 0);
+    let whole = digits_at(bytes, radix, from, bytes.len(), 0);
     let point = whole.end;
     if point == bytes.len() || bytes[point] != b'.' {
         if point == from {
@@ -92,7 +68,7 @@ fn mantissa_at(bytes: &[u8], radix: Radix, from: usize) -> Option<ShortMantissa>
             end: point,
         });
     }
-    let fraction = digits_at(bytes, radix, point + 1, whole.number);
+    let fraction = digits_at(bytes, radix, point + 1, bytes.len(), whole.number);
     if fraction.end == from + 1 {
         return None;
     }
@@ -122,7 +98,7 @@ fn exponent_at(bytes: &[u8], radix: Radix, from: usize) -> Option<ShortPower>
         return None;
     }
     let (negative, first) = sign_at(bytes, from + 1);
-    let run = digits_at(bytes, Radix::Dec, first, 0);
+    let run = digits_at(bytes, Radix::Dec, first, bytes.len(), 0);
     if run.end != bytes.len() || run.end == first || run.number > max_magnitude(negative) {
         return None;
     }

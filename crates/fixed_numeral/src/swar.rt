@@ -67,18 +67,6 @@ pub(crate) fn number_of_decimals(word: u64) -> u64
     number_of_eight(word & 0x0f0f_0f0f_0f0f_0f0f, 10)
 }
 
-/// How many decimal digits a word begins with, for the choice of a path alone: no clause says so, since whoever asks looks at
-/// the digits again. A byte of the sum has its highest bit from the one after '9' on, and one of the difference before '0';
-/// what a byte carries over to the next does not matter, since it is the first other byte that counts.
-#[inline(always)]
-pub(crate) fn likely_digits(word: u64) -> usize
-    ensures { result ≤ 8 }
-{
-    let over = word.wrapping_add(0x4646_4646_4646_4646);
-    let under = word.wrapping_sub(0x3030_3030_3030_3030);
-    ((over | under) & 0x8080_8080_8080_8080).trailing_zeros() as usize / 8
-}
-
 /// The number that the first bytes of a word spell, one to eight, where they are decimal digits. Zeros are put before them.
 #[inline(always)]
 pub(crate) fn first_decimals(word: u64, count: usize) -> Option<u64>

@@ -2,14 +2,14 @@
 
 use crate::error::{ParseErrorKind, ParseFixedError};
 use crate::radix::Radix;
-use crate::{CompactNumeral, ShortDecimal};
+use crate::{CompactNumeral, ShortDecimal, ShortNumeral};
 use std::test::Fail;
 
 mod support;
 
 use support::{
     Views, compact, first, kind_of_bad, lengths, literal, no_literal, reads, refused,
-    refused_bytes, short, short_with, spelled_by,
+    refused_bytes, short, short_in, short_with, spelled_by,
 };
 
 #[test]
@@ -264,6 +264,7 @@ fn short_decimals_are_read(rt: HostRuntime) {
         (b"-1234567890.1234", true, 1234567890, 1234, 4),
         (b"1234567890123456", false, 1234567890123456, 0, 0),
         (b".123456789012345", false, 0, 123456789012345, 15),
+        (b"-1234.1234567890123", true, 1234, 1234567890123, 13),
     ] {
         let want = ShortDecimal {
             negative,
@@ -302,70 +303,93 @@ fn what_is_no_short_decimal_is_left_alone(rt: HostRuntime) {
     }
 }
 
+/// A numeral without a sign, by the numbers of its parts.
+fn unsigned(digits: u128, places: u32, exponent: i32, scales_by_two: bool) -> CompactNumeral {
+    CompactNumeral {
+        negative: false,
+        digits,
+        places,
+        exponent,
+        scales_by_two,
+    }
+}
+
 #[test]
-fn compact_numerals_are_read(rt: HostRuntime) {
-    for (radix, text, digits, places, exponent, scales_by_two) in [
-        (Radix::Dec, "1e2147483647", 1, 0, 2147483647, false),
-        (Radix::Dec, "00.00012@-7", 12, 5, -7, false),
-        (Radix::Dec, "1.5e-2147483648", 15, 1, -2147483648, false),
+fn compact_decimals_are_read(rt: HostRuntime) {
+    for (text, digits, places, exponent) in [
+        ("1e2147483647", 1, 0, 2147483647),
+        ("00.00012@-7", 12, 5, -7),
+        ("1.5e-2147483648", 15, 1, -2147483648),
+        ("1.5E+0000000000000000000000005", 15, 1, 5),
+        ("0000000000000000000000000000000000000000000000001", 1, 0, 0),
         (
-            Radix::Dec,
-            "1.5E+0000000000000000000000005",
-            15,
-            1,
-            5,
-            false,
-        ),
-        (
-            Radix::Dec,
-            "0000000000000000000000000000000000000000000000001",
-            1,
-            0,
-            0,
-            false,
-        ),
-        (
-            Radix::Dec,
             "12345678901234567890.123456789012345678",
             12345678901234567890123456789012345678,
             18,
             0,
-            false,
         ),
         (
-            Radix::Dec,
             "99999999999999999999999999999999999999",
             99999999999999999999999999999999999999,
             0,
             0,
-            false,
         ),
+    ] {
+        let want = unsigned(digits, places, exponent, false);
+        assert!(rt; compact(Radix::Dec, text) == Some(want), "at {text}");
+    }
+}
+
+#[test]
+fn compact_numerals_of_other_radices_are_read(rt: HostRuntime) {
+    for (radix, text, digits, places, exponent, scales_by_two) in [
         (Radix::Hex, "ff.8p-3", 0xff8, 1, -3, true),
         (Radix::Hex, "FE@10", 0xfe, 0, 10, false),
         (Radix::Hex, "1e5", 0x1e5, 0, 0, false),
         (Radix::Oct, "7.7p5", 63, 1, 5, true),
         (Radix::Oct, "7.7e5", 63, 1, 5, false),
         (Radix::Bin, "101.1P1", 11, 1, 1, true),
+        (
+            Radix::Bin,
+            "11111111111111111111111111111111111111111111111111111111111111111111111111111111111111111111111111111111111111111111111111111111",
+            u128::MAX,
+            0,
+            0,
+            false,
+        ),
     ] {
-        let want = CompactNumeral {
-            negative: false,
+        let want = unsigned(digits, places, exponent, scales_by_two);
+        assert!(rt; compact(radix, text) == Some(want), "at {text}");
+    }
+}
+
+#[test]
+fn short_numerals_are_read(rt: HostRuntime) {
+    for (radix, text, digits, places, exponent, scales_by_two) in [
+        (Radix::Dec, "00.00012@-7", 12, 5, -7, false),
+        (
+            Radix::Dec,
+            "9999999999999999",
+            9999999999999999,
+            0,
+            0,
+            false,
+        ),
+        (Radix::Hex, "ffffffffffffffff", u64::MAX, 0, 0, false),
+        (Radix::Hex, "fF.8p-3", 0xff8, 1, -3, true),
+        (Radix::Hex, ".1e5", 0x1e5, 3, 0, false),
+        (Radix::Oct, "7.7e5", 63, 1, 5, false),
+        (Radix::Bin, "101.1P+1", 11, 1, 1, true),
+    ] {
+        let want = ShortNumeral {
             digits,
             places,
             exponent,
+            negative: false,
             scales_by_two,
         };
-        assert!(rt; compact(radix, text) == Some(want), "at {text}");
+        assert!(rt; short_in(radix, text) == Some(want), "at {text}");
     }
-    let ones =
-        "11111111111111111111111111111111111111111111111111111111111111111111111111111111111111111111111111111111111111111111111111111111";
-    let want = CompactNumeral {
-        negative: false,
-        digits: u128::MAX,
-        places: 0,
-        exponent: 0,
-        scales_by_two: false,
-    };
-    assert!(rt; compact(Radix::Bin, ones) == Some(want));
 }
 
 #[test]

@@ -150,6 +150,18 @@ fn block_of_27(block: u128, frac: u32) -> (u64, LostFraction)
     coarser_ulps(ulps, lost, 32 - frac)
 }
 
+/// The ulps of 2^-frac in fraction / 10^places, and what is lost, for at most 13 places.
+#[inline(always)]
+pub fn ulps_of_few_places(fraction: u64, places: u32, frac: u32) -> (u64, LostFraction)
+    requires fraction { fraction < 10 ^ places }
+    requires places { places ≤ 13 }
+    requires frac { frac ≤ 64 }
+    ensures split { IsSplitUlps fraction (10 ^ places) frac result.0 result.1 }
+    ensures below { result.0 < 2 ^ frac }
+{
+    block_of_13(fraction * power_of_ten(13 - places), frac)
+}
+
 /// The ulps of 2^-frac in fraction / 10^places, and what is lost.
 #[inline]
 pub fn ulps_of_fraction(fraction: u128, places: u32, frac: u32) -> (u64, LostFraction)
@@ -160,8 +172,7 @@ pub fn ulps_of_fraction(fraction: u128, places: u32, frac: u32) -> (u64, LostFra
     ensures below { result.0 < 2 ^ frac }
 {
     if places <= 13 {
-        let block = to_u64(fraction) * power_of_ten(13 - places);
-        block_of_13(block, frac)
+        ulps_of_few_places(to_u64(fraction), places, frac)
     } else {
         let block = fraction * u128::from(power_of_ten(27 - places));
         block_of_27(block, frac)

@@ -1,6 +1,6 @@
 //! The core of reading: one reading of a numeral into a format chosen at run time.
 //!
-//! A decimal of at most 16 bytes and a numeral whose digits fit 128 bits are read from the numbers of their parts
+//! A decimal of at most 24 bytes and a numeral whose digits fit 128 bits are read from the numbers of their parts
 //! (`short_numeral`). Any other is scanned, and its digits are looked at (`magnitude`). All other readers are shells over this.
 
 ghost use Rattle.std.specs.Prelude.{◌≡◌, ◌+◌, ◌*◌, ◌^◌, ◌<◌, ◌≤◌, ◌↔◌, ℕ, ℤ, IsTrue, IsOk, IfOk, IfErr, IsNone, IfSome, length};
@@ -25,7 +25,7 @@ ghost use Rattle.fixed_read.specs.Inner.Rounding.{IsMagnitude, IsSplitNumeral};
 use crate::direction::direction_of;
 use crate::magnitude::{Ulps, magnitude};
 use crate::range::{greatest_magnitude, is_above, nearer_end, with_sign, wrapping_image};
-use crate::short_numeral::{compact_ulps, short_decimal_of, short_ulps, ulps_of_decimal};
+use crate::short_numeral::{compact_ulps, short_ulps, ulps_of_short_decimal};
 use fixed_bits::{Format, Policy, ReadMode};
 use fixed_numeral::{
     CompactNumeral, ParseFixedError, Radix, Scanned, ShortDecimal, ShortNumeral, compact_numeral,
@@ -172,13 +172,13 @@ fn number_from(format: Format, negative: bool, ulps: Ulps) -> ReadNumber
 #[inline]
 fn number_of_short(found: ShortDecimal, format: Format, mode: ReadMode) -> ReadNumber
     requires fraction { found.fraction < 10 ^ found.places }
-    requires digits { found.whole * 10 ^ found.places + found.fraction < 10 ^ 16 }
+    requires whole { found.whole < 10 ^ 16 }
     requires places { found.places ≤ 16 }
     ensures reading { (p : Parts) → IsShortDecimal p found.negative found.whole found.fraction found.places → IsReading mode Dec p result }
     ensures format { result.format ≡ format }
 {
     let direction = direction_of(mode, found.negative);
-    let ulps = ulps_of_decimal(short_decimal_of(found), format.frac(), direction);
+    let ulps = ulps_of_short_decimal(found, format.frac(), direction);
     number_from(format, found.negative, ulps)
 }
 
@@ -279,7 +279,7 @@ fn read_compact<L: Ledger>(
     }
 }
 
-/// Reads a decimal of at most 16 bytes without an exponent. None says nothing.
+/// Reads a short decimal without an exponent. None says nothing.
 #[inline]
 fn read_short<L: Ledger>(
     s: &[u8],

@@ -11,7 +11,7 @@ ghost use Rattle.fixed_numeral.specs.Value.{scaled, magnitude};
 ghost use Rattle.fixed_read.specs.Inner.BinaryPower.{up_of, down_of, ups, downs};
 ghost use Rattle.fixed_read.specs.Inner.Rounding.{IsMagnitude, IsLostFraction};
 
-use crate::decimal_block::ulps_of_fraction;
+use crate::decimal_block::{ulps_of_few_places, ulps_of_fraction};
 use crate::digits::power_of_ten;
 use crate::direction::Direction;
 use crate::lost_fraction::LostFraction;
@@ -43,9 +43,9 @@ pub fn ulps_of_decimal(decimal: Decimal, frac: u32, direction: Direction) -> Ulp
 
 /// A short decimal's magnitude.
 #[inline]
-pub fn short_decimal_of(found: ShortDecimal) -> Decimal
+fn short_decimal_of(found: ShortDecimal) -> Decimal
     requires fraction { found.fraction < 10 ^ found.places }
-    requires digits { found.whole * 10 ^ found.places + found.fraction < 10 ^ 16 }
+    requires whole { found.whole < 10 ^ 16 }
     requires places { found.places ≤ 16 }
     ensures whole { result.whole ≡ found.whole }
     ensures fraction { result.fraction ≡ found.fraction }
@@ -56,6 +56,23 @@ pub fn short_decimal_of(found: ShortDecimal) -> Decimal
         fraction: u128::from(found.fraction),
         places: found.places,
     }
+}
+
+/// The magnitude of a short decimal in ulps of 2^-frac. Up to 13 places all but the sum fits a word.
+#[inline(always)]
+pub fn ulps_of_short_decimal(found: ShortDecimal, frac: u32, direction: Direction) -> Ulps
+    requires fraction { found.fraction < 10 ^ found.places }
+    requires whole { found.whole < 10 ^ 16 }
+    requires places { found.places ≤ 16 }
+    requires frac { frac ≤ 64 }
+    ensures { IsMagnitude direction (record { num = found.whole * 10 ^ found.places + found.fraction; den = 10 ^ found.places }) frac result }
+{
+    if found.places > 13 {
+        return ulps_of_decimal(short_decimal_of(found), frac, direction);
+    }
+    let (ulps, lost) = ulps_of_few_places(found.fraction, found.places, frac);
+    let count = shl(u128::from(found.whole), frac) + u128::from(ulps);
+    rounded_ulps(count, lost, direction)
 }
 
 /// digits * 10^up as a decimal. None where it is too large for one.

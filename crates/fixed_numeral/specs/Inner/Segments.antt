@@ -49,11 +49,12 @@ pub record IsExponentAt (r : Radix) (bs : List ℕ) (from : ℕ) (number : ℤ) 
   pub is_number : number ≡ exponent_value exponent
   pub is_by_two : by_two ≡ is_power_of_two r exponent
 
--- the whole text is a decimal without an exponent, of at most 16 bytes
+-- the whole text is a decimal without an exponent
 pub record IsShortAt (bs : List ℕ) (negative : Bool) (whole fraction places : ℕ) : Type 0 where
   pub parts : Parts
   pub numeral : HasNumeral Dec bs parts
   pub short : IsShortDecimal parts negative whole fraction places
   pub below : fraction < 10 ^ places
-  pub digits : whole * 10 ^ places + fraction < 10 ^ 16
+  pub digits : whole * 10 ^ places + fraction < 10 ^ length bs
+  pub whole_fits : whole < 10 ^ 16
   pub few : places ≤ 16

@@ -6,7 +6,8 @@ use crate::error::ParseErrorKind;
 use crate::radix::Radix;
 use crate::scanned::Scanned;
 use crate::{
-    CompactNumeral, DigitView, ShortDecimal, compact_numeral, scan, scan_lit, short_decimal,
+    CompactNumeral, DigitView, ShortDecimal, ShortNumeral, compact_numeral, scan, scan_lit,
+    short_decimal, short_numeral,
 };
 use fixed_steps::Steps;
 use std::marker::Brand;
@@ -254,4 +255,17 @@ pub(super) fn short_with(digits: usize, place: usize, other: u8) -> Option<Short
         text[place] = other;
     }
     short(&text[..end])
+}
+
+fn short_in_over<L: Ledger>(radix: Radix, text: &[u8], blank: Blank) -> Option<ShortNumeral>
+    requires name { blank.name ≡ L.name }
+    requires parts { blank.parts ≡ L.parts }
+    requires backed { 0 < L.parts }
+{
+    let mut steps: Steps<L> = Steps::new(blank);
+    short_numeral(text, radix, &mut steps)
+}
+
+pub(super) fn short_in(radix: Radix, text: &str) -> Option<ShortNumeral> {
+    short_in_over::<Brand>(radix, text.as_bytes(), Blank::new(1))
 }

@@ -4,29 +4,16 @@ use Rattle.fixed_read.proofs.decimal_block.ulps_of_fraction.Goals as goal
 
 pub overflow_mul-block : goal.overflow_mul-block
 overflow_mul-block c =
-    let block : c.to_u64.result * c.power_of_ten.result ≡ c.args.fraction * 10 ^ (13 - c.args.places) = rw (c.to_u64.ensures, c.power_of_ten.ensures) refl in
-    omega (arith, block, padded_room c.args.fraction c.args.places 13 c.requires.fraction c.if-places-le13.true)
-
-pub block_of_13-requires-clause-block : goal.block_of_13-requires-clause-block
-block_of_13-requires-clause-block c = rw (c.to_u64.ensures, c.power_of_ten.ensures) (padded_room c.args.fraction c.args.places 13 c.requires.fraction c.if-places-le13.true)
-
-pub overflow_mul-block-else-places-le13 : goal.overflow_mul-block-else-places-le13
-overflow_mul-block-else-places-le13 c =
-    let power : c.from.result ≡ 10 ^ (27 - c.args.places) = c.from.ensures ∙ c.power_of_ten-else-places-le13.ensures in
+    let power : c.from.result ≡ 10 ^ (27 - c.args.places) = c.from.ensures ∙ c.power_of_ten.ensures in
     let block : c.args.fraction * c.from.result ≡ c.args.fraction * 10 ^ (27 - c.args.places) = ap (λ x. c.args.fraction * x) power in
     omega (arith, block, padded_room c.args.fraction c.args.places 27 c.requires.fraction c.requires.places)
 
 pub block_of_27-requires-clause-block : goal.block_of_27-requires-clause-block
 block_of_27-requires-clause-block c =
-    let power : c.from.result ≡ 10 ^ (27 - c.args.places) = c.from.ensures ∙ c.power_of_ten-else-places-le13.ensures in
+    let power : c.from.result ≡ 10 ^ (27 - c.args.places) = c.from.ensures ∙ c.power_of_ten.ensures in
     rw power (padded_room c.args.fraction c.args.places 27 c.requires.fraction c.requires.places)
-
-pub returns-then-places-le13-clause-split : goal.returns-then-places-le13-clause-split
-returns-then-places-le13-clause-split c =
-    let block : c.to_u64.result * c.power_of_ten.result ≡ c.args.fraction * 10 ^ (13 - c.args.places) = rw (c.to_u64.ensures, c.power_of_ten.ensures) refl in
-    padded_split c.args.fraction c.args.places 13 c.args.frac c.block_of_13.result.0 c.block_of_13.result.1 c.if-places-le13.true (rw block at c.block_of_13.ensures.split)
 
 pub returns-else-places-le13-clause-split : goal.returns-else-places-le13-clause-split
 returns-else-places-le13-clause-split c =
-    let block : c.args.fraction * c.from.result ≡ c.args.fraction * 10 ^ (27 - c.args.places) = ap (λ x. c.args.fraction * x) (c.from.ensures ∙ c.power_of_ten-else-places-le13.ensures) in
+    let block : c.args.fraction * c.from.result ≡ c.args.fraction * 10 ^ (27 - c.args.places) = ap (λ x. c.args.fraction * x) (c.from.ensures ∙ c.power_of_ten.ensures) in
     padded_split c.args.fraction c.args.places 27 c.args.frac c.block_of_27.result.0 c.block_of_27.result.1 c.requires.places (rw block at c.block_of_27.ensures.split)

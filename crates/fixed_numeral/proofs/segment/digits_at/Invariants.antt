@@ -1,0 +1,10 @@
+use Rattle.std.proofs.Common.{◌^◌, ◌<◌, ◌≤◌, ◌-◌}
+use Rattle.fixed_numeral.specs.Numeral.{base}
+use Rattle.fixed_numeral.specs.Inner.Segments.{IsDigitRun}
+use Rattle.fixed_numeral.proofs.segment.digits_at.Given as goal
+
+abbrev pub invariant-loop-at : goal.invariant-loop-at
+invariant-loop-at l = IsDigitRun (base l.fn.radix) l.bytes l.fn.from l.at l.fn.start l.number × (l.number < base l.fn.radix ^ l.at) × (l.at ≤ l.fn.limit)
+
+abbrev pub decreases-loop-at : goal.decreases-loop-at
+decreases-loop-at l = l.fn.limit - l.at
