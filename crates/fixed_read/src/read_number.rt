@@ -257,7 +257,6 @@ fn read_short_numeral<L: Ledger>(
 }
 
 /// Reads a numeral whose digits fit 128 bits. None says nothing.
-#[inline(never)]
 fn read_compact<L: Ledger>(
     s: &[u8],
     radix: Radix,
@@ -321,8 +320,32 @@ fn read_scanned<L: Ledger>(
     }
 }
 
-/// Reads any numeral but a short decimal.
+/// Reads any numeral that no short way reads.
+#[inline(never)]
 fn read_longer<L: Ledger>(
+    s: &[u8],
+    radix: Radix,
+    format: Format,
+    mode: ReadMode,
+    steps: &mut Steps<L>,
+) -> Result<ReadNumber, ParseFixedError>
+    ensures numeral { IsOk result ↔ IsNumeral radix s.now }
+    ensures cause { IfErr result (λ kind. HasCause radix s.now kind) }
+    ensures reading { IfOk result (λ found. (p : Parts) → HasNumeral radix s.now p → IsReading mode radix p found) }
+    ensures format { IfOk result (λ found. found.format ≡ format) }
+    ensures cost { steps.new ≤ steps.old + 3 * length s.now + 8 * format.width + 64 }
+{
+    match read_compact(s, radix, format, mode, steps) {
+        Some(found) => Ok(found),
+        None => read_scanned(s, radix, format, mode, steps),
+    }
+}
+
+/// The length of the longest numeral that `short_numeral` is asked to read.
+const SHORT_LENGTH: usize = 16;
+
+/// Reads any numeral but a short decimal.
+fn read_other<L: Ledger>(
     s: &[u8],
     radix: Radix,
     format: Format,
@@ -335,12 +358,12 @@ fn read_longer<L: Ledger>(
     ensures format { IfOk result (λ found. found.format ≡ format) }
     ensures cost { steps.new ≤ steps.old + 4 * length s.now + 8 * format.width + 64 }
 {
+    if s.len() > SHORT_LENGTH {
+        return read_longer(s, radix, format, mode, steps);
+    }
     match read_short_numeral(s, radix, format, mode, steps) {
         Some(found) => Ok(found),
-        None => match read_compact(s, radix, format, mode, steps) {
-            Some(found) => Ok(found),
-            None => read_scanned(s, radix, format, mode, steps),
-        },
+        None => read_longer(s, radix, format, mode, steps),
     }
 }
 
@@ -367,9 +390,9 @@ pub fn read_format<L: Ledger>(
     match radix {
         Radix::Dec => match read_short(s, format, mode, steps) {
             Some(found) => Ok(found),
-            None => read_longer(s, radix, format, mode, steps),
+            None => read_other(s, radix, format, mode, steps),
         },
-        _ => read_longer(s, radix, format, mode, steps),
+        _ => read_other(s, radix, format, mode, steps),
     }
 }
 
