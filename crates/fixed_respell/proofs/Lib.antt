@@ -9,3 +9,5 @@ mod ExampleLemmas
 mod ReachedExampleLemmas
 mod ReachLemmas
 mod MovingLemmas
+mod TableLemmas
+mod KeyLemmas

@@ -24,12 +24,6 @@ sign_letter false = 85
 abbrev pub fraction_letter : ℕ
 fraction_letter = 70
 
--- the counts of whole and of fraction bits of the format f, in decimal
-pub record HasCounts (f : FormatParts) (whole fraction : List ℕ) : Type 0 where
-  pub format : IsFormat f.width f.frac
-  pub whole_bits : whole ≡ decimal (f.width - f.frac)
-  pub fraction_bits : fraction ≡ decimal f.frac
-
 -- the word of a format
 abbrev pub format_text : FormatParts → List ℕ
 format_text f = sign_letter f.signed ∷ (decimal (f.width - f.frac) ++ fraction_letter ∷ decimal f.frac)

@@ -6,6 +6,7 @@ pub mod answering;
 mod command;
 pub mod fault;
 mod fields;
+mod format_table;
 pub mod laws;
 mod moving;
 pub mod program;

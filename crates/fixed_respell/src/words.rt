@@ -1,12 +1,13 @@
 //! The words of a line: radix, format, policy and mode.
 
-ghost use Rattle.std.specs.Prelude.{◌≡◌, ◌≤◌, ◌<◌, ◌+◌, ◌/◌, ◌%◌, ◌++◌, ◌∷◌, ℕ, List, length, Bool, IsNone, IfSome, MatchOption, decimal};
+ghost use Rattle.std.specs.Prelude.{◌≡◌, ◌≤◌, ◌+◌, ◌++◌, length, Bool, MatchOption, decimal};
 ghost use Rattle.fixed_bits.specs.Formats.{FormatParts};
 ghost use Rattle.fixed_bits.specs.declared.format.Policy.{Policy};
 ghost use Rattle.fixed_bits.specs.declared.mode.ReadMode.{ReadMode};
 ghost use Rattle.fixed_numeral.specs.declared.radix.Radix.{Radix};
-ghost use Rattle.fixed_respell.specs.Words.{HasCounts, IsFormatWord, IsPolicyWord, fraction_letter, mode_text, policy_text, radix_text, sign_letter};
+ghost use Rattle.fixed_respell.specs.Words.{IsFormatWord, IsPolicyWord, mode_text, policy_text, radix_text, sign_letter};
 
+use crate::format_table::{counts_of_key, key_of};
 use crate::split::split_once;
 use arrayvec::ArrayVec;
 use fixed_bits::{Format, Policy, ReadMode};
@@ -71,64 +72,16 @@ pub fn policy_word(word: &[u8]) -> Option<(Policy, ReadMode)>
     }
 }
 
-/// The number of two decimal digits. None where one of them is no digit.
-fn two_digits(tens: u8, ones: u8) -> Option<u32>
-    ensures none { IsNone result → 48 ≤ tens → tens ≤ 57 → 48 ≤ ones → ones ≤ 57 → ⊥ }
-    ensures some { IfSome result (λ n. (n < 100) × (tens ≡ 48 + n / 10) × (ones ≡ 48 + n % 10)) }
-{
-    if tens.is_ascii_digit() && ones.is_ascii_digit() {
-        Some(u32::from(tens - b'0') * 10 + u32::from(ones - b'0'))
-    } else {
-        None
-    }
-}
-
-/// The number below 100 that the word is in decimal, without a leading zero.
-#[inline(always)]
-fn short_number(word: &[u8]) -> Option<u32>
-    ensures number { MatchOption result ((n : ℕ) → n < 100 → ¬ (word.now ≡ decimal n)) (λ n. word.now ≡ decimal n) }
-    ensures short { IfSome result (λ n. n < 100) }
-{
-    match word {
-        [ones] => two_digits(b'0', *ones),
-        [tens, ones] if *tens != b'0' => two_digits(*tens, *ones),
-        _ => None,
-    }
-}
-
-/// The count before the letter of a format's word, which has one digit or two, and what follows the letter.
-fn whole_count(counts: &[u8]) -> Option<(u32, &[u8])>
-    ensures { MatchOption result ((n : ℕ) (rest : List ℕ) → n < 100 → ¬ (counts.now ≡ decimal n ++ fraction_letter ∷ rest)) (λ r. (r.0 < 100) × (counts.now ≡ decimal r.0 ++ fraction_letter ∷ r.1.now)) }
-{
-    if counts.len() > 1 && counts[1] == b'F' {
-        return Some((short_number(&counts[..1])?, &counts[2..]));
-    }
-    if counts.len() > 2 && counts[2] == b'F' {
-        return Some((short_number(&counts[..2])?, &counts[3..]));
-    }
-    None
-}
-
-/// The format of a count of whole bits, and of a word that counts the fraction bits. None where they add up to no width.
-#[inline(always)]
-fn counted_format(signed: bool, whole: u32, fraction: &[u8]) -> Option<Format>
-    requires { whole < 100 }
-    ensures { MatchOption result ((f : FormatParts) → f.signed ≡ signed → HasCounts f (decimal whole) fraction.now → ⊥) (λ f. (f.signed ≡ signed) × HasCounts f (decimal whole) fraction.now) }
-{
-    match short_number(fraction) {
-        Some(fraction) => Format::new(signed, whole + fraction, fraction),
-        None => None,
-    }
-}
-
 /// Whether a format whose word begins with this letter is signed. None where no format's word begins with it.
+#[inline(always)]
 fn named_sign(letter: u8) -> Option<bool>
     ensures { MatchOption result ((s : Bool) → ¬ (letter ≡ sign_letter s)) (λ s. letter ≡ sign_letter s) }
 {
-    match letter {
-        b'I' => Some(true),
-        b'U' => Some(false),
-        _ => None,
+    let turn = letter / 16 % 2;
+    if letter == b'I' + 12 * turn {
+        Some(turn == 0)
+    } else {
+        None
     }
 }
 
@@ -138,11 +91,11 @@ fn named_sign(letter: u8) -> Option<bool>
 pub fn format_word(word: &[u8]) -> Option<Format>
     ensures { MatchOption result ((f : FormatParts) → ¬ IsFormatWord word.now f) (λ f. IsFormatWord word.now f) }
 {
-    if word.is_empty() {
+    if word.len() < 4 || word.len() > 6 {
         return None;
     }
-    match (named_sign(word[0]), whole_count(&word[1..])) {
-        (Some(signed), Some((whole, fraction))) => counted_format(signed, whole, fraction),
+    match (named_sign(word[0]), counts_of_key(key_of(word))) {
+        (Some(signed), Some((width, frac))) => Some(Format::new(signed, width, frac).unwrap()),
         _ => None,
     }
 }

@@ -40,7 +40,7 @@ spaced_length (word ∷ words) rest = omega (arith, length-append word (space �
 pub rest_short : (line : List ℕ) (words : List (List ℕ)) (rest : List ℕ) → HasWords line words rest → length rest ≤ length line
 rest_short line words rest has = omega (arith, ap length has.text, spaced_length words rest)
 
--- one word more at the front
+-- one word more before the others
 pub word_more : (bytes word after : List ℕ) (words : List (List ℕ)) (rest : List ℕ) → IsSplit space bytes word after → HasWords after words rest → HasWords bytes (word ∷ words) rest
 word_more bytes word after words rest split has = record {
   text = split.split ∙ ap (λ t. word ++ space ∷ t) has.text;

@@ -1,12 +1,21 @@
-use Rattle.std.proofs.Common.{◌≡◌, ◌<◌, ◌-◌, length, take, drop, sym, ◌∙◌, arith, take_all, length-drop}
-use Rattle.std.specs.Fmt.{decimal}
-use Rattle.fixed_respell.specs.Lemmas.FormatLemmas.{worded, decimal_no_letter}
+use Rattle.std.proofs.Common.{arith}
+use Rattle.fixed_respell.proofs.KeyLemmas.{each_below, made, named, word_length}
 use Rattle.fixed_respell.proofs.words.format_word.Goals as goal
+use Rattle.fixed_respell.proofs.words.format_word.Goals.{then-word-lt4-via-then-word-lt4, then-word-lt4-via-else-word-lt4+then-word-gt6}
+
+pub returns-then-word-lt4 : goal.returns-then-word-lt4
+returns-then-word-lt4 c f is =
+    let l = word_length c.args.word.now f is in
+    elim c.then-word-lt4.branch [
+      | then-word-lt4-via-then-word-lt4 w ↦ omega (arith, l.0, w.if-word-lt4.true)
+      | then-word-lt4-via-else-word-lt4+then-word-gt6 w ↦ omega (arith, l.1, w.if-word-gt6.true)
+    ]
+
+pub unwrap-requires : goal.unwrap-requires
+unwrap-requires c = c.new.ensures.exists.1 c.in-Some-Some.ensures'.0
 
 pub returns-in-Some-Some : goal.returns-in-Some-Some
 returns-in-Some-Some c =
-    let word = c.args.word.now in
     let parts = c.in-Some-Some in
-    let some : 0 < length word = grind (arith, c.is_empty.ensures, c.if-is_empty.false) in
-    let all : take (length word - 1) (drop 1 word) ≡ drop 1 word = take_all (length word - 1) (drop 1 word) (omega (arith, length-drop 1 word)) in
-    worded c.counted_format.result word (decimal parts.whole) parts.fraction.now parts.signed some parts.ensures (record { split = sym all ∙ parts.ensures'.1; first = decimal_no_letter parts.whole (omega (arith, parts.ensures'.0)) }) c.counted_format.ensures
+    let word = c.args.word.now in
+    made c.new.result c.unwrap.result word parts.signed parts.width parts.frac (named word c.key_of.result parts.signed parts.width parts.frac (omega (arith, c.if-word-lt4.false)) (omega (arith, c.if-word-gt6.false)) (each_below word (λ k. omega (arith, c.type_inv.word k))) parts.ensures c.key_of.ensures.key parts.ensures'.0 parts.ensures'.1) c.unwrap.ensures c.new.ensures.parts
