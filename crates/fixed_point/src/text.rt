@@ -1,6 +1,6 @@
 //! The texts of a number, in buffers that take no memory.
 
-ghost use Rattle.std.specs.Prelude.{◌≡◌, ◌≤◌, ◌<◌, false};
+ghost use Rattle.std.specs.Prelude.{◌≡◌, ◌≤◌, ◌<◌, [], false};
 ghost use Rattle.std.specs.Str.{IsAscii};
 ghost use Rattle.fixed_bits.specs.Ranges.{IsWide};
 ghost use Rattle.fixed_write.specs.Bases.{number_of, has_capitals};
@@ -28,24 +28,37 @@ pub(crate) fn default_text(value: i128, frac: u32) -> ShownText
     ensures text { result ≡ shortest_text value frac }
     ensures ascii { IsAscii result }
 {
-    counted_text::<Brand>(value, frac, Blank::new(1))
+    let mut text = TextBuffer::new();
+    push_default(&mut text, value, frac);
+    text
 }
 
-/// The shortest decimal text, with its steps on a counter that nobody reads.
+/// Appends the shortest decimal text to an empty one.
 #[inline]
-fn counted_text<L: Ledger>(value: i128, frac: u32, blank: Blank) -> ShownText
+pub(crate) fn push_default(text: &mut ShownText, value: i128, frac: u32)
+    requires empty { text.old ≡ [] }
+    requires wide { IsWide value }
+    requires frac { frac ≤ 64 }
+    ensures text { text.new ≡ shortest_text value frac }
+    ensures ascii { IsAscii text.new }
+{
+    push_counted::<Brand>(text, value, frac, Blank::new(1));
+}
+
+/// Appends the shortest decimal text to an empty one, with its steps on a counter that nobody reads.
+#[inline]
+fn push_counted<L: Ledger>(text: &mut ShownText, value: i128, frac: u32, blank: Blank)
+    requires empty { text.old ≡ [] }
     requires wide { IsWide value }
     requires frac { frac ≤ 64 }
     requires name { blank.name ≡ L.name }
     requires parts { blank.parts ≡ L.parts }
     requires backed { 0 < L.parts }
-    ensures text { result ≡ shortest_text value frac }
-    ensures ascii { IsAscii result }
+    ensures text { text.new ≡ shortest_text value frac }
+    ensures ascii { IsAscii text.new }
 {
     let mut steps: Steps<L> = Steps::new(blank);
-    let mut text = TextBuffer::new();
-    push_shortest(&mut text, value, frac, &mut steps);
-    text
+    push_shortest(text, value, frac, &mut steps);
 }
 
 /// The bits and the fraction length, as `(bits >> FRAC)`.
