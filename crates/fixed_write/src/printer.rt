@@ -66,9 +66,7 @@ pub(crate) fn push_sign<const N: usize>(out: &mut TextBuffer<N>, value: i128)
     requires { length out.old < N }
     ensures { out.new ≡ out.old ++ sign_text (is_negative value) }
 {
-    if value < 0 {
-        out.push(b'-');
-    }
+    out.push_if(b'-', value < 0);
 }
 
 /// How far a number is from zero.

@@ -4,7 +4,7 @@
 //! call that appends says exactly what it appended. Clearing it and cutting it back only set the length.
 #![tactic(auto)]
 
-ghost use Rattle.std.specs.Prelude.{◌≡◌, ◌+◌, ◌<◌, ◌≤◌, ◌++◌, ◌↔◌, [], ◌∷◌, length, take, IsTrue};
+ghost use Rattle.std.specs.Prelude.{◌≡◌, ◌+◌, ◌<◌, ◌≤◌, ◌++◌, ◌↔◌, [], ◌∷◌, length, take, if◌then◌else◌, IsTrue};
 ghost use Rattle.std.specs.Str.{IsAscii};
 
 use std::marker::Model;
@@ -74,6 +74,17 @@ impl<const N: usize> TextBuffer<N> {
     {
         self.bytes[self.len] = byte;
         self.len += 1;
+    }
+
+    /// Appends a byte where `is_wanted`, else nothing; either way at the same cost, without a branch. There must be room
+    /// for it.
+    #[inline]
+    pub fn push_if(&mut self, byte: u8, is_wanted: bool)
+        requires room { length self.old < N }
+        ensures { self.new ≡ self.old ++ (if is_wanted then byte ∷ [] else []) }
+    {
+        self.bytes[self.len] = byte;
+        self.len += is_wanted as usize;
     }
 
     /// Appends bytes. There must be room for all of them.

@@ -6,7 +6,8 @@ use crate::TextBuffer;
 fn each_call_appends_what_it_is_given(rt: HostRuntime) {
     let mut text: TextBuffer<20> = TextBuffer::new();
     assert!(rt; text.is_empty());
-    text.push(b'-');
+    text.push_if(b'+', false);
+    text.push_if(b'-', true);
     text.push_bytes(b"12");
     text.push_prefix(*b"3456789012345678", 3);
     assert!(rt; text.as_bytes() == b"-12345".as_slice());
