@@ -1,4 +1,4 @@
-use Rattle.std.proofs.Common.{◌≡◌, ◌-◌, ◌*◌, ◌^◌, ◌∙◌, ap, arith, refl}
+use Rattle.std.proofs.Common.{◌≡◌, ◌-◌, ◌*◌, ◌^◌, ◌∙◌, ap, arith}
 use Rattle.fixed_read.proofs.ShortNumeralLemmas.{padded_room, padded_split}
 use Rattle.fixed_read.proofs.decimal_block.ulps_of_fraction.Goals as goal
 
