@@ -11,7 +11,7 @@ low_value_is b h = grind arith
 pub value_zero : (b : ℕ) → digit_value b ≡ 0 → b ≡ 48
 value_zero b h = grind arith
 
--- a letter is told by the place 64 of its byte
+-- the bit 64 of its byte tells a letter from a digit
 pub letter_is : (b : ℕ) → digit_value b < 16 → (b < 128) × (b % 16 + b / 64 * 9 ≡ digit_value b)
 letter_is b h = let small : b < 128 = grind arith in (small, value_is b h (omega arith))
 

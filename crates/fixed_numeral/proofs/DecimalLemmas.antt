@@ -34,7 +34,7 @@ low_halves (b ∷ bs) h =
 pub decimals_are : (word : ℕ) (bs : List ℕ) → length bs ≡ 8 → AllDigits 10 bs → word ≡ number_l 256 bs → bit_and word 0x0f0f_0f0f_0f0f_0f0f ≡ number_l 256 (map digit_value bs)
 decimals_are word bs l h e = rw e (rw l at (low_halves bs h))
 
--- ---- the last few of eight bytes, behind zeros
+-- ---- the last few of eight bytes, after zeros
 few_last : (r a b c d f g i j : ℕ) → 0 < r → r ≤ 8 → AllBelowBase 256 (a ∷ b ∷ c ∷ d ∷ f ∷ g ∷ i ∷ j ∷ []) → number_l 256 (a ∷ b ∷ c ∷ d ∷ f ∷ g ∷ i ∷ j ∷ []) / 2 ^ (64 - 8 * r) * 2 ^ (64 - 8 * r) + 0x0030_3030_3030_3030 / 2 ^ (8 * r - 8) ≡ number_l 256 (replicate (8 - r) 48 ++ drop (8 - r) (a ∷ b ∷ c ∷ d ∷ f ∷ g ∷ i ∷ j ∷ []))
 few_last zero a b c d f g i j p s h = absurd (omega arith)
 few_last (suc zero) a b c d f g i j p s h = omega arith

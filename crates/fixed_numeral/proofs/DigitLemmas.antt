@@ -18,7 +18,7 @@ unfolding digits_in
 digits_in_append [] ys = refl
 digits_in_append (x ∷ xs) ys = rw (digits_in_append xs ys) (sym (cons_front (nat_lt (digit_value x) 16) (digit_value x) (digits_in xs) (digits_in ys)))
 
--- a digit in front, or another byte
+-- a digit before others, or another byte
 pub digit_before : (b d : ℕ) (bs : List ℕ) → d ≡ digit_value b → d < 16 → digits_in (b ∷ bs) ≡ d ∷ digits_in bs
 unfolding digits_in
 digit_before b d bs e h =
@@ -53,7 +53,7 @@ digits_le (b ∷ bs) = shorter (nat_lt (digit_value b) 16) (digit_value b) (digi
     shorter true x ds bs h = omega arith
     shorter false x ds bs h = omega arith
 
--- a front of the digits
+-- a prefix of the digits
 pub split_front : (bs : List ℕ) (k i : ℕ) → length (digits_in (take k bs)) ≡ i → digits_in (take k bs) ≡ take i (digits_in bs)
 split_front bs k i e = sym (ap (take i) (ap digits_in (sym (take-append-drop k bs)) ∙ digits_in_append (take k bs) (drop k bs)) ∙ take_at (digits_in (take k bs)) (digits_in (drop k bs)) i e)
 

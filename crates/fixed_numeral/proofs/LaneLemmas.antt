@@ -234,7 +234,7 @@ eight_below bs i l t = rw (eight_bytes bs i l) (t i, (t (i + 1), (t (i + 2), (t 
 pub eight_long : (bs : List ℕ) (i : ℕ) → i + 8 ≤ length bs → length (take 8 (drop i bs)) ≡ 8
 eight_long bs i l = omega (arith, length-take 8 (drop i bs), length-drop i bs)
 
--- ---- eight digits behind others
+-- ---- eight digits after others
 pub after_eight : (m n : ℕ) (ds : List ℕ) → length ds ≡ 8 → number_from_digits_after m n ds ≡ n * (m * m * (m * m) * (m * m * (m * m))) + number_from_digits m ds
 after_eight m n [] l = absurd (omega arith)
 after_eight m n (a ∷ []) l = absurd (omega arith)
@@ -247,7 +247,7 @@ after_eight m n (a ∷ b ∷ c ∷ d ∷ f ∷ g ∷ i ∷ []) l = absurd (omega
 after_eight m n (a ∷ b ∷ c ∷ d ∷ f ∷ g ∷ i ∷ j ∷ k ∷ ds) l = absurd (omega arith)
 after_eight m n (a ∷ b ∷ c ∷ d ∷ f ∷ g ∷ i ∷ j ∷ []) l = omega arith
 
--- ---- the first few of eight digits, behind zeros
+-- ---- the first few of eight digits, after zeros
 few : (r a b c d f g i j : ℕ) → 0 < r → r < 8 → AllBelowBase 256 (a ∷ b ∷ c ∷ d ∷ f ∷ g ∷ i ∷ j ∷ []) → number_l 256 (a ∷ b ∷ c ∷ d ∷ f ∷ g ∷ i ∷ j ∷ []) * 2 ^ (64 - 8 * r) % 2 ^ 64 ≡ number_l 256 (zeros (8 - r) ++ take r (a ∷ b ∷ c ∷ d ∷ f ∷ g ∷ i ∷ j ∷ []))
 few zero a b c d f g i j p s h = absurd (omega arith)
 few (suc zero) a b c d f g i j p s h = omega arith

@@ -26,7 +26,7 @@ point_passed : (f : Option (List ℕ)) → digits_in (fraction_text f) ≡ digit
 point_passed None = refl
 point_passed (Some ds) = other_before 46 ds (omega arith)
 
--- so the whole digits stand first, and the fraction's behind them
+-- the whole digits come first, and the digits of the fraction after them
 pub unsigned_digits : (w : List ℕ) (f : Option (List ℕ)) (ys : List ℕ) → digits_in (w ++ (fraction_text f ++ ys)) ≡ digits_in w ++ (digits_in (fractional_digits f) ++ digits_in ys)
 unsigned_digits w f ys = digits_in_append w (fraction_text f ++ ys) ∙ ap (λ ds. digits_in w ++ ds) (digits_in_append (fraction_text f) ys ∙ ap (λ ds. ds ++ digits_in ys) (point_passed f))
 

@@ -23,7 +23,7 @@ some_inside : (xs ys : List ℕ) (c : ℕ) → [] ≡ xs ++ c ∷ ys → ⊥
 some_inside [] ys c e = absurd (cc)
 some_inside (x ∷ xs) ys c e = absurd (cc)
 
--- a byte of a list with one more is that one, or stands before
+-- a byte of a list with one more is that one, or is before it
 push_cases : (bs xs ys : List ℕ) (b c : ℕ) → bs ++ b ∷ [] ≡ xs ++ c ∷ ys → ((bs ≡ xs) × (b ≡ c)) ⊎ ((zs : List ℕ) × (bs ≡ xs ++ c ∷ zs))
 push_cases [] [] ys b c e = inl (refl, cc)
 push_cases [] (x ∷ xs) ys b c e = let k : [] ≡ xs ++ c ∷ ys = cc in absurd (some_inside xs ys c k)
@@ -251,7 +251,7 @@ front_whole r bs st a = literal_whole r bs a.parts st.whole_len a.beginning.begi
 pub front_fraction : (r : Radix) (bs : List ℕ) (st : State) (a : IsLiteralAfter r bs st) → take st.fraction_len (drop st.whole_len (digits_in bs)) ≡ digits_in (fractional_digits a.parts.fraction)
 front_fraction r bs st a = literal_fraction r bs a.parts st.whole_len st.fraction_len a.beginning.beginning (unsigned_parts r bs st a) a.agrees.whole a.agrees.fraction
 
--- there are so many digits
+-- how many digits there are
 pub front_fits : (r : Radix) (bs : List ℕ) (st : State) (a : IsLiteralAfter r bs st) → st.whole_len ≤ length (digits_in bs)
 front_fits r bs st a = omega (arith, ap length (front_whole r bs st a), whole_count r a.parts a.beginning.beginning.parts, a.agrees.whole, length-take st.whole_len (digits_in bs))
 
@@ -267,7 +267,7 @@ pub step_result : (r : Radix) (bs : List ℕ) (p : Parts) (st : State) (b : ℕ)
 step_result r bs p st b (Ok next) h a ne e l m = step_goes_on r bs p st next b h a ne e l m
 step_result r bs p st b (Err kind) h a ne e l m = other_stuck r bs p b kind e m
 
--- the parts of a rest with a sign in front are those of a numeral
+-- the parts of a rest with a sign before it are those of a numeral
 pub signed_parts : (r : Radix) (p : Parts) (s : Option ℕ) → IfSome s (λ b. IsTrue (is_sign b)) → IsPartsOf r p → IsPartsOf r (record p { sign = s })
 signed_parts r p s k h = record { sign = k; whole = h.whole; fraction = h.fraction; exponent = h.exponent }
 

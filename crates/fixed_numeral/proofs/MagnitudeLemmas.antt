@@ -27,7 +27,7 @@ digits_in_all b (d ∷ ds) l h =
     let t : nat_lt (digit_value d) 16 ≡ true = lt-ltb _ _ (omega (arith, h.0)) in
     rw t (ap (λ xs. digit_value d ∷ xs) (digits_in_all b ds l h.1))
 
--- ---- how the exponent moves the point: n is what the views spell, m the mantissa, f the base's power behind the point
+-- ---- how the exponent moves the point: n is what the views spell, m the mantissa, f the base's power after the point
 abbrev pub Moves : ℕ → ℕ → ℕ → ℕ → ℕ → ℕ → ℕ → Type 0
 Moves b n m f s up down = (u d : ℕ) → u + (s + down) ≡ d + up → n * 2 ^ 0 * b ^ d ≡ m * b ^ u * f
 

@@ -24,7 +24,7 @@ power_fits n b i count p e two l room =
     let product : b ^ (i + 1) * n ≤ b ^ count * n = mul-le-mul_right n le in
     omega (arith, power_more n b i p e, pow-zero b)
 
--- ---- two pieces, and the zeros behind them
+-- ---- two pieces, and the zeros after them
 view_below : (b before : ℕ) (l r : List ℕ) (after : ℕ) → AllBelowBase b (between_zeros before l r after) → AllBelowBase b l × AllBelowBase b r
 unfolding between_zeros
 view_below b before l r after h =

@@ -1,4 +1,4 @@
--- A byte at a time: what the next byte may be, and that it is told by the bytes before it.
+-- A byte at a time: what the next byte may be, and that the bytes before it determine it.
 use Rattle.std.proofs.Common.{◌≡◌, ℕ, ◌+◌, ◌*◌, ◌^◌, ◌<◌, ◌≤◌, ◌⊎◌, Bool, true, false, cond, ◌&&◌, ◌||◌, nat_lt, ◌==◌, IsTrue, List, [], ◌∷◌, ◌++◌, Option, Some, None, IfSome, is_none, option_to_list, option_and_then, pos, neg_ℤ, FitsSigned, refl, sym, ◌∙◌, inl, inr, ⊎_elim, arith, w32, append_assoc, append-nil}
 use Rattle.std.specs.Char.{digit_value}
 use Rattle.std.specs.Str.Parse.{AllDigits, digits_value}

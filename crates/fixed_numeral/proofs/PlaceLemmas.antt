@@ -12,7 +12,7 @@ use Rattle.fixed_numeral.specs.Digits.{zeros, between_zeros}
 use Rattle.fixed_numeral.specs.Place.{NoLeadingZero, NoTrailingZero}
 use Rattle.fixed_numeral.specs.Inner.MovedPoint.{IsWithoutLeading, IsWithoutTrailing, IsPlaced, moved}
 
--- ---- zeros before and behind a view
+-- ---- zeros before and after a view
 pub zeros_before : (n b : ℕ) (l r : List ℕ) (a : ℕ) → between_zeros (n + b) l r a ≡ zeros n ++ between_zeros b l r a
 unfolding between_zeros
 zeros_before n b l r a = ap (λ zs. zs ++ (l ++ (r ++ zeros a))) (sym (replicate-append-replicate n b 0)) ∙ append_assoc (zeros n) (zeros b) (l ++ (r ++ zeros a))

@@ -34,7 +34,7 @@ pub and_false : (x y : Bool) → y ≡ false → (x && y) ≡ false
 and_false true y e = e
 and_false false y e = refl
 
--- ---- digits, so many at once
+-- ---- several digits at once
 pub digits_append : (b : ℕ) (xs ys : List ℕ) → AllDigits b xs → AllDigits b ys → AllDigits b (xs ++ ys)
 digits_append b [] ys h k = k
 digits_append b (x ∷ xs) ys h k = (h.0, digits_append b xs ys h.1 k)
@@ -196,7 +196,7 @@ other_before r st b bs s w None None h a ns nd nk np d = record {
   is_kind = rw (d, np) refl;
 }
 
--- ---- behind a separator
+-- ---- after a separator
 
 decimal_digit : (b : ℕ) → is_digit Dec b ≡ true → digit_value b ≡ b - 48
 decimal_digit b d = decimal_by b (ltb-true _ _ d)
@@ -476,7 +476,7 @@ run_more b bs from at h l d =
     let same : get_or (drop from bs) (at - from) 0 ≡ get_or bs at 0 = get_or-drop from bs (at - from) 0 ∙ ap (λ i. get_or bs i 0) there in
     record { prefix = omega (arith, h.prefix); within = omega arith; digits = rw e (digits_more b (drop from bs) (at - from) (omega (arith, length-drop from bs, h.prefix)) h.digits (rw same d)) }
 
--- so many more of them
+-- more of them
 pub run_on : (b : ℕ) (bs : List ℕ) (from at n : ℕ) → IsRun b bs from at → at + n ≤ length bs → AllDigits b (take n (drop at bs)) → IsRun b bs from (at + n)
 run_on b bs from at n h l d =
     let e : at + n - from ≡ at - from + n = omega (arith, h.prefix) in
@@ -484,7 +484,7 @@ run_on b bs from at n h l d =
     let next : take n (drop (at - from) (drop from bs)) ≡ take n (drop at bs) = ap (take n) (drop-drop (at - from) from bs ∙ ap (λ i. drop i bs) there) in
     record { prefix = omega (arith, h.prefix); within = l; digits = rw (e, take-add (at - from) n (drop from bs), next) (digits_append b (take (at - from) (drop from bs)) (take n (drop at bs)) h.digits d) }
 
--- a byte that is so near behind '0'
+-- a byte that is so near after '0'
 pub low_digit : (b n : ℕ) → b < 256 → n ≤ 10 → (b + (256 - 48)) % 256 < n → digit_value b < n
 low_digit b n h s l = ⊎_elim (λ (k : b < 48). absurd (omega arith)) (λ (k : 48 ≤ b). near_zero b n s k (omega arith)) (cases_lt b 48)
 
