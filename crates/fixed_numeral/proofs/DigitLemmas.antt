@@ -9,14 +9,14 @@ pub digits_in_none : digits_in [] ≡ []
 unfolding digits_in
 digits_in_none = refl
 
-cons_front : (c : Bool) (x : ℕ) (xs ys : List ℕ) → cond c (x ∷ xs) xs ++ ys ≡ cond c (x ∷ (xs ++ ys)) (xs ++ ys)
-cons_front true x xs ys = refl
-cons_front false x xs ys = refl
+cons_prefix : (c : Bool) (x : ℕ) (xs ys : List ℕ) → cond c (x ∷ xs) xs ++ ys ≡ cond c (x ∷ (xs ++ ys)) (xs ++ ys)
+cons_prefix true x xs ys = refl
+cons_prefix false x xs ys = refl
 
 pub digits_in_append : (xs ys : List ℕ) → digits_in (xs ++ ys) ≡ digits_in xs ++ digits_in ys
 unfolding digits_in
 digits_in_append [] ys = refl
-digits_in_append (x ∷ xs) ys = rw (digits_in_append xs ys) (sym (cons_front (nat_lt (digit_value x) 16) (digit_value x) (digits_in xs) (digits_in ys)))
+digits_in_append (x ∷ xs) ys = rw (digits_in_append xs ys) (sym (cons_prefix (nat_lt (digit_value x) 16) (digit_value x) (digits_in xs) (digits_in ys)))
 
 -- a digit before others, or another byte
 pub digit_before : (b d : ℕ) (bs : List ℕ) → d ≡ digit_value b → d < 16 → digits_in (b ∷ bs) ≡ d ∷ digits_in bs
@@ -54,8 +54,8 @@ digits_le (b ∷ bs) = shorter (nat_lt (digit_value b) 16) (digit_value b) (digi
     shorter false x ds bs h = omega arith
 
 -- a prefix of the digits
-pub split_front : (bs : List ℕ) (k i : ℕ) → length (digits_in (take k bs)) ≡ i → digits_in (take k bs) ≡ take i (digits_in bs)
-split_front bs k i e = sym (ap (take i) (ap digits_in (sym (take-append-drop k bs)) ∙ digits_in_append (take k bs) (drop k bs)) ∙ take_at (digits_in (take k bs)) (digits_in (drop k bs)) i e)
+pub split_prefix : (bs : List ℕ) (k i : ℕ) → length (digits_in (take k bs)) ≡ i → digits_in (take k bs) ≡ take i (digits_in bs)
+split_prefix bs k i e = sym (ap (take i) (ap digits_in (sym (take-append-drop k bs)) ∙ digits_in_append (take k bs) (drop k bs)) ∙ take_at (digits_in (take k bs)) (digits_in (drop k bs)) i e)
 
 pub split_back : (bs : List ℕ) (k i : ℕ) → length (digits_in (take k bs)) ≡ i → digits_in (drop k bs) ≡ drop i (digits_in bs)
 split_back bs k i e = sym (ap (drop i) (ap digits_in (sym (take-append-drop k bs)) ∙ digits_in_append (take k bs) (drop k bs)) ∙ drop_at (digits_in (take k bs)) (digits_in (drop k bs)) i e)
@@ -79,14 +79,14 @@ rest_is bs ds i d same l none e h = sym same ∙ first_is bs i d l none e h ∙ 
 pub back_is : (bs ds : List ℕ) (k i : ℕ) → digits_in bs ≡ ds → length (digits_in (take k bs)) ≡ i → digits_in (take (length bs - k) (drop k bs)) ≡ drop i ds
 back_is bs ds k i same e = ap digits_in (take_rest bs k) ∙ split_back bs k i e ∙ ap (drop i) same
 
-pub front_is : (bs ds : List ℕ) (k i : ℕ) → digits_in bs ≡ ds → length (digits_in (take k bs)) ≡ i → digits_in (take k bs) ≡ take i ds
-front_is bs ds k i same e = split_front bs k i e ∙ ap (take i) same
+pub prefix_is : (bs ds : List ℕ) (k i : ℕ) → digits_in bs ≡ ds → length (digits_in (take k bs)) ≡ i → digits_in (take k bs) ≡ take i ds
+prefix_is bs ds k i same e = split_prefix bs k i e ∙ ap (take i) same
 
-pub plain_front : (bs ds : List ℕ) (n i : ℕ) → digits_in bs ≡ ds → n ≡ length (digits_in bs) → n ≡ length bs → i ≤ length ds → (length (digits_in (take i bs)) ≡ i) × (length (take i bs) ≡ i) × (digits_in (take i bs) ≡ take i ds)
-plain_front bs ds n i same m e l =
+pub plain_prefix : (bs ds : List ℕ) (n i : ℕ) → digits_in bs ≡ ds → n ≡ length (digits_in bs) → n ≡ length bs → i ≤ length ds → (length (digits_in (take i bs)) ≡ i) × (length (take i bs) ≡ i) × (digits_in (take i bs) ≡ take i ds)
+plain_prefix bs ds n i same m e l =
     let within : i ≤ length bs = omega (arith, ap length same) in
     let counted : length (digits_in (take i bs)) ≡ i = all_counted bs i (omega arith) within in
-    (counted, omega (arith, length-take i bs), front_is bs ds i i same counted)
+    (counted, omega (arith, length-take i bs), prefix_is bs ds i i same counted)
 
 abbrev pub IsDigitOf : ℕ → Option ℕ → Type 0
 IsDigitOf b o = MatchOption o (16 ≤ digit_value b) (λ d. (d ≡ digit_value b) × (d < 16))

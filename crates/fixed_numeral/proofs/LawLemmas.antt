@@ -72,11 +72,11 @@ at_end r bs p h = by_mantissa (is_nil (mantissa p)) refl
 
 at_byte : (r : Radix) (xs : List ℕ) (y : ℕ) (ys : List ℕ) (p : Parts) → HasParts r xs p → step r p y ≡ None → HasCause r (xs ++ y ∷ ys) (kind_of r p (Some y))
 at_byte r xs y ys p h e =
-    let front : take (length xs) (xs ++ y ∷ ys) ≡ xs = take_at xs (y ∷ ys) (length xs) refl in
+    let initial : take (length xs) (xs ++ y ∷ ys) ≡ xs = take_at xs (y ∷ ys) (length xs) refl in
     let there : get_or (xs ++ y ∷ ys) (length xs) 0 ≡ y = byte_at xs in
-    let h' : HasParts r (take (length xs) (xs ++ y ∷ ys)) p = rw front h in
+    let h' : HasParts r (take (length xs) (xs ++ y ∷ ys)) p = rw initial h in
     let none : CannotExtend r xs p y (kind_of r p (Some y)) = record { none = stuck r xs p y h e; is_kind = refl } in
-    let none' : CannotExtend r (take (length xs) (xs ++ y ∷ ys)) p (get_or (xs ++ y ∷ ys) (length xs) 0) (kind_of r p (Some y)) = rw (front, there) none in
+    let none' : CannotExtend r (take (length xs) (xs ++ y ∷ ys)) p (get_or (xs ++ y ∷ ys) (length xs) 0) (kind_of r p (Some y)) = rw (initial, there) none in
     stuck_cause r (xs ++ y ∷ ys) (length xs) p (kind_of r p (Some y)) (omega (arith, length-append xs (y ∷ ys))) h' none'
   where
     byte_at : (xs : List ℕ) → get_or (xs ++ y ∷ ys) (length xs) 0 ≡ y
@@ -90,9 +90,9 @@ by_step : (r : Radix) (xs : List ℕ) (y : ℕ) (ys : List ℕ) (p : Parts) → 
 by_step r xs y ys p h more None e = inr (kind_of r p (Some y), at_byte r xs y ys p h e)
 by_step r xs y ys p h more (Some q) e = let next = more q (one_more r xs y p q h e) in rw (append_assoc xs (y ∷ []) ys) at next
 
-behind : (r : Radix) (xs ys : List ℕ) (p : Parts) → HasParts r xs p → Decided r (xs ++ ys)
-behind r xs [] p h = rw (append-nil xs) (at_end r xs p h)
-behind r xs (y ∷ ys) p h = by_step r xs y ys p h (λ q g. behind r (xs ++ y ∷ []) ys q g) (step r p y) refl
+later : (r : Radix) (xs ys : List ℕ) (p : Parts) → HasParts r xs p → Decided r (xs ++ ys)
+later r xs [] p h = rw (append-nil xs) (at_end r xs p h)
+later r xs (y ∷ ys) p h = by_step r xs y ys p h (λ q g. later r (xs ++ y ∷ []) ys q g) (step r p y) refl
 
 pub numeral_or_cause : (r : Radix) (bs : List ℕ) → IsNumeral r bs ⊎ ((kind : ParseErrorKind) × HasCause r bs kind)
-numeral_or_cause r bs = behind r [] bs nothing (record { parts = record { sign = tt; whole = tt; fraction = tt; exponent = tt }; text = refl })
+numeral_or_cause r bs = later r [] bs nothing (record { parts = record { sign = tt; whole = tt; fraction = tt; exponent = tt }; text = refl })

@@ -6,10 +6,10 @@ use Rattle.fixed_numeral.specs.Numeral.{Parts, HasParts, fraction_text, exponent
 use Rattle.fixed_numeral.specs.Digits.{digits_in}
 use Rattle.fixed_numeral.specs.Literal.{without_underscores, underscore}
 use Rattle.fixed_numeral.proofs.DigitLemmas.{digits_in_append, other_before}
-use Rattle.fixed_numeral.proofs.MagnitudeLemmas.{whole_count, behind_count}
+use Rattle.fixed_numeral.proofs.MagnitudeLemmas.{whole_count, after_count}
 
-same_front : (b : ℕ) (xs ys : List ℕ) → digits_in xs ≡ digits_in ys → digits_in (b ∷ xs) ≡ digits_in (b ∷ ys)
-same_front b xs ys e = digits_in_append (b ∷ []) xs ∙ ap (λ ds. digits_in (b ∷ []) ++ ds) e ∙ sym (digits_in_append (b ∷ []) ys)
+same_prefix : (b : ℕ) (xs ys : List ℕ) → digits_in xs ≡ digits_in ys → digits_in (b ∷ xs) ≡ digits_in (b ∷ ys)
+same_prefix b xs ys e = digits_in_append (b ∷ []) xs ∙ ap (λ ds. digits_in (b ∷ []) ++ ds) e ∙ sym (digits_in_append (b ∷ []) ys)
 
 pub without_same : (bs : List ℕ) → digits_in (without_underscores bs) ≡ digits_in bs
 without_same [] = refl
@@ -20,7 +20,7 @@ without_same (b ∷ bs) = by_test (b == underscore) refl (without_same bs)
         let is : b ≡ 95 = eqb-true b 95 e in
         let passed : digits_in (95 ∷ bs) ≡ digits_in bs = other_before 95 bs (omega arith) in
         h ∙ sym passed ∙ ap (λ x. digits_in (x ∷ bs)) (sym is)
-    by_test false e h = same_front b (without_underscores bs) bs h
+    by_test false e h = same_prefix b (without_underscores bs) bs h
 
 point_passed : (f : Option (List ℕ)) → digits_in (fraction_text f) ≡ digits_in (fractional_digits f)
 point_passed None = refl
@@ -39,4 +39,4 @@ literal_whole r bs p n h s e =
 pub literal_fraction : (r : Radix) (bs : List ℕ) (p : Parts) (n m : ℕ) → HasParts r (without_underscores bs) p → p.sign ≡ None → n ≡ length p.whole → m ≡ length (fractional_digits p.fraction) → take m (drop n (digits_in bs)) ≡ digits_in (fractional_digits p.fraction)
 literal_fraction r bs p n m h s e k =
     let text : without_underscores bs ≡ p.whole ++ (fraction_text p.fraction ++ exponent_text p.exponent) = h.text ∙ ap (λ t. option_to_list t ++ (p.whole ++ (fraction_text p.fraction ++ exponent_text p.exponent))) s in
-    ap (λ ds. take m (drop n ds)) (sym (without_same bs) ∙ ap digits_in text ∙ unsigned_digits p.whole p.fraction (exponent_text p.exponent)) ∙ ap (take m) (drop_at (digits_in p.whole) (digits_in (fractional_digits p.fraction) ++ digits_in (exponent_text p.exponent)) n (whole_count r p h.parts ∙ sym e)) ∙ take_at (digits_in (fractional_digits p.fraction)) (digits_in (exponent_text p.exponent)) m (behind_count r p h.parts ∙ sym k)
+    ap (λ ds. take m (drop n ds)) (sym (without_same bs) ∙ ap digits_in text ∙ unsigned_digits p.whole p.fraction (exponent_text p.exponent)) ∙ ap (take m) (drop_at (digits_in p.whole) (digits_in (fractional_digits p.fraction) ++ digits_in (exponent_text p.exponent)) n (whole_count r p h.parts ∙ sym e)) ∙ take_at (digits_in (fractional_digits p.fraction)) (digits_in (exponent_text p.exponent)) m (after_count r p h.parts ∙ sym k)

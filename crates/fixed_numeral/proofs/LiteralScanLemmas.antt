@@ -14,7 +14,7 @@ use Rattle.fixed_numeral.proofs.NumeralLemmas.{parts_unique, beginning_prefix, p
 use Rattle.fixed_numeral.specs.Inner.Scan.{Agrees, Extends, CannotExtend, IsAfter, IsComplete, IsIncomplete, max_magnitude}
 use Rattle.fixed_numeral.specs.Literal.{underscore, without_underscores, begins_signed, last_part, HasLiteralParts, IsLiteralBeginning, HasRestCause, HasRest, HasLiteral, IsLiteral, HasLiteralCause, sign_of, literal_radix, literal_rest}
 use Rattle.fixed_numeral.specs.Digits.{digits_in}
-use Rattle.fixed_numeral.proofs.MagnitudeLemmas.{whole_count, behind_count}
+use Rattle.fixed_numeral.proofs.MagnitudeLemmas.{whole_count, after_count}
 use Rattle.fixed_numeral.proofs.LiteralLemmas.{literal_whole, literal_fraction}
 use Rattle.fixed_numeral.proofs.ScanLemmas.{whole_fits, has_numeral, slice_get_past, incomplete_cause, kind_at_end}
 use Rattle.fixed_numeral.specs.Inner.LiteralScan.{LiteralExtends, LiteralCannotExtend, IsLiteralAfter}
@@ -33,13 +33,13 @@ push_cases (a ∷ bs) (x ∷ xs) ys b c e =
     let h : a ≡ x = cc in
     ⊎_elim (λ (t : (bs ≡ xs) × (b ≡ c)). let t0 = t.0 in let s : a ∷ bs ≡ x ∷ xs = cc in inl (s, t.1)) (λ (t : (zs : List ℕ) × (bs ≡ xs ++ c ∷ zs)). let t1 = t.1 in let s : a ∷ bs ≡ x ∷ (xs ++ c ∷ t.0) = cc in inr (t.0, s)) (push_cases bs xs ys b c k)
 
-cond_front : (c : Bool) (x : ℕ) (xs ys : List ℕ) → cond c xs (x ∷ xs) ++ ys ≡ cond c (xs ++ ys) (x ∷ (xs ++ ys))
-cond_front true x xs ys = refl
-cond_front false x xs ys = refl
+cond_prefix : (c : Bool) (x : ℕ) (xs ys : List ℕ) → cond c xs (x ∷ xs) ++ ys ≡ cond c (xs ++ ys) (x ∷ (xs ++ ys))
+cond_prefix true x xs ys = refl
+cond_prefix false x xs ys = refl
 
 pub without_append : (xs ys : List ℕ) → without_underscores (xs ++ ys) ≡ without_underscores xs ++ without_underscores ys
 without_append [] ys = refl
-without_append (x ∷ xs) ys = rw (without_append xs ys) (sym (cond_front (x == underscore) x (without_underscores xs) (without_underscores ys)))
+without_append (x ∷ xs) ys = rw (without_append xs ys) (sym (cond_prefix (x == underscore) x (without_underscores xs) (without_underscores ys)))
 
 push_other : (bs : List ℕ) (b : ℕ) → (b == underscore) ≡ false → without_underscores (bs ++ b ∷ []) ≡ without_underscores bs ++ b ∷ []
 push_other bs b e = without_append bs (b ∷ []) ∙ rw e refl
@@ -102,9 +102,9 @@ other_stuck r bs p b kind e s = record {
 }
 
 -- ---- prefixes
-signed_front : (xs ys : List ℕ) → begins_signed (xs ++ ys) ≡ false → begins_signed xs ≡ false
-signed_front [] ys h = refl
-signed_front (x ∷ xs) ys h = h
+signed_prefix : (xs ys : List ℕ) → begins_signed (xs ++ ys) ≡ false → begins_signed xs ≡ false
+signed_prefix [] ys h = refl
+signed_prefix (x ∷ xs) ys h = h
 
 append_inside : (xs ys us vs : List ℕ) (c : ℕ) → xs ≡ us ++ c ∷ vs → xs ++ ys ≡ us ++ c ∷ (vs ++ ys)
 append_inside xs ys us vs c e = ap (λ zs. zs ++ ys) e ∙ over us
@@ -120,7 +120,7 @@ literal_prefix r xs ys (q, h) =
       p,
       record {
         beginning = g;
-        unsigned = signed_front (without_underscores xs) (without_underscores ys) (rw cut at h.unsigned);
+        unsigned = signed_prefix (without_underscores xs) (without_underscores ys) (rw cut at h.unsigned);
         underscores = λ us vs e f k. h.underscores us (vs ++ ys) (append_inside xs ys us vs underscore e) f k;
       },
     )
@@ -129,23 +129,23 @@ prefix_stuck : (r : Radix) (bs : List ℕ) (n : ℕ) → n < length bs → (IsLi
 prefix_stuck r bs n l refuses m h = ⊎_elim (λ more. absurd (refuses (
     let cut : take (n + 1) (take m bs) ++ drop (n + 1) (take m bs) ≡ take m bs = take-append-drop (n + 1) (take m bs) in
     let first : take (n + 1) (take m bs) ≡ take (n + 1) bs = take-take (n + 1) m bs (omega arith) in
-    let front : IsLiteralBeginning r (take (n + 1) (take m bs)) = literal_prefix r (take (n + 1) (take m bs)) (drop (n + 1) (take m bs)) (rw cut h) in
-    rw (first, take_more bs n 0 l) at front))) (λ less. less) (cases_lt n m)
+    let initial : IsLiteralBeginning r (take (n + 1) (take m bs)) = literal_prefix r (take (n + 1) (take m bs)) (drop (n + 1) (take m bs)) (rw cut h) in
+    rw (first, take_more bs n 0 l) at initial))) (λ less. less) (cases_lt n m)
 
 -- nothing was read, or something was
-front_nil : (r : Radix) (ws : List ℕ) (st : State) (s : Option ℕ) (w : List ℕ) (f : Option (List ℕ)) (x : Option Exponent) → HasParts r ws (parts s w f x) → Agrees r st (parts s w f x) → st.sign_allowed ≡ true → st.has_separator ≡ false → ws ≡ []
-front_nil r ws st s w f (Some e) h a t k = let clash = a.separator in absurd (cc)
-front_nil r ws st (Some c) w f None h a t k = let clash = a.fresh in absurd (cc)
-front_nil r ws st None (y ∷ w) f None h a t k = let clash = a.fresh in absurd (cc)
-front_nil r ws st None [] (Some ds) None h a t k = let clash = a.fresh in absurd (cc)
-front_nil r ws st None [] None None h a t k = h.text
+prefix_nil : (r : Radix) (ws : List ℕ) (st : State) (s : Option ℕ) (w : List ℕ) (f : Option (List ℕ)) (x : Option Exponent) → HasParts r ws (parts s w f x) → Agrees r st (parts s w f x) → st.sign_allowed ≡ true → st.has_separator ≡ false → ws ≡ []
+prefix_nil r ws st s w f (Some e) h a t k = let clash = a.separator in absurd (cc)
+prefix_nil r ws st (Some c) w f None h a t k = let clash = a.fresh in absurd (cc)
+prefix_nil r ws st None (y ∷ w) f None h a t k = let clash = a.fresh in absurd (cc)
+prefix_nil r ws st None [] (Some ds) None h a t k = let clash = a.fresh in absurd (cc)
+prefix_nil r ws st None [] None None h a t k = h.text
 
-behind_front : (r : Radix) (ws : List ℕ) (st : State) (s : Option ℕ) (w : List ℕ) (f : Option (List ℕ)) (x : Option Exponent) → HasParts r ws (parts s w f x) → Agrees r st (parts s w f x) → (st.sign_allowed ≡ false) ⊎ (st.has_separator ≡ true) → 0 < length ws
-behind_front r ws st (Some c) w f x h a k = omega (arith, ap length h.text)
-behind_front r ws st None (y ∷ w) f x h a k = omega (arith, ap length h.text)
-behind_front r ws st None [] (Some ds) x h a k = omega (arith, ap length h.text)
-behind_front r ws st None [] None (Some e) h a k = omega (arith, ap length h.text)
-behind_front r ws st None [] None None h a k = ⊎_elim (λ t. let clash = a.fresh in absurd (cc)) (λ t. let clash = a.separator in absurd (cc)) k
+rest_of_prefix : (r : Radix) (ws : List ℕ) (st : State) (s : Option ℕ) (w : List ℕ) (f : Option (List ℕ)) (x : Option Exponent) → HasParts r ws (parts s w f x) → Agrees r st (parts s w f x) → (st.sign_allowed ≡ false) ⊎ (st.has_separator ≡ true) → 0 < length ws
+rest_of_prefix r ws st (Some c) w f x h a k = omega (arith, ap length h.text)
+rest_of_prefix r ws st None (y ∷ w) f x h a k = omega (arith, ap length h.text)
+rest_of_prefix r ws st None [] (Some ds) x h a k = omega (arith, ap length h.text)
+rest_of_prefix r ws st None [] None (Some e) h a k = omega (arith, ap length h.text)
+rest_of_prefix r ws st None [] None None h a k = ⊎_elim (λ t. let clash = a.fresh in absurd (cc)) (λ t. let clash = a.separator in absurd (cc)) k
 
 not_leading : (x y z : Bool) → (x && (y && not z)) ≡ false → (x ≡ false) ⊎ ((y ≡ false) ⊎ (z ≡ true))
 not_leading false y z e = inl refl
@@ -159,11 +159,11 @@ leading true true true e = absurd (cc)
 leading true false z e = absurd (cc)
 leading false y z e = absurd (cc)
 
-pub sign_in_front : (r : Radix) (bs : List ℕ) (p : Parts) (st : State) (b : ℕ) → HasLiteralParts r bs p → Agrees r st p → (b == underscore) ≡ false → (is_sign b && (st.sign_allowed && not st.has_separator)) ≡ true → LiteralCannotExtend r bs p b MisplacedSign
-sign_in_front r bs p st b h a e l =
+pub sign_in_prefix : (r : Radix) (bs : List ℕ) (p : Parts) (st : State) (b : ℕ) → HasLiteralParts r bs p → Agrees r st p → (b == underscore) ≡ false → (is_sign b && (st.sign_allowed && not st.has_separator)) ≡ true → LiteralCannotExtend r bs p b MisplacedSign
+sign_in_prefix r bs p st b h a e l =
     let t = leading (is_sign b) st.sign_allowed st.has_separator l in
     let sign : is_sign b ≡ true = t.0 in
-    let none : without_underscores bs ≡ [] = front_nil r (without_underscores bs) st p.sign p.whole p.fraction p.exponent h.beginning a t.1 t.2 in
+    let none : without_underscores bs ≡ [] = prefix_nil r (without_underscores bs) st p.sign p.whole p.fraction p.exponent h.beginning a t.1 t.2 in
     let same : without_underscores (bs ++ b ∷ []) ≡ b ∷ [] = push_other bs b e ∙ ap (λ ws. ws ++ b ∷ []) none in
     let off : is_some p.exponent ≡ false = sym a.separator ∙ t.2 in
     record {
@@ -174,7 +174,7 @@ sign_in_front r bs p st b h a e l =
 step_goes_on : (r : Radix) (bs : List ℕ) (p : Parts) (st next : State) (b : ℕ) → HasLiteralParts r bs p → Agrees r st p → (b ≡ underscore → ⊥) → (b == underscore) ≡ false → (is_sign b && (st.sign_allowed && not st.has_separator)) ≡ false → Extends r (without_underscores bs) b next → LiteralExtends r bs b next
 step_goes_on r bs p st next b h a ne e l g =
     let t = not_leading (is_sign b) st.sign_allowed st.has_separator l in
-    let k : (is_sign b ≡ false) ⊎ (0 < length (without_underscores bs)) = ⊎_elim (λ s. inl s) (λ s. inr (behind_front r (without_underscores bs) st p.sign p.whole p.fraction p.exponent h.beginning a s)) t in
+    let k : (is_sign b ≡ false) ⊎ (0 < length (without_underscores bs)) = ⊎_elim (λ s. inl s) (λ s. inr (rest_of_prefix r (without_underscores bs) st p.sign p.whole p.fraction p.exponent h.beginning a s)) t in
     other_goes_on r bs p b next h ne e k g
 
 -- ---- the whole rest
@@ -245,18 +245,18 @@ no_sign r ws (Some c) w f x h u =
 pub unsigned_parts : (r : Radix) (bs : List ℕ) (st : State) (a : IsLiteralAfter r bs st) → a.parts.sign ≡ None
 unsigned_parts r bs st a = no_sign r (without_underscores bs) a.parts.sign a.parts.whole a.parts.fraction a.parts.exponent a.beginning.beginning a.beginning.unsigned
 
-pub front_whole : (r : Radix) (bs : List ℕ) (st : State) (a : IsLiteralAfter r bs st) → take st.whole_len (digits_in bs) ≡ digits_in a.parts.whole
-front_whole r bs st a = literal_whole r bs a.parts st.whole_len a.beginning.beginning (unsigned_parts r bs st a) a.agrees.whole
+pub prefix_whole : (r : Radix) (bs : List ℕ) (st : State) (a : IsLiteralAfter r bs st) → take st.whole_len (digits_in bs) ≡ digits_in a.parts.whole
+prefix_whole r bs st a = literal_whole r bs a.parts st.whole_len a.beginning.beginning (unsigned_parts r bs st a) a.agrees.whole
 
-pub front_fraction : (r : Radix) (bs : List ℕ) (st : State) (a : IsLiteralAfter r bs st) → take st.fraction_len (drop st.whole_len (digits_in bs)) ≡ digits_in (fractional_digits a.parts.fraction)
-front_fraction r bs st a = literal_fraction r bs a.parts st.whole_len st.fraction_len a.beginning.beginning (unsigned_parts r bs st a) a.agrees.whole a.agrees.fraction
+pub prefix_fraction : (r : Radix) (bs : List ℕ) (st : State) (a : IsLiteralAfter r bs st) → take st.fraction_len (drop st.whole_len (digits_in bs)) ≡ digits_in (fractional_digits a.parts.fraction)
+prefix_fraction r bs st a = literal_fraction r bs a.parts st.whole_len st.fraction_len a.beginning.beginning (unsigned_parts r bs st a) a.agrees.whole a.agrees.fraction
 
 -- how many digits there are
-pub front_fits : (r : Radix) (bs : List ℕ) (st : State) (a : IsLiteralAfter r bs st) → st.whole_len ≤ length (digits_in bs)
-front_fits r bs st a = omega (arith, ap length (front_whole r bs st a), whole_count r a.parts a.beginning.beginning.parts, a.agrees.whole, length-take st.whole_len (digits_in bs))
+pub prefix_fits : (r : Radix) (bs : List ℕ) (st : State) (a : IsLiteralAfter r bs st) → st.whole_len ≤ length (digits_in bs)
+prefix_fits r bs st a = omega (arith, ap length (prefix_whole r bs st a), whole_count r a.parts a.beginning.beginning.parts, a.agrees.whole, length-take st.whole_len (digits_in bs))
 
 pub back_fits : (r : Radix) (bs : List ℕ) (st : State) (a : IsLiteralAfter r bs st) → st.fraction_len ≤ length (drop st.whole_len (digits_in bs))
-back_fits r bs st a = omega (arith, ap length (front_fraction r bs st a), behind_count r a.parts a.beginning.beginning.parts, a.agrees.fraction, length-take st.fraction_len (drop st.whole_len (digits_in bs)))
+back_fits r bs st a = omega (arith, ap length (prefix_fraction r bs st a), after_count r a.parts a.beginning.beginning.parts, a.agrees.fraction, length-take st.fraction_len (drop st.whole_len (digits_in bs)))
 
 -- the parts of the rest with the sign that was taken first
 pub parts_of_rest : (r : Radix) (bs : List ℕ) (st : State) (a : IsLiteralAfter r bs st) (p : Parts) → HasRest r bs (record p { sign = None }) → record a.parts { sign = p.sign } ≡ p

@@ -103,29 +103,29 @@ base_small Oct = omega arith
 base_small Dec = omega arith
 base_small Hex = omega arith
 
-pub behind_digits : (b : ℕ) (o : Option (List ℕ)) → IfSome o (AllDigits b) → AllDigits b (fractional_digits o)
-behind_digits b None h = tt
-behind_digits b (Some ds) h = h
+pub after_digits : (b : ℕ) (o : Option (List ℕ)) → IfSome o (AllDigits b) → AllDigits b (fractional_digits o)
+after_digits b None h = tt
+after_digits b (Some ds) h = h
 
-behind_length : (r : Radix) (p : Parts) (f : List ℕ) → IsPartsOf r p → f ≡ digits_in (fractional_digits p.fraction) → length f ≡ length (fractional_digits p.fraction)
-behind_length r p f h ef = ap length (ef ∙ digits_in_all (base r) (fractional_digits p.fraction) (base_small r) (behind_digits (base r) p.fraction h.fraction)) ∙ length-map (fractional_digits p.fraction) digit_value
+after_length : (r : Radix) (p : Parts) (f : List ℕ) → IsPartsOf r p → f ≡ digits_in (fractional_digits p.fraction) → length f ≡ length (fractional_digits p.fraction)
+after_length r p f h ef = ap length (ef ∙ digits_in_all (base r) (fractional_digits p.fraction) (base_small r) (after_digits (base r) p.fraction h.fraction)) ∙ length-map (fractional_digits p.fraction) digit_value
 
 pub mantissa_value : (r : Radix) (p : Parts) (w f : List ℕ) → IsPartsOf r p → w ≡ digits_in p.whole → f ≡ digits_in (fractional_digits p.fraction) → number_from_digits (base r) (w ++ f) ≡ digits_value (base r) (mantissa p)
 mantissa_value r p w f h ew ef =
     let a = ew ∙ digits_in_all (base r) p.whole (base_small r) h.whole in
-    let b = ef ∙ digits_in_all (base r) (fractional_digits p.fraction) (base_small r) (behind_digits (base r) p.fraction h.fraction) in
+    let b = ef ∙ digits_in_all (base r) (fractional_digits p.fraction) (base_small r) (after_digits (base r) p.fraction h.fraction) in
     rw (a, b) (ap (number_from_digits (base r)) (sym (map-append digit_value p.whole (fractional_digits p.fraction))) ∙ sym (digits_value_is (base r) (mantissa p)))
 
 pub same_magnitude : (r : Radix) (p : Parts) (two minus : Bool) (w f W F : List ℕ) (up down bits mag : ℕ) → IsPartsOf r p → w ≡ digits_in p.whole → f ≡ digits_in (fractional_digits p.fraction) → AgreesWithExponent r two minus mag p.exponent → IsShift minus (unit_of r two) mag up down bits → bits < unit_of r two → ((b u d : ℕ) → u + (length f + down) ≡ d + up → IsSameNumber (spelled b W F 0) (moved b w f u d)) → IsSameNumber (spelled (base r) W F bits) (magnitude r p)
 same_magnitude r p two minus w f W F up down bits mag h ew ef a k l v =
     let value = mantissa_value r p w f h ew ef in
-    let long = behind_length r p f h ef in
+    let long = after_length r p f h ef in
     by_exponent r two minus (number_from_digits (base r) (W ++ F)) (digits_value (base r) (mantissa p)) (base r ^ length F) (length (fractional_digits p.fraction)) up down bits mag p.exponent a k l
     (λ u d e. let e' : u + (length f + down) ≡ d + up = rw long e in rw value at (v (base r) u d e'))
 
 pub scanned_digits : (r : Radix) (p : Parts) (w f : List ℕ) → IsPartsOf r p → w ≡ digits_in p.whole → f ≡ digits_in (fractional_digits p.fraction) → AllBelowBase (base r) w × AllBelowBase (base r) f
 scanned_digits r p w f h ew ef =
-    let bh = behind_digits (base r) p.fraction h.fraction in (
+    let bh = after_digits (base r) p.fraction h.fraction in (
       rw (ew, digits_in_all (base r) p.whole (base_small r) h.whole) (all_below_base_from_digits (base r) p.whole h.whole),
       rw (ef, digits_in_all (base r) (fractional_digits p.fraction) (base_small r) bh) (all_below_base_from_digits (base r) (fractional_digits p.fraction) bh),
     )
@@ -159,5 +159,5 @@ unit_pos Hex false = omega arith
 pub whole_count : (r : Radix) (p : Parts) → IsPartsOf r p → length (digits_in p.whole) ≡ length p.whole
 whole_count r p h = ap length (digits_in_all (base r) p.whole (base_small r) h.whole) ∙ length-map p.whole digit_value
 
-pub behind_count : (r : Radix) (p : Parts) → IsPartsOf r p → length (digits_in (fractional_digits p.fraction)) ≡ length (fractional_digits p.fraction)
-behind_count r p h = behind_length r p (digits_in (fractional_digits p.fraction)) h refl
+pub after_count : (r : Radix) (p : Parts) → IsPartsOf r p → length (digits_in (fractional_digits p.fraction)) ≡ length (fractional_digits p.fraction)
+after_count r p h = after_length r p (digits_in (fractional_digits p.fraction)) h refl

@@ -59,25 +59,25 @@ after_room b before l r after two hl hr room =
 view_number : (b before : ℕ) (l r : List ℕ) (after : ℕ) → number_from_digits_after b (number_from_digits b l) r * b ^ after ≡ number_from_digits b (between_zeros before l r after)
 unfolding between_zeros
 view_number b before l r after =
-    let front : number_from_digits b (zeros before ++ (l ++ (r ++ zeros after))) ≡ number_from_digits b (l ++ (r ++ zeros after)) = number_append b (zeros before) (l ++ (r ++ zeros after)) ∙ omega (arith, ap (λ i. i * b ^ length (l ++ (r ++ zeros after))) (number_zeros b before)) in
+    let prefix : number_from_digits b (zeros before ++ (l ++ (r ++ zeros after))) ≡ number_from_digits b (l ++ (r ++ zeros after)) = number_append b (zeros before) (l ++ (r ++ zeros after)) ∙ omega (arith, ap (λ i. i * b ^ length (l ++ (r ++ zeros after))) (number_zeros b before)) in
     let end : number_from_digits b ((l ++ r) ++ zeros after) ≡ number_from_digits b (l ++ r) * b ^ after = number_append b (l ++ r) (zeros after) ∙ omega (arith, number_zeros b after, ap (λ i. number_from_digits b (l ++ r) * b ^ i) (length-replicate {A = ℕ} after 0)) in
-    rw (both b l r) (sym (front ∙ ap (number_from_digits b) (sym (append_assoc l r (zeros after))) ∙ end))
+    rw (both b l r) (sym (prefix ∙ ap (number_from_digits b) (sym (append_assoc l r (zeros after))) ∙ end))
 
 -- ---- the first digits of a view
-pub first_room : (b count n : ℕ) (ds front : List ℕ) → 2 ≤ b → b ^ count ≤ 2 ^ 64 → n ≡ min count (length ds) → front ≡ take n ds → b ^ length front ≤ 2 ^ 64
-first_room b count n ds front two room e f =
-    let le : b ^ length front ≤ b ^ count = pow-le-pow_right (omega arith) (omega (arith, ap length f, length-take n ds)) in
+pub first_room : (b count n : ℕ) (ds prefix : List ℕ) → 2 ≤ b → b ^ count ≤ 2 ^ 64 → n ≡ min count (length ds) → prefix ≡ take n ds → b ^ length prefix ≤ 2 ^ 64
+first_room b count n ds prefix two room e f =
+    let le : b ^ length prefix ≤ b ^ count = pow-le-pow_right (omega arith) (omega (arith, ap length f, length-take n ds)) in
     omega arith
 
-pub first_below : (b count n : ℕ) (ds front : List ℕ) (number : ℕ) → 2 ≤ b → AllBelowBase b ds → n ≡ min count (length ds) → front ≡ take n ds → number ≡ number_from_digits b front → number < b ^ count
-first_below b count n ds front number two below e f g =
-    let here : AllBelowBase b front = rw f (below_split b ds n below).0 in
-    let small : number < b ^ length front = rw g (number_lt b front here) in
-    let le : b ^ length front ≤ b ^ count = pow-le-pow_right (omega arith) (omega (arith, ap length f, length-take n ds)) in
+pub first_below : (b count n : ℕ) (ds prefix : List ℕ) (number : ℕ) → 2 ≤ b → AllBelowBase b ds → n ≡ min count (length ds) → prefix ≡ take n ds → number ≡ number_from_digits b prefix → number < b ^ count
+first_below b count n ds prefix number two below e f g =
+    let here : AllBelowBase b prefix = rw f (below_split b ds n below).0 in
+    let small : number < b ^ length prefix = rw g (number_lt b prefix here) in
+    let le : b ^ length prefix ≤ b ^ count = pow-le-pow_right (omega arith) (omega (arith, ap length f, length-take n ds)) in
     omega arith
 
-pub first_number : (b count n : ℕ) (ds front : List ℕ) (number : ℕ) → n ≡ min count (length ds) → front ≡ take n ds → number ≡ number_from_digits b front → number ≡ number_from_digits b (take count ds)
-first_number b count n ds front number e f g = g ∙ ap (number_from_digits b) (f ∙ ap (λ i. take i ds) e ∙ take_min count ds)
+pub first_number : (b count n : ℕ) (ds prefix : List ℕ) (number : ℕ) → n ≡ min count (length ds) → prefix ≡ take n ds → number ≡ number_from_digits b prefix → number ≡ number_from_digits b (take count ds)
+first_number b count n ds prefix number e f g = g ∙ ap (number_from_digits b) (f ∙ ap (λ i. take i ds) e ∙ take_min count ds)
 
 pub first_rest : (count n : ℕ) (ds back : List ℕ) → n ≡ min count (length ds) → back ≡ drop n ds → back ≡ drop count ds
 first_rest count n ds back e f = f ∙ ap (λ i. drop i ds) e ∙ drop_min count ds

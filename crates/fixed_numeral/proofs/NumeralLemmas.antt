@@ -124,22 +124,22 @@ value_after_ge : (n : ℕ) (ys : List ℕ) → n ≤ digits_value_after 10 n ys
 value_after_ge n [] = le_refl n
 value_after_ge n (y ∷ ys) = omega (arith, value_after_ge (n * 10 + digit_value y) ys)
 
-value_front : (xs ys : List ℕ) → digits_value 10 xs ≤ digits_value 10 (xs ++ ys)
-value_front xs ys = omega (arith, value_after_append 0 xs ys, value_after_ge (digits_value 10 xs) ys)
+value_prefix : (xs ys : List ℕ) → digits_value 10 xs ≤ digits_value 10 (xs ++ ys)
+value_prefix xs ys = omega (arith, value_after_append 0 xs ys, value_after_ge (digits_value 10 xs) ys)
 
-in_range_front : (t : Option ℕ) (m n : ℕ) → m ≤ n → is_in_range t n ≡ true → is_in_range t m ≡ true
-in_range_front t m n l h = front (is_minus t) h
+in_range_prefix : (t : Option ℕ) (m n : ℕ) → m ≤ n → is_in_range t n ≡ true → is_in_range t m ≡ true
+in_range_prefix t m n l h = initial (is_minus t) h
   where
-    front : (c : Bool) → cond c (nat_lt n (2 ^ 31 + 1)) (nat_lt n (2 ^ 31)) ≡ true → cond c (nat_lt m (2 ^ 31 + 1)) (nat_lt m (2 ^ 31)) ≡ true
-    front true h = lt-ltb _ _ (omega (arith, ltb-true _ _ h))
-    front false h = lt-ltb _ _ (omega (arith, ltb-true _ _ h))
+    initial : (c : Bool) → cond c (nat_lt n (2 ^ 31 + 1)) (nat_lt n (2 ^ 31)) ≡ true → cond c (nat_lt m (2 ^ 31 + 1)) (nat_lt m (2 ^ 31)) ≡ true
+    initial true h = lt-ltb _ _ (omega (arith, ltb-true _ _ h))
+    initial false h = lt-ltb _ _ (omega (arith, ltb-true _ _ h))
 
 run_exponent : (r : Radix) (s : Option ℕ) (w : List ℕ) (f : Option (List ℕ)) (k : ℕ) (t : Option ℕ) (es ds : List ℕ) → AllDigits 10 ds → is_in_range t (digits_value 10 (es ++ ds)) ≡ true → run r (parts s w f (Some (exponent k t es))) ds ≡ Some (parts s w f (Some (exponent k t (es ++ ds))))
 run_exponent r s w f k t es [] h i = rw (append-nil es) refl
 run_exponent r s w f k t es (d ∷ ds) h i =
     let whole : (es ++ d ∷ []) ++ ds ≡ es ++ d ∷ ds = append_assoc es (d ∷ []) ds in
     let i' : is_in_range t (digits_value 10 ((es ++ d ∷ []) ++ ds)) ≡ true = rw whole i in
-    let fits : is_in_range t (digits_value 10 (es ++ d ∷ [])) ≡ true = in_range_front t _ _ (value_front (es ++ d ∷ []) ds) i' in
+    let fits : is_in_range t (digits_value 10 (es ++ d ∷ [])) ≡ true = in_range_prefix t _ _ (value_prefix (es ++ d ∷ []) ds) i' in
     rw (digit_true Dec d h.0, fits) (run_exponent r s w f k t (es ++ d ∷ []) ds h.1 i' ∙ rw whole refl)
 
 in_range_from_fits : (t : Option ℕ) (n : ℕ) → FitsSigned w32 (signed t n) → is_in_range t n ≡ true
@@ -166,9 +166,9 @@ run_end r s w (Some ds) (Some e) h =
     let sep : is_separator r e.separator ≡ true = h.separator in
     rw (plain, sep) (run_opened r s w (Some ds) e.separator e.sign e.digits h.sign h.digits (in_range_from_fits e.sign (digits_value 10 e.digits) h.in_range))
 
-run_behind : (r : Radix) (s : Option ℕ) (w : List ℕ) (f : Option (List ℕ)) (x : Option Exponent) → IfSome f (AllDigits (base r)) → IfSome x (IsExponentOf r) → run r (parts s w None None) (fraction_text f ++ exponent_text x) ≡ Some (parts s w f x)
-run_behind r s w None x g h = run_end r s w None x h
-run_behind r s w (Some ds) x g h =
+run_after : (r : Radix) (s : Option ℕ) (w : List ℕ) (f : Option (List ℕ)) (x : Option Exponent) → IfSome f (AllDigits (base r)) → IfSome x (IsExponentOf r) → run r (parts s w None None) (fraction_text f ++ exponent_text x) ≡ Some (parts s w f x)
+run_after r s w None x g h = run_end r s w None x h
+run_after r s w (Some ds) x g h =
     rw ((point_is_none r).0, (point_is_none r).1) (run_fraction r s w [] ds (exponent_text x) g ∙ run_end r s w (Some ds) x h)
 
 run_from_sign : (r : Radix) (s : Option ℕ) (ys : List ℕ) → IfSome s (λ b. IsTrue (is_sign b)) → run r nothing (option_to_list s ++ ys) ≡ run r (parts s [] None None) ys
@@ -179,7 +179,7 @@ run_from_sign r (Some b) ys h =
 
 -- a run over the bytes of parts finds the parts
 pub run_text : (r : Radix) (p : Parts) → IsPartsOf r p → run r nothing (text_of p) ≡ Some p
-run_text r p h = run_from_sign r p.sign _ h.sign ∙ run_whole r p.sign [] p.whole _ h.whole ∙ run_behind r p.sign p.whole p.fraction p.exponent h.fraction h.exponent
+run_text r p h = run_from_sign r p.sign _ h.sign ∙ run_whole r p.sign [] p.whole _ h.whole ∙ run_after r p.sign p.whole p.fraction p.exponent h.fraction h.exponent
 
 -- the parts are determined by the bytes
 pub parts_unique : (r : Radix) (bs : List ℕ) (p q : Parts) → HasParts r bs p → HasParts r bs q → p ≡ q

@@ -17,9 +17,9 @@ pub zeros_before : (n b : ℕ) (l r : List ℕ) (a : ℕ) → between_zeros (n +
 unfolding between_zeros
 zeros_before n b l r a = ap (λ zs. zs ++ (l ++ (r ++ zeros a))) (sym (replicate-append-replicate n b 0)) ∙ append_assoc (zeros n) (zeros b) (l ++ (r ++ zeros a))
 
-pub zeros_behind : (n b : ℕ) (l r : List ℕ) (a : ℕ) → between_zeros b l r (a + n) ≡ between_zeros b l r a ++ zeros n
+pub zeros_after : (n b : ℕ) (l r : List ℕ) (a : ℕ) → between_zeros b l r (a + n) ≡ between_zeros b l r a ++ zeros n
 unfolding between_zeros
-zeros_behind n b l r a = ap (λ zs. zeros b ++ (l ++ (r ++ zs))) (sym (replicate-append-replicate a n 0)) ∙ simp append_assoc
+zeros_after n b l r a = ap (λ zs. zeros b ++ (l ++ (r ++ zs))) (sym (replicate-append-replicate a n 0)) ∙ simp append_assoc
 
 pub between_alone : (l r : List ℕ) → between_zeros 0 l r 0 ≡ l ++ r
 unfolding between_zeros
@@ -43,12 +43,12 @@ pub none_trailing : (rest : List ℕ) → rest ≡ [] → NoTrailingZero rest
 none_trailing rest e = λ xs f. push_some xs 0 (sym e ∙ f)
 
 -- ---- ends of parts
-pub leading_front : (core : List ℕ) (p : ℕ) → NoLeadingZero core → NoLeadingZero (take p core)
-leading_front core p n = λ xs e. n (xs ++ drop p core) (sym (take-append-drop p core) ∙ ap (λ ys. ys ++ drop p core) e)
+pub leading_prefix : (core : List ℕ) (p : ℕ) → NoLeadingZero core → NoLeadingZero (take p core)
+leading_prefix core p n = λ xs e. n (xs ++ drop p core) (sym (take-append-drop p core) ∙ ap (λ ys. ys ++ drop p core) e)
 
-pub leading_zeros_behind : (core : List ℕ) (k : ℕ) → 0 < length core → NoLeadingZero core → NoLeadingZero (core ++ zeros k)
-leading_zeros_behind [] k l n = absurd (omega arith)
-leading_zeros_behind (d ∷ ds) k l n = λ xs e. n ds (let z : d ≡ 0 = cc in ap (λ x. x ∷ ds) z)
+pub leading_zeros_after : (core : List ℕ) (k : ℕ) → 0 < length core → NoLeadingZero core → NoLeadingZero (core ++ zeros k)
+leading_zeros_after [] k l n = absurd (omega arith)
+leading_zeros_after (d ∷ ds) k l n = λ xs e. n ds (let z : d ≡ 0 = cc in ap (λ x. x ∷ ds) z)
 
 pub trailing_back : (core : List ℕ) (p : ℕ) → NoTrailingZero core → NoTrailingZero (drop p core)
 trailing_back core p n = λ xs e. n (take p core ++ xs) (sym (take-append-drop p core) ∙ ap (λ ys. take p core ++ ys) e ∙ sym (append_assoc (take p core) xs (0 ∷ [])))
@@ -71,8 +71,8 @@ trailing_zeros_before core k l n =
     n p.prefix (p.is ∙ ap (λ d. p.prefix ++ d ∷ []) z)
 
 -- ---- numbers
-pub zeros_front : (b k : ℕ) (ds : List ℕ) → number_from_digits b (zeros k ++ ds) ≡ number_from_digits b ds
-zeros_front b k ds = number_append b (zeros k) ds ∙ omega (arith, ap (λ i. i * b ^ length ds) (number_zeros b k))
+pub zeros_prefix : (b k : ℕ) (ds : List ℕ) → number_from_digits b (zeros k ++ ds) ≡ number_from_digits b ds
+zeros_prefix b k ds = number_append b (zeros k) ds ∙ omega (arith, ap (λ i. i * b ^ length ds) (number_zeros b k))
 
 zeros_end : (b k : ℕ) (ds : List ℕ) → number_from_digits b (ds ++ zeros k) ≡ number_from_digits b ds * b ^ k
 zeros_end b k ds = number_append b ds (zeros k) ∙ omega (arith, number_zeros b k, ap (λ i. number_from_digits b ds * b ^ i) (length-replicate {A = ℕ} k 0))
@@ -82,7 +82,7 @@ pub record IsTrimmed (ds core : List ℕ) (k j : ℕ) : Type 0 where
   pub split : ds ≡ zeros k ++ (core ++ zeros j)
 
 trimmed_number : (b : ℕ) (ds core : List ℕ) (k j : ℕ) → IsTrimmed ds core k j → number_from_digits b ds ≡ number_from_digits b core * b ^ j
-trimmed_number b ds core k j t = ap (number_from_digits b) t.split ∙ zeros_front b k (core ++ zeros j) ∙ zeros_end b j core
+trimmed_number b ds core k j t = ap (number_from_digits b) t.split ∙ zeros_prefix b k (core ++ zeros j) ∙ zeros_end b j core
 
 trimmed_length : (ds core : List ℕ) (k j : ℕ) → IsTrimmed ds core k j → length ds ≡ k + length core + j
 trimmed_length ds core k j t = ap length t.split ∙ simp (length-append, length-replicate) (omega arith)
@@ -98,10 +98,10 @@ placed_before b w r core k j up down u d z t h m =
     let long = trimmed_length (w ++ r) core k j t in
     let f : length (zeros z ++ core) ≡ z + length core = length-append (zeros z) core ∙ ap (λ i. i + length core) (length-replicate {A = ℕ} z 0) in
     same_moved b (number_from_digits b core) (number_from_digits b (w ++ r)) (number_from_digits b (zeros z ++ core)) d u (length (zeros z ++ core)) 0 j
-    (trimmed_number b (w ++ r) core k j t) (zeros_front b z core ∙ omega (arith, ap (λ i. number_from_digits b core * i) (pow-zero b))) (omega (arith, length-append w r))
+    (trimmed_number b (w ++ r) core k j t) (zeros_prefix b z core ∙ omega (arith, ap (λ i. number_from_digits b core * i) (pow-zero b))) (omega (arith, length-append w r))
 
-pub placed_behind : (b : ℕ) (w r core : List ℕ) (k j up down u d z : ℕ) → IsTrimmed (w ++ r) core k j → z + length core + (k + down) ≡ length w + up → u + (length r + down) ≡ d + up → IsSameNumber (spelled b (core ++ zeros z) [] 0) (moved b w r u d)
-placed_behind b w r core k j up down u d z t h m =
+pub placed_after : (b : ℕ) (w r core : List ℕ) (k j up down u d z : ℕ) → IsTrimmed (w ++ r) core k j → z + length core + (k + down) ≡ length w + up → u + (length r + down) ≡ d + up → IsSameNumber (spelled b (core ++ zeros z) [] 0) (moved b w r u d)
+placed_after b w r core k j up down u d z t h m =
     let long = trimmed_length (w ++ r) core k j t in
     same_moved b (number_from_digits b core) (number_from_digits b (w ++ r)) (number_from_digits b ((core ++ zeros z) ++ [])) d u 0 z j
     (trimmed_number b (w ++ r) core k j t) (ap (number_from_digits b) (append-nil (core ++ zeros z)) ∙ zeros_end b z core) (omega (arith, length-append w r))
@@ -123,8 +123,8 @@ placed_nothing b w r core k j u d t e =
 pub view_before : (v l' r' l r : List ℕ) (n b a : ℕ) → between_zeros b l r a ≡ v → l' ≡ l → r' ≡ r → between_zeros (n + b) l' r' a ≡ zeros n ++ v
 view_before v l' r' l r n b a e f g = rw (f, g) (zeros_before n b l r a ∙ ap (λ ds. zeros n ++ ds) e)
 
-pub view_behind : (v l' r' l r : List ℕ) (n b a : ℕ) → between_zeros b l r a ≡ v → l' ≡ l → r' ≡ r → between_zeros b l' r' (a + n) ≡ v ++ zeros n
-view_behind v l' r' l r n b a e f g = rw (f, g) (zeros_behind n b l r a ∙ ap (λ ds. ds ++ zeros n) e)
+pub view_after : (v l' r' l r : List ℕ) (n b a : ℕ) → between_zeros b l r a ≡ v → l' ≡ l → r' ≡ r → between_zeros b l' r' (a + n) ≡ v ++ zeros n
+view_after v l' r' l r n b a e f g = rw (f, g) (zeros_after n b l r a ∙ ap (λ ds. ds ++ zeros n) e)
 
 -- core is w and r without k leading zeros, and without trailing ones
 pub record Cored (w r core : List ℕ) (k : ℕ) : Type 0 where
@@ -134,9 +134,9 @@ pub record Cored (w r core : List ℕ) (k : ℕ) : Type 0 where
   pub trailing : NoTrailingZero core
   pub lengths : length w + length r ≡ k + length core + count
 
-pub cored : (w r front core : List ℕ) (k : ℕ) → IsWithoutLeading (w ++ r) front → IsWithoutTrailing front core → k + length front ≡ length w + length r → Cored w r core k
-cored w r front core k a b l =
-    let same : a.count ≡ k = omega (arith, l, ap length a.split, length-append w r, length-append (zeros a.count) front, length-replicate {A = ℕ} a.count 0) in
+pub cored : (w r initial core : List ℕ) (k : ℕ) → IsWithoutLeading (w ++ r) initial → IsWithoutTrailing initial core → k + length initial ≡ length w + length r → Cored w r core k
+cored w r initial core k a b l =
+    let same : a.count ≡ k = omega (arith, l, ap length a.split, length-append w r, length-append (zeros a.count) initial, length-replicate {A = ℕ} a.count 0) in
     let t : IsTrimmed (w ++ r) core k b.count = record { split = a.split ∙ (rw (same, b.split) refl) } in
     record {
       count = b.count;
@@ -187,17 +187,17 @@ before_placed w r core W F k up down z t l h e f = rw (e, f) (record {
   below = λ b p hw hr. (tt, below_append b (zeros z) core (below_zeros b z p) (below_core b w r core k t hw hr));
 })
 
-pub behind_placed : (w r core W F : List ℕ) (k up down z : ℕ) → Cored w r core k → 0 < length core → z + length core + (k + down) ≡ length w + up → W ≡ core ++ zeros z → F ≡ [] → IsPlaced w r W F up down
-behind_placed w r core W F k up down z t l h e f = rw (e, f) (record {
-  leading = leading_zeros_behind core z l t.leading;
+pub after_placed : (w r core W F : List ℕ) (k up down z : ℕ) → Cored w r core k → 0 < length core → z + length core + (k + down) ≡ length w + up → W ≡ core ++ zeros z → F ≡ [] → IsPlaced w r W F up down
+after_placed w r core W F k up down z t l h e f = rw (e, f) (record {
+  leading = leading_zeros_after core z l t.leading;
   trailing = none_trailing [] refl;
-  value = λ b u d m. placed_behind b w r core k t.count up down u d z t.trimmed h m;
+  value = λ b u d m. placed_after b w r core k t.count up down u d z t.trimmed h m;
   below = λ b p hw hr. (below_append b core (zeros z) (below_core b w r core k t hw hr) (below_zeros b z p), tt);
 })
 
 pub inside_placed : (w r core W F : List ℕ) (k up down q : ℕ) → Cored w r core k → q < length core → q + (k + down) ≡ length w + up → W ≡ take q core → F ≡ drop q core → IsPlaced w r W F up down
 inside_placed w r core W F k up down q t l h e f = rw (e, f) (record {
-  leading = leading_front core q t.leading;
+  leading = leading_prefix core q t.leading;
   trailing = trailing_back core q t.trailing;
   value = λ b u d m. placed_inside b w r core k t.count up down u d q t.trimmed h l m;
   below = λ b p hw hr. below_split b core q (below_core b w r core k t hw hr);
@@ -264,9 +264,9 @@ pub zero_views : (b shift : ℕ) (w f : List ℕ) → 0 < b → NoLeadingZero w 
 zero_views b shift w f p nl nt e =
     let all : number_from_digits b (w ++ f) ≡ 0 = zero_product _ (2 ^ shift) (pow_pos shift) e in
     let parts = number_append b w f in
-    let front : number_from_digits b w ≡ 0 = zero_product _ (b ^ length f) (one-le-pow (length f) b p) (omega arith) in
+    let initial : number_from_digits b w ≡ 0 = zero_product _ (b ^ length f) (one-le-pow (length f) b p) (omega arith) in
     let back : number_from_digits b f ≡ 0 = omega arith in
-    (no_digits_leading b w p nl front, no_digits_trailing b f p nt back)
+    (no_digits_leading b w p nl initial, no_digits_trailing b f p nt back)
 
 pub led_shorter : (w r f g : List ℕ) → IsWithoutLeading (w ++ r) (f ++ g) → length f + length g ≤ length w + length r
 led_shorter w r f g a = omega (arith, ap length a.split, length-append w r, length-append f g, length-append (zeros a.count) (f ++ g))

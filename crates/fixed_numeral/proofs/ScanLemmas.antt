@@ -19,7 +19,7 @@ use Rattle.fixed_numeral.specs.Digits.{digits_in}
 use Rattle.fixed_numeral.specs.Scanned.{IsScanned}
 use Rattle.fixed_numeral.specs.Inner.Run.{IsRun}
 use Rattle.fixed_numeral.proofs.ByteLemmas.{near_zero}
-use Rattle.fixed_numeral.proofs.MagnitudeLemmas.{whole_count, behind_count}
+use Rattle.fixed_numeral.proofs.MagnitudeLemmas.{whole_count, after_count}
 use Rattle.fixed_numeral.specs.Inner.Scan.{Agrees, Extends, CannotExtend, IsAfter, IsIncomplete, max_magnitude}
 use Rattle.fixed_numeral.proofs.NumeralLemmas.{is_digit, is_in_range, exponent, parts, step, step_from_longer, more_point, more_separator, more_sign, more_exponent, more_exponent_sign, at_byte, at_bytes, at_three, or_cases, beginning_prefix, parts_unique}
 
@@ -212,9 +212,9 @@ pub most_at_most : (c : Bool) → max_magnitude c ≤ max_magnitude true
 most_at_most true = omega arith
 most_at_most false = omega arith
 
-pub behind_digit : (r : Radix) (st : State) (b m : ℕ) (bs : List ℕ) (s : Option ℕ) (w : List ℕ) (f : Option (List ℕ)) (x : Option Exponent) → HasParts r bs (parts s w f x) → Agrees r st (parts s w f x) → st.has_separator ≡ true → is_digit Dec b ≡ true → m ≡ st.magnitude * 10 + (b - 48) → m ≤ max_magnitude st.exponent_negative → Extends r bs b (record st { sign_allowed = false; magnitude = m; has_exponent_digit = true })
-behind_digit r st b m bs s w f None h a ns d e l = let clash = a.separator in absurd (cc)
-behind_digit r st b m bs s w f (Some e) h a ns d is l =
+pub after_digit : (r : Radix) (st : State) (b m : ℕ) (bs : List ℕ) (s : Option ℕ) (w : List ℕ) (f : Option (List ℕ)) (x : Option Exponent) → HasParts r bs (parts s w f x) → Agrees r st (parts s w f x) → st.has_separator ≡ true → is_digit Dec b ≡ true → m ≡ st.magnitude * 10 + (b - 48) → m ≤ max_magnitude st.exponent_negative → Extends r bs b (record st { sign_allowed = false; magnitude = m; has_exponent_digit = true })
+after_digit r st b m bs s w f None h a ns d e l = let clash = a.separator in absurd (cc)
+after_digit r st b m bs s w f (Some e) h a ns d is l =
     let value : digits_value 10 (e.digits ++ b ∷ []) ≡ m = digits_value_push 10 e.digits b ∙ omega (arith, decimal_digit b d, a.exponent.2) in
     let fits : is_in_range e.sign (digits_value 10 (e.digits ++ b ∷ [])) ≡ true = rw (value, ← a.exponent.1) (in_range_most st.exponent_negative m l) in
     record {
@@ -285,9 +285,9 @@ after_sign r st b bs s w f (Some e) h a ns m d fr = opened e.separator e.sign e.
 sign_is_no_decimal : (b : ℕ) → is_sign b ≡ true → is_digit Dec b ≡ false
 sign_is_no_decimal b d = at_bytes (λ (x : ℕ). is_digit Dec x ≡ false) b 43 45 d refl refl
 
-pub second_sign_behind : (r : Radix) (st : State) (b : ℕ) (bs : List ℕ) (s : Option ℕ) (w : List ℕ) (f : Option (List ℕ)) (x : Option Exponent) → HasParts r bs (parts s w f x) → Agrees r st (parts s w f x) → st.has_separator ≡ true → is_sign b ≡ true → st.sign_allowed ≡ false → CannotExtend r bs (parts s w f x) b MisplacedSign
-second_sign_behind r st b bs s w f None h a ns d nf = let clash = a.separator in absurd (cc)
-second_sign_behind r st b bs s w f (Some e) h a ns d nf =
+pub second_sign_after : (r : Radix) (st : State) (b : ℕ) (bs : List ℕ) (s : Option ℕ) (w : List ℕ) (f : Option (List ℕ)) (x : Option Exponent) → HasParts r bs (parts s w f x) → Agrees r st (parts s w f x) → st.has_separator ≡ true → is_sign b ≡ true → st.sign_allowed ≡ false → CannotExtend r bs (parts s w f x) b MisplacedSign
+second_sign_after r st b bs s w f None h a ns d nf = let clash = a.separator in absurd (cc)
+second_sign_after r st b bs s w f (Some e) h a ns d nf =
     let off : (is_none e.sign && is_nil e.digits) ≡ false = sym a.fresh ∙ nf in
     record {
       none = stuck r bs _ b h (rw (sign_is_no_decimal b d, d, off) refl);
@@ -301,9 +301,9 @@ second_separator r st b bs s w f (Some e) h a ns d k = record {
   is_kind = rw (d, k) refl;
 }
 
-pub other_behind : (r : Radix) (st : State) (b : ℕ) (bs : List ℕ) (s : Option ℕ) (w : List ℕ) (f : Option (List ℕ)) (x : Option Exponent) → HasParts r bs (parts s w f x) → Agrees r st (parts s w f x) → st.has_separator ≡ true → is_digit Dec b ≡ false → is_sign b ≡ false → is_separator r b ≡ false → CannotExtend r bs (parts s w f x) b ExpInvalidDigit
-other_behind r st b bs s w f None h a ns nd d k = let clash = a.separator in absurd (cc)
-other_behind r st b bs s w f (Some e) h a ns nd d k = record {
+pub other_after : (r : Radix) (st : State) (b : ℕ) (bs : List ℕ) (s : Option ℕ) (w : List ℕ) (f : Option (List ℕ)) (x : Option Exponent) → HasParts r bs (parts s w f x) → Agrees r st (parts s w f x) → st.has_separator ≡ true → is_digit Dec b ≡ false → is_sign b ≡ false → is_separator r b ≡ false → CannotExtend r bs (parts s w f x) b ExpInvalidDigit
+other_after r st b bs s w f None h a ns nd d k = let clash = a.separator in absurd (cc)
+other_after r st b bs s w f (Some e) h a ns nd d k = record {
   none = stuck r bs _ b h (rw (nd, d) refl);
   is_kind = rw (d, k, nd) refl;
 }
@@ -325,8 +325,8 @@ prefix_stuck : (r : Radix) (bs : List ℕ) (n : ℕ) (p : Parts) → n < length 
 prefix_stuck r bs n p l refuses m h = ⊎_elim (λ more. absurd (refuses (
     let cut : take (n + 1) (take m bs) ++ drop (n + 1) (take m bs) ≡ take m bs = take-append-drop (n + 1) (take m bs) in
     let first : take (n + 1) (take m bs) ≡ take (n + 1) bs = take-take (n + 1) m bs (omega arith) in
-    let front : IsBeginning r (take (n + 1) (take m bs)) = beginning_prefix r (take (n + 1) (take m bs)) (drop (n + 1) (take m bs)) (rw cut h) in
-    rw (first, take_more bs n 0 l) at front))) (λ less. less) (cases_lt n m)
+    let initial : IsBeginning r (take (n + 1) (take m bs)) = beginning_prefix r (take (n + 1) (take m bs)) (drop (n + 1) (take m bs)) (rw cut h) in
+    rw (first, take_more bs n 0 l) at initial))) (λ less. less) (cases_lt n m)
 
 pub stuck_no_numeral : (r : Radix) (bs : List ℕ) (n : ℕ) (p : Parts) (kind : ParseErrorKind) → n < length bs → CannotExtend r (take n bs) p (get_or bs n 0) kind → IsNumeral r bs → ⊥
 stuck_no_numeral r bs n p kind l g (q, h) =
@@ -438,9 +438,9 @@ whole_is r bs st a =
 
 pub fraction_is : (r : Radix) (bs : List ℕ) (st : State) (a : IsAfter r bs st) → take st.fraction_len (drop (st.sign_len + st.whole_len + 1) bs) ≡ fractional_digits a.parts.fraction
 fraction_is r bs st a =
-    let front : bs ≡ (option_to_list a.parts.sign ++ a.parts.whole) ++ (fraction_text a.parts.fraction ++ exponent_text a.parts.exponent) = a.beginning.text ∙ sym (append_assoc (option_to_list a.parts.sign) a.parts.whole (fraction_text a.parts.fraction ++ exponent_text a.parts.exponent)) in
+    let initial : bs ≡ (option_to_list a.parts.sign ++ a.parts.whole) ++ (fraction_text a.parts.fraction ++ exponent_text a.parts.exponent) = a.beginning.text ∙ sym (append_assoc (option_to_list a.parts.sign) a.parts.whole (fraction_text a.parts.fraction ++ exponent_text a.parts.exponent)) in
     let count : length (option_to_list a.parts.sign ++ a.parts.whole) ≡ st.sign_len + st.whole_len = length-append (option_to_list a.parts.sign) a.parts.whole ∙ omega (arith, a.agrees.start, a.agrees.whole) in
-    at_fraction (option_to_list a.parts.sign ++ a.parts.whole) a.parts.fraction (exponent_text a.parts.exponent) (st.sign_len + st.whole_len) st.fraction_len bs front count a.agrees.fraction
+    at_fraction (option_to_list a.parts.sign ++ a.parts.whole) a.parts.fraction (exponent_text a.parts.exponent) (st.sign_len + st.whole_len) st.fraction_len bs initial count a.agrees.fraction
   where
     at_fraction : (xs : List ℕ) (f : Option (List ℕ)) (ys : List ℕ) (n l : ℕ) (bs : List ℕ) → bs ≡ xs ++ (fraction_text f ++ ys) → length xs ≡ n → l ≡ length (fractional_digits f) → take l (drop (n + 1) bs) ≡ fractional_digits f
     at_fraction xs None ys n l bs e c k = rw k refl
@@ -463,7 +463,7 @@ pub whole_counted : (r : Radix) (bs ds : List ℕ) (st : State) (a : IsAfter r b
 whole_counted r bs ds st a e = a.agrees.whole ∙ sym (whole_count r a.parts a.beginning.parts) ∙ sym (ap length (whole_digits r bs ds st a e))
 
 pub fraction_counted : (r : Radix) (bs ds : List ℕ) (st : State) (a : IsAfter r bs st) → ds ≡ take st.fraction_len (drop (st.sign_len + st.whole_len + 1) bs) → st.fraction_len ≡ length (digits_in ds)
-fraction_counted r bs ds st a e = a.agrees.fraction ∙ sym (behind_count r a.parts a.beginning.parts) ∙ sym (ap length (fraction_digits r bs ds st a e))
+fraction_counted r bs ds st a e = a.agrees.fraction ∙ sym (after_count r a.parts a.beginning.parts) ∙ sym (ap length (fraction_digits r bs ds st a e))
 
 pub is_scanned : (r : Radix) (bs : List ℕ) (p : Parts) (st : State) (a : IsAfter r bs st) (neg : Bool) (whole fraction : List ℕ) (bits : ℕ) → HasParts r bs p → IsScanned r a.parts neg whole fraction bits → IsScanned r p neg whole fraction bits
 is_scanned r bs p st a neg whole fraction bits n h = let same = parts_unique r bs p a.parts n a.beginning in rw same h

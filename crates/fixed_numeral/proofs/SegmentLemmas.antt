@@ -30,8 +30,8 @@ pub value_after_is : (b n : ℕ) (ds : List ℕ) → digits_value_after b n ds �
 value_after_is b n [] = omega (arith, ap (λ i. n * i) (pow-zero b))
 value_after_is b n (d ∷ ds) =
     value_after_is b (n * b + digit_value d) ds ∙
-    (let front = value_after_is b (0 * b + digit_value d) ds in
-    rw (pow-suc b (length ds)) (omega (arith, front)))
+    (let prefix = value_after_is b (0 * b + digit_value d) ds in
+    rw (pow-suc b (length ds)) (omega (arith, prefix)))
 
 -- ---- runs
 pub run_none : (b : ℕ) (bs : List ℕ) (from start : ℕ) → from ≤ length bs → IsDigitRun b bs from from start start

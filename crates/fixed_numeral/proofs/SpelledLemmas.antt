@@ -5,13 +5,13 @@ use Rattle.std.proofs.Math.Nat.{pow-zero, pow-suc}
 use Rattle.std.proofs.lemmas.Nat.{pow-add}
 use Rattle.std.specs.Int.Digits.{number_from_digits, number_from_digits_after}
 
--- digits behind others
+-- digits later others
 pub number_after_is : (b n : ℕ) (ds : List ℕ) → number_from_digits_after b n ds ≡ n * b ^ length ds + number_from_digits b ds
 number_after_is b n [] = omega (arith, ap (λ i. n * i) (pow-zero b))
 number_after_is b n (d ∷ ds) =
     number_after_is b (n * b + d) ds ∙
-    (let front = number_after_is b (0 * b + d) ds in
-    rw (pow-suc b (length ds)) (omega (arith, front)))
+    (let prefix = number_after_is b (0 * b + d) ds in
+    rw (pow-suc b (length ds)) (omega (arith, prefix)))
 
 pub number_append : (b : ℕ) (xs ys : List ℕ) → number_from_digits b (xs ++ ys) ≡ number_from_digits b xs * b ^ length ys + number_from_digits b ys
 number_append b xs ys = number_after_append b 0 xs ys ∙ number_after_is b (number_from_digits b xs) ys

@@ -26,7 +26,7 @@ digits_push bs i l = ap digits_in (take_more bs i 0 l) ∙ digits_in_append (tak
 whole_split : (bs : List ℕ) (i : ℕ) → digits_in bs ≡ digits_in (take i bs) ++ digits_in (drop i bs)
 whole_split bs i = ap digits_in (sym (take-append-drop i bs)) ∙ digits_in_append (take i bs) (drop i bs)
 
--- ---- in front
+-- ---- in prefix
 -- the first i bytes have z digits, which are zeros
 pub record IsLed (bs : List ℕ) (i z : ℕ) : Type 0 where
   pub digits : digits_in (take i bs) ≡ zeros z
@@ -69,7 +69,7 @@ led_end bs ds rest i z same h l e = rw e (record {
   none = none_leading [] refl;
 })
 
--- ---- behind
+-- ---- later
 -- the bytes from end on have z digits, which are zeros
 pub record IsTrailed (bs : List ℕ) (end z : ℕ) : Type 0 where
   pub digits : digits_in (drop end bs) ≡ zeros z
@@ -140,8 +140,8 @@ number_end base start bs i number h l = h ∙ ap (λ xs. number_from_digits_afte
 
 pub number_fits : (base start : ℕ) (bs : List ℕ) (i number : ℕ) → IsNumberOf base start bs i number → AllBelowBase base (digits_in bs) → 2 ≤ base → (start + 1) * base ^ length (digits_in bs) ≤ 2 ^ 64 → number < 2 ^ 64
 number_fits base start bs i number h below two room =
-    let front : AllBelowBase base (digits_in (take i bs)) = (below_parts base (digits_in (take i bs)) (digits_in (drop i bs)) (rw (whole_split bs i) at below)).0 in
-    let small : number < (start + 1) * base ^ length (digits_in (take i bs)) = rw h (number_after_lt base start (digits_in (take i bs)) front) in
+    let prefix : AllBelowBase base (digits_in (take i bs)) = (below_parts base (digits_in (take i bs)) (digits_in (drop i bs)) (rw (whole_split bs i) at below)).0 in
+    let small : number < (start + 1) * base ^ length (digits_in (take i bs)) = rw h (number_after_lt base start (digits_in (take i bs)) prefix) in
     let shorter : length (digits_in (take i bs)) ≤ length (digits_in bs) = omega (arith, ap length (whole_split bs i), length-append (digits_in (take i bs)) (digits_in (drop i bs))) in
     let powers : base ^ length (digits_in (take i bs)) ≤ base ^ length (digits_in bs) = pow-le-pow_right (omega arith) shorter in
     let product : base ^ length (digits_in (take i bs)) * (start + 1) ≤ base ^ length (digits_in bs) * (start + 1) = mul-le-mul_right (start + 1) powers in
@@ -172,17 +172,17 @@ pub record IsEightAt (base : ℕ) (bs : List ℕ) (at : ℕ) : Type 0 where
 pub eight_stand : (base : ℕ) (bs : List ℕ) (at : ℕ) → length (digits_in bs) ≡ length bs → AllBelowBase base (digits_in bs) → at + 8 ≤ length bs → IsEightAt base bs at
 eight_stand base bs at plain below l =
     let split : digits_in (take (at + 8) bs) ≡ digits_in (take at bs) ++ digits_in (take 8 (drop at bs)) = ap digits_in (take-add at 8 bs) ∙ digits_in_append (take at bs) (take 8 (drop at bs)) in
-    let front : AllBelowBase base (digits_in (take (at + 8) bs)) = (below_parts base (digits_in (take (at + 8) bs)) (digits_in (drop (at + 8) bs)) (rw (whole_split bs (at + 8)) at below)).0 in
+    let prefix : AllBelowBase base (digits_in (take (at + 8) bs)) = (below_parts base (digits_in (take (at + 8) bs)) (digits_in (drop (at + 8) bs)) (rw (whole_split bs (at + 8)) at below)).0 in
     record {
       count = omega (arith, all_counted bs at plain (omega arith), all_counted bs (at + 8) plain l, ap length split, length-append (digits_in (take at bs)) (digits_in (take 8 (drop at bs))));
-      below = (below_parts base (digits_in (take at bs)) (digits_in (take 8 (drop at bs))) (rw split at front)).1;
+      below = (below_parts base (digits_in (take at bs)) (digits_in (take 8 (drop at bs))) (rw split at prefix)).1;
       split = split;
     }
 
 pub spelled_eight : (base start : ℕ) (bs : List ℕ) (at number n : ℕ) → IsEightAt base bs at → IsNumberOf base start bs at number → n ≡ number_from_digits base (digits_in (take 8 (drop at bs))) → IsNumberOf base start bs (at + 8) (number * (base * base * (base * base) * (base * base * (base * base))) + n)
 spelled_eight base start bs at number n t h e = sym (ap (number_from_digits_after base start) t.split ∙ number_after_append base start (digits_in (take at bs)) (digits_in (take 8 (drop at bs))) ∙ rw (e, h) (after_eight base _ (digits_in (take 8 (drop at bs))) t.count))
 
--- the digits in front of a place, behind which a multiple of eight are left
+-- the digits in prefix of a place, later which a multiple of eight are left
 pub record IsAligned (base : ℕ) (bs : List ℕ) (at number : ℕ) : Type 0 where
   pub within : at ≤ length bs
   pub left : (length bs - at) % 8 ≡ 0

@@ -65,9 +65,9 @@ pub record SplitAt (i b l r a b' l' r' a' : ℕ) : Type 0 where
   pub after : a' ≡ i - b' - l' - r'
   pub within : i ≤ b + l + r + a
 
-pub split_front : (i b : ℕ) (l r : List ℕ) (a b' l' r' a' : ℕ) → SplitAt i b (length l) (length r) a b' l' r' a' → between_zeros b' (take l' l) (take r' r) a' ≡ take i (between_zeros b l r a)
+pub split_prefix : (i b : ℕ) (l r : List ℕ) (a b' l' r' a' : ℕ) → SplitAt i b (length l) (length r) a b' l' r' a' → between_zeros b' (take l' l) (take r' r) a' ≡ take i (between_zeros b l r a)
 unfolding between_zeros
-split_front i b l r a b' l' r' a' s =
+split_prefix i b l r a b' l' r' a' s =
     let el : l' ≡ min (i - b) (length l) = omega (arith, s.before, s.left) in
     let er : r' ≡ min (i - b - length l) (length r) = omega (arith, s.before, s.left, s.right) in
     let ea : i - b - length l - length r ≡ a' = omega (arith, s.before, s.left, s.right, s.after) in
@@ -92,20 +92,20 @@ split_back i b l r a b' l' r' a' s =
     sym (drop_over i (zeros b) (l ++ (r ++ zeros a)) ∙ rw (length-replicate {A = ℕ} b 0, drop_over (i - b) l (r ++ zeros a), drop_over (i - b - length l) r (zeros a), first, left, right, last) refl)
 
 -- ---- as the code has them
-pub view_front : (v lf rf l r : List ℕ) (i b a b' l' r' a' : ℕ) → between_zeros b l r a ≡ v → SplitAt i b (length l) (length r) a b' l' r' a' → lf ≡ take l' l → rf ≡ take r' r → between_zeros b' lf rf a' ≡ take i v
-view_front v lf rf l r i b a b' l' r' a' e s p q = rw (p, q) (split_front i b l r a b' l' r' a' s ∙ ap (take i) e)
+pub view_prefix : (v lf rf l r : List ℕ) (i b a b' l' r' a' : ℕ) → between_zeros b l r a ≡ v → SplitAt i b (length l) (length r) a b' l' r' a' → lf ≡ take l' l → rf ≡ take r' r → between_zeros b' lf rf a' ≡ take i v
+view_prefix v lf rf l r i b a b' l' r' a' e s p q = rw (p, q) (split_prefix i b l r a b' l' r' a' s ∙ ap (take i) e)
 
 pub view_back : (v lb rb l r : List ℕ) (i b a b' l' r' a' : ℕ) → between_zeros b l r a ≡ v → SplitAt i b (length l) (length r) a b' l' r' a' → lb ≡ drop l' l → rb ≡ drop r' r → between_zeros (b - b') lb rb (a - a') ≡ drop i v
 view_back v lb rb l r i b a b' l' r' a' e s p q = rw (p, q) (split_back i b l r a b' l' r' a' s ∙ ap (drop i) e)
 
 -- a place within the first piece, where no zeros stand before it
-pub left_front : (v lf l r : List ℕ) (i b a : ℕ) → between_zeros b l r a ≡ v → b ≡ 0 → i ≤ length l → lf ≡ take i l → lf ≡ take i v
+pub left_prefix : (v lf l r : List ℕ) (i b a : ℕ) → between_zeros b l r a ≡ v → b ≡ 0 → i ≤ length l → lf ≡ take i l → lf ≡ take i v
 unfolding between_zeros
-left_front v lf l r i zero a e z h f =
+left_prefix v lf l r i zero a e z h f =
     let none : i - length l ≡ 0 = omega arith in
     let over : take i (l ++ (r ++ zeros a)) ≡ take i l = take_over i l (r ++ zeros a) ∙ rw none (append-nil (take i l)) in
     f ∙ sym over ∙ ap (take i) e
-left_front v lf l r i (suc b) a e z h f = absurd (omega arith)
+left_prefix v lf l r i (suc b) a e z h f = absurd (omega arith)
 
 pub left_back : (v lb l r : List ℕ) (i b a : ℕ) → between_zeros b l r a ≡ v → b ≡ 0 → i ≤ length l → lb ≡ drop i l → between_zeros 0 lb r a ≡ drop i v
 unfolding between_zeros

@@ -131,15 +131,15 @@ impl<'a> DigitSlice<'a> {
     /// The first i digits of a slice, and the bytes after them.
     pub fn split_at_digit(bytes: &'a [u8], i: u64) -> (DigitSlice<'a>, &'a [u8])
         requires { i ≤ length (digits_in bytes.now) }
-        ensures front { result.0 ≡ take i (digits_in bytes.now) }
+        ensures prefix { result.0 ≡ take i (digits_in bytes.now) }
         ensures back { digits_in result.1.now ≡ drop i (digits_in bytes.now) }
     {
         let place = byte_index_by_search(bytes, i);
-        let front = &bytes[..place];
+        let prefix = &bytes[..place];
         let back = &bytes[place..];
         (
             DigitSlice {
-                bytes: front,
+                bytes: prefix,
                 count: i,
             },
             back,
@@ -282,16 +282,16 @@ impl<'a> DigitSlice<'a> {
     #[inline]
     pub fn split_at(&self, i: u64) -> (DigitSlice<'a>, DigitSlice<'a>)
         requires { i ≤ length self.now }
-        ensures front { result.0 ≡ take i self.now }
+        ensures prefix { result.0 ≡ take i self.now }
         ensures back { result.1 ≡ drop i self.now }
     {
         let bytes = self.bytes;
         let place = byte_index(bytes, self.count, i);
-        let front = &bytes[..place];
+        let prefix = &bytes[..place];
         let back = &bytes[place..];
         (
             DigitSlice {
-                bytes: front,
+                bytes: prefix,
                 count: i,
             },
             DigitSlice {

@@ -245,8 +245,8 @@ impl<'a> DigitView<'a> {
         requires { HasPrefixNumber base i self.now }
         ensures { result ≡ number_from_digits base (take i self.now) }
     {
-        let (front, _back) = self.split_at(i);
-        front.number(base)
+        let (prefix, _back) = self.split_at(i);
+        prefix.number(base)
     }
 
     /// The digits after the first i, wherever they lie. There are at least i.
@@ -255,7 +255,7 @@ impl<'a> DigitView<'a> {
         requires { i ≤ length self.now }
         ensures { result ≡ drop i self.now }
     {
-        let (_front, back) = self.split_at(i);
+        let (_prefix, back) = self.split_at(i);
         back
     }
 
@@ -275,21 +275,21 @@ impl<'a> DigitView<'a> {
     /// The first i digits, and the others. There are at least i.
     pub fn split_at(&self, i: u64) -> (DigitView<'a>, DigitView<'a>)
         requires { i ≤ length self.now }
-        ensures front { result.0 ≡ take i self.now }
+        ensures prefix { result.0 ≡ take i self.now }
         ensures back { result.1 ≡ drop i self.now }
     {
         let before = i.min(self.before);
-        let behind = i - before;
-        let left = behind.min(self.left.len());
-        let right = (behind - left).min(self.right.len());
-        let after = behind - left - right;
-        let (left_front, left_back) = self.left.split_at(left);
-        let (right_front, right_back) = self.right.split_at(right);
+        let later = i - before;
+        let left = later.min(self.left.len());
+        let right = (later - left).min(self.right.len());
+        let after = later - left - right;
+        let (left_prefix, left_back) = self.left.split_at(left);
+        let (right_prefix, right_back) = self.right.split_at(right);
         (
             DigitView {
                 before,
-                left: left_front,
-                right: right_front,
+                left: left_prefix,
+                right: right_prefix,
                 after,
             },
             DigitView {
@@ -305,7 +305,7 @@ impl<'a> DigitView<'a> {
     pub fn last_n(&self, n: u64) -> DigitView<'a>
         ensures { result ≡ drop (length self.now - n) self.now }
     {
-        let (_front, back) = self.split_at(self.len().saturating_sub(n));
+        let (_prefix, back) = self.split_at(self.len().saturating_sub(n));
         back
     }
 
@@ -357,11 +357,11 @@ fn without_leading<'a>(
     ensures digits { IsWithoutLeading (whole.now ++ fraction.now) (result.0 ++ result.1) }
     ensures shorter { length result.0 + length result.1 ≤ length whole.now + length fraction.now }
 {
-    let front = whole.without_leading();
-    if front.len() > 0 {
-        (front, fraction.same())
+    let prefix = whole.without_leading();
+    if prefix.len() > 0 {
+        (prefix, fraction.same())
     } else {
-        (front, fraction.without_leading())
+        (prefix, fraction.without_leading())
     }
 }
 

@@ -97,8 +97,8 @@ fn rest_views<'a, L: Ledger>(
     ensures cost { steps.new ≤ steps.old + length bytes.now + 2 }
 {
     let text = same_bytes(bytes);
-    let (whole, behind) = DigitSlice::split_at_digit(text, state.whole_len);
-    let (fraction, _rest) = DigitSlice::split_at_digit(behind, state.fraction_len);
+    let (whole, later) = DigitSlice::split_at_digit(text, state.whole_len);
+    let (fraction, _rest) = DigitSlice::split_at_digit(later, state.fraction_len);
     Scanned::of(
         radix,
         neg,

@@ -1,4 +1,4 @@
--- The candidate of a block of decimal digits, and the digits behind it.
+-- The candidate of a block of decimal digits, and the digits later it.
 use Rattle.std.proofs.Common.{⊎_elim, Bool, false, IsTrue, ◌⊎◌, ◌↔◌, ◌≡◌, ℕ, ◌+◌, ◌-◌, ◌*◌, ◌/◌, ◌^◌, ◌<◌, ◌≤◌, List, [], length, arith, refl, ap, ◌∙◌, mul-le-mul_right, mul-le-mul_left, mul-pos, pow_pos, div-add-mod', mod-lt}
 use Rattle.std.proofs.Math.Nat.{eq_of_mul-eq-mul_left, mul-div_cancel, one-le-pow, pow-le-pow_right, le_of_mul-le-mul_left}
 use Rattle.std.proofs.lemmas.Nat.{pow-add, mul-pow}
@@ -45,7 +45,7 @@ block_room block count bits most s l =
 plain_room : (p a unit ten : ℕ) → 0 < p → unit * p ≡ a * ten → 2 * p ≤ ten → 2 * a ≤ unit
 plain_room p a unit ten pos e h = le_of_mul-le-mul_left {k = p} (omega (arith, e, mul-le-mul_left a h)) pos
 
--- a step is at least twice what the digits behind the block can make
+-- a step is at least twice what the digits later the block can make
 pub candidate_room : (block count frac most q rest unit bits : ℕ) → IsCandidate block count frac q rest unit bits → frac ≤ most → 2 * 2 ^ most ≤ 10 ^ count → 2 * 2 ^ bits ≤ unit
 candidate_room block count frac most q rest unit bits c l h = plain_room (2 ^ frac) (2 ^ bits) unit (10 ^ count) (pow_pos frac) c.scale (omega (arith, h, two_up frac most l))
 
@@ -73,9 +73,9 @@ order_map Greater P Q R P2 Q2 R2 f g h x = h x
 pub five_is : (n : ℕ) → 10 ^ n / 2 ^ n ≡ 5 ^ n
 five_is n = rw (ten_is n) (mul-div_cancel (5 ^ n) (pow_pos n))
 
-pub mark_is : (start bits front a b : ℕ) → front ≤ bits → a ≡ 5 ^ front → b ≡ 5 ^ (bits - front) → start * a * b ≡ start * 5 ^ bits
-mark_is start bits front a b l ea eb =
-    let power : 5 ^ bits ≡ 5 ^ front * 5 ^ (bits - front) = ap (λ i. 5 ^ i) (let z : bits ≡ front + (bits - front) = omega arith in z) ∙ pow-add 5 front (bits - front) in
+pub mark_is : (start bits prefix a b : ℕ) → prefix ≤ bits → a ≡ 5 ^ prefix → b ≡ 5 ^ (bits - prefix) → start * a * b ≡ start * 5 ^ bits
+mark_is start bits prefix a b l ea eb =
+    let power : 5 ^ bits ≡ 5 ^ prefix * 5 ^ (bits - prefix) = ap (λ i. 5 ^ i) (let z : bits ≡ prefix + (bits - prefix) = omega arith in z) ∙ pow-add 5 prefix (bits - prefix) in
     rw (ea, eb, power) (omega arith)
 
 pub mark_room : (start bits : ℕ) → bits ≤ 38 → start < 2 ^ bits → start * 5 ^ bits < 2 ^ 128
@@ -84,7 +84,7 @@ mark_room start bits l s =
     let most = ten_up bits 38 l in
     omega (arith, mul-le-mul_right (5 ^ bits) s, ten, most, five_pos bits)
 
--- ---- a block against the digits of start / 2^bits: n / l is 0.DIGITS, t and w what is behind the block, two · five = 10^bits
+-- ---- a block against the digits of start / 2^bits: n / l is 0.DIGITS, t and w what is later the block, two · five = 10^bits
 module _ (block t w n l two five start : ℕ) (led : (block * t + w) * l ≡ n * (five * two * t)) (some_five : 0 < five) (some_t : 0 < t) (some_l : 0 < l) (small : w < t) where
   block_less : block < start * five → n * two < start * l
   block_less h = cancel_lt (five * t) (n * two) (start * l) (omega (arith, led, mul-le-mul_right l (inside (start * five) h)))
@@ -131,8 +131,8 @@ plain_stands r k a t w rest unit share start e f m =
     let f' = ap (λ x. x * t) f in
     order_map r _ _ _ _ _ _ (λ h. omega (arith, e', f', h)) (λ h. omega (arith, e', f', h)) (λ h. omega (arith, e', f', h)) m
 
-pub stands_behind : (r : Ordering) (ds : List ℕ) (halves bits rest unit share : ℕ) → share ≡ rest * 2 ^ halves → share < unit → MatchOrdering r (number_from_digits 10 ds * 2 ^ (bits + halves) < (unit - share) * 10 ^ length ds) (number_from_digits 10 ds * 2 ^ (bits + halves) ≡ (unit - share) * 10 ^ length ds) ((unit - share) * 10 ^ length ds < number_from_digits 10 ds * 2 ^ (bits + halves)) → MatchOrdering r (2 ^ halves * scaled_rest rest bits ds < scaled_unit unit ds) (2 ^ halves * scaled_rest rest bits ds ≡ scaled_unit unit ds) (scaled_unit unit ds < 2 ^ halves * scaled_rest rest bits ds)
-stands_behind r ds halves bits rest unit share e l m = plain_stands r (2 ^ halves) (2 ^ bits) (10 ^ length ds) (number_from_digits 10 ds) rest unit share (unit - share) e (omega arith) (rw (pow-add 2 bits halves) at m)
+pub stands_after : (r : Ordering) (ds : List ℕ) (halves bits rest unit share : ℕ) → share ≡ rest * 2 ^ halves → share < unit → MatchOrdering r (number_from_digits 10 ds * 2 ^ (bits + halves) < (unit - share) * 10 ^ length ds) (number_from_digits 10 ds * 2 ^ (bits + halves) ≡ (unit - share) * 10 ^ length ds) ((unit - share) * 10 ^ length ds < number_from_digits 10 ds * 2 ^ (bits + halves)) → MatchOrdering r (2 ^ halves * scaled_rest rest bits ds < scaled_unit unit ds) (2 ^ halves * scaled_rest rest bits ds ≡ scaled_unit unit ds) (scaled_unit unit ds < 2 ^ halves * scaled_rest rest bits ds)
+stands_after r ds halves bits rest unit share e l m = plain_stands r (2 ^ halves) (2 ^ bits) (10 ^ length ds) (number_from_digits 10 ds) rest unit share (unit - share) e (omega arith) (rw (pow-add 2 bits halves) at m)
 
 plain_more : (k a t w rest unit share : ℕ) → 0 < k → 0 < a → 0 < t → share ≡ rest * k → unit < share → unit * t < k * (rest * t + w * a)
 plain_more k a t w rest unit share pk pa pt e l = omega (arith, ap (λ x. x * t) e, mul-le-mul_right t l)
@@ -169,7 +169,7 @@ part_some ds rest bits l = let m = mul-pos l (ten_pos (length ds)) in omega (ari
 pub part_beyond : (ds : List ℕ) (rest bits : ℕ) → NoTrailingZero ds → (ds ≡ [] → ⊥) → 0 < scaled_rest rest bits ds
 part_beyond ds rest bits n some = let m = mul-pos (some_number 10 ds (omega arith) n some) (pow_pos bits) in omega (arith, m)
 
--- ---- where no digits behind the block matter
+-- ---- where no digits later the block matter
 plain_under : (w t a rest half unit : ℕ) → 0 < a → w < t → rest + a ≤ half → 2 * half ≤ unit → 2 * (rest * t + w * a) < unit * t
 plain_under w t a rest half unit p k l h = omega (arith, mul-le-mul_right a k, mul-le-mul_right t l, mul-le-mul_right t h)
 
@@ -221,7 +221,7 @@ module _ (ds rest : List ℕ) (block count frac q left unit bits : ℕ) (below :
       let below_all = all_few (number_from_digits 10 ds) (10 ^ length ds) (2 ^ frac) (scaled_unit unit rest) (q * scaled_unit unit rest + scaled_rest left bits rest) (pow_pos frac) (whole_pos rest left unit candidate.small) (number_lt 10 ds below) same in
       omega (arith, below_all, few)
 
-  -- what the candidate and the digits behind it settle to is the fraction's scaled_rest
+  -- what the candidate and the digits later it settle to is the fraction's scaled_rest
   pub part_settled : (p : ℕ) (lost : LostFraction) → IsSettled (q * scaled_unit unit rest + scaled_rest left bits rest) (scaled_unit unit rest) p lost → IsFractionUlps 10 ds frac p lost
   part_settled p lost settled =
       let some = whole_pos rest left unit candidate.small in
@@ -234,8 +234,8 @@ module _ (ds rest : List ℕ) (block count frac q left unit bits : ℕ) (below :
 pub room_of : (bits : ℕ) → bits ≤ 37 → 2 * 2 ^ bits ≤ 7450580596923828125
 room_of bits l = let most = two_up bits 37 l in omega (arith, most)
 
--- ---- what is left behind the candidate, by its comparisons
--- the step behind the candidate's fits a word
+-- ---- what is left later the candidate, by its comparisons
+-- the step later the candidate's fits a word
 pub next_room : (q s den n : ℕ) → q * den + s < n * den → den ≤ s → q + 1 < n
 next_room q s den n h l = cancel_lt den (q + 1) n (omega (arith, h, l))
 

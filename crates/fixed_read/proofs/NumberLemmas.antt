@@ -14,7 +14,7 @@ use Rattle.fixed_numeral.specs.Place.{NoLeadingZero}
 base_pow : (b n : ℕ) → b % 2 ≡ 0 → b ^ n ≡ (b / 2) ^ n * 2 ^ n
 base_pow b n e = ap (λ x. x ^ n) (let k : b ≡ b / 2 * 2 = omega arith in k) ∙ mul-pow (b / 2) 2 n
 
--- the digits that were taken off the last ones; long says that others stand in front of these
+-- the digits that were taken off the last ones; long says that others stand in prefix of these
 pub record Trailing (b m : ℕ) (last rest : List ℕ) (value : ℕ) (long : Type 0) (over : Bool) (before now : ℕ) : Type 0 where
   pub taken : List ℕ
   pub split : last ≡ taken ++ rest
@@ -98,7 +98,7 @@ cut_low v p l =
 pow_two_small : (b w : ℕ) → 2 ≤ b → 2 ^ w ≤ b ^ w
 pow_two_small b w h = pow-le-pow_left h w
 
-first_some : (b : ℕ) (front back : List ℕ) → 0 < length front → NoLeadingZero (front ++ back) → 0 < b → 1 ≤ number_from_digits b front
+first_some : (b : ℕ) (prefix back : List ℕ) → 0 < length prefix → NoLeadingZero (prefix ++ back) → 0 < b → 1 ≤ number_from_digits b prefix
 first_some b [] back l n p = absurd (omega arith)
 first_some b (zero ∷ ds) back l n p = absurd (n (ds ++ back) refl)
 first_some b (suc d ∷ ds) back l n p = omega (arith, number_after_ge b (0 * b + suc d) ds p)
@@ -110,7 +110,7 @@ pub record Ends (b w : ℕ) (ds : List ℕ) (value : ℕ) (over : Bool) : Type 0
 pub trailing_all : (b w : ℕ) (ds last rest : List ℕ) (value : ℕ) (over : Bool) (before now : ℕ) → 2 ≤ b → b % 2 ≡ 0 → NoLeadingZero ds → last ≡ drop (length ds - w) ds → rest ≡ [] → Trailing b (2 ^ w) last rest value (w < length ds) over before now → Ends b w ds value over
 trailing_all b w ds last rest value over before now two even none el er h =
     let whole : last ≡ h.taken = h.split ∙ ap (λ xs. h.taken ++ xs) er ∙ append-nil h.taken in
-    let front : List ℕ = take (length ds - w) ds in
+    let prefix : List ℕ = take (length ds - w) ds in
     let back : h.taken ≡ drop (length ds - w) ds = sym whole ∙ el in
     let cut : take (length ds - w) ds ++ drop (length ds - w) ds ≡ ds = take-append-drop (length ds - w) ds in
     let n : number_from_digits b ds ≡ number_from_digits b (take (length ds - w) ds) * b ^ length (drop (length ds - w) ds) + number_from_digits b (drop (length ds - w) ds) = ap (number_from_digits b) (sym cut) ∙ number_append b (take (length ds - w) ds) (drop (length ds - w) ds) in

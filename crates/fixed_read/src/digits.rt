@@ -142,7 +142,7 @@ pub fn is_longer(view: &DigitView, count: u32) -> bool
 pub fn leading_number_u128<'a, L: Ledger>(
     view: &DigitView<'a>,
     base: u32,
-    front: u32,
+    prefix: u32,
     back: u32,
     power: u64,
     steps: &mut Steps<L>,
@@ -151,15 +151,15 @@ pub fn leading_number_u128<'a, L: Ledger>(
     requires trailing { NoTrailingZero view.now }
     requires least { 2 ≤ base }
     requires most { base ≤ 16 }
-    requires front { base ^ front ≤ 2 ^ 64 }
+    requires prefix { base ^ prefix ≤ 2 ^ 64 }
     requires back { base ^ back ≤ 2 ^ 64 }
     requires power { power ≡ base ^ back }
-    ensures led { IsBlockOf base view.now (drop (front + back) view.now) result (front + back) }
-    ensures cost { steps.new ≤ steps.old + front + back }
+    ensures led { IsBlockOf base view.now (drop (prefix + back) view.now) result (prefix + back) }
+    ensures cost { steps.new ≤ steps.old + prefix + back }
 {
-    let high = leading_number(view, base, front, steps);
-    if is_longer(view, front) {
-        let (_front, rest) = view.split_at(u64::from(front));
+    let high = leading_number(view, base, prefix, steps);
+    if is_longer(view, prefix) {
+        let (_prefix, rest) = view.split_at(u64::from(prefix));
         let low = leading_number(&rest, base, back, steps);
         high_low(high, power, low)
     } else {

@@ -1,13 +1,13 @@
 use Rattle.std.proofs.Common.{◌≡◌, ap, ◌∙◌, arith, take, drop, length, length-take}
 use Rattle.fixed_numeral.specs.Digits.{digits_in}
 use Rattle.fixed_numeral.specs.Scanned.{IsScanned}
-use Rattle.fixed_numeral.proofs.LiteralScanLemmas.{literal_fits, front_whole, front_fraction, front_fits, back_fits, parts_of_rest, signed_parts}
+use Rattle.fixed_numeral.proofs.LiteralScanLemmas.{literal_fits, prefix_whole, prefix_fraction, prefix_fits, back_fits, parts_of_rest, signed_parts}
 use Rattle.fixed_numeral.proofs.literal.rest_views.Goals as goal
 
 pub split_at_digit-whole-requires : goal.split_at_digit-whole-requires
 split_at_digit-whole-requires g c =
     let same : digits_in c.same_bytes-text.result.now ≡ digits_in c.args.bytes.now = ap digits_in c.same_bytes-text.ensures in
-    rw same (front_fits c.args.radix c.args.bytes.now c.args.state c.requires)
+    rw same (prefix_fits c.args.radix c.args.bytes.now c.args.state c.requires)
 
 pub split_at_digit-fraction-requires : goal.split_at_digit-fraction-requires
 split_at_digit-fraction-requires g c =
@@ -19,7 +19,7 @@ pub of-requires-clause-digits : goal.of-requires-clause-digits
 of-requires-clause-digits g c =
     let same : digits_in c.same_bytes-text.result.now ≡ digits_in c.args.bytes.now = ap digits_in c.same_bytes-text.ensures in
     let back : digits_in c.split_at_digit-whole.result.1.now ≡ drop c.args.state.whole_len (digits_in c.args.bytes.now) = c.split_at_digit-whole.ensures.back ∙ ap (drop c.args.state.whole_len) same in
-    omega (arith, ap length (c.split_at_digit-whole.ensures.front ∙ ap (take c.args.state.whole_len) same), ap length (c.split_at_digit-fraction.ensures.front ∙ ap (take c.args.state.fraction_len) back), length-take c.args.state.whole_len (digits_in c.args.bytes.now), length-take c.args.state.fraction_len (drop c.args.state.whole_len (digits_in c.args.bytes.now)), literal_fits c.args.radix c.args.bytes.now c.args.state c.requires, ap length c.same_bytes-text.ensures, c.same_bytes-text.type_inv)
+    omega (arith, ap length (c.split_at_digit-whole.ensures.prefix ∙ ap (take c.args.state.whole_len) same), ap length (c.split_at_digit-fraction.ensures.prefix ∙ ap (take c.args.state.fraction_len) back), length-take c.args.state.whole_len (digits_in c.args.bytes.now), length-take c.args.state.fraction_len (drop c.args.state.whole_len (digits_in c.args.bytes.now)), literal_fits c.args.radix c.args.bytes.now c.args.state c.requires, ap length c.same_bytes-text.ensures, c.same_bytes-text.type_inv)
 
 pub returns-clause-value : goal.returns-clause-value
 returns-clause-value g c =
@@ -27,11 +27,11 @@ returns-clause-value g c =
     let back : digits_in c.split_at_digit-whole.result.1.now ≡ drop c.args.state.whole_len (digits_in c.args.bytes.now) = c.split_at_digit-whole.ensures.back ∙ ap (drop c.args.state.whole_len) same in
     λ p h k e.
     let q = record c.requires.parts { sign = p.sign } in
-    let scanned : IsScanned c.args.radix q c.of.result.neg c.of.result.whole c.of.result.fraction c.of.result.bit_shift = c.of.ensures.value q (signed_parts c.args.radix c.requires.parts p.sign k c.requires.beginning.beginning.parts) e ((c.split_at_digit-whole.ensures.front ∙ ap (take c.args.state.whole_len) same) ∙ front_whole c.args.radix c.args.bytes.now c.args.state c.requires) ((c.split_at_digit-fraction.ensures.front ∙ ap (take c.args.state.fraction_len) back) ∙ front_fraction c.args.radix c.args.bytes.now c.args.state c.requires) c.requires.agrees.exponent in
+    let scanned : IsScanned c.args.radix q c.of.result.neg c.of.result.whole c.of.result.fraction c.of.result.bit_shift = c.of.ensures.value q (signed_parts c.args.radix c.requires.parts p.sign k c.requires.beginning.beginning.parts) e ((c.split_at_digit-whole.ensures.prefix ∙ ap (take c.args.state.whole_len) same) ∙ prefix_whole c.args.radix c.args.bytes.now c.args.state c.requires) ((c.split_at_digit-fraction.ensures.prefix ∙ ap (take c.args.state.fraction_len) back) ∙ prefix_fraction c.args.radix c.args.bytes.now c.args.state c.requires) c.requires.agrees.exponent in
     rw (parts_of_rest c.args.radix c.args.bytes.now c.args.state c.requires p h) at scanned
 
 pub returns-clause-cost : goal.returns-clause-cost
 returns-clause-cost g c =
     let same : digits_in c.same_bytes-text.result.now ≡ digits_in c.args.bytes.now = ap digits_in c.same_bytes-text.ensures in
     let back : digits_in c.split_at_digit-whole.result.1.now ≡ drop c.args.state.whole_len (digits_in c.args.bytes.now) = c.split_at_digit-whole.ensures.back ∙ ap (drop c.args.state.whole_len) same in
-    omega (arith, ap length (c.split_at_digit-whole.ensures.front ∙ ap (take c.args.state.whole_len) same), ap length (c.split_at_digit-fraction.ensures.front ∙ ap (take c.args.state.fraction_len) back), length-take c.args.state.whole_len (digits_in c.args.bytes.now), length-take c.args.state.fraction_len (drop c.args.state.whole_len (digits_in c.args.bytes.now)), literal_fits c.args.radix c.args.bytes.now c.args.state c.requires, c.of.ensures.cost)
+    omega (arith, ap length (c.split_at_digit-whole.ensures.prefix ∙ ap (take c.args.state.whole_len) same), ap length (c.split_at_digit-fraction.ensures.prefix ∙ ap (take c.args.state.fraction_len) back), length-take c.args.state.whole_len (digits_in c.args.bytes.now), length-take c.args.state.fraction_len (drop c.args.state.whole_len (digits_in c.args.bytes.now)), literal_fits c.args.radix c.args.bytes.now c.args.state c.requires, c.of.ensures.cost)

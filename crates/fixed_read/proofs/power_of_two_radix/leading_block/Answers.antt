@@ -20,8 +20,8 @@ leading_number-requires-clause-room g c =
     rw same (block_room c.args.bits c.args.fraction_bits c.args.count c.requires.some c.requires.few c.if-fraction_bits-le60.true c.requires.count)
 
 -- ---- in two
-pub leading_number_u128-requires-clause-front : goal.leading_number_u128-requires-clause-front
-leading_number_u128-requires-clause-front g c =
+pub leading_number_u128-requires-clause-prefix : goal.leading_number_u128-requires-clause-prefix
+leading_number_u128-requires-clause-prefix g c =
     let same : c.base_of_bits-2.result ≡ 2 ^ c.args.bits = c.base_of_bits-2.ensures in
     rw same (word_room c.args.bits c.args.fraction_bits (c.args.count - (c.args.count + 1) / 2) c.requires.some c.requires.few c.requires.fraction_bits (omega (arith, c.requires.count)))
 

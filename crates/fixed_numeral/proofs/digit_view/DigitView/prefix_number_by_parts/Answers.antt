@@ -1,6 +1,6 @@
 use Rattle.std.proofs.Common.{◌∙◌, [], take, refl, ap, arith}
 use Rattle.std.specs.Int.Digits.{number_from_digits}
-use Rattle.fixed_numeral.proofs.ViewLemmas.{left_front, right_alone}
+use Rattle.fixed_numeral.proofs.ViewLemmas.{left_prefix, right_alone}
 use Rattle.fixed_numeral.proofs.NumberLemmas.{left_digits}
 use Rattle.fixed_numeral.proofs.digit_view.DigitView.prefix_number_by_parts.Goals as goal
 
@@ -13,4 +13,4 @@ prefix_number-requires-clause-digits c =
 pub returns-then-i-len : goal.returns-then-i-len
 returns-then-i-len c =
     let view = right_alone c.args.self.now c.self.inside.left c.self.inside.right c.self.inside.before c.self.inside.after c.self.view_is c.if-self-eq0.true (omega (arith, c.if-len-eq0.true)) in
-    c.prefix_number.ensures ∙ ap (number_from_digits c.args.base) (left_front c.args.self.now (take c.args.i c.self.inside.right) c.self.inside.right [] c.args.i 0 c.self.inside.after view refl (omega (arith, c.if-i-len.true)) refl)
+    c.prefix_number.ensures ∙ ap (number_from_digits c.args.base) (left_prefix c.args.self.now (take c.args.i c.self.inside.right) c.self.inside.right [] c.args.i 0 c.self.inside.after view refl (omega (arith, c.if-i-len.true)) refl)
