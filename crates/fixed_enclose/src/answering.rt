@@ -3,7 +3,6 @@
 ghost use Rattle.std.specs.Prelude.{◌≡◌, ◌↔◌, ◌≤◌, ◌<◌, ◌+◌, ◌*◌, ◌++◌, [], ◌∷◌, length, IsTrue, MatchOption, MatchResult, IfOk};
 ghost use Rattle.std.specs.Fmt.{signed_decimal};
 ghost use Rattle.fixed_bits.specs.Ranges.{IsWide};
-ghost use Rattle.fixed_respell.specs.Language.{fault_answer};
 ghost use Rattle.fixed_respell.specs.LineWords.{HasWords, longest_line, space};
 ghost use Rattle.fixed_respell.specs.Split.{count_of};
 ghost use Rattle.fixed_write.specs.Texts.{IsShortestText, shortest_text};
@@ -14,7 +13,7 @@ use crate::enclosing::enclose;
 use crate::fault::EncloseFault;
 use fixed_bits::Format;
 use fixed_numeral::Radix;
-use fixed_respell::{format_word, radix_word, split_once};
+use fixed_respell::{format_word, push_fault, radix_word, split_once};
 use fixed_steps::Steps;
 use fixed_write::{push_integer, push_shortest};
 use line_engine::{MAX_ANSWER, MAX_LINE};
@@ -76,16 +75,6 @@ fn read_task(line: &[u8]) -> Result<Task<'_>, EncloseFault>
         format,
         numeral: fields.numeral,
     })
-}
-
-/// Appends `error: ` and the message of a fault.
-fn push_fault<const N: usize>(out: &mut TextBuffer<N>, message: &str)
-    requires short { length message.now ≤ 64 }
-    requires room { length out.old + 71 ≤ N }
-    ensures { out.new ≡ out.old ++ (fault_answer message.now).text }
-{
-    out.push_bytes(b"error: ");
-    out.push_bytes(message.as_bytes());
 }
 
 /// Appends the shortest decimal text of `number` ulps of 2^-`frac`, a space, that number in decimal, and a space.
