@@ -4,5 +4,6 @@ mod ColumnLemmas
 mod SpaceLemmas
 mod ReadingLemmas
 mod CommandLemmas
+mod CompareLemmas
 mod OrderLawLemmas
 mod BackLemmas

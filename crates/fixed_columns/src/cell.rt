@@ -110,15 +110,16 @@ impl Ord for Cell {
 
     ghost matches_eq = { λ a b. one_answer _ _ (Prim.search (comparing, rules)) (cell_decides a b) };
 
+    // Cells of one format, which most columns have alone, are ordered as their bits.
     fn cmp(&self, other: &Cell) -> Ordering {
         let (format, other_format) = (self.format(), other.format());
-        compare(
-            self.bits(),
-            format.frac(),
-            other.bits(),
-            other_format.frac(),
-        )
-        .then(compare_formats(format, other_format))
+        match compare_formats(format, other_format) {
+            Ordering::Equal => self.bits().cmp(&other.bits()),
+            by_format => {
+                let (frac, other_frac) = (format.frac(), other_format.frac());
+                compare(self.bits(), frac, other.bits(), other_frac).then(by_format)
+            }
+        }
     }
 }
 

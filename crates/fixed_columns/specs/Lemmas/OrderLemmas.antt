@@ -43,7 +43,7 @@ same_sign false true e = absurd cc
 same_sign true false e = absurd cc
 same_sign true true e = refl
 
-same_format : (f g : FormatParts) → format_order f g ≡ Equal → f ≡ g
+pub same_format : (f g : FormatParts) → format_order f g ≡ Equal → f ≡ g
 same_format f g e =
     let front = first_equal (ordering_then (nat_cmp f.width g.width) (bool_cmp f.signed g.signed)) (nat_cmp f.frac g.frac) e in
     let width : f.width ≡ g.width = exact_unsigned f.width g.width (first_equal (nat_cmp f.width g.width) (bool_cmp f.signed g.signed) front) in
