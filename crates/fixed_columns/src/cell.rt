@@ -53,6 +53,7 @@ impl Cell {
         requires { IsInRange format.signed format.width bits }
         ensures { result ≡ record { format = format; bits = bits } }
     {
+        // What its width says of a format: it is one.
         let _ = format.width();
         Cell { format, bits }
     }
