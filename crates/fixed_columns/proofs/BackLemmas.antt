@@ -14,7 +14,7 @@ use Rattle.std.proofs.lemmas.Str.Parse.{digit_from_value}
 use Rattle.fixed_bits.specs.Formats.{FormatParts, IsFormat}
 use Rattle.fixed_numeral.specs.Numeral.{Exponent, HasNumeral, IsExponentOf, Parts, exponent_text, fraction_text, fractional_digits, is_sign}
 use Rattle.fixed_numeral.specs.declared.radix.Radix.TheVariants.{Dec}
-use Rattle.fixed_laws.proofs.TextLemmas.{default_reads_back}
+use Rattle.fixed_laws.specs.Laws.{DefaultTextReadsBack}
 use Rattle.fixed_respell.specs.Split.{count_of}
 use Rattle.fixed_respell.specs.Words.{format_text, sign_letter}
 use Rattle.fixed_respell.specs.Lemmas.FormatLemmas.{width_most}
@@ -22,7 +22,7 @@ use Rattle.fixed_respell.specs.Lemmas.SplitLemmas.{count_cons}
 use Rattle.fixed_write.specs.Styled.{IsStyledText, padded_text, padding, sign_and_prefix}
 use Rattle.fixed_write.specs.Texts.{IsShortestText, decimal_text, point_text}
 use Rattle.line_engine.specs.Lines.{lines}
-use Rattle.text_lines.proofs.LineLemmas.{lines_at, quiet_line}
+use Rattle.text_lines.specs.Laws.{LineComesFirst}
 use Rattle.fixed_columns.specs.Answer.{decimal_style}
 use Rattle.fixed_columns.specs.Cells.{CellParts, HoldsAsOften, IsCell, times}
 use Rattle.fixed_columns.specs.Column.{IsRow}
@@ -190,10 +190,10 @@ record IsReadBack (c : CellParts) (row : List ℕ) : Type 0 where
   above : AreAbove 31 row
   spells : Spells row c
 
-row_back : (width : ℕ) (c : CellParts) (row : List ℕ) → IsCell c → IsRow (decimal_style width) c row → IsReadBack c row
-row_back width c row cell is =
+row_back : DefaultTextReadsBack → (width : ℕ) (c : CellParts) (row : List ℕ) → IsCell c → IsRow (decimal_style width) c row → IsReadBack c row
+row_back reads width c row cell is =
     let pad = padded width c.bits c.format.frac is.number is.styled in
-    let read = default_reads_back c.bits c.format.frac pad.number pad.shortest in
+    let read = reads c.bits c.format.frac pad.number pad.shortest in
     let word : List ℕ = format_text c.format in
     let above = numeral_above pad.number read.0 read.1 in
     let shape : row ≡ spaces pad.count ++ (pad.number ++ 32 ∷ word) = is.text ∙ (ap (λ (t : List ℕ). t ++ 32 ∷ word) pad.is ∙ append_assoc (spaces pad.count) pad.number (32 ∷ word)) in
@@ -212,13 +212,13 @@ row_back width c row cell is =
       };
     }
 
-pub column_back : ColumnReadsBack
-column_back width [] text all is = let S : List ℕ → Type 0 = λ t. SpellAll (lines t) [] in subst S (sym is) refl
-column_back width (c ∷ cells) text all is =
-    let row = row_back width c is.0 (all 0 c (omega arith)) is.2 in
+pub column_back : DefaultTextReadsBack → LineComesFirst → ColumnReadsBack
+column_back reads first width [] text all is = let S : List ℕ → Type 0 = λ t. SpellAll (lines t) [] in subst S (sym is) refl
+column_back reads first width (c ∷ cells) text all is =
+    let row = row_back reads width c is.0 (all 0 c (omega arith)) is.2 in
     let rest : All IsCell cells = λ k d below. all (suc k) d (omega (arith, below)) in
-    let more = column_back width cells is.1 rest is.4 in
-    let split : lines text ≡ is.0 ∷ lines is.1 = ap lines is.3 ∙ lines_at is.0 is.1 (quiet_line is.0 (no_newline is.0 row.above)) in
+    let more = column_back reads first width cells is.1 rest is.4 in
+    let split : lines text ≡ is.0 ∷ lines is.1 = ap lines is.3 ∙ first is.0 is.1 (no_newline is.0 row.above) in
     let S : List (List ℕ) → Type 0 = λ ls. SpellAll ls (c ∷ cells) in
     subst S (sym split) (c, cells, row.spells, refl, more)
 
@@ -248,13 +248,13 @@ kept a b same all k d below =
     let at : IsAt c a = occurs c a some in
     subst IsCell (at.is d) (all at.place d at.below)
 
-pub answer_back : AnswerReadsBack
-answer_back input answer (inl x) clean = record {
+pub answer_back : ColumnReadsBack → AnswerReadsBack
+answer_back back input answer (inl x) clean = record {
   cells = x.cells;
   are = x.are;
   sorted = x.sorted;
-  read = column_back 24 x.sorted answer.text (kept x.cells x.sorted x.same (all_cells (lines input) x.cells x.are)) x.text;
+  read = back 24 x.sorted answer.text (kept x.cells x.sorted x.same (all_cells (lines input) x.cells x.are)) x.text;
   same = x.same;
   order = x.order;
 }
-answer_back input answer (inr x) clean = absurd (false≢true (sym clean ∙ x.fault))
+answer_back back input answer (inr x) clean = absurd (false≢true (sym clean ∙ x.fault))

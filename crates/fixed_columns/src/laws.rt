@@ -1,4 +1,4 @@
-//! Laws of cells and columns, each the contract of a function that does nothing.
+//! Laws of cells and columns, each the contract of a function that does nothing but call the laws that it follows from.
 
 ghost use Rattle.fixed_columns.specs.Laws.{
   AnswerIsTheOne,
@@ -15,6 +15,9 @@ ghost use Rattle.fixed_columns.specs.Laws.{
   SortedIsTheOne,
   TiesAreOfFormats,
 };
+
+use fixed_laws::laws::default_text_reads_back;
+use text_lines::laws::line_comes_first;
 
 /// The order of cells is total, transitive, and reversed when its sides are swapped.
 pub fn order_is_total()
@@ -69,7 +72,10 @@ pub fn column_is_the_one()
 /// The column of cells in decimal, to the right in a field of any width, reads back as the cells.
 pub fn column_reads_back()
     ensures { ColumnReadsBack }
-{}
+{
+    default_text_reads_back();
+    line_comes_first();
+}
 
 /// An input has one answer.
 pub fn answer_is_the_one()
@@ -79,4 +85,6 @@ pub fn answer_is_the_one()
 /// An answer without a fault reads back as a list that holds each cell of the input as often as the input does, in order.
 pub fn answer_reads_back()
     ensures { AnswerReadsBack }
-{}
+{
+    column_reads_back();
+}
