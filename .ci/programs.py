@@ -10,6 +10,7 @@ import os
 import resource
 import subprocess
 import sys
+import tempfile
 
 TOP = os.path.dirname(os.path.dirname(os.path.abspath(__file__)))
 sys.path.insert(0, f"{TOP}/oracle")
@@ -20,7 +21,7 @@ USAGE = {
     "fixed_tool": b"usage: fixed_tool [limit N | self N]\n",
     "enclose_tool": b"usage: enclose_tool\n",
     "least_tool": b"usage: least_tool [RADIX]\n",
-    "constants_tool": b"usage: constants_tool\n",
+    "constants_tool": b"usage: constants_tool [c [GUARD] | rust]\n",
     "columns_tool": b"usage: columns_tool\n",
 }
 # For each program: words, input, status, output. An output of None is not looked at.
@@ -53,6 +54,10 @@ RUNS = {
         ([], b"# gains\nA = 0b_111e-2 I4F4\n\nB = -3.1875 I4F4\nC = 1_0 U8F0\n", 0,
          b"A = 0x1.c I4F4\nB = -0x3.3 I4F4\nC = 0xa U8F0\n"),
         ([], b"A = 1 U8F0\nA = 2 U8F0\n", 1, b"error: line 2: duplicate of line 1\n"),
+        (["c"], b"A = 1.75 I4F4\nB = -3.1875 I4F4\n", 0,
+         b"#include <stdint.h>\n\n#define A INT8_C(0x1c) /* I4F4, 1.75 */\n#define B (-INT8_C(0x33)) /* I4F4, -3.2 */\n"),
+        (["rust"], b"A = 1.75 I4F4\n", 0, b"pub const A: FixedI8<4> = FixedI8::from_bits(0x1c);\n"),
+        (["c"], b"A = 1 U8F0\nint = 1 U8F0\n", 1, b"error: line 2: bad name\n"),
         ([], b"#" * 1_048_577, 6, b""),
     ),
     "columns_tool": (
@@ -67,10 +72,23 @@ BAD_WORDS = {
     "fixed_tool": ([b"limits"], [b"limit"], [b"limit", b"05"], [b"limit", b"0"], [b"self", b"0"], [b"self", b"1000001"], [b"limit", b"5", b""]),
     "enclose_tool": ([b"limit", b"5"],),
     "least_tool": ([b"9"], [b"010"], [b"10", b"10"]),
-    "constants_tool": ([b"C"],),
+    "constants_tool": ([b"C"], [b"c", b"int"], [b"c", b"9"], [b"rust", b"A"], [b"c", b"A", b"B"]),
     "columns_tool": ([b"0"],),
 }
 NO_UTF8 = [b"\xff\xfe"]
+# Words and an input for which a program takes more memory as it goes on.
+GROWING = {
+    "least_tool": ([], b"0.1\n" * 50_000),
+    "constants_tool": ([], b"".join(b"N%d = 0x1.8 I32F32\n" % i for i in range(40_000))),
+}
+# A literal, its format, the type of C and the bits: the ends of each width, and values between them.
+NUMBERS = (
+    ("1.75", "I4F4", "int8", 28), ("-3.1875", "I4F4", "int8", -51), ("-8", "I4F4", "int8", -128), ("7.9375", "I4F4", "int8", 127),
+    ("255", "U8F0", "uint8", 255), ("-0.5", "I0F16", "int16", -32768), ("-1", "I16F0", "int16", -1), ("0x0.ffff", "U0F16", "uint16", 65535),
+    ("-0x8000", "I16F16", "int32", -(2**31)), ("0x7fff.ffff", "I16F16", "int32", 2**31 - 1), ("0xffff.ffff", "U16F16", "uint32", 2**32 - 1),
+    ("-0x80000000", "I32F32", "int64", -(2**63)), ("-0.5", "I32F32", "int64", -(2**31)), ("0x7fffffffffffffff", "I64F0", "int64", 2**63 - 1),
+    ("0xffffffffffffffff", "U64F0", "uint64", 2**64 - 1), ("0", "U0F64", "uint64", 0),
+)
 
 
 class Runs:
@@ -99,12 +117,54 @@ class Runs:
         os.close(folder)
         with open("/dev/full", "wb") as full:
             self.one("a full device", [], 4, None, input=clean[1], stdout=full)
-        self.one("no memory", [], 5, b"", input=clean[1], preexec_fn=small)
+        self.one("no memory", [], 5, b"", input=clean[1], preexec_fn=within(600_000))
+        if self.name in GROWING:
+            self.without_memory(*GROWING[self.name])
+
+    def without_memory(self, words, given):
+        """Runs with more and more memory, until there is enough: each run that finds too little writes nothing."""
+        whole = subprocess.run([self.path, *words], input=given, stdout=subprocess.PIPE, check=False, timeout=120)
+        refused = 0
+        for most in range(600_000, 64_000_000, 200_000):
+            self.tried += 1
+            how = {"input": given, "stdout": subprocess.PIPE, "stderr": subprocess.DEVNULL, "preexec_fn": within(most)}
+            ran = subprocess.run([self.path, *words], check=False, timeout=120, **how)
+            if (ran.returncode, ran.stdout) == (whole.returncode, whole.stdout):
+                break
+            refused += 1
+            if (ran.returncode, ran.stdout) != (5, b""):
+                self.wrong += 1
+                print(f"{self.name}, {most} bytes of memory: status {ran.returncode}, {len(ran.stdout)} bytes written")
+        if refused < 5:
+            self.wrong += 1
+            print(f"{self.name}: only {refused} runs found too little memory")
+
+    def header(self):
+        """Compiles a header that the program writes, and compares its numbers with the bits."""
+        self.tried += 1
+        with tempfile.TemporaryDirectory() as folder:
+            given = "".join(f"N{i} = {literal} {word}\n" for i, (literal, word, _, _) in enumerate(NUMBERS))
+            ran = subprocess.run([self.path, "c", "NUMBERS_H"], input=given.encode(), stdout=subprocess.PIPE, check=True)
+            with open(f"{folder}/numbers.h", "wb") as file:
+                file.write(ran.stdout)
+            with open(f"{folder}/main.c", "w", encoding="ascii") as file:
+                file.write('#include "numbers.h"\n#include "numbers.h"\n#include <inttypes.h>\n#include <stdio.h>\nint main(void) {\n')
+                for i, (_, _, kind, _) in enumerate(NUMBERS):
+                    file.write(f'    {kind}_t n{i} = N{i};\n    if (n{i} != N{i}) return 1;\n')
+                    file.write(f'    printf("%" {"PRIu64" if kind[0] == "u" else "PRId64"} "\\n", ({"u" * (kind[0] == "u")}int64_t) N{i});\n')
+                file.write("    return 0;\n}\n")
+            command = ["gcc", "-std=c11", "-pedantic-errors", "-Wall", "-Wextra", "-Werror", "-o", f"{folder}/main", f"{folder}/main.c"]
+            built = subprocess.run(command, check=False)
+            shown = subprocess.run([f"{folder}/main"], stdout=subprocess.PIPE, check=False) if built.returncode == 0 else None
+        wanted = "".join(f"{bits}\n" for _, _, _, bits in NUMBERS).encode()
+        if shown is None or (shown.returncode, shown.stdout) != (0, wanted):
+            self.wrong += 1
+            print(f"{self.name}: a header of {len(NUMBERS)} numbers, {shown and shown.stdout!r}, not {wanted!r}")
 
 
-def small():
-    """Leaves a process too little memory for a buffer of a megabyte."""
-    resource.setrlimit(resource.RLIMIT_DATA, (600_000, 600_000))
+def within(most):
+    """Leaves a process this many bytes of memory."""
+    return lambda: resource.setrlimit(resource.RLIMIT_DATA, (most, most))
 
 
 def main():
@@ -119,6 +179,8 @@ def main():
             continue
         runs = Runs(name, path)
         runs.all()
+        if name == "constants_tool":
+            runs.header()
         print(f"{name}: {runs.tried} runs at its edges, {runs.wrong} wrong", flush=True)
         wrong += runs.wrong
     return 1 if wrong else 0

@@ -1,9 +1,10 @@
-//! Reads a constants file from standard input, and writes its canonical text to standard output.
+//! Reads a constants file from standard input, and writes it to standard output: in its canonical form, as a C header or as
+//! Rust.
 #![tactic(auto)]
 
 ghost use Rattle.std.specs.Prelude.{◌≡◌, ◌<◌};
 
-use fixed_constants::run_constants;
+use fixed_constants::run_forms;
 use fixed_io::{program_args, run_streams};
 use fixed_steps::Steps;
 use line_engine::{Program, Sink, Source, Status};
@@ -18,15 +19,14 @@ use std::sync::ledger::{Blank, Ledger};
 struct ConstantsTool;
 
 impl<L: Ledger> Program<L> for ConstantsTool {
-    ghost use Rattle.fixed_constants.specs.Program.{usage_line};
-    ghost use Rattle.fixed_constants.specs.Lemmas.ProgramLemmas.{empty_argument};
-    ghost use Rattle.fixed_constants.specs.Program.{HasConstantsRun, IsUsageFault};
+    ghost use Rattle.fixed_constants.specs.Lemmas.ProgramLemmas.{empty_word};
+    ghost use Rattle.fixed_constants.specs.FormProgram.{HasFormRun, IsFormUsageFault, form_usage_line};
 
-    ghost IsUsageFault = { λ tool args. IsUsageFault args };
+    ghost IsUsageFault = { λ tool args. IsFormUsageFault args };
 
-    ghost usage_line = { λ tool. usage_line };
+    ghost usage_line = { λ tool. form_usage_line };
 
-    ghost Runs = { λ tool args before after status. HasConstantsRun args before after status };
+    ghost Runs = { λ tool args before after status. HasFormRun args before after status };
 
     fn run<S: Source, K: Sink>(
         &self,
@@ -36,10 +36,10 @@ impl<L: Ledger> Program<L> for ConstantsTool {
         sink: &mut K,
         steps: &mut Steps<L>,
     ) -> Status {
-        run_constants(alloc, args, source, sink, steps)
+        run_forms(alloc, args, source, sink, steps)
     }
 
-    ghost empty_law = { λ tool word empty. empty_argument word empty };
+    ghost empty_law = { λ tool word empty. empty_word word empty };
 }
 
 /// Runs the program by the arguments of the process, from standard input to standard output.

@@ -32,3 +32,12 @@ entry_pieces t c a b d e g h l f el ef ea eb ed ee eg eh =
 
 pub two_pieces : (t a b s u : List ℕ) → s ≡ t ++ a → u ≡ s ++ b → u ≡ t ++ (a ++ b)
 two_pieces t a b s u es eu = eu ∙ (ap (λ x. x ++ b) es ∙ append_assoc t a b)
+
+pub three_pieces : (t a b d x y z : List ℕ) → x ≡ t ++ a → y ≡ x ++ b → z ≡ y ++ d → z ≡ t ++ (a ++ (b ++ d))
+three_pieces t a b d x y z ex ey ez = two_pieces t a (b ++ d) x z ex (two_pieces x b d y z ey ez)
+
+pub four_pieces : (t a b d e w x y z : List ℕ) → w ≡ t ++ a → x ≡ w ++ b → y ≡ x ++ d → z ≡ y ++ e → z ≡ t ++ (a ++ (b ++ (d ++ e)))
+four_pieces t a b d e w x y z ew ex ey ez = two_pieces t a (b ++ (d ++ e)) w z ew (three_pieces w b d e x y z ex ey ez)
+
+pub five_pieces : (t a b d e f v w x y z : List ℕ) → v ≡ t ++ a → w ≡ v ++ b → x ≡ w ++ d → y ≡ x ++ e → z ≡ y ++ f → z ≡ t ++ (a ++ (b ++ (d ++ (e ++ f))))
+five_pieces t a b d e f v w x y z ev ew ex ey ez = two_pieces t a (b ++ (d ++ (e ++ f))) v z ev (four_pieces v b d e f w x y z ew ex ey ez)

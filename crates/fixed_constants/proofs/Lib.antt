@@ -6,3 +6,5 @@ mod ListLemmas
 mod LiteralLemmas
 mod EntryLemmas
 mod OwnAnswerLemmas
+mod FormLemmas
+mod FormProgramLemmas

@@ -2,6 +2,8 @@
 use Rattle.std.proofs.Common.{◌≡◌, ℕ, List, [], ◌∷◌, ◌++◌, drop, slice_get, zero, suc, refl, sym, ap, ◌∙◌, Some, None, inl, inr, append_assoc, append-nil, length, arith}
 use Rattle.fixed_constants.specs.Canonical.{canonical_text, entry_text}
 use Rattle.fixed_constants.specs.Constants.{ConstantParts, HasName, IsFirstNamed}
+use Rattle.fixed_constants.specs.Forms.{form_line, form_lines}
+use Rattle.fixed_constants.specs.declared.form.Form.{Form}
 
 pub drop_some : {A : Type 0} → (xs : List A) (i : ℕ) (x : A) → slice_get xs i ≡ Some x → drop i xs ≡ x ∷ drop (suc i) xs
 drop_some [] i x e = absurd cc
@@ -51,3 +53,11 @@ finds_none name all i at h g = rw (drop_none all i at) at (h.none g)
 pub nil_of : (xs : List ℕ) → length xs ≡ 0 → xs ≡ []
 nil_of [] e = refl
 nil_of (x ∷ xs) e = absurd (omega (arith, e))
+
+-- ---- the lines of the first constants in a form
+pub lines_more : (form : Form) (all : List ConstantParts) (i : ℕ) (c : ConstantParts) (start old new : List ℕ) → slice_get all i ≡ Some c → start ++ form_lines form all ≡ old ++ form_lines form (drop i all) → new ≡ old ++ form_line form c → start ++ form_lines form all ≡ new ++ form_lines form (drop (suc i) all)
+lines_more form all i c start old new at before is =
+    before ∙ (ap (λ t. old ++ form_lines form t) (drop_some all i c at) ∙ (sym (append_assoc old (form_line form c) (form_lines form (drop (suc i) all))) ∙ ap (λ t. t ++ form_lines form (drop (suc i) all)) (sym is)))
+
+pub lines_all : (form : Form) (all : List ConstantParts) (i : ℕ) (start text : List ℕ) → slice_get all i ≡ None → start ++ form_lines form all ≡ text ++ form_lines form (drop i all) → text ≡ start ++ form_lines form all
+lines_all form all i start text at before = sym (before ∙ (ap (λ t. text ++ form_lines form t) (drop_none all i at) ∙ append-nil text))

@@ -58,8 +58,8 @@ WrittenReadsBack = (text : List ℕ) (constants : List ConstantParts) → IsCons
 
 -- two inputs with the same constants have one answer
 abbrev pub EntriesHaveOneAnswer : Type 0
-EntriesHaveOneAnswer = (input other : List ℕ) (constants : List ConstantParts) (a b : AnswerText) → IsConstantsOf input constants → IsConstantsOf other constants
-    → IsWholeAnswer input a → IsWholeAnswer other b → a ≡ b
+EntriesHaveOneAnswer = (input other : List ℕ) (constants : List ConstantParts) (a b : AnswerText)
+    → IsConstantsOf input constants → IsConstantsOf other constants → IsWholeAnswer input a → IsWholeAnswer other b → a ≡ b
 
 -- and an answer without a fault is answered with itself
 abbrev pub AnswerIsItsOwn : Type 0

@@ -2,3 +2,4 @@
 pub mod NameLemmas
 pub mod ConstantsLemmas
 pub mod ProgramLemmas
+pub mod FormLemmas

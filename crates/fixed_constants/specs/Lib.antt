@@ -2,7 +2,9 @@ pub mod Constants
 pub mod Canonical
 pub mod Answer
 pub mod Entries
+pub mod Forms
 pub mod Program
+pub mod FormProgram
 pub mod Laws
 pub mod Inner
 pub mod Lemmas

@@ -64,7 +64,7 @@ fn push_sign(out: &mut TextBuffer<160>, value: i128)
 }
 
 /// Appends the value of the bits in hexadecimal, exactly, with the prefix `0x` after the sign.
-fn push_literal(out: &mut TextBuffer<160>, bits: i128, frac: u32)
+pub(crate) fn push_literal(out: &mut TextBuffer<160>, bits: i128, frac: u32)
     requires wide { IsWide bits }
     requires frac { frac ≤ 64 }
     requires room { length out.old + 133 ≤ 160 }
@@ -76,7 +76,7 @@ fn push_literal(out: &mut TextBuffer<160>, bits: i128, frac: u32)
 }
 
 /// Appends the line of a constant, with its newline.
-fn push_entry(text: &mut Vec<u8>, constant: &Constant) -> Result<(), AllocError>
+pub(crate) fn push_entry(text: &mut Vec<u8>, constant: &Constant) -> Result<(), AllocError>
     ensures { OnOk result (text.new.items ≡ text.old.items ++ entry_text constant.now) }
 {
     let format = constant.format();

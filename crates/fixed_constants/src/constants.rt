@@ -4,7 +4,7 @@ ghost use Rattle.std.specs.Prelude.{◌≡◌, ◌<◌, ◌+◌, ℕ, List, [], 
 ghost use Rattle.std.specs.Map.{update};
 ghost use Rattle.fixed_bits.specs.Ranges.{IsWide};
 ghost use Rattle.fixed_constants.specs.Constants.{IsConstantsOf, IsErrorOf, IsPassedOver, Says};
-ghost use Rattle.fixed_constants.specs.Inner.Known.{AddsConstant, AddsLine, IsLineError, Knows, line_of};
+ghost use Rattle.fixed_constants.specs.Inner.Known.{AddsConstant, AddsLine, AtLine, IsLineError, Knows, line_of};
 
 use crate::constant::{Constant, Constants};
 use crate::declaration::{is_passed_over, read_line};
@@ -55,7 +55,7 @@ fn add_declared<'a>(
     known: &mut HashMap<&'a [u8], u64>,
 ) -> Result<(), ConstantsError>
     requires { ¬ IsPassedOver line.now }
-    ensures added { OnOk result ((before : List (List ℕ)) → Knows before known.old → number ≡ length before + 1 → AddsConstant before line.now entries.old.items entries.new.items known.new) }
+    ensures added { OnOk result (AtLine number known.old (λ before. AddsConstant before line.now entries.old.items entries.new.items known.new)) }
     ensures refused { IfErr result (λ error. (before : List (List ℕ)) → Knows before known.old → IsLineError before line.now number error) }
 {
     let declared = match read_line(line) {
@@ -97,7 +97,7 @@ fn add_line<'a>(
     entries: &mut Vec<Constant>,
     known: &mut HashMap<&'a [u8], u64>,
 ) -> Result<(), ConstantsError>
-    ensures added { OnOk result ((before : List (List ℕ)) → Knows before known.old → number ≡ length before + 1 → AddsLine before line.now entries.old.items entries.new.items known.new) }
+    ensures added { OnOk result (AtLine number known.old (λ before. AddsLine before line.now entries.old.items entries.new.items known.new)) }
     ensures refused { IfErr result (λ error. (before : List (List ℕ)) → Knows before known.old → IsLineError before line.now number error) }
 {
     if is_passed_over(line) {

@@ -42,7 +42,7 @@ fn are_name_bytes(word: &[u8]) -> bool
 }
 
 /// Whether a word is a name.
-fn is_name(word: &[u8]) -> bool
+pub fn is_name(word: &[u8]) -> bool
     ensures { IsTrue result ↔ IsName word.now }
 {
     if word.is_empty() || word.len() > MAX_NAME || matches!(word[0], b'0'..=b'9') {
@@ -60,15 +60,19 @@ fn is_equals_sign(word: &[u8]) -> bool
 
 /// The words before a line's first three spaces, and all that follows the third.
 #[derive(Drop)]
-struct Fields<'a> {
-    name: &'a [u8],
-    equals: &'a [u8],
-    literal: &'a [u8],
-    format: &'a [u8],
+pub struct Fields<'a> {
+    /// The first word.
+    pub name: &'a [u8],
+    /// The second.
+    pub equals: &'a [u8],
+    /// The third.
+    pub literal: &'a [u8],
+    /// All that follows the third space.
+    pub format: &'a [u8],
 }
 
 /// The words of a line, split at its first three spaces. None where it has fewer.
-fn split_line(line: &[u8]) -> Option<Fields<'_>>
+pub fn split_line(line: &[u8]) -> Option<Fields<'_>>
     ensures { MatchOption result (count_of space line.now < 3) (λ f. HasWords line.now (f.name.now ∷ f.equals.now ∷ f.literal.now ∷ []) f.format.now) }
 {
     let Some((name, rest)) = split_once(line, b' ') else {

@@ -42,7 +42,8 @@ pub fn run_constants<S: Source, K: Sink, L: Ledger>(
         → (result ≡ Status.NoMemory) ⊎ (result ≡ Status.TooLong) }
 
     // What was taken and what was written, by status, also after a failed read or write.
-    ensures run { words.now ≡ [] → HasWholeRun IsWholeAnswer MAX_WHOLE (S.left source.old) (S.left source.new) (K.written sink.old) (K.written sink.new) result }
+    ensures run { words.now ≡ []
+        → HasWholeRun IsWholeAnswer MAX_WHOLE (S.left source.old) (S.left source.new) (K.written sink.old) (K.written sink.new) result }
     ensures prefix_on_write_fault { words.now ≡ [] → result ≡ Status.WriteFault → (input : List ℕ) (answer : AnswerText) → S.left source.old ≡ Some input
         → IsWholeAnswer input answer → AppendsPrefix (K.written sink.old) (K.written sink.new) answer.text }
 
@@ -53,7 +54,8 @@ pub fn run_constants<S: Source, K: Sink, L: Ledger>(
     ensures asked { words.now ≡ [] → AskedWithin MAX_WHOLE (S.asked source.old) (S.asked source.new) }
 
     // Arguments.
-    ensures usage { IsUsageFault words.now → WritesText usage_line Status.Usage (K.written sink.old) (K.written sink.new) (K.failures sink.old) (K.failures sink.new) result }
+    ensures usage { IsUsageFault words.now
+        → WritesText usage_line Status.Usage (K.written sink.old) (K.written sink.new) (K.failures sink.old) (K.failures sink.new) result }
     ensures usage_only { result ≡ Status.Usage → IsUsageFault words.now }
     ensures untouched { IsUsageFault words.now → source.new ≡ source.old }
 

@@ -9,7 +9,8 @@ use Rattle.fixed_least.specs.Least.{IsLeast, IsWholeAnswer}
 
 -- the format whose rank is the count of places is the least one that holds each line, and there is no other
 abbrev pub LeastIsTheOne : Type 0
-LeastIsTheOne = (r : Radix) (lines : List (List ℕ)) (places : List ℕ) → IsLeast r lines places → (f : FormatParts) → IsFormat f.width f.frac → (rank f ≡ length places) ↔ IsLeastFormat r lines f
+LeastIsTheOne = (r : Radix) (lines : List (List ℕ)) (places : List ℕ) → IsLeast r lines places → (f : FormatParts) → IsFormat f.width f.frac
+    → (rank f ≡ length places) ↔ IsLeastFormat r lines f
 
 -- a list has one outcome: the places are determined
 abbrev pub PlacesAreTheOnes : Type 0
@@ -21,5 +22,6 @@ AnswerIsTheOne = (r : Radix) (input : List ℕ) (a b : AnswerText) → IsWholeAn
 
 -- the least format of a longer list does not come before that of the shorter, and where none holds the shorter none holds the longer
 abbrev pub LongerHasNoLesser : Type 0
-LongerHasNoLesser = (r : Radix) (lines more : List (List ℕ)) → ((f g : FormatParts) → IsLeastFormat r lines f → IsLeastFormat r (lines ++ more) g → ¬ IsBefore g f)
+LongerHasNoLesser = (r : Radix) (lines more : List (List ℕ))
+    → ((f g : FormatParts) → IsLeastFormat r lines f → IsLeastFormat r (lines ++ more) g → ¬ IsBefore g f)
     × ((f : FormatParts) → ¬ AllHold r f lines → ¬ AllHold r f (lines ++ more))

@@ -44,7 +44,8 @@ IsHeadText places text = ((length places ≡ 248) × (text ≡ codes "none"))
 
 -- the line that refutes the format with this number
 abbrev pub IsRefutedText : List ℕ → ℕ → List ℕ → Type 0
-IsRefutedText places k text = (f : FormatParts) × IsFormat f.width f.frac × (rank f ≡ k) × (text ≡ format_text f ++ (codes " line " ++ decimal (get_or places k 0)))
+IsRefutedText places k text = (f : FormatParts) × IsFormat f.width f.frac × (rank f ≡ k)
+    × (text ≡ format_text f ++ (codes " line " ++ decimal (get_or places k 0)))
 
 -- line i about an outcome
 pub record IsLeastLine (places : List ℕ) (i : ℕ) (answer : AnswerText) : Type 0 where

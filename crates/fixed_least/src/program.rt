@@ -56,8 +56,10 @@ pub fn run_least<S: Source, K: Sink, L: Ledger>(
         → (result ≡ Status.NoMemory) ⊎ (result ≡ Status.TooLong) }
 
     // What was taken and what was written, by status, also after a failed read or write.
-    ensures run { (r : Radix) → NamesRadix words.now r → HasWholeRun (IsWholeAnswer r) MAX_WHOLE (S.left source.old) (S.left source.new) (K.written sink.old) (K.written sink.new) result }
-    ensures prefix_on_write_fault { (r : Radix) → NamesRadix words.now r → result ≡ Status.WriteFault → (input : List ℕ) (answer : AnswerText) → S.left source.old ≡ Some input
+    ensures run { (r : Radix) → NamesRadix words.now r
+        → HasWholeRun (IsWholeAnswer r) MAX_WHOLE (S.left source.old) (S.left source.new) (K.written sink.old) (K.written sink.new) result }
+    ensures prefix_on_write_fault { (r : Radix) → NamesRadix words.now r → result ≡ Status.WriteFault → (input : List ℕ) (answer : AnswerText)
+        → S.left source.old ≡ Some input
         → IsWholeAnswer r input answer → AppendsPrefix (K.written sink.old) (K.written sink.new) answer.text }
 
     // A run that ended before its input did, or for want of memory, left the sink as it was.
@@ -67,7 +69,8 @@ pub fn run_least<S: Source, K: Sink, L: Ledger>(
     ensures asked { (r : Radix) → NamesRadix words.now r → AskedWithin MAX_WHOLE (S.asked source.old) (S.asked source.new) }
 
     // Other arguments.
-    ensures usage { IsUsageFault words.now → WritesText usage_line Status.Usage (K.written sink.old) (K.written sink.new) (K.failures sink.old) (K.failures sink.new) result }
+    ensures usage { IsUsageFault words.now
+        → WritesText usage_line Status.Usage (K.written sink.old) (K.written sink.new) (K.failures sink.old) (K.failures sink.new) result }
     ensures usage_only { result ≡ Status.Usage → (r : Radix) → ¬ NamesRadix words.now r }
     ensures untouched { IsUsageFault words.now → source.new ≡ source.old }
 

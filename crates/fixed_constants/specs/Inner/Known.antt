@@ -1,5 +1,5 @@
 -- On which line each name was declared, in a map.
-use Rattle.std.specs.Prelude.{◌≡◌, ◌⊎◌, ℕ, List, [], ◌∷◌, ◌++◌, Option, Some, None, Ok, bytes_eq}
+use Rattle.std.specs.Prelude.{◌≡◌, ◌⊎◌, ℕ, List, [], ◌∷◌, ◌++◌, Option, Some, None, Ok, bytes_eq, ◌+◌, length}
 use Rattle.std.proofs.Common.{Bor}
 use Rattle.std.specs.HashMap.{HashMap, get_by}
 use Rattle.fixed_constants.specs.Constants.{ConstantParts, HasFault, IsNamedOn, IsPassedOver, Says}
@@ -18,6 +18,10 @@ IsLineOf before name None = (p : ℕ) → ¬ IsNamedOn before name p
 -- the map knows of each name on which of these lines it is declared first
 abbrev pub Knows : {S : Type 0} → List (List ℕ) → HashMap (Bor (List ℕ)) ℕ S → Type 0
 Knows before m = (name : List ℕ) → IsLineOf before name (line_of m name)
+
+-- this holds of the lines before line `number`, whatever they are, where the map knows their names
+abbrev pub AtLine : {S : Type 0} → ℕ → HashMap (Bor (List ℕ)) ℕ S → (List (List ℕ) → Type 0) → Type 0
+AtLine number known Holds = (before : List (List ℕ)) → Knows before known → number ≡ length before + 1 → Holds before
 
 -- a line that comes after these adds a constant to a list, and its name to the map
 pub record AddsConstant {S : Type 0} (before : List (List ℕ)) (line : List ℕ) (old new : List ConstantParts) (known : HashMap (Bor (List ℕ)) ℕ S) : Type 0 where

@@ -116,13 +116,13 @@ by_head_one before name equals literal word r s a b =
     (by_test_one (equals ≡ equals_sign) (Err MissingEquals) (ByFormat before name literal word) (by_format_one before name literal word)) r s a b
 
 -- two ways to split a line are one
-record IsSameFields (line : List ℕ) (x y : Fields line) : Type 0 where
-  name : x.name ≡ y.name
-  equals : x.equals ≡ y.equals
-  literal : x.literal ≡ y.literal
-  format : x.format ≡ y.format
+pub record IsSameFields (line : List ℕ) (x y : Fields line) : Type 0 where
+  pub name : x.name ≡ y.name
+  pub equals : x.equals ≡ y.equals
+  pub literal : x.literal ≡ y.literal
+  pub format : x.format ≡ y.format
 
-fields_one : (line : List ℕ) (x y : Fields line) → IsSameFields line x y
+pub fields_one : (line : List ℕ) (x y : Fields line) → IsSameFields line x y
 fields_one line x y =
     let same = words_one line (x.name ∷ x.equals ∷ x.literal ∷ []) (y.name ∷ y.equals ∷ y.literal ∷ []) x.format y.format x.has y.has refl in
     let words : x.name ∷ x.equals ∷ x.literal ∷ [] ≡ y.name ∷ y.equals ∷ y.literal ∷ [] = same.words in
@@ -212,7 +212,7 @@ not_both before (l ∷ ls) t p f (inl a) (inr b) = not_both (before ++ l ∷ [])
 not_both before (l ∷ ls) t p f (inr a) (inr b) = not_both (before ++ l ∷ []) ls a.1 p f a.4 b.1
 
 -- ---- the answer
-answer_text_is : (a b : AnswerText) → a.text ≡ b.text → a.fault ≡ b.fault → a ≡ b
+pub answer_text_is : (a b : AnswerText) → a.text ≡ b.text → a.fault ≡ b.fault → a ≡ b
 answer_text_is a b t f =
     let R : List ℕ → Bool → AnswerText = λ x y. record { text = x; fault = y } in
     ap (λ x. R x a.fault) t ∙ ap (λ y. R b.text y) f

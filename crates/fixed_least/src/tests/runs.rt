@@ -67,6 +67,23 @@ fn a_failing_read_and_a_failing_write_end_the_run(rt: HostRuntime) -> Result<(),
     Ok(())
 }
 
+/// Where an allocation fails, the run ends as `NoMemory` and has written nothing; in any other case its output is whole.
+#[test]
+fn refused_memory_writes_nothing(rt: HostRuntime) {
+    let case = unfailing("10", "-1\n0.25\n", NINE, Status::Done);
+    let Ok(input) = case.input.as_bytes().to_vec(rt.alloc()) else {
+        return;
+    };
+    match run_case(rt.alloc(), &case, input) {
+        Ok((Status::NoMemory, written)) => assert!(rt; written.is_empty()),
+        Ok((status, written)) => {
+            assert_eq!(rt; status, Status::Done);
+            assert_eq!(rt; written.as_slice(), NINE.as_bytes());
+        }
+        Err(_) => {}
+    }
+}
+
 #[test]
 fn a_longer_input_is_reported(rt: HostRuntime) -> Result<(), Fail> {
     let mut input = Vec::new(rt.alloc());

@@ -1,0 +1,177 @@
+-- Constants written in another form: as a C header, and as Rust.
+use Rattle.std.specs.Prelude.{◌≡◌, ◌⊎◌, ◌+◌, ◌-◌, ◌^◌, ◌==◌, ◌≤◌, ◌<◌, ℕ, List, [], ◌∷◌, ◌++◌, ℤ, pos, unsigned_abs, codes, Bool, true, false, if◌then◌else◌}
+use Rattle.std.specs.Fmt.{decimal}
+use Rattle.std.specs.Int.{is_negative}
+use Rattle.memchr.specs.Find.{OccursAt}
+use Rattle.fixed_bits.specs.Formats.{FormatParts}
+use Rattle.fixed_respell.specs.LineWords.{space}
+use Rattle.fixed_respell.specs.Words.{format_text, sign_letter}
+use Rattle.fixed_write.specs.Texts.{shortest_text}
+use Rattle.line_engine.specs.AnswerText.{AnswerText}
+use Rattle.line_engine.specs.Lines.{lines}
+use Rattle.fixed_constants.specs.Answer.{IsWholeAnswer, fault_line}
+use Rattle.fixed_constants.specs.Canonical.{entry_text, literal_text}
+use Rattle.fixed_constants.specs.Constants.{ConstantParts, Fields, IsConstantsOf, IsFaultOf, IsName}
+use Rattle.fixed_constants.specs.declared.fault.ConstantFault.{ConstantFault}
+use Rattle.fixed_constants.specs.declared.fault.ConstantFault.TheVariants.{BadName}
+use Rattle.fixed_constants.specs.declared.fault.ConstantsError.{ConstantsError}
+use Rattle.fixed_constants.specs.declared.fault.ConstantsError.TheVariants.{Refused, NoMemory}
+use Rattle.fixed_constants.specs.declared.form.Form.{Form}
+use Rattle.fixed_constants.specs.declared.form.Form.TheVariants.{Canonical, C, Rust}
+
+-- ---- names that a language reserves
+-- the keywords of C, and the macros that a header uses, each between two spaces
+unfoldable pub c_words : List ℕ
+c_words = codes " INT16_C INT32_C INT64_C INT8_C UINT16_C UINT32_C UINT64_C UINT8_C _Alignas _Alignof _Atomic _BitInt _Bool _Complex _Decimal128 _Decimal32 _Decimal64 _Generic _Imaginary _Noreturn _Static_assert _Thread_local alignas alignof asm auto bool break case char const constexpr continue default defined do double else enum extern false float for goto if inline int long nullptr register restrict return short signed sizeof static static_assert struct switch thread_local true typedef typeof typeof_unqual union unsigned void volatile while "
+
+-- the keywords of Rust, each between two spaces
+unfoldable pub rust_words : List ℕ
+rust_words = codes " Self _ abstract as async await become box break const continue crate do dyn else enum extern false final fn for gen if impl in let loop macro match mod move mut override priv pub ref return self static struct super trait true try type typeof unsafe unsized use virtual where while yield "
+
+abbrev pub words_in : Form → List ℕ
+words_in Canonical = []
+words_in C = c_words
+words_in Rust = rust_words
+
+-- the words hold this one between two spaces
+abbrev pub IsAmong : List ℕ → List ℕ → Type 0
+IsAmong words word = (place : ℕ) × OccursAt words (space ∷ (word ++ space ∷ [])) place
+
+-- the name is a word of the language, or that of the header's guard
+abbrev pub IsReserved : Form → List ℕ → List ℕ → Type 0
+IsReserved form guard name = IsAmong (words_in form) name ⊎ (name ≡ guard)
+
+-- the line has all fields, and its first word is a name that is reserved
+pub record HasReserved (form : Form) (guard line : List ℕ) : Type 0 where
+  pub fields : Fields line
+  pub name : IsName fields.name
+  pub reserved : IsReserved form guard fields.name
+
+-- the first such line is line p, where they are numbered from n on
+abbrev pub ReservedFrom : ℕ → Form → List ℕ → List (List ℕ) → ℕ → Type 0
+ReservedFrom n form guard [] p = ⊥
+ReservedFrom n form guard (line ∷ lines) p = (HasReserved form guard line × (p ≡ n))
+    ⊎ ((¬ HasReserved form guard line) × ReservedFrom (n + 1) form guard lines p)
+
+-- the first such line of a text is line p, from 1
+abbrev pub IsReservedOn : Form → List ℕ → List ℕ → ℕ → Type 0
+IsReservedOn form guard text p = ReservedFrom 1 form guard (lines text) p
+
+-- the first fault of a text that is to be written in the form: its own, or a reserved name, whichever is on the earlier line; on one line the name
+abbrev pub IsFormFault : Form → List ℕ → List ℕ → ℕ → ConstantFault → Type 0
+IsFormFault form guard text p fault = (IsFaultOf text p fault × ((q : ℕ) → IsReservedOn form guard text q → p < q))
+    ⊎ ((fault ≡ BadName) × IsReservedOn form guard text p × ((q : ℕ) (other : ConstantFault) → IsFaultOf text q other → p ≤ q))
+
+-- what an error says of such a text
+abbrev pub IsFormError : Form → List ℕ → List ℕ → ConstantsError → Type 0
+IsFormError form guard text (Refused p fault) = IsFormFault form guard text p fault
+IsFormError form guard text NoMemory = Unit {0}
+
+-- ---- a C header
+-- the macro of <stdint.h> for constants of a width and a sign rule
+abbrev pub macro_stem : Bool → List ℕ
+macro_stem true = codes "INT"
+macro_stem false = codes "UINT"
+
+unfoldable pub c_macro : FormatParts → List ℕ
+c_macro f = macro_stem f.signed ++ (decimal f.width ++ codes "_C")
+
+-- that macro of a number, in hexadecimal
+unfoldable pub c_constant : FormatParts → ℕ → List ℕ
+c_constant f m = c_macro f ++ (codes "(" ++ (literal_text (pos m) 0 ++ codes ")"))
+
+-- a negative number by its magnitude; the lowest of its width is one below a number that the macro can take
+unfoldable pub c_minus : FormatParts → ℕ → List ℕ
+c_minus f m = codes "(-" ++ (c_constant f m ++ codes ")")
+
+unfoldable pub c_lowest : FormatParts → ℕ → List ℕ
+c_lowest f above = codes "(-" ++ (c_constant f above ++ codes " - 1)")
+
+unfoldable pub c_negative : FormatParts → ℕ → List ℕ
+c_negative f m = if m == 2 ^ (f.width - 1) then c_lowest f (m - 1) else c_minus f m
+
+unfoldable pub c_number : FormatParts → ℤ → List ℕ
+c_number f bits = if is_negative bits then c_negative f (unsigned_abs bits) else c_constant f (unsigned_abs bits)
+
+-- a comment of the format and the value, and the end of the line
+unfoldable pub c_comment : FormatParts → ℤ → List ℕ
+c_comment f bits = codes " /* " ++ (format_text f ++ (codes ", " ++ (shortest_text bits f.frac ++ codes " */\n")))
+
+abbrev pub c_line : ConstantParts → List ℕ
+c_line c = codes "#define " ++ (c.name ++ space ∷ (c_number c.format c.bits ++ c_comment c.format c.bits))
+
+-- ---- Rust
+-- the type of a format without its fraction length
+unfoldable pub rust_type : FormatParts → List ℕ
+rust_type f = codes "Fixed" ++ sign_letter f.signed ∷ decimal f.width
+
+unfoldable pub rust_value : FormatParts → ℤ → List ℕ
+rust_value f bits = rust_type f ++ (codes "::from_bits(" ++ (literal_text bits 0 ++ codes ");\n"))
+
+unfoldable pub rust_full_type : FormatParts → List ℕ
+rust_full_type f = rust_type f ++ (codes "<" ++ (decimal f.frac ++ codes "> = "))
+
+abbrev pub rust_line : ConstantParts → List ℕ
+rust_line c = codes "pub const " ++ (c.name ++ (codes ": " ++ (rust_full_type c.format ++ rust_value c.format c.bits)))
+
+-- ---- a file
+abbrev pub form_line : Form → ConstantParts → List ℕ
+form_line Canonical c = entry_text c
+form_line C c = c_line c
+form_line Rust c = rust_line c
+
+abbrev pub form_lines : Form → List ConstantParts → List ℕ
+form_lines form [] = []
+form_lines form (c ∷ constants) = form_line form c ++ form_lines form constants
+
+-- what comes before the lines: in a header the test of its guard, where there is one, and the types
+abbrev pub guard_test : List ℕ → List ℕ
+guard_test [] = []
+guard_test (b ∷ bs) = codes "#ifndef " ++ ((b ∷ bs) ++ (codes "\n#define " ++ ((b ∷ bs) ++ codes "\n\n")))
+
+unfoldable pub c_opening : List ℕ → List ℕ
+c_opening guard = guard_test guard ++ codes "#include <stdint.h>\n\n"
+
+abbrev pub opening : Form → List ℕ → List ℕ
+opening Canonical guard = []
+opening C guard = c_opening guard
+opening Rust guard = []
+
+-- and what comes after them
+abbrev pub c_closing : List ℕ → List ℕ
+c_closing [] = []
+c_closing (b ∷ bs) = codes "\n#endif\n"
+
+abbrev pub closing : Form → List ℕ → List ℕ
+closing Canonical guard = []
+closing C guard = c_closing guard
+closing Rust guard = []
+
+abbrev pub form_text : Form → List ℕ → List ConstantParts → List ℕ
+form_text form guard constants = opening form guard ++ (form_lines form constants ++ closing form guard)
+
+-- ---- the answer to an input
+-- its constants, of which none has a reserved name, in the form
+pub record IsFormText (form : Form) (guard input : List ℕ) (answer : AnswerText) : Type 0 where
+  pub constants : List ConstantParts
+  pub are : IsConstantsOf input constants
+  pub free : (p : ℕ) → ¬ IsReservedOn form guard input p
+  pub text : answer.text ≡ form_text form guard constants
+  pub fault : answer.fault ≡ false
+
+-- or its first fault
+pub record IsFormRefusal (form : Form) (guard input : List ℕ) (answer : AnswerText) : Type 0 where
+  pub line : ℕ
+  pub why : ConstantFault
+  pub is : IsFormFault form guard input line why
+  pub text : answer.text ≡ fault_line line why
+  pub fault : answer.fault ≡ true
+
+abbrev pub IsSourceAnswer : Form → List ℕ → List ℕ → AnswerText → Type 0
+IsSourceAnswer form guard input answer = IsFormText form guard input answer ⊎ IsFormRefusal form guard input answer
+
+-- the answer in the form; without a language it is that of a constants file
+abbrev pub IsFormAnswer : Form → List ℕ → List ℕ → AnswerText → Type 0
+IsFormAnswer Canonical guard input answer = IsWholeAnswer input answer
+IsFormAnswer C guard input answer = IsSourceAnswer C guard input answer
+IsFormAnswer Rust guard input answer = IsSourceAnswer Rust guard input answer
