@@ -125,7 +125,7 @@ class Runs:
         """Runs with more and more memory, until there is enough: each run that finds too little writes nothing."""
         whole = subprocess.run([self.path, *words], input=given, stdout=subprocess.PIPE, check=False, timeout=120)
         refused = 0
-        for most in range(600_000, 64_000_000, 200_000):
+        for most in range(600_000, 64_000_000, 100_000):
             self.tried += 1
             how = {"input": given, "stdout": subprocess.PIPE, "stderr": subprocess.DEVNULL, "preexec_fn": within(most)}
             ran = subprocess.run([self.path, *words], check=False, timeout=120, **how)

@@ -1,5 +1,5 @@
 -- Numbers of C, reserved names, and what an input is answered in a form.
-use Rattle.std.proofs.Common.{◌≡◌, ◌↔◌, ℕ, ◌+◌, ◌-◌, ◌^◌, ◌<◌, ◌≤◌, ◌==◌, eqb, eq-eqb, Bool, true, false, IsTrue, Option, Some, None, List, [], ◌∷◌, ◌++◌, length, ℤ, pos, negsuc, unsigned_abs, refl, sym, ap, ◌∙◌, subst, arith, inl, inr}
+use Rattle.std.proofs.Common.{◌≡◌, ◌↔◌, ℕ, ◌+◌, ◌-◌, ◌^◌, ◌<◌, ◌≤◌, eqb, eq-eqb, Bool, true, false, IsTrue, Option, Some, None, List, [], ◌∷◌, ◌++◌, ℤ, unsigned_abs, refl, sym, ◌∙◌, subst, arith, inl, inr}
 use Rattle.std.specs.Int.{is_negative}
 use Rattle.std.specs.Prelude.{is_some}
 use Rattle.std.proofs.lemmas.Bool.{false≢true}

@@ -1,9 +1,9 @@
 -- An input has one answer in a form.
-use Rattle.std.proofs.Common.{◌≡◌, ℕ, ◌+◌, ◌≤◌, ◌<◌, ◌⊎◌, true, false, List, [], ◌∷◌, sym, ap, ◌∙◌, arith, inl, inr}
+use Rattle.std.proofs.Common.{◌≡◌, ℕ, ◌+◌, List, [], ◌∷◌, sym, ap, ◌∙◌, arith, inl, inr}
 use Rattle.line_engine.specs.AnswerText.{AnswerText}
 use Rattle.line_engine.specs.Lines.{lines}
 use Rattle.fixed_constants.specs.Answer.{fault_line}
-use Rattle.fixed_constants.specs.Constants.{ConstantParts, IsConstantsOf, IsFaultOf}
+use Rattle.fixed_constants.specs.Constants.{ConstantParts, IsConstantsOf}
 use Rattle.fixed_constants.specs.Forms.{IsFormAnswer, IsFormFault, IsReservedOn, IsSourceAnswer, ReservedFrom, form_text}
 use Rattle.fixed_constants.specs.Lemmas.ConstantsLemmas.{IsSameFault, answer_one, answer_text_is, declare_one, fail_one, not_both}
 use Rattle.fixed_constants.specs.declared.fault.ConstantFault.{ConstantFault}

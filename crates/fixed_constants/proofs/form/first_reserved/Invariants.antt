@@ -1,4 +1,4 @@
-use Rattle.std.proofs.Common.{◌≡◌, ◌+◌, ◌≤◌, length}
+use Rattle.std.proofs.Common.{◌+◌, ◌≤◌, length}
 use Rattle.fixed_constants.proofs.FormLemmas.{SearchedTo}
 use Rattle.fixed_constants.proofs.form.first_reserved.Given as goal
 

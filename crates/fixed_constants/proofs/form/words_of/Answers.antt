@@ -1,4 +1,4 @@
-use Rattle.std.proofs.Common.{◌≡◌, ap, sym}
+use Rattle.std.proofs.Common.{ap, sym}
 use Rattle.fixed_constants.specs.Forms.{c_words, rust_words, words_in}
 use Rattle.fixed_constants.proofs.form.words_of.Goals as goal
 

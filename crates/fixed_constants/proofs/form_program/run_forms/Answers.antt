@@ -1,4 +1,3 @@
-use Rattle.std.proofs.Common.{◌≡◌}
 use Rattle.fixed_constants.proofs.FormProgramLemmas.{form_named, guard_named}
 use Rattle.fixed_constants.proofs.form_program.run_forms.Goals as goal
 

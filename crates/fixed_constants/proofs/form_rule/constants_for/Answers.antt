@@ -1,4 +1,3 @@
-use Rattle.std.proofs.Common.{◌≡◌, ◌<◌, ◌≤◌, arith}
 use Rattle.fixed_constants.proofs.FormLemmas.{fault_first, name_alone, name_first}
 use Rattle.fixed_constants.proofs.form_rule.constants_for.Goals as goal
 

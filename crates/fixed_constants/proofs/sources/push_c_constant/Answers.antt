@@ -1,4 +1,4 @@
-use Rattle.std.proofs.Common.{rules, ◌≡◌, ◌++◌, ◌∷◌, ◌∙◌, [], List, ℕ, pos, ap}
+use Rattle.std.proofs.Common.{rules, ◌≡◌, ◌++◌, List, ℕ, pos}
 use Rattle.std.specs.Prelude.{codes}
 use Rattle.fixed_constants.specs.Canonical.{literal_text}
 use Rattle.fixed_constants.specs.Forms.{c_constant, c_macro}

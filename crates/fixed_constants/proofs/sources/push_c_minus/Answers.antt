@@ -1,4 +1,4 @@
-use Rattle.std.proofs.Common.{rules, ◌≡◌, ◌++◌, ◌∷◌, ◌∙◌, [], List, ℕ, pos, ap}
+use Rattle.std.proofs.Common.{rules, ◌≡◌, ◌++◌, List, ℕ}
 use Rattle.std.specs.Prelude.{codes}
 use Rattle.fixed_constants.specs.Forms.{c_constant, c_minus}
 use Rattle.fixed_constants.proofs.CanonicalLemmas.{three_pieces}

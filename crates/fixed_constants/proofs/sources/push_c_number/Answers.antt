@@ -1,4 +1,4 @@
-use Rattle.std.proofs.Common.{rules, ◌≡◌, true, false, unsigned_abs, FitsSigned, to_z, of_z}
+use Rattle.std.proofs.Common.{rules, ◌≡◌, true, false, FitsSigned}
 use Rattle.std.specs.Int.{is_negative, w128}
 use Rattle.std.proofs.lemmas.Int.{to_z-of_z}
 use Rattle.fixed_constants.proofs.FormLemmas.{number_minus, number_plain}

@@ -1,5 +1,4 @@
-use Rattle.std.proofs.Common.{rules, ◌≡◌, ◌++◌, ◌∷◌, ◌∙◌, [], List, ℕ, pos, ap}
-use Rattle.std.specs.Prelude.{codes}
+use Rattle.std.proofs.Common.{rules, ◌≡◌, ◌++◌, List, ℕ}
 use Rattle.fixed_constants.specs.Forms.{c_opening, guard_test}
 use Rattle.fixed_constants.proofs.CanonicalLemmas.{two_pieces}
 use Rattle.fixed_constants.proofs.sources.push_c_opening.Goals as goal
