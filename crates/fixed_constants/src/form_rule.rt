@@ -69,7 +69,7 @@ fn constants_for(
 }
 
 /// The answer to a constants file in the form of a language.
-fn source_answer<L: Ledger>(
+fn answer<L: Ledger>(
     alloc: Global,
     form: Form,
     guard: &[u8],
@@ -102,8 +102,8 @@ impl<'a, L: Ledger> WholeRule<L> for FormRule<'a> {
     ) -> Result<WholeAnswer, NoMemory> {
         match self.form {
             Form::Canonical => ConstantsRule.answer(alloc, input, steps),
-            Form::C => source_answer(alloc, Form::C, self.guard, input, steps),
-            Form::Rust => source_answer(alloc, Form::Rust, self.guard, input, steps),
+            Form::C => answer(alloc, Form::C, self.guard, input, steps),
+            Form::Rust => answer(alloc, Form::Rust, self.guard, input, steps),
         }
     }
 
