@@ -65,6 +65,9 @@ RUNS = {
          b" " * 22 + b"-1 I8F0\n" + b" " * 21 + b"0.2 U6F2\n" + b" " * 21 + b"0.5 U7F1\n" + b" " * 21 + b"0.5 I4F4\n"),
         ([], b"1 U8F0\n1 U8F0\n1 U8F0\n300 U8F0\n", 1, b"error: line 4: overflow\n"),
         ([], b" " * 1_048_577, 6, b""),
+        (["limit", "7"], b"1 U8F0\n", 0, b" " * 23 + b"1 U8F0\n"),
+        (["limit", "6"], b"1 U8F0\n", 6, b""),
+        (["limit", "4294967296"], b" " * 1_048_577 + b"1 U8F0\n", 0, b" " * 23 + b"1 U8F0\n"),
     ),
 }
 # Words that are no command, for each program.
@@ -73,13 +76,14 @@ BAD_WORDS = {
     "enclose_tool": ([b"limit", b"5"],),
     "least_tool": ([b"9"], [b"010"], [b"10", b"10"]),
     "constants_tool": ([b"C"], [b"c", b"int"], [b"c", b"9"], [b"rust", b"A"], [b"c", b"A", b"B"]),
-    "columns_tool": ([b"0"],),
+    "columns_tool": ([b"0"], [b"limit"], [b"limit", b"0"], [b"limit", b"07"], [b"limit", b"4294967297"], [b"limit", b"7", b""]),
 }
 NO_UTF8 = [b"\xff\xfe"]
 # Words and an input for which a program takes more memory as it goes on.
 GROWING = {
     "least_tool": ([], b"0.1\n" * 50_000),
     "constants_tool": ([], b"".join(b"N%d = 0x1.8 I32F32\n" % i for i in range(40_000))),
+    "columns_tool": ([], b"".join(b"%d.5 I32F32\n" % i for i in range(60_000))),
 }
 # A literal, its format, the type of C and the bits: the ends of each width, and values between them.
 NUMBERS = (
