@@ -20,14 +20,14 @@ fault_message (Duplicate first) = codes "duplicate of line " ++ decimal first
 abbrev pub fault_line : ℕ → ConstantFault → List ℕ
 fault_line p fault = codes "error: line " ++ (decimal p ++ (codes ": " ++ (fault_message fault ++ 10 ∷ [])))
 
--- the canonical text of the constants of the input
+-- the answer is the canonical text of the constants of the input
 pub record IsCanonicalAnswer (input : List ℕ) (answer : AnswerText) : Type 0 where
   pub constants : List ConstantParts
   pub are : IsConstantsOf input constants
   pub text : answer.text ≡ canonical_text constants
   pub fault : answer.fault ≡ false
 
--- its first fault
+-- the answer is the line of the input's first fault
 pub record IsFaultAnswer (input : List ℕ) (answer : AnswerText) : Type 0 where
   pub line : ℕ
   pub why : ConstantFault

@@ -38,7 +38,7 @@ IsNameByte b = ((65 ≤ b) × (b ≤ 90)) ⊎ (((97 ≤ b) × (b ≤ 122)) ⊎ (
 abbrev pub AreNameBytes : List ℕ → Type 0
 AreNameBytes bytes = (i : ℕ) → i < length bytes → IsNameByte (get_or bytes i 0)
 
--- 1 to 64 such bytes, the first no digit
+-- a name is 1 to 64 ASCII letters, digits and '_', and begins with no digit
 pub record IsName (word : List ℕ) : Type 0 where
   pub some : 0 < length word
   pub short : length word ≤ 64
@@ -99,7 +99,7 @@ abbrev pub IsNamedOn : List (List ℕ) → List ℕ → ℕ → Type 0
 IsNamedOn before name p = NamedFrom 1 before name p
 
 -- ---- the fault of a line
--- a line that comes after these has the fault, and none before it in the order
+-- a line that comes after the lines `before` has the fault, and none that is looked for earlier
 abbrev pub HasFault : List (List ℕ) → List ℕ → ConstantFault → Type 0
 HasFault before line MissingField = (¬ IsPassedOver line) × (count_of space line < 3)
 HasFault before line BadName = (x : Fields line) × (¬ IsName x.name)
@@ -108,19 +108,19 @@ HasFault before line BadFormat = (x : Fields line) × HasHead line x × ((f : Fo
 HasFault before line (BadLiteral kind) = (x : Fields line) × HasHead line x × (f : FormatParts) × IsFormatWord x.format f × IsRefusedLiteral f x.literal kind
 HasFault before line (Duplicate first) = (c : ConstantParts) × Spells line c × IsNamedOn before c.name first
 
--- what a line that comes after these says: a constant, or a fault
+-- what a line that comes after the lines `before` says: a constant, or a fault
 abbrev pub Says : List (List ℕ) → List ℕ → Result ConstantParts ConstantFault → Type 0
 Says before line (Ok c) = Spells line c × ((p : ℕ) → ¬ IsNamedOn before c.name p)
 Says before line (Err fault) = HasFault before line fault
 
 -- ---- a text
--- lines that come after these declare the constants, in order
+-- lines that come after the lines `before` declare the constants, in order
 abbrev pub Declare : List (List ℕ) → List (List ℕ) → List ConstantParts → Type 0
 Declare before [] constants = constants ≡ []
 Declare before (line ∷ lines) constants = (IsPassedOver line × Declare (before ++ line ∷ []) lines constants)
     ⊎ ((c : ConstantParts) × (more : List ConstantParts) × Says before line (Ok c) × (constants ≡ c ∷ more) × Declare (before ++ line ∷ []) lines more)
 
--- the first fault of lines that come after these is this one, on line p
+-- the first fault of lines that come after the lines `before` is this one, on line p
 abbrev pub FailAt : List (List ℕ) → List (List ℕ) → ℕ → ConstantFault → Type 0
 FailAt before [] p fault = ⊥
 FailAt before (line ∷ lines) p fault = (Says before line (Err fault) × (p ≡ length before + 1))
@@ -140,6 +140,7 @@ IsErrorOf text (Refused p fault) = IsFaultOf text p fault
 IsErrorOf text NoMemory = Unit {0}
 
 -- ---- looking a name up
+-- one of the constants has the name
 abbrev pub HasName : List ℕ → List ConstantParts → Type 0
 HasName name [] = ⊥
 HasName name (c ∷ constants) = (c.name ≡ name) ⊎ HasName name constants

@@ -46,18 +46,18 @@ pub record HasFormRun (args : List (String Global)) (before after : Outside) (st
   pub output : (f : Form) (g : List ℕ) → NamesForm args f g → (input : List ℕ) → before.left ≡ Some input → length input ≤ most_bytes
       → ¬ HasFailed before.read_failures after.read_failures → ¬ HasFailed before.write_failures after.write_failures
       → (status ≡ NoMemory) ⊎ WritesAnswer (IsFormAnswer f g) input before.written after.written status
-  -- and a longer one is reported
+  -- an input past the limit is reported
   pub too_long : (f : Form) (g : List ℕ) → NamesForm args f g → (input : List ℕ) → before.left ≡ Some input → most_bytes < length input
       → ¬ HasFailed before.read_failures after.read_failures → ¬ HasFailed before.write_failures after.write_failures
       → (status ≡ NoMemory) ⊎ (status ≡ TooLong)
   -- what was taken and what was written, by status
   pub run : (f : Form) (g : List ℕ) → NamesForm args f g → HasWholeRun (IsFormAnswer f g) most_bytes before.left after.left before.written after.written status
-  -- a prefix of the answer, where a write failed
+  -- where a write failed, a prefix of the answer was written
   pub prefix_on_write_fault : (f : Form) (g : List ℕ) → NamesForm args f g → status ≡ WriteFault → (input : List ℕ) (answer : AnswerText)
       → before.left ≡ Some input → IsFormAnswer f g input answer → AppendsPrefix before.written after.written answer.text
   -- what the source was asked for
   pub asked : (f : Form) (g : List ℕ) → NamesForm args f g → AskedWithin most_bytes before.asked after.asked
-  -- other arguments
+  -- arguments that ask for nothing are answered with the usage line
   pub usage : IsFormUsageFault args → WritesText form_usage_line Usage before.written after.written before.write_failures after.write_failures status
   pub usage_only : status ≡ Usage → IsFormUsageFault args
   -- which count of failures rose, by status

@@ -47,13 +47,13 @@ pub record HasReserved (form : Form) (guard line : List ℕ) : Type 0 where
   pub name : IsName fields.name
   pub reserved : IsReserved form guard fields.name
 
--- the first such line is line p, where they are numbered from n on
+-- the first of the lines with a reserved name is line p, where they are numbered from n on
 abbrev pub ReservedFrom : ℕ → Form → List ℕ → List (List ℕ) → ℕ → Type 0
 ReservedFrom n form guard [] p = ⊥
 ReservedFrom n form guard (line ∷ lines) p = (HasReserved form guard line × (p ≡ n))
     ⊎ ((¬ HasReserved form guard line) × ReservedFrom (n + 1) form guard lines p)
 
--- the first such line of a text is line p, from 1
+-- the first line of a text with a reserved name is line p, from 1
 abbrev pub IsReservedOn : Form → List ℕ → List ℕ → ℕ → Type 0
 IsReservedOn form guard text p = ReservedFrom 1 form guard (lines text) p
 
@@ -62,7 +62,7 @@ abbrev pub IsFormFault : Form → List ℕ → List ℕ → ℕ → ConstantFaul
 IsFormFault form guard text p fault = (IsFaultOf text p fault × ((q : ℕ) → IsReservedOn form guard text q → p < q))
     ⊎ ((fault ≡ BadName) × IsReservedOn form guard text p × ((q : ℕ) (other : ConstantFault) → IsFaultOf text q other → p ≤ q))
 
--- what an error says of such a text
+-- what an error says of a text that is to be written in the form
 abbrev pub IsFormError : Form → List ℕ → List ℕ → ConstantsError → Type 0
 IsFormError form guard text (Refused p fault) = IsFormFault form guard text p fault
 IsFormError form guard text NoMemory = Unit {0}
@@ -76,7 +76,7 @@ macro_stem false = codes "UINT"
 unfoldable pub c_macro : FormatParts → List ℕ
 c_macro f = macro_stem f.signed ++ (decimal f.width ++ codes "_C")
 
--- that macro of a number, in hexadecimal
+-- the macro of <stdint.h> of a number in hexadecimal
 unfoldable pub c_constant : FormatParts → ℕ → List ℕ
 c_constant f m = c_macro f ++ (codes "(" ++ (literal_text (pos m) 0 ++ codes ")"))
 
@@ -137,7 +137,7 @@ opening Canonical guard = []
 opening C guard = c_opening guard
 opening Rust guard = []
 
--- and what comes after them
+-- what comes after the lines: the end of the guard, where there is one
 abbrev pub c_closing : List ℕ → List ℕ
 c_closing [] = []
 c_closing (b ∷ bs) = codes "\n#endif\n"
@@ -151,7 +151,7 @@ abbrev pub form_text : Form → List ℕ → List ConstantParts → List ℕ
 form_text form guard constants = opening form guard ++ (form_lines form constants ++ closing form guard)
 
 -- ---- the answer to an input
--- its constants, of which none has a reserved name, in the form
+-- the answer is the constants of the input in the form, and none has a reserved name
 pub record IsFormText (form : Form) (guard input : List ℕ) (answer : AnswerText) : Type 0 where
   pub constants : List ConstantParts
   pub are : IsConstantsOf input constants
@@ -159,7 +159,7 @@ pub record IsFormText (form : Form) (guard input : List ℕ) (answer : AnswerTex
   pub text : answer.text ≡ form_text form guard constants
   pub fault : answer.fault ≡ false
 
--- or its first fault
+-- the answer is the line of the input's first fault in the form
 pub record IsFormRefusal (form : Form) (guard input : List ℕ) (answer : AnswerText) : Type 0 where
   pub line : ℕ
   pub why : ConstantFault
@@ -170,7 +170,7 @@ pub record IsFormRefusal (form : Form) (guard input : List ℕ) (answer : Answer
 abbrev pub IsSourceAnswer : Form → List ℕ → List ℕ → AnswerText → Type 0
 IsSourceAnswer form guard input answer = IsFormText form guard input answer ⊎ IsFormRefusal form guard input answer
 
--- the answer in the form; without a language it is that of a constants file
+-- the answer to an input in a form; in the canonical form it is that of `run_constants`
 abbrev pub IsFormAnswer : Form → List ℕ → List ℕ → AnswerText → Type 0
 IsFormAnswer Canonical guard input answer = IsWholeAnswer input answer
 IsFormAnswer C guard input answer = IsSourceAnswer C guard input answer

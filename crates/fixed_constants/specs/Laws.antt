@@ -22,7 +22,7 @@ ConstantsAreTheOnes = (text : List ℕ) (a b : List ConstantParts) → IsConstan
 abbrev pub FaultIsTheOne : Type 0
 FaultIsTheOne = (text : List ℕ) (p q : ℕ) (f g : ConstantFault) → IsFaultOf text p f → IsFaultOf text q g → (p ≡ q) × (f ≡ g)
 
--- and not both: a text with a fault is refused, and no other
+-- no text has both constants and a fault, so a text is refused exactly where it has a fault
 abbrev pub NeverBoth : Type 0
 NeverBoth = (text : List ℕ) (constants : List ConstantParts) (p : ℕ) (f : ConstantFault) → IsConstantsOf text constants → ¬ IsFaultOf text p f
 
@@ -39,7 +39,7 @@ literal_style = record { notation = LowerHex; precision = None; width = 0; fill 
 abbrev pub LiteralIsStyled : Type 0
 LiteralIsStyled = (c : ℤ) (g : ℕ) → IsStyledText literal_style c g (literal_text c g)
 
--- and is read as the same bits in every format that has them
+-- the literal that is written for a value is read as the same bits in every format that has them
 abbrev pub LiteralReadsBack : Type 0
 LiteralReadsBack = (f : FormatParts) (c : ℤ) → IsInRange f.signed f.width c → IsLiteralOf f (literal_text c f.frac) c
 
@@ -52,7 +52,7 @@ ConstantsAreEntries = (text : List ℕ) (constants : List ConstantParts) → IsC
 abbrev pub CanonicalTextReadsBack : Type 0
 CanonicalTextReadsBack = (constants : List ConstantParts) → AreEntries constants → IsConstantsOf (canonical_text constants) constants
 
--- so the constants that were read and written are read again
+-- constants that were read from a text and written are read again
 abbrev pub WrittenReadsBack : Type 0
 WrittenReadsBack = (text : List ℕ) (constants : List ConstantParts) → IsConstantsOf text constants → IsConstantsOf (canonical_text constants) constants
 
@@ -61,6 +61,6 @@ abbrev pub EntriesHaveOneAnswer : Type 0
 EntriesHaveOneAnswer = (input other : List ℕ) (constants : List ConstantParts) (a b : AnswerText)
     → IsConstantsOf input constants → IsConstantsOf other constants → IsWholeAnswer input a → IsWholeAnswer other b → a ≡ b
 
--- and an answer without a fault is answered with itself
+-- an answer without a fault is answered with itself
 abbrev pub AnswerIsItsOwn : Type 0
 AnswerIsItsOwn = (input : List ℕ) (a : AnswerText) → IsWholeAnswer input a → a.fault ≡ false → IsWholeAnswer a.text a

@@ -76,7 +76,7 @@ pub record IsLeastAnswer (r : Radix) (input : List ℕ) (answer : AnswerText) : 
   pub text : IsLeastText places answer.text
   pub fault : answer.fault ≡ false
 
--- the answer to one that is none
+-- the answer to an input with a line that is no numeral
 pub record IsFaultAnswer (r : Radix) (input : List ℕ) (answer : AnswerText) : Type 0 where
   pub why : LeastFault
   pub is_none : IsNoNumeral r (lines input) why

@@ -40,18 +40,18 @@ pub record HasLeastRun (args : List (String Global)) (before after : Outside) (s
   pub output : (r : Radix) → NamesRadix args r → (input : List ℕ) → before.left ≡ Some input → length input ≤ most_bytes
       → ¬ HasFailed before.read_failures after.read_failures → ¬ HasFailed before.write_failures after.write_failures
       → (status ≡ NoMemory) ⊎ WritesAnswer (IsWholeAnswer r) input before.written after.written status
-  -- and a longer one is reported
+  -- an input past the limit is reported
   pub too_long : (r : Radix) → NamesRadix args r → (input : List ℕ) → before.left ≡ Some input → most_bytes < length input
       → ¬ HasFailed before.read_failures after.read_failures → ¬ HasFailed before.write_failures after.write_failures
       → (status ≡ NoMemory) ⊎ (status ≡ TooLong)
   -- what was taken and what was written, by status
   pub run : (r : Radix) → NamesRadix args r → HasWholeRun (IsWholeAnswer r) most_bytes before.left after.left before.written after.written status
-  -- a prefix of the answer, where a write failed
+  -- where a write failed, a prefix of the answer was written
   pub prefix_on_write_fault : (r : Radix) → NamesRadix args r → status ≡ WriteFault → (input : List ℕ) (answer : AnswerText) → before.left ≡ Some input
       → IsWholeAnswer r input answer → AppendsPrefix before.written after.written answer.text
   -- what the source was asked for
   pub asked : (r : Radix) → NamesRadix args r → AskedWithin most_bytes before.asked after.asked
-  -- other arguments
+  -- arguments that ask for nothing are answered with the usage line
   pub usage : IsUsageFault args → WritesText usage_line Usage before.written after.written before.write_failures after.write_failures status
   pub usage_only : status ≡ Usage → (r : Radix) → ¬ NamesRadix args r
   -- which count of failures rose, by status

@@ -34,7 +34,7 @@ cell_of f = cell (kind_of f.signed f.width) f.frac
 abbrev pub IsLiving : ℕ → ℕ → ℕ → List ℕ → Type 0
 IsLiving j low high cells = (k : ℕ) → k ≤ kind_width j → ((low ≤ k) × (k < high)) ↔ (get_or cells (cell j k) 0 ≡ 0)
 
--- this is so of each kind
+-- the formats without a place are such an interval in each kind
 pub record AreLiving (cells lows highs : List ℕ) : Type 0 where
   pub order : (j : ℕ) → j < 8 → get_or lows j 0 ≤ get_or highs j 0
   pub most : (j : ℕ) → j < 8 → get_or highs j 0 ≤ kind_width j + 1
@@ -46,6 +46,6 @@ IsNoted f value place old new = ((old ≡ 0 → ⊥) × (new ≡ old))
     ⊎ (((old ≡ 0) × HasValue f value × (new ≡ 0))
     ⊎ ((old ≡ 0) × (HasValue f value → ⊥) × (new ≡ place)))
 
--- this is so of each format
+-- what a value at a place leaves of the cells of all formats
 abbrev pub AreNoted : Option Exact → ℕ → List ℕ → List ℕ → Type 0
 AreNoted value place old new = (f : FormatParts) → IsFormat f.width f.frac → IsNoted f value place (get_or old (cell_of f) 0) (get_or new (cell_of f) 0)
