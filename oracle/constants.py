@@ -4,8 +4,9 @@
 It follows the rules in docs/RULES.md and shares no code with the program: a literal's value is a fraction of whole numbers
 without a bound, and its text is built digit by digit from the bits.
 
-    constants.py < file            writes the file in its one canonical form, or its first fault
-    constants.py --compare PROGRAM makes seeded files, hands them to PROGRAM one by one, and compares
+    constants.py [FORM [GUARD]] < file  writes the file in its one canonical form, as a C header (c) or as Rust (rust), or its
+                                        first fault
+    constants.py --compare PROGRAM      makes seeded files, hands them to PROGRAM one by one in each form, and compares
 """
 import argparse
 import random
@@ -13,11 +14,25 @@ import re
 import subprocess
 import sys
 
-from reference import DIGITS, WIDTHS, WORDS, Refused, digits_for, ends, format_of, rounded, separators
+from reference import DIGITS, WIDTHS, WORDS, Refused, digits_for, ends, format_of, rounded, separators, shortest
 
 LONGEST = 1_048_576
 NAME = re.compile(rb"[A-Za-z_][A-Za-z0-9_]{0,63}\Z")
 PREFIXES = {b"0b": 2, b"0o": 8, b"0x": 16}
+# What no constant may be named in a language: its keywords, and for C the macros that a header uses.
+RESERVED = {
+    "c": set(
+        """alignas alignof asm auto bool break case char const constexpr continue default defined do double else enum extern false
+        float for goto if inline int long nullptr register restrict return short signed sizeof static static_assert struct switch
+        thread_local true typedef typeof typeof_unqual union unsigned void volatile while _Alignas _Alignof _Atomic _BitInt _Bool
+        _Complex _Decimal128 _Decimal32 _Decimal64 _Generic _Imaginary _Noreturn _Static_assert _Thread_local""".split()
+    ) | {f"{sign}INT{width}_C" for sign in ("", "U") for width in WIDTHS},
+    "rust": set(
+        """_ abstract as async await become box break const continue crate do dyn else enum extern false final fn for gen if impl in
+        let loop macro match mod move mut override priv pub ref return self Self static struct super trait true try type typeof
+        unsafe unsized use virtual where while yield""".split()
+    ),
+}
 MESSAGES = WORDS | {"MisplacedUnderscore": "misplaced underscore found in string"}
 
 
@@ -101,13 +116,13 @@ class Faulty(Exception):
     """The first fault of a file: its line and its message."""
 
 
-def entry_of(line, lines_of_names):
+def entry_of(line, lines_of_names, reserved):
     """The name, format word, format and bits of a line."""
     fields = line.split(b" ", 3)
     if len(fields) < 4:
         raise Refused("missing field")
     name, equals, literal, word = fields
-    if not NAME.match(name):
+    if not NAME.match(name) or name.decode() in reserved:
         raise Refused("bad name")
     if equals != b"=":
         raise Refused("missing equals sign")
@@ -123,8 +138,8 @@ def entry_of(line, lines_of_names):
     return name.decode(), word.decode(), shape, bits
 
 
-def entries_of(data):
-    """The entries of a file."""
+def entries_of(data, reserved=frozenset()):
+    """The entries of a file, of which none has a reserved name."""
     lines = data.split(b"\n")
     if not lines[-1]:
         lines.pop()
@@ -133,7 +148,7 @@ def entries_of(data):
         if not line or line[:1] == b"#":
             continue
         try:
-            entry = entry_of(line, lines_of_names)
+            entry = entry_of(line, lines_of_names, reserved)
         except Refused as refused:
             raise Faulty(f"error: line {number}: {refused}\n") from None
         lines_of_names[entry[0].encode()] = number
@@ -146,12 +161,39 @@ def canonical(entries):
     return "".join(f"{name} = {hexadecimal(bits, shape[2])} {word}\n" for name, word, shape, bits in entries)
 
 
-def answer(data):
-    """What is written for an input, and the status."""
+def number_of_c(shape, bits):
+    """Bits as an expression of C: a macro of <stdint.h> takes no minus and nothing past the type's range."""
+    macro = f"{'' if shape[0] else 'U'}INT{shape[1]}_C"
+    if bits >= 0:
+        return f"{macro}(0x{bits:x})"
+    if bits == -(1 << (shape[1] - 1)):
+        return f"(-{macro}(0x{-bits - 1:x}) - 1)"
+    return f"(-{macro}(0x{-bits:x}))"
+
+
+def header(entries, guard):
+    """A C header of entries."""
+    lines = [f"#define {name} {number_of_c(shape, bits)} /* {word}, {shortest(bits, shape[2])} */\n" for name, word, shape, bits in entries]
+    text = "#include <stdint.h>\n\n" + "".join(lines)
+    return f"#ifndef {guard}\n#define {guard}\n\n{text}\n#endif\n" if guard else text
+
+
+def rust(entries):
+    """Entries as Rust."""
+    lines = []
+    for name, _, shape, bits in entries:
+        kind = f"Fixed{'I' if shape[0] else 'U'}{shape[1]}"
+        lines.append(f"pub const {name}: {kind}<{shape[2]}> = {kind}::from_bits({'-' if bits < 0 else ''}0x{abs(bits):x});\n")
+    return "".join(lines)
+
+
+def answer(data, form="", guard=""):
+    """What is written for an input in a form, and the status."""
     if len(data) > LONGEST:
         return "", 6
     try:
-        return canonical(entries_of(data)), 0
+        entries = entries_of(data, RESERVED.get(form, set()) | {guard})
+        return {"": canonical, "c": lambda es: header(es, guard), "rust": rust}[form](entries), 0
     except Faulty as fault:
         return str(fault), 1
 
@@ -202,6 +244,8 @@ def line_for(pick, names):
 
 def file_for(pick):
     names = [f"{pick.choice('ABCxyz_')}{pick.randrange(10**6)}_{at}".encode() for at in range(60)]
+    for words in RESERVED.values():
+        names[pick.randrange(60)] = pick.choice(sorted(words)).encode()
     lines = [line_for(pick, names) for _ in range(pick.randrange(0, 12))]
     if lines and pick.randrange(5) == 0:
         lines.append(pick.choice(lines))
@@ -211,8 +255,14 @@ def file_for(pick):
 def compare(program, count, seed):
     pick = random.Random(seed)
     wrong, kept = 0, 0
-    for _ in range(count):
+    for at in range(count):
         data = file_for(pick)
+        words = (("c",), ("c", "GUARD_H"), ("rust",))[at % 3]
+        ran = subprocess.run([program, *words], input=data, stdout=subprocess.PIPE, stderr=subprocess.DEVNULL, check=False)
+        if (ran.stdout.decode(), ran.returncode) != answer(data, *words):
+            wrong += 1
+            if wrong <= 10:
+                print(f"{words}, {data!r}: {ran.stdout!r}, status {ran.returncode}, not {answer(data, *words)}")
         wanted, status = answer(data)
         ran = subprocess.run([program], input=data, stdout=subprocess.PIPE, stderr=subprocess.DEVNULL, check=False)
         kept += status == 0
@@ -231,13 +281,15 @@ def compare(program, count, seed):
 
 def main():
     words = argparse.ArgumentParser(description=__doc__.split("\n", maxsplit=1)[0])
+    words.add_argument("form", nargs="?", default="", choices=("", "c", "rust"))
+    words.add_argument("guard", nargs="?", default="")
     words.add_argument("--compare", metavar="PROGRAM")
     words.add_argument("--count", type=int, default=2000)
     words.add_argument("--seed", type=int, default=1)
     given = words.parse_args()
     if given.compare:
         return compare(given.compare, given.count, given.seed)
-    written, status = answer(sys.stdin.buffer.read())
+    written, status = answer(sys.stdin.buffer.read(), given.form, given.guard)
     sys.stdout.write(written)
     return status
 
