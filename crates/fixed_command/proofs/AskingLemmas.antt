@@ -1,0 +1,185 @@
+-- What is answered to the line that asks for a conversion.
+use Rattle.std.proofs.Common.{◌≡◌, ℕ, zero, suc, ◌+◌, ◌-◌, ◌^◌, ◌<◌, ◌≤◌, ◌/◌, ◌%◌, Bool, true, false, cond, eqb, nat_lt, List, [], ◌∷◌, ◌++◌, length, map, ℤ, pos, negsuc, refl, sym, ap, ◌∙◌, subst, arith, inl, inr, length-append, if◌then◌else◌, ◌==◌}
+use Rattle.std.specs.Fmt.{decimal, digit_glyph, sign_text, signed_decimal}
+use Rattle.std.specs.Int.{is_negative}
+use Rattle.std.specs.Int.Digits.{digits_of}
+use Rattle.std.specs.Str.Parse.{AllDigits}
+use Rattle.std.proofs.lemmas.Fmt.{decimal_is_IsNumeral}
+use Rattle.std.proofs.lemmas.Int.{ints}
+use Rattle.std.proofs.lemmas.Str.Parse.{digit_from_value}
+use Rattle.fixed_bits.specs.Formats.{FormatParts, IsFormat}
+use Rattle.fixed_bits.specs.Ranges.{IsInRange, IsWide}
+use Rattle.fixed_bits.specs.declared.format.Policy.{Policy}
+use Rattle.fixed_bits.specs.declared.format.Policy.TheVariants.{Checked, Saturating, Wrapping}
+use Rattle.fixed_bits.specs.declared.mode.ReadMode.{ReadMode}
+use Rattle.fixed_bits.specs.declared.mode.ReadMode.TheVariants.{NearestEven, Floor, Ceil, TowardsZero}
+use Rattle.fixed_bits.proofs.LawLemmas.{image_within}
+use Rattle.fixed_numeral.specs.Messages.{message_of}
+use Rattle.fixed_numeral.specs.declared.error.ParseErrorKind.{ParseErrorKind}
+use Rattle.fixed_numeral.specs.declared.radix.Radix.{Radix}
+use Rattle.fixed_numeral.specs.declared.radix.Radix.TheVariants.{Bin, Oct, Dec, Hex}
+use Rattle.fixed_write.specs.Texts.{IsShortestText, decimal_text, fraction_part, last_digits, point_text, whole_digits}
+use Rattle.fixed_respell.specs.Answer.{Asks, IsAnswer, respelled_answer, task_of, verdict}
+use Rattle.fixed_respell.specs.Language.{fault_answer}
+use Rattle.fixed_respell.specs.LineWords.{HasWords, longest_line, space}
+use Rattle.fixed_respell.specs.Reached.{IsRefusal, IsRespelled}
+use Rattle.fixed_respell.specs.Split.{count_of}
+use Rattle.fixed_respell.specs.Words.{format_text, mode_text, policy_text, radix_text, sign_letter, slash}
+use Rattle.fixed_respell.specs.Lemmas.FormatLemmas.{width_most}
+use Rattle.fixed_respell.specs.Lemmas.SplitLemmas.{count-append, count_cons}
+use Rattle.line_engine.specs.AnswerText.{AnswerText}
+use Rattle.fixed_command.specs.Convert.{IsReply, asking_line, asking_words, printed}
+use Rattle.fixed_command.specs.declared.convert.Settings.{Settings}
+
+-- ---- what has no space
+other_byte : (c : ℕ) (rest : List ℕ) → 33 ≤ c → count_of space (c ∷ rest) ≡ count_of space rest
+other_byte c rest high =
+    let other : eqb c 32 ≡ false = grind (arith, high) in
+    omega (arith, count_cons 32 c rest, ap (λ t. cond t 1 0 + count_of 32 rest) other)
+
+glyph_high : (d : ℕ) → 33 ≤ digit_glyph false d
+glyph_high d = by_size (nat_lt d 10)
+  where
+    by_size : (b : Bool) → 33 ≤ (if b then 48 + d else 87 + d)
+    by_size true = omega arith
+    by_size false = omega arith
+
+glyphs_unspaced : (ds : List ℕ) → count_of space (map (digit_glyph false) ds) ≡ 0
+glyphs_unspaced [] = refl
+glyphs_unspaced (d ∷ ds) = other_byte (digit_glyph false d) (map (digit_glyph false) ds) (glyph_high d) ∙ glyphs_unspaced ds
+
+both_unspaced : (a b : List ℕ) → count_of space a ≡ 0 → count_of space b ≡ 0 → count_of space (a ++ b) ≡ 0
+both_unspaced a b x y = omega (arith, count-append space a b, x, y)
+
+last_unspaced : (k n : ℕ) → count_of space (last_digits 10 false k n) ≡ 0
+unfolding last_digits
+last_unspaced zero n = refl
+last_unspaced (suc k) n = both_unspaced (last_digits 10 false k (n / 10)) (digit_glyph false (n % 10) ∷ []) (last_unspaced k (n / 10)) (other_byte (digit_glyph false (n % 10)) [] (glyph_high (n % 10)))
+
+whole_unspaced : (n : ℕ) → count_of space (whole_digits 10 false n) ≡ 0
+unfolding whole_digits
+whole_unspaced n = by_zero (n == 0)
+  where
+    by_zero : (b : Bool) → count_of space (if b then 48 ∷ [] else map (digit_glyph false) (digits_of 10 n)) ≡ 0
+    by_zero true = refl
+    by_zero false = glyphs_unspaced (digits_of 10 n)
+
+fraction_unspaced : (k n : ℕ) → count_of space (fraction_part 10 false k n) ≡ 0
+unfolding fraction_part
+fraction_unspaced zero n = refl
+fraction_unspaced (suc k) n = other_byte 46 (last_digits 10 false (suc k) n) (omega arith) ∙ last_unspaced (suc k) n
+
+point_unspaced : (k n : ℕ) → count_of space (point_text 10 false k n) ≡ 0
+unfolding point_text
+point_unspaced k n = both_unspaced (whole_digits 10 false (n / 10 ^ k)) (fraction_part 10 false k n) (whole_unspaced (n / 10 ^ k)) (fraction_unspaced k n)
+
+sign_unspaced : (negative : Bool) → count_of space (sign_text negative) ≡ 0
+sign_unspaced true = refl
+sign_unspaced false = refl
+
+decimal_text_unspaced : (negative : Bool) (n k : ℕ) → count_of space (decimal_text negative n k) ≡ 0
+unfolding decimal_text
+decimal_text_unspaced negative n k = both_unspaced (sign_text negative) (point_text 10 false k n) (sign_unspaced negative) (point_unspaced k n)
+
+shortest_unspaced : (c : ℤ) (g : ℕ) (text : List ℕ) → IsShortestText c g text → count_of space text ≡ 0
+shortest_unspaced c g text is = ap (count_of space) is.text_is ∙ decimal_text_unspaced (is_negative c) is.number is.places
+
+digits_unspaced : (ds : List ℕ) → AllDigits 10 ds → count_of space ds ≡ 0
+digits_unspaced [] digits = refl
+digits_unspaced (c ∷ cs) digits =
+    let low = (digit_from_value c digits.0).0 in
+    other_byte c cs (omega (arith, low)) ∙ digits_unspaced cs digits.1
+
+decimal_unspaced : (n : ℕ) → n < 2 ^ 64 → count_of space (decimal n) ≡ 0
+decimal_unspaced n fits = digits_unspaced (decimal n) (decimal_is_IsNumeral n fits).0.1
+
+signed_unspaced : (z : ℤ) → IsWide z → count_of space (signed_decimal z) ≡ 0
+signed_unspaced (pos n) wide = decimal_unspaced n (omega (arith, ints, wide.high))
+signed_unspaced (negsuc n) wide = other_byte 45 (decimal (suc n)) (omega arith) ∙ decimal_unspaced (suc n) (omega (arith, ints, wide.low))
+
+radix_unspaced : (r : Radix) → count_of space (radix_text r) ≡ 0
+radix_unspaced Bin = refl
+radix_unspaced Oct = refl
+radix_unspaced Dec = refl
+radix_unspaced Hex = refl
+
+policy_unspaced : (p : Policy) → count_of space (policy_text p) ≡ 0
+policy_unspaced Checked = refl
+policy_unspaced Saturating = refl
+policy_unspaced Wrapping = refl
+
+mode_unspaced : (m : ReadMode) → count_of space (slash ∷ mode_text m) ≡ 0
+mode_unspaced NearestEven = refl
+mode_unspaced Floor = refl
+mode_unspaced Ceil = refl
+mode_unspaced TowardsZero = refl
+
+letter_high : (signed : Bool) → 33 ≤ sign_letter signed
+letter_high true = omega arith
+letter_high false = omega arith
+
+format_unspaced : (f : FormatParts) → IsFormat f.width f.frac → count_of space (format_text f) ≡ 0
+format_unspaced f is =
+    let most = width_most f.width is.is_width in
+    let within = is.within in
+    let fraction : count_of space (70 ∷ decimal f.frac) ≡ 0 = other_byte 70 (decimal f.frac) (omega arith) ∙ decimal_unspaced f.frac (omega arith) in
+    other_byte (sign_letter f.signed) (decimal (f.width - f.frac) ++ 70 ∷ decimal f.frac) (letter_high f.signed)
+    ∙ both_unspaced (decimal (f.width - f.frac)) (70 ∷ decimal f.frac) (decimal_unspaced (f.width - f.frac) (omega arith)) fraction
+
+-- ---- what the line asks for
+pub record AreFormats (s : Settings) : Type 0 where
+  pub source : IsFormat s.source.width s.source.frac
+  pub target : IsFormat s.target.width s.target.frac
+
+asks : (s : Settings) (numeral : List ℕ) → AreFormats s → length (asking_line s numeral) ≤ longest_line → Asks (asking_line s numeral) (task_of s.radix s.source s.target s.policy s.mode numeral)
+asks s numeral formats short = record {
+  short = short;
+  radix_word = radix_text s.radix;
+  source_word = format_text s.source;
+  target_word = format_text s.target;
+  policy_word = policy_text s.policy ++ slash ∷ mode_text s.mode;
+  words = record {
+    text = refl;
+    unspaced = (radix_unspaced s.radix, (format_unspaced s.source formats.source, (format_unspaced s.target formats.target,
+        (both_unspaced (policy_text s.policy) (slash ∷ mode_text s.mode) (policy_unspaced s.policy) (mode_unspaced s.mode), tt))));
+  };
+  radix = refl;
+  source = record { format = formats.source; text = refl };
+  target = record { format = formats.target; text = refl };
+  policy = inr refl;
+}
+
+-- ---- the replies
+pub respelled_range : (s : Settings) (numeral : List ℕ) (bits : ℤ) (o : Bool) → IsRespelled s.mode s.radix numeral s.policy s.source s.target bits o → IsInRange s.target.signed s.target.width bits
+respelled_range s numeral bits o is = image_within s.policy s.target.signed s.target.width is.reached.moved bits is.reached.target_image
+
+pub respelled_reply : (s : Settings) (numeral text : List ℕ) (bits : ℤ) (o : Bool) → AreFormats s → length (asking_line s numeral) ≤ longest_line → IsRespelled s.mode s.radix numeral s.policy s.source s.target bits o → IsShortestText bits s.target.frac text → IsWide bits
+    → IsReply s numeral (record { text = printed s.print s.target.width (respelled_answer text bits o).text text bits; fault = false })
+respelled_reply s numeral text bits o formats short is shortest wide = record {
+  answer = respelled_answer text bits o;
+  asked = inr (record {
+    task = task_of s.radix s.source s.target s.policy s.mode numeral;
+    asks = asks s numeral formats short;
+    answered = inr (record { bits = bits; overflowed = o; respelled = is; text = text; shortest = shortest; answer_is = refl });
+  });
+  written = inr (record {
+    clean = refl;
+    text = text;
+    bits = bits;
+    last = verdict o;
+    words = record { text = refl; unspaced = (shortest_unspaced bits s.target.frac text shortest, (signed_unspaced bits wide, tt)) };
+    wide = wide;
+    reply_is = refl;
+  });
+}
+
+pub refused_reply : (s : Settings) (numeral : List ℕ) (kind : ParseErrorKind) → AreFormats s → length (asking_line s numeral) ≤ longest_line → IsRefusal s.mode s.radix numeral s.policy s.source s.target kind → IsReply s numeral (fault_answer (message_of kind))
+refused_reply s numeral kind formats short is = record {
+  answer = fault_answer (message_of kind);
+  asked = inr (record {
+    task = task_of s.radix s.source s.target s.policy s.mode numeral;
+    asks = asks s numeral formats short;
+    answered = inl (record { kind = kind; refusal = is; answer_is = refl });
+  });
+  written = inl (record { faulty = refl; reply_is = refl });
+}

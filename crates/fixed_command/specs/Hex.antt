@@ -1,0 +1,12 @@
+-- The bits of a number in hexadecimal.
+use Rattle.std.specs.Prelude.{ℕ, suc, ◌-◌, ◌/◌, ◌^◌, ℤ, pos, negsuc, List, ◌++◌, false, codes}
+use Rattle.fixed_write.specs.Texts.{last_digits}
+
+-- the bits as an unsigned number of this width: two's complement
+abbrev pub word_of : ℕ → ℤ → ℕ
+word_of width (pos n) = n
+word_of width (negsuc n) = 2 ^ width - suc n
+
+-- `0x`, and a digit for every four bits of the width
+abbrev pub hex_text : ℕ → ℤ → List ℕ
+hex_text width bits = codes "0x" ++ last_digits 16 false (width / 4) (word_of width bits)

@@ -1,0 +1,2 @@
+-- What the laws of a rule need; no contract cites it.
+pub mod ReplyLemmas

@@ -1,0 +1,219 @@
+//! Numerals converted one a line: the words of a line are given once, and each line is a numeral.
+
+ghost use Rattle.std.specs.Prelude.{◌≡◌, ◌+◌, ◌*◌, ◌-◌, ◌≤◌, ◌<◌, ◌++◌, [], ◌∷◌, length};
+ghost use Rattle.fixed_bits.specs.Formats.{IsFormat};
+ghost use Rattle.fixed_bits.specs.Ranges.{IsInRange, IsWide};
+ghost use Rattle.line_engine.specs.Output.{AppendsAnswer};
+ghost use Rattle.fixed_command.specs.Convert.{IsLineReply, IsReply, asking_line, printed, without_return};
+ghost use Rattle.fixed_respell.specs.Answer.{respelled_answer, verdict};
+ghost use Rattle.fixed_respell.specs.Language.{fault_answer};
+ghost use Rattle.fixed_respell.specs.LineWords.{space};
+ghost use Rattle.fixed_respell.specs.Reached.{number_of};
+
+use crate::hex::push_hex;
+use crate::print::Print;
+use crate::words::{mode_name, policy_name, radix_name};
+use fixed_bits::{Format, Policy, ReadMode};
+use fixed_numeral::Radix;
+use fixed_respell::{Bits, LineFault, format_name, respell_mode};
+use fixed_steps::Steps;
+use fixed_write::push_integer;
+use line_engine::{LineRule, MAX_ANSWER, MAX_LINE, Output};
+use std::marker::Model;
+use std::sync::ledger::Ledger;
+use text_buffer::TextBuffer;
+
+/// How numerals are converted.
+#[derive(Clone, Copy, Debug, PartialEq, Eq)]
+pub struct Settings {
+    /// The radix of the numerals.
+    pub radix: Radix,
+    /// The format that a numeral is read into.
+    pub source: Format,
+    /// The format that the number is moved to.
+    pub target: Format,
+    /// What is done with a number that is out of range.
+    pub policy: Policy,
+    /// How a numeral is rounded.
+    pub mode: ReadMode,
+    /// What of an answer is written.
+    pub print: Print,
+}
+
+/// Appends `error: ` and the message of a fault.
+fn push_fault<const N: usize>(out: &mut TextBuffer<N>, message: &str)
+    requires short { length message.now ≤ 64 }
+    requires room { length out.old + 71 ≤ N }
+    ensures { out.new ≡ out.old ++ (fault_answer message.now).text }
+{
+    out.push_bytes(b"error: ");
+    out.push_bytes(message.as_bytes());
+}
+
+/// The number of some bits.
+fn number_of(bits: Bits) -> i128
+    ensures number { result ≡ number_of bits }
+    ensures wide { IsWide result }
+{
+    match bits {
+        Bits::Signed(number) => i128::from(number),
+        Bits::Unsigned(number) => i128::from(number),
+    }
+}
+
+/// Appends a space and the last word of an answer.
+fn push_verdict<const N: usize>(out: &mut TextBuffer<N>, overflowed: bool)
+    requires room { length out.old + 11 ≤ N }
+    ensures { out.new ≡ out.old ++ space ∷ verdict overflowed }
+{
+    if overflowed {
+        out.push_bytes(b" overflowed");
+    } else {
+        out.push_bytes(b" fits");
+    }
+}
+
+/// Appends an answer whole: a text, bits in decimal, and whether a number was out of its format.
+fn push_answer<const N: usize>(out: &mut TextBuffer<N>, text: &[u8], bits: i128, overflowed: bool)
+    requires short { length text.now ≤ 48 }
+    requires wide { IsWide bits }
+    requires room { length out.old + 81 ≤ N }
+    ensures appended { out.new ≡ out.old ++ (respelled_answer text.now bits overflowed).text }
+    ensures short { length out.new ≤ length out.old + 81 }
+{
+    out.push_bytes(text);
+    out.push(b' ');
+    push_integer(out, bits);
+    push_verdict(out, overflowed);
+}
+
+/// Appends the part of an answer that is asked for.
+fn push_part<const N: usize>(
+    out: &mut TextBuffer<N>,
+    settings: &Settings,
+    text: &[u8],
+    bits: i128,
+    overflowed: bool,
+)
+    requires short { length text.now ≤ 48 }
+    requires wide { IsWide bits }
+    requires range { IsInRange settings.now.target.signed settings.now.target.width bits }
+    requires room { length out.old + 81 ≤ N }
+    ensures appended { out.new ≡ out.old ++ printed settings.now.print settings.now.target.width (respelled_answer text.now bits overflowed).text text.now bits }
+    ensures short { length out.new ≤ length out.old + 81 }
+{
+    match settings.print {
+        Print::Text => out.push_bytes(text),
+        Print::Bits => push_integer(out, bits),
+        Print::Hex => push_hex(out, settings.target, bits),
+        Print::All => push_answer(out, text, bits, overflowed),
+    }
+}
+
+/// The rule that answers a line with the conversion of its numeral. A carriage return at the end of a line is no part of
+/// it. Contracts see it as its settings.
+#[derive(Drop)]
+pub struct ConvertRule {
+    settings: Settings,
+    // How many bytes the line that asks for a conversion has before the numeral.
+    head: usize,
+}
+
+impl Model for ConvertRule {
+    ghost use Rattle.std.specs.Prelude.{◌≡◌, ◌≤◌, [], length};
+    ghost use Rattle.fixed_bits.specs.Formats.{IsFormat};
+    ghost use Rattle.fixed_command.specs.Convert.{asking_line};
+    ghost use Rattle.fixed_command.specs.declared.convert.Settings.{Settings};
+
+    ghost Value = { Settings };
+
+    ghost view = { λ r. r.settings };
+
+    ghost invariant = { λ r. IsFormat r.settings.source.width r.settings.source.frac × IsFormat r.settings.target.width r.settings.target.frac
+        × (r.head ≡ length (asking_line r.settings [])) × (r.head ≤ 64) };
+}
+
+impl ConvertRule {
+    /// The rule of these settings.
+    pub fn new(settings: Settings) -> ConvertRule
+        ensures { result ≡ settings }
+    {
+        let source = format_name(settings.source);
+        let target = format_name(settings.target);
+        let policy = policy_name(settings.policy).len() + 1 + mode_name(settings.mode).len();
+        let formats = source.as_bytes().len() + 1 + target.as_bytes().len() + 1;
+        let head = radix_name(settings.radix).len() + 1 + formats + policy + 1;
+        ConvertRule { settings, head }
+    }
+
+    /// Appends the reply to a numeral, without a newline, and answers whether it is a fault.
+    pub fn push_reply<const N: usize, L: Ledger>(
+        &self,
+        numeral: &[u8],
+        out: &mut TextBuffer<N>,
+        steps: &mut Steps<L>,
+    ) -> bool
+        requires room { length out.old + MAX_ANSWER ≤ N }
+        ensures reply { AppendsAnswer (IsReply self.now) MAX_ANSWER numeral.now out.old out.new result }
+        ensures cost { steps.new ≤ steps.old + 8 * length numeral.now + 624 }
+    {
+        if numeral.len() > MAX_LINE - self.head {
+            push_fault(out, LineFault::LineTooLong.words());
+            return true;
+        }
+        let s = &self.settings;
+        match respell_mode(
+            numeral, s.radix, s.source, s.target, s.policy, s.mode, steps,
+        ) {
+            Ok(found) => {
+                let bits = number_of(found.bits);
+                push_part(out, s, found.text.as_bytes(), bits, found.overflowed);
+                false
+            }
+            Err(error) => {
+                push_fault(out, error.message());
+                true
+            }
+        }
+    }
+}
+
+/// A line without one carriage return at its end.
+fn without_return(line: &[u8]) -> &[u8]
+    ensures line { result.now ≡ without_return line.now }
+    ensures short { length result.now ≤ length line.now }
+{
+    match line {
+        [rest @ .., b'\r'] => rest,
+        _ => line,
+    }
+}
+
+impl<L: Ledger> LineRule<L> for ConvertRule {
+    ghost use Rattle.std.proofs.Common.{lit<};
+    ghost use Rattle.fixed_command.specs.Lemmas.ReplyLemmas.{line_reply_one, long_by_its_prefix};
+
+    const PER_BYTE: u64 = 8;
+
+    const EXTRA: u64 = 624;
+
+    const MAX_ANSWER: usize = MAX_ANSWER;
+
+    ghost PER_BYTE = { 8 };
+
+    ghost EXTRA = { 624 };
+
+    ghost MAX_ANSWER = { 192 };
+
+    ghost Answers = { λ rule. IsLineReply rule };
+
+    fn answer(&self, line: &[u8], out: &mut Output, steps: &mut Steps<L>) -> bool {
+        self.push_reply(without_return(line), out, steps)
+    }
+
+    ghost room_law = { lit< tt };
+
+    ghost one_law = { λ rule. line_reply_one rule };
+
+    ghost kept_law = { λ rule. long_by_its_prefix rule };
+}

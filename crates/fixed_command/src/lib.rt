@@ -1,0 +1,14 @@
+//! What the commands of `fixed` do, over any source and any sink.
+//!
+//! `convert` answers each line of an input, a numeral, with its conversion between two formats; `words` and `hex` write
+//! what its answers are made of.
+#![tactic(auto)]
+
+pub mod convert;
+pub mod hex;
+pub mod print;
+mod words;
+
+pub use convert::{ConvertRule, Settings};
+pub use hex::push_hex;
+pub use print::Print;
