@@ -140,8 +140,16 @@ asks s numeral formats short = record {
   policy_word = policy_text s.policy ++ slash ∷ mode_text s.mode;
   words = record {
     text = refl;
-    unspaced = (radix_unspaced s.radix, (format_unspaced s.source formats.source, (format_unspaced s.target formats.target,
-        (both_unspaced (policy_text s.policy) (slash ∷ mode_text s.mode) (policy_unspaced s.policy) (mode_unspaced s.mode), tt))));
+    unspaced = (
+      radix_unspaced s.radix,
+      (
+        format_unspaced s.source formats.source,
+        (
+          format_unspaced s.target formats.target,
+          (both_unspaced (policy_text s.policy) (slash ∷ mode_text s.mode) (policy_unspaced s.policy) (mode_unspaced s.mode), tt),
+        ),
+      ),
+    );
   };
   radix = refl;
   source = record { format = formats.source; text = refl };

@@ -1,3 +1,4 @@
 pub mod Convert
 pub mod Hex
 pub mod Lemmas
+pub mod Runs

@@ -7,8 +7,10 @@
 pub mod convert;
 pub mod hex;
 pub mod print;
+pub mod task;
 mod words;
 
 pub use convert::{ConvertRule, Settings};
 pub use hex::push_hex;
 pub use print::Print;
+pub use task::{Task, greater_end, run_convert, run_task};

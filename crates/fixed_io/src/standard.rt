@@ -9,6 +9,7 @@
 ghost use Rattle.std.specs.Prelude.{◌≡◌, ◌+◌, ◌-◌, ◌^◌, min, None};
 
 use line_engine::{Failed, Sink, Source};
+use memchr::memchr_iter;
 use std::io::{Read, Write};
 
 /// A source over a reader. It counts the reads that failed.
@@ -64,28 +65,40 @@ impl<R: Read> Source for StdSource<R> {
     }
 }
 
-/// A sink over a writer. It counts the writes that failed.
+/// A sink over a writer. It counts the writes that failed, and the newlines that the writer took.
 #[derive(Drop)]
 pub struct StdSink<W: Write> {
     writer: W,
     failures: u64,
+    lines: u64,
 }
 
 impl<W: Write> StdSink<W> {
-    /// A sink over this writer, with no failed write so far.
+    /// A sink over this writer, with no failed write and no newline so far.
     pub fn new(writer: W) -> Self
         ensures failures { result.failures ≡ 0 }
+        ensures lines { result.lines ≡ 0 }
         ensures writer { result.writer ≡ writer }
     {
         StdSink {
             writer,
             failures: 0,
+            lines: 0,
         }
+    }
+
+    /// How many newlines the writer took: the count of answered lines, where each answer is a line. It stays at the last
+    /// value of u64.
+    pub fn lines(&self) -> u64
+        ensures { result ≡ self.now.lines }
+    {
+        self.lines
     }
 }
 
 impl<W: Write> Sink for StdSink<W> {
-    ghost use Rattle.std.specs.Prelude.{◌<◌, IfOk, OnErr, length};
+    ghost use Rattle.std.specs.Prelude.{◌<◌, IfOk, MatchResult, OnErr, length, take};
+    ghost use Rattle.fixed_io.specs.Report.{newlines_of};
     ghost use Rattle.std.specs.Io.{WritesAtMost};
     ghost use Rattle.std.specs.Io.KnownBytes.{WriteAppends};
     ghost use Rattle.line_engine.specs.Failures.{FailsOnlyCounted};
@@ -95,16 +108,21 @@ impl<W: Write> Sink for StdSink<W> {
     ghost failures = { λ s. s.failures };
 
     /// Writes once. An `Err` of the writer raises the count of failures by one, and so does a write of no byte of a piece
-    /// that isn't empty.
+    /// that isn't empty. The newlines among the bytes that the writer took are counted.
     fn write(&mut self, piece: &[u8]) -> Result<usize, Failed>
         ensures bound { WritesAtMost result piece.now }
         ensures bytes { WriteAppends (W.contents self.old.writer) (W.contents self.new.writer) result piece.now }
         ensures progress { 0 < length piece.now → IfOk result (λ n. 0 < n) }
         ensures failures { FailsOnlyCounted self.old.failures self.new.failures result }
         ensures once { OnErr result (self.new.failures ≡ min (self.old.failures + 1) (2 ^ 64 - 1)) }
+        ensures lines { MatchResult result (λ n. self.new.lines ≡ min (self.old.lines + newlines_of (take n piece.now)) (2 ^ 64 - 1)) (λ e. self.new.lines ≡ self.old.lines) }
     {
         match self.writer.write(piece) {
-            Ok(count) if count > 0 || piece.is_empty() => Ok(count),
+            Ok(count) if count > 0 || piece.is_empty() => {
+                let lines = memchr_iter(b'\n', &piece[..count]).count();
+                self.lines = self.lines.saturating_add(lines as u64);
+                Ok(count)
+            }
             _ => {
                 self.failures = self.failures.saturating_add(1);
                 Err(Failed)

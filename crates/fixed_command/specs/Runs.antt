@@ -1,0 +1,78 @@
+-- What the run of a command leaves, seen from outside.
+use Rattle.std.specs.Prelude.{◌≡◌, ◌⊎◌, ◌≤◌, ◌<◌, ⊤, ℕ, List, Some, length, max}
+use Rattle.fixed_constants.specs.Answer as constants
+use Rattle.fixed_enclose.specs.Answer as enclose
+use Rattle.fixed_least.specs.Least as least
+use Rattle.fixed_respell.specs.Answer as respell
+use Rattle.line_engine.specs.AnswerText.{AnswerText}
+use Rattle.line_engine.specs.Asked.{AskedWithin}
+use Rattle.line_engine.specs.Failures.{HasFailed}
+use Rattle.line_engine.specs.Lines.{lines}
+use Rattle.line_engine.specs.Output.{AppendsPrefix, AreAnswers, written_of}
+use Rattle.line_engine.specs.Program.{Outside}
+use Rattle.line_engine.specs.Run.{HasFailures, HasRun, Spends, WritesOutput}
+use Rattle.line_engine.specs.WholeRun.{HasWholeRun, WritesAnswer}
+use Rattle.line_engine.specs.declared.status.Status.{Status}
+use Rattle.line_engine.specs.declared.status.Status.TheVariants.{NoMemory, TooLong, WriteFault}
+use Rattle.fixed_command.specs.Convert.{IsLineReply}
+use Rattle.fixed_command.specs.declared.task.Task.{Task}
+use Rattle.fixed_command.specs.declared.task.Task.TheVariants.{Constants, Convert, Enclose, Least, Lines}
+
+-- the greatest limit in bytes, and that of an input that is read whole
+abbrev pub max_limit : ℕ
+max_limit = 4294967296
+
+abbrev pub max_whole : ℕ
+max_whole = 1048576
+
+-- no read and no write failed
+abbrev pub Undisturbed : Outside → Outside → Type 0
+Undisturbed before after = (¬ HasFailed before.read_failures after.read_failures) × (¬ HasFailed before.write_failures after.write_failures)
+
+-- a run over lines, by this meaning of the answer to a line
+pub record HasLineRun (A : List ℕ → AnswerText → Type 0) (limit per_byte extra : ℕ) (before after : Outside) (status : Status) : Type 0 where
+  -- an input within the limit is answered whole, line for line in order, or there was no memory
+  pub output : (input : List ℕ) → before.left ≡ Some input → length input ≤ limit → Undisturbed before after → (status ≡ NoMemory) ⊎ WritesOutput A input before.written after.written status
+  -- and a longer one is reported
+  pub too_long : (input : List ℕ) → before.left ≡ Some input → limit < length input → Undisturbed before after → (status ≡ NoMemory) ⊎ (status ≡ TooLong)
+  -- what was taken and what was written, by status
+  pub run : HasRun A limit before.left after.left before.written after.written status
+  -- a prefix of the whole output, where a write failed
+  pub prefix_on_write_fault : status ≡ WriteFault → (input : List ℕ) (answers : List AnswerText) → before.left ≡ Some input → AreAnswers A (lines input) answers → AppendsPrefix before.written after.written (written_of answers)
+  -- how many steps a byte and a line cost at most
+  pub cost : Spends limit per_byte extra before.left after.left before.steps after.steps
+  -- what the source was asked for
+  pub asked : AskedWithin limit before.asked after.asked
+  -- which count of failures rose, by status
+  pub failures : HasFailures before.read_failures after.read_failures before.write_failures after.write_failures status
+
+-- a run over a whole input, by this meaning of its answer
+pub record IsWholeRun (A : List ℕ → AnswerText → Type 0) (limit : ℕ) (before after : Outside) (status : Status) : Type 0 where
+  -- the answer to an input within the limit is written, or there was no memory
+  pub output : (input : List ℕ) → before.left ≡ Some input → length input ≤ limit → Undisturbed before after → (status ≡ NoMemory) ⊎ WritesAnswer A input before.written after.written status
+  -- and a longer one is reported
+  pub too_long : (input : List ℕ) → before.left ≡ Some input → limit < length input → Undisturbed before after → (status ≡ NoMemory) ⊎ (status ≡ TooLong)
+  -- what was taken and what was written, by status
+  pub run : HasWholeRun A limit before.left after.left before.written after.written status
+  -- a prefix of the answer, where a write failed
+  pub prefix_on_write_fault : status ≡ WriteFault → (input : List ℕ) (answer : AnswerText) → before.left ≡ Some input → A input answer → AppendsPrefix before.written after.written answer.text
+  -- what the source was asked for
+  pub asked : AskedWithin limit before.asked after.asked
+  -- which count of failures rose, by status
+  pub failures : HasFailures before.read_failures after.read_failures before.write_failures after.write_failures status
+
+-- a task that can be run: its limit is from 1 to the greatest
+abbrev pub HasLimit : Task → Type 0
+HasLimit (Lines limit) = (1 ≤ limit) × (limit ≤ max_limit)
+HasLimit (Convert settings) = ⊤
+HasLimit Enclose = ⊤
+HasLimit (Least radix) = ⊤
+HasLimit Constants = ⊤
+
+-- what a task does to an input
+abbrev pub TaskRuns : Task → Outside → Outside → Status → Type 0
+TaskRuns (Lines limit) = HasLineRun respell.IsAnswer limit 8 624
+TaskRuns (Convert settings) = HasLineRun (IsLineReply settings) max_limit 8 624
+TaskRuns Enclose = HasLineRun enclose.IsAnswer max_limit 16 1248
+TaskRuns (Least radix) = IsWholeRun (least.IsWholeAnswer radix) max_whole
+TaskRuns Constants = IsWholeRun constants.IsWholeAnswer max_whole
