@@ -1,4 +1,5 @@
 pub mod Convert
 pub mod Hex
 pub mod Lemmas
+pub mod Limits
 pub mod Runs

@@ -1,5 +1,5 @@
 -- What the run of a command leaves, seen from outside.
-use Rattle.std.specs.Prelude.{◌≡◌, ◌⊎◌, ◌≤◌, ◌<◌, ⊤, ℕ, List, Some, length, max}
+use Rattle.std.specs.Prelude.{◌≡◌, ◌⊎◌, ◌≤◌, ◌<◌, ℕ, List, Some, length}
 use Rattle.fixed_constants.specs.Answer as constants
 use Rattle.fixed_enclose.specs.Answer as enclose
 use Rattle.fixed_least.specs.Least as least
@@ -15,15 +15,9 @@ use Rattle.line_engine.specs.WholeRun.{HasWholeRun, WritesAnswer}
 use Rattle.line_engine.specs.declared.status.Status.{Status}
 use Rattle.line_engine.specs.declared.status.Status.TheVariants.{NoMemory, TooLong, WriteFault}
 use Rattle.fixed_command.specs.Convert.{IsLineReply}
+use Rattle.fixed_command.specs.Limits.{max_limit, max_whole}
 use Rattle.fixed_command.specs.declared.task.Task.{Task}
 use Rattle.fixed_command.specs.declared.task.Task.TheVariants.{Constants, Convert, Enclose, Least, Lines}
-
--- the greatest limit in bytes, and that of an input that is read whole
-abbrev pub max_limit : ℕ
-max_limit = 4294967296
-
-abbrev pub max_whole : ℕ
-max_whole = 1048576
 
 -- no read and no write failed
 abbrev pub Undisturbed : Outside → Outside → Type 0
@@ -60,14 +54,6 @@ pub record IsWholeRun (A : List ℕ → AnswerText → Type 0) (limit : ℕ) (be
   pub asked : AskedWithin limit before.asked after.asked
   -- which count of failures rose, by status
   pub failures : HasFailures before.read_failures after.read_failures before.write_failures after.write_failures status
-
--- a task that can be run: its limit is from 1 to the greatest
-abbrev pub HasLimit : Task → Type 0
-HasLimit (Lines limit) = (1 ≤ limit) × (limit ≤ max_limit)
-HasLimit (Convert settings) = ⊤
-HasLimit Enclose = ⊤
-HasLimit (Least radix) = ⊤
-HasLimit Constants = ⊤
 
 -- what a task does to an input
 abbrev pub TaskRuns : Task → Outside → Outside → Status → Type 0

@@ -13,4 +13,4 @@ mod words;
 pub use convert::{ConvertRule, Settings};
 pub use hex::push_hex;
 pub use print::Print;
-pub use task::{Task, greater_end, run_convert, run_task};
+pub use task::{Limit, Task, greater_end, run_convert, run_task};

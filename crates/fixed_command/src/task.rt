@@ -1,10 +1,12 @@
 //! What a command does with an input, over any source and any sink.
 
-ghost use Rattle.std.specs.Prelude.{◌≡◌, ◌≤◌, ℕ, max};
+ghost use Rattle.std.specs.Prelude.{◌≡◌, ◌≤◌, MatchOption, max};
 ghost use Rattle.line_engine.specs.Program.{outside};
 ghost use Rattle.line_engine.specs.Status.{code_of};
 ghost use Rattle.fixed_command.specs.Convert.{IsLineReply};
-ghost use Rattle.fixed_command.specs.Runs.{HasLimit, HasLineRun, TaskRuns, max_limit};
+ghost use Rattle.fixed_command.specs.Limits.{max_limit, max_whole};
+ghost use Rattle.fixed_command.specs.Runs.{HasLineRun, IsWholeRun, TaskRuns};
+ghost use Rattle.line_engine.specs.WholeRun.{EndsBeforeWriting};
 
 use crate::ConvertRule;
 use fixed_constants::ConstantsRule;
@@ -13,15 +15,57 @@ use fixed_least::LeastRule;
 use fixed_numeral::Radix;
 use fixed_respell::RespellRule;
 use fixed_steps::Steps;
-use line_engine::{MAX_LIMIT, MAX_WHOLE, Sink, Source, Status, run_lines, run_whole};
+use line_engine::{
+    LineRule, MAX_LIMIT, MAX_WHOLE, Sink, Source, Status, WholeRule, run_lines, run_whole,
+};
 use std::alloc::Global;
+use std::marker::Model;
 use std::sync::ledger::Ledger;
+
+/// How many bytes an input has at most, from 1 to 4,294,967,296.
+#[derive(Drop)]
+pub struct Limit {
+    bytes: u64,
+}
+
+impl Model for Limit {
+    ghost use Rattle.std.specs.Prelude.{◌≤◌, ℕ};
+    ghost use Rattle.fixed_command.specs.Limits.{max_limit};
+
+    ghost Value = { ℕ };
+
+    ghost view = { λ l. l.bytes };
+
+    ghost invariant = { λ l. (1 ≤ l.bytes) × (l.bytes ≤ max_limit) };
+}
+
+impl Limit {
+    /// The limit of this many bytes. `None` where it is out of its range.
+    pub fn new(bytes: u64) -> Option<Limit>
+        ensures { MatchOption result (¬ ((1 ≤ bytes) × (bytes ≤ max_limit))) (λ l. l ≡ bytes) }
+    {
+        if bytes >= 1 && bytes <= MAX_LIMIT {
+            Some(Limit { bytes })
+        } else {
+            None
+        }
+    }
+
+    /// How many bytes.
+    pub fn bytes(&self) -> u64
+        ensures value { result ≡ self.now }
+        ensures some { 1 ≤ result }
+        ensures most { result ≤ max_limit }
+    {
+        self.bytes
+    }
+}
 
 /// What is done with an input.
 #[derive(Drop)]
 pub enum Task {
-    /// Each line is answered as one of `fixed_tool`. The limit is in bytes, from 1 to 4,294,967,296.
-    Lines { limit: u64 },
+    /// Each line is answered as one of `fixed_tool`, in an input within the limit.
+    Lines(Limit),
     /// Each line is a numeral that is converted.
     Convert(ConvertRule),
     /// Each line is answered with the enclosure of its numeral.
@@ -30,6 +74,39 @@ pub enum Task {
     Least(Radix),
     /// The input is a constants file; the answer is its canonical text.
     Constants,
+}
+
+/// Has each line of an input answered by a rule.
+fn run_rule<R: LineRule<L>, S: Source, K: Sink, L: Ledger>(
+    alloc: Global,
+    limit: u64,
+    rule: &R,
+    source: &mut S,
+    sink: &mut K,
+    steps: &mut Steps<L>,
+) -> Status
+    requires some { 1 ≤ limit }
+    requires most { limit ≤ max_limit }
+    ensures run { HasLineRun (R.Answers rule.now) limit R.PER_BYTE R.EXTRA (outside (S.left source.old) (S.asked source.old) (S.failures source.old) (K.written sink.old) (K.failures sink.old) steps.old)
+        (outside (S.left source.new) (S.asked source.new) (S.failures source.new) (K.written sink.new) (K.failures sink.new) steps.new) result }
+    ensures memory { result ≡ Status.NoMemory → (source.new ≡ source.old) × (sink.new ≡ sink.old) × (steps.new ≡ steps.old) }
+{
+    run_lines(alloc, limit, rule, source, sink, steps)
+}
+
+/// Has a whole input of at most 1,048,576 bytes answered by a rule.
+fn run_whole_rule<R: WholeRule<L>, S: Source, K: Sink, L: Ledger>(
+    alloc: Global,
+    rule: &R,
+    source: &mut S,
+    sink: &mut K,
+    steps: &mut Steps<L>,
+) -> Status
+    ensures run { IsWholeRun (R.Answers rule.now) max_whole (outside (S.left source.old) (S.asked source.old) (S.failures source.old) (K.written sink.old) (K.failures sink.old) steps.old)
+        (outside (S.left source.new) (S.asked source.new) (S.failures source.new) (K.written sink.new) (K.failures sink.new) steps.new) result }
+    ensures unwritten { EndsBeforeWriting result → sink.new ≡ sink.old }
+{
+    run_whole(alloc, MAX_WHOLE, rule, source, sink, steps)
 }
 
 /// Answers each line of an input of at most 4,294,967,296 bytes with the conversion of its numeral. It takes memory for one
@@ -45,7 +122,7 @@ pub fn run_convert<S: Source, K: Sink, L: Ledger>(
         (outside (S.left source.new) (S.asked source.new) (S.failures source.new) (K.written sink.new) (K.failures sink.new) steps.new) result }
     ensures memory { result ≡ Status.NoMemory → (source.new ≡ source.old) × (sink.new ≡ sink.old) × (steps.new ≡ steps.old) }
 {
-    run_lines(alloc, MAX_LIMIT, rule, source, sink, steps)
+    run_rule(alloc, MAX_LIMIT, rule, source, sink, steps)
 }
 
 /// Does a task with an input.
@@ -56,20 +133,19 @@ pub fn run_task<S: Source, K: Sink, L: Ledger>(
     sink: &mut K,
     steps: &mut Steps<L>,
 ) -> Status
-    requires { HasLimit task.now }
     ensures run { TaskRuns task.now (outside (S.left source.old) (S.asked source.old) (S.failures source.old) (K.written sink.old) (K.failures sink.old) steps.old)
         (outside (S.left source.new) (S.asked source.new) (S.failures source.new) (K.written sink.new) (K.failures sink.new) steps.new) result }
     ensures memory { result ≡ Status.NoMemory → sink.new ≡ sink.old }
 {
     match task {
-        Task::Lines { limit } => run_lines(alloc, *limit, &RespellRule, source, sink, steps),
+        Task::Lines(limit) => run_rule(alloc, limit.bytes(), &RespellRule, source, sink, steps),
         Task::Convert(rule) => run_convert(alloc, rule, source, sink, steps),
-        Task::Enclose => run_lines(alloc, MAX_LIMIT, &EncloseRule, source, sink, steps),
+        Task::Enclose => run_rule(alloc, MAX_LIMIT, &EncloseRule, source, sink, steps),
         Task::Least(radix) => {
             let rule = LeastRule { radix: *radix };
-            run_whole(alloc, MAX_WHOLE, &rule, source, sink, steps)
+            run_whole_rule(alloc, &rule, source, sink, steps)
         }
-        Task::Constants => run_whole(alloc, MAX_WHOLE, &ConstantsRule, source, sink, steps),
+        Task::Constants => run_whole_rule(alloc, &ConstantsRule, source, sink, steps),
     }
 }
 

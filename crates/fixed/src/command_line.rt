@@ -1,0 +1,164 @@
+//! The commands and their options, as help shows them.
+
+use clap::builder::ValueParser;
+use clap::{Arg, ArgAction, Command};
+use std::alloc::{AllocError, Global};
+
+/// The version: that of the Rust crate whose behaviour is ported.
+const VERSION: &str = "1.31.0";
+
+/// An option with one value out of a few.
+fn choice<'a>(
+    alloc: Global,
+    name: &'a str,
+    values: &'a [&'a str],
+    default: &'a str,
+    help: &'a str,
+) -> Arg<'a> {
+    Arg::new(alloc, name)
+        .long(name)
+        .action(ArgAction::Set)
+        .value_parser(values)
+        .default_value(default)
+        .help(help)
+}
+
+/// A word at its place.
+fn word<'a>(alloc: Global, name: &'a str, help: &'a str) -> Arg<'a> {
+    Arg::new(alloc, name)
+        .required(true)
+        .action(ArgAction::Set)
+        .help(help)
+}
+
+/// The words after the others.
+fn words<'a>(alloc: Global, name: &'a str, help: &'a str) -> Arg<'a> {
+    Arg::new(alloc, name)
+        .num_args(1..)
+        .action(ArgAction::Append)
+        .help(help)
+}
+
+/// The files of a command.
+fn files<'a>(alloc: Global) -> Arg<'a> {
+    words(alloc, "FILE", "Files; `-` or none is standard input")
+}
+
+/// A command with the options that say how a numeral is read.
+fn with_reading<'a>(alloc: Global, command: Command<'a>) -> Result<Command<'a>, AllocError> {
+    let radix = choice(
+        alloc,
+        "radix",
+        &["2", "8", "10", "16"],
+        "10",
+        "The radix of the numerals",
+    );
+    let policy = choice(
+        alloc,
+        "policy",
+        &["checked", "saturating", "wrapping"],
+        "checked",
+        "What is done out of range",
+    );
+    let mode = choice(
+        alloc,
+        "mode",
+        &["nearest", "floor", "ceil", "zero"],
+        "nearest",
+        "How a numeral is rounded",
+    );
+    command.arg(radix)?.arg(policy)?.arg(mode)
+}
+
+/// `fixed lines`.
+fn lines<'a>(alloc: Global) -> Result<Command<'a>, AllocError> {
+    let limit = Arg::new(alloc, "limit")
+        .long("limit")
+        .value_name("N")
+        .action(ArgAction::Set)
+        .value_parser(ValueParser::unsigned(1, 4_294_967_296))
+        .default_value("4294967296")
+        .help("The most bytes of an input");
+    Ok(
+        Command::new(alloc, "lines")
+            .about("Answer lines `RADIX SOURCE TARGET POLICY NUMERAL`")
+            .arg(limit)?
+            .arg(files(alloc))?
+            .after_help("Example: echo '10 I16F16 I8F8 checked 3.14159' | fixed lines"),
+    )
+}
+
+/// `fixed convert`.
+fn convert<'a>(alloc: Global) -> Result<Command<'a>, AllocError> {
+    let print = choice(
+        alloc,
+        "print",
+        &["text", "bits", "hex", "all"],
+        "text",
+        "What of an answer is written",
+    );
+    let command = Command::new(alloc, "convert")
+        .about("Convert numerals, one a line")
+        .override_usage("fixed convert [OPTIONS] SOURCE [TARGET] [FILE]...")
+        .arg(word(alloc, "SOURCE", "The format that a numeral is read into"))?
+        .arg(words(
+            alloc,
+            "TARGET",
+            "The format to move to, SOURCE if left out, and files",
+        ))?;
+    Ok(
+        with_reading(alloc, command)?.arg(print)?.after_help(
+            "Example: echo 3.14159 | fixed convert I16F16 I8F8 --print all",
+        ),
+    )
+}
+
+/// `fixed enclose`.
+fn enclose<'a>(alloc: Global) -> Result<Command<'a>, AllocError> {
+    Ok(
+        Command::new(alloc, "enclose")
+            .about("Answer lines `RADIX FORMAT NUMERAL` with the two nearest values")
+            .arg(files(alloc))?
+            .after_help("Example: echo '10 I4F4 3.14' | fixed enclose"),
+    )
+}
+
+/// `fixed least`.
+fn least<'a>(alloc: Global) -> Result<Command<'a>, AllocError> {
+    Ok(
+        Command::new(alloc, "least")
+            .about("Find the least format that holds each numeral of an input exactly")
+            .override_usage("fixed least [RADIX] [FILE]...")
+            .arg(words(alloc, "RADIX", "2, 8, 10 (if left out) or 16, and files"))?
+            .after_help("Example: printf '0.5\\n3\\n' | fixed least"),
+    )
+}
+
+/// `fixed constants`.
+fn constants<'a>(alloc: Global) -> Result<Command<'a>, AllocError> {
+    Ok(
+        Command::new(alloc, "constants")
+            .about("Write a file of named literals in its one canonical form")
+            .arg(files(alloc))?
+            .after_help("Example: echo 'A = 0b_111e-2 I4F4' | fixed constants"),
+    )
+}
+
+/// The command with all its commands.
+pub fn command<'a>(alloc: Global) -> Result<Command<'a>, AllocError> {
+    Ok(
+        Command::new(alloc, "fixed")
+            .version(VERSION)
+            .propagate_version(true)
+            .about("Read, print and convert binary fixed-point numbers")
+            .no_binary_name(true)
+            .subcommand_required(true)
+            .disable_help_subcommand(true)
+            .subcommand(convert(alloc)?)?
+            .subcommand(lines(alloc)?)?
+            .subcommand(enclose(alloc)?)?
+            .subcommand(least(alloc)?)?
+            .subcommand(constants(alloc)?)?
+            .after_help("Example: fixed convert U8F8 --print all <numerals.txt"),
+    )
+}

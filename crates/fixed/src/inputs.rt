@@ -1,0 +1,76 @@
+//! A task done with each input, one after another.
+
+use crate::messages::place_of;
+use fixed_command::{Task, greater_end, run_task};
+use fixed_io::{StdSink, StdSource, tell_end};
+use fixed_steps::Steps;
+use line_engine::Status;
+use std::fs::File;
+use std::io::{Read, Stdout};
+use std::sync::ledger::Ledger;
+
+/// Does a task with one input, and says on standard error why it did not end well.
+fn run_input<R: Read + Drop, L: Ledger>(
+    rt: &HostRuntime,
+    task: &Task,
+    file: Option<&str>,
+    reader: R,
+    sink: &mut StdSink<Stdout>,
+    steps: &mut Steps<L>,
+) -> Status {
+    let mut source = StdSource::new(reader);
+    let status = run_task(rt.alloc(), task, &mut source, sink, steps);
+    let place = place_of(file);
+    let mut errors = StdSink::new(rt.stderr());
+    tell_end(place.as_bytes(), status.code(), sink.lines(), &mut errors);
+    status
+}
+
+/// Does a task with a file, or with standard input where its name is `-`.
+fn run_file<L: Ledger>(
+    rt: &HostRuntime,
+    task: &Task,
+    file: &str,
+    sink: &mut StdSink<Stdout>,
+    steps: &mut Steps<L>,
+) -> Status {
+    if file == "-" {
+        return run_input(rt, task, None, rt.stdin(), sink, steps);
+    }
+    match File::open(rt, file) {
+        Ok(reader) => run_input(rt, task, Some(file), reader, sink, steps),
+        Err(error) => {
+            let answered = sink.lines();
+            let _ = eprintln!(rt; "fixed: {file}: {error}, lines answered: {answered}");
+            Status::ReadFault
+        }
+    }
+}
+
+/// Whether nothing more can be written after this end.
+fn is_last(status: Status) -> bool {
+    matches!(status, Status::WriteFault | Status::NoMemory)
+}
+
+/// Does a task with each file in order, each an input of its own, and with standard input where there are none. It ends
+/// with the greatest code, and at once where a write failed or memory is wanting.
+pub fn run_inputs<L: Ledger>(
+    rt: &HostRuntime,
+    task: &Task,
+    files: &[&str],
+    steps: &mut Steps<L>,
+) -> Status {
+    let mut sink = StdSink::new(rt.stdout());
+    if files.is_empty() {
+        return run_file(rt, task, "-", &mut sink, steps);
+    }
+    let mut end = Status::Done;
+    for file in files {
+        let status = run_file(rt, task, file, &mut sink, steps);
+        end = greater_end(end, status);
+        if is_last(status) {
+            return end;
+        }
+    }
+    end
+}
