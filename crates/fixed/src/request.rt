@@ -66,16 +66,13 @@ fn text_of<'a>(alloc: Global, error: &Error) -> Asked<Request<'a>> {
     }
 }
 
-/// The words of an argument, none where it is absent.
-fn words_of<'m, 'a>(matches: &'m ArgMatches<'a>, name: &str) -> &'m [&'a str] {
-    matches.get_strs(name).unwrap_or(&[])
-}
-
-/// These files.
-fn files_of<'a>(alloc: Global, words: &[&'a str]) -> Result<Vec<&'a str>, AllocError> {
+/// The files that the words of an argument name, none where it is absent.
+fn files_of<'a>(alloc: Global, words: Option<&[&'a str]>) -> Result<Vec<&'a str>, AllocError> {
     let mut files = Vec::new(alloc);
-    for word in words {
-        files.push(*word)?;
+    if let Some(words) = words {
+        for word in words {
+            files.push(*word)?;
+        }
     }
     Ok(files)
 }
@@ -139,7 +136,7 @@ fn print_of(matches: &ArgMatches<'_>) -> Print {
 
 /// What `fixed lines` asks for.
 fn lines<'a>(alloc: Global, matches: &ArgMatches<'a>) -> Asked<Request<'a>> {
-    let files = files_of(alloc, words_of(matches, "FILE"))?;
+    let files = files_of(alloc, matches.get_strs("FILE"))?;
     let limit = matches.get_one::<u64>("limit").unwrap_or(MAX_LIMIT);
     match Limit::new(limit) {
         Some(limit) => Ok(Request::Run(Task::Lines(limit), files)),
@@ -150,9 +147,12 @@ fn lines<'a>(alloc: Global, matches: &ArgMatches<'a>) -> Asked<Request<'a>> {
 /// What `fixed convert` asks for.
 fn convert<'a>(alloc: Global, matches: &ArgMatches<'a>) -> Asked<Request<'a>> {
     let source = format_of(alloc, matches.get_str("SOURCE").unwrap_or(""))?;
-    let (target, words) = match words_of(matches, "TARGET") {
-        [first, words @ ..] if is_like_format(first) => (format_of(alloc, first)?, words),
-        words => (source, words),
+    let words = matches.get_strs("TARGET");
+    let (target, files) = match words {
+        Some([first, files @ ..]) if is_like_format(first) => {
+            (format_of(alloc, first)?, files_of(alloc, Some(files))?)
+        }
+        _ => (source, files_of(alloc, words)?),
     };
     let settings = Settings {
         radix: radix_of(matches),
@@ -163,15 +163,16 @@ fn convert<'a>(alloc: Global, matches: &ArgMatches<'a>) -> Asked<Request<'a>> {
         print: print_of(matches),
     };
     let task = Task::Convert(ConvertRule::new(settings));
-    Ok(Request::Run(task, files_of(alloc, words)?))
+    Ok(Request::Run(task, files))
 }
 
 /// What `fixed least` asks for: a first word that names a radix is one. A file of such a name is written `./10`.
 fn least<'a>(alloc: Global, matches: &ArgMatches<'a>) -> Asked<Request<'a>> {
-    let words = words_of(matches, "RADIX");
-    if let [first, files @ ..] = words {
+    let words = matches.get_strs("RADIX");
+    if let Some([first, files @ ..]) = words {
         if let Some(radix) = radix_word(first.as_bytes()) {
-            return Ok(Request::Run(Task::Least(radix), files_of(alloc, files)?));
+            let files = files_of(alloc, Some(files))?;
+            return Ok(Request::Run(Task::Least(radix), files));
         }
     }
     Ok(Request::Run(Task::Least(Radix::Dec), files_of(alloc, words)?))
@@ -179,7 +180,7 @@ fn least<'a>(alloc: Global, matches: &ArgMatches<'a>) -> Asked<Request<'a>> {
 
 /// What a command without options asks for.
 fn plain<'a>(alloc: Global, task: Task, matches: &ArgMatches<'a>) -> Asked<Request<'a>> {
-    Ok(Request::Run(task, files_of(alloc, words_of(matches, "FILE"))?))
+    Ok(Request::Run(task, files_of(alloc, matches.get_strs("FILE"))?))
 }
 
 /// What the words of a command line, those after the program's name, ask for.
