@@ -26,6 +26,23 @@ USAGE = {
 }
 # For each program: words, input, status, output. An output of None is not looked at.
 RUNS = {
+    "fixed": (
+        (["convert", "I16F16"], b"3.14159\n-2.5\r\n", 0, b"3.14159\n-2.5\n"),
+        (["convert", "I4F4"], b"3.1875\n\r\n7", 1, b"3.2\nerror: string has no digits\n7\n"),
+        (["convert", "U8F0", "U16F0", "--policy", "wrapping", "--print", "all"], b"300\n", 0, b"44 44 overflowed\n"),
+        (["convert", "I16F16", "--print", "bits"], b"-4\n0.5\n", 0, b"-262144\n32768\n"),
+        (["convert", "I16F16", "--print", "hex"], b"-4\n0.5\n", 0, b"0xfffc0000\n0x00008000\n"),
+        (["convert", "U8F0", "--radix", "16", "--mode", "ceil", "--print", "hex"], b"f.1\n", 0, b"0x10\n"),
+        (["lines"], b"10 U8F0 U8F0 checked 7\n9 U8F0 U8F0 checked 1\n", 1, b"7 7 fits\nerror: bad radix\n"),
+        (["lines", "--limit", "5"], b"123456\n", 6, b""),
+        (["enclose"], b"10 I4F4 3.14\n", 0, b"3.1 50 3.2 51 wide\n"),
+        (["least"], b"0.5\n3\n", 0, b"least U7F1\nU8F0 line 1\n"),
+        (["least", "16"], b"ff\n", 0, b"least U8F0\n"),
+        (["constants"], b"A = 0b_111e-2 I4F4\n", 0, b"A = 0x1.c I4F4\n"),
+        (["columns"], b"0.5 U7F1\n-1 I8F0\n", 0, b" " * 22 + b"-1 I8F0\n" + b" " * 21 + b"0.5 U7F1\n"),
+        (["--version"], b"", 0, b"fixed 1.31.0\n"),
+        (["convert", "--help"], b"", 0, None),
+    ),
     "fixed_tool": (
         ([], b"10 I16F16 I16F16 checked 3.14159\n", 0, b"3.14159 205887 fits\n"),
         ([], b"", 0, b""),
@@ -72,6 +89,11 @@ RUNS = {
 }
 # Words that are no command, for each program.
 BAD_WORDS = {
+    "fixed": (
+        [], [b"converts"], [b"convert"], [b"convert", b"I9F0"], [b"convert", b"U8F0", b"U9F0"], [b"convert", b"U8F0", b"--radix", b"7"],
+        [b"convert", b"U8F0", b"--mode"], [b"convert", b"U8F0", b"--print", b"text", b"--print", b"bits"], [b"lines", b"--limit", b"0"],
+        [b"lines", b"--limits", b"5"], [b"enclose", b"--radix", b"2"],
+    ),
     "fixed_tool": ([b"limits"], [b"limit"], [b"limit", b"05"], [b"limit", b"0"], [b"self", b"0"], [b"self", b"1000001"], [b"limit", b"5", b""]),
     "enclose_tool": ([b"limit", b"5"],),
     "least_tool": ([b"9"], [b"010"], [b"10", b"10"]),
@@ -104,24 +126,35 @@ class Runs:
     def one(self, what, words, status, output, **how):
         """One run: what it shows, its words, the status and the output that it must have."""
         self.tried += 1
-        how = {"stdout": subprocess.PIPE, "stderr": subprocess.DEVNULL, "check": False, "timeout": 120} | how
+        how = {"stdout": subprocess.PIPE, "stderr": subprocess.PIPE, "check": False, "timeout": 120} | how
         ran = subprocess.run([self.path, *words], **how)
         if ran.returncode != status or (output is not None and ran.stdout != output):
             self.wrong += 1
             print(f"{self.name}, {what}: status {ran.returncode}, not {status}; {ran.stdout!r:.200}, not {output!r:.200}")
+        if not self.is_told(status, ran.stderr):
+            self.wrong += 1
+            print(f"{self.name}, {what}: status {status}, and on standard error {ran.stderr!r:.200}")
+
+    def is_told(self, status, told):
+        """Whether standard error has what it must: one line that begins with the program's name, or nothing."""
+        if status < (2 if self.name == "fixed" else 3):
+            return told == b""
+        return told.startswith(f"{self.name}: ".encode()) and told.count(b"\n") == 1 and told.endswith(b"\n")
 
     def all(self):
         clean = RUNS[self.name][0]
         for words, given, status, output in RUNS[self.name]:
             self.one(f"{words} {given[:40]!r}", words, status, output, input=given)
         for words in (*BAD_WORDS[self.name], NO_UTF8):
-            self.one(f"words {words}", words, 2, USAGE[self.name], input=b"")
+            self.one(f"words {words}", words, 2, USAGE.get(self.name, b""), input=b"")
         folder = os.open(TOP, os.O_RDONLY)
-        self.one("a folder as input", [], 3, b"", stdin=folder)
+        self.one("a folder as input", clean[0], 3, b"", stdin=folder)
         os.close(folder)
         with open("/dev/full", "wb") as full:
-            self.one("a full device", [], 4, None, input=clean[1], stdout=full)
-        self.one("no memory", [], 5, b"", input=clean[1], preexec_fn=within(600_000))
+            self.one("a full device", clean[0], 4, None, input=clean[1], stdout=full)
+        self.one("no memory", clean[0], 5, b"", input=clean[1], preexec_fn=within(600_000))
+        if self.name == "fixed":
+            self.files()
         if self.name in GROWING:
             self.without_memory(*GROWING[self.name])
 
@@ -164,6 +197,23 @@ class Runs:
         if shown is None or (shown.returncode, shown.stdout) != (0, wanted):
             self.wrong += 1
             print(f"{self.name}: a header of {len(NUMBERS)} numbers, {shown and shown.stdout!r}, not {wanted!r}")
+
+    def files(self):
+        """Inputs from files: several one after another, `-`, one that is missing, a folder, and the greatest status."""
+        with tempfile.TemporaryDirectory() as folder:
+            clean, faulty = f"{folder}/clean", f"{folder}/faulty"
+            for path, text in ((clean, b"1.5\n"), (faulty, b"x\n2")):
+                with open(path, "wb") as file:
+                    file.write(text)
+            convert = ["convert", "U8F8"]
+            fault = b"error: invalid digit found in string\n2\n"
+            self.one("two files", [*convert, clean, faulty], 1, b"1.5\n" + fault)
+            self.one("a file and standard input", [*convert, "U4F4", clean, "-"], 0, b"1.5\n7\n", input=b"7")
+            self.one("a missing file among others", [*convert, clean, f"{folder}/none", faulty], 3, b"1.5\n" + fault)
+            self.one("a folder among files", [*convert, folder, clean], 3, b"1.5\n")
+            self.one("a file past the limit", ["lines", "--limit", "3", clean, faulty], 6, b"error: missing field\n" * 2)
+            with open("/dev/full", "wb") as full:
+                self.one("a full device", [*convert, clean, faulty], 4, None, stdout=full)
 
 
 def within(most):

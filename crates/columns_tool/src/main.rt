@@ -4,11 +4,10 @@
 ghost use Rattle.std.specs.Prelude.{◌≡◌, ◌<◌};
 
 use fixed_columns::run_columns;
-use fixed_io::{program_args, run_streams};
+use fixed_io::run_process;
 use fixed_steps::Steps;
 use line_engine::{Program, Sink, Source, Status};
 use std::alloc::Global;
-use std::io::{Stdin, Stdout};
 use std::marker::Brand;
 use std::process::ExitCode;
 use std::sync::ledger::{Blank, Ledger};
@@ -42,23 +41,15 @@ impl<L: Ledger> Program<L> for ColumnsTool {
     ghost empty_law = { λ tool word empty. empty_argument word empty };
 }
 
-/// Runs the program by the arguments of the process, from standard input to standard output.
-fn run_process<L: Ledger>(rt: &HostRuntime, blank: Blank) -> u8
+/// Runs the program by the arguments and over the streams of its process.
+fn run_tool<L: Ledger>(rt: &HostRuntime, blank: Blank) -> u8
     requires name { blank.name ≡ L.name }
     requires parts { blank.parts ≡ L.parts }
     requires some { 0 < blank.parts }
 {
-    let args = program_args(rt);
-    run_streams::<ColumnsTool, Stdin, Stdout, L>(
-        &ColumnsTool,
-        rt.alloc(),
-        args,
-        rt.stdin(),
-        rt.stdout(),
-        blank,
-    )
+    run_process::<ColumnsTool, L>(rt, b"columns_tool", &ColumnsTool, blank)
 }
 
 fn main(rt: HostRuntime) -> ExitCode {
-    ExitCode::from(run_process::<Brand>(&rt, Blank::new(1)))
+    ExitCode::from(run_tool::<Brand>(&rt, Blank::new(1)))
 }

@@ -2,6 +2,7 @@
 
 use clap::builder::ValueParser;
 use clap::{Arg, ArgAction, Command};
+use line_engine::MAX_LIMIT;
 use std::alloc::{AllocError, Global};
 
 /// The version: that of the Rust crate whose behaviour is ported.
@@ -144,6 +145,57 @@ fn constants<'a>(alloc: Global) -> Result<Command<'a>, AllocError> {
     )
 }
 
+/// `fixed columns`.
+fn columns<'a>(alloc: Global) -> Result<Command<'a>, AllocError> {
+    Ok(
+        Command::new(alloc, "columns")
+            .about("Sort lines `NUMERAL FORMAT` by value, in one aligned column")
+            .arg(limit(alloc, "1048576"))?
+            .arg(files(alloc))?
+            .after_help("Example: printf '0.5 U7F1\\n-1 I8F0\\n' | fixed columns"),
+    )
+}
+
+/// `fixed show`.
+fn show<'a>(alloc: Global) -> Result<Command<'a>, AllocError> {
+    let numerals = words(
+        alloc,
+        "NUMERAL",
+        "The numerals; after `--` one may begin with -",
+    )
+    .required(true)
+    .allow_negative_numbers(true);
+    let command = Command::new(alloc, "show")
+        .about("Show all there is to know of a number in a format")
+        .arg(word(alloc, "FORMAT", "The format"))?
+        .arg(numerals)?;
+    Ok(with_reading(alloc, command)?.after_help("Example: fixed show I16F16 3.14159"))
+}
+
+/// `fixed bits`.
+fn bits<'a>(alloc: Global) -> Result<Command<'a>, AllocError> {
+    let values = words(alloc, "WORD", "Decimal, or after 0x, 0o or 0b")
+        .required(true)
+        .allow_negative_numbers(true);
+    Ok(
+        Command::new(alloc, "bits")
+            .about("Show what number the word of a register is")
+            .arg(word(alloc, "FORMAT", "The format"))?
+            .arg(values)?
+            .after_help("Example: fixed bits I16F16 0xfffc0000"),
+    )
+}
+
+/// `fixed format`.
+fn formats<'a>(alloc: Global) -> Result<Command<'a>, AllocError> {
+    Ok(
+        Command::new(alloc, "format")
+            .about("Show the range, the ulp and the digits of a format")
+            .arg(words(alloc, "FORMAT", "The formats").required(true))?
+            .after_help("Example: fixed format I16F16 U0F8"),
+    )
+}
+
 /// The command with all its commands.
 pub fn command<'a>(alloc: Global) -> Result<Command<'a>, AllocError> {
     Ok(
@@ -155,10 +207,14 @@ pub fn command<'a>(alloc: Global) -> Result<Command<'a>, AllocError> {
             .subcommand_required(true)
             .disable_help_subcommand(true)
             .subcommand(convert(alloc)?)?
+            .subcommand(show(alloc)?)?
+            .subcommand(bits(alloc)?)?
+            .subcommand(formats(alloc)?)?
             .subcommand(lines(alloc)?)?
             .subcommand(enclose(alloc)?)?
             .subcommand(least(alloc)?)?
             .subcommand(constants(alloc)?)?
+            .subcommand(columns(alloc)?)?
             .after_help("Example: fixed convert U8F8 --print all <numerals.txt"),
     )
 }

@@ -1,7 +1,7 @@
-//! A task done with each input, one after another.
+//! A task done with each input, one after another, and a question asked of each word.
 
 use crate::messages::place_of;
-use fixed_command::{Task, greater_end, run_task};
+use fixed_command::{Question, Task, greater_end, run_blocks, run_task};
 use fixed_io::{StdSink, StdSource, tell_end};
 use fixed_steps::Steps;
 use line_engine::Status;
@@ -73,4 +73,18 @@ pub fn run_inputs<L: Ledger>(
         }
     }
     end
+}
+
+/// Asks a question of each word.
+pub fn run_question<L: Ledger>(
+    rt: &HostRuntime,
+    question: &Question,
+    words: &[&str],
+    steps: &mut Steps<L>,
+) -> Status {
+    let mut sink = StdSink::new(rt.stdout());
+    let status = run_blocks(question, words, &mut sink, steps);
+    let mut errors = StdSink::new(rt.stderr());
+    tell_end(b"fixed", status.code(), sink.lines(), &mut errors);
+    status
 }

@@ -4,10 +4,9 @@ use crate::command_line::command;
 use clap::error::ErrorKind;
 use clap::{ArgMatches, Error};
 use fixed_bits::{Format, Policy, ReadMode};
-use fixed_command::{ConvertRule, Limit, Print, Settings, Task};
+use fixed_command::{ConvertRule, Limit, Print, Question, Settings, Task};
 use fixed_numeral::Radix;
 use fixed_respell::{format_word, radix_word};
-use line_engine::MAX_LIMIT;
 use std::alloc::{AllocError, Global};
 
 /// What a command line asks for.
@@ -17,6 +16,8 @@ pub enum Request<'a> {
     Text(String),
     /// A task, done with each of these files; with standard input where there are none.
     Run(Task, Vec<&'a str>),
+    /// A question, asked of each of these words.
+    Ask(Question, Vec<&'a str>),
 }
 
 /// Why a command line gives no request.
@@ -66,15 +67,15 @@ fn text_of<'a>(alloc: Global, error: &Error) -> Asked<Request<'a>> {
     }
 }
 
-/// The files that the words of an argument name, none where it is absent.
-fn files_of<'a>(alloc: Global, words: Option<&[&'a str]>) -> Result<Vec<&'a str>, AllocError> {
-    let mut files = Vec::new(alloc);
+/// The words of an argument, none where it is absent.
+fn words_of<'a>(alloc: Global, words: Option<&[&'a str]>) -> Result<Vec<&'a str>, AllocError> {
+    let mut all = Vec::new(alloc);
     if let Some(words) = words {
         for word in words {
-            files.push(*word)?;
+            all.push(*word)?;
         }
     }
-    Ok(files)
+    Ok(all)
 }
 
 /// The format of a word.
@@ -134,12 +135,11 @@ fn print_of(matches: &ArgMatches<'_>) -> Print {
     }
 }
 
-/// What `fixed lines` asks for.
-fn lines<'a>(alloc: Global, matches: &ArgMatches<'a>) -> Asked<Request<'a>> {
-    let files = files_of(alloc, matches.get_strs("FILE"))?;
-    let limit = matches.get_one::<u64>("limit").unwrap_or(MAX_LIMIT);
+/// The limit that the option names.
+fn limit_of(alloc: Global, matches: &ArgMatches<'_>) -> Asked<Limit> {
+    let limit = matches.get_one::<u64>("limit").unwrap_or(0);
     match Limit::new(limit) {
-        Some(limit) => Ok(Request::Run(Task::Lines(limit), files)),
+        Some(limit) => Ok(limit),
         None => Err(Refusal::Words(format!(in alloc; "{limit} is no limit")?)),
     }
 }
@@ -150,9 +150,9 @@ fn convert<'a>(alloc: Global, matches: &ArgMatches<'a>) -> Asked<Request<'a>> {
     let words = matches.get_strs("TARGET");
     let (target, files) = match words {
         Some([first, files @ ..]) if is_like_format(first) => {
-            (format_of(alloc, first)?, files_of(alloc, Some(files))?)
+            (format_of(alloc, first)?, words_of(alloc, Some(files))?)
         }
-        _ => (source, files_of(alloc, words)?),
+        _ => (source, words_of(alloc, words)?),
     };
     let settings = Settings {
         radix: radix_of(matches),
@@ -171,16 +171,42 @@ fn least<'a>(alloc: Global, matches: &ArgMatches<'a>) -> Asked<Request<'a>> {
     let words = matches.get_strs("RADIX");
     if let Some([first, files @ ..]) = words {
         if let Some(radix) = radix_word(first.as_bytes()) {
-            let files = files_of(alloc, Some(files))?;
+            let files = words_of(alloc, Some(files))?;
             return Ok(Request::Run(Task::Least(radix), files));
         }
     }
-    Ok(Request::Run(Task::Least(Radix::Dec), files_of(alloc, words)?))
+    Ok(Request::Run(Task::Least(Radix::Dec), words_of(alloc, words)?))
 }
 
-/// What a command without options asks for.
+/// What a command whose other words are files asks for.
 fn plain<'a>(alloc: Global, task: Task, matches: &ArgMatches<'a>) -> Asked<Request<'a>> {
-    Ok(Request::Run(task, files_of(alloc, matches.get_strs("FILE"))?))
+    Ok(Request::Run(task, words_of(alloc, matches.get_strs("FILE"))?))
+}
+
+/// What `fixed show` asks for.
+fn show<'a>(alloc: Global, matches: &ArgMatches<'a>) -> Asked<Request<'a>> {
+    let question = Question::Show {
+        radix: radix_of(matches),
+        format: format_of(alloc, matches.get_str("FORMAT").unwrap_or(""))?,
+        policy: policy_of(matches),
+        mode: mode_of(matches),
+    };
+    Ok(Request::Ask(question, words_of(alloc, matches.get_strs("NUMERAL"))?))
+}
+
+/// What `fixed bits` asks for.
+fn bits<'a>(alloc: Global, matches: &ArgMatches<'a>) -> Asked<Request<'a>> {
+    let question = Question::Bits(format_of(alloc, matches.get_str("FORMAT").unwrap_or(""))?);
+    Ok(Request::Ask(question, words_of(alloc, matches.get_strs("WORD"))?))
+}
+
+/// What `fixed format` asks for.
+fn formats<'a>(alloc: Global, matches: &ArgMatches<'a>) -> Asked<Request<'a>> {
+    let words = words_of(alloc, matches.get_strs("FORMAT"))?;
+    for word in &words {
+        format_of(alloc, word)?;
+    }
+    Ok(Request::Ask(Question::Format, words))
 }
 
 /// What the words of a command line, those after the program's name, ask for.
@@ -190,11 +216,15 @@ pub fn read_request<'a>(alloc: Global, words: &'a [String]) -> Asked<Request<'a>
         Err(error) => return text_of(alloc, &error),
     };
     match matches.subcommand() {
-        Some(("lines", found)) => lines(alloc, found),
+        Some(("lines", found)) => plain(alloc, Task::Lines(limit_of(alloc, found)?), found),
         Some(("convert", found)) => convert(alloc, found),
         Some(("enclose", found)) => plain(alloc, Task::Enclose, found),
         Some(("least", found)) => least(alloc, found),
         Some(("constants", found)) => plain(alloc, Task::Constants, found),
+        Some(("show", found)) => show(alloc, found),
+        Some(("bits", found)) => bits(alloc, found),
+        Some(("format", found)) => formats(alloc, found),
+        Some(("columns", found)) => plain(alloc, Task::Columns(limit_of(alloc, found)?), found),
         _ => Err(Refusal::Words(String::from_str(alloc, "no command")?)),
     }
 }

@@ -1,3 +1,4 @@
+pub mod Blocks
 pub mod Convert
 pub mod Hex
 pub mod Lemmas

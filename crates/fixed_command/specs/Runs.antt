@@ -1,5 +1,6 @@
 -- What the run of a command leaves, seen from outside.
 use Rattle.std.specs.Prelude.{◌≡◌, ◌⊎◌, ◌≤◌, ◌<◌, ℕ, List, Some, length}
+use Rattle.fixed_columns.specs.Answer as columns
 use Rattle.fixed_constants.specs.Answer as constants
 use Rattle.fixed_enclose.specs.Answer as enclose
 use Rattle.fixed_least.specs.Least as least
@@ -17,7 +18,7 @@ use Rattle.line_engine.specs.declared.status.Status.TheVariants.{NoMemory, TooLo
 use Rattle.fixed_command.specs.Convert.{IsLineReply}
 use Rattle.fixed_command.specs.Limits.{max_limit, max_whole}
 use Rattle.fixed_command.specs.declared.task.Task.{Task}
-use Rattle.fixed_command.specs.declared.task.Task.TheVariants.{Constants, Convert, Enclose, Least, Lines}
+use Rattle.fixed_command.specs.declared.task.Task.TheVariants.{Columns, Constants, Convert, Enclose, Least, Lines}
 
 -- no read and no write failed
 abbrev pub Undisturbed : Outside → Outside → Type 0
@@ -62,3 +63,4 @@ TaskRuns (Convert settings) = HasLineRun (IsLineReply settings) max_limit 8 624
 TaskRuns Enclose = HasLineRun enclose.IsAnswer max_limit 16 1248
 TaskRuns (Least radix) = IsWholeRun (least.IsWholeAnswer radix) max_whole
 TaskRuns Constants = IsWholeRun constants.IsWholeAnswer max_whole
+TaskRuns (Columns limit) = IsWholeRun columns.IsWholeAnswer limit

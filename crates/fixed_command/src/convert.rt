@@ -1,13 +1,11 @@
 //! Numerals converted one a line: the words of a line are given once, and each line is a numeral.
 
-ghost use Rattle.std.specs.Prelude.{◌≡◌, ◌+◌, ◌*◌, ◌-◌, ◌≤◌, ◌<◌, ◌++◌, [], ◌∷◌, length};
+ghost use Rattle.std.specs.Prelude.{◌≡◌, ◌+◌, ◌*◌, ◌-◌, ◌≤◌, ◌<◌, ◌++◌, [], length};
 ghost use Rattle.fixed_bits.specs.Formats.{IsFormat};
 ghost use Rattle.fixed_bits.specs.Ranges.{IsInRange, IsWide};
 ghost use Rattle.line_engine.specs.Output.{AppendsAnswer};
 ghost use Rattle.fixed_command.specs.Convert.{IsLineReply, IsReply, asking_line, printed, without_return};
-ghost use Rattle.fixed_respell.specs.Answer.{respelled_answer, verdict};
-ghost use Rattle.fixed_respell.specs.Language.{fault_answer};
-ghost use Rattle.fixed_respell.specs.LineWords.{space};
+ghost use Rattle.fixed_respell.specs.Answer.{respelled_answer};
 ghost use Rattle.fixed_respell.specs.Reached.{number_of};
 
 use crate::hex::push_hex;
@@ -15,7 +13,7 @@ use crate::print::Print;
 use crate::words::{mode_name, policy_name, radix_name};
 use fixed_bits::{Format, Policy, ReadMode};
 use fixed_numeral::Radix;
-use fixed_respell::{Bits, LineFault, format_name, respell_mode};
+use fixed_respell::{Bits, LineFault, format_name, push_fault, push_verdict, respell_mode};
 use fixed_steps::Steps;
 use fixed_write::push_integer;
 use line_engine::{LineRule, MAX_ANSWER, MAX_LINE, Output};
@@ -40,16 +38,6 @@ pub struct Settings {
     pub print: Print,
 }
 
-/// Appends `error: ` and the message of a fault.
-fn push_fault<const N: usize>(out: &mut TextBuffer<N>, message: &str)
-    requires short { length message.now ≤ 64 }
-    requires room { length out.old + 71 ≤ N }
-    ensures { out.new ≡ out.old ++ (fault_answer message.now).text }
-{
-    out.push_bytes(b"error: ");
-    out.push_bytes(message.as_bytes());
-}
-
 /// The number of some bits.
 fn number_of(bits: Bits) -> i128
     ensures number { result ≡ number_of bits }
@@ -58,18 +46,6 @@ fn number_of(bits: Bits) -> i128
     match bits {
         Bits::Signed(number) => i128::from(number),
         Bits::Unsigned(number) => i128::from(number),
-    }
-}
-
-/// Appends a space and the last word of an answer.
-fn push_verdict<const N: usize>(out: &mut TextBuffer<N>, overflowed: bool)
-    requires room { length out.old + 11 ≤ N }
-    ensures { out.new ≡ out.old ++ space ∷ verdict overflowed }
-{
-    if overflowed {
-        out.push_bytes(b" overflowed");
-    } else {
-        out.push_bytes(b" fits");
     }
 }
 

@@ -4,12 +4,14 @@
 //! what its answers are made of.
 #![tactic(auto)]
 
+pub mod blocks;
 pub mod convert;
 pub mod hex;
 pub mod print;
 pub mod task;
 mod words;
 
+pub use blocks::{Question, run_blocks};
 pub use convert::{ConvertRule, Settings};
 pub use hex::push_hex;
 pub use print::Print;

@@ -4,11 +4,12 @@ ghost use Rattle.std.specs.Prelude.{◌≡◌, ◌≤◌, MatchOption, max};
 ghost use Rattle.line_engine.specs.Program.{outside};
 ghost use Rattle.line_engine.specs.Status.{code_of};
 ghost use Rattle.fixed_command.specs.Convert.{IsLineReply};
-ghost use Rattle.fixed_command.specs.Limits.{max_limit, max_whole};
+ghost use Rattle.fixed_command.specs.Limits.{max_limit};
 ghost use Rattle.fixed_command.specs.Runs.{HasLineRun, IsWholeRun, TaskRuns};
 ghost use Rattle.line_engine.specs.WholeRun.{EndsBeforeWriting};
 
 use crate::ConvertRule;
+use fixed_columns::ColumnsRule;
 use fixed_constants::ConstantsRule;
 use fixed_enclose::EncloseRule;
 use fixed_least::LeastRule;
@@ -74,6 +75,8 @@ pub enum Task {
     Least(Radix),
     /// The input is a constants file; the answer is its canonical text.
     Constants,
+    /// The lines are cells, in an input within the limit; the answer is the column of them in order.
+    Columns(Limit),
 }
 
 /// Has each line of an input answered by a rule.
@@ -94,19 +97,21 @@ fn run_rule<R: LineRule<L>, S: Source, K: Sink, L: Ledger>(
     run_lines(alloc, limit, rule, source, sink, steps)
 }
 
-/// Has a whole input of at most 1,048,576 bytes answered by a rule.
+/// Has a whole input answered by a rule.
 fn run_whole_rule<R: WholeRule<L>, S: Source, K: Sink, L: Ledger>(
     alloc: Global,
+    limit: u64,
     rule: &R,
     source: &mut S,
     sink: &mut K,
     steps: &mut Steps<L>,
 ) -> Status
-    ensures run { IsWholeRun (R.Answers rule.now) max_whole (outside (S.left source.old) (S.asked source.old) (S.failures source.old) (K.written sink.old) (K.failures sink.old) steps.old)
+    requires { limit ≤ max_limit }
+    ensures run { IsWholeRun (R.Answers rule.now) limit (outside (S.left source.old) (S.asked source.old) (S.failures source.old) (K.written sink.old) (K.failures sink.old) steps.old)
         (outside (S.left source.new) (S.asked source.new) (S.failures source.new) (K.written sink.new) (K.failures sink.new) steps.new) result }
     ensures unwritten { EndsBeforeWriting result → sink.new ≡ sink.old }
 {
-    run_whole(alloc, MAX_WHOLE, rule, source, sink, steps)
+    run_whole(alloc, limit, rule, source, sink, steps)
 }
 
 /// Answers each line of an input of at most 4,294,967,296 bytes with the conversion of its numeral. It takes memory for one
@@ -143,9 +148,12 @@ pub fn run_task<S: Source, K: Sink, L: Ledger>(
         Task::Enclose => run_rule(alloc, MAX_LIMIT, &EncloseRule, source, sink, steps),
         Task::Least(radix) => {
             let rule = LeastRule { radix: *radix };
-            run_whole_rule(alloc, &rule, source, sink, steps)
+            run_whole_rule(alloc, MAX_WHOLE, &rule, source, sink, steps)
         }
-        Task::Constants => run_whole_rule(alloc, &ConstantsRule, source, sink, steps),
+        Task::Constants => { run_whole_rule(alloc, MAX_WHOLE, &ConstantsRule, source, sink, steps) }
+        Task::Columns(limit) => {
+            run_whole_rule(alloc, limit.bytes(), &ColumnsRule, source, sink, steps)
+        }
     }
 }
 

@@ -1,4 +1,4 @@
 use Rattle.columns_tool.proofs.main.Given as goal
 
-abbrev pub ghosts-run_process : goal.ghosts-run_process
-ghosts-run_process a = record { name = a.blank.name; parts = a.blank.parts }
+abbrev pub ghosts-run_tool : goal.ghosts-run_tool
+ghosts-run_tool a = record { name = a.blank.name; parts = a.blank.parts }

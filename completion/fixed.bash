@@ -1,0 +1,26 @@
+# bash completion for fixed
+_fixed() {
+  local word=$2 previous=$3 command=${COMP_WORDS[1]}
+  local commands='convert lines enclose least constants columns' words=''
+  if [ "$COMP_CWORD" -eq 1 ]; then
+    mapfile -t COMPREPLY < <(compgen -W "$commands --help --version" -- "$word")
+    return
+  fi
+  case $previous in
+    --radix) words='2 8 10 16' ;;
+    --policy) words='checked saturating wrapping' ;;
+    --mode) words='nearest floor ceil zero' ;;
+    --print) words='text bits hex all' ;;
+    --limit) return ;;
+    *)
+      case $command:$word in
+        convert:-*) words='--radix --policy --mode --print --help --version' ;;
+        lines:-* | columns:-*) words='--limit --help --version' ;;
+        *:-*) words='--help --version' ;;
+        *) mapfile -t COMPREPLY < <(compgen -f -- "$word"); return ;;
+      esac
+      ;;
+  esac
+  mapfile -t COMPREPLY < <(compgen -W "$words" -- "$word")
+}
+complete -o filenames -F _fixed fixed

@@ -1,0 +1,131 @@
+//! Questions about words, each answered with a block of lines.
+
+ghost use Rattle.std.specs.Prelude.{◌≡◌, ◌≤◌, ◌+◌, ◌||◌, List, ℕ, length, map, IfOk, OnErr};
+ghost use Rattle.std.specs.Io.KnownBytes.{Appends};
+ghost use Rattle.fixed_command.specs.Blocks.{BlocksRun, IsBlock, IsFormatAnswer};
+ghost use Rattle.fixed_show.specs.Blocks as show_blocks;
+ghost use Rattle.line_engine.specs.AnswerText.{AnswerText};
+ghost use Rattle.line_engine.specs.Failures.{FailsOnlyCounted};
+ghost use Rattle.line_engine.specs.Output.{AppendsPrefix};
+
+use fixed_bits::{Policy, ReadMode};
+use fixed_numeral::Radix;
+use fixed_respell::format_word;
+use fixed_show::{MAX_BLOCK, bits_block, format_block, show_block};
+use fixed_steps::Steps;
+use line_engine::{Failed, Sink, Status, write_whole};
+use std::sync::ledger::Ledger;
+use text_buffer::TextBuffer;
+
+/// What is asked of a word.
+#[derive(Clone, Copy, Debug, PartialEq, Eq)]
+pub enum Question {
+    /// All there is to know of a numeral in a format.
+    Show {
+        /// The radix of the numeral.
+        radix: Radix,
+        /// The format that it is read into.
+        format: fixed_bits::Format,
+        /// What is done with a number that is out of range.
+        policy: Policy,
+        /// How it is rounded.
+        mode: ReadMode,
+    },
+    /// What number a word of a register is in a format.
+    Bits(fixed_bits::Format),
+    /// What the format that the word names can hold.
+    Format,
+}
+
+/// Appends the block of the format that a word names, or a fault where it names none, and answers whether it did so.
+fn push_format<const N: usize, L: Ledger>(
+    word: &[u8],
+    out: &mut TextBuffer<N>,
+    steps: &mut Steps<L>,
+) -> bool
+    requires { length out.old + MAX_BLOCK ≤ N }
+    ensures { show_blocks.Appends (λ text. IsFormatAnswer word.now (record { text = text; fault = result })) MAX_BLOCK out.old out.new }
+{
+    match format_word(word) {
+        Some(format) => {
+            format_block(format, out, steps);
+            false
+        }
+        None => {
+            out.push_bytes(b"error: bad format\n");
+            true
+        }
+    }
+}
+
+/// Appends the block that answers a question about a word, and answers whether it reports a fault.
+fn push_block<const N: usize, L: Ledger>(
+    question: &Question,
+    word: &[u8],
+    out: &mut TextBuffer<N>,
+    steps: &mut Steps<L>,
+) -> bool
+    requires { length out.old + MAX_BLOCK ≤ N }
+    ensures { show_blocks.Appends (λ text. IsBlock question.now word.now (record { text = text; fault = result })) MAX_BLOCK out.old out.new }
+{
+    match question {
+        Question::Show {
+            radix,
+            format,
+            policy,
+            mode,
+        } => show_block(word, *radix, *format, *policy, *mode, out, steps),
+        Question::Bits(format) => bits_block(word, *format, out, steps),
+        Question::Format => push_format(word, out, steps),
+    }
+}
+
+/// Writes the block that answers a question about a word, and answers whether it reports a fault.
+#[inline(never)]
+fn write_block<K: Sink, L: Ledger>(
+    question: &Question,
+    word: &[u8],
+    sink: &mut K,
+    steps: &mut Steps<L>,
+) -> Result<bool, Failed>
+    ensures ok { IfOk result (λ fault. (text : List ℕ) × IsBlock question.now word.now (record { text = text; fault = fault }) × Appends (K.written sink.old) (K.written sink.new) text) }
+    ensures err { OnErr result ((block : AnswerText) × IsBlock question.now word.now block × AppendsPrefix (K.written sink.old) (K.written sink.new) block.text) }
+    ensures failures { FailsOnlyCounted (K.failures sink.old) (K.failures sink.new) result }
+{
+    let mut out: TextBuffer<MAX_BLOCK> = TextBuffer::new();
+    let is_fault = push_block(question, word, &mut out, steps);
+    write_whole(sink, out.as_bytes())?;
+    Ok(is_fault)
+}
+
+/// Whether one of two holds.
+fn is_either(one: bool, other: bool) -> bool
+    ensures { result ≡ (one || other) }
+{
+    one || other
+}
+
+/// Writes a block about each word, in order. It takes no memory and reads nothing.
+pub fn run_blocks<K: Sink, L: Ledger>(
+    question: &Question,
+    words: &[&str],
+    sink: &mut K,
+    steps: &mut Steps<L>,
+) -> Status
+    ensures { BlocksRun question.now (map (λ w. w.now) words.now) (K.written sink.old) (K.written sink.new) (K.failures sink.old) (K.failures sink.new) result }
+{
+    let mut has_fault = false;
+    let mut rest = words;
+    while !rest.is_empty() {
+        match write_block(question, rest[0].as_bytes(), sink, steps) {
+            Err(_) => return Status::WriteFault,
+            Ok(is_fault) => has_fault = is_either(has_fault, is_fault),
+        }
+        rest = &rest[1..];
+    }
+    if has_fault {
+        Status::Faults
+    } else {
+        Status::Done
+    }
+}
