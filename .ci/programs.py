@@ -7,6 +7,7 @@ The proofs speak of values; what a process gets and gives is tried here. A progr
 """
 import argparse
 import os
+import random as random_module
 import resource
 import subprocess
 import sys
@@ -40,6 +41,12 @@ RUNS = {
         (["least", "16"], b"ff\n", 0, b"least U8F0\n"),
         (["constants"], b"A = 0b_111e-2 I4F4\n", 0, b"A = 0x1.c I4F4\n"),
         (["columns"], b"0.5 U7F1\n-1 I8F0\n", 0, b" " * 22 + b"-1 I8F0\n" + b" " * 21 + b"0.5 U7F1\n"),
+        (["show", "I16F16", "3.14159", "-0.1"], b"", 0, None),
+        (["show", "U8F0", "300"], b"", 1, b"error: overflow\n"),
+        (["bits", "I16F16", "0xfffc0000", "7x"], b"", 1,
+         b"text      -4\nbits      -262144\nhex       0xfffc0000\nvalue     -4\nerror: invalid digit found in string\n"),
+        (["bits", "U8F0", "256"], b"", 1, b"error: word is wider than the format\n"),
+        (["format", "U8F0"], b"", 0, None),
         (["--version"], b"", 0, b"fixed 1.31.0\n"),
         (["convert", "--help"], b"", 0, None),
     ),
@@ -93,6 +100,7 @@ BAD_WORDS = {
         [], [b"converts"], [b"convert"], [b"convert", b"I9F0"], [b"convert", b"U8F0", b"U9F0"], [b"convert", b"U8F0", b"--radix", b"7"],
         [b"convert", b"U8F0", b"--mode"], [b"convert", b"U8F0", b"--print", b"text", b"--print", b"bits"], [b"lines", b"--limit", b"0"],
         [b"lines", b"--limits", b"5"], [b"enclose", b"--radix", b"2"],
+        [b"show", b"U8F0"], [b"show", b"U8F1", b"1"], [b"bits", b"I16F16"], [b"format", b"U8F0", b"X"],
     ),
     "fixed_tool": ([b"limits"], [b"limit"], [b"limit", b"05"], [b"limit", b"0"], [b"self", b"0"], [b"self", b"1000001"], [b"limit", b"5", b""]),
     "enclose_tool": ([b"limit", b"5"],),
@@ -216,6 +224,48 @@ class Runs:
                 self.one("a full device", [*convert, clean, faulty], 4, None, stdout=full)
 
 
+# How `fixed convert` is compared with fixed_tool: radix, source, target, policy, mode.
+SETTINGS = (
+    ("10", "I16F16", "I8F8", "checked", "nearest"), ("10", "U0F64", "U0F8", "saturating", "ceil"),
+    ("10", "I32F32", "I16F0", "wrapping", "floor"), ("2", "U8F8", "I4F4", "checked", "zero"),
+    ("8", "I0F16", "I16F16", "saturating", "nearest"), ("16", "U16F16", "U32F32", "wrapping", "ceil"),
+    ("16", "I4F4", "U8F0", "checked", "floor"), ("10", "I1F63", "I4F4", "checked", "nearest"),
+)
+# How many numerals are compared with each.
+NUMERALS = 12_500
+
+
+def numeral(random, radix):
+    """A numeral of the radix, or nearly one."""
+    digits = "0123456789abcdefABCDEF"[: {"2": 2, "8": 8, "10": 10, "16": 22}[radix]]
+    text = random.choice(("", "", "-", "+"))
+    text += "".join(random.choices(digits, k=random.choice((0, 1, 2, 3, 6, 20)))) + random.choice((".", ".", ""))
+    text += "".join(random.choices(digits, k=random.choice((0, 1, 4, 9, 30))))
+    if random.random() < 0.2:
+        text += random.choice("@p" if radix == "16" else "e@") + str(random.randint(-40, 40))
+    if random.random() < 0.03:
+        text = text[: random.randint(0, len(text))] + random.choice(("x", " ", "_", "\u00e9")) + text[len(text) // 2:]
+    return text
+
+
+def compared(built):
+    """How many answers of `fixed convert` differ from those of fixed_tool, of how many; None where one is not built."""
+    convert, tool = program("fixed", built), program("fixed_tool", built)
+    if convert is None or tool is None:
+        return None
+    source, differing = random_module.Random(1), 0
+    for radix, first, second, policy, mode in SETTINGS:
+        numerals = [numeral(source, radix) for _ in range(NUMERALS)]
+        lines = "".join(f"{radix} {first} {second} {policy}/{mode} {text}\n" for text in numerals).encode()
+        words = ["convert", first, second, "--radix", radix, "--policy", policy, "--mode", mode, "--print", "all"]
+        ends = "\r\n" if mode == "nearest" else "\n"
+        one = subprocess.run([convert, *words], input="".join(text + ends for text in numerals).encode(), stdout=subprocess.PIPE, check=False)
+        other = subprocess.run([tool], input=lines, stdout=subprocess.PIPE, check=False)
+        same = one.returncode == other.returncode and one.stdout == other.stdout
+        differing += 0 if same else sum(a != b for a, b in zip(one.stdout.split(b"\n"), other.stdout.split(b"\n"))) or 1
+    return differing, NUMERALS * len(SETTINGS)
+
+
 def within(most):
     """Leaves a process this many bytes of memory."""
     return lambda: resource.setrlimit(resource.RLIMIT_DATA, (most, most))
@@ -237,6 +287,10 @@ def main():
             runs.header()
         print(f"{name}: {runs.tried} runs at its edges, {runs.wrong} wrong", flush=True)
         wrong += runs.wrong
+    found = compared(given.built)
+    if found is not None:
+        print(f"fixed convert: {found[1]} numerals, {found[0]} answered otherwise than by fixed_tool")
+        wrong += found[0]
     return 1 if wrong else 0
 
 

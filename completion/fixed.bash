@@ -1,7 +1,7 @@
 # bash completion for fixed
 _fixed() {
   local word=$2 previous=$3 command=${COMP_WORDS[1]}
-  local commands='convert lines enclose least constants columns' words=''
+  local commands='convert show bits format lines enclose least constants columns' words=''
   if [ "$COMP_CWORD" -eq 1 ]; then
     mapfile -t COMPREPLY < <(compgen -W "$commands --help --version" -- "$word")
     return
@@ -15,6 +15,7 @@ _fixed() {
     *)
       case $command:$word in
         convert:-*) words='--radix --policy --mode --print --help --version' ;;
+        show:-*) words='--radix --policy --mode --help --version' ;;
         lines:-* | columns:-*) words='--limit --help --version' ;;
         *:-*) words='--help --version' ;;
         *) mapfile -t COMPREPLY < <(compgen -f -- "$word"); return ;;
