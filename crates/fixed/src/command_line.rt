@@ -71,19 +71,23 @@ fn with_reading<'a>(alloc: Global, command: Command<'a>) -> Result<Command<'a>, 
     command.arg(radix)?.arg(policy)?.arg(mode)
 }
 
-/// `fixed lines`.
-fn lines<'a>(alloc: Global) -> Result<Command<'a>, AllocError> {
-    let limit = Arg::new(alloc, "limit")
+/// The option that names the most bytes of an input.
+fn limit<'a>(alloc: Global, default: &'a str) -> Arg<'a> {
+    Arg::new(alloc, "limit")
         .long("limit")
         .value_name("N")
         .action(ArgAction::Set)
-        .value_parser(ValueParser::unsigned(1, 4_294_967_296))
-        .default_value("4294967296")
-        .help("The most bytes of an input");
+        .value_parser(ValueParser::unsigned(1, MAX_LIMIT))
+        .default_value(default)
+        .help("The most bytes of an input")
+}
+
+/// `fixed lines`.
+fn lines<'a>(alloc: Global) -> Result<Command<'a>, AllocError> {
     Ok(
         Command::new(alloc, "lines")
             .about("Answer lines `RADIX SOURCE TARGET POLICY NUMERAL`")
-            .arg(limit)?
+            .arg(limit(alloc, "4294967296"))?
             .arg(files(alloc))?
             .after_help("Example: echo '10 I16F16 I8F8 checked 3.14159' | fixed lines"),
     )
