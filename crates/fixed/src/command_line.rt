@@ -8,19 +8,23 @@ use std::alloc::{AllocError, Global};
 /// The version: that of the Rust crate whose behaviour is ported.
 const VERSION: &str = "1.31.0";
 
-/// An option with one value out of a few.
+/// An option with one value out of a few, which its help names.
 fn choice<'a>(
     alloc: Global,
     name: &'a str,
+    value: &'a str,
     values: &'a [&'a str],
     default: &'a str,
     help: &'a str,
 ) -> Arg<'a> {
     Arg::new(alloc, name)
         .long(name)
+        .value_name(value)
         .action(ArgAction::Set)
         .value_parser(values)
+        .hide_possible_values(true)
         .default_value(default)
+        .hide_default_value(true)
         .help(help)
 }
 
@@ -50,23 +54,26 @@ fn with_reading<'a>(alloc: Global, command: Command<'a>) -> Result<Command<'a>, 
     let radix = choice(
         alloc,
         "radix",
+        "RADIX",
         &["2", "8", "10", "16"],
         "10",
-        "The radix of the numerals",
+        "The radix of the numerals: 2, 8, 10 (default), 16",
     );
     let policy = choice(
         alloc,
         "policy",
+        "POLICY",
         &["checked", "saturating", "wrapping"],
         "checked",
-        "What is done out of range",
+        "Out of range: checked (default), saturating, wrapping",
     );
     let mode = choice(
         alloc,
         "mode",
+        "MODE",
         &["nearest", "floor", "ceil", "zero"],
         "nearest",
-        "How a numeral is rounded",
+        "How a numeral is rounded: nearest (default), floor, ceil, zero",
     );
     command.arg(radix)?.arg(policy)?.arg(mode)
 }
@@ -98,9 +105,10 @@ fn convert<'a>(alloc: Global) -> Result<Command<'a>, AllocError> {
     let print = choice(
         alloc,
         "print",
+        "PART",
         &["text", "bits", "hex", "all"],
         "text",
-        "What of an answer is written",
+        "What is written: text (default), bits, hex, all",
     );
     let command = Command::new(alloc, "convert")
         .about("Convert numerals, one a line")
