@@ -2,6 +2,7 @@
 //! error that says why a run did not end well.
 #![tactic(auto)]
 
+mod newlines;
 pub mod process;
 pub mod report;
 pub mod standard;

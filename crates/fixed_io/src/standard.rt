@@ -8,8 +8,8 @@
 
 ghost use Rattle.std.specs.Prelude.{◌≡◌, ◌+◌, ◌-◌, ◌^◌, min, None};
 
+use crate::newlines::newlines_in;
 use line_engine::{Failed, Sink, Source};
-use memchr::memchr_iter;
 use std::io::{Read, Write};
 
 /// A source over a reader. It counts the reads that failed.
@@ -119,7 +119,7 @@ impl<W: Write> Sink for StdSink<W> {
     {
         match self.writer.write(piece) {
             Ok(count) if count > 0 || piece.is_empty() => {
-                let lines = memchr_iter(b'\n', &piece[..count]).count();
+                let lines = newlines_in(&piece[..count]);
                 self.lines = self.lines.saturating_add(lines as u64);
                 Ok(count)
             }
