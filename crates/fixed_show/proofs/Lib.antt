@@ -3,3 +3,9 @@ pub mod WordLemmas
 pub mod FormatLemmas
 pub mod HexLemmas
 pub mod ShowLemmas
+pub mod NaturalLemmas
+pub mod DecimalLemmas
+pub mod ErrorLemmas
+pub mod DifferenceLemmas
+pub mod BoundLemmas
+pub mod BoundedLemmas

@@ -60,7 +60,7 @@ pub not_enclosed : (r : Radix) (bytes : List ℕ) (f : FormatParts) (kind : Pars
 not_enclosed r bytes f kind n (inl c) = absurd (c.none n)
 not_enclosed r bytes f kind n (inr h) = h.1
 
-pub three_blocks : (old o1 o2 o3 a b c : List ℕ) → o1 ≡ old ++ a → o2 ≡ o1 ++ b → o3 ≡ o2 ++ c → o3 ≡ old ++ (a ++ (b ++ c))
-three_blocks old o1 o2 o3 a b c p q r =
-    let e : o3 ≡ ((old ++ a) ++ b) ++ c = cc in
+pub four_blocks : (old o1 o2 o3 o4 a b c d : List ℕ) → o1 ≡ old ++ a → o2 ≡ o1 ++ b → o3 ≡ o2 ++ c → o4 ≡ o3 ++ d → o4 ≡ old ++ (a ++ (b ++ (c ++ d)))
+four_blocks old o1 o2 o3 o4 a b c d p q r s =
+    let e : o4 ≡ (((old ++ a) ++ b) ++ c) ++ d = cc in
     e ∙ simp append_assoc

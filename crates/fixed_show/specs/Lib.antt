@@ -2,5 +2,6 @@ pub mod Blocks
 pub mod FormatBlock
 pub mod WordText
 pub mod BitsBlock
+pub mod ErrorText
 pub mod ShowBlock
 pub mod Inner

@@ -18,6 +18,7 @@ use Rattle.fixed_read.specs.Reading.{IsReadNumber, IsReadOutOfRange}
 use Rattle.fixed_write.specs.Texts.{IsShortestText}
 use Rattle.fixed_show.specs.Blocks.{line, refusal_block}
 use Rattle.fixed_show.specs.BitsBlock.{AreValueLines}
+use Rattle.fixed_show.specs.ErrorText.{IsErrorText}
 
 -- bytes are a numeral, bits are the image of its read number, and overflowed says whether that is out of range
 pub record IsReadAs (mode : ReadMode) (r : Radix) (bytes : List ℕ) (f : FormatParts) (policy : Policy) (bits : ℤ) (overflowed : Bool) : Type 0 where
@@ -67,9 +68,14 @@ pub record IsShown (mode : ReadMode) (r : Radix) (bytes : List ℕ) (f : FormatP
   pub read : IsReadAs mode r bytes f policy bits overflowed
   pub values : List ℕ
   pub are_values : AreValueLines f bits values
+  pub error : List ℕ
+  pub is_error : IsErrorText r read.parts f.frac bits error
   pub between : List ℕ
   pub is_between : IsBetween r bytes f between
-  pub block_is : block ≡ values ++ (line (codes "between   ") between ++ line (codes "range     ") (range_text overflowed))
+  pub block_is : block ≡ values
+      ++ (line (codes "error     ") error
+      ++ (line (codes "between   ") between
+      ++ line (codes "range     ") (range_text overflowed)))
 
 -- block says why there is nothing to show
 pub record IsRefusedNumeral (mode : ReadMode) (r : Radix) (bytes : List ℕ) (f : FormatParts) (policy : Policy) (block : List ℕ) : Type 0 where

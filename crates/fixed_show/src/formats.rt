@@ -31,7 +31,7 @@ fn decimal_log(number: u128, most: u32) -> u32
 }
 
 /// How many digits after the point survive reading and printing in ulps of 2^-`frac`.
-fn places_of(frac: u32) -> u32
+pub(crate) fn places_of(frac: u32) -> u32
     requires { frac ≤ 64 }
     ensures places { ArePlaces frac result }
     ensures small { result ≤ 20 }

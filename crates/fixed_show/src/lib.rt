@@ -4,9 +4,12 @@
 #![tactic(auto)]
 
 pub mod bits;
+mod decimals;
+mod errors;
 pub mod formats;
 pub mod laws;
 mod lines;
+mod natural;
 pub mod show;
 pub mod words;
 

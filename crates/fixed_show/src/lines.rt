@@ -2,7 +2,8 @@
 
 ghost use Rattle.std.specs.Prelude.{◌≡◌, ◌+◌, ◌≤◌, ◌++◌, false, pos, ◌≤ℤ◌, length};
 ghost use Rattle.std.specs.Fmt.{signed_decimal};
-ghost use Rattle.fixed_bits.specs.Ranges.{IsWide, lowest, greatest};
+ghost use Rattle.fixed_bits.specs.Formats.{IsFormat};
+ghost use Rattle.fixed_bits.specs.Ranges.{IsWide, greatest, lowest};
 ghost use Rattle.fixed_write.specs.Places.{IsExactText, exact_text};
 ghost use Rattle.fixed_write.specs.Texts.{IsShortestText, shortest_text};
 ghost use Rattle.fixed_show.specs.Blocks.{line, refusal_block};
@@ -20,6 +21,7 @@ pub const MAX_BLOCK: usize = 2048;
 pub(crate) fn frac_of(format: Format) -> u32
     ensures value { result ≡ format.frac }
     ensures most { result ≤ 64 }
+    ensures valid { IsFormat format.width format.frac }
 {
     format.frac()
 }

@@ -10,6 +10,7 @@ ghost use Rattle.fixed_show.specs.ShowBlock.{IsBetween, IsReadAs, IsShowBlock, I
 ghost use Rattle.fixed_show.specs.Inner.Lines.{IsBetweenLine};
 
 use crate::bits::push_value_lines;
+use crate::errors::push_error_line;
 use crate::lines::{MAX_BLOCK, frac_of, push_line, push_refusal};
 use fixed_bits::{Format, Policy, ReadMode};
 use fixed_enclose::enclose;
@@ -137,9 +138,12 @@ fn push_range<const N: usize>(out: &mut TextBuffer<N>, overflowed: bool)
 }
 
 /// Appends the block of a numeral in a format: the shortest text of the bits that it is read as, the bits in decimal and in
-/// hexadecimal, their exact value, the two values of the format that enclose the numeral, and whether the read number was in
-/// range. A numeral that is refused is answered by one line `error: ` and why. Answers whether it was. There must be room
-/// for `MAX_BLOCK` bytes. It takes at most 24 steps for each byte, and 1,936.
+/// hexadecimal, their exact value, the exact error, which is that value less the numeral's, the two values of the format
+/// that enclose the numeral, and whether the read number was in range. The error is written in full where the numeral
+/// has at most 1,100 digits without its exponent, or 128 bits in another radix than 10; of a longer one the line says a
+/// power of ten below which the error is. A numeral that is refused is answered by one line `error: ` and why. Answers
+/// whether it was. There must be room for `MAX_BLOCK` bytes. It takes at most 26 steps for each byte, and 2,974, but for
+/// the arithmetic of the error, which takes at most some 1,500 passes over a number of 144 limbs.
 pub fn show_block<const N: usize, L: Ledger>(
     text: &[u8],
     radix: Radix,
@@ -151,11 +155,20 @@ pub fn show_block<const N: usize, L: Ledger>(
 ) -> bool
     requires room { length out.old + MAX_BLOCK ≤ N }
     ensures block { Appends (IsShowBlock mode radix text.now format policy result) MAX_BLOCK out.old out.new }
-    ensures cost { steps.new ≤ steps.old + 24 * length text.now + 1936 }
+    ensures cost { steps.new ≤ steps.old + 26 * length text.now + 2974 }
 {
     match read_shown(text, radix, format, policy, mode, steps) {
         Ok(shown) => {
             push_value_lines(out, shown.bits, format, steps);
+            push_error_line(
+                text,
+                radix,
+                frac_of(format),
+                shown.bits,
+                shown.overflowed,
+                out,
+                steps,
+            );
             push_between(text, radix, format, out, steps);
             push_range(out, shown.overflowed);
             false

@@ -129,15 +129,27 @@ fn each_format_word_and_numeral_has_its_block(rt: HostRuntime) {
             "I16F16",
             Policy::Checked,
             "3.14159",
-            "text      3.14159\nbits      205887\nhex       0x0003243f\nvalue     3.1415863037109375\nbetween   3.14159 (205887) and 3.1416 (205888)\nrange     fits\n",
+            "text      3.14159\nbits      205887\nhex       0x0003243f\nvalue     3.1415863037109375\nerror     -0.0000036962890625\nbetween   3.14159 (205887) and 3.1416 (205888)\nrange     fits\n",
         ),
         of_numeral(
             "U8F0",
             Policy::Wrapping,
             "-1",
-            "text      255\nbits      255\nhex       0xff\nvalue     255\nbetween   no two values of the format\nrange     overflowed\n",
+            "text      255\nbits      255\nhex       0xff\nvalue     255\nerror     256\nbetween   no two values of the format\nrange     overflowed\n",
         ),
         of_numeral("U8F0", Policy::Checked, "300", "error: overflow\n"),
+        of_numeral(
+            "I4F4",
+            Policy::Checked,
+            "1e-2000000000",
+            "text      0\nbits      0\nhex       0x00\nvalue     0\nerror     below 1e-1 in size: the numeral is too long to say more\nbetween   0 (0) and 0.06 (1)\nrange     fits\n",
+        ),
+        of_numeral(
+            "I4F4",
+            Policy::Saturating,
+            "-1e1200",
+            "text      -8\nbits      -128\nhex       0x80\nvalue     -8\nerror     below 1e1202 in size: the numeral is too long to say more\nbetween   no two values of the format\nrange     overflowed\n",
+        ),
     ];
     for case in &cases {
         assert!(rt;
