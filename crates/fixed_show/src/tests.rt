@@ -8,6 +8,7 @@ use fixed_numeral::Radix;
 use fixed_respell::format_word;
 use fixed_steps::Steps;
 use std::marker::Brand;
+use std::process::Abort;
 use std::sync::ledger::{Blank, Ledger};
 use text_buffer::TextBuffer;
 
@@ -92,8 +93,21 @@ fn is_answered(case: &Case) -> bool {
     out.as_bytes() == case.block.as_bytes()
 }
 
+/// Stops at the first case that is answered otherwise.
+fn expect_blocks(rt: &impl Abort, cases: &[Case]) {
+    for case in cases {
+        assert!(rt;
+            is_answered(case),
+            "{} {}{}",
+            case.format,
+            case.word,
+            case.numeral
+        );
+    }
+}
+
 #[test]
-fn each_format_word_and_numeral_has_its_block(rt: HostRuntime) {
+fn each_format_has_its_block(rt: HostRuntime) {
     let cases = [
         of_format(
             "I16F16",
@@ -103,6 +117,13 @@ fn each_format_word_and_numeral_has_its_block(rt: HostRuntime) {
             "I0F8",
             "format    I0F8\nleast     -0.5\ngreatest  0.49609375\nulp       0.00390625\ndigits    0 before the point, 2 after it\nshortest  -0.5 to 0.496\n",
         ),
+    ];
+    expect_blocks(&rt, &cases);
+}
+
+#[test]
+fn each_word_has_its_block(rt: HostRuntime) {
+    let cases = [
         of_word(
             "I16F16",
             "0xfffc_0000",
@@ -125,6 +146,13 @@ fn each_format_word_and_numeral_has_its_block(rt: HostRuntime) {
             "_1",
             "error: misplaced underscore found in string\n",
         ),
+    ];
+    expect_blocks(&rt, &cases);
+}
+
+#[test]
+fn each_numeral_has_its_block(rt: HostRuntime) {
+    let cases = [
         of_numeral(
             "I16F16",
             Policy::Checked,
@@ -151,13 +179,5 @@ fn each_format_word_and_numeral_has_its_block(rt: HostRuntime) {
             "text      -8\nbits      -128\nhex       0x80\nvalue     -8\nerror     below 1e1202 in size: the numeral is too long to say more\nbetween   no two values of the format\nrange     overflowed\n",
         ),
     ];
-    for case in &cases {
-        assert!(rt;
-            is_answered(case),
-            "{} {}{}",
-            case.format,
-            case.word,
-            case.numeral
-        );
-    }
+    expect_blocks(&rt, &cases);
 }
