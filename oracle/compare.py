@@ -24,7 +24,7 @@ PAIRS = (
     ("least.py", "least_tool", 3),
     ("constants.py", "constants_tool", 10),
     ("columns.py", "columns_tool", 10),
-    ("command.py", "fixed", 100),
+    ("show.py", "fixed", 100),
 )
 
 
