@@ -1,5 +1,4 @@
 """The command `fixed`: its streaming words beside fixed_tool, and how long it takes to start and end."""
-import os
 import subprocess
 import time
 
@@ -21,18 +20,6 @@ def converting(programs, inputs, tries):
           ["the same numerals", "M lines/s", "of fixed_tool's", "peak KiB"])
 
 
-def columns(programs, inputs, tries):
-    """Megabytes a second of `fixed column` on a CSV file of five columns."""
-    plain = inputs.path("plain", "--lines", str(LINES))
-    with open(plain, encoding="ascii") as given:
-        rows = "".join(f"{at},meter-{at % 97},2026-01-01T00:00:00Z,{line.rstrip()},kWh\n" for at, line in enumerate(given))
-    path = inputs.of("meter.csv", rows)
-    command = [programs.built("fixed"), "column", "4", "I16F16", "--policy", "saturating"]
-    took = in_turn([(command, path)], tries)[0]
-    table([["fixed column 4 I16F16", f"{os.path.getsize(path) / took / 1e6:.0f}", peak(command, path)]],
-          ["five columns", "MB/s", "peak KiB"])
-
-
 def starting(programs):
     """The least time that `fixed show` takes from its start to its end."""
     command = [programs.built("fixed"), "show", "I16F16", "3.14159"]
@@ -47,5 +34,4 @@ def starting(programs):
 def measure(programs, inputs, tries):
     if programs.built("fixed") and programs.tool:
         converting(programs, inputs, tries)
-        columns(programs, inputs, tries)
         starting(programs)
