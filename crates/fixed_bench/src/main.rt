@@ -101,8 +101,7 @@ fn sum_over_bits<L: Ledger>(
     bits: &[SignedBits],
     times: u32,
     steps: &mut Steps<L>,
-) -> io::Result<i128>
-{
+) -> io::Result<i128> {
     Ok(match work {
         "write" => printing::write_as(word, bits, times, steps),
         "append" => printing::append_as(word, bits, times, steps),
