@@ -59,6 +59,7 @@ RUNS = {
         (["limit", "5"], b"12345\n", 6, b""),
         (["limit", "5"], b"1234\n", 1, b"error: missing field\n"),
         (["limit", "30"], b"10 U8F0 U8F0 checked 7\n10 U8F0", 1, b"7 7 fits\nerror: missing field\n"),
+        (["limit", "50"], b"10 U8F0 U8F0 checked 7\n" * 3, 6, b"7 7 fits\n" * 2),
         (["limit", "30"], b"10 U8F0 U8F0 checked 7\n10 U8F0 U8F0 checked 7\n", 6, b"7 7 fits\n"),
         (["self", "5"], b"", 0, b"5 lines, 4 fit, 1 overflowed, 0 faults, 51 bytes\n"),
         (["self", "7"], b"", 0, b"7 lines, 6 fit, 1 overflowed, 0 faults, 69 bytes\n"),
@@ -139,15 +140,17 @@ class Runs:
         if ran.returncode != status or (output is not None and ran.stdout != output):
             self.wrong += 1
             print(f"{self.name}, {what}: status {ran.returncode}, not {status}; {ran.stdout!r:.200}, not {output!r:.200}")
-        if not self.is_told(status, ran.stderr):
+        if not self.is_told(status, ran.stderr, (ran.stdout or b"").count(b"\n")):
             self.wrong += 1
             print(f"{self.name}, {what}: status {status}, and on standard error {ran.stderr!r:.200}")
 
-    def is_told(self, status, told):
-        """Whether standard error has what it must: one line that begins with the program's name, or nothing."""
+    def is_told(self, status, told, answered):
+        """Whether standard error has what it must: one line that begins with the program's name and ends with the count of the
+        lines that were answered, or nothing. (`fixed` says it of each input, so its count may be of fewer.)"""
         if status < (2 if self.name == "fixed" else 3):
             return told == b""
-        return told.startswith(f"{self.name}: ".encode()) and told.count(b"\n") == 1 and told.endswith(b"\n")
+        end = b"\n" if self.name == "fixed" else f", lines answered: {answered}\n".encode()
+        return told.startswith(f"{self.name}: ".encode()) and told.count(b"\n") == 1 and told.endswith(end)
 
     def all(self):
         clean = RUNS[self.name][0]
