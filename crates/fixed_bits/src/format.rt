@@ -45,6 +45,20 @@ impl Format {
         }
     }
 
+    /// The format with these three parts, which a caller knows to make one.
+    pub fn of(signed: bool, width: u32, frac: u32) -> Format
+        requires valid { IsFormat width frac }
+        ensures signed { result.signed ≡ signed }
+        ensures width { result.width ≡ width }
+        ensures frac { result.frac ≡ frac }
+    {
+        Format {
+            signed,
+            width: width as u8,
+            frac: frac as u8,
+        }
+    }
+
     /// Whether the bits may be negative.
     pub fn signed(self) -> bool
         ensures { result ≡ self.signed }

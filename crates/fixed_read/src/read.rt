@@ -25,7 +25,7 @@ pub fn format_of<I: Inner>(frac: u32) -> Format
     ensures width { result.width ≡ I.BITS }
     ensures frac { result.frac ≡ frac }
 {
-    Format::new(I::SIGNED, I::BITS, frac).unwrap()
+    Format::of(I::SIGNED, I::BITS, frac)
 }
 
 /// The Wrapping image of a read number.

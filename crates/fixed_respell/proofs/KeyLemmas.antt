@@ -84,12 +84,8 @@ named word key s w r least most below first e is f =
     let same = key_one word (counts_word w r) least most below has.least has.most has.below (sym e ∙ f) in
     record { format = is; text = headed word (drop 1 (counts_word w r)) (sign_letter s) (omega (arith, least)) first same }
 
-pub made : (result : Option FormatParts) (f : FormatParts) (word : List ℕ) (s : Bool) (w r : ℕ) → IsFormatWord word (record { signed = s; width = w; frac = r }) → result ≡ Some f → IfSome result (λ f. (f.signed ≡ s) × (f.width ≡ w) × (f.frac ≡ r)) → IsFormatWord word f
-made result f word s w r is e if_some =
-    let parts : (f.signed ≡ s) × (f.width ≡ w) × (f.frac ≡ r) = rw e at if_some in
-    let signed = parts.0 in
-    let width = parts.1 in
-    let frac = parts.2 in
+pub made : (f : FormatParts) (word : List ℕ) (s : Bool) (w r : ℕ) → IsFormatWord word (record { signed = s; width = w; frac = r }) → f.signed ≡ s → f.width ≡ w → f.frac ≡ r → IsFormatWord word f
+made f word s w r is signed width frac =
     let same : format_text (record { signed = s; width = w; frac = r }) ≡ format_text f = cc in
     record {
       format = subst (λ n. IsFormat n f.frac) (sym width) (subst (λ n. IsFormat w n) (sym frac) is.format);

@@ -95,7 +95,7 @@ pub fn format_word(word: &[u8]) -> Option<Format>
         return None;
     }
     match (named_sign(word[0]), counts_of_key(key_of(word))) {
-        (Some(signed), Some((width, frac))) => Some(Format::new(signed, width, frac).unwrap()),
+        (Some(signed), Some((width, frac))) => Some(Format::of(signed, width, frac)),
         _ => None,
     }
 }

@@ -11,11 +11,11 @@ returns-then-word-lt4 c f is =
       | then-word-lt4-via-else-word-lt4+then-word-gt6 w ↦ omega (arith, l.1, w.if-word-gt6.true)
     ]
 
-pub unwrap-requires : goal.unwrap-requires
-unwrap-requires c = c.new.ensures.exists.1 c.in-Some-Some.ensures'.0
+pub of-requires-valid : goal.of-requires-valid
+of-requires-valid c = c.in-Some-Some.ensures'.0
 
 pub returns-in-Some-Some : goal.returns-in-Some-Some
 returns-in-Some-Some c =
     let parts = c.in-Some-Some in
     let word = c.args.word.now in
-    made c.new.result c.unwrap.result word parts.signed parts.width parts.frac (named word c.key_of.result parts.signed parts.width parts.frac (omega (arith, c.if-word-lt4.false)) (omega (arith, c.if-word-gt6.false)) (each_below word (λ k. omega (arith, c.type_inv.word k))) parts.ensures c.key_of.ensures.key parts.ensures'.0 parts.ensures'.1) c.unwrap.ensures c.new.ensures.parts
+    made c.of.result word parts.signed parts.width parts.frac (named word c.key_of.result parts.signed parts.width parts.frac (omega (arith, c.if-word-lt4.false)) (omega (arith, c.if-word-gt6.false)) (each_below word (λ k. omega (arith, c.type_inv.word k))) parts.ensures c.key_of.ensures.key parts.ensures'.0 parts.ensures'.1) c.of.ensures.signed c.of.ensures.width c.of.ensures.frac
