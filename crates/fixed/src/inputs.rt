@@ -2,7 +2,7 @@
 
 use crate::messages::place_of;
 use fixed_command::{Question, Task, greater_end, run_blocks, run_task};
-use fixed_io::{StdSink, StdSource, tell_end};
+use fixed_io::{StdSink, StdSource, report_end};
 use fixed_steps::Steps;
 use line_engine::Status;
 use std::fs::File;
@@ -22,7 +22,7 @@ fn run_input<R: Read + Drop, L: Ledger>(
     let status = run_task(rt.alloc(), task, &mut source, sink, steps);
     let place = place_of(file);
     let mut errors = StdSink::new(rt.stderr());
-    tell_end(place.as_bytes(), status.code(), sink.lines(), &mut errors);
+    report_end(place.as_bytes(), status.code(), sink.lines(), &mut errors);
     status
 }
 
@@ -85,6 +85,6 @@ pub fn run_question<L: Ledger>(
     let mut sink = StdSink::new(rt.stdout());
     let status = run_blocks(question, words, &mut sink, steps);
     let mut errors = StdSink::new(rt.stderr());
-    tell_end(b"fixed", status.code(), sink.lines(), &mut errors);
+    report_end(b"fixed", status.code(), sink.lines(), &mut errors);
     status
 }

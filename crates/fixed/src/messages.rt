@@ -1,6 +1,6 @@
 //! What goes to standard output as it is, and what goes to standard error.
 
-use fixed_io::{MAX_PLACE, StdSink, tell_end};
+use fixed_io::{MAX_PLACE, StdSink, report_end};
 use line_engine::{Status, write_text};
 use text_buffer::TextBuffer;
 
@@ -18,7 +18,7 @@ pub fn refuse(rt: &HostRuntime, why: &str) -> Status {
 /// Says on standard error that there is no memory for a command line.
 pub fn tell_no_memory(rt: &HostRuntime) -> Status {
     let mut errors = StdSink::new(rt.stderr());
-    tell_end(b"fixed", Status::NoMemory.code(), 0, &mut errors);
+    report_end(b"fixed", Status::NoMemory.code(), 0, &mut errors);
     Status::NoMemory
 }
 

@@ -145,17 +145,17 @@ unfolding after_spaces
 stop_at [] ys some a = absurd (omega (arith, some))
 stop_at (x ∷ xs) ys some a = rw (differs x 32 (x == 32) refl a.0) refl
 
-front_is : (width : ℕ) (negative : Bool) → sign_and_prefix (decimal_style width) negative ≡ sign_text negative
-front_is width true = refl
-front_is width false = refl
+lead_is : (width : ℕ) (negative : Bool) → sign_and_prefix (decimal_style width) negative ≡ sign_text negative
+lead_is width true = refl
+lead_is width false = refl
 
-padded_is : (width : ℕ) (front body : List ℕ) → padded_text (decimal_style width) front body ≡ spaces (padding (decimal_style width) front body) ++ (front ++ body)
+padded_is : (width : ℕ) (lead body : List ℕ) → padded_text (decimal_style width) lead body ≡ spaces (padding (decimal_style width) lead body) ++ (lead ++ body)
 unfolding padded_text spaces
-padded_is width front body =
-    let p : ℕ = padding (decimal_style width) front body in
+padded_is width lead body =
+    let p : ℕ = padding (decimal_style width) lead body in
     let none : p - p ≡ 0 = omega arith in
     let fill : encode_utf8 32 ≡ 32 ∷ [] = encode_ascii 32 (omega arith) in
-    let F : List ℕ → List ℕ = λ e. repeat p e ++ (front ++ body) in
+    let F : List ℕ → List ℕ = λ e. repeat p e ++ (lead ++ body) in
     rw none (append-nil (F (encode_utf8 32)) ∙ ap F fill)
 
 shortest_is : (negative : Bool) (n k : ℕ) → sign_text negative ++ point_text 10 false k n ≡ decimal_text negative n k
@@ -172,17 +172,17 @@ record IsPadded (c : ℤ) (g : ℕ) (text : List ℕ) : Type 0 where
 padded : (width : ℕ) (c : ℤ) (g : ℕ) (text : List ℕ) → IsStyledText (decimal_style width) c g text → IsPadded c g text
 padded width c g text styled =
     let b = styled.is_body in
-    let front : List ℕ = sign_and_prefix (decimal_style width) (is_negative c) in
+    let lead : List ℕ = sign_and_prefix (decimal_style width) (is_negative c) in
     record {
-      count = padding (decimal_style width) front styled.body;
-      number = front ++ styled.body;
+      count = padding (decimal_style width) lead styled.body;
+      number = lead ++ styled.body;
       shortest = record {
         number = b.number;
         places = b.places;
         shortest = b.shown;
-        text_is = ap (λ (t : List ℕ). t ++ styled.body) (front_is width (is_negative c)) ∙ (ap (λ (t : List ℕ). sign_text (is_negative c) ++ t) b.body_is ∙ shortest_is (is_negative c) b.number b.places);
+        text_is = ap (λ (t : List ℕ). t ++ styled.body) (lead_is width (is_negative c)) ∙ (ap (λ (t : List ℕ). sign_text (is_negative c) ++ t) b.body_is ∙ shortest_is (is_negative c) b.number b.places);
       };
-      is = styled.text_is ∙ padded_is width front styled.body;
+      is = styled.text_is ∙ padded_is width lead styled.body;
     }
 
 -- ---- a row reads back as its cell

@@ -78,15 +78,15 @@ pub body_shown : (m g : ℕ) → All IsShownByte (exact_text 16 false (pos m) g)
 body_shown m g = let b = body_is m g in All-same IsShownByte (exact_text 16 false (pos m) g) (point_text 16 false b.places b.number) b.body_is (point_shown b.places b.number)
 
 -- ---- the styled text
-front_is : (negative : Bool) → sign_and_prefix literal_style negative ≡ sign_text negative ++ hex_prefix
-front_is true = refl
-front_is false = refl
+lead_is : (negative : Bool) → sign_and_prefix literal_style negative ≡ sign_text negative ++ hex_prefix
+lead_is true = refl
+lead_is false = refl
 
-unpadded : (front body : List ℕ) → padded_text literal_style front body ≡ front ++ body
+unpadded : (lead body : List ℕ) → padded_text literal_style lead body ≡ lead ++ body
 unfolding padded_text
-unpadded front body =
-    let none : 0 - (length front + length body) ≡ 0 = omega arith in
-    rw none (append-nil (front ++ body))
+unpadded lead body =
+    let none : 0 - (length lead + length body) ≡ 0 = omega arith in
+    rw none (append-nil (lead ++ body))
 
 pub styled_literal : (c : ℤ) (g : ℕ) → IsStyledText literal_style c g (literal_text c g)
 unfolding literal_text
@@ -96,7 +96,7 @@ styled_literal c g =
     record {
       body = body;
       is_body = body_is (unsigned_abs c) g;
-      text_is = sym (unpadded (sign_and_prefix literal_style (is_negative c)) body ∙ (ap (λ t. t ++ body) (front_is (is_negative c)) ∙ append_assoc sign hex_prefix body));
+      text_is = sym (unpadded (sign_and_prefix literal_style (is_negative c)) body ∙ (ap (λ t. t ++ body) (lead_is (is_negative c)) ∙ append_assoc sign hex_prefix body));
     }
 
 -- ---- shown bytes as a literal's rest

@@ -9,7 +9,7 @@ pub mod standard;
 
 pub use line_engine::{Filled, NoMemory, Whole, write_whole};
 pub use process::{Reports, program_args, run_process, run_streams};
-pub use report::{MAX_PLACE, tell_end};
+pub use report::{MAX_PLACE, report_end};
 pub use standard::{StdSink, StdSource};
 
 #[cfg(test)]

@@ -7,7 +7,7 @@ ghost use Rattle.fixed_io.specs.Report.{TellsEnd};
 ghost use Rattle.line_engine.specs.Program.{EndsAs};
 ghost use Rattle.line_engine.specs.declared.program.NoArgs.{NoArgs};
 
-use crate::report::{MAX_PLACE, tell_end};
+use crate::report::{MAX_PLACE, report_end};
 use crate::{StdSink, StdSource};
 use fixed_steps::Steps;
 use line_engine::{NoArgs, Program, Sink, run_program};
@@ -72,7 +72,7 @@ pub fn run_streams<P: Program<L>, R: Read + Drop, W: Write + Drop, K: Sink, L: L
     let mut source = StdSource::new(reader);
     let mut sink = StdSink::new(writer);
     let code = run_program(program, alloc, args, &mut source, &mut sink, &mut steps);
-    tell_end(reports.name, code, sink.lines(), &mut reports.sink);
+    report_end(reports.name, code, sink.lines(), &mut reports.sink);
     code
 }
 

@@ -1,6 +1,6 @@
 //! The adapters: over bytes in memory, and over a reader and a writer that fail at one call and count their calls.
 
-use crate::{StdSink, StdSource, tell_end};
+use crate::{StdSink, StdSource, report_end};
 use line_engine::{Sink, Source};
 use std::alloc::Global;
 use std::io;
@@ -137,10 +137,10 @@ fn each_write_is_one_call_of_the_writer(rt: HostRuntime) {
 }
 
 /// What is said of an end with a code after two answered lines.
-fn told(alloc: Global, code: u8) -> Result<Vec<u8>, Fail> {
+fn report_of(alloc: Global, code: u8) -> Result<Vec<u8>, Fail> {
     let mut bytes = Vec::new(alloc);
     let mut errors = StdSink::new(&mut bytes);
-    tell_end(b"tool: data", code, 2, &mut errors);
+    report_end(b"tool: data", code, 2, &mut errors);
     let lines = errors.lines();
     if lines > 1 {
         return Err(Fail::from("more than one line"));
@@ -151,15 +151,15 @@ fn told(alloc: Global, code: u8) -> Result<Vec<u8>, Fail> {
 #[test]
 fn an_end_that_is_not_well_is_one_line(rt: HostRuntime) -> Result<(), Fail> {
     for code in 0u8..3 {
-        let bytes = told(rt.alloc(), code)?;
+        let bytes = report_of(rt.alloc(), code)?;
         assert!(rt; bytes.is_empty());
     }
-    let bytes = told(rt.alloc(), 3)?;
+    let bytes = report_of(rt.alloc(), 3)?;
     assert_eq!(rt;
         bytes.as_slice(),
         b"tool: data: a read failed, lines answered: 2\n".as_slice()
     );
-    let bytes = told(rt.alloc(), 6)?;
+    let bytes = report_of(rt.alloc(), 6)?;
     assert_eq!(rt;
         bytes.as_slice(),
         b"tool: data: the input is longer than the limit, lines answered: 2\n".as_slice()

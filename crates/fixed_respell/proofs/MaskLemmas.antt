@@ -71,15 +71,15 @@ first_space line mask place rest has some is_place is_rest =
 -- ---- two masks of sixteen bytes each, the second from a place on
 pub two_masks : (line : List ℕ) (at low high mask : ℕ) → at ≤ 16 → at + 16 ≤ length line → low ≡ mask_l (map is_space (take 16 line)) → high ≡ mask_l (map is_space (take 16 (drop at line))) → mask ≡ low + high / 2 ^ (16 - at) * 65536 → HasSpaces line mask
 two_masks line at low high mask most room is_low is_high is_mask =
-    let front : List ℕ = take 16 line in
-    let long : length (map is_space front) ≡ 16 = length-map front is_space ∙ length-take-le 16 line (omega arith) in
+    let first : List ℕ = take 16 line in
+    let long : length (map is_space first) ≡ 16 = length-map first is_space ∙ length-take-le 16 line (omega arith) in
     let rest : drop (16 - at) (take 16 (drop at line)) ≡ take at (drop 16 line) =
     same_at (λ k. drop (16 - at) (take k (drop at line))) 16 (16 - at + at) (omega arith) ∙ drop-take (16 - at) at (drop at line) ∙ ap (take at) (drop-drop (16 - at) at line ∙ same_at (λ k. drop k line) (at + (16 - at)) 16 (omega arith)) in
     let upper : high / 2 ^ (16 - at) ≡ mask_l (map is_space (take at (drop 16 line))) =
     ap (λ h. h / 2 ^ (16 - at)) is_high ∙ mask_drop (16 - at) (map is_space (take 16 (drop at line))) ∙ ap mask_l (drop-map is_space (16 - at) (take 16 (drop at line)) ∙ ap (map is_space) rest) in
-    let whole : map is_space (take (16 + at) line) ≡ map is_space front ++ map is_space (take at (drop 16 line)) = ap (map is_space) (take-add 16 at line) ∙ map-append is_space front (take at (drop 16 line)) in
-    let both : mask_l (map is_space (take (16 + at) line)) ≡ mask_l (map is_space front) + 2 ^ 16 * mask_l (map is_space (take at (drop 16 line))) =
-    ap mask_l whole ∙ mask_append (map is_space front) (map is_space (take at (drop 16 line))) ∙ ap (λ k. mask_l (map is_space front) + 2 ^ k * mask_l (map is_space (take at (drop 16 line)))) long in
+    let whole : map is_space (take (16 + at) line) ≡ map is_space first ++ map is_space (take at (drop 16 line)) = ap (map is_space) (take-add 16 at line) ∙ map-append is_space first (take at (drop 16 line)) in
+    let both : mask_l (map is_space (take (16 + at) line)) ≡ mask_l (map is_space first) + 2 ^ 16 * mask_l (map is_space (take at (drop 16 line))) =
+    ap mask_l whole ∙ mask_append (map is_space first) (map is_space (take at (drop 16 line))) ∙ ap (λ k. mask_l (map is_space first) + 2 ^ k * mask_l (map is_space (take at (drop 16 line)))) long in
     record {
       count = 16 + at;
       within = omega arith;

@@ -80,10 +80,10 @@ module _ (A : List ℕ → AnswerText → Type 0) (one : (line : List ℕ) (a b 
       (λ (early : AnswersPrefix A (ended_lines (take limit part.bytes)) written written').
       let rest : (rest : List ℕ) × (input ≡ part.bytes ++ rest) = taken_prefix left left' part.bytes input is part.taken in
       let prefix = take limit part.bytes in
-      let behind = drop limit part.bytes ++ rest.0 in
-      let whole : input ≡ prefix ++ behind = rest.1 ∙ ap (λ l. l ++ rest.0) (sym (take-append-drop limit part.bytes)) ∙ append_assoc prefix (drop limit part.bytes) rest.0 in
-      let both : AreLinesOfBoth prefix behind = cut_anywhere prefix behind in
-      prefix_written (ended_lines prefix) (lines (unended prefix ++ behind)) (ap lines whole ∙ both.all) early answers)
+      let remaining = drop limit part.bytes ++ rest.0 in
+      let whole : input ≡ prefix ++ remaining = rest.1 ∙ ap (λ l. l ++ rest.0) (sym (take-append-drop limit part.bytes)) ∙ append_assoc prefix (drop limit part.bytes) rest.0 in
+      let both : AreLinesOfBoth prefix remaining = cut_anywhere prefix remaining in
+      prefix_written (ended_lines prefix) (lines (unended prefix ++ remaining)) (ap lines whole ∙ both.all) early answers)
       (λ (late : IsAtEnd left' × (length part.bytes ≤ limit) × AnswersPrefix A (lines part.bytes) written written').
       prefix_written (lines part.bytes) [] (ap lines (sym (all_taken left left' part.bytes input is part.taken late.0)) ∙ sym (append-nil (lines part.bytes))) late.2 answers)
       part.cut_short

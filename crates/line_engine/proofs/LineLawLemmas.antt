@@ -9,7 +9,7 @@ use Rattle.line_engine.proofs.LineLemmas.{ended_lines-append, ended_newline, end
 pub cut_anywhere : CutAnywhere
 cut_anywhere first rest = record {
   ended = ended_lines-append first rest;
-  behind = unended-append first rest;
+  remaining = unended-append first rest;
   all = ap (λ l. l ++ last_line (unended (first ++ rest))) (ended_lines-append first rest)
       ∙ append_assoc (ended_lines first) (ended_lines (unended first ++ rest)) (last_line (unended (first ++ rest)))
       ∙ ap (λ l. ended_lines first ++ (ended_lines (unended first ++ rest) ++ last_line l)) (unended-append first rest);
@@ -50,7 +50,7 @@ nothing x here = let below : here.0 < 0 = here.1 in omega arith
 -- no line holds a newline, nor does what is unended
 record Free (lines : List (List ℕ)) (rest : List ℕ) : Type 0 where
   each : (line : List ℕ) → Contains lines line → Contains line 10 → ⊥
-  behind : Contains rest 10 → ⊥
+  remaining : Contains rest 10 → ⊥
 
 free_newline : (lines : List (List ℕ)) (rest : List ℕ) → Free lines rest → Free ([] ∷ lines) rest
 free_newline lines rest free = record {
@@ -59,13 +59,13 @@ free_newline lines rest free = record {
       (λ (first : [] ≡ line). nothing 10 (subst (λ l. Contains l 10) (sym first) newline))
       (λ (later : Contains lines line). free.each line later newline)
       (contains_cons [] lines line here);
-  behind = free.behind;
+  remaining = free.remaining;
 }
 
 free_other : (b : ℕ) (lines : List (List ℕ)) (rest : List ℕ) → eqb b 10 ≡ false → Free lines rest → Free (onto_first b lines) (onto_rest b lines rest)
 free_other b [] rest is free = record {
   each = λ line here newline. nothing line here;
-  behind = other_first b rest is free.behind;
+  remaining = other_first b rest is free.remaining;
 }
 free_other b (first ∷ lines) rest is free = record {
   each = λ line here newline.
@@ -73,7 +73,7 @@ free_other b (first ∷ lines) rest is free = record {
       (λ (same : b ∷ first ≡ line). other_first b first is (free.each first (0, omega arith, refl)) (subst (λ l. Contains l 10) (sym same) newline))
       (λ (later : Contains lines line). free.each line (contains_later first lines line later) newline)
       (contains_cons (b ∷ first) lines line here);
-  behind = free.behind;
+  remaining = free.remaining;
 }
 
 free_by : (b : ℕ) (bytes : List ℕ) (t : Bool) → eqb b 10 ≡ t → Free (ended_lines bytes) (unended bytes) → Free (ended_lines (b ∷ bytes)) (unended (b ∷ bytes))
@@ -81,7 +81,7 @@ free_by b bytes true is free = rw (ended_newline b bytes is, unended_newline b b
 free_by b bytes false is free = rw (ended_other b bytes is, unended_other b bytes is) (free_other b (ended_lines bytes) (unended bytes) is free)
 
 free_all : (bytes : List ℕ) → Free (ended_lines bytes) (unended bytes)
-free_all [] = record { each = λ line here newline. nothing line here; behind = nothing 10 }
+free_all [] = record { each = λ line here newline. nothing line here; remaining = nothing 10 }
 free_all (b ∷ bytes) = free_by b bytes (eqb b 10) refl (free_all bytes)
 
 in_last : (rest line : List ℕ) → Contains (last_line rest) line → rest ≡ line
@@ -97,5 +97,5 @@ no_line_holds_newline input line here newline =
     let free : Free (ended_lines input) (unended input) = free_all input in
     ⊎_elim
     (λ (early : Contains (ended_lines input) line). free.each line early newline)
-    (λ (late : Contains (last_line (unended input)) line). free.behind (subst (λ l. Contains l 10) (sym (in_last (unended input) line late)) newline))
+    (λ (late : Contains (last_line (unended input)) line). free.remaining (subst (λ l. Contains l 10) (sym (in_last (unended input) line late)) newline))
     (Contains-append_cases (ended_lines input) (last_line (unended input)) line here)

@@ -17,7 +17,7 @@ NoLineHoldsNewline = (input line : List ℕ) → Contains (lines input) line →
 -- cut an input in two anywhere: the lines of the first part, and those of the rest with what is unended before it
 pub record AreLinesOfBoth (first rest : List ℕ) : Type 0 where
   pub ended : ended_lines (first ++ rest) ≡ ended_lines first ++ ended_lines (unended first ++ rest)
-  pub behind : unended (first ++ rest) ≡ unended (unended first ++ rest)
+  pub remaining : unended (first ++ rest) ≡ unended (unended first ++ rest)
   pub all : lines (first ++ rest) ≡ ended_lines first ++ lines (unended first ++ rest)
 
 abbrev pub CutAnywhere : Type 0

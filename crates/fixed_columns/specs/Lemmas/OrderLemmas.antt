@@ -45,9 +45,9 @@ same_sign true true e = refl
 
 pub same_format : (f g : FormatParts) → format_order f g ≡ Equal → f ≡ g
 same_format f g e =
-    let front = first_equal (ordering_then (nat_cmp f.width g.width) (bool_cmp f.signed g.signed)) (nat_cmp f.frac g.frac) e in
-    let width : f.width ≡ g.width = exact_unsigned f.width g.width (first_equal (nat_cmp f.width g.width) (bool_cmp f.signed g.signed) front) in
-    let signed : f.signed ≡ g.signed = same_sign f.signed g.signed (second_equal (nat_cmp f.width g.width) (bool_cmp f.signed g.signed) front) in
+    let before = first_equal (ordering_then (nat_cmp f.width g.width) (bool_cmp f.signed g.signed)) (nat_cmp f.frac g.frac) e in
+    let width : f.width ≡ g.width = exact_unsigned f.width g.width (first_equal (nat_cmp f.width g.width) (bool_cmp f.signed g.signed) before) in
+    let signed : f.signed ≡ g.signed = same_sign f.signed g.signed (second_equal (nat_cmp f.width g.width) (bool_cmp f.signed g.signed) before) in
     let frac : f.frac ≡ g.frac = exact_unsigned f.frac g.frac (second_equal (ordering_then (nat_cmp f.width g.width) (bool_cmp f.signed g.signed)) (nat_cmp f.frac g.frac) e) in
     let F : Bool → ℕ → ℕ → FormatParts = λ s w k. record { signed = s; width = w; frac = k } in
     ap (λ s. F s f.width f.frac) signed ∙ (ap (λ w. F g.signed w f.frac) width ∙ ap (λ k. F g.signed g.width k) frac)
