@@ -11,8 +11,8 @@ returns-then-word-lt4 c f is =
       | then-word-lt4-via-else-word-lt4+then-word-gt6 w ↦ omega (arith, l.1, w.if-word-gt6.true)
     ]
 
-pub of-requires-valid : goal.of-requires-valid
-of-requires-valid c = c.in-Some-Some.ensures'.0
+pub of-requires : goal.of-requires
+of-requires c = record { valid = c.in-Some-Some.ensures'.0 }
 
 pub returns-in-Some-Some : goal.returns-in-Some-Some
 returns-in-Some-Some c =
