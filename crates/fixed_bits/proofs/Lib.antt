@@ -1,8 +1,12 @@
+-- What the proofs of the crates above may cite
 pub mod Integers
-pub mod DownLemmas
-pub mod ImageLemmas
-pub mod NearestLemmas
-pub mod RoundedLemmas
-pub mod LawLemmas
-pub mod MaskLemmas
-pub mod OrderLemmas
+pub mod Public
+
+-- What no other crate can name
+mod DownLemmas
+mod ImageLemmas
+mod NearestLemmas
+mod RoundedLemmas
+mod LawLemmas
+mod MaskLemmas
+mod OrderLemmas

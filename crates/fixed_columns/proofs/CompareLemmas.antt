@@ -5,7 +5,7 @@ use Rattle.std.specs.declared.cmp.Ordering.TheVariants.{Less, Equal, Greater}
 use Rattle.std.specs.Ordering.{int_cmp, ordering_then}
 use Rattle.fixed_bits.specs.Formats.{FormatParts}
 use Rattle.fixed_convert.specs.Order.{order_of}
-use Rattle.fixed_convert.proofs.OrderLemmas.{cmp_times}
+use Rattle.fixed_convert.proofs.Public.{cmp_times}
 use Rattle.fixed_columns.specs.Cells.{CellParts, cell_order, format_order}
 use Rattle.fixed_columns.specs.Lemmas.OrderLemmas.{same_format}
 

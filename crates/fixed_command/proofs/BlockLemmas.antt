@@ -5,7 +5,7 @@ use Rattle.std.specs.Io.KnownBytes.{Appends}
 use Rattle.std.proofs.KnownBytes.{Appends-trans}
 use Rattle.line_engine.specs.AnswerText.{AnswerText}
 use Rattle.line_engine.specs.Output.{AppendsPrefix, AreAnswers, any_fault}
-use Rattle.line_engine.proofs.AnsweredLemmas.{AreAnswers-append, any_fault-append}
+use Rattle.line_engine.proofs.Public.{AreAnswers-append, any_fault-append}
 use Rattle.fixed_command.specs.Blocks.{BreaksBlocks, IsBlock, WritesBlocks, blocks_text}
 use Rattle.fixed_command.specs.declared.blocks.Question.{Question}
 

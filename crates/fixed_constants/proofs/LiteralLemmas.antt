@@ -18,7 +18,7 @@ use Rattle.fixed_write.specs.declared.style.Notation.TheVariants.{LowerHex}
 use Rattle.fixed_write.specs.Places.{exact_text}
 use Rattle.fixed_write.specs.Styled.{IsPointBody, IsStyledText, padded_text, sign_and_prefix}
 use Rattle.fixed_write.specs.Texts.{fraction_part, last_digits, point_text, whole_digits}
-use Rattle.fixed_write.proofs.PlacesLemmas.{exact_text_is}
+use Rattle.fixed_write.proofs.Public.{exact_text_is}
 use Rattle.fixed_laws.specs.Laws.{ExactTextReadsBack}
 use Rattle.fixed_constants.specs.Canonical.{hex_prefix, literal_text}
 use Rattle.fixed_constants.specs.Constants.{IsLiteralOf}

@@ -6,7 +6,7 @@ use Rattle.std.proofs.lemmas.Nat.{pow_pos, pow-add}
 use Rattle.fixed_bits.specs.Down.{IsDown, down}
 use Rattle.fixed_bits.specs.Ranges.{IsInRange}
 use Rattle.fixed_bits.proofs.Integers.{next_times, le_times, lt_times, times_times}
-use Rattle.fixed_bits.proofs.LawLemmas.{images_agree, down_one}
+use Rattle.fixed_bits.proofs.Public.{images_agree, down_one}
 use Rattle.fixed_convert.specs.Moved.{shifted}
 use Rattle.fixed_convert.specs.Laws.{IsExact, FinerIsExact, ConversionIsUndone}
 

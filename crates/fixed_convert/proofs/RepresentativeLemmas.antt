@@ -8,8 +8,7 @@ use Rattle.fixed_bits.specs.Ranges.{IsInRange, IsOutOfRange, IsWide, lowest, gre
 use Rattle.fixed_bits.specs.Images.{IsImage, DiffersByMultiple}
 use Rattle.fixed_bits.specs.declared.format.Policy.{Policy}
 use Rattle.fixed_bits.specs.declared.format.Policy.TheVariants.{Checked, Saturating, Wrapping}
-use Rattle.fixed_bits.proofs.ImageLemmas.{near_joined}
-use Rattle.fixed_bits.proofs.LawLemmas.{range_decided, ends_wide}
+use Rattle.fixed_bits.proofs.Public.{near_joined, range_decided, ends_wide}
 use Rattle.fixed_convert.specs.Moved.{shifted}
 use Rattle.fixed_convert.specs.Inner.Representative.{Represents, OnSameSide}
 

@@ -7,7 +7,7 @@ use Rattle.std.proofs.Math.Pow.{pow_mono}
 use Rattle.fixed_bits.specs.Ranges.{IsInRange}
 use Rattle.fixed_bits.specs.Down.{IsDown, down}
 use Rattle.fixed_bits.proofs.Integers.{le_times, lt_times, lt_cancel, neg_times}
-use Rattle.fixed_bits.proofs.LawLemmas.{down_one}
+use Rattle.fixed_bits.proofs.Public.{down_one}
 use Rattle.fixed_convert.specs.Moved.{HasRoom, IsNumWidth}
 
 powers : (i g j f : ℕ) → i + g ≤ j + f → 2 ^ i * 2 ^ g ≤ 2 ^ j * 2 ^ f

@@ -4,12 +4,11 @@ use Rattle.std.proofs.lemmas.Nat.{pow-add}
 use Rattle.std.proofs.lemmas.Bool.{cases_lt}
 use Rattle.std.proofs.Math.Nat.{one-le-pow, pow-zero, pow-le-pow_right, eq_of_mul-eq-mul_right}
 use Rattle.fixed_bits.specs.Nearest.{IsNearest}
-use Rattle.fixed_bits.proofs.NearestLemmas.{nearest_unique, nearest_exists}
+use Rattle.fixed_bits.proofs.Public.{nearest_unique, nearest_exists}
 use Rattle.fixed_write.specs.Shortest.{IsShortest}
 use Rattle.fixed_write.specs.Texts.{whole_digits}
 use Rattle.fixed_write.specs.Styled.{IsDecade, IsShortFigures, IsRoundedFigures, ten_up, ten_down}
-use Rattle.fixed_write.proofs.ShortestLemmas.{shortest_unique}
-use Rattle.fixed_write.proofs.PassLemmas.{shortest_exists}
+use Rattle.fixed_write.proofs.Public.{shortest_unique, shortest_exists}
 
 ten_pos : (k : ℕ) → 0 < 10 ^ k
 ten_pos k = one-le-pow k 10 (omega arith)

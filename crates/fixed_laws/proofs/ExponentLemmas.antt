@@ -9,7 +9,7 @@ use Rattle.std.proofs.lemmas.Bool.{cases_lt}
 use Rattle.std.proofs.Math.Nat.{one-le-pow}
 use Rattle.fixed_bits.specs.Nearest.{IsNearest}
 use Rattle.fixed_bits.specs.declared.mode.ReadMode.TheVariants.{NearestEven}
-use Rattle.fixed_bits.proofs.NearestLemmas.{nearest_scaled}
+use Rattle.fixed_bits.proofs.Public.{nearest_scaled}
 use Rattle.std.specs.Prelude.{IfSome}
 use Rattle.fixed_numeral.specs.Numeral.{Parts, Exponent, HasNumeral, IsExponentOf, text_of, minus, fraction_text, exponent_text, fractional_digits, exponent_number, is_separator}
 use Rattle.fixed_numeral.specs.Value.{scaled}
@@ -17,7 +17,7 @@ use Rattle.fixed_read.specs.Reading.{IsReadNumber}
 use Rattle.fixed_write.specs.Shortest.{ReadsBack}
 use Rattle.fixed_write.specs.Texts.{whole_digits}
 use Rattle.fixed_write.specs.Styled.{pointed}
-use Rattle.fixed_write.proofs.IntegerLemmas.{decimal_is}
+use Rattle.fixed_write.proofs.Public.{decimal_is}
 use Rattle.fixed_laws.specs.Radices.{decimal_radix}
 use Rattle.fixed_laws.proofs.TextLemmas.{IsWholeText, whole_text_is, sign_of, sign_is, with_sign}
 

@@ -16,10 +16,7 @@ use Rattle.fixed_write.specs.declared.style.Notation.TheVariants.{Dec, LowerExp,
 use Rattle.fixed_write.specs.Shortest.{IsShortest, ReadsBack}
 use Rattle.fixed_write.specs.Texts.{decimal_text, whole_digits, point_text, zero_digit}
 use Rattle.fixed_write.specs.Styled.{IsStyledText, IsPointBody, IsExponentBody, HasFigures, IsShortFigures, padded_text, sign_and_prefix, mark_of, plain_style}
-use Rattle.fixed_write.proofs.DigitLemmas.{whole_digits_short, whole_digits_digit}
-use Rattle.fixed_write.proofs.LeadingLemmas.{whole_zeros}
-use Rattle.fixed_write.proofs.PlacesLemmas.{wide_magnitude}
-use Rattle.fixed_write.proofs.ShortestLemmas.{shortest_is_nearest, shortest_at_most}
+use Rattle.fixed_write.proofs.Public.{whole_digits_short, whole_digits_digit, whole_zeros, wide_magnitude, shortest_is_nearest, shortest_at_most}
 use Rattle.fixed_laws.specs.Radices.{decimal_radix, binary, octal, hexadecimal}
 use Rattle.fixed_laws.specs.Plain.{radix_of}
 use Rattle.fixed_laws.proofs.TextLemmas.{exact_reads_back, default_reads_back}

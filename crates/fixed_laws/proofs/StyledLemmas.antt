@@ -3,16 +3,14 @@ use Rattle.std.proofs.Common.{◌≡◌, ℕ, zero, suc, ◌*◌, ◌%◌, ◌^�
 use Rattle.std.specs.Prelude.{Option, Some, None, unwrap_or}
 use Rattle.std.specs.Int.{is_negative}
 use Rattle.std.proofs.Math.Nat.{eq_of_mul-eq-mul_right}
-use Rattle.fixed_bits.proofs.NearestLemmas.{nearest_unique, nearest_exists}
+use Rattle.fixed_bits.proofs.Public.{nearest_unique, nearest_exists}
 use Rattle.fixed_write.specs.declared.style.Notation.{Notation}
 use Rattle.fixed_write.specs.declared.style.Notation.TheVariants.{Dec, LowerExp, UpperExp, Bin, Oct, LowerHex, UpperHex}
 use Rattle.fixed_write.specs.declared.style.Style.{Style}
 use Rattle.fixed_write.specs.Texts.{whole_digits, point_text, zero_digit}
 use Rattle.fixed_write.specs.Places.{IsExact}
 use Rattle.fixed_write.specs.Styled.{IsShown, IsPointBody, IsBody, IsExponentBody, IsFigures, IsStyledText, base_of, is_upper, padded_text, sign_and_prefix, pointed, exponent_text}
-use Rattle.fixed_write.proofs.ShortestLemmas.{shortest_unique}
-use Rattle.fixed_write.proofs.PassLemmas.{shortest_exists}
-use Rattle.fixed_write.proofs.PlacesLemmas.{exact_text_is}
+use Rattle.fixed_write.proofs.Public.{shortest_unique, shortest_exists, exact_text_is}
 use Rattle.fixed_laws.proofs.DecadeLemmas.{short_unique, short_exists, rounded_unique, rounded_exists}
 
 -- ---- what is shown with a point

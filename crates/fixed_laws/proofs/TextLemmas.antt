@@ -11,7 +11,7 @@ use Rattle.std.proofs.lemmas.Bool.{cases_lt}
 use Rattle.std.proofs.Math.Nat.{one-le-pow, mod-one, div-one, pow-zero, div-lt_iff_lt-mul}
 use Rattle.fixed_bits.specs.Nearest.{IsNearest}
 use Rattle.fixed_bits.specs.declared.mode.ReadMode.TheVariants.{NearestEven}
-use Rattle.fixed_bits.proofs.NearestLemmas.{nearest_by_rest}
+use Rattle.fixed_bits.proofs.Public.{nearest_by_rest}
 use Rattle.fixed_numeral.specs.declared.radix.Radix.{Radix}
 use Rattle.fixed_numeral.specs.declared.radix.Radix.TheVariants.{Bin, Oct, Dec, Hex}
 use Rattle.fixed_numeral.specs.Numeral.{Parts, HasNumeral, IsNumeral, base, minus, text_of, fractional_digits, signed, is_sign}
@@ -20,7 +20,7 @@ use Rattle.fixed_read.specs.Reading.{IsReadNumber}
 use Rattle.fixed_write.specs.Shortest.{ReadsBack}
 use Rattle.fixed_write.specs.Texts.{IsShortestText, decimal_text, whole_digits, last_digits, fraction_part, point_text}
 use Rattle.fixed_write.specs.Places.{IsExactText, IsRoundedText}
-use Rattle.fixed_write.proofs.DigitLemmas.{whole_digits_digit, whole_digits_more, last_digits_none, last_digits_suc, last_digits_length}
+use Rattle.fixed_write.proofs.Public.{whole_digits_digit, whole_digits_more, last_digits_none, last_digits_suc, last_digits_length}
 
 pub glyph_value : (u : Bool) (d : ℕ) → d < 16 → digit_value (digit_glyph u d) ≡ d
 glyph_value true d h = grind arith

@@ -8,12 +8,11 @@ use Rattle.fixed_bits.specs.Formats.{FormatParts, IsFormat}
 use Rattle.fixed_bits.specs.Ranges.{IsInRange}
 use Rattle.fixed_bits.specs.Rounded.{IsNotAbove, IsRounded}
 use Rattle.fixed_bits.specs.declared.mode.ReadMode.TheVariants.{TowardsZero}
-use Rattle.fixed_bits.proofs.LawLemmas.{ends_wide}
-use Rattle.fixed_bits.proofs.RoundedLemmas.{rounded_unique}
+use Rattle.fixed_bits.proofs.Public.{ends_wide, rounded_unique}
 use Rattle.fixed_numeral.specs.Numeral.{Parts, HasNumeral, is_minus}
 use Rattle.fixed_numeral.specs.Value.{magnitude}
 use Rattle.fixed_numeral.specs.declared.radix.Radix.{Radix}
-use Rattle.fixed_numeral.proofs.ValueLemmas.{magnitude_pos}
+use Rattle.fixed_numeral.proofs.Public.{magnitude_pos}
 use Rattle.fixed_read.specs.Reading.{IsReading, IsWholeUlps, with_sign}
 use Rattle.fixed_read.specs.declared.read_number.ReadNumber.{ReadNumber}
 use Rattle.fixed_least.specs.Holding.{Holds}

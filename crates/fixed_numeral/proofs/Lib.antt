@@ -1,19 +1,23 @@
-pub mod NumeralLemmas
-pub mod SpelledLemmas
-pub mod ByteLemmas
-pub mod DigitLemmas
-pub mod ViewLemmas
-pub mod NumberLemmas
-pub mod PlaceLemmas
-pub mod MagnitudeLemmas
-pub mod ScanLemmas
-pub mod ValueLemmas
-pub mod LiteralLemmas
-pub mod LiteralScanLemmas
-pub mod LawLemmas
-pub mod StripLemmas
-pub mod LaneLemmas
-pub mod CompactLemmas
-pub mod SegmentLemmas
-pub mod DecimalLemmas
-pub mod ExponentLemmas
+-- What the proofs of the crates above may cite
+pub mod Public
+
+-- What no other crate can name
+mod NumeralLemmas
+mod SpelledLemmas
+mod ByteLemmas
+mod DigitLemmas
+mod ViewLemmas
+mod NumberLemmas
+mod PlaceLemmas
+mod MagnitudeLemmas
+mod ScanLemmas
+mod ValueLemmas
+mod LiteralLemmas
+mod LiteralScanLemmas
+mod LawLemmas
+mod StripLemmas
+mod LaneLemmas
+mod CompactLemmas
+mod SegmentLemmas
+mod DecimalLemmas
+mod ExponentLemmas

@@ -8,14 +8,14 @@ use Rattle.std.proofs.lemmas.Bool.Decides.{nat_tests}
 use Rattle.std.proofs.lemmas.List.{append-nil}
 use Rattle.fixed_bits.specs.Ranges.{IsInRange}
 use Rattle.fixed_bits.specs.Nearest.{IsNearest, distance}
-use Rattle.fixed_bits.proofs.NearestLemmas.{nearest_by_rest, nearest_by_rest_up}
+use Rattle.fixed_bits.proofs.Public.{nearest_by_rest, nearest_by_rest_up}
 use Rattle.fixed_bits.specs.declared.mode.ReadMode.TheVariants.{NearestEven}
 use Rattle.fixed_numeral.specs.Numeral.{Parts, HasParts, HasNumeral, IsPartsOf, base, point, is_sign, is_minus, signed, fraction_text, text_of, fractional_digits, mantissa}
 use Rattle.fixed_numeral.specs.Value.{magnitude}
-use Rattle.fixed_numeral.proofs.ValueLemmas.{magnitude_pos}
+use Rattle.fixed_numeral.proofs.Public.{magnitude_pos}
 use Rattle.fixed_numeral.specs.declared.radix.Radix.{Radix}
 use Rattle.fixed_read.specs.Reading.{IsReadNumber, IsReadInRange}
-use Rattle.fixed_read.proofs.ReadLemmas.{read_unique}
+use Rattle.fixed_read.proofs.Public.{read_unique}
 
 -- ---- the parts of a text
 abbrev pub sign_of : List ℕ → Option ℕ

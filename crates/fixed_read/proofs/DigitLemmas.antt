@@ -6,8 +6,7 @@ use Rattle.std.proofs.lemmas.Int.Digits.{number_lt}
 use Rattle.std.proofs.lemmas.List.{take_all, drop_all}
 use Rattle.std.proofs.lemmas.Nat.{pow-add}
 use Rattle.std.specs.Int.Digits.{number_from_digits, AllBelowBase}
-use Rattle.fixed_numeral.proofs.SpelledLemmas.{number_append}
-use Rattle.fixed_numeral.proofs.PlaceLemmas.{below_split, trailing_back}
+use Rattle.fixed_numeral.proofs.Public.{number_append, below_split, trailing_back}
 use Rattle.fixed_numeral.specs.Place.{NoTrailingZero}
 use Rattle.fixed_read.specs.Inner.Blocks.{IsBlockOf}
 

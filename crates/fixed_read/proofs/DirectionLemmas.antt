@@ -5,7 +5,7 @@ use Rattle.fixed_bits.specs.Nearest.{IsNearest}
 use Rattle.fixed_bits.specs.Rounded.{IsNotAbove, IsNotBelow, IsRounded}
 use Rattle.fixed_bits.specs.declared.mode.ReadMode.{ReadMode}
 use Rattle.fixed_bits.specs.declared.mode.ReadMode.TheVariants.{NearestEven, TowardsZero, Floor, Ceil}
-use Rattle.fixed_bits.proofs.RoundedLemmas.{rounded_same}
+use Rattle.fixed_bits.proofs.Public.{rounded_same}
 use Rattle.fixed_read.specs.declared.direction.Direction.{Direction}
 use Rattle.fixed_read.specs.declared.direction.Direction.TheVariants.{Nearest, Down, Up}
 use Rattle.fixed_read.specs.declared.lost_fraction.LostFraction.{LostFraction}

@@ -1,9 +1,13 @@
-pub mod DigitLemmas
-pub mod PartLemmas
-pub mod DecimalLemmas
-pub mod NumberLemmas
-pub mod DirectionLemmas
-pub mod WholeLemmas
-pub mod ReadLemmas
-pub mod MultipleLemmas
-pub mod ShortNumeralLemmas
+-- What the proofs of the crates above may cite
+pub mod Public
+
+-- What no other crate can name
+mod DigitLemmas
+mod PartLemmas
+mod DecimalLemmas
+mod NumberLemmas
+mod DirectionLemmas
+mod WholeLemmas
+mod ReadLemmas
+mod MultipleLemmas
+mod ShortNumeralLemmas

@@ -6,8 +6,7 @@ use Rattle.std.proofs.Math.Nat.{one-le-pow, pow-le-pow_left, pow-le-pow_right, m
 use Rattle.std.proofs.lemmas.Nat.{mul-pow}
 use Rattle.std.proofs.lemmas.Int.Digits.{number_after_ge}
 use Rattle.std.specs.Int.Digits.{number_from_digits, AllBelowBase}
-use Rattle.fixed_numeral.proofs.SpelledLemmas.{number_append}
-use Rattle.fixed_numeral.proofs.PlaceLemmas.{below_split}
+use Rattle.fixed_numeral.proofs.Public.{number_append, below_split}
 use Rattle.fixed_numeral.specs.Place.{NoLeadingZero}
 
 -- ---- the last digits

@@ -4,7 +4,7 @@ use Rattle.std.proofs.lemmas.Nat.{pow-add}
 use Rattle.std.proofs.lemmas.Int.Digits.{number_lt}
 use Rattle.std.proofs.Math.Nat.{one-le-pow, pow-le-pow_right}
 use Rattle.std.specs.Int.Digits.{number_from_digits}
-use Rattle.fixed_numeral.proofs.SpelledLemmas.{pow-mul}
+use Rattle.fixed_numeral.proofs.Public.{pow-mul}
 use Rattle.fixed_read.specs.declared.lost_fraction.LostFraction.{LostFraction}
 use Rattle.fixed_read.specs.declared.lost_fraction.LostFraction.TheVariants.{Zero}
 use Rattle.fixed_read.specs.Inner.Blocks.{IsBlockOf}

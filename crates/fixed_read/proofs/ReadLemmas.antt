@@ -14,10 +14,9 @@ use Rattle.fixed_numeral.specs.Spelled.{spelled, IsSameNumber}
 use Rattle.fixed_numeral.specs.Value.{Fraction, magnitude}
 use Rattle.fixed_numeral.specs.declared.radix.Radix.{Radix}
 use Rattle.fixed_numeral.specs.declared.radix.Radix.TheVariants.{Bin, Oct, Dec, Hex}
-use Rattle.fixed_numeral.proofs.ValueLemmas.{magnitude_pos}
+use Rattle.fixed_numeral.proofs.Public.{magnitude_pos}
 use Rattle.fixed_bits.specs.declared.format.Policy.TheVariants.{Saturating, Wrapping}
-use Rattle.fixed_bits.proofs.RoundedLemmas.{rounded_unique, rounded_exists}
-use Rattle.fixed_bits.proofs.LawLemmas.{images_agree, range_decided}
+use Rattle.fixed_bits.proofs.Public.{rounded_unique, rounded_exists, images_agree, range_decided}
 use Rattle.fixed_read.specs.Inner.Magnitudes.{greatest_magnitude}
 use Rattle.fixed_read.specs.Reading.{IsReadNumber, IsReading, HoldsNumber, IsReadInRange, IsReadOutOfRange, with_sign}
 use Rattle.fixed_read.specs.declared.magnitude.Ulps.{Ulps}

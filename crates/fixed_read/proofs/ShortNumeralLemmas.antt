@@ -4,7 +4,7 @@ use Rattle.std.specs.Prelude.{◌<ℤ◌}
 use Rattle.std.proofs.lemmas.Int.{ints}
 use Rattle.std.proofs.lemmas.Nat.{pow-add}
 use Rattle.std.proofs.Math.Nat.{one-le-pow, pow-le-pow_right}
-use Rattle.fixed_numeral.proofs.SpelledLemmas.{pow-mul}
+use Rattle.fixed_numeral.proofs.Public.{pow-mul}
 use Rattle.fixed_numeral.specs.Numeral.{Parts, Exponent, base}
 use Rattle.fixed_numeral.specs.PartNumbers.{IsCompactNumeral, is_power_of_two, placed_magnitude}
 use Rattle.fixed_numeral.specs.Spelled.{IsSameNumber}

@@ -4,7 +4,7 @@ use Rattle.std.proofs.lemmas.Bool.{cases_lt}
 use Rattle.std.proofs.lemmas.Nat.{pow-add}
 use Rattle.std.proofs.Math.Nat.{one-le-pow, pow-le-pow_right}
 use Rattle.std.specs.Int.Digits.{number_from_digits}
-use Rattle.fixed_numeral.proofs.SpelledLemmas.{number_append}
+use Rattle.fixed_numeral.proofs.Public.{number_append}
 use Rattle.fixed_numeral.specs.Spelled.{spelled}
 use Rattle.fixed_read.specs.declared.direction.Direction.{Direction}
 use Rattle.fixed_read.specs.declared.lost_fraction.LostFraction.{LostFraction}

@@ -14,11 +14,11 @@ use Rattle.fixed_bits.specs.Ranges.{IsOutOfRange, IsWidth}
 use Rattle.fixed_bits.specs.declared.format.Policy.{Policy}
 use Rattle.fixed_bits.specs.declared.format.Policy.TheVariants.{Saturating, Wrapping}
 use Rattle.fixed_convert.specs.Moved.{shifted}
-use Rattle.fixed_convert.proofs.MovedLemmas.{grown, shortened}
+use Rattle.fixed_convert.proofs.Public.{grown, shortened}
 use Rattle.fixed_read.specs.Inner.Magnitudes.{greatest_magnitude}
 use Rattle.fixed_read.specs.Reading.{HoldsNumber, with_sign}
 use Rattle.fixed_read.specs.declared.read_number.ReadNumber.{ReadNumber}
-use Rattle.fixed_read.proofs.ReadLemmas.{out_test, inside, image_inside, end_same, wrapped_same}
+use Rattle.fixed_read.proofs.Public.{out_test, inside, image_inside, end_same, wrapped_same}
 use Rattle.fixed_respell.specs.Inner.Numbers.{IsNumber}
 use Rattle.fixed_respell.specs.declared.moving.Number.{Number}
 

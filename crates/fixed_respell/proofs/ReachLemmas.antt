@@ -7,7 +7,7 @@ use Rattle.fixed_bits.specs.Ranges.{IsOutOfRange}
 use Rattle.fixed_bits.specs.declared.format.Policy.{Policy}
 use Rattle.fixed_bits.specs.declared.format.Policy.TheVariants.{Checked}
 use Rattle.fixed_bits.specs.declared.mode.ReadMode.{ReadMode}
-use Rattle.fixed_bits.proofs.LawLemmas.{down_one}
+use Rattle.fixed_bits.proofs.Public.{down_one}
 use Rattle.fixed_numeral.specs.Numeral.{Parts, HasNumeral}
 use Rattle.fixed_numeral.specs.declared.error.ParseErrorKind.{ParseErrorKind}
 use Rattle.fixed_numeral.specs.declared.error.ParseErrorKind.TheVariants.{Overflow}

@@ -12,7 +12,7 @@ use Rattle.line_engine.specs.Output.{AreAnswers, is_fault, reply_line, written_o
 use Rattle.line_engine.specs.AnswerText.{AnswerText}
 use Rattle.fixed_respell.specs.SelfMode.{IsSummary, IsTally, IsWithin, Tally, digit_letter, ends_in, number_text, self_line, self_lines, summary_text, tally_of}
 use Rattle.fixed_respell.specs.Answer.{IsAnswer}
-use Rattle.line_engine.proofs.AnsweredLemmas.{AreAnswers-append, written_of-append}
+use Rattle.line_engine.proofs.Public.{AreAnswers-append, written_of-append}
 
 not_zero : (n : ℕ) → 0 < n → (n == 0) ≡ false
 not_zero n p = grind arith

@@ -2,11 +2,10 @@
 use Rattle.std.proofs.Common.{◌≡◌, ℕ, zero, suc, ◌+◌, ◌*◌, ◌/◌, ◌%◌, ◌^◌, ◌<◌, ◌≤◌, ◌⊎◌, Bool, true, false, List, [], ◌∷◌, length, get_or, refl, sym, subst, arith, inl, inr, ⊎_elim}
 use Rattle.std.specs.Prelude.{◌&&◌, ◌||◌, eqb, leb}
 use Rattle.std.specs.Fmt.{digits}
-use Rattle.std.proofs.lemmas.Bool.{eqb-true, leb-true, cases_lt}
+use Rattle.std.proofs.lemmas.Bool.{and_parts, eqb-true, leb-true, cases_lt}
 use Rattle.std.specs.Int.Digits.{AllBelowBase}
 use Rattle.fixed_bits.specs.Formats.{IsFormat}
 use Rattle.fixed_bits.specs.Ranges.{IsWidth}
-use Rattle.fixed_numeral.proofs.NumeralLemmas.{and_true}
 use Rattle.fixed_respell.specs.Inner.FormatKeys.{IsEntry, counts_word, word_key}
 
 unfoldable pub table : List ℕ
@@ -23,8 +22,8 @@ all_up_to P (suc n) = P (suc n) && all_up_to P n
 up_to : (P : ℕ → Bool) (n i : ℕ) → i ≤ n → all_up_to P n ≡ true → P i ≡ true
 up_to P zero i l e = let z : i ≡ 0 = omega (arith, l) in subst (λ j. P j ≡ true) (sym z) e
 up_to P (suc n) i l e = elim (cases_lt i (suc n)) [
-  | inl below ↦ up_to P n i (omega (arith, below)) (and_true (P (suc n)) (all_up_to P n) e).1
-  | inr above ↦ let z : i ≡ suc n = omega (arith, l, above) in subst (λ j. P j ≡ true) (sym z) (and_true (P (suc n)) (all_up_to P n) e).0
+  | inl below ↦ up_to P n i (omega (arith, below)) (and_parts (P (suc n)) (all_up_to P n) e).1
+  | inr above ↦ let z : i ≡ suc n = omega (arith, l, above) in subst (λ j. P j ≡ true) (sym z) (and_parts (P (suc n)) (all_up_to P n) e).0
 ]
 
 abbrev all_in : (ℕ → Bool) → List ℕ → Bool
@@ -33,8 +32,8 @@ all_in P (x ∷ xs) = P x && all_in P xs
 
 member : (P : ℕ → Bool) (xs : List ℕ) (i : ℕ) → P 0 ≡ true → all_in P xs ≡ true → P (get_or xs i 0) ≡ true
 member P [] i none e = none
-member P (x ∷ xs) zero none e = (and_true (P x) (all_in P xs) e).0
-member P (x ∷ xs) (suc i) none e = member P xs i none (and_true (P x) (all_in P xs) e).1
+member P (x ∷ xs) zero none e = (and_parts (P x) (all_in P xs) e).0
+member P (x ∷ xs) (suc i) none e = member P xs i none (and_parts (P x) (all_in P xs) e).1
 
 -- ---- each word has its entry
 abbrev bytes_below : List ℕ → Bool
@@ -68,13 +67,13 @@ pub record HasEntry (w f : ℕ) (word : List ℕ) : Type 0 where
 
 all_bytes : (xs : List ℕ) → bytes_below xs ≡ true → AllBelowBase 256 xs
 all_bytes [] e = tt
-all_bytes (x ∷ xs) e = let both = and_true (leb x 255) (bytes_below xs) e in (let l = leb-true x 255 both.0 in omega (arith, l), all_bytes xs both.1)
+all_bytes (x ∷ xs) e = let both = and_parts (leb x 255) (bytes_below xs) e in (let l = leb-true x 255 both.0 in omega (arith, l), all_bytes xs both.1)
 
 read_entry : (w f : ℕ) (word : List ℕ) → has_entry w f word ≡ true → HasEntry w f word
 read_entry w f word e =
-    let a = and_true _ _ e in
-    let b = and_true _ _ a.1 in
-    let d = and_true _ _ b.1 in
+    let a = and_parts _ _ e in
+    let b = and_parts _ _ a.1 in
+    let d = and_parts _ _ b.1 in
     record { least = leb-true 4 (length word) a.0; most = leb-true (length word) 6 b.0; below = all_bytes word d.0; entry = eqb-true _ _ d.1 }
 
 pub entry_of : (w f : ℕ) → IsFormat w f → HasEntry w f (counts_word w f)
@@ -114,8 +113,8 @@ entry_is : (e w f key : ℕ) → (eqb e 0 || is_entry w f key) ≡ true → 0 < 
 entry_is e w f key sound some = ⊎_elim
     (λ z. let n = eqb-true e 0 z in absurd (omega (arith, n, some)))
     (λ s.
-    let a = and_true (eqb w 8 || (eqb w 16 || (eqb w 32 || eqb w 64))) (leb f w && eqb key (word_key (counts_word w f))) s in
-    let b = and_true (leb f w) (eqb key (word_key (counts_word w f))) a.1 in
+    let a = and_parts (eqb w 8 || (eqb w 16 || (eqb w 32 || eqb w 64))) (leb f w && eqb key (word_key (counts_word w f))) s in
+    let b = and_parts (leb f w) (eqb key (word_key (counts_word w f))) a.1 in
     (record { is_width = width_is w a.0; within = leb-true f w b.0 }, eqb-true key (word_key (counts_word w f)) b.1))
     (or_true (eqb e 0) (is_entry w f key) sound)
 

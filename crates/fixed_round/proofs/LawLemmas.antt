@@ -7,7 +7,7 @@ use Rattle.std.proofs.lemmas.Int.{ints, by_lt_z}
 use Rattle.std.proofs.lemmas.Nat.{pow_pos}
 use Rattle.fixed_bits.specs.Down.{IsDown, down}
 use Rattle.fixed_bits.proofs.Integers.{next_times, le_times, lt_cancel}
-use Rattle.fixed_bits.proofs.DownLemmas.{down_is}
+use Rattle.fixed_bits.proofs.Public.{down_is}
 use Rattle.fixed_round.specs.Whole.{IsWhole, IsFloor, IsCeil, IsRound, IsTiesEven, is_up, whole, whole_bits, whole_distance}
 use Rattle.fixed_round.specs.Laws.{WholeIsTheOne, WholeIsItsOwn}
 use Rattle.fixed_round.specs.declared.rounding.Rounding.{Rounding}

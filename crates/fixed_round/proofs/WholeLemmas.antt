@@ -8,7 +8,7 @@ use Rattle.std.proofs.lemmas.Nat.{pow_pos}
 use Rattle.fixed_bits.specs.Down.{IsDown, down}
 use Rattle.fixed_bits.specs.Ranges.{IsWide}
 use Rattle.fixed_bits.proofs.Integers.{next_times}
-use Rattle.fixed_bits.proofs.LawLemmas.{down_one}
+use Rattle.fixed_bits.proofs.Public.{down_one}
 use Rattle.fixed_round.specs.Whole.{is_up, whole, whole_bits, whole_distance}
 use Rattle.fixed_round.specs.declared.rounding.Rounding.{Rounding}
 

@@ -6,7 +6,7 @@ use Rattle.std.proofs.lemmas.Int.{ints}
 use Rattle.std.proofs.lemmas.List.{append-nil}
 use Rattle.fixed_bits.specs.Images.{IsWrapped}
 use Rattle.fixed_write.specs.Texts.{last_digits}
-use Rattle.fixed_write.proofs.DigitLemmas.{last_digits_more, last_digits_none, last_digits_length}
+use Rattle.fixed_write.proofs.Public.{last_digits_more, last_digits_none, last_digits_length}
 use Rattle.fixed_show.specs.Blocks.{hex_text, line}
 
 pub unsigned_word : (s : Bool) (n m : ℕ) (b v : ℤ) → s ≡ false → n ≡ m → IsWrapped s n b v → IsWrapped false m b (pos (unsigned_abs v))

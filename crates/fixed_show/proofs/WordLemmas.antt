@@ -7,7 +7,7 @@ use Rattle.std.proofs.lemmas.List.{take_more, drop_more, append-nil}
 use Rattle.std.proofs.lemmas.Int.Digits.{digits_value_push}
 use Rattle.std.specs.Char.{digit_value}
 use Rattle.std.specs.Str.Parse.{AllDigits, digits_value}
-use Rattle.fixed_numeral.proofs.LiteralScanLemmas.{without_append}
+use Rattle.fixed_numeral.proofs.Public.{without_append}
 use Rattle.fixed_numeral.specs.Numeral.{base}
 use Rattle.fixed_numeral.specs.declared.radix.Radix.{Radix}
 use Rattle.fixed_numeral.specs.declared.radix.Radix.TheVariants.{Bin, Oct, Dec, Hex}

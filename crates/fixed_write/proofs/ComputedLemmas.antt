@@ -5,7 +5,7 @@ use Rattle.std.proofs.lemmas.Bool.{cases_Bool, cases_lt, eqb-true, lt-ltb, le-lt
 use Rattle.std.proofs.lemmas.Bool.Decides.{nat_tests}
 use Rattle.std.proofs.Math.Nat.{one-le-pow}
 use Rattle.fixed_bits.specs.Nearest.{IsNearest, distance}
-use Rattle.fixed_bits.proofs.NearestLemmas.{nearest_by_rest, nearest_by_rest_up, nearest_unique}
+use Rattle.fixed_bits.proofs.Public.{nearest_by_rest, nearest_by_rest_up, nearest_unique}
 use Rattle.fixed_write.specs.Shortest.{ReadsBack, IsShortest, nearest_number, reads_back_at, least_places_from, shortest_places, shortest_number}
 use Rattle.fixed_write.proofs.ShortestLemmas.{exact_pair, nearer_reads_back, nearest_least, shortest_from_least}
 

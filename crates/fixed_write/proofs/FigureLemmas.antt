@@ -7,7 +7,7 @@ use Rattle.std.proofs.lemmas.List.{length-replicate}
 use Rattle.std.proofs.Math.Nat.{one-le-pow, pow-zero, pow-le-pow_right, le_of_mul-le-mul_left, lt_of_mul-lt-mul_left}
 use Rattle.std.specs.Fmt.{digit_glyph}
 use Rattle.fixed_bits.specs.Nearest.{IsNearest}
-use Rattle.fixed_bits.proofs.NearestLemmas.{nearest_scaled}
+use Rattle.fixed_bits.proofs.Public.{nearest_scaled}
 use Rattle.fixed_write.specs.declared.style.Notation.{Notation}
 use Rattle.fixed_write.specs.Shortest.{IsShortest, ReadsBack}
 use Rattle.fixed_write.specs.Texts.{whole_digits, last_digits, zero_digit}

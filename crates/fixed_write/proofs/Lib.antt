@@ -1,20 +1,23 @@
-pub mod ShortestLemmas
-pub mod PassLemmas
-pub mod ComputedLemmas
-pub mod DigitLemmas
-pub mod BaseLemmas
-pub mod AsciiLemmas
-pub mod SixteenLemmas
-pub mod LaneLemmas
-pub mod IntegerLemmas
-pub mod TextLemmas
-pub mod PrintingLemmas
-pub mod NearLemmas
-pub mod RestLemmas
-pub mod BlockLemmas
-pub mod ScaleLemmas
-pub mod PlacesLemmas
-pub mod PaddingLemmas
-pub mod StyledLemmas
-pub mod LeadingLemmas
-pub mod FigureLemmas
+-- What the proofs of the crates above may cite
+pub mod Public
+-- What no other crate can name
+mod ShortestLemmas
+mod PassLemmas
+mod ComputedLemmas
+mod DigitLemmas
+mod BaseLemmas
+mod AsciiLemmas
+mod SixteenLemmas
+mod LaneLemmas
+mod IntegerLemmas
+mod TextLemmas
+mod PrintingLemmas
+mod NearLemmas
+mod RestLemmas
+mod BlockLemmas
+mod ScaleLemmas
+mod PlacesLemmas
+mod PaddingLemmas
+mod StyledLemmas
+mod LeadingLemmas
+mod FigureLemmas

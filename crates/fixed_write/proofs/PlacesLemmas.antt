@@ -10,7 +10,8 @@ use Rattle.std.proofs.lemmas.Str.{IsAscii-append}
 use Rattle.std.specs.Fmt.{sign_text}
 use Rattle.std.specs.Int.{is_negative}
 use Rattle.fixed_bits.specs.Nearest.{IsNearest, IsEven}
-use Rattle.fixed_bits.proofs.NearestLemmas.{nearest_unique}
+use Rattle.fixed_bits.proofs.Public.{nearest_unique}
+use Rattle.fixed_write.specs.Laws.{RoundedTextIsComputed, ExactTextIsComputed}
 use Rattle.fixed_write.specs.Shortest.{nearest_number}
 use Rattle.fixed_write.specs.Texts.{point_text, whole_digits, fraction_part}
 use Rattle.fixed_write.proofs.DigitLemmas.{fraction_none, fraction_suc, last_digits_length, whole_digits_short}
@@ -119,6 +120,18 @@ exact_text_is base upper c g even = record {
   exact = exact_is base (unsigned_abs c) g (exact_places_from g 0 base (unsigned_abs c) g) (least_exact g 0 base (unsigned_abs c) g even (omega arith) (λ j l. absurd (omega arith)));
   text_is = refl;
 }
+
+pub rounded_text_computed : RoundedTextIsComputed
+rounded_text_computed base upper k c g text = (
+  (λ h. rounded_text_unique base upper k c g text (rounded_text base upper k c g) h (rounded_text_is base upper k c g)),
+  (λ e. rw e (rounded_text_is base upper k c g)),
+)
+
+pub exact_text_computed : ExactTextIsComputed
+exact_text_computed base upper c g even text = (
+  (λ h. exact_text_unique base upper c g text (exact_text base upper c g) h (exact_text_is base upper c g even)),
+  (λ e. rw e (exact_text_is base upper c g even)),
+)
 
 pub exact_text_ascii : (base : ℕ) (upper : Bool) (c : ℤ) (g : ℕ) → 2 ≤ base → base ≤ 16 → IsAscii (exact_text base upper c g)
 unfolding exact_text

@@ -5,7 +5,7 @@ use Rattle.std.proofs.lemmas.Nat.{pow-add, div_below}
 use Rattle.std.specs.Fmt.{sign_text}
 use Rattle.std.specs.Int.{is_negative}
 use Rattle.fixed_bits.specs.Nearest.{IsNearest}
-use Rattle.fixed_bits.proofs.NearestLemmas.{nearest_scaled}
+use Rattle.fixed_bits.proofs.Public.{nearest_scaled}
 use Rattle.fixed_write.specs.Places.{IsExact, IsRoundedText, IsExactText}
 use Rattle.fixed_write.specs.Inner.Digits.{AppendsRounded, AppendsExact, IsBlock}
 

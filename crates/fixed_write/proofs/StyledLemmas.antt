@@ -7,7 +7,7 @@ use Rattle.std.specs.Int.{is_negative}
 use Rattle.std.proofs.Math.Nat.{one-le-pow}
 use Rattle.std.proofs.lemmas.Nat.{pow-add, mul-pow}
 use Rattle.fixed_bits.specs.Nearest.{IsNearest}
-use Rattle.fixed_bits.proofs.NearestLemmas.{nearest_by_rest, nearest_unique}
+use Rattle.fixed_bits.proofs.Public.{nearest_by_rest, nearest_unique}
 use Rattle.fixed_write.specs.declared.style.Notation.{Notation}
 use Rattle.fixed_write.specs.declared.style.Notation.TheVariants.{Dec, LowerExp, UpperExp, Bin, Oct, LowerHex, UpperHex}
 use Rattle.fixed_write.specs.Texts.{IsShortestText, decimal_text, whole_digits, last_digits, fraction_part, point_text, point, zero_digit}

@@ -1,10 +1,14 @@
-pub mod AnsweredLemmas
+-- What the proofs of the crates above may cite
+pub mod Public
+
+-- What no other crate can name
+mod AnsweredLemmas
 mod AskedLemmas
 mod ChunkLemmas
 mod CompleteLemmas
 mod FedLemmas
 mod LineLawLemmas
-pub mod LineLemmas
+mod LineLemmas
 mod PrefixLemmas
 mod RunLemmas
 mod TakenLemmas

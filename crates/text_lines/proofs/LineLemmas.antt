@@ -4,7 +4,7 @@ use Rattle.std.proofs.lemmas.Grind.{common_steps}
 use Rattle.std.proofs.lemmas.List.{take-append-drop, drop_more, get_or_default, get_or-take, length-take, take_rest}
 use Rattle.memchr.specs.Find.{NoneBefore, Nowhere, Passes, is_byte}
 use Rattle.line_engine.specs.Lines.{ended_lines, last_line, lines, unended}
-use Rattle.line_engine.proofs.LineLemmas.{ended_lines_at, ended_lines_without, unended_at, unended_none}
+use Rattle.line_engine.proofs.Public.{ended_lines_at, ended_lines_without, unended_at, unended_none}
 
 newline_is : (b : ℕ) → eqb b 10 ≡ true → b ≡ 10
 newline_is b is = grind (arith, common_steps)

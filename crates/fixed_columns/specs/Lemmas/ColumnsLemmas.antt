@@ -1,7 +1,7 @@
 -- A text of a column is the only one, and an input has one answer.
 use Rattle.std.specs.Prelude.{◌≡◌, ℕ, Bool, List, [], ◌∷◌, ◌++◌}
 use Rattle.std.proofs.Common.{sym, ap, ◌∙◌, inl, inr, subst}
-use Rattle.fixed_laws.proofs.StyledLemmas.{styled_text_unique}
+use Rattle.fixed_laws.proofs.Public.{styled_text_unique}
 use Rattle.fixed_respell.specs.LineWords.{space}
 use Rattle.fixed_respell.specs.Words.{format_text}
 use Rattle.fixed_write.specs.declared.style.Style.{Style}

@@ -9,7 +9,7 @@ use Rattle.std.specs.Ordering.{nat_cmp, bool_cmp, is_eq, ordering_then}
 use Rattle.std.proofs.lemmas.Map.Lookups.{exact_signed, exact_unsigned}
 use Rattle.fixed_bits.specs.Formats.{FormatParts}
 use Rattle.fixed_convert.specs.Order.{Number, order, order_of}
-use Rattle.fixed_convert.proofs.OrderLemmas.{cmp_times, total}
+use Rattle.fixed_convert.proofs.Public.{cmp_times, total}
 use Rattle.fixed_columns.specs.Cells.{CellParts, cell_order, format_order}
 
 -- ---- it is total

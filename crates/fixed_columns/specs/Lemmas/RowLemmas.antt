@@ -8,10 +8,9 @@ use Rattle.fixed_bits.specs.declared.mode.ReadMode.TheVariants.{NearestEven}
 use Rattle.fixed_numeral.specs.Numeral.{Parts, HasNumeral}
 use Rattle.fixed_numeral.specs.declared.error.ParseErrorKind.{ParseErrorKind}
 use Rattle.fixed_numeral.specs.declared.radix.Radix.TheVariants.{Dec}
-use Rattle.fixed_numeral.proofs.LawLemmas.{one_cause}
-use Rattle.fixed_numeral.proofs.NumeralLemmas.{parts_unique}
+use Rattle.fixed_numeral.proofs.Public.{one_cause, parts_unique}
 use Rattle.fixed_read.specs.Reading.{IsReadNumber}
-use Rattle.fixed_read.proofs.ReadLemmas.{read_number_is_the_one}
+use Rattle.fixed_read.proofs.Public.{read_number_is_the_one}
 use Rattle.fixed_respell.specs.LineWords.{space}
 use Rattle.fixed_respell.specs.Split.{count_of}
 use Rattle.fixed_respell.specs.Words.{IsFormatWord}

@@ -5,13 +5,12 @@ use Rattle.std.proofs.lemmas.Int.{ints}
 use Rattle.fixed_bits.specs.Formats.{FormatParts}
 use Rattle.fixed_bits.specs.Ranges.{IsInRange, IsOutOfRange}
 use Rattle.fixed_bits.specs.declared.mode.ReadMode.TheVariants.{NearestEven}
-use Rattle.fixed_bits.proofs.LawLemmas.{rounded_one}
+use Rattle.fixed_bits.proofs.Public.{rounded_one}
 use Rattle.fixed_numeral.specs.Literal.{HasLiteral, literal_radix}
 use Rattle.fixed_numeral.specs.Numeral.{Parts, is_minus, signed}
 use Rattle.fixed_numeral.specs.declared.error.ParseErrorKind.{ParseErrorKind}
 use Rattle.fixed_numeral.specs.declared.radix.Radix.{Radix}
-use Rattle.fixed_numeral.proofs.LawLemmas.{one_literal, one_literal_cause}
-use Rattle.fixed_numeral.proofs.ValueLemmas.{magnitude_pos}
+use Rattle.fixed_numeral.proofs.Public.{one_literal, one_literal_cause, magnitude_pos}
 use Rattle.fixed_read.specs.Reading.{IsReadNumber}
 use Rattle.fixed_respell.specs.Words.{IsFormatWord}
 use Rattle.fixed_respell.specs.LineWords.{space}

@@ -9,7 +9,7 @@ use Rattle.fixed_respell.specs.Lemmas.AnswerLemmas.{format_word_one, radix_one}
 use Rattle.fixed_respell.specs.Lemmas.LanguageLemmas.{IsDefinite, answer_in_one, long_by_prefix}
 use Rattle.fixed_respell.specs.Lemmas.LineWordLemmas.{words_one}
 use Rattle.fixed_write.specs.Texts.{IsShortestText}
-use Rattle.fixed_write.proofs.TextLemmas.{shortest_text_unique}
+use Rattle.fixed_write.proofs.Public.{shortest_text_unique}
 use Rattle.line_engine.specs.AnswerText.{AnswerText}
 use Rattle.line_engine.specs.Lines.{kept_length}
 use Rattle.fixed_enclose.specs.Answer.{Asks, IsAnswer, IsEnclosedAnswer, IsRefusalAnswer, IsTaskAnswered, Task, enclose_language, ends_answer, fault_message, task_of}

@@ -8,15 +8,13 @@ use Rattle.fixed_bits.specs.Ranges.{IsInRange, IsOutOfRange}
 use Rattle.fixed_bits.specs.Rounded.{IsRounded}
 use Rattle.fixed_bits.specs.declared.mode.ReadMode.TheVariants.{Floor, TowardsZero, Ceil}
 use Rattle.fixed_bits.proofs.Integers.{lt_cancel, neg_times, next_times}
-use Rattle.fixed_bits.proofs.LawLemmas.{range_decided}
-use Rattle.fixed_bits.proofs.RoundedLemmas.{rounded_unique}
+use Rattle.fixed_bits.proofs.Public.{range_decided, rounded_unique}
 use Rattle.fixed_numeral.specs.Cause.{HasCause, kind_of}
 use Rattle.fixed_numeral.specs.Numeral.{Parts, HasNumeral, is_minus}
 use Rattle.fixed_numeral.specs.Value.{magnitude}
 use Rattle.fixed_numeral.specs.declared.error.ParseErrorKind.{ParseErrorKind}
 use Rattle.fixed_numeral.specs.declared.radix.Radix.{Radix}
-use Rattle.fixed_numeral.proofs.NumeralLemmas.{parts_unique}
-use Rattle.fixed_numeral.proofs.ValueLemmas.{magnitude_pos}
+use Rattle.fixed_numeral.proofs.Public.{parts_unique, magnitude_pos}
 use Rattle.fixed_read.specs.Reading.{IsReadNumber, IsWholeUlps, IsMultipleOf, with_sign}
 use Rattle.fixed_enclose.specs.Enclosure.{Encloses, in_ulps, IsEnclosed, IsRefusal}
 use Rattle.fixed_enclose.specs.Laws.{NoneIsTighter, ExactWhereEqual, PairIsTheOne}

@@ -7,15 +7,14 @@ use Rattle.fixed_numeral.specs.Cause.{HasCause}
 use Rattle.fixed_numeral.specs.Numeral.{Parts, IsNumeral}
 use Rattle.fixed_numeral.specs.Messages.{message_of}
 use Rattle.fixed_numeral.specs.declared.error.ParseErrorKind.{ParseErrorKind}
-use Rattle.fixed_numeral.proofs.LawLemmas.{one_cause}
+use Rattle.fixed_numeral.proofs.Public.{one_cause, parts_unique}
 use Rattle.fixed_numeral.specs.declared.radix.Radix.{Radix}
-use Rattle.fixed_numeral.proofs.NumeralLemmas.{parts_unique}
 use Rattle.line_engine.specs.Lines.{lines}
 use Rattle.line_engine.specs.Output.{written_of}
 use Rattle.line_engine.specs.AnswerText.{AnswerText}
 use Rattle.fixed_respell.specs.Words.{format_text}
 use Rattle.fixed_least.specs.Holding.{AllHold, AllNumerals, Holds, HoldsLine, IsFirstRefused, IsLeastFormat, RefusesLine}
-use Rattle.fixed_bits.proofs.OrderLemmas.{rank_below, rank_has_format, rank_order, rank_unique}
+use Rattle.fixed_bits.proofs.Public.{rank_below, rank_has_format, rank_order, rank_unique}
 use Rattle.fixed_least.specs.Laws.{AnswerIsTheOne, LeastIsTheOne, LongerHasNoLesser, PlacesAreTheOnes}
 use Rattle.fixed_least.specs.Least.{AreLines, IsFaultAnswer, IsHeadText, IsLeast, IsLeastAnswer, IsLeastLine, IsLeastText, IsNoNumeral, IsRefutedText, fault_line, kind_at, place_of}
 use Rattle.fixed_bits.specs.Order.{rank}

@@ -27,7 +27,7 @@ use Rattle.fixed_respell.specs.Lemmas.ReachedLemmas.{respelled_one, refusal_none
 use Rattle.fixed_respell.specs.Lemmas.SplitLemmas.{split_has_one, same_split}
 use Rattle.fixed_respell.specs.Lemmas.WordLemmas.{no_slash}
 use Rattle.fixed_write.specs.Texts.{IsShortestText}
-use Rattle.fixed_write.proofs.TextLemmas.{shortest_text_unique}
+use Rattle.fixed_write.proofs.Public.{shortest_text_unique}
 
 -- ---- words name one thing: one byte of each says which
 first_byte : List ℕ → ℕ

@@ -4,14 +4,13 @@ use Rattle.fixed_bits.specs.Down.{IsDown}
 use Rattle.fixed_bits.specs.Images.{IsImage}
 use Rattle.fixed_bits.specs.declared.format.Policy.TheVariants.{Checked}
 use Rattle.fixed_bits.specs.declared.mode.ReadMode.{ReadMode}
-use Rattle.fixed_bits.proofs.LawLemmas.{rounded_one, image_one, has_none, down_one}
+use Rattle.fixed_bits.proofs.Public.{rounded_one, image_one, has_none, down_one}
 use Rattle.fixed_numeral.specs.Cause.{HasCause, kind_of}
 use Rattle.fixed_numeral.specs.Numeral.{Parts, HasNumeral, is_minus, signed}
 use Rattle.fixed_numeral.specs.declared.error.ParseErrorKind.{ParseErrorKind}
 use Rattle.fixed_numeral.specs.declared.error.ParseErrorKind.TheVariants.{Overflow}
 use Rattle.fixed_numeral.specs.declared.radix.Radix.{Radix}
-use Rattle.fixed_numeral.proofs.NumeralLemmas.{parts_unique}
-use Rattle.fixed_numeral.proofs.ValueLemmas.{magnitude_pos}
+use Rattle.fixed_numeral.proofs.Public.{parts_unique, magnitude_pos}
 use Rattle.fixed_read.specs.Reading.{IsReadNumber}
 use Rattle.fixed_respell.specs.Laws.{ReachedIsTheOne, OverflowedHasNone, RespelledIsTheOne, RefusalHasNone, RefusalIsTheOne}
 use Rattle.fixed_respell.specs.Reached.{OverflowsOn}

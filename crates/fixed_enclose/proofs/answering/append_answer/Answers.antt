@@ -2,7 +2,7 @@ use Rattle.std.proofs.Common.{◌≡◌, ◌≤◌, ◌++◌, ◌↔◌, IsTrue,
 use Rattle.std.specs.Prelude.{codes}
 use Rattle.std.specs.Int.{w128}
 use Rattle.std.proofs.lemmas.Int.{to_z-of_z}
-use Rattle.fixed_bits.proofs.ImageLemmas.{width_most}
+use Rattle.fixed_bits.proofs.Public.{width_most}
 use Rattle.fixed_write.specs.Texts.{IsShortestText, shortest_text}
 use Rattle.fixed_numeral.specs.Messages.{message_of}
 use Rattle.fixed_numeral.specs.declared.error.ParseErrorKind.{ParseErrorKind}

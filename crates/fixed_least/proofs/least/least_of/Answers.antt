@@ -1,7 +1,7 @@
 use Rattle.std.proofs.Common.{◌≡◌, ◌∙◌, ◌<◌, ap, arith, get_or, take}
 use Rattle.std.proofs.lemmas.List.{length-take, take_all}
 use Rattle.fixed_bits.specs.Order.{rank}
-use Rattle.fixed_bits.proofs.OrderLemmas.{rank_below}
+use Rattle.fixed_bits.proofs.Public.{rank_below}
 use Rattle.fixed_least.proofs.least.least_of.Goals as goal
 
 pub returns-clause-short : goal.returns-clause-short

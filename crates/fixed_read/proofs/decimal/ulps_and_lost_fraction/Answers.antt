@@ -1,6 +1,6 @@
 use Rattle.std.proofs.Common.{◌≡◌, ℕ, ◌<◌, List, [], drop, length, ap, arith, length-drop}
 use Rattle.std.proofs.lemmas.List.{drop_all}
-use Rattle.fixed_numeral.proofs.PlaceLemmas.{below_split, trailing_back}
+use Rattle.fixed_numeral.proofs.Public.{below_split, trailing_back}
 use Rattle.fixed_read.proofs.DecimalLemmas.{settled_tail, settled_share}
 use Rattle.fixed_read.proofs.decimal.ulps_and_lost_fraction.Goals as goal
 

@@ -1,5 +1,5 @@
 use Rattle.std.proofs.Common.{◌≡◌, ℕ, ◌*◌, ◌^◌, ◌<◌, ◌∙◌, sym, arith}
-use Rattle.fixed_numeral.proofs.SpelledLemmas.{pow-mul}
+use Rattle.fixed_numeral.proofs.Public.{pow-mul}
 use Rattle.fixed_read.proofs.NumberLemmas.{two_exponent}
 use Rattle.fixed_read.proofs.digits.eight_to.Goals as goal
 

@@ -1,7 +1,7 @@
 use Rattle.std.proofs.Common.{◌≡◌, [], ◌+◌, ◌*◌, ◌^◌, ◌∙◌, drop, ap, arith}
 use Rattle.std.proofs.Math.Seq.{drop-drop}
 use Rattle.std.proofs.lemmas.List.{drop_all}
-use Rattle.fixed_numeral.proofs.PlaceLemmas.{trailing_back}
+use Rattle.fixed_numeral.proofs.Public.{trailing_back}
 use Rattle.fixed_read.proofs.DigitLemmas.{led_join, led_zeros, not_longer}
 use Rattle.fixed_read.proofs.digits.leading_number_u128.Goals as goal
 

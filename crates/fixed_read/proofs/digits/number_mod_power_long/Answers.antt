@@ -1,6 +1,6 @@
 use Rattle.std.proofs.Common.{◌≡◌, ◌-◌, ◌^◌, ◌<◌, ◌↔◌, IsTrue, drop, length, arith, refl, pow_pos}
 use Rattle.fixed_read.proofs.NumberLemmas.{chunk_room, trailing_none, trailing_more, trailing_all}
-use Rattle.fixed_numeral.proofs.PlaceLemmas.{below_split}
+use Rattle.fixed_numeral.proofs.Public.{below_split}
 use Rattle.fixed_read.proofs.digits.number_mod_power_long.Goals as goal
 
 pub take_number-number-requires-clause-digits : goal.take_number-number-requires-clause-digits

@@ -1,5 +1,5 @@
 use Rattle.std.proofs.Common.{◌≡◌, ◌+◌, ◌-◌, ◌*◌, ◌/◌, ◌^◌, ◌∙◌, ap, sym, arith}
-use Rattle.fixed_numeral.proofs.SpelledLemmas.{pow-mul}
+use Rattle.fixed_numeral.proofs.Public.{pow-mul}
 use Rattle.fixed_read.proofs.PartLemmas.{base_least, base_most, block_room, word_room}
 use Rattle.fixed_read.proofs.power_of_two_radix.leading_block.Goals as goal
 

@@ -1,6 +1,6 @@
 use Rattle.std.proofs.Common.{◌↔◌, IsTrue, refl}
 use Rattle.fixed_bits.specs.Ranges.{IsOutOfRange}
-use Rattle.fixed_bits.proofs.LawLemmas.{range_decided}
+use Rattle.fixed_bits.proofs.Public.{range_decided}
 use Rattle.fixed_read.proofs.ReadLemmas.{inside, wrapped_inside}
 use Rattle.fixed_read.proofs.read.in_range.Goals as goal
 

@@ -1,6 +1,6 @@
 use Rattle.std.proofs.Common.{◌≡◌, refl}
 use Rattle.fixed_numeral.specs.Value.{magnitude}
-use Rattle.fixed_numeral.proofs.ValueLemmas.{magnitude_pos}
+use Rattle.fixed_numeral.proofs.Public.{magnitude_pos}
 use Rattle.fixed_read.specs.Inner.Directions.{direction}
 use Rattle.fixed_read.specs.Inner.Rounding.{IsMagnitude}
 use Rattle.fixed_read.proofs.read_number.number_of_short_numeral.Goals as goal

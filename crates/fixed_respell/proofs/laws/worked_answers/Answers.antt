@@ -20,7 +20,7 @@ use Rattle.fixed_respell.specs.declared.fault.LineFault.TheVariants.{BadRadix}
 use Rattle.fixed_respell.specs.Lemmas.FaultLemmas.{first_radix}
 use Rattle.fixed_write.specs.Shortest.{least_places_from, nearest_number, reads_back_at, shortest_number, shortest_places}
 use Rattle.fixed_write.specs.Texts.{decimal_text, fraction_part, last_digits, point_text, shortest_text, whole_digits}
-use Rattle.fixed_write.proofs.TextLemmas.{shortest_text_is}
+use Rattle.fixed_write.proofs.Public.{shortest_text_is}
 use Rattle.fixed_respell.proofs.ExampleLemmas.{mode_word, plain_word}
 use Rattle.fixed_respell.proofs.ReachedExampleLemmas.{floor_minus_2_5, overflow_300, parts, respelled_0_1p1, respelled_0_25, respelled_2_99, respelled_3_1875, wrapped_C0F_FE}
 use Rattle.fixed_respell.proofs.laws.worked_answers.Goals as goal

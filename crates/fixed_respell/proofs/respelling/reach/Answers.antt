@@ -4,8 +4,7 @@ use Rattle.std.proofs.lemmas.Bool.{false≢true}
 use Rattle.std.proofs.lemmas.Int.{to_z-of_z}
 use Rattle.fixed_bits.specs.Down.{down}
 use Rattle.fixed_bits.specs.Images.{IsImage}
-use Rattle.fixed_bits.proofs.ImageLemmas.{in_wide, width_most}
-use Rattle.fixed_bits.proofs.LawLemmas.{image_within}
+use Rattle.fixed_bits.proofs.Public.{in_wide, width_most, image_within}
 use Rattle.fixed_read.specs.Reading.{with_sign}
 use Rattle.fixed_respell.specs.Inner.Numbers.{IsNumber}
 use Rattle.fixed_respell.specs.Lemmas.ReachedLemmas.{refusal_none}

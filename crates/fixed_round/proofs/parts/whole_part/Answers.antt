@@ -1,7 +1,7 @@
 use Rattle.std.proofs.Common.{rules, arith, ◌≡◌, ◌∙◌, sym, FitsSigned, ◌-ℤ◌, pos, to_z, of_z}
 use Rattle.std.specs.Int.{w128}
 use Rattle.std.proofs.lemmas.Int.{ints, to_z-of_z}
-use Rattle.fixed_bits.proofs.ImageLemmas.{in_wide, width_most}
+use Rattle.fixed_bits.proofs.Public.{in_wide, width_most}
 use Rattle.fixed_round.specs.Parts.{int_bits}
 use Rattle.fixed_round.proofs.PartLemmas.{int_none, int_floor, int_fits, rest_fits}
 use Rattle.fixed_round.proofs.parts.whole_part.Given.{Over}

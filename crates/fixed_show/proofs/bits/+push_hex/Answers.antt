@@ -1,6 +1,6 @@
 use Rattle.std.proofs.Common.{◌≡◌, ◌+◌, ◌-◌, ◌/◌, ◌++◌, ◌∷◌, [], ℕ, length, false, rules, arith, ap, ◌∙◌, length-append}
 use Rattle.fixed_write.specs.Texts.{last_digits}
-use Rattle.fixed_write.proofs.DigitLemmas.{last_digits_length}
+use Rattle.fixed_write.proofs.Public.{last_digits_length}
 use Rattle.fixed_show.proofs.HexLemmas.{hex_more, hex_none}
 use Rattle.fixed_show.proofs.bits.+push_hex.Goals as goal
 

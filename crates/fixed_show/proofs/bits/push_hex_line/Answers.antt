@@ -1,6 +1,6 @@
 use Rattle.std.proofs.Common.{◌≡◌, ◌+◌, ◌/◌, ◌∙◌, length, length-append, codes, false, rules, arith, ap}
 use Rattle.fixed_write.specs.Texts.{last_digits}
-use Rattle.fixed_write.proofs.DigitLemmas.{last_digits_length}
+use Rattle.fixed_write.proofs.Public.{last_digits_length}
 use Rattle.fixed_show.proofs.HexLemmas.{hex_pushed, hex_length}
 use Rattle.fixed_show.proofs.bits.push_hex_line.Goals as goal
 

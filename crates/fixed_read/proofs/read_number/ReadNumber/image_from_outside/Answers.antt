@@ -1,7 +1,7 @@
 use Rattle.std.proofs.Common.{◌≡◌, ◌∙◌, to_z, of_z, FitsSigned, rules}
 use Rattle.std.specs.Int.{w128}
 use Rattle.std.proofs.lemmas.Int.{to_z-of_z}
-use Rattle.fixed_bits.proofs.ImageLemmas.{in_wide, width_most}
+use Rattle.fixed_bits.proofs.Public.{in_wide, width_most}
 use Rattle.fixed_read.specs.Reading.{with_sign}
 use Rattle.fixed_read.proofs.ReadLemmas.{end_same, end_in_range, wrapped_some}
 use Rattle.fixed_read.proofs.read_number.ReadNumber.image_from_outside.Goals as goal

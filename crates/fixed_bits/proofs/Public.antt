@@ -1,0 +1,99 @@
+-- What the proofs of the crates above may cite: the laws of this crate, and facts of its definitions. The proofs are in proofs/.
+use Rattle.std.specs.Prelude.{◌≡◌, ℕ, ◌+◌, ◌*◌, ◌<◌, ◌≤◌, ◌↔◌, Bool, ℤ}
+use Rattle.fixed_bits.specs.Down.{IsDown, down}
+use Rattle.fixed_bits.specs.Formats.{FormatParts, IsFormat}
+use Rattle.fixed_bits.specs.Images.{DiffersByMultiple}
+use Rattle.fixed_bits.specs.Laws.{RangeIsDecided, EndsAreWide, ImagesAgree, CheckedHasNone, ImageIsTheOne, ImageIsInRange, DownIsTheOne, RankIsOrder, RoundedIsTheOne, EqualFractionsRoundAlike}
+use Rattle.fixed_bits.specs.Nearest.{IsNearest, IsEven}
+use Rattle.fixed_bits.specs.Order.{rank}
+use Rattle.fixed_bits.specs.Ranges.{IsInRange, IsWidth, IsWide}
+use Rattle.fixed_bits.specs.Rounded.{IsRounded}
+use Rattle.fixed_bits.specs.declared.mode.ReadMode.{ReadMode}
+use Rattle.fixed_bits.proofs.DownLemmas
+use Rattle.fixed_bits.proofs.ImageLemmas
+use Rattle.fixed_bits.proofs.LawLemmas
+use Rattle.fixed_bits.proofs.NearestLemmas
+use Rattle.fixed_bits.proofs.OrderLemmas
+use Rattle.fixed_bits.proofs.RoundedLemmas
+
+-- ---- ranges and images
+pub width_most : (n : ℕ) → IsWidth n → n ≤ 64
+width_most = ImageLemmas.width_most
+
+pub in_wide : (s : Bool) (n : ℕ) (v : ℤ) → n ≤ 64 → IsInRange s n v → IsWide v
+in_wide = ImageLemmas.in_wide
+
+pub near_joined : (m : ℕ) (a b c : ℤ) → DiffersByMultiple m a b → DiffersByMultiple m b c → DiffersByMultiple m a c
+near_joined = ImageLemmas.near_joined
+
+pub range_decided : RangeIsDecided
+range_decided = LawLemmas.range_decided
+
+pub ends_wide : EndsAreWide
+ends_wide = LawLemmas.ends_wide
+
+pub images_agree : ImagesAgree
+images_agree = LawLemmas.images_agree
+
+pub has_none : CheckedHasNone
+has_none = LawLemmas.has_none
+
+pub image_one : ImageIsTheOne
+image_one = LawLemmas.image_one
+
+pub image_within : ImageIsInRange
+image_within = LawLemmas.image_within
+
+-- ---- moving down
+pub down_is : (b : ℤ) (f g : ℕ) → IsDown b f g (down b f g)
+down_is = DownLemmas.down_is
+
+pub down_equal : (b : ℤ) (f g : ℕ) (d : ℤ) → IsDown b f g d → d ≡ down b f g
+down_equal = DownLemmas.down_equal
+
+pub down_one : DownIsTheOne
+down_one = LawLemmas.down_one
+
+-- ---- the nearest whole number
+pub nearest_exists : (num den : ℕ) → 0 < den → (q : ℕ) × IsNearest num den q
+nearest_exists = NearestLemmas.nearest_exists
+
+pub nearest_unique : (num den p q : ℕ) → 0 < den → IsNearest num den p → IsNearest num den q → p ≡ q
+nearest_unique = NearestLemmas.nearest_unique
+
+-- the same fraction in other words has the same nearest number
+pub nearest_scaled : (k num den q : ℕ) → 0 < k → IsNearest (k * num) (k * den) q ↔ IsNearest num den q
+nearest_scaled = NearestLemmas.nearest_scaled
+
+-- by quotient and rest
+pub nearest_by_rest : (num den q r : ℕ) → num ≡ q * den + r → 2 * r ≤ den → (2 * r ≡ den → IsEven q) → IsNearest num den q
+nearest_by_rest = NearestLemmas.nearest_by_rest
+
+pub nearest_by_rest_up : (num den q r : ℕ) → num ≡ q * den + r → r < den → den ≤ 2 * r → (2 * r ≡ den → IsEven (q + 1)) → IsNearest num den (q + 1)
+nearest_by_rest_up = NearestLemmas.nearest_by_rest_up
+
+-- ---- the rounded whole number
+pub rounded_exists : (m : ReadMode) (negative : Bool) (num den : ℕ) → 0 < den → (q : ℕ) × IsRounded m negative num den q
+rounded_exists = RoundedLemmas.rounded_exists
+
+pub rounded_unique : (m : ReadMode) (negative : Bool) (num den p q : ℕ) → 0 < den → IsRounded m negative num den p → IsRounded m negative num den q → p ≡ q
+rounded_unique = RoundedLemmas.rounded_unique
+
+pub rounded_one : RoundedIsTheOne
+rounded_one = LawLemmas.rounded_one
+
+pub rounded_same : EqualFractionsRoundAlike
+rounded_same = LawLemmas.rounded_alike
+
+-- ---- the order of formats
+pub rank_below : (f : FormatParts) → IsFormat f.width f.frac → rank f < 248
+rank_below = OrderLemmas.rank_below
+
+pub rank_has_format : (n : ℕ) → n < 248 → (g : FormatParts) × IsFormat g.width g.frac × (rank g ≡ n)
+rank_has_format = OrderLemmas.rank_has_format
+
+pub rank_unique : (f g : FormatParts) → IsFormat f.width f.frac → IsFormat g.width g.frac → rank f ≡ rank g → f ≡ g
+rank_unique = OrderLemmas.rank_unique
+
+pub rank_order : RankIsOrder
+rank_order = OrderLemmas.rank_order

@@ -1,0 +1,33 @@
+-- What the proofs of the crates above may cite.
+use Rattle.std.specs.Prelude.{◌≡◌, ℕ, ◌<◌, ◌||◌, true, eqb, List, [], ◌∷◌, ◌++◌, length, get_or}
+use Rattle.line_engine.specs.AnswerText.{AnswerText}
+use Rattle.line_engine.specs.Lines.{ended_lines, unended}
+use Rattle.line_engine.specs.Output.{AreAnswers, any_fault, written_of}
+use Rattle.line_engine.proofs.AnsweredLemmas
+use Rattle.line_engine.proofs.LineLemmas
+
+-- ---- answers to lines, and to the lines after them
+pub AreAnswers-append : (A : List ℕ → AnswerText → Type 0) (lines more : List (List ℕ)) (replies others : List AnswerText) → AreAnswers A lines replies → AreAnswers A more others → AreAnswers A (lines ++ more) (replies ++ others)
+AreAnswers-append = AnsweredLemmas.AreAnswers-append
+
+pub any_fault-append : (replies more : List AnswerText) → any_fault (replies ++ more) ≡ (any_fault replies || any_fault more)
+any_fault-append = AnsweredLemmas.any_fault-append
+
+pub written_of-append : (replies more : List AnswerText) → written_of (replies ++ more) ≡ written_of replies ++ written_of more
+written_of-append = AnsweredLemmas.written_of-append
+
+-- ---- lines
+-- no line ends where no byte is a newline
+pub ended_lines_without : (xs : List ℕ) → ((k : ℕ) → k < length xs → eqb (get_or xs k 0) 10 ≡ true → ⊥) → ended_lines xs ≡ []
+ended_lines_without = LineLemmas.ended_lines_without
+
+-- bytes in which no line ends are unended as a whole
+pub unended_none : (xs : List ℕ) → ended_lines xs ≡ [] → unended xs ≡ xs
+unended_none = LineLemmas.unended_none
+
+-- a newline after such bytes ends a line
+pub ended_lines_at : (xs ys : List ℕ) → ended_lines xs ≡ [] → ended_lines (xs ++ 10 ∷ ys) ≡ xs ∷ ended_lines ys
+ended_lines_at = LineLemmas.ended_lines_at
+
+pub unended_at : (xs ys : List ℕ) → ended_lines xs ≡ [] → unended (xs ++ 10 ∷ ys) ≡ unended ys
+unended_at = LineLemmas.unended_at
