@@ -1,7 +1,6 @@
 -- What the proofs of the crates above may cite
 pub mod Integers
 pub mod Public
-
 -- What no other crate can name
 mod DownLemmas
 mod ImageLemmas
