@@ -10,3 +10,4 @@ mod WholeLemmas
 mod ReadLemmas
 mod MultipleLemmas
 mod ShortNumeralLemmas
+mod ShareLemmas

@@ -1,5 +1,5 @@
 -- Readings from the numbers of a numeral's parts.
-use Rattle.std.proofs.Common.{◌≡◌, ℕ, zero, suc, ◌+◌, ◌-◌, ◌*◌, ◌/◌, ◌%◌, ◌^◌, ◌<◌, ◌≤◌, ◌↔◌, Bool, true, false, IsTrue, refl, sym, ap, ◌∙◌, arith, pow_pos, mul-pos, mul-le-mul_right, mul-le-mul_left, div-add-mod', mod-lt, ℤ, pos, negsuc, ◌-ℤ◌, subst, Option, Some, None, IfSome}
+use Rattle.std.proofs.Common.{◌≡◌, ℕ, zero, suc, ◌+◌, ◌-◌, ◌*◌, ◌/◌, ◌%◌, ◌^◌, ◌<◌, ◌≤◌, ◌↔◌, Bool, true, false, IsTrue, refl, sym, ap, ◌∙◌, arith, pow_pos, mul-pos, mul-le-mul_right, div-add-mod', mod-lt, ℤ, pos, negsuc, ◌-ℤ◌, subst, Option, Some, None, IfSome}
 use Rattle.std.specs.Prelude.{◌<ℤ◌}
 use Rattle.std.proofs.lemmas.Int.{ints}
 use Rattle.std.proofs.lemmas.Nat.{pow-add}
@@ -78,7 +78,7 @@ split_coarser num den frac bits ulps w low half lost coarse two e h left = recor
     plain p t u r f g = omega (arith, f, ap (λ x. x * u * den) g)
 
 -- ---- a fraction with zeros at its end
-ten_split : (p n : ℕ) → p ≤ n → 10 ^ n ≡ 10 ^ p * 10 ^ (n - p)
+pub ten_split : (p n : ℕ) → p ≤ n → 10 ^ n ≡ 10 ^ p * 10 ^ (n - p)
 ten_split p n l = ap (λ i. 10 ^ i) (let z : n ≡ p + (n - p) = omega arith in z) ∙ pow-add 10 p (n - p)
 
 pub padded_room : (f p n : ℕ) → f < 10 ^ p → p ≤ n → f * 10 ^ (n - p) < 10 ^ n
@@ -90,39 +90,7 @@ padded_room f p n below l = plain (10 ^ p) (10 ^ (n - p)) (10 ^ n) (ten_split p 
 pub padded_split : (f p n frac q : ℕ) (lost : LostFraction) → p ≤ n → IsSplitUlps (f * 10 ^ (n - p)) (10 ^ n) frac q lost → IsSplitUlps f (10 ^ p) frac q lost
 padded_split f p n frac q lost l h = split_narrower f (10 ^ (n - p)) (10 ^ p) frac q lost (one-le-pow (n - p) 10 (omega arith)) (rw (ten_split p n l) at h)
 
--- ---- a block of 13 digits
-pub coarse_cross : (block ulps rest : ℕ) → ulps * 1220703125 + rest ≡ block * 2 ^ 19 → block * 2 ^ 32 * 1220703125 ≡ (ulps * 1220703125 + rest) * 10 ^ 13
-coarse_cross block ulps rest e = omega (arith, e)
-
-pub coarse_split : (block ulps rest : ℕ) (lost : LostFraction) → ulps * 1220703125 + rest ≡ block * 2 ^ 19 → IsLostFraction lost rest 1220703125 → IsSplitUlps block (10 ^ 13) 32 ulps lost
-coarse_split block ulps rest lost e left = record { rest = rest; unit = 1220703125; some = omega arith; split = coarse_cross block ulps rest e; left = left }
-
-pub finer_split : (num den frac ulps rest bits more left : ℕ) (lost : LostFraction) → more * 1220703125 + left ≡ rest * 2 ^ bits → IsLostFraction lost left 1220703125 → num * 2 ^ frac * 1220703125 ≡ (ulps * 1220703125 + rest) * den → IsSplitUlps num den (frac + bits) (ulps * 2 ^ bits + more) lost
-finer_split num den frac ulps rest bits more left lost e loses h = record {
-  rest = left;
-  unit = 1220703125;
-  some = omega arith;
-  split = rw (pow-add 2 frac bits) (plain (2 ^ frac) (2 ^ bits) 1220703125 e h);
-  left = loses;
-}
-  where
-    plain : (p t u : ℕ) → more * u + left ≡ rest * t → num * p * u ≡ (ulps * u + rest) * den → num * (p * t) * u ≡ ((ulps * t + more) * u + left) * den
-    plain p t u f g = omega (arith, ap (λ x. x * den) f, ap (λ x. x * t) g)
-
-pub finer_room : (rest bits : ℕ) → rest < 1220703125 → bits ≤ 32 → rest * 2 ^ bits < 2 ^ 64
-finer_room rest bits l h =
-    let most : 2 ^ bits ≤ 2 ^ 32 = pow-le-pow_right {n = 2} (omega arith) h in
-    omega (arith, mul-le-mul_left rest most, l)
-
-pub finer_below : (ulps rest bits most more left : ℕ) → ulps < 2 ^ 32 → rest < 1220703125 → 32 + bits ≤ most → (moved : ℕ) → moved ≡ ulps * 2 ^ bits → more * 1220703125 + left ≡ rest * 2 ^ bits → moved + more < 2 ^ most
-finer_below ulps rest bits most more left lu lr h moved em e =
-    let power : 2 ^ (32 + bits) ≡ 2 ^ 32 * 2 ^ bits = pow-add 2 32 bits in
-    let all : 2 ^ (32 + bits) ≤ 2 ^ most = pow-le-pow_right {n = 2} (omega arith) h in
-    plain (2 ^ bits) (2 ^ (32 + bits)) (2 ^ most) (pow_pos bits) power all em e
-  where
-    plain : (t q m : ℕ) → 0 < t → q ≡ 2 ^ 32 * t → q ≤ m → moved ≡ ulps * t → more * 1220703125 + left ≡ rest * t → moved + more < m
-    plain t q m some eq l f g = omega (arith, eq, l, f, g, mul-le-mul_right t lu, mul-le-mul_right t lr)
-
+-- ---- halves
 pub half_of : (bits : ℕ) → 0 < bits → 2 ^ bits ≡ 2 * 2 ^ (bits - 1)
 half_of bits some = ap (λ i. 2 ^ i) (let z : bits ≡ (bits - 1) + 1 = omega arith in z) ∙ pow-add 2 (bits - 1) 1 ∙ omega arith
 

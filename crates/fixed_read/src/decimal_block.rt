@@ -6,7 +6,7 @@
 
 ghost use Rattle.std.specs.Prelude.{◌≡◌, ◌+◌, ◌-◌, ◌*◌, ◌/◌, ◌^◌, ◌<◌, ◌≤◌, ℕ};
 ghost use Rattle.fixed_read.specs.Inner.Blocks.{IsCandidate};
-ghost use Rattle.fixed_read.specs.Inner.Rounding.{IsSplitUlps, IsLostFraction};
+ghost use Rattle.fixed_read.specs.Inner.Rounding.{IsShare, IsSplitUlps, IsLostFraction};
 
 use crate::digits::power_of_ten;
 use crate::lost_fraction::{LostFraction, is_above_zero, lost_fraction_of};
@@ -76,35 +76,49 @@ fn divided_by_five_to_13(number: u64) -> (u64, u64)
     (quotient, number - quotient * FIVE_TO_13)
 }
 
-/// Ulps and rest / 5^13 of one, in ulps that are 2^bits times as fine.
-#[inline]
-fn finer_ulps(ulps: u64, rest: u64, bits: u32) -> (u64, LostFraction)
-    requires ulps { ulps < 2 ^ 32 }
-    requires rest { rest < 1220703125 }
-    requires bits { bits ≤ 32 }
-    ensures split { (num den frac : ℕ) → num * 2 ^ frac * 1220703125 ≡ (ulps * 1220703125 + rest) * den → IsSplitUlps num den (frac + bits) result.0 result.1 }
-    ensures below { result.0 < 2 ^ (32 + bits) }
-{
-    let (more, left) = divided_by_five_to_13(shl_u64(rest, bits));
-    (
-        shl_u64(ulps, bits) + more,
-        lost_fraction_of_share(left, FIVE_TO_13),
-    )
+/// Whole ulps, and what is left of one over a unit.
+#[derive(Clone, Copy, Debug, PartialEq, Eq)]
+pub struct SharedUlps {
+    /// The whole ulps.
+    pub ulps: u64,
+    /// What is left of an ulp, over the unit.
+    pub rest: u64,
+    /// What makes an ulp.
+    pub unit: u64,
 }
 
-/// The ulps of 2^-frac in a block of 13 digits, and what is lost.
-#[inline]
-fn block_of_13(block: u64, frac: u32) -> (u64, LostFraction)
+/// The ulps of 2^-(32 + finer) in a block of 13 digits, and the rest over 5^13 of one.
+#[inline(always)]
+fn fine_block_of_13(block: u64, finer: u32) -> (u64, u64)
     requires block { block < 10 ^ 13 }
-    requires frac { frac ≤ 64 }
-    ensures split { IsSplitUlps block (10 ^ 13) frac result.0 result.1 }
-    ensures below { result.0 < 2 ^ frac }
+    requires finer { finer ≤ 32 }
+    ensures split { result.0 * 1220703125 + result.1 ≡ block * 2 ^ 19 * 2 ^ finer }
+    ensures below { result.0 < 2 ^ 32 * 2 ^ finer }
+    ensures small { result.1 < 1220703125 }
 {
     let (ulps, rest) = divided_by_five_to_13(shl_u64(block, 19));
-    if frac < 32 {
-        coarser_ulps(ulps, lost_fraction_of_share(rest, FIVE_TO_13), 32 - frac)
-    } else {
-        finer_ulps(ulps, rest, frac - 32)
+    let (more, left) = divided_by_five_to_13(shl_u64(rest, finer));
+    (shl_u64(ulps, finer) + more, left)
+}
+
+/// The ulps of 2^-frac in a block of 13 digits. They are made of ulps of 2^-32: finer ones first, then coarser ones, and at least
+/// one of the two steps does nothing. Which of them it is isn't tested, since it changes from numeral to numeral.
+#[inline(always)]
+fn block_of_13(block: u64, frac: u32) -> SharedUlps
+    requires block { block < 10 ^ 13 }
+    requires frac { frac ≤ 64 }
+    ensures share { IsShare block (10 ^ 13) frac result.ulps result.rest result.unit }
+    ensures below { result.ulps < 2 ^ frac }
+    ensures most { result.unit < 2 ^ 63 }
+{
+    let coarser = 32_u32.saturating_sub(frac);
+    let (fine, left) = fine_block_of_13(block, frac.saturating_sub(32));
+    let ulps = fine >> coarser;
+    let low = fine - shl_u64(ulps, coarser);
+    SharedUlps {
+        ulps,
+        rest: low * FIVE_TO_13 + left,
+        unit: shl_u64(FIVE_TO_13, coarser),
     }
 }
 
@@ -150,14 +164,15 @@ fn block_of_27(block: u128, frac: u32) -> (u64, LostFraction)
     coarser_ulps(ulps, lost, 32 - frac)
 }
 
-/// The ulps of 2^-frac in fraction / 10^places, and what is lost, for at most 13 places.
+/// The ulps of 2^-frac in fraction / 10^places, and what is left, for at most 13 places.
 #[inline(always)]
-pub fn ulps_of_few_places(fraction: u64, places: u32, frac: u32) -> (u64, LostFraction)
+pub fn ulps_of_few_places(fraction: u64, places: u32, frac: u32) -> SharedUlps
     requires fraction { fraction < 10 ^ places }
     requires places { places ≤ 13 }
     requires frac { frac ≤ 64 }
-    ensures split { IsSplitUlps fraction (10 ^ places) frac result.0 result.1 }
-    ensures below { result.0 < 2 ^ frac }
+    ensures share { IsShare fraction (10 ^ places) frac result.ulps result.rest result.unit }
+    ensures below { result.ulps < 2 ^ frac }
+    ensures most { result.unit < 2 ^ 63 }
 {
     block_of_13(fraction * power_of_ten(13 - places), frac)
 }
@@ -172,7 +187,11 @@ pub fn ulps_of_fraction(fraction: u128, places: u32, frac: u32) -> (u64, LostFra
     ensures below { result.0 < 2 ^ frac }
 {
     if places <= 13 {
-        ulps_of_few_places(to_u64(fraction), places, frac)
+        let shared = ulps_of_few_places(to_u64(fraction), places, frac);
+        (
+            shared.ulps,
+            lost_fraction_of_share(shared.rest, shared.unit),
+        )
     } else {
         let block = fraction * u128::from(power_of_ten(27 - places));
         block_of_27(block, frac)

@@ -88,3 +88,28 @@ pub fn rounding_increment(lost: LostFraction, direction: Direction, odd: u128) -
         },
     }
 }
+
+/// Whether nothing is left.
+#[inline]
+pub fn is_nothing(rest: u64) -> bool
+    ensures { IsTrue result ↔ (rest ≡ 0) }
+{
+    rest == 0
+}
+
+/// How many ulps the rounding adds where rest / unit of one is left: none or one. `odd` is 1 where the whole number of ulps is odd,
+/// and then half of an ulp is enough. One comparison decides, since a branch on what is left cannot be predicted.
+#[inline(always)]
+pub fn share_increment(rest: u64, unit: u64, odd: u64, direction: Direction) -> u64
+    requires small { rest < unit }
+    requires unit { unit < 2 ^ 63 }
+    requires odd { odd < 2 }
+    ensures to { (q : ℕ) → q % 2 ≡ odd → IsRoundedTo direction (q * unit + rest) unit (q + result) }
+    ensures most { result ≤ 1 }
+{
+    match direction {
+        Direction::Nearest => u64::from(rest + rest + odd > unit),
+        Direction::Down => 0,
+        Direction::Up => u64::from(rest > 0),
+    }
+}

@@ -6,12 +6,14 @@ ghost use Rattle.fixed_numeral.specs.Numeral.{base};
 ghost use Rattle.fixed_numeral.specs.Scanned.{exponent_unit};
 ghost use Rattle.fixed_numeral.specs.Spelled.{spelled};
 ghost use Rattle.fixed_numeral.specs.Place.{NoLeadingZero, NoTrailingZero};
-ghost use Rattle.fixed_read.specs.Inner.Rounding.{IsFractionUlps, IsMagnitude, IsSplitNumeral, IsSplitUlps};
+ghost use Rattle.fixed_read.specs.Inner.Rounding.{IsFractionUlps, IsMagnitude, IsShare, IsSplitNumeral, IsSplitUlps};
 
 use crate::decimal::decimal_ulps;
 use crate::digits::{is_over, number_mod_power};
 use crate::direction::Direction;
-use crate::lost_fraction::{LostFraction, is_zero, rounding_increment};
+use crate::lost_fraction::{
+    LostFraction, is_nothing, is_zero, rounding_increment, share_increment,
+};
 use crate::power_of_two_radix::bit_fraction_ulps;
 use crate::shifts::{is_some, shl, split_bits};
 use fixed_numeral::{DigitView, Radix, Scanned};
@@ -41,6 +43,23 @@ pub fn rounded_ulps(count: u128, lost: LostFraction, direction: Direction) -> Ul
         low,
         has_high_bits: is_some(high),
         is_exact: is_zero(lost),
+    }
+}
+
+/// The magnitude of `count` ulps and rest / unit of one, rounded.
+#[inline(always)]
+pub fn rounded_share(count: u128, rest: u64, unit: u64, direction: Direction) -> Ulps
+    requires count { count + 1 < 2 ^ 128 }
+    requires small { rest < unit }
+    requires most { unit < 2 ^ 63 }
+    ensures { (num den frac : ℕ) → 0 < den → IsShare num den frac count rest unit → IsMagnitude direction (record { num = num; den = den }) frac result }
+{
+    let total = count + u128::from(share_increment(rest, unit, (count % 2) as u64, direction));
+    let (high, low) = split_bits(total, 64);
+    Ulps {
+        low,
+        has_high_bits: is_some(high),
+        is_exact: is_nothing(rest),
     }
 }
 

@@ -15,7 +15,7 @@ use crate::decimal_block::{ulps_of_few_places, ulps_of_fraction};
 use crate::digits::power_of_ten;
 use crate::direction::Direction;
 use crate::lost_fraction::LostFraction;
-use crate::magnitude::{Ulps, rounded_ulps};
+use crate::magnitude::{Ulps, rounded_share, rounded_ulps};
 use crate::shifts::{is_some, power_of_two, shl, shl_u64, split_bits, to_u64};
 use fixed_numeral::{CompactNumeral, Radix, ShortDecimal, ShortNumeral};
 
@@ -70,9 +70,9 @@ pub fn ulps_of_short_decimal(found: ShortDecimal, frac: u32, direction: Directio
     if found.places > 13 {
         return ulps_of_decimal(short_decimal_of(found), frac, direction);
     }
-    let (ulps, lost) = ulps_of_few_places(found.fraction, found.places, frac);
-    let count = shl(u128::from(found.whole), frac) + u128::from(ulps);
-    rounded_ulps(count, lost, direction)
+    let shared = ulps_of_few_places(found.fraction, found.places, frac);
+    let count = shl(u128::from(found.whole), frac) + u128::from(shared.ulps);
+    rounded_share(count, shared.rest, shared.unit, direction)
 }
 
 /// digits * 10^up as a decimal. None where it is too large for one.

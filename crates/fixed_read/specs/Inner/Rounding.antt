@@ -34,6 +34,11 @@ pub record IsSplitUlps (num den frac q : ℕ) (lost : LostFraction) : Type 0 whe
   pub split : num * 2 ^ frac * unit ≡ (q * unit + rest) * den
   pub left : IsLostFraction lost rest unit
 
+-- num / den is q ulps of 2^-frac and rest / unit of one
+pub record IsShare (num den frac q rest unit : ℕ) : Type 0 where
+  pub small : rest < unit
+  pub split : num * 2 ^ frac * unit ≡ (q * unit + rest) * den
+
 -- 0.DS is p ulps of 2^-t and what is lost
 pub record IsFractionUlps (b : ℕ) (ds : List ℕ) (t p : ℕ) (lost : LostFraction) : Type 0 where
   pub ulps : IsSplitUlps (number_from_digits b ds) (b ^ length ds) t p lost

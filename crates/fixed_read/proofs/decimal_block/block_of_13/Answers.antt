@@ -1,30 +1,34 @@
-use Rattle.std.proofs.Common.{◌≡◌, ◌+◌, ◌-◌, ◌^◌, ◌<◌, ◌∙◌, arith, subst}
-use Rattle.fixed_read.specs.Inner.Rounding.{IsSplitUlps}
-use Rattle.fixed_read.proofs.ShortNumeralLemmas.{coarser_small, coarse_cross, coarse_split}
+use Rattle.std.proofs.Common.{◌-◌, ◌*◌, ◌/◌, ◌^◌, arith, pow_pos}
+use Rattle.fixed_read.proofs.ShareLemmas.{few_bits, same_scale, whole_and_low, low_below, whole_within, whole_below, share}
 use Rattle.fixed_read.proofs.decimal_block.block_of_13.Goals as goal
 
-pub finer_ulps-requires-clause-ulps : goal.finer_ulps-requires-clause-ulps
-finer_ulps-requires-clause-ulps c = omega (arith, c.divided_by_five_to_13-ulps.ensures.split, c.shl_u64.ensures, c.requires.block)
+pub shl_u64-requires-clause-room : goal.shl_u64-requires-clause-room
+shl_u64-requires-clause-room c = omega (arith, whole_within c.fine_block_of_13-fine.result.0 (2 ^ c.saturating_sub-coarser.result) (pow_pos c.saturating_sub-coarser.result), c.fine_block_of_13-fine.type_inv)
 
-pub returns-then-frac-lt32-clause-split : goal.returns-then-frac-lt32-clause-split
-returns-then-frac-lt32-clause-split c =
-    let all : 32 ≡ c.args.frac + (32 - c.args.frac) = omega (arith, c.if-frac-lt32.true) in
-    let coarse : IsSplitUlps c.args.block (10 ^ 13) 32 c.divided_by_five_to_13-ulps.result.0 c.lost_fraction_of_share.result = coarse_split c.args.block c.divided_by_five_to_13-ulps.result.0 c.divided_by_five_to_13-ulps.result.1 c.lost_fraction_of_share.result (c.divided_by_five_to_13-ulps.ensures.split ∙ c.shl_u64.ensures) c.lost_fraction_of_share.ensures in
-    c.coarser_ulps.ensures.split c.args.block (10 ^ 13) c.args.frac (rw all at coarse)
+pub overflow_mul-result : goal.overflow_mul-result
+overflow_mul-result c =
+    let q = few_bits c.saturating_sub-coarser.result (omega (arith, c.saturating_sub-coarser.ensures)) in
+    rw c.shl_u64.ensures (omega (arith, q, low_below c.fine_block_of_13-fine.result.0 (2 ^ c.saturating_sub-coarser.result) (pow_pos c.saturating_sub-coarser.result)))
 
-pub returns-then-frac-lt32-clause-below : goal.returns-then-frac-lt32-clause-below
-returns-then-frac-lt32-clause-below c =
-    let all : 32 ≡ c.args.frac + (32 - c.args.frac) = omega (arith, c.if-frac-lt32.true) in
-    let small : c.divided_by_five_to_13-ulps.result.0 < 2 ^ 32 = omega (arith, c.divided_by_five_to_13-ulps.ensures.split, c.shl_u64.ensures, c.requires.block) in
-    let below : c.divided_by_five_to_13-ulps.result.0 < 2 ^ (c.args.frac + (32 - c.args.frac)) = subst (λ i. c.divided_by_five_to_13-ulps.result.0 < 2 ^ i) all small in
-    coarser_small c.divided_by_five_to_13-ulps.result.0 c.coarser_ulps.result.0 c.args.frac (32 - c.args.frac) c.coarser_ulps.ensures.whole below
+pub overflow_add-result : goal.overflow_add-result
+overflow_add-result c =
+    let q = few_bits c.saturating_sub-coarser.result (omega (arith, c.saturating_sub-coarser.ensures)) in
+    rw c.shl_u64.ensures (omega (arith, q, low_below c.fine_block_of_13-fine.result.0 (2 ^ c.saturating_sub-coarser.result) (pow_pos c.saturating_sub-coarser.result), c.fine_block_of_13-fine.ensures.small))
 
-pub returns-else-frac-lt32-clause-split : goal.returns-else-frac-lt32-clause-split
-returns-else-frac-lt32-clause-split c =
-    let all : 32 + (c.args.frac - 32) ≡ c.args.frac = omega (arith, c.if-frac-lt32.false) in
-    rw all at (c.finer_ulps.ensures.split c.args.block (10 ^ 13) 32 (coarse_cross c.args.block c.divided_by_five_to_13-ulps.result.0 c.divided_by_five_to_13-ulps.result.1 (c.divided_by_five_to_13-ulps.ensures.split ∙ c.shl_u64.ensures)))
+pub returns-clause-share : goal.returns-clause-share
+returns-clause-share c =
+    let q = 2 ^ c.saturating_sub-coarser.result in
+    let some = pow_pos c.saturating_sub-coarser.result in
+    let fine = c.fine_block_of_13-fine.result.0 in
+    rw (c.shl_u64.ensures, c.shl_u64-2.ensures) (share c.args.block c.args.frac (fine / q) (fine - fine / q * q) c.fine_block_of_13-fine.result.1 fine (2 ^ c.saturating_sub.result) q c.fine_block_of_13-fine.ensures.split (whole_and_low fine q some) (same_scale c.args.frac c.saturating_sub.result c.saturating_sub-coarser.result (omega (arith, c.saturating_sub.ensures, c.saturating_sub-coarser.ensures))) (low_below fine q some) c.fine_block_of_13-fine.ensures.small)
 
-pub returns-else-frac-lt32-clause-below : goal.returns-else-frac-lt32-clause-below
-returns-else-frac-lt32-clause-below c =
-    let all : 32 + (c.args.frac - 32) ≡ c.args.frac = omega (arith, c.if-frac-lt32.false) in
-    subst (λ i. c.finer_ulps.result.0 < 2 ^ i) all c.finer_ulps.ensures.below
+pub returns-clause-below : goal.returns-clause-below
+returns-clause-below c =
+    let q = 2 ^ c.saturating_sub-coarser.result in
+    let scale = same_scale c.args.frac c.saturating_sub.result c.saturating_sub-coarser.result (omega (arith, c.saturating_sub.ensures, c.saturating_sub-coarser.ensures)) in
+    whole_below c.fine_block_of_13-fine.result.0 q (pow_pos c.saturating_sub-coarser.result) (2 ^ c.args.frac) (rw scale c.fine_block_of_13-fine.ensures.below)
+
+pub returns-clause-most : goal.returns-clause-most
+returns-clause-most c =
+    let q = few_bits c.saturating_sub-coarser.result (omega (arith, c.saturating_sub-coarser.ensures)) in
+    rw c.shl_u64-2.ensures (omega (arith, q))

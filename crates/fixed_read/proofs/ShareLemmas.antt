@@ -1,0 +1,90 @@
+-- The ulps of a block of 13 digits, and what is left of one over a unit.
+use Rattle.std.proofs.Common.{◌≡◌, ◌↔◌, IsTrue, ℕ, ◌+◌, ◌-◌, ◌*◌, ◌/◌, ◌%◌, ◌^◌, ◌<◌, ◌≤◌, sym, ap, ◌∙◌, arith, mul-le-mul_right, div-add-mod', mod-lt}
+use Rattle.std.proofs.lemmas.Nat.{pow-add}
+use Rattle.std.proofs.Math.Nat.{one-le-pow, pow-le-pow_right}
+use Rattle.fixed_read.specs.Inner.Directions.{IsRoundedTo}
+use Rattle.fixed_read.specs.Inner.Rounding.{IsShare, IsSplitUlps, IsMagnitude, IsLostFraction}
+use Rattle.fixed_read.specs.declared.magnitude.Ulps.{Ulps}
+use Rattle.fixed_read.specs.declared.direction.Direction.{Direction}
+use Rattle.fixed_read.specs.declared.lost_fraction.LostFraction.{LostFraction}
+use Rattle.fixed_read.proofs.DirectionLemmas.{to_same}
+use Rattle.fixed_read.proofs.MultipleLemmas.{cancel_eq, exact_rest}
+use Rattle.fixed_read.proofs.ShortNumeralLemmas.{ten_split}
+
+pub few_bits : (n : ℕ) → n ≤ 32 → 2 ^ n ≤ 2 ^ 32
+few_bits n l = pow-le-pow_right {n = 2} (omega arith) l
+
+-- ulps of 2^-32 are made finer, then coarser
+pub same_scale : (frac finer coarser : ℕ) → frac + coarser ≡ 32 + finer → 2 ^ frac * 2 ^ coarser ≡ 2 ^ 32 * 2 ^ finer
+same_scale frac finer coarser e = sym (pow-add 2 frac coarser) ∙ ap (λ i. 2 ^ i) e ∙ pow-add 2 32 finer
+
+-- p is the scale of the finer ulps
+module _ (block first rest more left p : ℕ) (e : first * 1220703125 + rest ≡ block * 2 ^ 19) (f : more * 1220703125 + left ≡ rest * p) where
+  pub fine_sum : (first * p + more) * 1220703125 + left ≡ block * 2 ^ 19 * p
+  fine_sum = omega (arith, ap (λ x. x * p) e, f)
+
+  pub fine_below : block < 10 ^ 13 → 0 < p → first * p + more < 2 ^ 32 * p
+  fine_below l some = omega (arith, fine_sum, mul-le-mul_right p l)
+
+-- a number and what is left of it over q
+module _ (fine q : ℕ) (some : 0 < q) where
+  pub whole_and_low : fine ≡ fine / q * q + (fine - fine / q * q)
+  whole_and_low = omega (arith, div-add-mod' fine q)
+
+  pub low_below : fine - fine / q * q < q
+  low_below = omega (arith, div-add-mod' fine q, mod-lt fine some)
+
+  pub whole_within : fine / q * q ≤ fine
+  whole_within = omega (arith, div-add-mod' fine q)
+
+  pub whole_below : (f : ℕ) → fine < f * q → fine / q < f
+  whole_below f l = cancel (fine / q) (fine % q) (div-add-mod' fine q)
+    where
+      cancel : (w r : ℕ) → w * q + r ≡ fine → w < f
+      cancel w r d = grind (arith, l, d)
+
+-- what is left of a coarse ulp, over the unit
+pub rest_below : (low left q : ℕ) → low < q → left < 1220703125 → low * 1220703125 + left < 1220703125 * q
+rest_below low left q l k = omega (arith, l, k)
+
+pub share : (block frac ulps low left fine p q : ℕ) → fine * 1220703125 + left ≡ block * 2 ^ 19 * p → fine ≡ ulps * q + low → 2 ^ frac * q ≡ 2 ^ 32 * p → low < q → left < 1220703125 → IsShare block (10 ^ 13) frac ulps (low * 1220703125 + left) (1220703125 * q)
+share block frac ulps low left fine p q sum whole scale l k = record {
+  small = rest_below low left q l k;
+  split = plain (2 ^ frac) scale;
+}
+  where
+    plain : (t : ℕ) → t * q ≡ 2 ^ 32 * p → block * t * (1220703125 * q) ≡ (ulps * (1220703125 * q) + (low * 1220703125 + left)) * 10 ^ 13
+    plain t s = omega (arith, ap (λ x. block * x) s, sum, whole)
+
+-- a share of a block that zeros fill up
+pub padded_share : (f p n frac q rest unit : ℕ) → p ≤ n → IsShare (f * 10 ^ (n - p)) (10 ^ n) frac q rest unit → IsShare f (10 ^ p) frac q rest unit
+padded_share f p n frac q rest unit l h = record {
+  small = h.small;
+  split = narrower (10 ^ (n - p)) (10 ^ p) (10 ^ n) (2 ^ frac) (one-le-pow (n - p) 10 (omega arith)) (ten_split p n l) h.split;
+}
+  where
+    narrower : (b a t k : ℕ) → 0 < b → t ≡ a * b → f * b * k * unit ≡ (q * unit + rest) * t → f * k * unit ≡ (q * unit + rest) * a
+    narrower b a t k some e s = cancel_eq (f * k * unit) ((q * unit + rest) * a) b some (omega (arith, s, ap (λ x. (q * unit + rest) * x) e))
+
+-- what is lost, where a share is left
+pub split_of_share : (num den frac q rest unit : ℕ) (lost : LostFraction) → IsShare num den frac q rest unit → IsLostFraction lost rest unit → IsSplitUlps num den frac q lost
+split_of_share num den frac q rest unit lost h left = record { rest = rest; unit = unit; some = omega (arith, h.small); split = h.split; left = left }
+
+-- a share after a whole number
+pub share_whole : (w num den frac q count rest unit : ℕ) → count ≡ w * 2 ^ frac + q → IsShare num den frac q rest unit → IsShare (w * den + num) den frac count rest unit
+share_whole w num den frac q count rest unit e h = record { small = h.small; split = rw e (plain (2 ^ frac) h.split) }
+  where
+    plain : (p : ℕ) → num * p * unit ≡ (q * unit + rest) * den → (w * den + num) * p * unit ≡ ((w * p + q) * unit + rest) * den
+    plain p k = omega (arith, k)
+
+-- a share rounded
+pub magnitude_of_share : (direction : Direction) (num den frac q rest unit more high : ℕ) (ulps : Ulps) → 0 < den → IsShare num den frac q rest unit → IsRoundedTo direction (q * unit + rest) unit (q + more) → (IsTrue ulps.is_exact ↔ (rest ≡ 0)) → q + more ≡ high * 2 ^ 64 + ulps.low → (IsTrue ulps.has_high_bits ↔ (0 < high)) → IsMagnitude direction (record { num = num; den = den }) frac ulps
+magnitude_of_share direction num den frac q rest unit more high ulps some h to none e over =
+    let unit_some : 0 < unit = omega (arith, h.small) in
+    let test = exact_rest (num * 2 ^ frac) den q unit rest some unit_some h.small h.split in
+    record {
+      high = high;
+      to = rw e at (to_same direction (q * unit + rest) unit (num * 2 ^ frac) den (q + more) unit_some some (sym h.split) to);
+      over = over;
+      exact = (λ t. test.0 (none.0 t), λ m. none.1 (test.1 m));
+    }
