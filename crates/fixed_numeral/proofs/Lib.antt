@@ -20,3 +20,4 @@ mod CompactLemmas
 mod SegmentLemmas
 mod DecimalLemmas
 mod ExponentLemmas
+mod MessageLemmas

@@ -2,13 +2,14 @@
 use Rattle.std.specs.Prelude.{◌≡◌, ℕ, ◌+◌, ◌*◌, ◌^◌, ◌<◌, List, ◌++◌, length, take, drop}
 use Rattle.std.specs.Int.Digits.{number_from_digits, AllBelowBase}
 use Rattle.fixed_numeral.specs.declared.radix.Radix.{Radix}
-use Rattle.fixed_numeral.specs.Laws.{PartsAreDetermined, OneCause, LiteralIsDetermined, OneLiteralCause}
+use Rattle.fixed_numeral.specs.Laws.{PartsAreDetermined, OneCause, LiteralIsDetermined, OneLiteralCause, MessageIsShort}
 use Rattle.fixed_numeral.specs.Literal.{without_underscores}
 use Rattle.fixed_numeral.specs.Numeral.{Parts}
 use Rattle.fixed_numeral.specs.Place.{NoTrailingZero}
 use Rattle.fixed_numeral.specs.Value.{magnitude}
 use Rattle.fixed_numeral.proofs.LawLemmas
 use Rattle.fixed_numeral.proofs.LiteralScanLemmas
+use Rattle.fixed_numeral.proofs.MessageLemmas
 use Rattle.fixed_numeral.proofs.NumeralLemmas
 use Rattle.fixed_numeral.proofs.PlaceLemmas
 use Rattle.fixed_numeral.proofs.SpelledLemmas
@@ -46,3 +47,7 @@ number_append = SpelledLemmas.number_append
 -- ---- powers
 pub pow-mul : (b k j : ℕ) → (b ^ k) ^ j ≡ b ^ (k * j)
 pow-mul = SpelledLemmas.pow-mul
+
+-- ---- messages
+pub message_short : MessageIsShort
+message_short = MessageLemmas.message_short

@@ -1,10 +1,11 @@
--- Laws of numerals and literals.
-use Rattle.std.specs.Prelude.{◌≡◌, ℕ, ◌≤◌, ◌⊎◌, Bool, List, ◌++◌}
+-- Laws of numerals and literals, and of the messages of errors.
+use Rattle.std.specs.Prelude.{◌≡◌, ℕ, ◌≤◌, ◌⊎◌, Bool, List, ◌++◌, length}
 use Rattle.fixed_numeral.specs.declared.radix.Radix.{Radix}
 use Rattle.fixed_numeral.specs.declared.error.ParseErrorKind.{ParseErrorKind}
 use Rattle.fixed_numeral.specs.Numeral.{Parts, HasParts, IsBeginning, IsNumeral}
 use Rattle.fixed_numeral.specs.Value.{magnitude}
 use Rattle.fixed_numeral.specs.Cause.{HasCause}
+use Rattle.fixed_numeral.specs.Messages.{message_of}
 use Rattle.fixed_numeral.specs.Literal.{HasLiteral, IsLiteral, HasLiteralCause}
 
 -- the parts are determined by the bytes
@@ -34,3 +35,7 @@ LiteralIsDetermined = (of_signed : Bool) (bs : List ℕ) (p q : Parts) → HasLi
 -- there is at most one cause why bytes are no literal, and a literal has none
 abbrev pub OneLiteralCause : Type 0
 OneLiteralCause = (of_signed : Bool) (bs : List ℕ) (kind other : ParseErrorKind) → HasLiteralCause of_signed bs kind → (HasLiteralCause of_signed bs other → kind ≡ other) × (IsLiteral of_signed bs → ⊥)
+
+-- a message has at most 64 bytes
+abbrev pub MessageIsShort : Type 0
+MessageIsShort = (kind : ParseErrorKind) → length (message_of kind) ≤ 64

@@ -1,6 +1,15 @@
-//! Laws of numerals and literals, each the contract of a function that does nothing.
+//! Laws of numerals and literals and of the messages of errors, each the contract of a function that does nothing.
 
-ghost use Rattle.fixed_numeral.specs.Laws.{PartsAreDetermined, PrefixIsBeginning, NumeralOrCause, OneCause, DenominatorIsPositive, LiteralIsDetermined, OneLiteralCause};
+ghost use Rattle.fixed_numeral.specs.Laws.{
+  PartsAreDetermined,
+  PrefixIsBeginning,
+  NumeralOrCause,
+  OneCause,
+  DenominatorIsPositive,
+  LiteralIsDetermined,
+  OneLiteralCause,
+  MessageIsShort,
+};
 
 /// The parts of a beginning, and so those of a numeral, are determined by its bytes.
 pub fn parts_are_determined()
@@ -35,4 +44,9 @@ pub fn literal_is_determined()
 /// Bytes have at most one cause why they are no literal, and a literal has none.
 pub fn one_literal_cause()
     ensures { OneLiteralCause }
+{}
+
+/// The message of an error has at most 64 bytes.
+pub fn message_is_short()
+    ensures { MessageIsShort }
 {}

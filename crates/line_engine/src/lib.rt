@@ -1,6 +1,7 @@
 //! Lines from a source, answered by a rule into a sink.
 //!
-//! `device` says what a source and a sink are, and `memory` has one of each that lives in memory. `engine` reads a source
+//! `device` says what a source and a sink are, and `memory` has one of each that lives in memory,
+//! over which `memory_run` runs a program for a test. `engine` reads a source
 //! in chunks, cuts it into lines (`splitter`, `line_buffer`), has each line answered (`rule`, `answer`) and writes the
 //! answers (`output`, `writing`). `status` says how a run ended, and `laws` states laws of the lines of an input.
 #![tactic(auto)]
@@ -12,6 +13,7 @@ pub mod engine;
 pub mod laws;
 mod line_buffer;
 pub mod memory;
+pub mod memory_run;
 pub mod output;
 pub mod program;
 pub mod rule;
@@ -28,6 +30,7 @@ pub use device::{Failed, Sink, Source};
 pub use engine::run_lines;
 pub use line_buffer::MAX_LINE;
 pub use memory::{MemorySink, MemorySource};
+pub use memory_run::{MemoryProgram, MemoryRun, NEVER};
 pub use no_memory::NoMemory;
 pub use output::{OUTPUT_BUFFER, Output};
 pub use program::{NoArgs, Program, run_program};
