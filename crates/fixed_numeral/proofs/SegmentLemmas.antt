@@ -1,6 +1,6 @@
 -- Stretches of a text, and the numbers that their digits spell.
 use Rattle.std.proofs.Common.{◌≡◌, ℕ, ◌+◌, ◌-◌, ◌*◌, ◌^◌, ◌%◌, ◌<◌, ◌≤◌, Bool, true, false, List, [], ◌∷◌, ◌++◌, length, take, drop, get_or, Option, Some, None, IfSome, option_to_list, ℤ, pos, neg_ℤ, cond, of_z, to_z, FitsSigned, w32, refl, sym, ap, ◌∙◌, ⊎_elim, arith, add-one, append_assoc, append-nil, subst, length-append, length-take, length-drop, take-append-drop, mul-le-mul_right}
-use Rattle.std.proofs.lemmas.List.{drop_more, drop-drop, length_push, drop_all, take-take, take_all}
+use Rattle.std.proofs.lemmas.List.{drop_more, drop-drop, drop-take, length_push, drop_all, take-take}
 use Rattle.std.proofs.lemmas.Bool.{cases_lt}
 use Rattle.std.proofs.lemmas.Int.{ints, to_z-of_z}
 use Rattle.std.proofs.lemmas.Nat.{pow-add}
@@ -292,16 +292,13 @@ chunk_of_first bs from count to n word l t few e w h =
     let same : take count (take 8 (drop from bs)) ≡ take count (drop from bs) = take-take count 8 (drop from bs) few in
     chunk_of bs from count to n e (omega arith) (rw same at found.0) (rw same at found.1)
 
-pub chunk_of_last : (bs : List ℕ) (from count to n word : ℕ) → 8 ≤ length bs → ((k : ℕ) → get_or bs k 0 < 256) → count ≤ 8 → from + count ≡ to → to ≡ length bs → word ≡ number_l 256 (take 8 (drop (length bs - 8) bs)) → IsLast word count n → IsChunk 10 bs from to n (10 ^ (to - from))
-chunk_of_last bs from count to n word l t few e end w h =
-    let found = h (take 8 (drop (length bs - 8) bs)) (eight_long bs (length bs - 8) (omega arith)) (eight_below bs (length bs - 8) (omega arith) t) w in
-    let whole : take 8 (drop (length bs - 8) bs) ≡ drop (length bs - 8) bs = take_all 8 (drop (length bs - 8) bs) (omega (arith, length-drop (length bs - 8) bs)) in
-    let there : (length bs - 8) + (8 - count) ≡ from = omega arith in
-    let rest : drop (8 - count) (take 8 (drop (length bs - 8) bs)) ≡ drop from bs = ap (drop (8 - count)) whole ∙ drop-drop (8 - count) (length bs - 8) bs ∙ ap (λ i. drop i bs) there in
-    let all : take count (drop from bs) ≡ drop from bs = take_all count (drop from bs) (omega (arith, length-drop from bs)) in
-    let digits : AllDigits 10 (take count (drop from bs)) = rw all (rw rest at found.0) in
-    let value : n ≡ digits_value 10 (take count (drop from bs)) = rw all (rw rest at found.1) in
-    chunk_of bs from count to n e (omega arith) digits value
+pub chunk_of_last : (bs : List ℕ) (from count to n word : ℕ) → 8 ≤ to → to ≤ length bs → ((k : ℕ) → get_or bs k 0 < 256) → count ≤ 8 → from + count ≡ to → word ≡ number_l 256 (take 8 (drop (to - 8) bs)) → IsLast word count n → IsChunk 10 bs from to n (10 ^ (to - from))
+chunk_of_last bs from count to n word l within t few e w h =
+    let found = h (take 8 (drop (to - 8) bs)) (eight_long bs (to - 8) (omega arith)) (eight_below bs (to - 8) (omega arith) t) w in
+    let there : (to - 8) + (8 - count) ≡ from = omega arith in
+    let left : 8 ≡ (8 - count) + count = omega arith in
+    let rest : drop (8 - count) (take 8 (drop (to - 8) bs)) ≡ take count (drop from bs) = ap (λ i. drop (8 - count) (take i (drop (to - 8) bs))) left ∙ drop-take (8 - count) count (drop (to - 8) bs) ∙ ap (take count) (drop-drop (8 - count) (to - 8) bs ∙ ap (λ i. drop i bs) there) in
+    chunk_of bs from count to n e within (rw rest at found.0) (rw rest at found.1)
 
 pub chunk_joined : (b : ℕ) (bs : List ℕ) (from mid to n m s t : ℕ) → IsChunk b bs from mid n s → IsChunk b bs mid to m t → IsChunk b bs from to (n * t + m) (s * t)
 unfolding run_joined run_after
@@ -361,3 +358,29 @@ run_room b at n d h l s t =
 
 pub room_up : (b at n : ℕ) → 0 < b → n < b ^ at → n < b ^ (at + 1)
 room_up b at n p h = let up : b ^ (at + 1) ≡ b ^ at * b = rw add-one (pow-suc b at) in let more : 1 * b ^ at ≤ b * b ^ at = mul-le-mul_right (b ^ at) p in omega arith
+
+-- ---- a text that is the end of another
+pub sign_dropped : (bs : List ℕ) (from to : ℕ) (negative : Bool) → from ≤ to → IsSignAt bs from to negative → IsSignAt (drop from bs) 0 (to - from) negative
+sign_dropped bs from to negative l h = record {
+  sign = h.sign;
+  text = h.text ∙ ap (λ ys. option_to_list h.sign ++ ys) (sym (drop-drop (to - from) from bs ∙ ap (λ i. drop i bs) (let e : from + (to - from) ≡ to = omega arith in e)));
+  within = omega (arith, length-drop from bs, h.within);
+  is_sign = h.is_sign;
+  is_negative = h.is_negative;
+}
+
+pub chunk_dropped : (b : ℕ) (bs : List ℕ) (k from to n s : ℕ) → k ≤ from → IsChunk b bs from to n s → IsChunk b (drop k bs) (from - k) (to - k) n s
+chunk_dropped b bs k from to n s l h =
+    let there : (i : ℕ) → k ≤ i → drop (i - k) (drop k bs) ≡ drop i bs = λ i m. drop-drop (i - k) k bs ∙ ap (λ j. drop j bs) (let e : k + (i - k) ≡ i = omega arith in e) in
+    let past : k ≤ to = omega (arith, h.run.count) in
+    record {
+      run = record {
+        digits = h.run.digits;
+        text = there from l ∙ h.run.text ∙ ap (λ ys. h.run.digits ++ ys) (sym (there to past));
+        count = omega (arith, h.run.count);
+        within = omega (arith, length-drop k bs, h.run.within);
+        are_digits = h.run.are_digits;
+        spelled = h.run.spelled;
+      };
+      scale_is = h.scale_is;
+    }

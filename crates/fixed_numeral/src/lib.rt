@@ -22,7 +22,7 @@ pub use literal::scan_lit;
 pub use radix::Radix;
 pub use scanned::Scanned;
 pub use scanner::scan;
-pub use short::{ShortDecimal, short_decimal};
+pub use short::{ShortDecimal, ending_decimal, short_decimal};
 pub use short_radix::{ShortNumeral, short_numeral};
 
 #[cfg(test)]

@@ -235,6 +235,29 @@ fn long_digit_run(bytes: &[u8], base: u64, from: usize, start: u128) -> Option<R
     Some(Run { number, end: at })
 }
 
+/// The number of the bytes between two places, at most 16, where they are decimal digits. The second place is at least 8.
+#[inline(always)]
+pub(crate) fn decimals_between(bytes: &[u8], from: usize, to: usize) -> Option<u64>
+    requires long { 8 ≤ to }
+    requires place { from ≤ to }
+    requires within { to ≤ length bytes.now }
+    requires few { to ≤ from + 16 }
+    ensures { IfSome result (λ n. IsChunk 10 bytes.now from to n (10 ^ (to - from))) }
+{
+    let count = to - from;
+    if count == 0 {
+        return Some(0);
+    }
+    let last = word_at(bytes, to - 8);
+    if count <= 8 {
+        let number = last_decimals(last, count)?;
+        return Some(number);
+    }
+    let high = first_decimals(word_at(bytes, from), count - 8)?;
+    let low = last_decimals(last, 8)?;
+    Some(high * 100_000_000 + low)
+}
+
 /// The number of the bytes from a place on, at most 16 of at least eight, where they are decimal digits.
 #[inline(always)]
 pub(crate) fn final_decimals(bytes: &[u8], from: usize) -> Option<u64>
@@ -243,16 +266,20 @@ pub(crate) fn final_decimals(bytes: &[u8], from: usize) -> Option<u64>
     requires few { length bytes.now ≤ from + 16 }
     ensures { IfSome result (λ n. IsChunk 10 bytes.now from (length bytes.now) n (10 ^ (length bytes.now - from))) }
 {
-    let count = bytes.len() - from;
-    if count == 0 {
-        return Some(0);
+    decimals_between(bytes, from, bytes.len())
+}
+
+/// Whether a minus is at a place, and the place after it.
+#[inline(always)]
+pub(crate) fn minus_at(bytes: &[u8], from: usize) -> (bool, usize)
+    requires { from < length bytes.now }
+    ensures sign { IsSignAt bytes.now from result.1 result.0 }
+    ensures place { result.1 ≤ from + 1 }
+    ensures least { from ≤ result.1 }
+{
+    if bytes[from] == b'-' {
+        (true, from + 1)
+    } else {
+        (false, from)
     }
-    let last = word_at(bytes, bytes.len() - 8);
-    if count <= 8 {
-        let number = last_decimals(last, count)?;
-        return Some(number);
-    }
-    let high = first_decimals(word_at(bytes, from), count - 8)?;
-    let low = last_decimals(last, 8)?;
-    Some(high * 100_000_000 + low)
 }

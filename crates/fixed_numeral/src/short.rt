@@ -1,14 +1,15 @@
 //! Short decimals: from bytes straight to numbers.
 
-ghost use Rattle.std.specs.Prelude.{◌≡◌, ◌+◌, ◌-◌, ◌*◌, ◌^◌, ◌<◌, ◌≤◌, false, IfSome, length};
+ghost use Rattle.std.specs.Prelude.{◌≡◌, ◌+◌, ◌-◌, ◌*◌, ◌^◌, ◌<◌, ◌≤◌, false, IfSome, length, drop};
 ghost use Rattle.fixed_numeral.specs.declared.radix.Radix.TheVariants.{Dec};
 ghost use Rattle.fixed_numeral.specs.Numeral.{Parts, HasNumeral, IsNumeral};
 ghost use Rattle.fixed_numeral.specs.PartNumbers.{IsShortDecimal};
 ghost use Rattle.fixed_numeral.specs.Inner.Segments.{IsSignAt, IsChunk, IsShortAt};
 
 use crate::radix::Radix;
-use crate::segment::{digits_at, final_decimals, sign_at};
+use crate::segment::{decimals_between, digits_at, final_decimals, minus_at, sign_at};
 use fixed_steps::Steps;
+use std::simd::prelude::*;
 use std::sync::ledger::Ledger;
 
 /// The numbers of the parts of a decimal numeral without an exponent. Its magnitude is `whole`, and `fraction` divided by
@@ -106,5 +107,94 @@ pub fn short_decimal<L: Ledger>(s: &[u8], steps: &mut Steps<L>) -> Option<ShortD
     steps.advance(s.len() as u64);
     let (negative, first) = sign_at(s, 0);
     let decimal = decimal_at(s, negative, first)?;
+    Some(decimal)
+}
+
+/// How many bytes an ending decimal has at most.
+const LANES: usize = 16;
+
+/// A place that may be that of a point: of the first one among the last 16 bytes, where there is one.
+#[inline(always)]
+fn possible_point(text: &[u8]) -> usize
+    requires { LANES ≤ length text.now }
+{
+    let start = text.len() - LANES;
+    let points = u8x16::from_slice(&text[start..])
+        .simd_eq(u8x16::splat(b'.'))
+        .to_bitmask();
+    start + points.trailing_zeros() as usize
+}
+
+/// The numbers of a decimal without a point that a text ends with: its sign begins at one place, and its digits at another.
+#[inline(always)]
+fn ending_whole_at(text: &[u8], negative: bool, from: usize, first: usize) -> Option<ShortDecimal>
+    requires least { 16 ≤ from }
+    requires place { from ≤ first }
+    requires within { first ≤ length text.now }
+    requires few { length text.now ≤ from + 16 }
+    requires sign { IsSignAt text.now from first negative }
+    ensures { IfSome result (λ d. IsShortAt (drop from text.now) d.negative d.whole d.fraction d.places) }
+{
+    if first == text.len() {
+        return None;
+    }
+    let whole = decimals_between(text, first, text.len())?;
+    Some(ShortDecimal {
+        negative,
+        whole,
+        fraction: 0,
+        places: 0,
+    })
+}
+
+/// The numbers of a decimal that a text ends with: its sign begins at one place, and its digits at another.
+#[inline(always)]
+fn ending_decimal_at(text: &[u8], negative: bool, from: usize, first: usize) -> Option<ShortDecimal>
+    requires least { 16 ≤ from }
+    requires place { from ≤ first }
+    requires within { first ≤ length text.now }
+    requires few { length text.now ≤ from + 16 }
+    requires sign { IsSignAt text.now from first negative }
+    ensures { IfSome result (λ d. IsShortAt (drop from text.now) d.negative d.whole d.fraction d.places) }
+{
+    let point = possible_point(text);
+    if point >= text.len() {
+        return ending_whole_at(text, negative, from, first);
+    }
+    if point < first || text[point] != b'.' || text.len() - first == 1 {
+        return None;
+    }
+    let whole = decimals_between(text, first, point)?;
+    let fraction = decimals_between(text, point + 1, text.len())?;
+    Some(ShortDecimal {
+        negative,
+        whole,
+        fraction,
+        places: (text.len() - point - 1) as u32,
+    })
+}
+
+/// The numbers of a decimal numeral of at most 16 bytes, without an exponent or a plus, that a text ends with from a place on. None otherwise; `short_decimal`, `compact_numeral` or `scan` then says more. The text has at least 16 bytes before
+/// the numeral, so that words are read that reach back over its beginning, and no branch depends on the counts of digits. A
+/// step a byte of the numeral is taken, or none.
+#[inline(always)]
+pub fn ending_decimal<L: Ledger>(
+    text: &[u8],
+    from: usize,
+    steps: &mut Steps<L>,
+) -> Option<ShortDecimal>
+    ensures numeral { IfSome result (λ d. IsNumeral Dec (drop from text.now)) }
+    ensures parts { IfSome result (λ d. (p : Parts) → HasNumeral Dec (drop from text.now) p → IsShortDecimal p d.negative d.whole d.fraction d.places) }
+    ensures fraction { IfSome result (λ d. d.fraction < 10 ^ d.places) }
+    ensures whole { IfSome result (λ d. d.whole < 10 ^ 16) }
+    ensures places { IfSome result (λ d. d.places ≤ 16) }
+    ensures cost { steps.new ≤ steps.old + length (drop from text.now) }
+{
+    if from < LANES || text.len() <= from || text.len() - from > LANES {
+        return None;
+    }
+    steps.advance((text.len() - from) as u64);
+    let (negative, first) = minus_at(text, from);
+    let decimal = ending_decimal_at(text, negative, from, first)?;
     Some(decimal)
 }

@@ -27,4 +27,4 @@ pub use read::{
     overflowing_from_str_radix_mode_counted, saturating_from_str_radix,
     saturating_from_str_radix_mode, wrapping_from_str_radix, wrapping_from_str_radix_mode,
 };
-pub use read_number::{ReadNumber, read_format, read_literal};
+pub use read_number::{ReadNumber, read_ending, read_format, read_literal};

@@ -3,7 +3,7 @@
 //! A decimal of at most 24 bytes and a numeral whose digits fit 128 bits are read from the numbers of their parts
 //! (`short_numeral`). Any other is scanned, and its digits are looked at (`magnitude`). All other readers are shells over this.
 
-ghost use Rattle.std.specs.Prelude.{◌≡◌, ◌+◌, ◌*◌, ◌^◌, ◌<◌, ◌≤◌, ◌↔◌, ℕ, ℤ, IsTrue, IsOk, IfOk, IfErr, IsNone, IfSome, length};
+ghost use Rattle.std.specs.Prelude.{◌≡◌, ◌+◌, ◌*◌, ◌^◌, ◌<◌, ◌≤◌, ◌↔◌, ℕ, ℤ, IsTrue, IsOk, IfOk, IfErr, IsNone, IfSome, drop, length};
 ghost use Rattle.fixed_bits.specs.Formats.{IsFormat};
 ghost use Rattle.fixed_bits.specs.Images.{IsImage};
 ghost use Rattle.fixed_bits.specs.Ranges.{IsInRange, IsOutOfRange, IsWide};
@@ -29,7 +29,7 @@ use crate::short_numeral::{compact_ulps, short_ulps, ulps_of_short_decimal};
 use fixed_bits::{Format, Policy, ReadMode};
 use fixed_numeral::{
     CompactNumeral, ParseFixedError, Radix, Scanned, ShortDecimal, ShortNumeral, compact_numeral,
-    scan, scan_lit, short_decimal, short_numeral,
+    ending_decimal, scan, scan_lit, short_decimal, short_numeral,
 };
 use fixed_steps::Steps;
 use std::marker::Brand;
@@ -169,7 +169,7 @@ fn number_from(format: Format, negative: bool, ulps: Ulps) -> ReadNumber
 }
 
 /// The number that a short decimal reads as.
-#[inline]
+#[inline(always)]
 fn number_of_short(found: ShortDecimal, format: Format, mode: ReadMode) -> ReadNumber
     requires fraction { found.fraction < 10 ^ found.places }
     requires whole { found.whole < 10 ^ 16 }
@@ -345,6 +345,7 @@ fn read_longer<L: Ledger>(
 const SHORT_LENGTH: usize = 16;
 
 /// Reads any numeral but a short decimal.
+#[inline(never)]
 fn read_other<L: Ledger>(
     s: &[u8],
     radix: Radix,
@@ -393,6 +394,89 @@ pub fn read_format<L: Ledger>(
             None => read_other(s, radix, format, mode, steps),
         },
         _ => read_other(s, radix, format, mode, steps),
+    }
+}
+
+/// The bytes of a text from a place on.
+#[inline(always)]
+fn bytes_from(text: &[u8], from: usize) -> &[u8]
+    requires { from ≤ length text.now }
+    ensures { result.now ≡ drop from text.now }
+{
+    &text[from..]
+}
+
+/// Reads a decimal without an exponent that a text ends with. None says nothing.
+#[inline(always)]
+fn read_ending_decimal<L: Ledger>(
+    text: &[u8],
+    from: usize,
+    format: Format,
+    mode: ReadMode,
+    steps: &mut Steps<L>,
+) -> Option<ReadNumber>
+    ensures numeral { IfSome result (λ found. IsNumeral Dec (drop from text.now)) }
+    ensures reading { IfSome result (λ found. (p : Parts) → HasNumeral Dec (drop from text.now) p → IsReading mode Dec p found) }
+    ensures format { IfSome result (λ found. found.format ≡ format) }
+    ensures cost { steps.new ≤ steps.old + length (drop from text.now) }
+{
+    match ending_decimal(text, from, steps) {
+        Some(found) => Some(number_of_short(found, format, mode)),
+        None => None,
+    }
+}
+
+/// Reads a decimal that `read_ending_decimal` doesn't read. Only longer ones may still be short.
+#[inline(never)]
+fn read_other_decimal<L: Ledger>(
+    s: &[u8],
+    format: Format,
+    mode: ReadMode,
+    steps: &mut Steps<L>,
+) -> Result<ReadNumber, ParseFixedError>
+    ensures numeral { IsOk result ↔ IsNumeral Dec s.now }
+    ensures cause { IfErr result (λ kind. HasCause Dec s.now kind) }
+    ensures reading { IfOk result (λ found. (p : Parts) → HasNumeral Dec s.now p → IsReading mode Dec p found) }
+    ensures format { IfOk result (λ found. found.format ≡ format) }
+    ensures cost { steps.new ≤ steps.old + 5 * length s.now + 8 * format.width + 64 }
+{
+    if s.len() <= SHORT_LENGTH {
+        return read_other(s, Radix::Dec, format, mode, steps);
+    }
+    match read_short(s, format, mode, steps) {
+        Some(found) => Ok(found),
+        None => read_other(s, Radix::Dec, format, mode, steps),
+    }
+}
+
+/// Reads the numeral that a text ends with, from a place on, as `read_format` reads it alone. That there are bytes before it lets a
+/// short decimal be read by whole words, whatever the counts of its digits.
+///
+/// # Errors
+///
+/// Other bytes than a numeral of the radix are refused with the kind of their cause.
+#[inline(always)]
+pub fn read_ending<L: Ledger>(
+    text: &[u8],
+    from: usize,
+    radix: Radix,
+    format: Format,
+    mode: ReadMode,
+    steps: &mut Steps<L>,
+) -> Result<ReadNumber, ParseFixedError>
+    requires place { from ≤ length text.now }
+    ensures numeral { IsOk result ↔ IsNumeral radix (drop from text.now) }
+    ensures cause { IfErr result (λ kind. HasCause radix (drop from text.now) kind) }
+    ensures reading { IfOk result (λ found. (p : Parts) → HasNumeral radix (drop from text.now) p → IsReading mode radix p found) }
+    ensures format { IfOk result (λ found. found.format ≡ format) }
+    ensures cost { steps.new ≤ steps.old + 8 * (length (drop from text.now) + format.width) + 64 }
+{
+    match radix {
+        Radix::Dec => match read_ending_decimal(text, from, format, mode, steps) {
+            Some(found) => Ok(found),
+            None => read_other_decimal(bytes_from(text, from), format, mode, steps),
+        },
+        _ => read_other(bytes_from(text, from), radix, format, mode, steps),
     }
 }
 
