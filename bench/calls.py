@@ -97,8 +97,9 @@ def styled(bench):
     for form in FORMATS[:2]:
         path = bench.bits(form)
         rows.append(bench.row(f"{form}, {{}}", path, ("display", [form]), ("write", [form])))
+        rows.append(bench.row(f"{form}, shortest", path, ("write", [form])))
         rows.append(bench.row(f"{form}, {{:.2}}", path, ("display_places", [form]), ("places", [form, "2"])))
-    print("write! into one String")
+    print("write! into one String, and `shortest` of the same numbers")
     table(rows, HEADS)
 
 

@@ -7,10 +7,11 @@ ghost use Rattle.fixed_bits.specs.Ranges.{IsWide};
 ghost use Rattle.fixed_point.specs.Texts.{prefix_of, exact_shown_text, exact_styled_text};
 
 use crate::number::Fixed;
-use crate::text::{exact_text, shift_text};
+use crate::text::{PlacesText, shift_text};
 use fixed_bits::Inner;
-use fixed_write::Base;
+use fixed_write::{Base, push_exact};
 use std::fmt;
+use text_buffer::TextBuffer;
 
 /// A number whose Display writes its exact value in a base, in the fewest places.
 ///
@@ -92,7 +93,8 @@ fn write_in_base<W: fmt::Write>(
         return f.write_str(shift_text(value, frac).as_ascii_str());
     }
     let magnitude = value.unsigned_abs() as i128;
-    let text = exact_text(magnitude, frac, base);
+    let mut text: PlacesText = TextBuffer::new();
+    push_exact(&mut text, magnitude, frac, base);
     f.pad_integral(value >= 0, prefix(base), text.as_ascii_str())
 }
 

@@ -1,15 +1,13 @@
 //! The texts of a number, in buffers that take no memory.
 
-ghost use Rattle.std.specs.Prelude.{◌≡◌, ◌≤◌, ◌<◌, [], false};
+ghost use Rattle.std.specs.Prelude.{◌≡◌, ◌≤◌, ◌<◌, []};
 ghost use Rattle.std.specs.Str.{IsAscii};
 ghost use Rattle.fixed_bits.specs.Ranges.{IsWide};
-ghost use Rattle.fixed_write.specs.Bases.{number_of, has_capitals};
-ghost use Rattle.fixed_write.specs.Places.{rounded_text, exact_text};
 ghost use Rattle.fixed_write.specs.Texts.{shortest_text};
 ghost use Rattle.fixed_point.specs.Texts.{shift_text};
 
 use fixed_steps::Steps;
-use fixed_write::{Base, push_decimal, push_exact, push_integer, push_shortest};
+use fixed_write::{push_integer, push_shortest};
 use std::marker::Brand;
 use std::sync::ledger::{Blank, Ledger};
 use text_buffer::TextBuffer;
@@ -19,19 +17,6 @@ pub(crate) type ShownText = TextBuffer<48>;
 
 /// A text with up to 64 places, or an exact one.
 pub(crate) type PlacesText = TextBuffer<136>;
-
-/// The shortest decimal text.
-#[inline]
-pub(crate) fn default_text(value: i128, frac: u32) -> ShownText
-    requires wide { IsWide value }
-    requires frac { frac ≤ 64 }
-    ensures text { result ≡ shortest_text value frac }
-    ensures ascii { IsAscii result }
-{
-    let mut text = TextBuffer::new();
-    push_default(&mut text, value, frac);
-    text
-}
 
 /// Appends the shortest decimal text to an empty one.
 #[inline]
@@ -73,32 +58,5 @@ pub(crate) fn shift_text(value: i128, frac: u32) -> ShownText
     text.push_bytes(b" >> ");
     push_integer(&mut text, i128::from(frac));
     text.push_bytes(b")");
-    text
-}
-
-/// The text with `places` digits after the point, rounded to the nearest with ties to even.
-#[inline]
-pub(crate) fn places_text(value: i128, frac: u32, places: u32) -> PlacesText
-    requires wide { IsWide value }
-    requires frac { frac ≤ 64 }
-    requires places { places ≤ 64 }
-    ensures text { result ≡ rounded_text 10 false places value frac }
-    ensures ascii { IsAscii result }
-{
-    let mut text = TextBuffer::new();
-    push_decimal(&mut text, value, frac, places);
-    text
-}
-
-/// The exact text in a base, in the fewest places.
-#[inline]
-pub(crate) fn exact_text(value: i128, frac: u32, base: Base) -> PlacesText
-    requires wide { IsWide value }
-    requires frac { frac ≤ 64 }
-    ensures text { result ≡ exact_text (number_of base) (has_capitals base) value frac }
-    ensures ascii { IsAscii result }
-{
-    let mut text = TextBuffer::new();
-    push_exact(&mut text, value, frac, base);
     text
 }

@@ -10,6 +10,6 @@ use Rattle.fixed_point.proofs.printing.write_styled.Goals as goal
 pub returns-in-None-clause-writes : goal.returns-in-None-clause-writes
 returns-in-None-clause-writes g c =
     let within : c.args.frac ≤ c.args.width = c.if-frac-width.false in
-    let shown : c.as_ascii_str-in-None.result.now ≡ shortest_text (pos (unsigned_abs c.args.value)) c.args.frac = search (rules, c.as_ascii_str-in-None.ensures.value, c.default_text.ensures.text) in
+    let shown : c.as_ascii_str-in-None.result.now ≡ shortest_text (pos (unsigned_abs c.args.value)) c.args.frac = search (rules, c.as_ascii_str-in-None.ensures.value, c.push_default.ensures.text) in
     let all : shown_text c.args.width c.args.frac c.args.value ≡ sign_text (is_negative c.args.value) ++ c.as_ascii_str-in-None.result.now = shown_magnitude c.args.width c.args.frac c.args.value c.as_ascii_str-in-None.result.now within shown in
     rw all (writes_plain g.W.Write.write_str_gives c.args.f.now c.pad_integral.new.self c.pad_integral.result (is_negative c.args.value) [] c.as_ascii_str-in-None.result.now (search (rules, c.pad_integral.ensures.styled)))
