@@ -1,9 +1,8 @@
 //! What a line spells.
 
-ghost use Rattle.std.specs.Prelude.{◌≡◌, ◌↔◌, ◌<◌, IsOk, IfOk, IfErr};
+ghost use Rattle.std.specs.Prelude.{◌≡◌, ◌<◌, IfOk, IfErr};
 ghost use Rattle.fixed_bits.specs.declared.mode.ReadMode.TheVariants.{NearestEven};
-ghost use Rattle.fixed_numeral.specs.Cause.{HasCause};
-ghost use Rattle.fixed_numeral.specs.Numeral.{Parts, HasNumeral, IsNumeral};
+ghost use Rattle.fixed_numeral.specs.Answer.{IsReadOrRefused};
 ghost use Rattle.fixed_numeral.specs.declared.radix.Radix.TheVariants.{Dec};
 ghost use Rattle.fixed_read.specs.Reading.{IsReading};
 ghost use Rattle.fixed_columns.specs.Rows.{HasFault, IsNumeralOf, IsRefusedNumeral, Spells, after_spaces};
@@ -39,9 +38,7 @@ fn read_decimal_over<L: Ledger>(
     requires name { blank.name ≡ L.name }
     requires parts { blank.parts ≡ L.parts }
     requires backed { 0 < L.parts }
-    ensures numeral { IsOk result ↔ IsNumeral Dec numeral.now }
-    ensures cause { IfErr result (λ kind. HasCause Dec numeral.now kind) }
-    ensures reading { IfOk result (λ found. (p : Parts) → HasNumeral Dec numeral.now p → IsReading NearestEven Dec p found) }
+    ensures reading { IsReadOrRefused Dec numeral.now (IsReading NearestEven Dec) result }
     ensures format { IfOk result (λ found. found.format ≡ format) }
 {
     let mut steps: Steps<L> = Steps::new(blank);

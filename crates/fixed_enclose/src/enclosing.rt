@@ -1,12 +1,11 @@
 //! The two values of a format nearest to a numeral's value, below and above.
 
-ghost use Rattle.std.specs.Prelude.{◌≡◌, ◌↔◌, ◌≤◌, ◌+◌, ◌*◌, ◌⊎◌, ℤ, IsTrue, IsNone, IsOk, IfOk, IfErr, IfSome, IfNone, length};
+ghost use Rattle.std.specs.Prelude.{◌≡◌, ◌↔◌, ◌≤◌, ◌+◌, ◌*◌, ◌⊎◌, ℤ, IsNone, IsOk, IfOk, IfErr, IfSome, IfNone, length};
 ghost use Rattle.fixed_bits.specs.Ranges.{IsInRange, IsOutOfRange, IsWide};
 ghost use Rattle.fixed_bits.specs.Images.{IsImage};
 ghost use Rattle.fixed_bits.specs.declared.format.Policy.TheVariants.{Checked};
 ghost use Rattle.fixed_bits.specs.declared.mode.ReadMode.TheVariants.{Floor};
-ghost use Rattle.fixed_numeral.specs.Cause.{HasCause};
-ghost use Rattle.fixed_numeral.specs.Numeral.{Parts, HasNumeral, IsNumeral};
+ghost use Rattle.fixed_numeral.specs.Answer.{IsReadOrRefused};
 ghost use Rattle.fixed_read.specs.Reading.{HoldsNumber, IsReading};
 ghost use Rattle.fixed_enclose.specs.Enclosure.{IsEnclosed, IsRefusal};
 ghost use Rattle.fixed_enclose.specs.Lemmas.EnclosureLemmas.{upper};
@@ -64,9 +63,7 @@ fn read_floor<L: Ledger>(
     format: Format,
     steps: &mut Steps<L>,
 ) -> Result<ReadNumber, ParseFixedError>
-    ensures numeral { IsOk result ↔ IsNumeral radix bytes.now }
-    ensures cause { IfErr result (λ kind. HasCause radix bytes.now kind) }
-    ensures reading { IfOk result (λ found. (p : Parts) → HasNumeral radix bytes.now p → IsReading Floor radix p found) }
+    ensures reading { IsReadOrRefused radix bytes.now (IsReading Floor radix) result }
     ensures format { IfOk result (λ found. found.format ≡ format) }
     ensures cost { steps.new ≤ steps.old + 8 * (length bytes.now + format.width) + 64 }
 {

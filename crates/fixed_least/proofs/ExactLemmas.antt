@@ -1,5 +1,5 @@
 -- A numeral's value from one reading or two: its ulps of 2^-64, and its whole part.
-use Rattle.std.proofs.Common.{◌≡◌, ℕ, ◌+◌, ◌-◌, ◌*◌, ◌^◌, ◌<◌, ◌≤◌, ◌↔◌, Bool, true, false, IsTrue, List, sym, ap, ◌∙◌, subst, arith, pow_pos, ⊎_elim, mul-le-mul_right, mul-le-mul_left}
+use Rattle.std.proofs.Common.{◌≡◌, ℕ, ◌+◌, ◌-◌, ◌*◌, ◌^◌, ◌<◌, ◌≤◌, ◌↔◌, Bool, true, false, IsTrue, sym, ap, ◌∙◌, subst, arith, pow_pos, ⊎_elim, mul-le-mul_right, mul-le-mul_left}
 use Rattle.std.specs.Prelude.{Some, None}
 use Rattle.std.proofs.Math.Nat.{le_of_mul-le-mul_left}
 use Rattle.std.proofs.lemmas.Bool.{cases_lt, false≢true}
@@ -9,14 +9,14 @@ use Rattle.fixed_bits.specs.Ranges.{IsInRange}
 use Rattle.fixed_bits.specs.Rounded.{IsNotAbove, IsRounded}
 use Rattle.fixed_bits.specs.declared.mode.ReadMode.TheVariants.{TowardsZero}
 use Rattle.fixed_bits.proofs.Public.{ends_wide, rounded_unique}
-use Rattle.fixed_numeral.specs.Numeral.{Parts, HasNumeral, is_minus}
+use Rattle.fixed_numeral.specs.Numeral.{Parts, is_minus}
 use Rattle.fixed_numeral.specs.Value.{magnitude}
 use Rattle.fixed_numeral.specs.declared.radix.Radix.{Radix}
 use Rattle.fixed_numeral.proofs.Public.{magnitude_pos}
 use Rattle.fixed_read.specs.Reading.{IsReading, IsWholeUlps, with_sign}
 use Rattle.fixed_read.specs.declared.read_number.ReadNumber.{ReadNumber}
 use Rattle.fixed_least.specs.Holding.{Holds}
-use Rattle.fixed_least.specs.Inner.Valued.{IsExactOf}
+use Rattle.fixed_least.specs.Inner.Valued.{IsValueOf}
 use Rattle.fixed_least.specs.declared.exact.Exact.{Exact}
 use Rattle.fixed_least.specs.Lemmas.HoldingLemmas.{frac_most, split_power, width_most}
 
@@ -73,12 +73,8 @@ held_is_whole r p f is h =
     scaled : (num den up down count : ℕ) → num * up ≡ count * den → num * (up * down) ≡ (count * down) * den
     scaled num den up down count e = omega (arith, ap (λ x. x * down) e)
 
-pub inexact : (r : Radix) (bytes : List ℕ) (p : Parts) (fine : ReadNumber) → HasNumeral r bytes p → fine.format.frac ≡ 64 → IsReading TowardsZero r p fine → fine.exact ≡ false → IsExactOf r bytes None
-inexact r bytes p fine numeral at x is = record {
-  parts = p;
-  numeral = numeral;
-  value_of = λ f format h. false≢true (sym is ∙ (read_down r p 64 fine at x).exact.1 (held_is_whole r p f format h));
-}
+pub inexact : (r : Radix) (p : Parts) (fine : ReadNumber) → fine.format.frac ≡ 64 → IsReading TowardsZero r p fine → fine.exact ≡ false → IsValueOf r p None
+inexact r p fine at x is = λ f format h. false≢true (sym is ∙ (read_down r p 64 fine at x).exact.1 (held_is_whole r p f format h))
 
 -- ---- a value whose ulps have at most 64 bits
 no_high : (b : Bool) (high : ℕ) → (IsTrue b ↔ (0 < high)) → b ≡ false → high ≡ 0
@@ -88,16 +84,12 @@ no_high b high over is =
     (λ (none : high ≤ 0). omega (arith, none))
     (cases_lt 0 high)
 
-pub short_value : (r : Radix) (bytes : List ℕ) (p : Parts) (fine : ReadNumber) (e : Exact) → HasNumeral r bytes p → fine.format.frac ≡ 64 → IsReading TowardsZero r p fine → fine.exact ≡ true → fine.has_high_bits ≡ false → e.negative ≡ fine.negative → e.ulps ≡ fine.low → IsExactOf r bytes (Some e)
-short_value r bytes p fine e numeral at x is low sign ulps =
+pub short_value : (r : Radix) (p : Parts) (fine : ReadNumber) (e : Exact) → fine.format.frac ≡ 64 → IsReading TowardsZero r p fine → fine.exact ≡ true → fine.has_high_bits ≡ false → e.negative ≡ fine.negative → e.ulps ≡ fine.low → IsValueOf r p (Some e)
+short_value r p fine e at x is low sign ulps =
     let h = read_down r p 64 fine at x in
     let none : h.high ≡ 0 = no_high fine.has_high_bits h.high h.over low in
     let all : h.high * 2 ^ 64 + fine.low ≡ e.ulps = omega (arith, none, ulps) in
-    record {
-      parts = p;
-      numeral = numeral;
-      value_of = record { sign = sign ∙ h.sign; exact = exact_ulps r p fine h is ∙ ap (λ n. n * (magnitude r p).den) all };
-    }
+    record { sign = sign ∙ h.sign; exact = exact_ulps r p fine h is ∙ ap (λ n. n * (magnitude r p).den) all }
 
 -- ---- the whole part
 whole_part : (num den q w low : ℕ) → 0 < den → num * 2 ^ 64 ≡ (q * 2 ^ 64 + low) * den → low < 2 ^ 64 → IsNotAbove num den w → q ≡ w
@@ -137,8 +129,8 @@ too_large num den up count some power e small large =
     let less : (count + 1) * den ≤ 2 ^ 64 * den = mul-le-mul_right den one_more in
     omega (arith, more, less, e, large, some)
 
-pub outside : (r : Radix) (bytes : List ℕ) (p : Parts) (fine coarse : ReadNumber) → HasNumeral r bytes p → fine.format.frac ≡ 64 → IsReading TowardsZero r p fine → fine.exact ≡ true → fine.low < 2 ^ 64 → coarse.format.frac ≡ 0 → IsReading TowardsZero r p coarse → coarse.has_high_bits ≡ true → IsExactOf r bytes None
-outside r bytes p fine coarse numeral at x is small at' y out =
+pub outside : (r : Radix) (p : Parts) (fine coarse : ReadNumber) → fine.format.frac ≡ 64 → IsReading TowardsZero r p fine → fine.exact ≡ true → fine.low < 2 ^ 64 → coarse.format.frac ≡ 0 → IsReading TowardsZero r p coarse → coarse.has_high_bits ≡ true → IsValueOf r p None
+outside r p fine coarse at x is small at' y out =
     let h = read_down r p 64 fine at x in
     let c = read_down r p 0 coarse at' y in
     let high : 0 < c.high = c.over.0 out in
@@ -146,22 +138,14 @@ outside r bytes p fine coarse numeral at x is small at' y out =
     let large : 2 ^ 64 * (magnitude r p).den ≤ (magnitude r p).num =
     (let grown : 2 ^ 64 * (magnitude r p).den ≤ (c.high * 2 ^ 64 + coarse.low) * (magnitude r p).den = mul-le-mul_right (magnitude r p).den (omega (arith, high)) in
     omega (arith, grown, c.not_above.at_most, one)) in
-    record {
-      parts = p;
-      numeral = numeral;
-      value_of = λ f format g. too_large (magnitude r p).num (magnitude r p).den (2 ^ f.frac) g.count (magnitude_pos r p) (pow_pos f.frac) g.exact (count_small f.signed f.width g.count (is_minus p.sign) (width_most f.width format.is_width) g.in_range) large;
-    }
+    (λ f format g. too_large (magnitude r p).num (magnitude r p).den (2 ^ f.frac) g.count (magnitude_pos r p) (pow_pos f.frac) g.exact (count_small f.signed f.width g.count (is_minus p.sign) (width_most f.width format.is_width) g.in_range) large)
 
-pub long_value : (r : Radix) (bytes : List ℕ) (p : Parts) (fine coarse : ReadNumber) (e : Exact) → HasNumeral r bytes p → fine.format.frac ≡ 64 → IsReading TowardsZero r p fine → fine.exact ≡ true → fine.low < 2 ^ 64 → coarse.format.frac ≡ 0 → IsReading TowardsZero r p coarse → coarse.has_high_bits ≡ false → e.negative ≡ fine.negative → e.ulps ≡ coarse.low * 2 ^ 64 + fine.low → IsExactOf r bytes (Some e)
-long_value r bytes p fine coarse e numeral at x is small at' y low sign ulps =
+pub long_value : (r : Radix) (p : Parts) (fine coarse : ReadNumber) (e : Exact) → fine.format.frac ≡ 64 → IsReading TowardsZero r p fine → fine.exact ≡ true → fine.low < 2 ^ 64 → coarse.format.frac ≡ 0 → IsReading TowardsZero r p coarse → coarse.has_high_bits ≡ false → e.negative ≡ fine.negative → e.ulps ≡ coarse.low * 2 ^ 64 + fine.low → IsValueOf r p (Some e)
+long_value r p fine coarse e at x is small at' y low sign ulps =
     let h = read_down r p 64 fine at x in
     let c = read_down r p 0 coarse at' y in
     let none : c.high ≡ 0 = no_high coarse.has_high_bits c.high c.over low in
     let parts_are = coarse_part r p fine coarse h c is small in
     let whole : h.high ≡ coarse.low = omega (arith, parts_are, none) in
     let all : h.high * 2 ^ 64 + fine.low ≡ e.ulps = omega (arith, ap (λ n. n * 2 ^ 64) whole, ulps) in
-    record {
-      parts = p;
-      numeral = numeral;
-      value_of = record { sign = sign ∙ h.sign; exact = exact_ulps r p fine h is ∙ ap (λ n. n * (magnitude r p).den) all };
-    }
+    record { sign = sign ∙ h.sign; exact = exact_ulps r p fine h is ∙ ap (λ n. n * (magnitude r p).den) all }

@@ -1,9 +1,8 @@
 //! A numeral's value, where some format has it.
 
-ghost use Rattle.std.specs.Prelude.{◌≡◌, ◌↔◌, ◌≤◌, ◌+◌, ◌*◌, ◌^◌, false, IsOk, IfOk, IfErr};
-ghost use Rattle.fixed_numeral.specs.Cause.{HasCause};
-ghost use Rattle.fixed_numeral.specs.Numeral.{IsNumeral};
-ghost use Rattle.fixed_least.specs.Inner.Valued.{IsExactOf};
+ghost use Rattle.std.specs.Prelude.{◌≡◌, ◌≤◌, ◌+◌, ◌*◌, ◌^◌, false};
+ghost use Rattle.fixed_numeral.specs.Answer.{IsReadOrRefused};
+ghost use Rattle.fixed_least.specs.Inner.Valued.{IsValueOf};
 
 use fixed_bits::{Format, ReadMode};
 use fixed_numeral::{ParseFixedError, Radix};
@@ -46,9 +45,7 @@ pub fn exact_of<L: Ledger>(
     radix: Radix,
     steps: &mut Steps<L>,
 ) -> Result<Option<Exact>, ParseFixedError>
-    ensures numeral { IsOk result ↔ IsNumeral radix bytes.now }
-    ensures cause { IfErr result (λ kind. HasCause radix bytes.now kind) }
-    ensures exact { IfOk result (λ value. IsExactOf radix bytes.now value) }
+    ensures exact { IsReadOrRefused radix bytes.now (IsValueOf radix) result }
 {
     let fine = match read_format(bytes, radix, long_format(64), ReadMode::TowardsZero, steps) {
         Ok(fine) => fine,

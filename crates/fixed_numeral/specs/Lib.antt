@@ -1,6 +1,7 @@
 pub mod Numeral
 pub mod Value
 pub mod Cause
+pub mod Answer
 pub mod Spelled
 pub mod PartNumbers
 pub mod Digits

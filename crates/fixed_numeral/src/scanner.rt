@@ -1,13 +1,14 @@
 //! Reading a numeral from the left.
 
-ghost use Rattle.std.specs.Prelude.{◌≡◌, ◌+◌, ◌*◌, ◌^◌, ◌<◌, ◌≤◌, ℕ, nat_lt, true, false, IsTrue, List, [], ◌++◌, length, take, drop, MatchResult, IfSome, IsOk, IfOk, IfErr, ◌↔◌};
+ghost use Rattle.std.specs.Prelude.{◌≡◌, ◌+◌, ◌*◌, ◌^◌, ◌<◌, ◌≤◌, ℕ, nat_lt, true, false, IsTrue, List, [], ◌++◌, length, take, drop, MatchResult, IfSome, IfOk};
 ghost use Rattle.std.specs.Int.Digits.{AllBelowBase};
 ghost use Rattle.std.specs.Simd.Lanes.{number_l};
 ghost use Rattle.std.specs.Char.{digit_value};
 ghost use Rattle.std.specs.Str.Parse.{AllDigits};
 ghost use Rattle.fixed_numeral.specs.declared.radix.Radix.{Radix as TheRadix};
+ghost use Rattle.fixed_numeral.specs.Answer.{IsReadOrRefused};
 ghost use Rattle.fixed_numeral.specs.Cause.{HasCause};
-ghost use Rattle.fixed_numeral.specs.Numeral.{Parts, HasParts, HasNumeral, IsNumeral, base, is_sign, is_separator, is_two_separator};
+ghost use Rattle.fixed_numeral.specs.Numeral.{Parts, HasParts, base, is_sign, is_separator, is_two_separator};
 ghost use Rattle.fixed_numeral.specs.Inner.Scan.{Agrees, Extends, CannotExtend, IsAfter, IsComplete, IsIncomplete, max_magnitude};
 ghost use Rattle.fixed_numeral.specs.Inner.Run.{IsRun};
 ghost use Rattle.fixed_numeral.specs.Scanned.{IsScanned};
@@ -489,9 +490,7 @@ pub fn scan<'a, L: Ledger>(
     radix: Radix,
     steps: &mut Steps<L>,
 ) -> Result<Scanned<'a>, ParseFixedError>
-    ensures numeral { IsOk result ↔ IsNumeral radix bytes.now }
-    ensures cause { IfErr result (λ kind. HasCause radix bytes.now kind) }
-    ensures value { IfOk result (λ s. (p : Parts) → HasNumeral radix bytes.now p → IsScanned radix p s.neg s.whole s.fraction s.bit_shift) }
+    ensures reading { IsReadOrRefused radix bytes.now (λ p s. IsScanned radix p s.neg s.whole s.fraction s.bit_shift) result }
     ensures counted { IfOk result (λ s. steps.old + length bytes.now ≤ steps.new) }
     ensures cost { steps.new ≤ steps.old + 2 * length bytes.now + 2 }
 {

@@ -1,12 +1,13 @@
 //! Reading numerals into bits, in each radix and mode.
 
-ghost use Rattle.std.specs.Prelude.{◌≡◌, ◌+◌, ◌*◌, ◌^◌, ◌<◌, ◌≤◌, ◌↔◌, ◌⊎◌, IsTrue, ℕ, ℤ, Err, IsOk, IfOk, IfErr, length};
+ghost use Rattle.std.specs.Prelude.{◌≡◌, ◌+◌, ◌*◌, ◌<◌, ◌≤◌, ◌↔◌, ◌⊎◌, ℤ, Err, IsOk, IfOk, IfErr, length};
 ghost use Rattle.fixed_bits.specs.Images.{IsSaturated, IsWrapped};
 ghost use Rattle.fixed_bits.specs.Ranges.{IsInRange, IsOutOfRange};
 ghost use Rattle.fixed_bits.specs.declared.format.Policy.TheVariants.{Saturating, Wrapping};
 ghost use Rattle.fixed_bits.specs.declared.mode.ReadMode.TheVariants.{NearestEven};
+ghost use Rattle.fixed_numeral.specs.Answer.{IsReadOrRefused};
 ghost use Rattle.fixed_numeral.specs.Cause.{HasCause};
-ghost use Rattle.fixed_numeral.specs.Numeral.{Parts, HasNumeral, IsNumeral};
+ghost use Rattle.fixed_numeral.specs.Numeral.{Parts, HasNumeral};
 ghost use Rattle.fixed_numeral.specs.declared.error.ParseErrorKind.TheVariants.{Overflow};
 ghost use Rattle.fixed_read.specs.Inner.Magnitudes.{greatest_magnitude};
 ghost use Rattle.fixed_read.specs.Reading.{HoldsNumber, IsImageRead, IsOverflowingRead, IsReadInRange, IsReadNumber, IsReadOutOfRange, IsReading, with_sign};
@@ -85,9 +86,7 @@ fn read_over<L: Ledger>(
     requires name { blank.name ≡ L.name }
     requires parts { blank.parts ≡ L.parts }
     requires backed { 0 < L.parts }
-    ensures numeral { IsOk result ↔ IsNumeral radix s.now }
-    ensures cause { IfErr result (λ kind. HasCause radix s.now kind) }
-    ensures reading { IfOk result (λ found. (p : Parts) → HasNumeral radix s.now p → IsReading mode radix p found) }
+    ensures reading { IsReadOrRefused radix s.now (IsReading mode radix) result }
     ensures format { IfOk result (λ found. found.format ≡ format) }
 {
     let mut steps: Steps<L> = Steps::new(blank);
@@ -101,9 +100,7 @@ pub fn read_uncounted(
     format: Format,
     mode: ReadMode,
 ) -> Result<ReadNumber, ParseFixedError>
-    ensures numeral { IsOk result ↔ IsNumeral radix s.now }
-    ensures cause { IfErr result (λ kind. HasCause radix s.now kind) }
-    ensures reading { IfOk result (λ found. (p : Parts) → HasNumeral radix s.now p → IsReading mode radix p found) }
+    ensures reading { IsReadOrRefused radix s.now (IsReading mode radix) result }
     ensures format { IfOk result (λ found. found.format ≡ format) }
 {
     read_over::<Brand>(s, radix, format, mode, Blank::new(1))
@@ -126,9 +123,7 @@ pub fn overflowing_from_str_radix_mode_counted<I: Inner, L: Ledger>(
     steps: &mut Steps<L>,
 ) -> Result<(I, bool), ParseFixedError>
     requires { frac_nbits ≤ I.BITS }
-    ensures numeral { IsOk result ↔ IsNumeral radix s.now }
-    ensures cause { IfErr result (λ kind. HasCause radix s.now kind) }
-    ensures read { IfOk result (λ r. (p : Parts) → HasNumeral radix s.now p → IsOverflowingRead mode radix p frac_nbits I.SIGNED I.BITS (I.number r.0) r.1) }
+    ensures reading { IsReadOrRefused radix s.now (λ p r. IsOverflowingRead mode radix p frac_nbits I.SIGNED I.BITS (I.number r.0) r.1) result }
     ensures cost { steps.new ≤ steps.old + 8 * (length s.now + I.BITS) + 64 }
 {
     match read_format(s, radix, format_of::<I>(frac_nbits), mode, steps) {
@@ -151,9 +146,7 @@ pub fn overflowing_from_str_radix_counted<I: Inner, L: Ledger>(
     steps: &mut Steps<L>,
 ) -> Result<(I, bool), ParseFixedError>
     requires { frac_nbits ≤ I.BITS }
-    ensures numeral { IsOk result ↔ IsNumeral radix s.now }
-    ensures cause { IfErr result (λ kind. HasCause radix s.now kind) }
-    ensures read { IfOk result (λ r. (p : Parts) → HasNumeral radix s.now p → IsOverflowingRead NearestEven radix p frac_nbits I.SIGNED I.BITS (I.number r.0) r.1) }
+    ensures reading { IsReadOrRefused radix s.now (λ p r. IsOverflowingRead NearestEven radix p frac_nbits I.SIGNED I.BITS (I.number r.0) r.1) result }
     ensures cost { steps.new ≤ steps.old + 8 * (length s.now + I.BITS) + 64 }
 {
     overflowing_from_str_radix_mode_counted(s, radix, frac_nbits, ReadMode::NearestEven, steps)
@@ -172,9 +165,7 @@ pub fn overflowing_from_str_radix_mode<I: Inner>(
     mode: ReadMode,
 ) -> Result<(I, bool), ParseFixedError>
     requires { frac_nbits ≤ I.BITS }
-    ensures numeral { IsOk result ↔ IsNumeral radix s.now }
-    ensures cause { IfErr result (λ kind. HasCause radix s.now kind) }
-    ensures read { IfOk result (λ r. (p : Parts) → HasNumeral radix s.now p → IsOverflowingRead mode radix p frac_nbits I.SIGNED I.BITS (I.number r.0) r.1) }
+    ensures reading { IsReadOrRefused radix s.now (λ p r. IsOverflowingRead mode radix p frac_nbits I.SIGNED I.BITS (I.number r.0) r.1) result }
 {
     match read_uncounted(s, radix, format_of::<I>(frac_nbits), mode) {
         Ok(found) => Ok((wrapped(&found), found.is_out_of_range())),
@@ -194,9 +185,7 @@ pub fn overflowing_from_str_radix<I: Inner>(
     frac_nbits: u32,
 ) -> Result<(I, bool), ParseFixedError>
     requires { frac_nbits ≤ I.BITS }
-    ensures numeral { IsOk result ↔ IsNumeral radix s.now }
-    ensures cause { IfErr result (λ kind. HasCause radix s.now kind) }
-    ensures read { IfOk result (λ r. (p : Parts) → HasNumeral radix s.now p → IsOverflowingRead NearestEven radix p frac_nbits I.SIGNED I.BITS (I.number r.0) r.1) }
+    ensures reading { IsReadOrRefused radix s.now (λ p r. IsOverflowingRead NearestEven radix p frac_nbits I.SIGNED I.BITS (I.number r.0) r.1) result }
 {
     overflowing_from_str_radix_mode(s, radix, frac_nbits, ReadMode::NearestEven)
 }
@@ -214,9 +203,7 @@ pub fn wrapping_from_str_radix_mode<I: Inner>(
     mode: ReadMode,
 ) -> Result<I, ParseFixedError>
     requires { frac_nbits ≤ I.BITS }
-    ensures numeral { IsOk result ↔ IsNumeral radix s.now }
-    ensures cause { IfErr result (λ kind. HasCause radix s.now kind) }
-    ensures read { IfOk result (λ r. (p : Parts) → HasNumeral radix s.now p → IsImageRead Wrapping mode radix p frac_nbits I.SIGNED I.BITS (I.number r)) }
+    ensures reading { IsReadOrRefused radix s.now (λ p r. IsImageRead Wrapping mode radix p frac_nbits I.SIGNED I.BITS (I.number r)) result }
 {
     match read_uncounted(s, radix, format_of::<I>(frac_nbits), mode) {
         Ok(found) => Ok(wrapped(&found)),
@@ -236,9 +223,7 @@ pub fn wrapping_from_str_radix<I: Inner>(
     frac_nbits: u32,
 ) -> Result<I, ParseFixedError>
     requires { frac_nbits ≤ I.BITS }
-    ensures numeral { IsOk result ↔ IsNumeral radix s.now }
-    ensures cause { IfErr result (λ kind. HasCause radix s.now kind) }
-    ensures read { IfOk result (λ r. (p : Parts) → HasNumeral radix s.now p → IsImageRead Wrapping NearestEven radix p frac_nbits I.SIGNED I.BITS (I.number r)) }
+    ensures reading { IsReadOrRefused radix s.now (λ p r. IsImageRead Wrapping NearestEven radix p frac_nbits I.SIGNED I.BITS (I.number r)) result }
 {
     wrapping_from_str_radix_mode(s, radix, frac_nbits, ReadMode::NearestEven)
 }
@@ -255,9 +240,7 @@ pub fn saturating_from_str_radix_mode<I: Inner>(
     mode: ReadMode,
 ) -> Result<I, ParseFixedError>
     requires { frac_nbits ≤ I.BITS }
-    ensures numeral { IsOk result ↔ IsNumeral radix s.now }
-    ensures cause { IfErr result (λ kind. HasCause radix s.now kind) }
-    ensures read { IfOk result (λ r. (p : Parts) → HasNumeral radix s.now p → IsImageRead Saturating mode radix p frac_nbits I.SIGNED I.BITS (I.number r)) }
+    ensures reading { IsReadOrRefused radix s.now (λ p r. IsImageRead Saturating mode radix p frac_nbits I.SIGNED I.BITS (I.number r)) result }
 {
     match read_uncounted(s, radix, format_of::<I>(frac_nbits), mode) {
         Ok(found) => Ok(saturated(&found)),
@@ -276,9 +259,7 @@ pub fn saturating_from_str_radix<I: Inner>(
     frac_nbits: u32,
 ) -> Result<I, ParseFixedError>
     requires { frac_nbits ≤ I.BITS }
-    ensures numeral { IsOk result ↔ IsNumeral radix s.now }
-    ensures cause { IfErr result (λ kind. HasCause radix s.now kind) }
-    ensures read { IfOk result (λ r. (p : Parts) → HasNumeral radix s.now p → IsImageRead Saturating NearestEven radix p frac_nbits I.SIGNED I.BITS (I.number r)) }
+    ensures reading { IsReadOrRefused radix s.now (λ p r. IsImageRead Saturating NearestEven radix p frac_nbits I.SIGNED I.BITS (I.number r)) result }
 {
     saturating_from_str_radix_mode(s, radix, frac_nbits, ReadMode::NearestEven)
 }

@@ -3,12 +3,12 @@
 //! A decimal of at most 24 bytes and a numeral whose digits fit 128 bits are read from the numbers of their parts
 //! (`short_numeral`). Any other is scanned, and its digits are looked at (`magnitude`). All other readers are shells over this.
 
-ghost use Rattle.std.specs.Prelude.{◌≡◌, ◌+◌, ◌*◌, ◌^◌, ◌<◌, ◌≤◌, ◌↔◌, ℕ, ℤ, IsTrue, IsOk, IfOk, IfErr, IsNone, IfSome, drop, length};
+ghost use Rattle.std.specs.Prelude.{◌≡◌, ◌+◌, ◌*◌, ◌^◌, ◌<◌, ◌≤◌, ◌↔◌, ℤ, IsTrue, IsOk, IfOk, IfErr, IsNone, IfSome, drop, length};
 ghost use Rattle.fixed_bits.specs.Formats.{IsFormat};
 ghost use Rattle.fixed_bits.specs.Images.{IsImage};
 ghost use Rattle.fixed_bits.specs.Ranges.{IsInRange, IsOutOfRange, IsWide};
 ghost use Rattle.fixed_bits.specs.declared.mode.ReadMode.TheVariants.{NearestEven};
-ghost use Rattle.fixed_numeral.specs.Cause.{HasCause};
+ghost use Rattle.fixed_numeral.specs.Answer.{IsReadOrRefused};
 ghost use Rattle.fixed_numeral.specs.Literal.{HasLiteral, HasLiteralCause, IsLiteral, literal_radix};
 ghost use Rattle.fixed_numeral.specs.Numeral.{Parts, HasNumeral, IsNumeral, is_minus};
 ghost use Rattle.fixed_numeral.specs.Spelled.{IsSameNumber};
@@ -306,9 +306,7 @@ fn read_scanned<L: Ledger>(
     mode: ReadMode,
     steps: &mut Steps<L>,
 ) -> Result<ReadNumber, ParseFixedError>
-    ensures numeral { IsOk result ↔ IsNumeral radix s.now }
-    ensures cause { IfErr result (λ kind. HasCause radix s.now kind) }
-    ensures reading { IfOk result (λ found. (p : Parts) → HasNumeral radix s.now p → IsReading mode radix p found) }
+    ensures reading { IsReadOrRefused radix s.now (IsReading mode radix) result }
     ensures format { IfOk result (λ found. found.format ≡ format) }
     ensures cost { steps.new ≤ steps.old + 2 * length s.now + 8 * format.width + 64 }
 {
@@ -329,9 +327,7 @@ fn read_longer<L: Ledger>(
     mode: ReadMode,
     steps: &mut Steps<L>,
 ) -> Result<ReadNumber, ParseFixedError>
-    ensures numeral { IsOk result ↔ IsNumeral radix s.now }
-    ensures cause { IfErr result (λ kind. HasCause radix s.now kind) }
-    ensures reading { IfOk result (λ found. (p : Parts) → HasNumeral radix s.now p → IsReading mode radix p found) }
+    ensures reading { IsReadOrRefused radix s.now (IsReading mode radix) result }
     ensures format { IfOk result (λ found. found.format ≡ format) }
     ensures cost { steps.new ≤ steps.old + 3 * length s.now + 8 * format.width + 64 }
 {
@@ -353,9 +349,7 @@ fn read_other<L: Ledger>(
     mode: ReadMode,
     steps: &mut Steps<L>,
 ) -> Result<ReadNumber, ParseFixedError>
-    ensures numeral { IsOk result ↔ IsNumeral radix s.now }
-    ensures cause { IfErr result (λ kind. HasCause radix s.now kind) }
-    ensures reading { IfOk result (λ found. (p : Parts) → HasNumeral radix s.now p → IsReading mode radix p found) }
+    ensures reading { IsReadOrRefused radix s.now (IsReading mode radix) result }
     ensures format { IfOk result (λ found. found.format ≡ format) }
     ensures cost { steps.new ≤ steps.old + 4 * length s.now + 8 * format.width + 64 }
 {
@@ -382,9 +376,7 @@ pub fn read_format<L: Ledger>(
     mode: ReadMode,
     steps: &mut Steps<L>,
 ) -> Result<ReadNumber, ParseFixedError>
-    ensures numeral { IsOk result ↔ IsNumeral radix s.now }
-    ensures cause { IfErr result (λ kind. HasCause radix s.now kind) }
-    ensures reading { IfOk result (λ found. (p : Parts) → HasNumeral radix s.now p → IsReading mode radix p found) }
+    ensures reading { IsReadOrRefused radix s.now (IsReading mode radix) result }
     ensures format { IfOk result (λ found. found.format ≡ format) }
     ensures cost { steps.new ≤ steps.old + 8 * (length s.now + format.width) + 64 }
 {
@@ -434,9 +426,7 @@ fn read_other_decimal<L: Ledger>(
     mode: ReadMode,
     steps: &mut Steps<L>,
 ) -> Result<ReadNumber, ParseFixedError>
-    ensures numeral { IsOk result ↔ IsNumeral Dec s.now }
-    ensures cause { IfErr result (λ kind. HasCause Dec s.now kind) }
-    ensures reading { IfOk result (λ found. (p : Parts) → HasNumeral Dec s.now p → IsReading mode Dec p found) }
+    ensures reading { IsReadOrRefused Dec s.now (IsReading mode Dec) result }
     ensures format { IfOk result (λ found. found.format ≡ format) }
     ensures cost { steps.new ≤ steps.old + 5 * length s.now + 8 * format.width + 64 }
 {
@@ -465,9 +455,7 @@ pub fn read_ending<L: Ledger>(
     steps: &mut Steps<L>,
 ) -> Result<ReadNumber, ParseFixedError>
     requires place { from ≤ length text.now }
-    ensures numeral { IsOk result ↔ IsNumeral radix (drop from text.now) }
-    ensures cause { IfErr result (λ kind. HasCause radix (drop from text.now) kind) }
-    ensures reading { IfOk result (λ found. (p : Parts) → HasNumeral radix (drop from text.now) p → IsReading mode radix p found) }
+    ensures reading { IsReadOrRefused radix (drop from text.now) (IsReading mode radix) result }
     ensures format { IfOk result (λ found. found.format ≡ format) }
     ensures cost { steps.new ≤ steps.old + 8 * (length (drop from text.now) + format.width) + 64 }
 {

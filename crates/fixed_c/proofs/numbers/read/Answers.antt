@@ -17,7 +17,7 @@ returns-in-Some-image g c =
     let are : has_bits f.signed c.bits_for_c.result c.in-Some-image.number = rw (to_z-of_z w128 c.in-Some-image.number image) at c.bits_for_c.ensures in
     let read : IsReadAs c.args.text.now f c.bits_for_c.result c.flag.result c.in-Some.radix c.in-Some-policy_of.policy c.in-Some-mode_of.mode =
     read_as c.args.text.now f c.bits_for_c.result c.flag.result c.in-Some.radix c.in-Some-policy_of.policy c.in-Some-mode_of.mode c.in-Ok.found c.in-Some-image.number c.is_out_of_range.result
-    (c.in-Ok.ensures.numeral.0 refl) c.in-Ok.ensures.reading c.in-Ok.ensures.format c.in-Some-image.ensures.image c.is_out_of_range.ensures.range are c.flag.ensures in
+    (c.in-Ok.ensures.reading.numeral.0 refl) c.in-Ok.ensures.reading.read c.in-Ok.ensures.format c.in-Some-image.ensures.image c.is_out_of_range.ensures.range are c.flag.ensures in
     subst (λ (f : FormatParts). Names c.args.radix c.args.policy c.args.mode (IsReadAs c.args.text.now f (to_z w64 (of_z w64 c.bits_for_c.result)) c.flag.result)) c.in-Some-format_of.ensures.1
     (record {
       the_radix = c.in-Some.radix;
@@ -34,7 +34,7 @@ returns g c =
     let f : FormatParts = c.in-Some-format_of.format in
     let why : IsNotRead c.args.text.now f Overflow c.in-Some.radix c.in-Some-policy_of.policy c.in-Some-mode_of.mode =
     not_read c.args.text.now f c.in-Some.radix c.in-Some-policy_of.policy c.in-Some-mode_of.mode c.in-Ok.found
-    (c.in-Ok.ensures.numeral.0 refl) c.in-Ok.ensures.reading c.in-Ok.ensures.format (λ v holds. (c.in-None.ensures.none v holds).0 refl) in (
+    (c.in-Ok.ensures.reading.numeral.0 refl) c.in-Ok.ensures.reading.read c.in-Ok.ensures.format (λ v holds. (c.in-None.ensures.none v holds).0 refl) in (
       c.in-Some-format_of.ensures.0,
       record {
         the_radix = c.in-Some.radix;

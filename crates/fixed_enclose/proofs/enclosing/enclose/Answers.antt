@@ -6,8 +6,8 @@ use Rattle.fixed_enclose.proofs.enclosing.enclose.Goals as goal
 
 pair : goal.returns-in-Some-clause-pair
 pair g c =
-    let p = c.in-Ok.ensures.numeral.0 refl in
-    enclosed c.args.radix c.args.bytes.now c.args.format p.0 c.in-Ok.found c.in-Some.ends.lo c.in-Some.ends.hi p.1 (c.in-Ok.ensures.reading p.0 p.1) c.in-Ok.ensures.format c.in-Some.ensures.ends c.in-Some.ensures.low c.in-Some.ensures.high
+    let p = c.in-Ok.ensures.reading.numeral.0 refl in
+    enclosed c.args.radix c.args.bytes.now c.args.format p.0 c.in-Ok.found c.in-Some.ends.lo c.in-Some.ends.hi p.1 (c.in-Ok.ensures.reading.read p.0 p.1) c.in-Ok.ensures.format c.in-Some.ensures.ends c.in-Some.ensures.low c.in-Some.ensures.high
 
 pub returns-in-Some-clause-pair : goal.returns-in-Some-clause-pair
 returns-in-Some-clause-pair g c = pair g c
@@ -17,8 +17,8 @@ returns-in-Some-clause-ok g c = ((λ _. (c.in-Some.ends.lo, c.in-Some.ends.hi, p
 
 refused : goal.returns-in-None-clause-refused
 refused g c =
-    let p = c.in-Ok.ensures.numeral.0 refl in
-    inr (c.new.ensures, unenclosed c.args.radix c.args.bytes.now c.args.format p.0 c.in-Ok.found p.1 (c.in-Ok.ensures.reading p.0 p.1) c.in-Ok.ensures.format c.in-None.ensures.none)
+    let p = c.in-Ok.ensures.reading.numeral.0 refl in
+    inr (c.new.ensures, unenclosed c.args.radix c.args.bytes.now c.args.format p.0 c.in-Ok.found p.1 (c.in-Ok.ensures.reading.read p.0 p.1) c.in-Ok.ensures.format c.in-None.ensures.none)
 
 pub returns-in-None-clause-refused : goal.returns-in-None-clause-refused
 returns-in-None-clause-refused g c = refused g c

@@ -15,7 +15,7 @@ pub returns-in_default-clause-refused : goal.returns-in_default-clause-refused
 returns-in_default-clause-refused g c =
     let a = c.args in
     let found = c.in_ok-found in
-    let is : IsRead a.mode a.radix a.bytes.now a.source found.found = read_of a.mode a.radix a.bytes.now a.source found.found (found.ensures.numeral.0 refl) found.ensures.reading found.ensures.format in
+    let is : IsRead a.mode a.radix a.bytes.now a.source found.found = read_of a.mode a.radix a.bytes.now a.source found.found (found.ensures.reading.numeral.0 refl) found.ensures.reading.read found.ensures.format in
     out_of_source a.mode a.radix a.bytes.now a.policy a.source a.target found.found c.new.result is c.new.ensures (c.in_default.ensures.none is.number (c.number_read.ensures is.number is.holds) refl)
 
 pub returns-in_default-clause-ok : goal.returns-in_default-clause-ok
@@ -25,7 +25,7 @@ pub returns-in_default-image_of-clause-refused : goal.returns-in_default-image_o
 returns-in_default-image_of-clause-refused g c =
     let a = c.args in
     let found = c.in_ok-found in
-    let is : IsRead a.mode a.radix a.bytes.now a.source found.found = read_of a.mode a.radix a.bytes.now a.source found.found (found.ensures.numeral.0 refl) found.ensures.reading found.ensures.format in
+    let is : IsRead a.mode a.radix a.bytes.now a.source found.found = read_of a.mode a.radix a.bytes.now a.source found.found (found.ensures.reading.numeral.0 refl) found.ensures.reading.read found.ensures.format in
     let in_source : ℤ = with_sign c.in-Some.in_source.negative c.in-Some.in_source.magnitude in
     let image : IsImage a.policy a.source.signed a.source.width is.number in_source = c.in-Some.ensures.image is.number (c.number_read.ensures is.number is.holds) in
     let moved : IsNumber c.moved-number.result (down in_source a.source.frac a.target.frac) = rw (c.frac.ensures.frac, c.frac-2.ensures.frac) at c.moved-number.ensures in
@@ -40,7 +40,7 @@ returns-clause-reached g c =
     let found = c.in_ok-found in
     let reached = c.in-Some-image_of in
     let number : FitsSigned w128 c.signed_number.result = search rules in
-    let is : IsRead a.mode a.radix a.bytes.now a.source found.found = read_of a.mode a.radix a.bytes.now a.source found.found (found.ensures.numeral.0 refl) found.ensures.reading found.ensures.format in
+    let is : IsRead a.mode a.radix a.bytes.now a.source found.found = read_of a.mode a.radix a.bytes.now a.source found.found (found.ensures.reading.numeral.0 refl) found.ensures.reading.read found.ensures.format in
     let holds : IsNumber c.number_read.result is.number = c.number_read.ensures is.number is.holds in
     let in_source : ℤ = with_sign c.in-Some.in_source.negative c.in-Some.in_source.magnitude in
     let moved : IsNumber c.moved-number.result (down in_source a.source.frac a.target.frac) = rw (c.frac.ensures.frac, c.frac-2.ensures.frac) at c.moved-number.ensures in

@@ -8,10 +8,10 @@ pub returns-in-Some-clause-read : goal.returns-in-Some-clause-read
 returns-in-Some-clause-read g c =
     let b : ℤ = c.in-Some.bits in
     let fit : FitsSigned w128 b = search rules in
-    let p = c.in-Ok.ensures.numeral.0 refl in
-    rw (to_z-of_z w128 b fit) (read_as c.args.mode c.args.radix c.args.text.now c.args.format c.args.policy p.0 c.in-Ok.found b c.is_out_of_range.result p.1 (c.in-Ok.ensures.reading p.0 p.1) c.in-Ok.ensures.format c.in-Some.ensures.image c.is_out_of_range.ensures.range)
+    let p = c.in-Ok.ensures.reading.numeral.0 refl in
+    rw (to_z-of_z w128 b fit) (read_as c.args.mode c.args.radix c.args.text.now c.args.format c.args.policy p.0 c.in-Ok.found b c.is_out_of_range.result p.1 (c.in-Ok.ensures.reading.read p.0 p.1) c.in-Ok.ensures.format c.in-Some.ensures.image c.is_out_of_range.ensures.range)
 
 pub returns-in-None-clause-unread : goal.returns-in-None-clause-unread
 returns-in-None-clause-unread g c =
-    let p = c.in-Ok.ensures.numeral.0 refl in
-    unread c.args.mode c.args.radix c.args.text.now c.args.format c.args.policy p.0 c.in-Ok.found c.new.result p.1 (c.in-Ok.ensures.reading p.0 p.1) c.in-Ok.ensures.format c.new.ensures (λ v h. (c.in-None.ensures.none v h).0 refl)
+    let p = c.in-Ok.ensures.reading.numeral.0 refl in
+    unread c.args.mode c.args.radix c.args.text.now c.args.format c.args.policy p.0 c.in-Ok.found c.new.result p.1 (c.in-Ok.ensures.reading.read p.0 p.1) c.in-Ok.ensures.format c.new.ensures (λ v h. (c.in-None.ensures.none v h).0 refl)
