@@ -1,3 +1,6 @@
+-- What the proofs of the crates above may cite
+pub mod Public
+-- What no other crate can name
 mod NumberLemmas
 mod LaneLemmas
 mod MaskLemmas
@@ -11,3 +14,4 @@ mod ReachLemmas
 mod MovingLemmas
 mod TableLemmas
 mod KeyLemmas
+mod FaultAnswerLemmas

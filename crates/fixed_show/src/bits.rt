@@ -1,13 +1,12 @@
 //! What number the bits of a register are.
 
 ghost use Rattle.std.specs.Prelude.{◌≡◌, ◌+◌, ◌-◌, ◌*◌, ◌≤◌, ◌<◌, ◌^◌, ◌/◌, ◌++◌, false, pos, length, codes, IsTrue, ◌↔◌};
-ghost use Rattle.std.specs.Fmt.{digit_glyph};
 ghost use Rattle.fixed_bits.specs.Images.{IsWrapped};
 ghost use Rattle.fixed_bits.specs.Ranges.{IsWide};
-ghost use Rattle.fixed_write.specs.Texts.{last_digits};
 ghost use Rattle.fixed_show.specs.Blocks.{Appends, hex_text, line};
 ghost use Rattle.fixed_show.specs.BitsBlock.{AreValueLines, IsBitsBlock};
 
+use crate::hex::push_hex_digits;
 use crate::lines::{
     MAX_BLOCK, frac_of, push_exact_line, push_integer_line, push_refusal, push_shortest_line,
 };
@@ -16,30 +15,6 @@ use fixed_bits::{Format, Policy};
 use fixed_steps::Steps;
 use std::sync::ledger::Ledger;
 use text_buffer::TextBuffer;
-
-/// The digit of radix 16, in a small letter.
-fn hex_digit(digit: u8) -> u8
-    requires { digit < 16 }
-    ensures { result ≡ digit_glyph false digit }
-{
-    if digit < 10 {
-        b'0' + digit
-    } else {
-        b'a' + (digit - 10)
-    }
-}
-
-/// Appends the last `count` digits of a word in radix 16.
-fn push_hex<const N: usize>(out: &mut TextBuffer<N>, word: u64, count: u32)
-    requires count { count ≤ 16 }
-    requires room { length out.old + count ≤ N }
-    ensures { out.new ≡ out.old ++ last_digits 16 false count word }
-{
-    if count > 0 {
-        push_hex(out, word / 16, count - 1);
-        out.push(hex_digit((word % 16) as u8));
-    }
-}
 
 /// The bits of a number in two's complement, as a word of the format's width.
 fn word_of(bits: i128, format: Format) -> u64
@@ -65,7 +40,7 @@ fn push_hex_line<const N: usize>(out: &mut TextBuffer<N>, word: u64, width: u32)
     ensures short { length out.new ≤ length out.old + 29 }
 {
     out.push_bytes(b"hex       0x");
-    push_hex(out, word, width / 4);
+    push_hex_digits(out, word, width / 4);
     out.push(b'\n');
 }
 

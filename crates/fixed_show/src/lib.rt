@@ -7,6 +7,7 @@ pub mod bits;
 mod decimals;
 mod errors;
 pub mod formats;
+pub mod hex;
 pub mod laws;
 mod lines;
 mod natural;
@@ -15,6 +16,7 @@ pub mod words;
 
 pub use bits::bits_block;
 pub use formats::format_block;
+pub use hex::push_hex_digits;
 pub use lines::MAX_BLOCK;
 pub use show::show_block;
 pub use words::WordFault;

@@ -1,15 +1,20 @@
 //! Whole runs over bytes in memory.
 
-use crate::tests::support::{Run, run_case, unfailing};
-use line_engine::Status;
+use crate::tests::support::Columns;
+use line_engine::{MemoryRun, Status};
 use std::alloc::{AllocError, Global};
 use std::process::Abort;
 use std::test::Fail;
 
+/// A run without arguments in which no read and no write fails.
+fn unfailing(input: &'static str, written: &'static str, status: Status) -> MemoryRun {
+    MemoryRun::unfailing(&[], input, written, status)
+}
+
 /// Asserts that what the run writes is as the case says, and that it ends so.
-fn assert_run(rt: &impl Abort, alloc: Global, case: &Run) -> Result<(), AllocError> {
+fn assert_run(rt: &impl Abort, alloc: Global, case: &MemoryRun) -> Result<(), AllocError> {
     let input = case.input.as_bytes().to_vec(alloc)?;
-    let (status, written) = run_case(alloc, case, input)?;
+    let (status, written) = case.of(alloc, &Columns, input)?;
     assert_eq!(rt; status, case.status, "at {}", case.input);
     assert_eq!(rt;
         written.as_slice(),
@@ -57,7 +62,7 @@ fn columns_are_written_in_order(rt: HostRuntime) -> Result<(), Fail> {
 }
 
 /// An input that is refused with this line.
-fn refused(input: &'static str, written: &'static str) -> Run {
+fn refused(input: &'static str, written: &'static str) -> MemoryRun {
     unfailing(input, written, Status::Faults)
 }
 
@@ -85,31 +90,18 @@ fn each_fault_is_reported_with_its_line(rt: HostRuntime) -> Result<(), Fail> {
     Ok(())
 }
 
-/// A run by these arguments.
-fn asked(
-    args: &'static [&'static str],
-    input: &'static str,
-    written: &'static str,
-    status: Status,
-) -> Run {
-    Run {
-        args,
-        ..unfailing(input, written, status)
-    }
-}
-
 /// A run by arguments that ask for nothing.
-fn unasked(args: &'static [&'static str]) -> Run {
-    asked(args, "1 U8F0\n", "usage: columns_tool\n", Status::Usage)
+fn unasked(args: &'static [&'static str]) -> MemoryRun {
+    MemoryRun::unfailing(args, "1 U8F0\n", "usage: columns_tool\n", Status::Usage)
 }
 
 #[test]
 fn arguments_name_a_limit_or_are_refused(rt: HostRuntime) -> Result<(), Fail> {
     let one = "                       1 U8F0\n";
     let cases = [
-        asked(&["limit", "7"], "1 U8F0\n", one, Status::Done),
-        asked(&["limit", "6"], "1 U8F0\n", "", Status::TooLong),
-        asked(&["limit", "4294967296"], "1 U8F0\n", one, Status::Done),
+        MemoryRun::unfailing(&["limit", "7"], "1 U8F0\n", one, Status::Done),
+        MemoryRun::unfailing(&["limit", "6"], "1 U8F0\n", "", Status::TooLong),
+        MemoryRun::unfailing(&["limit", "4294967296"], "1 U8F0\n", one, Status::Done),
         unasked(&["limit", "4294967297"]),
         unasked(&["limit", "0"]),
         unasked(&["limit", "07"]),
@@ -128,11 +120,11 @@ fn arguments_name_a_limit_or_are_refused(rt: HostRuntime) -> Result<(), Fail> {
 
 #[test]
 fn a_failing_read_and_a_failing_write_end_the_run(rt: HostRuntime) -> Result<(), Fail> {
-    let read = Run {
+    let read = MemoryRun {
         failing_read: 0,
         ..unfailing("1 U8F0\n", "", Status::ReadFault)
     };
-    let write = Run {
+    let write = MemoryRun {
         failing_write: 0,
         ..unfailing("1 U8F0\n", "", Status::WriteFault)
     };
@@ -149,7 +141,7 @@ fn refused_memory_writes_nothing(rt: HostRuntime) {
     let Ok(input) = case.input.as_bytes().to_vec(rt.alloc()) else {
         return;
     };
-    match run_case(rt.alloc(), &case, input) {
+    match case.of(rt.alloc(), &Columns, input) {
         Ok((Status::NoMemory, written)) => assert!(rt; written.is_empty()),
         Ok((status, written)) => {
             assert_eq!(rt; status, Status::Done);
@@ -166,7 +158,7 @@ fn a_longer_input_is_reported(rt: HostRuntime) -> Result<(), Fail> {
         input.push(b' ')?;
     }
     let case = unfailing("", "", Status::TooLong);
-    let (status, written) = run_case(rt.alloc(), &case, input)?;
+    let (status, written) = case.of(rt.alloc(), &Columns, input)?;
     assert_eq!(rt; status, Status::TooLong);
     assert!(rt; written.is_empty());
     Ok(())

@@ -1,15 +1,20 @@
 //! Whole runs over bytes in memory.
 
-use crate::tests::support::{Call, Run, run_case, unfailing};
-use line_engine::Status;
+use crate::tests::support::Call;
+use line_engine::{MemoryRun, Status};
 use std::alloc::{AllocError, Global};
 use std::process::Abort;
 use std::test::Fail;
 
 /// Asserts that what the run writes is as the case says, and that it ends so.
-fn assert_run(rt: &impl Abort, alloc: Global, call: Call, case: &Run) -> Result<(), AllocError> {
+fn assert_run(
+    rt: &impl Abort,
+    alloc: Global,
+    call: Call,
+    case: &MemoryRun,
+) -> Result<(), AllocError> {
     let input = case.input.as_bytes().to_vec(alloc)?;
-    let (status, written) = run_case(alloc, call, case, input)?;
+    let (status, written) = case.of(alloc, &call, input)?;
     assert_eq!(rt; status, case.status, "at {}", case.input);
     assert_eq!(rt;
         written.as_slice(),
@@ -23,17 +28,17 @@ fn assert_run(rt: &impl Abort, alloc: Global, call: Call, case: &Run) -> Result<
 #[test]
 fn files_are_written_as_worked_out(rt: HostRuntime) -> Result<(), Fail> {
     let cases = [
-        unfailing(
+        MemoryRun::unfailing(
             &[],
             "# gains\nA = 0b_111e-2 I4F4\n\nB = -3.1875 I4F4\nC = 1_0 U8F0\n",
             "A = 0x1.c I4F4\nB = -0x3.3 I4F4\nC = 0xa U8F0\n",
             Status::Done,
         ),
-        unfailing(&[], "A = -0x8 I4F4", "A = -0x8 I4F4\n", Status::Done),
-        unfailing(&[], "_a1 = 0x.5 U0F8\n", "_a1 = 0x0.5 U0F8\n", Status::Done),
-        unfailing(&[], "z = -0 I64F0\n", "z = 0x0 I64F0\n", Status::Done),
-        unfailing(&[], "", "", Status::Done),
-        unfailing(
+        MemoryRun::unfailing(&[], "A = -0x8 I4F4", "A = -0x8 I4F4\n", Status::Done),
+        MemoryRun::unfailing(&[], "_a1 = 0x.5 U0F8\n", "_a1 = 0x0.5 U0F8\n", Status::Done),
+        MemoryRun::unfailing(&[], "z = -0 I64F0\n", "z = 0x0 I64F0\n", Status::Done),
+        MemoryRun::unfailing(&[], "", "", Status::Done),
+        MemoryRun::unfailing(
             &["9"],
             "A = 1 U8F0\n",
             "usage: constants_tool\n",
@@ -47,8 +52,8 @@ fn files_are_written_as_worked_out(rt: HostRuntime) -> Result<(), Fail> {
 }
 
 /// A file that is refused with this line.
-fn refused(input: &'static str, written: &'static str) -> Run {
-    unfailing(&[], input, written, Status::Faults)
+fn refused(input: &'static str, written: &'static str) -> MemoryRun {
+    MemoryRun::unfailing(&[], input, written, Status::Faults)
 }
 
 #[test]
@@ -83,38 +88,38 @@ fn each_fault_is_reported_with_its_line(rt: HostRuntime) -> Result<(), Fail> {
 #[test]
 fn files_are_written_in_each_form(rt: HostRuntime) -> Result<(), Fail> {
     let cases = [
-        unfailing(&[], "A = 1_0 U8F0", "A = 0xa U8F0\n", Status::Done),
-        unfailing(
+        MemoryRun::unfailing(&[], "A = 1_0 U8F0", "A = 0xa U8F0\n", Status::Done),
+        MemoryRun::unfailing(
             &["c"],
             "A = 1.75 I4F4\nB = -3.1875 I4F4\n_c = 10 U8F0\nD = -8 I4F4\n",
             "#include <stdint.h>\n\n#define A INT8_C(0x1c) /* I4F4, 1.75 */\n#define B (-INT8_C(0x33)) /* I4F4, -3.2 */\n#define _c UINT8_C(0xa) /* U8F0, 10 */\n#define D (-INT8_C(0x7f) - 1) /* I4F4, -8 */\n",
             Status::Done,
         ),
-        unfailing(
+        MemoryRun::unfailing(
             &["c", "GAINS"],
             "# none\n",
             "#ifndef GAINS\n#define GAINS\n\n#include <stdint.h>\n\n\n#endif\n",
             Status::Done,
         ),
-        unfailing(
+        MemoryRun::unfailing(
             &["rust"],
             "A = 0x1.c I4F4\nint = -1 I0F64\nC = -0.5 I0F64\n",
             "error: line 2: overflow\n",
             Status::Faults,
         ),
-        unfailing(
+        MemoryRun::unfailing(
             &["rust"],
             "A = 0x1.c I4F4\nint = -0.5 I0F64\n",
             "pub const A: FixedI8<4> = FixedI8::from_bits(0x1c);\npub const int: FixedI64<64> = FixedI64::from_bits(-0x8000000000000000);\n",
             Status::Done,
         ),
-        unfailing(
+        MemoryRun::unfailing(
             &["c", "int"],
             "A = 1 U8F0",
             "usage: constants_tool [c [GUARD] | rust]\n",
             Status::Usage,
         ),
-        unfailing(
+        MemoryRun::unfailing(
             &["rust", "A"],
             "A = 1 U8F0",
             "usage: constants_tool [c [GUARD] | rust]\n",
@@ -133,23 +138,23 @@ fn names_that_a_form_reserves_are_reported(rt: HostRuntime) -> Result<(), Fail> 
     let rust: &'static [&'static str] = &["rust"];
     let bad = "error: line 2: bad name\n";
     let cases = [
-        unfailing(c, "B = 1 U8F0\nwhile = 1 U8F0\nD =\n", bad, Status::Faults),
-        unfailing(c, "B = 1 U8F0\nINT8_C == 1 U8F0\n", bad, Status::Faults),
-        unfailing(c, "B = 1 U8F0\nA = 1 U8F0\n", bad, Status::Faults),
-        unfailing(
+        MemoryRun::unfailing(c, "B = 1 U8F0\nwhile = 1 U8F0\nD =\n", bad, Status::Faults),
+        MemoryRun::unfailing(c, "B = 1 U8F0\nINT8_C == 1 U8F0\n", bad, Status::Faults),
+        MemoryRun::unfailing(c, "B = 1 U8F0\nA = 1 U8F0\n", bad, Status::Faults),
+        MemoryRun::unfailing(
             c,
             "D =\nint = 1 U8F0\n",
             "error: line 1: missing field\n",
             Status::Faults,
         ),
-        unfailing(
+        MemoryRun::unfailing(
             c,
             "B = 1 U8F0\nint =\n",
             "error: line 2: missing field\n",
             Status::Faults,
         ),
-        unfailing(rust, "while_ = 1 U8F0\n_ = 1 U8F0\n", bad, Status::Faults),
-        unfailing(rust, "B = 1 U8F0\nyield = 1 U8F0\n", bad, Status::Faults),
+        MemoryRun::unfailing(rust, "while_ = 1 U8F0\n_ = 1 U8F0\n", bad, Status::Faults),
+        MemoryRun::unfailing(rust, "B = 1 U8F0\nyield = 1 U8F0\n", bad, Status::Faults),
     ];
     for case in &cases {
         assert_run(&rt, rt.alloc(), Call::Forms, case)?;
@@ -159,13 +164,13 @@ fn names_that_a_form_reserves_are_reported(rt: HostRuntime) -> Result<(), Fail> 
 
 #[test]
 fn a_failing_read_and_a_failing_write_end_the_run(rt: HostRuntime) -> Result<(), Fail> {
-    let read = Run {
+    let read = MemoryRun {
         failing_read: 0,
-        ..unfailing(&[], "A = 1 U8F0\n", "", Status::ReadFault)
+        ..MemoryRun::unfailing(&[], "A = 1 U8F0\n", "", Status::ReadFault)
     };
-    let write = Run {
+    let write = MemoryRun {
         failing_write: 0,
-        ..unfailing(&[], "A = 1 U8F0\n", "", Status::WriteFault)
+        ..MemoryRun::unfailing(&[], "A = 1 U8F0\n", "", Status::WriteFault)
     };
     assert_run(&rt, rt.alloc(), Call::Constants, &read)?;
     assert_run(&rt, rt.alloc(), Call::Constants, &write)?;
@@ -177,7 +182,7 @@ fn a_failing_read_and_a_failing_write_end_the_run(rt: HostRuntime) -> Result<(),
 fn refused_memory_writes_nothing(rt: HostRuntime) {
     let wanted =
         "pub const A: FixedI8<4> = FixedI8::from_bits(0x1c);\npub const B: FixedU8<0> = FixedU8::from_bits(0x2);\n";
-    let case = unfailing(
+    let case = MemoryRun::unfailing(
         &["rust"],
         "A = 1.75 I4F4\nB = 2 U8F0\n",
         wanted,
@@ -186,7 +191,7 @@ fn refused_memory_writes_nothing(rt: HostRuntime) {
     let Ok(input) = case.input.as_bytes().to_vec(rt.alloc()) else {
         return;
     };
-    match run_case(rt.alloc(), Call::Forms, &case, input) {
+    match case.of(rt.alloc(), &Call::Forms, input) {
         Ok((Status::NoMemory, written)) => assert!(rt; written.is_empty()),
         Ok((status, written)) => {
             assert_eq!(rt; status, Status::Done);
@@ -202,8 +207,8 @@ fn a_longer_input_is_reported(rt: HostRuntime) -> Result<(), Fail> {
     for _ in 0..1_048_577u64 {
         input.push(b'#')?;
     }
-    let case = unfailing(&[], "", "", Status::TooLong);
-    let (status, written) = run_case(rt.alloc(), Call::Constants, &case, input)?;
+    let case = MemoryRun::unfailing(&[], "", "", Status::TooLong);
+    let (status, written) = case.of(rt.alloc(), &Call::Constants, input)?;
     assert_eq!(rt; status, Status::TooLong);
     assert!(rt; written.is_empty());
     Ok(())

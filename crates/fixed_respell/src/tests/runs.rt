@@ -1,7 +1,8 @@
 //! Whole runs of the program over a source and a sink in memory.
 
-use super::support::{Run, assert_run, long_line, run_bytes, unfailing};
+use super::support::{assert_run, long_line, run_bytes};
 use crate::Status;
+use line_engine::MemoryRun;
 use std::test::Fail;
 
 /// A line, and what is written for it.
@@ -20,14 +21,14 @@ const USAGE: &str = "usage: fixed_tool [limit N | self N]\n";
 #[test]
 fn reading_runs_end_as_worked_out(rt: HostRuntime) -> Result<(), Fail> {
     let cases = [
-        unfailing("", "", "", Status::Done),
-        unfailing("", "10 U8F0 U8F0 checked 7", "7 7 fits\n", Status::Done),
-        unfailing("", "\n", "error: missing field\n", Status::Faults),
-        unfailing("", MIXED, MIXED_ANSWERS, Status::Faults),
-        unfailing("limit 5", "10 U8F", "", Status::TooLong),
-        unfailing("limit 23", SEVEN, "7 7 fits\n", Status::Done),
-        unfailing(
-            "limit 23",
+        MemoryRun::unfailing(&[], "", "", Status::Done),
+        MemoryRun::unfailing(&[], "10 U8F0 U8F0 checked 7", "7 7 fits\n", Status::Done),
+        MemoryRun::unfailing(&[], "\n", "error: missing field\n", Status::Faults),
+        MemoryRun::unfailing(&[], MIXED, MIXED_ANSWERS, Status::Faults),
+        MemoryRun::unfailing(&["limit", "5"], "10 U8F", "", Status::TooLong),
+        MemoryRun::unfailing(&["limit", "23"], SEVEN, "7 7 fits\n", Status::Done),
+        MemoryRun::unfailing(
+            &["limit", "23"],
             "10 U8F0 U8F0 checked 7\nx",
             "7 7 fits\n",
             Status::TooLong,
@@ -42,13 +43,13 @@ fn reading_runs_end_as_worked_out(rt: HostRuntime) -> Result<(), Fail> {
 #[test]
 fn other_arguments_get_the_usage_line(rt: HostRuntime) -> Result<(), Fail> {
     let cases = [
-        unfailing("limit 05", SEVEN, USAGE, Status::Usage),
-        unfailing("limit 4294967297", SEVEN, USAGE, Status::Usage),
-        unfailing("self 0", SEVEN, USAGE, Status::Usage),
-        unfailing("self 1000001", SEVEN, USAGE, Status::Usage),
-        unfailing("limit +5", SEVEN, USAGE, Status::Usage),
-        unfailing("limit", SEVEN, USAGE, Status::Usage),
-        unfailing("limit 5 5", SEVEN, USAGE, Status::Usage),
+        MemoryRun::unfailing(&["limit", "05"], SEVEN, USAGE, Status::Usage),
+        MemoryRun::unfailing(&["limit", "4294967297"], SEVEN, USAGE, Status::Usage),
+        MemoryRun::unfailing(&["self", "0"], SEVEN, USAGE, Status::Usage),
+        MemoryRun::unfailing(&["self", "1000001"], SEVEN, USAGE, Status::Usage),
+        MemoryRun::unfailing(&["limit", "+5"], SEVEN, USAGE, Status::Usage),
+        MemoryRun::unfailing(&["limit"], SEVEN, USAGE, Status::Usage),
+        MemoryRun::unfailing(&["limit", "5", "5"], SEVEN, USAGE, Status::Usage),
     ];
     for case in &cases {
         assert_run(&rt, rt.alloc(), case)?;
@@ -63,20 +64,20 @@ const FIVE: &str = "5 lines, 4 fit, 1 overflowed, 0 faults, 51 bytes\n";
 fn a_self_test_sums_its_lines_up(rt: HostRuntime) -> Result<(), Fail> {
     let seven = "7 lines, 6 fit, 1 overflowed, 0 faults, 69 bytes\n";
     let cases = [
-        unfailing("self 5", SEVEN, FIVE, Status::Done),
-        unfailing("self 7", SEVEN, seven, Status::Done),
-        Run {
+        MemoryRun::unfailing(&["self", "5"], SEVEN, FIVE, Status::Done),
+        MemoryRun::unfailing(&["self", "7"], SEVEN, seven, Status::Done),
+        MemoryRun {
             most: 1,
-            ..unfailing("self 5", "", FIVE, Status::Done)
+            ..MemoryRun::unfailing(&["self", "5"], "", FIVE, Status::Done)
         },
-        Run {
+        MemoryRun {
             failing_write: 0,
-            ..unfailing("self 5", "", "", Status::WriteFault)
+            ..MemoryRun::unfailing(&["self", "5"], "", "", Status::WriteFault)
         },
-        Run {
+        MemoryRun {
             most: 2,
             failing_write: 3,
-            ..unfailing("self 5", "", "5 line", Status::WriteFault)
+            ..MemoryRun::unfailing(&["self", "5"], "", "5 line", Status::WriteFault)
         },
     ];
     for case in &cases {
@@ -87,8 +88,8 @@ fn a_self_test_sums_its_lines_up(rt: HostRuntime) -> Result<(), Fail> {
 
 #[test]
 fn a_self_test_is_the_same_each_time(rt: HostRuntime) -> Result<(), Fail> {
-    let case = unfailing(
-        "self 20000",
+    let case = MemoryRun::unfailing(
+        &["self", "20000"],
         "",
         "20000 lines, 1686 fit, 12209 overflowed, 6105 faults, 457711 bytes\n",
         Status::Faults,
@@ -102,32 +103,32 @@ fn a_self_test_is_the_same_each_time(rt: HostRuntime) -> Result<(), Fail> {
 #[test]
 fn a_failing_call_ends_the_run(rt: HostRuntime) -> Result<(), Fail> {
     let cases = [
-        Run {
+        MemoryRun {
             failing_read: 0,
             status: Status::ReadFault,
-            ..unfailing("", SEVEN, "", Status::Done)
+            ..MemoryRun::unfailing(&[], SEVEN, "", Status::Done)
         },
-        Run {
+        MemoryRun {
             failing_write: 0,
             status: Status::WriteFault,
-            ..unfailing("", SEVEN, "", Status::Done)
+            ..MemoryRun::unfailing(&[], SEVEN, "", Status::Done)
         },
-        Run {
+        MemoryRun {
             most: 23,
             failing_read: 1,
             status: Status::ReadFault,
-            ..unfailing("", SEVEN, "7 7 fits\n", Status::Done)
+            ..MemoryRun::unfailing(&[], SEVEN, "7 7 fits\n", Status::Done)
         },
-        Run {
+        MemoryRun {
             most: 1,
             failing_write: 3,
             status: Status::WriteFault,
-            ..unfailing("", SEVEN, "7 7", Status::Done)
+            ..MemoryRun::unfailing(&[], SEVEN, "7 7", Status::Done)
         },
-        Run {
+        MemoryRun {
             failing_write: 0,
             status: Status::WriteFault,
-            ..unfailing("limit 0", SEVEN, "", Status::Done)
+            ..MemoryRun::unfailing(&["limit", "0"], SEVEN, "", Status::Done)
         },
     ];
     for case in &cases {
@@ -140,10 +141,10 @@ fn a_failing_call_ends_the_run(rt: HostRuntime) -> Result<(), Fail> {
 fn each_call_of_a_mixed_run_fails_in_turn(rt: HostRuntime) -> Result<(), Fail> {
     let mixed = MIXED_ANSWERS.as_bytes();
     for call in 0..mixed.len() {
-        let case = Run {
+        let case = MemoryRun {
             most: 1,
             failing_write: call as u64,
-            ..unfailing("", MIXED, "", Status::WriteFault)
+            ..MemoryRun::unfailing(&[], MIXED, "", Status::WriteFault)
         };
         let input = MIXED.as_bytes().to_vec(rt.alloc())?;
         let (status, written) = run_bytes(rt.alloc(), &case, input)?;
@@ -151,10 +152,10 @@ fn each_call_of_a_mixed_run_fails_in_turn(rt: HostRuntime) -> Result<(), Fail> {
         assert_eq!(rt; written.as_slice(), &mixed[..call]);
     }
     for call in 0..MIXED.len() {
-        let case = Run {
+        let case = MemoryRun {
             most: 1,
             failing_read: call as u64,
-            ..unfailing("", MIXED, "", Status::ReadFault)
+            ..MemoryRun::unfailing(&[], MIXED, "", Status::ReadFault)
         };
         let input = MIXED.as_bytes().to_vec(rt.alloc())?;
         let (status, written) = run_bytes(rt.alloc(), &case, input)?;
@@ -168,7 +169,7 @@ fn each_call_of_a_mixed_run_fails_in_turn(rt: HostRuntime) -> Result<(), Fail> {
 fn a_line_of_1048576_bytes_is_answered_and_a_longer_one_refused(
     rt: HostRuntime,
 ) -> Result<(), Fail> {
-    let case = unfailing("", "", "", Status::Done);
+    let case = MemoryRun::unfailing(&[], "", "", Status::Done);
     let mut longest = long_line(rt.alloc(), 1_048_551)?;
     longest.push(b'1')?;
     let (status, written) = run_bytes(rt.alloc(), &case, longest)?;

@@ -1,27 +1,14 @@
 use Rattle.std.proofs.Common.{◌≡◌, ◌≤◌, ◌++◌, ◌↔◌, IsTrue, List, ℕ, ℤ, FitsSigned, inr, inl, refl, rules, arith, ap, length, length-append}
-use Rattle.std.specs.Prelude.{codes}
 use Rattle.std.specs.Int.{w128}
 use Rattle.std.proofs.lemmas.Int.{to_z-of_z}
 use Rattle.fixed_bits.proofs.Public.{width_most}
 use Rattle.fixed_write.specs.Texts.{IsShortestText, shortest_text}
 use Rattle.fixed_numeral.specs.Messages.{message_of}
-use Rattle.fixed_numeral.specs.declared.error.ParseErrorKind.{ParseErrorKind}
-use Rattle.fixed_numeral.specs.declared.error.ParseErrorKind.TheVariants.{InvalidDigit, MisplacedSign, MisplacedUnderscore, TooManyPoints, TooManyExp, ExpInvalidDigit, ExpOverflow, NoDigits, ExpNoDigits, Overflow}
 use Rattle.fixed_respell.specs.Language.{fault_answer}
-use Rattle.fixed_enclose.specs.Answer.{ends_answer, task_of}
+use Rattle.fixed_numeral.proofs.Public.{message_short}
+use Rattle.fixed_respell.proofs.Public.{fault_appended}
+use Rattle.fixed_enclose.specs.Answer.{IsAnswer, ends_answer, task_of}
 use Rattle.fixed_enclose.proofs.answering.append_answer.Goals as goal
-
-message_short : (kind : ParseErrorKind) → length (message_of kind) ≤ 64
-message_short InvalidDigit = omega arith
-message_short MisplacedSign = omega arith
-message_short MisplacedUnderscore = omega arith
-message_short TooManyPoints = omega arith
-message_short TooManyExp = omega arith
-message_short ExpInvalidDigit = omega arith
-message_short ExpOverflow = omega arith
-message_short NoDigits = omega arith
-message_short ExpNoDigits = omega arith
-message_short Overflow = omega arith
 
 pub push_ends-requires : goal.push_ends-requires
 push_ends-requires g c =
@@ -72,14 +59,9 @@ pub returns-in-Err-enclose-clause-answer : goal.returns-in-Err-enclose-clause-an
 returns-in-Err-enclose-clause-answer g c =
     let t = c.in-Ok.task in
     let refused = c.in-Err-enclose in
-    let message : List ℕ = message_of refused.error in
-    record {
-      text = (fault_answer message).text;
-      answer = inr (record {
-        task = task_of t.radix t.format t.numeral.now;
-        asks = c.in-Ok.ensures.task;
-        answered = inl (record { kind = refused.error; refusal = refused.ensures.refused; answer_is = refl });
-      });
-      appended = rw c.message.ensures at c.push_fault-in-Err-enclose.ensures;
-      short = omega (arith, message_short refused.error, length-append (codes "error: ") message);
-    }
+    let answer : IsAnswer c.args.line.now (fault_answer (message_of refused.error)) = inr (record {
+      task = task_of t.radix t.format t.numeral.now;
+      asks = c.in-Ok.ensures.task;
+      answered = inl (record { kind = refused.error; refusal = refused.ensures.refused; answer_is = refl });
+    }) in
+    fault_appended IsAnswer c.args.line.now c.args.out.now c.push_fault-in-Err-enclose.new.out (message_of refused.error) (message_short refused.error) answer (rw c.message.ensures at c.push_fault-in-Err-enclose.ensures)

@@ -1,26 +1,13 @@
 use Rattle.std.proofs.Common.{◌≡◌, ◌≤◌, ◌++◌, List, ℕ, ℤ, FitsSigned, inr, inl, refl, rules, arith, ap, length, length-append}
-use Rattle.std.specs.Prelude.{codes}
 use Rattle.std.specs.Int.{w128}
 use Rattle.std.proofs.lemmas.Int.{to_z-of_z}
 use Rattle.fixed_write.specs.Texts.{IsShortestText, shortest_text}
 use Rattle.fixed_numeral.specs.Messages.{message_of}
-use Rattle.fixed_numeral.specs.declared.error.ParseErrorKind.{ParseErrorKind}
-use Rattle.fixed_numeral.specs.declared.error.ParseErrorKind.TheVariants.{InvalidDigit, MisplacedSign, MisplacedUnderscore, TooManyPoints, TooManyExp, ExpInvalidDigit, ExpOverflow, NoDigits, ExpNoDigits, Overflow}
-use Rattle.fixed_respell.specs.Answer.{respelled_answer, task_of}
+use Rattle.fixed_numeral.proofs.Public.{message_short}
+use Rattle.fixed_respell.specs.Answer.{IsAnswer, respelled_answer, task_of}
 use Rattle.fixed_respell.specs.Language.{fault_answer}
+use Rattle.fixed_respell.proofs.FaultAnswerLemmas.{fault_appended}
 use Rattle.fixed_respell.proofs.answering.append_answer.Goals as goal
-
-message_short : (kind : ParseErrorKind) → length (message_of kind) ≤ 64
-message_short InvalidDigit = omega arith
-message_short MisplacedSign = omega arith
-message_short MisplacedUnderscore = omega arith
-message_short TooManyPoints = omega arith
-message_short TooManyExp = omega arith
-message_short ExpInvalidDigit = omega arith
-message_short ExpOverflow = omega arith
-message_short NoDigits = omega arith
-message_short ExpNoDigits = omega arith
-message_short Overflow = omega arith
 
 pub returns-in-Ok-reach-clause-answer : goal.returns-in-Ok-reach-clause-answer
 returns-in-Ok-reach-clause-answer g c =
@@ -53,14 +40,9 @@ pub returns-in-Err-reach-clause-answer : goal.returns-in-Err-reach-clause-answer
 returns-in-Err-reach-clause-answer g c =
     let t = c.in-Ok.task in
     let refused = c.in-Err-reach in
-    let message : List ℕ = message_of refused.error in
-    record {
-      text = (fault_answer message).text;
-      answer = inr (record {
-        task = task_of t.radix t.source t.target t.policy t.mode t.numeral.now;
-        asks = c.in-Ok.ensures.task;
-        answered = inl (record { kind = refused.error; refusal = refused.ensures.refused; answer_is = refl });
-      });
-      appended = rw c.message.ensures at c.push_fault-in-Err-reach.ensures;
-      short = omega (arith, message_short refused.error, length-append (codes "error: ") message);
-    }
+    let answer : IsAnswer c.args.line.now (fault_answer (message_of refused.error)) = inr (record {
+      task = task_of t.radix t.source t.target t.policy t.mode t.numeral.now;
+      asks = c.in-Ok.ensures.task;
+      answered = inl (record { kind = refused.error; refusal = refused.ensures.refused; answer_is = refl });
+    }) in
+    fault_appended IsAnswer c.args.line.now c.args.out.now c.push_fault-in-Err-reach.new.out (message_of refused.error) (message_short refused.error) answer (rw c.message.ensures at c.push_fault-in-Err-reach.ensures)

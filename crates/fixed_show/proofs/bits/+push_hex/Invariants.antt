@@ -1,4 +1,0 @@
-use Rattle.fixed_show.proofs.bits.+push_hex.Given as goal
-
-abbrev pub decreases-push_hex : goal.decreases-push_hex
-decreases-push_hex g l = l.count
