@@ -1,37 +1,12 @@
 //! The bits of a number in hexadecimal.
 
-ghost use Rattle.std.specs.Prelude.{◌≡◌, ◌+◌, ◌<◌, ◌≤◌, ◌++◌, ◌^◌, false, length};
-ghost use Rattle.std.specs.Fmt.{digit_glyph};
-ghost use Rattle.fixed_bits.specs.Ranges.{IsInRange, IsWidth};
-ghost use Rattle.fixed_write.specs.Texts.{last_digits};
+ghost use Rattle.std.specs.Prelude.{◌≡◌, ◌+◌, ◌≤◌, ◌++◌, length};
+ghost use Rattle.fixed_bits.specs.Ranges.{IsInRange};
 ghost use Rattle.fixed_command.specs.Hex.{hex_text, word_of};
 
 use fixed_bits::Format;
+use fixed_show::push_hex_digits;
 use text_buffer::TextBuffer;
-
-/// The digit of a number below 16.
-fn hex_digit(number: u8) -> u8
-    requires { number < 16 }
-    ensures { result ≡ digit_glyph false number }
-{
-    if number < 10 {
-        b'0' + number
-    } else {
-        b'a' + (number - 10)
-    }
-}
-
-/// Appends the last `count` hexadecimal digits of a number, with leading zeros where it has fewer.
-fn push_digits<const N: usize>(out: &mut TextBuffer<N>, count: u32, number: u64)
-    requires room { length out.old + count ≤ N }
-    ensures appended { out.new ≡ out.old ++ last_digits 16 false count number }
-    ensures length { length out.new ≡ length out.old + count }
-{
-    if count > 0 {
-        push_digits(out, count - 1, number / 16);
-        out.push(hex_digit((number % 16) as u8));
-    }
-}
 
 /// The bits of a format as an unsigned number: two's complement.
 fn word_of(format: Format, bits: i128) -> u64
@@ -53,5 +28,5 @@ pub fn push_hex<const N: usize>(out: &mut TextBuffer<N>, format: Format, bits: i
     ensures short { length out.new ≤ length out.old + 18 }
 {
     out.push_bytes(b"0x");
-    push_digits(out, format.width() / 4, word_of(format, bits));
+    push_hex_digits(out, word_of(format, bits), format.width() / 4);
 }

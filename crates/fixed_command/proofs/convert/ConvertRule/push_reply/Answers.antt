@@ -1,13 +1,11 @@
 use Rattle.std.proofs.Common.{◌≡◌, ◌+◌, ◌≤◌, ◌<◌, ◌++◌, List, ℕ, ℤ, FitsSigned, [], length, rules, arith, ap, subst, true, false, length-append}
-use Rattle.std.specs.Prelude.{codes}
 use Rattle.std.specs.Int.{w128}
 use Rattle.std.proofs.lemmas.Int.{to_z-of_z}
 use Rattle.fixed_bits.specs.Ranges.{IsInRange, IsWide}
 use Rattle.fixed_numeral.specs.Messages.{message_of}
-use Rattle.fixed_numeral.specs.declared.error.ParseErrorKind.{ParseErrorKind}
-use Rattle.fixed_numeral.specs.declared.error.ParseErrorKind.TheVariants.{InvalidDigit, MisplacedSign, MisplacedUnderscore, TooManyPoints, TooManyExp, ExpInvalidDigit, ExpOverflow, NoDigits, ExpNoDigits, Overflow}
+use Rattle.fixed_numeral.proofs.Public.{message_short}
+use Rattle.fixed_respell.proofs.Public.{fault_appended}
 use Rattle.fixed_respell.specs.Answer.{fault_message, respelled_answer}
-use Rattle.fixed_respell.specs.Language.{fault_answer}
 use Rattle.fixed_respell.specs.LineWords.{longest_line}
 use Rattle.fixed_respell.specs.Reached.{number_of}
 use Rattle.fixed_respell.specs.declared.fault.LineFault.TheVariants.{LineTooLong}
@@ -18,30 +16,13 @@ use Rattle.fixed_command.specs.Lemmas.ReplyLemmas.{asking_length, long_reply}
 use Rattle.fixed_command.proofs.AskingLemmas.{AreFormats, refused_reply, respelled_range, respelled_reply}
 use Rattle.fixed_command.proofs.convert.ConvertRule.push_reply.Goals as goal
 
-message_short : (kind : ParseErrorKind) → length (message_of kind) ≤ 64
-message_short InvalidDigit = omega arith
-message_short MisplacedSign = omega arith
-message_short MisplacedUnderscore = omega arith
-message_short TooManyPoints = omega arith
-message_short TooManyExp = omega arith
-message_short ExpInvalidDigit = omega arith
-message_short ExpOverflow = omega arith
-message_short NoDigits = omega arith
-message_short ExpNoDigits = omega arith
-message_short Overflow = omega arith
-
 pub returns-then-numeral-self-clause-reply : goal.returns-then-numeral-self-clause-reply
 returns-then-numeral-self-clause-reply g c =
     let s = c.self.inside.settings in
     let message : List ℕ = fault_message LineTooLong in
     let long : longest_line < length (asking_line s c.args.numeral.now) = omega (arith, c.if-numeral-self.true, c.self.invariant.2, c.self.invariant.3, asking_length s c.args.numeral.now) in
     let P : Settings → Type 0 = λ t. AppendsAnswer (IsReply t) 192 c.args.numeral.now c.args.out.now c.push_fault.new.out true in
-    subst P c.self.view_is (record {
-      text = (fault_answer message).text;
-      answer = long_reply s c.args.numeral.now long;
-      appended = rw c.words.ensures at c.push_fault.ensures;
-      short = omega arith;
-    })
+    subst P c.self.view_is (fault_appended (IsReply s) c.args.numeral.now c.args.out.now c.push_fault.new.out message (omega arith) (long_reply s c.args.numeral.now long) (rw c.words.ensures at c.push_fault.ensures))
 
 pub push_part-requires : goal.push_part-requires
 push_part-requires g c =
@@ -75,9 +56,5 @@ returns-in-Err-clause-reply g c =
     let message : List ℕ = message_of c.in-Err.error in
     let short : length (asking_line s c.args.numeral.now) ≤ longest_line = omega (arith, c.if-numeral-self.false, c.self.invariant.2, c.self.invariant.3, asking_length s c.args.numeral.now) in
     let P : Settings → Type 0 = λ t. AppendsAnswer (IsReply t) 192 c.args.numeral.now c.args.out.now c.push_fault-in-Err.new.out true in
-    subst P c.self.view_is (record {
-      text = (fault_answer message).text;
-      answer = refused_reply s c.args.numeral.now c.in-Err.error (record { source = c.self.invariant.0; target = c.self.invariant.1 }) short c.in-Err.ensures.refused;
-      appended = rw c.message.ensures at c.push_fault-in-Err.ensures;
-      short = omega (arith, message_short c.in-Err.error, length-append (codes "error: ") message);
-    })
+    let answer = refused_reply s c.args.numeral.now c.in-Err.error (record { source = c.self.invariant.0; target = c.self.invariant.1 }) short c.in-Err.ensures.refused in
+    subst P c.self.view_is (fault_appended (IsReply s) c.args.numeral.now c.args.out.now c.push_fault-in-Err.new.out message (message_short c.in-Err.error) answer (rw c.message.ensures at c.push_fault-in-Err.ensures))
