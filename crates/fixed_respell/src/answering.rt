@@ -1,6 +1,6 @@
 //! The answer to a line.
 
-ghost use Rattle.std.specs.Prelude.{◌≡◌, ◌≤◌, ◌<◌, ◌+◌, ◌*◌, ◌++◌, [], ◌∷◌, length, MatchOption, MatchResult, IfOk};
+ghost use Rattle.std.specs.Prelude.{◌≡◌, ◌≤◌, ◌<◌, ◌+◌, ◌*◌, ◌++◌, [], ◌∷◌, length, take, MatchOption, MatchResult, IfOk};
 ghost use Rattle.std.specs.Fmt.{signed_decimal};
 ghost use Rattle.fixed_bits.specs.Ranges.{IsWide};
 ghost use Rattle.fixed_write.specs.Texts.{IsShortestText, shortest_text};
@@ -78,17 +78,27 @@ pub fn push_fault<const N: usize>(out: &mut TextBuffer<N>, message: &str)
     out.push_bytes(message.as_bytes());
 }
 
+/// The last words of an answer, each after a space: a number was in its format, or out of it.
+const VERDICTS: [[u8; 16]; 2] = [*b" fits           ", *b" overflowed     "];
+
+/// The last word of an answer after a space, and the count of their bytes. It is found by its place, since a branch on it is mispredicted.
+#[inline(always)]
+fn verdict_bytes(overflowed: bool) -> ([u8; 16], usize)
+    ensures word { take result.1 result.0 ≡ space ∷ verdict overflowed }
+    ensures short { result.1 ≤ 11 }
+{
+    let place = usize::from(overflowed);
+    (VERDICTS[place], 5 + 6 * place)
+}
+
 /// Appends a space and the last word of an answer. There must be room for 11 bytes.
 #[inline]
 pub fn push_verdict<const N: usize>(out: &mut TextBuffer<N>, overflowed: bool)
     requires room { length out.old + 11 ≤ N }
     ensures { out.new ≡ out.old ++ space ∷ verdict overflowed }
 {
-    if overflowed {
-        out.push_bytes(b" overflowed");
-    } else {
-        out.push_bytes(b" fits");
-    }
+    let (bytes, count) = verdict_bytes(overflowed);
+    out.push_prefix(bytes, count);
 }
 
 /// Appends the shortest decimal text of `number` ulps of 2^-`frac`, that number in decimal, and whether a number was out of

@@ -5,12 +5,11 @@
 //! magnitude, and whether there are more. These stay in registers, where a signed number of 128 bits takes two of them and
 //! two instructions for each step.
 
-ghost use Rattle.std.specs.Prelude.{◌≡◌, ◌↔◌, ◌⊎◌, ◌≤◌, ◌<◌, ◌-◌, ◌*◌, ◌^◌, ◌%◌, ◌/◌, ℤ, IsTrue, IsNone, IfSome, unsigned_abs};
-ghost use Rattle.std.specs.Int.{is_negative};
+ghost use Rattle.std.specs.Prelude.{◌≡◌, ◌↔◌, ◌⊎◌, ◌≤◌, ◌<◌, ◌-◌, ◌*◌, ◌^◌, ◌%◌, ◌/◌, ℤ, IsTrue, IsNone, IfSome};
 ghost use Rattle.fixed_bits.specs.Down.{IsDown, down};
 ghost use Rattle.fixed_bits.specs.Formats.{IsFormat};
 ghost use Rattle.fixed_bits.specs.Images.{IsImage, IsWrapped};
-ghost use Rattle.fixed_bits.specs.Ranges.{IsInRange, IsOutOfRange, IsWide};
+ghost use Rattle.fixed_bits.specs.Ranges.{IsInRange, IsOutOfRange};
 ghost use Rattle.fixed_read.specs.Inner.Magnitudes.{greatest_magnitude};
 ghost use Rattle.fixed_read.specs.Reading.{HoldsNumber, with_sign};
 ghost use Rattle.fixed_respell.specs.Inner.Numbers.{IsNumber};
@@ -91,45 +90,58 @@ fn is_above(number: Number, limit: u64) -> bool
     number.has_high_bits || number.low > limit
 }
 
-/// Whether a number is negative.
+/// The lowest bits of a magnitude, as many as a format has.
 #[inline(always)]
-fn is_below_zero(number: i128) -> bool
-    ensures { result ≡ is_negative number }
+fn low_bits(format: Format, magnitude: u64) -> u64
+    ensures bits { result ≡ magnitude % 2 ^ format.width }
+    ensures valid { IsFormat format.width format.frac }
 {
-    number < 0
+    magnitude & ones(format)
 }
 
-/// How far a number is from zero.
+/// The Wrapping image of the number with that sign and magnitude. Its lowest bits, with its sign, are in range up to the end of the
+/// range on that side; above it, what they lack of a whole turn is, with the other sign.
 #[inline(always)]
-fn magnitude_of(number: i128) -> u64
-    requires { IsWide number }
-    ensures { result ≡ unsigned_abs number }
+fn wrapped(format: Format, negative: bool, magnitude: u64, end: u64) -> (bool, u64)
+    requires { end ≡ greatest_magnitude format.signed negative format.width }
+    ensures image { IsWrapped format.signed format.width (with_sign negative magnitude) (with_sign result.0 result.1) }
+    ensures same { magnitude ≤ end → (result.0 ≡ negative) × (result.1 ≡ magnitude) }
 {
-    number.unsigned_abs() as u64
+    let low = low_bits(format, magnitude);
+    if low > end {
+        (!negative, ones(format) - low + 1)
+    } else {
+        (negative, low)
+    }
 }
 
-/// The Wrapping image of the number with that sign and magnitude.
-#[inline(never)]
-fn wrapped(format: Format, negative: bool, magnitude: u64) -> Image
-    ensures image { IsWrapped format.signed format.width (with_sign negative magnitude) (with_sign result.negative result.magnitude) }
-    ensures flag { IsTrue result.is_out_of_range }
+/// Whether the policy refuses a number.
+#[inline(always)]
+fn is_refused(policy: Policy, is_out_of_range: bool) -> bool
+    ensures { IsTrue result ↔ ((policy ≡ Policy.Checked) × IsTrue is_out_of_range) }
 {
-    match Policy::Wrapping.image(format, signed_number(negative, magnitude)) {
-        Some(image) => Image {
-            negative: is_below_zero(image),
-            magnitude: magnitude_of(image),
-            is_out_of_range: true,
-        },
-        None => Image {
-            negative,
-            magnitude,
-            is_out_of_range: true,
-        },
+    match policy {
+        Policy::Checked => is_out_of_range,
+        Policy::Saturating => false,
+        Policy::Wrapping => false,
+    }
+}
+
+/// Whether the image of a number by the policy is an end of the range, and not its Wrapping image.
+#[inline(always)]
+fn is_at_end(policy: Policy, is_out_of_range: bool) -> bool
+    ensures { IsTrue result ↔ ((policy ≡ Policy.Saturating) × IsTrue is_out_of_range) }
+{
+    match policy {
+        Policy::Checked => false,
+        Policy::Saturating => is_out_of_range,
+        Policy::Wrapping => false,
     }
 }
 
 /// The image of a number in a format: the number itself where it is in range. None exactly where it is out of range and the
-/// policy is `Checked`.
+/// policy is `Checked`. The images are computed for any number and one of them is chosen: whether a number is in range, and
+/// by which policy it is brought there, changes from line to line, and a branch on it is mispredicted.
 #[inline(always)]
 pub(crate) fn image_of(format: Format, policy: Policy, number: Number) -> Option<Image>
     ensures image { (v : ℤ) → IsNumber number v → IfSome result (λ i. IsImage policy format.signed format.width v (with_sign i.negative i.magnitude)) }
@@ -137,22 +149,23 @@ pub(crate) fn image_of(format: Format, policy: Policy, number: Number) -> Option
     ensures none { (v : ℤ) → IsNumber number v → IsNone result → (policy ≡ Policy.Checked) × IsOutOfRange format.signed format.width v }
 {
     let end = greatest_magnitude(format, number.negative);
-    if !is_above(number, end) {
+    let is_out_of_range = is_above(number, end);
+    if is_refused(policy, is_out_of_range) {
+        return None;
+    }
+    let (negative, magnitude) = wrapped(format, number.negative, number.low, end);
+    if is_at_end(policy, is_out_of_range) {
         return Some(Image {
             negative: number.negative,
-            magnitude: number.low,
-            is_out_of_range: false,
+            magnitude: end,
+            is_out_of_range,
         });
     }
-    match policy {
-        Policy::Checked => None,
-        Policy::Saturating => Some(Image {
-            negative: number.negative,
-            magnitude: end,
-            is_out_of_range: true,
-        }),
-        Policy::Wrapping => Some(wrapped(format, number.negative, number.low)),
-    }
+    Some(Image {
+        negative,
+        magnitude,
+        is_out_of_range,
+    })
 }
 
 /// The magnitude over two to the power of `k`, rounded down, and what is left of it.
@@ -194,25 +207,21 @@ fn grown_magnitude(magnitude: u64, k: u32) -> (u64, bool)
     ((product % (1 << 64)) as u64, product >= 1 << 64)
 }
 
-/// The number with that sign and magnitude moved from fraction length `from` to `to`, rounded down (floor).
+/// The number with that sign and magnitude moved from fraction length `from` to `to`, rounded down (floor). It is made shorter, then
+/// longer, and at least one of the two does nothing; which of them does changes from line to line.
 #[inline(always)]
 pub(crate) fn moved(negative: bool, magnitude: u64, from: u32, to: u32) -> Number
     requires from { from ≤ 64 }
     requires to { to ≤ 64 }
     ensures { IsNumber result (down (with_sign negative magnitude) from to) }
 {
-    if from >= to {
-        Number {
-            negative,
-            low: floored_magnitude(negative, magnitude, from - to),
-            has_high_bits: false,
-        }
-    } else {
-        let (low, has_high_bits) = grown_magnitude(magnitude, to - from);
-        Number {
-            negative,
-            low,
-            has_high_bits,
-        }
+    let shorter = from.saturating_sub(to);
+    let longer = to.saturating_sub(from);
+    let whole = floored_magnitude(negative, magnitude, shorter);
+    let (low, has_high_bits) = grown_magnitude(whole, longer);
+    Number {
+        negative,
+        low,
+        has_high_bits,
     }
 }

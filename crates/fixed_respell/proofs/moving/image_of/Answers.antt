@@ -1,26 +1,27 @@
-use Rattle.fixed_respell.proofs.MovingLemmas.{out_tested, own_image, end_image, wrapped_image}
+use Rattle.std.proofs.Common.{sym, ◌∙◌}
+use Rattle.std.proofs.lemmas.Bool.{false≢true}
+use Rattle.fixed_respell.proofs.MovingLemmas.{out_tested, end_image, other_image}
 use Rattle.fixed_respell.proofs.moving.image_of.Goals as goal
 
-pub returns-then-not-is_above-clause-image : goal.returns-then-not-is_above-clause-image
-returns-then-not-is_above-clause-image c v is =
+pub returns-then-is_at_end-clause-flag : goal.returns-then-is_at_end-clause-flag
+returns-then-is_at_end-clause-flag c v is =
     let a = c.args in
-    let width = c.greatest_magnitude-end.ensures.valid.is_width in
-    let flag = out_tested a.format a.number v width is c.is_above.result c.greatest_magnitude-end.result c.greatest_magnitude-end.ensures.magnitude c.is_above.ensures in
-    own_image a.format a.number v width is a.policy c.is_above.result c.if-not-is_above.true flag
+    out_tested a.format a.number v c.greatest_magnitude-end.ensures.valid.is_width is c.is_above-is_out_of_range.result c.greatest_magnitude-end.result c.greatest_magnitude-end.ensures.magnitude c.is_above-is_out_of_range.ensures
 
-pub returns-in-Saturating-clause-image : goal.returns-in-Saturating-clause-image
-returns-in-Saturating-clause-image c v is =
+pub returns-then-is_at_end-clause-image : goal.returns-then-is_at_end-clause-image
+returns-then-is_at_end-clause-image c v is =
     let a = c.args in
-    let width = c.greatest_magnitude-end.ensures.valid.is_width in
-    let flag = out_tested a.format a.number v width is c.is_above.result c.greatest_magnitude-end.result c.greatest_magnitude-end.ensures.magnitude c.is_above.ensures in
-    end_image a.format a.number v width is a.policy c.greatest_magnitude-end.result c.in-Saturating.is c.greatest_magnitude-end.ensures.magnitude (flag.0 c.if-not-is_above.false)
+    let at_end = c.is_at_end.ensures.0 c.if-is_at_end.true in
+    let flag = out_tested a.format a.number v c.greatest_magnitude-end.ensures.valid.is_width is c.is_above-is_out_of_range.result c.greatest_magnitude-end.result c.greatest_magnitude-end.ensures.magnitude c.is_above-is_out_of_range.ensures in
+    end_image a.format a.number v c.greatest_magnitude-end.ensures.valid.is_width is a.policy c.greatest_magnitude-end.result at_end.0 c.greatest_magnitude-end.ensures.magnitude (flag.0 at_end.1)
 
-pub returns-in-Wrapping-clause-image : goal.returns-in-Wrapping-clause-image
-returns-in-Wrapping-clause-image c v is = wrapped_image c.args.format c.args.number v c.greatest_magnitude-end.ensures.valid.is_width is c.args.policy _ c.in-Wrapping.is c.wrapped.ensures.image
-
-pub returns-in-Wrapping-clause-flag : goal.returns-in-Wrapping-clause-flag
-returns-in-Wrapping-clause-flag c v is =
+pub returns-clause-flag : goal.returns-clause-flag
+returns-clause-flag c v is =
     let a = c.args in
-    let width = c.greatest_magnitude-end.ensures.valid.is_width in
-    let flag = out_tested a.format a.number v width is c.is_above.result c.greatest_magnitude-end.result c.greatest_magnitude-end.ensures.magnitude c.is_above.ensures in
-    (λ _. flag.0 c.if-not-is_above.false, λ _. c.wrapped.ensures.flag)
+    out_tested a.format a.number v c.greatest_magnitude-end.ensures.valid.is_width is c.is_above-is_out_of_range.result c.greatest_magnitude-end.result c.greatest_magnitude-end.ensures.magnitude c.is_above-is_out_of_range.ensures
+
+pub returns-clause-image : goal.returns-clause-image
+returns-clause-image c v is =
+    let a = c.args in
+    other_image a.format a.number v c.greatest_magnitude-end.ensures.valid.is_width is a.policy c.is_above-is_out_of_range.result c.greatest_magnitude-end.result c.wrapped-negative.result.1 c.wrapped-negative.result.0 c.greatest_magnitude-end.ensures.magnitude c.is_above-is_out_of_range.ensures
+    (λ w. absurd (false≢true (sym c.if-is_refused.false ∙ c.is_refused.ensures.1 w))) (λ w. absurd (false≢true (sym c.if-is_at_end.false ∙ c.is_at_end.ensures.1 w))) c.wrapped-negative.ensures.same c.wrapped-negative.ensures.image

@@ -1,9 +1,5 @@
-use Rattle.std.proofs.Common.{arith}
-use Rattle.fixed_respell.proofs.MovingLemmas.{moved_down, moved_up}
+use Rattle.fixed_respell.proofs.MovingLemmas.{moved_either}
 use Rattle.fixed_respell.proofs.moving.moved.Goals as goal
 
-pub returns-then-from-to : goal.returns-then-from-to
-returns-then-from-to c = moved_down c.args.negative c.args.magnitude c.args.from c.args.to c.floored_magnitude.result (omega (arith, c.if-from-to.true)) c.floored_magnitude.ensures
-
-pub returns-else-from-to : goal.returns-else-from-to
-returns-else-from-to c = moved_up c.args.negative c.grown_magnitude-low.result.1 c.args.magnitude c.args.from c.args.to c.grown_magnitude-low.result.0 (omega (arith, c.if-from-to.false)) c.grown_magnitude-low.ensures.low c.grown_magnitude-low.ensures.high
+pub returns : goal.returns
+returns c = moved_either c.args.negative c.grown_magnitude-low.result.1 c.args.magnitude c.floored_magnitude-whole.result c.args.from c.args.to c.grown_magnitude-low.result.0 (rw c.saturating_sub-shorter.ensures at c.floored_magnitude-whole.ensures) c.floored_magnitude-whole.type_inv (rw c.saturating_sub-longer.ensures at c.grown_magnitude-low.ensures.low) (rw c.saturating_sub-longer.ensures at c.grown_magnitude-low.ensures.high)

@@ -1,11 +1,14 @@
-use Rattle.std.proofs.Common.{FitsSigned, rules}
-use Rattle.std.specs.Int.{w128}
-use Rattle.std.proofs.lemmas.Int.{to_z-of_z}
-use Rattle.fixed_respell.proofs.MovingLemmas.{signed_again}
+use Rattle.std.proofs.Common.{◌≡◌, ◌+◌, ◌-◌, ◌^◌, ◌<◌, arith, mod-lt, pow_pos}
+use Rattle.fixed_respell.proofs.MovingLemmas.{wrapped_low, wrapped_turned}
 use Rattle.fixed_respell.proofs.moving.wrapped.Goals as goal
 
-pub returns-in-Some-clause-image : goal.returns-in-Some-clause-image
-returns-in-Some-clause-image c =
-    let number : FitsSigned w128 c.signed_number.result = search rules in
-    let image : FitsSigned w128 c.in-Some.image = search rules in
-    rw (c.is_below_zero.ensures, c.magnitude_of.ensures, to_z-of_z w128 c.in-Some.image image, signed_again c.in-Some.image) (rw (to_z-of_z w128 c.signed_number.result number, c.signed_number.ensures) at c.in-Some.ensures.image)
+pub returns-then-low-end-clause-image : goal.returns-then-low-end-clause-image
+returns-then-low-end-clause-image c =
+    let f = c.args.format in
+    let low = c.low_bits-low.result in
+    let below : low < 2 ^ f.width = rw c.low_bits-low.ensures.bits (mod-lt c.args.magnitude (pow_pos f.width)) in
+    let turn : c.ones.result - low + 1 ≡ 2 ^ f.width - low = omega (arith, c.ones.ensures.ones, below) in
+    rw turn (wrapped_turned f c.args.negative c.args.magnitude c.args.end low c.low_bits-low.ensures.valid.is_width c.requires c.low_bits-low.ensures.bits (omega (arith, c.if-low-end.true)))
+
+pub returns-else-low-end-clause-image : goal.returns-else-low-end-clause-image
+returns-else-low-end-clause-image c = wrapped_low c.args.format c.args.negative c.args.magnitude c.args.end c.low_bits-low.result c.low_bits-low.ensures.valid.is_width c.requires c.low_bits-low.ensures.bits (omega (arith, c.if-low-end.false))
