@@ -15,3 +15,4 @@ mod MovingLemmas
 mod TableLemmas
 mod KeyLemmas
 mod FaultAnswerLemmas
+mod EndingLemmas

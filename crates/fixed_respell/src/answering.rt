@@ -1,6 +1,6 @@
 //! The answer to a line.
 
-ghost use Rattle.std.specs.Prelude.{◌≡◌, ◌≤◌, ◌<◌, ◌+◌, ◌*◌, ◌++◌, [], ◌∷◌, length, take, MatchOption, MatchResult, IfOk};
+ghost use Rattle.std.specs.Prelude.{◌≡◌, ◌≤◌, ◌<◌, ◌+◌, ◌*◌, ◌++◌, [], ◌-◌, ◌∷◌, drop, length, take, MatchOption, MatchResult, IfOk};
 ghost use Rattle.std.specs.Fmt.{signed_decimal};
 ghost use Rattle.fixed_bits.specs.Ranges.{IsWide};
 ghost use Rattle.fixed_write.specs.Texts.{IsShortestText, shortest_text};
@@ -39,6 +39,7 @@ struct Task<'a> {
 fn read_task(line: &[u8]) -> Result<Task<'_>, LineFault>
     ensures task { MatchResult result (λ t. Asks line.now (task_of t.radix t.source t.target t.policy t.mode t.numeral.now)) (λ fault. IsFirstFault fault line.now) }
     ensures short { IfOk result (λ t. length t.numeral.now ≤ length line.now) }
+    ensures ending { IfOk result (λ t. drop (length line.now - length t.numeral.now) line.now ≡ t.numeral.now) }
 {
     if line.len() > MAX_LINE {
         return Err(LineFault::LineTooLong);
@@ -144,7 +145,8 @@ pub fn append_answer<const N: usize, L: Ledger>(
         }
     };
     match reach(
-        task.numeral,
+        line,
+        line.len() - task.numeral.len(),
         task.radix,
         task.source,
         task.target,

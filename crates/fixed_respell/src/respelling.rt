@@ -1,6 +1,6 @@
 //! A numeral through two formats, from its bytes to its shortest text.
 
-ghost use Rattle.std.specs.Prelude.{◌≡◌, ◌↔◌, ◌⊎◌, ◌≤◌, ◌+◌, ◌*◌, ℤ, Bool, IsTrue, IsOk, IfOk, IfErr, length};
+ghost use Rattle.std.specs.Prelude.{◌≡◌, ◌↔◌, ◌⊎◌, ◌≤◌, ◌+◌, ◌*◌, ℤ, Bool, IsTrue, IsOk, IfOk, IfErr, drop, length};
 ghost use Rattle.fixed_bits.specs.Ranges.{IsInRange, IsWide};
 ghost use Rattle.fixed_bits.specs.declared.mode.ReadMode.TheVariants.{NearestEven};
 ghost use Rattle.fixed_write.specs.Texts.{IsShortestText};
@@ -9,7 +9,7 @@ ghost use Rattle.fixed_respell.specs.Reached.{IsRespelled, IsRefusal, number_of,
 use crate::moving::{image_of, moved, number_read, signed_number};
 use fixed_bits::{Format, Policy, ReadMode};
 use fixed_numeral::{ParseErrorKind, ParseFixedError, Radix};
-use fixed_read::read_format;
+use fixed_read::read_ending;
 use fixed_steps::Steps;
 use fixed_write::{ShortText, shortest};
 use std::sync::ledger::Ledger;
@@ -87,7 +87,7 @@ pub fn respell_mode<L: Ledger>(
     ensures refused { IfErr result (λ kind. IsRefusal mode radix bytes.now policy source target kind) }
     ensures cost { steps.new ≤ steps.old + 8 * length bytes.now + 624 }
 {
-    let reached = reach(bytes, radix, source, target, policy, mode, steps)?;
+    let reached = reach(bytes, 0, radix, source, target, policy, mode, steps)?;
     Ok(Respelled {
         bits: bits_of(target, reached.number),
         overflowed: reached.overflowed,
@@ -104,13 +104,15 @@ pub struct Reached {
     pub overflowed: bool,
 }
 
-/// Reads a numeral into the source format in a mode, and brings the number into the target format by the policy.
+/// Reads the numeral that a text ends with, from a place on, into the source format in a mode, and brings the number into the target
+/// format by the policy.
 ///
 /// The error is why the bytes are no numeral, or `Overflow` where they are one and under `Checked` its read number is
 /// out of the source's range or, rounded down, out of the target's.
 #[inline(always)]
 pub fn reach<L: Ledger>(
-    bytes: &[u8],
+    text: &[u8],
+    from: usize,
     radix: Radix,
     source: Format,
     target: Format,
@@ -118,14 +120,15 @@ pub fn reach<L: Ledger>(
     mode: ReadMode,
     steps: &mut Steps<L>,
 ) -> Result<Reached, ParseFixedError>
-    ensures ok { IsOk result ↔ ((bits : ℤ) × (overflowed : Bool) × IsRespelled mode radix bytes.now policy source target bits overflowed) }
-    ensures reached { IfOk result (λ s. IsRespelled mode radix bytes.now policy source target s.number s.overflowed) }
+    requires place { from ≤ length text.now }
+    ensures ok { IsOk result ↔ ((bits : ℤ) × (overflowed : Bool) × IsRespelled mode radix (drop from text.now) policy source target bits overflowed) }
+    ensures reached { IfOk result (λ s. IsRespelled mode radix (drop from text.now) policy source target s.number s.overflowed) }
     ensures range { IfOk result (λ s. IsInRange target.signed target.width s.number) }
     ensures wide { IfOk result (λ s. IsWide s.number) }
-    ensures refused { IfErr result (λ kind. IsRefusal mode radix bytes.now policy source target kind) }
-    ensures cost { steps.new ≤ steps.old + 8 * length bytes.now + 576 }
+    ensures refused { IfErr result (λ kind. IsRefusal mode radix (drop from text.now) policy source target kind) }
+    ensures cost { steps.new ≤ steps.old + 8 * length (drop from text.now) + 576 }
 {
-    let found = read_format(bytes, radix, source, mode, steps)?;
+    let found = read_ending(text, from, radix, source, mode, steps)?;
     let Some(in_source) = image_of(source, policy, number_read(&found)) else {
         return Err(ParseFixedError::new(ParseErrorKind::Overflow));
     };

@@ -26,7 +26,7 @@ returns-in-Ok-reach-clause-answer g c =
         answered = inr (record {
           bits = number;
           overflowed = found.reached.overflowed;
-          respelled = found.ensures.reached;
+          respelled = rw c.in-Ok.ensures.ending at found.ensures.reached;
           text = shortest_text number t.target.frac;
           shortest = shortest;
           answer_is = refl;
@@ -43,6 +43,6 @@ returns-in-Err-reach-clause-answer g c =
     let answer : IsAnswer c.args.line.now (fault_answer (message_of refused.error)) = inr (record {
       task = task_of t.radix t.source t.target t.policy t.mode t.numeral.now;
       asks = c.in-Ok.ensures.task;
-      answered = inl (record { kind = refused.error; refusal = refused.ensures.refused; answer_is = refl });
+      answered = inl (record { kind = refused.error; refusal = rw c.in-Ok.ensures.ending at refused.ensures.refused; answer_is = refl });
     }) in
     fault_appended IsAnswer c.args.line.now c.args.out.now c.push_fault-in-Err-reach.new.out (message_of refused.error) (message_short refused.error) answer (rw c.message.ensures at c.push_fault-in-Err-reach.ensures)
