@@ -1,0 +1,4 @@
+mod RecordLemmas
+mod RunLemmas
+mod WatchedLemmas
+mod QuoteLemmas
