@@ -1,7 +1,7 @@
 # bash completion for fixed
 _fixed() {
   local word=$2 previous=$3 command=${COMP_WORDS[1]}
-  local commands='convert show bits format lines enclose least constants columns' words=''
+  local commands='convert column show bits format lines enclose least constants columns' words=''
   if [ "$COMP_CWORD" -eq 1 ]; then
     mapfile -t COMPREPLY < <(compgen -W "$commands --help --version" -- "$word")
     return
@@ -11,10 +11,11 @@ _fixed() {
     --policy) words='checked saturating wrapping' ;;
     --mode) words='nearest floor ceil zero' ;;
     --print) words='text bits hex all' ;;
-    --limit) return ;;
+    --limit | --delimiter) return ;;
     *)
       case $command:$word in
         convert:-*) words='--radix --policy --mode --print --help --version' ;;
+        column:-*) words='--radix --policy --mode --print --delimiter --header --keep --help --version' ;;
         show:-*) words='--radix --policy --mode --help --version' ;;
         lines:-* | columns:-*) words='--limit --help --version' ;;
         *:-*) words='--help --version' ;;

@@ -1,6 +1,7 @@
-set -l commands convert show bits format lines enclose least constants columns
+set -l commands convert column show bits format lines enclose least constants columns
 complete -c fixed -n "not __fish_seen_subcommand_from $commands" -f
 complete -c fixed -n __fish_use_subcommand -a convert -d 'convert numerals, one a line'
+complete -c fixed -n __fish_use_subcommand -a column -d 'convert one column of CSV'
 complete -c fixed -n __fish_use_subcommand -a show -d 'show a number in a format'
 complete -c fixed -n __fish_use_subcommand -a bits -d 'show what number a word is'
 complete -c fixed -n __fish_use_subcommand -a format -d 'show what a format holds'
@@ -9,8 +10,11 @@ complete -c fixed -n __fish_use_subcommand -a enclose -d 'answer with the two ne
 complete -c fixed -n __fish_use_subcommand -a least -d 'find the least format'
 complete -c fixed -n __fish_use_subcommand -a constants -d 'write named literals in one form'
 complete -c fixed -n __fish_use_subcommand -a columns -d 'sort cells by value'
-complete -c fixed -n '__fish_seen_subcommand_from convert show' -l radix -x -a '2 8 10 16' -d 'the radix of the numerals'
-complete -c fixed -n '__fish_seen_subcommand_from convert show' -l policy -x -a 'checked saturating wrapping' -d 'what is done out of range'
-complete -c fixed -n '__fish_seen_subcommand_from convert show' -l mode -x -a 'nearest floor ceil zero' -d 'how a numeral is rounded'
-complete -c fixed -n '__fish_seen_subcommand_from convert' -l print -x -a 'text bits hex all' -d 'what of an answer is written'
+complete -c fixed -n '__fish_seen_subcommand_from convert column show' -l radix -x -a '2 8 10 16' -d 'the radix of the numerals'
+complete -c fixed -n '__fish_seen_subcommand_from convert column show' -l policy -x -a 'checked saturating wrapping' -d 'what is done out of range'
+complete -c fixed -n '__fish_seen_subcommand_from convert column show' -l mode -x -a 'nearest floor ceil zero' -d 'how a numeral is rounded'
+complete -c fixed -n '__fish_seen_subcommand_from convert column' -l print -x -a 'text bits hex all' -d 'what of an answer is written'
 complete -c fixed -n '__fish_seen_subcommand_from lines columns' -l limit -x -d 'the most bytes of an input'
+complete -c fixed -n '__fish_seen_subcommand_from column' -l delimiter -x -d 'the byte between fields'
+complete -c fixed -n '__fish_seen_subcommand_from column' -l header -d 'the first record is a header'
+complete -c fixed -n '__fish_seen_subcommand_from column' -l keep -d 'a refused field stays as it was'

@@ -1,5 +1,6 @@
 //! The commands and their options, as help shows them.
 
+use crate::column::column;
 use clap::builder::ValueParser;
 use clap::{Arg, ArgAction, Command};
 use line_engine::MAX_LIMIT;
@@ -9,7 +10,7 @@ use std::alloc::{AllocError, Global};
 const VERSION: &str = "1.31.0";
 
 /// An option with one value out of a few, which its help names.
-fn choice<'a>(
+pub fn choice<'a>(
     alloc: Global,
     name: &'a str,
     value: &'a str,
@@ -29,7 +30,7 @@ fn choice<'a>(
 }
 
 /// A word at its place.
-fn word<'a>(alloc: Global, name: &'a str, help: &'a str) -> Arg<'a> {
+pub fn word<'a>(alloc: Global, name: &'a str, help: &'a str) -> Arg<'a> {
     Arg::new(alloc, name)
         .required(true)
         .action(ArgAction::Set)
@@ -37,7 +38,7 @@ fn word<'a>(alloc: Global, name: &'a str, help: &'a str) -> Arg<'a> {
 }
 
 /// The words after the others.
-fn words<'a>(alloc: Global, name: &'a str, help: &'a str) -> Arg<'a> {
+pub fn words<'a>(alloc: Global, name: &'a str, help: &'a str) -> Arg<'a> {
     Arg::new(alloc, name)
         .num_args(1..)
         .action(ArgAction::Append)
@@ -50,7 +51,7 @@ fn files<'a>(alloc: Global) -> Arg<'a> {
 }
 
 /// A command with the options that say how a numeral is read.
-fn with_reading<'a>(alloc: Global, command: Command<'a>) -> Result<Command<'a>, AllocError> {
+pub fn with_reading<'a>(alloc: Global, command: Command<'a>) -> Result<Command<'a>, AllocError> {
     let radix = choice(
         alloc,
         "radix",
@@ -78,6 +79,18 @@ fn with_reading<'a>(alloc: Global, command: Command<'a>) -> Result<Command<'a>, 
     command.arg(radix)?.arg(policy)?.arg(mode)
 }
 
+/// The option that says which part of an answer is written.
+pub fn print<'a>(alloc: Global) -> Arg<'a> {
+    choice(
+        alloc,
+        "print",
+        "PART",
+        &["text", "bits", "hex", "all"],
+        "text",
+        "What is written: text (default), bits, hex, all",
+    )
+}
+
 /// The option that names the most bytes of an input.
 fn limit<'a>(alloc: Global, default: &'a str) -> Arg<'a> {
     Arg::new(alloc, "limit")
@@ -102,14 +115,6 @@ fn lines<'a>(alloc: Global) -> Result<Command<'a>, AllocError> {
 
 /// `fixed convert`.
 fn convert<'a>(alloc: Global) -> Result<Command<'a>, AllocError> {
-    let print = choice(
-        alloc,
-        "print",
-        "PART",
-        &["text", "bits", "hex", "all"],
-        "text",
-        "What is written: text (default), bits, hex, all",
-    );
     let command = Command::new(alloc, "convert")
         .about("Convert numerals, one a line")
         .override_usage("fixed convert [OPTIONS] SOURCE [TARGET] [FILE]...")
@@ -120,7 +125,7 @@ fn convert<'a>(alloc: Global) -> Result<Command<'a>, AllocError> {
             "The format to move to, SOURCE if left out, and files",
         ))?;
     Ok(
-        with_reading(alloc, command)?.arg(print)?.after_help(
+        with_reading(alloc, command)?.arg(print(alloc))?.after_help(
             "Example: echo 3.14159 | fixed convert I16F16 I8F8 --print all",
         ),
     )
@@ -219,6 +224,7 @@ pub fn command<'a>(alloc: Global) -> Result<Command<'a>, AllocError> {
             .subcommand_required(true)
             .disable_help_subcommand(true)
             .subcommand(convert(alloc)?)?
+            .subcommand(column(alloc)?)?
             .subcommand(show(alloc)?)?
             .subcommand(bits(alloc)?)?
             .subcommand(formats(alloc)?)?

@@ -1,10 +1,11 @@
 //! What a command line asks for.
 
+use crate::column::column_conversion;
 use crate::command_line::command;
 use clap::error::ErrorKind;
 use clap::{ArgMatches, Error};
 use fixed_bits::{Format, Policy, ReadMode};
-use fixed_command::{ConvertRule, Limit, Print, Question, Settings, Task};
+use fixed_command::{ColumnConversion, ConvertRule, Limit, Print, Question, Settings, Task};
 use fixed_numeral::Radix;
 use fixed_respell::{format_word, radix_word};
 use std::alloc::{AllocError, Global};
@@ -16,6 +17,8 @@ pub enum Request<'a> {
     Text(String),
     /// A task, done with each of these files; with standard input where there are none.
     Run(Task, Vec<&'a str>),
+    /// One column of each of these files converted.
+    Column(ColumnConversion, Vec<&'a str>),
     /// A question, asked of each of these words.
     Ask(Question, Vec<&'a str>),
 }
@@ -36,7 +39,7 @@ impl From<AllocError> for Refusal {
 }
 
 /// What a few words ask for that were read by `clap`.
-type Asked<T> = Result<T, Refusal>;
+pub type Asked<T> = Result<T, Refusal>;
 
 /// The message of an error of the command line, in one line: what comes before the first empty line, without `error: `.
 fn one_line(alloc: Global, text: &str) -> Result<String, AllocError> {
@@ -144,8 +147,11 @@ fn limit_of(alloc: Global, matches: &ArgMatches<'_>) -> Asked<Limit> {
     }
 }
 
-/// What `fixed convert` asks for.
-fn convert<'a>(alloc: Global, matches: &ArgMatches<'a>) -> Asked<Request<'a>> {
+/// The conversion that the formats and the options of a command name, and the files after the formats.
+pub fn conversion<'a>(
+    alloc: Global,
+    matches: &ArgMatches<'a>,
+) -> Asked<(ConvertRule, Vec<&'a str>)> {
     let source = format_of(alloc, matches.get_str("SOURCE").unwrap_or(""))?;
     let words = matches.get_strs("TARGET");
     let (target, files) = match words {
@@ -162,8 +168,19 @@ fn convert<'a>(alloc: Global, matches: &ArgMatches<'a>) -> Asked<Request<'a>> {
         mode: mode_of(matches),
         print: print_of(matches),
     };
-    let task = Task::Convert(ConvertRule::new(settings));
-    Ok(Request::Run(task, files))
+    Ok((ConvertRule::new(settings), files))
+}
+
+/// What `fixed convert` asks for.
+fn convert<'a>(alloc: Global, matches: &ArgMatches<'a>) -> Asked<Request<'a>> {
+    let (rule, files) = conversion(alloc, matches)?;
+    Ok(Request::Run(Task::Convert(rule), files))
+}
+
+/// What `fixed column` asks for.
+fn column<'a>(alloc: Global, matches: &ArgMatches<'a>) -> Asked<Request<'a>> {
+    let (conversion, files) = column_conversion(alloc, matches)?;
+    Ok(Request::Column(conversion, files))
 }
 
 /// What `fixed least` asks for: a first word that names a radix is one. A file of such a name is written `./10`.
@@ -218,6 +235,7 @@ pub fn read_request<'a>(alloc: Global, words: &'a [String]) -> Asked<Request<'a>
     match matches.subcommand() {
         Some(("lines", found)) => plain(alloc, Task::Lines(limit_of(alloc, found)?), found),
         Some(("convert", found)) => convert(alloc, found),
+        Some(("column", found)) => column(alloc, found),
         Some(("enclose", found)) => plain(alloc, Task::Enclose, found),
         Some(("least", found)) => least(alloc, found),
         Some(("constants", found)) => plain(alloc, Task::Constants, found),

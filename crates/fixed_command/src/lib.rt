@@ -5,6 +5,7 @@
 #![tactic(auto)]
 
 pub mod blocks;
+pub mod column;
 pub mod convert;
 pub mod hex;
 pub mod print;
@@ -12,6 +13,7 @@ pub mod task;
 mod words;
 
 pub use blocks::{Question, run_blocks};
+pub use column::{ColumnConversion, convert_column};
 pub use convert::{ConvertRule, Settings};
 pub use hex::push_hex;
 pub use print::Print;

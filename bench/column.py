@@ -1,0 +1,29 @@
+"""`fixed column` on CSV of five columns, with and without quotes."""
+import random
+
+from timing import in_turn, peak, table
+
+RECORDS = 200_000
+# What is converted, and how a record is written: text around the number, in the third of five columns.
+SHAPES = (
+    ("plain", "{0},item {1},{2:.4f},2026-11-{3:02},note {1}\n"),
+    ("two in quotes", '{0},"item, {1}",{2:.4f},2026-11-{3:02},"note {1}"\n'),
+    ("all in quotes", '"{0}","item {1}","{2:.4f}","2026-11-{3:02}","a ""note"""\n'),
+)
+
+
+def text_of(shape):
+    pick = random.Random(1)
+    return "".join(shape.format(at, pick.randrange(100_000), pick.uniform(-999, 999), pick.randrange(1, 31)) for at in range(RECORDS))
+
+
+def measure(programs, inputs, tries):
+    if not programs.built("fixed"):
+        return
+    command = [programs.built("fixed"), "column", "3", "I16F16"]
+    texts = [text_of(shape) for _, shape in SHAPES]
+    paths = [inputs.of(f"column-{at}", text) for at, text in enumerate(texts)]
+    took = in_turn([(command, path) for path in paths], tries)
+    rows = [[name, f"{len(text) / it / 1e6:.0f}", f"{RECORDS / it / 1e6:.2f}", peak(command, path)]
+            for (name, _), text, it, path in zip(SHAPES, texts, took, paths)]
+    table(rows, ["fixed column 3 I16F16, five columns", "MB/s", "M records/s", "peak KiB"])
