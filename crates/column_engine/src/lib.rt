@@ -18,3 +18,6 @@ pub use end::{ColumnEnd, Stop};
 pub use record::record_writer;
 pub use run::{ColumnTask, run_column};
 pub use watched::MAX_RECORD;
+
+#[cfg(test)]
+mod tests;
