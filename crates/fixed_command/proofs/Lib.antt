@@ -1,2 +1,3 @@
 mod AskingLemmas
 mod BlockLemmas
+mod RefusedLemmas

@@ -1,7 +1,7 @@
 -- What the run of a command leaves, seen from outside.
 use Rattle.std.specs.Prelude.{◌≡◌, ◌⊎◌, ◌≤◌, ◌<◌, ℕ, List, Some, length}
 use Rattle.fixed_columns.specs.Answer as columns
-use Rattle.fixed_constants.specs.Answer as constants
+use Rattle.fixed_constants.specs.Forms as constants
 use Rattle.fixed_enclose.specs.Answer as enclose
 use Rattle.fixed_least.specs.Least as least
 use Rattle.fixed_respell.specs.Answer as respell
@@ -62,5 +62,5 @@ TaskRuns (Lines limit) = HasLineRun respell.IsAnswer limit 8 624
 TaskRuns (Convert settings) = HasLineRun (IsLineReply settings) max_limit 8 624
 TaskRuns Enclose = HasLineRun enclose.IsAnswer max_limit 16 1248
 TaskRuns (Least radix) = IsWholeRun (least.IsWholeAnswer radix) max_whole
-TaskRuns Constants = IsWholeRun constants.IsWholeAnswer max_whole
+TaskRuns (Constants rule) = IsWholeRun (constants.IsFormAnswer rule.form rule.guard.now) max_whole
 TaskRuns (Columns limit) = IsWholeRun columns.IsWholeAnswer limit

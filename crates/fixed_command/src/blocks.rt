@@ -59,7 +59,7 @@ fn push_format<const N: usize, L: Ledger>(
 }
 
 /// Appends the block that answers a question about a word, and answers whether it reports a fault.
-fn push_block<const N: usize, L: Ledger>(
+pub(crate) fn push_block<const N: usize, L: Ledger>(
     question: &Question,
     word: &[u8],
     out: &mut TextBuffer<N>,

@@ -1,18 +1,21 @@
 //! Numerals converted one a line: the words of a line are given once, and each line is a numeral.
 
-ghost use Rattle.std.specs.Prelude.{◌≡◌, ◌+◌, ◌*◌, ◌-◌, ◌≤◌, ◌<◌, ◌++◌, [], length};
+ghost use Rattle.std.specs.Prelude.{◌≡◌, ◌↔◌, ◌+◌, ◌*◌, ◌-◌, ◌≤◌, ◌<◌, ◌++◌, [], IsTrue, length};
 ghost use Rattle.fixed_bits.specs.Formats.{IsFormat};
 ghost use Rattle.fixed_bits.specs.Ranges.{IsInRange, IsWide};
 ghost use Rattle.line_engine.specs.Output.{AppendsAnswer};
 ghost use Rattle.fixed_command.specs.Convert.{IsLineReply, IsReply, asking_line, printed, without_return};
+ghost use Rattle.fixed_numeral.specs.Messages.{message_of};
 ghost use Rattle.fixed_respell.specs.Answer.{respelled_answer};
+ghost use Rattle.fixed_respell.specs.Language.{fault_answer};
+ghost use Rattle.fixed_respell.specs.LineWords.{longest_line};
 ghost use Rattle.fixed_respell.specs.Reached.{number_of};
 
 use crate::hex::push_hex;
 use crate::print::Print;
 use crate::words::{mode_name, policy_name, radix_name};
 use fixed_bits::{Format, Policy, ReadMode};
-use fixed_numeral::Radix;
+use fixed_numeral::{ParseFixedError, Radix};
 use fixed_respell::{Bits, LineFault, format_name, push_fault, push_verdict, respell_mode};
 use fixed_steps::Steps;
 use fixed_write::push_integer;
@@ -47,6 +50,14 @@ fn number_of(bits: Bits) -> i128
         Bits::Signed(number) => i128::from(number),
         Bits::Unsigned(number) => i128::from(number),
     }
+}
+
+/// Appends what reports the refusal of a numeral.
+fn push_refusal<const N: usize>(out: &mut TextBuffer<N>, error: ParseFixedError)
+    requires { length out.old + 71 ≤ N }
+    ensures { out.new ≡ out.old ++ (fault_answer (message_of error)).text }
+{
+    push_fault(out, error.message());
 }
 
 /// Appends an answer whole: a text, bits in decimal, and whether a number was out of its format.
@@ -122,6 +133,13 @@ impl ConvertRule {
         ConvertRule { settings, head }
     }
 
+    /// Whether the line that asks for the conversion of a numeral is longer than a line may be.
+    fn is_too_long(&self, numeral: &[u8]) -> bool
+        ensures { IsTrue result ↔ longest_line < length (asking_line self.now numeral.now) }
+    {
+        numeral.len() > MAX_LINE - self.head
+    }
+
     /// Appends the reply to a numeral, without a newline, and answers whether it is a fault.
     pub fn push_reply<const N: usize, L: Ledger>(
         &self,
@@ -133,7 +151,7 @@ impl ConvertRule {
         ensures reply { AppendsAnswer (IsReply self.now) MAX_ANSWER numeral.now out.old out.new result }
         ensures cost { steps.new ≤ steps.old + 8 * length numeral.now + 624 }
     {
-        if numeral.len() > MAX_LINE - self.head {
+        if self.is_too_long(numeral) {
             push_fault(out, LineFault::LineTooLong.words());
             return true;
         }
@@ -147,7 +165,7 @@ impl ConvertRule {
                 false
             }
             Err(error) => {
-                push_fault(out, error.message());
+                push_refusal(out, error);
                 true
             }
         }

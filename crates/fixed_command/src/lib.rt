@@ -9,6 +9,7 @@ pub mod column;
 pub mod convert;
 pub mod hex;
 pub mod print;
+pub mod refused;
 pub mod task;
 mod words;
 
@@ -17,4 +18,8 @@ pub use column::{ColumnConversion, convert_column};
 pub use convert::{ConvertRule, Settings};
 pub use hex::push_hex;
 pub use print::Print;
+pub use refused::{RefusedWord, first_refused};
 pub use task::{Limit, Task, greater_end, run_convert, run_task};
+
+#[cfg(test)]
+mod tests;

@@ -3,14 +3,17 @@
 ghost use Rattle.std.specs.Prelude.{◌≡◌, ◌≤◌, MatchOption, max};
 ghost use Rattle.line_engine.specs.Program.{outside};
 ghost use Rattle.line_engine.specs.Status.{code_of};
+ghost use Rattle.fixed_constants.specs.Forms.{IsFormAnswer};
+ghost use Rattle.fixed_enclose.specs.Answer as enclose;
+ghost use Rattle.fixed_respell.specs.Answer.{IsAnswer};
 ghost use Rattle.fixed_command.specs.Convert.{IsLineReply};
-ghost use Rattle.fixed_command.specs.Limits.{max_limit};
+ghost use Rattle.fixed_command.specs.Limits.{max_limit, max_whole};
 ghost use Rattle.fixed_command.specs.Runs.{HasLineRun, IsWholeRun, TaskRuns};
 ghost use Rattle.line_engine.specs.WholeRun.{EndsBeforeWriting};
 
 use crate::ConvertRule;
 use fixed_columns::ColumnsRule;
-use fixed_constants::ConstantsRule;
+use fixed_constants::FormRule;
 use fixed_enclose::EncloseRule;
 use fixed_least::LeastRule;
 use fixed_numeral::Radix;
@@ -64,7 +67,7 @@ impl Limit {
 
 /// What is done with an input.
 #[derive(Drop)]
-pub enum Task {
+pub enum Task<'a> {
     /// Each line is answered as one of `fixed_tool`, in an input within the limit.
     Lines(Limit),
     /// Each line is a numeral that is converted.
@@ -73,8 +76,8 @@ pub enum Task {
     Enclose,
     /// The lines are numerals of this radix; the answer is the least format that holds them.
     Least(Radix),
-    /// The input is a constants file; the answer is its canonical text.
-    Constants,
+    /// The input is a constants file; the answer is its text in this form.
+    Constants(FormRule<'a>),
     /// The lines are cells, in an input within the limit; the answer is the column of them in order.
     Columns(Limit),
 }
@@ -114,6 +117,35 @@ fn run_whole_rule<R: WholeRule<L>, S: Source, K: Sink, L: Ledger>(
     run_whole(alloc, limit, rule, source, sink, steps)
 }
 
+/// Answers each line of an input within the limit as `fixed_tool` does.
+fn run_words<S: Source, K: Sink, L: Ledger>(
+    alloc: Global,
+    limit: &Limit,
+    source: &mut S,
+    sink: &mut K,
+    steps: &mut Steps<L>,
+) -> Status
+    ensures run { HasLineRun IsAnswer limit.now 8 624 (outside (S.left source.old) (S.asked source.old) (S.failures source.old) (K.written sink.old) (K.failures sink.old) steps.old)
+        (outside (S.left source.new) (S.asked source.new) (S.failures source.new) (K.written sink.new) (K.failures sink.new) steps.new) result }
+    ensures memory { result ≡ Status.NoMemory → sink.new ≡ sink.old }
+{
+    run_rule(alloc, limit.bytes(), &RespellRule, source, sink, steps)
+}
+
+/// Answers each line of an input of at most 4,294,967,296 bytes with the enclosure of its numeral.
+fn run_enclosures<S: Source, K: Sink, L: Ledger>(
+    alloc: Global,
+    source: &mut S,
+    sink: &mut K,
+    steps: &mut Steps<L>,
+) -> Status
+    ensures run { HasLineRun enclose.IsAnswer max_limit 16 1248 (outside (S.left source.old) (S.asked source.old) (S.failures source.old) (K.written sink.old) (K.failures sink.old) steps.old)
+        (outside (S.left source.new) (S.asked source.new) (S.failures source.new) (K.written sink.new) (K.failures sink.new) steps.new) result }
+    ensures memory { result ≡ Status.NoMemory → sink.new ≡ sink.old }
+{
+    run_rule(alloc, MAX_LIMIT, &EncloseRule, source, sink, steps)
+}
+
 /// Answers each line of an input of at most 4,294,967,296 bytes with the conversion of its numeral. It takes memory for one
 /// line buffer before the first read.
 pub fn run_convert<S: Source, K: Sink, L: Ledger>(
@@ -130,10 +162,25 @@ pub fn run_convert<S: Source, K: Sink, L: Ledger>(
     run_rule(alloc, MAX_LIMIT, rule, source, sink, steps)
 }
 
+/// Answers a constants file of at most 1,048,576 bytes with its text in a form, or with its first fault.
+fn run_constants<S: Source, K: Sink, L: Ledger>(
+    alloc: Global,
+    rule: &FormRule<'_>,
+    source: &mut S,
+    sink: &mut K,
+    steps: &mut Steps<L>,
+) -> Status
+    ensures run { IsWholeRun (IsFormAnswer rule.now.form rule.now.guard.now) max_whole (outside (S.left source.old) (S.asked source.old) (S.failures source.old) (K.written sink.old) (K.failures sink.old) steps.old)
+        (outside (S.left source.new) (S.asked source.new) (S.failures source.new) (K.written sink.new) (K.failures sink.new) steps.new) result }
+    ensures memory { result ≡ Status.NoMemory → sink.new ≡ sink.old }
+{
+    run_whole_rule(alloc, MAX_WHOLE, rule, source, sink, steps)
+}
+
 /// Does a task with an input.
 pub fn run_task<S: Source, K: Sink, L: Ledger>(
     alloc: Global,
-    task: &Task,
+    task: &Task<'_>,
     source: &mut S,
     sink: &mut K,
     steps: &mut Steps<L>,
@@ -143,14 +190,14 @@ pub fn run_task<S: Source, K: Sink, L: Ledger>(
     ensures memory { result ≡ Status.NoMemory → sink.new ≡ sink.old }
 {
     match task {
-        Task::Lines(limit) => run_rule(alloc, limit.bytes(), &RespellRule, source, sink, steps),
+        Task::Lines(limit) => run_words(alloc, limit, source, sink, steps),
         Task::Convert(rule) => run_convert(alloc, rule, source, sink, steps),
-        Task::Enclose => run_rule(alloc, MAX_LIMIT, &EncloseRule, source, sink, steps),
+        Task::Enclose => run_enclosures(alloc, source, sink, steps),
         Task::Least(radix) => {
             let rule = LeastRule { radix: *radix };
             run_whole_rule(alloc, MAX_WHOLE, &rule, source, sink, steps)
         }
-        Task::Constants => { run_whole_rule(alloc, MAX_WHOLE, &ConstantsRule, source, sink, steps) }
+        Task::Constants(rule) => run_constants(alloc, rule, source, sink, steps),
         Task::Columns(limit) => {
             run_whole_rule(alloc, limit.bytes(), &ColumnsRule, source, sink, steps)
         }

@@ -23,7 +23,7 @@ use std::sync::ledger::Ledger;
 const USAGE: &[u8] = b"usage: constants_tool [c [GUARD] | rust]\n";
 
 /// Whether a word can guard a header: it is a name, and C does not reserve it.
-fn is_guard(word: &[u8]) -> bool
+pub fn is_guard(word: &[u8]) -> bool
     ensures { IsTrue result ↔ IsGuard word.now }
 {
     is_name(word) && !is_reserved(Form::C, b"", word)

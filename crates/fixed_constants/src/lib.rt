@@ -22,7 +22,7 @@ pub use constant::{Constant, Constants};
 pub use constants::read_constants;
 pub use fault::{ConstantFault, ConstantsError};
 pub use form::Form;
-pub use form_program::run_forms;
+pub use form_program::{is_guard, run_forms};
 pub use form_rule::FormRule;
 pub use no_memory::NoMemory;
 pub use program::run_constants;

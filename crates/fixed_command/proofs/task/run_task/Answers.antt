@@ -1,31 +1,27 @@
 use Rattle.std.proofs.Common.{◌≡◌, ℕ, subst}
 use Rattle.line_engine.specs.Program.{Outside}
 use Rattle.line_engine.specs.declared.status.Status.{Status}
-use Rattle.fixed_respell.specs.Answer.{IsAnswer}
 use Rattle.fixed_columns.specs.Answer.{IsWholeAnswer}
-use Rattle.fixed_command.specs.Runs.{HasLineRun, IsWholeRun}
+use Rattle.fixed_command.specs.Runs.{IsWholeRun}
 use Rattle.fixed_command.proofs.task.run_task.Goals as goal
 
-limited : (limit bytes : ℕ) (before after : Outside) (status : Status) → bytes ≡ limit → HasLineRun IsAnswer bytes 8 624 before after status → HasLineRun IsAnswer limit 8 624 before after status
-limited limit bytes before after status same runs = subst (λ n. HasLineRun IsAnswer n 8 624 before after status) same runs
-
 pub returns-in-Lines-clause-run : goal.returns-in-Lines-clause-run
-returns-in-Lines-clause-run g c = rw c.in-Lines.is (limited _ _ _ _ _ c.bytes.ensures.value c.run_rule.ensures.run)
+returns-in-Lines-clause-run g c = rw c.in-Lines.is c.run_words.ensures.run
 
 pub returns-in-Convert-clause-run : goal.returns-in-Convert-clause-run
 returns-in-Convert-clause-run g c = rw c.in-Convert.is c.run_convert.ensures.run
 
 pub returns-in-Enclose-clause-run : goal.returns-in-Enclose-clause-run
-returns-in-Enclose-clause-run g c = rw c.in-Enclose.is c.run_rule-in-Enclose.ensures.run
+returns-in-Enclose-clause-run g c = rw c.in-Enclose.is c.run_enclosures.ensures.run
 
 pub returns-in-Least-clause-run : goal.returns-in-Least-clause-run
 returns-in-Least-clause-run g c = rw c.in-Least.is c.run_whole_rule.ensures.run
 
 pub returns-in-Constants-clause-run : goal.returns-in-Constants-clause-run
-returns-in-Constants-clause-run g c = rw c.in-Constants.is c.run_whole_rule-in-Constants.ensures.run
+returns-in-Constants-clause-run g c = rw c.in-Constants.is c.run_constants.ensures.run
 
 column : (limit bytes : ℕ) (before after : Outside) (status : Status) → bytes ≡ limit → IsWholeRun IsWholeAnswer bytes before after status → IsWholeRun IsWholeAnswer limit before after status
 column limit bytes before after status same runs = subst (λ n. IsWholeRun IsWholeAnswer n before after status) same runs
 
 pub returns-in-Columns-clause-run : goal.returns-in-Columns-clause-run
-returns-in-Columns-clause-run g c = rw c.in-Columns.is (column _ _ _ _ _ c.bytes-in-Columns.ensures.value c.run_whole_rule-in-Columns.ensures.run)
+returns-in-Columns-clause-run g c = rw c.in-Columns.is (column _ _ _ _ _ c.bytes.ensures.value c.run_whole_rule-in-Columns.ensures.run)

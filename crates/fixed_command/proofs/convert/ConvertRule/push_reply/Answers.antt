@@ -1,7 +1,7 @@
-use Rattle.std.proofs.Common.{◌≡◌, ◌+◌, ◌≤◌, ◌<◌, ◌++◌, List, ℕ, ℤ, FitsSigned, [], length, rules, arith, ap, subst, true, false, length-append}
+use Rattle.std.proofs.Common.{◌≡◌, ◌∙◌, ◌↔◌, ◌≤◌, ◌<◌, ◌++◌, Bool, IsTrue, sym, true≢false, List, ℕ, ℤ, FitsSigned, length, rules, arith, ap, subst, true, false, length-append}
 use Rattle.std.specs.Int.{w128}
 use Rattle.std.proofs.lemmas.Int.{to_z-of_z}
-use Rattle.fixed_bits.specs.Ranges.{IsInRange, IsWide}
+use Rattle.fixed_bits.specs.Ranges.{IsInRange}
 use Rattle.fixed_numeral.specs.Messages.{message_of}
 use Rattle.fixed_numeral.proofs.Public.{message_short}
 use Rattle.fixed_respell.proofs.Public.{fault_appended}
@@ -12,17 +12,21 @@ use Rattle.fixed_respell.specs.declared.fault.LineFault.TheVariants.{LineTooLong
 use Rattle.line_engine.specs.Output.{AppendsAnswer}
 use Rattle.fixed_command.specs.Convert.{IsReply, asking_line, printed}
 use Rattle.fixed_command.specs.declared.convert.Settings.{Settings}
-use Rattle.fixed_command.specs.Lemmas.ReplyLemmas.{asking_length, long_reply}
-use Rattle.fixed_command.proofs.AskingLemmas.{AreFormats, refused_reply, respelled_range, respelled_reply}
+use Rattle.fixed_command.specs.Lemmas.ReplyLemmas.{long_reply}
+use Rattle.fixed_command.proofs.AskingLemmas.{refused_reply, respelled_range, respelled_reply}
 use Rattle.fixed_command.proofs.convert.ConvertRule.push_reply.Goals as goal
 
-pub returns-then-numeral-self-clause-reply : goal.returns-then-numeral-self-clause-reply
-returns-then-numeral-self-clause-reply g c =
-    let s = c.self.inside.settings in
+not_longer : (long : Bool) (most n : ℕ) → (IsTrue long ↔ most < n) → long ≡ false → n ≤ most
+not_longer long most n means short =
+    let no : ¬ (most < n) = λ more. absurd (true≢false (sym (means.1 more) ∙ short)) in
+    omega (arith, no)
+
+pub returns-then-is_too_long-clause-reply : goal.returns-then-is_too_long-clause-reply
+returns-then-is_too_long-clause-reply g c =
+    let s = c.args.self.now in
     let message : List ℕ = fault_message LineTooLong in
-    let long : longest_line < length (asking_line s c.args.numeral.now) = omega (arith, c.if-numeral-self.true, c.self.invariant.2, c.self.invariant.3, asking_length s c.args.numeral.now) in
-    let P : Settings → Type 0 = λ t. AppendsAnswer (IsReply t) 192 c.args.numeral.now c.args.out.now c.push_fault.new.out true in
-    subst P c.self.view_is (fault_appended (IsReply s) c.args.numeral.now c.args.out.now c.push_fault.new.out message (omega arith) (long_reply s c.args.numeral.now long) (rw c.words.ensures at c.push_fault.ensures))
+    let long : longest_line < length (asking_line s c.args.numeral.now) = c.is_too_long.ensures.0 c.if-is_too_long.true in
+    fault_appended (IsReply s) c.args.numeral.now c.args.out.now c.push_fault.new.out message (omega arith) (long_reply s c.args.numeral.now long) (rw c.words.ensures at c.push_fault.ensures)
 
 pub push_part-requires : goal.push_part-requires
 push_part-requires g c =
@@ -40,7 +44,7 @@ returns-in-Ok-clause-reply g c =
     let fits : FitsSigned w128 number = search rules in
     let text : List ℕ = printed s.print s.target.width (respelled_answer found.text number found.overflowed).text found.text number in
     let appended : c.push_part.new.out ≡ c.args.out.now ++ text = rw (to_z-of_z w128 number fits, c.as_bytes.ensures.bytes) at c.push_part.ensures.appended in
-    let short : length (asking_line s c.args.numeral.now) ≤ longest_line = omega (arith, c.if-numeral-self.false, c.self.invariant.2, c.self.invariant.3, asking_length s c.args.numeral.now) in
+    let short : length (asking_line s c.args.numeral.now) ≤ longest_line = subst (λ t. length (asking_line t c.args.numeral.now) ≤ longest_line) (sym c.self.view_is) (not_longer _ _ _ c.is_too_long.ensures c.if-is_too_long.false) in
     let P : Settings → Type 0 = λ t. AppendsAnswer (IsReply t) 192 c.args.numeral.now c.args.out.now c.push_part.new.out false in
     subst P c.self.view_is (record {
       text = text;
@@ -54,7 +58,7 @@ pub returns-in-Err-clause-reply : goal.returns-in-Err-clause-reply
 returns-in-Err-clause-reply g c =
     let s = c.self.inside.settings in
     let message : List ℕ = message_of c.in-Err.error in
-    let short : length (asking_line s c.args.numeral.now) ≤ longest_line = omega (arith, c.if-numeral-self.false, c.self.invariant.2, c.self.invariant.3, asking_length s c.args.numeral.now) in
-    let P : Settings → Type 0 = λ t. AppendsAnswer (IsReply t) 192 c.args.numeral.now c.args.out.now c.push_fault-in-Err.new.out true in
+    let short : length (asking_line s c.args.numeral.now) ≤ longest_line = subst (λ t. length (asking_line t c.args.numeral.now) ≤ longest_line) (sym c.self.view_is) (not_longer _ _ _ c.is_too_long.ensures c.if-is_too_long.false) in
+    let P : Settings → Type 0 = λ t. AppendsAnswer (IsReply t) 192 c.args.numeral.now c.args.out.now c.push_refusal.new.out true in
     let answer = refused_reply s c.args.numeral.now c.in-Err.error (record { source = c.self.invariant.0; target = c.self.invariant.1 }) short c.in-Err.ensures.refused in
-    subst P c.self.view_is (fault_appended (IsReply s) c.args.numeral.now c.args.out.now c.push_fault-in-Err.new.out message (message_short c.in-Err.error) answer (rw c.message.ensures at c.push_fault-in-Err.ensures))
+    subst P c.self.view_is (fault_appended (IsReply s) c.args.numeral.now c.args.out.now c.push_refusal.new.out message (message_short c.in-Err.error) answer c.push_refusal.ensures)

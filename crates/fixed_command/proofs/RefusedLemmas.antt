@@ -1,0 +1,48 @@
+-- Words that are passed over one after another, since none of them is refused.
+use Rattle.std.proofs.Common.{◌≡◌, ℕ, ◌+◌, ◌==◌, Bool, map, List, [], ◌∷◌, ◌++◌, true, length, arith, refl, sym, ap, ◌∙◌, subst, append_assoc, append-nil, length-append}
+use Rattle.std.specs.Prelude.{All}
+use Rattle.std.proofs.lemmas.Bool.{eqb-true}
+use Rattle.std.proofs.lemmas.List.Elements.{All-append, All-cons, All-nil}
+use Rattle.fixed_command.specs.Blocks.{IsBlock}
+use Rattle.fixed_command.specs.Refused.{IsClean, IsFirstRefused}
+use Rattle.fixed_command.specs.declared.blocks.Question.{Question}
+
+-- so many words are passed over, and the others are left
+pub record HasPassed (q : Question) (words rest : List (List ℕ)) (place : ℕ) : Type 0 where
+  pub some : List (List ℕ)
+  pub cut : words ≡ some ++ rest
+  pub counted : length some ≡ place
+  pub clean : All (IsClean q) some
+
+pub none_passed : (q : Question) (words : List (List ℕ)) → HasPassed q words words 0
+none_passed q words = record { some = []; cut = refl; counted = refl; clean = All-nil (IsClean q) }
+
+pub one_passed : (q : Question) (words rest : List (List ℕ)) (word : List ℕ) (place : ℕ) → HasPassed q words (word ∷ rest) place → IsClean q word → HasPassed q words rest (place + 1)
+one_passed q words rest word place so_far clean = record {
+  some = so_far.some ++ word ∷ [];
+  cut = so_far.cut ∙ sym (append_assoc so_far.some (word ∷ []) rest);
+  counted = length-append so_far.some (word ∷ []) ∙ ap (λ n. n + 1) so_far.counted;
+  clean = All-append (IsClean q) so_far.some (word ∷ []) so_far.clean (All-cons (IsClean q) word [] clean (All-nil (IsClean q)));
+}
+
+pub all_passed : (q : Question) (words : List (List ℕ)) (place : ℕ) → HasPassed q words [] place → All (IsClean q) words
+all_passed q words place so_far = subst (All (IsClean q)) (sym (so_far.cut ∙ append-nil so_far.some)) so_far.clean
+
+pub stopped : (q : Question) (words rest : List (List ℕ)) (word block : List ℕ) (place : ℕ) → HasPassed q words (word ∷ rest) place → IsBlock q word (record { text = block; fault = true }) → IsFirstRefused q words place block
+stopped q words rest word block place so_far refused = record {
+  some = so_far.some;
+  word = word;
+  more = rest;
+  cut = so_far.cut;
+  counted = so_far.counted;
+  clean = so_far.clean;
+  refused = refused;
+}
+
+-- ---- what a call that answers one word leaves
+pub as_block : (q : Question) (word text out : List ℕ) (result fault : Bool) → IsBlock q word (record { text = text; fault = result }) → out ≡ text → result ≡ fault → IsBlock q word (record { text = out; fault = fault })
+as_block q word text out result fault is same flag = subst (λ t. IsBlock q word (record { text = t; fault = fault })) (sym same) (subst (λ b. IsBlock q word (record { text = text; fault = b })) flag is)
+
+pub none_left : {X : Type 0} (f : X → List ℕ) (xs : List X) → true ≡ (length xs == 0) → map f xs ≡ []
+none_left f [] none = refl
+none_left f (x ∷ xs) none = absurd (omega (arith, eqb-true (length (x ∷ xs)) 0 (sym none)))
