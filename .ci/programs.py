@@ -9,6 +9,7 @@ import argparse
 import os
 import random as random_module
 import resource
+import signal
 import subprocess
 import sys
 import tempfile
@@ -39,8 +40,18 @@ RUNS = {
         (["enclose"], b"10 I4F4 3.14\n", 0, b"3.1 50 3.2 51 wide\n"),
         (["least"], b"0.5\n3\n", 0, b"least U7F1\nU8F0 line 1\n"),
         (["least", "16"], b"ff\n", 0, b"least U8F0\n"),
+        (["least", "9x"], b"", 3, b""),
+        (["enclose", "no\nfile"], b"", 3, b""),
         (["constants"], b"A = 0b_111e-2 I4F4\n", 0, b"A = 0x1.c I4F4\n"),
+        (["constants", "c"], b"A = 1.75 I4F4\n", 0, b"#include <stdint.h>\n\n#define A INT8_C(0x1c) /* I4F4, 1.75 */\n"),
+        (["constants", "c", "A_H"], b"A = 1.75 I4F4\n", 0,
+         b"#ifndef A_H\n#define A_H\n\n#include <stdint.h>\n\n#define A INT8_C(0x1c) /* I4F4, 1.75 */\n\n#endif\n"),
+        (["constants", "c", "A"], b"A = 1.75 I4F4\n", 1, b"error: line 1: bad name\n"),
+        (["constants", "rust"], b"A = 1.75 I4F4\n", 0, b"pub const A: FixedI8<4> = FixedI8::from_bits(0x1c);\n"),
         (["columns"], b"0.5 U7F1\n-1 I8F0\n", 0, b" " * 22 + b"-1 I8F0\n" + b" " * 21 + b"0.5 U7F1\n"),
+        (["columns", "limit", "7"], b"1 U8F0\n", 0, b" " * 23 + b"1 U8F0\n"),
+        (["columns", "limit", "6", "-"], b"1 U8F0\n", 6, b""),
+        (["columns", "--limit", "6"], b"1 U8F0\n", 6, b""),
         (["show", "I16F16", "3.14159", "-0.1"], b"", 0, None),
         (["show", "U8F0", "300"], b"", 1, b"error: overflow\n"),
         (["bits", "I16F16", "0xfffc0000", "7x"], b"", 1,
@@ -100,7 +111,10 @@ BAD_WORDS = {
     "fixed": (
         [], [b"converts"], [b"convert"], [b"convert", b"I9F0"], [b"convert", b"U8F0", b"U9F0"], [b"convert", b"U8F0", b"--radix", b"7"],
         [b"convert", b"U8F0", b"--mode"], [b"convert", b"U8F0", b"--print", b"text", b"--print", b"bits"], [b"lines", b"--limit", b"0"],
-        [b"lines", b"--limits", b"5"], [b"enclose", b"--radix", b"2"],
+        [b"lines", b"--limits", b"5"], [b"lines", b"--limit", b"5", b"--limit", b"6"], [b"enclose", b"--radix", b"2"],
+        [b"constants", b"c", b"int"], [b"constants", b"c", b"9"], [b"columns", b"limit"], [b"columns", b"limit", b"07"],
+        [b"columns", b"limit", b"0"], [b"columns", b"limit", b"4294967297"], [b"columns", b"--limit", b"5", b"limit", b"7"],
+        [b"convert", b"U8F0", b"--mode", b"ceil", b"--mode", b"floor"], [b"format", b"U8F0\n\nU8F1"], [b"con\nvert"],
         [b"show", b"U8F0"], [b"show", b"U8F1", b"1"], [b"bits", b"I16F16"], [b"format", b"U8F0", b"X"],
     ),
     "fixed_tool": ([b"limits"], [b"limit"], [b"limit", b"05"], [b"limit", b"0"], [b"self", b"0"], [b"self", b"1000001"], [b"limit", b"5", b""]),
@@ -115,6 +129,14 @@ GROWING = {
     "least_tool": ([], b"0.1\n" * 50_000),
     "constants_tool": ([], b"".join(b"N%d = 0x1.8 I32F32\n" % i for i in range(40_000))),
     "columns_tool": ([], b"".join(b"%d.5 I32F32\n" % i for i in range(60_000))),
+}
+# Words and an input whose answers are longer than a pipe holds.
+LONG = {
+    "fixed": (["convert", "I16F16"], b"3.14159\n" * 200_000),
+    "fixed_tool": ([], b"10 I16F16 I16F16 checked 3.14159\n" * 50_000),
+    "enclose_tool": ([], b"10 I16F16 3.14159\n" * 50_000),
+    "constants_tool": GROWING["constants_tool"],
+    "columns_tool": GROWING["columns_tool"],
 }
 # A literal, its format, the type of C and the bits: the ends of each width, and values between them.
 NUMBERS = (
@@ -140,13 +162,16 @@ class Runs:
         if ran.returncode != status or (output is not None and ran.stdout != output):
             self.wrong += 1
             print(f"{self.name}, {what}: status {ran.returncode}, not {status}; {ran.stdout!r:.200}, not {output!r:.200}")
-        if not self.is_told(status, ran.stderr, (ran.stdout or b"").count(b"\n")):
+        if not self.is_told(status, words, ran.stderr, (ran.stdout or b"").count(b"\n")):
             self.wrong += 1
             print(f"{self.name}, {what}: status {status}, and on standard error {ran.stderr!r:.200}")
 
-    def is_told(self, status, told, answered):
+    def is_told(self, status, words, told, answered):
         """Whether standard error has what it must: one line that begins with the program's name and ends with the count of the
-        lines that were answered, or nothing. (`fixed` says it of each input, so its count may be of fewer.)"""
+        lines that were answered, or nothing. (`fixed` says it of each input, so its count may be of fewer, and names the first word
+        that it refuses.)"""
+        if self.name == "fixed" and status == 1 and words[0] in ("show", "bits", "format"):
+            return told.count(b"\n") == 1 and any(told.startswith(f"fixed: {word}: ".encode()) for word in words[1:])
         if status < (2 if self.name == "fixed" else 3):
             return told == b""
         end = b"\n" if self.name == "fixed" else f", lines answered: {answered}\n".encode()
@@ -164,10 +189,43 @@ class Runs:
         with open("/dev/full", "wb") as full:
             self.one("a full device", clean[0], 4, None, input=clean[1], stdout=full)
         self.one("no memory", clean[0], 5, b"", input=clean[1], preexec_fn=within(600_000))
+        if self.name in LONG:
+            self.outputs(*LONG[self.name])
         if self.name == "fixed":
             self.files()
         if self.name in GROWING:
             self.without_memory(*GROWING[self.name])
+
+    def outputs(self, words, given):
+        """Outputs that end early: a pipe that nobody reads, one whose reader goes away, and a disk that is full after some bytes."""
+        whole = subprocess.run([self.path, *words], input=given, stdout=subprocess.PIPE, check=False, timeout=120).stdout
+        read, write = os.pipe()
+        os.close(read)
+        self.one("a closed pipe", words, 4, None, input=given, stdout=write)
+        os.close(write)
+        with tempfile.TemporaryDirectory() as folder:
+            source, disk = f"{folder}/source", f"{folder}/disk"
+            with open(source, "wb") as file:
+                file.write(given)
+            with open(source, "rb") as file, open(disk, "wb") as full:
+                how = {"stdin": file, "stdout": full, "stderr": subprocess.PIPE, "preexec_fn": on_disk_of(100_000)}
+                ran = subprocess.run([self.path, *words], check=False, timeout=120, **how)
+            with open(disk, "rb") as full:
+                self.early("a full disk", ran.returncode, ran.stderr, full.read(), whole[:100_000])
+            with open(source, "rb") as file:
+                how = {"stdin": file, "stdout": subprocess.PIPE, "stderr": subprocess.PIPE}
+                with subprocess.Popen([self.path, *words], **how) as begun:
+                    got = begun.stdout.read(10_000)
+                    begun.stdout.close()
+                    told = begun.stderr.read()
+            self.early("a broken pipe", begun.returncode, told, got, whole[:10_000])
+
+    def early(self, what, status, told, got, wanted):
+        """Whether a run whose output ended early says so in one line, and has lost nothing of what went out before."""
+        self.tried += 1
+        if status != 4 or told.count(b"\n") != 1 or not told.startswith(f"{self.name}: a write failed".encode()) or got != wanted:
+            self.wrong += 1
+            print(f"{self.name}, {what}: status {status}, {told!r:.200}, {len(got)} bytes arrived of {len(wanted)}")
 
     def without_memory(self, words, given):
         """Runs with more and more memory, until there is enough: each run that finds too little writes nothing."""
@@ -225,6 +283,9 @@ class Runs:
             self.one("a file past the limit", ["lines", "--limit", "3", clean, faulty], 6, b"error: missing field\n" * 2)
             with open("/dev/full", "wb") as full:
                 self.one("a full device", [*convert, clean, faulty], 4, None, stdout=full)
+            for words in (["show", "U8F8", "1"], ["bits", "U8F8", "1"], ["format", "U8F8"], ["--help"]):
+                with open("/dev/full", "wb") as full:
+                    self.one(f"a full device for {words}", words, 4, None, stdout=full)
 
 
 # How `fixed convert` is compared with fixed_tool: radix, source, target, policy, mode.
@@ -267,6 +328,14 @@ def compared(built):
         same = one.returncode == other.returncode and one.stdout == other.stdout
         differing += 0 if same else sum(a != b for a, b in zip(one.stdout.split(b"\n"), other.stdout.split(b"\n"))) or 1
     return differing, NUMERALS * len(SETTINGS)
+
+
+def on_disk_of(most):
+    """Leaves a process a disk with this many bytes."""
+    def limit():
+        signal.signal(signal.SIGXFSZ, signal.SIG_IGN)
+        resource.setrlimit(resource.RLIMIT_FSIZE, (most, most))
+    return limit
 
 
 def within(most):

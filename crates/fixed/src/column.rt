@@ -24,7 +24,7 @@ pub fn column<'a>(alloc: Global) -> Result<Command<'a>, AllocError> {
     let header = Arg::new(alloc, "header")
         .long("header")
         .action(ArgAction::SetTrue)
-        .help("The first record is a header; COLUMN may be a name of it");
+        .help("The first record is a header that may name COLUMN");
     let keep = Arg::new(alloc, "keep")
         .long("keep")
         .action(ArgAction::SetTrue)

@@ -74,7 +74,7 @@ pub fn with_reading<'a>(alloc: Global, command: Command<'a>) -> Result<Command<'
         "MODE",
         &["nearest", "floor", "ceil", "zero"],
         "nearest",
-        "How a numeral is rounded: nearest (default), floor, ceil, zero",
+        "How it is rounded: nearest (default), floor, ceil, zero",
     );
     command.arg(radix)?.arg(policy)?.arg(mode)
 }
@@ -92,14 +92,13 @@ pub fn print<'a>(alloc: Global) -> Arg<'a> {
 }
 
 /// The option that names the most bytes of an input.
-fn limit<'a>(alloc: Global, default: &'a str) -> Arg<'a> {
+fn limit<'a>(alloc: Global, help: &'a str) -> Arg<'a> {
     Arg::new(alloc, "limit")
         .long("limit")
         .value_name("N")
         .action(ArgAction::Set)
         .value_parser(ValueParser::unsigned(1, MAX_LIMIT))
-        .default_value(default)
-        .help("The most bytes of an input")
+        .help(help)
 }
 
 /// `fixed lines`.
@@ -107,7 +106,7 @@ fn lines<'a>(alloc: Global) -> Result<Command<'a>, AllocError> {
     Ok(
         Command::new(alloc, "lines")
             .about("Answer lines `RADIX SOURCE TARGET POLICY NUMERAL`")
-            .arg(limit(alloc, "4294967296"))?
+            .arg(limit(alloc, "The most bytes of an input [default: 4294967296]"))?
             .arg(files(alloc))?
             .after_help("Example: echo '10 I16F16 I8F8 checked 3.14159' | fixed lines"),
     )
@@ -156,9 +155,14 @@ fn least<'a>(alloc: Global) -> Result<Command<'a>, AllocError> {
 fn constants<'a>(alloc: Global) -> Result<Command<'a>, AllocError> {
     Ok(
         Command::new(alloc, "constants")
-            .about("Write a file of named literals in its one canonical form")
-            .arg(files(alloc))?
-            .after_help("Example: echo 'A = 0b_111e-2 I4F4' | fixed constants"),
+            .about("Write named literals in one form, as a C header or as Rust")
+            .override_usage("fixed constants [c [GUARD] | rust] [FILE]...")
+            .arg(words(
+                alloc,
+                "FORM",
+                "c and the name that guards a header, rust; and files",
+            ))?
+            .after_help("Example: echo 'A = 0b_111e-2 I4F4' | fixed constants c A_H"),
     )
 }
 
@@ -167,8 +171,13 @@ fn columns<'a>(alloc: Global) -> Result<Command<'a>, AllocError> {
     Ok(
         Command::new(alloc, "columns")
             .about("Sort lines `NUMERAL FORMAT` by value, in one aligned column")
-            .arg(limit(alloc, "1048576"))?
-            .arg(files(alloc))?
+            .override_usage("fixed columns [limit N | --limit N] [FILE]...")
+            .arg(limit(alloc, "The most bytes of an input [default: 1048576]"))?
+            .arg(words(
+                alloc,
+                "LIMIT",
+                "limit and a number, as the option; and files",
+            ))?
             .after_help("Example: printf '0.5 U7F1\\n-1 I8F0\\n' | fixed columns"),
     )
 }

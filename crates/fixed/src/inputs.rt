@@ -1,7 +1,7 @@
 //! A task done with each input, one after another, and a question asked of each word.
 
-use crate::messages::place_of;
-use fixed_command::{Question, Task, greater_end, run_blocks, run_task};
+use crate::messages::{place_of, refuse_file, report_refused};
+use fixed_command::{Question, Task, first_refused, greater_end, run_blocks, run_task};
 use fixed_io::{StdSink, StdSource, report_end};
 use fixed_steps::Steps;
 use line_engine::Status;
@@ -12,7 +12,7 @@ use std::sync::ledger::Ledger;
 /// Does a task with one input, and says on standard error why it did not end well.
 fn run_input<R: Read + Drop, L: Ledger>(
     rt: &HostRuntime,
-    task: &Task,
+    task: &Task<'_>,
     file: Option<&str>,
     reader: R,
     sink: &mut StdSink<Stdout>,
@@ -29,7 +29,7 @@ fn run_input<R: Read + Drop, L: Ledger>(
 /// Does a task with a file, or with standard input where its name is `-`.
 fn run_file<L: Ledger>(
     rt: &HostRuntime,
-    task: &Task,
+    task: &Task<'_>,
     file: &str,
     sink: &mut StdSink<Stdout>,
     steps: &mut Steps<L>,
@@ -39,11 +39,7 @@ fn run_file<L: Ledger>(
     }
     match File::open(rt, file) {
         Ok(reader) => run_input(rt, task, Some(file), reader, sink, steps),
-        Err(error) => {
-            let answered = sink.lines();
-            let _ = eprintln!(rt; "fixed: {file}: {error}, lines answered: {answered}");
-            Status::ReadFault
-        }
+        Err(error) => refuse_file(rt, file, &error, sink.lines()),
     }
 }
 
@@ -56,7 +52,7 @@ fn is_last(status: Status) -> bool {
 /// with the greatest code, and at once where a write failed or memory is wanting.
 pub fn run_inputs<L: Ledger>(
     rt: &HostRuntime,
-    task: &Task,
+    task: &Task<'_>,
     files: &[&str],
     steps: &mut Steps<L>,
 ) -> Status {
@@ -75,7 +71,7 @@ pub fn run_inputs<L: Ledger>(
     end
 }
 
-/// Asks a question of each word.
+/// Asks a question of each word. Where one is refused, standard error names the first that is.
 pub fn run_question<L: Ledger>(
     rt: &HostRuntime,
     question: &Question,
@@ -86,5 +82,11 @@ pub fn run_question<L: Ledger>(
     let status = run_blocks(question, words, &mut sink, steps);
     let mut errors = StdSink::new(rt.stderr());
     report_end(b"fixed", status.code(), sink.lines(), &mut errors);
+    if status == Status::Faults {
+        if let Some(refused) = first_refused(question, words, steps) {
+            let word = words.get(refused.place).copied();
+            report_refused(rt, word, refused.block.as_bytes());
+        }
+    }
     status
 }

@@ -6,8 +6,10 @@ use clap::error::ErrorKind;
 use clap::{ArgMatches, Error};
 use fixed_bits::{Format, Policy, ReadMode};
 use fixed_command::{ColumnConversion, ConvertRule, Limit, Print, Question, Settings, Task};
+use fixed_constants::{Form, FormRule, is_guard};
 use fixed_numeral::Radix;
 use fixed_respell::{format_word, radix_word};
+use line_engine::{MAX_LIMIT, MAX_WHOLE};
 use std::alloc::{AllocError, Global};
 
 /// What a command line asks for.
@@ -16,7 +18,7 @@ pub enum Request<'a> {
     /// A text for standard output: help, or the version.
     Text(String),
     /// A task, done with each of these files; with standard input where there are none.
-    Run(Task, Vec<&'a str>),
+    Run(Task<'a>, Vec<&'a str>),
     /// One column of each of these files converted.
     Column(ColumnConversion, Vec<&'a str>),
     /// A question, asked of each of these words.
@@ -68,6 +70,11 @@ fn text_of<'a>(alloc: Global, error: &Error) -> Asked<Request<'a>> {
     } else {
         Ok(Request::Text(text))
     }
+}
+
+/// A refusal for this reason.
+fn refused(alloc: Global, why: &str) -> Result<Refusal, AllocError> {
+    Ok(Refusal::Words(String::from_str(alloc, why)?))
 }
 
 /// The words of an argument, none where it is absent.
@@ -138,12 +145,22 @@ fn print_of(matches: &ArgMatches<'_>) -> Print {
     }
 }
 
-/// The limit that the option names.
-fn limit_of(alloc: Global, matches: &ArgMatches<'_>) -> Asked<Limit> {
-    let limit = matches.get_one::<u64>("limit").unwrap_or(0);
-    match Limit::new(limit) {
+/// The limit of this many bytes.
+fn limit_of(alloc: Global, bytes: u64) -> Asked<Limit> {
+    match Limit::new(bytes) {
         Some(limit) => Ok(limit),
-        None => Err(Refusal::Words(format!(in alloc; "{limit} is no limit")?)),
+        None => Err(Refusal::Words(format!(in alloc; "{bytes} is no limit")?)),
+    }
+}
+
+/// The limit of the word after `limit`: a number in decimal, without a sign or a leading zero.
+fn limit_word(alloc: Global, word: &str) -> Asked<Limit> {
+    let is_plain = !word.starts_with('0') && !word.starts_with('+');
+    match word.parse::<u64>() {
+        Ok(bytes) if is_plain && bytes <= MAX_LIMIT => limit_of(alloc, bytes),
+        _ => Err(Refusal::Words(format!(in alloc;
+            "'{word}' is no limit: it is a number from 1 to {MAX_LIMIT}"
+        )?)),
     }
 }
 
@@ -196,8 +213,83 @@ fn least<'a>(alloc: Global, matches: &ArgMatches<'a>) -> Asked<Request<'a>> {
 }
 
 /// What a command whose other words are files asks for.
-fn plain<'a>(alloc: Global, task: Task, matches: &ArgMatches<'a>) -> Asked<Request<'a>> {
+fn plain<'a>(alloc: Global, task: Task<'a>, matches: &ArgMatches<'a>) -> Asked<Request<'a>> {
     Ok(Request::Run(task, words_of(alloc, matches.get_strs("FILE"))?))
+}
+
+/// What `fixed lines` asks for.
+fn lines<'a>(alloc: Global, matches: &ArgMatches<'a>) -> Asked<Request<'a>> {
+    let limit = limit_of(alloc, matches.get_one::<u64>("limit").unwrap_or(MAX_LIMIT))?;
+    plain(alloc, Task::Lines(limit), matches)
+}
+
+/// Whether a word has letters, digits and `_` alone. A file of such a name is written `./A`.
+fn is_like_name(word: &str) -> bool {
+    !word.is_empty()
+        && word
+            .as_bytes()
+            .iter()
+            .all(|b| b.is_ascii_alphanumeric() || *b == b'_')
+}
+
+/// What asks for these files of constants in a form.
+fn form<'a>(alloc: Global, form: Form, guard: &'a str, files: &[&'a str]) -> Asked<Request<'a>> {
+    let rule = FormRule {
+        form,
+        guard: guard.as_bytes(),
+    };
+    Ok(Request::Run(Task::Constants(rule), words_of(alloc, Some(files))?))
+}
+
+/// What `fixed constants c` asks for: a first word that is like a name is the guard.
+fn header<'a>(alloc: Global, words: &[&'a str]) -> Asked<Request<'a>> {
+    match words {
+        [guard, files @ ..] if is_like_name(guard) => {
+            if is_guard(guard.as_bytes()) {
+                form(alloc, Form::C, guard, files)
+            } else {
+                Err(Refusal::Words(format!(in alloc;
+                    "'{guard}' can guard no header: it is no name, or C reserves it"
+                )?))
+            }
+        }
+        _ => form(alloc, Form::C, "", words),
+    }
+}
+
+/// What `fixed constants` asks for: a first word that names a form is one. A file of such a name is written `./c`.
+fn constants<'a>(alloc: Global, matches: &ArgMatches<'a>) -> Asked<Request<'a>> {
+    let words = matches.get_strs("FORM").unwrap_or(&[]);
+    match words {
+        [first, rest @ ..] if *first == "c" => header(alloc, rest),
+        [first, rest @ ..] if *first == "rust" => form(alloc, Form::Rust, "", rest),
+        _ => form(alloc, Form::Canonical, "", words),
+    }
+}
+
+/// The limit that the words of `columns` or its option name, and the files. A first word `limit` has a number after it; a file
+/// of such a name is written `./limit`.
+fn limit_and_files<'w, 'a>(
+    alloc: Global,
+    option: Option<u64>,
+    words: &'w [&'a str],
+) -> Asked<(Limit, &'w [&'a str])> {
+    match words {
+        [first] if *first == "limit" => Err(refused(alloc, "there is no number after 'limit'")?),
+        [first, ..] if *first == "limit" && option.is_some() => Err(refused(
+            alloc,
+            "the words 'limit N' and the option '--limit' exclude each other",
+        )?),
+        [first, number, files @ ..] if *first == "limit" => Ok((limit_word(alloc, number)?, files)),
+        _ => Ok((limit_of(alloc, option.unwrap_or(MAX_WHOLE))?, words)),
+    }
+}
+
+/// What `fixed columns` asks for.
+fn columns<'a>(alloc: Global, matches: &ArgMatches<'a>) -> Asked<Request<'a>> {
+    let words = matches.get_strs("LIMIT").unwrap_or(&[]);
+    let (limit, files) = limit_and_files(alloc, matches.get_one::<u64>("limit"), words)?;
+    Ok(Request::Run(Task::Columns(limit), words_of(alloc, Some(files))?))
 }
 
 /// What `fixed show` asks for.
@@ -233,16 +325,16 @@ pub fn read_request<'a>(alloc: Global, words: &'a [String]) -> Asked<Request<'a>
         Err(error) => return text_of(alloc, &error),
     };
     match matches.subcommand() {
-        Some(("lines", found)) => plain(alloc, Task::Lines(limit_of(alloc, found)?), found),
+        Some(("lines", found)) => lines(alloc, found),
         Some(("convert", found)) => convert(alloc, found),
         Some(("column", found)) => column(alloc, found),
         Some(("enclose", found)) => plain(alloc, Task::Enclose, found),
         Some(("least", found)) => least(alloc, found),
-        Some(("constants", found)) => plain(alloc, Task::Constants, found),
+        Some(("constants", found)) => constants(alloc, found),
         Some(("show", found)) => show(alloc, found),
         Some(("bits", found)) => bits(alloc, found),
         Some(("format", found)) => formats(alloc, found),
-        Some(("columns", found)) => plain(alloc, Task::Columns(limit_of(alloc, found)?), found),
+        Some(("columns", found)) => columns(alloc, found),
         _ => Err(Refusal::Words(String::from_str(alloc, "no command")?)),
     }
 }
