@@ -2,7 +2,7 @@
 #
 #   make try       answers the demo's lines before any proof, in about a minute
 #   make build     proves, and leaves every program in build/
-#   make demo      answers the demo's lines with the program that was proved
+#   make demo      answers the demo's lines and shows the command, with the programs that were proved
 #   make test      the gate
 #   make install   puts the programs below PREFIX (and DESTDIR); make uninstall removes them
 #   make library   the library for C, in build/lib; make check-library tries it; make deb makes packages, make dist an archive
@@ -67,9 +67,10 @@ try:
 
 # A status of 1 says that some line was refused, as two of these are meant to be.
 demo:
-	@$(MAKE) -s --no-print-directory -j$(JOBS) build/fixed_tool
+	@$(MAKE) -s --no-print-directory -j$(JOBS) build/fixed_tool build/fixed
 	@build/fixed_tool <examples/demo.txt >build/answers; test $$? -le 1
 	@paste -d '>' examples/demo.txt build/answers | sed 's/>/  ->  /'
+	@PATH="$(CURDIR)/build:$$PATH" sh examples/demo.sh
 
 # The gate: every proof, every must-fail edit, every test and every program's stored run.
 test:

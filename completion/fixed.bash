@@ -1,4 +1,16 @@
 # bash completion for fixed
+# Files, and the words that a command has of its own before them.
+_fixed_words() {
+  local words=''
+  if [ "$COMP_CWORD" -eq 2 ]; then
+    case $1 in
+      least) words='2 8 10 16' ;;
+      constants) words='c rust' ;;
+      columns) words='limit' ;;
+    esac
+  fi
+  mapfile -t COMPREPLY < <(compgen -f -W "$words" -- "$2")
+}
 _fixed() {
   local word=$2 previous=$3 command=${COMP_WORDS[1]}
   local commands='convert column show bits format lines enclose least constants columns' words=''
@@ -19,7 +31,7 @@ _fixed() {
         show:-*) words='--radix --policy --mode --help --version' ;;
         lines:-* | columns:-*) words='--limit --help --version' ;;
         *:-*) words='--help --version' ;;
-        *) mapfile -t COMPREPLY < <(compgen -f -- "$word"); return ;;
+        *) _fixed_words "$command" "$word"; return ;;
       esac
       ;;
   esac

@@ -18,3 +18,6 @@ complete -c fixed -n '__fish_seen_subcommand_from lines columns' -l limit -x -d 
 complete -c fixed -n '__fish_seen_subcommand_from column' -l delimiter -x -d 'the byte between fields'
 complete -c fixed -n '__fish_seen_subcommand_from column' -l header -d 'the first record is a header'
 complete -c fixed -n '__fish_seen_subcommand_from column' -l keep -d 'a refused field stays as it was'
+complete -c fixed -n '__fish_seen_subcommand_from least' -a '2 8 10 16' -d 'the radix of the numerals'
+complete -c fixed -n '__fish_seen_subcommand_from constants' -a 'c rust' -d 'what is written'
+complete -c fixed -n '__fish_seen_subcommand_from columns' -a limit -d 'the most bytes of an input'

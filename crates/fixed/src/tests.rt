@@ -184,6 +184,14 @@ fn the_words_after_a_task_are_files(rt: HostRuntime) -> Result<(), Fail> {
     Ok(())
 }
 
+/// Whether the words are refused, and the one line that says why has this word.
+fn is_refused(alloc: Global, words: &[String], word: &str) -> bool {
+    match read_request(alloc, words) {
+        Err(Refusal::Words(why)) => why.contains(word) && !why.contains("\n"),
+        _ => false,
+    }
+}
+
 #[test]
 fn a_refusal_is_one_line_that_names_the_word(rt: HostRuntime) -> Result<(), Fail> {
     for (line, word) in [
@@ -208,11 +216,7 @@ fn a_refusal_is_one_line_that_names_the_word(rt: HostRuntime) -> Result<(), Fail
         ("columns --limit 5 limit 7", "--limit"),
     ] {
         let words = split_words(rt.alloc(), line)?;
-        let is_named = match read_request(rt.alloc(), &words) {
-            Err(Refusal::Words(why)) => why.contains(word) && !why.contains("\n"),
-            _ => false,
-        };
-        assert!(rt; is_named, "at {line}");
+        assert!(rt; is_refused(rt.alloc(), &words, word), "at {line}");
     }
     Ok(())
 }
