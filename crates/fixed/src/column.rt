@@ -115,7 +115,7 @@ fn place_of<'a>(file: Option<&'a str>) -> (&'static str, &'a str) {
 }
 
 /// Says on standard error why the records of a file ended before its end.
-fn tell_stop(rt: &HostRuntime, file: Option<&str>, end: &ColumnEnd) {
+fn report_stop(rt: &HostRuntime, file: Option<&str>, end: &ColumnEnd) {
     let (program, file) = place_of(file);
     let answered = end.answered;
     let next = answered.saturating_add(1);
@@ -146,7 +146,7 @@ fn tell_stop(rt: &HostRuntime, file: Option<&str>, end: &ColumnEnd) {
 }
 
 /// Says on standard error how many fields of a file were refused.
-fn tell_refused(rt: &HostRuntime, file: Option<&str>, end: &ColumnEnd) {
+fn report_refused(rt: &HostRuntime, file: Option<&str>, end: &ColumnEnd) {
     let (program, file) = place_of(file);
     let (count, first) = (end.refused, end.first);
     if count > 0 {
@@ -166,8 +166,8 @@ fn run_input<R: Read + Drop, L: Ledger>(
 ) -> Status {
     let mut out = record_writer(conversion.delimiter, rt.stdout());
     let end = convert_column(rt.alloc(), conversion, reader, &mut out, steps);
-    tell_refused(rt, file, &end);
-    tell_stop(rt, file, &end);
+    report_refused(rt, file, &end);
+    report_stop(rt, file, &end);
     end.status()
 }
 

@@ -38,7 +38,7 @@ pub fn refuse(rt: &HostRuntime, why: &str) -> Status {
             let _ = eprintln!(rt; "fixed: {why}; try 'fixed --help'");
             Status::Usage
         }
-        Err(_) => tell_no_memory(rt),
+        Err(_) => report_no_memory(rt),
     }
 }
 
@@ -49,12 +49,12 @@ pub fn refuse_file(rt: &HostRuntime, file: &str, error: &Error, answered: u64) -
             let _ = eprintln!(rt; "fixed: {file}: {error}, lines answered: {answered}");
             Status::ReadFault
         }
-        Err(_) => tell_no_memory(rt),
+        Err(_) => report_no_memory(rt),
     }
 }
 
 /// Says on standard error that there is no memory for a command line.
-pub fn tell_no_memory(rt: &HostRuntime) -> Status {
+pub fn report_no_memory(rt: &HostRuntime) -> Status {
     let mut errors = StdSink::new(rt.stderr());
     report_end(b"fixed", Status::NoMemory.code(), 0, &mut errors);
     Status::NoMemory
