@@ -1,5 +1,8 @@
 //! How the records of a text ended.
 
+ghost use Rattle.std.specs.Prelude.{◌≡◌};
+ghost use Rattle.column_engine.specs.End.{end_status};
+
 use line_engine::Status;
 
 /// Why no further record of a text was answered.
@@ -38,7 +41,9 @@ pub struct ColumnEnd {
 
 impl ColumnEnd {
     /// The status that says so.
-    pub fn status(&self) -> Status {
+    pub fn status(&self) -> Status
+        ensures { result ≡ end_status self.now.stop self.now.refused }
+    {
         match self.stop {
             Stop::Done if self.refused == 0 => Status::Done,
             Stop::Done => Status::Faults,

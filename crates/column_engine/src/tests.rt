@@ -1,11 +1,14 @@
 //! Tests of whole runs over bytes in memory, by a rule that refuses some fields.
 
 ghost use Rattle.std.specs.Prelude.{◌≡◌, ◌==◌, ◌<◌, get_or};
+ghost use Rattle.column_engine.specs.Column.{IsIdle};
 
 use crate::{Column, ColumnEnd, ColumnTask, Stop, record_writer, run_column};
+use csv::Writer;
 use fixed_steps::Steps;
 use line_engine::{LineRule, Output, Status};
 use std::alloc::{AllocError, Global};
+use std::io::{self, ErrorKind, Read, Write};
 use std::marker::Brand;
 use std::process::Abort;
 use std::sync::ledger::{Blank, Ledger};
@@ -85,16 +88,18 @@ fn column_of(alloc: Global, case: &Case) -> Result<Column, AllocError> {
     }
 }
 
-/// How a run of these bytes ends, and what it writes. The case's own input is left out.
-fn run_case<L: Ledger>(
+/// How a run from a reader to a writer ends. The case's own input is left out.
+fn run_over<R: Read + Drop, W: Write + Drop, L: Ledger>(
     alloc: Global,
     case: &Case,
-    input: &[u8],
+    reader: R,
+    out: &mut Writer<W>,
     blank: Blank,
-) -> Result<(ColumnEnd, Vec<u8>), AllocError>
+) -> Result<ColumnEnd, AllocError>
     requires name { blank.name ≡ L.name }
     requires parts { blank.parts ≡ L.parts }
     requires some { 0 < blank.parts }
+    requires idle { IsIdle case.now.delimiter out.old }
 {
     let mut steps = Steps::<L>::new(blank);
     let column = column_of(alloc, case)?;
@@ -104,14 +109,19 @@ fn run_case<L: Ledger>(
         is_kept: case.is_kept,
         delimiter: case.delimiter,
     };
+    Ok(run_column(alloc, &task, reader, out, &mut steps))
+}
+
+/// How a run of these bytes ends, and what it writes. The case's own input is left out.
+fn run_case(alloc: Global, case: &Case, input: &[u8]) -> Result<(ColumnEnd, Vec<u8>), AllocError> {
     let mut out = record_writer(case.delimiter, Vec::new(alloc));
-    let end = run_column(alloc, &task, input, &mut out, &mut steps);
+    let end = run_over::<&[u8], Vec<u8>, Brand>(alloc, case, input, &mut out, Blank::new(1))?;
     Ok((end, out.get_ref().to_vec(alloc)?))
 }
 
 /// Asserts what a run of these bytes writes and how it ends.
 fn assert_run(rt: &impl Abort, alloc: Global, case: &Case, input: &[u8]) -> Result<(), AllocError> {
-    let (end, written) = run_case::<Brand>(alloc, case, input, Blank::new(1))?;
+    let (end, written) = run_case(alloc, case, input)?;
     assert_eq!(rt; written.as_slice(), case.written);
     assert_eq!(rt; end, case.end);
     Ok(())
@@ -373,4 +383,69 @@ fn each_end_has_its_status(rt: HostRuntime) {
         ..ended(Stop::Done, 1)
     };
     assert_eq!(rt; refused.status(), Status::Faults);
+}
+
+/// A reader of bytes whose end is a failure, and a writer that fails at once.
+#[derive(Drop)]
+struct Broken {
+    rest: &'static [u8],
+}
+
+impl Read for Broken {
+    fn read(&mut self, buf: &mut [u8]) -> io::Result<usize> {
+        let count = self.rest.len().min(buf.len());
+        if count == 0 {
+            return Err(io::Error::from(ErrorKind::BrokenPipe));
+        }
+        buf[..count].copy_from_slice(&self.rest[..count]);
+        self.rest = &self.rest[count..];
+        Ok(count)
+    }
+}
+
+impl Write for Broken {
+    fn write(&mut self, _buf: &[u8]) -> io::Result<usize> {
+        Err(io::Error::from(ErrorKind::BrokenPipe))
+    }
+
+    fn flush(&mut self) -> io::Result<()> {
+        Ok(())
+    }
+}
+
+#[test]
+fn a_failed_read_ends_the_run_after_the_whole_records(rt: HostRuntime) -> Result<(), Fail> {
+    let alloc = rt.alloc();
+    let case = second(b"a,1\nb,2", b"a,yes\n", 1);
+    let reader = Broken { rest: case.input };
+    let mut out = record_writer(case.delimiter, Vec::new(alloc));
+    let end = run_over::<Broken, Vec<u8>, Brand>(alloc, &case, reader, &mut out, Blank::new(1))?;
+    assert_eq!(rt; end, ended(Stop::ReadFault, 1));
+    assert_eq!(rt; out.get_ref().as_slice(), case.written);
+    Ok(())
+}
+
+#[test]
+fn a_failed_write_ends_the_run(rt: HostRuntime) -> Result<(), Fail> {
+    let alloc = rt.alloc();
+    let case = second(b"a,1\nb,2\n", b"", 0);
+    let mut out = record_writer(case.delimiter, Broken { rest: b"" });
+    let end = run_over::<&[u8], Broken, Brand>(alloc, &case, case.input, &mut out, Blank::new(1))?;
+    assert_eq!(rt; end.stop, Stop::WriteFault);
+    assert_eq!(rt; end.status(), Status::WriteFault);
+    Ok(())
+}
+
+/// Where an allocation fails, the run ends as `NoMemory` after whole answers; in any other case its output is whole.
+#[test]
+fn refused_memory_ends_the_run(rt: HostRuntime) {
+    let case = named("n", None, b"a,n\n1,2\n", b"a,n\n1,yes\n", 2);
+    if let Ok((end, written)) = run_case(rt.alloc(), &case, case.input) {
+        if end.stop == Stop::NoMemory {
+            assert!(rt; case.written.starts_with(&written));
+        } else {
+            assert_eq!(rt; end, case.end);
+            assert_eq!(rt; written.as_slice(), case.written);
+        }
+    }
 }
