@@ -23,7 +23,7 @@ pub use line_engine::{
 };
 pub use program::run;
 pub use respell_rule::RespellRule;
-pub use respelling::{Bits, Reached, Respelled, reach, respell, respell_mode};
+pub use respelling::{Bits, Respelled, respell, respell_mode};
 pub use split::split_once;
 pub use words::{FormatName, format_name, format_word, policy_word, radix_word};
 

@@ -110,7 +110,7 @@ pub struct Reached {
 /// The error is why the bytes are no numeral, or `Overflow` where they are one and under `Checked` its read number is
 /// out of the source's range or, rounded down, out of the target's.
 #[inline(always)]
-pub fn reach<L: Ledger>(
+pub(crate) fn reach<L: Ledger>(
     text: &[u8],
     from: usize,
     radix: Radix,
