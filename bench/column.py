@@ -4,6 +4,8 @@ import random
 from timing import in_turn, peak, table
 
 RECORDS = 200_000
+# What is asked of it.
+MEGABYTES_A_SECOND = 100
 # What is converted, and how a record is written: text around the number, in the third of five columns.
 SHAPES = (
     ("plain", "{0},item {1},{2:.4f},2026-11-{3:02},note {1}\n"),
@@ -24,6 +26,7 @@ def measure(programs, inputs, tries):
     texts = [text_of(shape) for _, shape in SHAPES]
     paths = [inputs.of(f"column-{at}", text) for at, text in enumerate(texts)]
     took = in_turn([(command, path) for path in paths], tries)
-    rows = [[name, f"{len(text) / it / 1e6:.0f}", f"{RECORDS / it / 1e6:.2f}", peak(command, path)]
-            for (name, _), text, it, path in zip(SHAPES, texts, took, paths)]
-    table(rows, ["fixed column 3 I16F16, five columns", "MB/s", "M records/s", "peak KiB"])
+    speeds = [len(text) / it / 1e6 for text, it in zip(texts, took)]
+    rows = [[name, f"{speed:.0f}", f"{speed / MEGABYTES_A_SECOND:.0%}", f"{RECORDS / it / 1e6:.2f}", peak(command, path)]
+            for (name, _), speed, it, path in zip(SHAPES, speeds, took, paths)]
+    table(rows, ["fixed column 3 I16F16, five columns", "MB/s", f"of {MEGABYTES_A_SECOND}", "M records/s", "peak KiB"])

@@ -1,15 +1,11 @@
 """The command `fixed`: its words beside fixed_tool and beside what is asked of them, and how long it takes to start and end."""
-import csv
-import io
-import random
 import subprocess
 import time
 
 from timing import in_turn, peak, table
 
 LINES = 200_000
-# What is asked of `fixed column`, and of the memory of each command that streams.
-MEGABYTES_A_SECOND = 100
+# What is asked of the memory of each command that streams.
 MOST_KIB = 4096
 # How long the lines are of which the memory is measured, and how many there are.
 LONG_LINE, LONG_LINES = 1_000_000, 20
@@ -27,36 +23,6 @@ def converting(programs, inputs, tries):
           ["the same numerals", "M lines/s", "of fixed_tool's"])
 
 
-def tariff(pick, rows, quoted):
-    """A CSV of five columns, whose third is a numeral; in a quoted one the name holds a comma and a newline now and then."""
-    out = io.StringIO()
-    writer = csv.writer(out, lineterminator="\n")
-    writer.writerow(("meter", "name", "price", "unit", "day"))
-    for row in range(rows):
-        name = f"tariff {pick.randrange(1000)}" + (pick.choice((", night", "\nday", ' "new"')) if quoted and row % 4 == 0 else "")
-        price = f"{pick.randrange(100)}.{pick.randrange(10**6):06}"
-        writer.writerow((100_000 + row, name, price, "kWh", f"2026-{pick.randrange(1, 13):02}-{pick.randrange(1, 29):02}"))
-    return out.getvalue()
-
-
-def has_column(programs):
-    helped = subprocess.run([programs.built("fixed"), "column", "--help"], stdout=subprocess.PIPE, stderr=subprocess.DEVNULL, check=False)
-    return helped.returncode == 0
-
-
-def columns(programs, inputs, tries):
-    """Megabytes a second of `fixed column` on a CSV of five columns."""
-    command = [programs.built("fixed"), "column", "price", "U16F16", "--header"]
-    rows = []
-    for name, quoted in (("plain fields", False), ("quoted fields", True)):
-        text = tariff(random.Random(1), 400_000, quoted)
-        path = inputs.of(f"tariff-{quoted}.csv", text)
-        took = in_turn([(command, path)], tries)[0]
-        speed = len(text) / took / 1e6
-        rows.append([name, f"{speed:.0f}", f"{speed / MEGABYTES_A_SECOND:.0%}", peak(command, path)])
-    table(rows, ["fixed column", "MB/s", f"of {MEGABYTES_A_SECOND}", "peak KiB"])
-
-
 def memory(programs, inputs):
     """Peak memory of each command that streams, over many short lines and over some that are as long as a line may be."""
     short = inputs.path("plain", "--lines", str(LINES))
@@ -70,10 +36,9 @@ def memory(programs, inputs):
                   inputs.of("long-lines", ("10 U16F16 U16F16 checked 0." + "1" * LONG_LINE + "\n") * LONG_LINES)),
         "enclose": ([], inputs.of("enclosed", "".join(f"10 U16F16 {it}\n" for it in numerals)),
                     inputs.of("long-enclosed", ("10 U16F16 0." + "1" * LONG_LINE + "\n") * LONG_LINES)),
+        "column": (["1", "U16F16"], inputs.of("cells.csv", "".join(f"{it},a\n" for it in numerals)),
+                   inputs.of("long-cells.csv", ("0." + "1" * LONG_LINE + ",a\n") * LONG_LINES)),
     }
-    if has_column(programs):
-        asked["column"] = (["1", "U16F16"], inputs.of("cells.csv", "".join(f"{it},a\n" for it in numerals)),
-                           inputs.of("long-cells.csv", ("0." + "1" * LONG_LINE + ",a\n") * LONG_LINES))
     rows = []
     for name, (words, few, many) in asked.items():
         each = [peak([programs.built("fixed"), name, *words], path) for path in (few, many)]
@@ -98,9 +63,5 @@ def measure(programs, inputs, tries):
     if not programs.built("fixed") or not programs.tool:
         return
     converting(programs, inputs, tries)
-    if has_column(programs):
-        columns(programs, inputs, tries)
-    else:
-        print("fixed column is not measured: the program has no such command\n", flush=True)
     memory(programs, inputs)
     starting(programs)
