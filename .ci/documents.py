@@ -43,6 +43,7 @@ def readme_answers(built):
         return
     readme = text_of("README.md")
     said = re.findall(r"^ {4}(\S.*?) {2}-> {2}(.*)$", readme, re.M)
+    said += re.findall(r"`(\d+ \S+ \S+ \S+ [^`]+)` with `([^`]+)`", readme)
     rules = text_of("docs/RULES.md")
     said += [(line, f"error: {message}") for message, line in re.findall(r"^\|.*\| `([a-z ]*)` \|.*\| `([0-9]+ [^`]*)` \|$", rules, re.M)]
     said += [(f"10 U8F0 U8F0 checked {numeral}", f"error: {message}") for message, numeral in
