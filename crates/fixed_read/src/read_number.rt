@@ -418,26 +418,66 @@ fn read_ending_decimal<L: Ledger>(
     }
 }
 
-/// Reads a decimal that `read_ending_decimal` doesn't read. Only longer ones may still be short.
+/// Reads a short decimal that a text ends with. None says nothing.
+#[inline(always)]
+fn read_short_ending<L: Ledger>(
+    text: &[u8],
+    from: usize,
+    radix: Radix,
+    format: Format,
+    mode: ReadMode,
+    steps: &mut Steps<L>,
+) -> Option<ReadNumber>
+    ensures numeral { IfSome result (λ found. IsNumeral radix (drop from text.now)) }
+    ensures reading { IfSome result (λ found. (p : Parts) → HasNumeral radix (drop from text.now) p → IsReading mode radix p found) }
+    ensures format { IfSome result (λ found. found.format ≡ format) }
+    ensures cost { steps.new ≤ steps.old + length (drop from text.now) }
+{
+    match radix {
+        Radix::Dec => read_ending_decimal(text, from, format, mode, steps),
+        _ => None,
+    }
+}
+
+/// Reads any numeral that no quick way reads.
 #[inline(never)]
-fn read_other_decimal<L: Ledger>(
+fn read_slowly<L: Ledger>(
     s: &[u8],
+    radix: Radix,
     format: Format,
     mode: ReadMode,
     steps: &mut Steps<L>,
 ) -> Result<ReadNumber, ParseFixedError>
-    ensures reading { IsReadOrRefused Dec s.now (IsReading mode Dec) result }
+    ensures reading { IsReadOrRefused radix s.now (IsReading mode radix) result }
     ensures format { IfOk result (λ found. found.format ≡ format) }
-    ensures cost { steps.new ≤ steps.old + 5 * length s.now + 8 * format.width + 64 }
+    ensures cost { steps.new ≤ steps.old + 4 * length s.now + 8 * format.width + 64 }
 {
-    if s.len() <= SHORT_LENGTH {
-        return read_other(s, Radix::Dec, format, mode, steps);
-    }
-    match read_short(s, format, mode, steps) {
-        Some(found) => Ok(found),
-        None => read_other(s, Radix::Dec, format, mode, steps),
+    match radix {
+        Radix::Dec => match read_short(s, format, mode, steps) {
+            Some(found) => Ok(found),
+            None => read_longer(s, radix, format, mode, steps),
+        },
+        _ => read_longer(s, radix, format, mode, steps),
     }
 }
+
+/// A copy, part by part: where a number comes from a call, the parts are loaded as they were stored, and a processor need not wait
+/// until bytes that were stored one by one can be loaded as a word.
+#[inline(always)]
+fn copied(found: &ReadNumber) -> ReadNumber
+    ensures { result ≡ found.now }
+{
+    ReadNumber {
+        format: found.format,
+        low: found.low,
+        negative: found.negative,
+        has_high_bits: found.has_high_bits,
+        exact: found.exact,
+    }
+}
+
+/// How many bytes come before a numeral whose words are read back over its beginning.
+const ENDING_ROOM: usize = 16;
 
 /// Reads the numeral that a text ends with, from a place on, as `read_format` reads it alone. That there are bytes before it lets a
 /// short decimal be read by whole words, whatever the counts of its digits.
@@ -459,12 +499,19 @@ pub fn read_ending<L: Ledger>(
     ensures format { IfOk result (λ found. found.format ≡ format) }
     ensures cost { steps.new ≤ steps.old + 8 * (length (drop from text.now) + format.width) + 64 }
 {
-    match radix {
-        Radix::Dec => match read_ending_decimal(text, from, format, mode, steps) {
-            Some(found) => Ok(found),
-            None => read_other_decimal(bytes_from(text, from), format, mode, steps),
+    let s = bytes_from(text, from);
+    if from < ENDING_ROOM {
+        return read_format(s, radix, format, mode, steps);
+    }
+    if let Some(found) = read_short_ending(text, from, radix, format, mode, steps) {
+        return Ok(found);
+    }
+    match &read_short_numeral(s, radix, format, mode, steps) {
+        Some(found) => Ok(copied(found)),
+        None => match &read_slowly(s, radix, format, mode, steps) {
+            Ok(found) => Ok(copied(found)),
+            Err(error) => Err(*error),
         },
-        _ => read_other(bytes_from(text, from), radix, format, mode, steps),
     }
 }
 
