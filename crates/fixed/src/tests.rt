@@ -5,6 +5,7 @@ use fixed_command::{run_blocks, run_task};
 use fixed_steps::Steps;
 use line_engine::{MemoryProgram, MemoryRun, MemorySink, MemorySource, Status};
 use std::alloc::{AllocError, Global};
+use std::process::Abort;
 use std::sync::ledger::Ledger;
 use std::test::Fail;
 
@@ -83,8 +84,22 @@ fn files_of(alloc: Global, line: &str) -> Result<String, AllocError> {
     Ok(all)
 }
 
+/// Stops at the first command line for which something else is written. A case is the line, the input and what is written.
+fn expect_answers(
+    rt: &impl Abort,
+    alloc: Global,
+    cases: &[(&str, &str, &str)],
+) -> Result<(), AllocError> {
+    for case in cases {
+        let (line, input, written) = *case;
+        let answer = answer_to(alloc, line, input)?;
+        assert_eq!(rt; answer.as_slice(), written.as_bytes(), "at {line}");
+    }
+    Ok(())
+}
+
 #[test]
-fn each_command_line_asks_for_its_task(rt: HostRuntime) -> Result<(), Fail> {
+fn convert_takes_its_formats_and_options(rt: HostRuntime) -> Result<(), Fail> {
     let cases = [
         ("convert U4F4", "3.1875\n", "3.2\n"),
         (
@@ -109,11 +124,34 @@ fn each_command_line_asks_for_its_task(rt: HostRuntime) -> Result<(), Fail> {
         ),
         ("convert I8F0 --mode floor", "-2.5\n", "-3\n"),
         ("convert I8F0 --mode zero", "-2.5\n", "-2\n"),
+    ];
+    expect_answers(&rt, rt.alloc(), &cases)?;
+    Ok(())
+}
+
+#[test]
+fn the_words_of_other_programs_ask_for_their_tasks(rt: HostRuntime) -> Result<(), Fail> {
+    let cases = [
         ("lines", "10 U8F0 U8F0 checked 7\n", "7 7 fits\n"),
         ("lines --limit 5", "123456\n", ""),
         ("enclose", "10 I4F4 3.14\n", "3.1 50 3.2 51 wide\n"),
         ("least", "0.5\n3\n", "least U7F1\nU8F0 line 1\n"),
         ("least 16", "ff\n", "least U8F0\n"),
+        ("columns", "1 U8F0\n", "                       1 U8F0\n"),
+        ("columns limit 6", "1 U8F0\n", ""),
+        (
+            "columns --limit 7",
+            "1 U8F0\n",
+            "                       1 U8F0\n",
+        ),
+    ];
+    expect_answers(&rt, rt.alloc(), &cases)?;
+    Ok(())
+}
+
+#[test]
+fn constants_takes_its_form_and_its_guard(rt: HostRuntime) -> Result<(), Fail> {
+    let cases = [
         ("constants", "A = 0b_111e-2 I4F4\n", "A = 0x1.c I4F4\n"),
         (
             "constants rust",
@@ -130,13 +168,14 @@ fn each_command_line_asks_for_its_task(rt: HostRuntime) -> Result<(), Fail> {
             "A = 1.75 I4F4\n",
             "#ifndef A_H\n#define A_H\n\n#include <stdint.h>\n\n#define A INT8_C(0x1c) /* I4F4, 1.75 */\n\n#endif\n",
         ),
-        ("columns", "1 U8F0\n", "                       1 U8F0\n"),
-        ("columns limit 6", "1 U8F0\n", ""),
-        (
-            "columns --limit 7",
-            "1 U8F0\n",
-            "                       1 U8F0\n",
-        ),
+    ];
+    expect_answers(&rt, rt.alloc(), &cases)?;
+    Ok(())
+}
+
+#[test]
+fn a_question_is_answered_without_an_input(rt: HostRuntime) -> Result<(), Fail> {
+    let cases = [
         (
             "bits I16F16 0xfffc0000",
             "",
@@ -156,10 +195,7 @@ fn each_command_line_asks_for_its_task(rt: HostRuntime) -> Result<(), Fail> {
         ),
         ("--version", "", "fixed 1.31.0\n"),
     ];
-    for (line, input, written) in cases {
-        let answer = answer_to(rt.alloc(), line, input)?;
-        assert_eq!(rt; answer.as_slice(), written.as_bytes(), "at {line}");
-    }
+    expect_answers(&rt, rt.alloc(), &cases)?;
     Ok(())
 }
 

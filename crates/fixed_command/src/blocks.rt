@@ -88,8 +88,10 @@ fn write_block<K: Sink, L: Ledger>(
     sink: &mut K,
     steps: &mut Steps<L>,
 ) -> Result<bool, Failed>
-    ensures ok { IfOk result (λ fault. (text : List ℕ) × IsBlock question.now word.now (record { text = text; fault = fault }) × Appends (K.written sink.old) (K.written sink.new) text) }
-    ensures err { OnErr result ((block : AnswerText) × IsBlock question.now word.now block × AppendsPrefix (K.written sink.old) (K.written sink.new) block.text) }
+    ensures ok { IfOk result (λ fault. (text : List ℕ) × IsBlock question.now word.now (record { text = text; fault = fault })
+        × Appends (K.written sink.old) (K.written sink.new) text) }
+    ensures err { OnErr result ((block : AnswerText) × IsBlock question.now word.now block
+        × AppendsPrefix (K.written sink.old) (K.written sink.new) block.text) }
     ensures failures { FailsOnlyCounted (K.failures sink.old) (K.failures sink.new) result }
 {
     let mut out: TextBuffer<MAX_BLOCK> = TextBuffer::new();

@@ -86,7 +86,8 @@ fn push_part<const N: usize>(
     requires wide { IsWide bits }
     requires range { IsInRange settings.now.target.signed settings.now.target.width bits }
     requires room { length out.old + 81 ≤ N }
-    ensures appended { out.new ≡ out.old ++ printed settings.now.print settings.now.target.width (respelled_answer text.now bits overflowed).text text.now bits }
+    ensures appended { out.new ≡ out.old ++ printed settings.now.print settings.now.target.width
+        (respelled_answer text.now bits overflowed).text text.now bits }
     ensures short { length out.new ≤ length out.old + 81 }
 {
     match settings.print {

@@ -93,7 +93,8 @@ fn run_rule<R: LineRule<L>, S: Source, K: Sink, L: Ledger>(
 ) -> Status
     requires some { 1 ≤ limit }
     requires most { limit ≤ max_limit }
-    ensures run { HasLineRun (R.Answers rule.now) limit R.PER_BYTE R.EXTRA (outside (S.left source.old) (S.asked source.old) (S.failures source.old) (K.written sink.old) (K.failures sink.old) steps.old)
+    ensures run { HasLineRun (R.Answers rule.now) limit R.PER_BYTE R.EXTRA
+        (outside (S.left source.old) (S.asked source.old) (S.failures source.old) (K.written sink.old) (K.failures sink.old) steps.old)
         (outside (S.left source.new) (S.asked source.new) (S.failures source.new) (K.written sink.new) (K.failures sink.new) steps.new) result }
     ensures memory { result ≡ Status.NoMemory → (source.new ≡ source.old) × (sink.new ≡ sink.old) × (steps.new ≡ steps.old) }
 {
@@ -110,7 +111,8 @@ fn run_whole_rule<R: WholeRule<L>, S: Source, K: Sink, L: Ledger>(
     steps: &mut Steps<L>,
 ) -> Status
     requires { limit ≤ max_limit }
-    ensures run { IsWholeRun (R.Answers rule.now) limit (outside (S.left source.old) (S.asked source.old) (S.failures source.old) (K.written sink.old) (K.failures sink.old) steps.old)
+    ensures run { IsWholeRun (R.Answers rule.now) limit
+        (outside (S.left source.old) (S.asked source.old) (S.failures source.old) (K.written sink.old) (K.failures sink.old) steps.old)
         (outside (S.left source.new) (S.asked source.new) (S.failures source.new) (K.written sink.new) (K.failures sink.new) steps.new) result }
     ensures unwritten { EndsBeforeWriting result → sink.new ≡ sink.old }
 {
@@ -125,7 +127,8 @@ fn run_words<S: Source, K: Sink, L: Ledger>(
     sink: &mut K,
     steps: &mut Steps<L>,
 ) -> Status
-    ensures run { HasLineRun IsAnswer limit.now 8 624 (outside (S.left source.old) (S.asked source.old) (S.failures source.old) (K.written sink.old) (K.failures sink.old) steps.old)
+    ensures run { HasLineRun IsAnswer limit.now 8 624
+        (outside (S.left source.old) (S.asked source.old) (S.failures source.old) (K.written sink.old) (K.failures sink.old) steps.old)
         (outside (S.left source.new) (S.asked source.new) (S.failures source.new) (K.written sink.new) (K.failures sink.new) steps.new) result }
     ensures memory { result ≡ Status.NoMemory → sink.new ≡ sink.old }
 {
@@ -139,7 +142,8 @@ fn run_enclosures<S: Source, K: Sink, L: Ledger>(
     sink: &mut K,
     steps: &mut Steps<L>,
 ) -> Status
-    ensures run { HasLineRun enclose.IsAnswer max_limit 16 1248 (outside (S.left source.old) (S.asked source.old) (S.failures source.old) (K.written sink.old) (K.failures sink.old) steps.old)
+    ensures run { HasLineRun enclose.IsAnswer max_limit 16 1248
+        (outside (S.left source.old) (S.asked source.old) (S.failures source.old) (K.written sink.old) (K.failures sink.old) steps.old)
         (outside (S.left source.new) (S.asked source.new) (S.failures source.new) (K.written sink.new) (K.failures sink.new) steps.new) result }
     ensures memory { result ≡ Status.NoMemory → sink.new ≡ sink.old }
 {
@@ -155,7 +159,8 @@ pub fn run_convert<S: Source, K: Sink, L: Ledger>(
     sink: &mut K,
     steps: &mut Steps<L>,
 ) -> Status
-    ensures run { HasLineRun (IsLineReply rule.now) max_limit 8 624 (outside (S.left source.old) (S.asked source.old) (S.failures source.old) (K.written sink.old) (K.failures sink.old) steps.old)
+    ensures run { HasLineRun (IsLineReply rule.now) max_limit 8 624
+        (outside (S.left source.old) (S.asked source.old) (S.failures source.old) (K.written sink.old) (K.failures sink.old) steps.old)
         (outside (S.left source.new) (S.asked source.new) (S.failures source.new) (K.written sink.new) (K.failures sink.new) steps.new) result }
     ensures memory { result ≡ Status.NoMemory → (source.new ≡ source.old) × (sink.new ≡ sink.old) × (steps.new ≡ steps.old) }
 {
@@ -170,7 +175,8 @@ fn run_constants<S: Source, K: Sink, L: Ledger>(
     sink: &mut K,
     steps: &mut Steps<L>,
 ) -> Status
-    ensures run { IsWholeRun (IsFormAnswer rule.now.form rule.now.guard.now) max_whole (outside (S.left source.old) (S.asked source.old) (S.failures source.old) (K.written sink.old) (K.failures sink.old) steps.old)
+    ensures run { IsWholeRun (IsFormAnswer rule.now.form rule.now.guard.now) max_whole
+        (outside (S.left source.old) (S.asked source.old) (S.failures source.old) (K.written sink.old) (K.failures sink.old) steps.old)
         (outside (S.left source.new) (S.asked source.new) (S.failures source.new) (K.written sink.new) (K.failures sink.new) steps.new) result }
     ensures memory { result ≡ Status.NoMemory → sink.new ≡ sink.old }
 {
@@ -185,7 +191,8 @@ pub fn run_task<S: Source, K: Sink, L: Ledger>(
     sink: &mut K,
     steps: &mut Steps<L>,
 ) -> Status
-    ensures run { TaskRuns task.now (outside (S.left source.old) (S.asked source.old) (S.failures source.old) (K.written sink.old) (K.failures sink.old) steps.old)
+    ensures run { TaskRuns task.now
+        (outside (S.left source.old) (S.asked source.old) (S.failures source.old) (K.written sink.old) (K.failures sink.old) steps.old)
         (outside (S.left source.new) (S.asked source.new) (S.failures source.new) (K.written sink.new) (K.failures sink.new) steps.new) result }
     ensures memory { result ≡ Status.NoMemory → sink.new ≡ sink.old }
 {

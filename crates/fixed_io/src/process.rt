@@ -66,7 +66,8 @@ pub fn run_streams<P: Program<L>, R: Read + Drop, W: Write + Drop, K: Sink, L: L
     ensures args { IfOk args (λ all. EndsAs (RunsFrom (R.remaining reader) (W.contents writer) (P.Runs program.now all.items)) result) }
     ensures no_memory { args ≡ Err NoArgs.NoMemory → result ≡ 5 }
     ensures not_text { args ≡ Err NoArgs.NotText → EndsAs (SaysUsage (P.usage_line program.now) (W.contents writer)) result }
-    ensures reports { (answered : ℕ) × TellsEnd reports.old.name.now result answered (K.written reports.old.sink) (K.written reports.new.sink) (K.failures reports.old.sink) (K.failures reports.new.sink) }
+    ensures reports { (answered : ℕ) × TellsEnd reports.old.name.now result answered (K.written reports.old.sink) (K.written reports.new.sink)
+        (K.failures reports.old.sink) (K.failures reports.new.sink) }
 {
     let mut steps = Steps::<L>::new(blank);
     let mut source = StdSource::new(reader);

@@ -111,7 +111,13 @@ fn each_format_has_its_block(rt: HostRuntime) {
     let cases = [
         of_format(
             "I16F16",
-            "format    I16F16\nleast     -32768\ngreatest  32767.9999847412109375\nulp       0.0000152587890625\ndigits    4 before the point, 4 after it\nshortest  -32768 to 32767.99998\n",
+            "\
+                format    I16F16\n\
+                least     -32768\n\
+                greatest  32767.9999847412109375\n\
+                ulp       0.0000152587890625\n\
+                digits    4 before the point, 4 after it\n\
+                shortest  -32768 to 32767.99998\n",
         ),
         of_format(
             "I0F8",
@@ -150,15 +156,40 @@ fn each_word_has_its_block(rt: HostRuntime) {
     expect_blocks(&rt, &cases);
 }
 
+/// The block of 3.14159 in I16F16.
+const ROUNDED: &str = "\
+    text      3.14159\n\
+    bits      205887\n\
+    hex       0x0003243f\n\
+    value     3.1415863037109375\n\
+    error     -0.0000036962890625\n\
+    between   3.14159 (205887) and 3.1416 (205888)\n\
+    range     fits\n";
+
+/// The block of a numeral far below the ulp of I4F4, and too long to write out.
+const TOO_SMALL: &str = "\
+    text      0\n\
+    bits      0\n\
+    hex       0x00\n\
+    value     0\n\
+    error     below 1e-1 in size: the numeral is too long to say more\n\
+    between   0 (0) and 0.06 (1)\n\
+    range     fits\n";
+
+/// The block of a numeral far below the least value of I4F4, and too long to write out.
+const TOO_LOW: &str = "\
+    text      -8\n\
+    bits      -128\n\
+    hex       0x80\n\
+    value     -8\n\
+    error     below 1e1202 in size: the numeral is too long to say more\n\
+    between   no two values of the format\n\
+    range     overflowed\n";
+
 #[test]
 fn each_numeral_has_its_block(rt: HostRuntime) {
     let cases = [
-        of_numeral(
-            "I16F16",
-            Policy::Checked,
-            "3.14159",
-            "text      3.14159\nbits      205887\nhex       0x0003243f\nvalue     3.1415863037109375\nerror     -0.0000036962890625\nbetween   3.14159 (205887) and 3.1416 (205888)\nrange     fits\n",
-        ),
+        of_numeral("I16F16", Policy::Checked, "3.14159", ROUNDED),
         of_numeral(
             "U8F0",
             Policy::Wrapping,
@@ -166,18 +197,8 @@ fn each_numeral_has_its_block(rt: HostRuntime) {
             "text      255\nbits      255\nhex       0xff\nvalue     255\nerror     256\nbetween   no two values of the format\nrange     overflowed\n",
         ),
         of_numeral("U8F0", Policy::Checked, "300", "error: overflow\n"),
-        of_numeral(
-            "I4F4",
-            Policy::Checked,
-            "1e-2000000000",
-            "text      0\nbits      0\nhex       0x00\nvalue     0\nerror     below 1e-1 in size: the numeral is too long to say more\nbetween   0 (0) and 0.06 (1)\nrange     fits\n",
-        ),
-        of_numeral(
-            "I4F4",
-            Policy::Saturating,
-            "-1e1200",
-            "text      -8\nbits      -128\nhex       0x80\nvalue     -8\nerror     below 1e1202 in size: the numeral is too long to say more\nbetween   no two values of the format\nrange     overflowed\n",
-        ),
+        of_numeral("I4F4", Policy::Checked, "1e-2000000000", TOO_SMALL),
+        of_numeral("I4F4", Policy::Saturating, "-1e1200", TOO_LOW),
     ];
     expect_blocks(&rt, &cases);
 }

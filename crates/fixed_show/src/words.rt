@@ -85,7 +85,8 @@ fn with_digit(number: u128, base: u32, digit: u8) -> u128
 
 /// What digits with underscores spell, cut off at `LIMIT`. None where a byte is neither.
 fn digits_number(bytes: &[u8], radix: Radix) -> Option<u128>
-    ensures { MatchOption result (¬ AllDigits (base radix) (without_underscores bytes.now)) (λ n. AllDigits (base radix) (without_underscores bytes.now) × (n ≡ min (digits_value (base radix) (without_underscores bytes.now)) LIMIT)) }
+    ensures { MatchOption result (¬ AllDigits (base radix) (without_underscores bytes.now))
+        (λ n. AllDigits (base radix) (without_underscores bytes.now) × (n ≡ min (digits_value (base radix) (without_underscores bytes.now)) LIMIT)) }
 {
     let mut number = 0;
     for byte in bytes {

@@ -62,6 +62,27 @@ fn showing() -> Question {
     }
 }
 
+/// The block of 3.14159 in I16F16, and what is said of a word that is no numeral.
+const ROUNDED_AND_REFUSED: &str = "\
+    text      3.14159\n\
+    bits      205887\n\
+    hex       0x0003243f\n\
+    value     3.1415863037109375\n\
+    error     -0.0000036962890625\n\
+    between   3.14159 (205887) and 3.1416 (205888)\n\
+    range     fits\n\
+    error: invalid digit found in string\n";
+
+/// The block of I0F8, and what is said of a word that is no format.
+const FORMAT_AND_REFUSED: &str = "\
+    format    I0F8\n\
+    least     -0.5\n\
+    greatest  0.49609375\n\
+    ulp       0.00390625\n\
+    digits    0 before the point, 2 after it\n\
+    shortest  -0.5 to 0.496\n\
+    error: bad format\n";
+
 #[test]
 fn each_word_has_its_block(rt: HostRuntime) -> Result<(), Fail> {
     let cases = [
@@ -69,7 +90,7 @@ fn each_word_has_its_block(rt: HostRuntime) -> Result<(), Fail> {
             question: showing(),
             words: &["3.14159", "x"],
             failing_write: NEVER,
-            written: "text      3.14159\nbits      205887\nhex       0x0003243f\nvalue     3.1415863037109375\nerror     -0.0000036962890625\nbetween   3.14159 (205887) and 3.1416 (205888)\nrange     fits\nerror: invalid digit found in string\n",
+            written: ROUNDED_AND_REFUSED,
             status: Status::Faults,
         },
         Asked {
@@ -90,7 +111,7 @@ fn each_word_has_its_block(rt: HostRuntime) -> Result<(), Fail> {
             question: Question::Format,
             words: &["I0F8", "I9F0"],
             failing_write: NEVER,
-            written: "format    I0F8\nleast     -0.5\ngreatest  0.49609375\nulp       0.00390625\ndigits    0 before the point, 2 after it\nshortest  -0.5 to 0.496\nerror: bad format\n",
+            written: FORMAT_AND_REFUSED,
             status: Status::Faults,
         },
     ];

@@ -147,14 +147,10 @@ fn each_part_of_an_answer_is_written(rt: HostRuntime) -> Result<(), Fail> {
 }
 
 #[test]
-fn each_task_answers_its_input(rt: HostRuntime) -> Result<(), Fail> {
+fn each_line_is_answered_up_to_the_limit(rt: HostRuntime) -> Result<(), Fail> {
     let Some(few) = Limit::new(50) else {
         return Ok(());
     };
-    let Some(whole) = Limit::new(MAX_WHOLE) else {
-        return Ok(());
-    };
-    let constants = "# gains\nA = 0b_111e-2 I4F4\nB = -3.1875 I4F4\n";
     let cases = [
         unfailing(
             Task::Lines(few),
@@ -168,6 +164,17 @@ fn each_task_answers_its_input(rt: HostRuntime) -> Result<(), Fail> {
             "3.1 50 3.2 51 wide\n0.5 1 0.5 1 exact\n",
             Status::Done,
         ),
+    ];
+    expect_runs(&rt, rt.alloc(), &cases)?;
+    Ok(())
+}
+
+#[test]
+fn a_whole_input_has_one_answer(rt: HostRuntime) -> Result<(), Fail> {
+    let Some(whole) = Limit::new(MAX_WHOLE) else {
+        return Ok(());
+    };
+    let cases = [
         unfailing(
             Task::Least(Radix::Dec),
             "0.5\n3\n",
@@ -181,6 +188,21 @@ fn each_task_answers_its_input(rt: HostRuntime) -> Result<(), Fail> {
             Status::Done,
         ),
         unfailing(
+            Task::Columns(whole),
+            "0.5 U7F1\n-1 I8F0\n",
+            "                      -1 I8F0\n                     0.5 U7F1\n",
+            Status::Done,
+        ),
+    ];
+    expect_runs(&rt, rt.alloc(), &cases)?;
+    Ok(())
+}
+
+#[test]
+fn constants_are_written_in_each_form(rt: HostRuntime) -> Result<(), Fail> {
+    let constants = "# gains\nA = 0b_111e-2 I4F4\nB = -3.1875 I4F4\n";
+    let cases = [
+        unfailing(
             in_form(Form::Canonical, b""),
             constants,
             "A = 0x1.c I4F4\nB = -0x3.3 I4F4\n",
@@ -189,7 +211,10 @@ fn each_task_answers_its_input(rt: HostRuntime) -> Result<(), Fail> {
         unfailing(
             in_form(Form::C, b"A_H"),
             constants,
-            "#ifndef A_H\n#define A_H\n\n#include <stdint.h>\n\n#define A INT8_C(0x1c) /* I4F4, 1.75 */\n#define B (-INT8_C(0x33)) /* I4F4, -3.2 */\n\n#endif\n",
+            "\
+                #ifndef A_H\n#define A_H\n\n#include <stdint.h>\n\n\
+                #define A INT8_C(0x1c) /* I4F4, 1.75 */\n\
+                #define B (-INT8_C(0x33)) /* I4F4, -3.2 */\n\n#endif\n",
             Status::Done,
         ),
         unfailing(
@@ -202,12 +227,6 @@ fn each_task_answers_its_input(rt: HostRuntime) -> Result<(), Fail> {
             in_form(Form::Rust, b""),
             "A = 0b_111e-2 I4F4\n",
             "pub const A: FixedI8<4> = FixedI8::from_bits(0x1c);\n",
-            Status::Done,
-        ),
-        unfailing(
-            Task::Columns(whole),
-            "0.5 U7F1\n-1 I8F0\n",
-            "                      -1 I8F0\n                     0.5 U7F1\n",
             Status::Done,
         ),
     ];
