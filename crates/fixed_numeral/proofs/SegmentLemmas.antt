@@ -11,7 +11,7 @@ use Rattle.std.specs.Int.Digits.{AllBelowBase}
 use Rattle.std.specs.Simd.Lanes.{number_l}
 use Rattle.fixed_numeral.proofs.LaneLemmas.{eight_long, eight_below}
 use Rattle.std.specs.Str.Parse.{AllDigits, digits_value, digits_value_after}
-use Rattle.fixed_numeral.specs.Inner.Segments.{IsSignAt, IsDigitRun, IsChunk, IsMantissaAt, IsExponentAt, IsShortAt}
+use Rattle.fixed_numeral.specs.Inner.Segments.{IsSignAt, IsDigitRun, IsChunk, IsMantissaAt, IsExponentAt, IsDecimalAt, IsShortAt}
 use Rattle.fixed_numeral.specs.declared.radix.Radix.{Radix}
 use Rattle.fixed_numeral.specs.declared.radix.Radix.TheVariants.{Dec}
 use Rattle.fixed_numeral.specs.Numeral.{Parts, Exponent, HasNumeral, IsExponentOf, base, is_separator, is_two_separator, fraction_text}
@@ -220,24 +220,26 @@ short_whole bs first to whole scale negative s h e ne l =
     let p : Parts = parts s.sign h.run.digits None None in
     let fits = short_fits (length h.run.digits) 0 (length bs) whole 0 scale 1 (chunk_below 10 bs first to whole scale h) (omega arith) h.scale_is (sym (pow-zero 10)) (omega (arith, h.run.count)) in
     record {
-      parts = p;
-      numeral = record {
-        beginning = record {
-          parts = record { sign = s.is_sign; whole = h.run.are_digits; fraction = tt; exponent = tt };
-          text = s.text ∙ ap (λ ys. option_to_list s.sign ++ ys) (h.run.text ∙ ap (λ ys. h.run.digits ++ ys) (at_end bs to e));
+      decimal = record {
+        parts = p;
+        numeral = record {
+          beginning = record {
+            parts = record { sign = s.is_sign; whole = h.run.are_digits; fraction = tt; exponent = tt };
+            text = s.text ∙ ap (λ ys. option_to_list s.sign ++ ys) (h.run.text ∙ ap (λ ys. h.run.digits ++ ys) (at_end bs to e));
+          };
+          mantissa = rw (append-nil h.run.digits) (omega (arith, h.run.count, ne));
+          exponent = tt;
         };
-        mantissa = rw (append-nil h.run.digits) (omega (arith, h.run.count, ne));
-        exponent = tt;
+        short = short_by p negative whole 0 0 s.is_negative h.run.spelled refl refl refl;
+        below = fits.0;
+        digits = fits.1;
       };
-      short = short_by p negative whole 0 0 s.is_negative h.run.spelled refl refl refl;
-      below = fits.0;
-      digits = fits.1;
       whole_fits = l;
       few = omega arith;
     }
 
-pub short_parted : (bs : List ℕ) (first point to whole scale fraction scale2 places : ℕ) (negative : Bool) → IsSignAt bs 0 first negative → IsChunk 10 bs first point whole scale → point < length bs → get_or bs point 0 ≡ 46 → IsChunk 10 bs (point + 1) to fraction scale2 → to ≡ length bs → first + 1 < length bs → places + (point + 1) ≡ length bs → whole < 10 ^ 16 → places ≤ 16 → IsShortAt bs negative whole fraction places
-short_parted bs first point to whole scale fraction scale2 places negative s h l dot k e some pl fit few =
+pub decimal_parted : (bs : List ℕ) (first point to whole scale fraction scale2 places : ℕ) (negative : Bool) → IsSignAt bs 0 first negative → IsChunk 10 bs first point whole scale → point < length bs → get_or bs point 0 ≡ 46 → IsChunk 10 bs (point + 1) to fraction scale2 → to ≡ length bs → first + 1 < length bs → places + (point + 1) ≡ length bs → IsDecimalAt bs negative whole fraction places
+decimal_parted bs first point to whole scale fraction scale2 places negative s h l dot k e some pl =
     let p : Parts = parts s.sign h.run.digits (Some k.run.digits) None in
     let long : places ≡ length k.run.digits = omega (arith, k.run.count, pl, e) in
     let fits = short_fits (length h.run.digits) places (length bs) whole fraction scale scale2 (chunk_below 10 bs first point whole scale h) (chunk_below 10 bs (point + 1) to fraction scale2 k) h.scale_is (rw long k.scale_is) (omega (arith, h.run.count, k.run.count, long)) in
@@ -254,12 +256,17 @@ short_parted bs first point to whole scale fraction scale2 places negative s h l
       short = short_by p negative whole fraction places s.is_negative h.run.spelled k.run.spelled long refl;
       below = fits.0;
       digits = fits.1;
-      whole_fits = fit;
-      few = few;
     }
 
-pub short_parts : (bs : List ℕ) (negative : Bool) (whole fraction places : ℕ) (p : Parts) → IsShortAt bs negative whole fraction places → HasNumeral Dec bs p → IsShortDecimal p negative whole fraction places
-short_parts bs negative whole fraction places p h n =
+pub short_parted : (bs : List ℕ) (first point to whole scale fraction scale2 places : ℕ) (negative : Bool) → IsSignAt bs 0 first negative → IsChunk 10 bs first point whole scale → point < length bs → get_or bs point 0 ≡ 46 → IsChunk 10 bs (point + 1) to fraction scale2 → to ≡ length bs → first + 1 < length bs → places + (point + 1) ≡ length bs → whole < 10 ^ 16 → places ≤ 16 → IsShortAt bs negative whole fraction places
+short_parted bs first point to whole scale fraction scale2 places negative s h l dot k e some pl fit few = record {
+  decimal = decimal_parted bs first point to whole scale fraction scale2 places negative s h l dot k e some pl;
+  whole_fits = fit;
+  few = few;
+}
+
+pub decimal_parts : (bs : List ℕ) (negative : Bool) (whole fraction places : ℕ) (p : Parts) → IsDecimalAt bs negative whole fraction places → HasNumeral Dec bs p → IsShortDecimal p negative whole fraction places
+decimal_parts bs negative whole fraction places p h n =
     let same = parts_unique Dec bs p h.parts n.beginning h.numeral.beginning in
     rw same h.short
 
@@ -307,12 +314,21 @@ chunk_joined b bs from mid to n m s t p q = record {
   scale_is = rw (length-append p.run.digits q.run.digits, pow-add b (length p.run.digits) (length q.run.digits), p.scale_is, q.scale_is) refl;
 }
 
+chunk_of_two : (bs : List ℕ) (from mid to n m : ℕ) → from ≤ mid → mid ≤ to → IsChunk 10 bs from mid n (10 ^ (mid - from)) → IsChunk 10 bs mid to m (10 ^ (to - mid)) → IsChunk 10 bs from to (n * 10 ^ (to - mid) + m) (10 ^ (to - from))
+chunk_of_two bs from mid to n m l k p q =
+    let both = chunk_joined 10 bs from mid to n m (10 ^ (mid - from)) (10 ^ (to - mid)) p q in
+    let scale : 10 ^ (mid - from) * 10 ^ (to - mid) ≡ 10 ^ (to - from) = sym (pow-add 10 (mid - from) (to - mid)) ∙ ap (λ i. 10 ^ i) (omega arith) in
+    subst (λ i. IsChunk 10 bs from to (n * 10 ^ (to - mid) + m) i) scale both
+
 pub chunk_of_both : (bs : List ℕ) (from mid to n m : ℕ) → from ≤ mid → mid ≤ to → IsChunk 10 bs from mid n (10 ^ (mid - from)) → IsChunk 10 bs mid to m (10 ^ (to - mid)) → to - mid ≡ 8 → IsChunk 10 bs from to (n * 100000000 + m) (10 ^ (to - from))
 chunk_of_both bs from mid to n m l k p q e =
-    let both = chunk_joined 10 bs from mid to n m (10 ^ (mid - from)) (10 ^ (to - mid)) p q in
     let eight : 10 ^ (to - mid) ≡ 100000000 = ap (λ i. 10 ^ i) e in
-    let scale : 10 ^ (mid - from) * 10 ^ (to - mid) ≡ 10 ^ (to - from) = sym (pow-add 10 (mid - from) (to - mid)) ∙ ap (λ i. 10 ^ i) (omega arith) in
-    subst (λ i. IsChunk 10 bs from to (n * i + m) (10 ^ (to - from))) eight (subst (λ i. IsChunk 10 bs from to (n * 10 ^ (to - mid) + m) i) scale both)
+    subst (λ i. IsChunk 10 bs from to (n * i + m) (10 ^ (to - from))) eight (chunk_of_two bs from mid to n m l k p q)
+
+pub chunk_of_sixteen : (bs : List ℕ) (from mid to n m : ℕ) → from ≤ mid → mid ≤ to → IsChunk 10 bs from mid n (10 ^ (mid - from)) → IsChunk 10 bs mid to m (10 ^ (to - mid)) → to - mid ≡ 16 → IsChunk 10 bs from to (n * 10000000000000000 + m) (10 ^ (to - from))
+chunk_of_sixteen bs from mid to n m l k p q e =
+    let sixteen : 10 ^ (to - mid) ≡ 10000000000000000 = ap (λ i. 10 ^ i) e in
+    subst (λ i. IsChunk 10 bs from to (n * i + m) (10 ^ (to - from))) sixteen (chunk_of_two bs from mid to n m l k p q)
 
 pub high_fits : (bs : List ℕ) (from mid n m : ℕ) → IsChunk 10 bs from mid n (10 ^ (mid - from)) → mid - from ≤ 8 → m < 10 ^ 8 → (n * 100000000 < 2 ^ 64) × (n * 100000000 + m < 2 ^ 64)
 high_fits bs from mid n m h few l =

@@ -14,6 +14,7 @@ mod segment;
 mod short;
 mod short_radix;
 mod swar;
+mod wide;
 
 pub use compact::{CompactNumeral, compact_numeral};
 pub use digit_view::DigitView;
@@ -24,6 +25,7 @@ pub use scanned::Scanned;
 pub use scanner::scan;
 pub use short::{ShortDecimal, ending_decimal, short_decimal};
 pub use short_radix::{ShortNumeral, short_numeral};
+pub use wide::{WideDecimal, wide_decimal};
 
 #[cfg(test)]
 mod tests;

@@ -2,14 +2,14 @@
 
 use crate::error::{ParseErrorKind, ParseFixedError};
 use crate::radix::Radix;
-use crate::{CompactNumeral, ShortDecimal, ShortNumeral};
+use crate::{CompactNumeral, ShortDecimal, ShortNumeral, WideDecimal};
 use std::test::Fail;
 
 mod support;
 
 use support::{
     Views, compact, first, kind_of_bad, lengths, literal, no_literal, reads, refused,
-    refused_bytes, short, short_in, short_with, spelled_by,
+    refused_bytes, short, short_in, short_with, spelled_by, wide, wide_with,
 };
 
 #[test]
@@ -273,6 +273,78 @@ fn short_decimals_are_read(rt: HostRuntime) {
             places,
         };
         assert!(rt; short(text) == Some(want));
+    }
+}
+
+#[test]
+fn wide_decimals_are_read(rt: HostRuntime) {
+    for (text, negative, whole, fraction, places) in [
+        (
+            b".123456789012345678901234567".as_slice(),
+            false,
+            0,
+            123456789012345678901234567,
+            27,
+        ),
+        (b"-0.000000000000000000000000001", true, 0, 1, 27),
+        (
+            b"+123456789.1234567890123456",
+            false,
+            123456789,
+            1234567890123456,
+            16,
+        ),
+        (
+            b"123456789012345.1234567890",
+            false,
+            123456789012345,
+            1234567890,
+            10,
+        ),
+        (
+            b"123456789012345.12345678901234567",
+            false,
+            123456789012345,
+            12345678901234567,
+            17,
+        ),
+        (
+            b"-12345678901234.999999999999999999999999999",
+            true,
+            12345678901234,
+            999999999999999999999999999,
+            27,
+        ),
+        (b"7.00000000000000000000000050", false, 7, 50, 26),
+    ] {
+        let want = WideDecimal {
+            negative,
+            whole,
+            fraction,
+            places,
+        };
+        assert!(rt; wide(text) == Some(want));
+    }
+}
+
+#[test]
+fn what_is_no_wide_decimal_is_left_alone(rt: HostRuntime) {
+    for text in [
+        b"".as_slice(),
+        b"0.1234567890123456789012",
+        b"0.1234567890123456789012345678",
+        b"12345678901234567.1234567890",
+        b"1234567890123456789012345",
+        b"0.123456789012345678901234e1",
+        b"0.12345678901234567890.12345",
+        b"--0.12345678901234567890123",
+    ] {
+        assert!(rt; wide(text) == None);
+    }
+    for place in 0..28 {
+        for other in [b'/', b':', b'e', b' ', 0, 0x80, 0xb0, 0xba, 0xff] {
+            assert!(rt; wide_with(place, other) == None, "at {place}, byte {other}");
+        }
     }
 }
 

@@ -49,12 +49,22 @@ pub record IsExponentAt (r : Radix) (bs : List ℕ) (from : ℕ) (number : ℤ) 
   pub is_number : number ≡ exponent_value exponent
   pub is_by_two : by_two ≡ is_power_of_two r exponent
 
--- the whole text is a decimal without an exponent
-pub record IsShortAt (bs : List ℕ) (negative : Bool) (whole fraction places : ℕ) : Type 0 where
+-- the whole text is a decimal without an exponent, and these are the numbers of its parts
+pub record IsDecimalAt (bs : List ℕ) (negative : Bool) (whole fraction places : ℕ) : Type 0 where
   pub parts : Parts
   pub numeral : HasNumeral Dec bs parts
   pub short : IsShortDecimal parts negative whole fraction places
   pub below : fraction < 10 ^ places
   pub digits : whole * 10 ^ places + fraction < 10 ^ length bs
+
+-- the same, with few digits before and after the point
+pub record IsShortAt (bs : List ℕ) (negative : Bool) (whole fraction places : ℕ) : Type 0 where
+  pub decimal : IsDecimalAt bs negative whole fraction places
   pub whole_fits : whole < 10 ^ 16
   pub few : places ≤ 16
+
+-- the same, with as many digits after the point as 128 bits hold when they are rounded
+pub record IsWideAt (bs : List ℕ) (negative : Bool) (whole fraction places : ℕ) : Type 0 where
+  pub decimal : IsDecimalAt bs negative whole fraction places
+  pub whole_fits : whole < 10 ^ 16
+  pub few : places ≤ 27

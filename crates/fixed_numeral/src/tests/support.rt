@@ -6,8 +6,8 @@ use crate::error::ParseErrorKind;
 use crate::radix::Radix;
 use crate::scanned::Scanned;
 use crate::{
-    CompactNumeral, DigitView, ShortDecimal, ShortNumeral, compact_numeral, scan, scan_lit,
-    short_decimal, short_numeral,
+    CompactNumeral, DigitView, ShortDecimal, ShortNumeral, WideDecimal, compact_numeral, scan,
+    scan_lit, short_decimal, short_numeral, wide_decimal,
 };
 use fixed_steps::Steps;
 use std::marker::Brand;
@@ -232,6 +232,29 @@ fn short_over<L: Ledger>(text: &[u8], blank: Blank) -> Option<ShortDecimal>
 
 pub(super) fn short(text: &[u8]) -> Option<ShortDecimal> {
     short_over::<Brand>(text, Blank::new(1))
+}
+
+fn wide_over<L: Ledger>(text: &[u8], blank: Blank) -> Option<WideDecimal>
+    requires name { blank.name ≡ L.name }
+    requires parts { blank.parts ≡ L.parts }
+    requires backed { 0 < L.parts }
+{
+    let mut steps: Steps<L> = Steps::new(blank);
+    wide_decimal(text, &mut steps)
+}
+
+pub(super) fn wide(text: &[u8]) -> Option<WideDecimal> {
+    wide_over::<Brand>(text, Blank::new(1))
+}
+
+/// The wide decimal of 27 ones after a point, once another byte takes the place of one of the 28.
+pub(super) fn wide_with(place: usize, other: u8) -> Option<WideDecimal> {
+    let mut text = [b'1'; 28];
+    text[0] = b'.';
+    if place < text.len() {
+        text[place] = other;
+    }
+    wide(&text)
 }
 
 fn compact_over<L: Ledger>(radix: Radix, text: &[u8], blank: Blank) -> Option<CompactNumeral>
