@@ -10,14 +10,16 @@ use Rattle.csv.specs.Writing.{row_text}
 use Rattle.csv.specs.declared.parser.State.{State}
 use Rattle.csv.specs.declared.parser.State.TheVariants.{StartRecord}
 use Rattle.csv.specs.declared.reader.Reader.{Reader}
-use Rattle.csv.proofs.ReadFacts.{keeps-trans, rows-more}
+use Rattle.csv.proofs.ReadFacts.{keeps-trans, rows-end, rows-more}
 use Rattle.csv.proofs.WriteFacts.{appends-more, appends-none}
 use Rattle.line_engine.specs.AnswerText.{AnswerText}
 use Rattle.column_engine.specs.declared.column.Column.{Column}
 use Rattle.column_engine.specs.declared.column.Column.TheVariants.{At, Named}
 use Rattle.column_engine.specs.declared.end.Stop.{Stop}
-use Rattle.column_engine.specs.declared.end.Stop.TheVariants.{ReadFault, WriteFault}
-use Rattle.column_engine.specs.Column.{AnswersNext, AnswersRecord, AreAnswered, HasAnswered, IsAnswered, IsAnsweredText, IsReadStop, IsReady, count_refused, first_refused, reads_with, writes_with}
+use Rattle.column_engine.specs.declared.end.Stop.TheVariants.{Done, NoColumn, NoMemory, NoName, ReadFault, TooLong, Unclosed, WriteFault}
+use Rattle.column_engine.specs.declared.watched.Refused.{Refused}
+use Rattle.column_engine.specs.declared.watched.Refused.TheVariants as refused
+use Rattle.column_engine.specs.Column.{AnswersNext, AnswersRecord, AreAnswered, HasAnswered, IsAnswered, IsAnsweredText, IsReadStop, IsReady, LacksColumn, NothingAnswered, StopsHeader, UnansweredBy, count_refused, explained_stop, first_refused, reads_with, writes_with}
 
 flat_one : {X Y : Type 0} (f : X → List Y) (xs : List X) (x : X) → flat_map f (xs ++ x ∷ []) ≡ flat_map f xs ++ f x
 flat_one f [] x = append-nil (f x)
@@ -117,6 +119,28 @@ header_read remaining delimiter text header a b ready left read =
     let p = more.2 in
     (more.0, more.1, next_is _ p.0 header (reader_state b) more.0 p.1 p.2 p.3.0 p.3.1)
 
+-- a header that was read and has no such column, in the text
+lacks_header : {R : Type 0} (stop : Stop) (remaining : R → Option (List ℕ)) (name : List ℕ) (number : Option ℕ) (delimiter : ℕ) (text : List ℕ) (header : List (List ℕ)) (a b : Reader R)
+    → IsReady delimiter a → source_of remaining a ≡ Some text → ReadRecord remaining a b true header → LacksColumn stop name number header
+    → (next : Read) × (next_record (reads_with delimiter) (reader_state a) [] [] text ≡ Some next) × LacksColumn stop name number next.0
+lacks_header stop remaining name number delimiter text header a b ready left read lacks =
+    let found = header_read remaining delimiter text header a b ready left read in
+    ((header, reader_state b, found.0), found.2, lacks)
+
+-- why a read gave no header says why the text has no records under one
+pub unanswered_by : {R : Type 0} (stop : Stop) (remaining : R → Option (List ℕ)) (name : List ℕ) (number : Option ℕ) (delimiter : ℕ) (text : List ℕ) (a b : Reader R)
+    → IsReady delimiter a → source_of remaining a ≡ Some text → ((stop ≡ WriteFault) → ⊥) → StopsHeader stop remaining name number a b
+    → UnansweredBy stop name number delimiter (reader_state a) text
+unanswered_by Done remaining name number delimiter text a b ready left fine h = rows-end remaining a b [] (reads_with delimiter) text ready.config left h
+unanswered_by NoName remaining name number delimiter text a b ready left fine h = lacks_header NoName remaining name number delimiter text h.0 a b ready left h.1 h.2
+unanswered_by (NoColumn count) remaining name number delimiter text a b ready left fine h =
+    lacks_header (NoColumn count) remaining name number delimiter text h.0 a b ready left h.1 h.2
+unanswered_by ReadFault remaining name number delimiter text a b ready left fine h = tt
+unanswered_by NoMemory remaining name number delimiter text a b ready left fine h = tt
+unanswered_by WriteFault remaining name number delimiter text a b ready left fine h = fine refl
+unanswered_by TooLong remaining name number delimiter text a b ready left fine h = h
+unanswered_by Unclosed remaining name number delimiter text a b ready left fine h = h
+
 keep_appends : (a b c : Option (List ℕ)) (xs : List ℕ) → Appends a b xs → Keeps b c → Appends a c xs
 keep_appends None b c xs x k = tt
 keep_appends (Some s) None c xs x k = absurd x
@@ -135,6 +159,16 @@ keep_answered A keeps column delimiter before from text to rest old mid new answ
       read = h.read;
       are = h.are;
       written = keep_appends old mid new _ h.written k;
+      answered_is = h.answered_is;
+      refused_is = h.refused_is;
+      first_is = h.first_is;
+    }
+
+keep_nothing : (old mid new : Option (List ℕ)) (answered refused first : ℕ) → NothingAnswered old mid answered refused first → Keeps mid new
+    → NothingAnswered old new answered refused first
+keep_nothing old mid new answered refused first h k =
+    record {
+      kept = keeps-trans old mid new h.kept k;
       answered_is = h.answered_is;
       refused_is = h.refused_is;
       first_is = h.first_is;
@@ -161,7 +195,7 @@ keep_text A keeps (Named name number) delimiter from text old mid new stop answe
       ends = h.ends;
     })
 keep_text A keeps (Named name number) delimiter from text old mid new stop answered refused first (inr h) k =
-    inr (keeps-trans old mid new h.0 k, h.1)
+    inr (keep_nothing old mid new answered refused first h.0 k, h.1)
 
 pub keep_all : (A : List ℕ → AnswerText → Type 0) (keeps : Bool) (column : Column) (delimiter : ℕ) (text : List ℕ) (old mid new : Option (List ℕ)) (stop : Stop) (answered refused first : ℕ)
     → IsAnswered A keeps column delimiter text old mid stop answered refused first → Keeps mid new
@@ -169,16 +203,32 @@ pub keep_all : (A : List ℕ → AnswerText → Type 0) (keeps : Bool) (column :
 keep_all A keeps column delimiter text old mid new stop answered refused first (inl h) k = inl (keep_text A keeps column delimiter StartRecord (strip_bom text) old mid new stop answered refused first h k)
 keep_all A keeps column delimiter text old mid new stop answered refused first (inr (inl h)) k =
     inr (inl (h.0, keep_text A keeps column delimiter StartRecord (strip_bom text) old mid new ReadFault answered refused first h.1 k))
-keep_all A keeps column delimiter text old mid new stop answered refused first (inr (inr h)) k = inr (inr (h.0, keeps-trans old mid new h.1 k, h.2))
+keep_all A keeps column delimiter text old mid new stop answered refused first (inr (inr h)) k = inr (inr (h.0, keep_nothing old mid new answered refused first h.1 k))
 
--- what is known of a text up to a stop, where the reader says why it failed
-pub explained_text : (A : List ℕ → AnswerText → Type 0) (keeps : Bool) (column : Column) (delimiter : ℕ) (text : List ℕ) (old new : Option (List ℕ)) (stop shown : Stop) (answered refused first : ℕ)
-    → (shown ≡ stop) ⊎ ((stop ≡ ReadFault) × IsReadStop shown) → ((shown ≡ WriteFault) → ⊥)
+-- the stop that is shown is the one that was, or says why a read failed
+shown_stop : (stop : Stop) (why : Option Refused) → (explained_stop stop why ≡ stop) ⊎ ((stop ≡ ReadFault) × IsReadStop (explained_stop stop why))
+shown_stop ReadFault None = inl refl
+shown_stop ReadFault (Some refused.Failed) = inl refl
+shown_stop ReadFault (Some refused.Unclosed) = inr (refl, inl refl)
+shown_stop ReadFault (Some refused.TooLong) = inr (refl, inr refl)
+shown_stop Done why = inl refl
+shown_stop WriteFault why = inl refl
+shown_stop NoMemory why = inl refl
+shown_stop TooLong why = inl refl
+shown_stop Unclosed why = inl refl
+shown_stop (NoColumn count) why = inl refl
+shown_stop NoName why = inl refl
+
+pub explained_text : (A : List ℕ → AnswerText → Type 0) (keeps : Bool) (column : Column) (delimiter : ℕ) (text : List ℕ) (old new : Option (List ℕ)) (stop shown : Stop) (why : Option Refused) (answered refused first : ℕ)
+    → shown ≡ explained_stop stop why → ((shown ≡ WriteFault) → ⊥)
     → (((stop ≡ WriteFault) → ⊥) → IsAnsweredText A keeps column delimiter StartRecord (strip_bom text) old new stop answered refused first)
     → IsAnswered A keeps column delimiter text old new shown answered refused first
-explained_text A keeps column delimiter text old new stop shown answered refused first (inl e) fine h =
-    let now = h (λ w. fine (e ∙ w)) in
-    inl (rw e now)
-explained_text A keeps column delimiter text old new stop shown answered refused first (inr e) fine h =
-    let now = h (λ w. cc (sym e.0 ∙ w)) in
-    inr (inl (e.1, rw e.0 at now))
+explained_text A keeps column delimiter text old new stop shown why answered refused first is fine h = by (shown_stop stop why)
+  where
+    by : (explained_stop stop why ≡ stop) ⊎ ((stop ≡ ReadFault) × IsReadStop (explained_stop stop why)) → IsAnswered A keeps column delimiter text old new shown answered refused first
+    by (inl e) =
+        let now = h (λ w. fine (is ∙ e ∙ w)) in
+        inl (rw (is, e) now)
+    by (inr e) =
+        let now = h (λ w. cc (sym e.0 ∙ w)) in
+        inr (inl (rw is e.1, rw e.0 at now))

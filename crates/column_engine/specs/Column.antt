@@ -1,5 +1,5 @@
 -- What is written for the records of a CSV text, one of whose columns is answered by a rule.
-use Rattle.std.specs.Prelude.{◌≡◌, ◌≢◌, ◌⊎◌, ◌≤◌, ◌<◌, ◌+◌, ◌&&◌, ℕ, suc, List, [], ◌∷◌, ◌++◌, Bool, true, false, ⊤, Option, Some, None, if◌then◌else◌, drop, flat_map, get_or, length, string_bytes, take}
+use Rattle.std.specs.Prelude.{◌≡◌, ◌≢◌, ◌⊎◌, ◌≤◌, ◌<◌, ◌+◌, ◌-◌, ◌^◌, ◌&&◌, ℕ, suc, List, [], ◌∷◌, ◌++◌, Bool, true, false, ⊤, Option, Some, None, if◌then◌else◌, drop, flat_map, get_or, length, string_bytes, take}
 use Rattle.std.specs.Io.KnownBytes.{Appends, Keeps}
 use Rattle.csv.specs.Machine.{Read, next_record}
 use Rattle.csv.specs.Reading.{ReadRecord, Reached, Ready, default_config, reader_config, reader_trim, strip_bom}
@@ -15,6 +15,8 @@ use Rattle.line_engine.specs.AnswerText.{AnswerText}
 use Rattle.column_engine.specs.declared.column.Column.{Column}
 use Rattle.column_engine.specs.declared.column.Column.TheVariants.{At, Named}
 use Rattle.column_engine.specs.declared.end.Stop.{Stop}
+use Rattle.column_engine.specs.declared.watched.Refused.{Refused}
+use Rattle.column_engine.specs.declared.watched.Refused.TheVariants as refused
 use Rattle.column_engine.specs.declared.end.Stop.TheVariants.{Done, NoColumn, NoMemory, NoName, ReadFault, TooLong, Unclosed, WriteFault}
 
 -- how a text is read, and how its records are written, with this byte between fields
@@ -100,27 +102,28 @@ pub record AnswersNext {R : Type 0} (remaining : R → Option (List ℕ)) (A : L
   pub answers : AnswersRecord A keeps column fields answered refused
   pub written : Appends before after (row_text (writes_with delimiter) answered)
 
--- why a read gave no record that has the column
+-- why a read gave no record that has the column, or its answer was not written
 abbrev pub StopsNext : {R : Type 0} → Stop → (R → Option (List ℕ)) → ℕ → Reader R → Reader R → Type 0
 StopsNext Done remaining column old new = ReadRecord remaining old new false []
 StopsNext (NoColumn count) remaining column old new = (fields : List (List ℕ)) × ReadRecord remaining old new true fields × (length fields ≡ count) × (count ≤ column)
 StopsNext ReadFault remaining column old new = ⊤
 StopsNext NoMemory remaining column old new = ⊤
-StopsNext WriteFault remaining column old new = ⊤
+StopsNext WriteFault remaining column old new = (fields : List (List ℕ)) × ReadRecord remaining old new true fields × (column < length fields)
 StopsNext TooLong remaining column old new = ⊥
 StopsNext Unclosed remaining column old new = ⊥
 StopsNext NoName remaining column old new = ⊥
 
--- why no further record was answered: there is none, or the next one has no such column, but only so many
-abbrev pub EndsBy : Stop → ℕ → ℕ → State → List ℕ → Type 0
-EndsBy Done delimiter column at rest = next_record (reads_with delimiter) at [] [] rest ≡ None
-EndsBy (NoColumn count) delimiter column at rest = (next : Read) × (next_record (reads_with delimiter) at [] [] rest ≡ Some next) × (length next.0 ≡ count) × (count ≤ column)
-EndsBy ReadFault delimiter column at rest = ⊤
-EndsBy WriteFault delimiter column at rest = ⊤
-EndsBy NoMemory delimiter column at rest = ⊤
-EndsBy TooLong delimiter column at rest = ⊤
-EndsBy Unclosed delimiter column at rest = ⊤
-EndsBy NoName delimiter column at rest = ⊤
+-- why no further record was answered after so many: there is none, the next one has no such column, but only so many, or the count is full
+abbrev pub EndsBy : Stop → ℕ → ℕ → ℕ → State → List ℕ → Type 0
+EndsBy Done answered delimiter column at rest = next_record (reads_with delimiter) at [] [] rest ≡ None
+EndsBy (NoColumn count) answered delimiter column at rest =
+    (next : Read) × (next_record (reads_with delimiter) at [] [] rest ≡ Some next) × (length next.0 ≡ count) × (count ≤ column)
+EndsBy ReadFault answered delimiter column at rest = ⊤
+EndsBy NoMemory answered delimiter column at rest = ⊤
+EndsBy TooLong answered delimiter column at rest = answered ≡ 2 ^ 64 - 1
+EndsBy WriteFault answered delimiter column at rest = ⊥
+EndsBy Unclosed answered delimiter column at rest = ⊥
+EndsBy NoName answered delimiter column at rest = ⊥
 
 -- the first of these fields that is this name
 pub record IsFirstNamed (name : List ℕ) (fields : List (List ℕ)) (place : ℕ) : Type 0 where
@@ -136,6 +139,18 @@ HasNoNamed name fields = (k : ℕ) → k < length fields → get_or fields k [] 
 abbrev pub IsColumnUnder : List ℕ → Option ℕ → List (List ℕ) → ℕ → Type 0
 IsColumnUnder name number header place = IsFirstNamed name header place ⊎ (HasNoNamed name header × (number ≡ Some place))
 
+-- why a header has no column for a name: none of its fields is the name, which is no number, or the number of a place behind them
+abbrev pub LacksColumn : Stop → List ℕ → Option ℕ → List (List ℕ) → Type 0
+LacksColumn NoName name number header = HasNoNamed name header × (number ≡ None)
+LacksColumn (NoColumn count) name number header =
+    (length header ≡ count) × (place : ℕ) × HasNoNamed name header × (number ≡ Some place) × (count ≤ place)
+LacksColumn Done name number header = ⊥
+LacksColumn ReadFault name number header = ⊥
+LacksColumn WriteFault name number header = ⊥
+LacksColumn NoMemory name number header = ⊥
+LacksColumn TooLong name number header = ⊥
+LacksColumn Unclosed name number header = ⊥
+
 -- the header was read, and written as it is
 pub record PassesHeader {R : Type 0} (remaining : R → Option (List ℕ)) (name : List ℕ) (number : Option ℕ) (delimiter : ℕ) (old new : Reader R) (before after : Option (List ℕ)) (column : ℕ) : Type 0 where
   pub header : List (List ℕ)
@@ -143,6 +158,39 @@ pub record PassesHeader {R : Type 0} (remaining : R → Option (List ℕ)) (name
   pub is_column : IsColumnUnder name number header column
   pub there : column < length header
   pub written : Appends before after (row_text (writes_with delimiter) header)
+
+-- why a read gave no header that has the column, or it was not written
+abbrev pub StopsHeader : {R : Type 0} → Stop → (R → Option (List ℕ)) → List ℕ → Option ℕ → Reader R → Reader R → Type 0
+StopsHeader Done remaining name number old new = ReadRecord remaining old new false []
+StopsHeader NoName remaining name number old new = (header : List (List ℕ)) × ReadRecord remaining old new true header × LacksColumn NoName name number header
+StopsHeader (NoColumn count) remaining name number old new =
+    (header : List (List ℕ)) × ReadRecord remaining old new true header × LacksColumn (NoColumn count) name number header
+StopsHeader ReadFault remaining name number old new = ⊤
+StopsHeader NoMemory remaining name number old new = ⊤
+StopsHeader WriteFault remaining name number old new =
+    (header : List (List ℕ)) × ReadRecord remaining old new true header × (column : ℕ) × IsColumnUnder name number header column × (column < length header)
+StopsHeader TooLong remaining name number old new = ⊥
+StopsHeader Unclosed remaining name number old new = ⊥
+
+-- why a text has no records under a header that are answered: there is no header, or it has no such column
+abbrev pub UnansweredBy : Stop → List ℕ → Option ℕ → ℕ → State → List ℕ → Type 0
+UnansweredBy Done name number delimiter from text = next_record (reads_with delimiter) from [] [] text ≡ None
+UnansweredBy NoName name number delimiter from text =
+    (header : Read) × (next_record (reads_with delimiter) from [] [] text ≡ Some header) × LacksColumn NoName name number header.0
+UnansweredBy (NoColumn count) name number delimiter from text =
+    (header : Read) × (next_record (reads_with delimiter) from [] [] text ≡ Some header) × LacksColumn (NoColumn count) name number header.0
+UnansweredBy ReadFault name number delimiter from text = ⊤
+UnansweredBy NoMemory name number delimiter from text = ⊤
+UnansweredBy WriteFault name number delimiter from text = ⊥
+UnansweredBy TooLong name number delimiter from text = ⊥
+UnansweredBy Unclosed name number delimiter from text = ⊥
+
+-- nothing was answered or written
+pub record NothingAnswered (old new : Option (List ℕ)) (answered refused first : ℕ) : Type 0 where
+  pub kept : Keeps old new
+  pub answered_is : answered ≡ 0
+  pub refused_is : refused ≡ 0
+  pub first_is : first ≡ 0
 
 -- a text under a header is answered: the header first, as it is, and then each record
 pub record HasAnsweredUnder (A : List ℕ → AnswerText → Type 0) (keeps : Bool) (name : List ℕ) (number : Option ℕ) (delimiter : ℕ) (from : State) (text : List ℕ)
@@ -158,30 +206,30 @@ pub record HasAnsweredUnder (A : List ℕ → AnswerText → Type 0) (keeps : Bo
   pub to : State
   pub rest : List ℕ
   pub records : HasAnswered A keeps column delimiter 1 begun left to rest mid new answered refused first
-  pub ends : EndsBy stop delimiter column to rest
+  pub ends : EndsBy stop answered delimiter column to rest
 
--- the text that is answered, by which column is: the records of a text without a header, or those under one; or nothing is written, for
--- a header that is not there or that has no such column
+-- the text that is answered, by which column is: the records of a text without a header, or those under one; or nothing is, for a
+-- header that is not there or that has no such column
 abbrev pub IsAnsweredText : (List ℕ → AnswerText → Type 0) → Bool → Column → ℕ → State → List ℕ → Option (List ℕ) → Option (List ℕ) → Stop → ℕ → ℕ → ℕ → Type 0
 IsAnsweredText A keeps (At column) delimiter from text old new stop answered refused first =
-    (to : State) × (rest : List ℕ) × HasAnswered A keeps column delimiter 0 from text to rest old new answered refused first × EndsBy stop delimiter column to rest
+    (to : State) × (rest : List ℕ) × HasAnswered A keeps column delimiter 0 from text to rest old new answered refused first × EndsBy stop answered delimiter column to rest
 IsAnsweredText A keeps (Named name number) delimiter from text old new stop answered refused first =
-    HasAnsweredUnder A keeps (string_bytes name) number delimiter from text old new stop answered refused first ⊎ (Keeps old new × (answered ≡ 0))
+    HasAnsweredUnder A keeps (string_bytes name) number delimiter from text old new stop answered refused first
+    ⊎ (NothingAnswered old new answered refused first × UnansweredBy stop (string_bytes name) number delimiter from text)
 
--- a failed read, or what it failed for: quotes that are never closed, or a record that is too long
+-- how a stop is shown, where the reader underneath refused to give more bytes for this reason
+abbrev pub explained_stop : Stop → Option Refused → Stop
+explained_stop ReadFault (Some refused.Unclosed) = Unclosed
+explained_stop ReadFault (Some refused.TooLong) = TooLong
+explained_stop stop why = stop
+
+-- a read that failed for quotes that are never closed, or for a record that is too long
 abbrev pub IsReadStop : Stop → Type 0
-IsReadStop ReadFault = ⊤
-IsReadStop Unclosed = ⊤
-IsReadStop TooLong = ⊤
-IsReadStop Done = ⊥
-IsReadStop WriteFault = ⊥
-IsReadStop NoMemory = ⊥
-IsReadStop (NoColumn count) = ⊥
-IsReadStop NoName = ⊥
+IsReadStop stop = (stop ≡ Unclosed) ⊎ (stop ≡ TooLong)
 
--- a text, whose byte order mark is passed over, is answered up to this stop
+-- a text, whose byte order mark is passed over, is answered up to this stop; or there was no memory to begin with
 abbrev pub IsAnswered : (List ℕ → AnswerText → Type 0) → Bool → Column → ℕ → List ℕ → Option (List ℕ) → Option (List ℕ) → Stop → ℕ → ℕ → ℕ → Type 0
 IsAnswered A keeps column delimiter text old new stop answered refused first =
     IsAnsweredText A keeps column delimiter StartRecord (strip_bom text) old new stop answered refused first
     ⊎ (IsReadStop stop × IsAnsweredText A keeps column delimiter StartRecord (strip_bom text) old new ReadFault answered refused first)
-    ⊎ ((stop ≡ NoMemory) × Keeps old new × (answered ≡ 0))
+    ⊎ ((stop ≡ NoMemory) × NothingAnswered old new answered refused first)

@@ -1,6 +1,6 @@
 //! Which column of a text is answered.
 
-ghost use Rattle.std.specs.Prelude.{◌≡◌, ◌≢◌, ◌<◌, ◌≤◌, [], ℕ, List, MatchOption, IfNone, IfOk, IfSome, get_or, length, false, true, None, Some};
+ghost use Rattle.std.specs.Prelude.{◌≡◌, ◌≢◌, ◌<◌, ◌≤◌, [], ℕ, List, MatchOption, get_or, length, false, true, None, Some};
 ghost use Rattle.csv.specs.Records.{fields_of};
 ghost use Rattle.column_engine.specs.Column.{HasNoNamed, IsColumnUnder, IsFirstNamed};
 
@@ -39,7 +39,7 @@ fn place_of_name(header: &ByteRecord, name: &[u8]) -> Option<usize>
 
 /// The column under a header.
 pub fn column_under(header: &ByteRecord, name: &[u8], number: Option<usize>) -> Option<usize>
-    ensures some { IfSome result (λ place. IsColumnUnder name.now number (fields_of header.now) place) }
+    ensures { MatchOption result (HasNoNamed name.now (fields_of header.now) × (number ≡ None)) (IsColumnUnder name.now number (fields_of header.now)) }
 {
     match place_of_name(header, name) {
         Some(place) => Some(place),

@@ -105,7 +105,7 @@ pub fn answer_records<A: LineRule<L>, S: Read, W: Write + Drop, L: Ledger>(
     ensures answered { (text : List ℕ) → source_of S.remaining records.old ≡ Some text → result.stop ≢ Stop.WriteFault
         → (to : State) × (rest : List ℕ) × HasAnswered (A.Answers job.now.rule.now) job.now.is_kept job.now.column job.now.delimiter before (reader_state records.old) text to rest
         (text_written W.contents out.old) (text_written W.contents out.new) result.answered result.refused result.first
-        × EndsBy result.stop job.now.delimiter job.now.column to rest }
+        × EndsBy result.stop result.answered job.now.delimiter job.now.column to rest }
 {
     let mut reply = Output::new();
     let mut refused = 0;

@@ -7,7 +7,7 @@ ghost use Rattle.csv.specs.Records.{fields_of};
 ghost use Rattle.csv.specs.Writing.{text_written};
 ghost use Rattle.csv.specs.declared.parser.State.TheVariants as st;
 ghost use Rattle.column_engine.specs.declared.end.Stop.{Stop};
-ghost use Rattle.column_engine.specs.Column.{HasAnsweredUnder, IsAnswered, IsAnsweredText, IsColumnUnder, IsIdle, IsReadStop, IsReady, PassesHeader};
+ghost use Rattle.column_engine.specs.Column.{HasAnsweredUnder, IsAnswered, IsAnsweredText, IsColumnUnder, IsIdle, IsReady, LacksColumn, NothingAnswered, PassesHeader, StopsHeader, UnansweredBy, explained_stop};
 
 use crate::column::{Column, column_under};
 use crate::end::{ColumnEnd, Stop};
@@ -37,6 +37,8 @@ pub struct ColumnTask<'a, A> {
 fn unanswered(stop: Stop) -> ColumnEnd
     ensures stop { result.stop ≡ stop }
     ensures answered { result.answered ≡ 0 }
+    ensures refused { result.refused ≡ 0 }
+    ensures first { result.first ≡ 0 }
 {
     ColumnEnd {
         stop,
@@ -50,7 +52,7 @@ fn unanswered(stop: Stop) -> ColumnEnd
 fn column_of(row: &ByteRecord, name: &[u8], number: Option<usize>) -> Result<usize, Stop>
     ensures column { IfOk result (λ place. IsColumnUnder name.now number (fields_of row.now) place) }
     ensures there { IfOk result (λ place. place < length (fields_of row.now)) }
-    ensures stops { IfErr result (λ stop. stop ≢ Stop.WriteFault) }
+    ensures stops { IfErr result (λ stop. LacksColumn stop name.now number (fields_of row.now)) }
 {
     match column_under(row, name, number) {
         None => Err(Stop::NoName),
@@ -73,6 +75,7 @@ fn pass_header<S: Read, W: Write + Drop>(
     ensures ready { OnOk result (IsReady delimiter records.new) }
     ensures idle { OnOk result (IsIdle delimiter out.new) }
     ensures header { IfOk result (λ column. PassesHeader S.remaining name.now number delimiter records.old records.new (text_written W.contents out.old) (text_written W.contents out.new) column) }
+    ensures stops { IfErr result (λ stop. StopsHeader stop S.remaining name.now number records.old records.new) }
     ensures kept { IfErr result (λ stop. stop ≢ Stop.WriteFault → out.new ≡ out.old) }
 {
     match records.read_byte_record(row) {
@@ -102,7 +105,8 @@ fn answer_under<A: LineRule<L>, S: Read, W: Write + Drop, L: Ledger>(
     ensures answered { (text : List ℕ) → source_of S.remaining records.old ≡ Some text → result.stop ≢ Stop.WriteFault
         → HasAnsweredUnder (A.Answers task.now.rule.now) task.now.is_kept name.now number task.now.delimiter (reader_state records.old) text
         (text_written W.contents out.old) (text_written W.contents out.new) result.stop result.answered result.refused result.first
-        ⊎ (Keeps (text_written W.contents out.old) (text_written W.contents out.new) × (result.answered ≡ 0)) }
+        ⊎ (NothingAnswered (text_written W.contents out.old) (text_written W.contents out.new) result.answered result.refused result.first
+        × UnansweredBy result.stop name.now number task.now.delimiter (reader_state records.old) text) }
 {
     match pass_header(name, number, task.delimiter, records, row, out) {
         Ok(column) => {
@@ -168,7 +172,7 @@ fn record_reader<R: Read + Drop>(
 
 /// Why the records of a text ended, with what the reader refused.
 fn explained(stop: Stop, refused: Option<Refused>) -> Stop
-    ensures { (result ≡ stop) ⊎ ((stop ≡ Stop.ReadFault) × IsReadStop result) }
+    ensures { result ≡ explained_stop stop refused }
 {
     match (stop, refused) {
         (Stop::ReadFault, Some(Refused::Unclosed)) => Stop::Unclosed,

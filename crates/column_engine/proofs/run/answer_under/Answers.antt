@@ -1,7 +1,9 @@
-use Rattle.std.proofs.Common.{inl}
+use Rattle.std.proofs.Common.{inl, inr, ◌≡◌, ◌∙◌}
+use Rattle.std.proofs.KnownBytes.{Keeps-refl}
 use Rattle.csv.specs.Reading.{reader_state}
 use Rattle.csv.specs.Writing.{text_written}
-use Rattle.column_engine.proofs.RunLemmas.{header_read}
+use Rattle.column_engine.specs.declared.end.Stop.TheVariants.{WriteFault}
+use Rattle.column_engine.proofs.RunLemmas.{header_read, unanswered_by}
 use Rattle.column_engine.proofs.run.answer_under.Goals as goal
 
 pub returns-in-Ok : goal.returns-in-Ok
@@ -24,4 +26,20 @@ returns-in-Ok g c = record {
         records = end.2;
         ends = end.3;
       });
+}
+
+pub returns-in-Err : goal.returns-in-Err
+returns-in-Err g c = record {
+  answered = λ text known fine.
+      let stop = c.unanswered.ensures.stop in
+      let other = λ (w : c.in-Err.stop ≡ WriteFault). fine (stop ∙ w) in
+      inr (
+        record {
+          kept = rw (c.in-Err.ensures.kept other) (Keeps-refl _);
+          answered_is = c.unanswered.ensures.answered;
+          refused_is = c.unanswered.ensures.refused;
+          first_is = c.unanswered.ensures.first;
+        },
+        rw stop (unanswered_by _ g.S.Read.remaining _ _ _ text _ _ c.requires.ready known other c.in-Err.ensures.stops),
+      );
 }
