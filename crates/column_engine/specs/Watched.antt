@@ -1,5 +1,5 @@
 -- The place in a text of CSV after some of its bytes, with this byte between fields.
-use Rattle.std.specs.Prelude.{◌==◌, ◌||◌, ℕ, List, [], ◌∷◌, ◌≡◌, ◌<◌, ◌↔◌, Bool, false, if◌then◌else◌}
+use Rattle.std.specs.Prelude.{◌==◌, ◌||◌, ◌+◌, ℕ, List, [], ◌∷◌, ◌≡◌, ◌<◌, ◌↔◌, Bool, false, if◌then◌else◌}
 use Rattle.csv.specs.Machine.{step}
 use Rattle.csv.specs.Reading.{strip_bom}
 use Rattle.csv.specs.declared.parser.Config.{Config}
@@ -35,6 +35,25 @@ place_after delimiter AfterQuote byte = if byte == 34 then Quoted else after_pla
 unfoldable pub places_after : ℕ → Place → List ℕ → Place
 places_after delimiter place [] = place
 places_after delimiter place (byte ∷ rest) = places_after delimiter (place_after delimiter place byte) rest
+
+-- how many bytes follow the last end of a line, after one more byte, outside of quotes
+abbrev pub plain_length : ℕ → ℕ → ℕ
+plain_length length byte = if (byte == 10) || (byte == 13) then 0 else length + 1
+
+-- how many bytes follow the last end of a line that is outside of quotes, or the byte order mark, after one more byte
+abbrev pub length_after : Place → ℕ → ℕ → ℕ
+length_after Quoted length byte = length + 1
+length_after SecondOfMark length byte = if byte == 191 then 0 else plain_length length byte
+length_after First length byte = plain_length length byte
+length_after FirstOfMark length byte = plain_length length byte
+length_after Start length byte = plain_length length byte
+length_after Inside length byte = plain_length length byte
+length_after AfterQuote length byte = plain_length length byte
+
+-- after some bytes
+unfoldable pub lengths_after : ℕ → Place → ℕ → List ℕ → ℕ
+lengths_after delimiter place length [] = length
+lengths_after delimiter place length (byte ∷ rest) = lengths_after delimiter (place_after delimiter place byte) (length_after place length byte) rest
 
 -- none of these bytes is a quote
 unfoldable pub HasNoQuote : List ℕ → Type 0

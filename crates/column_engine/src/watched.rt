@@ -1,7 +1,7 @@
 //! A reader of CSV that is watched: whether a quote is still open, and how long the record at hand is.
 
-ghost use Rattle.std.specs.Prelude.{◌≡◌, ◌≤◌, ◌<◌, ◌⊎◌, [], ◌≢◌, true, false, length, take, IsErr, Some};
-ghost use Rattle.column_engine.specs.Watched.{HasNoQuote, after_plain, place_after, places_after};
+ghost use Rattle.std.specs.Prelude.{◌≡◌, ◌≤◌, ◌<◌, ◌+◌, ◌-◌, ◌^◌, ◌⊎◌, [], ◌≢◌, true, false, length, take, IsErr, None, Some};
+ghost use Rattle.column_engine.specs.Watched.{HasNoQuote, after_plain, length_after, lengths_after, place_after, places_after};
 
 use memchr::{memchr, memrchr2};
 use std::io;
@@ -73,19 +73,29 @@ fn place_after(delimiter: u8, place: Place, byte: u8) -> Place
     }
 }
 
+/// How many bytes follow the last end of a line that is outside of quotes, or the byte order mark, after one more byte.
+fn length_after(place: Place, before: usize, byte: u8) -> usize
+    requires { before < 2 ^ 64 - 1 }
+    ensures { result ≡ length_after place before byte }
+{
+    match place {
+        Place::Quoted => before + 1,
+        Place::SecondOfMark if byte == 0xbf => 0,
+        _ if byte == b'\n' || byte == b'\r' => 0,
+        _ => before + 1,
+    }
+}
+
 /// Passes over one byte.
 fn pass_byte(delimiter: u8, at: Progress, byte: u8) -> Progress
-    ensures { result.place ≡ place_after delimiter at.place byte }
+    requires { at.length < 2 ^ 64 - 1 }
+    ensures place { result.place ≡ place_after delimiter at.place byte }
+    ensures length { result.length ≡ length_after at.place at.length byte }
 {
-    let place = place_after(delimiter, at.place, byte);
-    let is_line_end = (byte == b'\n' || byte == b'\r') && at.place != Place::Quoted;
-    let is_mark_end = at.place == Place::SecondOfMark && byte == 0xbf;
-    let length = if is_line_end || is_mark_end {
-        0
-    } else {
-        at.length.saturating_add(1)
-    };
-    Progress { place, length }
+    Progress {
+        place: place_after(delimiter, at.place, byte),
+        length: length_after(at.place, at.length, byte),
+    }
 }
 
 /// Passes over bytes outside of quotes, none of which is a quote.
@@ -93,15 +103,20 @@ fn pass_plain(delimiter: u8, at: Progress, bytes: &[u8]) -> Progress
     requires some { 0 < length bytes.now }
     requires quotes { HasNoQuote bytes.now }
     requires plain { (at.place ≡ Place.Start) ⊎ (at.place ≡ Place.Inside) }
-    ensures { result.place ≡ places_after delimiter at.place bytes.now }
+    requires room { at.length + length bytes.now < 2 ^ 64 }
+    ensures place { result.place ≡ places_after delimiter at.place bytes.now }
+    ensures length { result.length ≡ lengths_after delimiter at.place at.length bytes.now }
 {
-    let length = match memrchr2(b'\n', b'\r', bytes) {
-        Some(end) => bytes.len() - end - 1,
-        None => at.length.saturating_add(bytes.len()),
-    };
-    Progress {
-        place: after_plain(delimiter, bytes[bytes.len() - 1]),
-        length,
+    let place = after_plain(delimiter, bytes[bytes.len() - 1]);
+    match memrchr2(b'\n', b'\r', bytes) {
+        Some(end) => Progress {
+            place,
+            length: bytes.len() - end - 1,
+        },
+        None => Progress {
+            place,
+            length: at.length + bytes.len(),
+        },
     }
 }
 
@@ -118,15 +133,17 @@ fn unquoted(bytes: &[u8]) -> usize
 
 /// Passes over some of the bytes, and answers how many they are.
 fn pass_some(delimiter: u8, at: Progress, bytes: &[u8]) -> (Progress, usize)
-    requires { 0 < length bytes.now }
+    requires some { 0 < length bytes.now }
+    requires room { at.length + length bytes.now < 2 ^ 64 }
     ensures some { 0 < result.1 }
     ensures most { result.1 ≤ length bytes.now }
     ensures place { result.0.place ≡ places_after delimiter at.place (take result.1 bytes.now) }
+    ensures length { result.0.length ≡ lengths_after delimiter at.place at.length (take result.1 bytes.now) }
 {
     let run = unquoted(bytes);
     match at.place {
         Place::Quoted if run > 0 => {
-            let length = at.length.saturating_add(run);
+            let length = at.length + run;
             (Progress { length, ..at }, run)
         }
         Place::Start | Place::Inside if run > 0 => {
@@ -138,7 +155,9 @@ fn pass_some(delimiter: u8, at: Progress, bytes: &[u8]) -> (Progress, usize)
 
 /// Passes over bytes.
 fn pass(delimiter: u8, at: Progress, bytes: &[u8]) -> Progress
-    ensures { result.place ≡ places_after delimiter at.place bytes.now }
+    requires { at.length + length bytes.now < 2 ^ 64 }
+    ensures place { result.place ≡ places_after delimiter at.place bytes.now }
+    ensures length { result.length ≡ lengths_after delimiter at.place at.length bytes.now }
 {
     let mut passed = at;
     let mut rest = bytes;
@@ -174,6 +193,8 @@ impl<R: Read> Watched<R> {
         ensures reader { result.reader ≡ reader }
         ensures delimiter { result.delimiter ≡ delimiter }
         ensures place { result.at.place ≡ Place.First }
+        ensures length { result.at.length ≡ 0 }
+        ensures refused { result.refused ≡ None }
     {
         Watched {
             reader,
@@ -204,20 +225,28 @@ impl<R: Read> Watched<R> {
 }
 
 impl<R: Read> Read for Watched<R> {
-    ghost use Rattle.std.specs.Prelude.{◌≡◌, ◌<◌, ◌≢◌, IfErr, IfOk, OnErr, Some, length, take};
+    ghost use Rattle.std.specs.Prelude.{◌≡◌, ◌<◌, ◌≤◌, ◌+◌, ◌≢◌, IfErr, IfOk, IsErr, OnErr, OnOk, Some, length, take};
     ghost use Rattle.std.specs.Io.{ReadsAtMost};
     ghost use Rattle.std.specs.Io.KnownBytes.{IsAtEnd, ReadConsumes};
-    ghost use Rattle.column_engine.specs.Watched.{places_after};
+    ghost use Rattle.column_engine.specs.Watched.{lengths_after, places_after};
 
     ghost remaining = { λ w. R.remaining w.reader };
 
-    /// Reads once. What is given moves the place; the end of a text is given only outside of quotes, and refused inside.
+    /// Reads once. What is given moves the place; the end of a text is given only outside of quotes, and refused inside. After
+    /// more than `MAX_RECORD` bytes of a record it gives no more, and up to there it gives at most one byte more than these.
     fn read(&mut self, buf: &mut [u8]) -> io::Result<usize>
         ensures bound { ReadsAtMost result buf.new }
         ensures bytes { ReadConsumes (R.remaining self.old.reader) (R.remaining self.new.reader) result buf.new }
         ensures place { IfOk result (λ count. self.new.at.place ≡ places_after self.old.delimiter self.old.at.place (take count buf.new)) }
+        ensures length { IfOk result (λ count. self.new.at.length ≡ lengths_after self.old.delimiter self.old.at.place self.old.at.length (take count buf.new)) }
+        ensures most { IfOk result (λ count. self.old.at.length + count ≤ MAX_RECORD + 1) }
+        ensures long { MAX_RECORD < self.old.at.length → IsErr result × (self.new.refused ≡ Some Refused.TooLong) }
+        ensures too_long { OnErr result (self.new.refused ≡ Some Refused.TooLong → MAX_RECORD < self.old.at.length) }
         ensures end { IfOk result (λ count. count ≡ 0 → 0 < length buf.old → self.new.at.place ≢ Place.Quoted) }
         ensures unclosed { OnErr result (self.new.refused ≡ Some Refused.Unclosed → (self.new.at.place ≡ Place.Quoted) × IsAtEnd (R.remaining self.new.reader)) }
+        ensures delimiter { self.new.delimiter ≡ self.old.delimiter }
+        ensures refused { OnOk result (self.new.refused ≡ self.old.refused) }
+        ensures at { OnErr result (self.new.at ≡ self.old.at) }
     {
         if self.at.length > MAX_RECORD {
             return self.refuse(Refused::TooLong);
