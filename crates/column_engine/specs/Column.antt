@@ -2,8 +2,10 @@
 use Rattle.std.specs.Prelude.{◌≡◌, ◌≢◌, ◌⊎◌, ◌≤◌, ◌<◌, ◌+◌, ◌-◌, ◌^◌, ◌&&◌, ℕ, suc, List, [], ◌∷◌, ◌++◌, Bool, true, false, ⊤, Option, Some, None, if◌then◌else◌, drop, flat_map, get_or, length, string_bytes, take}
 use Rattle.std.specs.Io.KnownBytes.{Appends, Keeps}
 use Rattle.csv.specs.Machine.{Read, next_record}
-use Rattle.csv.specs.Reading.{ReadRecord, Reached, Ready, default_config, reader_config, reader_trim, strip_bom}
+use Rattle.csv.specs.Reading.{ReadRecord, Reached, Ready, default_config, has_failed, is_flexible, reader_config, reader_trim, strip_bom}
 use Rattle.csv.specs.Writing.{default_writer, fields_written, has_written, row_text, writer_setup}
+use Rattle.csv.specs.declared.error.ErrorKind.{ErrorKind}
+use Rattle.csv.specs.declared.error.ErrorKind.TheVariants as kind
 use Rattle.csv.specs.declared.parser.Config.{Config}
 use Rattle.csv.specs.declared.parser.State.{State}
 use Rattle.csv.specs.declared.parser.State.TheVariants.{StartRecord}
@@ -26,16 +28,26 @@ reads_with delimiter = record default_config { delimiter = delimiter }
 abbrev pub writes_with : ℕ → WriterBuilder
 writes_with delimiter = record default_writer { delimiter = delimiter; flexible = true }
 
+-- how a run ends where a read of a record failed, for memory or for another reason
+abbrev pub failed_stop : ErrorKind → Stop
+failed_stop kind.OutOfMemory = NoMemory
+failed_stop (kind.Io e) = ReadFault
+failed_stop (kind.UnequalLengths pos expected len) = ReadFault
+failed_stop (kind.Utf8 pos err) = ReadFault
+failed_stop (kind.Serialize text) = ReadFault
+failed_stop (kind.Deserialize pos err) = ReadFault
+
 -- a writer that writes so, and has begun no record
 pub record IsIdle {W : Type 0} (delimiter : ℕ) (out : Writer W) : Type 0 where
   pub setup : writer_setup out ≡ writes_with delimiter
   pub fields : fields_written out ≡ 0
   pub wrote : has_written out ≡ false
 
--- a reader that reads so, and is at the start of a record or of its text
+-- a reader that reads so, records of any number of fields, and is at the start of a record or of its text
 pub record IsReady {R : Type 0} (delimiter : ℕ) (records : Reader R) : Type 0 where
   pub config : reader_config records ≡ reads_with delimiter
   pub trim : reader_trim records ≡ trim.None
+  pub flexible : is_flexible records ≡ true
   pub ready : Ready records
 
 -- these fields with another in the place of one
@@ -106,8 +118,8 @@ pub record AnswersNext {R : Type 0} (remaining : R → Option (List ℕ)) (A : L
 abbrev pub StopsNext : {R : Type 0} → Stop → (R → Option (List ℕ)) → ℕ → Reader R → Reader R → Type 0
 StopsNext Done remaining column old new = ReadRecord remaining old new false []
 StopsNext (NoColumn count) remaining column old new = (fields : List (List ℕ)) × ReadRecord remaining old new true fields × (length fields ≡ count) × (count ≤ column)
-StopsNext ReadFault remaining column old new = ⊤
-StopsNext NoMemory remaining column old new = ⊤
+StopsNext ReadFault remaining column old new = has_failed new ≡ true
+StopsNext NoMemory remaining column old new = has_failed new ≡ true
 StopsNext WriteFault remaining column old new = (fields : List (List ℕ)) × ReadRecord remaining old new true fields × (column < length fields)
 StopsNext TooLong remaining column old new = ⊥
 StopsNext Unclosed remaining column old new = ⊥
@@ -165,8 +177,8 @@ StopsHeader Done remaining name number old new = ReadRecord remaining old new fa
 StopsHeader NoName remaining name number old new = (header : List (List ℕ)) × ReadRecord remaining old new true header × LacksColumn NoName name number header
 StopsHeader (NoColumn count) remaining name number old new =
     (header : List (List ℕ)) × ReadRecord remaining old new true header × LacksColumn (NoColumn count) name number header
-StopsHeader ReadFault remaining name number old new = ⊤
-StopsHeader NoMemory remaining name number old new = ⊤
+StopsHeader ReadFault remaining name number old new = has_failed new ≡ true
+StopsHeader NoMemory remaining name number old new = has_failed new ≡ true
 StopsHeader WriteFault remaining name number old new =
     (header : List (List ℕ)) × ReadRecord remaining old new true header × (column : ℕ) × IsColumnUnder name number header column × (column < length header)
 StopsHeader TooLong remaining name number old new = ⊥

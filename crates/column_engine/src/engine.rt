@@ -1,11 +1,11 @@
 //! The answers to the records of a text.
 
 ghost use Rattle.std.specs.Prelude.{◌≡◌, ◌≢◌, ◌⊎◌, ◌≤◌, ◌<◌, ◌+◌, ◌-◌, ◌^◌, ◌==◌, ◌&&◌, if◌then◌else◌, [], true, false, Bool, List, ℕ, Some, Ok, Err, IfErr, IfOk, OnOk, length};
-ghost use Rattle.csv.specs.Reading.{ReadRecord, reader_state, source_of};
+ghost use Rattle.csv.specs.Reading.{ReadRecord, error_kind, has_failed, reader_state, source_of};
 ghost use Rattle.csv.specs.Records.{fields_of};
 ghost use Rattle.csv.specs.Writing.{text_written};
 ghost use Rattle.csv.specs.declared.parser.State.{State};
-ghost use Rattle.column_engine.specs.Column.{AnswersNext, EndsBy, HasAnswered, IsIdle, IsReady, StopsNext};
+ghost use Rattle.column_engine.specs.Column.{AnswersNext, EndsBy, HasAnswered, IsIdle, IsReady, StopsNext, failed_stop};
 
 use crate::end::{ColumnEnd, Stop};
 use crate::record::write_answer;
@@ -30,7 +30,7 @@ pub struct ColumnRule<'a, A> {
 
 /// Why a read of a record failed.
 pub(crate) fn read_stop(error: &Error) -> Stop
-    ensures { (result ≡ Stop.NoMemory) ⊎ (result ≡ Stop.ReadFault) }
+    ensures { result ≡ failed_stop (error_kind error.now) }
 {
     match error.kind() {
         ErrorKind::OutOfMemory => Stop::NoMemory,
@@ -102,6 +102,7 @@ pub fn answer_records<A: LineRule<L>, S: Read, W: Write + Drop, L: Ledger>(
     requires before { before < 2 ^ 64 - 1 }
     requires ready { IsReady job.now.delimiter records.old }
     requires idle { IsIdle job.now.delimiter out.old }
+    ensures failed { (result.stop ≡ Stop.ReadFault) ⊎ (result.stop ≡ Stop.NoMemory) → has_failed records.new ≡ true }
     ensures answered { (text : List ℕ) → source_of S.remaining records.old ≡ Some text → result.stop ≢ Stop.WriteFault
         → (to : State) × (rest : List ℕ) × HasAnswered (A.Answers job.now.rule.now) job.now.is_kept job.now.column job.now.delimiter before (reader_state records.old) text to rest
         (text_written W.contents out.old) (text_written W.contents out.new) result.answered result.refused result.first

@@ -2,7 +2,7 @@
 
 ghost use Rattle.std.specs.Prelude.{◌≡◌, ◌≢◌, ◌⊎◌, ◌<◌, [], true, false, ℕ, List, Ok, Err, IfErr, IfOk, OnOk, Some, length, option_map, string_bytes};
 ghost use Rattle.std.specs.Io.KnownBytes.{Keeps};
-ghost use Rattle.csv.specs.Reading.{ReadRecord, reader_state, source_of, strip_bom};
+ghost use Rattle.csv.specs.Reading.{ReadRecord, has_failed, reader_state, source_of, strip_bom};
 ghost use Rattle.csv.specs.Records.{fields_of};
 ghost use Rattle.csv.specs.Writing.{text_written};
 ghost use Rattle.csv.specs.declared.parser.State.TheVariants as st;
@@ -102,6 +102,7 @@ fn answer_under<A: LineRule<L>, S: Read, W: Write + Drop, L: Ledger>(
 ) -> ColumnEnd
     requires ready { IsReady task.now.delimiter records.old }
     requires idle { IsIdle task.now.delimiter out.old }
+    ensures failed { (result.stop ≡ Stop.ReadFault) ⊎ (result.stop ≡ Stop.NoMemory) → has_failed records.new ≡ true }
     ensures answered { (text : List ℕ) → source_of S.remaining records.old ≡ Some text → result.stop ≢ Stop.WriteFault
         → HasAnsweredUnder (A.Answers task.now.rule.now) task.now.is_kept name.now number task.now.delimiter (reader_state records.old) text
         (text_written W.contents out.old) (text_written W.contents out.new) result.stop result.answered result.refused result.first
@@ -132,6 +133,7 @@ pub fn answer_text<A: LineRule<L>, S: Read, W: Write + Drop, L: Ledger>(
 ) -> ColumnEnd
     requires ready { IsReady task.now.delimiter records.old }
     requires idle { IsIdle task.now.delimiter out.old }
+    ensures failed { (result.stop ≡ Stop.ReadFault) ⊎ (result.stop ≡ Stop.NoMemory) → has_failed records.new ≡ true }
     ensures answered { (text : List ℕ) → source_of S.remaining records.old ≡ Some text → result.stop ≢ Stop.WriteFault
         → IsAnsweredText (A.Answers task.now.rule.now) task.now.is_kept task.now.column.now task.now.delimiter (reader_state records.old) text
         (text_written W.contents out.old) (text_written W.contents out.new) result.stop result.answered result.refused result.first }
