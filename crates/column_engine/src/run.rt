@@ -2,7 +2,7 @@
 
 ghost use Rattle.std.specs.Prelude.{◌≡◌, ◌≢◌, ◌⊎◌, ◌<◌, [], true, false, ℕ, List, Ok, Err, IfErr, IfOk, OnOk, Some, length, option_map, string_bytes};
 ghost use Rattle.std.specs.Io.KnownBytes.{Keeps};
-ghost use Rattle.csv.specs.Reading.{ReadRecord, has_failed, reader_state, source_of, strip_bom};
+ghost use Rattle.csv.specs.Reading.{ReadRecord, has_failed, reader_source, reader_state, source_of, strip_bom};
 ghost use Rattle.csv.specs.Records.{fields_of};
 ghost use Rattle.csv.specs.Writing.{text_written};
 ghost use Rattle.csv.specs.declared.parser.State.TheVariants as st;
@@ -183,6 +183,27 @@ fn explained(stop: Stop, refused: Option<Refused>) -> Stop
     }
 }
 
+/// Answers one column of the text of a watched reader. Where a read failed, the end says what the reader refused.
+fn answer_watched<A: LineRule<L>, R: Read, W: Write + Drop, L: Ledger>(
+    task: &ColumnTask<'_, A>,
+    records: &mut Reader<Watched<R>>,
+    row: &mut ByteRecord,
+    out: &mut Writer<W>,
+    steps: &mut Steps<L>,
+) -> ColumnEnd
+    requires ready { IsReady task.now.delimiter records.old }
+    requires idle { IsIdle task.now.delimiter out.old }
+    ensures { (stop : Stop) × (result.stop ≡ explained_stop stop (reader_source records.new).refused)
+        × ((stop ≡ Stop.ReadFault) ⊎ (stop ≡ Stop.NoMemory) → has_failed records.new ≡ true)
+        × ((text : List ℕ) → source_of (λ w. R.remaining w.reader) records.old ≡ Some text → stop ≢ Stop.WriteFault
+        → IsAnsweredText (A.Answers task.now.rule.now) task.now.is_kept task.now.column.now task.now.delimiter (reader_state records.old) text
+        (text_written W.contents out.old) (text_written W.contents out.new) stop result.answered result.refused result.first) }
+{
+    let end = answer_text(task, records, row, out, steps);
+    let stop = explained(end.stop, records.get_ref().refused());
+    ColumnEnd { stop, ..end }
+}
+
 /// Answers one column of the text of a reader.
 fn answer_reader<A: LineRule<L>, R: Read + Drop, W: Write + Drop, L: Ledger>(
     alloc: Global,
@@ -199,11 +220,7 @@ fn answer_reader<A: LineRule<L>, R: Read + Drop, W: Write + Drop, L: Ledger>(
     let mut row = ByteRecord::new(alloc);
     match record_reader(alloc, task.delimiter, reader) {
         Err(_) => unanswered(Stop::NoMemory),
-        Ok(mut records) => {
-            let end = answer_text(task, &mut records, &mut row, out, steps);
-            let stop = explained(end.stop, records.get_ref().refused());
-            ColumnEnd { stop, ..end }
-        }
+        Ok(mut records) => answer_watched(task, &mut records, &mut row, out, steps),
     }
 }
 

@@ -6,6 +6,6 @@ pub returns : goal.returns
 returns g c = record {
   answered = λ text known fine.
       let source = rw known at c.in-Ok.ensures.source in
-      explained_text _ _ _ _ text _ _ _ _ _ _ _ _ c.explained-stop.ensures fine (λ other.
-      rw c.in-Ok.ensures.state at (c.answer_text-end.ensures.answered (strip_bom text) source other));
+      let end = c.answer_watched.ensures in
+      explained_text _ _ _ _ text _ _ _ _ _ _ _ _ end.1 fine (λ other. rw c.in-Ok.ensures.state at (end.3 (strip_bom text) source other));
 }
