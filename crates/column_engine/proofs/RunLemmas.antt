@@ -187,6 +187,7 @@ keep_text A keeps (Named name number) delimiter from text old mid new stop answe
       is_header = h.is_header;
       column = h.column;
       is_column = h.is_column;
+      there = h.there;
       mid = h.mid;
       written = h.written;
       to = h.to;

@@ -93,7 +93,7 @@ plain_end delimiter place n (b ∷ bs) (suc k) plain none lt is ends =
     let next = plain_step delimiter place b plain none.0 in
     let more = plain_more place n b plain in
     let rest = plain_end delimiter (after_plain delimiter b) (plain_length n b) bs k (plain_is (ends_field delimiter b)) none.1 (omega arith) is
-        (λ j low high. ends (suc j) (omega arith) (omega arith)) in
+    (λ j low high. ends (suc j) (omega arith) (omega arith)) in
     let sum : length bs - k - 1 ≡ suc (length bs) - suc k - 1 = omega arith in
     rw (next, more) (rest ∙ sum)
 

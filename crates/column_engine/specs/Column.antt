@@ -125,7 +125,8 @@ StopsNext TooLong remaining column old new = ⊥
 StopsNext Unclosed remaining column old new = ⊥
 StopsNext NoName remaining column old new = ⊥
 
--- why no further record was answered after so many: there is none, the next one has no such column, but only so many, or the count is full
+-- why no further record was answered, after so many: there is none, the next one has no such column, but only so many, or no more
+-- can be counted; a failed read and refused memory can come at any place
 abbrev pub EndsBy : Stop → ℕ → ℕ → ℕ → State → List ℕ → Type 0
 EndsBy Done answered delimiter column at rest = next_record (reads_with delimiter) at [] [] rest ≡ None
 EndsBy (NoColumn count) answered delimiter column at rest =
@@ -151,7 +152,7 @@ HasNoNamed name fields = (k : ℕ) → k < length fields → get_or fields k [] 
 abbrev pub IsColumnUnder : List ℕ → Option ℕ → List (List ℕ) → ℕ → Type 0
 IsColumnUnder name number header place = IsFirstNamed name header place ⊎ (HasNoNamed name header × (number ≡ Some place))
 
--- why a header has no column for a name: none of its fields is the name, which is no number, or the number of a place behind them
+-- why a header has no such column: none of its fields is the name, and the name is no number, or that of a place behind the fields
 abbrev pub LacksColumn : Stop → List ℕ → Option ℕ → List (List ℕ) → Type 0
 LacksColumn NoName name number header = HasNoNamed name header × (number ≡ None)
 LacksColumn (NoColumn count) name number header =
@@ -184,7 +185,7 @@ StopsHeader WriteFault remaining name number old new =
 StopsHeader TooLong remaining name number old new = ⊥
 StopsHeader Unclosed remaining name number old new = ⊥
 
--- why a text has no records under a header that are answered: there is no header, or it has no such column
+-- why nothing of a text is answered under its header: there is no header, or it has no such column
 abbrev pub UnansweredBy : Stop → List ℕ → Option ℕ → ℕ → State → List ℕ → Type 0
 UnansweredBy Done name number delimiter from text = next_record (reads_with delimiter) from [] [] text ≡ None
 UnansweredBy NoName name number delimiter from text =
@@ -213,6 +214,7 @@ pub record HasAnsweredUnder (A : List ℕ → AnswerText → Type 0) (keeps : Bo
   pub is_header : next_record (reads_with delimiter) from [] [] text ≡ Some (header, begun, left)
   pub column : ℕ
   pub is_column : IsColumnUnder name number header column
+  pub there : column < length header
   pub mid : Option (List ℕ)
   pub written : Appends old mid (row_text (writes_with delimiter) header)
   pub to : State
@@ -229,13 +231,13 @@ IsAnsweredText A keeps (Named name number) delimiter from text old new stop answ
     HasAnsweredUnder A keeps (string_bytes name) number delimiter from text old new stop answered refused first
     ⊎ (NothingAnswered old new answered refused first × UnansweredBy stop (string_bytes name) number delimiter from text)
 
--- how a stop is shown, where the reader underneath refused to give more bytes for this reason
+-- the stop that is told: of a failed read, why the watched reader refused to give more bytes, where it did
 abbrev pub explained_stop : Stop → Option Refused → Stop
 explained_stop ReadFault (Some refused.Unclosed) = Unclosed
 explained_stop ReadFault (Some refused.TooLong) = TooLong
 explained_stop stop why = stop
 
--- a read that failed for quotes that are never closed, or for a record that is too long
+-- a failed read, of which it is told that quotes are never closed or that a record is too long
 abbrev pub IsReadStop : Stop → Type 0
 IsReadStop stop = (stop ≡ Unclosed) ⊎ (stop ≡ TooLong)
 

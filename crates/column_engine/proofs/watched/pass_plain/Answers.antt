@@ -9,7 +9,7 @@ pub returns-in-Some-clause-length : goal.returns-in-Some-clause-length
 returns-in-Some-clause-length c =
     let found = c.in-Some.ensures in
     sym (plain_end c.args.delimiter c.args.at.place c.args.at.length c.args.bytes.now c.in-Some.end c.requires.plain c.requires.quotes found.0.high found.1
-        (λ k low high. found.0.after k low high))
+    (λ k low high. found.0.after k low high))
 
 pub returns-in-None-clause-place : goal.returns-in-None-clause-place
 returns-in-None-clause-place c = c.after_plain-place.ensures ∙ sym (plain_run c.args.delimiter c.args.at.place c.args.bytes.now c.requires.plain c.requires.quotes c.requires.some)
