@@ -1,6 +1,6 @@
 //! A reader of CSV that is watched: whether a quote is still open, and how long the record at hand is.
 
-ghost use Rattle.std.specs.Prelude.{◌≡◌, ◌≤◌, ◌<◌, ◌+◌, ◌-◌, ◌^◌, ◌⊎◌, [], ◌≢◌, true, false, length, take, IsErr, None, Some};
+ghost use Rattle.std.specs.Prelude.{◌≡◌, ◌≤◌, ◌<◌, ◌+◌, ◌-◌, ◌^◌, ◌⊎◌, [], ◌≢◌, true, false, length, min, take, IsErr, None, Some};
 ghost use Rattle.column_engine.specs.Watched.{HasNoQuote, after_plain, length_after, lengths_after, place_after, places_after};
 
 use memchr::{memchr, memrchr2};
@@ -169,6 +169,14 @@ fn pass(delimiter: u8, at: Progress, bytes: &[u8]) -> Progress
     passed
 }
 
+/// How many bytes are asked for with so much room, after so many bytes of a record: at most one more than a record has.
+fn asked(room: usize, passed: usize) -> usize
+    requires { passed ≤ MAX_RECORD }
+    ensures { result ≡ min room (MAX_RECORD + 1 - passed) }
+{
+    room.min(MAX_RECORD + 1 - passed)
+}
+
 /// Whether a read that gave so many bytes, of at most so many, says that the text ends inside quotes.
 fn is_unclosed(count: usize, most: usize, place: Place) -> bool
     ensures yes { result ≡ true → (count ≡ 0) × (0 < most) × (place ≡ Place.Quoted) }
@@ -251,7 +259,7 @@ impl<R: Read> Read for Watched<R> {
         if self.at.length > MAX_RECORD {
             return self.refuse(Refused::TooLong);
         }
-        let most = buf.len().min(MAX_RECORD + 1 - self.at.length);
+        let most = asked(buf.len(), self.at.length);
         let count = match self.reader.read(&mut buf[..most]) {
             Ok(count) => count,
             Err(_) => return self.refuse(Refused::Failed),
