@@ -246,7 +246,8 @@ impl<R: Read> Read for Watched<R> {
         ensures bound { ReadsAtMost result buf.new }
         ensures bytes { ReadConsumes (R.remaining self.old.reader) (R.remaining self.new.reader) result buf.new }
         ensures place { IfOk result (λ count. self.new.at.place ≡ places_after self.old.delimiter self.old.at.place (take count buf.new)) }
-        ensures length { IfOk result (λ count. self.new.at.length ≡ lengths_after self.old.delimiter self.old.at.place self.old.at.length (take count buf.new)) }
+        ensures length { IfOk result (λ count. self.new.at.length
+            ≡ lengths_after self.old.delimiter self.old.at.place self.old.at.length (take count buf.new)) }
         ensures most { IfOk result (λ count. self.old.at.length + count ≤ MAX_RECORD + 1) }
         ensures long { MAX_RECORD < self.old.at.length → IsErr result × (self.new.refused ≡ Some Refused.TooLong) }
         ensures too_long { OnErr result (self.new.refused ≡ Some Refused.TooLong → MAX_RECORD < self.old.at.length) }
