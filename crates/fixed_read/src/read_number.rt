@@ -25,11 +25,11 @@ ghost use Rattle.fixed_read.specs.Inner.Rounding.{IsMagnitude, IsSplitNumeral};
 use crate::direction::direction_of;
 use crate::magnitude::{Ulps, magnitude};
 use crate::range::{greatest_magnitude, is_above, nearer_end, with_sign, wrapping_image};
-use crate::short_numeral::{compact_ulps, short_ulps, ulps_of_short_decimal};
+use crate::short_numeral::{compact_ulps, short_ulps, ulps_of_short_decimal, ulps_of_wide_decimal};
 use fixed_bits::{Format, Policy, ReadMode};
 use fixed_numeral::{
-    CompactNumeral, ParseFixedError, Radix, Scanned, ShortDecimal, ShortNumeral, compact_numeral,
-    ending_decimal, scan, scan_lit, short_decimal, short_numeral,
+    CompactNumeral, ParseFixedError, Radix, Scanned, ShortDecimal, ShortNumeral, WideDecimal,
+    compact_numeral, ending_decimal, scan, scan_lit, short_decimal, short_numeral, wide_decimal,
 };
 use fixed_steps::Steps;
 use std::marker::Brand;
@@ -182,6 +182,20 @@ fn number_of_short(found: ShortDecimal, format: Format, mode: ReadMode) -> ReadN
     number_from(format, found.negative, ulps)
 }
 
+/// The number that a wide decimal reads as.
+#[inline]
+fn number_of_wide(found: WideDecimal, format: Format, mode: ReadMode) -> ReadNumber
+    requires fraction { found.fraction < 10 ^ found.places }
+    requires whole { found.whole < 10 ^ 16 }
+    requires places { found.places ≤ 27 }
+    ensures reading { (p : Parts) → IsShortDecimal p found.negative found.whole found.fraction found.places → IsReading mode Dec p result }
+    ensures format { result.format ≡ format }
+{
+    let direction = direction_of(mode, found.negative);
+    let ulps = ulps_of_wide_decimal(found, format.frac(), direction);
+    number_from(format, found.negative, ulps)
+}
+
 /// The number that a compact numeral reads as. None where its digits have to be looked at.
 #[inline]
 fn number_of_compact(
@@ -297,6 +311,24 @@ fn read_short<L: Ledger>(
     }
 }
 
+/// Reads a decimal of up to 27 places without an exponent. None says nothing.
+fn read_wide<L: Ledger>(
+    s: &[u8],
+    format: Format,
+    mode: ReadMode,
+    steps: &mut Steps<L>,
+) -> Option<ReadNumber>
+    ensures numeral { IfSome result (λ found. IsNumeral Dec s.now) }
+    ensures reading { IfSome result (λ found. (p : Parts) → HasNumeral Dec s.now p → IsReading mode Dec p found) }
+    ensures format { IfSome result (λ found. found.format ≡ format) }
+    ensures cost { steps.new ≤ steps.old + length s.now }
+{
+    match wide_decimal(s, steps) {
+        Some(found) => Some(number_of_wide(found, format, mode)),
+        None => None,
+    }
+}
+
 /// Reads any numeral, by its digits.
 #[inline(never)]
 fn read_scanned<L: Ledger>(
@@ -318,9 +350,8 @@ fn read_scanned<L: Ledger>(
     }
 }
 
-/// Reads any numeral that no short way reads.
-#[inline(never)]
-fn read_longer<L: Ledger>(
+/// Reads any numeral, by the numbers of its parts where they fit 128 bits.
+fn read_by_parts<L: Ledger>(
     s: &[u8],
     radix: Radix,
     format: Format,
@@ -334,6 +365,28 @@ fn read_longer<L: Ledger>(
     match read_compact(s, radix, format, mode, steps) {
         Some(found) => Ok(found),
         None => read_scanned(s, radix, format, mode, steps),
+    }
+}
+
+/// Reads any numeral that no short way reads.
+#[inline(never)]
+fn read_longer<L: Ledger>(
+    s: &[u8],
+    radix: Radix,
+    format: Format,
+    mode: ReadMode,
+    steps: &mut Steps<L>,
+) -> Result<ReadNumber, ParseFixedError>
+    ensures reading { IsReadOrRefused radix s.now (IsReading mode radix) result }
+    ensures format { IfOk result (λ found. found.format ≡ format) }
+    ensures cost { steps.new ≤ steps.old + 4 * length s.now + 8 * format.width + 64 }
+{
+    match radix {
+        Radix::Dec => match read_wide(s, format, mode, steps) {
+            Some(found) => Ok(found),
+            None => read_by_parts(s, radix, format, mode, steps),
+        },
+        _ => read_by_parts(s, radix, format, mode, steps),
     }
 }
 
@@ -351,7 +404,7 @@ fn read_other<L: Ledger>(
 ) -> Result<ReadNumber, ParseFixedError>
     ensures reading { IsReadOrRefused radix s.now (IsReading mode radix) result }
     ensures format { IfOk result (λ found. found.format ≡ format) }
-    ensures cost { steps.new ≤ steps.old + 4 * length s.now + 8 * format.width + 64 }
+    ensures cost { steps.new ≤ steps.old + 5 * length s.now + 8 * format.width + 64 }
 {
     if s.len() > SHORT_LENGTH {
         return read_longer(s, radix, format, mode, steps);
@@ -450,7 +503,7 @@ fn read_slowly<L: Ledger>(
 ) -> Result<ReadNumber, ParseFixedError>
     ensures reading { IsReadOrRefused radix s.now (IsReading mode radix) result }
     ensures format { IfOk result (λ found. found.format ≡ format) }
-    ensures cost { steps.new ≤ steps.old + 4 * length s.now + 8 * format.width + 64 }
+    ensures cost { steps.new ≤ steps.old + 5 * length s.now + 8 * format.width + 64 }
 {
     match radix {
         Radix::Dec => match read_short(s, format, mode, steps) {

@@ -17,7 +17,7 @@ use crate::direction::Direction;
 use crate::lost_fraction::LostFraction;
 use crate::magnitude::{Ulps, rounded_share, rounded_ulps};
 use crate::shifts::{is_some, power_of_two, shl, shl_u64, split_bits, to_u64};
-use fixed_numeral::{CompactNumeral, Radix, ShortDecimal, ShortNumeral};
+use fixed_numeral::{CompactNumeral, Radix, ShortDecimal, ShortNumeral, WideDecimal};
 
 /// A whole number and a decimal fraction of at most 27 places.
 #[derive(Clone, Copy, Debug, PartialEq, Eq)]
@@ -73,6 +73,23 @@ pub fn ulps_of_short_decimal(found: ShortDecimal, frac: u32, direction: Directio
     let shared = ulps_of_few_places(found.fraction, found.places, frac);
     let count = shl(u128::from(found.whole), frac) + u128::from(shared.ulps);
     rounded_share(count, shared.rest, shared.unit, direction)
+}
+
+/// The magnitude of a wide decimal in ulps of 2^-frac.
+#[inline]
+pub fn ulps_of_wide_decimal(found: WideDecimal, frac: u32, direction: Direction) -> Ulps
+    requires fraction { found.fraction < 10 ^ found.places }
+    requires whole { found.whole < 10 ^ 16 }
+    requires places { found.places ≤ 27 }
+    requires frac { frac ≤ 64 }
+    ensures { IsMagnitude direction (record { num = found.whole * 10 ^ found.places + found.fraction; den = 10 ^ found.places }) frac result }
+{
+    let decimal = Decimal {
+        whole: found.whole,
+        fraction: found.fraction,
+        places: found.places,
+    };
+    ulps_of_decimal(decimal, frac, direction)
 }
 
 /// digits * 10^up as a decimal. None where it is too large for one.

@@ -1,4 +1,3 @@
-use Rattle.std.proofs.Common.{drop}
 use Rattle.fixed_read.proofs.read_number.read_short_ending.Goals as goal
 
 pub returns-in-Dec-clause-numeral : goal.returns-in-Dec-clause-numeral
