@@ -152,7 +152,7 @@ HasNoNamed name fields = (k : ℕ) → k < length fields → get_or fields k [] 
 abbrev pub IsColumnUnder : List ℕ → Option ℕ → List (List ℕ) → ℕ → Type 0
 IsColumnUnder name number header place = IsFirstNamed name header place ⊎ (HasNoNamed name header × (number ≡ Some place))
 
--- why a header has no such column: none of its fields is the name, and the name is no number, or that of a place behind the fields
+-- why a header has no such column: none of its fields is the name, and the name is no number, or that of a place after the last field
 abbrev pub LacksColumn : Stop → List ℕ → Option ℕ → List (List ℕ) → Type 0
 LacksColumn NoName name number header = HasNoNamed name header × (number ≡ None)
 LacksColumn (NoColumn count) name number header =
@@ -231,13 +231,13 @@ IsAnsweredText A keeps (Named name number) delimiter from text old new stop answ
     HasAnsweredUnder A keeps (string_bytes name) number delimiter from text old new stop answered refused first
     ⊎ (NothingAnswered old new answered refused first × UnansweredBy stop (string_bytes name) number delimiter from text)
 
--- the stop that is told: of a failed read, why the watched reader refused to give more bytes, where it did
+-- the stop that is reported: of a failed read, why the watched reader refused to give more bytes, where it did
 abbrev pub explained_stop : Stop → Option Refused → Stop
 explained_stop ReadFault (Some refused.Unclosed) = Unclosed
 explained_stop ReadFault (Some refused.TooLong) = TooLong
 explained_stop stop why = stop
 
--- a failed read, of which it is told that quotes are never closed or that a record is too long
+-- what is reported of a failed read: quotes that are never closed, or a record that is too long
 abbrev pub IsReadStop : Stop → Type 0
 IsReadStop stop = (stop ≡ Unclosed) ⊎ (stop ≡ TooLong)
 

@@ -170,7 +170,7 @@ fn pass(delimiter: u8, at: Progress, bytes: &[u8]) -> Progress
 }
 
 /// How many bytes are asked for with so much room, after so many bytes of a record: at most one more than a record has.
-fn asked(room: usize, passed: usize) -> usize
+fn most_asked_for(room: usize, passed: usize) -> usize
     requires { passed ≤ MAX_RECORD }
     ensures { result ≡ min room (MAX_RECORD + 1 - passed) }
 {
@@ -260,7 +260,7 @@ impl<R: Read> Read for Watched<R> {
         if self.at.length > MAX_RECORD {
             return self.refuse(Refused::TooLong);
         }
-        let most = asked(buf.len(), self.at.length);
+        let most = most_asked_for(buf.len(), self.at.length);
         let count = match self.reader.read(&mut buf[..most]) {
             Ok(count) => count,
             Err(_) => return self.refuse(Refused::Failed),

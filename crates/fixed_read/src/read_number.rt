@@ -517,7 +517,7 @@ fn read_slowly<L: Ledger>(
 /// A copy, part by part: where a number comes from a call, the parts are loaded as they were stored, and a processor need not wait
 /// until bytes that were stored one by one can be loaded as a word.
 #[inline(always)]
-fn copied(found: &ReadNumber) -> ReadNumber
+fn copy_of(found: &ReadNumber) -> ReadNumber
     ensures { result ≡ found.now }
 {
     ReadNumber {
@@ -560,9 +560,9 @@ pub fn read_ending<L: Ledger>(
         return Ok(found);
     }
     match &read_short_numeral(s, radix, format, mode, steps) {
-        Some(found) => Ok(copied(found)),
+        Some(found) => Ok(copy_of(found)),
         None => match &read_slowly(s, radix, format, mode, steps) {
-            Ok(found) => Ok(copied(found)),
+            Ok(found) => Ok(copy_of(found)),
             Err(error) => Err(*error),
         },
     }

@@ -4,5 +4,5 @@ use Rattle.column_engine.proofs.watched.WatchedRead.read.Goals as goal
 
 pub returns-clause-end : goal.returns-clause-end
 returns-clause-end g c = λ none some quoted.
-    let room : 0 < c.asked-most.result = search rules in
+    let room : 0 < c.most_asked_for-most.result = search rules in
     c.if-is_unclosed.ensures.other refl none room (still_quoted _ _ _ _ _ c.pass-self.ensures.place none quoted)
