@@ -18,3 +18,10 @@ letter_is b h = let small : b < 128 = grind arith in (small, value_is b h (omega
 -- the bytes from '0' on
 pub near_zero : (b n : ℕ) → n ≤ 10 → 48 ≤ b → b < 48 + n → digit_value b < n
 near_zero b n s k e = grind arith
+
+-- the capital letters from 'A' on, and the small ones from 'a' on
+pub near_capital : (b n : ℕ) → n ≤ 6 → 65 ≤ b → b < 65 + n → digit_value b < 10 + n
+near_capital b n s k e = grind arith
+
+pub near_small : (b n : ℕ) → n ≤ 6 → 97 ≤ b → b < 97 + n → digit_value b < 10 + n
+near_small b n s k e = grind arith

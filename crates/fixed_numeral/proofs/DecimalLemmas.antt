@@ -1,8 +1,8 @@
 -- Decimal digits in the bytes of a word.
-use Rattle.std.proofs.Common.{◌≡◌, ℕ, zero, suc, ◌+◌, ◌-◌, ◌*◌, ◌/◌, ◌%◌, ◌^◌, ◌<◌, ◌≤◌, List, [], ◌∷◌, ◌++◌, length, take, drop, replicate, map, refl, ap, ◌∙◌, arith, cond, nat_lt, Bool, true, false, length-append, length-drop, length-take}
+use Rattle.std.proofs.Common.{◌≡◌, ℕ, zero, suc, ◌+◌, ◌-◌, ◌*◌, ◌/◌, ◌%◌, ◌^◌, ◌<◌, ◌≤◌, List, [], ◌∷◌, ◌++◌, length, take, drop, get_or, replicate, map, refl, ap, ◌∙◌, arith, cond, nat_lt, Bool, true, false, length-append, length-drop, length-take}
 use Rattle.std.specs.Int.Bits.{bit_and}
 use Rattle.std.proofs.lemmas.Nat.{and_mask, and_block}
-use Rattle.std.proofs.Math.Nat.{mod-eq_of_lt}
+use Rattle.std.proofs.lemmas.Nat.Bits.{and_high_mask}
 use Rattle.std.proofs.lemmas.List.{length-replicate}
 use Rattle.std.specs.Simd.Lanes.{number_l}
 use Rattle.std.specs.Int.Digits.{AllBelowBase}
@@ -35,29 +35,35 @@ pub decimals_are : (word : ℕ) (bs : List ℕ) → length bs ≡ 8 → AllDigit
 decimals_are word bs l h e = rw e (rw l at (low_halves bs h))
 
 -- ---- the last few of eight bytes, after zeros
-few_last : (r a b c d f g i j : ℕ) → 0 < r → r ≤ 8 → AllBelowBase 256 (a ∷ b ∷ c ∷ d ∷ f ∷ g ∷ i ∷ j ∷ []) → number_l 256 (a ∷ b ∷ c ∷ d ∷ f ∷ g ∷ i ∷ j ∷ []) / 2 ^ (64 - 8 * r) * 2 ^ (64 - 8 * r) + 0x0030_3030_3030_3030 / 2 ^ (8 * r - 8) ≡ number_l 256 (replicate (8 - r) 48 ++ drop (8 - r) (a ∷ b ∷ c ∷ d ∷ f ∷ g ∷ i ∷ j ∷ []))
-few_last zero a b c d f g i j p s h = absurd (omega arith)
-few_last (suc zero) a b c d f g i j p s h = omega arith
-few_last (suc (suc zero)) a b c d f g i j p s h = omega arith
-few_last (suc (suc (suc zero))) a b c d f g i j p s h = omega arith
-few_last (suc (suc (suc (suc zero)))) a b c d f g i j p s h = omega arith
-few_last (suc (suc (suc (suc (suc zero))))) a b c d f g i j p s h = omega arith
-few_last (suc (suc (suc (suc (suc (suc zero)))))) a b c d f g i j p s h = omega arith
-few_last (suc (suc (suc (suc (suc (suc (suc zero))))))) a b c d f g i j p s h = omega arith
-few_last (suc (suc (suc (suc (suc (suc (suc (suc zero)))))))) a b c d f g i j p s h = omega arith
-few_last (suc (suc (suc (suc (suc (suc (suc (suc (suc r))))))))) a b c d f g i j p s h = absurd (omega arith)
+abbrev pub last_bytes : List ℕ
+last_bytes = 0 ∷ 0xff00_0000_0000_0000 ∷ 0xffff_0000_0000_0000 ∷ 0xffff_ff00_0000_0000 ∷ 0xffff_ffff_0000_0000 ∷ 0xffff_ffff_ff00_0000 ∷ 0xffff_ffff_ffff_0000 ∷ 0xffff_ffff_ffff_ff00 ∷ 0xffff_ffff_ffff_ffff ∷ []
 
-pub last_lanes : (r : ℕ) (ds : List ℕ) → 0 < r → r ≤ 8 → length ds ≡ 8 → AllBelowBase 256 ds → number_l 256 ds / 2 ^ (64 - 8 * r) * 2 ^ (64 - 8 * r) + 0x0030_3030_3030_3030 / 2 ^ (8 * r - 8) ≡ number_l 256 (replicate (8 - r) 48 ++ drop (8 - r) ds)
-last_lanes r [] p s l h = absurd (omega arith)
-last_lanes r (a ∷ []) p s l h = absurd (omega arith)
-last_lanes r (a ∷ b ∷ []) p s l h = absurd (omega arith)
-last_lanes r (a ∷ b ∷ c ∷ []) p s l h = absurd (omega arith)
-last_lanes r (a ∷ b ∷ c ∷ d ∷ []) p s l h = absurd (omega arith)
-last_lanes r (a ∷ b ∷ c ∷ d ∷ f ∷ []) p s l h = absurd (omega arith)
-last_lanes r (a ∷ b ∷ c ∷ d ∷ f ∷ g ∷ []) p s l h = absurd (omega arith)
-last_lanes r (a ∷ b ∷ c ∷ d ∷ f ∷ g ∷ i ∷ []) p s l h = absurd (omega arith)
-last_lanes r (a ∷ b ∷ c ∷ d ∷ f ∷ g ∷ i ∷ j ∷ k ∷ ds) p s l h = absurd (omega arith)
-last_lanes r (a ∷ b ∷ c ∷ d ∷ f ∷ g ∷ i ∷ j ∷ []) p s l h = few_last r a b c d f g i j p s h
+abbrev pub zeros_before_bytes : List ℕ
+zeros_before_bytes = 0x3030_3030_3030_3030 ∷ 0x0030_3030_3030_3030 ∷ 0x3030_3030_3030 ∷ 0x0030_3030_3030 ∷ 0x3030_3030 ∷ 0x0030_3030 ∷ 0x3030 ∷ 0x0030 ∷ 0 ∷ []
+
+few_last : (r a b c d f g i j : ℕ) → r ≤ 8 → AllBelowBase 256 (a ∷ b ∷ c ∷ d ∷ f ∷ g ∷ i ∷ j ∷ []) → number_l 256 (a ∷ b ∷ c ∷ d ∷ f ∷ g ∷ i ∷ j ∷ []) / 2 ^ (64 - 8 * r) * 2 ^ (64 - 8 * r) + get_or zeros_before_bytes r 0 ≡ number_l 256 (replicate (8 - r) 48 ++ drop (8 - r) (a ∷ b ∷ c ∷ d ∷ f ∷ g ∷ i ∷ j ∷ []))
+few_last zero a b c d f g i j s h = omega arith
+few_last (suc zero) a b c d f g i j s h = omega arith
+few_last (suc (suc zero)) a b c d f g i j s h = omega arith
+few_last (suc (suc (suc zero))) a b c d f g i j s h = omega arith
+few_last (suc (suc (suc (suc zero)))) a b c d f g i j s h = omega arith
+few_last (suc (suc (suc (suc (suc zero))))) a b c d f g i j s h = omega arith
+few_last (suc (suc (suc (suc (suc (suc zero)))))) a b c d f g i j s h = omega arith
+few_last (suc (suc (suc (suc (suc (suc (suc zero))))))) a b c d f g i j s h = omega arith
+few_last (suc (suc (suc (suc (suc (suc (suc (suc zero)))))))) a b c d f g i j s h = omega arith
+few_last (suc (suc (suc (suc (suc (suc (suc (suc (suc r))))))))) a b c d f g i j s h = absurd (omega arith)
+
+last_lanes : (r : ℕ) (ds : List ℕ) → r ≤ 8 → length ds ≡ 8 → AllBelowBase 256 ds → number_l 256 ds / 2 ^ (64 - 8 * r) * 2 ^ (64 - 8 * r) + get_or zeros_before_bytes r 0 ≡ number_l 256 (replicate (8 - r) 48 ++ drop (8 - r) ds)
+last_lanes r [] s l h = absurd (omega arith)
+last_lanes r (a ∷ []) s l h = absurd (omega arith)
+last_lanes r (a ∷ b ∷ []) s l h = absurd (omega arith)
+last_lanes r (a ∷ b ∷ c ∷ []) s l h = absurd (omega arith)
+last_lanes r (a ∷ b ∷ c ∷ d ∷ []) s l h = absurd (omega arith)
+last_lanes r (a ∷ b ∷ c ∷ d ∷ f ∷ []) s l h = absurd (omega arith)
+last_lanes r (a ∷ b ∷ c ∷ d ∷ f ∷ g ∷ []) s l h = absurd (omega arith)
+last_lanes r (a ∷ b ∷ c ∷ d ∷ f ∷ g ∷ i ∷ []) s l h = absurd (omega arith)
+last_lanes r (a ∷ b ∷ c ∷ d ∷ f ∷ g ∷ i ∷ j ∷ k ∷ ds) s l h = absurd (omega arith)
+last_lanes r (a ∷ b ∷ c ∷ d ∷ f ∷ g ∷ i ∷ j ∷ []) s l h = few_last r a b c d f g i j s h
 
 pub below_bytes : (n : ℕ) (k : ℕ) (ds : List ℕ) → AllBelowBase 256 ds → AllBelowBase 256 (replicate n 48 ++ drop k ds)
 below_bytes zero zero ds h = h
@@ -76,22 +82,21 @@ digits_after (suc n) ds h = digits_after n ds h.1
 pub last_count : (r : ℕ) (ds : List ℕ) → r ≤ 8 → length ds ≡ 8 → length (replicate (8 - r) 48 ++ drop (8 - r) ds) ≡ 8
 last_count r ds s l = omega (arith, length-append (replicate (8 - r) 48) (drop (8 - r) ds), length-replicate {A = ℕ} (8 - r) 48, length-drop (8 - r) ds)
 
-pub pad_fits : (r word : ℕ) → 0 < r → r ≤ 8 → word < 2 ^ 64 → (word / 2 ^ (64 - 8 * r) * 2 ^ (64 - 8 * r) < 2 ^ 64) × (word / 2 ^ (64 - 8 * r) * 2 ^ (64 - 8 * r) + 0x0030_3030_3030_3030 / 2 ^ (8 * r - 8) < 2 ^ 64)
-pad_fits zero word p s h = absurd (omega arith)
-pad_fits (suc zero) word p s h = (omega arith, omega arith)
-pad_fits (suc (suc zero)) word p s h = (omega arith, omega arith)
-pad_fits (suc (suc (suc zero))) word p s h = (omega arith, omega arith)
-pad_fits (suc (suc (suc (suc zero)))) word p s h = (omega arith, omega arith)
-pad_fits (suc (suc (suc (suc (suc zero))))) word p s h = (omega arith, omega arith)
-pad_fits (suc (suc (suc (suc (suc (suc zero)))))) word p s h = (omega arith, omega arith)
-pad_fits (suc (suc (suc (suc (suc (suc (suc zero))))))) word p s h = (omega arith, omega arith)
-pad_fits (suc (suc (suc (suc (suc (suc (suc (suc zero)))))))) word p s h = (omega arith, omega arith)
-pad_fits (suc (suc (suc (suc (suc (suc (suc (suc (suc r))))))))) word p s h = absurd (omega arith)
+-- a mask of the last bytes keeps them where they are
+kept_last : (r n : ℕ) → r ≤ 8 → n < 2 ^ 64 → bit_and n (get_or last_bytes r 0) ≡ n / 2 ^ (64 - 8 * r) * 2 ^ (64 - 8 * r)
+kept_last zero n s h = and_high_mask 64 64 (omega arith) n h
+kept_last (suc zero) n s h = and_high_mask 64 56 (omega arith) n h
+kept_last (suc (suc zero)) n s h = and_high_mask 64 48 (omega arith) n h
+kept_last (suc (suc (suc zero))) n s h = and_high_mask 64 40 (omega arith) n h
+kept_last (suc (suc (suc (suc zero)))) n s h = and_high_mask 64 32 (omega arith) n h
+kept_last (suc (suc (suc (suc (suc zero))))) n s h = and_high_mask 64 24 (omega arith) n h
+kept_last (suc (suc (suc (suc (suc (suc zero)))))) n s h = and_high_mask 64 16 (omega arith) n h
+kept_last (suc (suc (suc (suc (suc (suc (suc zero))))))) n s h = and_high_mask 64 8 (omega arith) n h
+kept_last (suc (suc (suc (suc (suc (suc (suc (suc zero)))))))) n s h = and_high_mask 64 0 (omega arith) n h
+kept_last (suc (suc (suc (suc (suc (suc (suc (suc (suc r))))))))) n s h = absurd (omega arith)
 
-pub padded_is : (r word : ℕ) (bs : List ℕ) → 0 < r → r ≤ 8 → word < 2 ^ 64 → length bs ≡ 8 → AllBelowBase 256 bs → word ≡ number_l 256 bs → word / 2 ^ (64 - 8 * r) * 2 ^ (64 - 8 * r) % 2 ^ 64 + 0x0030_3030_3030_3030 / 2 ^ (8 * r - 8) ≡ number_l 256 (replicate (8 - r) 48 ++ drop (8 - r) bs)
-padded_is r word bs p s w l h e =
-    let same : word / 2 ^ (64 - 8 * r) * 2 ^ (64 - 8 * r) % 2 ^ 64 ≡ word / 2 ^ (64 - 8 * r) * 2 ^ (64 - 8 * r) = mod-eq_of_lt (pad_fits r word p s w).0 in
-    rw (same, e) (last_lanes r bs p s l h)
+pub padded_is : (r word : ℕ) (bs : List ℕ) → r ≤ 8 → word < 2 ^ 64 → length bs ≡ 8 → AllBelowBase 256 bs → word ≡ number_l 256 bs → bit_and word (get_or last_bytes r 0) + get_or zeros_before_bytes r 0 ≡ number_l 256 (replicate (8 - r) 48 ++ drop (8 - r) bs)
+padded_is r word bs s w l h e = ap (λ i. i + get_or zeros_before_bytes r 0) (kept_last r word s w) ∙ rw e (last_lanes r bs s l h)
 
 -- ---- the first few of eight bytes, after zeros
 few_first : (r a b c d f g i j : ℕ) → 0 < r → r ≤ 8 → AllBelowBase 256 (a ∷ b ∷ c ∷ d ∷ f ∷ g ∷ i ∷ j ∷ []) → number_l 256 (a ∷ b ∷ c ∷ d ∷ f ∷ g ∷ i ∷ j ∷ []) * 2 ^ (64 - 8 * r) % 2 ^ 64 + 0x0030_3030_3030_3030 / 2 ^ (8 * r - 8) ≡ number_l 256 (replicate (8 - r) 48 ++ take r (a ∷ b ∷ c ∷ d ∷ f ∷ g ∷ i ∷ j ∷ []))

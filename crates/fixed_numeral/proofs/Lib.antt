@@ -19,5 +19,6 @@ mod LaneLemmas
 mod CompactLemmas
 mod SegmentLemmas
 mod DecimalLemmas
+mod MarkLemmas
 mod ExponentLemmas
 mod MessageLemmas

@@ -1,7 +1,9 @@
 -- Stretches of a text, and the numbers that their digits spell.
-use Rattle.std.proofs.Common.{◌≡◌, ℕ, ◌+◌, ◌-◌, ◌*◌, ◌^◌, ◌%◌, ◌<◌, ◌≤◌, Bool, true, false, List, [], ◌∷◌, ◌++◌, length, take, drop, get_or, Option, Some, None, IfSome, option_to_list, ℤ, pos, neg_ℤ, cond, of_z, to_z, FitsSigned, w32, refl, sym, ap, ◌∙◌, ⊎_elim, arith, add-one, append_assoc, append-nil, subst, length-append, length-take, length-drop, take-append-drop, mul-le-mul_right}
+use Rattle.std.proofs.Common.{◌≡◌, ℕ, zero, suc, ◌+◌, ◌-◌, ◌*◌, ◌^◌, ◌%◌, ◌<◌, ◌≤◌, Bool, true, false, List, [], ◌∷◌, ◌++◌, length, take, drop, get_or, Option, Some, None, IfSome, option_to_list, ℤ, pos, neg_ℤ, cond, of_z, to_z, FitsSigned, w32, refl, sym, ap, ◌∙◌, ⊎_elim, arith, add-one, append_assoc, append-nil, subst, length-append, length-take, length-drop, take-append-drop, mul-le-mul_left, mul-le-mul_right}
 use Rattle.std.proofs.lemmas.List.{drop_more, drop-drop, drop-take, length_push, drop_all, take-take}
-use Rattle.std.proofs.lemmas.Bool.{cases_lt}
+use Rattle.std.proofs.lemmas.Bool.{cases_lt, eqb-true}
+use Rattle.std.specs.Prelude.{eqb}
+use mir.Val.{bool_byte}
 use Rattle.std.proofs.lemmas.Int.{ints, to_z-of_z}
 use Rattle.std.proofs.lemmas.Nat.{pow-add}
 use Rattle.std.proofs.Math.Nat.{pow-zero, pow-suc, pow-le-pow_left, pow-le-pow_right}
@@ -9,7 +11,7 @@ use Rattle.std.proofs.lemmas.Int.Digits.{digits_value_push, digits_push, digits_
 use Rattle.std.specs.Char.{digit_value}
 use Rattle.std.specs.Int.Digits.{AllBelowBase}
 use Rattle.std.specs.Simd.Lanes.{number_l}
-use Rattle.fixed_numeral.proofs.LaneLemmas.{eight_long, eight_below}
+use Rattle.fixed_numeral.proofs.LaneLemmas.{eight_long, eight_below, small_base}
 use Rattle.std.specs.Str.Parse.{AllDigits, digits_value, digits_value_after}
 use Rattle.fixed_numeral.specs.Inner.Segments.{IsSignAt, IsDigitRun, IsChunk, IsMantissaAt, IsExponentAt, IsDecimalAt, IsShortAt}
 use Rattle.fixed_numeral.specs.declared.radix.Radix.{Radix}
@@ -104,6 +106,18 @@ minus_stands bs from l e = record { sign = Some 45; text = drop_more bs from 0 l
 
 pub plus_stands : (bs : List ℕ) (from : ℕ) → from < length bs → get_or bs from 0 ≡ 43 → IsSignAt bs from (from + 1) false
 plus_stands bs from l e = record { sign = Some 43; text = drop_more bs from 0 l ∙ rw e refl; within = omega arith; is_sign = refl; is_negative = refl }
+
+none_stands : (bs : List ℕ) (from : ℕ) → from < length bs → IsSignAt bs from from false
+none_stands bs from l = record { sign = None; text = refl; within = omega arith; is_sign = tt; is_negative = refl }
+
+pub sign_by_sums : (bs : List ℕ) (from m p : ℕ) → from < length bs → m ≡ bool_byte (eqb (get_or bs from 0) 45) → p ≡ bool_byte (eqb (get_or bs from 0) 43) → IsSignAt bs from (from + m + p) (eqb (get_or bs from 0) 45)
+sign_by_sums bs from m p l em ep = by_cases (eqb (get_or bs from 0) 45) (eqb (get_or bs from 0) 43) refl refl em ep
+  where
+    by_cases : (c d : Bool) → eqb (get_or bs from 0) 45 ≡ c → eqb (get_or bs from 0) 43 ≡ d → m ≡ bool_byte c → p ≡ bool_byte d → IsSignAt bs from (from + m + p) c
+    by_cases true true ec ed qm qp = absurd (omega (arith, eqb-true (get_or bs from 0) 45 ec, eqb-true (get_or bs from 0) 43 ed))
+    by_cases true false ec ed qm qp = let to : from + 1 ≡ from + m + p = omega (arith, qm, qp) in subst (λ i. IsSignAt bs from i true) to (minus_stands bs from l (eqb-true (get_or bs from 0) 45 ec))
+    by_cases false true ec ed qm qp = let to : from + 1 ≡ from + m + p = omega (arith, qm, qp) in subst (λ i. IsSignAt bs from i false) to (plus_stands bs from l (eqb-true (get_or bs from 0) 43 ed))
+    by_cases false false ec ed qm qp = let to : from ≡ from + m + p = omega (arith, qm, qp) in subst (λ i. IsSignAt bs from i false) to (none_stands bs from l)
 
 -- ---- mantissas
 at_end : (bs : List ℕ) (n : ℕ) → n ≡ length bs → drop n bs ≡ []
@@ -271,8 +285,8 @@ decimal_parts bs negative whole fraction places p h n =
     rw same h.short
 
 -- ---- digits that were looked at as words
-pub chunk_of : (bs : List ℕ) (from k to n : ℕ) → from + k ≡ to → to ≤ length bs → AllDigits 10 (take k (drop from bs)) → n ≡ digits_value 10 (take k (drop from bs)) → IsChunk 10 bs from to n (10 ^ (to - from))
-chunk_of bs from k to n e l h v =
+pub chunk_in : (b : ℕ) (bs : List ℕ) (from k to n : ℕ) → from + k ≡ to → to ≤ length bs → AllDigits b (take k (drop from bs)) → n ≡ digits_value b (take k (drop from bs)) → IsChunk b bs from to n (b ^ (to - from))
+chunk_in b bs from k to n e l h v =
     let there : drop k (drop from bs) ≡ drop to bs = drop-drop k from bs ∙ ap (λ i. drop i bs) e in
     let count : length (take k (drop from bs)) ≡ k = length-take k (drop from bs) ∙ omega (arith, length-drop from bs) in
     record {
@@ -284,8 +298,11 @@ chunk_of bs from k to n e l h v =
         are_digits = h;
         spelled = v;
       };
-      scale_is = ap (λ i. 10 ^ i) (let same : to - from ≡ length (take k (drop from bs)) = omega (arith, count) in same);
+      scale_is = ap (λ i. b ^ i) (let same : to - from ≡ length (take k (drop from bs)) = omega (arith, count) in same);
     }
+
+pub chunk_of : (bs : List ℕ) (from k to n : ℕ) → from + k ≡ to → to ≤ length bs → AllDigits 10 (take k (drop from bs)) → n ≡ digits_value 10 (take k (drop from bs)) → IsChunk 10 bs from to n (10 ^ (to - from))
+chunk_of = chunk_in 10
 
 abbrev IsFirst : ℕ → ℕ → ℕ → Type 0
 IsFirst word count n = (xs : List ℕ) → length xs ≡ 8 → AllBelowBase 256 xs → word ≡ number_l 256 xs → AllDigits 10 (take count xs) × (n ≡ digits_value 10 (take count xs))
@@ -307,6 +324,31 @@ chunk_of_last bs from count to n word l within t few e w h =
     let rest : drop (8 - count) (take 8 (drop (to - 8) bs)) ≡ take count (drop from bs) = ap (λ i. drop (8 - count) (take i (drop (to - 8) bs))) left ∙ drop-take (8 - count) count (drop (to - 8) bs) ∙ ap (take count) (drop-drop (8 - count) (to - 8) bs ∙ ap (λ i. drop i bs) there) in
     chunk_of bs from count to n e within (rw rest at found.0) (rw rest at found.1)
 
+-- a part of the bytes of a word
+last_of_word : (bs : List ℕ) (from count to : ℕ) → 8 ≤ to → count ≤ 8 → from + count ≡ to → drop (8 - count) (take 8 (drop (to - 8) bs)) ≡ take count (drop from bs)
+last_of_word bs from count to l few e =
+    let there : (to - 8) + (8 - count) ≡ from = omega arith in
+    let left : 8 ≡ (8 - count) + count = omega arith in
+    ap (λ i. drop (8 - count) (take i (drop (to - 8) bs))) left ∙ drop-take (8 - count) count (drop (to - 8) bs) ∙ ap (take count) (drop-drop (8 - count) (to - 8) bs ∙ ap (λ i. drop i bs) there)
+
+abbrev IsNumberOf : ℕ → ℕ → ℕ → ℕ → Type 0
+IsNumberOf b word count n = (xs : List ℕ) → length xs ≡ 8 → AllBelowBase 256 xs → word ≡ number_l 256 xs → AllDigits b (drop (8 - count) xs) → n ≡ digits_value b (drop (8 - count) xs)
+
+pub chunk_at_end : (b : ℕ) (bs : List ℕ) (from count to n word : ℕ) → 8 ≤ to → to ≤ length bs → ((k : ℕ) → get_or bs k 0 < 256) → count ≤ 8 → from + count ≡ to → word ≡ number_l 256 (take 8 (drop (to - 8) bs)) → IsNumberOf b word count n → AllDigits b (take count (drop from bs)) → IsChunk b bs from to n (b ^ (to - from))
+chunk_at_end b bs from count to n word l within t few e w h digits =
+    let rest : drop (8 - count) (take 8 (drop (to - 8) bs)) ≡ take count (drop from bs) = last_of_word bs from count to l few e in
+    let found : n ≡ digits_value b (drop (8 - count) (take 8 (drop (to - 8) bs))) = h (take 8 (drop (to - 8) bs)) (eight_long bs (to - 8) (omega arith)) (eight_below bs (to - 8) (omega arith) t) w (subst (AllDigits b) (sym rest) digits) in
+    chunk_in b bs from count to n e within digits (found ∙ ap (digits_value b) rest)
+
+digits_cut : (b k j n : ℕ) (xs : List ℕ) → k + j ≡ n → AllDigits b (take n xs) → AllDigits b (take k xs) × AllDigits b (take j (drop k xs))
+digits_cut b zero j n xs e h = let same : n ≡ j = omega arith in (tt, subst (λ i. AllDigits b (take i xs)) same h)
+digits_cut b (suc k) j zero xs e h = absurd (omega arith)
+digits_cut b (suc k) zero (suc n) [] e h = (tt, tt)
+digits_cut b (suc k) (suc j) (suc n) [] e h = (tt, tt)
+digits_cut b (suc k) j (suc n) (x ∷ xs) e h =
+    let rest = digits_cut b k j n xs (omega arith) h.1 in
+    ((h.0, rest.0), rest.1)
+
 pub chunk_joined : (b : ℕ) (bs : List ℕ) (from mid to n m s t : ℕ) → IsChunk b bs from mid n s → IsChunk b bs mid to m t → IsChunk b bs from to (n * t + m) (s * t)
 unfolding run_joined run_after
 chunk_joined b bs from mid to n m s t p q = record {
@@ -319,6 +361,31 @@ chunk_of_two bs from mid to n m l k p q =
     let both = chunk_joined 10 bs from mid to n m (10 ^ (mid - from)) (10 ^ (to - mid)) p q in
     let scale : 10 ^ (mid - from) * 10 ^ (to - mid) ≡ 10 ^ (to - from) = sym (pow-add 10 (mid - from) (to - mid)) ∙ ap (λ i. 10 ^ i) (omega arith) in
     subst (λ i. IsChunk 10 bs from to (n * 10 ^ (to - mid) + m) i) scale both
+
+chunk_in_two : (b : ℕ) (bs : List ℕ) (from mid to n m : ℕ) → from ≤ mid → to ≡ mid + 8 → IsChunk b bs from mid n (b ^ (mid - from)) → IsChunk b bs mid to m (b ^ (to - mid)) → IsChunk b bs from to (n * (b * b * (b * b) * (b * b * (b * b))) + m) (b ^ (to - from))
+chunk_in_two b bs from mid to n m l e p q =
+    let both = chunk_joined b bs from mid to n m (b ^ (mid - from)) (b ^ (to - mid)) p q in
+    let count : to - mid ≡ 8 = omega arith in
+    let one : b ^ 1 ≡ b = pow-suc b 0 ∙ omega (arith, ap (λ i. i * b) (pow-zero b)) in
+    let two : b ^ 2 ≡ b * b = pow-add b 1 1 ∙ rw one refl in
+    let four : b ^ 4 ≡ b * b * (b * b) = pow-add b 2 2 ∙ rw two refl in
+    let eight : b ^ (to - mid) ≡ b * b * (b * b) * (b * b * (b * b)) = ap (λ i. b ^ i) count ∙ pow-add b 4 4 ∙ rw four refl in
+    let scale : b ^ (mid - from) * b ^ (to - mid) ≡ b ^ (to - from) = sym (pow-add b (mid - from) (to - mid)) ∙ ap (λ i. b ^ i) (omega arith) in
+    subst (λ i. IsChunk b bs from to (n * i + m) (b ^ (to - from))) eight (subst (λ i. IsChunk b bs from to (n * b ^ (to - mid) + m) i) scale both)
+
+pub number_in_two : (b : ℕ) (bs : List ℕ) (from to n m w v : ℕ) → 16 ≤ to → to ≤ length bs → ((k : ℕ) → get_or bs k 0 < 256) → 8 < to - from → to ≤ from + 16 → w ≡ number_l 256 (take 8 (drop (to - 16) bs)) → v ≡ number_l 256 (take 8 (drop (to - 8) bs)) → IsNumberOf b w (to - from - 8) n → IsNumberOf b v 8 m → AllDigits b (take (to - from) (drop from bs)) → IsChunk b bs from to (n * (b * b * (b * b) * (b * b * (b * b))) + m) (b ^ (to - from))
+number_in_two b bs from to n m w v l within t many few ew ev hn hm digits =
+    let mid : ℕ = to - 8 in
+    let cut = digits_cut b (to - from - 8) 8 (to - from) (drop from bs) (omega arith) digits in
+    let there : drop (to - from - 8) (drop from bs) ≡ drop mid bs = drop-drop (to - from - 8) from bs ∙ ap (λ i. drop i bs) (let e : from + (to - from - 8) ≡ mid = omega arith in e) in
+    let high = chunk_at_end b bs from (to - from - 8) mid n w (omega arith) (omega arith) t (omega arith) (omega arith) (ew ∙ ap (λ i. number_l 256 (take 8 (drop i bs))) (omega arith)) hn cut.0 in
+    let low = chunk_at_end b bs mid 8 to m v (omega arith) within t (omega arith) (omega arith) ev hm (rw there at cut.1) in
+    chunk_in_two b bs from mid to n m (omega arith) (omega arith) high low
+
+pub two_fit : (b n m : ℕ) → b ≤ 16 → n < 2 ^ 32 → m < 2 ^ 32 → (n * (b * b * (b * b) * (b * b * (b * b))) < 2 ^ 64) × (n * (b * b * (b * b) * (b * b * (b * b))) + m < 2 ^ 64)
+two_fit b n m s l k =
+    let most : n * (b * b * (b * b) * (b * b * (b * b))) ≤ n * 2 ^ 32 = mul-le-mul_left n (small_base b s).eight in
+    (omega arith, omega arith)
 
 pub chunk_of_both : (bs : List ℕ) (from mid to n m : ℕ) → from ≤ mid → mid ≤ to → IsChunk 10 bs from mid n (10 ^ (mid - from)) → IsChunk 10 bs mid to m (10 ^ (to - mid)) → to - mid ≡ 8 → IsChunk 10 bs from to (n * 100000000 + m) (10 ^ (to - from))
 chunk_of_both bs from mid to n m l k p q e =
@@ -400,3 +467,77 @@ chunk_dropped b bs k from to n s l h =
       };
       scale_is = h.scale_is;
     }
+
+-- ---- places, from the lengths of what stands between them
+pub sign_place : (bs : List ℕ) (from to : ℕ) (negative : Bool) → from ≤ length bs → IsSignAt bs from to negative → from ≤ to
+sign_place bs from to negative l h = omega (arith, ap length h.text, length-append (option_to_list h.sign) (drop to bs), length-drop from bs, length-drop to bs, h.within)
+
+pub mantissa_place : (b : ℕ) (bs : List ℕ) (from to n p : ℕ) → from ≤ length bs → IsMantissaAt b bs from to n p → from ≤ to
+mantissa_place b bs from to n p l h = omega (arith, ap length h.text, length-append h.whole (fraction_text h.fraction ++ drop to bs), length-append (fraction_text h.fraction) (drop to bs), length-drop from bs, length-drop to bs, h.within)
+
+dropped_twice : (bs : List ℕ) (k i : ℕ) → k ≤ i → drop (i - k) (drop k bs) ≡ drop i bs
+dropped_twice bs k i m = drop-drop (i - k) k bs ∙ ap (λ j. drop j bs) (let e : k + (i - k) ≡ i = omega arith in e)
+
+mantissa_dropped : (b : ℕ) (bs : List ℕ) (k from to n p : ℕ) → k ≤ from → from ≤ length bs → IsMantissaAt b bs from to n p → IsMantissaAt b (drop k bs) (from - k) (to - k) n p
+mantissa_dropped b bs k from to n p l w h =
+    let past : k ≤ to = omega (arith, mantissa_place b bs from to n p w h) in
+    record {
+      whole = h.whole;
+      fraction = h.fraction;
+      text = dropped_twice bs k from l ∙ h.text ∙ ap (λ ys. h.whole ++ (fraction_text h.fraction ++ ys)) (sym (dropped_twice bs k to past));
+      within = omega (arith, length-drop k bs, h.within);
+      whole_digits = h.whole_digits;
+      fraction_digits = h.fraction_digits;
+      spelled = h.spelled;
+      places_are = h.places_are;
+      some = h.some;
+    }
+
+exponent_dropped : (r : Radix) (bs : List ℕ) (k from : ℕ) (x : ℤ) (two : Bool) → k ≤ from → IsExponentAt r bs from x two → IsExponentAt r (drop k bs) (from - k) x two
+exponent_dropped r bs k from x two l h = record {
+  exponent = h.exponent;
+  text = dropped_twice bs k from l ∙ h.text;
+  is_exponent = h.is_exponent;
+  some = h.some;
+  is_number = h.is_number;
+  is_by_two = h.is_by_two;
+}
+
+-- ---- a numeral that a text ends with
+pub ending_numeral : (r : Radix) (bs : List ℕ) (from first mid number places : ℕ) (negative two : Bool) (x : ℤ) → from ≤ length bs → IsSignAt bs from first negative → IsMantissaAt (base r) bs first mid number places → IsExponentAt r bs mid x two → (p : Parts) × HasNumeral r (drop from bs) p
+ending_numeral r bs from first mid number places negative two x l s m e =
+    let one = sign_place bs from first negative l s in
+    let two' = mantissa_place (base r) bs first mid number places s.within m in
+    read_numeral r (drop from bs) (first - from) (mid - from) number places negative two x (sign_dropped bs from first negative one s) (mantissa_dropped (base r) bs from first mid number places one s.within m) (exponent_dropped r bs from mid x two (omega arith) e)
+
+pub ending_parts : (r : Radix) (bs : List ℕ) (from first mid number places : ℕ) (negative two : Bool) (x : ℤ) (p : Parts) → from ≤ length bs → IsSignAt bs from first negative → IsMantissaAt (base r) bs first mid number places → IsExponentAt r bs mid x two → HasNumeral r (drop from bs) p → IsCompactNumeral r p negative number places (to_z w32 (of_z w32 x)) two
+ending_parts r bs from first mid number places negative two x p l s m e n =
+    let one = sign_place bs from first negative l s in
+    let two' = mantissa_place (base r) bs first mid number places s.within m in
+    parts_read r (drop from bs) (first - from) (mid - from) number places negative two x p (sign_dropped bs from first negative one s) (mantissa_dropped (base r) bs from first mid number places one s.within m) (exponent_dropped r bs from mid x two (omega arith) e) n
+
+-- ---- its mantissa and its exponent fit
+pub mantissa_fits : (b whole fraction n m : ℕ) → b ≤ 16 → whole < b ^ n → fraction < b ^ m → n + m ≤ 16 → (whole * b ^ m < 2 ^ 64) × (whole * b ^ m + fraction < 2 ^ 64)
+mantissa_fits b whole fraction n m s w f few =
+    let product : (whole + 1) * b ^ m ≤ b ^ n * b ^ m = mul-le-mul_right (b ^ m) (omega arith) in
+    let high : b ^ (n + m) ≤ 16 ^ (n + m) = pow-le-pow_left s (n + m) in
+    let most : 16 ^ (n + m) ≤ 16 ^ 16 = pow-le-pow_right (omega arith) few in
+    (omega (arith, product, pow-add b n m, high, most), omega (arith, product, pow-add b n m, high, most))
+
+pub ending_fits : (b : ℕ) (bs : List ℕ) (from point to whole fraction : ℕ) → b ≤ 16 → IsChunk b bs from point whole (b ^ (point - from)) → IsChunk b bs (point + 1) to fraction (b ^ (to - (point + 1))) → to ≤ from + 16 → (whole * b ^ (to - point - 1) < 2 ^ 64) × (whole * b ^ (to - point - 1) + fraction < 2 ^ 64)
+ending_fits b bs from point to whole fraction s h k few =
+    let places : to - (point + 1) ≡ to - point - 1 = omega arith in
+    mantissa_fits b whole fraction (point - from) (to - point - 1) s (chunk_below b bs from point whole _ h) (subst (λ i. fraction < b ^ i) places (chunk_below b bs (point + 1) to fraction _ k)) (omega (arith, h.run.count, k.run.count))
+
+pub ending_parted : (b : ℕ) (bs : List ℕ) (from point to whole fraction raised : ℕ) → IsChunk b bs from point whole (b ^ (point - from)) → point < length bs → get_or bs point 0 ≡ 46 → IsChunk b bs (point + 1) to fraction (b ^ (to - (point + 1))) → raised ≡ whole * b ^ (to - point - 1) → from + 1 < to → IsMantissaAt b bs from to (raised + fraction) (to - point - 1)
+ending_parted b bs from point to whole fraction raised h l dot k e some =
+    let places : to - point - 1 ≡ to - (point + 1) = omega arith in
+    let number : raised + fraction ≡ whole * b ^ (to - (point + 1)) + fraction = ap (λ i. i + fraction) (e ∙ ap (λ i. whole * b ^ i) places) in
+    mantissa_parted b bs from point (point + 1) to whole (raised + fraction) (to - point - 1) h.run l dot refl (run_after b bs (point + 1) to whole (raised + fraction) fraction _ k number) (omega (arith, k.run.count)) some
+
+pub eight_digits : (n e : ℕ) → n < 10 ^ e → e ≤ 8 → n < 10 ^ 8
+eight_digits n e h l = let most : 10 ^ e ≤ 10 ^ 8 = pow-le-pow_right (omega arith) l in omega arith
+
+pub small_magnitude : (minus : Bool) (n : ℕ) → n < 10 ^ 8 → n ≤ max_magnitude minus
+small_magnitude true n h = omega arith
+small_magnitude false n h = omega arith

@@ -4,6 +4,7 @@
 mod compact;
 mod digit_slice;
 mod digit_view;
+mod ending;
 mod error;
 pub mod laws;
 mod literal;
@@ -18,6 +19,7 @@ mod wide;
 
 pub use compact::{CompactNumeral, compact_numeral};
 pub use digit_view::DigitView;
+pub use ending::ending_numeral;
 pub use error::{ParseErrorKind, ParseFixedError};
 pub use literal::scan_lit;
 pub use radix::Radix;

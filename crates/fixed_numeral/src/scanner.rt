@@ -1,7 +1,8 @@
 //! Reading a numeral from the left.
 
-ghost use Rattle.std.specs.Prelude.{◌≡◌, ◌+◌, ◌*◌, ◌^◌, ◌<◌, ◌≤◌, ℕ, nat_lt, true, false, IsTrue, List, [], ◌++◌, length, take, drop, MatchResult, IfSome, IfOk};
+ghost use Rattle.std.specs.Prelude.{◌≡◌, ◌+◌, ◌*◌, ◌^◌, ◌<◌, ◌≤◌, ◌==◌, ℕ, nat_lt, true, false, IsTrue, List, [], ◌++◌, length, take, drop, MatchResult, IfSome, IfOk};
 ghost use Rattle.std.specs.Int.Digits.{AllBelowBase};
+ghost use Rattle.std.specs.Int.{bit_at};
 ghost use Rattle.std.specs.Simd.Lanes.{number_l};
 ghost use Rattle.std.specs.Char.{digit_value};
 ghost use Rattle.std.specs.Str.Parse.{AllDigits};
@@ -82,14 +83,24 @@ pub(crate) fn is_sign(b: u8) -> bool
     b == b'+' || b == b'-'
 }
 
+/// The separators of a radix: the bit of the byte '@' is the lowest.
+fn separator_bits(radix: Radix) -> u64
+    ensures { (k : ℕ) → k < 64 → (bit_at result k == 1) ≡ is_separator radix (64 + k) }
+{
+    match radix {
+        Radix::Bin => 0x0001_0020_0001_0021,
+        Radix::Oct => 0x0001_0020_0001_0021,
+        Radix::Dec => 0x0000_0020_0000_0021,
+        Radix::Hex => 0x0001_0000_0001_0001,
+    }
+}
+
+/// Whether a byte is a separator of a radix. By a bit of a word, since the separators of four radices by branches are hard to
+/// predict.
 pub(crate) fn is_separator(radix: Radix, b: u8) -> bool
     ensures { result ≡ is_separator radix b }
 {
-    match radix {
-        Radix::Dec => b == b'e' || b == b'E' || b == b'@',
-        Radix::Hex => b == b'@' || b == b'p' || b == b'P',
-        _ => b == b'e' || b == b'E' || b == b'@' || b == b'p' || b == b'P',
-    }
+    b >= 64 && b < 128 && (separator_bits(radix) >> (b % 64)) % 2 == 1
 }
 
 pub(crate) fn is_two_separator(radix: Radix, b: u8) -> bool

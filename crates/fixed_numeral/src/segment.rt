@@ -3,14 +3,17 @@
 //! Digits are taken in chunks that fit a word: up to 19 decimal digits, eight at a time, 15 of radix 16, 20 of radix 8 and
 //! 60 of radix 2. A longer run joins its chunks in 128 bits.
 
-ghost use Rattle.std.specs.Prelude.{◌≡◌, ◌+◌, ◌-◌, ◌*◌, ◌^◌, ◌<◌, ◌≤◌, IfSome, length};
+ghost use Rattle.std.specs.Prelude.{◌≡◌, ◌+◌, ◌-◌, ◌*◌, ◌^◌, ◌<◌, ◌≤◌, IfSome, drop, length, take};
 ghost use Rattle.std.specs.Char.{digit_value};
+ghost use Rattle.std.specs.Str.Parse.{AllDigits};
 ghost use Rattle.fixed_numeral.specs.Numeral.{base};
 ghost use Rattle.fixed_numeral.specs.Inner.Segments.{IsSignAt, IsDigitRun, IsChunk};
 
 use crate::digit_slice::{is_digit, value_of_digit};
 use crate::radix::Radix;
-use crate::swar::{are_decimal, first_decimals, last_decimals, number_of_decimals, word_at};
+use crate::swar::{
+    are_decimal, first_decimals, last_decimals, last_number, number_of_decimals, word_at,
+};
 
 /// Digits whose number fits a word, and the scale of what comes after them.
 #[derive(Clone, Copy)]
@@ -53,14 +56,13 @@ pub(crate) fn sign_at(bytes: &[u8], from: usize) -> (bool, usize)
     if from == bytes.len() {
         return (false, from);
     }
-    let first = bytes[from];
-    if first == b'-' {
-        (true, from + 1)
-    } else if first == b'+' {
-        (false, from + 1)
-    } else {
-        (false, from)
-    }
+    // Sums in place of branches, which are hard to predict.
+    let is_minus = bytes[from] == b'-';
+    let is_plus = bytes[from] == b'+';
+    (
+        is_minus,
+        from + usize::from(is_minus) + usize::from(is_plus),
+    )
 }
 
 /// The value of a byte that is a digit of the base; of any other byte something that is not below the base.
@@ -245,9 +247,6 @@ pub(crate) fn decimals_between(bytes: &[u8], from: usize, to: usize) -> Option<u
     ensures { IfSome result (λ n. IsChunk 10 bytes.now from to n (10 ^ (to - from))) }
 {
     let count = to - from;
-    if count == 0 {
-        return Some(0);
-    }
     let last = word_at(bytes, to - 8);
     if count <= 8 {
         let number = last_decimals(last, count)?;
@@ -267,6 +266,30 @@ pub(crate) fn final_decimals(bytes: &[u8], from: usize) -> Option<u64>
     ensures { IfSome result (λ n. IsChunk 10 bytes.now from (length bytes.now) n (10 ^ (length bytes.now - from))) }
 {
     decimals_between(bytes, from, bytes.len())
+}
+
+/// The number of the bytes between two places, at most 16, where each is a digit. The second place is at least 16.
+#[inline(always)]
+pub(crate) fn number_between(bytes: &[u8], base: u64, from: usize, to: usize) -> u64
+    requires long { 16 ≤ to }
+    requires place { from ≤ to }
+    requires within { to ≤ length bytes.now }
+    requires few { to ≤ from + 16 }
+    requires least { 2 ≤ base }
+    requires most { base ≤ 16 }
+    requires digits { AllDigits base (take (to - from) (drop from bytes.now)) }
+    ensures { IsChunk base bytes.now from to result (base ^ (to - from)) }
+{
+    let count = to - from;
+    let last = word_at(bytes, to - 8);
+    if count <= 8 {
+        return last_number(last, count, base);
+    }
+    let high = last_number(word_at(bytes, to - 16), count - 8, base);
+    let low = last_number(last, 8, base);
+    let square = base * base;
+    let fourth = square * square;
+    high * (fourth * fourth) + low
 }
 
 /// Whether a minus is at a place, and the place after it.

@@ -30,20 +30,20 @@ pub struct ShortNumeral {
 
 /// The digits of a mantissa.
 #[derive(Clone, Copy)]
-struct ShortMantissa {
+pub(crate) struct ShortMantissa {
     /// The number that all of them spell.
-    number: u64,
+    pub number: u64,
     /// How many there are after the point.
-    places: u32,
+    pub places: u32,
     /// The place after them.
-    end: usize,
+    pub end: usize,
 }
 
 /// An exponent, and whether it counts powers of two.
 #[derive(Clone, Copy)]
-struct ShortPower {
-    exponent: i32,
-    by_two: bool,
+pub(crate) struct ShortPower {
+    pub exponent: i32,
+    pub by_two: bool,
 }
 
 /// How many bytes a short numeral has at most.

@@ -1,6 +1,6 @@
 //! Eight digits at once, each in a byte of a word.
 
-ghost use Rattle.std.specs.Prelude.{◌≡◌, ◌+◌, ◌-◌, ◌<◌, ◌≤◌, ◌^◌, List, ℕ, length, take, drop, IsTrue, IfSome};
+ghost use Rattle.std.specs.Prelude.{◌≡◌, ◌+◌, ◌-◌, ◌<◌, ◌≤◌, ◌^◌, List, ℕ, ◌++◌, replicate, length, take, drop, IsTrue, IfSome};
 ghost use Rattle.std.specs.Int.Digits.{AllBelowBase, number_from_digits};
 ghost use Rattle.std.specs.Simd.Lanes.{number_l};
 ghost use Rattle.std.specs.Str.Parse.{AllDigits, digits_value};
@@ -83,22 +83,66 @@ pub(crate) fn first_decimals(word: u64, count: usize) -> Option<u64>
     }
 }
 
-/// The number that the last bytes of a word spell, one to eight, where they are decimal digits. The bytes before them are
+/// The last bytes of a word, by their count.
+const LAST_BYTES: [u64; 9] = [
+    0,
+    0xff00_0000_0000_0000,
+    0xffff_0000_0000_0000,
+    0xffff_ff00_0000_0000,
+    0xffff_ffff_0000_0000,
+    0xffff_ffff_ff00_0000,
+    0xffff_ffff_ffff_0000,
+    0xffff_ffff_ffff_ff00,
+    0xffff_ffff_ffff_ffff,
+];
+
+/// A zero for each byte before them.
+const ZEROS_BEFORE: [u64; 9] = [
+    0x3030_3030_3030_3030,
+    0x0030_3030_3030_3030,
+    0x3030_3030_3030,
+    0x0030_3030_3030,
+    0x3030_3030,
+    0x0030_3030,
+    0x3030,
+    0x0030,
+    0,
+];
+
+/// The last bytes of a word after zeros. Tables, so that no byte at all is no case of its own.
+#[inline(always)]
+fn after_zeros(word: u64, count: usize) -> u64
+    requires few { count ≤ 8 }
+    ensures { (bs : List ℕ) → length bs ≡ 8 → AllBelowBase 256 bs → word ≡ number_l 256 bs → result ≡ number_l 256 (replicate (8 - count) 48 ++ drop (8 - count) bs) }
+{
+    (word & LAST_BYTES[count]) + ZEROS_BEFORE[count]
+}
+
+/// The number that the last bytes of a word spell, at most eight, where they are decimal digits. The bytes before them are
 /// made zeros.
 #[inline(always)]
 pub(crate) fn last_decimals(word: u64, count: usize) -> Option<u64>
-    requires some { 0 < count }
     requires few { count ≤ 8 }
     ensures { IfSome result (λ n. (bs : List ℕ) → length bs ≡ 8 → AllBelowBase 256 bs → word ≡ number_l 256 bs → AllDigits 10 (drop (8 - count) bs) × (n ≡ digits_value 10 (drop (8 - count) bs))) }
 {
-    let shift = 64 - 8 * count;
-    let zeros = 0x0030_3030_3030_3030u64 >> (8 * count - 8);
-    let padded = ((word >> shift) << shift) + zeros;
+    let padded = after_zeros(word, count);
     if are_decimal(padded) {
         Some(number_of_decimals(padded))
     } else {
         None
     }
+}
+
+/// The number that the last bytes of a word spell in a base, at most eight, where they are digits.
+#[inline(always)]
+pub(crate) fn last_number(word: u64, count: usize, base: u64) -> u64
+    requires few { count ≤ 8 }
+    requires least { 2 ≤ base }
+    requires most { base ≤ 16 }
+    ensures number { (bs : List ℕ) → length bs ≡ 8 → AllBelowBase 256 bs → word ≡ number_l 256 bs → AllDigits base (drop (8 - count) bs) → result ≡ digits_value base (drop (8 - count) bs) }
+    ensures small { result < 2 ^ 32 }
+{
+    number_of_eight(digit_values(after_zeros(word, count)), base)
 }
 
 /// The number that the first digits of a slice spell in a base, fewer than eight, where each of its bytes is a digit, and

@@ -8,7 +8,7 @@ use std::test::Fail;
 mod support;
 
 use support::{
-    Views, compact, first, kind_of_bad, lengths, literal, no_literal, reads, refused,
+    Views, compact, ending_in, first, kind_of_bad, lengths, literal, no_literal, reads, refused,
     refused_bytes, short, short_in, short_with, spelled_by, wide, wide_with,
 };
 
@@ -484,5 +484,62 @@ fn what_is_no_compact_numeral_is_left_alone(rt: HostRuntime) {
         (Radix::Dec, ""),
     ] {
         assert!(rt; compact(radix, text) == None, "at {text}");
+    }
+}
+
+#[test]
+fn ending_numerals_are_read_as_alone(rt: HostRuntime) {
+    for (radix, text) in [
+        (Radix::Dec, "00.00012@-7"),
+        (Radix::Dec, "9999999999999999"),
+        (Radix::Dec, "-.12345678901234"),
+        (Radix::Dec, "+123456789.12345"),
+        (Radix::Dec, "1.E00000005"),
+        (Radix::Hex, "ffffffffffffffff"),
+        (Radix::Hex, "fF.8p-3"),
+        (Radix::Hex, "aAfF019.0aAfF0@7"),
+        (Radix::Hex, ".1e5"),
+        (Radix::Hex, "-1.@+1"),
+        (Radix::Oct, "7.7e5"),
+        (Radix::Oct, "01234567.01234P0"),
+        (Radix::Bin, "101.1P+1"),
+        (Radix::Bin, "-1111111111111.1"),
+    ] {
+        let found = ending_in(radix, text);
+        assert!(rt;
+            found.is_some() && found == short_in(radix, text),
+            "at {text}"
+        );
+    }
+}
+
+#[test]
+fn what_is_no_ending_numeral_is_left_alone(rt: HostRuntime) {
+    for (radix, text) in [
+        (Radix::Dec, ""),
+        (Radix::Dec, "-"),
+        (Radix::Dec, "."),
+        (Radix::Dec, "-."),
+        (Radix::Dec, ".e5"),
+        (Radix::Dec, "1e"),
+        (Radix::Dec, "1e-"),
+        (Radix::Dec, "1e5x"),
+        (Radix::Dec, "1e123456789"),
+        (Radix::Dec, "1p5"),
+        (Radix::Dec, "1:5"),
+        (Radix::Dec, "1.5.5"),
+        (Radix::Dec, "--1"),
+        (Radix::Dec, "a"),
+        (Radix::Hex, "g"),
+        (Radix::Hex, "G"),
+        (Radix::Hex, "1`"),
+        (Radix::Hex, "1e+5"),
+        (Radix::Oct, "8"),
+        (Radix::Oct, "1.8"),
+        (Radix::Bin, "2"),
+        (Radix::Bin, "1.2"),
+        (Radix::Bin, "1/"),
+    ] {
+        assert!(rt; ending_in(radix, text) == None, "at {text}");
     }
 }

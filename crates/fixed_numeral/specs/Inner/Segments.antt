@@ -1,5 +1,7 @@
 -- Stretches of a text, for the functions that read numbers straight from its bytes.
-use Rattle.std.specs.Prelude.{◌≡◌, ℕ, ◌+◌, ◌*◌, ◌^◌, ◌<◌, ◌≤◌, Bool, IsTrue, List, ◌++◌, length, drop, Option, IfSome, option_to_list, ℤ}
+use Rattle.std.specs.Prelude.{◌≡◌, ℕ, ◌+◌, ◌-◌, ◌*◌, ◌^◌, ◌<◌, ◌≤◌, Bool, IsTrue, List, ◌++◌, length, drop, get_or, Option, IfSome, option_to_list, ℤ}
+use Rattle.std.specs.Char.{digit_value}
+use Rattle.std.specs.Int.{bit_at}
 use Rattle.std.specs.Str.Parse.{AllDigits, digits_value, digits_value_after}
 use Rattle.fixed_numeral.specs.declared.radix.Radix.{Radix}
 use Rattle.fixed_numeral.specs.declared.radix.Radix.TheVariants.{Dec}
@@ -68,3 +70,7 @@ pub record IsWideAt (bs : List ℕ) (negative : Bool) (whole fraction places : �
   pub decimal : IsDecimalAt bs negative whole fraction places
   pub whole_fits : whole < 10 ^ 16
   pub few : places ≤ 27
+
+-- a byte among the last 16 is a digit where its bit of the marks is not set; the first has the lowest bit
+pub record HasMarks (b : ℕ) (bs : List ℕ) (marks : ℕ) : Type 0 where
+  pub digit : (k : ℕ) → k < 16 → bit_at marks k ≡ 0 → digit_value (get_or bs (length bs - 16 + k) 0) < b

@@ -6,8 +6,8 @@ use crate::error::ParseErrorKind;
 use crate::radix::Radix;
 use crate::scanned::Scanned;
 use crate::{
-    CompactNumeral, DigitView, ShortDecimal, ShortNumeral, WideDecimal, compact_numeral, scan,
-    scan_lit, short_decimal, short_numeral, wide_decimal,
+    CompactNumeral, DigitView, ShortDecimal, ShortNumeral, WideDecimal, compact_numeral,
+    ending_numeral, scan, scan_lit, short_decimal, short_numeral, wide_decimal,
 };
 use fixed_steps::Steps;
 use std::marker::Brand;
@@ -291,4 +291,26 @@ fn short_in_over<L: Ledger>(radix: Radix, text: &[u8], blank: Blank) -> Option<S
 
 pub(super) fn short_in(radix: Radix, text: &str) -> Option<ShortNumeral> {
     short_in_over::<Brand>(radix, text.as_bytes(), Blank::new(1))
+}
+
+fn ending_in_over<L: Ledger>(radix: Radix, text: &[u8], blank: Blank) -> Option<ShortNumeral>
+    requires name { blank.name ≡ L.name }
+    requires parts { blank.parts ≡ L.parts }
+    requires backed { 0 < L.parts }
+{
+    let mut steps: Steps<L> = Steps::new(blank);
+    ending_numeral(text, 16, radix, &mut steps)
+}
+
+/// A numeral of at most 16 bytes after 16 bytes that are digits of radix 16.
+pub(super) fn ending_in(radix: Radix, text: &str) -> Option<ShortNumeral> {
+    let mut bytes = [b'e'; 32];
+    let mut end = 16;
+    for b in text.as_bytes() {
+        if end < 32 {
+            bytes[end] = *b;
+            end += 1;
+        }
+    }
+    ending_in_over::<Brand>(radix, &bytes[..end], Blank::new(1))
 }

@@ -1,10 +1,7 @@
-use Rattle.std.proofs.Common.{ℕ, ◌-◌, ◌^◌, ◌<◌, arith, refl}
+use Rattle.std.proofs.Common.{ℕ, ◌-◌, ◌^◌, ◌<◌, arith}
 use Rattle.fixed_numeral.specs.Inner.Segments.{IsChunk}
-use Rattle.fixed_numeral.proofs.SegmentLemmas.{chunk_of, chunk_of_first, chunk_of_last, chunk_of_both, low_below, high_fits}
+use Rattle.fixed_numeral.proofs.SegmentLemmas.{chunk_of_first, chunk_of_last, chunk_of_both, low_below, high_fits}
 use Rattle.fixed_numeral.proofs.segment.decimals_between.Goals as goal
-
-pub returns-then-count-eq0 : goal.returns-then-count-eq0
-returns-then-count-eq0 c = chunk_of c.args.bytes.now c.args.from 0 c.args.to 0 (omega (arith, c.if-count-eq0.true, c.requires.place)) c.requires.within tt refl
 
 pub returns-then-count-le8 : goal.returns-then-count-le8
 returns-then-count-le8 c = chunk_of_last c.args.bytes.now c.args.from (c.args.to - c.args.from) c.args.to c.in_ok-number.number c.word_at-last.result c.requires.long c.requires.within (λ k. omega (arith, c.type_inv.bytes k)) c.if-count-le8.true (omega (arith, c.requires.place)) c.word_at-last.ensures c.in_ok-number.ensures
