@@ -9,14 +9,14 @@ use Rattle.std.specs.Fmt.{digit_glyph}
 use Rattle.fixed_bits.specs.Nearest.{IsNearest}
 use Rattle.fixed_bits.proofs.Public.{nearest_scaled}
 use Rattle.fixed_write.specs.declared.style.Notation.{Notation}
-use Rattle.fixed_write.specs.Shortest.{IsShortest, ReadsBack}
+use Rattle.fixed_write.specs.Shortest.{IsShortest}
 use Rattle.fixed_write.specs.Texts.{whole_digits, last_digits, zero_digit}
 use Rattle.fixed_write.specs.Styled.{IsExponentBody, ten_up, ten_down, pointed, exponent_text}
 use Rattle.fixed_write.specs.Inner.Fraction.{IsShortestFraction}
 use Rattle.fixed_write.specs.Inner.Figures.{IsLeading, HasRoundedFigures, HasShortFigures, HasFigureText, HasExponentBody}
 use Rattle.fixed_write.proofs.DigitLemmas.{whole_digits_split, whole_digits_more, last_digits_push}
 use Rattle.fixed_write.proofs.SixteenLemmas.{whole_digit}
-use Rattle.fixed_write.proofs.ShortestLemmas.{tenth_reads_back}
+use Rattle.fixed_write.proofs.ShortestLemmas.{last_is_some}
 use Rattle.fixed_write.proofs.ScaleLemmas.{in_units, whole_power}
 use Rattle.fixed_write.proofs.PrintingLemmas.{whole_shortest}
 use Rattle.fixed_write.proofs.LeadingLemmas.{whole_zeros}
@@ -128,14 +128,6 @@ rounded_raised u c g d a b t s p more digits e carried positive small h l r up e
     }
 
 -- ---- the shortest figures
--- the last digit of a shortest decimal with a fraction is not zero
-last_is_some : (c g n k : ℕ) → IsShortest c g n (suc k) → n % 10 ≡ 0 → ⊥
-last_is_some c g n k h z =
-    let ten : n ≡ 10 * (n / 10) = omega arith in
-    let reads : ReadsBack (10 * (n / 10)) (suc k) c g = rw ten at h.reads_back in
-    let less : suc k ≤ k = h.least (n / 10) k (tenth_reads_back (n / 10) k c g reads) in
-    omega arith
-
 pub short_fraction : (c g number places digit : ℕ) (digits : List ℕ) (e : ℤ) → IsShortestFraction c g number places digit → digits ≡ whole_digits 10 false (c / 2 ^ g * 10 ^ (places + 1) + (number * 10 + digit)) → e ≡ pos (length digits) -ℤ pos (places + 2) → HasShortFigures c g digits e
 short_fraction c g number places digit digits e h ed ee =
     let n : ℕ = c / 2 ^ g * 10 ^ suc places + (number * 10 + digit) in

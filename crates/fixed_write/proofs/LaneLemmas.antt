@@ -1,10 +1,12 @@
 -- Digits in the lanes of a vector.
-use Rattle.std.proofs.Common.{◌≡◌, ℕ, zero, suc, ◌+◌, ◌-◌, ◌*◌, ◌/◌, ◌%◌, ◌^◌, ◌<◌, List, [], ◌∷◌, map, length, replicate, refl, ap, ◌∙◌, arith, pow-suc, div-add-mod', div-lt_iff_lt-mul}
+use Rattle.std.proofs.Common.{◌≡◌, ℕ, zero, suc, ◌+◌, ◌-◌, ◌*◌, ◌/◌, ◌%◌, ◌^◌, ◌<◌, Bool, not, cond, eqb, w8, List, [], ◌∷◌, map, length, replicate, refl, ap, ◌∙◌, arith, pow-suc, div-add-mod', div-lt_iff_lt-mul}
 use Rattle.std.proofs.Math.Nat.{pow-zero}
 use Rattle.std.specs.Int.Digits.{AllBelowBase}
 use Rattle.std.specs.Simd.Lanes.{number_l}
-use lib.Lanes.{zip2, digits_l}
-use Rattle.fixed_write.specs.Inner.Lanes.{digits_of_pairs}
+use lib.Lanes.{zip2, digits_l, mask_l, top}
+use Rattle.std.proofs.lemmas.Simd.{mask_l-lt, bitmask_splat}
+use Rattle.std.proofs.lemmas.List.{length-map}
+use Rattle.fixed_write.specs.Inner.Lanes.{digits_of_pairs, is_other_digit}
 
 number_of_digits : (p n x : ℕ) → 0 < p → x < p ^ n → number_l p (digits_l p n x) ≡ x
 number_of_digits p zero x some h = omega (arith, pow-zero p)
@@ -59,3 +61,15 @@ added (x ∷ xs) zero e h = absurd (omega arith)
 added (x ∷ xs) (suc n) e h =
     let one : wrapped_add 48 x ≡ 48 + x = omega (arith, h.0) in
     λ i. one i ∷ added xs n (omega arith) h.1 i
+
+-- the characters that are not the digit zero
+abbrev differs : ℕ → ℕ → Bool
+differs a b = not (eqb a b)
+
+pub other_digits_are : (xs : List ℕ) → length xs ≡ 16 → mask_l (map (top 7) (zip2 (λ a b. cond (differs a b) 255 0) xs (replicate 16 48))) % 2 ^ 64 ≡ mask_l (map is_other_digit xs)
+other_digits_are xs long = bitmask_splat w8 differs xs 16 48 long (omega arith)
+
+pub other_digits_below : (xs : List ℕ) → length xs ≡ 16 → mask_l (map (top 7) (zip2 (λ a b. cond (differs a b) 255 0) xs (replicate 16 48))) % 2 ^ 64 < 2 ^ 16
+other_digits_below xs long =
+    let many : length (map is_other_digit xs) ≡ 16 = length-map xs is_other_digit ∙ long in
+    rw (other_digits_are xs long) (rw many at (mask_l-lt (map is_other_digit xs)))

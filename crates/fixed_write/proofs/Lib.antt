@@ -2,6 +2,7 @@
 pub mod Public
 -- What no other crate can name
 mod ShortestLemmas
+mod PaddedLemmas
 mod PassLemmas
 mod ComputedLemmas
 mod DigitLemmas
@@ -13,6 +14,7 @@ mod IntegerLemmas
 mod TextLemmas
 mod PrintingLemmas
 mod NearLemmas
+mod ReducedLemmas
 mod RestLemmas
 mod BlockLemmas
 mod ScaleLemmas

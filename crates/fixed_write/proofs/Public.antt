@@ -1,5 +1,5 @@
 -- What the proofs of the crates above may cite.
-use Rattle.std.specs.Prelude.{◌≡◌, ℕ, suc, ◌-◌, ◌*◌, ◌/◌, ◌%◌, ◌^◌, ◌<◌, ◌≤◌, Bool, false, List, [], ◌∷◌, ◌++◌, length, replicate, ℤ, unsigned_abs}
+use Rattle.std.specs.Prelude.{◌≡◌, ℕ, suc, ◌-◌, ◌*◌, ◌/◌, ◌%◌, ◌^◌, ◌<◌, ◌≤◌, Bool, false, [], ◌∷◌, ◌++◌, length, replicate, ℤ, unsigned_abs}
 use Rattle.std.specs.Fmt.{decimal, digit_glyph}
 use Rattle.fixed_bits.specs.Nearest.{IsEven}
 use Rattle.fixed_bits.specs.Ranges.{IsWide}

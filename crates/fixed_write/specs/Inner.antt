@@ -3,6 +3,5 @@ pub mod Digits
 pub mod Lanes
 pub mod Fraction
 pub mod Passes
-pub mod Moves
 pub mod Styling
 pub mod Figures

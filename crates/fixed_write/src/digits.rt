@@ -4,8 +4,10 @@
 //! moved up by a power of ten so that its first digit comes first, and all sixteen characters are written by one store,
 //! whatever the count of digits. So digits need no loop and no branch on their count.
 
-ghost use Rattle.std.specs.Prelude.{◌≡◌, false, ◌+◌, ◌-◌, ◌*◌, ◌/◌, ◌%◌, ◌^◌, ◌<◌, ◌≤◌, [], ◌∷◌, ◌++◌, length};
-ghost use Rattle.fixed_write.specs.Inner.Lanes.{pairs_of, digits_of_pairs};
+ghost use Rattle.std.specs.Prelude.{◌≡◌, false, ◌+◌, ◌-◌, ◌*◌, ◌/◌, ◌%◌, ◌^◌, ◌<◌, ◌≤◌, [], ◌∷◌, ◌++◌, length, map};
+ghost use Rattle.std.specs.Simd.Lanes.{mask_l};
+ghost use Rattle.fixed_write.specs.Inner.Fraction.{AppendsReduced};
+ghost use Rattle.fixed_write.specs.Inner.Lanes.{pairs_of, digits_of_pairs, is_other_digit};
 ghost use Rattle.fixed_write.specs.Texts.{whole_digits, last_digits};
 
 use std::simd::prelude::*;
@@ -98,7 +100,7 @@ fn sixteen_digits(number: u64) -> [u8; 16]
 
 /// A number of at most `places` digits, followed by zeros up to sixteen digits.
 #[inline(always)]
-fn moved_up(number: u64, places: u32) -> u64
+pub(crate) fn moved_up(number: u64, places: u32) -> u64
     requires places { places ≤ 16 }
     requires number { number < 10 ^ places }
     ensures value { result ≡ number * 10 ^ (16 - places) }
@@ -116,6 +118,49 @@ pub(crate) fn push_sixteen<const N: usize>(out: &mut TextBuffer<N>, number: u64,
     ensures { out.new ≡ out.old ++ last_digits 10 false places number }
 {
     out.push_prefix(sixteen_digits(moved_up(number, places)), places as usize);
+}
+
+/// A bit for each character that is not the digit zero.
+#[inline(always)]
+fn other_digits(characters: [u8; 16]) -> u64
+    ensures value { result ≡ mask_l (map is_other_digit characters) }
+    ensures bits { result < 2 ^ 16 }
+{
+    u8x16::from_array(characters)
+        .simd_ne(u8x16::splat(b'0'))
+        .to_bitmask()
+}
+
+/// Appends the point and sixteen digits without the zeros at their end, or nothing where all of them are zeros.
+#[inline(always)]
+pub(crate) fn push_reduced<const N: usize>(out: &mut TextBuffer<N>, number: u64)
+    requires sixteen { number < 10 ^ 16 }
+    requires room { length out.old + 17 ≤ N }
+    ensures { AppendsReduced number 16 out.old out.new }
+{
+    let characters = sixteen_digits(number);
+    let count = 64 - other_digits(characters).leading_zeros() as usize;
+    out.push_if(b'.', count > 0);
+    out.push_prefix(characters, count);
+}
+
+/// Appends the point and twenty digits, of which `low` spells the last four, without the zeros at their end, or nothing where
+/// all of them are zeros.
+#[inline(never)]
+pub(crate) fn push_long_reduced<const N: usize>(out: &mut TextBuffer<N>, high: u64, low: u64)
+    requires high { high < 10 ^ 16 }
+    requires low { low < 10 ^ 4 }
+    requires room { length out.old + 21 ≤ N }
+    ensures { AppendsReduced (high * 10 ^ 4 + low) 20 out.old out.new }
+{
+    let first = sixteen_digits(high);
+    let others = sixteen_digits(moved_up(low, 4));
+    let mask = other_digits(first) + (other_digits(others) << 16);
+    let count = 64 - mask.leading_zeros() as usize;
+    let many = count.min(16);
+    out.push_if(b'.', count > 0);
+    out.push_prefix(first, many);
+    out.push_prefix(others, count - many);
 }
 
 /// Appends a number of at most `places` digits, up to nineteen, with leading zeros where it has fewer.

@@ -10,12 +10,13 @@ ghost use Rattle.std.specs.Prelude.{◌≡◌, ℕ, ◌+◌, ◌*◌, ◌/◌, �
 ghost use Rattle.fixed_bits.specs.Nearest.{IsNearest, IsEven};
 ghost use Rattle.fixed_write.specs.Texts.{whole_digits};
 ghost use Rattle.fixed_write.specs.Styled.{mark_of, exponent_text, pointed};
+ghost use Rattle.fixed_write.specs.Inner.Fraction.{IsShortestFraction};
 ghost use Rattle.fixed_write.specs.Inner.Figures.{IsLeading, HasRoundedFigures, HasShortFigures, HasFigureText, HasExponentBody};
 
 use crate::digits::{power_of_ten, push_places, push_whole};
 use crate::integer::push_integer;
 use crate::places::{Split, push_rounded_in, split_of};
-use crate::printer::{Fraction, fraction_of, rest_of, scaled, whole_of};
+use crate::printer::{Fraction, padded_fraction, rest_of, scaled, whole_of};
 use crate::style::Notation;
 use text_buffer::TextBuffer;
 
@@ -252,6 +253,23 @@ fn exponent_of(figures: usize, zeros: u32, places: u32) -> i32
     ensures high { result ≤ℤ pos 1000 }
 {
     (figures as i32 + zeros as i32) - places as i32
+}
+
+/// The digits after the point that are needed to read a magnitude back, where something is left there.
+fn fraction_of(magnitude: u64, frac: u32) -> Fraction
+    requires frac { frac ≤ 64 }
+    requires some { (magnitude % 2 ^ frac ≡ 0) → ⊥ }
+    ensures { IsShortestFraction magnitude frac result.number result.places result.digit }
+{
+    let mut fraction = padded_fraction(magnitude, frac);
+    'zeros: while fraction.digit == 0 {
+        fraction = Fraction {
+            number: fraction.number / 10,
+            places: fraction.places - 1,
+            digit: fraction.number % 10,
+        };
+    }
+    fraction
 }
 
 /// Appends the figures of the shortest decimal of a magnitude, and answers its exponent.

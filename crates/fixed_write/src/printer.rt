@@ -1,19 +1,18 @@
-//! Prints the shortest decimal that reads back, in one pass.
+//! Prints the shortest decimal that reads back, without a search for the count of its digits.
 //!
-//! A value is a magnitude of ulps of 2^-`frac`. Its whole digits are printed first. What is left after the point is kept
-//! as a `rest` below one, in units of 2^-64: ten times the rest is the next digit and the next rest. After k digits the
-//! digits so far, or the same with the last digit raised by one, read back exactly where the value is at most half an
-//! ulp away from them. In units of 2^-64 of the last digit half an ulp is 10^k / 2 of 2^(64 - `frac`); this is `reach`,
-//! and one comparison of the rest with it, from below and from above, decides. No tie arises: a decimal with at most
-//! `frac` digits is never halfway between two ulps. So the first k at which the comparison holds is the least, and the
-//! digit is the nearer of the two by the rest alone.
+//! A value is a magnitude of ulps of 2^-`frac`. Its whole digits are printed first. What is left after the point is a `rest`
+//! below one, in units of 2^-64: a power of ten times the rest is the next digits as one number, and the next rest. A decimal
+//! reads back exactly where it is at most half an ulp away from the value, for no tie arises: a decimal with at most `frac`
+//! digits is never halfway between two ulps.
 //!
-//! Most values need nearly as many digits as an ulp has, `frac` · log10(2) of them. So the pass begins at a likely count
-//! of digits, just below that: one multiplication by a power of ten gives all of these digits as one number, and the
-//! same comparison tells that they are too few (then fewer are too few as well). Where it does not, as for 0.5, the pass
-//! begins at the point. From there on it takes one digit after the other, keeps them as one number of at most nineteen
-//! digits, and appends them at once. Raising the last digit never carries, since a ten would mean that one digit less had
-//! read back already.
+//! With as many digits as an ulp has, `frac` · log10(2) of them, rounded down, neighbouring decimals are an ulp or more apart.
+//! So at most one of them reads back: the digits so far, or the same with the last digit raised by one. Where one does, each
+//! shorter decimal that reads back is the same number, and it is the shortest one once the zeros at its end are taken off. Where
+//! none does, one digit more is enough, and the nearer of the two is the last digit. It never carries, since a ten would mean
+//! that one digit less had read back already.
+//!
+//! Both are computed, and one is chosen without a branch. It is printed with zeros up to a fixed count of places, all of them at
+//! once, and the text ends after its last digit that is not zero.
 
 ghost use Rattle.std.specs.Prelude.{◌≡◌, false, ◌+◌, ◌*◌, ◌/◌, ◌%◌, ◌-◌, ◌^◌, ◌<◌, ◌≤◌, ◌++◌, length, min, unsigned_abs, ◌⊎◌, ◌↔◌, ℕ, IsTrue};
 ghost use Rattle.std.specs.Fmt.{sign_text};
@@ -21,12 +20,10 @@ ghost use Rattle.std.specs.Int.{is_negative};
 ghost use Rattle.std.specs.Str.{IsAscii};
 ghost use Rattle.fixed_bits.specs.Ranges.{IsWide};
 ghost use Rattle.fixed_bits.specs.Nearest.{IsNearest, IsEven};
-ghost use Rattle.fixed_write.specs.Texts.{IsShortestText, shortest_text, last_digits};
-ghost use Rattle.fixed_write.specs.Inner.Fraction.{AppendsFraction, IsShortestFraction};
-ghost use Rattle.fixed_write.specs.Inner.Passes.{IsStart};
-ghost use Rattle.fixed_write.specs.Inner.Moves.{Begins, Continues};
+ghost use Rattle.fixed_write.specs.Texts.{IsShortestText, shortest_text};
+ghost use Rattle.fixed_write.specs.Inner.Fraction.{AppendsFraction, AppendsReduced, IsPaddedFraction};
 
-use crate::digits::{power_of_ten, push_places, push_sixteen, push_whole};
+use crate::digits::{moved_up, power_of_ten, push_long_reduced, push_reduced, push_whole};
 use fixed_steps::Steps;
 use std::sync::ledger::Ledger;
 use text_buffer::TextBuffer;
@@ -110,154 +107,36 @@ pub(crate) fn scaled(rest: u64, scale: u64) -> (u64, u64)
     ((product >> 64) as u64, (product % (1 << 64)) as u64)
 }
 
-/// An ulp of 2^-`frac`, in units of 2^-64.
+/// The greatest count of places after the point at which decimals are an ulp of 2^-`frac` or more apart: `frac` · log10(2),
+/// rounded down, with 1233 / 4096 for log10(2). With one place more they are an ulp or less apart.
 #[inline]
-fn ulp_of(frac: u32) -> u64
-    requires some { 0 < frac }
-    requires frac { frac ≤ 64 }
-    ensures value { result ≡ 2 ^ (64 - frac) }
-    ensures word { result < 2 ^ 64 }
-{
-    1 << (64 - frac)
-}
-
-/// How far a rest may be after one digit more, where an ulp is `ulp` now: half of ten times it, or the greatest u64
-/// where that is more.
-#[inline]
-fn next_reach(ulp: u64) -> u64
-    ensures { result ≡ min (5 * ulp) (2 ^ 64 - 1) }
-{
-    ulp.saturating_mul(5)
-}
-
-/// Whether a rest is more than half an ulp away from the digits so far and from the next number.
-#[inline]
-fn is_far(rest: u64, ulp: u128) -> bool
-    ensures { IsTrue result ↔ ((ulp < 2 * rest) × (ulp < 2 * (2 ^ 64 - rest))) }
-{
-    ulp <= u64::MAX as u128 && !is_close(rest, ulp as u64 / 2)
-}
-
-/// Digits after the point that are too few, with which the pass begins: they spell `number`, `rest` is left, and with one
-/// digit more at most `reach` may be left.
-#[derive(Clone, Copy)]
-struct Start {
-    number: u64,
-    places: u32,
-    rest: u64,
-    reach: u64,
-}
-
-/// The greatest count of digits with which the pass begins.
-const MOST_LIKELY_PLACES: u32 = 18;
-
-/// A count of digits after the point that is mostly too small by one or two: one less than `frac` · log10(2), rounded
-/// down, with 1233 / 4096 for log10(2).
-#[inline]
-fn likely_places(frac: u32) -> u32
+fn places_of(frac: u32) -> u32
     requires { frac ≤ 64 }
-    ensures few { result ≤ MOST_LIKELY_PLACES }
     ensures within { result ≤ frac }
+    ensures few { result ≤ 19 }
+    ensures low { 10 ^ result ≤ 2 ^ frac }
+    ensures high { 2 ^ frac ≤ 10 ^ (result + 1) }
+    ensures long { frac ≡ 64 → result ≡ 19 }
 {
-    (frac * 1233 / 4096).saturating_sub(1)
+    frac * 1233 / 4096
 }
 
-/// Where the pass begins: at the likely count of digits where these are too few, else at the point.
+/// Half an ulp of 2^-`frac`, in units of 2^-64, times a scale.
 #[inline]
-fn start_of(magnitude: u64, frac: u32) -> Start
+fn half_ulp(scale: u64, frac: u32) -> u64
     requires frac { frac ≤ 64 }
-    requires some { (magnitude % 2 ^ frac ≡ 0) → ⊥ }
-    ensures start { IsStart magnitude frac result.number result.places result.rest result.reach }
-    ensures number { result.number < 10 ^ 18 }
-    ensures places { result.places ≤ 18 }
+    requires scale { scale ≤ 2 ^ frac }
+    requires even { frac ≡ 64 → IsEven scale }
+    ensures { 2 * result ≡ scale * 2 ^ (64 - frac) }
 {
-    let rest = rest_of(magnitude, frac);
-    let places = likely_places(frac);
-    let scale = power_of_ten(places);
-    let (number, left) = scaled(rest, scale);
-    let unit = ulp_of(frac);
-    let ulp = scale as u128 * unit as u128;
-    if is_far(left, ulp) {
-        Start {
-            number,
-            places,
-            rest: left,
-            reach: next_reach(ulp as u64),
-        }
+    if frac == 64 {
+        scale / 2
     } else {
-        Start {
-            number: 0,
-            places: 0,
-            rest,
-            reach: next_reach(unit),
-        }
+        scale << (63 - frac)
     }
 }
 
-/// What the pass keeps: digits after the point that spell `number`, and one more, after which `rest` is left. It ends where
-/// that is at most `reach` away from the digits or from the next number.
-#[derive(Clone, Copy)]
-struct Pass {
-    number: u64,
-    places: u32,
-    digit: u64,
-    rest: u64,
-    reach: u64,
-}
-
-/// The pass with the first digit after a start.
-#[inline]
-fn first_pass(start: Start) -> Pass
-    ensures pass { Begins start result }
-    ensures number { result.number ≡ start.number }
-    ensures places { result.places ≡ start.places }
-    ensures digit { result.digit < 10 }
-{
-    let (digit, rest) = scaled(start.rest, 10);
-    Pass {
-        number: start.number,
-        places: start.places,
-        digit,
-        rest,
-        reach: start.reach,
-    }
-}
-
-/// The pass with one digit more.
-#[inline]
-fn next_pass(pass: Pass) -> Pass
-    requires word { pass.number * 10 + pass.digit < 2 ^ 64 }
-    requires few { pass.places < 20 }
-    ensures pass { Continues pass result }
-    ensures places { result.places ≡ pass.places + 1 }
-{
-    let (digit, rest) = scaled(pass.rest, 10);
-    Pass {
-        number: pass.number * 10 + pass.digit,
-        places: pass.places + 1,
-        digit,
-        rest,
-        reach: pass.reach.saturating_mul(10),
-    }
-}
-
-/// The pass with the first digit where it ends there, else with two. Both are at hand, so that the choice takes no branch.
-#[inline]
-fn likely_pass(start: Start) -> Pass
-    requires number { start.number < 10 ^ 18 }
-    requires places { start.places ≤ 18 }
-    ensures { Begins start result }
-{
-    let one = first_pass(start);
-    let two = next_pass(one);
-    if is_close(one.rest, one.reach) {
-        one
-    } else {
-        two
-    }
-}
-
-/// The digits after the point that are needed to read a magnitude back: `places` digits that spell `number`, and `digit`.
+/// Digits after the point: `places` digits that spell `number`, and `digit`.
 #[derive(Clone, Copy)]
 pub(crate) struct Fraction {
     pub(crate) number: u64,
@@ -265,21 +144,22 @@ pub(crate) struct Fraction {
     pub(crate) digit: u64,
 }
 
-/// The digits after the point, where something is left there.
+/// The digits after the point that are needed to read a magnitude back, with zeros after them.
 #[inline]
-pub(crate) fn fraction_of(magnitude: u64, frac: u32) -> Fraction
-    requires frac { frac ≤ 64 }
-    requires some { (magnitude % 2 ^ frac ≡ 0) → ⊥ }
-    ensures { IsShortestFraction magnitude frac result.number result.places result.digit }
+pub(crate) fn padded_fraction(magnitude: u64, frac: u32) -> Fraction
+    requires { frac ≤ 64 }
+    ensures { IsPaddedFraction magnitude frac result.number result.places result.digit }
 {
-    let mut pass = likely_pass(start_of(magnitude, frac));
-    'digits: while !is_close(pass.rest, pass.reach) {
-        pass = next_pass(pass);
-    }
+    let places = places_of(frac);
+    let scale = power_of_ten(places);
+    let (number, left) = scaled(rest_of(magnitude, frac), scale);
+    let (digit, rest) = scaled(left, 10);
+    let nearer = nearer_digit(digit, rest);
+    let half = half_ulp(scale, frac);
     Fraction {
-        number: pass.number,
-        places: pass.places,
-        digit: nearer_digit(pass.digit, pass.rest),
+        number: number + is_near_next(left, half) as u64,
+        places,
+        digit: nearer * !is_close(left, half) as u64,
     }
 }
 
@@ -290,33 +170,29 @@ fn push_fraction<const N: usize>(out: &mut TextBuffer<N>, magnitude: u64, frac: 
     requires room { length out.old + 21 ≤ N }
     ensures { AppendsFraction magnitude frac out.old out.new }
 {
-    if rest_of(magnitude, frac) == 0 {
-        return;
+    let fraction = padded_fraction(magnitude, frac);
+    if fraction.places < 16 {
+        let number = fraction.number * 10 + fraction.digit;
+        push_reduced(out, moved_up(number, fraction.places + 1));
+    } else {
+        push_long_fraction(out, fraction);
     }
-    let fraction = fraction_of(magnitude, frac);
-    out.push(b'.');
-    push_digits(out, fraction);
 }
 
-/// Appends the digits after the point: all at once where there are at most sixteen.
+/// Appends the point and more than sixteen digits after it, without the zeros at their end.
 #[inline]
-fn push_digits<const N: usize>(out: &mut TextBuffer<N>, fraction: Fraction)
+fn push_long_fraction<const N: usize>(out: &mut TextBuffer<N>, fraction: Fraction)
+    requires long { 16 ≤ fraction.places }
     requires places { fraction.places ≤ 19 }
     requires fits { fraction.number < 10 ^ fraction.places }
     requires digit { fraction.digit < 10 }
-    requires room { length out.old + fraction.places + 1 ≤ N }
-    ensures { out.new ≡ out.old ++ last_digits 10 false (fraction.places + 1) (fraction.number * 10 + fraction.digit) }
+    requires room { length out.old + 21 ≤ N }
+    ensures { AppendsReduced (fraction.number * 10 + fraction.digit) (fraction.places + 1) out.old out.new }
 {
-    if fraction.places < 16 {
-        push_sixteen(
-            out,
-            fraction.number * 10 + fraction.digit,
-            fraction.places + 1,
-        );
-    } else {
-        push_places(out, fraction.number, fraction.places);
-        out.push(b'0' + fraction.digit as u8);
-    }
+    let scale = power_of_ten(19 - fraction.places);
+    let digits = fraction.digit * scale;
+    let number = fraction.number * scale + digits / 10;
+    push_long_reduced(out, number / 1000, number % 1000 * 10 + digits % 10);
 }
 
 /// Whether a rest is at most `reach` away from the digits so far or from the next number.
@@ -324,7 +200,15 @@ fn push_digits<const N: usize>(out: &mut TextBuffer<N>, fraction: Fraction)
 fn is_close(rest: u64, reach: u64) -> bool
     ensures { IsTrue result ↔ ((rest ≤ reach) ⊎ (2 ^ 64 - 1 - rest < reach)) }
 {
-    rest <= reach || u64::MAX - rest < reach
+    rest <= reach || is_near_next(rest, reach)
+}
+
+/// Whether a rest is at most `reach` away from the next number.
+#[inline]
+fn is_near_next(rest: u64, reach: u64) -> bool
+    ensures { IsTrue result ↔ (2 ^ 64 - 1 - rest < reach) }
+{
+    u64::MAX - rest < reach
 }
 
 /// The digit, or the next one where the rest after it reaches nearer to that, and of two equally near the even one.
