@@ -29,7 +29,8 @@ use crate::short_numeral::{compact_ulps, short_ulps, ulps_of_short_decimal, ulps
 use fixed_bits::{Format, Policy, ReadMode};
 use fixed_numeral::{
     CompactNumeral, ParseFixedError, Radix, Scanned, ShortDecimal, ShortNumeral, WideDecimal,
-    compact_numeral, ending_decimal, scan, scan_lit, short_decimal, short_numeral, wide_decimal,
+    compact_numeral, ending_decimal, ending_numeral, scan, scan_lit, short_decimal, short_numeral,
+    wide_decimal,
 };
 use fixed_steps::Steps;
 use std::marker::Brand;
@@ -492,6 +493,27 @@ fn read_short_ending<L: Ledger>(
     }
 }
 
+/// Reads a numeral of at most 16 bytes that a text ends with. None says nothing.
+#[inline(never)]
+fn read_ending_numeral<L: Ledger>(
+    text: &[u8],
+    from: usize,
+    radix: Radix,
+    format: Format,
+    mode: ReadMode,
+    steps: &mut Steps<L>,
+) -> Option<ReadNumber>
+    ensures numeral { IfSome result (λ found. IsNumeral radix (drop from text.now)) }
+    ensures reading { IfSome result (λ found. (p : Parts) → HasNumeral radix (drop from text.now) p → IsReading mode radix p found) }
+    ensures format { IfSome result (λ found. found.format ≡ format) }
+    ensures cost { steps.new ≤ steps.old + length (drop from text.now) }
+{
+    match ending_numeral(text, from, radix, steps) {
+        Some(found) => number_of_short_numeral(found, radix, format, mode),
+        None => None,
+    }
+}
+
 /// Reads any numeral that no quick way reads.
 #[inline(never)]
 fn read_slowly<L: Ledger>(
@@ -559,7 +581,7 @@ pub fn read_ending<L: Ledger>(
     if let Some(found) = read_short_ending(text, from, radix, format, mode, steps) {
         return Ok(found);
     }
-    match &read_short_numeral(s, radix, format, mode, steps) {
+    match &read_ending_numeral(text, from, radix, format, mode, steps) {
         Some(found) => Ok(copy_of(found)),
         None => match &read_slowly(s, radix, format, mode, steps) {
             Ok(found) => Ok(copy_of(found)),
