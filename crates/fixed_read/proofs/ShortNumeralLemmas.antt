@@ -1,5 +1,5 @@
 -- Readings from the numbers of a numeral's parts.
-use Rattle.std.proofs.Common.{◌≡◌, ℕ, zero, suc, ◌+◌, ◌-◌, ◌*◌, ◌/◌, ◌%◌, ◌^◌, ◌<◌, ◌≤◌, ◌↔◌, Bool, true, false, IsTrue, refl, sym, ap, ◌∙◌, arith, pow_pos, mul-pos, mul-le-mul_right, div-add-mod', mod-lt, ℤ, pos, negsuc, ◌-ℤ◌, subst, Option, Some, None, IfSome}
+use Rattle.std.proofs.Common.{◌≡◌, ℕ, zero, suc, ◌+◌, ◌-◌, ◌*◌, ◌/◌, ◌%◌, ◌^◌, ◌<◌, ◌≤◌, ◌↔◌, Bool, true, false, IsTrue, refl, sym, ap, ◌∙◌, arith, pow_pos, mul-pos, mul-le-mul_right, div-add-mod', mod-lt, ℤ, pos, negsuc, ◌-ℤ◌, ◌*ℤ◌, cond, subst, Option, Some, None, IfSome}
 use Rattle.std.specs.Prelude.{◌<ℤ◌}
 use Rattle.std.proofs.lemmas.Int.{ints}
 use Rattle.std.proofs.lemmas.Nat.{pow-add}
@@ -229,7 +229,42 @@ cross_frac digits up down num den frac e = rw (pow-add 2 up frac) (plain (2 ^ up
     plain : (u f d : ℕ) → digits * u * den ≡ num * d → digits * (u * f) * den ≡ num * f * d
     plain u f d k = omega (arith, ap (λ x. x * f) k)
 
+-- up and down as one number
+pub net_up : (digits up down num den frac by : ℕ) → digits * 2 ^ up * den ≡ num * 2 ^ down → by + down ≡ up + frac → digits * 2 ^ by * den ≡ num * 2 ^ frac
+net_up digits up down num den frac by e k =
+    let same : up + frac - down ≡ by = omega arith in
+    subst (λ i. digits * 2 ^ i * den ≡ num * 2 ^ frac) same (cross_up digits (up + frac) down num den frac (omega arith) (cross_frac digits up down num den frac e))
+
+pub net_down : (digits up down num den frac by : ℕ) → digits * 2 ^ up * den ≡ num * 2 ^ down → by + (up + frac) ≡ down → digits * den ≡ num * 2 ^ frac * 2 ^ by
+net_down digits up down num den frac by e k =
+    let same : down - (up + frac) ≡ by = omega arith in
+    subst (λ i. digits * den ≡ num * 2 ^ frac * 2 ^ i) same (cross_down digits (up + frac) down num den frac (omega arith) (cross_frac digits up down num den frac e))
+
 -- ---- the power of two of a numeral
+parts_of : (z : ℤ) → z ≡ pos (up_of z) -ℤ pos (down_of z)
+parts_of (pos x) = omega (arith, ints)
+parts_of (negsuc x) = omega (arith, ints)
+
+net_by_two : (bits places u d : ℕ) (x : ℤ) → bits ≤ 4 → x ≡ pos u -ℤ pos d → (pos 1 *ℤ x) -ℤ (pos bits *ℤ pos places) ≡ pos u -ℤ pos (bits * places + d)
+net_by_two zero places u d x l e = omega (arith, ints)
+net_by_two (suc zero) places u d x l e = omega (arith, ints)
+net_by_two (suc (suc zero)) places u d x l e = omega (arith, ints)
+net_by_two (suc (suc (suc zero))) places u d x l e = omega (arith, ints)
+net_by_two (suc (suc (suc (suc zero)))) places u d x l e = omega (arith, ints)
+net_by_two (suc (suc (suc (suc (suc bits))))) places u d x l e = absurd (omega arith)
+
+net_by_base : (bits places u d : ℕ) (x : ℤ) → bits ≤ 4 → x -ℤ pos places ≡ pos u -ℤ pos d → (pos bits *ℤ x) -ℤ (pos bits *ℤ pos places) ≡ pos (bits * u) -ℤ pos (bits * d)
+net_by_base zero places u d x l e = omega (arith, ints)
+net_by_base (suc zero) places u d x l e = omega (arith, ints)
+net_by_base (suc (suc zero)) places u d x l e = omega (arith, ints)
+net_by_base (suc (suc (suc zero))) places u d x l e = omega (arith, ints)
+net_by_base (suc (suc (suc (suc zero)))) places u d x l e = omega (arith, ints)
+net_by_base (suc (suc (suc (suc (suc bits))))) places u d x l e = absurd (omega arith)
+
+pub net_is : (bits places unit : ℕ) (x : ℤ) (two : Bool) → bits ≤ 4 → unit ≡ cond two 1 bits → (pos unit *ℤ x) -ℤ (pos bits *ℤ pos places) ≡ pos (ups bits places x two) -ℤ pos (downs bits places x two)
+net_is bits places unit x true l e = rw e (net_by_two bits places (up_of x) (down_of x) x l (parts_of x))
+net_is bits places unit x false l e = rw e (net_by_base bits places (up_of (x -ℤ pos places)) (down_of (x -ℤ pos places)) x l (parts_of (x -ℤ pos places)))
+
 scaled_two : (digits bits b : ℕ) (z : ℤ) → b ≡ 2 ^ bits → digits * 2 ^ (bits * up_of z) * (scaled digits 1 b z).den ≡ (scaled digits 1 b z).num * 2 ^ (bits * down_of z)
 scaled_two digits bits b (pos x) e = rw (e, pow-mul 2 bits x) (plain (2 ^ (bits * x)) (2 ^ (bits * 0)) (ap (λ i. 2 ^ i) (let z : bits * 0 ≡ 0 = omega arith in z)))
   where

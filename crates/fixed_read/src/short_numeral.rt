@@ -3,8 +3,9 @@
 //! Nearly all numerals are read here: a decimal of at most 27 places is a whole number and a fraction, and a numeral of
 //! radix 2, 8 or 16 is a number and a power of two, whatever its exponent. The others are scanned (`read_number`).
 
-ghost use Rattle.std.specs.Prelude.{◌≡◌, ◌+◌, ◌*◌, ◌^◌, ◌<◌, ◌≤◌, ◌↔◌, ◌-ℤ◌, ◌≤ℤ◌, ℕ, ℤ, pos, IsTrue, IfSome};
-ghost use Rattle.fixed_numeral.specs.Numeral.{Parts};
+ghost use Rattle.std.specs.Prelude.{◌≡◌, ◌≢◌, ◌+◌, ◌*◌, ◌^◌, ◌<◌, ◌≤◌, ◌↔◌, ◌-ℤ◌, ◌*ℤ◌, ◌≤ℤ◌, ℕ, ℤ, pos, IsTrue, IfSome};
+ghost use Rattle.fixed_numeral.specs.Numeral.{Parts, base};
+ghost use Rattle.fixed_numeral.specs.declared.radix.Radix.TheVariants.{Dec};
 ghost use Rattle.fixed_numeral.specs.PartNumbers.{IsCompactNumeral};
 ghost use Rattle.fixed_numeral.specs.Spelled.{IsSameNumber};
 ghost use Rattle.fixed_numeral.specs.Value.{scaled, magnitude};
@@ -372,16 +373,29 @@ fn word_raised_ulps(digits: u64, by: u64) -> Ulps
     }
 }
 
-/// The magnitude of digits * 2^up / 2^down ulps, for digits that fit a word.
+/// A few times a number.
 #[inline(always)]
-fn word_shifted_ulps(digits: u64, up: u64, down: u64, direction: Direction) -> Ulps
-    ensures { (num den frac : ℕ) → 0 < den → digits * 2 ^ up * den ≡ num * 2 ^ frac * 2 ^ down → IsMagnitude direction (record { num = num; den = den }) frac result }
+fn times(count: u64, number: i64) -> i64
+    requires few { count ≤ 4 }
+    requires least { (pos 0 -ℤ pos (2 ^ 32)) ≤ℤ number }
+    requires most { number ≤ℤ pos (2 ^ 32) }
+    ensures product { result ≡ pos count *ℤ number }
+    ensures least { (pos 0 -ℤ pos (2 ^ 34)) ≤ℤ result }
+    ensures most { result ≤ℤ pos (2 ^ 34) }
 {
-    if up >= down {
-        word_raised_ulps(digits, up - down)
-    } else {
-        word_lowered_ulps(digits, down - up, direction)
-    }
+    count as i64 * number
+}
+
+/// The power of two by which the digits of a numeral are multiplied; where it is negative, they are divided.
+#[inline(always)]
+fn net_power(bits: u64, places: u32, exponent: i32, scales_by_two: bool) -> i64
+    requires { bits ≤ 4 }
+    ensures power { result ≡ pos (ups bits places exponent scales_by_two) -ℤ pos (downs bits places exponent scales_by_two) }
+    ensures least { (pos 0 -ℤ pos (2 ^ 40)) ≤ℤ result }
+    ensures most { result ≤ℤ pos (2 ^ 40) }
+{
+    let unit = if scales_by_two { 1 } else { bits };
+    times(unit, i64::from(exponent)) - times(bits, i64::from(places))
 }
 
 /// The magnitude of a short numeral whose digits have that many bits, in ulps of 2^-frac.
@@ -391,9 +405,22 @@ fn short_binary_ulps(found: ShortNumeral, bits: u64, frac: u32, direction: Direc
     requires frac { frac ≤ 64 }
     ensures { (num den : ℕ) → 0 < den → found.digits * 2 ^ ups bits found.places found.exponent found.scales_by_two * den ≡ num * 2 ^ downs bits found.places found.exponent found.scales_by_two → IsMagnitude direction (record { num = num; den = den }) frac result }
 {
-    let up = ups(bits, found.places, found.exponent, found.scales_by_two) + u64::from(frac);
-    let down = downs(bits, found.places, found.exponent, found.scales_by_two);
-    word_shifted_ulps(found.digits, up, down, direction)
+    let net = net_power(bits, found.places, found.exponent, found.scales_by_two) + i64::from(frac);
+    if net >= 0 {
+        word_raised_ulps(found.digits, net as u64)
+    } else {
+        word_lowered_ulps(found.digits, (-net) as u64, direction)
+    }
+}
+
+/// How many bits a digit of radix 2, 8 or 16 has. A sum, since a `match` becomes a jump that is hard to predict.
+#[inline(always)]
+fn bits_of(radix: Radix) -> u64
+    requires { radix ≢ Dec }
+    ensures power { 2 ^ result ≡ base radix }
+    ensures most { result ≤ 4 }
+{
+    1 + 2 * u64::from(radix == Radix::Oct) + 3 * u64::from(radix == Radix::Hex)
 }
 
 /// The magnitude of a short numeral in ulps of 2^-frac. None where its digits have to be looked at.
@@ -408,8 +435,6 @@ pub fn short_ulps(
     ensures { IfSome result (λ ulps. (p : Parts) → IsCompactNumeral radix p found.negative found.digits found.places found.exponent found.scales_by_two → IsMagnitude direction (magnitude radix p) frac ulps) }
 {
     match radix {
-        Radix::Bin => Some(short_binary_ulps(found, 1, frac, direction)),
-        Radix::Oct => Some(short_binary_ulps(found, 3, frac, direction)),
         Radix::Dec => compact_decimal_ulps(
             u128::from(found.digits),
             found.places,
@@ -417,7 +442,7 @@ pub fn short_ulps(
             frac,
             direction,
         ),
-        Radix::Hex => Some(short_binary_ulps(found, 4, frac, direction)),
+        _ => Some(short_binary_ulps(found, bits_of(radix), frac, direction)),
     }
 }
 

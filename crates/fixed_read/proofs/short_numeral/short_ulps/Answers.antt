@@ -1,4 +1,4 @@
-use Rattle.std.proofs.Common.{◌≡◌, ◌*◌, ◌^◌, refl, sym, subst, to_z, of_z, FitsSigned, rules}
+use Rattle.std.proofs.Common.{◌≡◌, ◌*◌, ◌^◌, sym, subst, to_z, of_z, FitsSigned, rules}
 use Rattle.std.specs.Int.{w32}
 use Rattle.std.proofs.lemmas.Int.{to_z-of_z}
 use Rattle.fixed_numeral.proofs.Public.{magnitude_pos}
@@ -15,11 +15,7 @@ returns-in-Dec c =
     let same : to_z w32 (of_z w32 c.args.found.exponent) ≡ c.args.found.exponent = to_z-of_z w32 c.args.found.exponent fit in
     if_some _ _ c.compact_decimal_ulps.result (λ ulps f p h. subst (λ n. IsMagnitude c.args.direction n c.args.frac ulps) (sym (decimal_value c.args.radix p c.args.found.negative c.args.found.digits c.args.found.places c.args.found.exponent c.args.found.scales_by_two c.in-Dec.is h)) f) (rw (c.from.ensures, same) at c.compact_decimal_ulps.ensures)
 
-pub returns-in-Bin : goal.returns-in-Bin
-returns-in-Bin c p h = let power : base c.args.radix ≡ 2 ^ 1 = rw c.in-Bin.is refl in c.short_binary_ulps.ensures (magnitude c.args.radix p).num (magnitude c.args.radix p).den (magnitude_pos c.args.radix p) (subst (λ n. c.args.found.digits * 2 ^ ups 1 c.args.found.places c.args.found.exponent c.args.found.scales_by_two * n.den ≡ n.num * 2 ^ downs 1 c.args.found.places c.args.found.exponent c.args.found.scales_by_two) (sym h.value) (placed_value c.args.radix 1 c.args.found.digits c.args.found.places c.args.found.exponent c.args.found.scales_by_two power))
-
-pub returns-in-Oct : goal.returns-in-Oct
-returns-in-Oct c p h = let power : base c.args.radix ≡ 2 ^ 3 = rw c.in-Oct.is refl in c.short_binary_ulps-in-Oct.ensures (magnitude c.args.radix p).num (magnitude c.args.radix p).den (magnitude_pos c.args.radix p) (subst (λ n. c.args.found.digits * 2 ^ ups 3 c.args.found.places c.args.found.exponent c.args.found.scales_by_two * n.den ≡ n.num * 2 ^ downs 3 c.args.found.places c.args.found.exponent c.args.found.scales_by_two) (sym h.value) (placed_value c.args.radix 3 c.args.found.digits c.args.found.places c.args.found.exponent c.args.found.scales_by_two power))
-
-pub returns-in-Hex : goal.returns-in-Hex
-returns-in-Hex c p h = let power : base c.args.radix ≡ 2 ^ 4 = rw c.in-Hex.is refl in c.short_binary_ulps-in-Hex.ensures (magnitude c.args.radix p).num (magnitude c.args.radix p).den (magnitude_pos c.args.radix p) (subst (λ n. c.args.found.digits * 2 ^ ups 4 c.args.found.places c.args.found.exponent c.args.found.scales_by_two * n.den ≡ n.num * 2 ^ downs 4 c.args.found.places c.args.found.exponent c.args.found.scales_by_two) (sym h.value) (placed_value c.args.radix 4 c.args.found.digits c.args.found.places c.args.found.exponent c.args.found.scales_by_two power))
+pub returns-in_default : goal.returns-in_default
+returns-in_default c p h =
+    let power : base c.args.radix ≡ 2 ^ c.bits_of.result = sym c.bits_of.ensures.power in
+    c.short_binary_ulps.ensures (magnitude c.args.radix p).num (magnitude c.args.radix p).den (magnitude_pos c.args.radix p) (subst (λ n. c.args.found.digits * 2 ^ ups c.bits_of.result c.args.found.places c.args.found.exponent c.args.found.scales_by_two * n.den ≡ n.num * 2 ^ downs c.bits_of.result c.args.found.places c.args.found.exponent c.args.found.scales_by_two) (sym h.value) (placed_value c.args.radix c.bits_of.result c.args.found.digits c.args.found.places c.args.found.exponent c.args.found.scales_by_two power))
