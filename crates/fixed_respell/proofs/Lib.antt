@@ -14,5 +14,6 @@ mod ReachLemmas
 mod MovingLemmas
 mod TableLemmas
 mod KeyLemmas
+mod NameLemmas
 mod FaultAnswerLemmas
 mod EndingLemmas

@@ -1,5 +1,5 @@
 -- Numbers by sign and magnitude: their images, and where they are moved.
-use Rattle.std.proofs.Common.{◌≡◌, ℕ, ◌+◌, ◌-◌, ◌*◌, ◌/◌, ◌%◌, ◌^◌, ◌<◌, ◌≤◌, ◌⊎◌, ◌↔◌, Bool, true, false, not, IsTrue, ⊎_elim, div-add-mod', subst, refl, sym, ap, ◌∙◌, arith, inl, inr, ℤ, pos, ◌*ℤ◌, mod-lt}
+use Rattle.std.proofs.Common.{◌≡◌, ℕ, ◌+◌, ◌-◌, ◌*◌, ◌/◌, ◌%◌, ◌^◌, ◌<◌, ◌≤◌, ◌⊎◌, ◌↔◌, Bool, true, false, not, if◌then◌else◌, IsTrue, ⊎_elim, div-add-mod', subst, refl, sym, ap, ◌∙◌, arith, inl, inr, ℤ, pos, ◌*ℤ◌, mod-lt}
 use Rattle.std.proofs.Math.Nat.{div-add-mod}
 use Rattle.std.proofs.lemmas.Bool.{cases_lt}
 use Rattle.std.proofs.lemmas.Int.{ints}
@@ -59,6 +59,13 @@ module _ (f : FormatParts) (n : Number) (v : ℤ) (width : IsWidth f.width) (is 
   other_image Saturating true end low negative e flag nc ns same image = absurd (ns (refl, refl))
   other_image Checked false end low negative e flag nc ns same image = unchanged Checked end low negative e flag same
   other_image Saturating false end low negative e flag nc ns same image = unchanged Saturating end low negative e flag same
+
+  -- the image by a policy that does not refuse it
+  pub chosen_image : (policy : Policy) (out is_end : Bool) (end low : ℕ) (negative : Bool) → end ≡ greatest_magnitude f.signed n.negative f.width → (IsTrue out ↔ (IsTrue n.has_high_bits ⊎ (end < n.low))) → (IsTrue is_end ↔ ((policy ≡ Saturating) × IsTrue out)) → ((policy ≡ Checked) × IsTrue out → ⊥) → (n.low ≤ end → (negative ≡ n.negative) × (low ≡ n.low)) → IsWrapped f.signed f.width (with_sign n.negative n.low) (with_sign negative low) → IsImage policy f.signed f.width v (with_sign (if is_end then n.negative else negative) (if is_end then end else low))
+  chosen_image policy out true end low negative e flag at_end nc same image =
+      let saturating = at_end.0 refl in
+      end_image policy end saturating.0 e ((out_tested out end e flag).0 saturating.1)
+  chosen_image policy out false end low negative e flag at_end nc same image = other_image policy out end low negative e flag nc (λ w. let t : IsTrue false = at_end.1 w in absurd (cc)) same image
 
 -- ---- the ones of a width
 pub ones_are : (n : ℕ) → IsWidth n → (2 ^ 64 - 1) / 2 ^ (64 - n) ≡ 2 ^ n - 1

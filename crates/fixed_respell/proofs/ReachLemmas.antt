@@ -1,5 +1,5 @@
 -- From a reading through the source to the target.
-use Rattle.std.proofs.Common.{◌≡◌, ℕ, ◌⊎◌, ◌↔◌, Bool, IsTrue, List, refl, subst, ⊎_elim, inl, inr, ℤ}
+use Rattle.std.proofs.Common.{◌≡◌, ℕ, ◌⊎◌, ◌↔◌, Bool, true, false, IsTrue, List, refl, subst, ⊎_elim, inl, inr, ℤ}
 use Rattle.fixed_bits.specs.Down.{IsDown, down}
 use Rattle.fixed_bits.specs.Formats.{FormatParts}
 use Rattle.fixed_bits.specs.Images.{IsImage}
@@ -39,7 +39,7 @@ read_of mode r bytes source found (p, numeral) reading format = record {
 }
 
 -- nothing is reached
-pub out_of_source : (mode : ReadMode) (r : Radix) (bytes : List ℕ) (policy : Policy) (source target : FormatParts) (found : ReadNumber) (kind : ParseErrorKind) (is : IsRead mode r bytes source found) → kind ≡ Overflow
+out_of_source : (mode : ReadMode) (r : Radix) (bytes : List ℕ) (policy : Policy) (source target : FormatParts) (found : ReadNumber) (kind : ParseErrorKind) (is : IsRead mode r bytes source found) → kind ≡ Overflow
     → (policy ≡ Checked) × IsOutOfRange source.signed source.width is.number → IsRefusal mode r bytes policy source target kind
 out_of_source mode r bytes policy source target found kind is overflow why =
     let none : IsOverflowed mode r is.parts policy source target = record {
@@ -52,7 +52,7 @@ out_of_source mode r bytes policy source target found kind is overflow why =
     } in
     inr (overflow, record { parts = is.parts; numeral = is.numeral; overflowed = none })
 
-pub out_of_target : (mode : ReadMode) (r : Radix) (bytes : List ℕ) (policy : Policy) (source target : FormatParts) (found : ReadNumber) (b : ℤ) (kind : ParseErrorKind) (is : IsRead mode r bytes source found) → kind ≡ Overflow
+out_of_target : (mode : ReadMode) (r : Radix) (bytes : List ℕ) (policy : Policy) (source target : FormatParts) (found : ReadNumber) (b : ℤ) (kind : ParseErrorKind) (is : IsRead mode r bytes source found) → kind ≡ Overflow
     → IsImage policy source.signed source.width is.number b → (policy ≡ Checked) × IsOutOfRange target.signed target.width (down b source.frac target.frac) → IsRefusal mode r bytes policy source target kind
 out_of_target mode r bytes policy source target found b kind is overflow image why =
     let exact : IsImage Checked source.signed source.width is.number b = rw why.0 at image in
@@ -66,6 +66,15 @@ out_of_target mode r bytes policy source target found b kind is overflow image w
       out = inr (subst (λ c. IsOutOfRange target.signed target.width (down c source.frac target.frac)) same why.1);
     } in
     inr (overflow, record { parts = is.parts; numeral = is.numeral; overflowed = none })
+
+-- a number on the way is out of its format
+pub refused : (mode : ReadMode) (r : Radix) (bytes : List ℕ) (policy : Policy) (source target : FormatParts) (found : ReadNumber) (b : ℤ) (o u : Bool) (kind : ParseErrorKind) (is : IsRead mode r bytes source found) → kind ≡ Overflow
+    → (((policy ≡ Checked) × IsTrue o → ⊥) → IsImage policy source.signed source.width is.number b) → (IsTrue o ↔ IsOutOfRange source.signed source.width is.number)
+    → (IsTrue u ↔ IsOutOfRange target.signed target.width (down b source.frac target.frac)) → (policy ≡ Checked) × (IsTrue o ⊎ IsTrue u) → IsRefusal mode r bytes policy source target kind
+refused mode r bytes policy source target found b true u kind is overflow image flag out why = out_of_source mode r bytes policy source target found kind is overflow (why.0, flag.0 refl)
+refused mode r bytes policy source target found b false u kind is overflow image flag out why =
+    let image_is : IsImage policy source.signed source.width is.number b = image (λ w. let t : IsTrue false = w.1 in absurd (cc)) in
+    out_of_target mode r bytes policy source target found b kind is overflow image_is (why.0, out.0 (⊎_elim (λ (t : IsTrue false). absurd (cc)) (λ (t : IsTrue u). t) why.1))
 
 -- what is reached
 either_out : (e o u A B : Type 0) → e ↔ (o ⊎ u) → o ↔ A → u ↔ B → e ↔ (A ⊎ B)

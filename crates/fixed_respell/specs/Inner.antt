@@ -2,3 +2,4 @@
 pub mod Spaces
 pub mod Numbers
 pub mod FormatKeys
+pub mod Places

@@ -19,6 +19,7 @@ use fixed_numeral::Radix;
 use fixed_steps::Steps;
 use fixed_write::{push_integer, push_shortest};
 use line_engine::{MAX_ANSWER, MAX_LINE};
+use std::simd::prelude::*;
 use std::sync::ledger::Ledger;
 use text_buffer::TextBuffer;
 
@@ -79,17 +80,26 @@ pub fn push_fault<const N: usize>(out: &mut TextBuffer<N>, message: &str)
     out.push_bytes(message.as_bytes());
 }
 
-/// The last words of an answer, each after a space: a number was in its format, or out of it.
-const VERDICTS: [[u8; 16]; 2] = [*b" fits           ", *b" overflowed     "];
+/// The last words of an answer, each after a space: a number was in its format, or out of it. Each is two numbers of eight bytes, the
+/// first byte in the lowest place, and each byte is what it is more than a space.
+const VERDICTS: [u64; 4] = [
+    0x0000_0053_5449_4600,
+    0x0000_0000_0000_0000,
+    0x4f4c_4652_4556_4f00,
+    0x0000_0000_0044_4557,
+];
 
-/// The last word of an answer after a space, and the count of their bytes. It is found by its place, since a branch on it is mispredicted.
+/// The last word of an answer after a space, and the count of their bytes. It is found by its place, since a branch on it is mispredicted,
+/// among numbers, since a constant of arrays of bytes is written out anew for each line.
 #[inline(always)]
 fn verdict_bytes(overflowed: bool) -> ([u8; 16], usize)
     ensures word { take result.1 result.0 ≡ space ∷ verdict overflowed }
     ensures short { result.1 ≤ 11 }
 {
     let place = usize::from(overflowed);
-    (VERDICTS[place], 5 + 6 * place)
+    let above_space = u64x2::from_array([VERDICTS[2 * place], VERDICTS[2 * place + 1]]);
+    let bytes = u8x16::splat(b' ') + above_space.to_le_bytes();
+    (bytes.to_array(), 5 + 6 * place)
 }
 
 /// Appends a space and the last word of an answer. There must be room for 11 bytes.

@@ -533,7 +533,7 @@ const FORMATS: [u64; 512] = [
 
 /// Four bytes from a place on as a number, the first of them in the lowest place.
 #[inline(always)]
-fn four_bytes(word: &[u8], at: usize) -> u64
+pub(crate) fn four_bytes(word: &[u8], at: usize) -> u64
     requires { at + 4 ≤ length word.now }
     ensures { result ≡ get_or word.now at 0 + 256 * get_or word.now (at + 1) 0 + 65536 * get_or word.now (at + 2) 0 + 16777216 * get_or word.now (at + 3) 0 }
 {

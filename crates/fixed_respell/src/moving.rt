@@ -5,14 +5,14 @@
 //! magnitude, and whether there are more. These stay in registers, where a signed number of 128 bits takes two of them and
 //! two instructions for each step.
 
-ghost use Rattle.std.specs.Prelude.{◌≡◌, ◌↔◌, ◌⊎◌, ◌≤◌, ◌<◌, ◌-◌, ◌*◌, ◌^◌, ◌%◌, ◌/◌, ℤ, IsTrue, IsNone, IfSome};
+ghost use Rattle.std.specs.Prelude.{◌≡◌, ◌↔◌, ◌⊎◌, ◌≤◌, ◌<◌, ◌-◌, ◌*◌, ◌^◌, ◌%◌, ◌/◌, ℤ, IsTrue, if◌then◌else◌};
 ghost use Rattle.fixed_bits.specs.Down.{IsDown, down};
 ghost use Rattle.fixed_bits.specs.Formats.{IsFormat};
-ghost use Rattle.fixed_bits.specs.Images.{IsImage, IsWrapped};
+ghost use Rattle.fixed_bits.specs.Images.{IsWrapped};
 ghost use Rattle.fixed_bits.specs.Ranges.{IsInRange, IsOutOfRange};
 ghost use Rattle.fixed_read.specs.Inner.Magnitudes.{greatest_magnitude};
 ghost use Rattle.fixed_read.specs.Reading.{HoldsNumber, with_sign};
-ghost use Rattle.fixed_respell.specs.Inner.Numbers.{IsNumber};
+ghost use Rattle.fixed_respell.specs.Inner.Numbers.{HasImage, IsAdmitted, IsNumber};
 
 use fixed_bits::{Format, Policy};
 use fixed_read::ReadNumber;
@@ -115,16 +115,16 @@ fn wrapped(format: Format, negative: bool, magnitude: u64, end: u64) -> (bool, u
     }
 }
 
-/// Whether the policy refuses a number.
+/// How many of a line's two numbers may be out of range, for each policy.
+const ADMITTED: [u8; 3] = [0, 2, 2];
+
+/// Whether the policy refuses a numeral, by whether its read number is out of the source's range and the moved one out of the
+/// target's. It is one comparison with a table's entry: of three conditions each would be a branch, and often mispredicted.
 #[inline(always)]
-fn is_refused(policy: Policy, is_out_of_range: bool) -> bool
-    ensures { IsTrue result ↔ ((policy ≡ Policy.Checked) × IsTrue is_out_of_range) }
+pub(crate) fn is_refused(policy: Policy, is_source_out: bool, is_target_out: bool) -> bool
+    ensures { IsTrue result ↔ ((policy ≡ Policy.Checked) × (IsTrue is_source_out ⊎ IsTrue is_target_out)) }
 {
-    match policy {
-        Policy::Checked => is_out_of_range,
-        Policy::Saturating => false,
-        Policy::Wrapping => false,
-    }
+    u8::from(is_source_out) + u8::from(is_target_out) > ADMITTED[policy as usize]
 }
 
 /// Whether the image of a number by the policy is an end of the range, and not its Wrapping image.
@@ -139,33 +139,32 @@ fn is_at_end(policy: Policy, is_out_of_range: bool) -> bool
     }
 }
 
-/// The image of a number in a format: the number itself where it is in range. None exactly where it is out of range and the
-/// policy is `Checked`. The images are computed for any number and one of them is chosen: whether a number is in range, and
-/// by which policy it is brought there, changes from line to line, and a branch on it is mispredicted.
+/// The first of two, or the second. A call of its own for each of two choices lets each be made without a branch.
 #[inline(always)]
-pub(crate) fn image_of(format: Format, policy: Policy, number: Number) -> Option<Image>
-    ensures image { (v : ℤ) → IsNumber number v → IfSome result (λ i. IsImage policy format.signed format.width v (with_sign i.negative i.magnitude)) }
-    ensures flag { (v : ℤ) → IsNumber number v → IfSome result (λ i. IsTrue i.is_out_of_range ↔ IsOutOfRange format.signed format.width v) }
-    ensures none { (v : ℤ) → IsNumber number v → IsNone result → (policy ≡ Policy.Checked) × IsOutOfRange format.signed format.width v }
+fn chosen<T: Copy>(is_first: bool, first: T, second: T) -> T
+    ensures { result ≡ (if is_first then first else second) }
+{
+    if is_first { first } else { second }
+}
+
+/// The image of a number in a format, and whether the number is out of the format's range. A number that is, and that the policy
+/// refuses, has no image, and any number is answered for it. The images are computed for any number and one of them is
+/// chosen: whether a number is in range, and by which policy it is brought there, changes from line to line, and a branch
+/// on it is mispredicted.
+#[inline(always)]
+pub(crate) fn image_of(format: Format, policy: Policy, number: Number) -> Image
+    ensures image { (v : ℤ) → IsNumber number v → IsAdmitted policy result.is_out_of_range → HasImage policy format v result }
+    ensures flag { (v : ℤ) → IsNumber number v → IsTrue result.is_out_of_range ↔ IsOutOfRange format.signed format.width v }
 {
     let end = greatest_magnitude(format, number.negative);
     let is_out_of_range = is_above(number, end);
-    if is_refused(policy, is_out_of_range) {
-        return None;
-    }
     let (negative, magnitude) = wrapped(format, number.negative, number.low, end);
-    if is_at_end(policy, is_out_of_range) {
-        return Some(Image {
-            negative: number.negative,
-            magnitude: end,
-            is_out_of_range,
-        });
-    }
-    Some(Image {
-        negative,
-        magnitude,
+    let is_end = is_at_end(policy, is_out_of_range);
+    Image {
+        negative: chosen(is_end, number.negative, negative),
+        magnitude: chosen(is_end, end, magnitude),
         is_out_of_range,
-    })
+    }
 }
 
 /// The magnitude over two to the power of `k`, rounded down, and what is left of it.

@@ -6,7 +6,7 @@ ghost use Rattle.fixed_bits.specs.declared.mode.ReadMode.TheVariants.{NearestEve
 ghost use Rattle.fixed_write.specs.Texts.{IsShortestText};
 ghost use Rattle.fixed_respell.specs.Reached.{IsRespelled, IsRefusal, number_of, is_signed};
 
-use crate::moving::{image_of, moved, number_read, signed_number};
+use crate::moving::{image_of, is_refused, moved, number_read, signed_number};
 use fixed_bits::{Format, Policy, ReadMode};
 use fixed_numeral::{ParseErrorKind, ParseFixedError, Radix};
 use fixed_read::read_ending;
@@ -129,18 +129,17 @@ pub(crate) fn reach<L: Ledger>(
     ensures cost { steps.new ≤ steps.old + 8 * length (drop from text.now) + 576 }
 {
     let found = read_ending(text, from, radix, source, mode, steps)?;
-    let Some(in_source) = image_of(source, policy, number_read(&found)) else {
-        return Err(ParseFixedError::new(ParseErrorKind::Overflow));
-    };
+    let in_source = image_of(source, policy, number_read(&found));
     let number = moved(
         in_source.negative,
         in_source.magnitude,
         source.frac(),
         target.frac(),
     );
-    let Some(reached) = image_of(target, policy, number) else {
+    let reached = image_of(target, policy, number);
+    if is_refused(policy, in_source.is_out_of_range, reached.is_out_of_range) {
         return Err(ParseFixedError::new(ParseErrorKind::Overflow));
-    };
+    }
     Ok(Reached {
         number: signed_number(reached.negative, reached.magnitude),
         overflowed: is_either(in_source.is_out_of_range, reached.is_out_of_range),

@@ -1,13 +1,14 @@
 //! The words of a line: radix, format, policy and mode.
 
-ghost use Rattle.std.specs.Prelude.{◌≡◌, ◌≤◌, ◌+◌, ◌++◌, length, Bool, MatchOption, decimal};
+ghost use Rattle.std.specs.Prelude.{◌≡◌, ◌↔◌, ◌≤◌, ◌+◌, ◌/◌, ◌%◌, ◌++◌, length, Bool, IsTrue, MatchOption, decimal};
 ghost use Rattle.fixed_bits.specs.Formats.{FormatParts};
 ghost use Rattle.fixed_bits.specs.declared.format.Policy.{Policy};
 ghost use Rattle.fixed_bits.specs.declared.mode.ReadMode.{ReadMode};
 ghost use Rattle.fixed_numeral.specs.declared.radix.Radix.{Radix};
+ghost use Rattle.fixed_respell.specs.Inner.Places.{HasBytes, IsBothNames, policy_of_place, radix_of_place};
 ghost use Rattle.fixed_respell.specs.Words.{IsFormatWord, IsPolicyWord, mode_text, policy_text, radix_text, sign_letter};
 
-use crate::format_table::{counts_of_key, key_of};
+use crate::format_table::{counts_of_key, four_bytes, key_of};
 use crate::split::split_once;
 use arrayvec::ArrayVec;
 use fixed_bits::{Format, Policy, ReadMode};
@@ -15,29 +16,113 @@ use fixed_numeral::Radix;
 use itoa::Buffer;
 use std::marker::Model;
 
-/// The radix that a word names. None where it names none.
-pub fn radix_word(word: &[u8]) -> Option<Radix>
-    ensures { MatchOption result ((r : Radix) → ¬ (word.now ≡ radix_text r)) (λ r. word.now ≡ radix_text r) }
+/// The keys of the radix words, each at the place that its last byte names: its first byte, 256 times its last, and 65536 times
+/// the count of its bytes.
+const RADIX_KEYS: [u64; 8] = [
+    0x0002_3031,
+    0x0001_3232,
+    0,
+    0x0002_3631,
+    0x0001_3838,
+    0,
+    0,
+    0,
+];
+
+/// The place of the radix word whose last byte this is.
+#[inline(always)]
+fn radix_place(last: u8) -> usize
+    ensures { result ≡ last / 2 % 8 }
 {
-    match word {
-        b"2" => Some(Radix::Bin),
-        b"8" => Some(Radix::Oct),
-        b"10" => Some(Radix::Dec),
-        b"16" => Some(Radix::Hex),
-        _ => None,
+    usize::from(last / 2 % 8)
+}
+
+/// The radix of the word at a place.
+#[inline(always)]
+fn radix_at(place: usize) -> Radix
+    ensures { result ≡ radix_of_place place }
+{
+    match place {
+        0 => Radix::Dec,
+        1 => Radix::Bin,
+        3 => Radix::Hex,
+        _ => Radix::Oct,
     }
 }
 
+/// The radix that a word names. None where it names none.
+// By a table, since a branch on which radix it is would be mispredicted.
+#[inline(always)]
+pub fn radix_word(word: &[u8]) -> Option<Radix>
+    ensures { MatchOption result ((r : Radix) → ¬ (word.now ≡ radix_text r)) (λ r. word.now ≡ radix_text r) }
+{
+    if word.is_empty() || word.len() > 2 {
+        return None;
+    }
+    let last = word[word.len() - 1];
+    let place = radix_place(last);
+    let key = u64::from(word[0]) + u64::from(last) * 256 + word.len() as u64 * 65536;
+    if key == RADIX_KEYS[place] {
+        Some(radix_at(place))
+    } else {
+        None
+    }
+}
+
+/// The count of the bytes of each policy's name, at the place that is the count's rest by four.
+const NAME_COUNTS: [usize; 4] = [8, 0, 10, 7];
+
+/// The first four bytes of each policy's name at its place, as a number, the first of them in the lowest place.
+const NAME_STARTS: [u64; 4] = [0x7061_7277, 0, 0x7574_6173, 0x6365_6863];
+
+/// The two bytes after those.
+const NAME_MIDDLES: [u64; 4] = [0x6970, 0, 0x6172, 0x656b];
+
+/// The last four bytes.
+const NAME_ENDS: [u64; 4] = [0x676e_6970, 0, 0x676e_6974, 0x6465_6b63];
+
+/// The policy whose name is at a place.
+#[inline(always)]
+fn policy_at(place: usize) -> Policy
+    ensures { result ≡ policy_of_place place }
+{
+    match place {
+        0 => Policy::Wrapping,
+        2 => Policy::Saturating,
+        _ => Policy::Checked,
+    }
+}
+
+/// Whether a name has these first four bytes, these two after them, and these last four.
+#[inline(always)]
+fn has_bytes(name: &[u8], start: u64, middle: u64, end: u64) -> bool
+    requires { 7 ≤ length name.now }
+    ensures { IsTrue result ↔ HasBytes name.now start middle end }
+{
+    four_bytes(name, 0) == start
+        && u64::from(u16::from_le_bytes([name[4], name[5]])) == middle
+        && four_bytes(name, name.len() - 4) == end
+}
+
 /// The policy of this name.
+// By a table, since a branch on which policy it is would be mispredicted.
 #[inline(always)]
 fn named_policy(name: &[u8]) -> Option<Policy>
     ensures { MatchOption result ((p : Policy) → ¬ (name.now ≡ policy_text p)) (λ p. name.now ≡ policy_text p) }
 {
-    match name {
-        b"checked" => Some(Policy::Checked),
-        b"saturating" => Some(Policy::Saturating),
-        b"wrapping" => Some(Policy::Wrapping),
-        _ => None,
+    let place = name.len() % 4;
+    if name.len() != NAME_COUNTS[place] {
+        return None;
+    }
+    if has_bytes(
+        name,
+        NAME_STARTS[place],
+        NAME_MIDDLES[place],
+        NAME_ENDS[place],
+    ) {
+        Some(policy_at(place))
+    } else {
+        None
     }
 }
 
@@ -54,21 +139,30 @@ fn named_mode(name: &[u8]) -> Option<ReadMode>
     }
 }
 
-/// The policy and the mode that a word names: NearestEven where it names no mode. None where it is no policy word.
-// In line, since each line has one; a word with a mode, which few lines have, is split by a call.
-#[inline(always)]
-pub fn policy_word(word: &[u8]) -> Option<(Policy, ReadMode)>
-    ensures { MatchOption result ((p : Policy) (m : ReadMode) → ¬ IsPolicyWord word.now p m) (λ r. IsPolicyWord word.now r.0 r.1) }
+/// The policy and the mode of a word that is both their names, with a slash between them. None where it is no such word.
+// A call, since few lines have such a word.
+#[inline(never)]
+fn policy_and_mode(word: &[u8]) -> Option<(Policy, ReadMode)>
+    ensures { MatchOption result ((p : Policy) (m : ReadMode) → ¬ IsBothNames word.now p m) (λ r. IsBothNames word.now r.0 r.1) }
 {
-    if let Some(policy) = named_policy(word) {
-        return Some((policy, ReadMode::NearestEven));
-    }
     match split_once(word, b'/') {
         None => None,
         Some((policy, mode)) => match (named_policy(policy), named_mode(mode)) {
             (Some(policy), Some(mode)) => Some((policy, mode)),
             _ => None,
         },
+    }
+}
+
+/// The policy and the mode that a word names: NearestEven where it names no mode. None where it is no policy word.
+// In line, since each line has one.
+#[inline(always)]
+pub fn policy_word(word: &[u8]) -> Option<(Policy, ReadMode)>
+    ensures { MatchOption result ((p : Policy) (m : ReadMode) → ¬ IsPolicyWord word.now p m) (λ r. IsPolicyWord word.now r.0 r.1) }
+{
+    match named_policy(word) {
+        Some(policy) => Some((policy, ReadMode::NearestEven)),
+        None => policy_and_mode(word),
     }
 }
 

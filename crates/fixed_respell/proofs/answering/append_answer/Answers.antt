@@ -1,4 +1,4 @@
-use Rattle.std.proofs.Common.{◌≡◌, ◌≤◌, ◌++◌, List, ℕ, ℤ, FitsSigned, inr, inl, refl, rules, arith, ap, length, length-append}
+use Rattle.std.proofs.Common.{◌≡◌, ◌++◌, List, ℕ, ℤ, FitsSigned, inr, inl, refl, rules, arith, ap, length, length-append}
 use Rattle.std.specs.Int.{w128}
 use Rattle.std.proofs.lemmas.Int.{to_z-of_z}
 use Rattle.fixed_write.specs.Texts.{IsShortestText, shortest_text}
