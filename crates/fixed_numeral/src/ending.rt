@@ -99,7 +99,7 @@ fn bits_of(radix: Radix) -> u32
 
 /// A number with room for more digits after it.
 #[inline(always)]
-fn raised(radix: Radix, number: u64, places: u32) -> u64
+fn raised_number(radix: Radix, number: u64, places: u32) -> u64
     requires few { places < 16 }
     requires fits { number * base radix ^ places < 2 ^ 64 }
     ensures { result ≡ number * base radix ^ places }
@@ -139,7 +139,7 @@ fn ending_mantissa(text: &[u8], radix: Radix, from: usize) -> Option<ShortMantis
     let whole = number_between(text, base, from, point);
     let fraction = number_between(text, base, point + 1, end);
     Some(ShortMantissa {
-        number: raised(radix, whole, places) + fraction,
+        number: raised_number(radix, whole, places) + fraction,
         places,
         end,
     })

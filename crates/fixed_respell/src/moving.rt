@@ -141,7 +141,7 @@ fn is_at_end(policy: Policy, is_out_of_range: bool) -> bool
 
 /// The first of two, or the second. A call of its own for each of two choices lets each be made without a branch.
 #[inline(always)]
-fn chosen<T: Copy>(is_first: bool, first: T, second: T) -> T
+fn choice<T: Copy>(is_first: bool, first: T, second: T) -> T
     ensures { result ≡ (if is_first then first else second) }
 {
     if is_first { first } else { second }
@@ -161,8 +161,8 @@ pub(crate) fn image_of(format: Format, policy: Policy, number: Number) -> Image
     let (negative, magnitude) = wrapped(format, number.negative, number.low, end);
     let is_end = is_at_end(policy, is_out_of_range);
     Image {
-        negative: chosen(is_end, number.negative, negative),
-        magnitude: chosen(is_end, end, magnitude),
+        negative: choice(is_end, number.negative, negative),
+        magnitude: choice(is_end, end, magnitude),
         is_out_of_range,
     }
 }

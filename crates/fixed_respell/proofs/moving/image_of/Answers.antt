@@ -9,4 +9,4 @@ returns-clause-flag c v is =
 pub returns-clause-image : goal.returns-clause-image
 returns-clause-image c v is admitted =
     let a = c.args in
-    rw (c.chosen.ensures, c.chosen-2.ensures) (chosen_image a.format a.number v c.greatest_magnitude-end.ensures.valid.is_width is a.policy c.is_above-is_out_of_range.result c.is_at_end-is_end.result c.greatest_magnitude-end.result c.wrapped-negative.result.1 c.wrapped-negative.result.0 c.greatest_magnitude-end.ensures.magnitude c.is_above-is_out_of_range.ensures c.is_at_end-is_end.ensures admitted c.wrapped-negative.ensures.same c.wrapped-negative.ensures.image)
+    rw (c.choice.ensures, c.choice-2.ensures) (chosen_image a.format a.number v c.greatest_magnitude-end.ensures.valid.is_width is a.policy c.is_above-is_out_of_range.result c.is_at_end-is_end.result c.greatest_magnitude-end.result c.wrapped-negative.result.1 c.wrapped-negative.result.0 c.greatest_magnitude-end.ensures.magnitude c.is_above-is_out_of_range.ensures c.is_at_end-is_end.ensures admitted c.wrapped-negative.ensures.same c.wrapped-negative.ensures.image)

@@ -4,7 +4,7 @@ use Rattle.std.proofs.Math.Nat.{mod-eq_of_lt}
 use Rattle.fixed_numeral.specs.Numeral.{base}
 use Rattle.fixed_numeral.proofs.MarkLemmas.{up_to}
 use Rattle.fixed_numeral.proofs.SpelledLemmas.{pow-mul}
-use Rattle.fixed_numeral.proofs.ending.raised.Goals as goal
+use Rattle.fixed_numeral.proofs.ending.raised_number.Goals as goal
 
 abbrev powers : List ℕ
 powers = 1 ∷ 10 ∷ 100 ∷ 1_000 ∷ 10_000 ∷ 100_000 ∷ 1_000_000 ∷ 10_000_000 ∷ 100_000_000 ∷ 1_000_000_000 ∷ 10_000_000_000 ∷ 100_000_000_000 ∷ 1_000_000_000_000 ∷ 10_000_000_000_000 ∷ 100_000_000_000_000 ∷ 1_000_000_000_000_000 ∷ []
