@@ -25,8 +25,8 @@ pub struct WideDecimal {
     pub places: u32,
 }
 
-/// How many bytes a wide decimal has at least, so that whole words can be read that reach back from its end.
-const MIN_LENGTH: usize = 25;
+/// How many bytes a wide decimal has at least: a shorter one has at most 16 places, and is a short decimal.
+const MIN_LENGTH: usize = 18;
 
 /// How many bytes a wide decimal has at most.
 const MAX_LENGTH: usize = 44;
@@ -36,6 +36,26 @@ const MAX_PLACES: usize = 27;
 
 /// The place before which the digits before a point end.
 const WHOLE_LIMIT: usize = 16;
+
+/// The number of the bytes between two places, at most 16, where they are decimal digits.
+#[inline(always)]
+fn upper_digits(bytes: &[u8], from: usize, to: usize) -> Option<u64>
+    requires place { from ≤ to }
+    requires within { to ≤ length bytes.now }
+    requires few { to ≤ from + 16 }
+    ensures { IfSome result (λ n. IsChunk 10 bytes.now from to n (10 ^ (to - from))) }
+{
+    if to >= 8 {
+        let number = decimals_between(bytes, from, to)?;
+        return Some(number);
+    }
+    let run = digits_at(bytes, Radix::Dec, from, to, 0);
+    if run.end == to {
+        Some(run.number)
+    } else {
+        None
+    }
+}
 
 /// The number of the digits after a point, at most 27, where they end with the text.
 #[inline(always)]
@@ -50,7 +70,7 @@ fn wide_fraction_at(bytes: &[u8], from: usize) -> Option<u128>
         return Some(u128::from(number));
     }
     let middle = bytes.len() - 16;
-    let high = decimals_between(bytes, from, middle)?;
+    let high = upper_digits(bytes, from, middle)?;
     let low = decimals_between(bytes, middle, bytes.len())?;
     Some(u128::from(high) * 10_000_000_000_000_000 + u128::from(low))
 }
@@ -77,7 +97,7 @@ fn wide_decimal_at(bytes: &[u8], negative: bool, first: usize) -> Option<WideDec
     })
 }
 
-/// The numbers of a decimal numeral of 25 to 44 bytes without an exponent, where the digits before its point come to an end
+/// The numbers of a decimal numeral of 18 to 44 bytes without an exponent, where the digits before its point come to an end
 /// within the first 16 bytes, and at most 27 come after it. None otherwise; `compact_numeral` or `scan` then says more. A step
 /// a byte is taken, and none where there are fewer or more bytes.
 #[inline]
