@@ -13,6 +13,7 @@ ghost use Rattle.fixed_numeral.specs.PartNumbers.{IsCompactNumeral};
 ghost use Rattle.fixed_numeral.specs.Inner.Segments.{IsExponentAt, IsMantissaAt, IsSignAt, HasMarks};
 
 use crate::compact::signed_exponent;
+use crate::powers::power_of_ten;
 use crate::radix::Radix;
 use crate::scanner::{is_separator, is_two_separator};
 use crate::segment::{decimals_between, number_between, sign_at};
@@ -67,26 +68,6 @@ fn unmarked_end(text: &[u8], marks: u64, from: usize) -> usize
     from + count.min(text.len() - from)
 }
 
-/// The powers of ten that have a place after the point for each of at most 15 digits.
-const POWERS_OF_TEN: [u64; 16] = [
-    1,
-    10,
-    100,
-    1_000,
-    10_000,
-    100_000,
-    1_000_000,
-    10_000_000,
-    100_000_000,
-    1_000_000_000,
-    10_000_000_000,
-    100_000_000_000,
-    1_000_000_000_000,
-    10_000_000_000_000,
-    100_000_000_000_000,
-    1_000_000_000_000_000,
-];
-
 /// How many bits a digit of radix 2, 8 or 16 has. A sum, since a `match` becomes a jump that is hard to predict.
 #[inline(always)]
 fn bits_of(radix: Radix) -> u32
@@ -105,7 +86,7 @@ fn raised_number(radix: Radix, number: u64, places: u32) -> u64
     ensures { result ≡ number * base radix ^ places }
 {
     match radix {
-        Radix::Dec => number * POWERS_OF_TEN[places as usize],
+        Radix::Dec => number * power_of_ten(places),
         _ => number << (places * bits_of(radix)),
     }
 }

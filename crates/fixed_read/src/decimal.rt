@@ -27,10 +27,10 @@ ghost use Rattle.fixed_read.specs.Inner.Rounding.{IsFractionUlps, IsSettled, IsL
 use crate::decimal_block::{
     Candidate, FIVE_TO_27, candidate_of, coarser_ulps, lost_fraction_of_share,
 };
-use crate::digits::{is_longer, leading_number, leading_number_u128, power_of_ten};
+use crate::digits::{is_longer, leading_number, leading_number_u128};
 use crate::lost_fraction::LostFraction;
 use crate::shifts::{power_of_two, shl_u64};
-use fixed_numeral::DigitView;
+use fixed_numeral::{DigitView, power_of_ten};
 use fixed_steps::Steps;
 use std::cmp::Ordering;
 use std::sync::ledger::Ledger;

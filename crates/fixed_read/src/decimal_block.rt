@@ -8,10 +8,10 @@ ghost use Rattle.std.specs.Prelude.{◌≡◌, ◌+◌, ◌-◌, ◌*◌, ◌/�
 ghost use Rattle.fixed_read.specs.Inner.Blocks.{IsCandidate};
 ghost use Rattle.fixed_read.specs.Inner.Rounding.{IsShare, IsSplitUlps, IsLostFraction};
 
-use crate::digits::power_of_ten;
 use crate::lost_fraction::{LostFraction, is_above_zero, lost_fraction_of};
 use crate::reciprocal::divided_by_five_to_27;
 use crate::shifts::{power_of_two, shl, shl_u64, split_bits, to_u64};
+use fixed_numeral::power_of_ten;
 
 /// 5^13.
 const FIVE_TO_13: u64 = 1220703125;

@@ -6,38 +6,9 @@ ghost use Rattle.fixed_numeral.specs.Place.{NoLeadingZero, NoTrailingZero};
 ghost use Rattle.fixed_read.specs.Inner.Blocks.{IsBlockOf};
 
 use crate::shifts::{power_of_two, split_bits};
-use fixed_numeral::DigitView;
+use fixed_numeral::{DigitView, power_of_ten};
 use fixed_steps::Steps;
 use std::sync::ledger::Ledger;
-
-/// 10^n.
-pub fn power_of_ten(n: u32) -> u64
-    requires { n < 20 }
-    ensures { result ≡ 10 ^ n }
-{
-    match n {
-        0 => 1,
-        1 => 10,
-        2 => 100,
-        3 => 1000,
-        4 => 10000,
-        5 => 100000,
-        6 => 1000000,
-        7 => 10000000,
-        8 => 100000000,
-        9 => 1000000000,
-        10 => 10000000000,
-        11 => 100000000000,
-        12 => 1000000000000,
-        13 => 10000000000000,
-        14 => 100000000000000,
-        15 => 1000000000000000,
-        16 => 10000000000000000,
-        17 => 100000000000000000,
-        18 => 1000000000000000000,
-        _ => 10000000000000000000,
-    }
-}
 
 /// 10^n, for what is known to fit 64 bits.
 fn ten_to(n: u32) -> u64

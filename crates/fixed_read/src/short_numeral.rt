@@ -13,12 +13,11 @@ ghost use Rattle.fixed_read.specs.Inner.BinaryPower.{up_of, down_of, ups, downs}
 ghost use Rattle.fixed_read.specs.Inner.Rounding.{IsMagnitude, IsLostFraction};
 
 use crate::decimal_block::{ulps_of_few_places, ulps_of_fraction};
-use crate::digits::power_of_ten;
 use crate::direction::Direction;
 use crate::lost_fraction::LostFraction;
 use crate::magnitude::{Ulps, rounded_share, rounded_ulps};
 use crate::shifts::{is_some, power_of_two, shl, shl_u64, split_bits, to_u64};
-use fixed_numeral::{CompactNumeral, Radix, ShortDecimal, ShortNumeral, WideDecimal};
+use fixed_numeral::{CompactNumeral, Radix, ShortDecimal, ShortNumeral, WideDecimal, power_of_ten};
 
 /// A whole number and a decimal fraction of at most 27 places.
 #[derive(Clone, Copy, Debug, PartialEq, Eq)]
