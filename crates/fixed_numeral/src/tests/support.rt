@@ -304,13 +304,9 @@ fn ending_in_over<L: Ledger>(radix: Radix, text: &[u8], blank: Blank) -> Option<
 
 /// A numeral of at most 16 bytes after 16 bytes that are digits of radix 16.
 pub(super) fn ending_in(radix: Radix, text: &str) -> Option<ShortNumeral> {
+    let numeral = text.as_bytes();
+    let count = numeral.len().min(16);
     let mut bytes = [b'e'; 32];
-    let mut end = 16;
-    for b in text.as_bytes() {
-        if end < 32 {
-            bytes[end] = *b;
-            end += 1;
-        }
-    }
-    ending_in_over::<Brand>(radix, &bytes[..end], Blank::new(1))
+    bytes[16..16 + count].copy_from_slice(&numeral[..count]);
+    ending_in_over::<Brand>(radix, &bytes[..16 + count], Blank::new(1))
 }
