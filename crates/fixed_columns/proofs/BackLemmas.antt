@@ -22,7 +22,7 @@ use Rattle.fixed_respell.specs.Lemmas.SplitLemmas.{count_cons}
 use Rattle.fixed_write.specs.Styled.{IsStyledText, padded_text, padding, sign_and_prefix}
 use Rattle.fixed_write.specs.Texts.{IsShortestText, decimal_text, point_text}
 use Rattle.line_engine.specs.Lines.{lines}
-use Rattle.text_lines.specs.Laws.{LineComesFirst}
+use Rattle.line_engine.specs.LineLaws.{LineComesFirst}
 use Rattle.fixed_columns.specs.Answer.{decimal_style}
 use Rattle.fixed_columns.specs.Cells.{CellParts, HoldsAsOften, IsCell, times}
 use Rattle.fixed_columns.specs.Column.{IsRow}

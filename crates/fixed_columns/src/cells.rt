@@ -9,7 +9,7 @@ use crate::fault::CellsError;
 use crate::row::read_row;
 use std::alloc::Global;
 use std::marker::Model;
-use text_lines::first_line;
+use line_engine::first_line;
 
 /// Cells in a list. It is seen as the list of their formats and bits.
 #[derive(Drop)]

@@ -10,7 +10,7 @@ use crate::cells::Cells;
 use fixed_bits::Format;
 use fixed_respell::format_name;
 use fixed_write::{Style, to_text};
-use no_memory::NoMemory;
+use text_buffer::NoMemory;
 use std::alloc::{AllocError, Global};
 use std::marker::Model;
 

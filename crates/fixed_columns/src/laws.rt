@@ -17,7 +17,7 @@ ghost use Rattle.fixed_columns.specs.Laws.{
 };
 
 use fixed_laws::laws::default_text_reads_back;
-use text_lines::laws::line_comes_first;
+use line_engine::laws::line_comes_first;
 
 /// The order of cells is total, transitive, and reversed when its sides are swapped.
 pub fn order_is_total()

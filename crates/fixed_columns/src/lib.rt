@@ -18,7 +18,7 @@ pub use cell::Cell;
 pub use cells::{Cells, read_cells};
 pub use column::{ColumnText, write_cells};
 pub use fault::{CellFault, CellsError};
-pub use no_memory::NoMemory;
+pub use text_buffer::NoMemory;
 pub use program::run_columns;
 pub use rule::ColumnsRule;
 

@@ -11,7 +11,7 @@ use fixed_steps::Steps;
 use fixed_write::{Notation, Style};
 use itoa::Buffer;
 use line_engine::{WholeAnswer, WholeRule};
-use no_memory::NoMemory;
+use text_buffer::NoMemory;
 use std::alloc::{AllocError, Global};
 use std::sync::ledger::Ledger;
 

@@ -16,7 +16,7 @@ use Rattle.fixed_respell.specs.Lemmas.SplitLemmas.{count_cons}
 use Rattle.fixed_respell.specs.Words.{format_text, sign_letter}
 use Rattle.fixed_write.specs.Places.{exact_text}
 use Rattle.line_engine.specs.Lines.{lines}
-use Rattle.text_lines.specs.Laws.{LineComesFirst}
+use Rattle.line_engine.specs.LineLaws.{LineComesFirst}
 use Rattle.fixed_constants.specs.Canonical.{canonical_text, entry_line, hex_prefix, literal_text}
 use Rattle.fixed_constants.specs.Constants.{ConstantParts, Declare, HasName, IsName, IsNameByte, IsPassedOver, NamedFrom, Names, Says, Spells}
 use Rattle.fixed_constants.specs.Entries.{AreEntries, IsEntry}

@@ -10,10 +10,10 @@ use crate::constant::{Constant, Constants};
 use crate::declaration::{is_passed_over, read_line};
 use crate::fault::{ConstantFault, ConstantsError};
 use fixed_bits::Format;
-use no_memory::NoMemory;
+use text_buffer::NoMemory;
 use std::alloc::{AllocError, Global};
 use std::collections::HashMap;
-use text_lines::first_line;
+use line_engine::first_line;
 
 /// Notes that a name is declared on a line. Answers the line on which it was declared before.
 fn note_name<'a>(

@@ -6,7 +6,7 @@ ghost use Rattle.fixed_constants.specs.Forms.{HasReserved, IsAmong, IsReserved, 
 use crate::declaration::{is_name, is_passed_over, split_line};
 use memchr::memmem;
 use text_buffer::TextBuffer;
-use text_lines::first_line;
+use line_engine::first_line;
 
 /// What a constants file is written as.
 #[derive(Clone, Copy, Debug, PartialEq, Eq)]

@@ -14,7 +14,7 @@ use crate::rule::{ConstantsRule, fault_text};
 use crate::sources::source_text;
 use fixed_steps::Steps;
 use line_engine::{WholeAnswer, WholeRule};
-use no_memory::NoMemory;
+use text_buffer::NoMemory;
 use std::alloc::Global;
 use std::sync::ledger::Ledger;
 

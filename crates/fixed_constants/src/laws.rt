@@ -3,7 +3,7 @@
 ghost use Rattle.fixed_constants.specs.Laws.{AnswerIsItsOwn, AnswerIsTheOne, CanonicalTextReadsBack, ConstantsAreEntries, ConstantsAreTheOnes, EntriesHaveOneAnswer, FaultIsTheOne, LiteralIsStyled, LiteralReadsBack, NeverBoth, WrittenReadsBack};
 
 use fixed_laws::laws::exact_text_reads_back;
-use text_lines::laws::line_comes_first;
+use line_engine::laws::line_comes_first;
 
 /// A text has at most one list of constants.
 pub fn constants_are_the_ones()

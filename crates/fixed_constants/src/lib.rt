@@ -24,7 +24,7 @@ pub use fault::{ConstantFault, ConstantsError};
 pub use form::Form;
 pub use form_program::{is_guard, run_forms};
 pub use form_rule::FormRule;
-pub use no_memory::NoMemory;
+pub use text_buffer::NoMemory;
 pub use program::run_constants;
 pub use rule::ConstantsRule;
 

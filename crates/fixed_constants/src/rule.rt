@@ -10,7 +10,7 @@ use crate::fault::{ConstantFault, ConstantsError};
 use fixed_steps::Steps;
 use itoa::Buffer;
 use line_engine::{WholeAnswer, WholeRule};
-use no_memory::NoMemory;
+use text_buffer::NoMemory;
 use std::alloc::{AllocError, Global};
 use std::sync::ledger::Ledger;
 

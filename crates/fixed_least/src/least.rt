@@ -18,7 +18,7 @@ use line_engine::Answer;
 use std::marker::Model;
 use std::sync::ledger::Ledger;
 use text_buffer::TextBuffer;
-use text_lines::first_line;
+use line_engine::first_line;
 
 /// Why a text is no list of numerals.
 #[derive(Clone, Copy, Debug, PartialEq, Eq)]

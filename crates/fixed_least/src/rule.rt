@@ -10,7 +10,7 @@ use fixed_numeral::Radix;
 use fixed_steps::Steps;
 use itoa::Buffer;
 use line_engine::{Answer, WholeAnswer, WholeRule};
-use no_memory::NoMemory;
+use text_buffer::NoMemory;
 use std::alloc::{AllocError, Global};
 use std::sync::ledger::Ledger;
 

@@ -18,7 +18,7 @@ pub mod text;
 
 pub use in_place::{Base, push_decimal, push_exact};
 pub use integer::push_integer;
-pub use no_memory::NoMemory;
+pub use text_buffer::NoMemory;
 pub use printer::push_shortest;
 pub use short::{ShortText, shortest};
 pub use style::{Align, Notation, Style};

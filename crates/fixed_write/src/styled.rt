@@ -13,7 +13,7 @@ use crate::printer::{magnitude_of, push_shortest};
 use crate::style::{Notation, Style};
 use crate::text::{BodyParts, Text, padded};
 use fixed_steps::Steps;
-use no_memory::NoMemory;
+use text_buffer::NoMemory;
 use std::alloc::Global;
 use std::marker::Brand;
 use std::sync::ledger::{Blank, Ledger};

@@ -6,7 +6,7 @@ ghost use Rattle.fixed_write.specs.Styled.{padded_text, fills_before};
 ghost use Rattle.fixed_write.specs.Inner.Styling.{laid_out, body_text};
 
 use crate::style::{Align, Style};
-use no_memory::NoMemory;
+use text_buffer::NoMemory;
 use std::alloc::{AllocError, Global};
 use std::marker::Model;
 

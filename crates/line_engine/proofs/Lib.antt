@@ -6,6 +6,7 @@ mod AskedLemmas
 mod ChunkLemmas
 mod CompleteLemmas
 mod FedLemmas
+mod FirstLineLemmas
 mod LineLawLemmas
 mod LineLemmas
 mod PrefixLemmas

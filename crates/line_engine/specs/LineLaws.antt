@@ -22,3 +22,11 @@ pub record AreLinesOfBoth (first rest : List ℕ) : Type 0 where
 
 abbrev pub CutAnywhere : Type 0
 CutAnywhere = (first rest : List ℕ) → AreLinesOfBoth first rest
+
+-- a line that holds no newline comes before the lines of what follows its newline
+abbrev pub LineComesFirst : Type 0
+LineComesFirst = (line rest : List ℕ) → ¬ Contains line 10 → lines (line ++ 10 ∷ rest) ≡ line ∷ lines rest
+
+-- and is the one line of its own text, where it is not empty
+abbrev pub LastLineNeedsNoNewline : Type 0
+LastLineNeedsNoNewline = (line : List ℕ) → ¬ (line ≡ []) → ¬ Contains line 10 → lines line ≡ line ∷ []

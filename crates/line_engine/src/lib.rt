@@ -3,7 +3,8 @@
 //! `device` says what a source and a sink are, and `memory` has one of each that lives in memory,
 //! over which `memory_run` runs a program for a test. `engine` reads a source
 //! in chunks, cuts it into lines (`splitter`, `line_buffer`), has each line answered (`rule`, `answer`) and writes the
-//! answers (`output`, `writing`). `status` says how a run ended, and `laws` states laws of the lines of an input.
+//! answers (`output`, `writing`). `status` says how a run ended, `text_lines` takes the
+//! lines of a text in memory one by one, and `laws` states laws of the lines of an input.
 #![tactic(auto)]
 
 pub mod answer;
@@ -19,6 +20,7 @@ pub mod program;
 pub mod rule;
 mod splitter;
 pub mod status;
+pub mod text_lines;
 pub mod whole;
 pub mod whole_engine;
 pub mod whole_rule;
@@ -31,11 +33,12 @@ pub use engine::run_lines;
 pub use line_buffer::MAX_LINE;
 pub use memory::{MemorySink, MemorySource};
 pub use memory_run::{MemoryProgram, MemoryRun, NEVER};
-pub use no_memory::NoMemory;
 pub use output::{OUTPUT_BUFFER, Output};
 pub use program::{NoArgs, Program, run_program};
 pub use rule::LineRule;
 pub use status::Status;
+pub use text_buffer::NoMemory;
+pub use text_lines::first_line;
 pub use whole::{Filled, MAX_WHOLE, Whole};
 pub use whole_engine::run_whole;
 pub use whole_rule::{WholeAnswer, WholeRule};

@@ -2,4 +2,5 @@
 
 mod lines;
 mod program;
+mod text_lines;
 mod whole;

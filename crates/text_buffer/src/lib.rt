@@ -2,6 +2,7 @@
 //!
 //! A `TextBuffer<N>` is an array of `N` bytes and a length. Contracts see it as the list of its bytes, so that each
 //! call that appends says exactly what it appended. Clearing it and cutting it back only set the length.
+//! `NoMemory` is the refusal of the calls of other crates that take memory.
 #![tactic(auto)]
 
 ghost use Rattle.std.specs.Prelude.{◌≡◌, ◌+◌, ◌<◌, ◌≤◌, ◌++◌, ◌↔◌, [], ◌∷◌, length, take, if◌then◌else◌, IsTrue};
@@ -9,6 +10,10 @@ ghost use Rattle.std.specs.Str.{IsAscii};
 
 use std::marker::Model;
 use std::str;
+
+mod no_memory;
+
+pub use text_buffer::NoMemory;
 
 #[cfg(test)]
 mod tests;

@@ -1,5 +1,5 @@
-use Rattle.text_lines.proofs.LineLemmas.{lines_cut, lines_uncut}
-use Rattle.text_lines.proofs.line.first_line.Goals as goal
+use Rattle.line_engine.proofs.FirstLineLemmas.{lines_cut, lines_uncut}
+use Rattle.line_engine.proofs.text_lines.first_line.Goals as goal
 
 pub returns-in-Some-clause-lines : goal.returns-in-Some-clause-lines
 returns-in-Some-clause-lines c = lines_cut c.args.text.now c.in-Some.end c.in-Some.ensures.0 c.in-Some.ensures.1

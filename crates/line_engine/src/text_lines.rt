@@ -1,4 +1,4 @@
-//! The first line of a text.
+//! The lines of a text in memory, one at a time: each call takes the first of them.
 
 ghost use Rattle.std.specs.Prelude.{◌≡◌, ◌<◌, ◌∷◌, [], length};
 ghost use Rattle.line_engine.specs.Lines.{lines};

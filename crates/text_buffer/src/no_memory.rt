@@ -1,5 +1,4 @@
 //! The one refusal of calls that take memory and can refuse nothing else.
-#![tactic(auto)]
 
 use std::alloc::AllocError;
 use thiserror::Error;

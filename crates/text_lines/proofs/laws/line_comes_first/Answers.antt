@@ -1,5 +1,0 @@
-use Rattle.text_lines.proofs.LineLemmas.{lines_at, quiet_line}
-use Rattle.text_lines.proofs.laws.line_comes_first.Goals as goal
-
-pub returns : goal.returns
-returns c line rest never = lines_at line rest (quiet_line line never)
