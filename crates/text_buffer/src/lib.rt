@@ -13,7 +13,7 @@ use std::str;
 
 mod no_memory;
 
-pub use text_buffer::NoMemory;
+pub use no_memory::NoMemory;
 
 #[cfg(test)]
 mod tests;
