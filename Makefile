@@ -20,7 +20,7 @@ CRATES := $(shell sed -n 's/^\([a-z0-9_]*\)[ :].*/\1/p' crates.txt)
 PROGRAMS := $(filter $(CRATES),fixed_tool enclose_tool least_tool constants_tool columns_tool fixed)
 BENCH := $(filter $(CRATES),fixed_bench)
 # The programs that only answer the references in oracle/.
-VECTORS := $(filter $(CRATES),fixed_styles fixed_vectors)
+VECTORS := $(filter $(CRATES),fixed_vectors)
 BUILT := $(PROGRAMS:%=build/%)
 LIBRARIES := $(foreach crate,$(CRATES),$(if $(wildcard crates/$(crate)/src/lib.rt),$(crate)))
 

@@ -18,7 +18,7 @@ TOP = os.path.dirname(HERE)
 # A reference, the program that it answers for, and how many inputs it makes for each 1,000 lines that are asked for.
 PAIRS = (
     ("reference.py", "fixed_tool", 1000),
-    ("styled.py", "fixed_styles", 700),
+    ("styled.py", "fixed_vectors", 700),
     ("typed.py", "fixed_vectors", 1000),
     ("enclose.py", "enclose_tool", 100),
     ("least.py", "least_tool", 3),

@@ -1,4 +1,4 @@
-//! The words of a line.
+//! The words of a line that asks for a text in a style.
 
 ghost use Rattle.std.specs.Prelude.{◌≤◌, IfSome};
 ghost use Rattle.fixed_bits.specs.Ranges.{IsWide};

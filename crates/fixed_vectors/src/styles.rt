@@ -1,6 +1,13 @@
-//! The answer to a line.
+//! Texts of numbers in styles that lines describe. Bits are in decimal; the fill is a code point, and the flags are some of
+//! `+`, `#`, `0`, or `-` for none:
+//!
+//! - `text NOTATION PRECISION WIDTH FILL ALIGN FLAGS BITS FRAC`
+//! - `decimal PLACES BITS FRAC`
+//! - `exact BASE BITS FRAC`
+//! - `shortest BITS FRAC`
+//! - `integer BITS`
 
-use crate::describing::{base_word, bits_word, small_word, style_words};
+use crate::style_words::{base_word, bits_word, small_word, style_words};
 use fixed_steps::Steps;
 use fixed_write::{push_decimal, push_exact, push_integer, push_shortest, to_text};
 use std::alloc::{AllocError, Global};
@@ -14,8 +21,24 @@ type Place = TextBuffer<192>;
 /// What is answered to a line that describes nothing.
 const BAD_LINE: &[u8] = b"bad line";
 
+/// The text that a line asks for; None where it asks for none.
+pub(crate) fn text_of<L: Ledger>(
+    alloc: Global,
+    line: &str,
+    steps: &mut Steps<L>,
+) -> Result<Option<Vec<u8>>, AllocError> {
+    let (call, words) = line.split_once(' ').unwrap_or((line, ""));
+    match call {
+        "text" => Ok(Some(styled(alloc, &mut words.split(' '))?)),
+        "decimal" | "exact" | "shortest" | "integer" => Ok(Some(text_in_place(
+            alloc, line, steps,
+        )?)),
+        _ => Ok(None),
+    }
+}
+
 /// The text that a line asks for in place.
-pub(crate) fn text_in_place<L: Ledger>(
+fn text_in_place<L: Ledger>(
     alloc: Global,
     line: &str,
     steps: &mut Steps<L>,
@@ -31,11 +54,6 @@ pub(crate) fn text_in_place<L: Ledger>(
 }
 
 /// The text in memory that the words of a line after `text` ask for.
-pub(crate) fn text_in_memory(alloc: Global, words: &str) -> Result<Vec<u8>, AllocError> {
-    styled(alloc, &mut words.split(' '))
-}
-
-/// A text in memory.
 fn styled(alloc: Global, words: &mut Split<'_, char>) -> Result<Vec<u8>, AllocError> {
     let Some(style) = style_words(words) else {
         return Vec::from_slice(alloc, BAD_LINE);
