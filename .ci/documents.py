@@ -74,9 +74,16 @@ def crates_of():
     return {head.split()[0]: deps.split() for head, _, deps in lines}
 
 
+def reduced(crates):
+    """What each crate stands on, without what another crate that it stands on stands on already."""
+    def below(name):
+        return {it for dep in crates.get(name, ()) for it in (dep, *below(dep))}
+    return {name: [it for it in deps if not any(it in below(other) for other in deps)] for name, deps in crates.items()}
+
+
 def crates_table():
-    """The table of crates in docs/ARCHITECTURE.md: `| name | does | stands on |`."""
-    crates = crates_of()
+    """The tables of crates in docs/ARCHITECTURE.md: `| name | does | stands on |`."""
+    crates = reduced(crates_of())
     rows = dict(re.findall(r"^\| `(\w+)` \|[^|]*\|([^|]*)\|$", text_of("docs/ARCHITECTURE.md"), re.M))
     for name, deps in crates.items():
         if name not in rows:
