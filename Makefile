@@ -4,6 +4,7 @@
 #   make build     proves, and leaves every program in build/
 #   make demo      answers the demo's lines and shows the command, with the programs that were proved
 #   make test      the gate
+#   make wrong-bodies [CRATE=..]   the wrong bodies that the gate leaves out, of every crate or of these
 #   make install   puts the programs below PREFIX (and DESTDIR); make uninstall removes them
 #   make library   the library for C, in build/lib; make check-library tries it; make deb makes packages, make dist an archive
 #   make bench     times, memory and instructions; make compare: seeded inputs against the reference in oracle/
@@ -31,7 +32,7 @@ WORDS_fixed = -- --version
 below = $(filter $(CRATES),$(shell sed -n 's/^$(1)[^:]*: *//p' crates.txt))
 files = $(shell find crates/$(1) -path 'crates/$(1)/out' -prune -o -type f -print)
 
-.PHONY: build try demo test install uninstall bench compare scale clean
+.PHONY: build try demo test wrong-bodies install uninstall bench compare scale clean
 .DELETE_ON_ERROR:
 
 build:
@@ -75,6 +76,11 @@ demo:
 # The gate: every proof, every must-fail edit, every test and every program's stored run.
 test:
 	rt ci
+
+# Those in a crate's wrong-bodies/: a change of its public clauses calls for them.
+wrong-bodies:
+	@python3 .ci/edits.py
+	@python3 .ci/wrong_bodies.py try $(CRATE)
 
 install: build install-library
 	install -d "$(DESTDIR)$(PREFIX)/bin"

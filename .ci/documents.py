@@ -3,8 +3,8 @@
 
     documents.py [--built build|out]
 
-README's answers against the program, the crates' table against crates.txt, the wrong bodies that docs/PROVED.md names against
-must-fail/, definitions that docs/RULES.md names against specs/, and every path that a document names.
+README's answers against the program, the crates' table against crates.txt, the wrong bodies that docs/WRONG_BODIES.md names against
+must-fail/ and wrong-bodies/, definitions that docs/RULES.md names against specs/, and every path that a document names.
 """
 import argparse
 import glob
@@ -94,22 +94,24 @@ def crates_table():
 
 
 def wrong_bodies():
-    """Each edit is named in docs/PROVED.md under its crate, and their count is right."""
-    proved = text_of("docs/PROVED.md")
-    edits = {(path.split("/")[-3], os.path.basename(path)[:-5]) for path in glob.glob(f"{TOP}/crates/*/must-fail/*.edit")}
-    named, crate = [], None
-    for line in proved.split("\n"):
-        head = re.match(r"#+ Wrong bodies of `(\w+)`", line)
-        crate = head.group(1) if head else None if line.startswith("#") else crate
-        row = re.match(r"\| `(\w+)` \|", line)
-        if crate and row:
-            named.append((crate, row.group(1)))
-    yield from (f"docs/PROVED.md names no wrong body {crate}/{name}" for crate, name in sorted(edits - set(named)))
-    yield from (f"docs/PROVED.md: there is no wrong body {crate}/{name}" for crate, name in named if (crate, name) not in edits)
-    for document in ("docs/PROVED.md", "README.md"):
-        for count in re.findall(r"(\d+) wrong bodies", text_of(document)):
-            if int(count) != len(edits):
-                yield f"{document} says {count} wrong bodies, and there are {len(edits)}"
+    """Each edit is named in docs/WRONG_BODIES.md under its crate, and is in the gate where that says so."""
+    edits = {(path.split("/")[-3], os.path.basename(path)[:-5], path.split("/")[-2] == "must-fail")
+             for folder in ("must-fail", "wrong-bodies") for path in glob.glob(f"{TOP}/crates/*/{folder}/*.edit")}
+    named, crate = set(), None
+    for line in text_of("docs/WRONG_BODIES.md").split("\n"):
+        head = re.match(r"## `(\w+)`", line)
+        crate = head.group(1) if head else crate
+        row = re.match(r"\| `(\w+)` \| (yes|no) \|", line)
+        if row:
+            named.add((crate, row.group(1), row.group(2) == "yes"))
+    yield from (f"docs/WRONG_BODIES.md: no wrong body {crate}/{name} that is {'in' if gate else 'left out of'} the gate"
+                for crate, name, gate in sorted(edits - named))
+    yield from (f"docs/WRONG_BODIES.md: there is no {crate}/{name} that is {'in' if gate else 'left out of'} the gate"
+                for crate, name, gate in sorted(named - edits))
+    in_gate = sum(gate for _, _, gate in edits)
+    for count in re.findall(r"(\d+) wrong bodies", text_of("README.md")):
+        if int(count) != in_gate:
+            yield f"README.md says {count} wrong bodies, and the gate tries {in_gate}"
 
 
 def definitions():

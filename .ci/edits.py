@@ -1,7 +1,8 @@
 #!/usr/bin/env python3
-"""Refuses a must-fail edit that cannot be applied: `old:` must occur exactly once in the file that the edit names.
+"""Refuses an edit of must-fail/ or wrong-bodies/ that cannot be applied: `old:` must occur exactly once in the file that it names.
 
-`rt ci` names such an edit BAD EDIT and passes over it, so that a wrong body would no longer be tried.
+`rt ci` names such an edit BAD EDIT and passes over it, so that a wrong body would no longer be tried. A crate's edits have one name each,
+in whichever of the two folders they are.
 """
 import glob
 import os
@@ -44,11 +45,13 @@ def why_not(edit):
 
 
 def main():
-    edits = sorted(glob.glob(f"{TOP}/crates/*/must-fail/*.edit"))
-    bad = [(edit, why) for edit in edits if (why := why_not(edit))]
+    gate, left_out = ({tuple(path.split("/")[-3::2]): path for path in sorted(glob.glob(f"{TOP}/crates/*/{folder}/*.edit"))}
+                      for folder in ("must-fail", "wrong-bodies"))
+    bad = [(edit, why) for edit in (*gate.values(), *left_out.values()) if (why := why_not(edit))]
+    bad += [(left_out[it], "must-fail/ has an edit of this name") for it in left_out if it in gate]
     for edit, why in bad:
         print(f"BAD EDIT {os.path.relpath(edit, TOP)}: {why}")
-    print(f"{len(edits)} must-fail edits, {len(bad)} cannot be applied")
+    print(f"{len(gate)} wrong bodies in the gate, {len(left_out)} that it leaves out; {len(bad)} cannot be applied")
     return 1 if bad else 0
 
 
