@@ -25,8 +25,13 @@ VECTORS := $(filter $(CRATES),fixed_vectors)
 BUILT := $(PROGRAMS:%=build/%)
 LIBRARIES := $(foreach crate,$(CRATES),$(if $(wildcard crates/$(crate)/src/lib.rt),$(crate)))
 
+# The processor that programs and the library for C are compiled for: x86-64 is any amd64.
+CPU ?= x86-64
+
 # The words with which a program that would refuse none answers nothing and ends with status 0.
 WORDS_fixed = -- --version
+# What is handed to rt for a library that is compiled.
+FLAGS_fixed_c = --cpu $(CPU)
 
 # The libraries of the repository that a crate names, and the files of a crate.
 below = $(filter $(CRATES),$(shell sed -n 's/^$(1)[^:]*: *//p' crates.txt))
@@ -43,7 +48,7 @@ define LIBRARY
 build/proved/$(1): $(call files,$(1)) HANDLES $(patsubst %,build/proved/%,$(call below,$(1)))
 	@mkdir -p build/proved build/logs
 	@echo "proving $(1)"
-	@cd crates/$(1) && rt lib --jobs 1 >../../build/logs/$(1) 2>&1 </dev/null || { cat ../../build/logs/$(1); exit 1; }
+	@cd crates/$(1) && rt lib --jobs 1 $(FLAGS_$(1)) >../../build/logs/$(1) 2>&1 </dev/null || { cat ../../build/logs/$(1); exit 1; }
 	@touch $$@
 endef
 
@@ -51,7 +56,7 @@ define PROGRAM
 build/$(1): $(call files,$(1)) HANDLES $(patsubst %,build/proved/%,$(call below,$(1)))
 	@mkdir -p build/logs
 	@echo "proving and building $(1)"
-	@cd crates/$(1) && rt run --jobs 1 $(WORDS_$(1)) >../../build/logs/$(1) 2>&1 </dev/null || { cat ../../build/logs/$(1); exit 1; }
+	@cd crates/$(1) && rt run --jobs 1 --cpu $(CPU) $(WORDS_$(1)) >../../build/logs/$(1) 2>&1 </dev/null || { cat ../../build/logs/$(1); exit 1; }
 	@cp crates/$(1)/out/$(1) $$@
 	@echo "build/$(1) is built"
 endef
