@@ -9,6 +9,7 @@ pub mod laws;
 pub mod lossless;
 pub mod num;
 pub mod order;
+pub mod rounded;
 #[cfg(test)]
 mod tests;
 mod to_bits;
@@ -22,3 +23,4 @@ pub use floored::{Floored, floor_into, reformat};
 pub use lossless::{LosslessTryFrom, LossyFrom, lossless_from};
 pub use num::{Num, NumTarget};
 pub use order::compare;
+pub use rounded::reformat_mode;
