@@ -110,7 +110,7 @@ def check_processors(folder):
     if not shutil.which("qemu-x86_64"):
         print("qemu-x86_64 is not on this machine, and so no old processor was tried")
         return
-    for processor in ("qemu64", "core2duo", "phenom"):
+    for processor in ("qemu64", "core2duo"):
         wanted(f"example on {processor}", run(["qemu-x86_64", "-cpu", processor, f"{folder}/gcc_example_plain"]), EXAMPLE)
     if not run(["qemu-x86_64", "-cpu", "qemu64", f"{folder}/gcc_edges_plain", "2000"]).endswith("the threads agree\n"):
         raise Failed("edges on qemu64")
