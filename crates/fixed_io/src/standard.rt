@@ -115,7 +115,8 @@ impl<W: Write> Sink for StdSink<W> {
         ensures progress { 0 < length piece.now → IfOk result (λ n. 0 < n) }
         ensures failures { FailsOnlyCounted self.old.failures self.new.failures result }
         ensures once { OnErr result (self.new.failures ≡ min (self.old.failures + 1) (2 ^ 64 - 1)) }
-        ensures lines { MatchResult result (λ n. self.new.lines ≡ min (self.old.lines + newlines_of (take n piece.now)) (2 ^ 64 - 1))
+        ensures lines { MatchResult result
+            (λ n. self.new.lines ≡ min (self.old.lines + newlines_of (take n piece.now)) (2 ^ 64 - 1))
             (λ e. self.new.lines ≡ self.old.lines) }
     {
         match self.writer.write(piece) {

@@ -14,7 +14,11 @@ nothing_asked = record { given = 0; furthest = 0; longest = 0 }
 
 -- and after one more, into a buffer of `room` bytes, that gave n bytes
 abbrev pub one_more : Asked → ℕ → ℕ → Asked
-one_more asked room n = record { given = asked.given + n; furthest = max asked.furthest (asked.given + room); longest = max asked.longest room }
+one_more asked room n = record {
+  given = asked.given + n;
+  furthest = max asked.furthest (asked.given + room);
+  longest = max asked.longest room;
+}
 
 -- how many bytes a read gave that ended so
 abbrev pub count_given : {E : Type 0} → Result ℕ E → ℕ

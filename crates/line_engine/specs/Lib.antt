@@ -9,5 +9,6 @@ pub mod Memory
 pub mod Output
 pub mod Program
 pub mod Run
+pub mod RunLaws
 pub mod Status
 pub mod WholeRun

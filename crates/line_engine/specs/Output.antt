@@ -13,7 +13,8 @@ AreAnswers A (line ∷ lines) [] = ⊥
 AreAnswers A (line ∷ lines) (reply ∷ replies) = A line reply × AreAnswers A lines replies
 
 -- the text of the answer to a line, of at most `most` bytes, was appended to what was gathered before; the flag is the answer's
-pub record AppendsAnswer (A : List ℕ → AnswerText → Type 0) (most : ℕ) (line before after : List ℕ) (fault : Bool) : Type 0 where
+pub record AppendsAnswer (A : List ℕ → AnswerText → Type 0)
+    (most : ℕ) (line before after : List ℕ) (fault : Bool) : Type 0 where
   pub text : List ℕ
   pub answer : A line (record { text = text; fault = fault })
   pub appended : after ≡ before ++ text

@@ -42,13 +42,18 @@ pub trait Program<L: Ledger> {
         sink: &mut K,
         steps: &mut Steps<L>,
     ) -> Status
-        ensures run { Runs self.now args.now (outside (S.left source.old) (S.asked source.old) (S.failures source.old) (K.written sink.old) (K.failures sink.old) steps.old)
+        ensures run { Runs self.now args.now
+            (outside (S.left source.old) (S.asked source.old) (S.failures source.old) (K.written sink.old)
+            (K.failures sink.old) steps.old)
             (outside (S.left source.new) (S.asked source.new) (S.failures source.new) (K.written sink.new) (K.failures sink.new) steps.new) result }
-        ensures usage { IsUsageFault self.now args.now → WritesText (usage_line self.now) Status.Usage (K.written sink.old) (K.written sink.new) (K.failures sink.old) (K.failures sink.new) result }
+        ensures usage { IsUsageFault self.now args.now
+            → WritesText (usage_line self.now) Status.Usage (K.written sink.old) (K.written sink.new)
+            (K.failures sink.old) (K.failures sink.new) result }
         ensures untouched { IsUsageFault self.now args.now → source.new ≡ source.old };
 
     /// One empty argument is none that the program knows.
-    ghost empty_law: { (program : Self) (word : String Global) → string_bytes word ≡ [] → IsUsageFault program (word ∷ []) };
+    ghost empty_law: { (program : Self) (word : String Global) → string_bytes word ≡ []
+        → IsUsageFault program (word ∷ []) };
 }
 
 /// Runs a program by its arguments, and answers the code with which its process ends.
@@ -64,17 +69,25 @@ pub fn run_program<P: Program<L>, S: Source, K: Sink, L: Ledger>(
     steps: &mut Steps<L>,
 ) -> u8
     // The program ran by its arguments, and the code is that of the status with which it ended.
-    ensures args { IfOk args (λ all. EndsAs (P.Runs program.now all.items (outside (S.left source.old) (S.asked source.old) (S.failures source.old) (K.written sink.old) (K.failures sink.old) steps.old)
+    ensures args { IfOk args
+        (λ all. EndsAs (P.Runs program.now all.items
+        (outside (S.left source.old) (S.asked source.old) (S.failures source.old) (K.written sink.old)
+        (K.failures sink.old) steps.old)
         (outside (S.left source.new) (S.asked source.new) (S.failures source.new) (K.written sink.new) (K.failures sink.new) steps.new)) result) }
 
     // For arguments that it doesn't know the usage line is written, and nothing is read.
-    ensures usage { IfOk args (λ all. P.IsUsageFault program.now all.items → EndsAs (WritesText (P.usage_line program.now) Status.Usage (K.written sink.old) (K.written sink.new) (K.failures sink.old) (K.failures sink.new)) result × (source.new ≡ source.old)) }
+    ensures usage { IfOk args (λ all. P.IsUsageFault program.now all.items
+        → EndsAs (WritesText (P.usage_line program.now) Status.Usage (K.written sink.old) (K.written sink.new)
+        (K.failures sink.old) (K.failures sink.new)) result × (source.new ≡ source.old)) }
 
     // There was no memory for the arguments.
-    ensures no_memory { args ≡ Err NoArgs.NoMemory → (result ≡ 5) × (source.new ≡ source.old) × (sink.new ≡ sink.old) × (steps.new ≡ steps.old) }
+    ensures no_memory { args ≡ Err NoArgs.NoMemory
+        → (result ≡ 5) × (source.new ≡ source.old) × (sink.new ≡ sink.old) × (steps.new ≡ steps.old) }
 
     // An argument is no text.
-    ensures not_text { args ≡ Err NoArgs.NotText → EndsAs (WritesText (P.usage_line program.now) Status.Usage (K.written sink.old) (K.written sink.new) (K.failures sink.old) (K.failures sink.new)) result × (source.new ≡ source.old) }
+    ensures not_text { args ≡ Err NoArgs.NotText
+        → EndsAs (WritesText (P.usage_line program.now) Status.Usage (K.written sink.old) (K.written sink.new)
+        (K.failures sink.old) (K.failures sink.new)) result × (source.new ≡ source.old) }
 {
     let status = match args {
         Ok(args) => program.run(alloc, &args, source, sink, steps),
