@@ -22,5 +22,3 @@ pub use text_buffer::NoMemory;
 pub use program::run_columns;
 pub use rule::ColumnsRule;
 
-#[cfg(test)]
-mod tests;

@@ -28,5 +28,3 @@ pub use text_buffer::NoMemory;
 pub use program::run_constants;
 pub use rule::ConstantsRule;
 
-#[cfg(test)]
-mod tests;

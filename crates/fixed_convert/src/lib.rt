@@ -9,8 +9,6 @@ pub mod laws;
 pub mod lossless;
 pub mod num;
 pub mod order;
-#[cfg(test)]
-mod tests;
 mod to_bits;
 mod to_number;
 

@@ -18,5 +18,3 @@ pub use least::{Least, LeastFault, least_format};
 pub use program::run_least;
 pub use rule::LeastRule;
 
-#[cfg(test)]
-mod tests;
