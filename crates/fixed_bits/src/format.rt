@@ -5,7 +5,8 @@ ghost use Rattle.fixed_bits.specs.Ranges.{IsInRange, IsOutOfRange, IsWide, lowes
 ghost use Rattle.fixed_bits.specs.Formats.{IsFormat};
 ghost use Rattle.fixed_bits.specs.Images.{IsImage, IsWrapped};
 
-use crate::masks::{low_bits, mask};
+use crate::masks::mask;
+use crate::number::{Number, greatest_magnitude, signed_number};
 use std::marker::Model;
 
 /// A sign rule, a width in bits of 8, 16, 32 or 64, and a fraction length in bits of at most the width.
@@ -86,19 +87,14 @@ impl Format {
     pub fn lowest(self) -> i128
         ensures { result ≡ lowest self.signed self.width }
     {
-        if self.signed { -half(self.width()) } else { 0 }
+        signed_number(true, greatest_magnitude(self, true))
     }
 
     /// The greatest bits, as a number.
     pub fn greatest(self) -> i128
         ensures { result ≡ greatest self.signed self.width }
     {
-        let count = if self.signed {
-            half(self.width())
-        } else {
-            power(self.width())
-        };
-        count - 1
+        i128::from(greatest_magnitude(self, false))
     }
 
     /// Whether a number is in the format's range.
@@ -130,47 +126,7 @@ impl Policy {
         ensures range { IfSome result (λ c. IsInRange format.signed format.width c) }
         ensures wide { IfSome result IsWide }
     {
-        let low = format.lowest();
-        let high = format.greatest();
-        if low <= v && v <= high {
-            return Some(v);
-        }
-        match self {
-            Policy::Checked => None,
-            Policy::Saturating => Some(if v < low { low } else { high }),
-            Policy::Wrapping => Some(wrapped_image(format, v, high)),
-        }
-    }
-}
-
-/// Two to the power of `n - 1`.
-fn half(n: u32) -> i128
-    requires some { 0 < n }
-    requires most { n ≤ 64 }
-    ensures { result ≡ pos (2 ^ (n - 1)) }
-{
-    power(n - 1)
-}
-
-/// Two to the power of `n`.
-fn power(n: u32) -> i128
-    requires { n ≤ 64 }
-    ensures { result ≡ pos (2 ^ n) }
-{
-    1 << n
-}
-
-/// The number in range that differs from `v` by a multiple of two to the power of the width.
-fn wrapped_image(format: Format, v: i128, high: i128) -> i128
-    requires { high ≡ greatest format.signed format.width }
-    ensures image { IsWrapped format.signed format.width v result }
-    ensures wide { IsWide result }
-{
-    let rest = low_bits(v, format.width()) as i128;
-    if rest > high {
-        rest - power(format.width())
-    } else {
-        rest
+        Number::of(v).image(format, self).admitted(self)
     }
 }
 

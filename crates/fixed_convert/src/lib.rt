@@ -16,7 +16,7 @@ pub use cast::{
     Cast, CheckedCast, OverflowingCast, SaturatingCast, StrictCast, UnwrappedCast, WrappingCast,
 };
 pub use fixed::{FromFixed, ToFixed};
-pub use floored::{Floored, floor_into, reformat};
+pub use floored::{Floored, floor_into, reformat, reformat_signed};
 pub use lossless::{LosslessTryFrom, LossyFrom, lossless_from};
 pub use num::{Num, NumTarget};
 pub use order::compare;

@@ -6,6 +6,7 @@
 ghost use Rattle.std.specs.Prelude.{◌≡◌, ◌+◌, ◌*◌, ◌^◌, ◌<◌, ◌≤◌, ◌↔◌, ℤ, IsTrue, IsOk, IfOk, IfErr, IsNone, IfSome, drop, length};
 ghost use Rattle.fixed_bits.specs.Formats.{IsFormat};
 ghost use Rattle.fixed_bits.specs.Images.{IsImage};
+ghost use Rattle.fixed_bits.specs.Numbers.{IsNumber};
 ghost use Rattle.fixed_bits.specs.Ranges.{IsInRange, IsOutOfRange, IsWide};
 ghost use Rattle.fixed_bits.specs.declared.mode.ReadMode.TheVariants.{NearestEven};
 ghost use Rattle.fixed_numeral.specs.Answer.{IsReadOrRefused};
@@ -19,14 +20,13 @@ ghost use Rattle.fixed_read.specs.Inner.Directions.{direction};
 ghost use Rattle.fixed_numeral.specs.PartNumbers.{IsCompactNumeral, IsShortDecimal};
 ghost use Rattle.fixed_numeral.specs.Scanned.{IsScanned};
 ghost use Rattle.fixed_numeral.specs.declared.radix.Radix.TheVariants.{Dec};
-ghost use Rattle.fixed_read.specs.Reading.{IsReading, HoldsNumber, with_sign};
+ghost use Rattle.fixed_read.specs.Reading.{IsReading};
 ghost use Rattle.fixed_read.specs.Inner.Rounding.{IsMagnitude, IsSplitNumeral};
 
 use crate::direction::direction_of;
 use crate::magnitude::{Ulps, magnitude};
-use crate::range::{greatest_magnitude, is_above, nearer_end, with_sign, wrapping_image};
 use crate::short_numeral::{compact_ulps, short_ulps, ulps_of_short_decimal, ulps_of_wide_decimal};
-use fixed_bits::{Format, Policy, ReadMode};
+use fixed_bits::{Format, Number, Policy, ReadMode};
 use fixed_numeral::{
     CompactNumeral, ParseFixedError, Radix, Scanned, ShortDecimal, ShortNumeral, WideDecimal,
     compact_numeral, ending_decimal, ending_numeral, scan, scan_lit, short_decimal, short_numeral,
@@ -41,9 +41,7 @@ use std::sync::ledger::{Blank, Ledger};
 #[derive(Clone, Copy, Debug, PartialEq, Eq)]
 pub struct ReadNumber {
     format: Format,
-    low: u64,
-    negative: bool,
-    has_high_bits: bool,
+    number: Number,
     exact: bool,
 }
 
@@ -55,25 +53,33 @@ impl ReadNumber {
         self.format
     }
 
+    /// The number, in ulps: negative where the numeral has a minus, also where it is 0.
+    #[inline(always)]
+    pub fn number(&self) -> Number
+        ensures { result ≡ self.now.number }
+    {
+        self.number
+    }
+
     /// Whether the numeral has a minus, also where the number is 0.
     pub fn is_negative(&self) -> bool
-        ensures { result ≡ self.now.negative }
+        ensures { result ≡ self.now.number.negative }
     {
-        self.negative
+        self.number.negative
     }
 
     /// The lowest 64 bits of the magnitude in ulps.
     pub fn magnitude(&self) -> u64
-        ensures { result ≡ self.now.low }
+        ensures { result ≡ self.now.number.low }
     {
-        self.low
+        self.number.low
     }
 
     /// Whether the magnitude has more than 64 bits.
     pub fn has_high_bits(&self) -> bool
-        ensures { result ≡ self.now.has_high_bits }
+        ensures { result ≡ self.now.number.has_high_bits }
     {
-        self.has_high_bits
+        self.number.has_high_bits
     }
 
     /// Whether the numeral was a whole number of ulps, so that nothing was rounded.
@@ -83,49 +89,23 @@ impl ReadNumber {
         self.exact
     }
 
-    /// The number that the magnitude's lowest 64 bits and the sign make: the whole number where there are no more bits.
-    pub fn low_number(&self) -> i128
-        ensures number { result ≡ with_sign self.now.negative self.now.low }
-    {
-        with_sign(self.negative, self.low)
-    }
-
     /// Whether the number is out of the format's range.
     pub fn is_out_of_range(&self) -> bool
-        ensures range { (v : ℤ) → HoldsNumber self.now v → IsTrue result ↔ IsOutOfRange self.now.format.signed self.now.format.width v }
+        ensures range { (v : ℤ) → IsNumber self.now.number v → IsTrue result ↔ IsOutOfRange self.now.format.signed self.now.format.width v }
         ensures valid { IsFormat self.now.format.width self.now.format.frac }
     {
-        let limit = greatest_magnitude(self.format, self.negative);
-        is_above(self.has_high_bits, self.low, limit)
+        self.number.is_out_of_range(self.format)
     }
 
     /// The image of the number in the format: the number itself where it is in range. `None` exactly where it is out of
     /// range and the policy is `Checked`.
     pub fn image(&self, policy: Policy) -> Option<i128>
-        ensures image { (v : ℤ) → HoldsNumber self.now v → IfSome result (λ c. IsImage policy self.now.format.signed self.now.format.width v c) }
-        ensures none { (v : ℤ) → HoldsNumber self.now v → IsNone result ↔ ((policy ≡ Policy.Checked) × IsOutOfRange self.now.format.signed self.now.format.width v) }
+        ensures image { (v : ℤ) → IsNumber self.now.number v → IfSome result (λ c. IsImage policy self.now.format.signed self.now.format.width v c) }
+        ensures none { (v : ℤ) → IsNumber self.now.number v → IsNone result ↔ ((policy ≡ Policy.Checked) × IsOutOfRange self.now.format.signed self.now.format.width v) }
         ensures range { IfSome result (λ c. IsInRange self.now.format.signed self.now.format.width c) }
         ensures wide { IfSome result IsWide }
     {
-        if self.is_out_of_range() {
-            self.image_from_outside(policy)
-        } else {
-            Some(self.low_number())
-        }
-    }
-
-    /// The image of a number that is out of the format's range.
-    fn image_from_outside(&self, policy: Policy) -> Option<i128>
-        ensures image { (v : ℤ) → HoldsNumber self.now v → IsOutOfRange self.now.format.signed self.now.format.width v → IfSome result (λ c. IsImage policy self.now.format.signed self.now.format.width v c) }
-        ensures none { IsNone result ↔ (policy ≡ Policy.Checked) }
-        ensures range { IfSome result (λ c. IsInRange self.now.format.signed self.now.format.width c) }
-        ensures wide { IfSome result IsWide }
-    {
-        match policy {
-            Policy::Checked => None,
-            Policy::Saturating => Some(nearer_end(self.format, self.negative)),
-            Policy::Wrapping => wrapping_image(self.format, self.low_number()),
-        }
+        self.number.image(self.format, policy).admitted(policy)
     }
 }
 
@@ -162,9 +142,11 @@ fn number_from(format: Format, negative: bool, ulps: Ulps) -> ReadNumber
 {
     ReadNumber {
         format,
-        low: ulps.low,
-        negative,
-        has_high_bits: ulps.has_high_bits,
+        number: Number {
+            negative,
+            low: ulps.low,
+            has_high_bits: ulps.has_high_bits,
+        },
         exact: ulps.is_exact,
     }
 }
@@ -544,9 +526,11 @@ fn copy_of(found: &ReadNumber) -> ReadNumber
 {
     ReadNumber {
         format: found.format,
-        low: found.low,
-        negative: found.negative,
-        has_high_bits: found.has_high_bits,
+        number: Number {
+            negative: found.number.negative,
+            low: found.number.low,
+            has_high_bits: found.number.has_high_bits,
+        },
         exact: found.exact,
     }
 }

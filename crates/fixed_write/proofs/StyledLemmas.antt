@@ -16,13 +16,10 @@ use Rattle.fixed_write.specs.declared.style.Style.{Style}
 use Rattle.fixed_write.specs.Styled.{base_of, is_upper, IsBody, IsPointBody, IsStyledText, sign_and_prefix, padded_text}
 use Rattle.fixed_write.specs.Inner.Figures.{HasBody, HasExponentBody}
 use Rattle.fixed_write.specs.Inner.Styling.{AppendsBody, IsPointNotation}
+use Rattle.fixed_bits.proofs.Public.{not_negative}
 use Rattle.fixed_write.proofs.DigitLemmas.{last_digits_joined, last_digits_suc, last_digits_none, parts_are, fraction_some}
 
 -- ---- the shortest text has no sign
-not_negative : (c : ℕ) → is_negative (pos c) ≡ false
-not_negative zero = refl
-not_negative (suc c) = grind arith
-
 decimal_ten : (c n k : ℕ) → decimal_text (is_negative (pos c)) n k ≡ point_text 10 false k n
 unfolding decimal_text
 decimal_ten c n k = rw (not_negative c) refl
