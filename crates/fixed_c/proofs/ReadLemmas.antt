@@ -9,14 +9,15 @@ use Rattle.fixed_bits.specs.declared.mode.ReadMode.{ReadMode}
 use Rattle.fixed_numeral.specs.Numeral.{HasNumeral, IsNumeral, Parts}
 use Rattle.fixed_numeral.specs.declared.error.ParseErrorKind.TheVariants.{Overflow}
 use Rattle.fixed_numeral.specs.declared.radix.Radix.{Radix}
-use Rattle.fixed_read.specs.Reading.{HoldsNumber, IsReading, IsReadNumber}
+use Rattle.fixed_bits.specs.Numbers.{IsNumber}
+use Rattle.fixed_read.specs.Reading.{IsReading, IsReadNumber}
 use Rattle.fixed_read.specs.declared.read_number.ReadNumber.{ReadNumber}
 use Rattle.fixed_c.specs.Numbers.{flag_of, has_bits}
 use Rattle.fixed_c.specs.Read.{IsNotRead, IsReadAs}
 
 -- what holds of each number that a reading may stand for
 abbrev OfNumber : ReadNumber → (FormatParts → ℤ → Type 0) → Type 0
-OfNumber found P = (v : ℤ) → HoldsNumber found v → P found.format v
+OfNumber found P = (v : ℤ) → IsNumber found.number v → P found.format v
 
 pub read_as : (text : List ℕ) (f : FormatParts) (bits : ℤ) (flag : ℕ) (r : Radix) (p : Policy) (m : ReadMode) (found : ReadNumber) (image : ℤ) (out : Bool)
     → IsNumeral r text → ((q : Parts) → HasNumeral r text q → IsReading m r q found) → found.format ≡ f

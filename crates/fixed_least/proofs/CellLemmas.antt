@@ -9,7 +9,7 @@ use Rattle.std.proofs.lemmas.List.{get_or-set_other, get_or-set_same}
 use Rattle.std.proofs.lemmas.Nat.{pow-add}
 use Rattle.fixed_bits.specs.Formats.{FormatParts, IsFormat}
 use Rattle.fixed_bits.specs.Ranges.{IsInRange, IsWidth}
-use Rattle.fixed_read.specs.Reading.{with_sign}
+use Rattle.fixed_bits.specs.Numbers.{with_sign}
 use Rattle.fixed_least.specs.Inner.Cells.{AreLiving, AreNoted, IsLiving, IsNoted, cell, cell_of, kind_format, kind_of, kind_signed, kind_width}
 use Rattle.fixed_least.specs.Inner.Exact.{HasUlps}
 use Rattle.fixed_least.specs.Inner.Valued.{HasValue}

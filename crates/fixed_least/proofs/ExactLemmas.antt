@@ -13,7 +13,8 @@ use Rattle.fixed_numeral.specs.Numeral.{Parts, is_minus}
 use Rattle.fixed_numeral.specs.Value.{magnitude}
 use Rattle.fixed_numeral.specs.declared.radix.Radix.{Radix}
 use Rattle.fixed_numeral.proofs.Public.{magnitude_pos}
-use Rattle.fixed_read.specs.Reading.{IsReading, IsWholeUlps, with_sign}
+use Rattle.fixed_bits.specs.Numbers.{with_sign}
+use Rattle.fixed_read.specs.Reading.{IsReading, IsWholeUlps}
 use Rattle.fixed_read.specs.declared.read_number.ReadNumber.{ReadNumber}
 use Rattle.fixed_least.specs.Holding.{Holds}
 use Rattle.fixed_least.specs.Inner.Valued.{IsValueOf}

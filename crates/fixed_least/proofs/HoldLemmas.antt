@@ -3,7 +3,7 @@ use Rattle.std.proofs.Common.{◌≡◌, ℕ, ◌-◌, ◌*◌, ◌/◌, ◌^◌
 use Rattle.std.proofs.Math.Nat.{mul-div_cancel}
 use Rattle.fixed_bits.specs.Formats.{FormatParts}
 use Rattle.fixed_bits.specs.Ranges.{IsInRange}
-use Rattle.fixed_read.specs.Reading.{with_sign}
+use Rattle.fixed_bits.specs.Numbers.{with_sign}
 use Rattle.fixed_least.specs.Inner.Exact.{HasUlps}
 use Rattle.fixed_least.specs.Lemmas.HoldingLemmas.{cancel}
 

@@ -2,7 +2,7 @@
 
 ghost use Rattle.std.specs.Prelude.{◌≡◌, ◌↔◌, ◌≤◌, ◌<◌, ◌*◌, ◌/◌, ◌^◌, IsTrue, ℕ, MatchOption, Option};
 ghost use Rattle.fixed_bits.specs.Ranges.{IsInRange};
-ghost use Rattle.fixed_read.specs.Reading.{with_sign};
+ghost use Rattle.fixed_bits.specs.Numbers.{with_sign};
 ghost use Rattle.fixed_least.specs.Inner.Exact.{HasUlps};
 ghost use Rattle.fixed_least.specs.Inner.Valued.{HasValue};
 

@@ -2,7 +2,6 @@
 use Rattle.std.specs.Prelude.{◌≡◌, ℕ, ◌*◌, ◌^◌, ◌↔◌, ℤ, Bool, IsTrue}
 use Rattle.fixed_bits.specs.Images.{IsImage, IsWrapped}
 use Rattle.fixed_bits.specs.Numbers.{IsNumber}
-pub use Rattle.fixed_bits.specs.Numbers.{with_sign}
 use Rattle.fixed_bits.specs.Ranges.{IsInRange, IsOutOfRange}
 use Rattle.fixed_bits.specs.Rounded.{IsRounded}
 use Rattle.fixed_bits.specs.declared.format.Policy.{Policy}
@@ -25,10 +24,6 @@ IsMultipleOf d m = (k : ℕ) × (m ≡ k * d)
 -- the numeral is a whole number of ulps of 2^-f
 abbrev pub IsWholeUlps : Radix → Parts → ℕ → Type 0
 IsWholeUlps r p f = IsMultipleOf (magnitude r p).den ((magnitude r p).num * 2 ^ f)
-
--- the answer holds v
-abbrev pub HoldsNumber : ReadNumber → ℤ → Type 0
-HoldsNumber found v = IsNumber found.number v
 
 -- the answer holds the read number of a numeral with these parts, and says whether the numeral was a whole number of ulps
 pub record IsReading (mode : ReadMode) (r : Radix) (p : Parts) (found : ReadNumber) : Type 0 where
