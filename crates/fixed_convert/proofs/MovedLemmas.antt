@@ -22,10 +22,6 @@ grown_is b f g l = rw (grown b f g l) ((down_one b f g (down b f g)).1 refl)
 pub shortened_is : (b : ℤ) (f g : ℕ) (d : ℤ) → g ≤ f → IsDown b (f - g) 0 d → IsDown b f g (shifted d 0)
 shortened_is b f g d l h = rw (shortened b f g d l h) ((down_one b f g (down b f g)).1 refl)
 
--- what is moved down fits where the one number that it is does
-pub moved_fits : (s : Bool) (n : ℕ) (b : ℤ) (f g : ℕ) (d : ℤ) → IsDown b f g d → IsInRange s n d → IsInRange s n (down b f g)
-moved_fits s n b f g d h i = rw (sym ((down_one b f g d).0 h)) i
-
 -- ---- laws
 pub finer : FinerIsExact
 finer b f g l =

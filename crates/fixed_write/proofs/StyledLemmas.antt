@@ -201,10 +201,3 @@ lower_body precision c g more digits tail h = record { body = h.body; is_body = 
 
 pub upper_body : (precision : Option ℕ) (c g zeros : ℕ) (digits tail : List ℕ) → HasExponentBody UpperExp precision c g digits zeros tail → HasBody UpperExp precision c g digits zeros tail
 upper_body precision c g more digits tail h = record { body = h.body; is_body = h.is_body; text = h.text }
-
-pub styled_of : (style : Style) (v : ℤ) (m g zeros : ℕ) (before digits tail text : List ℕ) → m ≡ unsigned_abs v → before ≡ sign_and_prefix style (is_negative v) → HasBody style.notation style.precision m g digits zeros tail → text ≡ padded_text style before (digits ++ (replicate zeros zero_digit ++ tail)) → IsStyledText style v g text
-styled_of style v m g more before digits tail text em eb h et = record {
-  body = h.body;
-  is_body = rw em at h.is_body;
-  text_is = et ∙ rw (h.text, eb) refl;
-}
