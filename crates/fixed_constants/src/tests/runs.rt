@@ -1,20 +1,15 @@
 //! Whole runs over bytes in memory.
 
-use crate::tests::support::Call;
+use crate::tests::support::Forms;
 use line_engine::{MemoryRun, Status};
 use std::alloc::{AllocError, Global};
 use std::process::Abort;
 use std::test::Fail;
 
 /// Asserts that what the run writes is as the case says, and that it ends so.
-fn assert_run(
-    rt: &impl Abort,
-    alloc: Global,
-    call: Call,
-    case: &MemoryRun,
-) -> Result<(), AllocError> {
+fn assert_run(rt: &impl Abort, alloc: Global, case: &MemoryRun) -> Result<(), AllocError> {
     let input = case.input.as_bytes().to_vec(alloc)?;
-    let (status, written) = case.of(alloc, &call, input)?;
+    let (status, written) = case.of(alloc, &Forms, input)?;
     assert_eq!(rt; status, case.status, "at {}", case.input);
     assert_eq!(rt;
         written.as_slice(),
@@ -41,12 +36,12 @@ fn files_are_written_as_worked_out(rt: HostRuntime) -> Result<(), Fail> {
         MemoryRun::unfailing(
             &["9"],
             "A = 1 U8F0\n",
-            "usage: constants_tool\n",
+            "usage: constants_tool [c [GUARD] | rust]\n",
             Status::Usage,
         ),
     ];
     for case in &cases {
-        assert_run(&rt, rt.alloc(), Call::Constants, case)?;
+        assert_run(&rt, rt.alloc(), case)?;
     }
     Ok(())
 }
@@ -80,7 +75,7 @@ fn each_fault_is_reported_with_its_line(rt: HostRuntime) -> Result<(), Fail> {
         ),
     ];
     for case in &cases {
-        assert_run(&rt, rt.alloc(), Call::Constants, case)?;
+        assert_run(&rt, rt.alloc(), case)?;
     }
     Ok(())
 }
@@ -110,7 +105,7 @@ fn files_are_written_in_each_form(rt: HostRuntime) -> Result<(), Fail> {
         MemoryRun::unfailing(
             &["rust"],
             "A = 0x1.c I4F4\nint = -0.5 I0F64\n",
-            "pub const A: FixedI8<4> = FixedI8::from_bits(0x1c);\npub const int: FixedI64<64> = FixedI64::from_bits(-0x8000000000000000);\n",
+            "pub const A: fixed::types::I4F4 = fixed::types::I4F4::from_bits(0x1c);\npub const int: fixed::types::I0F64 = fixed::types::I0F64::from_bits(-0x8000000000000000);\n",
             Status::Done,
         ),
         MemoryRun::unfailing(
@@ -127,7 +122,7 @@ fn files_are_written_in_each_form(rt: HostRuntime) -> Result<(), Fail> {
         ),
     ];
     for case in &cases {
-        assert_run(&rt, rt.alloc(), Call::Forms, case)?;
+        assert_run(&rt, rt.alloc(), case)?;
     }
     Ok(())
 }
@@ -140,6 +135,19 @@ fn names_that_a_form_reserves_are_reported(rt: HostRuntime) -> Result<(), Fail> 
     let cases = [
         MemoryRun::unfailing(c, "B = 1 U8F0\nwhile = 1 U8F0\nD =\n", bad, Status::Faults),
         MemoryRun::unfailing(c, "B = 1 U8F0\nINT8_C == 1 U8F0\n", bad, Status::Faults),
+        MemoryRun::unfailing(c, "B = 1 U8F0\nUINTMAX_C = 1 U8F0\n", bad, Status::Faults),
+        MemoryRun::unfailing(
+            c,
+            "INTERVAL_MAX = 1 U8F0\nINT8_MAX = 1 U8F0\n",
+            bad,
+            Status::Faults,
+        ),
+        MemoryRun::unfailing(
+            c,
+            "B = 1 U8F0\nuint_fast64_t = 1 U8F0\n",
+            bad,
+            Status::Faults,
+        ),
         MemoryRun::unfailing(c, "B = 1 U8F0\nA = 1 U8F0\n", bad, Status::Faults),
         MemoryRun::unfailing(
             c,
@@ -157,7 +165,7 @@ fn names_that_a_form_reserves_are_reported(rt: HostRuntime) -> Result<(), Fail> 
         MemoryRun::unfailing(rust, "B = 1 U8F0\nyield = 1 U8F0\n", bad, Status::Faults),
     ];
     for case in &cases {
-        assert_run(&rt, rt.alloc(), Call::Forms, case)?;
+        assert_run(&rt, rt.alloc(), case)?;
     }
     Ok(())
 }
@@ -172,16 +180,17 @@ fn a_failing_read_and_a_failing_write_end_the_run(rt: HostRuntime) -> Result<(),
         failing_write: 0,
         ..MemoryRun::unfailing(&[], "A = 1 U8F0\n", "", Status::WriteFault)
     };
-    assert_run(&rt, rt.alloc(), Call::Constants, &read)?;
-    assert_run(&rt, rt.alloc(), Call::Constants, &write)?;
+    assert_run(&rt, rt.alloc(), &read)?;
+    assert_run(&rt, rt.alloc(), &write)?;
     Ok(())
 }
 
-/// Where an allocation fails, the run ends as `NoMemory` and has written nothing; in any other case its output is whole.
+/// Where an allocation fails, the run ends as `NoMemory` and has written nothing; in any other case its output is
+/// whole.
 #[test]
 fn refused_memory_writes_nothing(rt: HostRuntime) {
     let wanted =
-        "pub const A: FixedI8<4> = FixedI8::from_bits(0x1c);\npub const B: FixedU8<0> = FixedU8::from_bits(0x2);\n";
+        "pub const A: fixed::types::I4F4 = fixed::types::I4F4::from_bits(0x1c);\npub const B: fixed::types::U8F0 = fixed::types::U8F0::from_bits(0x2);\n";
     let case = MemoryRun::unfailing(
         &["rust"],
         "A = 1.75 I4F4\nB = 2 U8F0\n",
@@ -191,7 +200,7 @@ fn refused_memory_writes_nothing(rt: HostRuntime) {
     let Ok(input) = case.input.as_bytes().to_vec(rt.alloc()) else {
         return;
     };
-    match case.of(rt.alloc(), &Call::Forms, input) {
+    match case.of(rt.alloc(), &Forms, input) {
         Ok((Status::NoMemory, written)) => assert!(rt; written.is_empty()),
         Ok((status, written)) => {
             assert_eq!(rt; status, Status::Done);
@@ -208,7 +217,7 @@ fn a_longer_input_is_reported(rt: HostRuntime) -> Result<(), Fail> {
         input.push(b'#')?;
     }
     let case = MemoryRun::unfailing(&[], "", "", Status::TooLong);
-    let (status, written) = case.of(rt.alloc(), &Call::Constants, input)?;
+    let (status, written) = case.of(rt.alloc(), &Forms, input)?;
     assert_eq!(rt; status, Status::TooLong);
     assert!(rt; written.is_empty());
     Ok(())

@@ -1,19 +1,16 @@
-//! What the tests share: the programs of this crate, run over a source and a sink in memory.
+//! What the tests share: the program, run over a source and a sink in memory.
 
-use crate::{run_constants, run_forms};
+use crate::run_forms;
 use fixed_steps::Steps;
 use line_engine::{MemoryProgram, MemorySink, MemorySource, Status};
 use std::alloc::Global;
 use std::sync::ledger::Ledger;
 
-/// The programs of this crate.
+/// The program.
 #[derive(Clone, Copy, Debug, PartialEq, Eq)]
-pub enum Call {
-    Constants,
-    Forms,
-}
+pub struct Forms;
 
-impl MemoryProgram for Call {
+impl MemoryProgram for Forms {
     fn run<L: Ledger>(
         &self,
         alloc: Global,
@@ -22,9 +19,6 @@ impl MemoryProgram for Call {
         sink: &mut MemorySink,
         steps: &mut Steps<L>,
     ) -> Status {
-        match self {
-            Call::Constants => run_constants(alloc, args, source, sink, steps),
-            Call::Forms => run_forms(alloc, args, source, sink, steps),
-        }
+        run_forms(alloc, args, source, sink, steps)
     }
 }

@@ -1,5 +1,5 @@
-use Rattle.fixed_constants.proofs.FormProgramLemmas.{form_named, guard_named}
-use Rattle.fixed_constants.proofs.form_program.run_forms.Goals as goal
+use Rattle.fixed_constants.proofs.ProgramLemmas.{form_named, guard_named}
+use Rattle.fixed_constants.proofs.program.run_forms.Goals as goal
 
 pub returns-in-Some-clause-output : goal.returns-in-Some-clause-output
 returns-in-Some-clause-output g c f guard names =

@@ -3,7 +3,7 @@ use Rattle.std.specs.Prelude.{String, codes}
 use Rattle.std.proofs.Common.{◌≡◌, ◌<◌, ◌≤◌, ℕ, List, [], ◌∷◌, length, get_or, sym, ap, subst, arith, ◌∙◌, inl, inr}
 use Rattle.std.specs.String.{string_bytes}
 use Rattle.std.specs.declared.alloc.Global.{Global}
-use Rattle.fixed_constants.specs.FormProgram.{NamesForm, NamesLanguage}
+use Rattle.fixed_constants.specs.Program.{NamesForm, NamesLanguage}
 use Rattle.fixed_constants.specs.declared.form.Form.{Form}
 
 language_one : (word : List ℕ) (f h : Form) → NamesLanguage word f → NamesLanguage word h → f ≡ h
