@@ -1,4 +1,5 @@
-//! Tests of what no clause says: worked lines, whole runs with a failing read and write, and enclosures beside a search.
+//! Tests of what no clause says: worked lines, whole runs with a failing read and write, and enclosures beside a
+//! search.
 
 mod enclosures;
 mod runs;

@@ -28,7 +28,7 @@ fn enclose_over<L: Ledger>(
     }
 }
 
-/// The two ends of a numeral's enclosure; `None` where it is refused, or the format is none.
+/// The two ends of a numeral's enclosure; `None` where it is refused, or the format is invalid.
 pub fn ends_of(
     numeral: &[u8],
     radix: Radix,

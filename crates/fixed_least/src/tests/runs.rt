@@ -71,7 +71,8 @@ fn a_failing_read_and_a_failing_write_end_the_run(rt: HostRuntime) -> Result<(),
     Ok(())
 }
 
-/// Where an allocation fails, the run ends as `NoMemory` and has written nothing; in any other case its output is whole.
+/// Where an allocation fails, the run ends as `NoMemory` and has written nothing; in any other case its output is
+/// whole.
 #[test]
 fn refused_memory_writes_nothing(rt: HostRuntime) {
     let case = MemoryRun::unfailing(&["10"], "-1\n0.25\n", NINE, Status::Done);

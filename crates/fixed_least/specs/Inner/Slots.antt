@@ -1,4 +1,5 @@
--- The first places whose numerals formats do not hold, in cells: 65 for each of the eight pairs of a width and a sign rule.
+-- The first places whose numerals formats do not hold, in slots: 65 for each of the eight pairs of a width and a sign
+-- rule.
 use Rattle.std.specs.Prelude.{◌≡◌, ◌⊎◌, ◌↔◌, ◌+◌, ◌*◌, ◌%◌, ◌<◌, ◌≤◌, ◌==◌, ℕ, Bool, true, false, List, Option, get_or, if◌then◌else◌, nat_lt}
 use Rattle.fixed_bits.specs.Formats.{FormatParts, IsFormat}
 use Rattle.fixed_least.specs.Inner.Valued.{HasValue}
@@ -23,29 +24,31 @@ kind_of s n = (if n == 8 then 0 else (if n == 16 then 2 else (if n == 32 then 4 
 abbrev pub kind_format : ℕ → ℕ → FormatParts
 kind_format j k = record { signed = kind_signed j; width = kind_width j; frac = k }
 
--- the cell of a kind and a fraction length, and of a format
-abbrev pub cell : ℕ → ℕ → ℕ
-cell j k = j * 65 + k
+-- the slot of a kind and a fraction length, and of a format
+abbrev pub slot : ℕ → ℕ → ℕ
+slot j k = j * 65 + k
 
-abbrev pub cell_of : FormatParts → ℕ
-cell_of f = cell (kind_of f.signed f.width) f.frac
+abbrev pub slot_of : FormatParts → ℕ
+slot_of f = slot (kind_of f.signed f.width) f.frac
 
 -- the formats of a kind without a place are those with a fraction length from `low` on and below `high`
 abbrev pub IsLiving : ℕ → ℕ → ℕ → List ℕ → Type 0
-IsLiving j low high cells = (k : ℕ) → k ≤ kind_width j → ((low ≤ k) × (k < high)) ↔ (get_or cells (cell j k) 0 ≡ 0)
+IsLiving j low high slots = (k : ℕ) → k ≤ kind_width j → ((low ≤ k) × (k < high)) ↔ (get_or slots (slot j k) 0 ≡ 0)
 
 -- the formats without a place are such an interval in each kind
-pub record AreLiving (cells lows highs : List ℕ) : Type 0 where
+pub record AreLiving (slots lows highs : List ℕ) : Type 0 where
   pub order : (j : ℕ) → j < 8 → get_or lows j 0 ≤ get_or highs j 0
   pub most : (j : ℕ) → j < 8 → get_or highs j 0 ≤ kind_width j + 1
-  pub living : (j : ℕ) → j < 8 → IsLiving j (get_or lows j 0) (get_or highs j 0) cells
+  pub living : (j : ℕ) → j < 8 → IsLiving j (get_or lows j 0) (get_or highs j 0) slots
 
--- what a value at a place leaves of a format's cell: the old place where there is one, else none where the format has the value, else this place
+-- what a value at a place leaves of a format's slot: the old place where there is one, else none where the format has
+-- the value, else this place
 abbrev pub IsNoted : FormatParts → Option Exact → ℕ → ℕ → ℕ → Type 0
 IsNoted f value place old new = ((old ≡ 0 → ⊥) × (new ≡ old))
     ⊎ (((old ≡ 0) × HasValue f value × (new ≡ 0))
     ⊎ ((old ≡ 0) × (HasValue f value → ⊥) × (new ≡ place)))
 
--- what a value at a place leaves of the cells of all formats
+-- what a value at a place leaves of the slots of all formats
 abbrev pub AreNoted : Option Exact → ℕ → List ℕ → List ℕ → Type 0
-AreNoted value place old new = (f : FormatParts) → IsFormat f.width f.frac → IsNoted f value place (get_or old (cell_of f) 0) (get_or new (cell_of f) 0)
+AreNoted value place old new = (f : FormatParts) → IsFormat f.width f.frac
+    → IsNoted f value place (get_or old (slot_of f) 0) (get_or new (slot_of f) 0)
