@@ -133,7 +133,8 @@ fn a_failing_read_and_a_failing_write_end_the_run(rt: HostRuntime) -> Result<(),
     Ok(())
 }
 
-/// Where an allocation fails, the run ends as `NoMemory` and has written nothing; in any other case its output is whole.
+/// Where an allocation fails, the run ends as `NoMemory` and has written nothing; in any other case its output is
+/// whole.
 #[test]
 fn refused_memory_writes_nothing(rt: HostRuntime) {
     let wanted = "                       1 U8F0\n                       2 U8F0\n";

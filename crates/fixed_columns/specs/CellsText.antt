@@ -1,4 +1,4 @@
--- The text of a column.
+-- The text of cells, a line each.
 use Rattle.std.specs.Prelude.{◌≡◌, ℕ, List, [], ◌∷◌, ◌++◌}
 use Rattle.fixed_respell.specs.LineWords.{space}
 use Rattle.fixed_respell.specs.Words.{format_text}
@@ -19,6 +19,7 @@ pub record AppendsRow (style : Style) (c : CellParts) (old new : List ℕ) : Typ
   pub appended : new ≡ old ++ (row ++ 10 ∷ [])
 
 -- the rows of all cells in order, each with a newline
-abbrev pub IsColumnText : Style → List CellParts → List ℕ → Type 0
-IsColumnText style [] text = text ≡ []
-IsColumnText style (c ∷ cells) text = (row : List ℕ) × (rest : List ℕ) × IsRow style c row × (text ≡ row ++ 10 ∷ rest) × IsColumnText style cells rest
+abbrev pub IsCellsText : Style → List CellParts → List ℕ → Type 0
+IsCellsText style [] text = text ≡ []
+IsCellsText style (c ∷ cells) text = (row : List ℕ) × (rest : List ℕ) × IsRow style c row × (text ≡ row ++ 10 ∷ rest)
+    × IsCellsText style cells rest

@@ -1,26 +1,26 @@
-//! Writing cells in one column.
+//! Writing cells, a line each.
 
 ghost use Rattle.std.specs.Prelude.{◌≡◌, ◌++◌, ◌∷◌, [], IfOk, OnOk};
 ghost use Rattle.fixed_respell.specs.LineWords.{space};
 ghost use Rattle.fixed_respell.specs.Words.{format_text};
-ghost use Rattle.fixed_columns.specs.Column.{AppendsRow, IsColumnText};
+ghost use Rattle.fixed_columns.specs.CellsText.{AppendsRow, IsCellsText};
 
 use crate::cell::Cell;
 use crate::cells::Cells;
 use fixed_bits::Format;
 use fixed_respell::format_name;
 use fixed_write::{Style, to_text};
-use text_buffer::NoMemory;
 use std::alloc::{AllocError, Global};
 use std::marker::Model;
+use text_buffer::NoMemory;
 
-/// The text of a column. It is seen as the list of its bytes.
+/// The text of cells. It is seen as the list of its bytes.
 #[derive(Drop)]
-pub struct ColumnText {
+pub struct CellsText {
     bytes: Vec<u8>,
 }
 
-impl Model for ColumnText {
+impl Model for CellsText {
     ghost use Rattle.std.specs.Prelude.{List, ℕ};
 
     ghost Value = { List ℕ };
@@ -28,7 +28,7 @@ impl Model for ColumnText {
     ghost view = { λ t. t.bytes.items };
 }
 
-impl ColumnText {
+impl CellsText {
     /// The bytes.
     pub fn as_bytes(&self) -> &[u8]
         ensures { result.now ≡ self.now }
@@ -66,20 +66,20 @@ fn push_cell(alloc: Global, text: &mut Vec<u8>, cell: Cell, style: &Style) -> Re
     }
 }
 
-/// The text of a column: for each cell a line of its value in the style, a space and its format.
+/// The text of cells: for each a line of its value in the style, a space and its format.
 ///
 /// # Errors
 ///
 /// It may find no memory.
-pub fn write_cells(alloc: Global, cells: &Cells, style: &Style) -> Result<ColumnText, NoMemory>
-    ensures { IfOk result (λ text. IsColumnText style.now cells.now text) }
+pub fn write_cells(alloc: Global, cells: &Cells, style: &Style) -> Result<CellsText, NoMemory>
+    ensures { IfOk result (λ text. IsCellsText style.now cells.now text) }
 {
     let mut bytes = Vec::new(alloc);
     for i in 0..cells.len() {
         let Some(cell) = cells.get(i) else {
-            return Ok(ColumnText { bytes });
+            return Ok(CellsText { bytes });
         };
         push_cell(alloc, &mut bytes, cell, style)?;
     }
-    Ok(ColumnText { bytes })
+    Ok(CellsText { bytes })
 }
