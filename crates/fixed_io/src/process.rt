@@ -11,7 +11,7 @@ use std::io::ErrorKind;
 use std::rt::Env;
 use std::{env, io};
 
-/// The arguments, or why there are none: want of memory, or else one that is no text.
+/// The arguments, or why there are none: want of memory, or else one that is not text.
 fn args_or_why(args: io::Result<Vec<String>>) -> Result<Vec<String>, NoArgs>
     ensures { MatchResult args (λ all. result ≡ Ok all) (λ error. (why : NoArgs) × (result ≡ Err why)
         × IsWhy (error_kind error) why) }

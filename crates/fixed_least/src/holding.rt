@@ -38,7 +38,7 @@ fn shorter_ulps(bits: u128, shift: u32) -> u128
     bits << shift
 }
 
-/// How many longer ulps a number of ulps is; `None` where it is no whole number of them.
+/// How many longer ulps a number of ulps is; `None` where it is not a whole number of them.
 fn whole_ulps(ulps: u128, shift: u32) -> Option<u128>
     requires { shift ≤ 64 }
     ensures { MatchOption result ((k : ℕ) → ¬ (ulps ≡ k * 2 ^ shift)) (λ k. ulps ≡ k * 2 ^ shift) }

@@ -18,13 +18,13 @@ use std::sync::ledger::Ledger;
 pub enum NoArgs {
     /// There was no memory for them.
     NoMemory,
-    /// One of them is no text, as one that isn't UTF-8.
+    /// One of them is not UTF-8.
     NotText,
 }
 
 /// A program that is run by its arguments, the words after its name, over a source and a sink.
 pub trait Program<L: Ledger> {
-    /// The arguments are none that the program knows.
+    /// The program does not know these arguments.
     ghost IsUsageFault: { Self → List (String Global) → Type 0 };
 
     /// What is written for such arguments.
@@ -51,7 +51,7 @@ pub trait Program<L: Ledger> {
             (K.failures sink.old) (K.failures sink.new) result }
         ensures untouched { IsUsageFault self.now args.now → source.new ≡ source.old };
 
-    /// One empty argument is none that the program knows.
+    /// The program does not know one empty argument.
     ghost empty_law: { (program : Self) (word : String Global) → string_bytes word ≡ []
         → IsUsageFault program (word ∷ []) };
 }
@@ -59,7 +59,7 @@ pub trait Program<L: Ledger> {
 /// Runs a program by its arguments, and answers the code with which its process ends.
 ///
 /// Where there was no memory for the arguments it ends with the code of `NoMemory`, and nothing is read or written. An
-/// argument that is no text is a usage fault.
+/// argument that is not text is a usage fault.
 pub fn run_program<P: Program<L>, S: Source, K: Sink, L: Ledger>(
     program: &P,
     alloc: Global,
@@ -84,7 +84,7 @@ pub fn run_program<P: Program<L>, S: Source, K: Sink, L: Ledger>(
     ensures no_memory { args ≡ Err NoArgs.NoMemory
         → (result ≡ 5) × (source.new ≡ source.old) × (sink.new ≡ sink.old) × (steps.new ≡ steps.old) }
 
-    // An argument is no text.
+    // An argument is not text.
     ensures not_text { args ≡ Err NoArgs.NotText
         → EndsAs (WritesText (P.usage_line program.now) Status.Usage (K.written sink.old) (K.written sink.new)
         (K.failures sink.old) (K.failures sink.new)) result × (source.new ≡ source.old) }
