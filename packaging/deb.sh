@@ -86,6 +86,8 @@ done
 finish libfixed-dev libdevel "libfixed1 (= $version)" 'fixed-point numbers as text: header and archive' \
   'What is needed to build a program against libfixed: the header, the archive, the manual pages of the calls, and a file for pkg-config.'
 
+. packaging/python-deb.sh
+
 for package in build/deb/*.deb; do
   echo "$package: $(stat -c %s "$package") bytes"
   if command -v lintian >/dev/null 2>&1; then lintian --allow-root --fail-on error --suppress-tags no-symbols-control-file "$package"; else echo "lintian is not on this machine"; fi
