@@ -3,8 +3,8 @@
 
     python.py [--built build|out]
 
-With `--built build` it takes the shared library that `make library` left, and with `--built out` it links one from the archive
-of the gate. What an interpreter or a tool is missing for is named and passed over.
+With `--built build` it takes the shared library that `make library` left, and with `--built out` it links one from the
+archive of the gate. What an interpreter or a tool is missing for is named and passed over.
 """
 import argparse
 import filecmp
@@ -60,15 +60,37 @@ def linked(folder):
     archive = f"{TOP}/crates/fixed_c/out/libfixed_c.a"
     if not os.path.isfile(archive) or not shutil.which("gcc"):
         return None
-    subprocess.run(["gcc", "-shared", "-o", f"{folder}/libfixed.so.1", "-Wl,-soname,libfixed.so.1", "-Wl,--gc-sections",
-                    f"-Wl,--version-script={TOP}/packaging/fixed.map", "-Wl,--whole-archive", archive, "-Wl,--no-whole-archive",
-                    "-nostartfiles", "-lc"], check=True)
+    subprocess.run(
+        [
+            "gcc",
+            "-shared",
+            "-o",
+            f"{folder}/libfixed.so.1",
+            "-Wl,-soname,libfixed.so.1",
+            "-Wl,--gc-sections",
+            f"-Wl,--version-script={TOP}/packaging/fixed.map",
+            "-Wl,--whole-archive",
+            archive,
+            "-Wl,--no-whole-archive",
+            "-nostartfiles",
+            "-lc",
+        ],
+        check=True,
+    )
     return f"{folder}/libfixed.so.1"
 
 
 def check_sources(python, env):
     """The tests and doctests of the sources, with numpy and without, and the types."""
-    tests = ["-q", "-p", "no:cacheprovider", "--doctest-modules", "--doctest-ignore-import-errors", "lomdeqash", "tests"]
+    tests = [
+        "-q",
+        "-p",
+        "no:cacheprovider",
+        "--doctest-modules",
+        "--doctest-ignore-import-errors",
+        "lomdeqash",
+        "tests",
+    ]
     if has(python, "numpy"):
         page = ["--doctest-glob=PYTHON.md", f"{TOP}/docs/PYTHON.md"]
         run([python, "-m", "pytest", *tests, *page], "with numpy", cwd=PACKAGE, env=env)
@@ -77,7 +99,12 @@ def check_sources(python, env):
     run([python, "-c", WITHOUT_NUMPY, *tests], "without numpy", cwd=PACKAGE, env=env)
     if has(python, "mypy", "numpy"):
         with tempfile.TemporaryDirectory() as cache:
-            run([python, "-m", "mypy", "--strict", "--cache-dir", cache, "lomdeqash", "tests"], "mypy --strict", cwd=PACKAGE, env=env)
+            run(
+                [python, "-m", "mypy", "--strict", "--cache-dir", cache, "lomdeqash", "tests"],
+                "mypy --strict",
+                cwd=PACKAGE,
+                env=env,
+            )
     else:
         print("mypy is not on this machine")
 
@@ -99,9 +126,15 @@ def check_wheel(python, library, folder):
     for name, options in (("alone", []), ("beside", ["--system-site-packages"])):
         subprocess.run([python, "-m", "venv", *options, f"{folder}/{name}"], check=True)
         inside = f"{folder}/{name}/bin/python"
-        run([inside, "-m", "pip", "install", "-q", "--no-index", "--no-deps", "--disable-pip-version-check", first], f"installed {name}", env=env)
+        run(
+            [inside, "-m", "pip", "install", "-q", "--no-index", "--no-deps", "--disable-pip-version-check", first],
+            f"installed {name}",
+            env=env,
+        )
         run([inside, "-c", ALONE], f"installed {name}, one number", cwd=folder, env=env)
-    run([inside, "-m", "pytest", "-q", "-p", "no:cacheprovider", "tests"], "the tests of the wheel", cwd=folder, env=env)
+    run(
+        [inside, "-m", "pytest", "-q", "-p", "no:cacheprovider", "tests"], "the tests of the wheel", cwd=folder, env=env
+    )
 
 
 def main():

@@ -6,6 +6,6 @@
 wheel: library
 	packaging/wheel.sh $(VERSION) build/lib/libfixed.so.1 build/dist
 
-# The tests and doctests, the types, and the wheel in a virtual environment of its own, with what of these there is here.
+# The tests and doctests, the types, and the wheel in an environment of its own, with what of these there is here.
 check-python: library
 	python3 .ci/python.py --built build

@@ -1,6 +1,6 @@
 #!/usr/bin/env bash
-# wheel.sh VERSION LIBRARY FOLDER: leaves a wheel of python/ with the shared library inside in a folder. PYTHON names the
-# interpreter that builds it; else it is the first of two that has setuptools, wheel and build.
+# wheel.sh VERSION LIBRARY FOLDER: leaves a wheel of python/ with the shared library inside in a folder. PYTHON names
+# the interpreter that builds it; else it is the first of two that has setuptools, wheel and build.
 set -eu
 cd "$(dirname "$0")/.."
 version=$1 library=$2 folder=$3
@@ -20,6 +20,7 @@ chmod -R u=rwX,go=rX "$source"
 chmod 644 "$source/lomdeqash/libfixed.so.1"
 mkdir -p "$folder"
 # The times of the files in it: the first that a zip file can say.
-SOURCE_DATE_EPOCH=315532800 LOMDEQASH_VERSION=$version "$python" -m build --wheel --no-isolation --outdir "$folder" "$source" >"$source/log" 2>&1 ||
+export SOURCE_DATE_EPOCH=315532800 LOMDEQASH_VERSION="$version"
+"$python" -m build --wheel --no-isolation --outdir "$folder" "$source" >"$source/log" 2>&1 ||
   { cat "$source/log" >&2; exit 1; }
 ls "$folder"/lomdeqash-"$version"-*.whl

@@ -48,8 +48,10 @@ for form in (Format("Q15"), Format("Q7")):
     added = [held - Fraction(wanted) for held, wanted in zip(form.value(bits, Fraction), taps)]
     curves[form.word], errors[form.word] = decibels(form.value(bits, float)), decibels(added)
     bound = sum(map(abs, added))
-    print(f"{form.word + ':':7} {stopped(curves[form.word]):6.1f} dB; the greatest tap {form.text(max(bits))}; "
-          f"the response moves by less than {math.ceil(bound * 10**6) / 10**6}")
+    print(
+        f"{form.word + ':':7} {stopped(curves[form.word]):6.1f} dB; the greatest tap {form.text(max(bits))}; "
+        f"the response moves by less than {math.ceil(bound * 10**6) / 10**6}"
+    )
 
 # %% The picture
 if len(sys.argv) > 1:
@@ -68,7 +70,12 @@ if len(sys.argv) > 1:
         if name in errors:
             below.plot(FREQUENCIES, errors[name], label=name, **style)
     above.set(title="A low-pass filter of 63 taps, and the same quantized", ylabel="response, dB", ylim=(-110, 5))
-    below.set(xlabel="frequency, as a part of the sample rate", ylabel="error of the response, dB", ylim=(-125, -10), xlim=(0, 0.5))
+    below.set(
+        xlabel="frequency, as a part of the sample rate",
+        ylabel="error of the response, dB",
+        ylim=(-125, -10),
+        xlim=(0, 0.5),
+    )
     for axes in (above, below):
         axes.grid(alpha=0.3)
     above.legend(loc="lower left")

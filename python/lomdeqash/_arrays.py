@@ -11,7 +11,7 @@ from numpy.typing import NDArray
 from . import _library
 from ._library import Reading
 from ._errors import Code, FixedError, brief
-from ._options import Errors, mode_code
+from ._options import Errors, reading
 
 if TYPE_CHECKING:
     from ._format import Format, Move
@@ -140,7 +140,7 @@ def read(form: Format, flat: Array, how: Reading, one: Callable[[Any], int], mov
     if kind in "OT":
         return each(flat.tolist(), one, dtype_of(move.target if move else form))
     if kind in "biu":
-        found, codes = whole_numbers(form, flat, how.policy)
+        found, codes = whole_numbers(form, flat, how)
     elif kind in "SU":
         found, codes = read_rows(form, flat, how, text_rows)
     elif kind == "f":
@@ -189,25 +189,19 @@ def float_rows(items: Array) -> Bytes:
     """Floats as numerals in radix 16, exactly: 64 bits times a power of two."""
     is_finite = np.isfinite(items)
     fractions, powers = np.frexp(np.where(is_finite, items, 0).astype(np.promote_types(items.dtype, np.float64)))
-    rows = spelled(np.signbit(items), np.ldexp(np.abs(fractions), 64).astype(np.uint64), powers - 64)
-    rows[~is_finite] = ord(".")
-    return rows
-
-
-def spelled(is_negative: Flags, magnitudes: Array, powers: Any) -> Bytes:
-    """Numerals in radix 16 of whole numbers times powers of two."""
-    rows = np.empty(len(magnitudes), SPELLED)
-    rows["sign"] = np.where(is_negative, b"-", b"+")
-    rows["digits"] = HEX[magnitudes.astype(">u8").view(np.uint8)].view("S16")
-    rows["power"] = POWERS[powers - LEAST_POWER]
+    rows = np.empty(len(items), SPELLED)
+    rows["sign"] = np.where(np.signbit(items), b"-", b"+")
+    rows["digits"] = HEX[np.ldexp(np.abs(fractions), 64).astype(">u8").view(np.uint8)].view("S16")
+    rows["power"] = POWERS[powers - 64 - LEAST_POWER]
+    rows["digits"][~is_finite] = b"not a number"
     return rows.view(np.uint8).reshape(len(rows), -1)
 
 
-def whole_numbers(form: Format, flat: Array, policy: int) -> Found:
+def whole_numbers(form: Format, flat: Array, how: Reading) -> Found:
     """Whole numbers as numerals: they are converted from a format of 64 whole bits."""
     is_signed = flat.dtype.kind == "i"
     words = flat.astype(np.int64 if is_signed else np.uint64).view(np.int64)
-    return convert_rows(words, _library.CFormat(is_signed, 64, 0), form, policy)
+    return convert_rows(words, _library.CFormat(is_signed, 64, 0), form, how)
 
 
 def enclose(form: Format, flat: Array, how: Reading, one: Callable[[Any], Any]) -> tuple[tuple[Array, Array], Codes]:
@@ -215,8 +209,8 @@ def enclose(form: Format, flat: Array, how: Reading, one: Callable[[Any], Any]) 
     if flat.dtype.kind in "OT":
         pairs, codes = each(flat.tolist(), one, np.dtype([("low", dtype_of(form)), ("high", dtype_of(form))]))
         return (pairs["low"].copy(), pairs["high"].copy()), codes
-    low, low_codes = read(form, flat, how._replace(mode=mode_code("floor")), operator.index)
-    high, high_codes = read(form, flat, how._replace(mode=mode_code("ceil")), operator.index)
+    low, low_codes = read(form, flat, how, operator.index)
+    high, high_codes = read(form, flat, reading(how.radix, "checked", "ceil"), operator.index)
     codes = first(low_codes, high_codes)
     return (zeroed(low, codes), zeroed(high, codes)), codes
 
@@ -238,18 +232,10 @@ def words_of(form: Format, flat: Array) -> tuple[Words, Codes]:
     return zeroed(own, codes).view(np.int64), codes
 
 
-def text_size(form: Format, places: int | None) -> int:
-    """A length that no text of the format is above: so many places tell all its numbers apart."""
-    greatest = max(form.max_bits, -form.min_bits) >> form.frac
-    if places is None:
-        places = len(str((1 << form.frac) - 1)) if form.frac else 0
-    return form.is_signed + len(str(greatest + 1)) + (places > 0) + places
-
-
 def text(form: Format, flat: Array, places: int | None, dtype: str, one: Callable[[Any], str]) -> Found:
     """The texts of bits."""
     words, codes = words_of(form, flat)
-    size = text_size(form, places)
+    size = form.text_size(places)
     if places is not None:
         own = words if form.is_signed else words.view(np.uint64)
         found, _ = each(own.tolist(), one, f"{dtype}{size}")
@@ -277,28 +263,17 @@ def value(form: Format, flat: Array, kind: type[Any], one: Callable[[Any], Any])
 def convert(move: Move, flat: Array) -> Found:
     """Bits of one format as those of another."""
     words, codes = words_of(move.source, flat)
-    if move.mode == mode_code("floor"):
-        found, later = convert_rows(words, move.source.c_format, move.target, move.policy)
-    else:
-        how = Reading(16, move.policy, move.mode)
-        found, later = read_rows(move.target, words, how, lambda items: bits_rows(move.source, items))
+    found, later = convert_rows(words, move.source.c_format, move.target, move.how)
     return zeroed(found, first(codes, later)), first(codes, later)
 
 
-def bits_rows(form: Format, items: Words) -> Bytes:
-    """The exact values of bits as numerals in radix 16."""
-    is_negative = (items < 0) if form.is_signed else np.zeros(items.size, np.bool_)
-    magnitudes = items.view(np.uint64)
-    return spelled(is_negative, np.where(is_negative, -magnitudes, magnitudes), -form.frac)
-
-
-def convert_rows(words: Words, source: _library.CFormat, target: Format, policy: int) -> Found:
+def convert_rows(words: Words, source: _library.CFormat, target: Format, how: Reading) -> Found:
     """What the library converts of each part."""
     bits, codes = np.empty(words.size, dtype_of(target)), np.empty(words.size, np.uint32)
     numbers = np.empty(min(words.size, BLOCK), NUMBER)
     for part, items in blocks(words):
         to = numbers.ctypes.data, codes[part].ctypes.data
-        done(_library.convert_rows(items.ctypes.data, len(items), source, target.c_format, policy, *to))
+        done(_library.convert_rows(items.ctypes.data, len(items), source, target.c_format, how, *to))
         bits[part] = numbers["bits"][: len(items)]
     return zeroed(bits, codes), codes
 

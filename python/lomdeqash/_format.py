@@ -14,7 +14,7 @@ from typing import TYPE_CHECKING, Any, Literal, TypeVar, Union, overload
 from . import _library
 from ._errors import Code, FixedError, brief
 from ._numerals import Numeral, decimal_of, numeral_of
-from ._options import Errors, ModeLike, PolicyLike, mode_code, policy_code, reading
+from ._options import Errors, ModeLike, PolicyLike, reading
 
 if TYPE_CHECKING:
     from numpy import dtype
@@ -26,13 +26,14 @@ if TYPE_CHECKING:
 # ARM's name of a format: the whole bits, of which the sign is one, may be left out.
 ARM_WORD = re.compile(r"([Uu]?)[Qq](?:([0-9]+)\.)?([0-9]+)")
 
+# So many items of an iterable are handed over at a time, where they are alike.
+PART = 1024
+
 FormatLike = Union["Format", str]
 ErrorsLike = Union[Errors, str]
 Raise = Literal["raise", Errors.RAISE]
 Mask = Literal["mask", Errors.MASK]
 _Value = TypeVar("_Value", Decimal, Fraction, float)
-_Item = TypeVar("_Item")
-_Found = TypeVar("_Found")
 
 
 # Of each method's forms the first that fits is meant: a text is an iterable of texts as well, and so may an array be.
@@ -146,7 +147,7 @@ class Format:
         ([127, -128], [16, None, None])
         """
         how = reading(radix, policy, mode)
-        move = None if target is None else Move(self, Format(target), how.policy, mode_code(target_mode))
+        move = None if target is None else Move(self, Format(target), reading(radix, policy, target_mode))
 
         def one(item: Any) -> int:
             text, base = numeral_of(item, how.radix, self.frac)
@@ -155,7 +156,12 @@ class Format:
             _expect(code, item)
             return move.one(self.bits_of_c(bits)) if move else self.bits_of_c(bits)
 
-        return _apply(numerals, one, lambda arrays, flat: arrays.read(self, flat, how, one, move), errors)
+        def together(items: list[Any]) -> list[int] | None:
+            if move or set(map(type, items)) != {str}:
+                return None
+            return _library.read_texts([item.encode("utf-8", "replace") for item in items], self.c_format, how)
+
+        return _apply(numerals, one, lambda arrays, flat: arrays.read(self, flat, how, one, move), errors, together)
 
     @overload
     def text(self, bits: int, *, places: int | None = ..., errors: ErrorsLike = ...) -> str: ...
@@ -188,7 +194,13 @@ class Format:
             _expect(code, item)
             return text
 
-        return _apply(bits, one, lambda arrays, flat: arrays.text(self, flat, places, dtype, one), errors)
+        def together(items: list[Any]) -> list[str] | None:
+            if places is not None or set(map(type, items)) != {int}:
+                return None
+            is_held = self.min_bits <= min(items) and max(items) <= self.max_bits
+            return _library.print_texts(items, self.c_format, self.text_size(None)) if is_held else None
+
+        return _apply(bits, one, lambda arrays, flat: arrays.text(self, flat, places, dtype, one), errors, together)
 
     @overload
     def value(self, bits: int, *, errors: ErrorsLike = ...) -> Decimal: ...
@@ -252,7 +264,7 @@ class Format:
         >>> form.convert([51, -51], "I8F0"), form.convert(-51, "I8F0", target_mode="zero")
         ([3, -4], -3)
         """
-        move = Move(self, Format(target), policy_code(policy), mode_code(target_mode))
+        move = Move(self, Format(target), reading(10, policy, target_mode))
         return _apply(bits, move.one, lambda arrays, flat: arrays.convert(move, flat), errors)
 
     @overload
@@ -323,6 +335,13 @@ class Format:
         pairs = (None if left is None or right is None else (left, right) for left, right in _pairs(bits, others))
         return _each(one, pairs, Errors(errors))
 
+    def text_size(self, places: int | None) -> int:
+        """A length that no text of the format is above: so many places tell all its numbers apart."""
+        greatest = max(self.max_bits, -self.min_bits) >> self.frac
+        if places is None:
+            places = len(str((1 << self.frac) - 1)) if self.frac else 0
+        return self.is_signed + len(str(greatest + 1)) + (places > 0) + places
+
     def bits_of_c(self, bits: int) -> int:
         """Bits as C gives them, in the range of the format."""
         return bits if self.is_signed else bits & (1 << 64) - 1
@@ -337,17 +356,16 @@ class Format:
 
 @dataclass(frozen=True)
 class Move:
-    """A conversion of bits: its formats, and the codes of a policy and of a mode."""
+    """A conversion of bits: its formats, and how."""
 
     source: Format
     target: Format
-    policy: int
-    mode: int
+    how: _library.Reading
 
     def one(self, item: Any) -> int:
         """The bits in the target."""
         bits, source = self.source.own_bits(item), self.source.c_format
-        code, found = _library.convert_bits(bits, source, self.target.c_format, self.policy, self.mode)
+        code, found = _library.convert_bits(bits, source, self.target.c_format, self.how)
         _expect(code, item)
         return self.target.bits_of_c(found)
 
@@ -367,22 +385,34 @@ def _is_one(given: Any) -> bool:
     return isinstance(given, (str, bytes, bytearray)) or not isinstance(given, Iterable)
 
 
-def _apply(given: Any, one: Callable[[Any], Any], whole: Callable[[Any, Any], Any], errors: ErrorsLike) -> Any:
+def _apply(
+    given: Any,
+    one: Callable[[Any], Any],
+    whole: Callable[[Any, Any], Any],
+    errors: ErrorsLike,
+    together: Callable[[list[Any]], list[Any] | None] = lambda _: None,
+) -> Any:
     """What is found for an item, an iterable or an array; `whole` takes the module of arrays and a flat array."""
     how = Errors(errors)
     if _is_array(given):
         from . import _arrays
 
         return _arrays.over(given, functools.partial(whole, _arrays), how)
-    return one(given) if _is_one(given) else _each(one, given, how)
+    if _is_one(given):
+        return one(given)
+    listed, found = list(given), []
+    for start in range(0, len(listed), PART):
+        part = listed[start : start + PART]
+        found += together(part) or _each(one, part, how, start)
+    return found
 
 
-def _each(one: Callable[[_Item], _Found], items: Iterable[_Item | None], errors: Errors) -> list[_Found | None]:
+def _each(one: Callable[[Any], Any], items: Iterable[Any], errors: Errors, start: int = 0) -> list[Any]:
     """What is found for each item. Under mask, what is refused is None, and None stays."""
-    found: list[_Found | None] = []
-    for index, item in enumerate(items):
+    found: list[Any] = []
+    for index, item in enumerate(items, start):
         try:
-            found.append(None if item is None and errors is Errors.MASK else one(item))  # type: ignore[arg-type]
+            found.append(None if item is None and errors is Errors.MASK else one(item))
         except FixedError as error:
             if errors is Errors.RAISE:
                 raise FixedError(error.code, error.given, index) from None

@@ -1,17 +1,19 @@
 """The shared library: where it is, and its calls. No other module of the package calls it.
 
 What the header leaves to the caller is seen to here and in what the callers of this module test first: pointers name
-what is there, and whole numbers fit their C types, since ctypes cuts those that do not. Each function gives the code first.
+what is there, and whole numbers fit their C types, since ctypes cuts those that do not. Each gives the code first.
 """
 from __future__ import annotations
 
 import ctypes
 import os
 import pathlib
-from ctypes import POINTER, byref, c_char_p, c_int32, c_int64, c_size_t, c_uint32, c_void_p
-from typing import Any, NamedTuple
+from ctypes import POINTER, addressof, byref, c_char_p, c_int32, c_int64, c_size_t, c_uint32, c_uint64, c_void_p
+from typing import Any, NamedTuple, cast
 
 ABI = 1
+# The longest text that is read as a row among rows of Python's own.
+ROW_SIZE = 48
 TEXT_SIZE, PLACES_SIZE, MESSAGE_SIZE = 49, 87, 48
 
 
@@ -34,13 +36,16 @@ class CEnclosure(ctypes.Structure):
 
 
 class Reading(NamedTuple):
-    """How numerals are read: their radix, and the codes of a policy and of a mode."""
+    """How numerals are read: their radix, and the codes of a policy and a mode, by which bits are converted as well."""
 
     radix: int
     policy: int
     mode: int
 
 
+# An address and a count; and an address, a count of bytes, and how many of them a row has.
+_SLICE = (c_void_p, c_size_t)
+_TEXTS = (c_void_p, c_size_t, c_size_t)
 _CALLS: dict[str, tuple[Any, ...]] = {
     "fixed_read_text": (c_char_p, c_size_t, c_uint32, CFormat, c_uint32, c_uint32, POINTER(CNumber)),
     "fixed_print_bits": (c_int64, CFormat, c_char_p, c_size_t, POINTER(c_size_t)),
@@ -51,20 +56,9 @@ _CALLS: dict[str, tuple[Any, ...]] = {
     "fixed_format_of_word": (c_char_p, c_size_t, POINTER(CFormat)),
     "fixed_message": (c_uint32, c_char_p, c_size_t, POINTER(c_size_t)),
     "fixed_abi": (),
-    "fixed_read_rows": (
-        c_void_p,
-        c_size_t,
-        c_size_t,
-        c_uint32,
-        CFormat,
-        c_uint32,
-        c_uint32,
-        c_void_p,
-        c_void_p,
-        POINTER(c_size_t),
-    ),
-    "fixed_print_rows": (c_void_p, c_size_t, CFormat, c_void_p, c_size_t, c_void_p, POINTER(c_size_t)),
-    "fixed_convert_rows": (c_void_p, c_size_t, CFormat, CFormat, c_uint32, c_void_p, c_void_p, POINTER(c_size_t)),
+    "fixed_read_rows": (*_TEXTS, c_uint32, CFormat, c_uint32, c_uint32, *_SLICE, *_SLICE, POINTER(c_size_t)),
+    "fixed_print_rows": (*_SLICE, CFormat, *_TEXTS, *_SLICE, POINTER(c_size_t)),
+    "fixed_convert_rows": (*_SLICE, CFormat, CFormat, c_uint32, c_uint32, *_SLICE, *_SLICE, POINTER(c_size_t)),
 }
 
 
@@ -72,7 +66,10 @@ def _load() -> ctypes.CDLL:
     """The library that LIBFIXED names, or the one inside this package, or the system's."""
     inside = pathlib.Path(__file__).with_name("libfixed.so.1")
     path = os.environ.get("LIBFIXED") or (str(inside) if inside.exists() else "libfixed.so.1")
-    library = ctypes.CDLL(path)
+    try:
+        library = ctypes.CDLL(path)
+    except OSError as error:
+        raise ImportError(f"the shared library was not found; LIBFIXED may name it: {error}") from error
     for name, types in _CALLS.items():
         if not hasattr(library, name):
             raise ImportError(f"{path} is older than this package: it has no {name}")
@@ -107,10 +104,10 @@ def print_places(bits: int, form: CFormat, places: int) -> tuple[int, str]:
     return code, out.value.decode("ascii")
 
 
-def convert_bits(bits: int, source: CFormat, target: CFormat, policy: int, mode: int) -> tuple[int, int]:
+def convert_bits(bits: int, source: CFormat, target: CFormat, how: Reading) -> tuple[int, int]:
     """The code and the bits of the target."""
     number = CNumber()
-    code = _C.fixed_convert_bits_mode(bits, source, target, policy, mode, byref(number))
+    code = _C.fixed_convert_bits_mode(bits, source, target, how.policy, how.mode, byref(number))
     return code, number.bits
 
 
@@ -151,22 +148,46 @@ def read_rows(
 ) -> tuple[int, int]:
     """Reads a numeral from each row."""
     refused = c_size_t()
-    given = rows, size, count, how.radix, form, how.policy, how.mode
-    code = _C.fixed_read_rows(*given, numbers, codes, byref(refused))
+    given = rows, size * count, size, how.radix, form, how.policy, how.mode
+    code = _C.fixed_read_rows(*given, numbers, count, codes, count, byref(refused))
     return code, refused.value
 
 
 def print_rows(bits: int, count: int, form: CFormat, rows: int, size: int, codes: int) -> tuple[int, int]:
     """Prints each of the bits into a row."""
     refused = c_size_t()
-    code = _C.fixed_print_rows(bits, count, form, rows, size, codes, byref(refused))
+    code = _C.fixed_print_rows(bits, count, form, rows, size * count, size, codes, count, byref(refused))
     return code, refused.value
 
 
 def convert_rows(
-    bits: int, count: int, source: CFormat, target: CFormat, policy: int, numbers: int, codes: int
+    bits: int, count: int, source: CFormat, target: CFormat, how: Reading, numbers: int, codes: int
 ) -> tuple[int, int]:
-    """Converts each of the bits, rounding down."""
+    """Converts each of the bits, by the policy and the mode."""
     refused = c_size_t()
-    code = _C.fixed_convert_rows(bits, count, source, target, policy, numbers, codes, byref(refused))
+    given = bits, count, source, target, how.policy, how.mode
+    code = _C.fixed_convert_rows(*given, numbers, count, codes, count, byref(refused))
     return code, refused.value
+
+
+def read_texts(texts: list[bytes], form: CFormat, how: Reading) -> list[int] | None:
+    """The bits of numerals by one call; None where one of them is refused, or cannot be a row."""
+    size, count = max(map(len, texts)), len(texts)
+    if size > ROW_SIZE or b"\0" in b"".join(texts):
+        return None
+    rows = ctypes.create_string_buffer(b"".join([text.ljust(size, b"\0") for text in texts]))
+    # A record is as long as two of its bits, which are its first part.
+    numbers, codes = ((c_int64 if form.is_signed else c_uint64) * (2 * count))(), (c_uint32 * count)()
+    code, refused = read_rows(addressof(rows), size, count, form, how, addressof(numbers), addressof(codes))
+    return None if code or refused else cast("list[int]", numbers[::2])
+
+
+def print_texts(bits: list[int], form: CFormat, size: int) -> list[str] | None:
+    """The texts of bits, of at most that size, by one call; None where one of them is refused."""
+    count = len(bits)
+    words, codes, rows = (c_int64 * count)(*bits), (c_uint32 * count)(), ctypes.create_string_buffer(size * count)
+    code, refused = print_rows(addressof(words), count, form, addressof(rows), size, addressof(codes))
+    if code or refused:
+        return None
+    text = rows.raw.decode("ascii")
+    return [text[start : start + size].rstrip("\0") for start in range(0, len(text), size)]

@@ -46,18 +46,9 @@ def _place(kind: type[_Option], word: _Option | str, code: _errors.Code) -> int:
         raise _errors.FixedError(code, f"{_errors.brief(word)} is none of {words}") from None
 
 
-def policy_code(policy: PolicyLike) -> int:
-    """The code of a policy."""
-    return _place(Policy, policy, _errors.Code.BAD_POLICY)
-
-
-def mode_code(mode: ModeLike) -> int:
-    """The code of a mode."""
-    return _place(Mode, mode, _errors.Code.BAD_MODE)
-
-
 def reading(radix: int, policy: PolicyLike, mode: ModeLike) -> _library.Reading:
     """How numerals are read."""
     if operator.index(radix) not in (2, 8, 10, 16):
         raise _errors.FixedError(_errors.Code.BAD_RADIX, f"{_errors.brief(radix)} is none of 2, 8, 10, 16")
-    return _library.Reading(radix, policy_code(policy), mode_code(mode))
+    codes = _place(Policy, policy, _errors.Code.BAD_POLICY), _place(Mode, mode, _errors.Code.BAD_MODE)
+    return _library.Reading(radix, *codes)

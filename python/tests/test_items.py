@@ -140,6 +140,19 @@ def test_iterables() -> None:
         form.compare([1, 2], [1])
 
 
+@pytest.mark.parametrize("count", [1, 1023, 1024, 1025, 3000])
+def test_long_lists(count: int) -> None:
+    for form in (Format("I1F15"), Format("U32F32")):
+        bits = [(at * 0x9E3779B97F4A7C15) % (1 << form.width) + form.min_bits for at in range(count)]
+        texts = form.text(bits)
+        assert texts == [form.text(each) for each in bits] and form.read(texts) == bits
+        assert form.read([text + "0" * 50 if "." in text else text for text in texts]) == bits
+        with pytest.raises(FixedError) as found:
+            form.read([*texts[:-1], "1\0"])
+        assert found.value.index == count - 1
+        assert form.text([*bits[:-1], 1 << 64], errors="mask") == [*texts[:-1], None]
+
+
 def test_numbers_without_end_or_of_great_size() -> None:
     form = Format("I16F16")
     endless: list[str | float | Decimal] = ["nan", float("nan"), float("-inf"), Decimal("NaN"), Decimal("Infinity")]
