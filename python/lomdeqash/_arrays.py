@@ -144,7 +144,8 @@ def read(form: Format, flat: Array, how: Reading, one: Callable[[Any], int], mov
     elif kind in "SU":
         found, codes = read_rows(form, flat, how, text_rows)
     elif kind == "f":
-        found, codes = read_rows(form, flat, how._replace(radix=16), float_rows)
+        with np.errstate(all="ignore"):
+            found, codes = floats(form, flat, how._replace(radix=16))
     else:
         raise TypeError(f"an array of numerals is of texts or numbers, not {flat.dtype}")
     if not move:
@@ -183,6 +184,25 @@ def without_holes(rows: Bytes) -> Bytes:
         return rows
     has_later = np.logical_or.accumulate(rows[:, ::-1] != 0, axis=1)[:, ::-1]
     return np.where(has_later & (rows == 0), np.uint8(255), rows)
+
+
+def floats(form: Format, flat: Array, how: Reading) -> Found:
+    """Floats that are not too large as bits of a format of two more fraction bits, and others spelled out.
+
+    The last of the two says whether something is left beside the half ulps, which is all that rounding asks.
+    """
+    if form.frac > 62:
+        return read_rows(form, flat, how, float_rows)
+    halves = np.ldexp(np.abs(flat.astype(np.promote_types(flat.dtype, np.float64))), form.frac + 1)
+    others = np.flatnonzero(~(halves < 2.0**61))
+    halves[others] = 0
+    whole = np.floor(halves)
+    words = 2 * whole.astype(np.int64) + (halves != whole)
+    source = _library.CFormat(True, 64, form.frac + 2)
+    found, codes = convert_rows(np.where(flat < 0, -words, words), source, form, how)
+    if others.size:
+        found[others], codes[others] = read_rows(form, flat[others], how, float_rows)
+    return found, codes
 
 
 def float_rows(items: Array) -> Bytes:
