@@ -71,6 +71,8 @@ chmod 644 "$folder/DEBIAN/triggers" "$folder/DEBIAN/shlibs"
 finish libfixed1 libs 'libc6 (>= 2.17)' 'fixed-point numbers as text: shared library' \
   'Reads numerals into fixed-point numbers with exact rounding, converts them between formats with a verdict on overflow, and prints the shortest decimal that reads back.'
 
+. packaging/python-deb.sh
+
 begin libfixed-dev
 install -d "$folder/usr/include" "$folder/usr/lib/$triple/pkgconfig" "$folder/usr/share/man/man3"
 install -m 644 include/fixed.h "$folder/usr/include/fixed.h"
@@ -85,8 +87,6 @@ for call in $(sed -n 's/^uint32_t \(fixed_[a-z_]*\)(.*/\1/p' include/fixed.h); d
 done
 finish libfixed-dev libdevel "libfixed1 (= $version)" 'fixed-point numbers as text: header and archive' \
   'What is needed to build a program against libfixed: the header, the archive, the manual pages of the calls, and a file for pkg-config.'
-
-. packaging/python-deb.sh
 
 for package in build/deb/*.deb; do
   echo "$package: $(stat -c %s "$package") bytes"
