@@ -61,6 +61,8 @@ class Format:
 
     def __init__(self, word: FormatLike) -> None:
         text = word.word if isinstance(word, Format) else word
+        if not isinstance(text, str):
+            raise TypeError(f"a format is a word such as 'I1F15', not {type(text).__name__}")
         arm = ARM_WORD.fullmatch(text)
         if arm:
             text = f"{'U' if arm[1] else 'I'}{arm[2] or int(not arm[1])}F{arm[3]}"
