@@ -108,3 +108,4 @@ clean:
 	rm -rf build crates/*/out
 
 include packaging/library.mk
+include packaging/python.mk
