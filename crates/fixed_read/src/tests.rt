@@ -843,8 +843,8 @@ fn ending(text: &str, from: usize) -> Option<(i128, bool)> {
     ending_over::<Brand>(bytes, from.min(bytes.len()), Blank::new(1))
 }
 
-/// At a thousand exponents at each end of their range, after one digit and after 45, alone and after 16 bytes: nothing, or
-/// a multiple of 256 that is out of range. A reader that looped over their zeros would not end.
+/// At a thousand exponents at each end of their range, after one digit and after 45, alone and after 16 bytes: nothing,
+/// or a multiple of 256 that is out of range. A reader that looped over their zeros would not end.
 #[test]
 fn exponents_at_their_ends(rt: HostRuntime) -> Result<(), Fail> {
     for digits in ["1", "123456789012345678901234567890123456789012345"] {
