@@ -18,7 +18,3 @@ from ._format import Format
 from ._options import Errors, Mode, Policy
 
 __all__ = ["Code", "Errors", "FixedError", "Format", "Mode", "Policy"]
-
-# They are shown, and pickled, under the name by which they are imported.
-for _public in (Code, Errors, FixedError, Format, Mode, Policy):
-    _public.__module__ = __name__

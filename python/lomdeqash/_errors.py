@@ -52,6 +52,8 @@ class FixedError(ValueError):
     more than one point found in string: '1.5.' at 1; TOO_MANY_POINTS; 1
     """
 
+    __module__ = "lomdeqash"  # as a traceback shows it
+
     def __init__(self, code: int, given: str = "", index: Index | None = None) -> None:
         super().__init__(code, given, index)
         self.code = Code(code)
