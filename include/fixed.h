@@ -65,13 +65,8 @@ enum fixed_mode { FIXED_NEAREST = 0, FIXED_FLOOR = 1, FIXED_CEIL = 2, FIXED_ZERO
 
 /* Which whole number a number is rounded to: the least not below it, the greatest not above it, the nearest with ties away from
  * zero, the nearest with ties to even, the nearest that is not farther from zero. */
-enum fixed_rounding {
-  FIXED_ROUND_CEIL = 0,
-  FIXED_ROUND_FLOOR = 1,
-  FIXED_ROUND_TIES_AWAY = 2,
-  FIXED_ROUND_TIES_EVEN = 3,
-  FIXED_ROUND_ZERO = 4
-};
+enum fixed_rounding { FIXED_ROUND_CEIL = 0, FIXED_ROUND_FLOOR = 1, FIXED_ROUND_TIES_AWAY = 2, FIXED_ROUND_TIES_EVEN = 3,
+                      FIXED_ROUND_ZERO = 4 };
 
 enum fixed_code {
   FIXED_OK = 0,
