@@ -130,19 +130,67 @@ def definitions():
                         yield f"{document}: no {name} in {crate}/specs/{file}.antt"
 
 
-def headline():
-    """The definitions of the headline's reading order, each in a file that its row names."""
-    for line in text_of("docs/PROVED.md").split("\n"):
-        row = re.match(r"\| `(crates/[\w/]+/specs/)(\w+\.antt)`(.*?) \| (.*?) \|", line)
-        if not row:
+# What the headline's clause cites: crate, file and definition.
+ROOTS = (("line_engine", "Output", "WritesOutput"), ("line_engine", "Failures", "HasFailed"), ("fixed_respell", "Answer", "IsAnswer"),
+         ("fixed_respell", "Command", "IsCommand"))
+
+
+def specs():
+    """The text of each definition by crate, file and name, and for each file where its imports come from."""
+    stated, imported = {}, {}
+    for path in glob.glob(f"{TOP}/crates/*/specs/**/*.antt", recursive=True):
+        parts = os.path.relpath(path, f"{TOP}/crates")[:-5].split("/")
+        crate, file, name = parts[0], ".".join(parts[2:]), None
+        text = text_of(os.path.relpath(path, TOP))
+        imported[crate, file] = {name.strip().split(" as ")[-1]: home for home, names in re.findall(r"^(?:pub )?use Rattle\.([^{]+)\.\{([^}]*)\}", text, re.M)
+                                 for name in names.split(",")}
+        for line in text.split("\n"):
+            head = re.match(r"(?:(?:abbrev|unfoldable) (?:pub )?|pub (?:record )?|record )([\w']+)", line)
+            name = head.group(1) if head else name
+            if name and line and not line.startswith(("use ", "pub use ", "--")) and not line.lstrip().startswith("--"):
+                stated[crate, file, name] = stated.get((crate, file, name), "") + line + "\n"
+    return stated, imported
+
+
+def needed():
+    """The definitions that the headline needs, by file, and the words of std."""
+    stated, imported = specs()
+    found, std, open_ones = set(), set(), list(ROOTS)
+    while open_ones:
+        crate, file, name = key = open_ones.pop()
+        home = imported.get((crate, file), {}).get(name, "").split(".")
+        if key not in stated and len(home) > 2 and home[0] != "std":
+            open_ones.append((home[0], ".".join(home[2:]), name))
+        if key in found or key not in stated:
             continue
-        folder, first, others, names = row.groups()
-        files = [first, *re.findall(r"`(\w+\.antt)`", others)]
-        there = [it for it in files if os.path.isfile(f"{TOP}/{folder}{it}")]
-        yield from (f"docs/PROVED.md: no {folder}{it}" for it in files if it not in there)
-        stated = "".join(text_of(folder + it) for it in there)
-        yield from (f"docs/PROVED.md: no {name} in {folder}{' '.join(there)}" for name in re.findall(r"`(\w+)`", names)
-                    if not re.search(rf"^(?:abbrev |unfoldable )?pub (?:record )?{name}\b", stated, re.M))
+        found.add(key)
+        for word in set(re.findall(r"[\w'ℕℤ]+", re.sub(r'"[^"]*"', "", stated[key]))):
+            home = imported[crate, file].get(word, "").split(".")
+            if (crate, file, word) in stated:
+                open_ones.append((crate, file, word))
+            elif home[0] == "std":
+                std.add(word)
+            elif "declared" not in home and len(home) > 2:
+                open_ones.append((home[0], ".".join(home[2:]), word))
+    files = {}
+    for crate, file, name in found:
+        files.setdefault(f"crates/{crate}/specs/{file.replace('.', '/')}.antt", set()).add(name)
+    return files, std
+
+
+def headline():
+    """The headline's reading order has just the definitions that its clause needs, and the words of std in them."""
+    files, std = needed()
+    text = text_of("docs/PROVED.md")
+    rows = {path: set(re.findall(r"`([\w']+)`", names)) for path, names in re.findall(r"^\| `(crates/[\w/]+/specs/[\w/]+\.antt)` \| (.*?) \|", text, re.M)}
+    for path in sorted({*files, *rows}):
+        names, wanted = rows.get(path, set()), files.get(path, set())
+        yield from (f"docs/PROVED.md: the headline needs {name} of {path}" for name in sorted(wanted - names))
+        yield from (f"docs/PROVED.md: the headline does not need {name} of {path}" for name in sorted(names - wanted))
+    table = re.search(r"^\| Word of std \|.*?\n\n", text + "\n\n", re.M | re.S)
+    words = set(re.findall(r"`([\wℕℤ]+)`", "\n".join(row.split("|")[1] for row in table.group().split("\n")[2:] if row))) if table else set()
+    yield from (f"docs/PROVED.md: the headline needs the word {word} of std" for word in sorted(std - words))
+    yield from (f"docs/PROVED.md: the headline does not need the word {word} of std" for word in sorted(words - std))
 
 
 def paths():

@@ -3,8 +3,8 @@
 
     library.py [--built build|out] [--lines N] [--calls N]
 
-With `--built out` it has `rt lib` make the archive and takes the program that the gate built; with `--built build` it takes what
-`make library` and `make build` left. A compiler that is not on this machine is named and passed over.
+With `--built out` it takes the libraries and the program that the gate built, and proves `fixed_c` over these for its archive; with
+`--built build` it takes what `make library` and `make build` left. A compiler that is not on this machine is named and passed over.
 """
 import argparse
 import os
@@ -13,6 +13,8 @@ import shutil
 import subprocess
 import sys
 import tempfile
+
+from prove import below, processes, read_crates
 
 TOP = os.path.dirname(os.path.dirname(os.path.abspath(__file__)))
 HEADER = f"{TOP}/include"
@@ -57,15 +59,21 @@ def calls():
         return set(re.findall(r"^uint32_t (fixed_[a-z_]+)\(", header.read(), re.M))
 
 
-def archive(built):
-    """The path of the archive."""
+def archive(built, folder):
+    """The path of the archive. The libraries that `rt ci` leaves have no stamp, so that `rt lib` would prove all of them again."""
     if built == "build":
         return f"{TOP}/build/lib/libfixed.a"
-    made = subprocess.run(["rt", "lib", "--cpu", "x86-64"], cwd=f"{TOP}/crates/fixed_c", stdin=subprocess.DEVNULL, stdout=subprocess.PIPE,
-                          stderr=subprocess.STDOUT, check=False)
-    if made.returncode:
-        raise Failed(f"rt lib: {made.stdout.decode(errors='replace')[-2000:]}")
-    return f"{TOP}/crates/fixed_c/out/libfixed_c.a"
+    crates = read_crates()
+    kit = os.path.dirname(run(["rt", "doc"]).strip())
+    words = ["--crate-name", "fixed_c", "src/lib.rt", "--extern", f"std={kit}/rlibs/std.rlib", "-L", f"dependency={kit}/rlibs"]
+    for name in crates["fixed_c"].uses:
+        words += ["--extern", f"{name}={crates[name].folder}/out/rlib/{name}.rlib"]
+    for name in sorted(below(crates, crates["fixed_c"].uses)):
+        words += ["-L", f"dependency={crates[name].folder}/out/rlib"]
+    words += ["--antt-project", f"{kit}/rattle/logic/antt-project.json", "--logic-built", f"{kit}/logic_built", "--links", "fixed_c=",
+              "--crate-type", "staticlib", "--cpu", "x86-64", "--toolchain", f"{kit}/toolchain", "--jobs", str(processes()), "-o", f"{folder}/libfixed_c.a"]
+    run(["rattle", "build", *words], cwd=crates["fixed_c"].folder, stdin=subprocess.DEVNULL)
+    return f"{folder}/libfixed_c.a"
 
 
 def check_symbols(library, shared):
@@ -189,7 +197,7 @@ def main():
     try:
         with tempfile.TemporaryDirectory() as folder:
             library, shared = f"{folder}/libfixed.a", f"{folder}/libfixed.so.1"
-            shutil.copy(archive(given.built), library)
+            shutil.copy(archive(given.built, folder), library)
             undefined = [word for call in sorted(calls()) for word in ("-Wl,-u," + call,)]
             run(["gcc", "-shared", "-o", shared, "-Wl,-soname,libfixed.so.1", f"-Wl,--version-script={TOP}/packaging/fixed.map",
                  "-Wl,--gc-sections", "-Wl,-z,relro", "-Wl,-z,now", *undefined, library, "-nostartfiles", "-lc"])

@@ -8,7 +8,9 @@ The proofs speak of values; what a process gets and gives is tried here. A progr
 import argparse
 import os
 import random as random_module
+import re
 import resource
+import shutil
 import signal
 import subprocess
 import sys
@@ -47,7 +49,7 @@ RUNS = {
         (["constants", "c", "A_H"], b"A = 1.75 I4F4\n", 0,
          b"#ifndef A_H\n#define A_H\n\n#include <stdint.h>\n\n#define A INT8_C(0x1c) /* I4F4, 1.75 */\n\n#endif\n"),
         (["constants", "c", "A"], b"A = 1.75 I4F4\n", 1, b"error: line 1: bad name\n"),
-        (["constants", "rust"], b"A = 1.75 I4F4\n", 0, b"pub const A: FixedI8<4> = FixedI8::from_bits(0x1c);\n"),
+        (["constants", "rust"], b"A = 1.75 I4F4\n", 0, b"pub const A: fixed::types::I4F4 = fixed::types::I4F4::from_bits(0x1c);\n"),
         (["columns"], b"0.5 U7F1\n-1 I8F0\n", 0, b" " * 22 + b"-1 I8F0\n" + b" " * 21 + b"0.5 U7F1\n"),
         (["columns", "limit", "7"], b"1 U8F0\n", 0, b" " * 23 + b"1 U8F0\n"),
         (["columns", "limit", "6", "-"], b"1 U8F0\n", 6, b""),
@@ -92,7 +94,7 @@ RUNS = {
         ([], b"A = 1 U8F0\nA = 2 U8F0\n", 1, b"error: line 2: duplicate of line 1\n"),
         (["c"], b"A = 1.75 I4F4\nB = -3.1875 I4F4\n", 0,
          b"#include <stdint.h>\n\n#define A INT8_C(0x1c) /* I4F4, 1.75 */\n#define B (-INT8_C(0x33)) /* I4F4, -3.2 */\n"),
-        (["rust"], b"A = 1.75 I4F4\n", 0, b"pub const A: FixedI8<4> = FixedI8::from_bits(0x1c);\n"),
+        (["rust"], b"A = 1.75 I4F4\n", 0, b"pub const A: fixed::types::I4F4 = fixed::types::I4F4::from_bits(0x1c);\n"),
         (["c"], b"A = 1 U8F0\nint = 1 U8F0\n", 1, b"error: line 2: bad name\n"),
         ([], b"#" * 1_048_577, 6, b""),
     ),
@@ -189,6 +191,9 @@ class Runs:
         with open("/dev/full", "wb") as full:
             self.one("a full device", clean[0], 4, None, input=clean[1], stdout=full)
         self.one("no memory", clean[0], 5, b"", input=clean[1], preexec_fn=within(600_000))
+        if self.name == "fixed_tool":
+            # these words need memory for nothing but themselves
+            self.one("no memory for the arguments", ["self", "5"], 5, b"", input=b"", preexec_fn=within(180_000))
         if self.name in LONG:
             self.outputs(*LONG[self.name])
         if self.name == "fixed":
@@ -266,6 +271,42 @@ class Runs:
         if shown is None or (shown.returncode, shown.stdout) != (0, wanted):
             self.wrong += 1
             print(f"{self.name}: a header of {len(NUMBERS)} numbers, {shown and shown.stdout!r}, not {wanted!r}")
+
+    def reserved(self):
+        """No macro that <stdint.h> defines, as gcc has it, names a constant of a header."""
+        listed = [subprocess.run(["gcc", "-std=c11", "-dM", "-E", "-"], input=given, stdout=subprocess.PIPE, check=True).stdout
+                  for given in (b"#include <stdint.h>\n", b"")]
+        own, every = ({re.match(rb"#define (\w+)", line).group(1) for line in text.splitlines()} for text in reversed(listed))
+        for name in sorted(it for it in every - own if not it.startswith(b"_")):
+            self.one(f"{name} of <stdint.h>", ["c"], 1, b"error: line 1: bad name\n", input=name + b" = 1 U8F0\n")
+
+    def rust(self):
+        """Compiles the lines of Rust that the program writes, against a stub of the types that they name, and compares their bits."""
+        if shutil.which("rustc") is None:
+            print("rustc is not here, and so the lines of Rust were not compiled")
+            return
+        self.tried += 1
+        with tempfile.TemporaryDirectory() as folder:
+            given = "".join(f"N{i} = {literal} {word}\n" for i, (literal, word, _, _) in enumerate(NUMBERS))
+            with open(f"{folder}/numbers.rs", "wb") as file:
+                file.write(subprocess.run([self.path, "rust"], input=given.encode(), stdout=subprocess.PIPE, check=True).stdout)
+            with open(f"{folder}/fixed.rs", "w", encoding="ascii") as file:
+                file.write("pub mod types {\n")
+                for word, kind in sorted({(word, kind.replace("uint", "u").replace("int", "i")) for _, word, kind, _ in NUMBERS}):
+                    file.write(f"    pub struct {word}({kind});\n    impl {word} {{\n        pub const fn from_bits(bits: {kind}) -> Self "
+                               f"{{ Self(bits) }}\n        pub const fn to_bits(&self) -> {kind} {{ self.0 }}\n    }}\n")
+                file.write("}\n")
+            with open(f"{folder}/main.rs", "w", encoding="ascii") as file:
+                shown = "".join(f'    println!("{{}}", N{i}.to_bits());\n' for i in range(len(NUMBERS)))
+                file.write(f'include!("numbers.rs");\nfn main() {{\n{shown}}}\n')
+            library = ["rustc", "--edition=2021", "--crate-type=rlib", "-o", f"{folder}/libfixed.rlib", f"{folder}/fixed.rs"]
+            program_of = ["rustc", "--edition=2021", "-Dwarnings", "--extern", f"fixed={folder}/libfixed.rlib", "-o", f"{folder}/main", f"{folder}/main.rs"]
+            built = all(subprocess.run(command, check=False).returncode == 0 for command in (library, program_of))
+            ran = subprocess.run([f"{folder}/main"], stdout=subprocess.PIPE, check=False) if built else None
+        wanted = "".join(f"{bits}\n" for _, _, _, bits in NUMBERS).encode()
+        if ran is None or (ran.returncode, ran.stdout) != (0, wanted):
+            self.wrong += 1
+            print(f"{self.name}: lines of Rust with {len(NUMBERS)} numbers, {ran and ran.stdout!r}, not {wanted!r}")
 
     def files(self):
         """Inputs from files: several one after another, `-`, one that is missing, a folder, and the greatest status."""
@@ -357,6 +398,8 @@ def main():
         runs.all()
         if name == "constants_tool":
             runs.header()
+            runs.reserved()
+            runs.rust()
         print(f"{name}: {runs.tried} runs at its edges, {runs.wrong} wrong", flush=True)
         wrong += runs.wrong
     found = compared(given.built)

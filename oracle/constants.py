@@ -19,14 +19,24 @@ from reference import DIGITS, WIDTHS, WORDS, Refused, digits_for, ends, format_o
 LONGEST = 1_048_576
 NAME = re.compile(rb"[A-Za-z_][A-Za-z0-9_]{0,63}\Z")
 PREFIXES = {b"0b": 2, b"0o": 8, b"0x": 16}
-# What no constant may be named in a language: its keywords, and for C the macros that a header uses.
+# What <stdint.h> names: types, their ends and widths, and macros of constants.
+KINDS = [*(f"{size}{width}" for size in ("", "_LEAST", "_FAST") for width in WIDTHS), "PTR", "MAX"]
+STDINT = {
+    *(f"{sign}int{kind.lower()}_t" for sign in ("", "u") for kind in KINDS),
+    *(f"INT{kind}_{end}" for kind in KINDS for end in ("MIN", "MAX", "WIDTH")),
+    *(f"UINT{kind}_{end}" for kind in KINDS for end in ("MAX", "WIDTH")),
+    *(f"{kind}_{end}" for kind in ("PTRDIFF", "SIG_ATOMIC", "WCHAR", "WINT") for end in ("MIN", "MAX", "WIDTH")),
+    *(f"{sign}INT{kind}_C" for sign in ("", "U") for kind in (*WIDTHS, "MAX")),
+    "SIZE_MAX", "SIZE_WIDTH",
+}
+# What no constant may be named in a language: its keywords, and for C what the header that it includes names.
 RESERVED = {
     "c": set(
         """alignas alignof asm auto bool break case char const constexpr continue default defined do double else enum extern false
         float for goto if inline int long nullptr register restrict return short signed sizeof static static_assert struct switch
         thread_local true typedef typeof typeof_unqual union unsigned void volatile while _Alignas _Alignof _Atomic _BitInt _Bool
         _Complex _Decimal128 _Decimal32 _Decimal64 _Generic _Imaginary _Noreturn _Static_assert _Thread_local""".split()
-    ) | {f"{sign}INT{width}_C" for sign in ("", "U") for width in WIDTHS},
+    ) | STDINT,
     "rust": set(
         """_ abstract as async await become box break const continue crate do dyn else enum extern false final fn for gen if impl in
         let loop macro match mod move mut override priv pub ref return self Self static struct super trait true try type typeof
@@ -181,9 +191,9 @@ def header(entries, guard):
 def rust(entries):
     """Entries as Rust."""
     lines = []
-    for name, _, shape, bits in entries:
-        kind = f"Fixed{'I' if shape[0] else 'U'}{shape[1]}"
-        lines.append(f"pub const {name}: {kind}<{shape[2]}> = {kind}::from_bits({'-' if bits < 0 else ''}0x{abs(bits):x});\n")
+    for name, word, _, bits in entries:
+        kind = f"fixed::types::{word}"
+        lines.append(f"pub const {name}: {kind} = {kind}::from_bits({'-' if bits < 0 else ''}0x{abs(bits):x});\n")
     return "".join(lines)
 
 

@@ -79,6 +79,8 @@ chmod 644 "$folder/DEBIAN/triggers" "$folder/DEBIAN/shlibs"
 finish libfixed1 libs "$(needed "$folder/usr/lib/$triple/libfixed.so.1")" 'fixed-point numbers as text: shared library' \
   'Reads numerals into fixed-point numbers with exact rounding, converts them between formats with a verdict on overflow, and prints the shortest decimal that reads back.'
 
+. packaging/python-deb.sh
+
 begin libfixed-dev
 install -d "$folder/usr/include" "$folder/usr/lib/$triple/pkgconfig" "$folder/usr/share/man/man3"
 install -m 644 include/fixed.h "$folder/usr/include/fixed.h"

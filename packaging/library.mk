@@ -9,7 +9,7 @@ CC ?= cc
 
 # Proves the library, and leaves it as an archive, as a shared library with the header's symbols alone, and with a file for pkg-config.
 library:
-	@$(MAKE) -s --no-print-directory build/proved/fixed_c
+	@$(PROVE) fixed_c
 	@mkdir -p build/lib
 	cp crates/fixed_c/out/libfixed_c.a build/lib/libfixed.a
 	$(CC) -shared -o build/lib/libfixed.so.1 -Wl,-soname,libfixed.so.1 -Wl,--version-script=packaging/fixed.map \

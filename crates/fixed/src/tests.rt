@@ -156,7 +156,7 @@ fn constants_takes_its_form_and_its_guard(rt: HostRuntime) -> Result<(), Fail> {
         (
             "constants rust",
             "A = 1.75 I4F4\n",
-            "pub const A: FixedI8<4> = FixedI8::from_bits(0x1c);\n",
+            "pub const A: fixed::types::I4F4 = fixed::types::I4F4::from_bits(0x1c);\n",
         ),
         (
             "constants c",

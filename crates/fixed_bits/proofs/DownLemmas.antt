@@ -1,14 +1,14 @@
 -- Moving down: shifts, uniqueness and order.
-use Rattle.std.proofs.Common.{◌≡◌, ℕ, ◌*◌, ◌^◌, ◌≤◌, Bool, true, false, ℤ, pos, negsuc, neg_ℤ, ◌+ℤ◌, ◌*ℤ◌, ◌≤ℤ◌, arith, mod-lt, mul-le-mul_left}
+use Rattle.std.proofs.Common.{◌≡◌, ℕ, ◌+◌, ◌-◌, ◌*◌, ◌^◌, ◌≤◌, Bool, true, false, ℤ, pos, negsuc, neg_ℤ, ◌+ℤ◌, ◌*ℤ◌, ◌≤ℤ◌, arith, ap, sym, ◌∙◌, mod-lt, mul-le-mul_left}
 use Rattle.std.specs.Prelude.{◌<ℤ◌}
 use Rattle.std.specs.Int.{int_shr}
 use Rattle.std.proofs.Math.Nat.{div-add-mod}
 use Rattle.std.proofs.Math.Pow.{pow_mono}
 use Rattle.std.proofs.lemmas.Int.{ints}
-use Rattle.std.proofs.lemmas.Nat.{pow_pos}
+use Rattle.std.proofs.lemmas.Nat.{pow_pos, pow-add}
 use Rattle.fixed_bits.specs.Down.{IsDown, down}
 use Rattle.fixed_bits.specs.Ranges.{IsInRange, lowest, greatest}
-use Rattle.fixed_bits.proofs.Integers.{next_times, le_times, lt_cancel}
+use Rattle.fixed_bits.proofs.Integers.{next_times, le_times, lt_times, lt_cancel, times_times}
 
 -- a shift that copies the sign rounds down
 pub down_by_shift : (v : ℤ) (k : ℕ) → IsDown v k 0 (int_shr v k)
@@ -47,6 +47,36 @@ down_is b f g =
 
 pub down_equal : (b : ℤ) (f g : ℕ) (d : ℤ) → IsDown b f g d → d ≡ down b f g
 down_equal b f g d h = down_unique b f g d (down b f g) h (down_is b f g)
+
+-- ---- the two ways of moving
+-- both lengths grow by as much
+down_longer : (b : ℤ) (f g h : ℕ) (d : ℤ) → IsDown b f g d → IsDown b (f + h) (g + h) d
+down_longer b f g h d x =
+    let p : (z : ℤ) (k : ℕ) → z *ℤ pos (2 ^ (k + h)) ≡ (z *ℤ pos (2 ^ k)) *ℤ pos (2 ^ h) = λ z k. ap (λ i. z *ℤ pos i) (pow-add 2 k h) ∙ sym (times_times z (2 ^ k) (2 ^ h)) in
+    record {
+      at_most = rw (p d f, p b g) (le_times (d *ℤ pos (2 ^ f)) (b *ℤ pos (2 ^ g)) (2 ^ h) x.at_most);
+      above = rw (p b g, p (d +ℤ pos 1) f) (lt_times (b *ℤ pos (2 ^ g)) ((d +ℤ pos 1) *ℤ pos (2 ^ f)) (2 ^ h) (pow_pos h) x.above);
+    }
+
+-- to a length that is no shorter nothing is lost
+down_up : (b : ℤ) (f k : ℕ) → IsDown b f (f + k) (b *ℤ pos (2 ^ k))
+down_up b f k =
+    let e : b *ℤ pos (2 ^ (f + k)) ≡ (b *ℤ pos (2 ^ k)) *ℤ pos (2 ^ f) = ap (λ i. b *ℤ pos i) (pow-add 2 f k ∙ omega arith) ∙ sym (times_times b (2 ^ k) (2 ^ f)) in
+    record {
+      at_most = rw e (omega (arith, ints));
+      above = rw (e, next_times (b *ℤ pos (2 ^ k)) (2 ^ f)) (omega (arith, ints, pow_pos f));
+    }
+
+pub grown : (b : ℤ) (f g : ℕ) → f ≤ g → b *ℤ pos (2 ^ (g - f)) ≡ down b f g
+grown b f g l =
+    let i : f + (g - f) ≡ g = omega arith in
+    down_equal b f g (b *ℤ pos (2 ^ (g - f))) (rw i at (down_up b f (g - f)))
+
+pub shortened : (b : ℤ) (f g : ℕ) (d : ℤ) → g ≤ f → IsDown b (f - g) 0 d → d ≡ down b f g
+shortened b f g d l h =
+    let i : (f - g) + g ≡ f = omega arith in
+    let j : 0 + g ≡ g = omega arith in
+    down_equal b f g d (rw (i, j) at (down_longer b (f - g) 0 g d h))
 
 -- zero lies between the ends of a range
 lowest_not_above_zero : (s : Bool) (n : ℕ) → lowest s n ≤ℤ pos 0

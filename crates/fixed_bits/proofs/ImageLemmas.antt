@@ -19,25 +19,6 @@ twice n (inr (inr (inl e))) = rw e refl
 twice n (inr (inr (inr e))) = rw e refl
 
 -- ---- the last bits, and what has to be taken off
-pub low_kept : (s : Bool) (n : ℕ) (v : ℤ) (r : ℕ) → r ≡ wrap_to_unsigned n v → pos r ≤ℤ greatest s n → IsWrapped s n v (pos r)
-low_kept s n v r e high = record { in_range = in_range s high; near = rw e (near_unsigned n v) }
-  where
-    in_range : (s : Bool) → pos r ≤ℤ greatest s n → IsInRange s n (pos r)
-    in_range true h = record { low = omega (arith, ints); high = h }
-    in_range false h = record { low = omega (arith, ints); high = h }
-
-pub low_moved : (s : Bool) (n : ℕ) (v : ℤ) (r : ℕ) → IsWidth n → r ≡ wrap_to_unsigned n v → greatest s n <ℤ pos r → IsWrapped s n v (pos r -ℤ pos (2 ^ n))
-low_moved s n v r w e over =
-    let under : r < 2 ^ n = rw e (below n v) in
-    let d : DiffersByMultiple (2 ^ n) (pos r) v = rw e (near_unsigned n v) in
-    record {
-      in_range = in_range s under (twice n w) over;
-      near = (d.0 + 1, d.1, omega (arith, ints, d.2));
-    }
-  where
-    in_range : (s : Bool) → r < 2 ^ n → 2 ^ n ≡ 2 * 2 ^ (n - 1) → greatest s n <ℤ pos r → IsInRange s n (pos r -ℤ pos (2 ^ n))
-    in_range true u t h = record { low = omega (arith, ints, pow_pos (n - 1)); high = omega (arith, ints, pow_pos (n - 1)) }
-    in_range false u t h = absurd (omega (arith, ints))
 
 -- ---- a number in range is its own image
 pub image_same : (p : Policy) (s : Bool) (n : ℕ) (v : ℤ) → IsInRange s n v → IsImage p s n v v

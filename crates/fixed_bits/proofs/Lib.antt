@@ -8,4 +8,5 @@ mod NearestLemmas
 mod RoundedLemmas
 mod LawLemmas
 mod MaskLemmas
+mod NumberLemmas
 mod OrderLemmas

@@ -1,18 +1,25 @@
 -- What the proofs of the crates above may cite: the laws of this crate, and facts of its definitions. The proofs are in proofs/.
-use Rattle.std.specs.Prelude.{◌≡◌, ℕ, ◌+◌, ◌*◌, ◌<◌, ◌≤◌, ◌↔◌, Bool, ℤ}
+use Rattle.std.specs.Prelude.{◌≡◌, ℕ, ◌+◌, ◌-◌, ◌*◌, ◌^◌, ◌<◌, ◌≤◌, ◌↔◌, Bool, false, IsTrue, ℤ, pos, ◌*ℤ◌, unsigned_abs, Option, IfSome}
+use Rattle.std.specs.Int.{is_negative}
 use Rattle.fixed_bits.specs.Down.{IsDown, down}
 use Rattle.fixed_bits.specs.Formats.{FormatParts, IsFormat}
-use Rattle.fixed_bits.specs.Images.{DiffersByMultiple}
+use Rattle.fixed_bits.specs.Images.{DiffersByMultiple, IsImage, IsWrapped}
 use Rattle.fixed_bits.specs.Laws.{RangeIsDecided, EndsAreWide, ImagesAgree, CheckedHasNone, ImageIsTheOne, ImageIsInRange, DownIsTheOne, RankIsOrder, RoundedIsTheOne, EqualFractionsRoundAlike}
 use Rattle.fixed_bits.specs.Nearest.{IsNearest, IsEven}
+use Rattle.fixed_bits.specs.Numbers.{IsImageUnlessRefused, IsNumber, IsRefused, number_of_image, with_sign}
 use Rattle.fixed_bits.specs.Order.{rank}
-use Rattle.fixed_bits.specs.Ranges.{IsInRange, IsWidth, IsWide}
+use Rattle.fixed_bits.specs.Ranges.{IsInRange, IsOutOfRange, IsWidth, IsWide}
 use Rattle.fixed_bits.specs.Rounded.{IsRounded}
+use Rattle.fixed_bits.specs.declared.format.Policy.{Policy}
+use Rattle.fixed_bits.specs.declared.format.Policy.TheVariants.{Checked}
 use Rattle.fixed_bits.specs.declared.mode.ReadMode.{ReadMode}
+use Rattle.fixed_bits.specs.declared.number.Image.{Image}
+use Rattle.fixed_bits.specs.declared.number.Number.{Number}
 use Rattle.fixed_bits.proofs.DownLemmas
 use Rattle.fixed_bits.proofs.ImageLemmas
 use Rattle.fixed_bits.proofs.LawLemmas
 use Rattle.fixed_bits.proofs.NearestLemmas
+use Rattle.fixed_bits.proofs.NumberLemmas
 use Rattle.fixed_bits.proofs.OrderLemmas
 use Rattle.fixed_bits.proofs.RoundedLemmas
 
@@ -53,6 +60,38 @@ down_equal = DownLemmas.down_equal
 
 pub down_one : DownIsTheOne
 down_one = LawLemmas.down_one
+
+pub grown : (b : ℤ) (f g : ℕ) → f ≤ g → b *ℤ pos (2 ^ (g - f)) ≡ down b f g
+grown = DownLemmas.grown
+
+pub shortened : (b : ℤ) (f g : ℕ) (d : ℤ) → g ≤ f → IsDown b (f - g) 0 d → d ≡ down b f g
+shortened = DownLemmas.shortened
+
+-- ---- numbers by sign and magnitude
+pub inside : (sign : Bool) (n : ℕ) (v : ℤ) (out : Bool) → out ≡ false → (IsTrue out ↔ IsOutOfRange sign n v) → IsInRange sign n v
+inside = NumberLemmas.inside
+
+pub low_wrapped : (f : FormatParts) (number : Number) (v : ℤ) → IsWidth f.width → IsNumber number v → (c : ℤ) → IsWrapped f.signed f.width (with_sign number.negative number.low) c → IsWrapped f.signed f.width v c
+low_wrapped = NumberLemmas.low_wrapped
+
+pub not_negative : (n : ℕ) → is_negative (pos n) ≡ false
+not_negative = NumberLemmas.not_negative
+
+pub sign_and_magnitude : (v : ℤ) → with_sign (is_negative v) (unsigned_abs v) ≡ v
+sign_and_magnitude = NumberLemmas.sign_and_magnitude
+
+-- what a policy does not refuse has the image, and what has none is refused
+pub admitted_image : (policy : Policy) (f : FormatParts) (v : ℤ) (image : Image) (answer : Option ℤ) → IsImageUnlessRefused policy f v image → IfSome answer (λ c. ¬ IsRefused policy image.is_out_of_range × (c ≡ number_of_image image)) → IfSome answer (λ c. IsImage policy f.signed f.width v c)
+admitted_image = NumberLemmas.admitted_image
+
+pub admitted_none : (policy : Policy) (out : Bool) (N Out : Type 0) → N ↔ IsRefused policy out → (IsTrue out ↔ Out) → N ↔ ((policy ≡ Checked) × Out)
+admitted_none = NumberLemmas.admitted_none
+
+pub admitted_range : (policy : Policy) (f : FormatParts) (image : Image) (answer : Option ℤ) → IsInRange f.signed f.width (number_of_image image) → IfSome answer (λ c. ¬ IsRefused policy image.is_out_of_range × (c ≡ number_of_image image)) → IfSome answer (λ c. IsInRange f.signed f.width c)
+admitted_range = NumberLemmas.admitted_range
+
+pub admitted_wide : (policy : Policy) (f : FormatParts) (image : Image) (answer : Option ℤ) → IsFormat f.width f.frac → IsInRange f.signed f.width (number_of_image image) → IfSome answer (λ c. ¬ IsRefused policy image.is_out_of_range × (c ≡ number_of_image image)) → IfSome answer IsWide
+admitted_wide = NumberLemmas.admitted_wide
 
 -- ---- the nearest whole number
 pub nearest_exists : (num den : ℕ) → 0 < den → (q : ℕ) × IsNearest num den q

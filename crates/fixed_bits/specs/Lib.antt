@@ -1,5 +1,6 @@
 pub mod Ranges
 pub mod Images
+pub mod Numbers
 pub mod Down
 pub mod Lemmas
 pub mod Formats

@@ -5,7 +5,8 @@ ghost use Rattle.fixed_bits.specs.Ranges.{IsInRange, IsOutOfRange, IsWide, lowes
 ghost use Rattle.fixed_bits.specs.Formats.{IsFormat};
 ghost use Rattle.fixed_bits.specs.Images.{IsImage, IsWrapped};
 
-use crate::masks::{low_bits, mask};
+use crate::masks::mask;
+use crate::number::{Number, greatest_magnitude, signed_number};
 use std::marker::Model;
 
 /// A sign rule, a width in bits of 8, 16, 32 or 64, and a fraction length in bits of at most the width.
@@ -86,19 +87,14 @@ impl Format {
     pub fn lowest(self) -> i128
         ensures { result ≡ lowest self.signed self.width }
     {
-        if self.signed { -half(self.width()) } else { 0 }
+        signed_number(true, greatest_magnitude(self, true))
     }
 
     /// The greatest bits, as a number.
     pub fn greatest(self) -> i128
         ensures { result ≡ greatest self.signed self.width }
     {
-        let count = if self.signed {
-            half(self.width())
-        } else {
-            power(self.width())
-        };
-        count - 1
+        i128::from(greatest_magnitude(self, false))
     }
 
     /// Whether a number is in the format's range.
@@ -130,47 +126,7 @@ impl Policy {
         ensures range { IfSome result (λ c. IsInRange format.signed format.width c) }
         ensures wide { IfSome result IsWide }
     {
-        let low = format.lowest();
-        let high = format.greatest();
-        if low <= v && v <= high {
-            return Some(v);
-        }
-        match self {
-            Policy::Checked => None,
-            Policy::Saturating => Some(if v < low { low } else { high }),
-            Policy::Wrapping => Some(wrapped_image(format, v, high)),
-        }
-    }
-}
-
-/// Two to the power of `n - 1`.
-fn half(n: u32) -> i128
-    requires some { 0 < n }
-    requires most { n ≤ 64 }
-    ensures { result ≡ pos (2 ^ (n - 1)) }
-{
-    power(n - 1)
-}
-
-/// Two to the power of `n`.
-fn power(n: u32) -> i128
-    requires { n ≤ 64 }
-    ensures { result ≡ pos (2 ^ n) }
-{
-    1 << n
-}
-
-/// The number in range that differs from `v` by a multiple of two to the power of the width.
-fn wrapped_image(format: Format, v: i128, high: i128) -> i128
-    requires { high ≡ greatest format.signed format.width }
-    ensures image { IsWrapped format.signed format.width v result }
-    ensures wide { IsWide result }
-{
-    let rest = low_bits(v, format.width()) as i128;
-    if rest > high {
-        rest - power(format.width())
-    } else {
-        rest
+        Number::of(v).image(format, self).admitted(self)
     }
 }
 
@@ -187,108 +143,4 @@ pub fn mul10(rest: u64, bits: u32) -> (u8, u64)
         (product >> bits) as u8,
         (product & mask(bits) as u128) as u64,
     )
-}
-
-#[cfg(test)]
-mod tests {
-    use super::*;
-
-    fn is_format(width: u32, frac: u32) -> bool {
-        Format::new(true, width, frac).is_some()
-    }
-
-    #[test]
-    fn formats_at_the_edges_of_validity(rt: HostRuntime) {
-        assert!(rt; is_format(8, 8));
-        assert!(rt; !is_format(8, 9));
-        assert!(rt; is_format(64, 64));
-        assert!(rt; !is_format(64, 65));
-        assert!(rt; !is_format(0, 0));
-        assert!(rt; !is_format(24, 0));
-        assert!(rt; !is_format(128, 0));
-    }
-
-    /// The ends of the range of a format without fraction bits.
-    fn ends(signed: bool, width: u32) -> Option<(i128, i128)> {
-        match Format::new(signed, width, 0) {
-            Some(format) => Some((format.lowest(), format.greatest())),
-            None => None,
-        }
-    }
-
-    #[test]
-    fn ends_of_the_ranges(rt: HostRuntime) {
-        assert_eq!(rt; ends(true, 8), Some((-128, 127)));
-        assert_eq!(rt; ends(false, 8), Some((0, 255)));
-        assert_eq!(rt;
-            ends(true, 64),
-            Some((-9223372036854775808, 9223372036854775807))
-        );
-        assert_eq!(rt; ends(false, 64), Some((0, 18446744073709551615)));
-    }
-
-    /// A number, and its images in the format of eight bits without a sign.
-    #[derive(Drop)]
-    struct Images {
-        number: i128,
-        checked: Option<i128>,
-        saturating: i128,
-        wrapping: i128,
-    }
-
-    fn image_in_a_byte(policy: Policy, number: i128) -> Option<i128> {
-        match Format::new(false, 8, 0) {
-            Some(format) => policy.image(format, number),
-            None => None,
-        }
-    }
-
-    #[test]
-    fn a_number_through_three_policies(rt: HostRuntime) {
-        let all = [
-            Images {
-                number: 17,
-                checked: Some(17),
-                saturating: 17,
-                wrapping: 17,
-            },
-            Images {
-                number: 300,
-                checked: None,
-                saturating: 255,
-                wrapping: 44,
-            },
-            Images {
-                number: -1,
-                checked: None,
-                saturating: 0,
-                wrapping: 255,
-            },
-        ];
-        for images in &all {
-            let number = images.number;
-            assert!(rt;
-                image_in_a_byte(Policy::Checked, number) == images.checked,
-                "{number}"
-            );
-            assert!(rt;
-                image_in_a_byte(Policy::Saturating, number) == Some(images.saturating),
-                "{number}"
-            );
-            assert!(rt;
-                image_in_a_byte(Policy::Wrapping, number) == Some(images.wrapping),
-                "{number}"
-            );
-        }
-    }
-
-    #[test]
-    fn ten_times_a_fraction(rt: HostRuntime) {
-        assert!(rt;
-            mul10(13, 4) == (8, 2),
-            "13/16 begins with 8, and 2/16 are left"
-        );
-        assert!(rt; mul10(0, 0) == (0, 0));
-        assert!(rt; mul10(18446744073709551615, 64) == (9, 18446744073709551606));
-    }
 }

@@ -8,10 +8,12 @@ mod integer_types;
 pub mod laws;
 mod masks;
 pub mod mode;
+pub mod number;
 pub mod order;
 
 pub use bits::FixedBits;
 pub use format::{Format, Policy, mul10};
 pub use inner::Inner;
 pub use mode::ReadMode;
+pub use number::{Image, Number, is_refused, moved, sign_and_magnitude, signed_number};
 pub use order::{FORMAT_COUNT, format_at};

@@ -77,36 +77,3 @@ fn format_of_width(width: u32, i: u32) -> Option<Format>
         Format::new(true, width, i - width - 1)
     }
 }
-
-#[cfg(test)]
-mod tests {
-    use super::*;
-
-    /// The sign rule, width and fraction length of the format with a number.
-    fn parts_at(i: usize) -> Option<(bool, u32, u32)> {
-        match format_at(i) {
-            Some(format) => Some((format.signed(), format.width(), format.frac())),
-            None => None,
-        }
-    }
-
-    #[test]
-    fn formats_are_ordered_by_width_then_sign_then_fraction(rt: HostRuntime) {
-        assert!(rt; parts_at(0) == Some((false, 8, 0)) && parts_at(8) == Some((false, 8, 8)));
-        assert!(rt; parts_at(9) == Some((true, 8, 0)) && parts_at(17) == Some((true, 8, 8)));
-        assert!(rt; parts_at(18) == Some((false, 16, 0)) && parts_at(51) == Some((true, 16, 16)));
-        assert!(rt; parts_at(52) == Some((false, 32, 0)) && parts_at(117) == Some((true, 32, 32)));
-        assert!(rt; parts_at(118) == Some((false, 64, 0)) && parts_at(247) == Some((true, 64, 64)));
-        assert!(rt; parts_at(248) == None);
-    }
-
-    #[test]
-    fn a_rank_names_its_format(rt: HostRuntime) {
-        for i in 0..248 {
-            match format_at(i) {
-                Some(format) => assert!(rt; format.rank() == i, "{i}"),
-                None => assert!(rt; false, "{i}"),
-            }
-        }
-    }
-}

@@ -25,7 +25,7 @@ use Rattle.line_engine.specs.Lines.{lines}
 use Rattle.line_engine.specs.LineLaws.{LineComesFirst}
 use Rattle.fixed_columns.specs.Answer.{decimal_style}
 use Rattle.fixed_columns.specs.Cells.{CellParts, HoldsAsOften, IsCell, times}
-use Rattle.fixed_columns.specs.Column.{IsRow}
+use Rattle.fixed_columns.specs.CellsText.{IsRow}
 use Rattle.fixed_columns.specs.Laws.{AnswerReadsBack, ColumnReadsBack}
 use Rattle.fixed_columns.specs.Rows.{SpellAll, Spells, after_spaces}
 use Rattle.fixed_columns.specs.Lemmas.SortedLemmas.{IsAt, occurs, times_cons, times_head}

@@ -6,7 +6,7 @@ use Rattle.fixed_write.specs.declared.style.Align.TheVariants.{Right}
 use Rattle.fixed_write.specs.declared.style.Style.{Style}
 use Rattle.line_engine.specs.AnswerText.{AnswerText}
 use Rattle.fixed_columns.specs.Cells.{CellParts, HoldsAsOften, IsInOrder}
-use Rattle.fixed_columns.specs.Column.{IsColumnText}
+use Rattle.fixed_columns.specs.CellsText.{IsCellsText}
 use Rattle.fixed_columns.specs.Rows.{IsCellsOf, IsFaultOf}
 use Rattle.fixed_columns.specs.declared.fault.CellFault.{CellFault}
 use Rattle.fixed_columns.specs.declared.fault.CellFault.TheVariants.{MissingField, BadFormat, BadNumeral}
@@ -35,7 +35,7 @@ pub record IsColumnAnswer (input : List ℕ) (answer : AnswerText) : Type 0 wher
   pub sorted : List CellParts
   pub same : HoldsAsOften cells sorted
   pub order : IsInOrder sorted
-  pub text : IsColumnText column_style sorted answer.text
+  pub text : IsCellsText column_style sorted answer.text
   pub fault : answer.fault ≡ false
 
 -- its first fault

@@ -23,7 +23,8 @@ cell_of signed width frac bits = record { format = record { signed = signed; wid
 
 -- by width, then unsigned before signed, then by fraction length
 abbrev pub format_order : FormatParts → FormatParts → Ordering
-format_order f g = ordering_then (ordering_then (nat_cmp f.width g.width) (bool_cmp f.signed g.signed)) (nat_cmp f.frac g.frac)
+format_order f g = ordering_then (ordering_then (nat_cmp f.width g.width) (bool_cmp f.signed g.signed))
+    (nat_cmp f.frac g.frac)
 
 -- by value, then by format
 abbrev pub cell_order : CellParts → CellParts → Ordering
@@ -39,4 +40,5 @@ HoldsAsOften a b = (c : CellParts) → times c b ≡ times c a
 
 -- no cell is less than the one before it
 abbrev pub IsInOrder : List CellParts → Type 0
-IsInOrder cells = (k : ℕ) (d : CellParts) → k + 1 < length cells → is_lt (cell_order (slice_index_or cells (k + 1) d) (slice_index_or cells k d)) ≡ false
+IsInOrder cells = (k : ℕ) (d : CellParts) → k + 1 < length cells
+    → is_lt (cell_order (slice_index_or cells (k + 1) d) (slice_index_or cells k d)) ≡ false

@@ -1,6 +1,7 @@
 -- What the laws of this crate say.
-use Rattle.std.specs.Prelude.{◌≡◌, ◌↔◌, ℕ, false, List, All}
+use Rattle.std.specs.Prelude.{◌≡◌, ◌↔◌, ℕ, false, List, String, All}
 use Rattle.std.specs.Cmp.{IsTotalOrder}
+use Rattle.std.specs.declared.alloc.Global.{Global}
 use Rattle.std.specs.declared.cmp.Ordering.TheVariants.{Less, Equal}
 use Rattle.fixed_bits.specs.Formats.{FormatParts}
 use Rattle.fixed_bits.specs.Order.{IsBefore}
@@ -9,7 +10,8 @@ use Rattle.fixed_write.specs.declared.style.Style.{Style}
 use Rattle.line_engine.specs.AnswerText.{AnswerText}
 use Rattle.fixed_columns.specs.Answer.{IsWholeAnswer, decimal_style}
 use Rattle.fixed_columns.specs.Cells.{CellParts, HoldsAsOften, IsCell, IsInOrder, cell_order, format_order}
-use Rattle.fixed_columns.specs.Column.{IsColumnText}
+use Rattle.fixed_columns.specs.CellsText.{IsCellsText}
+use Rattle.fixed_columns.specs.Program.{AsksWithin}
 use Rattle.fixed_columns.specs.Rows.{IsCellsOf, IsFaultOf}
 use Rattle.fixed_columns.specs.declared.fault.CellFault.{CellFault}
 
@@ -24,11 +26,13 @@ EqualIsSame = (a b : CellParts) → (cell_order a b ≡ Equal) ↔ (a ≡ b)
 
 -- cells of different values are ordered as the values are
 abbrev pub OrderIsOfValues : Type 0
-OrderIsOfValues = (a b : CellParts) → ¬ (order_of a.bits a.format.frac b.bits b.format.frac ≡ Equal) → cell_order a b ≡ order_of a.bits a.format.frac b.bits b.format.frac
+OrderIsOfValues = (a b : CellParts) → ¬ (order_of a.bits a.format.frac b.bits b.format.frac ≡ Equal)
+    → cell_order a b ≡ order_of a.bits a.format.frac b.bits b.format.frac
 
 -- and cells of equal values as their formats are
 abbrev pub TiesAreOfFormats : Type 0
-TiesAreOfFormats = (a b : CellParts) → order_of a.bits a.format.frac b.bits b.format.frac ≡ Equal → cell_order a b ≡ format_order a.format b.format
+TiesAreOfFormats = (a b : CellParts) → order_of a.bits a.format.frac b.bits b.format.frac ≡ Equal
+    → cell_order a b ≡ format_order a.format b.format
 
 -- which is the order in which the least format of a list is chosen
 abbrev pub FormatOrderIsBefore : Type 0
@@ -45,24 +49,32 @@ CellsAreTheOnes = (text : List ℕ) (a b : List CellParts) → IsCellsOf text a 
 
 -- a text has at most one first fault, on one line
 abbrev pub FaultIsTheOne : Type 0
-FaultIsTheOne = (text : List ℕ) (p q : ℕ) (f g : CellFault) → IsFaultOf text p f → IsFaultOf text q g → (p ≡ q) × (f ≡ g)
+FaultIsTheOne = (text : List ℕ) (p q : ℕ) (f g : CellFault) → IsFaultOf text p f → IsFaultOf text q g
+    → (p ≡ q) × (f ≡ g)
 
 -- and not both: a text with a fault is refused, and no other
 abbrev pub NeverBoth : Type 0
-NeverBoth = (text : List ℕ) (cells : List CellParts) (p : ℕ) (f : CellFault) → IsCellsOf text cells → ¬ IsFaultOf text p f
+NeverBoth = (text : List ℕ) (cells : List CellParts) (p : ℕ) (f : CellFault) → IsCellsOf text cells
+    → ¬ IsFaultOf text p f
 
 -- cells have one text in a style
 abbrev pub ColumnIsTheOne : Type 0
-ColumnIsTheOne = (style : Style) (cells : List CellParts) (a b : List ℕ) → IsColumnText style cells a → IsColumnText style cells b → a ≡ b
+ColumnIsTheOne = (style : Style) (cells : List CellParts) (a b : List ℕ) → IsCellsText style cells a
+    → IsCellsText style cells b → a ≡ b
 
 -- in decimal, with spaces before the numbers up to any width, that text reads back as the cells
 abbrev pub ColumnReadsBack : Type 0
-ColumnReadsBack = (width : ℕ) (cells : List CellParts) (text : List ℕ) → All IsCell cells → IsColumnText (decimal_style width) cells text → IsCellsOf text cells
+ColumnReadsBack = (width : ℕ) (cells : List CellParts) (text : List ℕ) → All IsCell cells
+    → IsCellsText (decimal_style width) cells text → IsCellsOf text cells
 
 -- ---- the answer
 -- an input has one answer
 abbrev pub AnswerIsTheOne : Type 0
 AnswerIsTheOne = (input : List ℕ) (a b : AnswerText) → IsWholeAnswer input a → IsWholeAnswer input b → a ≡ b
+
+-- arguments ask for one limit
+abbrev pub AskedLimitIsTheOne : Type 0
+AskedLimitIsTheOne = (args : List (String Global)) (m n : ℕ) → AsksWithin args m → AsksWithin args n → m ≡ n
 
 -- the output reads back as a list that holds each cell of the input as often as the input does, in order
 pub record ReadsBackInOrder (input output : List ℕ) : Type 0 where
@@ -74,4 +86,5 @@ pub record ReadsBackInOrder (input output : List ℕ) : Type 0 where
   pub order : IsInOrder sorted
 
 abbrev pub AnswerReadsBack : Type 0
-AnswerReadsBack = (input : List ℕ) (answer : AnswerText) → IsWholeAnswer input answer → answer.fault ≡ false → ReadsBackInOrder input answer.text
+AnswerReadsBack = (input : List ℕ) (answer : AnswerText) → IsWholeAnswer input answer → answer.fault ≡ false
+    → ReadsBackInOrder input answer.text

@@ -5,10 +5,10 @@ use Rattle.std.specs.declared.alloc.Global.{Global}
 use Rattle.line_engine.specs.AnswerText.{AnswerText}
 use Rattle.line_engine.specs.Asked.{AskedWithin}
 use Rattle.line_engine.specs.Failures.{HasFailed}
-use Rattle.line_engine.specs.Output.{AppendsPrefix}
-use Rattle.line_engine.specs.Program.{Outside}
+use Rattle.line_engine.specs.Appended.{AppendsPrefix}
+use Rattle.line_engine.specs.Program.{Outside, ReadsNothing, WritesNothing}
 use Rattle.line_engine.specs.Run.{HasFailures, WritesText}
-use Rattle.line_engine.specs.WholeRun.{HasWholeRun, WritesAnswer}
+use Rattle.line_engine.specs.WholeRun.{EndsBeforeWriting, HasWholeRun, WritesAnswer}
 use Rattle.line_engine.specs.declared.status.Status.{Status}
 use Rattle.line_engine.specs.declared.status.Status.TheVariants.{Usage, WriteFault, NoMemory, TooLong}
 use Rattle.fixed_columns.specs.Answer.{IsWholeAnswer}
@@ -49,18 +49,26 @@ pub record HasColumnsRun (args : List (String Global)) (before after : Outside) 
       → ¬ HasFailed before.read_failures after.read_failures → ¬ HasFailed before.write_failures after.write_failures
       → (status ≡ NoMemory) ⊎ WritesAnswer IsWholeAnswer input before.written after.written status
   -- and a longer one is reported
-  pub too_long : (limit : ℕ) → AsksWithin args limit → (input : List ℕ) → before.left ≡ Some input → limit < length input
+  pub too_long : (limit : ℕ) → AsksWithin args limit → (input : List ℕ) → before.left ≡ Some input
+      → limit < length input
       → ¬ HasFailed before.read_failures after.read_failures → ¬ HasFailed before.write_failures after.write_failures
       → (status ≡ NoMemory) ⊎ (status ≡ TooLong)
   -- what was taken and what was written, by status
-  pub run : (limit : ℕ) → AsksWithin args limit → HasWholeRun IsWholeAnswer limit before.left after.left before.written after.written status
+  pub run : (limit : ℕ) → AsksWithin args limit
+      → HasWholeRun IsWholeAnswer limit before.left after.left before.written after.written status
   -- a prefix of the answer, where a write failed
-  pub prefix_on_write_fault : (limit : ℕ) → AsksWithin args limit → status ≡ WriteFault → (input : List ℕ) (answer : AnswerText) → before.left ≡ Some input
+  pub prefix_on_write_fault : (limit : ℕ) → AsksWithin args limit → status ≡ WriteFault
+      → (input : List ℕ) (answer : AnswerText) → before.left ≡ Some input
       → IsWholeAnswer input answer → AppendsPrefix before.written after.written answer.text
   -- what the source was asked for
   pub asked : (limit : ℕ) → AsksWithin args limit → AskedWithin limit before.asked after.asked
   -- other arguments
-  pub usage : IsUsageFault args → WritesText usage_line Usage before.written after.written before.write_failures after.write_failures status
+  pub usage : IsUsageFault args
+      → WritesText usage_line Usage before.written after.written before.write_failures after.write_failures status
   pub usage_only : status ≡ Usage → IsUsageFault args
   -- which count of failures rose, by status
   pub failures : HasFailures before.read_failures after.read_failures before.write_failures after.write_failures status
+  -- a run by other arguments reads nothing
+  pub untouched : IsUsageFault args → ReadsNothing before after
+  -- a run that ended before its input did, or for want of memory, wrote nothing
+  pub unwritten : EndsBeforeWriting status → WritesNothing before after

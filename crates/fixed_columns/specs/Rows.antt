@@ -76,12 +76,14 @@ HasFault line (BadNumeral kind) = HasBadNumeral line kind
 -- the lines spell the cells, one each, in order
 abbrev pub SpellAll : List (List ℕ) → List CellParts → Type 0
 SpellAll [] cells = cells ≡ []
-SpellAll (line ∷ lines) cells = (c : CellParts) × (more : List CellParts) × Spells line c × (cells ≡ c ∷ more) × SpellAll lines more
+SpellAll (line ∷ lines) cells = (c : CellParts) × (more : List CellParts) × Spells line c × (cells ≡ c ∷ more)
+    × SpellAll lines more
 
 -- the first fault of the lines, which are numbered from n on, is this one, on line p
 abbrev pub FailAt : ℕ → List (List ℕ) → ℕ → CellFault → Type 0
 FailAt n [] p fault = ⊥
-FailAt n (line ∷ lines) p fault = (HasFault line fault × (p ≡ n)) ⊎ (((c : CellParts) × Spells line c) × FailAt (n + 1) lines p fault)
+FailAt n (line ∷ lines) p fault = (HasFault line fault × (p ≡ n))
+    ⊎ (((c : CellParts) × Spells line c) × FailAt (n + 1) lines p fault)
 
 -- the cells of a text
 abbrev pub IsCellsOf : List ℕ → List CellParts → Type 0

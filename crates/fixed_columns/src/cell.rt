@@ -15,8 +15,8 @@ use fixed_point::Fixed;
 use std::cmp::Ordering;
 use std::marker::Model;
 
-/// A number of a format. Equal cells have the same format and the same bits; their order is that of their values, ties in
-/// the order of their formats: by width, then unsigned before signed, then by fraction length.
+/// A number of a format. Equal cells have the same format and the same bits; their order is that of their values, ties
+/// in the order of their formats: by width, then unsigned before signed, then by fraction length.
 #[derive(Clone, Copy, Debug, PartialEq, Eq)]
 pub struct Cell {
     format: Format,

@@ -7,9 +7,9 @@ ghost use Rattle.fixed_columns.specs.Rows.{IsCellsOf, IsErrorOf};
 use crate::cell::Cell;
 use crate::fault::CellsError;
 use crate::row::read_row;
+use line_engine::first_line;
 use std::alloc::Global;
 use std::marker::Model;
-use line_engine::first_line;
 
 /// Cells in a list. It is seen as the list of their formats and bits.
 #[derive(Drop)]

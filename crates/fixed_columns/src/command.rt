@@ -7,10 +7,11 @@ ghost use Rattle.fixed_columns.specs.Program.{AsksWithin, IsUsageFault};
 use itoa::Buffer;
 use line_engine::{MAX_LIMIT, MAX_WHOLE};
 
-/// The number from 1 to 4,294,967,296 that the word is in decimal, without a leading zero. None where it is none.
+/// The number from 1 to 4,294,967,296 that the word is in decimal, without a leading zero. None where it is not one.
 fn limit_word(word: &str) -> Option<u64>
-    ensures number { MatchOption result ((n : ℕ) → 1 ≤ n → n ≤ MAX_LIMIT → ¬ (word.now ≡ decimal n)) (λ n. word.now ≡ decimal n) }
-    ensures range { IfSome result (λ n. (1 ≤ n) × (n ≤ MAX_LIMIT)) }
+    ensures number { MatchOption result ((n : ℕ) → 1 ≤ n → n ≤ 4294967296
+        → ¬ (word.now ≡ decimal n)) (λ n. word.now ≡ decimal n) }
+    ensures range { IfSome result (λ n. (1 ≤ n) × (n ≤ 4294967296)) }
 {
     let Ok(number) = word.parse::<u64>() else {
         return None;
@@ -26,7 +27,7 @@ fn limit_word(word: &str) -> Option<u64>
 /// How many bytes of input the arguments ask for at most. None where they ask for nothing.
 pub fn asked_limit(args: &[String]) -> Option<u64>
     ensures limit { MatchOption result (IsUsageFault args.now) (λ n. AsksWithin args.now n) }
-    ensures most { IfSome result (λ n. n ≤ MAX_LIMIT) }
+    ensures most { IfSome result (λ n. n ≤ 4294967296) }
 {
     match args {
         [] => Some(MAX_WHOLE),

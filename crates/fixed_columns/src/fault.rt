@@ -1,4 +1,4 @@
-//! Why a text is no column.
+//! Why a text is not a column.
 
 use fixed_numeral::ParseFixedError;
 
@@ -7,7 +7,7 @@ use fixed_numeral::ParseFixedError;
 pub enum CellFault {
     /// No space after the leading spaces.
     MissingField,
-    /// What follows the space after the numeral is no format word.
+    /// What follows the space after the numeral is not a format word.
     BadFormat,
     /// The numeral is refused for the format, for this reason.
     BadNumeral(ParseFixedError),

@@ -3,6 +3,7 @@
 ghost use Rattle.fixed_columns.specs.Laws.{
   AnswerIsTheOne,
   AnswerReadsBack,
+  AskedLimitIsTheOne,
   CellsAreTheOnes,
   ColumnIsTheOne,
   ColumnReadsBack,
@@ -82,7 +83,13 @@ pub fn answer_is_the_one()
     ensures { AnswerIsTheOne }
 {}
 
-/// An answer without a fault reads back as a list that holds each cell of the input as often as the input does, in order.
+/// Arguments ask for at most one limit.
+pub fn asked_limit_is_the_one()
+    ensures { AskedLimitIsTheOne }
+{}
+
+/// An answer without a fault reads back as a list that holds each cell of the input as often as the input does, in
+/// order.
 pub fn answer_reads_back()
     ensures { AnswerReadsBack }
 {

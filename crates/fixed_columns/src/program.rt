@@ -4,7 +4,7 @@ ghost use Rattle.std.specs.Prelude.{◌≡◌, ◌≤◌, ◌<◌, ◌⊎◌, Li
 ghost use Rattle.line_engine.specs.AnswerText.{AnswerText};
 ghost use Rattle.line_engine.specs.Asked.{AskedWithin};
 ghost use Rattle.line_engine.specs.Failures.{HasFailed};
-ghost use Rattle.line_engine.specs.Output.{AppendsPrefix};
+ghost use Rattle.line_engine.specs.Appended.{AppendsPrefix};
 ghost use Rattle.line_engine.specs.Run.{HasFailures, WritesText};
 ghost use Rattle.line_engine.specs.WholeRun.{EndsBeforeWriting, HasWholeRun, WritesAnswer};
 ghost use Rattle.fixed_columns.specs.Answer.{IsWholeAnswer};
@@ -22,9 +22,10 @@ const USAGE: &[u8] = b"usage: columns_tool\n";
 
 /// Answers an input with the column of its cells in order, or with its first fault.
 ///
-/// Without arguments the input has at most 1,048,576 bytes, and with `limit N` at most N, from 1 to 4,294,967,296. N is in
-/// decimal, without a sign or a leading zero. For other arguments it writes the usage line and reads nothing. Memory for
-/// 1,048,577 bytes is taken before the first read, more as a longer input grows, and some for the cells and the answer.
+/// Without arguments the input has at most 1,048,576 bytes, and with `limit N` at most N, from 1 to 4,294,967,296. N is
+/// in decimal, without a sign or a leading zero. For other arguments it writes the usage line and reads nothing. Memory
+/// for 1,048,577 bytes is taken before the first read, more as a longer input grows, and some for the cells and the
+/// answer.
 pub fn run_columns<S: Source, K: Sink, L: Ledger>(
     alloc: Global,
     words: &[String],
@@ -32,35 +33,48 @@ pub fn run_columns<S: Source, K: Sink, L: Ledger>(
     sink: &mut K,
     steps: &mut Steps<L>,
 ) -> Status
-    // For every input within the limit, with no failed read or write, the run writes the column of its cells in order or
-    // its first fault, and nothing else; or there was no memory.
-    ensures output { (limit : ℕ) → AsksWithin words.now limit → (input : List ℕ) → S.left source.old ≡ Some input → length input ≤ limit
-        → ¬ HasFailed (S.failures source.old) (S.failures source.new) → ¬ HasFailed (K.failures sink.old) (K.failures sink.new)
-        → (result ≡ Status.NoMemory) ⊎ WritesAnswer IsWholeAnswer input (K.written sink.old) (K.written sink.new) result }
+    // For every input within the limit, with no failed read or write, the run writes the column of its cells in order
+    // or its first fault, and nothing else; or there was no memory.
+    ensures output { (limit : ℕ) → AsksWithin words.now limit → (input : List ℕ) → S.left source.old ≡ Some input
+        → length input ≤ limit
+        → ¬ HasFailed (S.failures source.old) (S.failures source.new)
+        → ¬ HasFailed (K.failures sink.old) (K.failures sink.new)
+        → (result ≡ Status.NoMemory)
+        ⊎ WritesAnswer IsWholeAnswer input (K.written sink.old) (K.written sink.new) result }
 
     // A longer input is reported.
-    ensures too_long { (limit : ℕ) → AsksWithin words.now limit → (input : List ℕ) → S.left source.old ≡ Some input → limit < length input
-        → ¬ HasFailed (S.failures source.old) (S.failures source.new) → ¬ HasFailed (K.failures sink.old) (K.failures sink.new)
+    ensures too_long { (limit : ℕ) → AsksWithin words.now limit → (input : List ℕ) → S.left source.old ≡ Some input
+        → limit < length input
+        → ¬ HasFailed (S.failures source.old) (S.failures source.new)
+        → ¬ HasFailed (K.failures sink.old) (K.failures sink.new)
         → (result ≡ Status.NoMemory) ⊎ (result ≡ Status.TooLong) }
 
     // What was taken and what was written, by status, also after a failed read or write.
-    ensures run { (limit : ℕ) → AsksWithin words.now limit → HasWholeRun IsWholeAnswer limit (S.left source.old) (S.left source.new) (K.written sink.old) (K.written sink.new) result }
-    ensures prefix_on_write_fault { (limit : ℕ) → AsksWithin words.now limit → result ≡ Status.WriteFault → (input : List ℕ) (answer : AnswerText) → S.left source.old ≡ Some input
+    ensures run { (limit : ℕ) → AsksWithin words.now limit
+        → HasWholeRun IsWholeAnswer limit (S.left source.old) (S.left source.new) (K.written sink.old)
+        (K.written sink.new) result }
+    ensures prefix_on_write_fault { (limit : ℕ) → AsksWithin words.now limit → result ≡ Status.WriteFault
+        → (input : List ℕ) (answer : AnswerText) → S.left source.old ≡ Some input
         → IsWholeAnswer input answer → AppendsPrefix (K.written sink.old) (K.written sink.new) answer.text }
 
     // A run that ended before its input did, or for want of memory, left the sink as it was.
     ensures unwritten { EndsBeforeWriting result → sink.new ≡ sink.old }
 
-    // What the source was asked for: no read asked for more than the limit and one byte less those taken, or for more than 4,096.
-    ensures asked { (limit : ℕ) → AsksWithin words.now limit → AskedWithin limit (S.asked source.old) (S.asked source.new) }
+    // What the source was asked for: no read asked for more than the limit and one byte less those taken, or for more
+    // than 4,096.
+    ensures asked { (limit : ℕ) → AsksWithin words.now limit
+        → AskedWithin limit (S.asked source.old) (S.asked source.new) }
 
     // Other arguments.
-    ensures usage { IsUsageFault words.now → WritesText usage_line Status.Usage (K.written sink.old) (K.written sink.new) (K.failures sink.old) (K.failures sink.new) result }
+    ensures usage { IsUsageFault words.now
+        → WritesText usage_line Status.Usage (K.written sink.old) (K.written sink.new) (K.failures sink.old)
+        (K.failures sink.new) result }
     ensures usage_only { result ≡ Status.Usage → IsUsageFault words.now }
     ensures untouched { IsUsageFault words.now → source.new ≡ source.old }
 
     // Which count of failures rose, by status.
-    ensures failures { HasFailures (S.failures source.old) (S.failures source.new) (K.failures sink.old) (K.failures sink.new) result }
+    ensures failures { HasFailures (S.failures source.old) (S.failures source.new) (K.failures sink.old)
+        (K.failures sink.new) result }
 {
     match asked_limit(words) {
         Some(limit) => run_whole(alloc, limit, &ColumnsRule, source, sink, steps),

@@ -1,23 +1,16 @@
 //! What a line spells.
 
-ghost use Rattle.std.specs.Prelude.{◌≡◌, ◌<◌, IfOk, IfErr};
-ghost use Rattle.fixed_bits.specs.declared.mode.ReadMode.TheVariants.{NearestEven};
-ghost use Rattle.fixed_numeral.specs.Answer.{IsReadOrRefused};
-ghost use Rattle.fixed_numeral.specs.declared.radix.Radix.TheVariants.{Dec};
-ghost use Rattle.fixed_read.specs.Reading.{IsReading};
+ghost use Rattle.std.specs.Prelude.{◌≡◌, IfOk, IfErr};
 ghost use Rattle.fixed_columns.specs.Rows.{HasFault, IsNumeralOf, IsRefusedNumeral, Spells, after_spaces};
 
 use crate::cell::Cell;
 use crate::fault::CellFault;
+use crate::uncounted::read_decimal_uncounted;
 use fixed_bits::{Format, Policy};
-use fixed_numeral::{ParseErrorKind, ParseFixedError, Radix};
-use fixed_read::{ReadMode, ReadNumber, read_format};
+use fixed_numeral::{ParseErrorKind, ParseFixedError};
 use fixed_respell::{format_word, split_once};
-use fixed_steps::Steps;
-use std::marker::Brand;
-use std::sync::ledger::{Blank, Ledger};
 
-/// A line from its first byte that is no space.
+/// A line from its first byte that is not a space.
 fn without_leading_spaces(line: &[u8]) -> &[u8]
     ensures { result.now ≡ after_spaces line.now }
 {
@@ -29,34 +22,12 @@ fn without_leading_spaces(line: &[u8]) -> &[u8]
     &line[line.len()..]
 }
 
-/// The reading of a decimal numeral to the nearest ulp, ties to even, over a ledger that no other counter uses.
-fn read_decimal_over<L: Ledger>(
-    numeral: &[u8],
-    format: Format,
-    blank: Blank,
-) -> Result<ReadNumber, ParseFixedError>
-    requires name { blank.name ≡ L.name }
-    requires parts { blank.parts ≡ L.parts }
-    requires backed { 0 < L.parts }
-    ensures reading { IsReadOrRefused Dec numeral.now (IsReading NearestEven Dec) result }
-    ensures format { IfOk result (λ found. found.format ≡ format) }
-{
-    let mut steps: Steps<L> = Steps::new(blank);
-    read_format(
-        numeral,
-        Radix::Dec,
-        format,
-        ReadMode::NearestEven,
-        &mut steps,
-    )
-}
-
 /// The cell of a format that a decimal numeral is read as.
 fn numeral_cell(numeral: &[u8], format: Format) -> Result<Cell, ParseFixedError>
     ensures cell { IfOk result (λ c. (c.format ≡ format) × IsNumeralOf format numeral.now c.bits) }
     ensures refused { IfErr result (λ kind. IsRefusedNumeral format numeral.now kind) }
 {
-    match read_decimal_over::<Brand>(numeral, format, Blank::new(1)) {
+    match read_decimal_uncounted(numeral, format) {
         Ok(found) => match found.image(Policy::Checked) {
             Some(bits) => Ok(Cell::within(format, bits)),
             None => Err(ParseFixedError::new(ParseErrorKind::Overflow)),

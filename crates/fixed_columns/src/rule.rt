@@ -5,15 +5,15 @@ ghost use Rattle.fixed_columns.specs.Answer.{IsWholeAnswer, column_style, fault_
 ghost use Rattle.fixed_columns.specs.Lemmas.ColumnsLemmas.{answer_one};
 
 use crate::cells::read_cells;
-use crate::column::write_cells;
+use crate::cells_text::write_cells;
 use crate::fault::{CellFault, CellsError};
 use fixed_steps::Steps;
 use fixed_write::{Notation, Style};
 use itoa::Buffer;
 use line_engine::{WholeAnswer, WholeRule};
-use text_buffer::NoMemory;
 use std::alloc::{AllocError, Global};
 use std::sync::ledger::Ledger;
+use text_buffer::NoMemory;
 
 /// The rule that answers a text of cells.
 #[derive(Clone, Copy, Debug, PartialEq, Eq)]

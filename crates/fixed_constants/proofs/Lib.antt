@@ -7,4 +7,4 @@ mod LiteralLemmas
 mod EntryLemmas
 mod OwnAnswerLemmas
 mod FormLemmas
-mod FormProgramLemmas
+mod ProgramLemmas

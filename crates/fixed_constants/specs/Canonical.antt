@@ -17,7 +17,8 @@ literal_text c g = sign_text (is_negative c) ++ (hex_prefix ++ exact_text 16 fal
 
 -- the line of a constant, without a newline
 abbrev pub entry_line : ConstantParts → List ℕ
-entry_line c = c.name ++ space ∷ (equals_sign ++ space ∷ (literal_text c.bits c.format.frac ++ space ∷ format_text c.format))
+entry_line c = c.name
+    ++ space ∷ (equals_sign ++ space ∷ (literal_text c.bits c.format.frac ++ space ∷ format_text c.format))
 
 abbrev pub entry_text : ConstantParts → List ℕ
 entry_text c = entry_line c ++ 10 ∷ []

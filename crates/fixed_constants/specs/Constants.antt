@@ -72,7 +72,8 @@ pub record IsLiteralOf (f : FormatParts) (bytes : List ℕ) (bits : ℤ) : Type 
 -- the bytes are refused as a literal of the format, for this reason
 abbrev pub IsRefusedLiteral : FormatParts → List ℕ → ParseErrorKind → Type 0
 IsRefusedLiteral f bytes kind = HasLiteralCause f.signed bytes kind
-    ⊎ ((kind ≡ Overflow) × IsReadOutOfRange NearestEven (literal_radix f.signed bytes) (HasLiteral f.signed bytes) f.frac f.signed f.width)
+    ⊎ ((kind ≡ Overflow) × IsReadOutOfRange NearestEven (literal_radix f.signed bytes)
+    (HasLiteral f.signed bytes) f.frac f.signed f.width)
 
 -- the line spells the constant, whatever other lines there are
 pub record Spells (line : List ℕ) (c : ConstantParts) : Type 0 where
@@ -105,7 +106,8 @@ HasFault before line MissingField = (¬ IsPassedOver line) × (count_of space li
 HasFault before line BadName = (x : Fields line) × (¬ IsName x.name)
 HasFault before line MissingEquals = (x : Fields line) × IsName x.name × (¬ (x.equals ≡ equals_sign))
 HasFault before line BadFormat = (x : Fields line) × HasHead line x × ((f : FormatParts) → ¬ IsFormatWord x.format f)
-HasFault before line (BadLiteral kind) = (x : Fields line) × HasHead line x × (f : FormatParts) × IsFormatWord x.format f × IsRefusedLiteral f x.literal kind
+HasFault before line (BadLiteral kind) = (x : Fields line) × HasHead line x × (f : FormatParts)
+    × IsFormatWord x.format f × IsRefusedLiteral f x.literal kind
 HasFault before line (Duplicate first) = (c : ConstantParts) × Spells line c × IsNamedOn before c.name first
 
 -- what a line that comes after the lines `before` says: a constant, or a fault
@@ -118,13 +120,15 @@ Says before line (Err fault) = HasFault before line fault
 abbrev pub Declare : List (List ℕ) → List (List ℕ) → List ConstantParts → Type 0
 Declare before [] constants = constants ≡ []
 Declare before (line ∷ lines) constants = (IsPassedOver line × Declare (before ++ line ∷ []) lines constants)
-    ⊎ ((c : ConstantParts) × (more : List ConstantParts) × Says before line (Ok c) × (constants ≡ c ∷ more) × Declare (before ++ line ∷ []) lines more)
+    ⊎ ((c : ConstantParts) × (more : List ConstantParts) × Says before line (Ok c) × (constants ≡ c ∷ more)
+    × Declare (before ++ line ∷ []) lines more)
 
 -- the first fault of lines that come after the lines `before` is this one, on line p
 abbrev pub FailAt : List (List ℕ) → List (List ℕ) → ℕ → ConstantFault → Type 0
 FailAt before [] p fault = ⊥
 FailAt before (line ∷ lines) p fault = (Says before line (Err fault) × (p ≡ length before + 1))
-    ⊎ ((IsPassedOver line ⊎ ((c : ConstantParts) × Says before line (Ok c))) × FailAt (before ++ line ∷ []) lines p fault)
+    ⊎ ((IsPassedOver line ⊎ ((c : ConstantParts) × Says before line (Ok c)))
+    × FailAt (before ++ line ∷ []) lines p fault)
 
 -- the constants of a text
 abbrev pub IsConstantsOf : List ℕ → List ConstantParts → Type 0
@@ -148,4 +152,5 @@ HasName name (c ∷ constants) = (c.name ≡ name) ⊎ HasName name constants
 -- the first constant of the name
 abbrev pub IsFirstNamed : List ℕ → List ConstantParts → ConstantParts → Type 0
 IsFirstNamed name [] c = ⊥
-IsFirstNamed name (d ∷ constants) c = ((d.name ≡ name) × (c ≡ d)) ⊎ ((¬ (d.name ≡ name)) × IsFirstNamed name constants c)
+IsFirstNamed name (d ∷ constants) c = ((d.name ≡ name) × (c ≡ d))
+    ⊎ ((¬ (d.name ≡ name)) × IsFirstNamed name constants c)

@@ -5,7 +5,7 @@ use Rattle.std.specs.Int.{is_negative}
 use Rattle.memchr.specs.Find.{OccursAt}
 use Rattle.fixed_bits.specs.Formats.{FormatParts}
 use Rattle.fixed_respell.specs.LineWords.{space}
-use Rattle.fixed_respell.specs.Words.{format_text, sign_letter}
+use Rattle.fixed_respell.specs.Words.{format_text}
 use Rattle.fixed_write.specs.Texts.{shortest_text}
 use Rattle.line_engine.specs.AnswerText.{AnswerText}
 use Rattle.line_engine.specs.Lines.{lines}
@@ -20,13 +20,39 @@ use Rattle.fixed_constants.specs.declared.form.Form.{Form}
 use Rattle.fixed_constants.specs.declared.form.Form.TheVariants.{Canonical, C, Rust}
 
 -- ---- names that a language reserves
--- the keywords of C, and the macros that a header uses, each between two spaces
+-- the keywords of C, and what <stdint.h> names: types and macros; each between two spaces
 unfoldable pub c_words : List ℕ
-c_words = codes " INT16_C INT32_C INT64_C INT8_C UINT16_C UINT32_C UINT64_C UINT8_C _Alignas _Alignof _Atomic _BitInt _Bool _Complex _Decimal128 _Decimal32 _Decimal64 _Generic _Imaginary _Noreturn _Static_assert _Thread_local alignas alignof asm auto bool break case char const constexpr continue default defined do double else enum extern false float for goto if inline int long nullptr register restrict return short signed sizeof static static_assert struct switch thread_local true typedef typeof typeof_unqual union unsigned void volatile while "
+c_words =
+    codes " _Alignas _Alignof _Atomic _BitInt _Bool _Complex _Decimal128 _Decimal32 _Decimal64 _Generic" ++
+    (codes " _Imaginary _Noreturn _Static_assert _Thread_local alignas alignof asm auto bool break case char" ++
+    (codes " const constexpr continue default defined do double else enum extern false float for goto if inline" ++
+    (codes " int long nullptr register restrict return short signed sizeof static static_assert struct switch" ++
+    (codes " thread_local true typedef typeof typeof_unqual union unsigned void volatile while" ++
+    (codes " int16_t int32_t int64_t int8_t int_fast16_t int_fast32_t int_fast64_t int_fast8_t int_least16_t" ++
+    (codes " int_least32_t int_least64_t int_least8_t intmax_t intptr_t uint16_t uint32_t uint64_t uint8_t" ++
+    (codes " uint_fast16_t uint_fast32_t uint_fast64_t uint_fast8_t uint_least16_t uint_least32_t uint_least64_t" ++
+    (codes " uint_least8_t uintmax_t uintptr_t" ++
+    (codes " INT16_C INT16_MAX INT16_MIN INT16_WIDTH INT32_C INT32_MAX INT32_MIN INT32_WIDTH INT64_C INT64_MAX" ++
+    (codes " INT64_MIN INT64_WIDTH INT8_C INT8_MAX INT8_MIN INT8_WIDTH INTMAX_C INTMAX_MAX INTMAX_MIN" ++
+    (codes " INTMAX_WIDTH INTPTR_MAX INTPTR_MIN INTPTR_WIDTH INT_FAST16_MAX INT_FAST16_MIN INT_FAST16_WIDTH" ++
+    (codes " INT_FAST32_MAX INT_FAST32_MIN INT_FAST32_WIDTH INT_FAST64_MAX INT_FAST64_MIN INT_FAST64_WIDTH" ++
+    (codes " INT_FAST8_MAX INT_FAST8_MIN INT_FAST8_WIDTH INT_LEAST16_MAX INT_LEAST16_MIN INT_LEAST16_WIDTH" ++
+    (codes " INT_LEAST32_MAX INT_LEAST32_MIN INT_LEAST32_WIDTH INT_LEAST64_MAX INT_LEAST64_MIN INT_LEAST64_WIDTH" ++
+    (codes " INT_LEAST8_MAX INT_LEAST8_MIN INT_LEAST8_WIDTH PTRDIFF_MAX PTRDIFF_MIN PTRDIFF_WIDTH SIG_ATOMIC_MAX" ++
+    (codes " SIG_ATOMIC_MIN SIG_ATOMIC_WIDTH SIZE_MAX SIZE_WIDTH UINT16_C UINT16_MAX UINT16_WIDTH UINT32_C" ++
+    (codes " UINT32_MAX UINT32_WIDTH UINT64_C UINT64_MAX UINT64_WIDTH UINT8_C UINT8_MAX UINT8_WIDTH UINTMAX_C" ++
+    (codes " UINTMAX_MAX UINTMAX_WIDTH UINTPTR_MAX UINTPTR_WIDTH UINT_FAST16_MAX UINT_FAST16_WIDTH" ++
+    (codes " UINT_FAST32_MAX UINT_FAST32_WIDTH UINT_FAST64_MAX UINT_FAST64_WIDTH UINT_FAST8_MAX UINT_FAST8_WIDTH" ++
+    (codes " UINT_LEAST16_MAX UINT_LEAST16_WIDTH UINT_LEAST32_MAX UINT_LEAST32_WIDTH UINT_LEAST64_MAX" ++
+    (codes " UINT_LEAST64_WIDTH UINT_LEAST8_MAX UINT_LEAST8_WIDTH WCHAR_MAX WCHAR_MIN WCHAR_WIDTH WINT_MAX" ++
+    (codes " WINT_MIN WINT_WIDTH "))))))))))))))))))))))
 
 -- the keywords of Rust, each between two spaces
 unfoldable pub rust_words : List ℕ
-rust_words = codes " Self _ abstract as async await become box break const continue crate do dyn else enum extern false final fn for gen if impl in let loop macro match mod move mut override priv pub ref return self static struct super trait true try type typeof unsafe unsized use virtual where while yield "
+rust_words =
+    codes " Self _ abstract as async await become box break const continue crate do dyn else enum extern false" ++
+    (codes " final fn for gen if impl in let loop macro match mod move mut override priv pub ref return self" ++
+    (codes " static struct super trait true try type typeof unsafe unsized use virtual where while yield "))
 
 abbrev pub words_in : Form → List ℕ
 words_in Canonical = []
@@ -57,10 +83,12 @@ ReservedFrom n form guard (line ∷ lines) p = (HasReserved form guard line × (
 abbrev pub IsReservedOn : Form → List ℕ → List ℕ → ℕ → Type 0
 IsReservedOn form guard text p = ReservedFrom 1 form guard (lines text) p
 
--- the first fault of a text that is to be written in the form: its own, or a reserved name, whichever is on the earlier line; on one line the name
+-- the first fault of a text that is to be written in the form: its own, or a reserved name, whichever is on the earlier
+-- line; on one line the name
 abbrev pub IsFormFault : Form → List ℕ → List ℕ → ℕ → ConstantFault → Type 0
 IsFormFault form guard text p fault = (IsFaultOf text p fault × ((q : ℕ) → IsReservedOn form guard text q → p < q))
-    ⊎ ((fault ≡ BadName) × IsReservedOn form guard text p × ((q : ℕ) (other : ConstantFault) → IsFaultOf text q other → p ≤ q))
+    ⊎ ((fault ≡ BadName) × IsReservedOn form guard text p
+    × ((q : ℕ) (other : ConstantFault) → IsFaultOf text q other → p ≤ q))
 
 -- what an error says of a text that is to be written in the form
 abbrev pub IsFormError : Form → List ℕ → List ℕ → ConstantsError → Type 0
@@ -101,18 +129,16 @@ abbrev pub c_line : ConstantParts → List ℕ
 c_line c = codes "#define " ++ (c.name ++ space ∷ (c_number c.format c.bits ++ c_comment c.format c.bits))
 
 -- ---- Rust
--- the type of a format without its fraction length
+-- the type of a format in the Rust crate fixed
 unfoldable pub rust_type : FormatParts → List ℕ
-rust_type f = codes "Fixed" ++ sign_letter f.signed ∷ decimal f.width
+rust_type f = codes "fixed::types::" ++ format_text f
 
 unfoldable pub rust_value : FormatParts → ℤ → List ℕ
 rust_value f bits = rust_type f ++ (codes "::from_bits(" ++ (literal_text bits 0 ++ codes ");\n"))
 
-unfoldable pub rust_full_type : FormatParts → List ℕ
-rust_full_type f = rust_type f ++ (codes "<" ++ (decimal f.frac ++ codes "> = "))
-
 abbrev pub rust_line : ConstantParts → List ℕ
-rust_line c = codes "pub const " ++ (c.name ++ (codes ": " ++ (rust_full_type c.format ++ rust_value c.format c.bits)))
+rust_line c = codes "pub const "
+    ++ (c.name ++ (codes ": " ++ (rust_type c.format ++ (codes " = " ++ rust_value c.format c.bits))))
 
 -- ---- a file
 abbrev pub form_line : Form → ConstantParts → List ℕ
@@ -170,7 +196,7 @@ pub record IsFormRefusal (form : Form) (guard input : List ℕ) (answer : Answer
 abbrev pub IsSourceAnswer : Form → List ℕ → List ℕ → AnswerText → Type 0
 IsSourceAnswer form guard input answer = IsFormText form guard input answer ⊎ IsFormRefusal form guard input answer
 
--- the answer to an input in a form; in the canonical form it is that of `run_constants`
+-- the answer to an input in a form
 abbrev pub IsFormAnswer : Form → List ℕ → List ℕ → AnswerText → Type 0
 IsFormAnswer Canonical guard input answer = IsWholeAnswer input answer
 IsFormAnswer C guard input answer = IsSourceAnswer C guard input answer

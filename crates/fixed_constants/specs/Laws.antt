@@ -1,5 +1,6 @@
 -- What the laws of this crate say.
-use Rattle.std.specs.Prelude.{◌≡◌, ℕ, List, ℤ, None, true, false}
+use Rattle.std.specs.Prelude.{◌≡◌, ℕ, List, ℤ, String, None, true, false}
+use Rattle.std.specs.declared.alloc.Global.{Global}
 use Rattle.fixed_write.specs.declared.style.Notation.TheVariants.{LowerHex}
 use Rattle.fixed_write.specs.declared.style.Align.TheVariants.{Right}
 use Rattle.fixed_write.specs.declared.style.Style.{Style}
@@ -9,7 +10,10 @@ use Rattle.fixed_constants.specs.Answer.{IsWholeAnswer}
 use Rattle.fixed_constants.specs.Canonical.{canonical_text, literal_text}
 use Rattle.fixed_constants.specs.Constants.{ConstantParts, IsConstantsOf, IsFaultOf, IsLiteralOf}
 use Rattle.fixed_constants.specs.Entries.{AreEntries}
+use Rattle.fixed_constants.specs.Forms.{IsFormAnswer, IsFormFault}
+use Rattle.fixed_constants.specs.Program.{NamesForm}
 use Rattle.fixed_constants.specs.declared.fault.ConstantFault.{ConstantFault}
+use Rattle.fixed_constants.specs.declared.form.Form.{Form}
 use Rattle.fixed_bits.specs.Formats.{FormatParts}
 use Rattle.fixed_bits.specs.Ranges.{IsInRange}
 
@@ -20,20 +24,50 @@ ConstantsAreTheOnes = (text : List ℕ) (a b : List ConstantParts) → IsConstan
 
 -- a text has at most one first fault, on one line
 abbrev pub FaultIsTheOne : Type 0
-FaultIsTheOne = (text : List ℕ) (p q : ℕ) (f g : ConstantFault) → IsFaultOf text p f → IsFaultOf text q g → (p ≡ q) × (f ≡ g)
+FaultIsTheOne = (text : List ℕ) (p q : ℕ) (f g : ConstantFault) → IsFaultOf text p f → IsFaultOf text q g
+    → (p ≡ q) × (f ≡ g)
 
 -- no text has both constants and a fault, so a text is refused exactly where it has a fault
 abbrev pub NeverBoth : Type 0
-NeverBoth = (text : List ℕ) (constants : List ConstantParts) (p : ℕ) (f : ConstantFault) → IsConstantsOf text constants → ¬ IsFaultOf text p f
+NeverBoth = (text : List ℕ) (constants : List ConstantParts) (p : ℕ) (f : ConstantFault) → IsConstantsOf text constants
+    → ¬ IsFaultOf text p f
 
 -- an input has one answer
 abbrev pub AnswerIsTheOne : Type 0
 AnswerIsTheOne = (input : List ℕ) (a b : AnswerText) → IsWholeAnswer input a → IsWholeAnswer input b → a ≡ b
 
+-- a file has one answer in a form
+abbrev pub FormAnswerIsTheOne : Type 0
+FormAnswerIsTheOne = (form : Form) (guard input : List ℕ) (a b : AnswerText) → IsFormAnswer form guard input a
+    → IsFormAnswer form guard input b → a ≡ b
+
+-- and at most one first fault, a reserved name among them, on one line
+abbrev pub FormFaultIsTheOne : Type 0
+FormFaultIsTheOne = (form : Form) (guard text : List ℕ) (p q : ℕ) (f g : ConstantFault)
+    → IsFormFault form guard text p f → IsFormFault form guard text q g → (p ≡ q) × (f ≡ g)
+
+-- arguments name one form and one guard
+abbrev pub NamedFormIsTheOne : Type 0
+NamedFormIsTheOne = (args : List (String Global)) (f g : Form) (a b : List ℕ) → NamesForm args f a → NamesForm args g b
+    → (f ≡ g) × (a ≡ b)
+
 -- ---- literals
+-- a literal has one number of bits in a format
+abbrev pub LiteralIsTheOne : Type 0
+LiteralIsTheOne = (f : FormatParts) (bytes : List ℕ) (b c : ℤ) → IsLiteralOf f bytes b → IsLiteralOf f bytes c → b ≡ c
+
 -- lower-case hexadecimal, exactly, with the prefix and nothing else
 abbrev pub literal_style : Style
-literal_style = record { notation = LowerHex; precision = None; width = 0; fill = 32; align = Right; plus = false; prefix = true; zero_pad = false }
+literal_style = record {
+  notation = LowerHex;
+  precision = None;
+  width = 0;
+  fill = 32;
+  align = Right;
+  plus = false;
+  prefix = true;
+  zero_pad = false;
+}
 
 -- the literal that is written for a value is its styled text
 abbrev pub LiteralIsStyled : Type 0
@@ -46,20 +80,24 @@ LiteralReadsBack = (f : FormatParts) (c : ℤ) → IsInRange f.signed f.width c 
 -- ---- what is written is read
 -- the constants of a text are entries with different names
 abbrev pub ConstantsAreEntries : Type 0
-ConstantsAreEntries = (text : List ℕ) (constants : List ConstantParts) → IsConstantsOf text constants → AreEntries constants
+ConstantsAreEntries = (text : List ℕ) (constants : List ConstantParts) → IsConstantsOf text constants
+    → AreEntries constants
 
 -- the canonical text of entries has these constants
 abbrev pub CanonicalTextReadsBack : Type 0
-CanonicalTextReadsBack = (constants : List ConstantParts) → AreEntries constants → IsConstantsOf (canonical_text constants) constants
+CanonicalTextReadsBack = (constants : List ConstantParts) → AreEntries constants
+    → IsConstantsOf (canonical_text constants) constants
 
 -- constants that were read from a text and written are read again
 abbrev pub WrittenReadsBack : Type 0
-WrittenReadsBack = (text : List ℕ) (constants : List ConstantParts) → IsConstantsOf text constants → IsConstantsOf (canonical_text constants) constants
+WrittenReadsBack = (text : List ℕ) (constants : List ConstantParts) → IsConstantsOf text constants
+    → IsConstantsOf (canonical_text constants) constants
 
 -- two inputs with the same constants have one answer
 abbrev pub EntriesHaveOneAnswer : Type 0
 EntriesHaveOneAnswer = (input other : List ℕ) (constants : List ConstantParts) (a b : AnswerText)
-    → IsConstantsOf input constants → IsConstantsOf other constants → IsWholeAnswer input a → IsWholeAnswer other b → a ≡ b
+    → IsConstantsOf input constants → IsConstantsOf other constants → IsWholeAnswer input a → IsWholeAnswer other b
+    → a ≡ b
 
 -- an answer without a fault is answered with itself
 abbrev pub AnswerIsItsOwn : Type 0

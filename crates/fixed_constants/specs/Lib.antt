@@ -4,7 +4,6 @@ pub mod Answer
 pub mod Entries
 pub mod Forms
 pub mod Program
-pub mod FormProgram
 pub mod Laws
 pub mod Inner
 pub mod Lemmas

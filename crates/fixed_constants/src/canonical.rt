@@ -9,10 +9,9 @@ ghost use Rattle.fixed_constants.specs.Canonical.{canonical_text, entry_text, li
 use crate::constant::{Constant, Constants};
 use fixed_respell::format_name;
 use fixed_write::{Base, push_exact};
-use text_buffer::NoMemory;
 use std::alloc::{AllocError, Global};
 use std::marker::Model;
-use text_buffer::TextBuffer;
+use text_buffer::{NoMemory, TextBuffer};
 
 /// The text of a file. It is seen as the list of its bytes.
 #[derive(Drop)]

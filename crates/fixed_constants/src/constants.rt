@@ -1,6 +1,23 @@
 //! Reading a constants file.
 
-ghost use Rattle.std.specs.Prelude.{◌≡◌, ◌<◌, ◌+◌, ℕ, List, [], ◌∷◌, ◌++◌, Ok, Err, length, IfOk, IfErr, OnOk, Some, bytes_eq};
+ghost use Rattle.std.specs.Prelude.{
+  ◌≡◌,
+  ◌<◌,
+  ◌+◌,
+  ℕ,
+  List,
+  [],
+  ◌∷◌,
+  ◌++◌,
+  Ok,
+  Err,
+  length,
+  IfOk,
+  IfErr,
+  OnOk,
+  Some,
+  bytes_eq,
+};
 ghost use Rattle.std.specs.Map.{update};
 ghost use Rattle.fixed_bits.specs.Ranges.{IsWide};
 ghost use Rattle.fixed_constants.specs.Constants.{IsConstantsOf, IsErrorOf, IsPassedOver, Says};
@@ -10,10 +27,10 @@ use crate::constant::{Constant, Constants};
 use crate::declaration::{is_passed_over, read_line};
 use crate::fault::{ConstantFault, ConstantsError};
 use fixed_bits::Format;
-use text_buffer::NoMemory;
+use line_engine::first_line;
 use std::alloc::{AllocError, Global};
 use std::collections::HashMap;
-use line_engine::first_line;
+use text_buffer::NoMemory;
 
 /// Notes that a name is declared on a line. Answers the line on which it was declared before.
 fn note_name<'a>(
@@ -22,7 +39,8 @@ fn note_name<'a>(
     line: u64,
 ) -> Result<Option<u64>, NoMemory>
     ensures old { IfOk result (λ old. old ≡ line_of known.old name.now) }
-    ensures updates { OnOk result ((q : List ℕ) → line_of known.new q ≡ update bytes_eq (line_of known.old) name.now (Some line) q) }
+    ensures updates { OnOk result ((q : List ℕ)
+        → line_of known.new q ≡ update bytes_eq (line_of known.old) name.now (Some line) q) }
 {
     match known.insert(name, line) {
         Ok(old) => Ok(old),
@@ -39,7 +57,8 @@ fn add_constant(
     bits: i128,
 ) -> Result<(), AllocError>
     requires { IsWide bits }
-    ensures { OnOk result (entries.new.items ≡ entries.old.items ++ (record { name = name.now; format = format; bits = bits }) ∷ []) }
+    ensures { OnOk result (entries.new.items ≡ entries.old.items
+        ++ (record { name = name.now; format = format; bits = bits }) ∷ []) }
 {
     let constant = Constant::new(name.to_vec(alloc)?, format, bits);
     entries.push(constant)?;
@@ -55,8 +74,11 @@ fn add_declared<'a>(
     known: &mut HashMap<&'a [u8], u64>,
 ) -> Result<(), ConstantsError>
     requires { ¬ IsPassedOver line.now }
-    ensures added { OnOk result (AtLine number known.old (λ before. AddsConstant before line.now entries.old.items entries.new.items known.new)) }
-    ensures refused { IfErr result (λ error. (before : List (List ℕ)) → Knows before known.old → IsLineError before line.now number error) }
+    ensures added { OnOk result
+        (AtLine number known.old
+        (λ before. AddsConstant before line.now entries.old.items entries.new.items known.new)) }
+    ensures refused { IfErr result (λ error. (before : List (List ℕ)) → Knows before known.old
+        → IsLineError before line.now number error) }
 {
     let declared = match read_line(line) {
         Ok(declared) => declared,
@@ -97,8 +119,10 @@ fn add_line<'a>(
     entries: &mut Vec<Constant>,
     known: &mut HashMap<&'a [u8], u64>,
 ) -> Result<(), ConstantsError>
-    ensures added { OnOk result (AtLine number known.old (λ before. AddsLine before line.now entries.old.items entries.new.items known.new)) }
-    ensures refused { IfErr result (λ error. (before : List (List ℕ)) → Knows before known.old → IsLineError before line.now number error) }
+    ensures added { OnOk result
+        (AtLine number known.old (λ before. AddsLine before line.now entries.old.items entries.new.items known.new)) }
+    ensures refused { IfErr result (λ error. (before : List (List ℕ)) → Knows before known.old
+        → IsLineError before line.now number error) }
 {
     if is_passed_over(line) {
         Ok(())

@@ -1,10 +1,36 @@
 //! What a line declares.
 
-ghost use Rattle.std.specs.Prelude.{◌≡◌, ◌↔◌, ◌≤◌, ◌<◌, ℕ, List, [], ◌∷◌, length, IsTrue, Err, IfOk, IfErr, MatchOption, MatchResult};
+ghost use Rattle.std.specs.Prelude.{
+  ◌≡◌,
+  ◌↔◌,
+  ◌≤◌,
+  ◌<◌,
+  ℕ,
+  List,
+  [],
+  ◌∷◌,
+  length,
+  IsTrue,
+  Err,
+  IfOk,
+  IfErr,
+  MatchOption,
+  MatchResult,
+};
 ghost use Rattle.fixed_bits.specs.Ranges.{IsWide};
 ghost use Rattle.fixed_respell.specs.LineWords.{HasWords, space};
 ghost use Rattle.fixed_respell.specs.Split.{count_of};
-ghost use Rattle.fixed_constants.specs.Constants.{HasFault, IsLiteralOf, AreNameBytes, IsName, IsNameByte, IsPassedOver, IsRefusedLiteral, Spells, equals_sign};
+ghost use Rattle.fixed_constants.specs.Constants.{
+  HasFault,
+  IsLiteralOf,
+  AreNameBytes,
+  IsName,
+  IsNameByte,
+  IsPassedOver,
+  IsRefusedLiteral,
+  Spells,
+  equals_sign,
+};
 
 use crate::fault::ConstantFault;
 use fixed_bits::{Format, Policy};
@@ -73,7 +99,8 @@ pub struct Fields<'a> {
 
 /// The words of a line, split at its first three spaces. None where it has fewer.
 pub fn split_line(line: &[u8]) -> Option<Fields<'_>>
-    ensures { MatchOption result (count_of space line.now < 3) (λ f. HasWords line.now (f.name.now ∷ f.equals.now ∷ f.literal.now ∷ []) f.format.now) }
+    ensures { MatchOption result (count_of space line.now < 3)
+        (λ f. HasWords line.now (f.name.now ∷ f.equals.now ∷ f.literal.now ∷ []) f.format.now) }
 {
     let Some((name, rest)) = split_once(line, b' ') else {
         return None;
@@ -121,7 +148,8 @@ pub struct Declaration<'a> {
 /// What a line that is not passed over declares, or its first fault that needs no other line.
 pub fn read_line(line: &[u8]) -> Result<Declaration<'_>, ConstantFault>
     requires { ¬ IsPassedOver line.now }
-    ensures spells { IfOk result (λ d. Spells line.now (record { name = d.name.now; format = d.format; bits = d.bits })) }
+    ensures spells { IfOk result
+        (λ d. Spells line.now (record { name = d.name.now; format = d.format; bits = d.bits })) }
     ensures wide { IfOk result (λ d. IsWide d.bits) }
     ensures refused { IfErr result (λ fault. (before : List (List ℕ)) → HasFault before line.now fault) }
 {

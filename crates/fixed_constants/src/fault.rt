@@ -1,4 +1,4 @@
-//! Why a text is no constants file.
+//! Why a text is not a constants file.
 
 use fixed_numeral::ParseFixedError;
 
@@ -11,9 +11,9 @@ pub enum ConstantFault {
     BadName,
     /// The second word isn't `=`.
     MissingEquals,
-    /// What follows the third space is no format word.
+    /// What follows the third space is not a format word.
     BadFormat,
-    /// The third word is no literal of the format, for this reason.
+    /// The third word is not a literal of the format, for this reason.
     BadLiteral(ParseFixedError),
     /// An earlier line has the same name.
     Duplicate {

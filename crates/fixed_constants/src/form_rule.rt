@@ -14,9 +14,9 @@ use crate::rule::{ConstantsRule, fault_text};
 use crate::sources::source_text;
 use fixed_steps::Steps;
 use line_engine::{WholeAnswer, WholeRule};
-use text_buffer::NoMemory;
 use std::alloc::Global;
 use std::sync::ledger::Ledger;
+use text_buffer::NoMemory;
 
 /// The rule that answers a constants file in a form.
 #[derive(Clone, Copy, Debug, PartialEq, Eq)]

@@ -1,6 +1,22 @@
 //! Laws of constants files, each the contract of a function that does nothing but call the laws that it follows from.
 
-ghost use Rattle.fixed_constants.specs.Laws.{AnswerIsItsOwn, AnswerIsTheOne, CanonicalTextReadsBack, ConstantsAreEntries, ConstantsAreTheOnes, EntriesHaveOneAnswer, FaultIsTheOne, LiteralIsStyled, LiteralReadsBack, NeverBoth, WrittenReadsBack};
+ghost use Rattle.fixed_constants.specs.Laws.{
+  AnswerIsItsOwn,
+  AnswerIsTheOne,
+  CanonicalTextReadsBack,
+  ConstantsAreEntries,
+  ConstantsAreTheOnes,
+  EntriesHaveOneAnswer,
+  FaultIsTheOne,
+  FormAnswerIsTheOne,
+  FormFaultIsTheOne,
+  LiteralIsStyled,
+  LiteralIsTheOne,
+  LiteralReadsBack,
+  NamedFormIsTheOne,
+  NeverBoth,
+  WrittenReadsBack,
+};
 
 use fixed_laws::laws::exact_text_reads_back;
 use line_engine::laws::line_comes_first;
@@ -23,6 +39,26 @@ pub fn never_both()
 /// An input has one answer.
 pub fn answer_is_the_one()
     ensures { AnswerIsTheOne }
+{}
+
+/// An input has one answer in a form.
+pub fn form_answer_is_the_one()
+    ensures { FormAnswerIsTheOne }
+{}
+
+/// A text has at most one first fault in a form, on one line.
+pub fn form_fault_is_the_one()
+    ensures { FormFaultIsTheOne }
+{}
+
+/// Arguments name at most one form and one guard.
+pub fn named_form_is_the_one()
+    ensures { NamedFormIsTheOne }
+{}
+
+/// A literal has at most one number of bits in a format.
+pub fn literal_is_the_one()
+    ensures { LiteralIsTheOne }
 {}
 
 /// The literal of a value is its styled text in lower-case hexadecimal with the prefix.
@@ -63,7 +99,7 @@ pub fn entries_have_one_answer()
     ensures { EntriesHaveOneAnswer }
 {}
 
-/// An answer that is no fault is answered with itself.
+/// An answer that is not a fault is answered with itself.
 pub fn answer_is_its_own()
     ensures { AnswerIsItsOwn }
 {

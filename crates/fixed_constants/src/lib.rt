@@ -1,7 +1,7 @@
 //! Files of named constants, and their one canonical form.
 //!
-//! A line `NAME = LITERAL FORMAT` declares a constant (`declaration`). `constants` reads a text line by line and keeps the
-//! constants in order; `canonical` writes them with hexadecimal literals, each value in one way.
+//! A line `NAME = LITERAL FORMAT` declares a constant (`declaration`). `constants` reads a text line by line and keeps
+//! the constants in order; `canonical` writes them with hexadecimal literals, each value in one way.
 #![tactic(auto)]
 
 pub mod canonical;
@@ -10,7 +10,6 @@ pub mod constants;
 mod declaration;
 pub mod fault;
 pub mod form;
-pub mod form_program;
 pub mod form_rule;
 pub mod laws;
 pub mod program;
@@ -22,11 +21,8 @@ pub use constant::{Constant, Constants};
 pub use constants::read_constants;
 pub use fault::{ConstantFault, ConstantsError};
 pub use form::Form;
-pub use form_program::{is_guard, run_forms};
 pub use form_rule::FormRule;
-pub use text_buffer::NoMemory;
-pub use program::run_constants;
+pub use program::{is_guard, run_forms};
 pub use rule::ConstantsRule;
+pub use text_buffer::NoMemory;
 
-#[cfg(test)]
-mod tests;

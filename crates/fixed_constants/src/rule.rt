@@ -10,9 +10,9 @@ use crate::fault::{ConstantFault, ConstantsError};
 use fixed_steps::Steps;
 use itoa::Buffer;
 use line_engine::{WholeAnswer, WholeRule};
-use text_buffer::NoMemory;
 use std::alloc::{AllocError, Global};
 use std::sync::ledger::Ledger;
+use text_buffer::NoMemory;
 
 /// The rule that answers a constants file.
 #[derive(Clone, Copy, Debug, PartialEq, Eq)]

@@ -2,9 +2,29 @@
 
 ghost use Rattle.std.specs.Prelude.{◌≡◌, ◌<◌, ◌++◌, ◌-◌, ◌^◌, OnOk, IfOk, unsigned_abs};
 ghost use Rattle.fixed_bits.specs.Ranges.{IsWide};
-ghost use Rattle.fixed_respell.specs.Words.{sign_letter};
 ghost use Rattle.fixed_constants.specs.Canonical.{literal_text};
-ghost use Rattle.fixed_constants.specs.Forms.{c_closing, c_comment, c_constant, c_line, c_lowest, c_macro, c_minus, c_negative, c_number, c_opening, closing, form_line, form_lines, form_text, guard_test, macro_stem, opening, rust_full_type, rust_line, rust_type, rust_value};
+ghost use Rattle.fixed_constants.specs.Forms.{
+  c_closing,
+  c_comment,
+  c_constant,
+  c_line,
+  c_lowest,
+  c_macro,
+  c_minus,
+  c_negative,
+  c_number,
+  c_opening,
+  closing,
+  form_line,
+  form_lines,
+  form_text,
+  guard_test,
+  macro_stem,
+  opening,
+  rust_line,
+  rust_type,
+  rust_value,
+};
 
 use crate::canonical::{push_entry, push_literal};
 use crate::constant::{Constant, Constants};
@@ -158,33 +178,12 @@ fn push_c_line<L: Ledger>(
     Ok(())
 }
 
-/// The letter of a sign rule.
-fn letter_of(signed: bool) -> u8
-    ensures { result ≡ sign_letter signed }
-{
-    if signed { b'I' } else { b'U' }
-}
-
-/// Appends the type of a format in Rust, without its fraction length.
+/// Appends the type of a format, as the Rust crate `fixed` names it.
 fn push_rust_type(text: &mut Vec<u8>, format: Format) -> Result<(), AllocError>
     ensures { OnOk result (text.new.items ≡ text.old.items ++ rust_type format) }
 {
-    let mut digits = Buffer::new();
-    text.extend_from_slice(b"Fixed")?;
-    text.push(letter_of(format.signed()))?;
-    text.extend_from_slice(digits.format(format.width()).as_bytes())?;
-    Ok(())
-}
-
-/// Appends the whole type of a format in Rust, and an equals sign.
-fn push_rust_full_type(text: &mut Vec<u8>, format: Format) -> Result<(), AllocError>
-    ensures { OnOk result (text.new.items ≡ text.old.items ++ rust_full_type format) }
-{
-    let mut digits = Buffer::new();
-    push_rust_type(text, format)?;
-    text.push(b'<')?;
-    text.extend_from_slice(digits.format(format.frac()).as_bytes())?;
-    text.extend_from_slice(b"> = ")?;
+    text.extend_from_slice(b"fixed::types::")?;
+    text.extend_from_slice(format_name(format).as_bytes())?;
     Ok(())
 }
 
@@ -207,7 +206,8 @@ fn push_rust_line(text: &mut Vec<u8>, constant: &Constant) -> Result<(), AllocEr
     text.extend_from_slice(b"pub const ")?;
     text.extend_from_slice(constant.name())?;
     text.extend_from_slice(b": ")?;
-    push_rust_full_type(text, constant.format())?;
+    push_rust_type(text, constant.format())?;
+    text.extend_from_slice(b" = ")?;
     push_rust_value(text, constant.format(), constant.bits())?;
     Ok(())
 }

@@ -6,49 +6,21 @@ use Rattle.std.proofs.lemmas.Nat.{pow_pos, pow-add}
 use Rattle.fixed_bits.specs.Down.{IsDown, down}
 use Rattle.fixed_bits.specs.Ranges.{IsInRange}
 use Rattle.fixed_bits.proofs.Integers.{next_times, le_times, lt_times, times_times}
-use Rattle.fixed_bits.proofs.Public.{images_agree, down_one}
+use Rattle.fixed_bits.proofs.Public
+use Rattle.fixed_bits.proofs.Public.{images_agree, down_one, grown}
 use Rattle.fixed_convert.specs.Moved.{shifted}
 use Rattle.fixed_convert.specs.Laws.{IsExact, FinerIsExact, ConversionIsUndone}
 
--- both lengths grow by as much
-down_longer : (b : ℤ) (f g h : ℕ) (d : ℤ) → IsDown b f g d → IsDown b (f + h) (g + h) d
-down_longer b f g h d x =
-    let p : (z : ℤ) (k : ℕ) → z *ℤ pos (2 ^ (k + h)) ≡ (z *ℤ pos (2 ^ k)) *ℤ pos (2 ^ h) = λ z k. ap (λ i. z *ℤ pos i) (pow-add 2 k h) ∙ sym (times_times z (2 ^ k) (2 ^ h)) in
-    record {
-      at_most = rw (p d f, p b g) (le_times (d *ℤ pos (2 ^ f)) (b *ℤ pos (2 ^ g)) (2 ^ h) x.at_most);
-      above = rw (p b g, p (d +ℤ pos 1) f) (lt_times (b *ℤ pos (2 ^ g)) ((d +ℤ pos 1) *ℤ pos (2 ^ f)) (2 ^ h) (pow_pos h) x.above);
-    }
-
--- to a length that is no shorter nothing is lost
-down_up : (b : ℤ) (f k : ℕ) → IsDown b f (f + k) (b *ℤ pos (2 ^ k))
-down_up b f k =
-    let e : b *ℤ pos (2 ^ (f + k)) ≡ (b *ℤ pos (2 ^ k)) *ℤ pos (2 ^ f) = ap (λ i. b *ℤ pos i) (pow-add 2 f k ∙ omega arith) ∙ sym (times_times b (2 ^ k) (2 ^ f)) in
-    record {
-      at_most = rw e (omega (arith, ints));
-      above = rw (e, next_times (b *ℤ pos (2 ^ k)) (2 ^ f)) (omega (arith, ints, pow_pos f));
-    }
-
-pub grown : (b : ℤ) (f g : ℕ) → f ≤ g → shifted b (g - f) ≡ down b f g
-grown b f g l =
-    let i : f + (g - f) ≡ g = omega arith in
-    (down_one b f g (b *ℤ pos (2 ^ (g - f)))).0 (rw i at (down_up b f (g - f)))
-
 pub shortened : (b : ℤ) (f g : ℕ) (d : ℤ) → g ≤ f → IsDown b (f - g) 0 d → shifted d 0 ≡ down b f g
 shortened b f g d l h =
-    let i : (f - g) + g ≡ f = omega arith in
-    let j : 0 + g ≡ g = omega arith in
     let e : shifted d 0 ≡ d = omega (arith, ints) in
-    e ∙ (down_one b f g d).0 (rw (i, j) at (down_longer b (f - g) 0 g d h))
+    e ∙ Public.shortened b f g d l h
 
 pub grown_is : (b : ℤ) (f g : ℕ) → f ≤ g → IsDown b f g (shifted b (g - f))
 grown_is b f g l = rw (grown b f g l) ((down_one b f g (down b f g)).1 refl)
 
 pub shortened_is : (b : ℤ) (f g : ℕ) (d : ℤ) → g ≤ f → IsDown b (f - g) 0 d → IsDown b f g (shifted d 0)
 shortened_is b f g d l h = rw (shortened b f g d l h) ((down_one b f g (down b f g)).1 refl)
-
--- what is moved down fits where the one number that it is does
-pub moved_fits : (s : Bool) (n : ℕ) (b : ℤ) (f g : ℕ) (d : ℤ) → IsDown b f g d → IsInRange s n d → IsInRange s n (down b f g)
-moved_fits s n b f g d h i = rw (sym ((down_one b f g d).0 h)) i
 
 -- ---- laws
 pub finer : FinerIsExact

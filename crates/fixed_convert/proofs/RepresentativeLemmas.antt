@@ -38,10 +38,6 @@ side_in s n v w l o h = record {
       (λ x. x);
 }
 
-pub side_out : (s : Bool) (n : ℕ) (v w : ℤ) → n ≤ 64 → OnSameSide v w → IsOutOfRange s n v → IsOutOfRange s n w
-side_out s n v w l o (inl h) = inl (side_below v w (lowest s n) o (ends_wide s n l).0 h)
-side_out s n v w l o (inr h) = inr (side_above v w (greatest s n) o (ends_wide s n l).1 h)
-
 pub side_same : (s : Bool) (n : ℕ) (v w : ℤ) → n ≤ 64 → OnSameSide v w → IsInRange s n v → w ≡ v
 side_same s n v w l (inl e) h = e
 side_same s n v w l (inr (inl q)) h = absurd (let a = q.0 in let b = h.high in let c = (ends_wide s n l).1.high in omega (arith, ints))
@@ -98,18 +94,7 @@ represents_below (negsuc a) k l h =
       side = inr (inr (omega (arith, ints, p, q), omega (arith, ints)));
     }
 
--- ---- a test of the one is a test of the other
-pub represents_test : (A : Type 0) (s : Bool) (n : ℕ) (v w : ℤ) → n ≤ 64 → Represents v w → A ↔ IsOutOfRange s n w → A ↔ IsOutOfRange s n v
-represents_test A s n v w l st e = ((λ a. side_out s n w v l (side_turned v w st.side) (e.0 a)), (λ o. e.1 (side_out s n v w l st.side o)))
-
-pub represents_none : (A P : Type 0) (s : Bool) (n : ℕ) (v w : ℤ) → n ≤ 64 → Represents v w → A ↔ (P × IsOutOfRange s n w) → A ↔ (P × IsOutOfRange s n v)
-represents_none A P s n v w l st e = ((λ a. ((e.0 a).0, side_out s n w v l (side_turned v w st.side) (e.0 a).1)), (λ o. e.1 (o.0, side_out s n v w l st.side o.1)))
-
 -- the contrary of "in range"
 pub flag_out : (t : Bool) (s : Bool) (n : ℕ) (v : ℤ) → (IsTrue t ↔ IsInRange s n v) → IsTrue (not t) ↔ IsOutOfRange s n v
 flag_out true s n v e = ((λ x. absurd (let y : false ≡ true = x in cc)), (λ o. absurd ((range_decided s n v).1 o (e.0 refl))))
 flag_out false s n v e = ((λ x. ⊎_elim (λ h. absurd (let y : false ≡ true = e.1 h in cc)) (λ o. o) (range_decided s n v).0), (λ o. refl))
-
-pub not_inside : (t : Bool) (P : Type 0) → ((t ≡ false) ↔ P) → IsTrue (not t) ↔ P
-not_inside true P e = ((λ x. absurd (let y : false ≡ true = x in cc)), (λ p. absurd (let y : true ≡ false = e.1 p in cc)))
-not_inside false P e = ((λ x. e.0 refl), (λ p. refl))

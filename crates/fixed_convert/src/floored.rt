@@ -2,13 +2,15 @@
 
 ghost use Rattle.std.specs.Prelude.{◌≡◌, ◌↔◌, ◌≤◌, ◌<◌, ◌-◌, IsTrue, IsNone, IfSome};
 ghost use Rattle.fixed_bits.specs.Ranges.{IsInRange, IsOutOfRange, IsWide};
+ghost use Rattle.fixed_bits.specs.Formats.{IsFormat};
 ghost use Rattle.fixed_bits.specs.Images.{IsImage};
+ghost use Rattle.fixed_bits.specs.Numbers.{IsImageUnlessRefused, number_of_image, with_sign};
 ghost use Rattle.fixed_bits.specs.Down.{IsDown, down};
 ghost use Rattle.fixed_bits.specs.declared.format.Policy.TheVariants.{Checked, Saturating, Wrapping};
 ghost use Rattle.fixed_convert.specs.Moved.{shifted};
 ghost use Rattle.fixed_convert.specs.Inner.Representative.{Represents};
 
-use fixed_bits::{Format, Inner, Policy};
+use fixed_bits::{Format, Image, Inner, Policy, moved, sign_and_magnitude};
 
 /// The whole number `bits` times two to the power of `shift`.
 #[derive(Clone, Copy, Debug, PartialEq, Eq)]
@@ -73,7 +75,8 @@ fn times_power(b: i128, shift: u32) -> i128
     b << shift
 }
 
-/// The bits `b` moved down from fraction length `from` to fraction length `g`: the greatest whole number that is not above `b` times two to the power of `g`, over two to the power of `from`.
+/// The bits `b` moved down from fraction length `from` to fraction length `g`: the greatest whole number that is not
+/// above `b` times two to the power of `g`, over two to the power of `from`.
 pub fn floor_into(b: i128, from: u32, g: u32) -> Floored
     requires wide { IsWide b }
     requires from { from ≤ 64 }
@@ -106,7 +109,29 @@ fn shifted_out(b: i128, k: u32) -> i128
     b >> k
 }
 
-/// The image of the bits `b`, moved down from fraction length `from` to that of the format, and whether the moved number was out of range. `None` exactly where it was, under `Checked`.
+/// The image of the number with that sign and magnitude, moved down from fraction length `from` to that of the format,
+/// and whether the moved number was out of range. Where it was, under `Checked`, there is no image, and any number in
+/// range is answered for it.
+#[inline(always)]
+pub fn reformat_signed(
+    format: Format,
+    policy: Policy,
+    negative: bool,
+    magnitude: u64,
+    from: u32,
+) -> Image
+    requires { from ≤ 64 }
+    ensures image { IsImageUnlessRefused policy format (down (with_sign negative magnitude) from format.frac) result }
+    ensures verdict { IsTrue result.is_out_of_range
+        ↔ IsOutOfRange format.signed format.width (down (with_sign negative magnitude) from format.frac) }
+    ensures range { IsInRange format.signed format.width (number_of_image result) }
+    ensures valid { IsFormat format.width format.frac }
+{
+    moved(negative, magnitude, from, format.frac()).image(format, policy)
+}
+
+/// The image of the bits `b`, moved down from fraction length `from` to that of the format, and whether the moved
+/// number was out of range. `None` exactly where it was, under `Checked`.
 pub fn reformat(format: Format, policy: Policy, b: i128, from: u32) -> Option<(i128, bool)>
     requires wide { IsWide b }
     requires from { from ≤ 64 }
@@ -116,9 +141,10 @@ pub fn reformat(format: Format, policy: Policy, b: i128, from: u32) -> Option<(i
     ensures range { IfSome result (λ r. IsInRange format.signed format.width r.0) }
     ensures wide { IfSome result (λ r. IsWide r.0) }
 {
-    let moved = floor_into(b, from, format.frac()).representative();
-    match policy.image(format, moved) {
-        Some(c) => Some((c, !format.contains(moved))),
+    let (negative, magnitude) = sign_and_magnitude(b);
+    let image = reformat_signed(format, policy, negative, magnitude, from);
+    match image.admitted(policy) {
+        Some(c) => Some((c, image.is_out_of_range)),
         None => None,
     }
 }

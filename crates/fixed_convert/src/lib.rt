@@ -10,8 +10,6 @@ pub mod lossless;
 pub mod num;
 pub mod order;
 pub mod rounded;
-#[cfg(test)]
-mod tests;
 mod to_bits;
 mod to_number;
 
@@ -19,7 +17,7 @@ pub use cast::{
     Cast, CheckedCast, OverflowingCast, SaturatingCast, StrictCast, UnwrappedCast, WrappingCast,
 };
 pub use fixed::{FromFixed, ToFixed};
-pub use floored::{Floored, floor_into, reformat};
+pub use floored::{Floored, floor_into, reformat, reformat_signed};
 pub use lossless::{LosslessTryFrom, LossyFrom, lossless_from};
 pub use num::{Num, NumTarget};
 pub use order::compare;

@@ -80,7 +80,8 @@ verdict false = codes "wide"
 -- a text, the bits in decimal, a text, the bits in decimal, and whether the bits are equal
 abbrev pub ends_answer : List ℕ → ℤ → List ℕ → ℤ → Bool → AnswerText
 ends_answer low_text lo high_text hi exact = record {
-  text = low_text ++ space ∷ (signed_decimal lo ++ space ∷ (high_text ++ space ∷ (signed_decimal hi ++ space ∷ verdict exact)));
+  text = low_text ++ space ∷ (signed_decimal lo
+      ++ space ∷ (high_text ++ space ∷ (signed_decimal hi ++ space ∷ verdict exact)));
   fault = false;
 }
 

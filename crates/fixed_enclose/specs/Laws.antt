@@ -10,7 +10,8 @@ use Rattle.fixed_enclose.specs.Enclosure.{Encloses, IsEnclosed, IsRefusal}
 
 -- two whole numbers around a value do not lie inside its enclosure
 abbrev pub NoneIsTighter : Type 0
-NoneIsTighter = (y : ℤ) (den : ℕ) (lo hi a b : ℤ) → Encloses y den lo hi → (a *ℤ pos den) ≤ℤ y → y ≤ℤ (b *ℤ pos den) → (a ≤ℤ lo) × (hi ≤ℤ b)
+NoneIsTighter = (y : ℤ) (den : ℕ) (lo hi a b : ℤ) → Encloses y den lo hi → (a *ℤ pos den) ≤ℤ y → y ≤ℤ (b *ℤ pos den)
+    → (a ≤ℤ lo) × (hi ≤ℤ b)
 
 -- the ends are equal exactly where the value is a whole number
 abbrev pub ExactWhereEqual : Type 0
@@ -19,7 +20,13 @@ ExactWhereEqual = (y : ℤ) (den : ℕ) (lo hi : ℤ) → Encloses y den lo hi �
 -- bytes have one pair, and no refusal beside it
 abbrev pub PairIsTheOne : Type 0
 PairIsTheOne = (r : Radix) (bytes : List ℕ) (format : FormatParts) (lo hi : ℤ) → IsEnclosed r bytes format lo hi
-    → ((a b : ℤ) → IsEnclosed r bytes format a b → (lo ≡ a) × (hi ≡ b)) × ((kind : ParseErrorKind) → ¬ IsRefusal r bytes format kind)
+    → ((a b : ℤ) → IsEnclosed r bytes format a b → (lo ≡ a) × (hi ≡ b))
+    × ((kind : ParseErrorKind) → ¬ IsRefusal r bytes format kind)
+
+-- bytes are refused for one reason
+abbrev pub RefusalIsTheOne : Type 0
+RefusalIsTheOne = (r : Radix) (bytes : List ℕ) (format : FormatParts) (k l : ParseErrorKind)
+    → IsRefusal r bytes format k → IsRefusal r bytes format l → k ≡ l
 
 -- a line has at most one answer
 abbrev pub AnswerIsTheOne : Type 0
@@ -27,4 +34,5 @@ AnswerIsTheOne = (line : List ℕ) (a b : AnswerText) → IsAnswer line a → Is
 
 -- a line that is longer than what is kept of a line is answered like the prefix that is kept
 abbrev pub LongIsAnsweredByPrefix : Type 0
-LongIsAnsweredByPrefix = (line : List ℕ) (answer : AnswerText) → kept_length < length line → IsAnswer (take kept_length line) answer ↔ IsAnswer line answer
+LongIsAnsweredByPrefix = (line : List ℕ) (answer : AnswerText) → kept_length < length line
+    → IsAnswer (take kept_length line) answer ↔ IsAnswer line answer

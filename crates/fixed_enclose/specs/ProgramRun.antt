@@ -5,9 +5,10 @@ use Rattle.line_engine.specs.AnswerText.{AnswerText}
 use Rattle.line_engine.specs.Asked.{AskedWithin}
 use Rattle.line_engine.specs.Failures.{HasFailed}
 use Rattle.line_engine.specs.Lines.{lines}
-use Rattle.line_engine.specs.Output.{AppendsPrefix, AreAnswers, written_of}
-use Rattle.line_engine.specs.Program.{Outside}
-use Rattle.line_engine.specs.Run.{HasFailures, HasRun, Spends, WritesOutput, WritesText}
+use Rattle.line_engine.specs.Output.{AreAnswers, written_of, WritesOutput}
+use Rattle.line_engine.specs.Appended.{AppendsPrefix}
+use Rattle.line_engine.specs.Program.{Outside, ReadsNothing}
+use Rattle.line_engine.specs.Run.{HasFailures, HasRun, Spends, WritesText}
 use Rattle.line_engine.specs.declared.status.Status.{Status}
 use Rattle.line_engine.specs.declared.status.Status.TheVariants.{Usage, WriteFault, NoMemory, TooLong}
 use Rattle.fixed_enclose.specs.Answer.{IsAnswer, usage_line}
@@ -33,14 +34,20 @@ pub record HasEncloseRun (args : List (String Global)) (before after : Outside) 
   -- what was taken and what was written, by status
   pub run : args ≡ [] → HasRun IsAnswer limit before.left after.left before.written after.written status
   -- a prefix of the whole output, where a write failed
-  pub prefix_on_write_fault : args ≡ [] → status ≡ WriteFault → (input : List ℕ) (answers : List AnswerText) → before.left ≡ Some input
+  pub prefix_on_write_fault : args ≡ [] → status ≡ WriteFault → (input : List ℕ) (answers : List AnswerText)
+      → before.left ≡ Some input
       → AreAnswers IsAnswer (lines input) answers → AppendsPrefix before.written after.written (written_of answers)
   -- at most 16 steps a byte and 1,248 a line
   pub cost : args ≡ [] → Spends limit 16 1248 before.left after.left before.steps after.steps
   -- what the source was asked for
   pub asked : args ≡ [] → AskedWithin limit before.asked after.asked
   -- other arguments
-  pub usage : IsUsageFault args → WritesText usage_line Usage before.written after.written before.write_failures after.write_failures status
+  pub usage : IsUsageFault args
+      → WritesText usage_line Usage before.written after.written before.write_failures after.write_failures status
   pub usage_only : status ≡ Usage → IsUsageFault args
   -- which count of failures rose, by status
   pub failures : HasFailures before.read_failures after.read_failures before.write_failures after.write_failures status
+  -- a run by other arguments reads nothing
+  pub untouched : IsUsageFault args → ReadsNothing before after
+  -- without memory nothing was done
+  pub memory : status ≡ NoMemory → after ≡ before

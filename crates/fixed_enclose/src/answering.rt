@@ -1,12 +1,27 @@
 //! The answer to a line.
 
-ghost use Rattle.std.specs.Prelude.{◌≡◌, ◌↔◌, ◌≤◌, ◌<◌, ◌+◌, ◌*◌, ◌++◌, [], ◌∷◌, length, IsTrue, MatchOption, MatchResult, IfOk};
+ghost use Rattle.std.specs.Prelude.{
+  ◌≡◌,
+  ◌↔◌,
+  ◌≤◌,
+  ◌<◌,
+  ◌+◌,
+  ◌*◌,
+  ◌++◌,
+  [],
+  ◌∷◌,
+  length,
+  IsTrue,
+  MatchOption,
+  MatchResult,
+  IfOk,
+};
 ghost use Rattle.std.specs.Fmt.{signed_decimal};
 ghost use Rattle.fixed_bits.specs.Ranges.{IsWide};
 ghost use Rattle.fixed_respell.specs.LineWords.{HasWords, longest_line, space};
 ghost use Rattle.fixed_respell.specs.Split.{count_of};
 ghost use Rattle.fixed_write.specs.Texts.{IsShortestText, shortest_text};
-ghost use Rattle.line_engine.specs.Output.{AppendsAnswer};
+ghost use Rattle.line_engine.specs.Appended.{AppendsAnswer};
 ghost use Rattle.fixed_enclose.specs.Answer.{Asks, IsAnswer, IsFirstFault, ends_answer, task_of, verdict};
 
 use crate::enclosing::enclose;
@@ -30,7 +45,8 @@ struct Fields<'a> {
 
 /// The words of a line, split at its first two spaces. None where it has fewer.
 fn split_line(line: &[u8]) -> Option<Fields<'_>>
-    ensures { MatchOption result (count_of space line.now < 2) (λ f. HasWords line.now (f.radix.now ∷ f.format.now ∷ []) f.numeral.now) }
+    ensures { MatchOption result (count_of space line.now < 2)
+        (λ f. HasWords line.now (f.radix.now ∷ f.format.now ∷ []) f.numeral.now) }
 {
     let Some((radix, rest)) = split_once(line, b' ') else {
         return None;
@@ -55,7 +71,8 @@ struct Task<'a> {
 
 /// What a line asks for, or its first fault.
 fn read_task(line: &[u8]) -> Result<Task<'_>, EncloseFault>
-    ensures task { MatchResult result (λ t. Asks line.now (task_of t.radix t.format t.numeral.now)) (λ fault. IsFirstFault fault line.now) }
+    ensures task { MatchResult result (λ t. Asks line.now (task_of t.radix t.format t.numeral.now))
+        (λ fault. IsFirstFault fault line.now) }
     ensures short { IfOk result (λ t. length t.numeral.now ≤ length line.now) }
 {
     if line.len() > MAX_LINE {
@@ -87,7 +104,8 @@ fn push_end<const N: usize, L: Ledger>(
     requires wide { IsWide number }
     requires frac { frac ≤ 64 }
     requires room { length out.old + 71 ≤ N }
-    ensures appended { out.new ≡ out.old ++ (shortest_text number frac ++ space ∷ (signed_decimal number ++ space ∷ [])) }
+    ensures appended { out.new ≡ out.old
+        ++ (shortest_text number frac ++ space ∷ (signed_decimal number ++ space ∷ [])) }
     ensures shortest { IsShortestText number frac (shortest_text number frac) }
     ensures short { length out.new ≤ length out.old + 71 }
     ensures cost { steps.new ≤ steps.old + 48 }
@@ -118,8 +136,8 @@ fn is_exact(lo: i128, hi: i128) -> bool
     lo == hi
 }
 
-/// Appends both ends of an enclosure in ulps of 2^-`frac`, each as its shortest decimal and as bits, and whether they are
-/// equal.
+/// Appends both ends of an enclosure in ulps of 2^-`frac`, each as its shortest decimal and as bits, and whether they
+/// are equal.
 fn push_ends<const N: usize, L: Ledger>(
     out: &mut TextBuffer<N>,
     lo: i128,
@@ -132,7 +150,8 @@ fn push_ends<const N: usize, L: Ledger>(
     requires high { IsWide hi }
     requires frac { frac ≤ 64 }
     requires room { length out.old + 147 ≤ N }
-    ensures appended { out.new ≡ out.old ++ (ends_answer (shortest_text lo frac) lo (shortest_text hi frac) hi exact).text }
+    ensures appended { out.new ≡ out.old
+        ++ (ends_answer (shortest_text lo frac) lo (shortest_text hi frac) hi exact).text }
     ensures low_shortest { IsShortestText lo frac (shortest_text lo frac) }
     ensures high_shortest { IsShortestText hi frac (shortest_text hi frac) }
     ensures short { length out.new ≤ length out.old + 147 }
@@ -149,8 +168,8 @@ pub fn append_answer<const N: usize, L: Ledger>(
     out: &mut TextBuffer<N>,
     steps: &mut Steps<L>,
 ) -> bool
-    requires room { length out.old + MAX_ANSWER ≤ N }
-    ensures answer { AppendsAnswer IsAnswer MAX_ANSWER line.now out.old out.new result }
+    requires room { length out.old + 192 ≤ N }
+    ensures answer { AppendsAnswer IsAnswer 192 line.now out.old out.new result }
     ensures cost { steps.new ≤ steps.old + 16 * length line.now + 1248 }
 {
     let task = match read_task(line) {

@@ -13,5 +13,3 @@ pub use fault::EncloseFault;
 pub use program::run_enclose;
 pub use rule::EncloseRule;
 
-#[cfg(test)]
-mod tests;

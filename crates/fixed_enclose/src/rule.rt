@@ -10,8 +10,8 @@ use line_engine::{LineRule, MAX_ANSWER, Output};
 use std::sync::ledger::Ledger;
 
 /// The rule that answers a line `RADIX FORMAT NUMERAL`: with the line's first fault; else with the fault for which its
-/// numeral is refused; else with the shortest decimal and the bits of the greatest value of the format that is not above
-/// the numeral's, those of the least that is not below it, and `exact` where they are equal, else `wide`.
+/// numeral is refused; else with the shortest decimal and the bits of the greatest value of the format that is not
+/// above the numeral's, those of the least that is not below it, and `exact` where they are equal, else `wide`.
 #[derive(Clone, Copy, Debug, PartialEq, Eq)]
 pub struct EncloseRule;
 

@@ -21,13 +21,16 @@ cause_of code = if code == 3 then codes "a read failed"
 
 -- the line that says where, why and after how many answered lines
 abbrev pub end_line : List ℕ → List ℕ → ℕ → List ℕ
-end_line place cause answered = place ++ codes ": " ++ cause ++ codes ", lines answered: " ++ decimal answered ++ 10 ∷ []
+end_line place cause answered = place ++ codes ": " ++ cause ++ codes ", lines answered: " ++ decimal answered
+    ++ 10 ∷ []
 
 -- the line was written whole, or a write failed; and nothing was where there is no cause
 abbrev pub TellsLine : List ℕ → List ℕ → ℕ → Option (List ℕ) → Option (List ℕ) → ℕ → ℕ → Type 0
 TellsLine place [] answered written written' failures failures' = Keeps written written' × (failures' ≡ failures)
-TellsLine place (c ∷ cs) answered written written' failures failures' = (status : Status) × WritesText (end_line place (c ∷ cs) answered) Done written written' failures failures' status
+TellsLine place (c ∷ cs) answered written written' failures failures' = (status : Status)
+    × WritesText (end_line place (c ∷ cs) answered) Done written written' failures failures' status
 
 -- what a run that ended with this code has said
 abbrev pub TellsEnd : List ℕ → ℕ → ℕ → Option (List ℕ) → Option (List ℕ) → ℕ → ℕ → Type 0
-TellsEnd place code answered written written' failures failures' = TellsLine place (cause_of code) answered written written' failures failures'
+TellsEnd place code answered written written' failures failures' = TellsLine place
+    (cause_of code) answered written written' failures failures'

@@ -1,5 +1,5 @@
 mod HoldLemmas
 mod ExactLemmas
-mod CellLemmas
+mod SlotLemmas
 mod ListLemmas
 mod ProgramLemmas

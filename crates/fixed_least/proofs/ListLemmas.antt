@@ -9,7 +9,7 @@ use Rattle.fixed_numeral.specs.Numeral.{IsNumeral}
 use Rattle.fixed_numeral.specs.declared.radix.Radix.{Radix}
 use Rattle.fixed_least.specs.Holding.{AllHold, AllNumerals, HoldsLine, IsFirstRefused, RefusesLine}
 use Rattle.fixed_least.specs.Least.{AreLines, IsLeast, IsLeastLine}
-use Rattle.fixed_least.specs.Inner.Cells.{AreLiving, IsNoted, cell, cell_of, kind_width}
+use Rattle.fixed_least.specs.Inner.Slots.{AreLiving, IsNoted, slot, slot_of, kind_width}
 use Rattle.fixed_least.specs.Inner.Valued.{HasValue, IsExactOf}
 use Rattle.fixed_least.specs.Lemmas.HoldingLemmas.{exact_decides}
 use Rattle.fixed_least.specs.declared.exact.Exact.{Exact}
@@ -74,10 +74,10 @@ pub split_more : (whole done rest after : List (List ℕ)) (line : List ℕ) →
 split_more whole done rest after line split first = split ∙ (ap (λ l. done ++ l) first ∙ sym (append_assoc done (line ∷ []) after))
 
 -- what is found where all lines are done
-pub least_found : (r : Radix) (whole done rest : List (List ℕ)) (cells found : List ℕ) → whole ≡ done ++ rest → rest ≡ [] → AllNumerals r done → ((f : FormatParts) → IsFormat f.width f.frac → NotedSoFar r f done (get_or cells (cell_of f) 0)) → length found ≤ 248
-    → ((f : FormatParts) → IsFormat f.width f.frac → rank f < length found → (get_or found (rank f) 0 ≡ get_or cells (cell_of f) 0) × (get_or cells (cell_of f) 0 ≡ 0 → ⊥))
-    → ((f : FormatParts) → IsFormat f.width f.frac → rank f ≡ length found → get_or cells (cell_of f) 0 ≡ 0) → IsLeast r whole found
-least_found r whole done rest cells found split none numerals noted short kept first =
+pub least_found : (r : Radix) (whole done rest : List (List ℕ)) (slots found : List ℕ) → whole ≡ done ++ rest → rest ≡ [] → AllNumerals r done → ((f : FormatParts) → IsFormat f.width f.frac → NotedSoFar r f done (get_or slots (slot_of f) 0)) → length found ≤ 248
+    → ((f : FormatParts) → IsFormat f.width f.frac → rank f < length found → (get_or found (rank f) 0 ≡ get_or slots (slot_of f) 0) × (get_or slots (slot_of f) 0 ≡ 0 → ⊥))
+    → ((f : FormatParts) → IsFormat f.width f.frac → rank f ≡ length found → get_or slots (slot_of f) 0 ≡ 0) → IsLeast r whole found
+least_found r whole done rest slots found split none numerals noted short kept first =
     let same : whole ≡ done = split ∙ (ap (λ l. done ++ l) none ∙ append-nil done) in
     let N : List (List ℕ) → Type 0 = λ l. AllNumerals r l in
     record {
@@ -87,10 +87,10 @@ least_found r whole done rest cells found split none numerals noted short kept f
           let here = kept f is low in
           let P : List (List ℕ) → Type 0 = λ l. IsFirstRefused r f l (get_or found (rank f) 0) in
           let Q : ℕ → Type 0 = λ n. IsFirstRefused r f done n in
-          subst P (sym same) (subst Q (sym here.0) (noted_some r f done (get_or cells (cell_of f) 0) here.1 (noted f is)));
+          subst P (sym same) (subst Q (sym here.0) (noted_some r f done (get_or slots (slot_of f) 0) here.1 (noted f is)));
       holds = λ f is e.
           let A : List (List ℕ) → Type 0 = λ l. AllHold r f l in
-          subst A (sym same) (noted_zero r f done (get_or cells (cell_of f) 0) (first f is e) (noted f is));
+          subst A (sym same) (noted_zero r f done (get_or slots (slot_of f) 0) (first f is e) (noted f is));
     }
 
 abbrev zeros : ℕ → List ℕ
@@ -115,11 +115,11 @@ written_one_more answers answer old new before is = is ∙ (ap (λ l. l ++ reply
 
 -- ---- before the first line
 -- all fraction lengths of each kind are left
-pub all_living : (cells lows highs : List ℕ) → ((i : ℕ) → get_or cells i 0 ≡ 0) → ((j : ℕ) → j < 8 → get_or lows j 0 ≡ 0) → ((j : ℕ) → j < 8 → get_or highs j 0 ≡ kind_width j + 1) → AreLiving cells lows highs
-all_living cells lows highs none low high = record {
+pub all_living : (slots lows highs : List ℕ) → ((i : ℕ) → get_or slots i 0 ≡ 0) → ((j : ℕ) → j < 8 → get_or lows j 0 ≡ 0) → ((j : ℕ) → j < 8 → get_or highs j 0 ≡ kind_width j + 1) → AreLiving slots lows highs
+all_living slots lows highs none low high = record {
   order = λ j is. rw (low j is) (omega arith);
   most = λ j is. rw (high j is) (omega arith);
-  living = λ j is k w. rw (low j is, high j is) ((λ _. none (cell j k)), (λ _. (omega arith, omega arith)));
+  living = λ j is k w. rw (low j is, high j is) ((λ _. none (slot j k)), (λ _. (omega arith, omega arith)));
 }
 
 pub high_at : (j : ℕ) → j < 8 → get_or (9 ∷ 9 ∷ 17 ∷ 17 ∷ 33 ∷ 33 ∷ 65 ∷ 65 ∷ []) j 0 ≡ kind_width j + 1

@@ -1,4 +1,4 @@
 -- Contracts of private functions.
 pub mod Exact
 pub mod Valued
-pub mod Cells
+pub mod Slots

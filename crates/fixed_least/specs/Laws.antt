@@ -1,15 +1,18 @@
 -- What the laws of this crate say.
-use Rattle.std.specs.Prelude.{◌≡◌, ◌↔◌, ◌++◌, ℕ, List, length}
+use Rattle.std.specs.Prelude.{◌≡◌, ◌↔◌, ◌++◌, ℕ, List, String, length}
+use Rattle.std.specs.declared.alloc.Global.{Global}
 use Rattle.fixed_bits.specs.Formats.{FormatParts, IsFormat}
 use Rattle.fixed_bits.specs.Order.{IsBefore, rank}
 use Rattle.fixed_numeral.specs.declared.radix.Radix.{Radix}
 use Rattle.line_engine.specs.AnswerText.{AnswerText}
 use Rattle.fixed_least.specs.Holding.{AllHold, IsLeastFormat}
 use Rattle.fixed_least.specs.Least.{IsLeast, IsWholeAnswer}
+use Rattle.fixed_least.specs.Program.{NamesRadix}
 
 -- the format whose rank is the count of places is the least one that holds each line, and there is no other
 abbrev pub LeastIsTheOne : Type 0
-LeastIsTheOne = (r : Radix) (lines : List (List ℕ)) (places : List ℕ) → IsLeast r lines places → (f : FormatParts) → IsFormat f.width f.frac
+LeastIsTheOne = (r : Radix) (lines : List (List ℕ)) (places : List ℕ) → IsLeast r lines places → (f : FormatParts)
+    → IsFormat f.width f.frac
     → (rank f ≡ length places) ↔ IsLeastFormat r lines f
 
 -- a list has one outcome: the places are determined
@@ -18,9 +21,15 @@ PlacesAreTheOnes = (r : Radix) (lines : List (List ℕ)) (a b : List ℕ) → Is
 
 -- an input has one answer
 abbrev pub AnswerIsTheOne : Type 0
-AnswerIsTheOne = (r : Radix) (input : List ℕ) (a b : AnswerText) → IsWholeAnswer r input a → IsWholeAnswer r input b → a ≡ b
+AnswerIsTheOne = (r : Radix) (input : List ℕ) (a b : AnswerText) → IsWholeAnswer r input a → IsWholeAnswer r input b
+    → a ≡ b
 
--- the least format of a longer list does not come before that of the shorter, and where none holds the shorter none holds the longer
+-- arguments name one radix
+abbrev pub NamedRadixIsTheOne : Type 0
+NamedRadixIsTheOne = (args : List (String Global)) (r s : Radix) → NamesRadix args r → NamesRadix args s → r ≡ s
+
+-- the least format of a longer list does not come before that of the shorter, and where none holds the shorter none
+-- holds the longer
 abbrev pub LongerHasNoLesser : Type 0
 LongerHasNoLesser = (r : Radix) (lines more : List (List ℕ))
     → ((f g : FormatParts) → IsLeastFormat r lines f → IsLeastFormat r (lines ++ more) g → ¬ IsBefore g f)

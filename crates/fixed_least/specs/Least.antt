@@ -18,7 +18,8 @@ use Rattle.fixed_least.specs.declared.least.LeastFault.TheVariants.{NotNumeral}
 pub record IsLeast (r : Radix) (lines : List (List ℕ)) (places : List ℕ) : Type 0 where
   pub short : length places ≤ 248
   pub numerals : AllNumerals r lines
-  pub refutes : (f : FormatParts) → IsFormat f.width f.frac → rank f < length places → IsFirstRefused r f lines (get_or places (rank f) 0)
+  pub refutes : (f : FormatParts) → IsFormat f.width f.frac → rank f < length places
+      → IsFirstRefused r f lines (get_or places (rank f) 0)
   pub holds : (f : FormatParts) → IsFormat f.width f.frac → rank f ≡ length places → AllHold r f lines
 
 abbrev pub place_of : LeastFault → ℕ
@@ -40,7 +41,8 @@ pub record IsNoNumeral (r : Radix) (lines : List (List ℕ)) (fault : LeastFault
 -- the line that names the least format
 abbrev pub IsHeadText : List ℕ → List ℕ → Type 0
 IsHeadText places text = ((length places ≡ 248) × (text ≡ codes "none"))
-    ⊎ ((f : FormatParts) × IsFormat f.width f.frac × (rank f ≡ length places) × (text ≡ codes "least " ++ format_text f))
+    ⊎ ((f : FormatParts) × IsFormat f.width f.frac × (rank f ≡ length places)
+    × (text ≡ codes "least " ++ format_text f))
 
 -- the line that refutes the format with this number
 abbrev pub IsRefutedText : List ℕ → ℕ → List ℕ → Type 0
@@ -67,7 +69,8 @@ pub record IsLeastText (places text : List ℕ) : Type 0 where
 
 -- what is written for a line that is no numeral
 abbrev pub fault_line : LeastFault → List ℕ
-fault_line why = codes "error: line " ++ (decimal (place_of why) ++ (codes ": " ++ (message_of (kind_at why) ++ 10 ∷ [])))
+fault_line why = codes "error: line "
+    ++ (decimal (place_of why) ++ (codes ": " ++ (message_of (kind_at why) ++ 10 ∷ [])))
 
 -- the answer to an input that is a list of numerals
 pub record IsLeastAnswer (r : Radix) (input : List ℕ) (answer : AnswerText) : Type 0 where

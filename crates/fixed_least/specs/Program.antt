@@ -8,10 +8,10 @@ use Rattle.fixed_respell.specs.Words.{radix_text}
 use Rattle.line_engine.specs.AnswerText.{AnswerText}
 use Rattle.line_engine.specs.Asked.{AskedWithin}
 use Rattle.line_engine.specs.Failures.{HasFailed}
-use Rattle.line_engine.specs.Output.{AppendsPrefix}
-use Rattle.line_engine.specs.Program.{Outside}
+use Rattle.line_engine.specs.Appended.{AppendsPrefix}
+use Rattle.line_engine.specs.Program.{Outside, ReadsNothing, WritesNothing}
 use Rattle.line_engine.specs.Run.{HasFailures, WritesText}
-use Rattle.line_engine.specs.WholeRun.{HasWholeRun, WritesAnswer}
+use Rattle.line_engine.specs.WholeRun.{EndsBeforeWriting, HasWholeRun, WritesAnswer}
 use Rattle.line_engine.specs.declared.status.Status.{Status}
 use Rattle.line_engine.specs.declared.status.Status.TheVariants.{Usage, WriteFault, NoMemory, TooLong}
 use Rattle.fixed_least.specs.Least.{IsWholeAnswer}
@@ -41,18 +41,26 @@ pub record HasLeastRun (args : List (String Global)) (before after : Outside) (s
       → ¬ HasFailed before.read_failures after.read_failures → ¬ HasFailed before.write_failures after.write_failures
       → (status ≡ NoMemory) ⊎ WritesAnswer (IsWholeAnswer r) input before.written after.written status
   -- an input past the limit is reported
-  pub too_long : (r : Radix) → NamesRadix args r → (input : List ℕ) → before.left ≡ Some input → most_bytes < length input
+  pub too_long : (r : Radix) → NamesRadix args r → (input : List ℕ) → before.left ≡ Some input
+      → most_bytes < length input
       → ¬ HasFailed before.read_failures after.read_failures → ¬ HasFailed before.write_failures after.write_failures
       → (status ≡ NoMemory) ⊎ (status ≡ TooLong)
   -- what was taken and what was written, by status
-  pub run : (r : Radix) → NamesRadix args r → HasWholeRun (IsWholeAnswer r) most_bytes before.left after.left before.written after.written status
+  pub run : (r : Radix) → NamesRadix args r
+      → HasWholeRun (IsWholeAnswer r) most_bytes before.left after.left before.written after.written status
   -- where a write failed, a prefix of the answer was written
-  pub prefix_on_write_fault : (r : Radix) → NamesRadix args r → status ≡ WriteFault → (input : List ℕ) (answer : AnswerText) → before.left ≡ Some input
+  pub prefix_on_write_fault : (r : Radix) → NamesRadix args r → status ≡ WriteFault
+      → (input : List ℕ) (answer : AnswerText) → before.left ≡ Some input
       → IsWholeAnswer r input answer → AppendsPrefix before.written after.written answer.text
   -- what the source was asked for
   pub asked : (r : Radix) → NamesRadix args r → AskedWithin most_bytes before.asked after.asked
   -- arguments that ask for nothing are answered with the usage line
-  pub usage : IsUsageFault args → WritesText usage_line Usage before.written after.written before.write_failures after.write_failures status
+  pub usage : IsUsageFault args
+      → WritesText usage_line Usage before.written after.written before.write_failures after.write_failures status
   pub usage_only : status ≡ Usage → (r : Radix) → ¬ NamesRadix args r
   -- which count of failures rose, by status
   pub failures : HasFailures before.read_failures after.read_failures before.write_failures after.write_failures status
+  -- a run by other arguments reads nothing
+  pub untouched : IsUsageFault args → ReadsNothing before after
+  -- a run that ended before its input did, or for want of memory, wrote nothing
+  pub unwritten : EndsBeforeWriting status → WritesNothing before after

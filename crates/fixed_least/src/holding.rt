@@ -2,7 +2,7 @@
 
 ghost use Rattle.std.specs.Prelude.{◌≡◌, ◌↔◌, ◌≤◌, ◌<◌, ◌*◌, ◌/◌, ◌^◌, IsTrue, ℕ, MatchOption, Option};
 ghost use Rattle.fixed_bits.specs.Ranges.{IsInRange};
-ghost use Rattle.fixed_read.specs.Reading.{with_sign};
+ghost use Rattle.fixed_bits.specs.Numbers.{with_sign};
 ghost use Rattle.fixed_least.specs.Inner.Exact.{HasUlps};
 ghost use Rattle.fixed_least.specs.Inner.Valued.{HasValue};
 
@@ -38,7 +38,7 @@ fn shorter_ulps(bits: u128, shift: u32) -> u128
     bits << shift
 }
 
-/// How many longer ulps a number of ulps is; `None` where it is no whole number of them.
+/// How many longer ulps a number of ulps is; `None` where it is not a whole number of them.
 fn whole_ulps(ulps: u128, shift: u32) -> Option<u128>
     requires { shift ≤ 64 }
     ensures { MatchOption result ((k : ℕ) → ¬ (ulps ≡ k * 2 ^ shift)) (λ k. ulps ≡ k * 2 ^ shift) }

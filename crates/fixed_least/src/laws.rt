@@ -1,6 +1,12 @@
 //! Laws of the least format of a list, each the contract of a function that does nothing.
 
-ghost use Rattle.fixed_least.specs.Laws.{AnswerIsTheOne, LeastIsTheOne, LongerHasNoLesser, PlacesAreTheOnes};
+ghost use Rattle.fixed_least.specs.Laws.{
+  AnswerIsTheOne,
+  LeastIsTheOne,
+  LongerHasNoLesser,
+  NamedRadixIsTheOne,
+  PlacesAreTheOnes,
+};
 
 /// The format whose rank is the count of places is the least one that holds each numeral, and there is no other.
 pub fn least_is_the_one()
@@ -15,6 +21,11 @@ pub fn places_are_the_ones()
 /// An input has one answer.
 pub fn answer_is_the_one()
     ensures { AnswerIsTheOne }
+{}
+
+/// Arguments name at most one radix.
+pub fn named_radix_is_the_one()
+    ensures { NamedRadixIsTheOne }
 {}
 
 /// The least format of a longer list does not come before that of the shorter one.

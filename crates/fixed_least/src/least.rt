@@ -1,29 +1,46 @@
 //! The least format that holds a list exactly, and for each lesser one a numeral that it does not hold.
 
-ghost use Rattle.std.specs.Prelude.{◌≡◌, ◌≤◌, ◌<◌, ◌+◌, ◌++◌, ◌↔◌, IsTrue, ℕ, List, length, false, get_or, replicate, decimal, IfOk, IfErr, MatchOption};
+ghost use Rattle.std.specs.Prelude.{
+  ◌≡◌,
+  ◌≤◌,
+  ◌<◌,
+  ◌+◌,
+  ◌++◌,
+  ◌↔◌,
+  IsTrue,
+  ℕ,
+  List,
+  length,
+  false,
+  get_or,
+  replicate,
+  decimal,
+  IfOk,
+  IfErr,
+  MatchOption,
+};
 ghost use Rattle.fixed_bits.specs.Formats.{FormatParts, IsFormat};
 ghost use Rattle.fixed_bits.specs.Order.{rank};
 ghost use Rattle.line_engine.specs.Lines.{lines};
-ghost use Rattle.fixed_least.specs.Inner.Cells.{cell_of};
+ghost use Rattle.fixed_least.specs.Inner.Slots.{slot_of};
 ghost use Rattle.fixed_least.specs.Least.{IsHeadText, IsLeast, IsLeastLine, IsNoNumeral, IsRefutedText};
 
-use crate::cells::{CELLS, all_lengths, cell_of, refute};
 use crate::exact::exact_of;
+use crate::slots::{SLOTS, all_lengths, refute, slot_of};
 use fixed_bits::{FORMAT_COUNT, Format, format_at};
 use fixed_numeral::{ParseFixedError, Radix};
 use fixed_respell::format_name;
 use fixed_steps::Steps;
 use itoa::Buffer;
-use line_engine::Answer;
+use line_engine::{Answer, first_line};
 use std::marker::Model;
 use std::sync::ledger::Ledger;
 use text_buffer::TextBuffer;
-use line_engine::first_line;
 
-/// Why a text is no list of numerals.
+/// Why a text is not a list of numerals.
 #[derive(Clone, Copy, Debug, PartialEq, Eq)]
 pub enum LeastFault {
-    /// The line at this place, from 1, is no numeral, for this reason.
+    /// The line at this place, from 1, is not a numeral, for this reason.
     NotNumeral {
         /// Which line.
         place: u64,
@@ -59,24 +76,25 @@ fn format_of_rank(i: usize) -> Format
     format_at(i).unwrap()
 }
 
-/// The place in the cell of the format with a rank.
-fn place_of_rank(cells: &[u64; CELLS], i: usize) -> u64
+/// The place in the slot of the format with a rank.
+fn place_of_rank(slots: &[u64; SLOTS], i: usize) -> u64
     requires { i < FORMAT_COUNT }
-    ensures { (f : FormatParts) → IsFormat f.width f.frac → rank f ≡ i → result ≡ get_or cells.now (cell_of f) 0 }
+    ensures { (f : FormatParts) → IsFormat f.width f.frac → rank f ≡ i → result ≡ get_or slots.now (slot_of f) 0 }
 {
-    cells[cell_of(format_of_rank(i))]
+    slots[slot_of(format_of_rank(i))]
 }
 
-/// The least format without a place in its cell, and the places of those before it.
-fn least_of(cells: &[u64; CELLS]) -> Least
+/// The least format without a place in its slot, and the places of those before it.
+fn least_of(slots: &[u64; SLOTS]) -> Least
     ensures short { length result ≤ FORMAT_COUNT }
     ensures places { (f : FormatParts) → IsFormat f.width f.frac → rank f < length result
-        → (get_or result (rank f) 0 ≡ get_or cells.now (cell_of f) 0) × ¬ (get_or cells.now (cell_of f) 0 ≡ 0) }
-    ensures first { (f : FormatParts) → IsFormat f.width f.frac → rank f ≡ length result → get_or cells.now (cell_of f) 0 ≡ 0 }
+        → (get_or result (rank f) 0 ≡ get_or slots.now (slot_of f) 0) × ¬ (get_or slots.now (slot_of f) 0 ≡ 0) }
+    ensures first { (f : FormatParts) → IsFormat f.width f.frac → rank f ≡ length result
+        → get_or slots.now (slot_of f) 0 ≡ 0 }
 {
     let mut places = [0u64; FORMAT_COUNT];
     for i in 0..FORMAT_COUNT {
-        let place = place_of_rank(cells, i);
+        let place = place_of_rank(slots, i);
         if place == 0 {
             return Least { places, refuted: i };
         }
@@ -88,11 +106,11 @@ fn least_of(cells: &[u64; CELLS]) -> Least
     }
 }
 
-/// No place in any cell.
-fn no_places() -> [u64; CELLS]
-    ensures { result ≡ replicate CELLS 0 }
+/// No place in any slot.
+fn no_places() -> [u64; SLOTS]
+    ensures { result ≡ replicate SLOTS 0 }
 {
-    [0u64; CELLS]
+    [0u64; SLOTS]
 }
 
 /// The least format that holds each line of a text exactly, as a numeral of the radix. It takes no memory, and reads a
@@ -100,7 +118,7 @@ fn no_places() -> [u64; CELLS]
 ///
 /// # Errors
 ///
-/// The first line that is no numeral is reported with its place and the kind of its cause.
+/// The first line that is not a numeral is reported with its place and the kind of its cause.
 pub fn least_format<L: Ledger>(
     text: &[u8],
     radix: Radix,
@@ -109,7 +127,7 @@ pub fn least_format<L: Ledger>(
     ensures least { IfOk result (λ l. IsLeast radix (lines text.now) l) }
     ensures refused { IfErr result (λ fault. IsNoNumeral radix (lines text.now) fault) }
 {
-    let mut cells = no_places();
+    let mut slots = no_places();
     let (mut lows, mut highs) = all_lengths();
     let mut place = 0u64;
     let mut rest = text;
@@ -118,17 +136,18 @@ pub fn least_format<L: Ledger>(
         place += 1;
         match exact_of(line, radix, steps) {
             Err(error) => return Err(LeastFault::NotNumeral { place, error }),
-            Ok(value) => refute(&mut cells, &mut lows, &mut highs, value, place),
+            Ok(value) => refute(&mut slots, &mut lows, &mut highs, value, place),
         }
         rest = after;
     }
-    Ok(least_of(&cells))
+    Ok(least_of(&slots))
 }
 
 impl Least {
     /// The least format that holds each numeral; `None` where no format does.
     pub fn chosen(&self) -> Option<Format>
-        ensures { MatchOption result (length self.now ≡ FORMAT_COUNT) (λ f. IsFormat f.width f.frac × (rank f ≡ length self.now)) }
+        ensures { MatchOption result (length self.now ≡ FORMAT_COUNT) (λ f. IsFormat f.width f.frac
+            × (rank f ≡ length self.now)) }
     {
         format_at(self.refuted)
     }
@@ -181,8 +200,8 @@ impl Least {
         Answer::of(out.as_bytes(), false)
     }
 
-    /// A line about the outcome: line 0 names the format, and each further line a lesser format and the place that refutes
-    /// it.
+    /// A line about the outcome: line 0 names the format, and each further line a lesser format and the place that
+    /// refutes it.
     pub fn line(&self, i: usize) -> Answer
         requires { i ≤ length self.now }
         ensures { IsLeastLine self.now i result }

@@ -5,7 +5,7 @@ ghost use Rattle.fixed_numeral.specs.declared.radix.Radix.{Radix};
 ghost use Rattle.line_engine.specs.AnswerText.{AnswerText};
 ghost use Rattle.line_engine.specs.Asked.{AskedWithin};
 ghost use Rattle.line_engine.specs.Failures.{HasFailed};
-ghost use Rattle.line_engine.specs.Output.{AppendsPrefix};
+ghost use Rattle.line_engine.specs.Appended.{AppendsPrefix};
 ghost use Rattle.line_engine.specs.Run.{HasFailures, WritesText};
 ghost use Rattle.line_engine.specs.WholeRun.{EndsBeforeWriting, HasWholeRun, WritesAnswer};
 ghost use Rattle.fixed_least.specs.Least.{IsWholeAnswer};
@@ -44,38 +44,49 @@ pub fn run_least<S: Source, K: Sink, L: Ledger>(
     sink: &mut K,
     steps: &mut Steps<L>,
 ) -> Status
-    // For every input within the limit, with no failed read or write, the run writes the outcome of its lines, and nothing
-    // else; or there was no memory.
-    ensures output { (r : Radix) → NamesRadix words.now r → (input : List ℕ) → S.left source.old ≡ Some input → length input ≤ MAX_WHOLE
-        → ¬ HasFailed (S.failures source.old) (S.failures source.new) → ¬ HasFailed (K.failures sink.old) (K.failures sink.new)
-        → (result ≡ Status.NoMemory) ⊎ WritesAnswer (IsWholeAnswer r) input (K.written sink.old) (K.written sink.new) result }
+    // For every input within the limit, with no failed read or write, the run writes the outcome of its lines, and
+    // nothing else; or there was no memory.
+    ensures output { (r : Radix) → NamesRadix words.now r → (input : List ℕ) → S.left source.old ≡ Some input
+        → length input ≤ 1048576
+        → ¬ HasFailed (S.failures source.old) (S.failures source.new)
+        → ¬ HasFailed (K.failures sink.old) (K.failures sink.new)
+        → (result ≡ Status.NoMemory)
+        ⊎ WritesAnswer (IsWholeAnswer r) input (K.written sink.old) (K.written sink.new) result }
 
     // A longer input is reported.
-    ensures too_long { (r : Radix) → NamesRadix words.now r → (input : List ℕ) → S.left source.old ≡ Some input → MAX_WHOLE < length input
-        → ¬ HasFailed (S.failures source.old) (S.failures source.new) → ¬ HasFailed (K.failures sink.old) (K.failures sink.new)
+    ensures too_long { (r : Radix) → NamesRadix words.now r → (input : List ℕ) → S.left source.old ≡ Some input
+        → 1048576 < length input
+        → ¬ HasFailed (S.failures source.old) (S.failures source.new)
+        → ¬ HasFailed (K.failures sink.old) (K.failures sink.new)
         → (result ≡ Status.NoMemory) ⊎ (result ≡ Status.TooLong) }
 
     // What was taken and what was written, by status, also after a failed read or write.
     ensures run { (r : Radix) → NamesRadix words.now r
-        → HasWholeRun (IsWholeAnswer r) MAX_WHOLE (S.left source.old) (S.left source.new) (K.written sink.old) (K.written sink.new) result }
-    ensures prefix_on_write_fault { (r : Radix) → NamesRadix words.now r → result ≡ Status.WriteFault → (input : List ℕ) (answer : AnswerText)
+        → HasWholeRun (IsWholeAnswer r) 1048576 (S.left source.old) (S.left source.new) (K.written sink.old)
+        (K.written sink.new) result }
+    ensures prefix_on_write_fault { (r : Radix) → NamesRadix words.now r → result ≡ Status.WriteFault
+        → (input : List ℕ) (answer : AnswerText)
         → S.left source.old ≡ Some input
         → IsWholeAnswer r input answer → AppendsPrefix (K.written sink.old) (K.written sink.new) answer.text }
 
     // A run that ended before its input did, or for want of memory, left the sink as it was.
     ensures unwritten { EndsBeforeWriting result → sink.new ≡ sink.old }
 
-    // What the source was asked for: no read asked for more than the limit and one byte less those taken, or for more than 4,096.
-    ensures asked { (r : Radix) → NamesRadix words.now r → AskedWithin MAX_WHOLE (S.asked source.old) (S.asked source.new) }
+    // What the source was asked for: no read asked for more than the limit and one byte less those taken, or for more
+    // than 4,096.
+    ensures asked { (r : Radix) → NamesRadix words.now r
+        → AskedWithin 1048576 (S.asked source.old) (S.asked source.new) }
 
     // Other arguments.
     ensures usage { IsUsageFault words.now
-        → WritesText usage_line Status.Usage (K.written sink.old) (K.written sink.new) (K.failures sink.old) (K.failures sink.new) result }
+        → WritesText usage_line Status.Usage (K.written sink.old) (K.written sink.new) (K.failures sink.old)
+        (K.failures sink.new) result }
     ensures usage_only { result ≡ Status.Usage → (r : Radix) → ¬ NamesRadix words.now r }
     ensures untouched { IsUsageFault words.now → source.new ≡ source.old }
 
     // Which count of failures rose, by status.
-    ensures failures { HasFailures (S.failures source.old) (S.failures source.new) (K.failures sink.old) (K.failures sink.new) result }
+    ensures failures { HasFailures (S.failures source.old) (S.failures source.new) (K.failures sink.old)
+        (K.failures sink.new) result }
 {
     match radix_of(words) {
         Some(radix) => run_whole(alloc, MAX_WHOLE, &LeastRule { radix }, source, sink, steps),

@@ -10,9 +10,9 @@ use fixed_numeral::Radix;
 use fixed_steps::Steps;
 use itoa::Buffer;
 use line_engine::{Answer, WholeAnswer, WholeRule};
-use text_buffer::NoMemory;
 use std::alloc::{AllocError, Global};
 use std::sync::ledger::Ledger;
+use text_buffer::NoMemory;
 
 /// The rule that answers an input as a list of numerals of a radix.
 #[derive(Clone, Copy, Debug, PartialEq, Eq)]
@@ -44,7 +44,7 @@ fn least_text(alloc: Global, least: &Least) -> Result<Vec<u8>, AllocError>
     Ok(text)
 }
 
-/// What is written for a line that is no numeral.
+/// What is written for a line that is not a numeral.
 fn fault_text(alloc: Global, fault: LeastFault) -> Result<Vec<u8>, AllocError>
     ensures { IfOk result (λ text. text.items ≡ fault_line fault) }
 {

@@ -20,8 +20,6 @@ mod printing;
 mod reading;
 pub mod rounding;
 pub mod styled;
-#[cfg(test)]
-mod tests;
 mod text;
 
 pub use ends::Ends;

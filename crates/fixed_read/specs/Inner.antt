@@ -3,4 +3,3 @@ pub mod Blocks
 pub mod Rounding
 pub mod Directions
 pub mod BinaryPower
-pub mod Magnitudes

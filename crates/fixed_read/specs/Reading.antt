@@ -1,6 +1,7 @@
 -- The read number of a numeral, and its bits.
-use Rattle.std.specs.Prelude.{◌≡◌, ℕ, ◌+◌, ◌*◌, ◌<◌, ◌^◌, ◌↔◌, ℤ, pos, neg_ℤ, Bool, if◌then◌else◌, IsTrue}
+use Rattle.std.specs.Prelude.{◌≡◌, ℕ, ◌*◌, ◌^◌, ◌↔◌, ℤ, Bool, IsTrue}
 use Rattle.fixed_bits.specs.Images.{IsImage, IsWrapped}
+use Rattle.fixed_bits.specs.Numbers.{IsNumber}
 use Rattle.fixed_bits.specs.Ranges.{IsInRange, IsOutOfRange}
 use Rattle.fixed_bits.specs.Rounded.{IsRounded}
 use Rattle.fixed_bits.specs.declared.format.Policy.{Policy}
@@ -24,22 +25,12 @@ IsMultipleOf d m = (k : ℕ) × (m ≡ k * d)
 abbrev pub IsWholeUlps : Radix → Parts → ℕ → Type 0
 IsWholeUlps r p f = IsMultipleOf (magnitude r p).den ((magnitude r p).num * 2 ^ f)
 
--- m, negated where negative
-abbrev pub with_sign : Bool → ℕ → ℤ
-with_sign negative m = if negative then neg_ℤ (pos m) else pos m
-
--- the answer of a reading stands for v: it has v's sign, the lowest 64 bits of v's magnitude, and whether there are more
-pub record HoldsNumber (found : ReadNumber) (v : ℤ) : Type 0 where
-  pub high : ℕ
-  pub value : v ≡ with_sign found.negative (high * 2 ^ 64 + found.low)
-  pub over : IsTrue found.has_high_bits ↔ (0 < high)
-
--- the answer stands for the read number of a numeral with these parts, and says whether the numeral was a whole number of ulps
+-- the answer holds the read number of a numeral with these parts, and says whether the numeral was a whole number of ulps
 pub record IsReading (mode : ReadMode) (r : Radix) (p : Parts) (found : ReadNumber) : Type 0 where
   pub number : ℤ
   pub read : IsReadNumber mode r p found.format.frac number
-  pub holds : HoldsNumber found number
-  pub sign : found.negative ≡ is_minus p.sign
+  pub holds : IsNumber found.number number
+  pub sign : found.number.negative ≡ is_minus p.sign
   pub exact : IsTrue found.exact ↔ IsWholeUlps r p found.format.frac
 
 -- bits is the Wrapping image of the read number, and overflowed says whether that is out of range

@@ -10,7 +10,6 @@ mod literal;
 mod lost_fraction;
 mod magnitude;
 mod power_of_two_radix;
-mod range;
 mod read;
 mod read_number;
 mod reciprocal;

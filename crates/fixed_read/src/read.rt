@@ -2,18 +2,18 @@
 
 ghost use Rattle.std.specs.Prelude.{◌≡◌, ◌+◌, ◌*◌, ◌<◌, ◌≤◌, ◌↔◌, ◌⊎◌, ℤ, Err, IsOk, IfOk, IfErr, length};
 ghost use Rattle.fixed_bits.specs.Images.{IsSaturated, IsWrapped};
-ghost use Rattle.fixed_bits.specs.Ranges.{IsInRange, IsOutOfRange};
+ghost use Rattle.fixed_bits.specs.Numbers.{IsNumber};
+ghost use Rattle.fixed_bits.specs.Ranges.{IsInRange};
 ghost use Rattle.fixed_bits.specs.declared.format.Policy.TheVariants.{Saturating, Wrapping};
 ghost use Rattle.fixed_bits.specs.declared.mode.ReadMode.TheVariants.{NearestEven};
 ghost use Rattle.fixed_numeral.specs.Answer.{IsReadOrRefused};
 ghost use Rattle.fixed_numeral.specs.Cause.{HasCause};
 ghost use Rattle.fixed_numeral.specs.Numeral.{Parts, HasNumeral};
 ghost use Rattle.fixed_numeral.specs.declared.error.ParseErrorKind.TheVariants.{Overflow};
-ghost use Rattle.fixed_read.specs.Inner.Magnitudes.{greatest_magnitude};
-ghost use Rattle.fixed_read.specs.Reading.{HoldsNumber, IsImageRead, IsOverflowingRead, IsReadInRange, IsReadNumber, IsReadOutOfRange, IsReading, with_sign};
+ghost use Rattle.fixed_read.specs.Reading.{IsImageRead, IsOverflowingRead, IsReadInRange, IsReadNumber, IsReadOutOfRange, IsReading};
 
 use crate::read_number::{ReadNumber, read_format};
-use fixed_bits::{Format, Inner, ReadMode};
+use fixed_bits::{Format, Inner, Policy, ReadMode, signed_number};
 use fixed_numeral::{ParseErrorKind, ParseFixedError, Radix};
 use fixed_steps::Steps;
 use std::marker::Brand;
@@ -31,29 +31,24 @@ pub fn format_of<I: Inner>(frac: u32) -> Format
 
 /// The Wrapping image of a read number.
 fn wrapped<I: Inner>(found: &ReadNumber) -> I
-    ensures { (v : ℤ) → HoldsNumber found.now v → IsWrapped I.SIGNED I.BITS v (I.number result) }
+    ensures { (v : ℤ) → IsNumber found.now.number v → IsWrapped I.SIGNED I.BITS v (I.number result) }
 {
-    I::wrap(found.low_number())
-}
-
-/// The end of a type's range on that direction.
-fn nearer_end<I: Inner>(negative: bool) -> I
-    ensures { I.number result ≡ with_sign negative (greatest_magnitude I.SIGNED negative I.BITS) }
-{
-    if negative { I::MIN } else { I::MAX }
+    let number = found.number();
+    I::wrap(signed_number(number.negative, number.low))
 }
 
 /// The Saturating image of a read number.
 fn saturated<I: Inner>(found: &ReadNumber) -> I
     requires signed { found.now.format.signed ≡ I.SIGNED }
     requires width { found.now.format.width ≡ I.BITS }
-    ensures { (v : ℤ) → HoldsNumber found.now v → IsSaturated I.SIGNED I.BITS v (I.number result) }
+    ensures { (v : ℤ) → IsNumber found.now.number v → IsSaturated I.SIGNED I.BITS v (I.number result) }
 {
-    if found.is_out_of_range() {
-        nearer_end(found.is_negative())
-    } else {
-        wrapped(found)
-    }
+    I::wrap(
+        found
+            .number()
+            .image(found.format(), Policy::Saturating)
+            .number(),
+    )
 }
 
 /// A read number where it is in range.
@@ -64,8 +59,8 @@ fn saturated<I: Inner>(found: &ReadNumber) -> I
 pub fn in_range<I: Inner>(found: &ReadNumber) -> Result<I, ParseFixedError>
     requires signed { found.now.format.signed ≡ I.SIGNED }
     requires width { found.now.format.width ≡ I.BITS }
-    ensures fits { (v : ℤ) → HoldsNumber found.now v → IsOk result ↔ IsInRange I.SIGNED I.BITS v }
-    ensures number { IfOk result (λ r. (v : ℤ) → HoldsNumber found.now v → I.number r ≡ v) }
+    ensures fits { (v : ℤ) → IsNumber found.now.number v → IsOk result ↔ IsInRange I.SIGNED I.BITS v }
+    ensures number { IfOk result (λ r. (v : ℤ) → IsNumber found.now.number v → I.number r ≡ v) }
     ensures overflow { IfErr result (λ kind. kind ≡ Overflow) }
 {
     if found.is_out_of_range() {

@@ -12,14 +12,6 @@ use Rattle.fixed_respell.specs.declared.command.Command.TheVariants.{Read, SelfT
 differ : codes "limit" ≡ codes "self" → ⊥
 differ e = cc
 
-pub no_limit : (name number : List ℕ) → name ≡ codes "limit" → ((n : ℕ) → 1 ≤ n → n ≤ max_limit → number ≡ decimal n → ⊥) → (c : Command) → IsNumbered name number c → ⊥
-no_limit name number is none (Read n) h = none n h.2 h.3 h.1
-no_limit name number is none (SelfTest n) h = differ (sym is ∙ h.0)
-
-pub no_self_test : (name number : List ℕ) → name ≡ codes "self" → ((n : ℕ) → 1 ≤ n → n ≤ max_self_lines → number ≡ decimal n → ⊥) → (c : Command) → IsNumbered name number c → ⊥
-no_self_test name number is none (Read n) h = differ (sym h.0 ∙ is)
-no_self_test name number is none (SelfTest n) h = none n h.2 h.3 h.1
-
 numbered_one : (name number : List ℕ) (c d : Command) → IsNumbered name number c → IsNumbered name number d → c ≡ d
 numbered_one name number (Read m) (Read n) a b = ap Read (decimal_injective m n (omega (arith, a.3)) (omega (arith, b.3)) (sym a.1 ∙ b.1))
 numbered_one name number (SelfTest m) (SelfTest n) a b = ap SelfTest (decimal_injective m n (omega (arith, a.3)) (omega (arith, b.3)) (sym a.1 ∙ b.1))
@@ -41,16 +33,3 @@ count_is_one args m n a b = let e : SelfTest m ≡ SelfTest n = command_one args
 
 pub not_both : (args : List (String Global)) (m n : ℕ) → IsCommand args (Read m) → IsCommand args (SelfTest n) → ⊥
 not_both args m n a b = let e : Read m ≡ SelfTest n = command_one args (Read m) (SelfTest n) a b in cc
-
--- limits and counts are in range
-pub limit_range : (args : List (String Global)) (m : ℕ) → IsCommand args (Read m) → (1 ≤ m) × (m ≤ max_limit)
-limit_range [] m a = let e : m ≡ max_limit = cc in (omega arith, omega arith)
-limit_range (name ∷ []) m a = absurd a
-limit_range (name ∷ number ∷ []) m a = (a.2, a.3)
-limit_range (name ∷ number ∷ more ∷ others) m a = absurd a
-
-pub count_range : (args : List (String Global)) (m : ℕ) → IsCommand args (SelfTest m) → (1 ≤ m) × (m ≤ max_self_lines)
-count_range [] m a = let no_way : ⊥ = cc in absurd no_way
-count_range (name ∷ []) m a = absurd a
-count_range (name ∷ number ∷ []) m a = (a.2, a.3)
-count_range (name ∷ number ∷ more ∷ others) m a = absurd a

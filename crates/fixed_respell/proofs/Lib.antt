@@ -11,7 +11,6 @@ mod SelfExampleLemmas
 mod ExampleLemmas
 mod ReachedExampleLemmas
 mod ReachLemmas
-mod MovingLemmas
 mod TableLemmas
 mod KeyLemmas
 mod NameLemmas

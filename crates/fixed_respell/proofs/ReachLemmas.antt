@@ -3,6 +3,7 @@ use Rattle.std.proofs.Common.{◌≡◌, ℕ, ◌⊎◌, ◌↔◌, Bool, true, 
 use Rattle.fixed_bits.specs.Down.{IsDown, down}
 use Rattle.fixed_bits.specs.Formats.{FormatParts}
 use Rattle.fixed_bits.specs.Images.{IsImage}
+use Rattle.fixed_bits.specs.Numbers.{IsNumber, IsRefused}
 use Rattle.fixed_bits.specs.Ranges.{IsOutOfRange}
 use Rattle.fixed_bits.specs.declared.format.Policy.{Policy}
 use Rattle.fixed_bits.specs.declared.format.Policy.TheVariants.{Checked}
@@ -12,7 +13,7 @@ use Rattle.fixed_numeral.specs.Numeral.{Parts, HasNumeral}
 use Rattle.fixed_numeral.specs.declared.error.ParseErrorKind.{ParseErrorKind}
 use Rattle.fixed_numeral.specs.declared.error.ParseErrorKind.TheVariants.{Overflow}
 use Rattle.fixed_numeral.specs.declared.radix.Radix.{Radix}
-use Rattle.fixed_read.specs.Reading.{HoldsNumber, IsReadNumber, IsReading}
+use Rattle.fixed_read.specs.Reading.{IsReadNumber, IsReading}
 use Rattle.fixed_read.specs.declared.read_number.ReadNumber.{ReadNumber}
 use Rattle.fixed_respell.specs.Reached.{IsReached, IsOverflowed, IsRespelled, IsRefusal}
 
@@ -25,7 +26,7 @@ pub record IsRead (mode : ReadMode) (r : Radix) (bytes : List ℕ) (source : For
   pub numeral : HasNumeral r bytes parts
   pub number : ℤ
   pub read : IsReadNumber mode r parts source.frac number
-  pub holds : HoldsNumber found number
+  pub holds : IsNumber found.number number
   pub format : found.format ≡ source
 
 pub read_of : (mode : ReadMode) (r : Radix) (bytes : List ℕ) (source : FormatParts) (found : ReadNumber) → ((p : Parts) × HasNumeral r bytes p) → ((p : Parts) → HasNumeral r bytes p → IsReading mode r p found) → found.format ≡ source → IsRead mode r bytes source found
@@ -69,7 +70,7 @@ out_of_target mode r bytes policy source target found b kind is overflow image w
 
 -- a number on the way is out of its format
 pub refused : (mode : ReadMode) (r : Radix) (bytes : List ℕ) (policy : Policy) (source target : FormatParts) (found : ReadNumber) (b : ℤ) (o u : Bool) (kind : ParseErrorKind) (is : IsRead mode r bytes source found) → kind ≡ Overflow
-    → (((policy ≡ Checked) × IsTrue o → ⊥) → IsImage policy source.signed source.width is.number b) → (IsTrue o ↔ IsOutOfRange source.signed source.width is.number)
+    → (¬ IsRefused policy o → IsImage policy source.signed source.width is.number b) → (IsTrue o ↔ IsOutOfRange source.signed source.width is.number)
     → (IsTrue u ↔ IsOutOfRange target.signed target.width (down b source.frac target.frac)) → (policy ≡ Checked) × (IsTrue o ⊎ IsTrue u) → IsRefusal mode r bytes policy source target kind
 refused mode r bytes policy source target found b true u kind is overflow image flag out why = out_of_source mode r bytes policy source target found kind is overflow (why.0, flag.0 refl)
 refused mode r bytes policy source target found b false u kind is overflow image flag out why =

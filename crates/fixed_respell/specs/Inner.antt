@@ -1,5 +1,4 @@
 -- Definitions that contracts of private functions cite, and no public clause.
 pub mod Spaces
-pub mod Numbers
 pub mod FormatKeys
 pub mod Places

@@ -10,7 +10,7 @@ use Rattle.line_engine.specs.Asked.{AskedWithin}
 use Rattle.line_engine.specs.Failures.{HasFailed}
 use Rattle.line_engine.specs.Lines.{lines}
 use Rattle.line_engine.specs.Output.{AppendsPrefix, AreAnswers, written_of}
-use Rattle.line_engine.specs.Program.{Outside}
+use Rattle.line_engine.specs.Program.{Outside, ReadsNothing}
 use Rattle.line_engine.specs.Run.{HasFailures, HasRun, Spends, WritesOutput, WritesText}
 use Rattle.line_engine.specs.declared.status.Status.{Status}
 use Rattle.line_engine.specs.declared.status.Status.TheVariants.{Usage, WriteFault, NoMemory, TooLong}
@@ -41,3 +41,7 @@ pub record HasProgramRun (args : List (String Global)) (before after : Outside) 
   pub usage_only : status ≡ Usage → IsUsageFault args
   -- which count of failures rose, by status
   pub failures : HasFailures before.read_failures after.read_failures before.write_failures after.write_failures status
+  -- a command that is not to read reads nothing
+  pub untouched : ((limit : ℕ) → ¬ IsCommand args (Read limit)) → ReadsNothing before after
+  -- without memory nothing was done
+  pub memory : status ≡ NoMemory → after ≡ before

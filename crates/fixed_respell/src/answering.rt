@@ -1,8 +1,9 @@
 //! The answer to a line.
 
-ghost use Rattle.std.specs.Prelude.{◌≡◌, ◌≤◌, ◌<◌, ◌+◌, ◌*◌, ◌++◌, [], ◌-◌, ◌∷◌, drop, length, take, MatchOption, MatchResult, IfOk};
+ghost use Rattle.std.specs.Prelude.{◌≡◌, ◌≤◌, ◌<◌, ◌+◌, ◌*◌, ◌++◌, [], ◌-◌, ◌∷◌, drop, length, take, MatchOption};
+ghost use Rattle.std.specs.Prelude.{MatchResult, IfOk};
 ghost use Rattle.std.specs.Fmt.{signed_decimal};
-ghost use Rattle.fixed_bits.specs.Ranges.{IsWide};
+ghost use Rattle.fixed_bits.specs.Numbers.{number_of_image};
 ghost use Rattle.fixed_write.specs.Texts.{IsShortestText, shortest_text};
 ghost use Rattle.line_engine.specs.Output.{AppendsAnswer};
 ghost use Rattle.fixed_respell.specs.Answer.{Asks, IsAnswer, IsFirstFault, respelled_answer, task_of, verdict};
@@ -12,27 +13,15 @@ ghost use Rattle.fixed_respell.specs.LineWords.{longest_line, space};
 use crate::Answer;
 use crate::fault::LineFault;
 use crate::fields::split_line;
-use crate::respelling::reach;
+use crate::respelling::{Task, reach};
 use crate::words::{format_word, policy_word, radix_word};
-use fixed_bits::{Format, Policy, ReadMode};
-use fixed_numeral::Radix;
+use fixed_bits::Image;
 use fixed_steps::Steps;
-use fixed_write::{push_integer, push_shortest};
+use fixed_write::{push_signed_integer, push_signed_shortest};
 use line_engine::{MAX_ANSWER, MAX_LINE};
 use std::simd::prelude::*;
 use std::sync::ledger::Ledger;
 use text_buffer::TextBuffer;
-
-/// What a line asks for.
-#[derive(Drop)]
-struct Task<'a> {
-    radix: Radix,
-    source: Format,
-    target: Format,
-    policy: Policy,
-    mode: ReadMode,
-    numeral: &'a [u8],
-}
 
 /// What a line asks for, or its first fault.
 // Always inlined, so that the task stays in registers: an answer of a call would go through memory.
@@ -80,8 +69,8 @@ pub fn push_fault<const N: usize>(out: &mut TextBuffer<N>, message: &str)
     out.push_bytes(message.as_bytes());
 }
 
-/// The last words of an answer, each after a space: a number was in its format, or out of it. Each is two numbers of eight bytes, the
-/// first byte in the lowest place, and each byte is what it is more than a space.
+/// The last words of an answer, each after a space: a number was in its format, or out of it. Each is two numbers of
+/// eight bytes, the first byte in the lowest place, and each byte is what it is more than a space.
 const VERDICTS: [u64; 4] = [
     0x0000_0053_5449_4600,
     0x0000_0000_0000_0000,
@@ -89,8 +78,8 @@ const VERDICTS: [u64; 4] = [
     0x0000_0000_0044_4557,
 ];
 
-/// The last word of an answer after a space, and the count of their bytes. It is found by its place, since a branch on it is mispredicted,
-/// among numbers, since a constant of arrays of bytes is written out anew for each line.
+/// The last word of an answer after a space, and the count of their bytes. It is found by its place, since a branch on
+/// it is mispredicted, among numbers, since a constant of arrays of bytes is written out anew for each line.
 #[inline(always)]
 fn verdict_bytes(overflowed: bool) -> ([u8; 16], usize)
     ensures word { take result.1 result.0 ≡ space ∷ verdict overflowed }
@@ -112,28 +101,27 @@ pub fn push_verdict<const N: usize>(out: &mut TextBuffer<N>, overflowed: bool)
     out.push_prefix(bytes, count);
 }
 
-/// Appends the shortest decimal text of `number` ulps of 2^-`frac`, that number in decimal, and whether a number was out of
-/// its format.
+/// Appends the shortest decimal text of what is reached in ulps of 2^-`frac`, its number in decimal, and whether a
+/// number on the way was out of its format.
 #[inline]
 pub fn push_respelled<const N: usize, L: Ledger>(
     out: &mut TextBuffer<N>,
-    number: i128,
+    reached: Image,
     frac: u32,
-    overflowed: bool,
     steps: &mut Steps<L>,
 )
-    requires wide { IsWide number }
     requires frac { frac ≤ 64 }
     requires room { length out.old + 81 ≤ N }
-    ensures appended { out.new ≡ out.old ++ (respelled_answer (shortest_text number frac) number overflowed).text }
-    ensures shortest { IsShortestText number frac (shortest_text number frac) }
+    ensures appended { out.new ≡ out.old ++ (respelled_answer (shortest_text (number_of_image reached) frac)
+        (number_of_image reached) reached.is_out_of_range).text }
+    ensures shortest { IsShortestText (number_of_image reached) frac (shortest_text (number_of_image reached) frac) }
     ensures short { length out.new ≤ length out.old + 81 }
     ensures cost { steps.new ≤ steps.old + 48 }
 {
-    push_shortest(out, number, frac, steps);
+    push_signed_shortest(out, reached.negative, reached.magnitude, frac, steps);
     out.push(b' ');
-    push_integer(out, number);
-    push_verdict(out, overflowed);
+    push_signed_integer(out, reached.negative, reached.magnitude);
+    push_verdict(out, reached.is_out_of_range);
 }
 
 /// Appends the answer to a line, without a newline, and answers whether it names a fault.
@@ -154,24 +142,9 @@ pub fn append_answer<const N: usize, L: Ledger>(
             return true;
         }
     };
-    match reach(
-        line,
-        line.len() - task.numeral.len(),
-        task.radix,
-        task.source,
-        task.target,
-        task.policy,
-        task.mode,
-        steps,
-    ) {
+    match reach(line, &task, steps) {
         Ok(reached) => {
-            push_respelled(
-                out,
-                reached.number,
-                task.target.frac(),
-                reached.overflowed,
-                steps,
-            );
+            push_respelled(out, reached, task.target.frac(), steps);
             false
         }
         Err(error) => {
@@ -181,9 +154,9 @@ pub fn append_answer<const N: usize, L: Ledger>(
     }
 }
 
-/// The answer to a line of at most 1,048,576 bytes, `RADIX SOURCE TARGET POLICY NUMERAL`: the line's first fault, else the
-/// fault for which its numeral is refused, else the shortest decimal of the bits that it reaches, those bits in decimal,
-/// and whether a number on the way was out of its format.
+/// The answer to a line of at most 1,048,576 bytes, `RADIX SOURCE TARGET POLICY NUMERAL`: the line's first fault, else
+/// the fault for which its numeral is refused, else the shortest decimal of the bits that it reaches, those bits in
+/// decimal, and whether a number on the way was out of its format.
 pub fn answer<L: Ledger>(line: &[u8], steps: &mut Steps<L>) -> Answer
     ensures answer { IsAnswer line.now result }
     ensures cost { steps.new ≤ steps.old + 8 * length line.now + 624 }

@@ -8,7 +8,6 @@ pub mod fault;
 mod fields;
 mod format_table;
 pub mod laws;
-mod moving;
 pub mod program;
 pub mod respell_rule;
 pub mod respelling;

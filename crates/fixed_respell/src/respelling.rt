@@ -1,13 +1,15 @@
 //! A numeral through two formats, from its bytes to its shortest text.
 
-ghost use Rattle.std.specs.Prelude.{◌≡◌, ◌↔◌, ◌⊎◌, ◌≤◌, ◌+◌, ◌*◌, ℤ, Bool, IsTrue, IsOk, IfOk, IfErr, drop, length};
-ghost use Rattle.fixed_bits.specs.Ranges.{IsInRange, IsWide};
+ghost use Rattle.std.specs.Prelude.{◌≡◌, ◌↔◌, ◌⊎◌, ◌≤◌, ◌+◌, ◌-◌, ◌*◌, ℤ, Bool, IsTrue, IsOk, IfOk, IfErr, drop};
+ghost use Rattle.std.specs.Prelude.{length};
+ghost use Rattle.fixed_bits.specs.Numbers.{number_of_image};
+ghost use Rattle.fixed_bits.specs.Ranges.{IsInRange};
 ghost use Rattle.fixed_bits.specs.declared.mode.ReadMode.TheVariants.{NearestEven};
 ghost use Rattle.fixed_write.specs.Texts.{IsShortestText};
 ghost use Rattle.fixed_respell.specs.Reached.{IsRespelled, IsRefusal, number_of, is_signed};
 
-use crate::moving::{image_of, is_refused, moved, number_read, signed_number};
-use fixed_bits::{Format, Policy, ReadMode};
+use fixed_bits::{Format, Image, Policy, ReadMode, is_refused};
+use fixed_convert::reformat_signed;
 use fixed_numeral::{ParseErrorKind, ParseFixedError, Radix};
 use fixed_read::read_ending;
 use fixed_steps::Steps;
@@ -28,16 +30,15 @@ pub enum Bits {
 pub struct Respelled {
     /// The bits in the target.
     pub bits: Bits,
-    /// Whether the read number was out of the source's range, or the number rounded down to the target's fraction length
-    /// was out of the target's.
+    /// Whether the read number was out of the source's range, or the number rounded down to the target's fraction
+    /// length was out of the target's.
     pub overflowed: bool,
     /// The shortest decimal text that reads back as the bits.
     pub text: ShortText,
 }
 
-/// Reads a numeral into the source format in the mode `NearestEven`, rounds the number down (floor) to the target's fraction length,
-/// and prints it.
-/// The policy says what is done with a number that is out of a format's range.
+/// Reads a numeral into the source format in the mode `NearestEven`, rounds the number down (floor) to the target's
+/// fraction length, and prints it. The policy says what is done with a number that is out of a format's range.
 ///
 /// The errors are those of `respell_mode`.
 pub fn respell<L: Ledger>(
@@ -87,62 +88,79 @@ pub fn respell_mode<L: Ledger>(
     ensures refused { IfErr result (λ kind. IsRefusal mode radix bytes.now policy source target kind) }
     ensures cost { steps.new ≤ steps.old + 8 * length bytes.now + 624 }
 {
-    let reached = reach(bytes, 0, radix, source, target, policy, mode, steps)?;
+    let task = Task {
+        radix,
+        source,
+        target,
+        policy,
+        mode,
+        numeral: bytes,
+    };
+    let reached = reach(bytes, &task, steps)?;
+    let number = reached.number();
     Ok(Respelled {
-        bits: bits_of(target, reached.number),
-        overflowed: reached.overflowed,
-        text: shortest(reached.number, target.frac(), steps),
+        bits: bits_of(target, number),
+        overflowed: reached.is_out_of_range,
+        text: shortest(number, target.frac(), steps),
     })
 }
 
-/// A number that is reached in a target format, and whether a number on the way was out of its format.
-#[derive(Clone, Copy, Debug, PartialEq, Eq)]
-pub struct Reached {
-    /// The bits in the target, as a number.
-    pub number: i128,
-    /// Whether a number on the way was out of its format's range.
-    pub overflowed: bool,
+/// A numeral, the format that it is read into and the one that it is brought into, what is done with a number that is
+/// out of range, and how the numeral is rounded.
+#[derive(Drop)]
+pub(crate) struct Task<'a> {
+    pub(crate) radix: Radix,
+    pub(crate) source: Format,
+    pub(crate) target: Format,
+    pub(crate) policy: Policy,
+    pub(crate) mode: ReadMode,
+    pub(crate) numeral: &'a [u8],
 }
 
-/// Reads the numeral that a text ends with, from a place on, into the source format in a mode, and brings the number into the target
-/// format by the policy.
+/// Reads a task's numeral, which a text ends with, into the source format, and brings the number into the target format
+/// by the policy: its image there, and whether a number on the way was out of its format's range.
 ///
 /// The error is why the bytes are no numeral, or `Overflow` where they are one and under `Checked` its read number is
 /// out of the source's range or, rounded down, out of the target's.
 #[inline(always)]
 pub(crate) fn reach<L: Ledger>(
     text: &[u8],
-    from: usize,
-    radix: Radix,
-    source: Format,
-    target: Format,
-    policy: Policy,
-    mode: ReadMode,
+    task: &Task<'_>,
     steps: &mut Steps<L>,
-) -> Result<Reached, ParseFixedError>
-    requires place { from ≤ length text.now }
-    ensures ok { IsOk result ↔ ((bits : ℤ) × (overflowed : Bool) × IsRespelled mode radix (drop from text.now) policy source target bits overflowed) }
-    ensures reached { IfOk result (λ s. IsRespelled mode radix (drop from text.now) policy source target s.number s.overflowed) }
-    ensures range { IfOk result (λ s. IsInRange target.signed target.width s.number) }
-    ensures wide { IfOk result (λ s. IsWide s.number) }
-    ensures refused { IfErr result (λ kind. IsRefusal mode radix (drop from text.now) policy source target kind) }
-    ensures cost { steps.new ≤ steps.old + 8 * length (drop from text.now) + 576 }
+) -> Result<Image, ParseFixedError>
+    requires short { length task.now.numeral.now ≤ length text.now }
+    requires ending { drop (length text.now - length task.now.numeral.now) text.now ≡ task.now.numeral.now }
+    ensures ok { IsOk result ↔ ((bits : ℤ) × (overflowed : Bool) × IsRespelled task.now.mode task.now.radix
+        task.now.numeral.now task.now.policy task.now.source task.now.target bits overflowed) }
+    ensures reached { IfOk result (λ s. IsRespelled task.now.mode task.now.radix task.now.numeral.now
+        task.now.policy task.now.source task.now.target (number_of_image s) s.is_out_of_range) }
+    ensures range { IfOk result (λ s. IsInRange task.now.target.signed task.now.target.width (number_of_image s)) }
+    ensures refused { IfErr result (λ kind. IsRefusal task.now.mode task.now.radix task.now.numeral.now
+        task.now.policy task.now.source task.now.target kind) }
+    ensures cost { steps.new ≤ steps.old + 8 * length task.now.numeral.now + 576 }
 {
-    let found = read_ending(text, from, radix, source, mode, steps)?;
-    let in_source = image_of(source, policy, number_read(&found));
-    let number = moved(
+    let from = text.len() - task.numeral.len();
+    let source_frac = task.source.frac();
+    let found = read_ending(text, from, task.radix, task.source, task.mode, steps)?;
+    let in_source = found.number().image(task.source, task.policy);
+    let reached = reformat_signed(
+        task.target,
+        task.policy,
         in_source.negative,
         in_source.magnitude,
-        source.frac(),
-        target.frac(),
+        source_frac,
     );
-    let reached = image_of(target, policy, number);
-    if is_refused(policy, in_source.is_out_of_range, reached.is_out_of_range) {
+    if is_refused(
+        task.policy,
+        in_source.is_out_of_range,
+        reached.is_out_of_range,
+    ) {
         return Err(ParseFixedError::new(ParseErrorKind::Overflow));
     }
-    Ok(Reached {
-        number: signed_number(reached.negative, reached.magnitude),
-        overflowed: is_either(in_source.is_out_of_range, reached.is_out_of_range),
+    Ok(Image {
+        negative: reached.negative,
+        magnitude: reached.magnitude,
+        is_out_of_range: is_either(in_source.is_out_of_range, reached.is_out_of_range),
     })
 }
 

@@ -6,7 +6,8 @@ ghost use Rattle.fixed_bits.specs.declared.format.Policy.{Policy};
 ghost use Rattle.fixed_bits.specs.declared.mode.ReadMode.{ReadMode};
 ghost use Rattle.fixed_numeral.specs.declared.radix.Radix.{Radix};
 ghost use Rattle.fixed_respell.specs.Inner.Places.{HasBytes, IsBothNames, policy_of_place, radix_of_place};
-ghost use Rattle.fixed_respell.specs.Words.{IsFormatWord, IsPolicyWord, mode_text, policy_text, radix_text, sign_letter};
+ghost use Rattle.fixed_respell.specs.Words.{IsFormatWord, IsPolicyWord, mode_text, policy_text, radix_text};
+ghost use Rattle.fixed_respell.specs.Words.{sign_letter};
 
 use crate::format_table::{counts_of_key, four_bytes, key_of};
 use crate::split::split_once;
@@ -16,8 +17,8 @@ use fixed_numeral::Radix;
 use itoa::Buffer;
 use std::marker::Model;
 
-/// The keys of the radix words, each at the place that its last byte names: its first byte, 256 times its last, and 65536 times
-/// the count of its bytes.
+/// The keys of the radix words, each at the place that its last byte names: its first byte, 256 times its last, and
+/// 65536 times the count of its bytes.
 const RADIX_KEYS: [u64; 8] = [
     0x0002_3031,
     0x0001_3232,
@@ -72,13 +73,14 @@ pub fn radix_word(word: &[u8]) -> Option<Radix>
 /// The count of the bytes of each policy's name, at the place that is the count's rest by four.
 const NAME_COUNTS: [usize; 4] = [8, 0, 10, 7];
 
-/// The first four bytes of each policy's name at its place, as a number, the first of them in the lowest place.
+/// The first four bytes of each policy's name at its place, as a number, the first of them in the lowest place: `wrap`,
+/// none, `satu` and `chec`.
 const NAME_STARTS: [u64; 4] = [0x7061_7277, 0, 0x7574_6173, 0x6365_6863];
 
-/// The two bytes after those.
+/// The two bytes after those: `pi`, none, `ra` and `ke`.
 const NAME_MIDDLES: [u64; 4] = [0x6970, 0, 0x6172, 0x656b];
 
-/// The last four bytes.
+/// The last four bytes: `ping`, none, `ting` and `cked`.
 const NAME_ENDS: [u64; 4] = [0x676e_6970, 0, 0x676e_6974, 0x6465_6b63];
 
 /// The policy whose name is at a place.
@@ -139,7 +141,8 @@ fn named_mode(name: &[u8]) -> Option<ReadMode>
     }
 }
 
-/// The policy and the mode of a word that is both their names, with a slash between them. None where it is no such word.
+/// The policy and the mode of a word that is both their names, with a slash between them. None where it is no such
+/// word.
 // A call, since few lines have such a word.
 #[inline(never)]
 fn policy_and_mode(word: &[u8]) -> Option<(Policy, ReadMode)>

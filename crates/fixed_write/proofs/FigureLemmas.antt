@@ -222,17 +222,6 @@ parts_one w number places digit c none nothing small ec =
     ec ∙ rw (n, whole_digit digit small) refl
 
 -- ---- the body
-pub figure_none : (precision : Option ℕ) (c g zeros : ℕ) (digits : List ℕ) (e : ℤ) → c ≡ 0 → digits ≡ [] ++ 48 ∷ [] → zeros ≡ unwrap_or precision 0 → e ≡ pos 0 → HasFigureText precision c g digits zeros e
-figure_none precision c g more digits e z ed en ee = record {
-  zero = λ i. (rw (ed, en) refl, ee);
-  some = λ p. absurd (omega arith);
-}
-
-pub figure_short : (c g : ℕ) (digits : List ℕ) (e : ℤ) → 0 < c → HasShortFigures c g digits e → HasFigureText None c g digits 0 e
-figure_short c g digits e positive h = record {
-  zero = λ i. absurd (omega arith);
-  some = λ p. (h.figures, h.are_figures, append-nil digits ∙ h.digits_are);
-}
 
 pub exponent_body : (notation : Notation) (precision : Option ℕ) (c g zeros : ℕ) (figures digits tail : List ℕ) (e : ℤ) → HasFigureText precision c g figures zeros e → digits ++ replicate zeros zero_digit ≡ [] ++ pointed (figures ++ replicate zeros zero_digit) → tail ≡ exponent_text notation e → HasExponentBody notation precision c g digits zeros tail
 exponent_body notation precision c g more figures digits tail e h ed et = record {

@@ -7,6 +7,8 @@ use Rattle.std.specs.Str.{IsAscii}
 use Rattle.std.proofs.lemmas.Int.Digits.{all_below_base_digits_of}
 use Rattle.std.proofs.lemmas.Fmt.{decimal-digits_of}
 use Rattle.std.proofs.lemmas.Str.{IsAscii-append}
+use Rattle.fixed_bits.specs.Numbers.{with_sign}
+use Rattle.fixed_bits.proofs.Public.{not_negative}
 use Rattle.fixed_write.specs.Texts.{whole_digits}
 use Rattle.fixed_write.proofs.DigitLemmas.{whole_digits_short, whole_digits_some}
 use Rattle.fixed_write.proofs.AsciiLemmas.{whole_digits_ascii, sign_ascii}
@@ -30,12 +32,15 @@ decimal_is zero l = decimal_zero
 decimal_is (suc n) l =
     decimal-digits_of (suc n) (omega arith) l ∙ (glyphs_are (digits_of 10 (suc n)) (all_below_base_digits_of 10 (suc n) (omega arith)) ∙ sym (whole_digits_some 10 false (suc n) (omega arith)))
 
-not_negative : (n : ℕ) → is_negative (pos (suc n)) ≡ false
-not_negative n = grind arith
+-- how far the number with a sign and a magnitude is from zero
+pub signed_abs : (negative : Bool) (m : ℕ) → unsigned_abs (with_sign negative m) ≡ m
+signed_abs true zero = refl
+signed_abs true (suc m) = refl
+signed_abs false m = refl
 
 pub signed_decimal_is : (v : ℤ) → unsigned_abs v < 2 ^ 64 → signed_decimal v ≡ sign_text (is_negative v) ++ whole_digits 10 false (unsigned_abs v)
 signed_decimal_is (pos zero) l = decimal_is zero l
-signed_decimal_is (pos (suc n)) l = decimal_is (suc n) l ∙ rw (not_negative n) refl
+signed_decimal_is (pos (suc n)) l = decimal_is (suc n) l ∙ rw (not_negative (suc n)) refl
 signed_decimal_is (negsuc n) l = ap (λ (t : List ℕ). 45 ∷ t) (decimal_is (suc n) l)
 
 pub word_digits : (n : ℕ) → n < 2 ^ 64 → length (whole_digits 10 false n) ≤ 20

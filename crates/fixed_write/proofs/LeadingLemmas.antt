@@ -105,31 +105,6 @@ leading_below w r s d l z h some = record {
 }
 
 -- ---- one division
-pub quotient_up : (w r s q left : ℕ) → r < 2 ^ 64 → 2 ≤ s → IsEven s → q ≡ w / s → left ≡ w % s → (s / 2 < left) ⊎ ((left ≡ s / 2) × ((0 < r) ⊎ (q % 2 ≡ 1))) → IsNearest (w * 2 ^ 64 + r) (2 ^ 64 * s) (q + 1)
-quotient_up w r s q left small two even eq el up =
-    let parts : w ≡ q * s + left = rw (eq, el) (sym (div-add-mod' w s)) in
-    let low : left < s = rw el (mod-lt w (omega arith)) in
-    let half : s ≡ 2 * (s / 2) = omega arith in
-    nearest_by_rest_up (w * 2 ^ 64 + r) (2 ^ 64 * s) q (left * 2 ^ 64 + r) (split w q s left r parts) (omega arith)
-    (⊎_elim (λ a. omega arith) (λ b. omega (arith, b.0)) up)
-    (λ tie. ⊎_elim (λ a. absurd (omega arith)) (λ b. ⊎_elim (λ d. absurd (omega (arith, b.0))) (λ d. omega arith) b.1) up)
-  where
-    split : (w q s left r : ℕ) → w ≡ q * s + left → w * 2 ^ 64 + r ≡ q * (2 ^ 64 * s) + (left * 2 ^ 64 + r)
-    split w q s left r e = omega (arith, ap (λ x. x * 2 ^ 64) e)
-
-pub quotient_down : (w r s q left : ℕ) → r < 2 ^ 64 → 2 ≤ s → IsEven s → q ≡ w / s → left ≡ w % s → ((s / 2 < left) ⊎ ((left ≡ s / 2) × ((0 < r) ⊎ (q % 2 ≡ 1))) → ⊥) → IsNearest (w * 2 ^ 64 + r) (2 ^ 64 * s) q
-quotient_down w r s q left small two even eq el down =
-    let parts : w ≡ q * s + left = rw (eq, el) (sym (div-add-mod' w s)) in
-    let half : s ≡ 2 * (s / 2) = omega arith in
-    let most : left ≤ s / 2 = ⊎_elim (λ a. absurd (down (inl a))) (λ a. a) (cases_lt (s / 2) left) in
-    let none : left ≡ s / 2 → r ≡ 0 = λ e. ⊎_elim (λ a. absurd (down (inr (e, inl a)))) (λ a. omega arith) (cases_lt 0 r) in
-    let even_q : left ≡ s / 2 → IsEven q = λ e. ⊎_elim (λ a. omega arith) (λ a. absurd (down (inr (e, inr (omega arith))))) (cases_lt (q % 2) 1) in
-    nearest_by_rest (w * 2 ^ 64 + r) (2 ^ 64 * s) q (left * 2 ^ 64 + r) (split w q s left r parts)
-    (⊎_elim (λ (a : left < s / 2). omega arith) (λ (a : s / 2 ≤ left). let e : left ≡ s / 2 = omega arith in omega (arith, none e)) (cases_lt left (s / 2)))
-    (λ tie. ⊎_elim (λ (a : left < s / 2). absurd (omega arith)) (λ (a : s / 2 ≤ left). even_q (omega arith)) (cases_lt left (s / 2)))
-  where
-    split : (w q s left r : ℕ) → w ≡ q * s + left → w * 2 ^ 64 + r ≡ q * (2 ^ 64 * s) + (left * 2 ^ 64 + r)
-    split w q s left r e = omega (arith, ap (λ x. x * 2 ^ 64) e)
 
 -- ---- figures after one division
 pub ten_more : (k : ℕ) → 0 < k → 2 ≤ 10 ^ k

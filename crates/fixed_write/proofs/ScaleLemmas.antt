@@ -41,9 +41,6 @@ signed_places b u v m g k before after me s h = record {
   text_is = h.text_is ∙ rw s refl;
 }
 
-pub point_text_of : (b : ℕ) (u : Bool) (v : ℤ) (m g k w r : ℕ) (before after : List ℕ) → g ≤ 64 → m ≡ unsigned_abs v → w ≡ m / 2 ^ g → r ≡ m % 2 ^ g * 2 ^ (64 - g) → before ≡ sign_text (is_negative v) → AppendsRounded b u (w * 2 ^ 64 + r) 64 k before after → IsRoundedText b u k v g after
-point_text_of b u v m g k w r before after l me we re s h = signed_places b u v m g k before after me s (places_of b u m g k w r before after l we re h)
-
 cancel : (s x y : ℕ) → 0 < s → s * x ≡ s * y → x ≡ y
 cancel s x y some e = sym (mul-div_cancel_left x some) ∙ (ap (λ z. z / s) e ∙ mul-div_cancel_left y some)
 
@@ -78,9 +75,6 @@ signed_exact b u v m g before after me s h = record {
   exact = rw (← me) h.exact;
   text_is = h.text_is ∙ rw s refl;
 }
-
-pub exact_text_of : (b : ℕ) (u : Bool) (v : ℤ) (m g w r : ℕ) (before after : List ℕ) → g ≤ 64 → m ≡ unsigned_abs v → w ≡ m / 2 ^ g → r ≡ m % 2 ^ g * 2 ^ (64 - g) → before ≡ sign_text (is_negative v) → AppendsExact b u (w * 2 ^ 64 + r) 64 before after → IsExactText b u v g after
-exact_text_of b u v m g w r before after l me we re s h = signed_exact b u v m g before after me s (exact_places_of b u m g w r before after l we re h)
 
 -- ---- the blocks of the four bases
 pub block_ten : IsBlock 10 19

@@ -16,13 +16,10 @@ use Rattle.fixed_write.specs.declared.style.Style.{Style}
 use Rattle.fixed_write.specs.Styled.{base_of, is_upper, IsBody, IsPointBody, IsStyledText, sign_and_prefix, padded_text}
 use Rattle.fixed_write.specs.Inner.Figures.{HasBody, HasExponentBody}
 use Rattle.fixed_write.specs.Inner.Styling.{AppendsBody, IsPointNotation}
+use Rattle.fixed_bits.proofs.Public.{not_negative}
 use Rattle.fixed_write.proofs.DigitLemmas.{last_digits_joined, last_digits_suc, last_digits_none, parts_are, fraction_some}
 
 -- ---- the shortest text has no sign
-not_negative : (c : ℕ) → is_negative (pos c) ≡ false
-not_negative zero = refl
-not_negative (suc c) = grind arith
-
 decimal_ten : (c n k : ℕ) → decimal_text (is_negative (pos c)) n k ≡ point_text 10 false k n
 unfolding decimal_text
 decimal_ten c n k = rw (not_negative c) refl
@@ -204,10 +201,3 @@ lower_body precision c g more digits tail h = record { body = h.body; is_body = 
 
 pub upper_body : (precision : Option ℕ) (c g zeros : ℕ) (digits tail : List ℕ) → HasExponentBody UpperExp precision c g digits zeros tail → HasBody UpperExp precision c g digits zeros tail
 upper_body precision c g more digits tail h = record { body = h.body; is_body = h.is_body; text = h.text }
-
-pub styled_of : (style : Style) (v : ℤ) (m g zeros : ℕ) (before digits tail text : List ℕ) → m ≡ unsigned_abs v → before ≡ sign_and_prefix style (is_negative v) → HasBody style.notation style.precision m g digits zeros tail → text ≡ padded_text style before (digits ++ (replicate zeros zero_digit ++ tail)) → IsStyledText style v g text
-styled_of style v m g more before digits tail text em eb h et = record {
-  body = h.body;
-  is_body = rw em at h.is_body;
-  text_is = et ∙ rw (h.text, eb) refl;
-}

@@ -71,7 +71,8 @@ fn push_each_digit<const BASE: u64, const N: usize>(
     push_each_last::<BASE, N>(out, number, others, upper);
 }
 
-/// Appends a number of at most `places` digits, with leading zeros where it has fewer; decimal digits eight at a time.
+/// Appends a number of at most `places` digits, with leading zeros where it has fewer; decimal digits sixteen at a
+/// time.
 #[inline]
 pub(crate) fn push_last_in<const BASE: u64, const N: usize>(
     out: &mut TextBuffer<N>,
@@ -93,7 +94,7 @@ pub(crate) fn push_last_in<const BASE: u64, const N: usize>(
     }
 }
 
-/// Appends the digits of a whole number, without a leading zero and at least one; decimal digits eight at a time.
+/// Appends the digits of a whole number, without a leading zero and at least one; decimal digits sixteen at a time.
 #[inline]
 pub(crate) fn push_whole_in<const BASE: u64, const N: usize>(
     out: &mut TextBuffer<N>,

@@ -34,7 +34,7 @@ pub fn push_decimal<const N: usize>(out: &mut TextBuffer<N>, value: i128, frac: 
     ensures short { length (rounded_text 10 false places value frac) ≤ 86 }
     ensures ascii { IsAscii (rounded_text 10 false places value frac) }
 {
-    push_sign(out, value);
+    push_sign(out, value < 0);
     let split = split_of(magnitude_of(value), frac);
     push_rounded_in::<10, 19, N>(out, split, places, false);
 }
@@ -49,7 +49,7 @@ pub fn push_exact<const N: usize>(out: &mut TextBuffer<N>, value: i128, frac: u3
     ensures short { length (exact_text (number_of base) (has_capitals base) value frac) ≤ 130 }
     ensures ascii { IsAscii (exact_text (number_of base) (has_capitals base) value frac) }
 {
-    push_sign(out, value);
+    push_sign(out, value < 0);
     let split = split_of(magnitude_of(value), frac);
     push_exact_digits(out, split, base);
 }

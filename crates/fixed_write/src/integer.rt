@@ -3,10 +3,12 @@
 ghost use Rattle.std.specs.Prelude.{◌≡◌, ◌+◌, ◌≤◌, ◌++◌, length};
 ghost use Rattle.std.specs.Fmt.{signed_decimal};
 ghost use Rattle.std.specs.Str.{IsAscii};
+ghost use Rattle.fixed_bits.specs.Numbers.{with_sign};
 ghost use Rattle.fixed_bits.specs.Ranges.{IsWide};
 
 use crate::digits::push_whole;
-use crate::printer::{magnitude_of, push_sign};
+use crate::printer::{is_below_zero, push_sign};
+use fixed_bits::sign_and_magnitude;
 use text_buffer::TextBuffer;
 
 /// Appends a number in decimal: `-` where it is negative, then its digits without a leading zero and at least one.
@@ -19,6 +21,18 @@ pub fn push_integer<const N: usize>(out: &mut TextBuffer<N>, value: i128)
     ensures short { length (signed_decimal value) ≤ 21 }
     ensures ascii { IsAscii (signed_decimal value) }
 {
-    push_sign(out, value);
-    push_whole(out, magnitude_of(value));
+    let (negative, magnitude) = sign_and_magnitude(value);
+    push_signed_integer(out, negative, magnitude);
+}
+
+/// Appends the number with that sign and magnitude in decimal, as `push_integer` appends a number.
+#[inline]
+pub fn push_signed_integer<const N: usize>(out: &mut TextBuffer<N>, negative: bool, magnitude: u64)
+    requires room { length out.old + 21 ≤ N }
+    ensures appended { out.new ≡ out.old ++ signed_decimal (with_sign negative magnitude) }
+    ensures short { length (signed_decimal (with_sign negative magnitude)) ≤ 21 }
+    ensures ascii { IsAscii (signed_decimal (with_sign negative magnitude)) }
+{
+    push_sign(out, is_below_zero(negative, magnitude));
+    push_whole(out, magnitude);
 }

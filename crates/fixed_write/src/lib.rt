@@ -17,10 +17,10 @@ mod tests;
 pub mod text;
 
 pub use in_place::{Base, push_decimal, push_exact};
-pub use integer::push_integer;
-pub use text_buffer::NoMemory;
-pub use printer::push_shortest;
+pub use integer::{push_integer, push_signed_integer};
+pub use printer::{push_shortest, push_signed_shortest};
 pub use short::{ShortText, shortest};
 pub use style::{Align, Notation, Style};
 pub use styled::to_text;
 pub use text::Text;
+pub use text_buffer::NoMemory;

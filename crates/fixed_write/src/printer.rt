@@ -1,29 +1,32 @@
 //! Prints the shortest decimal that reads back, without a search for the count of its digits.
 //!
-//! A value is a magnitude of ulps of 2^-`frac`. Its whole digits are printed first. What is left after the point is a `rest`
-//! below one, in units of 2^-64: a power of ten times the rest is the next digits as one number, and the next rest. A decimal
-//! reads back exactly where it is at most half an ulp away from the value, for no tie arises: a decimal with at most `frac`
-//! digits is never halfway between two ulps.
+//! A value is a magnitude of ulps of 2^-`frac`. Its whole digits are printed first. What is left after the point is a
+//! `rest` below one, in units of 2^-64: a power of ten times the rest is the next digits as one number, and the next
+//! rest. A decimal reads back exactly where it is at most half an ulp away from the value, for no tie arises: a decimal
+//! with at most `frac` digits is never halfway between two ulps.
 //!
-//! With as many digits as an ulp has, `frac` · log10(2) of them, rounded down, neighbouring decimals are an ulp or more apart.
-//! So at most one of them reads back: the digits so far, or the same with the last digit raised by one. Where one does, each
-//! shorter decimal that reads back is the same number, and it is the shortest one once the zeros at its end are taken off. Where
-//! none does, one digit more is enough, and the nearer of the two is the last digit. It never carries, since a ten would mean
-//! that one digit less had read back already.
+//! With as many digits as an ulp has, `frac` · log10(2) of them, rounded down, neighbouring decimals are an ulp or more
+//! apart. So at most one of them reads back: the digits so far, or the same with the last digit raised by one. Where
+//! one does, each shorter decimal that reads back is the same number, and it is the shortest one once the zeros at its
+//! end are taken off. Where none does, one digit more is enough, and the nearer of the two is the last digit. It never
+//! carries, since a ten would mean that one digit less had read back already.
 //!
-//! Both are computed, and one is chosen without a branch. It is printed with zeros up to a fixed count of places, all of them at
-//! once, and the text ends after its last digit that is not zero.
+//! Both are computed, and one is chosen without a branch. It is printed with zeros up to a fixed count of places, all
+//! of them at once, and the text ends after its last digit that is not zero.
 
-ghost use Rattle.std.specs.Prelude.{◌≡◌, false, ◌+◌, ◌*◌, ◌/◌, ◌%◌, ◌-◌, ◌^◌, ◌<◌, ◌≤◌, ◌++◌, length, unsigned_abs, ◌⊎◌, ◌↔◌, ℕ, IsTrue};
+ghost use Rattle.std.specs.Prelude.{◌≡◌, false, ◌+◌, ◌*◌, ◌/◌, ◌%◌, ◌-◌, ◌^◌, ◌<◌, ◌≤◌, ◌++◌, length, unsigned_abs};
+ghost use Rattle.std.specs.Prelude.{◌⊎◌, ◌↔◌, ℕ, IsTrue};
 ghost use Rattle.std.specs.Fmt.{sign_text};
 ghost use Rattle.std.specs.Int.{is_negative};
 ghost use Rattle.std.specs.Str.{IsAscii};
+ghost use Rattle.fixed_bits.specs.Numbers.{with_sign};
 ghost use Rattle.fixed_bits.specs.Ranges.{IsWide};
 ghost use Rattle.fixed_bits.specs.Nearest.{IsNearest, IsEven};
 ghost use Rattle.fixed_write.specs.Texts.{IsShortestText, shortest_text};
 ghost use Rattle.fixed_write.specs.Inner.Fraction.{AppendsFraction, AppendsReduced, IsPaddedFraction};
 
 use crate::digits::{moved_up, power_of_ten, push_long_reduced, push_reduced, push_whole};
+use fixed_bits::sign_and_magnitude;
 use fixed_steps::Steps;
 use std::sync::ledger::Ledger;
 use text_buffer::TextBuffer;
@@ -49,21 +52,51 @@ pub fn push_shortest<const N: usize, L: Ledger>(
     ensures ascii { IsAscii (shortest_text value frac) }
     ensures cost { steps.new ≤ steps.old + 48 }
 {
+    let (negative, magnitude) = sign_and_magnitude(value);
+    push_signed_shortest(out, negative, magnitude, frac, steps);
+}
+
+/// Appends the shortest decimal text of the number of ulps of 2^-`frac` with that sign and magnitude, as
+/// `push_shortest` appends that of a number.
+#[inline]
+pub fn push_signed_shortest<const N: usize, L: Ledger>(
+    out: &mut TextBuffer<N>,
+    negative: bool,
+    magnitude: u64,
+    frac: u32,
+    steps: &mut Steps<L>,
+)
+    requires frac { frac ≤ 64 }
+    requires room { length out.old + 48 ≤ N }
+    ensures appended { out.new ≡ out.old ++ shortest_text (with_sign negative magnitude) frac }
+    ensures shortest { IsShortestText (with_sign negative magnitude) frac
+        (shortest_text (with_sign negative magnitude) frac) }
+    ensures short { length (shortest_text (with_sign negative magnitude) frac) ≤ 48 }
+    ensures ascii { IsAscii (shortest_text (with_sign negative magnitude) frac) }
+    ensures cost { steps.new ≤ steps.old + 48 }
+{
     let before = out.len();
-    push_sign(out, value);
-    let magnitude = magnitude_of(value);
+    push_sign(out, is_below_zero(negative, magnitude));
     push_whole(out, whole_of(magnitude, frac));
     push_fraction(out, magnitude, frac);
     steps.advance((out.len() - before) as u64);
 }
 
+/// Whether the number with that sign and magnitude is negative: a zero is not.
+#[inline]
+pub(crate) fn is_below_zero(negative: bool, magnitude: u64) -> bool
+    ensures { result ≡ is_negative (with_sign negative magnitude) }
+{
+    negative && magnitude > 0
+}
+
 /// Appends `-` where a number is negative, else nothing.
 #[inline]
-pub(crate) fn push_sign<const N: usize>(out: &mut TextBuffer<N>, value: i128)
+pub(crate) fn push_sign<const N: usize>(out: &mut TextBuffer<N>, is_negative: bool)
     requires { length out.old < N }
-    ensures { out.new ≡ out.old ++ sign_text (is_negative value) }
+    ensures { out.new ≡ out.old ++ sign_text is_negative }
 {
-    out.push_if(b'-', value < 0);
+    out.push_if(b'-', is_negative);
 }
 
 /// How far a number is from zero.
@@ -107,8 +140,8 @@ pub(crate) fn scaled(rest: u64, scale: u64) -> (u64, u64)
     ((product >> 64) as u64, (product % (1 << 64)) as u64)
 }
 
-/// The greatest count of places after the point at which decimals are an ulp of 2^-`frac` or more apart: `frac` · log10(2),
-/// rounded down, with 1233 / 4096 for log10(2). With one place more they are an ulp or less apart.
+/// The greatest count of places after the point at which decimals are an ulp of 2^-`frac` or more apart: `frac` ·
+/// log10(2), rounded down, with 1233 / 4096 for log10(2). With one place more they are an ulp or less apart.
 #[inline]
 fn places_of(frac: u32) -> u32
     requires { frac ≤ 64 }

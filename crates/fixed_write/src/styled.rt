@@ -9,15 +9,14 @@ ghost use Rattle.fixed_write.specs.Inner.Styling.{IsPointNotation, AppendsBody};
 
 use crate::exponent::{Body, Tail, push_exponent_body};
 use crate::places::{Split, push_exact_in, push_rounded_in, split_of};
-use crate::printer::{magnitude_of, push_shortest};
+use crate::printer::{magnitude_of, push_signed_shortest};
 use crate::style::{Notation, Style};
 use crate::text::{BodyParts, Text, padded};
 use fixed_steps::Steps;
-use text_buffer::NoMemory;
 use std::alloc::Global;
 use std::marker::Brand;
 use std::sync::ledger::{Blank, Ledger};
-use text_buffer::TextBuffer;
+use text_buffer::{NoMemory, TextBuffer};
 
 /// Every value is exact with this many places, in each base: the others are zeros, which are counted.
 const EXACT_PLACES: u32 = 64;
@@ -32,7 +31,7 @@ fn push_shortest_body<L: Ledger>(out: &mut Body, magnitude: u64, frac: u32, blan
     ensures { AppendsBody Notation.Dec None magnitude frac out.old out.new 0 }
 {
     let mut steps: Steps<L> = Steps::new(blank);
-    push_shortest(out, i128::from(magnitude), frac, &mut steps);
+    push_signed_shortest(out, false, magnitude, frac, &mut steps);
 }
 
 /// Appends a value to a count of places in the base of a notation.

@@ -6,9 +6,9 @@ ghost use Rattle.fixed_write.specs.Styled.{padded_text, fills_before};
 ghost use Rattle.fixed_write.specs.Inner.Styling.{laid_out, body_text};
 
 use crate::style::{Align, Style};
-use text_buffer::NoMemory;
 use std::alloc::{AllocError, Global};
 use std::marker::Model;
+use text_buffer::NoMemory;
 
 /// A text in memory.
 #[derive(Drop)]

@@ -10,6 +10,6 @@ mod FirstLineLemmas
 mod LineLawLemmas
 mod LineLemmas
 mod PrefixLemmas
+mod RunLawLemmas
 mod RunLemmas
 mod TakenLemmas
-mod WholeLemmas

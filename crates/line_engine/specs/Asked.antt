@@ -14,7 +14,11 @@ nothing_asked = record { given = 0; furthest = 0; longest = 0 }
 
 -- and after one more, into a buffer of `room` bytes, that gave n bytes
 abbrev pub one_more : Asked → ℕ → ℕ → Asked
-one_more asked room n = record { given = asked.given + n; furthest = max asked.furthest (asked.given + room); longest = max asked.longest room }
+one_more asked room n = record {
+  given = asked.given + n;
+  furthest = max asked.furthest (asked.given + room);
+  longest = max asked.longest room;
+}
 
 -- how many bytes a read gave that ended so
 abbrev pub count_given : {E : Type 0} → Result ℕ E → ℕ
@@ -30,8 +34,8 @@ HasAsked (Some asked) new room result = new ≡ Some (one_more asked room (count
 abbrev pub longest_chunk : ℕ
 longest_chunk = 4096
 
--- as far as the two greatest numbers show, no read since then asked for a byte more than limit + 1 bytes after those given before,
--- and none asked for more than a chunk
+-- as far as the two greatest numbers show, no read since then asked for a byte more than limit + 1 bytes after those
+-- given before, and none asked for more than a chunk
 pub record IsAskedWithin (limit : ℕ) (old new : Asked) : Type 0 where
   pub furthest : new.furthest ≤ max old.furthest (old.given + (limit + 1))
   pub longest : new.longest ≤ max old.longest longest_chunk

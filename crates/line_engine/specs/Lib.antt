@@ -1,4 +1,5 @@
 pub mod AnswerText
+pub mod Appended
 pub mod Asked
 pub mod Failures
 pub mod Filled
@@ -9,5 +10,6 @@ pub mod Memory
 pub mod Output
 pub mod Program
 pub mod Run
+pub mod RunLaws
 pub mod Status
 pub mod WholeRun

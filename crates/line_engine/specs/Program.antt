@@ -5,8 +5,8 @@ use Rattle.line_engine.specs.Asked.{Asked}
 use Rattle.line_engine.specs.Status.{code_of}
 use Rattle.line_engine.specs.declared.status.Status.{Status}
 
--- what is seen of a source, a sink and a counter of steps at one moment: the bytes that are left and what was asked for, the
--- bytes that were written, how often reads and writes failed, and how many steps were taken
+-- what is seen of a source, a sink and a counter of steps at one moment: the bytes that are left and what was asked
+-- for, the bytes that were written, how often reads and writes failed, and how many steps were taken
 pub record Outside : Type 0 where
   pub left : Option (List ℕ)
   pub asked : Option Asked
@@ -16,7 +16,25 @@ pub record Outside : Type 0 where
   pub steps : ℕ
 
 abbrev pub outside : Option (List ℕ) → Option Asked → ℕ → Option (List ℕ) → ℕ → ℕ → Outside
-outside left asked read_failures written write_failures steps = record { left = left; asked = asked; read_failures = read_failures; written = written; write_failures = write_failures; steps = steps }
+outside left asked read_failures written write_failures steps = record {
+  left = left;
+  asked = asked;
+  read_failures = read_failures;
+  written = written;
+  write_failures = write_failures;
+  steps = steps;
+}
+
+-- nothing was read, or asked for
+pub record ReadsNothing (before after : Outside) : Type 0 where
+  pub left : after.left ≡ before.left
+  pub asked : after.asked ≡ before.asked
+  pub failures : after.read_failures ≡ before.read_failures
+
+-- nothing was written
+pub record WritesNothing (before after : Outside) : Type 0 where
+  pub written : after.written ≡ before.written
+  pub failures : after.write_failures ≡ before.write_failures
 
 -- the code is that of a status by which this holds
 pub record EndsAs (P : Status → Type 0) (code : ℕ) : Type 0 where

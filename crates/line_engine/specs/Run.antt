@@ -3,14 +3,17 @@ use Rattle.std.specs.Prelude.{◌≡◌, ℕ, ◌+◌, ◌*◌, ◌≤◌, ◌�
 use Rattle.std.specs.declared.option.Option.{Option}
 use Rattle.std.specs.Io.KnownBytes.{Appends, Consumes, IsAtEnd}
 use Rattle.line_engine.specs.Lines.{ended_lines, lines}
-use Rattle.line_engine.specs.Output.{AppendsPrefix, AreAnswers, written_of, any_fault}
+use Rattle.line_engine.specs.Output.{AreAnswers, written_of, any_fault}
+pub use Rattle.line_engine.specs.Output.{WritesOutput, status_of}
+use Rattle.line_engine.specs.Appended.{AppendsPrefix}
 use Rattle.line_engine.specs.AnswerText.{AnswerText}
 use Rattle.line_engine.specs.Failures.{HasFailed}
 use Rattle.line_engine.specs.declared.status.Status.{Status}
 use Rattle.line_engine.specs.declared.status.Status.TheVariants.{Done, Faults, Usage, ReadFault, WriteFault, NoMemory, TooLong}
 
 -- an input within the limit was read to its end, its whole output written, and an answer is a fault or none is
-pub record AnswersAll (A : List ℕ → AnswerText → Type 0) (limit : ℕ) (left left' written written' : Option (List ℕ)) (fault : Bool) : Type 0 where
+pub record AnswersAll (A : List ℕ → AnswerText → Type 0)
+    (limit : ℕ) (left left' written written' : Option (List ℕ)) (fault : Bool) : Type 0 where
   pub input : List ℕ
   pub replies : List AnswerText
   pub taken : Consumes left left' input
@@ -21,7 +24,8 @@ pub record AnswersAll (A : List ℕ → AnswerText → Type 0) (limit : ℕ) (le
   pub faulty : any_fault replies ≡ fault
 
 -- the answers of the lines that ended in the bytes taken were written
-pub record AnswersEnded (A : List ℕ → AnswerText → Type 0) (limit : ℕ) (left left' written written' : Option (List ℕ)) : Type 0 where
+pub record AnswersEnded (A : List ℕ → AnswerText → Type 0)
+    (limit : ℕ) (left left' written written' : Option (List ℕ)) : Type 0 where
   pub bytes : List ℕ
   pub replies : List AnswerText
   pub taken : Consumes left left' bytes
@@ -30,7 +34,8 @@ pub record AnswersEnded (A : List ℕ → AnswerText → Type 0) (limit : ℕ) (
   pub output : Appends written written' (written_of replies)
 
 -- one byte past the limit was taken, and the answers of the lines that ended before it were written
-pub record AnswersLimit (A : List ℕ → AnswerText → Type 0) (limit : ℕ) (left left' written written' : Option (List ℕ)) : Type 0 where
+pub record AnswersLimit (A : List ℕ → AnswerText → Type 0)
+    (limit : ℕ) (left left' written written' : Option (List ℕ)) : Type 0 where
   pub bytes : List ℕ
   pub replies : List AnswerText
   pub taken : Consumes left left' bytes
@@ -39,7 +44,8 @@ pub record AnswersLimit (A : List ℕ → AnswerText → Type 0) (limit : ℕ) (
   pub output : Appends written written' (written_of replies)
 
 -- a prefix of the answers to the first of these lines was written
-pub record AnswersPrefix (A : List ℕ → AnswerText → Type 0) (lines : List (List ℕ)) (written written' : Option (List ℕ)) : Type 0 where
+pub record AnswersPrefix (A : List ℕ → AnswerText → Type 0)
+    (lines : List (List ℕ)) (written written' : Option (List ℕ)) : Type 0 where
   pub some : List (List ℕ)
   pub more : List (List ℕ)
   pub cut : lines ≡ some ++ more
@@ -48,13 +54,16 @@ pub record AnswersPrefix (A : List ℕ → AnswerText → Type 0) (lines : List 
   pub output : AppendsPrefix written written' (written_of replies)
 
 -- writing was cut short among the lines that ended in the bytes taken, or at the end of the input among all its lines
-pub record AnswersUntilWriteFault (A : List ℕ → AnswerText → Type 0) (limit : ℕ) (left left' written written' : Option (List ℕ)) : Type 0 where
+pub record AnswersUntilWriteFault (A : List ℕ → AnswerText → Type 0)
+    (limit : ℕ) (left left' written written' : Option (List ℕ)) : Type 0 where
   pub bytes : List ℕ
   pub taken : Consumes left left' bytes
-  pub cut_short : AnswersPrefix A (ended_lines (take limit bytes)) written written' ⊎ (IsAtEnd left' × (length bytes ≤ limit) × AnswersPrefix A (lines bytes) written written')
+  pub cut_short : AnswersPrefix A (ended_lines (take limit bytes)) written written'
+      ⊎ (IsAtEnd left' × (length bytes ≤ limit) × AnswersPrefix A (lines bytes) written written')
 
 -- what a run that ended so has taken and written
-abbrev pub HasRun : (List ℕ → AnswerText → Type 0) → ℕ → Option (List ℕ) → Option (List ℕ) → Option (List ℕ) → Option (List ℕ) → Status → Type 0
+abbrev pub HasRun : (List ℕ → AnswerText → Type 0) → ℕ → Option (List ℕ) → Option (List ℕ) → Option (List ℕ)
+    → Option (List ℕ) → Status → Type 0
 HasRun A limit left left' written written' Done = AnswersAll A limit left left' written written' false
 HasRun A limit left left' written written' Faults = AnswersAll A limit left left' written written' true
 HasRun A limit left left' written written' Usage = ⊥
@@ -73,31 +82,21 @@ abbrev pub HasFailures : ℕ → ℕ → ℕ → ℕ → Status → Type 0
 HasFailures read read' write write' Done = NoFailure read read' write write'
 HasFailures read read' write write' Faults = NoFailure read read' write write'
 HasFailures read read' write write' Usage = NoFailure read read' write write'
-HasFailures read read' write write' ReadFault = HasFailed read read'
-HasFailures read read' write write' WriteFault = HasFailed write write'
+HasFailures read read' write write' ReadFault = HasFailed read read' × (write' ≡ write)
+HasFailures read read' write write' WriteFault = (read' ≡ read) × HasFailed write write'
 HasFailures read read' write write' NoMemory = NoFailure read read' write write'
 HasFailures read read' write write' TooLong = NoFailure read read' write write'
 
--- at most one byte past the limit was taken, and at most per_byte steps for each byte taken and extra for each line of them
+-- at most one byte past the limit was taken, and at most per_byte steps for each byte taken and extra for each line of
+-- them
 pub record Spends (limit per_byte extra : ℕ) (left left' : Option (List ℕ)) (steps steps' : ℕ) : Type 0 where
   pub bytes : List ℕ
   pub taken : Consumes left left' bytes
   pub bound : length bytes ≤ limit + 1
   pub cost : steps' ≤ steps + per_byte * length bytes + extra * length (lines bytes)
 
--- a run that answered all lines ends so
-abbrev pub status_of : Bool → Status
-status_of true = Faults
-status_of false = Done
-
--- the whole output of an input was written, and the status says whether an answer is a fault
-pub record WritesOutput (A : List ℕ → AnswerText → Type 0) (input : List ℕ) (written written' : Option (List ℕ)) (status : Status) : Type 0 where
-  pub replies : List AnswerText
-  pub answers : AreAnswers A (lines input) replies
-  pub output : Appends written written' (written_of replies)
-  pub faulty : status ≡ status_of (any_fault replies)
-
 -- the text was written whole and the call ended as `ending`; or a write failed, and a prefix of the text was written
 abbrev pub WritesText : List ℕ → Status → Option (List ℕ) → Option (List ℕ) → ℕ → ℕ → Status → Type 0
-WritesText text ending written written' failures failures' status = ((status ≡ ending) × Appends written written' text × (failures' ≡ failures))
+WritesText text ending written written' failures failures' status = ((status ≡ ending) × Appends written written' text
+    × (failures' ≡ failures))
     ⊎ ((status ≡ WriteFault) × AppendsPrefix written written' text × HasFailed failures failures')

@@ -4,13 +4,14 @@ use Rattle.std.specs.declared.option.Option.{Option}
 use Rattle.std.specs.Io.KnownBytes.{Appends, Consumes, IsAtEnd}
 use Rattle.line_engine.specs.AnswerText.{AnswerText}
 use Rattle.line_engine.specs.Filled.{TakesWithin}
-use Rattle.line_engine.specs.Output.{AppendsPrefix}
-use Rattle.line_engine.specs.Run.{status_of}
+use Rattle.line_engine.specs.Appended.{AppendsPrefix}
+use Rattle.line_engine.specs.Output.{status_of}
 use Rattle.line_engine.specs.declared.status.Status.{Status}
 use Rattle.line_engine.specs.declared.status.Status.TheVariants.{Done, Faults, Usage, ReadFault, WriteFault, NoMemory, TooLong}
 
 -- the answer to an input within the limit, which was read to its end, was written whole, and it holds a fault or none
-pub record AnswersWhole (A : List ℕ → AnswerText → Type 0) (limit : ℕ) (left left' written written' : Option (List ℕ)) (fault : Bool) : Type 0 where
+pub record AnswersWhole (A : List ℕ → AnswerText → Type 0)
+    (limit : ℕ) (left left' written written' : Option (List ℕ)) (fault : Bool) : Type 0 where
   pub input : List ℕ
   pub taken : Consumes left left' input
   pub at_end : IsAtEnd left'
@@ -21,7 +22,8 @@ pub record AnswersWhole (A : List ℕ → AnswerText → Type 0) (limit : ℕ) (
   pub faulty : text.fault ≡ fault
 
 -- a prefix of the answer to an input within the limit, which was read to its end, was written
-pub record AnswersWholeInPart (A : List ℕ → AnswerText → Type 0) (limit : ℕ) (left left' written written' : Option (List ℕ)) : Type 0 where
+pub record AnswersWholeInPart (A : List ℕ → AnswerText → Type 0)
+    (limit : ℕ) (left left' written written' : Option (List ℕ)) : Type 0 where
   pub input : List ℕ
   pub taken : Consumes left left' input
   pub at_end : IsAtEnd left'
@@ -43,7 +45,8 @@ pub record TakesPast (limit : ℕ) (left left' : Option (List ℕ)) : Type 0 whe
   pub past : length bytes ≡ limit + 1
 
 -- what a run that ended so has taken and written
-abbrev pub HasWholeRun : (List ℕ → AnswerText → Type 0) → ℕ → Option (List ℕ) → Option (List ℕ) → Option (List ℕ) → Option (List ℕ) → Status → Type 0
+abbrev pub HasWholeRun : (List ℕ → AnswerText → Type 0) → ℕ → Option (List ℕ) → Option (List ℕ) → Option (List ℕ)
+    → Option (List ℕ) → Status → Type 0
 HasWholeRun A limit left left' written written' Done = AnswersWhole A limit left left' written written' false
 HasWholeRun A limit left left' written written' Faults = AnswersWhole A limit left left' written written' true
 HasWholeRun A limit left left' written written' Usage = ⊥
@@ -57,7 +60,8 @@ abbrev pub EndsBeforeWriting : Status → Type 0
 EndsBeforeWriting status = (status ≡ ReadFault) ⊎ ((status ≡ NoMemory) ⊎ (status ≡ TooLong))
 
 -- the answer to this input was written whole, and the status says whether it holds a fault
-pub record WritesAnswer (A : List ℕ → AnswerText → Type 0) (input : List ℕ) (written written' : Option (List ℕ)) (status : Status) : Type 0 where
+pub record WritesAnswer (A : List ℕ → AnswerText → Type 0)
+    (input : List ℕ) (written written' : Option (List ℕ)) (status : Status) : Type 0 where
   pub text : AnswerText
   pub answer : A input text
   pub output : Appends written written' text.text

@@ -26,7 +26,7 @@ impl Model for Answer {
 impl Answer {
     /// The answer of these bytes, at most 192, with whether they name a fault.
     pub fn of(bytes: &[u8], is_fault: bool) -> Answer
-        requires { length bytes.now ≤ MAX_ANSWER }
+        requires { length bytes.now ≤ 192 }
         ensures text { result.text ≡ bytes.now }
         ensures fault { result.fault ≡ is_fault }
     {
@@ -41,7 +41,7 @@ impl Answer {
     /// The bytes, without a newline: at most 192.
     pub fn as_bytes(&self) -> &[u8]
         ensures bytes { result.now ≡ self.now.text }
-        ensures short { length result.now ≤ MAX_ANSWER }
+        ensures short { length result.now ≤ 192 }
     {
         self.bytes.as_slice()
     }

@@ -15,7 +15,7 @@ pub const CHUNK: usize = 4096;
 
 /// How many bytes are asked for next, with this many of the limit taken.
 pub(crate) fn next_room(limit: u64, taken: u64) -> usize
-    requires limit { limit ≤ MAX_LIMIT }
+    requires limit { limit ≤ 4294967296 }
     requires taken { taken ≤ limit }
     ensures some { 0 < result }
     ensures chunk { result ≤ longest_chunk }

@@ -4,10 +4,11 @@ ghost use Rattle.std.specs.Prelude.{◌≡◌, ◌≤◌, ◌<◌, ◌⊎◌, Li
 ghost use Rattle.line_engine.specs.Asked.{AskedWithin};
 ghost use Rattle.line_engine.specs.Failures.{HasFailed};
 ghost use Rattle.line_engine.specs.Lines.{kept_length, last_line, lines};
-ghost use Rattle.line_engine.specs.Output.{AppendsPrefix, AreAnswers, written_of};
+ghost use Rattle.line_engine.specs.Output.{AreAnswers, written_of, WritesOutput};
+ghost use Rattle.line_engine.specs.Appended.{AppendsPrefix};
 ghost use Rattle.line_engine.specs.Inner.Progress.{EndsLines, IsKept, state};
 ghost use Rattle.line_engine.specs.AnswerText.{AnswerText};
-ghost use Rattle.line_engine.specs.Run.{HasFailures, HasRun, Spends, WritesOutput};
+ghost use Rattle.line_engine.specs.Run.{HasFailures, HasRun, Spends};
 
 use crate::chunk::{CHUNK, MAX_LIMIT, next_room, read_prefix};
 use crate::line_buffer::LineBuffer;
@@ -26,7 +27,10 @@ fn end_lines<R: LineRule<L>, K: Sink, L: Ledger>(
     sink: &mut K,
     steps: &mut Steps<L>,
 ) -> Status
-    ensures ends { (whole : List ℕ) → IsKept kept_length whole splitter.line → EndsLines (R.Answers rule.now) R.PER_BYTE R.EXTRA (last_line whole) (state [] (K.written sink.old) splitter.has_fault steps.old) (K.written sink.new) steps.new (K.failures sink.old) (K.failures sink.new) result }
+    ensures ends { (whole : List ℕ) → IsKept kept_length whole splitter.line
+        → EndsLines (R.Answers rule.now) R.PER_BYTE R.EXTRA (last_line whole)
+        (state [] (K.written sink.old) splitter.has_fault steps.old) (K.written sink.new) steps.new
+        (K.failures sink.old) (K.failures sink.new) result }
     ensures began { ¬ (result ≡ Status.NoMemory) }
 {
     match splitter.finish(rule, out, sink, steps) {
@@ -50,11 +54,13 @@ fn answer_lines<R: LineRule<L>, S: Source, K: Sink, L: Ledger>(
     sink: &mut K,
     steps: &mut Steps<L>,
 ) -> Status
-    requires limit { limit ≤ MAX_LIMIT }
+    requires limit { limit ≤ 4294967296 }
     requires line { splitter.line ≡ [] }
     requires fault { splitter.has_fault ≡ false }
-    ensures run { HasRun (R.Answers rule.now) limit (S.left source.old) (S.left source.new) (K.written sink.old) (K.written sink.new) result }
-    ensures failures { HasFailures (S.failures source.old) (S.failures source.new) (K.failures sink.old) (K.failures sink.new) result }
+    ensures run { HasRun (R.Answers rule.now) limit (S.left source.old) (S.left source.new) (K.written sink.old)
+        (K.written sink.new) result }
+    ensures failures { HasFailures (S.failures source.old) (S.failures source.new) (K.failures sink.old)
+        (K.failures sink.new) result }
     ensures cost { Spends limit R.PER_BYTE R.EXTRA (S.left source.old) (S.left source.new) steps.old steps.new }
     ensures asked { AskedWithin limit (S.asked source.old) (S.asked source.new) }
     ensures began { ¬ (result ≡ Status.NoMemory) }
@@ -82,9 +88,10 @@ fn answer_lines<R: LineRule<L>, S: Source, K: Sink, L: Ledger>(
 /// Has each line of a source answered by a rule, and writes each answer and a newline to a sink.
 ///
 /// It takes memory for one line buffer of 1,048,577 bytes, and answers `NoMemory` where that fails; afterwards it takes
-/// none. Each read asks for at most 4,096 bytes, and for at most limit + 1 bytes less those already taken. The answers of the
-/// lines that ended in a chunk are written before the next is read. A line ends at a newline byte, which isn't part of
-/// it; the rule is given its first 1,048,577 bytes. What follows the last newline is a line where it isn't empty.
+/// none. Each read asks for at most 4,096 bytes, and for at most limit + 1 bytes less those already taken. The answers
+/// of the lines that ended in a chunk are written before the next is read. A line ends at a newline byte, which isn't
+/// part of it; the rule is given its first 1,048,577 bytes. What follows the last newline is a line where it isn't
+/// empty.
 ///
 /// The limit is in bytes, from 1 to 4,294,967,296.
 pub fn run_lines<R: LineRule<L>, S: Source, K: Sink, L: Ledger>(
@@ -96,37 +103,46 @@ pub fn run_lines<R: LineRule<L>, S: Source, K: Sink, L: Ledger>(
     steps: &mut Steps<L>,
 ) -> Status
     requires some { 1 ≤ limit }
-    requires most { limit ≤ MAX_LIMIT }
+    requires most { limit ≤ 4294967296 }
 
     // What was taken and what was written, by status.
-    ensures run { HasRun (R.Answers rule.now) limit (S.left source.old) (S.left source.new) (K.written sink.old) (K.written sink.new) result }
+    ensures run { HasRun (R.Answers rule.now) limit (S.left source.old) (S.left source.new) (K.written sink.old)
+        (K.written sink.new) result }
 
     // Which count of failures rose, by status.
-    ensures failures { HasFailures (S.failures source.old) (S.failures source.new) (K.failures sink.old) (K.failures sink.new) result }
+    ensures failures { HasFailures (S.failures source.old) (S.failures source.new) (K.failures sink.old)
+        (K.failures sink.new) result }
 
-    // With no count risen, an input within the limit is answered whole, and the status says whether an answer is a fault;
-    // or there was no memory.
+    // With no count risen, an input within the limit is answered whole, and the status says whether an answer is a
+    // fault; or there was no memory.
     ensures output { (input : List ℕ) → S.left source.old ≡ Some input → length input ≤ limit
-        → ¬ HasFailed (S.failures source.old) (S.failures source.new) → ¬ HasFailed (K.failures sink.old) (K.failures sink.new)
-        → (result ≡ Status.NoMemory) ⊎ WritesOutput (R.Answers rule.now) input (K.written sink.old) (K.written sink.new) result }
+        → ¬ HasFailed (S.failures source.old) (S.failures source.new)
+        → ¬ HasFailed (K.failures sink.old) (K.failures sink.new)
+        → (result ≡ Status.NoMemory)
+        ⊎ WritesOutput (R.Answers rule.now) input (K.written sink.old) (K.written sink.new) result }
 
     // A longer input is reported as too long.
     ensures too_long { (input : List ℕ) → S.left source.old ≡ Some input → limit < length input
-        → ¬ HasFailed (S.failures source.old) (S.failures source.new) → ¬ HasFailed (K.failures sink.old) (K.failures sink.new)
+        → ¬ HasFailed (S.failures source.old) (S.failures source.new)
+        → ¬ HasFailed (K.failures sink.old) (K.failures sink.new)
         → (result ≡ Status.NoMemory) ⊎ (result ≡ Status.TooLong) }
 
     // Where a write failed, a prefix of the whole output was written.
-    ensures prefix_on_write_fault { result ≡ Status.WriteFault → (input : List ℕ) (replies : List AnswerText) → S.left source.old ≡ Some input
-        → AreAnswers (R.Answers rule.now) (lines input) replies → AppendsPrefix (K.written sink.old) (K.written sink.new) (written_of replies) }
+    ensures prefix_on_write_fault { result ≡ Status.WriteFault → (input : List ℕ) (replies : List AnswerText)
+        → S.left source.old ≡ Some input
+        → AreAnswers (R.Answers rule.now) (lines input) replies
+        → AppendsPrefix (K.written sink.old) (K.written sink.new) (written_of replies) }
 
     // How many bytes were taken, and how many steps.
     ensures cost { Spends limit R.PER_BYTE R.EXTRA (S.left source.old) (S.left source.new) steps.old steps.new }
 
-    // What the source was asked for: no read asked for more than limit + 1 bytes less those taken, or for more than 4,096.
+    // What the source was asked for: no read asked for more than limit + 1 bytes less those taken, or for more than
+    // 4,096.
     ensures asked { AskedWithin limit (S.asked source.old) (S.asked source.new) }
 
     // Nothing was read or written.
-    ensures memory { result ≡ Status.NoMemory → (source.new ≡ source.old) × (sink.new ≡ sink.old) × (steps.new ≡ steps.old) }
+    ensures memory { result ≡ Status.NoMemory
+        → (source.new ≡ source.old) × (sink.new ≡ sink.old) × (steps.new ≡ steps.old) }
 {
     match LineBuffer::new(alloc) {
         Err(_) => Status::NoMemory,

@@ -1,6 +1,16 @@
-//! Laws of the lines of an input, each the contract of a function that does nothing.
+//! Laws of the lines of an input and of runs, each the contract of a function that does nothing.
 
-ghost use Rattle.line_engine.specs.LineLaws.{CutAnywhere, LastLineNeedsNoNewline, LineComesFirst, LinesAreTheInput, NoLineHoldsNewline};
+ghost use Rattle.line_engine.specs.LineLaws.{
+  CutAnywhere,
+  LastLineNeedsNoNewline,
+  LineComesFirst,
+  LinesAreTheInput,
+  NoLineHoldsNewline,
+};
+ghost use Rattle.line_engine.specs.RunLaws.{FillIsTheOne, OutputIsTheOne, RunEndIsTheOne, TextEndIsTheOne, WholeOutputIsTheOne};
+
+use crate::{LineRule, WholeRule};
+use std::sync::ledger::Ledger;
 
 /// The ended lines, each followed by a newline, and what follows the last newline are the input again.
 pub fn lines_are_the_input()
@@ -12,10 +22,12 @@ pub fn no_line_holds_newline()
     ensures { NoLineHoldsNewline }
 {}
 
-/// An input that is cut in two anywhere has the lines of its two parts, where what is unended in the first begins the second.
+/// An input that is cut in two anywhere has the lines of its two parts, where what is unended in the first begins the
+/// second.
 pub fn cut_anywhere()
     ensures { CutAnywhere }
 {}
+
 /// The lines of a line, a newline and a rest are that line and the lines of the rest.
 pub fn line_comes_first()
     ensures { LineComesFirst }
@@ -24,4 +36,29 @@ pub fn line_comes_first()
 /// A line that is not empty is the one line of its own text.
 pub fn last_line_needs_no_newline()
     ensures { LastLineNeedsNoNewline }
+{}
+
+/// By a rule over lines an input has at most one output, and its run at most one status.
+pub fn output_is_the_one<R: LineRule<L>, L: Ledger>(_rule: &R)
+    ensures { OutputIsTheOne (R.Answers _rule.now) }
+{}
+
+/// By a rule over whole inputs an input has at most one output, and its run at most one status.
+pub fn whole_output_is_the_one<R: WholeRule<L>, L: Ledger>(_rule: &R)
+    ensures { WholeOutputIsTheOne (R.Answers _rule.now) }
+{}
+
+/// What was taken and the counts of failures say how a run over lines ended, if it found memory.
+pub fn run_end_is_the_one<R: LineRule<L>, L: Ledger>(_rule: &R)
+    ensures { RunEndIsTheOne (R.Answers _rule.now) }
+{}
+
+/// The count of failures says how the writing of a text ended.
+pub fn text_end_is_the_one()
+    ensures { TextEndIsTheOne }
+{}
+
+/// What was taken and the count of failures say how the reading of a whole input ended.
+pub fn fill_is_the_one()
+    ensures { FillIsTheOne }
 {}

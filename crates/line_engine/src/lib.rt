@@ -21,6 +21,7 @@ pub mod rule;
 mod splitter;
 pub mod status;
 pub mod text_lines;
+mod uncounted;
 pub mod whole;
 pub mod whole_engine;
 pub mod whole_rule;

@@ -24,8 +24,8 @@ impl MemorySource {
     ghost use Rattle.line_engine.specs.Asked.{nothing_asked};
     ghost use Rattle.line_engine.specs.Memory.{asked_of, bytes_left};
 
-    /// A source of these bytes that gives at most `most` at a call, 1 or more, and fails at the calls with these numbers.
-    /// Calls on a buffer that isn't empty are numbered from 0.
+    /// A source of these bytes that gives at most `most` at a call, 1 or more, and fails at the calls with these
+    /// numbers. Calls on a buffer that isn't empty are numbered from 0.
     pub fn new(bytes: Vec<u8>, most: usize, failing: Vec<u64>) -> MemorySource
         requires { 1 ≤ most }
         ensures left { bytes_left result ≡ bytes.items }
@@ -85,7 +85,8 @@ impl Source for MemorySource {
         ensures bytes { ReadConsumes (Some (bytes_left self.old)) (Some (bytes_left self.new)) result buf.new }
         ensures empty { length buf.old ≡ 0 → result ≡ Ok 0 }
         ensures failures { FailsOnlyCounted self.old.failures self.new.failures result }
-        ensures fails { 0 < length buf.old → Contains self.old.failing.items self.old.call → IsErr result × (self.new.failures ≡ next_count self.old.failures) }
+        ensures fails { 0 < length buf.old → Contains self.old.failing.items self.old.call
+            → IsErr result × (self.new.failures ≡ next_count self.old.failures) }
         ensures gives { 0 < length buf.old → ¬ Contains self.old.failing.items self.old.call
             → result ≡ Ok (min (min (length buf.old) self.old.most) (length (bytes_left self.old))) }
         ensures call { self.new.call ≡ (if length buf.old == 0 then self.old.call else next_count self.old.call) }
@@ -167,15 +168,18 @@ impl Sink for MemorySink {
 
     ghost failures = { λ s. s.failures };
 
-    /// It fails exactly at the calls that it was given, and where the piece isn't empty and the room is filled. Otherwise
-    /// it moves as many bytes as the smallest of `most`, the piece's length and the room that is left.
+    /// It fails exactly at the calls that it was given, and where the piece isn't empty and the room is filled.
+    /// Otherwise it moves as many bytes as the smallest of `most`, the piece's length and the room that is left.
     fn write(&mut self, piece: &[u8]) -> Result<usize, Failed>
         ensures bound { WritesAtMost result piece.now }
         ensures bytes { WriteAppends (Some (bytes_written self.old)) (Some (bytes_written self.new)) result piece.now }
         ensures progress { 0 < length piece.now → IfOk result (λ n. 0 < n) }
         ensures failures { FailsOnlyCounted self.old.failures self.new.failures result }
-        ensures fails { Contains self.old.failing.items self.old.call ⊎ ((0 < length piece.now) × (room_left self.old ≡ 0)) → IsErr result × (self.new.failures ≡ next_count self.old.failures) }
-        ensures takes { ¬ Contains self.old.failing.items self.old.call → (0 < length piece.now → 0 < room_left self.old)
+        ensures fails { Contains self.old.failing.items self.old.call
+            ⊎ ((0 < length piece.now) × (room_left self.old ≡ 0))
+            → IsErr result × (self.new.failures ≡ next_count self.old.failures) }
+        ensures takes { ¬ Contains self.old.failing.items self.old.call
+            → (0 < length piece.now → 0 < room_left self.old)
             → result ≡ Ok (min (min (length piece.now) self.old.most) (room_left self.old)) }
         ensures call { self.new.call ≡ next_count self.old.call }
         ensures rules { KeepsSinkRules self.old self.new }

@@ -18,13 +18,13 @@ use std::sync::ledger::Ledger;
 pub enum NoArgs {
     /// There was no memory for them.
     NoMemory,
-    /// One of them is no text, as one that isn't UTF-8.
+    /// One of them is not UTF-8.
     NotText,
 }
 
 /// A program that is run by its arguments, the words after its name, over a source and a sink.
 pub trait Program<L: Ledger> {
-    /// The arguments are none that the program knows.
+    /// The program does not know these arguments.
     ghost IsUsageFault: { Self → List (String Global) → Type 0 };
 
     /// What is written for such arguments.
@@ -42,19 +42,24 @@ pub trait Program<L: Ledger> {
         sink: &mut K,
         steps: &mut Steps<L>,
     ) -> Status
-        ensures run { Runs self.now args.now (outside (S.left source.old) (S.asked source.old) (S.failures source.old) (K.written sink.old) (K.failures sink.old) steps.old)
+        ensures run { Runs self.now args.now
+            (outside (S.left source.old) (S.asked source.old) (S.failures source.old) (K.written sink.old)
+            (K.failures sink.old) steps.old)
             (outside (S.left source.new) (S.asked source.new) (S.failures source.new) (K.written sink.new) (K.failures sink.new) steps.new) result }
-        ensures usage { IsUsageFault self.now args.now → WritesText (usage_line self.now) Status.Usage (K.written sink.old) (K.written sink.new) (K.failures sink.old) (K.failures sink.new) result }
+        ensures usage { IsUsageFault self.now args.now
+            → WritesText (usage_line self.now) Status.Usage (K.written sink.old) (K.written sink.new)
+            (K.failures sink.old) (K.failures sink.new) result }
         ensures untouched { IsUsageFault self.now args.now → source.new ≡ source.old };
 
-    /// One empty argument is none that the program knows.
-    ghost empty_law: { (program : Self) (word : String Global) → string_bytes word ≡ [] → IsUsageFault program (word ∷ []) };
+    /// The program does not know one empty argument.
+    ghost empty_law: { (program : Self) (word : String Global) → string_bytes word ≡ []
+        → IsUsageFault program (word ∷ []) };
 }
 
 /// Runs a program by its arguments, and answers the code with which its process ends.
 ///
 /// Where there was no memory for the arguments it ends with the code of `NoMemory`, and nothing is read or written. An
-/// argument that is no text is a usage fault.
+/// argument that is not text is a usage fault.
 pub fn run_program<P: Program<L>, S: Source, K: Sink, L: Ledger>(
     program: &P,
     alloc: Global,
@@ -64,17 +69,25 @@ pub fn run_program<P: Program<L>, S: Source, K: Sink, L: Ledger>(
     steps: &mut Steps<L>,
 ) -> u8
     // The program ran by its arguments, and the code is that of the status with which it ended.
-    ensures args { IfOk args (λ all. EndsAs (P.Runs program.now all.items (outside (S.left source.old) (S.asked source.old) (S.failures source.old) (K.written sink.old) (K.failures sink.old) steps.old)
+    ensures args { IfOk args
+        (λ all. EndsAs (P.Runs program.now all.items
+        (outside (S.left source.old) (S.asked source.old) (S.failures source.old) (K.written sink.old)
+        (K.failures sink.old) steps.old)
         (outside (S.left source.new) (S.asked source.new) (S.failures source.new) (K.written sink.new) (K.failures sink.new) steps.new)) result) }
 
     // For arguments that it doesn't know the usage line is written, and nothing is read.
-    ensures usage { IfOk args (λ all. P.IsUsageFault program.now all.items → EndsAs (WritesText (P.usage_line program.now) Status.Usage (K.written sink.old) (K.written sink.new) (K.failures sink.old) (K.failures sink.new)) result × (source.new ≡ source.old)) }
+    ensures usage { IfOk args (λ all. P.IsUsageFault program.now all.items
+        → EndsAs (WritesText (P.usage_line program.now) Status.Usage (K.written sink.old) (K.written sink.new)
+        (K.failures sink.old) (K.failures sink.new)) result × (source.new ≡ source.old)) }
 
     // There was no memory for the arguments.
-    ensures no_memory { args ≡ Err NoArgs.NoMemory → (result ≡ 5) × (source.new ≡ source.old) × (sink.new ≡ sink.old) × (steps.new ≡ steps.old) }
+    ensures no_memory { args ≡ Err NoArgs.NoMemory
+        → (result ≡ 5) × (source.new ≡ source.old) × (sink.new ≡ sink.old) × (steps.new ≡ steps.old) }
 
-    // An argument is no text.
-    ensures not_text { args ≡ Err NoArgs.NotText → EndsAs (WritesText (P.usage_line program.now) Status.Usage (K.written sink.old) (K.written sink.new) (K.failures sink.old) (K.failures sink.new)) result × (source.new ≡ source.old) }
+    // An argument is not text.
+    ensures not_text { args ≡ Err NoArgs.NotText
+        → EndsAs (WritesText (P.usage_line program.now) Status.Usage (K.written sink.old) (K.written sink.new)
+        (K.failures sink.old) (K.failures sink.new)) result × (source.new ≡ source.old) }
 {
     let status = match args {
         Ok(args) => program.run(alloc, &args, source, sink, steps),

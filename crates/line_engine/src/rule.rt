@@ -3,10 +3,9 @@
 ghost use Rattle.std.specs.Prelude.{◌≡◌, ◌+◌, ◌*◌, ◌≤◌, ◌<◌, ◌↔◌, ℕ, List, length, take};
 ghost use Rattle.line_engine.specs.AnswerText.{AnswerText};
 ghost use Rattle.line_engine.specs.Lines.{kept_length};
-ghost use Rattle.line_engine.specs.Output.{AppendsAnswer};
-ghost use Rattle.line_engine.specs.declared.output.TheConstants.{OUTPUT_BUFFER};
+ghost use Rattle.line_engine.specs.Appended.{AppendsAnswer};
 
-use crate::output::{OUTPUT_BUFFER, Output};
+use crate::output::Output;
 use fixed_steps::Steps;
 use std::sync::ledger::Ledger;
 
@@ -32,15 +31,16 @@ pub trait LineRule<L: Ledger> {
 
     /// Appends the answer to a line, without a newline, and answers whether it names a fault.
     fn answer(&self, line: &[u8], out: &mut Output, steps: &mut Steps<L>) -> bool
-        requires room { length out.old + MAX_ANSWER ≤ OUTPUT_BUFFER }
+        requires room { length out.old + MAX_ANSWER ≤ 8192 }
         ensures answer { AppendsAnswer (Answers self.now) MAX_ANSWER line.now out.old out.new result }
         ensures cost { steps.new ≤ steps.old + PER_BYTE * length line.now + EXTRA };
 
     /// An answer and its newline fit the buffer.
-    ghost room_law: { MAX_ANSWER < OUTPUT_BUFFER };
+    ghost room_law: { MAX_ANSWER < 8192 };
 
     /// A line has at most one answer.
-    ghost one_law: { (rule : Self) (line : List ℕ) (a b : AnswerText) → Answers rule line a → Answers rule line b → a ≡ b };
+    ghost one_law: { (rule : Self) (line : List ℕ) (a b : AnswerText) → Answers rule line a → Answers rule line b
+        → a ≡ b };
 
     /// A line that is longer than what is kept of a line is answered like the prefix that is kept.
     ghost kept_law: { (rule : Self) (line : List ℕ) (reply : AnswerText) → kept_length < length line

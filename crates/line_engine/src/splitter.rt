@@ -1,11 +1,40 @@
 //! What is kept between two chunks of an input, and how its lines are answered.
 
-ghost use Rattle.std.specs.Prelude.{◌≡◌, ◌≤◌, ◌<◌, ◌↔◌, IsTrue, ◌+◌, ◌*◌, ◌++◌, ◌||◌, [], ◌∷◌, List, ℕ, OnOk, OnErr, IfOk, length, take, true, false};
+ghost use Rattle.std.specs.Prelude.{
+  ◌≡◌,
+  ◌≤◌,
+  ◌<◌,
+  ◌↔◌,
+  IsTrue,
+  ◌+◌,
+  ◌*◌,
+  ◌++◌,
+  ◌||◌,
+  [],
+  ◌∷◌,
+  List,
+  ℕ,
+  OnOk,
+  OnErr,
+  IfOk,
+  length,
+  take,
+  true,
+  false,
+};
 ghost use Rattle.std.specs.Io.KnownBytes.{Appends};
 ghost use Rattle.line_engine.specs.Failures.{FailsOnlyCounted};
 ghost use Rattle.line_engine.specs.Lines.{ended_lines, kept_length, unended, last_line};
-ghost use Rattle.line_engine.specs.Inner.Progress.{Answered, AnsweredLine, AnswersUntilFailure, StopsBefore, IsKept, Flushes, state};
-ghost use Rattle.line_engine.specs.Output.{AppendsPrefix};
+ghost use Rattle.line_engine.specs.Inner.Progress.{
+  Answered,
+  AnsweredLine,
+  AnswersUntilFailure,
+  StopsBefore,
+  IsKept,
+  Flushes,
+  state,
+};
+ghost use Rattle.line_engine.specs.Appended.{AppendsPrefix};
 
 use crate::line_buffer::LineBuffer;
 use crate::output::{OUTPUT_BUFFER, Output};
@@ -31,8 +60,8 @@ fn flush<K: Sink>(out: &mut Output, sink: &mut K) -> Result<(), Failed>
 /// Makes room for an answer of `most` bytes and a newline: writes what was gathered where there is none.
 #[inline]
 fn make_room<K: Sink>(most: usize, out: &mut Output, sink: &mut K) -> Result<(), Failed>
-    requires { most < OUTPUT_BUFFER }
-    ensures room { OnOk result (length out.new + most < OUTPUT_BUFFER) }
+    requires { most < 8192 }
+    ensures room { OnOk result (length out.new + most < 8192) }
     ensures ok { OnOk result (Flushes out.old [] out.new (K.written sink.old) (K.written sink.new)) }
     ensures err { OnErr result (AppendsPrefix (K.written sink.old) (K.written sink.new) out.old) }
     ensures failures { FailsOnlyCounted (K.failures sink.old) (K.failures sink.new) result }
@@ -53,8 +82,11 @@ fn answer_one<R: LineRule<L>, K: Sink, L: Ledger>(
     sink: &mut K,
     steps: &mut Steps<L>,
 ) -> Result<bool, Failed>
-    ensures ok { IfOk result (λ fault. AnsweredLine (R.Answers rule.now) R.PER_BYTE R.EXTRA line.now (state out.old (K.written sink.old) before steps.old) (state out.new (K.written sink.new) fault steps.new)) }
-    ensures err { OnErr result (StopsBefore (state out.old (K.written sink.old) before steps.old) (K.written sink.new) steps.new) }
+    ensures ok { IfOk result
+        (λ fault. AnsweredLine (R.Answers rule.now) R.PER_BYTE R.EXTRA line.now
+        (state out.old (K.written sink.old) before steps.old) (state out.new (K.written sink.new) fault steps.new)) }
+    ensures err { OnErr result
+        (StopsBefore (state out.old (K.written sink.old) before steps.old) (K.written sink.new) steps.new) }
     ensures failures { FailsOnlyCounted (K.failures sink.old) (K.failures sink.new) result }
 {
     make_room(R::MAX_ANSWER, out, sink)?;
@@ -90,8 +122,13 @@ impl LineSplitter {
         steps: &mut Steps<L>,
     ) -> Result<(), Failed>
         ensures line { OnOk result (self.new.line ≡ []) }
-        ensures ok { OnOk result ((whole : List ℕ) → IsKept kept_length whole self.old.line → AnsweredLine (R.Answers rule.now) R.PER_BYTE R.EXTRA (whole ++ part.now) (state out.old (K.written sink.old) self.old.has_fault steps.old) (state out.new (K.written sink.new) self.new.has_fault steps.new)) }
-        ensures err { OnErr result (StopsBefore (state out.old (K.written sink.old) self.old.has_fault steps.old) (K.written sink.new) steps.new) }
+        ensures ok { OnOk result ((whole : List ℕ) → IsKept kept_length whole self.old.line
+            → AnsweredLine (R.Answers rule.now) R.PER_BYTE R.EXTRA (whole ++ part.now)
+            (state out.old (K.written sink.old) self.old.has_fault steps.old)
+            (state out.new (K.written sink.new) self.new.has_fault steps.new)) }
+        ensures err { OnErr result
+            (StopsBefore (state out.old (K.written sink.old) self.old.has_fault steps.old)
+            (K.written sink.new) steps.new) }
         ensures failures { FailsOnlyCounted (K.failures sink.old) (K.failures sink.new) result }
     {
         if self.is_empty() {
@@ -113,9 +150,16 @@ impl LineSplitter {
         sink: &mut K,
         steps: &mut Steps<L>,
     ) -> Result<(), Failed>
-        ensures line { OnOk result ((whole : List ℕ) → IsKept kept_length whole self.old.line → self.new.line ≡ take kept_length (unended (whole ++ chunk.now))) }
-        ensures ok { OnOk result ((whole : List ℕ) → IsKept kept_length whole self.old.line → Answered (R.Answers rule.now) R.PER_BYTE R.EXTRA (ended_lines (whole ++ chunk.now)) (state [] (K.written sink.old) self.old.has_fault steps.old) (state [] (K.written sink.new) self.new.has_fault steps.new)) }
-        ensures err { OnErr result ((whole : List ℕ) → IsKept kept_length whole self.old.line → AnswersUntilFailure (R.Answers rule.now) R.PER_BYTE R.EXTRA (ended_lines (whole ++ chunk.now)) (state [] (K.written sink.old) self.old.has_fault steps.old) (K.written sink.new) steps.new) }
+        ensures line { OnOk result ((whole : List ℕ) → IsKept kept_length whole self.old.line
+            → self.new.line ≡ take kept_length (unended (whole ++ chunk.now))) }
+        ensures ok { OnOk result ((whole : List ℕ) → IsKept kept_length whole self.old.line
+            → Answered (R.Answers rule.now) R.PER_BYTE R.EXTRA (ended_lines (whole ++ chunk.now))
+            (state [] (K.written sink.old) self.old.has_fault steps.old)
+            (state [] (K.written sink.new) self.new.has_fault steps.new)) }
+        ensures err { OnErr result ((whole : List ℕ) → IsKept kept_length whole self.old.line
+            → AnswersUntilFailure (R.Answers rule.now) R.PER_BYTE R.EXTRA (ended_lines (whole ++ chunk.now))
+            (state [] (K.written sink.old) self.old.has_fault steps.old)
+            (K.written sink.new) steps.new) }
         ensures failures { FailsOnlyCounted (K.failures sink.old) (K.failures sink.new) result }
     {
         out.clear();
@@ -136,8 +180,13 @@ impl LineSplitter {
         sink: &mut K,
         steps: &mut Steps<L>,
     ) -> Result<(), Failed>
-        ensures ok { OnOk result ((whole : List ℕ) → IsKept kept_length whole self.old.line → Answered (R.Answers rule.now) R.PER_BYTE R.EXTRA (last_line whole) (state [] (K.written sink.old) self.old.has_fault steps.old) (state [] (K.written sink.new) self.new.has_fault steps.new)) }
-        ensures err { OnErr result ((whole : List ℕ) → IsKept kept_length whole self.old.line → AnswersUntilFailure (R.Answers rule.now) R.PER_BYTE R.EXTRA (last_line whole) (state [] (K.written sink.old) self.old.has_fault steps.old) (K.written sink.new) steps.new) }
+        ensures ok { OnOk result ((whole : List ℕ) → IsKept kept_length whole self.old.line
+            → Answered (R.Answers rule.now) R.PER_BYTE R.EXTRA (last_line whole)
+            (state [] (K.written sink.old) self.old.has_fault steps.old)
+            (state [] (K.written sink.new) self.new.has_fault steps.new)) }
+        ensures err { OnErr result ((whole : List ℕ) → IsKept kept_length whole self.old.line
+            → AnswersUntilFailure (R.Answers rule.now) R.PER_BYTE R.EXTRA (last_line whole)
+            (state [] (K.written sink.old) self.old.has_fault steps.old) (K.written sink.new) steps.new) }
         ensures failures { FailsOnlyCounted (K.failures sink.old) (K.failures sink.new) result }
     {
         if self.is_empty() {

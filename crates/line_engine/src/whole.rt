@@ -1,6 +1,21 @@
 //! An input that is read to its end before anything is written.
 
-ghost use Rattle.std.specs.Prelude.{◌≡◌, ◌≤◌, ◌+◌, ◌++◌, [], List, ℕ, length, take, IfOk, IsOk, OnErr, OnOk, vec_capacity};
+ghost use Rattle.std.specs.Prelude.{
+  ◌≡◌,
+  ◌≤◌,
+  ◌+◌,
+  ◌++◌,
+  [],
+  List,
+  ℕ,
+  length,
+  take,
+  IfOk,
+  IsOk,
+  OnErr,
+  OnOk,
+  vec_capacity,
+};
 ghost use Rattle.line_engine.specs.Asked.{AskedWithin};
 ghost use Rattle.line_engine.specs.Filled.{HasFilled, TakesWithin};
 
@@ -71,14 +86,17 @@ impl Whole {
     /// Reads an input to its end, or to the first byte past the limit, which is in bytes and at most 4,294,967,296.
     ///
     /// Memory is taken as the input grows past 1,048,577 bytes; `NoMemory` where there is none. With a limit of at most
-    /// 1,048,576 it takes no memory and doesn't refuse. Each read asks for at most 4,096 bytes, and for at most limit + 1
-    /// bytes less those already taken.
+    /// 1,048,576 it takes no memory and doesn't refuse. Each read asks for at most 4,096 bytes, and for at most limit +
+    /// 1 bytes less those already taken.
     pub fn fill_within<S: Source>(&mut self, limit: u64, source: &mut S) -> Result<Filled, NoMemory>
         requires empty { self.old ≡ [] }
-        requires most { limit ≤ MAX_LIMIT }
-        ensures ok { IfOk result (λ filled. HasFilled limit (S.left source.old) (S.left source.new) (S.failures source.old) (S.failures source.new) self.new filled) }
-        ensures err { OnErr result (TakesWithin limit (S.left source.old) (S.left source.new) × (S.failures source.new ≡ S.failures source.old)) }
-        ensures memory { limit ≤ MAX_WHOLE → IsOk result }
+        requires most { limit ≤ 4294967296 }
+        ensures ok { IfOk result
+            (λ filled. HasFilled limit (S.left source.old) (S.left source.new) (S.failures source.old)
+            (S.failures source.new) self.new filled) }
+        ensures err { OnErr result (TakesWithin limit (S.left source.old) (S.left source.new)
+            × (S.failures source.new ≡ S.failures source.old)) }
+        ensures memory { limit ≤ 1048576 → IsOk result }
         ensures asked { AskedWithin limit (S.asked source.old) (S.asked source.new) }
     {
         let mut chunk = [0u8; CHUNK];
@@ -100,8 +118,9 @@ impl Whole {
     /// Reads an input of at most 1,048,576 bytes to its end, or to the first byte that is too much. It takes no memory.
     pub fn fill<S: Source>(&mut self, source: &mut S) -> Filled
         requires { self.old ≡ [] }
-        ensures filled { HasFilled MAX_WHOLE (S.left source.old) (S.left source.new) (S.failures source.old) (S.failures source.new) self.new result }
-        ensures asked { AskedWithin MAX_WHOLE (S.asked source.old) (S.asked source.new) }
+        ensures filled { HasFilled 1048576 (S.left source.old) (S.left source.new) (S.failures source.old)
+            (S.failures source.new) self.new result }
+        ensures asked { AskedWithin 1048576 (S.asked source.old) (S.asked source.new) }
     {
         match self.fill_within(MAX_WHOLE, source) {
             Ok(filled) => filled,

@@ -61,9 +61,10 @@ pub trait WholeRule<L: Ledger> {
         input: &[u8],
         steps: &mut Steps<L>,
     ) -> Result<WholeAnswer, NoMemory>
-        requires { length input.now ≤ MAX_LIMIT }
+        requires { length input.now ≤ 4294967296 }
         ensures { IfOk result (λ answer. Answers self.now input.now answer) };
 
     /// An input has at most one answer.
-    ghost one_law: { (rule : Self) (input : List ℕ) (a b : AnswerText) → Answers rule input a → Answers rule input b → a ≡ b };
+    ghost one_law: { (rule : Self) (input : List ℕ) (a b : AnswerText) → Answers rule input a → Answers rule input b
+        → a ≡ b };
 }

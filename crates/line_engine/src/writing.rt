@@ -3,7 +3,7 @@
 ghost use Rattle.std.specs.Prelude.{◌≡◌, OnOk, OnErr};
 ghost use Rattle.std.specs.Io.KnownBytes.{Appends};
 ghost use Rattle.line_engine.specs.Failures.{FailsOnlyCounted};
-ghost use Rattle.line_engine.specs.Output.{AppendsPrefix};
+ghost use Rattle.line_engine.specs.Appended.{AppendsPrefix};
 ghost use Rattle.line_engine.specs.Run.{WritesText};
 
 use crate::{Failed, Sink, Status};
@@ -24,7 +24,8 @@ pub fn write_whole<K: Sink>(sink: &mut K, piece: &[u8]) -> Result<(), Failed>
 
 /// Writes a text whole, and then ends with the status `ending`; or with `WriteFault` where a write failed.
 pub fn write_text<K: Sink>(text: &[u8], ending: Status, sink: &mut K) -> Status
-    ensures { WritesText text.now ending (K.written sink.old) (K.written sink.new) (K.failures sink.old) (K.failures sink.new) result }
+    ensures { WritesText text.now ending (K.written sink.old) (K.written sink.new) (K.failures sink.old)
+        (K.failures sink.new) result }
 {
     match write_whole(sink, text) {
         Ok(()) => ending,

@@ -226,7 +226,7 @@ fn constants_are_written_in_each_form(rt: HostRuntime) -> Result<(), Fail> {
         unfailing(
             in_form(Form::Rust, b""),
             "A = 0b_111e-2 I4F4\n",
-            "pub const A: FixedI8<4> = FixedI8::from_bits(0x1c);\n",
+            "pub const A: fixed::types::I4F4 = fixed::types::I4F4::from_bits(0x1c);\n",
             Status::Done,
         ),
     ];

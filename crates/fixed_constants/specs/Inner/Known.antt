@@ -24,15 +24,18 @@ abbrev pub AtLine : {S : Type 0} → ℕ → HashMap (Bor (List ℕ)) ℕ S → 
 AtLine number known Holds = (before : List (List ℕ)) → Knows before known → number ≡ length before + 1 → Holds before
 
 -- a line that comes after the lines `before` adds a constant to a list, and its name to the map
-pub record AddsConstant {S : Type 0} (before : List (List ℕ)) (line : List ℕ) (old new : List ConstantParts) (known : HashMap (Bor (List ℕ)) ℕ S) : Type 0 where
+pub record AddsConstant {S : Type 0} (before : List (List ℕ)) (line : List ℕ) (old new : List ConstantParts)
+    (known : HashMap (Bor (List ℕ)) ℕ S) : Type 0 where
   pub constant : ConstantParts
   pub says : Says before line (Ok constant)
   pub added : new ≡ old ++ constant ∷ []
   pub knows : Knows (before ++ line ∷ []) known
 
 -- a line that comes after the lines `before` adds a constant, or is passed over and adds nothing
-abbrev pub AddsLine : {S : Type 0} → List (List ℕ) → List ℕ → List ConstantParts → List ConstantParts → HashMap (Bor (List ℕ)) ℕ S → Type 0
-AddsLine before line old new known = (IsPassedOver line × (new ≡ old) × Knows (before ++ line ∷ []) known) ⊎ AddsConstant before line old new known
+abbrev pub AddsLine : {S : Type 0} → List (List ℕ) → List ℕ → List ConstantParts → List ConstantParts
+    → HashMap (Bor (List ℕ)) ℕ S → Type 0
+AddsLine before line old new known = (IsPassedOver line × (new ≡ old) × Knows (before ++ line ∷ []) known)
+    ⊎ AddsConstant before line old new known
 
 -- what an error says of a line that comes after the lines `before`
 abbrev pub IsLineError : List (List ℕ) → List ℕ → ℕ → ConstantsError → Type 0

@@ -38,7 +38,7 @@ number_one s bytes p q f v w x y a b =
     let P : Parts → Type 0 = λ t. IsReadNumber NearestEven (literal_radix s bytes) t f v in
     read_one (literal_radix s bytes) q f v w (subst P (one_literal s bytes p q x y) a) b
 
-bits_one : (f : FormatParts) (bytes : List ℕ) (b c : ℤ) → IsLiteralOf f bytes b → IsLiteralOf f bytes c → b ≡ c
+pub bits_one : (f : FormatParts) (bytes : List ℕ) (b c : ℤ) → IsLiteralOf f bytes b → IsLiteralOf f bytes c → b ≡ c
 bits_one f bytes b c x y = number_one f.signed bytes x.parts y.parts f.frac b c x.has y.has x.read y.read
 
 in_not_out : (s : Bool) (n : ℕ) (v : ℤ) → IsInRange s n v → IsOutOfRange s n v → ⊥

@@ -15,7 +15,8 @@ use Rattle.fixed_numeral.specs.Value.{magnitude}
 use Rattle.fixed_numeral.specs.declared.error.ParseErrorKind.{ParseErrorKind}
 use Rattle.fixed_numeral.specs.declared.radix.Radix.{Radix}
 use Rattle.fixed_numeral.proofs.Public.{parts_unique, magnitude_pos}
-use Rattle.fixed_read.specs.Reading.{IsReadNumber, IsWholeUlps, IsMultipleOf, with_sign}
+use Rattle.fixed_bits.specs.Numbers.{with_sign}
+use Rattle.fixed_read.specs.Reading.{IsReadNumber, IsWholeUlps, IsMultipleOf}
 use Rattle.fixed_enclose.specs.Enclosure.{Encloses, in_ulps, IsEnclosed, IsRefusal}
 use Rattle.fixed_enclose.specs.Laws.{NoneIsTighter, ExactWhereEqual, PairIsTheOne}
 

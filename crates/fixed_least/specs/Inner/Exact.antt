@@ -5,7 +5,7 @@ use Rattle.fixed_bits.specs.Ranges.{IsInRange}
 use Rattle.fixed_numeral.specs.Numeral.{Parts, is_minus}
 use Rattle.fixed_numeral.specs.Value.{magnitude}
 use Rattle.fixed_numeral.specs.declared.radix.Radix.{Radix}
-use Rattle.fixed_read.specs.Reading.{with_sign}
+use Rattle.fixed_bits.specs.Numbers.{with_sign}
 
 -- a numeral with these parts has the value of this many ulps of 2^-64, with this sign
 pub record IsExact (r : Radix) (p : Parts) (negative : Bool) (ulps : ℕ) : Type 0 where

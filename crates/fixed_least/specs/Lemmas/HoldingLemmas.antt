@@ -8,7 +8,7 @@ use Rattle.fixed_numeral.specs.Numeral.{Parts}
 use Rattle.fixed_numeral.specs.Value.{magnitude}
 use Rattle.fixed_numeral.specs.declared.radix.Radix.{Radix}
 use Rattle.fixed_numeral.proofs.Public.{magnitude_pos}
-use Rattle.fixed_read.specs.Reading.{with_sign}
+use Rattle.fixed_bits.specs.Numbers.{with_sign}
 use Rattle.fixed_least.specs.Inner.Exact.{HasUlps, IsExact}
 use Rattle.fixed_least.specs.Holding.{Holds}
 

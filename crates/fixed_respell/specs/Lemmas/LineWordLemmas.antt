@@ -37,16 +37,6 @@ spaced_length : (words : List (List ℕ)) (rest : List ℕ) → length rest ≤ 
 spaced_length [] rest = omega arith
 spaced_length (word ∷ words) rest = omega (arith, length-append word (space ∷ spaced words rest), spaced_length words rest)
 
-pub rest_short : (line : List ℕ) (words : List (List ℕ)) (rest : List ℕ) → HasWords line words rest → length rest ≤ length line
-rest_short line words rest has = omega (arith, ap length has.text, spaced_length words rest)
-
--- one word more before the others
-pub word_more : (bytes word after : List ℕ) (words : List (List ℕ)) (rest : List ℕ) → IsSplit space bytes word after → HasWords after words rest → HasWords bytes (word ∷ words) rest
-word_more bytes word after words rest split has = record {
-  text = split.split ∙ ap (λ t. word ++ space ∷ t) has.text;
-  unspaced = (split.first, has.unspaced);
-}
-
 -- a split takes one space
 pub one_fewer : (bytes before after : List ℕ) → IsSplit space bytes before after → count_of space bytes ≡ 1 + count_of space after
 one_fewer bytes before after split = omega (arith, ap (count_of space) split.split, count_one space before after, split.first)

@@ -16,8 +16,3 @@ no_slash Wrapping = refl
 pub policy_split : (word xs ys : List ℕ) (p : Policy) (m : ReadMode) → IsSplit slash word xs ys → IsPolicyWord word p m → IsSameSplit xs (policy_text p) ys (mode_text m)
 policy_split word xs ys p m cut (inl plain) = absurd (split_has_one slash word xs ys cut.split (ap (count_of slash) plain.0 ∙ no_slash p))
 policy_split word xs ys p m cut (inr split) = split_is_one slash word xs ys (policy_text p) (mode_text m) cut (record { split = split; first = no_slash p })
-
--- and one without a slash names no mode
-pub policy_plain : (word : List ℕ) (p : Policy) (m : ReadMode) → count_of slash word ≡ 0 → IsPolicyWord word p m → word ≡ policy_text p
-policy_plain word p m none (inl plain) = plain.0
-policy_plain word p m none (inr split) = absurd (split_has_one slash word (policy_text p) (mode_text m) split none)

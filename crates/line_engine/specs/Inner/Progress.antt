@@ -4,7 +4,8 @@ use Rattle.std.specs.declared.option.Option.{Option}
 use Rattle.std.specs.Io.KnownBytes.{Appends}
 use Rattle.line_engine.specs.Failures.{HasFailed}
 use Rattle.line_engine.specs.Lines.{ended_lines}
-use Rattle.line_engine.specs.Output.{AppendsPrefix, AreAnswers, reply_line, written_of, any_fault}
+use Rattle.line_engine.specs.Output.{AreAnswers, reply_line, written_of, any_fault}
+use Rattle.line_engine.specs.Appended.{AppendsPrefix}
 use Rattle.line_engine.specs.AnswerText.{AnswerText}
 use Rattle.line_engine.specs.declared.status.Status.{Status}
 use Rattle.line_engine.specs.declared.status.Status.TheVariants.{Done, Faults, Usage, ReadFault, WriteFault, NoMemory, TooLong}
@@ -32,7 +33,8 @@ abbrev pub state : List ℕ → Option (List ℕ) → Bool → ℕ → State
 state held written fault steps = record { held = held; written = written; fault = fault; steps = steps }
 
 -- this line was answered, in at most per_byte steps for each of its bytes and extra more
-pub record AnsweredLine (A : List ℕ → AnswerText → Type 0) (per_byte extra : ℕ) (line : List ℕ) (before after : State) : Type 0 where
+pub record AnsweredLine (A : List ℕ → AnswerText → Type 0)
+    (per_byte extra : ℕ) (line : List ℕ) (before after : State) : Type 0 where
   pub reply : AnswerText
   pub answer : A line reply
   pub passes : Flushes before.held (reply_line reply) after.held before.written after.written
@@ -45,7 +47,8 @@ pub record StopsBefore (before : State) (written : Option (List ℕ)) (steps : �
   pub cost : steps ≡ before.steps
 
 -- these lines were answered, in at most per_byte steps for each of their bytes and extra for each of them
-pub record Answered (A : List ℕ → AnswerText → Type 0) (per_byte extra : ℕ) (lines : List (List ℕ)) (before after : State) : Type 0 where
+pub record Answered (A : List ℕ → AnswerText → Type 0)
+    (per_byte extra : ℕ) (lines : List (List ℕ)) (before after : State) : Type 0 where
   pub replies : List AnswerText
   pub answers : AreAnswers A lines replies
   pub passes : Flushes before.held (written_of replies) after.held before.written after.written
@@ -53,7 +56,9 @@ pub record Answered (A : List ℕ → AnswerText → Type 0) (per_byte extra : �
   pub cost : after.steps ≤ before.steps + per_byte * bytes_in lines + extra * length lines
 
 -- the first of these lines were answered, and a prefix of what was to be written for them was written
-pub record AnswersUntilFailure (A : List ℕ → AnswerText → Type 0) (per_byte extra : ℕ) (lines : List (List ℕ)) (before : State) (written : Option (List ℕ)) (steps : ℕ) : Type 0 where
+pub record AnswersUntilFailure (A : List ℕ → AnswerText → Type 0)
+    (per_byte extra : ℕ) (lines : List (List ℕ)) (before : State) (written : Option (List ℕ))
+    (steps : ℕ) : Type 0 where
   pub some : List (List ℕ)
   pub more : List (List ℕ)
   pub cut : lines ≡ some ++ more
@@ -68,9 +73,12 @@ pub record IsKept (n : ℕ) (whole kept : List ℕ) : Type 0 where
   pub prefix : kept ≡ take n whole
 
 -- the last lines of an input were answered, or writing was cut short among them, and how the run ends
-abbrev pub EndsLines : (List ℕ → AnswerText → Type 0) → ℕ → ℕ → List (List ℕ) → State → Option (List ℕ) → ℕ → ℕ → ℕ → Status → Type 0
-EndsLines A per_byte extra lines before written steps failures failures' Done = Answered A per_byte extra lines before (state [] written false steps) × (failures' ≡ failures)
-EndsLines A per_byte extra lines before written steps failures failures' Faults = Answered A per_byte extra lines before (state [] written true steps) × (failures' ≡ failures)
+abbrev pub EndsLines : (List ℕ → AnswerText → Type 0) → ℕ → ℕ → List (List ℕ) → State → Option (List ℕ) → ℕ → ℕ → ℕ
+    → Status → Type 0
+EndsLines A per_byte extra lines before written steps failures failures' Done = Answered A per_byte extra lines before
+    (state [] written false steps) × (failures' ≡ failures)
+EndsLines A per_byte extra lines before written steps failures failures' Faults = Answered A per_byte extra lines before
+    (state [] written true steps) × (failures' ≡ failures)
 EndsLines A per_byte extra lines before written steps failures failures' Usage = ⊥
 EndsLines A per_byte extra lines before written steps failures failures' ReadFault = ⊥
 EndsLines A per_byte extra lines before written steps failures failures' WriteFault = AnswersUntilFailure A per_byte extra lines before written steps × HasFailed failures failures'

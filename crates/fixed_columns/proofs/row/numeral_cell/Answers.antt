@@ -19,4 +19,4 @@ pub returns-in-None-clause-refused : goal.returns-in-None-clause-refused
 returns-in-None-clause-refused c =
     let has = c.in-Ok.ensures.reading.numeral.0 refl in
     let P : ParseErrorKind → Type 0 = λ k. IsRefusedNumeral c.args.format c.args.numeral.now k in
-    subst P (sym c.new-in-None.ensures) (numeral_out c.args.format c.args.numeral.now c.in-Ok.found has.0 c.in-Ok.ensures.format has.1 (c.in-Ok.ensures.reading.read has.0 has.1) (λ v h. ((c.in-None.ensures.none v h).0 (search rules)).1))
+    subst P (sym c.new.ensures) (numeral_out c.args.format c.args.numeral.now c.in-Ok.found has.0 c.in-Ok.ensures.format has.1 (c.in-Ok.ensures.reading.read has.0 has.1) (λ v h. ((c.in-None.ensures.none v h).0 (search rules)).1))

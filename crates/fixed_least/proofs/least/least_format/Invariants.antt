@@ -2,7 +2,7 @@ use Rattle.std.proofs.Common.{◌≡◌, ◌+◌, ◌≤◌, ◌++◌, ℕ, List
 use Rattle.fixed_bits.specs.Formats.{FormatParts, IsFormat}
 use Rattle.line_engine.specs.Lines.{lines}
 use Rattle.fixed_least.specs.Holding.{AllNumerals}
-use Rattle.fixed_least.specs.Inner.Cells.{AreLiving, cell_of}
+use Rattle.fixed_least.specs.Inner.Slots.{AreLiving, slot_of}
 use Rattle.fixed_least.proofs.ListLemmas.{NotedSoFar}
 use Rattle.fixed_least.proofs.least.least_format.Given as goal
 
@@ -13,8 +13,8 @@ invariant-loop-rest g l = record {
   count : l.place ≡ length done;
   room : l.place + length l.rest ≤ length l.text;
   numerals : AllNumerals l.radix done;
-  living : AreLiving l.cells l.lows l.highs;
-  noted : (f : FormatParts) → IsFormat f.width f.frac → NotedSoFar l.radix f done (get_or l.cells (cell_of f) 0);
+  living : AreLiving l.slots l.lows l.highs;
+  noted : (f : FormatParts) → IsFormat f.width f.frac → NotedSoFar l.radix f done (get_or l.slots (slot_of f) 0);
 }
 
 abbrev pub decreases-loop-rest : goal.decreases-loop-rest

@@ -1,7 +1,7 @@
 use Rattle.std.proofs.Common.{arith, ◌≡◌, ◌∙◌, sym, ◌^◌, ◌-◌, pos, ◌*ℤ◌}
 use Rattle.std.specs.Int.{w128}
 use Rattle.std.proofs.lemmas.Int.{to_z-of_z}
-use Rattle.fixed_convert.proofs.Public.{grown}
+use Rattle.fixed_bits.proofs.Public.{grown}
 use Rattle.fixed_point.proofs.conversion.ulps_of_whole.Goals as goal
 
 pub returns-clause-number : goal.returns-clause-number

@@ -1,20 +1,20 @@
 use Rattle.std.proofs.Common.{◌↔◌, IsTrue, refl}
 use Rattle.fixed_bits.specs.Ranges.{IsOutOfRange}
-use Rattle.fixed_bits.proofs.Public.{range_decided}
-use Rattle.fixed_read.proofs.ReadLemmas.{inside, wrapped_inside}
+use Rattle.fixed_bits.specs.declared.format.Policy.TheVariants.{Wrapping}
+use Rattle.fixed_bits.proofs.Public.{images_agree, inside, range_decided}
 use Rattle.fixed_read.proofs.read.in_range.Goals as goal
 
 pub returns-then-is_out_of_range-clause-fits : goal.returns-then-is_out_of_range-clause-fits
-returns-then-is_out_of_range-clause-fits g c v h =
-    let test : IsTrue c.is_out_of_range.result ↔ IsOutOfRange g.I.Inner.SIGNED g.I.Inner.BITS v = rw (c.requires.signed, c.requires.width) at (c.is_out_of_range.ensures.range v h) in
+returns-then-is_out_of_range-clause-fits g c v is =
+    let test : IsTrue c.is_out_of_range.result ↔ IsOutOfRange g.I.Inner.SIGNED g.I.Inner.BITS v = rw (c.requires.signed, c.requires.width) at (c.is_out_of_range.ensures.range v is) in
     (λ t. absurd (cc), λ i. absurd ((range_decided g.I.Inner.SIGNED g.I.Inner.BITS v).1 (test.0 c.if-is_out_of_range.true) i))
 
 pub returns-else-is_out_of_range-clause-fits : goal.returns-else-is_out_of_range-clause-fits
-returns-else-is_out_of_range-clause-fits g c v h =
-    let test : IsTrue c.is_out_of_range.result ↔ IsOutOfRange g.I.Inner.SIGNED g.I.Inner.BITS v = rw (c.requires.signed, c.requires.width) at (c.is_out_of_range.ensures.range v h) in
+returns-else-is_out_of_range-clause-fits g c v is =
+    let test : IsTrue c.is_out_of_range.result ↔ IsOutOfRange g.I.Inner.SIGNED g.I.Inner.BITS v = rw (c.requires.signed, c.requires.width) at (c.is_out_of_range.ensures.range v is) in
     (λ t. inside g.I.Inner.SIGNED g.I.Inner.BITS v c.is_out_of_range.result c.if-is_out_of_range.false test, λ i. refl)
 
 pub returns-else-is_out_of_range-clause-number : goal.returns-else-is_out_of_range-clause-number
-returns-else-is_out_of_range-clause-number g c v h =
-    let test : IsTrue c.is_out_of_range.result ↔ IsOutOfRange g.I.Inner.SIGNED g.I.Inner.BITS v = rw (c.requires.signed, c.requires.width) at (c.is_out_of_range.ensures.range v h) in
-    wrapped_inside c.args.found.now v g.I.Inner.BITS g.met.I.Inner.width_law h g.I.Inner.SIGNED (inside g.I.Inner.SIGNED g.I.Inner.BITS v c.is_out_of_range.result c.if-is_out_of_range.false test) _ (c.wrapped.ensures v h)
+returns-else-is_out_of_range-clause-number g c v is =
+    let test : IsTrue c.is_out_of_range.result ↔ IsOutOfRange g.I.Inner.SIGNED g.I.Inner.BITS v = rw (c.requires.signed, c.requires.width) at (c.is_out_of_range.ensures.range v is) in
+    (images_agree Wrapping g.I.Inner.SIGNED g.I.Inner.BITS v _ g.met.I.Inner.width_law (inside g.I.Inner.SIGNED g.I.Inner.BITS v c.is_out_of_range.result c.if-is_out_of_range.false test)).0 (c.wrapped.ensures v is)

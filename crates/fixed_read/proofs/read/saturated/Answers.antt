@@ -1,14 +1,22 @@
-use Rattle.std.proofs.Common.{◌↔◌, IsTrue}
-use Rattle.fixed_bits.specs.Ranges.{IsOutOfRange}
-use Rattle.fixed_read.proofs.ReadLemmas.{end_same, inside, saturated_inside}
+use Rattle.std.proofs.Common.{◌≡◌, ◌∙◌, ap, FitsSigned, rules}
+use Rattle.std.specs.Int.{w128}
+use Rattle.std.proofs.lemmas.Int.{to_z-of_z}
+use Rattle.fixed_bits.specs.Images.{IsSaturated}
+use Rattle.fixed_bits.specs.Numbers.{IsNumber, number_of_image}
+use Rattle.fixed_bits.specs.Ranges.{IsInRange}
+use Rattle.fixed_bits.specs.declared.format.Policy.TheVariants.{Checked, Saturating, Wrapping}
+use Rattle.fixed_bits.proofs.Public.{images_agree}
 use Rattle.fixed_read.proofs.read.saturated.Goals as goal
 
-pub returns-then-is_out_of_range : goal.returns-then-is_out_of_range
-returns-then-is_out_of_range g c v h =
-    let test : IsTrue c.is_out_of_range.result ↔ IsOutOfRange g.I.Inner.SIGNED g.I.Inner.BITS v = rw (c.requires.signed, c.requires.width) at (c.is_out_of_range.ensures.range v h) in
-    rw (c.nearer_end.ensures, c.is_negative.ensures) (end_same c.args.found.now v g.I.Inner.BITS g.met.I.Inner.width_law h g.I.Inner.SIGNED (test.0 c.if-is_out_of_range.true))
-
-pub returns-else-is_out_of_range : goal.returns-else-is_out_of_range
-returns-else-is_out_of_range g c v h =
-    let test : IsTrue c.is_out_of_range.result ↔ IsOutOfRange g.I.Inner.SIGNED g.I.Inner.BITS v = rw (c.requires.signed, c.requires.width) at (c.is_out_of_range.ensures.range v h) in
-    saturated_inside c.args.found.now v g.I.Inner.BITS g.met.I.Inner.width_law h g.I.Inner.SIGNED (inside g.I.Inner.SIGNED g.I.Inner.BITS v c.is_out_of_range.result c.if-is_out_of_range.false test) _ (c.wrapped.ensures v h)
+pub returns : goal.returns
+returns g c v is =
+    let s = g.I.Inner.SIGNED in
+    let n = g.I.Inner.BITS in
+    let end = number_of_image c.image.result in
+    let number : IsNumber c.number.result v = rw c.number.ensures is in
+    let image : IsSaturated s n v end = rw (c.format.ensures, c.requires.signed, c.requires.width) at (c.image.ensures.image v number (λ w. absurd (let e : Saturating ≡ Checked = w.0 in cc))) in
+    let inside : IsInRange s n end = rw (c.format.ensures, c.requires.signed, c.requires.width) at c.image.ensures.range in
+    let fit : FitsSigned w128 c.number-2.result = search rules in
+    let wrapped : c.wrap.result ≡ g.I.Inner.wrapped end = c.wrap.ensures ∙ ap g.I.Inner.wrapped (to_z-of_z w128 c.number-2.result fit ∙ c.number-2.ensures) in
+    let same : g.I.Inner.number c.wrap.result ≡ end = ap g.I.Inner.number wrapped ∙ (images_agree Wrapping s n end _ g.met.I.Inner.width_law inside).0 (g.met.I.Inner.wrap_law end) in
+    rw same image

@@ -1,0 +1,39 @@
+-- Numbers on their way to a format, by sign and magnitude.
+use Rattle.std.specs.Prelude.{◌≡◌, ℕ, ◌+◌, ◌-◌, ◌*◌, ◌^◌, ◌<◌, ◌↔◌, ℤ, pos, neg_ℤ, Bool, true, false}
+use Rattle.std.specs.Prelude.{if◌then◌else◌, IsTrue}
+use Rattle.fixed_bits.specs.Formats.{FormatParts}
+use Rattle.fixed_bits.specs.Images.{IsImage}
+use Rattle.fixed_bits.specs.declared.format.Policy.{Policy}
+use Rattle.fixed_bits.specs.declared.format.Policy.TheVariants.{Checked}
+use Rattle.fixed_bits.specs.declared.number.Image.{Image}
+use Rattle.fixed_bits.specs.declared.number.Number.{Number}
+
+-- m, negated where negative
+abbrev pub with_sign : Bool → ℕ → ℤ
+with_sign negative m = if negative then neg_ℤ (pos m) else pos m
+
+-- v has the number's sign, the lowest 64 bits of its magnitude, and more bits exactly where the number says so
+pub record IsNumber (number : Number) (v : ℤ) : Type 0 where
+  pub high : ℕ
+  pub value : v ≡ with_sign number.negative (high * 2 ^ 64 + number.low)
+  pub over : IsTrue number.has_high_bits ↔ (0 < high)
+
+-- the greatest magnitude of the numbers in range, by whether the format is signed and the number is negative
+abbrev pub greatest_magnitude : Bool → Bool → ℕ → ℕ
+greatest_magnitude true true n = 2 ^ (n - 1)
+greatest_magnitude true false n = 2 ^ (n - 1) - 1
+greatest_magnitude false true n = 0
+greatest_magnitude false false n = 2 ^ n - 1
+
+-- the number of an image
+abbrev pub number_of_image : Image → ℤ
+number_of_image image = with_sign image.negative image.magnitude
+
+-- the policy refuses a number that is out of range or not
+abbrev pub IsRefused : Policy → Bool → Type 0
+IsRefused policy is_out = (policy ≡ Checked) × IsTrue is_out
+
+-- the image of v in the format, unless the policy refuses it
+abbrev pub IsImageUnlessRefused : Policy → FormatParts → ℤ → Image → Type 0
+IsImageUnlessRefused policy f v image =
+    ¬ IsRefused policy image.is_out_of_range → IsImage policy f.signed f.width v (number_of_image image)

@@ -1,0 +1,271 @@
+//! Numbers on their way to a format, by sign and magnitude.
+//!
+//! A number in a format's range has a magnitude of at most 64 bits; one that was read, or moved to another fraction
+//! length, may have more. Whether it is in range, and what its image is, depends on three things alone: its sign, the
+//! lowest 64 bits of its magnitude, and whether there are more. These stay in registers, where a signed number of 128
+//! bits takes two of them and two instructions for each step.
+
+ghost use Rattle.std.specs.Prelude.{◌≡◌, ◌↔◌, ◌⊎◌, ◌≤◌, ◌<◌, ◌-◌, ◌*◌, ◌^◌, ◌%◌, ◌/◌, ℤ, IsTrue, IsNone, IfSome};
+ghost use Rattle.std.specs.Prelude.{if◌then◌else◌};
+ghost use Rattle.fixed_bits.specs.Down.{IsDown, down};
+ghost use Rattle.fixed_bits.specs.Formats.{IsFormat};
+ghost use Rattle.fixed_bits.specs.Images.{IsWrapped};
+ghost use Rattle.fixed_bits.specs.Numbers.{IsImageUnlessRefused, IsNumber, IsRefused, greatest_magnitude};
+ghost use Rattle.fixed_bits.specs.Numbers.{number_of_image, with_sign};
+ghost use Rattle.fixed_bits.specs.Ranges.{IsInRange, IsOutOfRange, IsWide};
+
+use crate::format::{Format, Policy};
+
+/// A number that may be out of a format's range: its sign, the lowest 64 bits of its magnitude, and whether there are
+/// more.
+#[derive(Clone, Copy, Debug, PartialEq, Eq)]
+pub struct Number {
+    pub negative: bool,
+    pub low: u64,
+    pub has_high_bits: bool,
+}
+
+/// The image of a number in a format by its sign and magnitude, and whether the number was out of the format's range.
+#[derive(Clone, Copy, Debug, PartialEq, Eq)]
+pub struct Image {
+    pub negative: bool,
+    pub magnitude: u64,
+    pub is_out_of_range: bool,
+}
+
+impl Number {
+    /// The number with that sign and magnitude.
+    #[inline(always)]
+    pub fn new(negative: bool, magnitude: u128) -> Number
+        ensures { IsNumber result (with_sign negative magnitude) }
+    {
+        Number {
+            negative,
+            low: (magnitude % (1 << 64)) as u64,
+            has_high_bits: magnitude >= 1 << 64,
+        }
+    }
+
+    /// A number as it is.
+    #[inline(always)]
+    pub fn of(v: i128) -> Number
+        ensures { IsNumber result v }
+    {
+        Number::new(v < 0, v.unsigned_abs())
+    }
+
+    /// Whether the number is out of a format's range.
+    #[inline(always)]
+    pub fn is_out_of_range(self, format: Format) -> bool
+        ensures range { (v : ℤ) → IsNumber self v → IsTrue result ↔ IsOutOfRange format.signed format.width v }
+        ensures valid { IsFormat format.width format.frac }
+    {
+        self.is_above(greatest_magnitude(format, self.negative))
+    }
+
+    /// Whether the number's magnitude is above a limit.
+    #[inline(always)]
+    fn is_above(self, limit: u64) -> bool
+        ensures { IsTrue result ↔ (IsTrue self.has_high_bits ⊎ (limit < self.low)) }
+    {
+        self.has_high_bits || self.low > limit
+    }
+
+    /// The image of the number in a format, and whether the number is out of the format's range. A number that is, and
+    /// that the policy refuses, has no image, and any number in range is answered for it. The images are computed for
+    /// any number and one of them is chosen: whether a number is in range, and by which policy it is brought there,
+    /// changes from line to line, and a branch on it is mispredicted.
+    #[inline(always)]
+    pub fn image(self, format: Format, policy: Policy) -> Image
+        ensures image { (v : ℤ) → IsNumber self v → IsImageUnlessRefused policy format v result }
+        ensures flag { (v : ℤ) → IsNumber self v
+            → IsTrue result.is_out_of_range ↔ IsOutOfRange format.signed format.width v }
+        ensures range { IsInRange format.signed format.width (number_of_image result) }
+        ensures valid { IsFormat format.width format.frac }
+    {
+        let end = greatest_magnitude(format, self.negative);
+        let is_out_of_range = self.is_above(end);
+        let (negative, magnitude) = wrapped(format, self.negative, self.low, end);
+        let is_end = is_at_end(policy, is_out_of_range);
+        Image {
+            negative: choice(is_end, self.negative, negative),
+            magnitude: choice(is_end, end, magnitude),
+            is_out_of_range,
+        }
+    }
+}
+
+impl Image {
+    /// The image as a number.
+    #[inline(always)]
+    pub fn number(self) -> i128
+        ensures { result ≡ number_of_image self }
+    {
+        signed_number(self.negative, self.magnitude)
+    }
+
+    /// The image as a number, or `None` where the policy refuses what it is the image of.
+    #[inline(always)]
+    pub fn admitted(self, policy: Policy) -> Option<i128>
+        ensures image { IfSome result (λ c. ¬ IsRefused policy self.is_out_of_range × (c ≡ number_of_image self)) }
+        ensures none { IsNone result ↔ IsRefused policy self.is_out_of_range }
+    {
+        if is_refused(policy, self.is_out_of_range, false) {
+            None
+        } else {
+            Some(self.number())
+        }
+    }
+}
+
+/// The number with that sign and magnitude.
+#[inline(always)]
+pub fn signed_number(negative: bool, magnitude: u64) -> i128
+    ensures { result ≡ with_sign negative magnitude }
+{
+    if negative {
+        -i128::from(magnitude)
+    } else {
+        i128::from(magnitude)
+    }
+}
+
+/// Whether a number is negative, and how far it is from zero.
+#[inline(always)]
+pub fn sign_and_magnitude(v: i128) -> (bool, u64)
+    requires { IsWide v }
+    ensures { with_sign result.0 result.1 ≡ v }
+{
+    (v < 0, v.unsigned_abs() as u64)
+}
+
+/// A number of as many ones as a format has bits.
+#[inline(always)]
+fn ones(format: Format) -> u64
+    ensures ones { result ≡ 2 ^ format.width - 1 }
+    ensures valid { IsFormat format.width format.frac }
+{
+    u64::MAX >> (64 - format.width())
+}
+
+/// The greatest magnitude of a format's numbers with that sign.
+#[inline(always)]
+pub(crate) fn greatest_magnitude(format: Format, negative: bool) -> u64
+    ensures magnitude { result ≡ greatest_magnitude format.signed negative format.width }
+    ensures valid { IsFormat format.width format.frac }
+{
+    let ones = ones(format);
+    if format.signed() {
+        (ones >> 1) + u64::from(negative)
+    } else if negative {
+        0
+    } else {
+        ones
+    }
+}
+
+/// The lowest bits of a magnitude, as many as a format has.
+#[inline(always)]
+fn low_bits(format: Format, magnitude: u64) -> u64
+    ensures bits { result ≡ magnitude % 2 ^ format.width }
+    ensures valid { IsFormat format.width format.frac }
+{
+    magnitude & ones(format)
+}
+
+/// The Wrapping image of the number with that sign and magnitude. Its lowest bits, with its sign, are in range up to
+/// the end of the range on that side; above it, what they lack of a whole turn is, with the other sign.
+#[inline(always)]
+fn wrapped(format: Format, negative: bool, magnitude: u64, end: u64) -> (bool, u64)
+    requires { end ≡ greatest_magnitude format.signed negative format.width }
+    ensures image { IsWrapped format.signed format.width (with_sign negative magnitude) (with_sign result.0 result.1) }
+    ensures same { magnitude ≤ end → (result.0 ≡ negative) × (result.1 ≡ magnitude) }
+{
+    let low = low_bits(format, magnitude);
+    if low > end {
+        (!negative, ones(format) - low + 1)
+    } else {
+        (negative, low)
+    }
+}
+
+/// How many of two numbers may be out of range, for each policy.
+const ADMITTED: [u8; 3] = [0, 2, 2];
+
+/// Whether a policy refuses two numbers one of which may be out of its range. It is one comparison with a table's
+/// entry: of three conditions each would be a branch, and often mispredicted.
+#[inline(always)]
+pub fn is_refused(policy: Policy, is_first_out: bool, is_second_out: bool) -> bool
+    ensures { IsTrue result ↔ ((policy ≡ Policy.Checked) × (IsTrue is_first_out ⊎ IsTrue is_second_out)) }
+{
+    u8::from(is_first_out) + u8::from(is_second_out) > ADMITTED[policy as usize]
+}
+
+/// Whether the image of a number by the policy is an end of the range, and not its Wrapping image.
+#[inline(always)]
+fn is_at_end(policy: Policy, is_out_of_range: bool) -> bool
+    ensures { IsTrue result ↔ ((policy ≡ Policy.Saturating) × IsTrue is_out_of_range) }
+{
+    match policy {
+        Policy::Checked => false,
+        Policy::Saturating => is_out_of_range,
+        Policy::Wrapping => false,
+    }
+}
+
+/// The first of two, or the second. A call of its own for each of two choices lets each be made without a branch.
+#[inline(always)]
+fn choice<T: Copy>(is_first: bool, first: T, second: T) -> T
+    ensures { result ≡ (if is_first then first else second) }
+{
+    if is_first { first } else { second }
+}
+
+/// The magnitude over two to the power of `k`, rounded down, and what is left of it.
+#[inline(always)]
+fn split_low_bits(magnitude: u64, k: u32) -> (u64, u64)
+    requires { k ≤ 64 }
+    ensures whole { result.0 ≡ magnitude / 2 ^ k }
+    ensures rest { result.1 ≡ magnitude % 2 ^ k }
+{
+    if k == 64 {
+        (0, magnitude)
+    } else {
+        (magnitude >> k, magnitude % (1 << k))
+    }
+}
+
+/// The magnitude of the number that is left where the last `k` bits are taken off and the number is rounded down.
+#[inline(always)]
+fn floored_magnitude(negative: bool, magnitude: u64, k: u32) -> u64
+    requires { k ≤ 64 }
+    ensures { IsDown (with_sign negative magnitude) k 0 (with_sign negative result) }
+{
+    let (whole, rest) = split_low_bits(magnitude, k);
+    if negative && rest > 0 {
+        whole + 1
+    } else {
+        whole
+    }
+}
+
+/// The magnitude times two to the power of `k`.
+#[inline(always)]
+fn grown_magnitude(magnitude: u64, k: u32) -> u128
+    requires { k ≤ 64 }
+    ensures { result ≡ magnitude * 2 ^ k }
+{
+    u128::from(magnitude) << k
+}
+
+/// The number with that sign and magnitude moved from fraction length `from` to `to`, rounded down (floor). It is made
+/// shorter, then longer, and at least one of the two does nothing; which of them does changes from line to line.
+#[inline(always)]
+pub fn moved(negative: bool, magnitude: u64, from: u32, to: u32) -> Number
+    requires from { from ≤ 64 }
+    requires to { to ≤ 64 }
+    ensures { IsNumber result (down (with_sign negative magnitude) from to) }
+{
+    let whole = floored_magnitude(negative, magnitude, from.saturating_sub(to));
+    Number::new(negative, grown_magnitude(whole, to.saturating_sub(from)))
+}

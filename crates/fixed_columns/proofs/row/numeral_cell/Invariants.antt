@@ -1,4 +1,0 @@
-use Rattle.fixed_columns.proofs.row.numeral_cell.Given as goal
-
-abbrev pub ghosts-read_decimal_over : goal.ghosts-read_decimal_over
-ghosts-read_decimal_over a = record { name = a.blank.name; parts = a.blank.parts }
