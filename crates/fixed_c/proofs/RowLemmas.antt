@@ -1,6 +1,7 @@
 -- Rows, one after another.
 use Rattle.std.proofs.Common.{◌≡◌, ◌≢◌, ◌∙◌, ◌+◌, ◌*◌, ◌<◌, ◌≤◌, ◌==◌, if◌then◌else◌, ℕ, suc, List, [], ◌∷◌, ◌++◌, length, take, drop, set, get_or, ◌-◌, ◌⊎◌, ⊎_elim, subst, refl, sym, ap, arith, add-one, add_assoc, below_more, get_or-set_other, get_or-set_same}
 use borrow.Rule.Slice.PartMut.{put_mid}
+use Rattle.std.proofs.lemmas.Bool.{cases_lt}
 use Rattle.std.proofs.lemmas.List.{drop-take}
 use Rattle.std.proofs.lemmas.Slice.{between-put_mid, drop-put_mid, take-put_mid_below}
 use Rattle.std.proofs.Math.Nat.{mul-le-mul_left}
@@ -49,14 +50,14 @@ row_set size i xs ys h e =
 pub row_other : (size i k : ℕ) (xs ys : List ℕ) → i * size + size ≤ length xs → length ys ≡ size → k ≢ i → row_at (put_mid (i * size) size xs ys) size k ≡ row_at xs size k
 row_other size i k xs ys h e ne =
     let within : i * size ≤ length xs = omega arith in
-    let sides : (k < i) ⊎ (i < k) = omega arith in
     ⊎_elim
     (λ below.
-      let fits = row_fits k size i below in
-      let most : k * size + size ≤ i * size = omega arith in
-      sym (drop-take (k * size) size (put_mid (i * size) size xs ys)) ∙ ap (λ (t : List ℕ). drop (k * size) t) (take-put_mid_below (i * size) size xs ys (k * size + size) most within) ∙ drop-take (k * size) size xs)
-    (λ above.
-      let fits = row_fits i size k above in
-      let most : i * size + size ≤ k * size = omega arith in
-      ap (λ (t : List ℕ). take size t) (drop-put_mid (i * size) size xs ys (k * size) most within e))
-    sides
+    let fits = row_fits k size i below in
+    let most : k * size + size ≤ i * size = omega arith in
+    sym (drop-take (k * size) size (put_mid (i * size) size xs ys)) ∙ ap (λ (t : List ℕ). drop (k * size) t) (take-put_mid_below (i * size) size xs ys (k * size + size) most within) ∙ drop-take (k * size) size xs)
+    (λ not_below.
+    let above : i < k = omega arith in
+    let fits = row_fits i size k above in
+    let most : i * size + size ≤ k * size = omega arith in
+    ap (λ (t : List ℕ). take size t) (drop-put_mid (i * size) size xs ys (k * size) most within e))
+    (cases_lt k i)
