@@ -149,11 +149,14 @@ uint32_t fixed_format_of_word(const char *word, size_t len, fixed_format *out);
 uint32_t fixed_word_of_format(fixed_format format, char *out, size_t size, size_t *len);
 
 /* The single calls for rows. Row i is rows[i * size..(i + 1) * size), and its text goes up to its first zero byte, or is all of it.
- * codes[i] is what fixed_read_text or fixed_convert_bits_mode returns for row i, and out[i] what it leaves in a number of zeros;
- * *refused is how many of the codes are not FIXED_OK. The calls return FIXED_OK, or, where len is not size * code_count, or count or
- * bits_count is not code_count, FIXED_BAD_ROWS with nothing written. */
+ * codes[i] is what fixed_read_text or fixed_convert_bits_mode returns for row i, and out[i] what it leaves in a number of zeros.
+ * fixed_print_rows writes the text of fixed_print_bits into each row and zero bytes up to its end, none where the text fills it; a row is
+ * as it was where its code is not FIXED_OK. *refused is how many of the codes are not FIXED_OK. The calls return FIXED_OK, or, where len is
+ * not size * code_count, or count or bits_count is not code_count, FIXED_BAD_ROWS with nothing written. */
 uint32_t fixed_read_rows(const char *rows, size_t len, size_t size, uint32_t radix, fixed_format format, uint32_t policy,
                          uint32_t mode, fixed_number *out, size_t count, uint32_t *codes, size_t code_count, size_t *refused);
+uint32_t fixed_print_rows(const int64_t *bits, size_t count, fixed_format format, char *rows, size_t len, size_t size,
+                          uint32_t *codes, size_t code_count, size_t *refused);
 uint32_t fixed_convert_rows(const int64_t *bits, size_t bits_count, fixed_format source, fixed_format target, uint32_t policy,
                             uint32_t mode, fixed_number *out, size_t count, uint32_t *codes, size_t code_count, size_t *refused);
 

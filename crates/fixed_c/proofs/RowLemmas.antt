@@ -1,8 +1,12 @@
 -- Rows, one after another.
-use Rattle.std.proofs.Common.{◌≡◌, ◌≢◌, ◌∙◌, ◌+◌, ◌*◌, ◌<◌, ◌≤◌, ◌==◌, if◌then◌else◌, ℕ, suc, List, [], ◌∷◌, ◌++◌, length, take, set, get_or, refl, sym, ap, arith, add-one, add_assoc, below_more, get_or-set_other, get_or-set_same}
+use Rattle.std.proofs.Common.{◌≡◌, ◌≢◌, ◌∙◌, ◌+◌, ◌*◌, ◌<◌, ◌≤◌, ◌==◌, if◌then◌else◌, ℕ, suc, List, [], ◌∷◌, ◌++◌, length, take, drop, set, get_or, ◌-◌, ◌⊎◌, ⊎_elim, subst, refl, sym, ap, arith, add-one, add_assoc, below_more, get_or-set_other, get_or-set_same}
+use borrow.Rule.Slice.PartMut.{put_mid}
+use Rattle.std.proofs.lemmas.Bool.{cases_lt}
+use Rattle.std.proofs.lemmas.List.{drop-take}
+use Rattle.std.proofs.lemmas.Slice.{between-put_mid, drop-put_mid, take-put_mid_below}
 use Rattle.std.proofs.Math.Nat.{mul-le-mul_left}
 use Rattle.std.proofs.Math.Seq.{take-suc-set}
-use Rattle.fixed_c.specs.Rows.{refused_of}
+use Rattle.fixed_c.specs.Rows.{refused_of, row_at}
 use Rattle.fixed_c.specs.declared.number.FixedNumber.{FixedNumber}
 
 -- ---- how many codes are not 0
@@ -25,3 +29,35 @@ row_more Row numbers codes i n c lt less before here d =
 -- ---- where a row is
 pub row_fits : (i size count : ℕ) → i < count → i * size + size ≤ size * count
 row_fits i size count h = let next : i + 1 ≤ count = omega arith in let most : size * (i + 1) ≤ size * count = mul-le-mul_left size next in omega arith
+
+-- ---- a text more
+pub text_more : (Row : ℕ → List ℕ → ℕ → Type 0) (rows new : ℕ → List ℕ) (codes : List ℕ) (i c : ℕ) → i < length codes
+    → ((k : ℕ) → k < i → Row k (rows k) (get_or codes k 0)) → ((k : ℕ) → k ≢ i → new k ≡ rows k) → Row i (new i) c
+    → (k : ℕ) → k < i + 1 → Row k (new k) (get_or (set codes i c) k 0)
+text_more Row rows new codes i c less before others here =
+    below_more (λ k. Row k (new k) (get_or (set codes i c) k 0)) i
+    (λ k h. let ne : k ≢ i = omega arith in rw (others k ne, get_or-set_other codes i k c 0 ne) (before k h))
+    (rw (get_or-set_same codes i c 0 less) here)
+
+-- ---- a row is written, and the others stay
+pub row_set : (size i : ℕ) (xs ys : List ℕ) → i * size + size ≤ length xs → length ys ≡ size → row_at (put_mid (i * size) size xs ys) size i ≡ ys
+row_set size i xs ys h e =
+    let n : (i * size + size) - i * size ≡ size = omega arith in
+    let within : i * size ≤ length xs = omega arith in
+    let same : length ys ≡ (i * size + size) - i * size = omega arith in
+    subst (λ (m : ℕ). take m (drop (i * size) (put_mid (i * size) size xs ys)) ≡ ys) n (between-put_mid (i * size) size xs ys (i * size + size) within same)
+
+pub row_other : (size i k : ℕ) (xs ys : List ℕ) → i * size + size ≤ length xs → length ys ≡ size → k ≢ i → row_at (put_mid (i * size) size xs ys) size k ≡ row_at xs size k
+row_other size i k xs ys h e ne =
+    let within : i * size ≤ length xs = omega arith in
+    ⊎_elim
+    (λ below.
+    let fits = row_fits k size i below in
+    let most : k * size + size ≤ i * size = omega arith in
+    sym (drop-take (k * size) size (put_mid (i * size) size xs ys)) ∙ ap (λ (t : List ℕ). drop (k * size) t) (take-put_mid_below (i * size) size xs ys (k * size + size) most within) ∙ drop-take (k * size) size xs)
+    (λ not_below.
+    let above : i < k = omega arith in
+    let fits = row_fits i size k above in
+    let most : i * size + size ≤ k * size = omega arith in
+    ap (λ (t : List ℕ). take size t) (drop-put_mid (i * size) size xs ys (k * size) most within e))
+    (cases_lt k i)

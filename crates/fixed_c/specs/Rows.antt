@@ -1,13 +1,14 @@
 -- What calls over rows give: for each row what the single call gives.
-use Rattle.std.specs.Prelude.{◌≡◌, ◌⊎◌, ◌<◌, ◌+◌, ◌*◌, ◌==◌, if◌then◌else◌, ℕ, ℤ, pos, List, [], ◌∷◌, length, take, drop, slice_index, slice_index_or}
+use Rattle.std.specs.Prelude.{◌≡◌, ◌⊎◌, ◌<◌, ◌≤◌, ◌+◌, ◌-◌, ◌*◌, ◌++◌, replicate, ◌==◌, if◌then◌else◌, ℕ, ℤ, pos, List, [], ◌∷◌, length, take, drop, slice_index, slice_index_or}
 use Rattle.fixed_bits.specs.Formats.{FormatParts}
 use Rattle.fixed_c.specs.Arguments.{Names}
 use Rattle.fixed_c.specs.Codes.{refusal_code}
-use Rattle.fixed_c.specs.Convert.{ConvertInIsRefused, IsConvertedIn}
+use Rattle.fixed_c.specs.Convert.{ConvertInIsRefused, IsConvertedIn, IsPrinted, PrintIsRefused}
 use Rattle.fixed_c.specs.Outcome.{EndsWith}
 use Rattle.fixed_c.specs.Read.{IsReadAs, ReadIsRefused}
 use Rattle.fixed_c.specs.declared.number.FixedNumber.{FixedNumber}
-use Rattle.fixed_c.specs.declared.refusal.Refusal.TheVariants.{BadRows}
+use Rattle.fixed_c.specs.declared.refusal.Refusal.{Refusal}
+use Rattle.fixed_c.specs.declared.refusal.Refusal.TheVariants.{BadRows, NoRoom}
 
 -- the bytes before the first zero byte
 abbrev pub before_zero : List ℕ → List ℕ
@@ -57,3 +58,33 @@ pub record HaveRows (rows : List ℕ) (size : ℕ) (numbers : List FixedNumber) 
 pub record HaveBits (bits : List ℤ) (numbers : List FixedNumber) (codes : List ℕ) : Type 0 where
   pub given : length bits ≡ length codes
   pub same : length numbers ≡ length codes
+
+-- ---- printing
+-- the bytes of row i of rows of `size` bytes
+abbrev pub row_at : List ℕ → ℕ → ℕ → List ℕ
+row_at rows size i = take size (drop (i * size) rows)
+
+-- the code is 0 and the row is the text and then zero bytes; or there was no room for the text, and the row is as it was
+abbrev pub PutsRow : List ℕ → List ℕ → List ℕ → ℕ → Type 0
+PutsRow text old new code = ((code ≡ 0) × (length text ≤ length old) × (new ≡ text ++ replicate (length old - length text) 0))
+    ⊎ ((code ≡ refusal_code NoRoom) × (length old < length text) × (new ≡ old))
+
+-- the shortest text of the bits was put into the row; or the code is that of a refusal, and the row is as it was
+abbrev pub PrintsRow : FormatParts → ℤ → List ℕ → List ℕ → ℕ → Type 0
+PrintsRow f bits old new code = ((text : List ℕ) × IsPrinted f bits text × PutsRow text old new code)
+    ⊎ ((refusal : Refusal) × (code ≡ refusal_code refusal) × PrintIsRefused f bits refusal × (new ≡ old))
+
+-- there are as many bits and rows as codes
+pub record HaveTexts (bits : List ℤ) (rows : List ℕ) (size : ℕ) (codes : List ℕ) : Type 0 where
+  pub given : length bits ≡ length codes
+  pub bytes : length rows ≡ size * length codes
+
+-- each row and each code are right, and so many are refused
+pub record ArePrinted (f : FormatParts) (bits : List ℤ) (size : ℕ) (old new codes : List ℕ) (refused : ℕ) : Type 0 where
+  pub each : (i : ℕ) → i < length codes → PrintsRow f (slice_index_or bits i (pos 0)) (row_at old size i) (row_at new size i) (slice_index codes i)
+  pub counted : refused ≡ refused_of codes
+
+-- the sizes fit, and the rows are right; or they do not, and nothing has changed
+abbrev pub PrintedEnd : FormatParts → List ℤ → ℕ → List ℕ → List ℕ → List ℕ → List ℕ → ℕ → ℕ → ℕ → Type 0
+PrintedEnd f bits size old new olds codes refused refused' code = (HaveTexts bits old size olds × (code ≡ 0) × ArePrinted f bits size old new codes refused')
+    ⊎ ((¬ HaveTexts bits old size olds) × (code ≡ refusal_code BadRows) × (new ≡ old) × (codes ≡ olds) × (refused' ≡ refused))

@@ -12,7 +12,7 @@ ghost use Rattle.fixed_c.specs.Outcome.{EndsWith, Never};
 ghost use Rattle.fixed_c.specs.Read.{IsReadAs, ReadIsRefused};
 ghost use Rattle.fixed_c.specs.Respell.{IsReachedAs, RespellIsRefused};
 ghost use Rattle.fixed_c.specs.Round.{IsRoundedTo, RoundIsRefused};
-ghost use Rattle.fixed_c.specs.Rows.{ConvertsRow, HaveBits, HaveRows, ReadsRow, RowsEnd};
+ghost use Rattle.fixed_c.specs.Rows.{ConvertsRow, HaveBits, HaveRows, PrintedEnd, ReadsRow, RowsEnd};
 ghost use Rattle.fixed_c.specs.Texts.{TextEnds};
 ghost use Rattle.fixed_c.specs.Words.{FormatIsRefused, IsFormatNamed, WordIsRefused};
 ghost use Rattle.fixed_respell.specs.Words.{IsFormatWord};
@@ -22,7 +22,7 @@ use crate::number::{FixedEnclosure, FixedNumber};
 use crate::numbers::{convert, convert_in, ends_around, literal, order_by_value, read, respelled};
 use crate::refusal::{hand_over, message_of};
 use crate::rounding::round;
-use crate::rows::{Conversion, Reading, convert_rows, read_rows};
+use crate::rows::{Conversion, Reading, convert_rows, print_rows, read_rows};
 use crate::texts::{answer_line, print_bits, print_places, put_text};
 use crate::words::{named_format, put_word};
 use std::marker::Brand;
@@ -269,6 +269,21 @@ pub extern "C" fn fixed_read_rows(
         mode,
     };
     read_rows(given_text(rows), size, reading, out, codes, refused)
+}
+
+/// The bits of rows as texts: `fixed_print_rows` of the header.
+#[unsafe(no_mangle)]
+pub extern "C" fn fixed_print_rows(
+    bits: &[i64],
+    format: FixedFormat,
+    rows: &mut [u8],
+    size: usize,
+    codes: &mut [u32],
+    refused: &mut usize,
+) -> u32
+    ensures { PrintedEnd (format_of format.is_signed format.width format.frac) bits.now size rows.old rows.new codes.old codes.new refused.old refused.new result }
+{
+    print_rows(bits, format, rows, size, codes, refused)
 }
 
 /// Bits of rows, moved in a mode to another format: `fixed_convert_rows` of the header.

@@ -1,13 +1,16 @@
 //! The single calls for rows, one after another.
 
-ghost use Rattle.std.specs.Prelude.{◌≡◌, ◌<◌, ◌≤◌, ◌+◌, ◌*◌, ◌==◌, if◌then◌else◌, pos, length, slice_index_or, take, drop, IsTrue, ◌↔◌};
+ghost use Rattle.std.specs.Prelude.{◌≡◌, ◌≢◌, ℕ, ◌<◌, ◌≤◌, ◌+◌, ◌*◌, ◌==◌, if◌then◌else◌, pos, length, slice_index_or, take, drop, IsTrue, ◌↔◌};
 ghost use Rattle.fixed_c.specs.Numbers.{format_of};
-ghost use Rattle.fixed_c.specs.Rows.{AreRows, ConvertsRow, HaveBits, HaveRows, ReadsRow, RowsEnd, before_zero, text_of_row};
+ghost use Rattle.fixed_c.specs.Rows.{AreRows, ArePrinted, ConvertsRow, HaveBits, HaveRows, HaveTexts, PrintedEnd, PrintsRow, PutsRow, ReadsRow, RowsEnd, before_zero, row_at, text_of_row};
 
 use crate::arguments::FixedFormat;
 use crate::exports::{fixed_convert_bits_mode, fixed_read_text};
 use crate::number::FixedNumber;
 use crate::refusal::{OK, Refusal};
+use crate::texts::shortest_of;
+use std::marker::Brand;
+use std::sync::ledger::{Blank, Ledger};
 
 /// What each number is before its row is read.
 const NO_NUMBER: FixedNumber = FixedNumber {
@@ -195,6 +198,90 @@ pub fn convert_rows(
 {
     if have_bits(bits, out, codes) {
         *refused = convert_each(bits, conversion, out, codes);
+        OK
+    } else {
+        Refusal::BadRows.code()
+    }
+}
+
+/// Puts a text into a row, and zero bytes after it.
+fn put_row(text: &[u8], row: &mut [u8]) -> u32
+    ensures { PutsRow text.now row.old row.new result }
+{
+    let count = text.len();
+    if count <= row.len() {
+        row[..count].copy_from_slice(text);
+        row[count..].fill(0);
+        OK
+    } else {
+        Refusal::NoRoom.code()
+    }
+}
+
+/// Prints bits into a row.
+fn print_row<L: Ledger>(bits: i64, format: FixedFormat, row: &mut [u8], blank: Blank) -> u32
+    requires name { blank.name ≡ L.name }
+    requires parts { blank.parts ≡ L.parts }
+    requires backed { 0 < blank.parts }
+    ensures { PrintsRow (format_of format.is_signed format.width format.frac) bits row.old row.new result }
+{
+    match shortest_of::<L>(bits, format, blank) {
+        Ok(text) => put_row(text.as_bytes(), row),
+        Err(refusal) => refusal.code(),
+    }
+}
+
+/// Prints bits into row `i`, and leaves every other row as it was.
+fn print_at(bits: i64, format: FixedFormat, rows: &mut [u8], size: usize, i: usize) -> u32
+    requires { i * size + size ≤ length rows.old }
+    ensures printed { PrintsRow (format_of format.is_signed format.width format.frac) bits (row_at rows.old size i) (row_at rows.new size i) result }
+    ensures others { (k : ℕ) → k ≢ i → row_at rows.new size k ≡ row_at rows.old size k }
+{
+    let start = i * size;
+    print_row::<Brand>(bits, format, &mut rows[start..start + size], Blank::new(1))
+}
+
+/// Whether there are as many bits and rows as codes.
+fn have_texts(bits: &[i64], rows: &[u8], size: usize, codes: &[u32]) -> bool
+    ensures { IsTrue result ↔ HaveTexts bits.now rows.now size codes.now }
+{
+    bits.len() == codes.len() && rows.len() as u128 == size as u128 * codes.len() as u128
+}
+
+/// Prints the bits of each row, and answers how many are refused.
+fn print_each(
+    bits: &[i64],
+    format: FixedFormat,
+    rows: &mut [u8],
+    size: usize,
+    codes: &mut [u32],
+) -> usize
+    requires { HaveTexts bits.now rows.old size codes.old }
+    ensures { ArePrinted (format_of format.is_signed format.width format.frac) bits.now size rows.old rows.new codes.new result }
+{
+    let mut refused = 0;
+    for i in 0..codes.len() {
+        let given = bits_at(bits, i);
+        let code = print_at(given, format, rows, size, i);
+        codes[i] = code;
+        refused += tally(code);
+    }
+    refused
+}
+
+/// Prints rows where the sizes are theirs.
+pub fn print_rows(
+    bits: &[i64],
+    format: FixedFormat,
+    rows: &mut [u8],
+    size: usize,
+    codes: &mut [u32],
+    refused: &mut usize,
+) -> u32
+    ensures { PrintedEnd (format_of format.is_signed format.width format.frac) bits.now size rows.old rows.new codes.old codes.new refused.old refused.new result }
+{
+    if have_texts(bits, rows, size, codes) {
+        *refused = print_each(bits, format, rows, size, codes);
         OK
     } else {
         Refusal::BadRows.code()

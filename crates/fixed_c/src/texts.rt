@@ -31,7 +31,7 @@ pub fn put_text(text: &[u8], out: &mut [u8], len: &mut usize) -> u32
 }
 
 /// The shortest decimal that reads back as bits of a format.
-fn shortest_of<L: Ledger>(
+pub fn shortest_of<L: Ledger>(
     bits: i64,
     format: FixedFormat,
     blank: Blank,
