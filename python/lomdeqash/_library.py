@@ -57,6 +57,7 @@ _CALLS: dict[str, tuple[Any, ...]] = {
     "fixed_message": (c_uint32, c_char_p, c_size_t, POINTER(c_size_t)),
     "fixed_abi": (),
     "fixed_read_rows": (*_TEXTS, c_uint32, CFormat, c_uint32, c_uint32, *_SLICE, *_SLICE, POINTER(c_size_t)),
+    "fixed_print_rows": (*_SLICE, CFormat, *_TEXTS, *_SLICE, POINTER(c_size_t)),
     "fixed_convert_rows": (*_SLICE, CFormat, CFormat, c_uint32, c_uint32, *_SLICE, *_SLICE, POINTER(c_size_t)),
 }
 
@@ -153,14 +154,10 @@ def read_rows(
 
 
 def print_rows(bits: int, count: int, form: CFormat, rows: int, size: int, codes: int) -> tuple[int, int]:
-    """Prints each of the bits into a row, and zero bytes after it; the library has this call for single bits alone."""
-    words, ends = (c_int64 * count).from_address(bits), (c_uint32 * count).from_address(codes)
-    refused = 0
-    for at, word in enumerate(words):
-        ends[at], text = print_bits(word, form)
-        refused += ends[at] != 0
-        ctypes.memmove(rows + at * size, text.encode("ascii").ljust(size, b"\0"), size)
-    return 0, refused
+    """Prints each of the bits into a row."""
+    refused = c_size_t()
+    code = _C.fixed_print_rows(bits, count, form, rows, size * count, size, codes, count, byref(refused))
+    return code, refused.value
 
 
 def convert_rows(
