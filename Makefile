@@ -26,7 +26,9 @@ PROGRAMS := $(filter $(CRATES),fixed_tool enclose_tool least_tool constants_tool
 BENCH := $(filter $(CRATES),fixed_bench)
 # The programs that only answer the references in oracle/.
 VECTORS := $(filter $(CRATES),fixed_vectors)
-PROVE := python3 .ci/prove.py --jobs $(JOBS)
+# The processor that programs and the library for C are compiled for: x86-64 is any amd64.
+CPU ?= x86-64
+PROVE := python3 .ci/prove.py --jobs $(JOBS) --cpu $(CPU)
 
 .PHONY: build try demo demo-command quick check test wrong-bodies install uninstall bench compare scale clean
 .DELETE_ON_ERROR:
@@ -106,3 +108,4 @@ clean:
 	rm -rf build crates/*/out
 
 include packaging/library.mk
+include packaging/python.mk

@@ -131,7 +131,7 @@ def definitions():
 
 
 # What the headline's clause cites: crate, file and definition.
-ROOTS = (("line_engine", "Run", "WritesOutput"), ("line_engine", "Failures", "HasFailed"), ("fixed_respell", "Answer", "IsAnswer"),
+ROOTS = (("line_engine", "Output", "WritesOutput"), ("line_engine", "Failures", "HasFailed"), ("fixed_respell", "Answer", "IsAnswer"),
          ("fixed_respell", "Command", "IsCommand"))
 
 
@@ -142,12 +142,12 @@ def specs():
         parts = os.path.relpath(path, f"{TOP}/crates")[:-5].split("/")
         crate, file, name = parts[0], ".".join(parts[2:]), None
         text = text_of(os.path.relpath(path, TOP))
-        imported[crate, file] = {name.strip().split(" as ")[-1]: home for home, names in re.findall(r"^use Rattle\.([^{]+)\.\{([^}]*)\}", text, re.M)
+        imported[crate, file] = {name.strip().split(" as ")[-1]: home for home, names in re.findall(r"^(?:pub )?use Rattle\.([^{]+)\.\{([^}]*)\}", text, re.M)
                                  for name in names.split(",")}
         for line in text.split("\n"):
             head = re.match(r"(?:(?:abbrev|unfoldable) (?:pub )?|pub (?:record )?|record )([\w']+)", line)
             name = head.group(1) if head else name
-            if name and line and not line.startswith(("use ", "--")) and not line.lstrip().startswith("--"):
+            if name and line and not line.startswith(("use ", "pub use ", "--")) and not line.lstrip().startswith("--"):
                 stated[crate, file, name] = stated.get((crate, file, name), "") + line + "\n"
     return stated, imported
 
@@ -158,6 +158,9 @@ def needed():
     found, std, open_ones = set(), set(), list(ROOTS)
     while open_ones:
         crate, file, name = key = open_ones.pop()
+        home = imported.get((crate, file), {}).get(name, "").split(".")
+        if key not in stated and len(home) > 2 and home[0] != "std":
+            open_ones.append((home[0], ".".join(home[2:]), name))
         if key in found or key not in stated:
             continue
         found.add(key)

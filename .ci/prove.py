@@ -1,11 +1,12 @@
 #!/usr/bin/env python3
 """Proves crates and builds programs, each after the crates that it uses, as many at a time as processors and memory allow.
 
-    prove.py [--jobs N] NAME..           these crates and those below them; programs come to build/
-    prove.py [--jobs N] --above NAME..   these crates and those above them, and what is not proved of those below
+    prove.py [--jobs N] [--cpu CPU] NAME..           these crates and those below them; programs come to build/
+    prove.py [--jobs N] [--cpu CPU] --above NAME..   these crates and those above them, and what is not proved of those below
 
 `rt lib` proves and builds a library, and `rt run` a program, which it runs once over no input. What neither the crate nor those below it
-changed since is passed over. A check takes up to about 3 GB; N is how many processes work at a time.
+changed since is passed over. A check takes up to about 3 GB; N is how many processes work at a time. CPU is the processor that
+programs and the library for C are compiled for.
 """
 import argparse
 import os
@@ -20,6 +21,8 @@ BUILD = f"{TOP}/build"
 MEMORY_OF_A_CHECK = 3_000_000
 # The words with which a program that would refuse none answers nothing and ends with status 0.
 WORDS = {"fixed": ["--", "--version"]}
+# The libraries that are compiled.
+COMPILED = ("fixed_c",)
 # What no proof reads.
 UNREAD = ("out", "must-fail", "wrong-bodies")
 
@@ -47,8 +50,9 @@ class Crate:
         newest = max(self.changed, os.path.getmtime(f"{TOP}/HANDLES"))
         return os.path.isfile(self.stamp) and os.path.getmtime(self.stamp) > newest
 
-    def begin(self, jobs):
-        words = ["rt", "run" if self.is_program else "lib", "--jobs", str(jobs), *WORDS.get(self.name, [])]
+    def begin(self, jobs, cpu):
+        compiled = ["--cpu", cpu] if self.is_program or self.name in COMPILED else []
+        words = ["rt", "run" if self.is_program else "lib", "--jobs", str(jobs), *compiled, *WORDS.get(self.name, [])]
         with open(self.log, "wb") as log:
             return subprocess.Popen(words, cwd=self.folder, stdin=subprocess.DEVNULL, stdout=log, stderr=subprocess.STDOUT)
 
@@ -120,7 +124,7 @@ def processes():
     return max(1, min(processors, free // MEMORY_OF_A_CHECK))
 
 
-def prove(crates, names, lanes):
+def prove(crates, names, lanes, cpu):
     """Proves these crates and returns whether all are proved. The one with the longest chain above it comes first, with what the
     others that could begin leave idle."""
     chain, done, running, is_well = chains(crates, names), 0, {}, True
@@ -132,7 +136,7 @@ def prove(crates, names, lanes):
         while ready and idle > 0:
             name, jobs = ready.pop(0), max(1, idle - len(ready))
             left.remove(name)
-            running[name] = crates[name].begin(jobs), jobs, time.time()
+            running[name] = crates[name].begin(jobs, cpu), jobs, time.time()
             idle -= jobs
         time.sleep(0.2)
         for name in [it for it, (process, _, _) in running.items() if process.poll() is not None]:
@@ -152,6 +156,7 @@ def prove(crates, names, lanes):
 def main():
     words = argparse.ArgumentParser(description=__doc__.split("\n", maxsplit=1)[0])
     words.add_argument("--jobs", type=int, default=0)
+    words.add_argument("--cpu", default="x86-64")
     words.add_argument("--above", action="store_true")
     words.add_argument("names", nargs="+")
     given = words.parse_args()
@@ -167,7 +172,7 @@ def main():
     lanes = given.jobs or processes()
     if wanted:
         print(f"{len(wanted)} crates are to be proved, by {lanes} processes", flush=True)
-    is_well = prove(crates, wanted, lanes)
+    is_well = prove(crates, wanted, lanes, given.cpu)
     if is_well and given.above:
         others = len(crates) - len(below(crates, names))
         print(f"Left: the tests (rt test in a crate's folder) and the wrong bodies (rt must-fail NAME) of {' '.join(sorted(names))},"

@@ -1,10 +1,14 @@
 """Single calls over 4,096 inputs: the library beside the Rust crate and C."""
+import random
+
 from timing import VALGRIND, in_turn, instructions, table
 
 INPUTS = 4096
 FORMATS = ("U16F16", "I32F32", "U0F64")
 PRINTED = ("I4F4", *FORMATS)
 DIGITS = (1, 6, 13, 19, 27, 80)
+# The lengths of numerals at which the way of reading changes, and one byte beside each.
+LENGTHS = (15, 16, 17, 24, 25, 44, 45)
 # How often the inputs are gone over for a time, and for a count of instructions.
 PASSES, COUNTED = 100, 1
 
@@ -69,6 +73,25 @@ def reading(bench):
         table(rows, HEADS)
 
 
+def ending(bench):
+    """Numerals of a length, alone and at the end of a longer text, with an exponent and without one."""
+    rows = []
+    for radix, digits, exponent in ((10, "0123456789", "e-5"), (16, "0123456789abcdef", "p-5")):
+        for length in LENGTHS:
+            for power in ("", exponent):
+                pick = random.Random(length)
+                point = [1 + pick.randrange(min(9, length - len(power) - 2)) for _ in range(INPUTS)]
+                drawn = ["".join(pick.choice(digits) for _ in range(length - len(power) - 1)) for _ in range(INPUTS)]
+                numerals = [f"{it[:at]}.{it[at:]}{power}" for it, at in zip(drawn, point)]
+                for before in (0, 16):
+                    name = f"radix {radix}, {length} bytes{', exponent' if power else ''}{', at an end' if before else ''}"
+                    text = "".join("x" * before + it + "\n" for it in numerals)
+                    path = bench.inputs.of(f"ending-{radix}-{length}-{len(power)}-{before}", text)
+                    rows.append(bench.row(name, path, ("ending", [str(before), str(radix)])))
+    print("reading into I32F32 by the length of the numeral")
+    table(rows, HEADS)
+
+
 def printing(bench):
     rows = []
     for form in PRINTED:
@@ -126,5 +149,5 @@ def scanning(bench):
 def measure(programs, inputs, tries):
     if programs.calls:
         bench = Bench(programs, inputs, tries)
-        for subject in (reading, printing, styled, typed, scanning):
+        for subject in (reading, ending, printing, styled, typed, scanning):
             subject(bench)

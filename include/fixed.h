@@ -2,21 +2,30 @@
  *
  * A number of a format is its bits, a whole number, over two to the power of the format's fraction length. The code of the
  * library is proved; this file and its callers are not. Nothing checks what a caller owes:
- *  - no pointer is null, not even with a length of 0;
+ *  - no pointer is null, but that of a text of length 0 and that of a buffer of size 0;
  *  - text[0..len) is readable, out[0..size) and what the other pointers name are writable, and what a call writes overlaps
  *    nothing else that it is given;
  *  - these declarations are those of the library that is linked (FIXED_ABI).
  * Every other argument is tested: whatever it is, the call returns and says by its code what was wrong. No call takes memory,
- * keeps state, or depends on a locale, so each may be made from any thread and from a signal handler.
+ * keeps state, or depends on a locale, so each may be made from any thread and from a signal handler. Every
+ * amd64 processor runs the library.
  *
- * Each call returns a code, FIXED_OK or what was wrong first in the order of the codes below; with any other code than FIXED_OK
- * and FIXED_NO_ROOM it writes nothing. */
+ * Each call returns a code, FIXED_OK or what was wrong first: its arguments are tested first, in the order of the codes from 11
+ * on, then the text (1 to 9), then whether the number fits (10), and the room for what is written (17) last. With any other code
+ * than FIXED_OK and FIXED_NO_ROOM a call writes nothing.
+ *
+ * A numeral is an optional sign, digits of the radix with at most one point among them, and at least one digit; and after these
+ * an exponent or none: a separator, an optional sign and at least one decimal digit, in the range of 32 bits. `e`, `E` and `@`
+ * scale by powers of the radix (in radix 16 `@` alone, since `e` is a digit), and `p` and `P` by powers of two (not in radix 10).
+ * Letters are digits in either case. The whole text is the numeral: blanks, a newline, underscores, a prefix such as `0x`, a comma,
+ * `inf` and `nan` make it none. "1", ".5", "5.", "-1.25e-3" and, in radix 16, "+f.8p-2" are numerals; "", ".", "e5" and " 1" are not. */
 #ifndef FIXED_H
 #define FIXED_H
 
 #include <stddef.h>
 #include <stdint.h>
 
+/* The layout of what is declared here. It stays as it is while calls and codes are added at the end. */
 #define FIXED_ABI 1
 
 #ifdef __cplusplus
@@ -44,7 +53,7 @@ typedef struct {
 /* What is done with a number that its format does not hold: it is refused, becomes the nearer end, or loses its high bits. */
 enum fixed_policy { FIXED_CHECKED = 0, FIXED_SATURATING = 1, FIXED_WRAPPING = 2 };
 
-/* How a numeral between two numbers of a format is rounded: to the nearest with ties to even, down, up, towards zero. */
+/* How a number between two numbers of a format is rounded: to the nearest with ties to even, down, up, towards zero. */
 enum fixed_mode { FIXED_NEAREST = 0, FIXED_FLOOR = 1, FIXED_CEIL = 2, FIXED_ZERO = 3 };
 
 enum fixed_code {
@@ -52,27 +61,28 @@ enum fixed_code {
   /* Why a text is no numeral of its radix. */
   FIXED_INVALID_DIGIT = 1,
   FIXED_MISPLACED_SIGN = 2,
-  FIXED_MISPLACED_UNDERSCORE = 3, /* of literals alone, so no call returns it */
+  FIXED_MISPLACED_UNDERSCORE = 3, /* of literals alone */
   FIXED_TOO_MANY_POINTS = 4,
   FIXED_TOO_MANY_EXPONENTS = 5,
   FIXED_EXPONENT_INVALID_DIGIT = 6,
   FIXED_EXPONENT_OVERFLOW = 7,
   FIXED_NO_DIGITS = 8,
   FIXED_EXPONENT_NO_DIGITS = 9,
-  /* The format, or with FIXED_CHECKED one of two, does not hold the number. */
+  /* With FIXED_CHECKED: the format, or one of two, does not hold the number. fixed_enclose_text: one end is missing. */
   FIXED_OVERFLOW = 10,
   /* Which argument was none of its kind. */
   FIXED_BAD_RADIX = 11,
-  FIXED_BAD_FORMAT = 12,
-  FIXED_BAD_TARGET = 13,
+  FIXED_BAD_FORMAT = 12, /* the only format, the source, or that of a */
+  FIXED_BAD_TARGET = 13, /* the target, or the format of b */
   FIXED_BAD_POLICY = 14,
   FIXED_BAD_MODE = 15,
-  FIXED_BAD_BITS = 16, /* bits that their format does not hold */
+  FIXED_BAD_BITS = 16, /* the only bits, or a, are not bits of their format */
   /* The text and a zero byte do not fit into size bytes: nothing of it was written, but *len is its length. */
-  FIXED_NO_ROOM = 17
+  FIXED_NO_ROOM = 17,
+  FIXED_BAD_OTHER_BITS = 18 /* b is not bits of its format */
 };
 
-/* Sizes that are always enough, the zero byte included. */
+/* Sizes that are always enough, the zero byte included. Where only a text's length is wanted, out may be null with a size of 0, as with snprintf: the code is then FIXED_NO_ROOM. */
 enum { FIXED_TEXT_SIZE = 49, FIXED_ANSWER_SIZE = 193, FIXED_MESSAGE_SIZE = 48 };
 
 /* text[0..len), a numeral in a radix of 2, 8, 10 or 16, as a number of a format. */
@@ -96,10 +106,10 @@ uint32_t fixed_compare_bits(int64_t a, fixed_format a_format, int64_t b, fixed_f
 uint32_t fixed_enclose_text(const char *text, size_t len, uint32_t radix, fixed_format format, fixed_enclosure *out);
 
 /* The answer of fixed_tool to a line, without a newline, and a zero byte; *len is its length, at most 192, and *is_fault is 1
- * where the answer is a fault, else 0. */
+ * where the answer is a fault, else 0: a line with a fault is FIXED_OK all the same. */
 uint32_t fixed_answer_line(const char *line, size_t line_len, char *out, size_t size, size_t *len, uint32_t *is_fault);
 
-/* The message of a code, and a zero byte; *len is its length. */
+/* The message of a code, and a zero byte; *len is its length. That of a number that is no code is "unknown code". */
 uint32_t fixed_message(uint32_t code, char *out, size_t size, size_t *len);
 
 #ifdef __cplusplus

@@ -1,6 +1,7 @@
 #!/usr/bin/env bash
 # deb.sh VERSION PROGRAM..: makes three packages below build/deb of what `make build` and `make library` left there: the programs, the
-# shared library, and the files that are needed to build against it. `lintian` reads them where it is installed.
+# shared library, and the files that are needed to build against it. What a package needs is taken from the symbols of its files, by
+# dpkg-shlibdeps. `lintian` reads the packages where it is installed.
 set -eu
 cd "$(dirname "$0")/.."
 version=$1
@@ -22,6 +23,13 @@ begin() {
   printf 'lomdeqash (%s) unstable; urgency=low\n\n  * Packages of the programs and of the library for C.\n\n -- Lomdeqash <maintainers@lomdeqash.example>  %s\n' "$version" "$date" |
     gzip -9n >"$folder/usr/share/doc/$1/changelog.gz"
   chmod 644 "$folder/usr/share/doc/$1/changelog.gz"
+}
+
+# needed FILE..: the packages that the symbols of these programs and libraries are from, with the versions that have them.
+needed() {
+  mkdir -p build/deb/symbols/debian
+  printf 'Source: lomdeqash\n\nPackage: lomdeqash\nArchitecture: any\n' >build/deb/symbols/debian/control
+  (cd build/deb/symbols && dpkg-shlibdeps -O --ignore-missing-info "${@/#/../../../}" 2>/dev/null) | sed -n 's/^shlibs:Depends=//p'
 }
 
 # finish NAME SECTION DEPENDS SHORT LONG: its control file, and the package.
@@ -58,7 +66,7 @@ for program in "$@"; do
   fi
   [ ! -f "man/$program.1" ] || page "man/$program.1" "$folder/usr/share/man/man1"
 done
-finish lomdeqash math 'libc6 (>= 2.17)' 'fixed-point numbers as text' \
+finish lomdeqash math "$(needed "$folder"/usr/bin/*)" 'fixed-point numbers as text' \
   'Programs that read numerals into fixed-point numbers with exact rounding, convert them between formats with a verdict on overflow, and print the shortest decimal that reads back.'
 
 begin libfixed1
@@ -68,8 +76,10 @@ strip --strip-unneeded --remove-section=.comment --remove-section=.note "$folder
 echo 'activate-noawait ldconfig' >"$folder/DEBIAN/triggers"
 echo "libfixed 1 libfixed1 (>= $version)" >"$folder/DEBIAN/shlibs"
 chmod 644 "$folder/DEBIAN/triggers" "$folder/DEBIAN/shlibs"
-finish libfixed1 libs 'libc6 (>= 2.17)' 'fixed-point numbers as text: shared library' \
+finish libfixed1 libs "$(needed "$folder/usr/lib/$triple/libfixed.so.1")" 'fixed-point numbers as text: shared library' \
   'Reads numerals into fixed-point numbers with exact rounding, converts them between formats with a verdict on overflow, and prints the shortest decimal that reads back.'
+
+. packaging/python-deb.sh
 
 begin libfixed-dev
 install -d "$folder/usr/include" "$folder/usr/lib/$triple/pkgconfig" "$folder/usr/share/man/man3"
@@ -86,6 +96,7 @@ done
 finish libfixed-dev libdevel "libfixed1 (= $version)" 'fixed-point numbers as text: header and archive' \
   'What is needed to build a program against libfixed: the header, the archive, the manual pages of the calls, and a file for pkg-config.'
 
+rm -rf build/deb/symbols
 for package in build/deb/*.deb; do
   echo "$package: $(stat -c %s "$package") bytes"
   if command -v lintian >/dev/null 2>&1; then lintian --allow-root --fail-on error --suppress-tags no-symbols-control-file "$package"; else echo "lintian is not on this machine"; fi

@@ -1,7 +1,7 @@
 # The library for C: what make library, make dist and make deb make, and what make install puts in place beside the programs.
 
 VERSION := $(shell cat packaging/VERSION)
-CALLS := fixed_answer_line fixed_compare_bits fixed_convert_bits fixed_enclose_text fixed_message fixed_print_bits fixed_read_text fixed_respell_text
+CALLS := $(shell sed -n 's/^ *\(fixed_[a-z_]*\);$$/\1/p' packaging/fixed.map)
 MANUALS := $(patsubst man/%,%,$(wildcard man/*.1)) fixed.3
 CC ?= cc
 
@@ -13,7 +13,7 @@ library:
 	@mkdir -p build/lib
 	cp crates/fixed_c/out/libfixed_c.a build/lib/libfixed.a
 	$(CC) -shared -o build/lib/libfixed.so.1 -Wl,-soname,libfixed.so.1 -Wl,--version-script=packaging/fixed.map \
-	  -Wl,--gc-sections $(CALLS:%=-Wl,-u,%) build/lib/libfixed.a -nostartfiles -lc
+	  -Wl,--gc-sections -Wl,-z,relro -Wl,-z,now $(CALLS:%=-Wl,-u,%) build/lib/libfixed.a -nostartfiles -lc
 	ln -sf libfixed.so.1 build/lib/libfixed.so
 	sed -e 's|@PREFIX@|$(PREFIX)|' -e 's|@VERSION@|$(VERSION)|' packaging/fixed.pc.in >build/lib/fixed.pc
 

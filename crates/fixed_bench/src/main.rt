@@ -8,6 +8,7 @@
 //! |---|---|---|---|
 //! | `scan` | RADIX | a numeral | `scan` |
 //! | `read` | FORMAT | a decimal numeral | the overflowing reader, to the nearest |
+//! | `ending` | FROM RADIX | a text that a numeral ends from byte FROM on | `read_ending`, into I32F32 |
 //! | `typed` | FORMAT | a decimal numeral | `overflowing_from_str` of the number type, U16F16 or I32F32 |
 //! | `write` | FORMAT | bits | `shortest` |
 //! | `append` | FORMAT | bits | `push_shortest`, in place |
@@ -84,6 +85,11 @@ fn sum_of<L: Ledger>(
     match text(words.get(0)) {
         "scan" => Ok(reading::scan_all(inputs, reading::radix_of(word), times, &mut steps)),
         "read" => Ok(reading::read_as(word, inputs, times, &mut steps)),
+        "ending" => {
+            let radix = reading::radix_of(text(words.get(3)));
+            let from = number(words.get(2)) as usize;
+            Ok(reading::read_endings(inputs, from, radix, times, &mut steps))
+        }
         "typed" => Ok(typed::read_as(word, inputs, times)),
         work => {
             let bits = printing::bits_of(alloc, inputs)?;

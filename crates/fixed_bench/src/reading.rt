@@ -1,8 +1,8 @@
 //! Reading numerals.
 
-use fixed_bits::Inner;
+use fixed_bits::{Format, Inner, Policy};
 use fixed_numeral::{Radix, scan};
-use fixed_read::{ReadMode, overflowing_from_str_radix_mode_counted};
+use fixed_read::{ReadMode, overflowing_from_str_radix_mode_counted, read_ending};
 use fixed_steps::Steps;
 use std::sync::ledger::Ledger;
 
@@ -79,4 +79,28 @@ pub fn read_as<L: Ledger>(
         "U0F64" => read_all::<u64, L>(numerals, 64, times, steps),
         _ => -1,
     }
+}
+
+/// The sum of the bits of I32F32 that the numerals are read as which the lines end with, from a place on.
+pub fn read_endings<L: Ledger>(
+    lines: &[String],
+    from: usize,
+    radix: Radix,
+    times: u32,
+    steps: &mut Steps<L>,
+) -> i128 {
+    let format = Format::of(true, 64, 32);
+    let mut sum: i128 = 0;
+    for _pass in 0..times {
+        for line in lines {
+            let text = line.as_bytes();
+            let place = from.min(text.len());
+            let bits = match read_ending(text, place, radix, format, ReadMode::NearestEven, steps) {
+                Ok(found) => found.image(Policy::Wrapping).unwrap_or(1),
+                Err(_) => 1,
+            };
+            sum = sum.wrapping_add(bits);
+        }
+    }
+    sum
 }

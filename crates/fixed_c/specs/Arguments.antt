@@ -1,5 +1,6 @@
 -- What the numbers that C hands over name.
 use Rattle.std.specs.Prelude.{◌≡◌, ℕ}
+use Rattle.fixed_bits.specs.Formats.{FormatParts, IsFormat}
 use Rattle.fixed_bits.specs.declared.format.Policy.{Policy}
 use Rattle.fixed_bits.specs.declared.mode.ReadMode.{ReadMode}
 use Rattle.fixed_numeral.specs.Numeral.{base}
@@ -9,17 +10,14 @@ use Rattle.fixed_c.specs.Codes.{mode_code, policy_code}
 abbrev pub NamesRadix : ℕ → Type 0
 NamesRadix code = (r : Radix) × (code ≡ base r)
 
-abbrev pub NamesNoRadix : ℕ → Type 0
-NamesNoRadix code = (r : Radix) → ¬ (code ≡ base r)
-
 abbrev pub NamesPolicy : ℕ → Type 0
 NamesPolicy code = (p : Policy) × (code ≡ policy_code p)
 
-abbrev pub NamesNoPolicy : ℕ → Type 0
-NamesNoPolicy code = (p : Policy) → ¬ (code ≡ policy_code p)
+abbrev pub NamesMode : ℕ → Type 0
+NamesMode code = (m : ReadMode) × (code ≡ mode_code m)
 
-abbrev pub NamesNoMode : ℕ → Type 0
-NamesNoMode code = (m : ReadMode) → ¬ (code ≡ mode_code m)
+abbrev pub NamesFormat : FormatParts → Type 0
+NamesFormat f = IsFormat f.width f.frac
 
 -- the three numbers name a radix, a policy and a mode of which something holds
 pub record Names (radix policy mode : ℕ) (Holds : Radix → Policy → ReadMode → Type 0) : Type 0 where

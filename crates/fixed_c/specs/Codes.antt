@@ -8,7 +8,7 @@ use Rattle.fixed_numeral.specs.Messages.{message_of}
 use Rattle.fixed_numeral.specs.declared.error.ParseErrorKind.{ParseErrorKind}
 use Rattle.fixed_numeral.specs.declared.error.ParseErrorKind.TheVariants.{InvalidDigit, MisplacedSign, MisplacedUnderscore, TooManyPoints, TooManyExp, ExpInvalidDigit, ExpOverflow, NoDigits, ExpNoDigits, Overflow}
 use Rattle.fixed_c.specs.declared.refusal.Refusal.{Refusal}
-use Rattle.fixed_c.specs.declared.refusal.Refusal.TheVariants.{Numeral, BadRadix, BadFormat, BadTarget, BadPolicy, BadMode, BadBits, NoRoom}
+use Rattle.fixed_c.specs.declared.refusal.Refusal.TheVariants.{Numeral, BadRadix, BadFormat, BadTarget, BadPolicy, BadMode, BadBits, NoRoom, BadOtherBits, BadPlaces, BadStyle, BadRounding, BadWord, BadRows}
 
 abbrev pub policy_code : Policy → ℕ
 policy_code Checked = 0
@@ -42,6 +42,12 @@ refusal_code BadPolicy = 14
 refusal_code BadMode = 15
 refusal_code BadBits = 16
 refusal_code NoRoom = 17
+refusal_code BadOtherBits = 18
+refusal_code BadPlaces = 19
+refusal_code BadStyle = 20
+refusal_code BadRounding = 21
+refusal_code BadWord = 22
+refusal_code BadRows = 23
 
 abbrev pub refusal_message : Refusal → List ℕ
 refusal_message (Numeral kind) = message_of kind
@@ -52,9 +58,15 @@ refusal_message BadPolicy = codes "bad policy"
 refusal_message BadMode = codes "bad mode"
 refusal_message BadBits = codes "bits out of range"
 refusal_message NoRoom = codes "no room for the text"
+refusal_message BadOtherBits = codes "second bits out of range"
+refusal_message BadPlaces = codes "too many places"
+refusal_message BadStyle = codes "bad style"
+refusal_message BadRounding = codes "bad rounding"
+refusal_message BadWord = codes "bad format word"
+refusal_message BadRows = codes "rows of another size"
 
 -- text is the message of the code: that of 0, of a refusal, or of a number that is no code
 abbrev pub IsMessage : ℕ → List ℕ → Type 0
 IsMessage code text = ((code ≡ 0) × (text ≡ codes "done"))
     ⊎ ((refusal : Refusal) × (code ≡ refusal_code refusal) × (text ≡ refusal_message refusal))
-    ⊎ ((17 < code) × (text ≡ codes "unknown code"))
+    ⊎ ((23 < code) × (text ≡ codes "unknown code"))

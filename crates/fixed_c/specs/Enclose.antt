@@ -1,16 +1,18 @@
 -- What a call that encloses the value of a text gives.
 use Rattle.std.specs.Prelude.{◌≡◌, ℕ, ℤ, List}
-use Rattle.fixed_bits.specs.Formats.{FormatParts, IsFormat}
+use Rattle.fixed_bits.specs.Formats.{FormatParts}
 use Rattle.fixed_numeral.specs.Numeral.{base}
 use Rattle.fixed_numeral.specs.declared.radix.Radix.{Radix}
 use Rattle.fixed_enclose.specs.Enclosure.{IsEnclosed, IsRefusal}
-use Rattle.fixed_c.specs.Arguments.{NamesRadix, NamesNoRadix}
+use Rattle.fixed_c.specs.Arguments.{NamesFormat, NamesRadix}
 use Rattle.fixed_c.specs.Numbers.{has_bits}
+use Rattle.fixed_c.specs.Outcome.{ForKind, Unless}
 use Rattle.fixed_c.specs.declared.refusal.Refusal.{Refusal}
-use Rattle.fixed_c.specs.declared.refusal.Refusal.TheVariants.{Numeral, BadRadix, BadFormat, BadTarget, BadPolicy, BadMode, BadBits, NoRoom}
+use Rattle.fixed_c.specs.declared.refusal.Refusal.TheVariants.{BadRadix, BadFormat}
 
--- the bits are those of the two numbers of the format that enclose the value of the text
+-- the format is one, and the bits are those of the two numbers of the format that enclose the value of the text
 pub record IsEnclosedBy (text : List ℕ) (radix : ℕ) (f : FormatParts) (lo hi : ℤ) : Type 0 where
+  pub format : NamesFormat f
   pub the_radix : Radix
   pub radix_is : radix ≡ base the_radix
   pub low : ℤ
@@ -21,11 +23,7 @@ pub record IsEnclosedBy (text : List ℕ) (radix : ℕ) (f : FormatParts) (lo hi
 
 -- the refusal of a call with these arguments
 abbrev pub EncloseIsRefused : List ℕ → ℕ → FormatParts → Refusal → Type 0
-EncloseIsRefused text radix f (Numeral kind) = IsFormat f.width f.frac × ((r : Radix) × (radix ≡ base r) × IsRefusal r text f kind)
-EncloseIsRefused text radix f BadRadix = NamesNoRadix radix
-EncloseIsRefused text radix f BadFormat = NamesRadix radix × (¬ IsFormat f.width f.frac)
-EncloseIsRefused text radix f BadTarget = ⊥
-EncloseIsRefused text radix f BadPolicy = ⊥
-EncloseIsRefused text radix f BadMode = ⊥
-EncloseIsRefused text radix f BadBits = ⊥
-EncloseIsRefused text radix f NoRoom = ⊥
+EncloseIsRefused text radix f =
+    Unless (NamesRadix radix) BadRadix
+    (Unless (NamesFormat f) BadFormat
+    (ForKind (λ kind. (r : Radix) × (radix ≡ base r) × IsRefusal r text f kind)))

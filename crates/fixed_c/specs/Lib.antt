@@ -3,7 +3,7 @@ pub mod Arguments
 pub mod Codes
 pub mod Convert
 pub mod Enclose
-pub mod Message
+pub mod Laws
 pub mod Numbers
 pub mod Outcome
 pub mod Read

@@ -1,6 +1,7 @@
 -- A text that a buffer of C takes.
 use Rattle.std.specs.Prelude.{◌≡◌, ◌⊎◌, ◌<◌, ◌≤◌, ◌+◌, ◌++◌, ◌∷◌, [], ℕ, List, length, take, drop}
 use Rattle.fixed_c.specs.Codes.{refusal_code}
+use Rattle.fixed_c.specs.declared.refusal.Refusal.{Refusal}
 use Rattle.fixed_c.specs.declared.refusal.Refusal.TheVariants.{NoRoom}
 
 -- the buffer begins with the text and a zero byte, and ends as it did
@@ -13,3 +14,8 @@ pub record IsPlaced (text old new : List ℕ) : Type 0 where
 pub record PutsText (text old new : List ℕ) (len code : ℕ) : Type 0 where
   pub len_is : len ≡ length text
   pub placed : ((code ≡ 0) × IsPlaced text old new) ⊎ ((code ≡ refusal_code NoRoom) × (length old ≤ length text) × (new ≡ old))
+
+-- a text that is right was handed to the buffer; or the code is that of a refusal with its cause, and C has what it had
+abbrev pub TextEnds : (List ℕ → Type 0) → (Refusal → Type 0) → List ℕ → List ℕ → ℕ → ℕ → ℕ → Type 0
+TextEnds IsRight Refused old new len len' code = ((text : List ℕ) × IsRight text × PutsText text old new len' code)
+    ⊎ ((refusal : Refusal) × (code ≡ refusal_code refusal) × Refused refusal × (new ≡ old) × (len' ≡ len))

@@ -1,14 +1,16 @@
 //! What the numbers that C hands over name.
 
-ghost use Rattle.std.specs.Prelude.{◌≡◌, MatchOption};
-ghost use Rattle.fixed_bits.specs.Formats.{IsFormat};
+ghost use Rattle.std.specs.Prelude.{◌≡◌, length, MatchResult};
 ghost use Rattle.fixed_bits.specs.declared.format.Policy.{Policy};
 ghost use Rattle.fixed_bits.specs.declared.mode.ReadMode.{ReadMode};
 ghost use Rattle.fixed_numeral.specs.Numeral.{base};
 ghost use Rattle.fixed_numeral.specs.declared.radix.Radix.{Radix};
+ghost use Rattle.fixed_c.specs.Arguments.{NamesFormat, NamesMode, NamesPolicy, NamesRadix};
 ghost use Rattle.fixed_c.specs.Codes.{mode_code, policy_code};
 ghost use Rattle.fixed_c.specs.Numbers.{format_of};
+ghost use Rattle.fixed_c.specs.declared.refusal.Refusal.TheVariants.{BadMode, BadPolicy, BadRadix};
 
+use crate::refusal::Refusal;
 use fixed_bits::{Format, Policy, ReadMode};
 use fixed_numeral::Radix;
 
@@ -24,47 +26,59 @@ pub struct FixedFormat {
     pub frac: u32,
 }
 
+/// The bytes that C gives. Where there are none it is a text of our own, since C may then give a null pointer.
+pub fn given_text(text: &[u8]) -> &[u8]
+    ensures { result.now ≡ text.now }
+{
+    if text.is_empty() { &[] } else { text }
+}
+
 /// The radix of a base.
-pub fn radix_of(code: u32) -> Option<Radix>
-    ensures { MatchOption result ((r : Radix) → ¬ (code ≡ base r)) (λ r. code ≡ base r) }
+pub fn radix_of(code: u32) -> Result<Radix, Refusal>
+    ensures { MatchResult result (λ r. code ≡ base r) (λ refusal. (¬ NamesRadix code) × (refusal ≡ BadRadix)) }
 {
     match code {
-        2 => Some(Radix::Bin),
-        8 => Some(Radix::Oct),
-        10 => Some(Radix::Dec),
-        16 => Some(Radix::Hex),
-        _ => None,
+        2 => Ok(Radix::Bin),
+        8 => Ok(Radix::Oct),
+        10 => Ok(Radix::Dec),
+        16 => Ok(Radix::Hex),
+        _ => Err(Refusal::BadRadix),
     }
 }
 
 /// The policy of a code.
-pub fn policy_of(code: u32) -> Option<Policy>
-    ensures { MatchOption result ((p : Policy) → ¬ (code ≡ policy_code p)) (λ p. code ≡ policy_code p) }
+pub fn policy_of(code: u32) -> Result<Policy, Refusal>
+    ensures { MatchResult result (λ p. code ≡ policy_code p) (λ refusal. (¬ NamesPolicy code) × (refusal ≡ BadPolicy)) }
 {
     match code {
-        0 => Some(Policy::Checked),
-        1 => Some(Policy::Saturating),
-        2 => Some(Policy::Wrapping),
-        _ => None,
+        0 => Ok(Policy::Checked),
+        1 => Ok(Policy::Saturating),
+        2 => Ok(Policy::Wrapping),
+        _ => Err(Refusal::BadPolicy),
     }
 }
 
 /// The mode of a code.
-pub fn mode_of(code: u32) -> Option<ReadMode>
-    ensures { MatchOption result ((m : ReadMode) → ¬ (code ≡ mode_code m)) (λ m. code ≡ mode_code m) }
+pub fn mode_of(code: u32) -> Result<ReadMode, Refusal>
+    ensures { MatchResult result (λ m. code ≡ mode_code m) (λ refusal. (¬ NamesMode code) × (refusal ≡ BadMode)) }
 {
     match code {
-        0 => Some(ReadMode::NearestEven),
-        1 => Some(ReadMode::Floor),
-        2 => Some(ReadMode::Ceil),
-        3 => Some(ReadMode::TowardsZero),
-        _ => None,
+        0 => Ok(ReadMode::NearestEven),
+        1 => Ok(ReadMode::Floor),
+        2 => Ok(ReadMode::Ceil),
+        3 => Ok(ReadMode::TowardsZero),
+        _ => Err(Refusal::BadMode),
     }
 }
 
-/// The format that C gives.
-pub fn format_of(given: FixedFormat) -> Option<Format>
-    ensures { MatchOption result (¬ IsFormat given.width given.frac) (λ f. IsFormat given.width given.frac × (f ≡ format_of given.is_signed given.width given.frac)) }
+/// The format that C gives. The refusal where it is none is `bad`.
+pub fn format_of(given: FixedFormat, bad: Refusal) -> Result<Format, Refusal>
+    ensures { MatchResult result
+        (λ f. (f ≡ format_of given.is_signed given.width given.frac) × NamesFormat (format_of given.is_signed given.width given.frac))
+        (λ refusal. (¬ NamesFormat (format_of given.is_signed given.width given.frac)) × (refusal ≡ bad)) }
 {
-    Format::new(given.is_signed != 0, given.width, given.frac)
+    match Format::new(given.is_signed != 0, given.width, given.frac) {
+        Some(format) => Ok(format),
+        None => Err(bad),
+    }
 }

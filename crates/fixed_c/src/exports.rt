@@ -3,18 +3,19 @@
 ghost use Rattle.std.specs.Prelude.{◌≡◌, ◌<◌};
 ghost use Rattle.fixed_c.specs.Answer.{IsAnswered};
 ghost use Rattle.fixed_c.specs.Arguments.{Names};
-ghost use Rattle.fixed_c.specs.Convert.{CompareIsRefused, ConvertIsRefused, IsCompared, IsConverted, PrintEnds};
+ghost use Rattle.fixed_c.specs.Codes.{IsMessage};
+ghost use Rattle.fixed_c.specs.Convert.{CompareIsRefused, ConvertIsRefused, IsCompared, IsConverted, IsPrinted, PrintIsRefused};
 ghost use Rattle.fixed_c.specs.Enclose.{EncloseIsRefused, IsEnclosedBy};
-ghost use Rattle.fixed_c.specs.Message.{IsMessagePut};
 ghost use Rattle.fixed_c.specs.Numbers.{format_of};
-ghost use Rattle.fixed_c.specs.Outcome.{EndsWith};
+ghost use Rattle.fixed_c.specs.Outcome.{EndsWith, Never};
 ghost use Rattle.fixed_c.specs.Read.{IsReadAs, ReadIsRefused};
 ghost use Rattle.fixed_c.specs.Respell.{IsReachedAs, RespellIsRefused};
+ghost use Rattle.fixed_c.specs.Texts.{TextEnds};
 
-use crate::arguments::FixedFormat;
+use crate::arguments::{FixedFormat, given_text};
 use crate::number::{FixedEnclosure, FixedNumber};
 use crate::numbers::{convert, ends_around, order_by_value, read, respelled};
-use crate::refusal::{OK, hand_over, message_of};
+use crate::refusal::{hand_over, message_of};
 use crate::texts::{answer_line, print_bits, put_text};
 use std::marker::Brand;
 use std::sync::ledger::Blank;
@@ -34,7 +35,7 @@ pub extern "C" fn fixed_read_text(
         (ReadIsRefused text.now radix (format_of format.is_signed format.width format.frac) policy mode) out.old out.new result }
 {
     hand_over(
-        read::<Brand>(text, radix, format, policy, mode, Blank::new(1)),
+        read::<Brand>(given_text(text), radix, format, policy, mode, Blank::new(1)),
         out,
     )
 }
@@ -47,7 +48,9 @@ pub extern "C" fn fixed_print_bits(
     out: &mut [u8],
     len: &mut usize,
 ) -> u32
-    ensures { PrintEnds (format_of format.is_signed format.width format.frac) bits out.old out.new len.old len.new result }
+    ensures { TextEnds
+        (IsPrinted (format_of format.is_signed format.width format.frac) bits)
+        (PrintIsRefused (format_of format.is_signed format.width format.frac) bits) out.old out.new len.old len.new result }
 {
     print_bits::<Brand>(bits, format, out, len, Blank::new(1))
 }
@@ -84,7 +87,15 @@ pub extern "C" fn fixed_respell_text(
         (RespellIsRefused text.now radix (format_of source.is_signed source.width source.frac) (format_of target.is_signed target.width target.frac) policy mode) out.old out.new result }
 {
     hand_over(
-        respelled::<Brand>(text, radix, source, target, policy, mode, Blank::new(1)),
+        respelled::<Brand>(
+            given_text(text),
+            radix,
+            source,
+            target,
+            policy,
+            mode,
+            Blank::new(1),
+        ),
         out,
     )
 }
@@ -99,16 +110,10 @@ pub extern "C" fn fixed_compare_bits(
     order: &mut i32,
 ) -> u32
     ensures { EndsWith
-        (λ given. IsCompared (format_of a_format.is_signed a_format.width a_format.frac) (format_of b_format.is_signed b_format.width b_format.frac) a b given)
+        (IsCompared (format_of a_format.is_signed a_format.width a_format.frac) (format_of b_format.is_signed b_format.width b_format.frac) a b)
         (CompareIsRefused (format_of a_format.is_signed a_format.width a_format.frac) (format_of b_format.is_signed b_format.width b_format.frac) a b) order.old order.new result }
 {
-    match order_by_value(a, a_format, b, b_format) {
-        Ok(given) => {
-            *order = given;
-            OK
-        }
-        Err(refusal) => refusal.code(),
-    }
+    hand_over(order_by_value(a, a_format, b, b_format), order)
 }
 
 /// The numbers of a format between which the value of a text lies: `fixed_enclose_text` of the header.
@@ -124,7 +129,7 @@ pub extern "C" fn fixed_enclose_text(
         (EncloseIsRefused text.now radix (format_of format.is_signed format.width format.frac)) out.old out.new result }
 {
     hand_over(
-        ends_around::<Brand>(text, radix, format, Blank::new(1)),
+        ends_around::<Brand>(given_text(text), radix, format, Blank::new(1)),
         out,
     )
 }
@@ -139,13 +144,13 @@ pub extern "C" fn fixed_answer_line(
 ) -> u32
     ensures { IsAnswered line.now out.old out.new len.new is_fault.new result }
 {
-    answer_line::<Brand>(line, out, len, is_fault, Blank::new(1))
+    answer_line::<Brand>(given_text(line), out, len, is_fault, Blank::new(1))
 }
 
 /// The message of a code: `fixed_message` of the header.
 #[unsafe(no_mangle)]
 pub extern "C" fn fixed_message(code: u32, out: &mut [u8], len: &mut usize) -> u32
-    ensures { IsMessagePut code out.old out.new len.new result }
+    ensures { TextEnds (IsMessage code) Never out.old out.new len.old len.new result }
 {
     put_text(message_of(code).as_bytes(), out, len)
 }

@@ -1,9 +1,10 @@
 //! Bits as C holds them.
 
-ghost use Rattle.std.specs.Prelude.{◌≡◌, ◌≤◌, MatchOption, IfSome};
+ghost use Rattle.std.specs.Prelude.{◌≡◌, MatchResult, IfOk};
 ghost use Rattle.fixed_bits.specs.Ranges.{IsInRange, IsWide};
-ghost use Rattle.fixed_c.specs.Numbers.{flag_of, has_bits, IsBadBits};
+ghost use Rattle.fixed_c.specs.Numbers.{AreBits, AreBitsOf, flag_of, has_bits};
 
+use crate::refusal::Refusal;
 use fixed_bits::Format;
 
 /// The bits of a number, `fixed_number` of the header. Those of an unsigned format of 64 bits are the same 64 bits.
@@ -38,10 +39,10 @@ pub fn bits_for_c(format: Format, number: i128) -> i64
     }
 }
 
-/// The number that bits of C are in a format. None where the format does not hold it.
-pub fn number_in(bits: i64, format: Format) -> Option<i128>
-    ensures wide { IfSome result IsWide }
-    ensures number { MatchOption result (IsBadBits bits format) (λ n. IsInRange format.signed format.width n × has_bits format.signed bits n) }
+/// The number that bits of C are in a format. The refusal where the format does not hold it is `bad`.
+pub fn number_in(bits: i64, format: Format, bad: Refusal) -> Result<i128, Refusal>
+    ensures wide { IfOk result IsWide }
+    ensures number { MatchResult result (λ n. AreBitsOf format bits n) (λ refusal. (¬ AreBits format bits) × (refusal ≡ bad)) }
 {
     let number = if format.signed() {
         i128::from(bits)
@@ -49,9 +50,9 @@ pub fn number_in(bits: i64, format: Format) -> Option<i128>
         i128::from(bits.cast_unsigned())
     };
     if format.contains(number) {
-        Some(number)
+        Ok(number)
     } else {
-        None
+        Err(bad)
     }
 }
 
@@ -60,4 +61,16 @@ pub fn flag(is: bool) -> u32
     ensures { result ≡ flag_of is }
 {
     if is { 1 } else { 0 }
+}
+
+/// A number that its format holds and a flag, as C has them.
+pub fn number_for_c(format: Format, number: i128, overflowed: bool) -> FixedNumber
+    requires { IsInRange format.signed format.width number }
+    ensures bits { has_bits format.signed result.bits number }
+    ensures flag { result.overflowed ≡ flag_of overflowed }
+{
+    FixedNumber {
+        bits: bits_for_c(format, number),
+        overflowed: flag(overflowed),
+    }
 }

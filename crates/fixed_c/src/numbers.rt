@@ -10,7 +10,7 @@ ghost use Rattle.fixed_c.specs.Respell.{IsReachedAs, RespellIsRefused};
 ghost use Rattle.fixed_respell.specs.Reached.{is_signed, number_of};
 
 use crate::arguments::{FixedFormat, format_of, mode_of, policy_of, radix_of};
-use crate::number::{FixedEnclosure, FixedNumber, bits_for_c, flag, number_in};
+use crate::number::{FixedEnclosure, FixedNumber, bits_for_c, flag, number_for_c, number_in};
 use crate::refusal::Refusal;
 use fixed_convert::{compare, reformat};
 use fixed_enclose::enclose;
@@ -35,30 +35,19 @@ pub fn read<L: Ledger>(
     requires backed { 0 < blank.parts }
     ensures { MatchResult result
         (λ n. Names radix policy mode (IsReadAs text.now (format_of format.is_signed format.width format.frac) n.bits n.overflowed))
-        (λ refusal. ReadIsRefused text.now radix (format_of format.is_signed format.width format.frac) policy mode refusal) }
+        (ReadIsRefused text.now radix (format_of format.is_signed format.width format.frac) policy mode) }
 {
-    let Some(radix) = radix_of(radix) else {
-        return Err(Refusal::BadRadix);
-    };
-    let Some(format) = format_of(format) else {
-        return Err(Refusal::BadFormat);
-    };
-    let Some(policy) = policy_of(policy) else {
-        return Err(Refusal::BadPolicy);
-    };
-    let Some(mode) = mode_of(mode) else {
-        return Err(Refusal::BadMode);
-    };
+    let radix = radix_of(radix)?;
+    let format = format_of(format, Refusal::BadFormat)?;
+    let policy = policy_of(policy)?;
+    let mode = mode_of(mode)?;
     let mut steps = Steps::<L>::new(blank);
     let found = match read_format(text, radix, format, mode, &mut steps) {
         Ok(found) => found,
         Err(error) => return Err(Refusal::Numeral(error.kind())),
     };
     match found.image(policy) {
-        Some(number) => Ok(FixedNumber {
-            bits: bits_for_c(format, number),
-            overflowed: flag(found.is_out_of_range()),
-        }),
+        Some(number) => Ok(number_for_c(format, number, found.is_out_of_range())),
         None => Err(Refusal::Numeral(ParseErrorKind::Overflow)),
     }
 }
@@ -72,25 +61,14 @@ pub fn convert(
 ) -> Result<FixedNumber, Refusal>
     ensures { MatchResult result
         (λ n. IsConverted (format_of source.is_signed source.width source.frac) (format_of target.is_signed target.width target.frac) policy bits n.bits n.overflowed)
-        (λ refusal. ConvertIsRefused (format_of source.is_signed source.width source.frac) (format_of target.is_signed target.width target.frac) policy bits refusal) }
+        (ConvertIsRefused (format_of source.is_signed source.width source.frac) (format_of target.is_signed target.width target.frac) policy bits) }
 {
-    let Some(source) = format_of(source) else {
-        return Err(Refusal::BadFormat);
-    };
-    let Some(target) = format_of(target) else {
-        return Err(Refusal::BadTarget);
-    };
-    let Some(policy) = policy_of(policy) else {
-        return Err(Refusal::BadPolicy);
-    };
-    let Some(number) = number_in(bits, source) else {
-        return Err(Refusal::BadBits);
-    };
+    let source = format_of(source, Refusal::BadFormat)?;
+    let target = format_of(target, Refusal::BadTarget)?;
+    let policy = policy_of(policy)?;
+    let number = number_in(bits, source, Refusal::BadBits)?;
     match reformat(target, policy, number, source.frac()) {
-        Some((image, overflowed)) => Ok(FixedNumber {
-            bits: bits_for_c(target, image),
-            overflowed: flag(overflowed),
-        }),
+        Some((image, overflowed)) => Ok(number_for_c(target, image, overflowed)),
         None => Err(Refusal::Numeral(ParseErrorKind::Overflow)),
     }
 }
@@ -114,21 +92,13 @@ pub fn order_by_value(
     b_format: FixedFormat,
 ) -> Result<i32, Refusal>
     ensures { MatchResult result
-        (λ order. IsCompared (format_of a_format.is_signed a_format.width a_format.frac) (format_of b_format.is_signed b_format.width b_format.frac) a b order)
-        (λ refusal. CompareIsRefused (format_of a_format.is_signed a_format.width a_format.frac) (format_of b_format.is_signed b_format.width b_format.frac) a b refusal) }
+        (IsCompared (format_of a_format.is_signed a_format.width a_format.frac) (format_of b_format.is_signed b_format.width b_format.frac) a b)
+        (CompareIsRefused (format_of a_format.is_signed a_format.width a_format.frac) (format_of b_format.is_signed b_format.width b_format.frac) a b) }
 {
-    let Some(f) = format_of(a_format) else {
-        return Err(Refusal::BadFormat);
-    };
-    let Some(g) = format_of(b_format) else {
-        return Err(Refusal::BadTarget);
-    };
-    let Some(left) = number_in(a, f) else {
-        return Err(Refusal::BadBits);
-    };
-    let Some(right) = number_in(b, g) else {
-        return Err(Refusal::BadBits);
-    };
+    let f = format_of(a_format, Refusal::BadFormat)?;
+    let g = format_of(b_format, Refusal::BadTarget)?;
+    let left = number_in(a, f, Refusal::BadBits)?;
+    let right = number_in(b, g, Refusal::BadOtherBits)?;
     Ok(order_of(compare(left, f.frac(), right, g.frac())))
 }
 
@@ -144,14 +114,10 @@ pub fn ends_around<L: Ledger>(
     requires backed { 0 < blank.parts }
     ensures { MatchResult result
         (λ ends. IsEnclosedBy text.now radix (format_of format.is_signed format.width format.frac) ends.lo ends.hi)
-        (λ refusal. EncloseIsRefused text.now radix (format_of format.is_signed format.width format.frac) refusal) }
+        (EncloseIsRefused text.now radix (format_of format.is_signed format.width format.frac)) }
 {
-    let Some(radix) = radix_of(radix) else {
-        return Err(Refusal::BadRadix);
-    };
-    let Some(format) = format_of(format) else {
-        return Err(Refusal::BadFormat);
-    };
+    let radix = radix_of(radix)?;
+    let format = format_of(format, Refusal::BadFormat)?;
     let mut steps = Steps::<L>::new(blank);
     match enclose(text, radix, format, &mut steps) {
         Ok(ends) => Ok(FixedEnclosure {
@@ -187,23 +153,13 @@ pub fn respelled<L: Ledger>(
     requires backed { 0 < blank.parts }
     ensures { MatchResult result
         (λ n. Names radix policy mode (IsReachedAs text.now (format_of source.is_signed source.width source.frac) (format_of target.is_signed target.width target.frac) n.bits n.overflowed))
-        (λ refusal. RespellIsRefused text.now radix (format_of source.is_signed source.width source.frac) (format_of target.is_signed target.width target.frac) policy mode refusal) }
+        (RespellIsRefused text.now radix (format_of source.is_signed source.width source.frac) (format_of target.is_signed target.width target.frac) policy mode) }
 {
-    let Some(radix) = radix_of(radix) else {
-        return Err(Refusal::BadRadix);
-    };
-    let Some(source) = format_of(source) else {
-        return Err(Refusal::BadFormat);
-    };
-    let Some(target) = format_of(target) else {
-        return Err(Refusal::BadTarget);
-    };
-    let Some(policy) = policy_of(policy) else {
-        return Err(Refusal::BadPolicy);
-    };
-    let Some(mode) = mode_of(mode) else {
-        return Err(Refusal::BadMode);
-    };
+    let radix = radix_of(radix)?;
+    let source = format_of(source, Refusal::BadFormat)?;
+    let target = format_of(target, Refusal::BadTarget)?;
+    let policy = policy_of(policy)?;
+    let mode = mode_of(mode)?;
     let mut steps = Steps::<L>::new(blank);
     match respell_mode(text, radix, source, target, policy, mode, &mut steps) {
         Ok(reached) => Ok(FixedNumber {

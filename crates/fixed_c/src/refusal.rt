@@ -16,7 +16,7 @@ pub enum Refusal {
     Numeral(ParseErrorKind),
     /// The radix is none of 2, 8, 10 and 16.
     BadRadix,
-    /// The only format, or the first of two, has no width of 8, 16, 32 or 64 bits, or a longer fraction.
+    /// The only format, or the first of two, is none.
     BadFormat,
     /// The second format is none.
     BadTarget,
@@ -24,10 +24,22 @@ pub enum Refusal {
     BadPolicy,
     /// The mode is none of 0 to 3.
     BadMode,
-    /// The bits are out of the range of their format.
+    /// The only bits, or the first of two, are out of the range of their format.
     BadBits,
     /// The text and a zero byte do not fit into the buffer.
     NoRoom,
+    /// The second bits are out of the range of their format.
+    BadOtherBits,
+    /// There are more than 64 places.
+    BadPlaces,
+    /// A member of the style is none of its kind.
+    BadStyle,
+    /// The rounding is none of 0 to 4.
+    BadRounding,
+    /// The word is that of no format.
+    BadWord,
+    /// The sizes that are given are not those of the rows.
+    BadRows,
 }
 
 /// The code of a kind, 1 to 10.
@@ -49,7 +61,7 @@ fn kind_code(kind: ParseErrorKind) -> u32
 }
 
 impl Refusal {
-    /// The code of the refusal, 1 to 17.
+    /// The code of the refusal, 1 to 23.
     pub fn code(self) -> u32
         ensures { result ≡ refusal_code self }
     {
@@ -62,6 +74,12 @@ impl Refusal {
             Refusal::BadMode => 15,
             Refusal::BadBits => 16,
             Refusal::NoRoom => 17,
+            Refusal::BadOtherBits => 18,
+            Refusal::BadPlaces => 19,
+            Refusal::BadStyle => 20,
+            Refusal::BadRounding => 21,
+            Refusal::BadWord => 22,
+            Refusal::BadRows => 23,
         }
     }
 
@@ -79,13 +97,19 @@ impl Refusal {
             Refusal::BadMode => "bad mode",
             Refusal::BadBits => "bits out of range",
             Refusal::NoRoom => "no room for the text",
+            Refusal::BadOtherBits => "second bits out of range",
+            Refusal::BadPlaces => "too many places",
+            Refusal::BadStyle => "bad style",
+            Refusal::BadRounding => "bad rounding",
+            Refusal::BadWord => "bad format word",
+            Refusal::BadRows => "rows of another size",
         }
     }
 }
 
 /// The refusal of a code. None where it is that of none.
 fn refusal_of(code: u32) -> Option<Refusal>
-    ensures { MatchOption result ((code ≡ 0) ⊎ (17 < code)) (λ refusal. code ≡ refusal_code refusal) }
+    ensures { MatchOption result ((code ≡ 0) ⊎ (23 < code)) (λ refusal. code ≡ refusal_code refusal) }
 {
     match code {
         1 => Some(Refusal::Numeral(ParseErrorKind::InvalidDigit)),
@@ -105,6 +129,12 @@ fn refusal_of(code: u32) -> Option<Refusal>
         15 => Some(Refusal::BadMode),
         16 => Some(Refusal::BadBits),
         17 => Some(Refusal::NoRoom),
+        18 => Some(Refusal::BadOtherBits),
+        19 => Some(Refusal::BadPlaces),
+        20 => Some(Refusal::BadStyle),
+        21 => Some(Refusal::BadRounding),
+        22 => Some(Refusal::BadWord),
+        23 => Some(Refusal::BadRows),
         _ => None,
     }
 }

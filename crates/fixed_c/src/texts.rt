@@ -1,17 +1,17 @@
 //! Texts that are handed to a buffer of C.
 
-ghost use Rattle.std.specs.Prelude.{◌≡◌, ◌<◌};
+ghost use Rattle.std.specs.Prelude.{◌≡◌, ◌<◌, MatchResult};
 ghost use Rattle.fixed_c.specs.Answer.{IsAnswered};
-ghost use Rattle.fixed_c.specs.Convert.{PrintEnds};
+ghost use Rattle.fixed_c.specs.Convert.{IsPrinted, PrintIsRefused};
 ghost use Rattle.fixed_c.specs.Numbers.{format_of};
-ghost use Rattle.fixed_c.specs.Texts.{PutsText};
+ghost use Rattle.fixed_c.specs.Texts.{PutsText, TextEnds};
 
 use crate::arguments::{FixedFormat, format_of};
 use crate::number::{flag, number_in};
 use crate::refusal::{OK, Refusal};
 use fixed_respell::answer;
 use fixed_steps::Steps;
-use fixed_write::shortest;
+use fixed_write::{ShortText, shortest};
 use std::sync::ledger::{Blank, Ledger};
 
 /// Hands over a text and a zero byte where there is room for both, and its length in any case.
@@ -29,6 +29,25 @@ pub fn put_text(text: &[u8], out: &mut [u8], len: &mut usize) -> u32
     }
 }
 
+/// The shortest decimal that reads back as bits of a format.
+fn shortest_of<L: Ledger>(
+    bits: i64,
+    format: FixedFormat,
+    blank: Blank,
+) -> Result<ShortText, Refusal>
+    requires name { blank.name ≡ L.name }
+    requires parts { blank.parts ≡ L.parts }
+    requires backed { 0 < blank.parts }
+    ensures { MatchResult result
+        (IsPrinted (format_of format.is_signed format.width format.frac) bits)
+        (PrintIsRefused (format_of format.is_signed format.width format.frac) bits) }
+{
+    let format = format_of(format, Refusal::BadFormat)?;
+    let number = number_in(bits, format, Refusal::BadBits)?;
+    let mut steps = Steps::<L>::new(blank);
+    Ok(shortest(number, format.frac(), &mut steps))
+}
+
 /// Hands over the shortest decimal that reads back as bits of a format.
 pub fn print_bits<L: Ledger>(
     bits: i64,
@@ -40,17 +59,14 @@ pub fn print_bits<L: Ledger>(
     requires name { blank.name ≡ L.name }
     requires parts { blank.parts ≡ L.parts }
     requires backed { 0 < blank.parts }
-    ensures { PrintEnds (format_of format.is_signed format.width format.frac) bits out.old out.new len.old len.new result }
+    ensures { TextEnds
+        (IsPrinted (format_of format.is_signed format.width format.frac) bits)
+        (PrintIsRefused (format_of format.is_signed format.width format.frac) bits) out.old out.new len.old len.new result }
 {
-    let Some(format) = format_of(format) else {
-        return Refusal::BadFormat.code();
-    };
-    let Some(number) = number_in(bits, format) else {
-        return Refusal::BadBits.code();
-    };
-    let mut steps = Steps::<L>::new(blank);
-    let text = shortest(number, format.frac(), &mut steps);
-    put_text(text.as_bytes(), out, len)
+    match shortest_of::<L>(bits, format, blank) {
+        Ok(text) => put_text(text.as_bytes(), out, len),
+        Err(refusal) => refusal.code(),
+    }
 }
 
 /// Hands over the answer to a line, and whether it names a fault.

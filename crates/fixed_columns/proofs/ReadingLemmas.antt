@@ -11,9 +11,6 @@ pub record ReadUpTo (text rest : List ℕ) (number : ℕ) (cells : List CellPart
   pub cells_of : (more : List CellParts) → SpellAll (lines rest) more → SpellAll (lines text) (cells ++ more)
   pub fault_of : (p : ℕ) (fault : CellFault) → FailAt (number + 1) (lines rest) p fault → FailAt 1 (lines text) p fault
 
-pub none_read : (text : List ℕ) → ReadUpTo text text 0 []
-none_read text = record { room = omega arith; cells_of = λ more h. h; fault_of = λ p fault h. h }
-
 -- one line more
 pub one_read : (text rest line after : List ℕ) (number next : ℕ) (cells new : List CellParts) (c : CellParts) → lines rest ≡ line ∷ lines after → length after < length rest → next ≡ number + 1 → Spells line c → new ≡ cells ++ c ∷ [] → ReadUpTo text rest number cells → ReadUpTo text after next new
 one_read text rest line after number next cells new c split shorter is spells added before =

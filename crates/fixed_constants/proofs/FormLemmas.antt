@@ -66,28 +66,6 @@ pub record SearchedTo (form : Form) (guard text rest : List ℕ) (number : ℕ) 
   pub there : (p : ℕ) → ReservedFrom (number + 1) form guard (lines rest) p → IsReservedOn form guard text p
   pub back : (p : ℕ) → IsReservedOn form guard text p → ReservedFrom (number + 1) form guard (lines rest) p
 
-pub searched_more : (form : Form) (guard text rest line after : List ℕ) (number : ℕ) → lines rest ≡ line ∷ lines after → (HasReserved form guard line → ⊥) → SearchedTo form guard text rest number → SearchedTo form guard text after (number + 1)
-searched_more form guard text rest line after number first none h =
-    let R : ℕ → List (List ℕ) → Type 0 = λ p ls. ReservedFrom (number + 1) form guard ls p in
-    record {
-      there = λ p found. h.there p (subst (R p) (sym first) (inr (none, found)));
-      back = λ p found. later p (subst (R p) first (h.back p found));
-    }
-  where
-    later : (p : ℕ) → ReservedFrom (number + 1) form guard (line ∷ lines after) p → ReservedFrom (number + 1 + 1) form guard (lines after) p
-    later p (inl here) = absurd (none here.0)
-    later p (inr found) = found.1
-
-pub searched_here : (form : Form) (guard text rest line after : List ℕ) (number : ℕ) → lines rest ≡ line ∷ lines after → HasReserved form guard line → SearchedTo form guard text rest number → IsReservedOn form guard text (number + 1)
-searched_here form guard text rest line after number first here h =
-    let R : List (List ℕ) → Type 0 = λ ls. ReservedFrom (number + 1) form guard ls (number + 1) in
-    h.there (number + 1) (subst R (sym first) (inl (here, refl)))
-
-pub searched_all : (form : Form) (guard text rest : List ℕ) (number : ℕ) → rest ≡ [] → SearchedTo form guard text rest number → (p : ℕ) → IsReservedOn form guard text p → ⊥
-searched_all form guard text rest number none h p found =
-    let R : List ℕ → Type 0 = λ r. ReservedFrom (number + 1) form guard (lines r) p in
-    subst R none (h.back p found)
-
 -- ---- the first fault in a form
 pub name_alone : (form : Form) (guard text : List ℕ) (t : List ConstantParts) (p : ℕ) → IsConstantsOf text t → IsReservedOn form guard text p → IsFormFault form guard text p BadName
 name_alone form guard text t p are found = inr (refl, found, λ q other fault. absurd (not_both [] (lines text) t q other are fault))
@@ -97,6 +75,3 @@ name_first form guard text p q f fault found early = inr (refl, found, λ r othe
 
 pub fault_first : (form : Form) (guard text : List ℕ) (p q : ℕ) (f : ConstantFault) → IsFaultOf text q f → IsReservedOn form guard text p → q < p → IsFormFault form guard text q f
 fault_first form guard text p q f fault found early = inl (fault, λ r has. let same : p ≡ r = reserved_one 1 form guard (lines text) p r found has in omega arith)
-
-pub fault_alone : (form : Form) (guard text : List ℕ) (q : ℕ) (f : ConstantFault) → IsFaultOf text q f → ((p : ℕ) → IsReservedOn form guard text p → ⊥) → IsFormFault form guard text q f
-fault_alone form guard text q f fault none = inl (fault, λ r has. absurd (none r has))

@@ -37,9 +37,6 @@ still before line name (Some p) never h = named_longer 1 before line name p h
 pub knows_passed : {S : Type 0} (before : List (List ℕ)) (line : List ℕ) (m : HashMap (Bor (List ℕ)) ℕ S) → IsPassedOver line → Knows before m → Knows (before ++ line ∷ []) m
 knows_passed before line m passed knows name = still before line name (line_of m name) (λ names. names.spoken passed) (knows name)
 
-pub knows_nothing : {S : Type 0} (m : HashMap (Bor (List ℕ)) ℕ S) → m.entries ≡ [] → Knows [] m
-knows_nothing m none name = let P : Option ℕ → Type 0 = λ o. IsLineOf [] name o in let e : line_of m name ≡ None = rw none refl in subst P (sym e) (λ p h. h)
-
 differ : (name x : List ℕ) → bytes_eq name x ≡ false → name ≡ x → ⊥
 differ name x e same = false≢true (sym e ∙ (bytes_eq-Decides name x).1 same)
 

@@ -29,9 +29,6 @@ pub record FindsSame (name : List ℕ) (all rest : List ConstantParts) : Type 0 
   pub found : (c : ConstantParts) → IsFirstNamed name rest c → IsFirstNamed name all c
   pub none : HasName name all → HasName name rest
 
-pub finds_first : (name : List ℕ) (all : List ConstantParts) → FindsSame name all all
-finds_first name all = record { found = λ c h. h; none = λ h. h }
-
 pub finds_more : (name : List ℕ) (all : List ConstantParts) (i : ℕ) (c : ConstantParts) → slice_get all i ≡ Some c → (c.name ≡ name → ⊥) → FindsSame name all (drop i all) → FindsSame name all (drop (suc i) all)
 finds_more name all i c at differs h =
     let e = drop_some all i c at in

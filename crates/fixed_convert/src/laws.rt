@@ -1,5 +1,6 @@
 //! Laws of conversions and of the order, each the contract of a function that does nothing.
 
+ghost use Rattle.fixed_convert.specs.Rounded.{FloorIsDown, MovedInIsTheOne};
 ghost use Rattle.fixed_convert.specs.Laws.{FinerIsExact, ConversionIsUndone, OrderIsOfValues, OrderIsTotal, ExactIsEqual};
 
 /// Moving to a length that is no shorter loses nothing.
@@ -25,4 +26,14 @@ pub fn order_is_total()
 /// A number moved without loss is ordered as before.
 pub fn exact_is_equal()
     ensures { ExactIsEqual }
+{}
+
+/// Each number is moved in each mode to exactly one.
+pub fn moved_in_is_the_one()
+    ensures { MovedInIsTheOne }
+{}
+
+/// In the mode Floor a number is moved down.
+pub fn floor_is_down()
+    ensures { FloorIsDown }
 {}

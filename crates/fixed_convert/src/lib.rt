@@ -9,6 +9,7 @@ pub mod laws;
 pub mod lossless;
 pub mod num;
 pub mod order;
+pub mod rounded;
 mod to_bits;
 mod to_number;
 
@@ -20,3 +21,4 @@ pub use floored::{Floored, floor_into, reformat, reformat_signed};
 pub use lossless::{LosslessTryFrom, LossyFrom, lossless_from};
 pub use num::{Num, NumTarget};
 pub use order::compare;
+pub use rounded::reformat_mode;

@@ -5,9 +5,10 @@ use Rattle.line_engine.specs.AnswerText.{AnswerText}
 use Rattle.line_engine.specs.Asked.{AskedWithin}
 use Rattle.line_engine.specs.Failures.{HasFailed}
 use Rattle.line_engine.specs.Lines.{lines}
-use Rattle.line_engine.specs.Output.{AppendsPrefix, AreAnswers, written_of}
+use Rattle.line_engine.specs.Output.{AreAnswers, written_of, WritesOutput}
+use Rattle.line_engine.specs.Appended.{AppendsPrefix}
 use Rattle.line_engine.specs.Program.{Outside, ReadsNothing}
-use Rattle.line_engine.specs.Run.{HasFailures, HasRun, Spends, WritesOutput, WritesText}
+use Rattle.line_engine.specs.Run.{HasFailures, HasRun, Spends, WritesText}
 use Rattle.line_engine.specs.declared.status.Status.{Status}
 use Rattle.line_engine.specs.declared.status.Status.TheVariants.{Usage, WriteFault, NoMemory, TooLong}
 use Rattle.fixed_enclose.specs.Answer.{IsAnswer, usage_line}

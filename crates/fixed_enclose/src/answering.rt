@@ -21,7 +21,7 @@ ghost use Rattle.fixed_bits.specs.Ranges.{IsWide};
 ghost use Rattle.fixed_respell.specs.LineWords.{HasWords, longest_line, space};
 ghost use Rattle.fixed_respell.specs.Split.{count_of};
 ghost use Rattle.fixed_write.specs.Texts.{IsShortestText, shortest_text};
-ghost use Rattle.line_engine.specs.Output.{AppendsAnswer};
+ghost use Rattle.line_engine.specs.Appended.{AppendsAnswer};
 ghost use Rattle.fixed_enclose.specs.Answer.{Asks, IsAnswer, IsFirstFault, ends_answer, task_of, verdict};
 
 use crate::enclosing::enclose;

@@ -5,8 +5,9 @@ ghost use Rattle.line_engine.specs.AnswerText.{AnswerText};
 ghost use Rattle.line_engine.specs.Asked.{AskedWithin};
 ghost use Rattle.line_engine.specs.Failures.{HasFailed};
 ghost use Rattle.line_engine.specs.Lines.{lines};
-ghost use Rattle.line_engine.specs.Output.{AppendsPrefix, AreAnswers, written_of};
-ghost use Rattle.line_engine.specs.Run.{HasFailures, HasRun, Spends, WritesOutput, WritesText};
+ghost use Rattle.line_engine.specs.Output.{AreAnswers, written_of, WritesOutput};
+ghost use Rattle.line_engine.specs.Appended.{AppendsPrefix};
+ghost use Rattle.line_engine.specs.Run.{HasFailures, HasRun, Spends, WritesText};
 ghost use Rattle.fixed_enclose.specs.Answer.{IsAnswer, usage_line};
 
 use crate::rule::EncloseRule;

@@ -7,7 +7,8 @@ use Rattle.line_engine.specs.declared.status.Status.{Status}
 use Rattle.line_engine.specs.declared.program.NoArgs.{NoArgs}
 use Rattle.line_engine.specs.declared.program.NoArgs.TheVariants.{NoMemory, NotText}
 
--- why there are no arguments, by the kind of the error with which they were refused: want of memory exactly where it says so
+-- why there are no arguments, by the kind of the error with which they were refused: want of memory exactly where it
+-- says so
 abbrev pub IsWhy : ErrorKind → NoArgs → Type 0
 IsWhy kind NoMemory = kind ≡ OutOfMemory
 IsWhy kind NotText = ¬ (kind ≡ OutOfMemory)

@@ -41,8 +41,8 @@ fn end_line(place: &[u8], cause: &str, answered: u64) -> TextBuffer<512>
     text
 }
 
-/// Says in one line where and why a run ended with a code from 3 on, and how many lines it had answered; for any other code
-/// it writes nothing. The place, of at most 256 bytes, is the program's name, and a file's where there is one.
+/// Says in one line where and why a run ended with a code from 3 on, and how many lines it had answered; for any other
+/// code it writes nothing. The place, of at most 256 bytes, is the program's name, and a file's where there is one.
 pub fn report_end<K: Sink>(place: &[u8], code: u8, answered: u64, errors: &mut K)
     requires { length place.now ≤ 256 }
     ensures { TellsEnd place.now code answered (K.written errors.old) (K.written errors.new) (K.failures errors.old)

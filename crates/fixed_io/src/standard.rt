@@ -1,10 +1,10 @@
 //! A source over any reader and a sink over any writer. They expose the bytes that the reader has left and that the
-//! writer holds, where these are known: those of readers and writers of memory are, those of the process's own streams are
-//! not. The source doesn't expose what it was asked for.
+//! writer holds, where these are known: those of readers and writers of memory are, those of the process's own streams
+//! are not. The source doesn't expose what it was asked for.
 //!
 //! Each `Err` of the reader or the writer counts as a failure, an interrupted call too: a program that sets no handler
-//! for signals meets none. What a writer keeps for itself, as a `BufWriter` does, is written only once its owner flushes
-//! it: the programs give a writer that hands its bytes on at once.
+//! for signals meets none. What a writer keeps for itself, as a `BufWriter` does, is written only once its owner
+//! flushes it: the programs give a writer that hands its bytes on at once.
 
 ghost use Rattle.std.specs.Prelude.{◌≡◌, ◌+◌, ◌-◌, ◌^◌, min, None};
 
@@ -87,8 +87,8 @@ impl<W: Write> StdSink<W> {
         }
     }
 
-    /// How many newlines the writer took: the count of answered lines, where each answer is a line. It stays at the last
-    /// value of u64.
+    /// How many newlines the writer took: the count of answered lines, where each answer is a line. It stays at the
+    /// last value of u64.
     pub fn lines(&self) -> u64
         ensures { result ≡ self.now.lines }
     {
@@ -107,8 +107,8 @@ impl<W: Write> Sink for StdSink<W> {
 
     ghost failures = { λ s. s.failures };
 
-    /// Writes once. An `Err` of the writer raises the count of failures by one, and so does a write of no byte of a piece
-    /// that isn't empty. The newlines among the bytes that the writer took are counted.
+    /// Writes once. An `Err` of the writer raises the count of failures by one, and so does a write of no byte of a
+    /// piece that isn't empty. The newlines among the bytes that the writer took are counted.
     fn write(&mut self, piece: &[u8]) -> Result<usize, Failed>
         ensures bound { WritesAtMost result piece.now }
         ensures bytes { WriteAppends (W.contents self.old.writer) (W.contents self.new.writer) result piece.now }

@@ -26,8 +26,8 @@ pub struct Reports<'a, K: Sink> {
     pub sink: K,
 }
 
-/// Runs a program by its arguments over a reader and a writer, with a counter of steps of its own, and answers the code with
-/// which its process ends. Where that is 3 or more, one line says why and after how many answered lines.
+/// Runs a program by its arguments over a reader and a writer, with a counter of steps of its own, and answers the code
+/// with which its process ends. Where that is 3 or more, one line says why and after how many answered lines.
 pub fn run_streams<P: Program<L>, R: Read + Drop, W: Write + Drop, K: Sink, L: Ledger>(
     program: &P,
     alloc: Global,
@@ -59,8 +59,8 @@ pub fn run_streams<P: Program<L>, R: Read + Drop, W: Write + Drop, K: Sink, L: L
     code
 }
 
-/// Runs a program of this name by the arguments of its process, from standard input to standard output; why it did not end
-/// well goes to standard error.
+/// Runs a program of this name by the arguments of its process, from standard input to standard output; why it did not
+/// end well goes to standard error.
 pub fn run_process<P: Program<L>, L: Ledger>(
     rt: &HostRuntime,
     name: &[u8],

@@ -13,11 +13,6 @@ below n m small = omega (arith, small, div-add-mod' n m)
 pub whole_is : (n m b u : ℕ) → u ≡ b * m → u ≡ n → n ≡ b * m
 whole_is n m b u up same = sym same ∙ up
 
-pub none_is : (n m b u : ℕ) → 0 < m → b ≡ n / m → u ≡ b * m → (u ≡ n → ⊥) → (k : ℕ) → n ≡ k * m → ⊥
-none_is n m b u some down up apart k is =
-    let here : n / m ≡ k = ap (λ x. x / m) is ∙ mul-div_cancel k some in
-    apart (up ∙ (ap (λ x. x * m) (down ∙ here) ∙ sym is))
-
 pub holds_by : (f : FormatParts) (negative : Bool) (ulps bits : ℕ) (flag : Bool) → ulps ≡ bits * 2 ^ (64 - f.frac) → (IsTrue flag ↔ IsInRange f.signed f.width (with_sign negative bits)) → (IsTrue flag ↔ HasUlps f negative ulps)
 holds_by f negative ulps bits flag split fits = (to, back)
   where

@@ -10,7 +10,3 @@ pub radix_named : (words : List (String Global)) (r s : Radix) → NamesRadix wo
 radix_named [] r s a b = a ∙ sym b
 radix_named (word ∷ []) r s a b = radix_one r s (sym a ∙ b)
 radix_named (word ∷ more ∷ words) r s a b = absurd a
-
--- arguments that name a radix are no usage fault
-pub named_not_fault : (words : List (String Global)) (r : Radix) → NamesRadix words r → ((s : Radix) → NamesRadix words s → ⊥) → ⊥
-named_not_fault words r names none = none r names

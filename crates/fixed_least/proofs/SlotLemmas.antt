@@ -121,23 +121,6 @@ module _ (j low first end high : ℕ) (value : Option Exact) (place : ℕ) (old 
       (λ l m. inr (inr (was k w (omega (arith, l, h.low_first, h.first_end)) m, (h.down k l m).1, (h.down k l m).0)))
       (λ l. inl ((λ e. let in_ = (living k w).1 e in omega (arith, l, in_.1)), past k l))
 
-  pub kind_living : IsLiving j first end new
-  kind_living k w = ((λ r. kept k r.0 r.1 ∙ was k w (omega (arith, r.0, h.low_first)) (omega (arith, r.1, h.end_high))), back)
-    where
-      back : get_or new (slot j k) 0 ≡ 0 → (first ≤ k) × (k < end)
-      back e = by_part _ low first end high k
-          (λ l. let in_ = (living k w).1 (sym (before k l) ∙ e) in absurd (omega (arith, l, in_.0)))
-          (λ l m. absurd (let p : place ≡ 0 = sym (refuted_up k l m) ∙ e in omega (arith, p, some)))
-          (λ l m. (l, m))
-          (λ l m. absurd (let p : place ≡ 0 = sym (h.down k l m).0 ∙ e in omega (arith, p, some)))
-          (λ l. let in_ = (living k w).1 (sym (past k l) ∙ e) in absurd (omega (arith, l, in_.1)))
-
-  pub kind_others : (i : ℕ) → (i < slot j 0) ⊎ (slot j 65 ≤ i) → get_or new i 0 ≡ get_or old i 0
-  kind_others i (inl l) = h.down_others i (inl (omega (arith, l))) ∙ h.up_others i (inl (omega (arith, l)))
-  kind_others i (inr l) =
-      let small = kind_width_most j in
-      h.down_others i (inr (omega (arith, l, h.most, small))) ∙ h.up_others i (inr (omega (arith, l, h.most, h.first_end, h.end_high, small)))
-
 -- ---- all kinds, one after another
 -- what the first kinds have come to
 pub record NotedBelow (j : ℕ) (value : Option Exact) (place : ℕ) (old new : List ℕ) : Type 0 where

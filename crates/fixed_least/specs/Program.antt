@@ -8,7 +8,7 @@ use Rattle.fixed_respell.specs.Words.{radix_text}
 use Rattle.line_engine.specs.AnswerText.{AnswerText}
 use Rattle.line_engine.specs.Asked.{AskedWithin}
 use Rattle.line_engine.specs.Failures.{HasFailed}
-use Rattle.line_engine.specs.Output.{AppendsPrefix}
+use Rattle.line_engine.specs.Appended.{AppendsPrefix}
 use Rattle.line_engine.specs.Program.{Outside, ReadsNothing, WritesNothing}
 use Rattle.line_engine.specs.Run.{HasFailures, WritesText}
 use Rattle.line_engine.specs.WholeRun.{EndsBeforeWriting, HasWholeRun, WritesAnswer}

@@ -8,7 +8,7 @@ use Rattle.fixed_numeral.specs.Numeral.{Exponent, HasParts}
 use Rattle.fixed_numeral.specs.Cause.{is_nil}
 use Rattle.fixed_numeral.specs.Inner.Scan.{Agrees, IsAfter, max_magnitude}
 use Rattle.fixed_numeral.proofs.NumeralLemmas.{exponent, parts}
-use Rattle.fixed_numeral.proofs.CompactLemmas.{signed_fits, value_append}
+use Rattle.fixed_numeral.proofs.PartNumberLemmas.{signed_fits, value_append}
 use Rattle.fixed_numeral.proofs.ScanLemmas.{IsRead, and_false, nil_more, digits_append, most_at_most}
 
 opened : (r : Radix) (st : State) (bs ds : List ℕ) (m : ℕ) (s : Option ℕ) (w : List ℕ) (f : Option (List ℕ)) (x : Option Exponent) → HasParts r bs (parts s w f x) → Agrees r st (parts s w f x) → st.has_separator ≡ true → AllDigits 10 ds → 0 < length ds → m ≡ st.magnitude * 10 ^ length ds + digits_value 10 ds → m ≤ max_magnitude st.exponent_negative → IsAfter r (bs ++ ds) (record st { sign_allowed = false; magnitude = m; has_exponent_digit = true })

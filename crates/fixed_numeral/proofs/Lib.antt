@@ -16,7 +16,7 @@ mod LiteralScanLemmas
 mod LawLemmas
 mod StripLemmas
 mod LaneLemmas
-mod CompactLemmas
+mod PartNumberLemmas
 mod SegmentLemmas
 mod DecimalLemmas
 mod MarkLemmas

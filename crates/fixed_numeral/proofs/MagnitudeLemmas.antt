@@ -97,6 +97,12 @@ by_exponent r two minus n m f s up down bits mag (Some e) a k l v =
     let l' : bits < unit_of r (is_two_separator r e.separator) = rw a.0 at l in
     same_scaled (is_two_separator r e.separator) (is_minus e.sign) (exponent_unit r) (base r) n m f s up down bits (digits_value 10 e.digits) (two_base r e.separator) k' l' v
 
+pub base_least : (r : Radix) → 2 ≤ base r
+base_least Bin = omega arith
+base_least Oct = omega arith
+base_least Dec = omega arith
+base_least Hex = omega arith
+
 pub base_small : (r : Radix) → base r ≤ 16
 base_small Bin = omega arith
 base_small Oct = omega arith

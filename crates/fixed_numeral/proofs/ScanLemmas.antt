@@ -450,9 +450,6 @@ fraction_is r bs st a =
         ap (λ zs. take l (drop (n + 1) zs)) e' ∙ ap (take l) (drop_at (xs ++ 46 ∷ []) (ds ++ ys) (n + 1) c') ∙ take_at ds ys l (sym k)
 
 -- ---- as the code has them
-pub after_all : (r : Radix) (bs : List ℕ) (i : ℕ) (st : State) → length bs ≤ i → IsAfter r (take i bs) st → IsAfter r bs st
-after_all r bs i st l a = rw (take_all i bs l) at a
-
 pub whole_digits : (r : Radix) (bs ds : List ℕ) (st : State) (a : IsAfter r bs st) → ds ≡ take st.whole_len (drop st.sign_len bs) → digits_in ds ≡ digits_in a.parts.whole
 whole_digits r bs ds st a e = ap digits_in (e ∙ whole_is r bs st a)
 

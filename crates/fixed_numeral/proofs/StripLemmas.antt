@@ -26,7 +26,7 @@ digits_push bs i l = ap digits_in (take_more bs i 0 l) ∙ digits_in_append (tak
 whole_split : (bs : List ℕ) (i : ℕ) → digits_in bs ≡ digits_in (take i bs) ++ digits_in (drop i bs)
 whole_split bs i = ap digits_in (sym (take-append-drop i bs)) ∙ digits_in_append (take i bs) (drop i bs)
 
--- ---- in prefix
+-- ---- at the front
 -- the first i bytes have z digits, which are zeros
 pub record IsLed (bs : List ℕ) (i z : ℕ) : Type 0 where
   pub digits : digits_in (take i bs) ≡ zeros z
@@ -69,7 +69,7 @@ led_end bs ds rest i z same h l e = rw e (record {
   none = none_leading [] refl;
 })
 
--- ---- later
+-- ---- at the end
 -- the bytes from end on have z digits, which are zeros
 pub record IsTrailed (bs : List ℕ) (end z : ℕ) : Type 0 where
   pub digits : digits_in (drop end bs) ≡ zeros z
@@ -182,7 +182,7 @@ eight_stand base bs at plain below l =
 pub spelled_eight : (base start : ℕ) (bs : List ℕ) (at number n : ℕ) → IsEightAt base bs at → IsNumberOf base start bs at number → n ≡ number_from_digits base (digits_in (take 8 (drop at bs))) → IsNumberOf base start bs (at + 8) (number * (base * base * (base * base) * (base * base * (base * base))) + n)
 spelled_eight base start bs at number n t h e = sym (ap (number_from_digits_after base start) t.split ∙ number_after_append base start (digits_in (take at bs)) (digits_in (take 8 (drop at bs))) ∙ rw (e, h) (after_eight base _ (digits_in (take 8 (drop at bs))) t.count))
 
--- the digits in prefix of a place, later which a multiple of eight are left
+-- the digits before a place after which a multiple of eight are left
 pub record IsAligned (base : ℕ) (bs : List ℕ) (at number : ℕ) : Type 0 where
   pub within : at ≤ length bs
   pub left : (length bs - at) % 8 ≡ 0

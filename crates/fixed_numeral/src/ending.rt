@@ -4,26 +4,19 @@
 //! together: the first byte that is no digit ends the digits, and whole words that reach back over the numeral's beginning
 //! give their number. No branch depends on how many digits there are, nor on which of them are letters.
 
-ghost use Rattle.std.specs.Prelude.{◌≡◌, ◌≢◌, ◌+◌, ◌-◌, ◌*◌, ◌^◌, ◌<◌, ◌≤◌, ℕ, IfSome, drop, length, slice_index, take};
+ghost use Rattle.std.specs.Prelude.{◌≡◌, ◌+◌, ◌-◌, ◌<◌, ◌≤◌, ℕ, IfSome, drop, length, slice_index, take, pos, neg_ℤ, if◌then◌else◌};
 ghost use Rattle.std.specs.Int.{bit_at};
 ghost use Rattle.std.specs.Str.Parse.{AllDigits};
-ghost use Rattle.fixed_numeral.specs.declared.radix.Radix.TheVariants.{Dec};
-ghost use Rattle.fixed_numeral.specs.Numeral.{Parts, HasNumeral, IsNumeral, base};
-ghost use Rattle.fixed_numeral.specs.PartNumbers.{IsCompactNumeral};
-ghost use Rattle.fixed_numeral.specs.Inner.Segments.{IsExponentAt, IsMantissaAt, IsSignAt, HasMarks};
+ghost use Rattle.fixed_numeral.specs.Numeral.{base};
+ghost use Rattle.fixed_numeral.specs.PartNumbers.{HasFewDigits};
+ghost use Rattle.fixed_numeral.specs.Inner.Scan.{max_magnitude};
+ghost use Rattle.fixed_numeral.specs.Inner.Segments.{IsExponentAt, IsMantissaAt, IsShortAt, HasMarks};
 
-use crate::compact::signed_exponent;
-use crate::powers::power_of_ten;
 use crate::radix::Radix;
-use crate::scanner::{is_separator, is_two_separator};
+use crate::scanner::{is_separator, is_two_separator, max_magnitude};
 use crate::segment::{decimals_between, number_between, sign_at};
-use crate::short_radix::{ShortMantissa, ShortNumeral, ShortPower};
-use fixed_steps::Steps;
+use crate::short::{LANES, ShortNumeral};
 use std::simd::prelude::*;
-use std::sync::ledger::Ledger;
-
-/// How many bytes are looked at together, and how many an ending numeral has at most.
-const LANES: usize = 16;
 
 /// The marks of those of the last 16 bytes that are below one byte or above another; the first has the lowest bit.
 #[inline(always)]
@@ -68,36 +61,26 @@ fn unmarked_end(text: &[u8], marks: u64, from: usize) -> usize
     from + count.min(text.len() - from)
 }
 
-/// How many bits a digit of radix 2, 8 or 16 has. A sum, since a `match` becomes a jump that is hard to predict.
-#[inline(always)]
-fn bits_of(radix: Radix) -> u32
-    requires { radix ≢ Dec }
-    ensures power { 2 ^ result ≡ base radix }
-    ensures most { result ≤ 4 }
-{
-    1 + 2 * u32::from(radix == Radix::Oct) + 3 * u32::from(radix == Radix::Hex)
-}
-
-/// A number with room for more digits after it.
-#[inline(always)]
-fn raised_number(radix: Radix, number: u64, places: u32) -> u64
-    requires few { places < 16 }
-    requires fits { number * base radix ^ places < 2 ^ 64 }
-    ensures { result ≡ number * base radix ^ places }
-{
-    match radix {
-        Radix::Dec => number * power_of_ten(places),
-        _ => number << (places * bits_of(radix)),
-    }
+/// The digits of a mantissa.
+#[derive(Clone, Copy)]
+struct Mantissa {
+    /// The number that those before the point spell.
+    whole: u64,
+    /// The number that those after the point spell.
+    fraction: u64,
+    /// How many there are after the point.
+    places: u32,
+    /// The place after them.
+    end: usize,
 }
 
 /// The mantissa from a place on. None where it has no digit.
 #[inline(always)]
-fn ending_mantissa(text: &[u8], radix: Radix, from: usize) -> Option<ShortMantissa>
+fn mantissa_at(text: &[u8], radix: Radix, from: usize) -> Option<Mantissa>
     requires least { LANES ≤ from }
     requires late { length text.now ≤ from + LANES }
     requires place { from ≤ length text.now }
-    ensures { IfSome result (λ m. IsMantissaAt (base radix) text.now from m.end m.number m.places) }
+    ensures { IfSome result (λ m. IsMantissaAt (base radix) text.now from m.end m.whole m.fraction m.places) }
 {
     let base = u64::from(radix.base());
     let marks = other_marks(text, radix);
@@ -106,8 +89,9 @@ fn ending_mantissa(text: &[u8], radix: Radix, from: usize) -> Option<ShortMantis
         if point == from {
             return None;
         }
-        return Some(ShortMantissa {
-            number: number_between(text, base, from, point),
+        return Some(Mantissa {
+            whole: number_between(text, base, from, point),
+            fraction: 0,
             places: 0,
             end: point,
         });
@@ -116,26 +100,44 @@ fn ending_mantissa(text: &[u8], radix: Radix, from: usize) -> Option<ShortMantis
     if end == from + 1 {
         return None;
     }
-    let places = (end - point - 1) as u32;
-    let whole = number_between(text, base, from, point);
-    let fraction = number_between(text, base, point + 1, end);
-    Some(ShortMantissa {
-        number: raised_number(radix, whole, places) + fraction,
-        places,
+    Some(Mantissa {
+        whole: number_between(text, base, from, point),
+        fraction: number_between(text, base, point + 1, end),
+        places: (end - point - 1) as u32,
         end,
     })
 }
 
-/// The exponent from a place on, up to the end of the text, or 0 where the text ends there. None where it has no digit or more
-/// than eight, or something else is there.
+/// An exponent, and whether it counts powers of two.
+#[derive(Clone, Copy)]
+struct Power {
+    exponent: i32,
+    by_two: bool,
+}
+
+/// An exponent by its sign and its magnitude.
+fn signed_exponent(minus: bool, magnitude: u64) -> i32
+    requires { magnitude ≤ max_magnitude minus }
+    ensures { result ≡ (if minus then neg_ℤ (pos magnitude) else pos magnitude) }
+{
+    if minus {
+        (-(magnitude as i64)) as i32
+    } else {
+        magnitude as i32
+    }
+}
+
+/// The exponent from a place on, up to the end of the text, or 0 where the text ends there. None where it has no digit, its
+/// number is no i32, or something else is there.
 #[inline(always)]
-fn ending_power(text: &[u8], radix: Radix, from: usize) -> Option<ShortPower>
+fn power_at(text: &[u8], radix: Radix, from: usize) -> Option<Power>
     requires least { LANES ≤ from }
+    requires late { length text.now ≤ from + LANES }
     requires place { from ≤ length text.now }
     ensures { IfSome result (λ e. IsExponentAt radix text.now from e.exponent e.by_two) }
 {
     if from == text.len() {
-        return Some(ShortPower {
+        return Some(Power {
             exponent: 0,
             by_two: false,
         });
@@ -145,59 +147,37 @@ fn ending_power(text: &[u8], radix: Radix, from: usize) -> Option<ShortPower>
         return None;
     }
     let (negative, first) = sign_at(text, from + 1);
-    let count = text.len() - first;
-    if count == 0 || count > 8 {
+    if first == text.len() {
         return None;
     }
     let number = decimals_between(text, first, text.len())?;
-    Some(ShortPower {
+    if number > max_magnitude(negative) {
+        return None;
+    }
+    Some(Power {
         exponent: signed_exponent(negative, number),
         by_two: is_two_separator(radix, separator),
     })
 }
 
-/// The numbers of a numeral that a text ends with.
+/// The numbers of a numeral of at most 16 bytes that a text ends with, with at least as many bytes before it. None otherwise.
 #[inline(always)]
-fn ending_numeral_at(text: &[u8], from: usize, radix: Radix) -> Option<ShortNumeral>
+pub(crate) fn ending_numeral(text: &[u8], from: usize, radix: Radix) -> Option<ShortNumeral>
     requires least { LANES ≤ from }
     requires late { length text.now ≤ from + LANES }
     requires place { from ≤ length text.now }
-    ensures numeral { IfSome result (λ c. IsNumeral radix (drop from text.now)) }
-    ensures parts { IfSome result (λ c. (p : Parts) → HasNumeral radix (drop from text.now) p → IsCompactNumeral radix p c.negative c.digits c.places c.exponent c.scales_by_two) }
+    ensures short { IfSome result (λ n. IsShortAt radix (drop from text.now) n.negative n.whole n.fraction n.places n.exponent n.scales_by_two) }
+    ensures few { IfSome result (λ n. HasFewDigits (base radix) n.whole n.fraction n.places) }
 {
     let (negative, first) = sign_at(text, from);
-    let mantissa = ending_mantissa(text, radix, first)?;
-    let power = ending_power(text, radix, mantissa.end)?;
+    let mantissa = mantissa_at(text, radix, first)?;
+    let power = power_at(text, radix, mantissa.end)?;
     Some(ShortNumeral {
-        digits: mantissa.number,
+        negative,
+        whole: mantissa.whole,
+        fraction: u128::from(mantissa.fraction),
         places: mantissa.places,
         exponent: power.exponent,
-        negative,
         scales_by_two: power.by_two,
     })
-}
-
-/// The numbers of a numeral of at most 16 bytes that a text ends with from a place on. None otherwise, and where there are fewer
-/// than 16 bytes before it; `short_numeral`, `compact_numeral` or `scan` then says more. A step a byte of the numeral is taken,
-/// or none.
-#[inline(always)]
-pub fn ending_numeral<L: Ledger>(
-    text: &[u8],
-    from: usize,
-    radix: Radix,
-    steps: &mut Steps<L>,
-) -> Option<ShortNumeral>
-    ensures numeral { IfSome result (λ c. IsNumeral radix (drop from text.now)) }
-    ensures parts { IfSome result (λ c. (p : Parts) → HasNumeral radix (drop from text.now) p → IsCompactNumeral radix p c.negative c.digits c.places c.exponent c.scales_by_two) }
-    ensures cost { steps.new ≤ steps.old + length (drop from text.now) }
-{
-    if from < LANES || text.len() < from || text.len() - from > LANES {
-        return None;
-    }
-    steps.advance((text.len() - from) as u64);
-    // Radix 10 by itself, so that its base is a constant there.
-    match radix {
-        Radix::Dec => ending_numeral_at(text, from, Radix::Dec),
-        _ => ending_numeral_at(text, from, radix),
-    }
 }

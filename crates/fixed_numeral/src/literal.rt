@@ -1,10 +1,10 @@
 //! Reading a literal: its sign, its prefix, and a numeral that may have underscores.
 
-ghost use Rattle.std.specs.Prelude.{◌≡◌, ◌+◌, ◌*◌, ◌^◌, ◌<◌, ◌≤◌, ℕ, ◌&&◌, not, true, IsTrue, IfSome, None, Bool, List, length, MatchResult, IsOk, IfOk, IfErr, ◌↔◌};
+ghost use Rattle.std.specs.Prelude.{◌≡◌, ◌+◌, ◌*◌, ◌^◌, ◌<◌, ◌≤◌, ℕ, ◌&&◌, not, true, IsTrue, IfSome, None, List, length, MatchResult, IsOk, IfOk, IfErr, ◌↔◌};
 ghost use Rattle.fixed_numeral.specs.declared.radix.Radix.{Radix as TheRadix};
 ghost use Rattle.fixed_numeral.specs.Numeral.{Parts, is_minus, is_sign};
 ghost use Rattle.fixed_numeral.specs.Cause.{is_nil};
-ghost use Rattle.fixed_numeral.specs.Inner.Scan.{Agrees, IsComplete, max_magnitude};
+ghost use Rattle.fixed_numeral.specs.Inner.Scan.{Agrees, max_magnitude};
 ghost use Rattle.fixed_numeral.specs.Scanned.{IsScanned};
 ghost use Rattle.fixed_numeral.specs.Literal.{HasLiteralParts, HasRest, HasRestCause, HasLiteral, IsLiteral, HasLiteralCause, last_part, sign_of, after_sign, prefix_of, after_underscores, radix_by, rest_by, literal_radix, literal_rest};
 ghost use Rattle.fixed_numeral.specs.Inner.LiteralScan.{LiteralExtends, LiteralCannotExtend, IsLiteralAfter};

@@ -3,7 +3,7 @@
 ghost use Rattle.std.specs.Prelude.{◌≡◌, ◌+◌, ◌*◌, ◌<◌, ◌≤◌, ◌^◌, length};
 ghost use Rattle.fixed_numeral.specs.Numeral.{Parts, IsPartsOf, is_minus, fractional_digits};
 ghost use Rattle.fixed_numeral.specs.Digits.{digits_in};
-ghost use Rattle.fixed_numeral.specs.Scanned.{exponent_unit, IsScanned};
+ghost use Rattle.fixed_numeral.specs.Scanned.{IsScanned};
 ghost use Rattle.fixed_numeral.specs.Inner.Shift.{unit_of, IsShift, AgreesWithExponent};
 
 use crate::digit_slice::DigitSlice;

@@ -1,15 +1,15 @@
 //! What texts read as. The kinds and digits are those of worked examples, or follow from the rule that a row names.
 
+use crate::ShortNumeral;
 use crate::error::{ParseErrorKind, ParseFixedError};
 use crate::radix::Radix;
-use crate::{CompactNumeral, ShortDecimal, ShortNumeral, WideDecimal};
 use std::test::Fail;
 
 mod support;
 
 use support::{
-    Views, compact, ending_in, first, kind_of_bad, lengths, literal, no_literal, reads, refused,
-    refused_bytes, short, short_in, short_with, spelled_by, wide, wide_with,
+    Views, first, kind_of_bad, lengths, literal, no_literal, reads, refused, refused_bytes, short,
+    short_after, short_with, spelled_by,
 };
 
 #[test]
@@ -247,295 +247,213 @@ fn exponents_of_many_digits_are_read(rt: HostRuntime) {
 }
 
 #[test]
-fn short_decimals_are_read(rt: HostRuntime) {
-    for (text, negative, whole, fraction, places) in [
-        (b"7".as_slice(), false, 7, 0, 0),
-        (b"+7", false, 7, 0, 0),
-        (b"-0.001", true, 0, 1, 3),
-        (b"9.38", false, 9, 38, 2),
-        (b"5.", false, 5, 0, 0),
-        (b"00.50", false, 0, 50, 2),
-        (b"12345678", false, 12345678, 0, 0),
-        (b"-12345678", true, 12345678, 0, 0),
-        (b".29632730058", false, 0, 29632730058, 11),
-        (b"1234.567", false, 1234, 567, 3),
-        (b"12345678.1234567", false, 12345678, 1234567, 7),
-        (b"123456789.5", false, 123456789, 5, 1),
-        (b"-1234567890.1234", true, 1234567890, 1234, 4),
-        (b"1234567890123456", false, 1234567890123456, 0, 0),
-        (b".123456789012345", false, 0, 123456789012345, 15),
-        (b"-1234.1234567890123", true, 1234, 1234567890123, 13),
-    ] {
-        let want = ShortDecimal {
-            negative,
-            whole,
-            fraction,
-            places,
-        };
-        assert!(rt; short(text) == Some(want));
-    }
-}
-
-#[test]
-fn wide_decimals_are_read(rt: HostRuntime) {
-    for (text, negative, whole, fraction, places) in [
+fn short_numerals_are_read(rt: HostRuntime) {
+    for (radix, text, negative, whole, fraction, places, exponent, scales_by_two) in [
+        (Radix::Dec, "7", false, 7, 0, 0, 0, false),
+        (Radix::Dec, "+7", false, 7, 0, 0, 0, false),
+        (Radix::Dec, "-0.001", true, 0, 1, 3, 0, false),
+        (Radix::Dec, "5.", false, 5, 0, 0, 0, false),
+        (Radix::Dec, "00.50", false, 0, 50, 2, 0, false),
         (
-            b".123456789012345678901234567".as_slice(),
+            Radix::Dec,
+            "12345678.1234567",
+            false,
+            12345678,
+            1234567,
+            7,
+            0,
+            false,
+        ),
+        (
+            Radix::Dec,
+            "-1234567890.1234",
+            true,
+            1234567890,
+            1234,
+            4,
+            0,
+            false,
+        ),
+        (
+            Radix::Dec,
+            "9999999999999999",
+            false,
+            9999999999999999,
+            0,
+            0,
+            0,
+            false,
+        ),
+        (
+            Radix::Dec,
+            ".123456789012345",
             false,
             0,
-            123456789012345678901234567,
-            27,
+            123456789012345,
+            15,
+            0,
+            false,
         ),
-        (b"-0.000000000000000000000000001", true, 0, 1, 27),
-        (b"0.12345678901234567", false, 0, 12345678901234567, 17),
+        (Radix::Dec, "00.00012@-7", false, 0, 12, 5, -7, false),
         (
-            b"9.1234567890123456789012",
+            Radix::Dec,
+            "1e2147483647",
+            false,
+            1,
+            0,
+            0,
+            2147483647,
+            false,
+        ),
+        (
+            Radix::Dec,
+            "1.5e-2147483648",
+            false,
+            1,
+            5,
+            1,
+            -2147483648,
+            false,
+        ),
+        (Radix::Dec, "1.E000000000005", false, 1, 0, 0, 5, false),
+        (
+            Radix::Hex,
+            "ffffffffffffffff",
+            false,
+            u64::MAX,
+            0,
+            0,
+            0,
+            false,
+        ),
+        (Radix::Hex, "fF.8p-3", false, 0xff, 8, 1, -3, true),
+        (
+            Radix::Hex,
+            "aAfF019.0aAfF0@7",
+            false,
+            0xaaff019,
+            0xaaff0,
+            6,
+            7,
+            false,
+        ),
+        (Radix::Hex, ".1e5", false, 0, 0x1e5, 3, 0, false),
+        (Radix::Hex, "-1.@+1", true, 1, 0, 0, 1, false),
+        (Radix::Oct, "7.7e5", false, 7, 7, 1, 5, false),
+        (
+            Radix::Oct,
+            "01234567.01234P0",
+            false,
+            0o1234567,
+            0o1234,
+            5,
+            0,
+            true,
+        ),
+        (Radix::Bin, "101.1P+1", false, 5, 1, 1, 1, true),
+        (Radix::Bin, "-1111111111111.1", true, 0x1fff, 1, 1, 0, false),
+        (
+            Radix::Dec,
+            "0.123456789012345",
+            false,
+            0,
+            123456789012345,
+            15,
+            0,
+            false,
+        ),
+        (
+            Radix::Dec,
+            "-0.000000000000000000000000001",
+            true,
+            0,
+            1,
+            27,
+            0,
+            false,
+        ),
+        (
+            Radix::Dec,
+            "0.12345678901234567",
+            false,
+            0,
+            12345678901234567,
+            17,
+            0,
+            false,
+        ),
+        (
+            Radix::Dec,
+            "9.1234567890123456789012",
             false,
             9,
             1234567890123456789012,
             22,
+            0,
+            false,
         ),
         (
-            b"+123456789.1234567890123456",
+            Radix::Dec,
+            "+123456789.1234567890123456",
             false,
             123456789,
             1234567890123456,
             16,
+            0,
+            false,
         ),
         (
-            b"123456789012345.1234567890",
+            Radix::Dec,
+            "123456789012345.1234567890",
             false,
             123456789012345,
             1234567890,
             10,
-        ),
-        (
-            b"123456789012345.12345678901234567",
+            0,
             false,
-            123456789012345,
-            12345678901234567,
-            17,
         ),
         (
-            b"-12345678901234.999999999999999999999999999",
+            Radix::Dec,
+            "-12345678901234.999999999999999999999999999",
             true,
             12345678901234,
             999999999999999999999999999,
             27,
+            0,
+            false,
         ),
-        (b"7.00000000000000000000000050", false, 7, 50, 26),
     ] {
-        let want = WideDecimal {
+        let want = Some(ShortNumeral {
             negative,
             whole,
             fraction,
             places,
-        };
-        assert!(rt; wide(text) == Some(want));
-    }
-}
-
-#[test]
-fn what_is_no_wide_decimal_is_left_alone(rt: HostRuntime) {
-    for text in [
-        b"".as_slice(),
-        b"0.123456789012345",
-        b"0.1234567890123456789012345678",
-        b"0.1x345678901234567",
-        b"12345678901234567.1234567890",
-        b"1234567890123456789012345",
-        b"0.123456789012345678901234e1",
-        b"0.12345678901234567890.12345",
-        b"--0.12345678901234567890123",
-    ] {
-        assert!(rt; wide(text) == None);
-    }
-    for place in 0..28 {
-        for other in [b'/', b':', b'e', b' ', 0, 0x80, 0xb0, 0xba, 0xff] {
-            assert!(rt; wide_with(place, other) == None, "at {place}, byte {other}");
-        }
-    }
-}
-
-#[test]
-fn what_is_no_short_decimal_is_left_alone(rt: HostRuntime) {
-    for text in [
-        b"".as_slice(),
-        b"-",
-        b".",
-        b"+.",
-        b"1.2.3",
-        b"1e5",
-        b"--1",
-        b"1 ",
-        b"1234567e1",
-        b"0x10000000",
-        b"123456789.123e45",
-        b"12345678901234567",
-    ] {
-        assert!(rt; short(text) == None);
-    }
-    for digits in [1, 4, 7, 8, 9, 12, 15, 16] {
-        for place in 0..digits {
-            for other in [b'/', b':', b'e', b' ', 0, 0x80, 0xb0, 0xba, 0xff] {
-                assert!(rt; short_with(digits, place, other) == None);
-            }
-        }
-    }
-}
-
-/// A numeral without a sign, by the numbers of its parts.
-fn unsigned(digits: u128, places: u32, exponent: i32, scales_by_two: bool) -> CompactNumeral {
-    CompactNumeral {
-        negative: false,
-        digits,
-        places,
-        exponent,
-        scales_by_two,
-    }
-}
-
-#[test]
-fn compact_decimals_are_read(rt: HostRuntime) {
-    for (text, digits, places, exponent) in [
-        ("1e2147483647", 1, 0, 2147483647),
-        ("00.00012@-7", 12, 5, -7),
-        ("1.5e-2147483648", 15, 1, -2147483648),
-        ("1.5E+0000000000000000000000005", 15, 1, 5),
-        ("0000000000000000000000000000000000000000000000001", 1, 0, 0),
-        (
-            "12345678901234567890.123456789012345678",
-            12345678901234567890123456789012345678,
-            18,
-            0,
-        ),
-        (
-            "99999999999999999999999999999999999999",
-            99999999999999999999999999999999999999,
-            0,
-            0,
-        ),
-    ] {
-        let want = unsigned(digits, places, exponent, false);
-        assert!(rt; compact(Radix::Dec, text) == Some(want), "at {text}");
-    }
-}
-
-#[test]
-fn compact_numerals_of_other_radices_are_read(rt: HostRuntime) {
-    for (radix, text, digits, places, exponent, scales_by_two) in [
-        (Radix::Hex, "ff.8p-3", 0xff8, 1, -3, true),
-        (Radix::Hex, "FE@10", 0xfe, 0, 10, false),
-        (Radix::Hex, "1e5", 0x1e5, 0, 0, false),
-        (Radix::Oct, "7.7p5", 63, 1, 5, true),
-        (Radix::Oct, "7.7e5", 63, 1, 5, false),
-        (Radix::Bin, "101.1P1", 11, 1, 1, true),
-        (
-            Radix::Bin,
-            "11111111111111111111111111111111111111111111111111111111111111111111111111111111111111111111111111111111111111111111111111111111",
-            u128::MAX,
-            0,
-            0,
-            false,
-        ),
-    ] {
-        let want = unsigned(digits, places, exponent, scales_by_two);
-        assert!(rt; compact(radix, text) == Some(want), "at {text}");
-    }
-}
-
-#[test]
-fn short_numerals_are_read(rt: HostRuntime) {
-    for (radix, text, digits, places, exponent, scales_by_two) in [
-        (Radix::Dec, "00.00012@-7", 12, 5, -7, false),
-        (
-            Radix::Dec,
-            "9999999999999999",
-            9999999999999999,
-            0,
-            0,
-            false,
-        ),
-        (Radix::Hex, "ffffffffffffffff", u64::MAX, 0, 0, false),
-        (Radix::Hex, "fF.8p-3", 0xff8, 1, -3, true),
-        (Radix::Hex, ".1e5", 0x1e5, 3, 0, false),
-        (Radix::Oct, "7.7e5", 63, 1, 5, false),
-        (Radix::Bin, "101.1P+1", 11, 1, 1, true),
-    ] {
-        let want = ShortNumeral {
-            digits,
-            places,
             exponent,
-            negative: false,
             scales_by_two,
-        };
-        assert!(rt; short_in(radix, text) == Some(want), "at {text}");
-    }
-}
-
-#[test]
-fn what_is_no_compact_numeral_is_left_alone(rt: HostRuntime) {
-    for (radix, text) in [
-        (Radix::Dec, "100000000000000000000000000000000000000"),
-        (Radix::Dec, "1.00000000000000000000000000000000000000"),
-        (Radix::Hex, "100000000000000000000000000000000"),
-        (Radix::Dec, "1e2147483648"),
-        (Radix::Dec, "1e-2147483649"),
-        (Radix::Dec, "1@"),
-        (Radix::Dec, "1@+"),
-        (Radix::Dec, "1e5x"),
-        (Radix::Dec, "1p5"),
-        (Radix::Hex, "g"),
-        (Radix::Oct, "8"),
-        (Radix::Bin, "1.2"),
-        (Radix::Dec, ".e5"),
-        (Radix::Dec, "1.5.5"),
-        (Radix::Dec, ""),
-    ] {
-        assert!(rt; compact(radix, text) == None, "at {text}");
-    }
-}
-
-#[test]
-fn ending_numerals_are_read_as_alone(rt: HostRuntime) {
-    for (radix, text) in [
-        (Radix::Dec, "00.00012@-7"),
-        (Radix::Dec, "9999999999999999"),
-        (Radix::Dec, "-.12345678901234"),
-        (Radix::Dec, "+123456789.12345"),
-        (Radix::Dec, "1.E00000005"),
-        (Radix::Hex, "ffffffffffffffff"),
-        (Radix::Hex, "fF.8p-3"),
-        (Radix::Hex, "aAfF019.0aAfF0@7"),
-        (Radix::Hex, ".1e5"),
-        (Radix::Hex, "-1.@+1"),
-        (Radix::Oct, "7.7e5"),
-        (Radix::Oct, "01234567.01234P0"),
-        (Radix::Bin, "101.1P+1"),
-        (Radix::Bin, "-1111111111111.1"),
-    ] {
-        let found = ending_in(radix, text);
+        });
         assert!(rt;
-            found.is_some() && found == short_in(radix, text),
+            short(radix, text) == want && short_after(radix, text) == want,
             "at {text}"
         );
     }
 }
 
 #[test]
-fn what_is_no_ending_numeral_is_left_alone(rt: HostRuntime) {
+fn what_is_no_short_numeral_is_left_alone(rt: HostRuntime) {
     for (radix, text) in [
         (Radix::Dec, ""),
         (Radix::Dec, "-"),
         (Radix::Dec, "."),
-        (Radix::Dec, "-."),
+        (Radix::Dec, "+."),
         (Radix::Dec, ".e5"),
         (Radix::Dec, "1e"),
         (Radix::Dec, "1e-"),
         (Radix::Dec, "1e5x"),
-        (Radix::Dec, "1e123456789"),
+        (Radix::Dec, "1e2147483648"),
+        (Radix::Dec, "1e-2147483649"),
         (Radix::Dec, "1p5"),
         (Radix::Dec, "1:5"),
+        (Radix::Dec, "1 "),
         (Radix::Dec, "1.5.5"),
         (Radix::Dec, "--1"),
         (Radix::Dec, "a"),
@@ -548,7 +466,31 @@ fn what_is_no_ending_numeral_is_left_alone(rt: HostRuntime) {
         (Radix::Bin, "2"),
         (Radix::Bin, "1.2"),
         (Radix::Bin, "1/"),
+        (Radix::Hex, "0.123456789abcdef"),
+        (Radix::Dec, "0.1234567890123456789012345678"),
+        (Radix::Dec, "12345678901234567.1234567890"),
+        (Radix::Dec, "12345678901234567"),
+        (Radix::Dec, "0.123456789012345678901234e1"),
+        (Radix::Dec, "0.12345678901234567890.12345"),
+        (Radix::Dec, "--0.12345678901234567890123"),
     ] {
-        assert!(rt; ending_in(radix, text) == None, "at {text}");
+        assert!(rt;
+            short(radix, text) == None && short_after(radix, text) == None,
+            "at {text}"
+        );
+    }
+}
+
+#[test]
+fn another_byte_in_a_short_decimal_is_noticed(rt: HostRuntime) {
+    for length in [1, 4, 7, 8, 9, 12, 15, 16, 17, 24, 28] {
+        for place in 0..length {
+            for other in [b'/', b':', b'x', b' ', 0, 0x80, 0xb0, 0xba, 0xff] {
+                assert!(rt;
+                    short_with(length, place, other) == None,
+                    "at {place}, byte {other}"
+                );
+            }
+        }
     }
 }

@@ -1,41 +1,14 @@
-//! Decimals of up to 27 places: from bytes straight to numbers.
+//! Decimals of more than 16 bytes with at most 27 places: from bytes straight to numbers.
 
-ghost use Rattle.std.specs.Prelude.{◌≡◌, ◌+◌, ◌-◌, ◌*◌, ◌^◌, ◌<◌, ◌≤◌, IfSome, length};
+ghost use Rattle.std.specs.Prelude.{◌≡◌, ◌+◌, ◌-◌, ◌<◌, ◌≤◌, IfSome, length, pos};
 ghost use Rattle.fixed_numeral.specs.declared.radix.Radix.TheVariants.{Dec};
-ghost use Rattle.fixed_numeral.specs.Numeral.{Parts, HasNumeral, IsNumeral};
-ghost use Rattle.fixed_numeral.specs.PartNumbers.{IsShortDecimal};
-ghost use Rattle.fixed_numeral.specs.Inner.Segments.{IsSignAt, IsChunk, IsWideAt};
+ghost use Rattle.fixed_numeral.specs.Inner.Segments.{IsDigitRun, IsShortAt};
 
-use crate::radix::Radix;
-use crate::segment::{decimals_between, digits_at, sign_at};
-use fixed_steps::Steps;
-use std::sync::ledger::Ledger;
-
-/// The numbers of the parts of a decimal numeral without an exponent, whose fraction may not fit a word. Its magnitude is
-/// `whole`, and `fraction` divided by ten to the power `places`.
-#[derive(Clone, Copy, Debug, PartialEq, Eq)]
-pub struct WideDecimal {
-    /// Whether the sign is a minus.
-    pub negative: bool,
-    /// The number that the digits before the point spell.
-    pub whole: u64,
-    /// The number that the digits after the point spell.
-    pub fraction: u128,
-    /// How many digits there are after the point.
-    pub places: u32,
-}
-
-/// How many bytes a wide decimal has at least: a shorter one has at most 16 places, and is a short decimal.
-const MIN_LENGTH: usize = 18;
-
-/// How many bytes a wide decimal has at most.
-const MAX_LENGTH: usize = 44;
+use crate::segment::{decimals_at, decimals_between, sign_at};
+use crate::short::{LANES, ShortNumeral};
 
 /// How many digits a wide decimal has at most after its point.
 const MAX_PLACES: usize = 27;
-
-/// The place before which the digits before a point end.
-const WHOLE_LIMIT: usize = 16;
 
 /// The number of the bytes between two places, at most 16, where they are decimal digits.
 #[inline(always)]
@@ -43,13 +16,13 @@ fn upper_digits(bytes: &[u8], from: usize, to: usize) -> Option<u64>
     requires place { from ≤ to }
     requires within { to ≤ length bytes.now }
     requires few { to ≤ from + 16 }
-    ensures { IfSome result (λ n. IsChunk 10 bytes.now from to n (10 ^ (to - from))) }
+    ensures { IfSome result (λ n. IsDigitRun 10 bytes.now from to n) }
 {
     if to >= 8 {
         let number = decimals_between(bytes, from, to)?;
         return Some(number);
     }
-    let run = digits_at(bytes, Radix::Dec, from, to, 0);
+    let run = decimals_at(bytes, from, to);
     if run.end == to {
         Some(run.number)
     } else {
@@ -60,10 +33,10 @@ fn upper_digits(bytes: &[u8], from: usize, to: usize) -> Option<u64>
 /// The number of the digits after a point, at most 27, where they end with the text.
 #[inline(always)]
 fn wide_fraction_at(bytes: &[u8], from: usize) -> Option<u128>
-    requires long { MIN_LENGTH ≤ length bytes.now }
+    requires long { LANES < length bytes.now }
     requires place { from ≤ length bytes.now }
     requires few { length bytes.now ≤ from + MAX_PLACES }
-    ensures { IfSome result (λ n. IsChunk 10 bytes.now from (length bytes.now) n (10 ^ (length bytes.now - from))) }
+    ensures { IfSome result (λ n. IsDigitRun 10 bytes.now from (length bytes.now) n) }
 {
     if bytes.len() - from <= 16 {
         let number = decimals_between(bytes, from, bytes.len())?;
@@ -75,46 +48,27 @@ fn wide_fraction_at(bytes: &[u8], from: usize) -> Option<u128>
     Some(u128::from(high) * 10_000_000_000_000_000 + u128::from(low))
 }
 
-/// The numbers of the digits from a place on, with a point among them, where they end with the text.
-#[inline(always)]
-fn wide_decimal_at(bytes: &[u8], negative: bool, first: usize) -> Option<WideDecimal>
-    requires long { MIN_LENGTH ≤ length bytes.now }
-    requires place { first ≤ 1 }
-    requires sign { IsSignAt bytes.now 0 first negative }
-    ensures { IfSome result (λ d. IsWideAt bytes.now d.negative d.whole d.fraction d.places) }
+/// The numbers of a decimal numeral of more than 16 bytes without an exponent, whose point is among its first 17 bytes and has
+/// at most 27 digits after it. None otherwise.
+#[inline]
+pub(crate) fn wide_decimal(s: &[u8]) -> Option<ShortNumeral>
+    requires { LANES < length s.now }
+    ensures short { IfSome result (λ n. IsShortAt Dec s.now n.negative n.whole n.fraction n.places n.exponent n.scales_by_two) }
+    ensures plain { IfSome result (λ n. n.exponent ≡ pos 0) }
 {
-    let whole = digits_at(bytes, Radix::Dec, first, WHOLE_LIMIT, 0);
+    let (negative, first) = sign_at(s, 0);
+    let whole = decimals_at(s, first, LANES);
     let point = whole.end;
-    if bytes[point] != b'.' || bytes.len() - point - 1 > MAX_PLACES {
+    if s[point] != b'.' || s.len() - point - 1 > MAX_PLACES {
         return None;
     }
-    let fraction = wide_fraction_at(bytes, point + 1)?;
-    Some(WideDecimal {
+    let fraction = wide_fraction_at(s, point + 1)?;
+    Some(ShortNumeral {
         negative,
         whole: whole.number,
         fraction,
-        places: (bytes.len() - point - 1) as u32,
+        places: (s.len() - point - 1) as u32,
+        exponent: 0,
+        scales_by_two: false,
     })
-}
-
-/// The numbers of a decimal numeral of 18 to 44 bytes without an exponent, where the digits before its point come to an end
-/// within the first 16 bytes, and at most 27 come after it. None otherwise; `compact_numeral` or `scan` then says more. A step
-/// a byte is taken, and none where there are fewer or more bytes.
-#[inline]
-pub fn wide_decimal<L: Ledger>(s: &[u8], steps: &mut Steps<L>) -> Option<WideDecimal>
-    ensures numeral { IfSome result (λ d. IsNumeral Dec s.now) }
-    ensures parts { IfSome result (λ d. (p : Parts) → HasNumeral Dec s.now p → IsShortDecimal p d.negative d.whole d.fraction d.places) }
-    ensures fraction { IfSome result (λ d. d.fraction < 10 ^ d.places) }
-    ensures whole { IfSome result (λ d. d.whole < 10 ^ 16) }
-    ensures places { IfSome result (λ d. d.places ≤ 27) }
-    ensures counted { IfSome result (λ d. steps.new ≡ steps.old + length s.now) }
-    ensures cost { steps.new ≤ steps.old + length s.now }
-{
-    if s.len() < MIN_LENGTH || s.len() > MAX_LENGTH {
-        return None;
-    }
-    steps.advance(s.len() as u64);
-    let (negative, first) = sign_at(s, 0);
-    let decimal = wide_decimal_at(s, negative, first)?;
-    Some(decimal)
 }

@@ -39,6 +39,19 @@ impl<I: Inner, const FRAC: u32> Fixed<I, FRAC> {
         }
     }
 
+    /// The number, to be shown in base 16 with capital letters.
+    #[inline]
+    pub fn upper_hex(self) -> InBase<I, FRAC>
+        requires { FRAC ≤ I.BITS }
+        ensures number { result.number ≡ self }
+        ensures base { result.base ≡ Base.UpperHex }
+    {
+        InBase {
+            number: self,
+            base: Base::UpperHex,
+        }
+    }
+
     /// The number, to be shown in base 8.
     #[inline]
     pub fn oct(self) -> InBase<I, FRAC>

@@ -2,7 +2,8 @@
 //!
 //! `Fixed<I, FRAC>` holds bits of the integer type `I`, 8 to 64 of them, and is the number bits · 2^-FRAC. So its ulp,
 //! the distance between two neighbouring numbers, is 2^-FRAC. Contracts see a `Fixed` as its bits: `I.number x` is the
-//! whole number of ulps of `x`.
+//! whole number of ulps of `x`. The types of other crates that calls take and answer are handed on from here, so that a program
+//! lists this crate alone.
 #![tactic(auto)]
 
 pub mod conversion;
@@ -22,6 +23,9 @@ pub mod styled;
 mod text;
 
 pub use ends::Ends;
+pub use fixed_bits::{FixedBits, Inner, ReadMode};
+pub use fixed_numeral::{ParseErrorKind, ParseFixedError, Radix};
+pub use fixed_write::{Align, Base, NoMemory, Notation, Style, Text};
 pub use in_base::InBase;
 pub use number::{
     Fixed, FixedI8, FixedI16, FixedI32, FixedI64, FixedU8, FixedU16, FixedU32, FixedU64,

@@ -1,4 +1,4 @@
--- The candidate of a block of decimal digits, and the digits later it.
+-- The candidate of a block of decimal digits, and the digits after it.
 use Rattle.std.proofs.Common.{⊎_elim, Bool, false, IsTrue, ◌⊎◌, ◌↔◌, ◌≡◌, ℕ, ◌+◌, ◌-◌, ◌*◌, ◌/◌, ◌^◌, ◌<◌, ◌≤◌, List, [], length, arith, refl, ap, ◌∙◌, mul-le-mul_right, mul-le-mul_left, mul-pos, pow_pos, div-add-mod', mod-lt}
 use Rattle.std.proofs.Math.Nat.{eq_of_mul-eq-mul_left, mul-div_cancel, one-le-pow, pow-le-pow_right, le_of_mul-le-mul_left}
 use Rattle.std.proofs.lemmas.Nat.{pow-add, mul-pow}
@@ -30,9 +30,6 @@ ten_is n = mul-pow 5 2 n
 five_pos : (n : ℕ) → 0 < 5 ^ n
 five_pos n = one-le-pow n 5 (omega arith)
 
-pub fives_pos : (n fives : ℕ) → fives ≡ 5 ^ n → 0 < fives
-fives_pos n fives e = rw e (five_pos n)
-
 pub block_room : (block count bits most : ℕ) → block < 10 ^ count → bits ≤ most → block * 2 ^ bits < 10 ^ count * 2 ^ most
 block_room block count bits most s l =
     let b = two_up bits most l in
@@ -42,13 +39,7 @@ block_room block count bits most s l =
     plain ten a m p h k = omega (arith, mul-le-mul_right a h, mul-le-mul_left ten k)
 
 -- what is left of the room, over plain numbers: p = 2^frac, a = 2^bits, ten = 10^count
-plain_room : (p a unit ten : ℕ) → 0 < p → unit * p ≡ a * ten → 2 * p ≤ ten → 2 * a ≤ unit
-plain_room p a unit ten pos e h = le_of_mul-le-mul_left {k = p} (omega (arith, e, mul-le-mul_left a h)) pos
-
--- a step is at least twice what the digits later the block can make
-pub candidate_room : (block count frac most q rest unit bits : ℕ) → IsCandidate block count frac q rest unit bits → frac ≤ most → 2 * 2 ^ most ≤ 10 ^ count → 2 * 2 ^ bits ≤ unit
-candidate_room block count frac most q rest unit bits c l h = plain_room (2 ^ frac) (2 ^ bits) unit (10 ^ count) (pow_pos frac) c.scale (omega (arith, h, two_up frac most l))
-
+-- an ulp is at least twice what the digits after the block can make
 scale_up : (count frac fives : ℕ) → fives ≡ 5 ^ count → count ≤ frac → fives * 2 ^ frac ≡ 2 ^ (frac - count) * 10 ^ count
 scale_up count frac fives e l =
     let two : 2 ^ frac ≡ 2 ^ (frac - count) * 2 ^ count = ap (λ i. 2 ^ i) (let z : frac ≡ (frac - count) + count = omega arith in z) ∙ pow-add 2 (frac - count) count in
@@ -84,7 +75,7 @@ mark_room start bits l s =
     let most = ten_up bits 38 l in
     omega (arith, mul-le-mul_right (5 ^ bits) s, ten, most, five_pos bits)
 
--- ---- a block against the digits of start / 2^bits: n / l is 0.DIGITS, t and w what is later the block, two · five = 10^bits
+-- ---- a block against the digits of start / 2^bits: n / l is 0.DIGITS, t and w what is after the block, two · five = 10^bits
 module _ (block t w n l two five start : ℕ) (led : (block * t + w) * l ≡ n * (five * two * t)) (some_five : 0 < five) (some_t : 0 < t) (some_l : 0 < l) (small : w < t) where
   block_less : block < start * five → n * two < start * l
   block_less h = cancel_lt (five * t) (n * two) (start * l) (omega (arith, led, mul-le-mul_right l (inside (start * five) h)))
@@ -169,7 +160,7 @@ part_some ds rest bits l = let m = mul-pos l (ten_pos (length ds)) in omega (ari
 pub part_beyond : (ds : List ℕ) (rest bits : ℕ) → NoTrailingZero ds → (ds ≡ [] → ⊥) → 0 < scaled_rest rest bits ds
 part_beyond ds rest bits n some = let m = mul-pos (some_number 10 ds (omega arith) n some) (pow_pos bits) in omega (arith, m)
 
--- ---- where no digits later the block matter
+-- ---- where no digits after the block matter
 plain_under : (w t a rest half unit : ℕ) → 0 < a → w < t → rest + a ≤ half → 2 * half ≤ unit → 2 * (rest * t + w * a) < unit * t
 plain_under w t a rest half unit p k l h = omega (arith, mul-le-mul_right a k, mul-le-mul_right t l, mul-le-mul_right t h)
 
@@ -221,7 +212,7 @@ module _ (ds rest : List ℕ) (block count frac q left unit bits : ℕ) (below :
       let below_all = all_few (number_from_digits 10 ds) (10 ^ length ds) (2 ^ frac) (scaled_unit unit rest) (q * scaled_unit unit rest + scaled_rest left bits rest) (pow_pos frac) (whole_pos rest left unit candidate.small) (number_lt 10 ds below) same in
       omega (arith, below_all, few)
 
-  -- what the candidate and the digits later it settle to is the fraction's scaled_rest
+  -- what the candidate and the digits after it settle to is the fraction's scaled_rest
   pub part_settled : (p : ℕ) (lost : LostFraction) → IsSettled (q * scaled_unit unit rest + scaled_rest left bits rest) (scaled_unit unit rest) p lost → IsFractionUlps 10 ds frac p lost
   part_settled p lost settled =
       let some = whole_pos rest left unit candidate.small in
@@ -234,8 +225,8 @@ module _ (ds rest : List ℕ) (block count frac q left unit bits : ℕ) (below :
 pub room_of : (bits : ℕ) → bits ≤ 37 → 2 * 2 ^ bits ≤ 7450580596923828125
 room_of bits l = let most = two_up bits 37 l in omega (arith, most)
 
--- ---- what is left later the candidate, by its comparisons
--- the step later the candidate's fits a word
+-- ---- what is left after the candidate, by its comparisons
+-- the ulp after the candidate's fits a word
 pub next_room : (q s den n : ℕ) → q * den + s < n * den → den ≤ s → q + 1 < n
 next_room q s den n h l = cancel_lt den (q + 1) n (omega (arith, h, l))
 

@@ -35,7 +35,7 @@ some_digits b ds p n = (λ l. some_number b ds p n (λ e. absurd (omega (arith, 
     back [] l = absurd (omega arith)
     back (x ∷ xs) l = omega arith
 
--- ---- whether digits are left later the first
+-- ---- whether digits are left after the first
 pub longer_some : (ds : List ℕ) (count : ℕ) (longer : Bool) → (IsTrue longer ↔ (count < length ds)) → IsTrue longer ↔ (0 < length (drop count ds))
 longer_some ds count longer e = (λ t. let l = e.0 t in omega (arith, l, length-drop count ds), λ l. e.1 (omega (arith, l, length-drop count ds)))
 
@@ -82,7 +82,7 @@ led b ds rest number count missing_digits block p below trailing e small er em e
 pub led_room : (b : ℕ) (ds : List ℕ) (number count missing_digits : ℕ) → 0 < b → AllBelowBase b ds → number ≡ number_from_digits b (take count ds) → number < b ^ count → missing_digits ≡ count - length ds → number * b ^ missing_digits < b ^ count
 led_room b ds number count missing_digits p below e small em = rw em (⊎_elim (λ (l : length ds < count). short_small b ds number count p below (omega arith) e) (λ (l : count ≤ length ds). let z : b ^ (count - length ds) ≡ 1 = ap (λ i. b ^ i) (let k : count - length ds ≡ 0 = omega arith in k) ∙ pow-zero b in rw z (omega (arith, small))) (cases_lt (length ds) count))
 
--- ---- one block later another
+-- ---- one block after another
 plain_join : (b1 b2 t1 t2 n1 n2 v l i j : ℕ) → 0 < t1 → (b1 * t1 + n1) * l ≡ v * (i * t1) → (b2 * t2 + n2) * t1 ≡ n1 * (j * t2) → ((b1 * j + b2) * t2 + n2) * l ≡ v * (i * j * t2)
 plain_join b1 b2 t1 t2 n1 n2 v l i j pos e f = eq_of_mul-eq-mul_left t1 pos _ _ (omega (arith, ap (λ x. x * (j * t2)) e, ap (λ x. x * l) f))
 
@@ -101,7 +101,7 @@ led_join b ds middle rest b1 b2 i j p h k =
     below : (x y : ℕ) → b1 < x → b2 < y → b1 * y + b2 < x * y
     below x y l m = omega (arith, mul-le-mul_right y l)
 
--- zeros later all digits
+-- zeros after all digits
 zeros_same : (block n x i z t : ℕ) → (block * z + 0) * x ≡ n * i → (block * t * z + 0) * x ≡ n * (i * t)
 zeros_same block n x i z t e = omega (arith, ap (λ y. y * t) e)
 

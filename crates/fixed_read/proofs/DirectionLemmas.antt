@@ -60,7 +60,7 @@ tail_within LessThanHalf s den p h = omega (arith, h.1)
 tail_within Half s den p h = omega arith
 tail_within MoreThanHalf s den p h = h.1
 
--- ---- the block's rest and what is later it
+-- ---- the block's rest and what is after it
 module _ (rest half d y : ℕ) (low : y < d) where
   pub tail_above : rest < 2 * half → (half < rest) ⊎ ((half ≤ rest) × (0 < y)) → (2 * half * d < 2 * (rest * d + y)) × (rest * d + y < 2 * half * d)
   tail_above l big = (

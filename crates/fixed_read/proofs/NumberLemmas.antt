@@ -13,7 +13,7 @@ use Rattle.fixed_numeral.specs.Place.{NoLeadingZero}
 base_pow : (b n : ℕ) → b % 2 ≡ 0 → b ^ n ≡ (b / 2) ^ n * 2 ^ n
 base_pow b n e = ap (λ x. x ^ n) (let k : b ≡ b / 2 * 2 = omega arith in k) ∙ mul-pow (b / 2) 2 n
 
--- the digits that were taken off the last ones; long says that others stand in prefix of these
+-- the digits that were taken off the last ones; long says that there are others before these
 pub record Trailing (b m : ℕ) (last rest : List ℕ) (value : ℕ) (long : Type 0) (over : Bool) (before now : ℕ) : Type 0 where
   pub taken : List ℕ
   pub split : last ≡ taken ++ rest
@@ -87,12 +87,6 @@ pub ten_exponent : (k : ℕ) → 10 ^ k < 2 ^ 64 → k < 20
 ten_exponent k h = ⊎_elim (λ (l : k < 20). l) (λ (l : 20 ≤ k). absurd (omega (arith, h, pow-le-pow_right {n = 10} (omega arith) l))) (cases_lt k 20)
 
 -- the parts of a word
-pub cut_low : (v p : ℕ) → v < 2 ^ 64 → v - v / p * p % 18446744073709551616 ≡ v % p
-cut_low v p l =
-    let d = div-add-mod' v p in
-    let e : v / p * p % 18446744073709551616 ≡ v / p * p = mod-eq_of_lt (omega (arith, d)) in
-    rw e (omega (arith, d))
-
 -- at the end
 pow_two_small : (b w : ℕ) → 2 ≤ b → 2 ^ w ≤ b ^ w
 pow_two_small b w h = pow-le-pow_left h w

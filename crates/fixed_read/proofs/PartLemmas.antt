@@ -11,7 +11,7 @@ use Rattle.fixed_read.specs.Inner.Blocks.{IsBlockOf}
 use Rattle.fixed_read.specs.Inner.Rounding.{IsLostFraction, IsFractionUlps}
 use Rattle.fixed_read.proofs.DigitLemmas.{cancel_lt, some_digits}
 
--- ---- the block in steps, over plain numbers: x and w the powers of the base for all digits and for those later the block
+-- ---- the block in ulps, over plain numbers: x and w the powers of the base for all digits and for those after the block
 plain_split : (n p r unit t w y x block : ℕ) → p * unit + r ≡ block → (block * w + y) * x ≡ n * (unit * t * w) → n * t * (unit * w) ≡ (p * (unit * w) + (r * w + y)) * x
 plain_split n p r unit t w y x block e k = omega (arith, k, ap (λ z. z * (w * x)) e)
 
@@ -29,7 +29,7 @@ part_is b c t half block p r ds rest lost pos base power split h left =
       small = cancel_lt (2 * half) p (2 ^ t) (omega (arith, split, rw power at h.small));
     }
 
--- the digits of the block reach later the steps
+-- the digits of the block reach past the ulps
 block_power : (bits c t spare : ℕ) → c * bits ≡ t + spare → (2 ^ bits) ^ c ≡ 2 ^ spare * 2 ^ t
 block_power bits c t spare e = pow-mul 2 bits c ∙ ap (λ i. 2 ^ i) (let z : bits * c ≡ spare + t = omega (arith, e) in z) ∙ pow-add 2 spare t
 

@@ -86,9 +86,6 @@ reading_from mode r p number ulps found sign some same mag low high exact =
       exact = rw exact own.exact;
     }
 
-pub reading_is : (mode : ReadMode) (r : Radix) (p : Parts) (w f : List ℕ) (shift : ℕ) (ulps : Ulps) (found : ReadNumber) → IsScanned r p found.number.negative w f shift → IsMagnitude (direction mode found.number.negative) (spelled (base r) w f shift) found.format.frac ulps → found.number.low ≡ ulps.low → found.number.has_high_bits ≡ ulps.has_high_bits → found.exact ≡ ulps.is_exact → IsReading mode r p found
-reading_is mode r p w f shift ulps found h mag low high exact = reading_from mode r p (spelled (base r) w f shift) ulps found h.sign (one-le-pow (length f) (base r) (base_some r)) h.value mag low high exact
-
 -- ---- what a scan says of its views
 pub split_numeral : (r : Radix) (Has : Parts → Type 0) (negative : Bool) (w f : List ℕ) (shift : ℕ) → ((p : Parts) × Has p) → ((p : Parts) → Has p → IsScanned r p negative w f shift) → IsSplitNumeral r w f shift
 split_numeral r Has negative w f shift (p, h) scanned =

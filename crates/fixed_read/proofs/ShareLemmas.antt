@@ -67,9 +67,6 @@ padded_share f p n frac q rest unit l h = record {
     narrower b a t k some e s = cancel_eq (f * k * unit) ((q * unit + rest) * a) b some (omega (arith, s, ap (λ x. (q * unit + rest) * x) e))
 
 -- what is lost, where a share is left
-pub split_of_share : (num den frac q rest unit : ℕ) (lost : LostFraction) → IsShare num den frac q rest unit → IsLostFraction lost rest unit → IsSplitUlps num den frac q lost
-split_of_share num den frac q rest unit lost h left = record { rest = rest; unit = unit; some = omega (arith, h.small); split = h.split; left = left }
-
 -- a share after a whole number
 pub share_whole : (w num den frac q count rest unit : ℕ) → count ≡ w * 2 ^ frac + q → IsShare num den frac q rest unit → IsShare (w * den + num) den frac count rest unit
 share_whole w num den frac q count rest unit e h = record { small = h.small; split = rw e (plain (2 ^ frac) h.split) }

@@ -6,7 +6,7 @@ use Rattle.std.proofs.lemmas.Nat.{pow-add}
 use Rattle.std.proofs.Math.Nat.{one-le-pow, pow-le-pow_right}
 use Rattle.fixed_numeral.proofs.Public.{pow-mul}
 use Rattle.fixed_numeral.specs.Numeral.{Parts, Exponent, base}
-use Rattle.fixed_numeral.specs.PartNumbers.{IsCompactNumeral, is_power_of_two, placed_magnitude}
+use Rattle.fixed_numeral.specs.PartNumbers.{IsShortNumeral, is_power_of_two, placed_magnitude}
 use Rattle.fixed_numeral.specs.Spelled.{IsSameNumber}
 use Rattle.fixed_numeral.specs.Value.{Fraction, scaled, magnitude}
 use Rattle.fixed_numeral.specs.declared.radix.Radix.{Radix}
@@ -141,6 +141,13 @@ pub whole_same : (w f p digits : ℕ) (z : ℤ) → pos 0 <ℤ z → w ≡ digit
 whole_same w f p digits (pos x) l ew ef ep = rw (ep, ef) (omega (arith, ew))
 whole_same w f p digits (negsuc x) l ew ef ep = absurd (omega (arith, ints))
 
+pub plain_same : (w f p : ℕ) → IsSameNumber (record { num = w * 10 ^ p + f; den = 10 ^ p }) (scaled (w * 10 ^ p + f) 1 10 (pos 0 -ℤ pos p))
+plain_same w f zero = omega arith
+plain_same w f (suc p) = let z : pos 0 -ℤ pos (suc p) ≡ negsuc p = omega (arith, ints) in rw z (omega arith)
+
+pub thirteen_below : (f p : ℕ) → p ≤ 13 → f < 10 ^ p → f < 2 ^ 64
+thirteen_below f p l b = let most : 10 ^ p ≤ 10 ^ 13 = pow-le-pow_right (omega arith) l in omega (arith, most, b)
+
 pub fraction_same : (w f p digits : ℕ) (z : ℤ) → (pos 0 <ℤ z → ⊥) → w * 10 ^ down_of z + f ≡ digits → p ≡ down_of z → IsSameNumber (record { num = w * 10 ^ p + f; den = 10 ^ p }) (scaled digits 1 10 z)
 fraction_same w f p digits (pos zero) l e ep = rw ep (omega (arith, e))
 fraction_same w f p digits (pos (suc x)) l e ep = absurd (l (omega (arith, ints)))
@@ -176,21 +183,8 @@ far_some digits by b e = (λ t. mul-pos (e.0 t) (pow_pos (by - 64)), λ l. e.1 (
     some zero t l = absurd (omega (arith, l))
     some (suc d) t l = omega arith
 
-pub near_up : (digits bits high low : ℕ) → bits < 64 → high ≡ digits / 2 ^ (64 - bits) → low ≡ digits % 2 ^ (64 - bits) → digits * 2 ^ bits ≡ high * 2 ^ 64 + low * 2 ^ bits
-near_up digits bits high low l eh el =
-    let p : 2 ^ 64 ≡ 2 ^ (64 - bits) * 2 ^ bits = ap (λ i. 2 ^ i) (let z : 64 ≡ (64 - bits) + bits = omega arith in z) ∙ pow-add 2 (64 - bits) bits in
-    plain (2 ^ (64 - bits)) (2 ^ bits) (2 ^ 64) p (rw (← eh, ← el) at (div-add-mod' digits (2 ^ (64 - bits))))
-  where
-    plain : (a b m : ℕ) → m ≡ a * b → high * a + low ≡ digits → digits * b ≡ high * m + low * b
-    plain a b m e f = omega (arith, ap (λ x. high * x) e, ap (λ x. x * b) f)
-
-pub low_room : (low bits : ℕ) → bits < 64 → low < 2 ^ (64 - bits) → low * 2 ^ bits < 2 ^ 64
-low_room low bits l s =
-    let p : 2 ^ 64 ≡ 2 ^ (64 - bits) * 2 ^ bits = ap (λ i. 2 ^ i) (let z : 64 ≡ (64 - bits) + bits = omega arith in z) ∙ pow-add 2 (64 - bits) bits in
-    plain (2 ^ (64 - bits)) (2 ^ bits) (2 ^ 64) p (pow_pos bits) s
-  where
-    plain : (a b m : ℕ) → m ≡ a * b → 0 < b → low < a → low * b < m
-    plain a b m e q k = omega (arith, e, mul-le-mul_right b k)
+pub far_below : (digits by : ℕ) → 65 ≤ by → digits < 2 ^ 64 → 2 * digits < 2 ^ by
+far_below digits by l s = let p : 2 ^ 65 ≤ 2 ^ by = pow-le-pow_right {n = 2} (omega arith) l in omega (arith, p, s)
 
 pub lowered_split : (num den frac digits by count rest : ℕ) (lost : LostFraction) → digits ≡ count * 2 ^ by + rest → IsLostFraction lost rest (2 ^ by) → digits * den ≡ num * 2 ^ frac * 2 ^ by → IsSplitUlps num den frac count lost
 lowered_split num den frac digits by count rest lost e left same = record {
@@ -219,9 +213,6 @@ cross_down digits up down num den frac l e =
 
     two : (n a u : ℕ) → n * (a * u) ≡ n * a * u
     two n a u = omega arith
-
-pub shifted_down_far : (digits by : ℕ) → 128 ≤ by → digits < 2 ^ 127 → 2 * digits < 2 ^ by
-shifted_down_far digits by l s = let p : 2 ^ 128 ≤ 2 ^ by = pow-le-pow_right {n = 2} (omega arith) l in omega (arith, p, s)
 
 pub cross_frac : (digits up down num den frac : ℕ) → digits * 2 ^ up * den ≡ num * 2 ^ down → digits * 2 ^ (up + frac) * den ≡ num * 2 ^ frac * 2 ^ down
 cross_frac digits up down num den frac e = rw (pow-add 2 up frac) (plain (2 ^ up) (2 ^ frac) (2 ^ down) e)
@@ -294,12 +285,19 @@ never_two : (e : Option Exponent) → is_power_of_two Dec e ≡ false
 never_two None = refl
 never_two (Some e) = refl
 
-pub decimal_value : (r : Radix) (p : Parts) (negative : Bool) (digits places : ℕ) (exponent : ℤ) (two : Bool) → r ≡ Dec → IsCompactNumeral r p negative digits places exponent two → magnitude r p ≡ scaled digits 1 10 (exponent -ℤ pos places)
-decimal_value r p negative digits places exponent two e h =
+pub decimal_value : (r : Radix) (p : Parts) (negative : Bool) (whole fraction places : ℕ) (exponent : ℤ) (two : Bool) → r ≡ Dec → IsShortNumeral r p negative whole fraction places exponent two → magnitude r p ≡ scaled (whole * 10 ^ places + fraction) 1 10 (exponent -ℤ pos places)
+decimal_value r p negative whole fraction places exponent two e h =
     let none : two ≡ false = h.separator ∙ subst (λ x. is_power_of_two x p.exponent ≡ false) (sym e) (never_two p.exponent) in
-    h.value ∙ ap (placed_magnitude r digits places exponent) none ∙ ap (λ x. placed_magnitude x digits places exponent false) e
+    h.value ∙ ap (placed_magnitude r (whole * base r ^ places + fraction) places exponent) none ∙ ap (λ x. placed_magnitude x (whole * base x ^ places + fraction) places exponent false) e
 
 -- ---- digits that fit a word
+pub word_room : (bits places whole fraction : ℕ) → bits ≤ 4 → whole * (2 ^ bits) ^ places + fraction < (2 ^ bits) ^ 16 → whole * 2 ^ (bits * places) + fraction < 2 ^ 64
+word_room bits places whole fraction l h =
+    let most : bits * 16 ≤ 64 = omega arith in
+    let room : 2 ^ (bits * 16) ≤ 2 ^ 64 = pow-le-pow_right {n = 2} (omega arith) most in
+    let fits : whole * 2 ^ (bits * places) + fraction < 2 ^ (bits * 16) = rw (pow-mul 2 bits places, pow-mul 2 bits 16) at h in
+    omega (arith, fits, room)
+
 -- x is above n / d exactly where x * d is above n
 pub above_quotient : (x n d : ℕ) → 0 < d → (n / d < x) ↔ (n < x * d)
 above_quotient x n d some =

@@ -17,7 +17,7 @@
 //!
 //! Ulps coarser than 2^-32 are made of those of 2^-32.
 
-ghost use Rattle.std.specs.Prelude.{◌≡◌, ◌+◌, ◌-◌, ◌*◌, ◌^◌, ◌<◌, ◌≤◌, ◌⊎◌, ◌↔◌, [], IsTrue, List, ℕ, drop, false, length, MatchOption};
+ghost use Rattle.std.specs.Prelude.{◌≡◌, ◌+◌, ◌-◌, ◌*◌, ◌^◌, ◌<◌, ◌≤◌, ◌⊎◌, [], IsTrue, List, ℕ, drop, false, length, MatchOption};
 ghost use Rattle.std.specs.Int.Digits.{number_from_digits, AllBelowBase};
 ghost use Rattle.std.specs.Ordering.{MatchOrdering};
 ghost use Rattle.fixed_numeral.specs.Place.{NoTrailingZero};

@@ -20,7 +20,7 @@ const FIVE_TO_13: u64 = 1220703125;
 pub const FIVE_TO_27: u64 = 7450580596923828125;
 
 /// The whole ulps of a block of 27 digits, and the rest over 5^27 of an ulp.
-#[derive(Clone, Copy, Debug, PartialEq, Eq)]
+#[derive(Clone, Copy)]
 pub struct Candidate {
     /// The whole ulps.
     pub ulps: u64,
@@ -77,7 +77,7 @@ fn divided_by_five_to_13(number: u64) -> (u64, u64)
 }
 
 /// Whole ulps, and what is left of one over a unit.
-#[derive(Clone, Copy, Debug, PartialEq, Eq)]
+#[derive(Clone, Copy)]
 pub struct SharedUlps {
     /// The whole ulps.
     pub ulps: u64,
@@ -179,21 +179,13 @@ pub fn ulps_of_few_places(fraction: u64, places: u32, frac: u32) -> SharedUlps
 
 /// The ulps of 2^-frac in fraction / 10^places, and what is lost.
 #[inline]
-pub fn ulps_of_fraction(fraction: u128, places: u32, frac: u32) -> (u64, LostFraction)
+pub fn ulps_of_many_places(fraction: u128, places: u32, frac: u32) -> (u64, LostFraction)
     requires fraction { fraction < 10 ^ places }
+    requires least { 8 ≤ places }
     requires places { places ≤ 27 }
     requires frac { frac ≤ 64 }
     ensures split { IsSplitUlps fraction (10 ^ places) frac result.0 result.1 }
     ensures below { result.0 < 2 ^ frac }
 {
-    if places <= 13 {
-        let shared = ulps_of_few_places(to_u64(fraction), places, frac);
-        (
-            shared.ulps,
-            lost_fraction_of_share(shared.rest, shared.unit),
-        )
-    } else {
-        let block = fraction * u128::from(power_of_ten(27 - places));
-        block_of_27(block, frac)
-    }
+    block_of_27(fraction * u128::from(power_of_ten(27 - places)), frac)
 }

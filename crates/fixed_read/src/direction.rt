@@ -6,7 +6,7 @@ ghost use Rattle.fixed_read.specs.Inner.Directions.{direction};
 use fixed_bits::ReadMode;
 
 /// To which of the two ulps around it a magnitude is rounded.
-#[derive(Clone, Copy, Debug, PartialEq, Eq)]
+#[derive(Clone, Copy)]
 pub enum Direction {
     /// To the nearest ulp, of two equally near the even one.
     Nearest,

@@ -2,7 +2,7 @@
 
 ghost use Rattle.std.specs.Prelude.{◌≡◌, ◌≤◌, ◌↔◌, ◌⊎◌, Err, IsOk, IfOk, IfErr};
 ghost use Rattle.fixed_bits.specs.declared.mode.ReadMode.TheVariants.{NearestEven};
-ghost use Rattle.fixed_numeral.specs.Literal.{HasLiteral, HasLiteralCause, IsLiteral, literal_radix};
+ghost use Rattle.fixed_numeral.specs.Literal.{HasLiteral, HasLiteralCause, literal_radix};
 ghost use Rattle.fixed_numeral.specs.Numeral.{Parts};
 ghost use Rattle.fixed_numeral.specs.declared.error.ParseErrorKind.TheVariants.{Overflow};
 ghost use Rattle.fixed_read.specs.Reading.{IsReadInRange, IsReadNumber, IsReadOutOfRange};

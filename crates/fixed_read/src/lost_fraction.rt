@@ -7,7 +7,7 @@ ghost use Rattle.fixed_read.specs.Inner.Rounding.{IsLostFraction};
 use crate::direction::Direction;
 
 /// What is left of an ulp after the whole ones.
-#[derive(Clone, Copy, Debug, PartialEq, Eq)]
+#[derive(Clone, Copy)]
 pub enum LostFraction {
     /// Nothing.
     Zero,

@@ -1,7 +1,7 @@
 //! How many ulps the magnitude of a numeral is.
 
-ghost use Rattle.std.specs.Prelude.{◌≡◌, ◌+◌, ◌-◌, ◌*◌, ◌/◌, ◌%◌, ◌^◌, ◌<◌, ◌≤◌, ◌↔◌, ◌⊎◌, [], ℕ, List, IsTrue, length};
-ghost use Rattle.std.specs.Int.Digits.{number_from_digits, AllBelowBase};
+ghost use Rattle.std.specs.Prelude.{◌≡◌, ◌+◌, ◌-◌, ◌*◌, ◌/◌, ◌%◌, ◌^◌, ◌<◌, ◌≤◌, ℕ, List};
+ghost use Rattle.std.specs.Int.Digits.{AllBelowBase};
 ghost use Rattle.fixed_numeral.specs.Numeral.{base};
 ghost use Rattle.fixed_numeral.specs.Scanned.{exponent_unit};
 ghost use Rattle.fixed_numeral.specs.Spelled.{spelled};
@@ -21,7 +21,7 @@ use fixed_steps::Steps;
 use std::sync::ledger::Ledger;
 
 /// A magnitude rounded to whole ulps.
-#[derive(Clone, Copy, Debug, PartialEq, Eq)]
+#[derive(Clone, Copy)]
 pub struct Ulps {
     /// The lowest 64 bits of the number of ulps.
     pub low: u64,

@@ -3,7 +3,7 @@
 ghost use Rattle.std.specs.Prelude.{◌≡◌, ◌+◌, ◌*◌, ◌<◌, ◌≤◌, ◌↔◌, ◌⊎◌, ℤ, Err, IsOk, IfOk, IfErr, length};
 ghost use Rattle.fixed_bits.specs.Images.{IsSaturated, IsWrapped};
 ghost use Rattle.fixed_bits.specs.Numbers.{IsNumber};
-ghost use Rattle.fixed_bits.specs.Ranges.{IsInRange, IsOutOfRange};
+ghost use Rattle.fixed_bits.specs.Ranges.{IsInRange};
 ghost use Rattle.fixed_bits.specs.declared.format.Policy.TheVariants.{Saturating, Wrapping};
 ghost use Rattle.fixed_bits.specs.declared.mode.ReadMode.TheVariants.{NearestEven};
 ghost use Rattle.fixed_numeral.specs.Answer.{IsReadOrRefused};

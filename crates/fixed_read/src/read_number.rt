@@ -1,9 +1,9 @@
 //! The core of reading: one reading of a numeral into a format chosen at run time.
 //!
-//! A decimal of at most 24 bytes and a numeral whose digits fit 128 bits are read from the numbers of their parts
-//! (`short_numeral`). Any other is scanned, and its digits are looked at (`magnitude`). All other readers are shells over this.
+//! A short numeral is read from the numbers of its parts (`short_numeral`). Any other is scanned, and its digits are looked at
+//! (`magnitude`). All other readers are shells over this.
 
-ghost use Rattle.std.specs.Prelude.{◌≡◌, ◌+◌, ◌*◌, ◌^◌, ◌<◌, ◌≤◌, ◌↔◌, ℤ, IsTrue, IsOk, IfOk, IfErr, IsNone, IfSome, drop, length};
+ghost use Rattle.std.specs.Prelude.{◌≡◌, ◌≢◌, ◌+◌, ◌*◌, ◌^◌, ◌<◌, ◌≤◌, ◌↔◌, ◌⊎◌, ℤ, pos, IsTrue, IsOk, IfOk, IfErr, IsNone, IfSome, drop, length};
 ghost use Rattle.fixed_bits.specs.Formats.{IsFormat};
 ghost use Rattle.fixed_bits.specs.Images.{IsImage};
 ghost use Rattle.fixed_bits.specs.Numbers.{IsNumber};
@@ -11,13 +11,13 @@ ghost use Rattle.fixed_bits.specs.Ranges.{IsInRange, IsOutOfRange, IsWide};
 ghost use Rattle.fixed_bits.specs.declared.mode.ReadMode.TheVariants.{NearestEven};
 ghost use Rattle.fixed_numeral.specs.Answer.{IsReadOrRefused};
 ghost use Rattle.fixed_numeral.specs.Literal.{HasLiteral, HasLiteralCause, IsLiteral, literal_radix};
-ghost use Rattle.fixed_numeral.specs.Numeral.{Parts, HasNumeral, IsNumeral, is_minus};
+ghost use Rattle.fixed_numeral.specs.Numeral.{Parts, HasNumeral, IsNumeral, base, is_minus};
 ghost use Rattle.fixed_numeral.specs.Spelled.{IsSameNumber};
 ghost use Rattle.fixed_numeral.specs.Value.{Fraction, magnitude};
 ghost use Rattle.fixed_numeral.specs.declared.radix.Radix.{Radix};
 ghost use Rattle.fixed_bits.specs.declared.mode.ReadMode.{ReadMode};
 ghost use Rattle.fixed_read.specs.Inner.Directions.{direction};
-ghost use Rattle.fixed_numeral.specs.PartNumbers.{IsCompactNumeral, IsShortDecimal};
+ghost use Rattle.fixed_numeral.specs.PartNumbers.{IsShortNumeral, HasFewDigits};
 ghost use Rattle.fixed_numeral.specs.Scanned.{IsScanned};
 ghost use Rattle.fixed_numeral.specs.declared.radix.Radix.TheVariants.{Dec};
 ghost use Rattle.fixed_read.specs.Reading.{IsReading};
@@ -25,13 +25,9 @@ ghost use Rattle.fixed_read.specs.Inner.Rounding.{IsMagnitude, IsSplitNumeral};
 
 use crate::direction::direction_of;
 use crate::magnitude::{Ulps, magnitude};
-use crate::short_numeral::{compact_ulps, short_ulps, ulps_of_short_decimal, ulps_of_wide_decimal};
+use crate::short_numeral::short_ulps;
 use fixed_bits::{Format, Number, Policy, ReadMode};
-use fixed_numeral::{
-    CompactNumeral, ParseFixedError, Radix, Scanned, ShortDecimal, ShortNumeral, WideDecimal,
-    compact_numeral, ending_decimal, ending_numeral, scan, scan_lit, short_decimal, short_numeral,
-    wide_decimal,
-};
+use fixed_numeral::{ParseFixedError, Radix, Scanned, ShortNumeral, scan, scan_lit, short_numeral};
 use fixed_steps::Steps;
 use std::marker::Brand;
 use std::sync::ledger::{Blank, Ledger};
@@ -151,163 +147,46 @@ fn number_from(format: Format, negative: bool, ulps: Ulps) -> ReadNumber
     }
 }
 
-/// The number that a short decimal reads as.
-#[inline(always)]
-fn number_of_short(found: ShortDecimal, format: Format, mode: ReadMode) -> ReadNumber
-    requires fraction { found.fraction < 10 ^ found.places }
-    requires whole { found.whole < 10 ^ 16 }
-    requires places { found.places ≤ 16 }
-    ensures reading { (p : Parts) → IsShortDecimal p found.negative found.whole found.fraction found.places → IsReading mode Dec p result }
-    ensures format { result.format ≡ format }
-{
-    let direction = direction_of(mode, found.negative);
-    let ulps = ulps_of_short_decimal(found, format.frac(), direction);
-    number_from(format, found.negative, ulps)
-}
-
-/// The number that a wide decimal reads as.
-#[inline]
-fn number_of_wide(found: WideDecimal, format: Format, mode: ReadMode) -> ReadNumber
-    requires fraction { found.fraction < 10 ^ found.places }
-    requires whole { found.whole < 10 ^ 16 }
-    requires places { found.places ≤ 27 }
-    ensures reading { (p : Parts) → IsShortDecimal p found.negative found.whole found.fraction found.places → IsReading mode Dec p result }
-    ensures format { result.format ≡ format }
-{
-    let direction = direction_of(mode, found.negative);
-    let ulps = ulps_of_wide_decimal(found, format.frac(), direction);
-    number_from(format, found.negative, ulps)
-}
-
-/// The number that a compact numeral reads as. None where its digits have to be looked at.
-#[inline]
-fn number_of_compact(
-    found: CompactNumeral,
-    radix: Radix,
-    format: Format,
-    mode: ReadMode,
-) -> Option<ReadNumber>
-    ensures reading { IfSome result (λ n. (p : Parts) → IsCompactNumeral radix p found.negative found.digits found.places found.exponent found.scales_by_two → IsReading mode radix p n) }
-    ensures format { IfSome result (λ n. n.format ≡ format) }
-{
-    match compact_ulps(
-        found,
-        radix,
-        format.frac(),
-        direction_of(mode, found.negative),
-    ) {
-        Some(ulps) => Some(number_from(format, found.negative, ulps)),
-        None => None,
-    }
-}
-
 /// The number that a short numeral reads as. None where its digits have to be looked at.
 #[inline(always)]
-fn number_of_short_numeral(
+fn number_of_short(
     found: ShortNumeral,
     radix: Radix,
     format: Format,
     mode: ReadMode,
 ) -> Option<ReadNumber>
-    ensures reading { IfSome result (λ n. (p : Parts) → IsCompactNumeral radix p found.negative found.digits found.places found.exponent found.scales_by_two → IsReading mode radix p n) }
+    requires fraction { found.fraction < base radix ^ found.places }
+    requires whole { found.whole < base radix ^ 16 }
+    requires places { found.places ≤ 27 }
+    requires few { ((radix ≢ Dec) ⊎ (found.exponent ≢ pos 0)) → HasFewDigits (base radix) found.whole found.fraction found.places }
+    ensures reading { IfSome result (λ n. (p : Parts) → IsShortNumeral radix p found.negative found.whole found.fraction found.places found.exponent found.scales_by_two → IsReading mode radix p n) }
     ensures format { IfSome result (λ n. n.format ≡ format) }
 {
-    match short_ulps(
-        found,
-        radix,
-        format.frac(),
-        direction_of(mode, found.negative),
-    ) {
+    let direction = direction_of(mode, found.negative);
+    match short_ulps(found, radix, format.frac(), direction) {
         Some(ulps) => Some(number_from(format, found.negative, ulps)),
         None => None,
     }
 }
 
-/// The length of the longest numeral that `compact_numeral` is asked to read: as many digits as fit 128 bits, a sign, a point and
-/// an exponent.
-fn compact_length(radix: Radix) -> usize {
-    match radix {
-        Radix::Dec => 52,
-        _ => 142,
-    }
-}
-
-/// Reads a numeral of at most 16 bytes. None says nothing. A function of its own, as is each of the ways to read, so that none
-/// pays for the room that another one needs.
-#[inline(never)]
-fn read_short_numeral<L: Ledger>(
-    s: &[u8],
-    radix: Radix,
-    format: Format,
-    mode: ReadMode,
-    steps: &mut Steps<L>,
-) -> Option<ReadNumber>
-    ensures numeral { IfSome result (λ found. IsNumeral radix s.now) }
-    ensures reading { IfSome result (λ found. (p : Parts) → HasNumeral radix s.now p → IsReading mode radix p found) }
-    ensures format { IfSome result (λ found. found.format ≡ format) }
-    ensures cost { steps.new ≤ steps.old + length s.now }
-{
-    match short_numeral(s, radix, steps) {
-        Some(found) => number_of_short_numeral(found, radix, format, mode),
-        None => None,
-    }
-}
-
-/// Reads a numeral whose digits fit 128 bits. None says nothing.
-fn read_compact<L: Ledger>(
-    s: &[u8],
-    radix: Radix,
-    format: Format,
-    mode: ReadMode,
-    steps: &mut Steps<L>,
-) -> Option<ReadNumber>
-    ensures numeral { IfSome result (λ found. IsNumeral radix s.now) }
-    ensures reading { IfSome result (λ found. (p : Parts) → HasNumeral radix s.now p → IsReading mode radix p found) }
-    ensures format { IfSome result (λ found. found.format ≡ format) }
-    ensures cost { steps.new ≤ steps.old + length s.now }
-{
-    if s.len() > compact_length(radix) {
-        return None;
-    }
-    match compact_numeral(s, radix, steps) {
-        Some(found) => number_of_compact(found, radix, format, mode),
-        None => None,
-    }
-}
-
-/// Reads a short decimal without an exponent. None says nothing.
-#[inline]
+/// Reads a short numeral that a text ends with. `None` only means: try the next way.
+#[inline(always)]
 fn read_short<L: Ledger>(
-    s: &[u8],
+    text: &[u8],
+    from: usize,
+    radix: Radix,
     format: Format,
     mode: ReadMode,
     steps: &mut Steps<L>,
 ) -> Option<ReadNumber>
-    ensures numeral { IfSome result (λ found. IsNumeral Dec s.now) }
-    ensures reading { IfSome result (λ found. (p : Parts) → HasNumeral Dec s.now p → IsReading mode Dec p found) }
+    requires place { from ≤ length text.now }
+    ensures numeral { IfSome result (λ found. IsNumeral radix (drop from text.now)) }
+    ensures reading { IfSome result (λ found. (p : Parts) → HasNumeral radix (drop from text.now) p → IsReading mode radix p found) }
     ensures format { IfSome result (λ found. found.format ≡ format) }
-    ensures cost { steps.new ≤ steps.old + length s.now }
+    ensures cost { steps.new ≤ steps.old + length (drop from text.now) }
 {
-    match short_decimal(s, steps) {
-        Some(found) => Some(number_of_short(found, format, mode)),
-        None => None,
-    }
-}
-
-/// Reads a decimal of up to 27 places without an exponent. None says nothing.
-fn read_wide<L: Ledger>(
-    s: &[u8],
-    format: Format,
-    mode: ReadMode,
-    steps: &mut Steps<L>,
-) -> Option<ReadNumber>
-    ensures numeral { IfSome result (λ found. IsNumeral Dec s.now) }
-    ensures reading { IfSome result (λ found. (p : Parts) → HasNumeral Dec s.now p → IsReading mode Dec p found) }
-    ensures format { IfSome result (λ found. found.format ≡ format) }
-    ensures cost { steps.new ≤ steps.old + length s.now }
-{
-    match wide_decimal(s, steps) {
-        Some(found) => Some(number_of_wide(found, format, mode)),
+    match short_numeral(text, from, radix, steps) {
+        Some(found) => number_of_short(found, radix, format, mode),
         None => None,
     }
 }
@@ -333,68 +212,81 @@ fn read_scanned<L: Ledger>(
     }
 }
 
-/// Reads any numeral, by the numbers of its parts where they fit 128 bits.
-fn read_by_parts<L: Ledger>(
-    s: &[u8],
+/// `read_short` in radix 2, 8 or 16: apart, so that none pays for the room that the other needs.
+#[inline(never)]
+fn read_short_apart<L: Ledger>(
+    text: &[u8],
+    from: usize,
     radix: Radix,
     format: Format,
     mode: ReadMode,
     steps: &mut Steps<L>,
-) -> Result<ReadNumber, ParseFixedError>
-    ensures reading { IsReadOrRefused radix s.now (IsReading mode radix) result }
-    ensures format { IfOk result (λ found. found.format ≡ format) }
-    ensures cost { steps.new ≤ steps.old + 3 * length s.now + 8 * format.width + 64 }
+) -> Option<ReadNumber>
+    requires place { from ≤ length text.now }
+    ensures numeral { IfSome result (λ found. IsNumeral radix (drop from text.now)) }
+    ensures reading { IfSome result (λ found. (p : Parts) → HasNumeral radix (drop from text.now) p → IsReading mode radix p found) }
+    ensures format { IfSome result (λ found. found.format ≡ format) }
+    ensures cost { steps.new ≤ steps.old + length (drop from text.now) }
 {
-    match read_compact(s, radix, format, mode, steps) {
-        Some(found) => Ok(found),
-        None => read_scanned(s, radix, format, mode, steps),
-    }
+    read_short(text, from, radix, format, mode, steps)
 }
 
-/// Reads any numeral that no short way reads.
-#[inline(never)]
-fn read_longer<L: Ledger>(
-    s: &[u8],
-    radix: Radix,
-    format: Format,
-    mode: ReadMode,
-    steps: &mut Steps<L>,
-) -> Result<ReadNumber, ParseFixedError>
-    ensures reading { IsReadOrRefused radix s.now (IsReading mode radix) result }
-    ensures format { IfOk result (λ found. found.format ≡ format) }
-    ensures cost { steps.new ≤ steps.old + 4 * length s.now + 8 * format.width + 64 }
+/// The bytes of a text from a place on.
+#[inline(always)]
+fn bytes_from(text: &[u8], from: usize) -> &[u8]
+    requires { from ≤ length text.now }
+    ensures { result.now ≡ drop from text.now }
 {
-    match radix {
-        Radix::Dec => match read_wide(s, format, mode, steps) {
-            Some(found) => Ok(found),
-            None => read_by_parts(s, radix, format, mode, steps),
+    &text[from..]
+}
+
+/// A copy, part by part: where a number comes from a call, the parts are loaded as they were stored, and a processor need not wait
+/// until bytes that were stored one by one can be loaded as a word.
+#[inline(always)]
+fn copy_of(found: &ReadNumber) -> ReadNumber
+    ensures { result ≡ found.now }
+{
+    ReadNumber {
+        format: found.format,
+        number: Number {
+            negative: found.number.negative,
+            low: found.number.low,
+            has_high_bits: found.number.has_high_bits,
         },
-        _ => read_by_parts(s, radix, format, mode, steps),
+        exact: found.exact,
     }
 }
 
-/// The length of the longest numeral that `short_numeral` is asked to read.
-const SHORT_LENGTH: usize = 16;
-
-/// Reads any numeral but a short decimal.
-#[inline(never)]
-fn read_other<L: Ledger>(
-    s: &[u8],
+/// Reads the numeral that a text ends with, from a place on, as `read_format` reads it alone. It is quickest where there are 16
+/// bytes before it: then a short numeral is read by whole words, whatever the counts of its digits.
+///
+/// # Errors
+///
+/// Other bytes than a numeral of the radix are refused with the kind of their cause.
+#[inline(always)]
+pub fn read_ending<L: Ledger>(
+    text: &[u8],
+    from: usize,
     radix: Radix,
     format: Format,
     mode: ReadMode,
     steps: &mut Steps<L>,
 ) -> Result<ReadNumber, ParseFixedError>
-    ensures reading { IsReadOrRefused radix s.now (IsReading mode radix) result }
+    requires place { from ≤ length text.now }
+    ensures reading { IsReadOrRefused radix (drop from text.now) (IsReading mode radix) result }
     ensures format { IfOk result (λ found. found.format ≡ format) }
-    ensures cost { steps.new ≤ steps.old + 5 * length s.now + 8 * format.width + 64 }
+    ensures cost { steps.new ≤ steps.old + 8 * (length (drop from text.now) + format.width) + 64 }
 {
-    if s.len() > SHORT_LENGTH {
-        return read_longer(s, radix, format, mode, steps);
+    if radix == Radix::Dec {
+        if let Some(found) = read_short(text, from, radix, format, mode, steps) {
+            return Ok(found);
+        }
+    } else if let Some(found) = &read_short_apart(text, from, radix, format, mode, steps) {
+        return Ok(copy_of(found));
     }
-    match read_short_numeral(s, radix, format, mode, steps) {
-        Some(found) => Ok(found),
-        None => read_longer(s, radix, format, mode, steps),
+    match &read_scanned(bytes_from(text, from), radix, format, mode, steps) {
+        Ok(found) => Ok(copy_of(found)),
+        Err(error) => Err(*error),
     }
 }
 
@@ -416,162 +308,7 @@ pub fn read_format<L: Ledger>(
     ensures format { IfOk result (λ found. found.format ≡ format) }
     ensures cost { steps.new ≤ steps.old + 8 * (length s.now + format.width) + 64 }
 {
-    match radix {
-        Radix::Dec => match read_short(s, format, mode, steps) {
-            Some(found) => Ok(found),
-            None => read_other(s, radix, format, mode, steps),
-        },
-        _ => read_other(s, radix, format, mode, steps),
-    }
-}
-
-/// The bytes of a text from a place on.
-#[inline(always)]
-fn bytes_from(text: &[u8], from: usize) -> &[u8]
-    requires { from ≤ length text.now }
-    ensures { result.now ≡ drop from text.now }
-{
-    &text[from..]
-}
-
-/// Reads a decimal without an exponent that a text ends with. None says nothing.
-#[inline(always)]
-fn read_ending_decimal<L: Ledger>(
-    text: &[u8],
-    from: usize,
-    format: Format,
-    mode: ReadMode,
-    steps: &mut Steps<L>,
-) -> Option<ReadNumber>
-    ensures numeral { IfSome result (λ found. IsNumeral Dec (drop from text.now)) }
-    ensures reading { IfSome result (λ found. (p : Parts) → HasNumeral Dec (drop from text.now) p → IsReading mode Dec p found) }
-    ensures format { IfSome result (λ found. found.format ≡ format) }
-    ensures cost { steps.new ≤ steps.old + length (drop from text.now) }
-{
-    match ending_decimal(text, from, steps) {
-        Some(found) => Some(number_of_short(found, format, mode)),
-        None => None,
-    }
-}
-
-/// Reads a short decimal that a text ends with. None says nothing.
-#[inline(always)]
-fn read_short_ending<L: Ledger>(
-    text: &[u8],
-    from: usize,
-    radix: Radix,
-    format: Format,
-    mode: ReadMode,
-    steps: &mut Steps<L>,
-) -> Option<ReadNumber>
-    ensures numeral { IfSome result (λ found. IsNumeral radix (drop from text.now)) }
-    ensures reading { IfSome result (λ found. (p : Parts) → HasNumeral radix (drop from text.now) p → IsReading mode radix p found) }
-    ensures format { IfSome result (λ found. found.format ≡ format) }
-    ensures cost { steps.new ≤ steps.old + length (drop from text.now) }
-{
-    match radix {
-        Radix::Dec => read_ending_decimal(text, from, format, mode, steps),
-        _ => None,
-    }
-}
-
-/// Reads a numeral of at most 16 bytes that a text ends with. None says nothing.
-#[inline(never)]
-fn read_ending_numeral<L: Ledger>(
-    text: &[u8],
-    from: usize,
-    radix: Radix,
-    format: Format,
-    mode: ReadMode,
-    steps: &mut Steps<L>,
-) -> Option<ReadNumber>
-    ensures numeral { IfSome result (λ found. IsNumeral radix (drop from text.now)) }
-    ensures reading { IfSome result (λ found. (p : Parts) → HasNumeral radix (drop from text.now) p → IsReading mode radix p found) }
-    ensures format { IfSome result (λ found. found.format ≡ format) }
-    ensures cost { steps.new ≤ steps.old + length (drop from text.now) }
-{
-    match ending_numeral(text, from, radix, steps) {
-        Some(found) => number_of_short_numeral(found, radix, format, mode),
-        None => None,
-    }
-}
-
-/// Reads any numeral that no quick way reads.
-#[inline(never)]
-fn read_slowly<L: Ledger>(
-    s: &[u8],
-    radix: Radix,
-    format: Format,
-    mode: ReadMode,
-    steps: &mut Steps<L>,
-) -> Result<ReadNumber, ParseFixedError>
-    ensures reading { IsReadOrRefused radix s.now (IsReading mode radix) result }
-    ensures format { IfOk result (λ found. found.format ≡ format) }
-    ensures cost { steps.new ≤ steps.old + 5 * length s.now + 8 * format.width + 64 }
-{
-    match radix {
-        Radix::Dec => match read_short(s, format, mode, steps) {
-            Some(found) => Ok(found),
-            None => read_longer(s, radix, format, mode, steps),
-        },
-        _ => read_longer(s, radix, format, mode, steps),
-    }
-}
-
-/// A copy, part by part: where a number comes from a call, the parts are loaded as they were stored, and a processor need not wait
-/// until bytes that were stored one by one can be loaded as a word.
-#[inline(always)]
-fn copy_of(found: &ReadNumber) -> ReadNumber
-    ensures { result ≡ found.now }
-{
-    ReadNumber {
-        format: found.format,
-        number: Number {
-            negative: found.number.negative,
-            low: found.number.low,
-            has_high_bits: found.number.has_high_bits,
-        },
-        exact: found.exact,
-    }
-}
-
-/// How many bytes come before a numeral whose words are read back over its beginning.
-const ENDING_ROOM: usize = 16;
-
-/// Reads the numeral that a text ends with, from a place on, as `read_format` reads it alone. That there are bytes before it lets a
-/// short decimal be read by whole words, whatever the counts of its digits.
-///
-/// # Errors
-///
-/// Other bytes than a numeral of the radix are refused with the kind of their cause.
-#[inline(always)]
-pub fn read_ending<L: Ledger>(
-    text: &[u8],
-    from: usize,
-    radix: Radix,
-    format: Format,
-    mode: ReadMode,
-    steps: &mut Steps<L>,
-) -> Result<ReadNumber, ParseFixedError>
-    requires place { from ≤ length text.now }
-    ensures reading { IsReadOrRefused radix (drop from text.now) (IsReading mode radix) result }
-    ensures format { IfOk result (λ found. found.format ≡ format) }
-    ensures cost { steps.new ≤ steps.old + 8 * (length (drop from text.now) + format.width) + 64 }
-{
-    let s = bytes_from(text, from);
-    if from < ENDING_ROOM {
-        return read_format(s, radix, format, mode, steps);
-    }
-    if let Some(found) = read_short_ending(text, from, radix, format, mode, steps) {
-        return Ok(found);
-    }
-    match &read_ending_numeral(text, from, radix, format, mode, steps) {
-        Some(found) => Ok(copy_of(found)),
-        None => match &read_slowly(s, radix, format, mode, steps) {
-            Ok(found) => Ok(copy_of(found)),
-            Err(error) => Err(*error),
-        },
-    }
+    read_ending(s, 0, radix, format, mode, steps)
 }
 
 /// The reading of a literal over a ledger that no other counter uses.

@@ -1,12 +1,17 @@
 //! What the contracts say, at numerals whose read numbers were worked out by hand or by exact arithmetic elsewhere.
 
+ghost use Rattle.std.specs.Prelude.{◌≡◌, ◌<◌, ◌≤◌, length};
+
 use crate::read::read_uncounted;
 use crate::{
-    ReadMode, ReadNumber, from_str_radix_mode, lit, overflowing_from_str_radix, read_literal,
-    saturating_from_str_radix, wrapping_from_str_radix, wrapping_from_str_radix_mode,
+    ReadMode, ReadNumber, from_str_radix_mode, lit, overflowing_from_str_radix, read_ending,
+    read_literal, saturating_from_str_radix, wrapping_from_str_radix, wrapping_from_str_radix_mode,
 };
 use fixed_bits::{Format, Inner, Policy};
 use fixed_numeral::{ParseErrorKind, Radix};
+use fixed_steps::Steps;
+use std::marker::Brand;
+use std::sync::ledger::{Blank, Ledger};
 use std::test::Fail;
 
 /// A numeral, and what it reads as to the nearest ulp: bits, or the kind of the refusal.
@@ -808,24 +813,50 @@ fn literals_into_a_format(rt: HostRuntime) {
     assert_eq!(rt; small_literal("0b2"), None);
 }
 
-/// Whether 1e-N is 0, and 1eN a multiple of 256 that is out of range.
-fn far_exponent_is_read(small: &str, large: &str) -> bool {
-    read::<u8>(small, Radix::Dec, 0, ReadMode::NearestEven) == Ok(0)
-        && overflowing_from_str_radix::<u8>(large.as_bytes(), Radix::Dec, 0) == Ok((0, true))
+/// The bits in U8F0 of the decimal numeral that a text ends with from a place on, and whether it is out of range.
+fn ending_over<L: Ledger>(text: &[u8], from: usize, blank: Blank) -> Option<(i128, bool)>
+    requires name { blank.name ≡ L.name }
+    requires parts { blank.parts ≡ L.parts }
+    requires backed { 0 < L.parts }
+    requires place { from ≤ length text.now }
+{
+    let mut steps: Steps<L> = Steps::new(blank);
+    let format = Format::of(false, 8, 0);
+    match read_ending(
+        text,
+        from,
+        Radix::Dec,
+        format,
+        ReadMode::NearestEven,
+        &mut steps,
+    ) {
+        Ok(found) => match found.image(Policy::Wrapping) {
+            Some(bits) => Some((bits, found.is_out_of_range())),
+            None => None,
+        },
+        Err(_) => None,
+    }
 }
 
-/// At two thousand exponents at each end of their range. A reader that looped over their zeros would not end.
+fn ending(text: &str, from: usize) -> Option<(i128, bool)> {
+    let bytes = text.as_bytes();
+    ending_over::<Brand>(bytes, from.min(bytes.len()), Blank::new(1))
+}
+
+/// At a thousand exponents at each end of their range, after one digit and after 45, alone and after 16 bytes: nothing,
+/// or a multiple of 256 that is out of range. A reader that looped over their zeros would not end.
 #[test]
 fn exponents_at_their_ends(rt: HostRuntime) -> Result<(), Fail> {
-    for i in 0..2000u32 {
-        let most = 2_147_483_647 - i;
-        let small = format!(in rt.alloc(); "1e-{most}")?;
-        let large = format!(in rt.alloc(); "1e{most}")?;
-        assert!(rt; far_exponent_is_read(&small, &large), "at {most}");
+    for digits in ["1", "123456789012345678901234567890123456789012345"] {
+        for i in 0..1000u32 {
+            let most = 2_147_483_647 - i;
+            for (sign, want) in [("-", (0, false)), ("", (0, true))] {
+                let alone = format!(in rt.alloc(); "{digits}e{sign}{most}")?;
+                let after = format!(in rt.alloc(); "0123456789abcdef{alone}")?;
+                assert!(rt; ending(&alone, 0) == Some(want), "at {alone}");
+                assert!(rt; ending(&after, 16) == Some(want), "at {after}");
+            }
+        }
     }
-    assert_eq!(rt;
-        read::<u8>("1e-2147483648", Radix::Dec, 0, ReadMode::NearestEven),
-        Ok(0)
-    );
     Ok(())
 }

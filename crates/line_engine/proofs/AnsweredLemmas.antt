@@ -8,7 +8,7 @@ use Rattle.std.proofs.KnownBytes.{Appends-trans}
 use Rattle.std.specs.Io.KnownBytes.{Appends}
 use Rattle.line_engine.specs.Output.{AreAnswers, reply_line, written_of, is_fault, any_fault}
 use Rattle.line_engine.specs.Inner.Progress.{AnsweredLine, StopsBefore, Answered, AnswersUntilFailure, Flushes, State, state, bytes_in}
-use Rattle.line_engine.specs.Output.{AppendsPrefix}
+use Rattle.line_engine.specs.Appended.{AppendsPrefix}
 use Rattle.line_engine.specs.AnswerText.{AnswerText}
 use Rattle.line_engine.proofs.PrefixLemmas.{part_second, flushes_both, flushes_part}
 

@@ -29,8 +29,8 @@ module _ (A : List ℕ → AnswerText → Type 0) (limit : ℕ) (left left' writ
   complete read read' write write' Done run cause fits no_read no_write = inr (whole false Done refl run)
   complete read read' write write' Faults run cause fits no_read no_write = inr (whole true Faults refl run)
   complete read read' write write' Usage run cause fits no_read no_write = absurd run
-  complete read read' write write' ReadFault run cause fits no_read no_write = absurd (no_read cause)
-  complete read read' write write' WriteFault run cause fits no_read no_write = absurd (no_write cause)
+  complete read read' write write' ReadFault run cause fits no_read no_write = absurd (no_read cause.0)
+  complete read read' write write' WriteFault run cause fits no_read no_write = absurd (no_write cause.1)
   complete read read' write write' NoMemory run cause fits no_read no_write = inl refl
   complete read read' write write' TooLong run cause fits no_read no_write =
       let few : length run.bytes ≤ length input = few_taken left left' run.bytes input is run.taken in
@@ -42,8 +42,8 @@ module _ (A : List ℕ → AnswerText → Type 0) (limit : ℕ) (left left' writ
   complete_long read read' write write' Done run cause past no_read no_write = absurd (omega (arith, run.within, ap length (all_taken left left' run.input input is run.taken run.at_end)))
   complete_long read read' write write' Faults run cause past no_read no_write = absurd (omega (arith, run.within, ap length (all_taken left left' run.input input is run.taken run.at_end)))
   complete_long read read' write write' Usage run cause past no_read no_write = absurd run
-  complete_long read read' write write' ReadFault run cause past no_read no_write = absurd (no_read cause)
-  complete_long read read' write write' WriteFault run cause past no_read no_write = absurd (no_write cause)
+  complete_long read read' write write' ReadFault run cause past no_read no_write = absurd (no_read cause.0)
+  complete_long read read' write write' WriteFault run cause past no_read no_write = absurd (no_write cause.1)
   complete_long read read' write write' NoMemory run cause past no_read no_write = inl refl
   complete_long read read' write write' TooLong run cause past no_read no_write = inr refl
 

@@ -13,4 +13,3 @@ mod PrefixLemmas
 mod RunLawLemmas
 mod RunLemmas
 mod TakenLemmas
-mod WholeLemmas

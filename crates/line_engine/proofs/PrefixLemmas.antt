@@ -33,22 +33,10 @@ part_second a b c bs cs first part = record {
   appends = Appends-trans a b c bs part.prefix first part.appends;
 }
 
--- the whole piece was written, and nothing of the next
-pub part_whole : (a b : Option (List ℕ)) (bs cs : List ℕ) → Appends a b bs → AppendsPrefix a b (bs ++ cs)
-part_whole a b bs cs whole = record { prefix = bs; rest = cs; split = refl; appends = whole }
-
 -- a fact that holds anyhow holds at an error
 pub on_err : {T E P : Type 0} (r : Result T E) → P → OnErr r P
 on_err (Ok x) p = tt
 on_err (Err e) p = p
-
--- one more piece passes
-pub flushes_more : (all more held held' : List ℕ) (a b c : Option (List ℕ)) → Flushes [] all held a b → Flushes held more held' b c → Flushes [] (all ++ more) held' a c
-flushes_more all more held held' a b c first next = record {
-  gone = first.gone ++ next.gone;
-  split = ap (λ l. l ++ more) first.split ∙ append_assoc first.gone held more ∙ ap (λ l. first.gone ++ l) next.split ∙ sym (append_assoc first.gone next.gone held');
-  appends = Appends-trans a b c first.gone next.gone first.appends next.appends;
-}
 
 -- and where two pieces come one after the other
 pub flushes_both : (held more most held' held'' : List ℕ) (a b c : Option (List ℕ)) → Flushes held more held' a b → Flushes held' most held'' b c → Flushes held (more ++ most) held'' a c
@@ -57,10 +45,6 @@ flushes_both held more most held' held'' a b c first next = record {
   split = sym (append_assoc held more most) ∙ ap (λ l. l ++ most) first.split ∙ append_assoc first.gone held' most ∙ ap (λ l. first.gone ++ l) next.split ∙ sym (append_assoc first.gone next.gone held'');
   appends = Appends-trans a b c first.gone next.gone first.appends next.appends;
 }
-
--- what is gathered was written after what passed
-pub flushes_flushed : (held more held' : List ℕ) (a b c : Option (List ℕ)) → Flushes held more held' a b → Appends b c held' → Appends a c (held ++ more)
-flushes_flushed held more held' a b c first last = subst (Appends a c) (sym first.split) (Appends-trans a b c first.gone held' first.appends last)
 
 -- a prefix of what is gathered and comes was written after what passed
 pub flushes_part : (held more held' most : List ℕ) (a b c : Option (List ℕ)) → Flushes held more held' a b → AppendsPrefix b c (held' ++ most) → AppendsPrefix a c ((held ++ more) ++ most)

@@ -204,7 +204,7 @@ module _ (A : List ℕ → AnswerText → Type 0) (per_byte extra : ℕ) where
       → EndsLines A per_byte extra ls s after steps write' write'' status → HasFailures read read' write write'' status
   last_causes ls s after steps read read' write write' write'' Done same_source same_sink ends = record { source = same_source; sink = ends.1 ∙ same_sink }
   last_causes ls s after steps read read' write write' write'' Faults same_source same_sink ends = record { source = same_source; sink = ends.1 ∙ same_sink }
-  last_causes ls s after steps read read' write write' write'' WriteFault same_source same_sink ends = subst (λ w. HasFailed w write'') same_sink ends.1
+  last_causes ls s after steps read read' write write' write'' WriteFault same_source same_sink ends = (same_source, subst (λ w. HasFailed w write'') same_sink ends.1)
   last_causes ls s after steps read read' write write' write'' Usage same_source same_sink ends = absurd ends
   last_causes ls s after steps read read' write write' write'' ReadFault same_source same_sink ends = absurd ends
   last_causes ls s after steps read read' write write' write'' NoMemory same_source same_sink ends = absurd ends

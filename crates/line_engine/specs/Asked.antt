@@ -34,8 +34,8 @@ HasAsked (Some asked) new room result = new ≡ Some (one_more asked room (count
 abbrev pub longest_chunk : ℕ
 longest_chunk = 4096
 
--- as far as the two greatest numbers show, no read since then asked for a byte more than limit + 1 bytes after those given before,
--- and none asked for more than a chunk
+-- as far as the two greatest numbers show, no read since then asked for a byte more than limit + 1 bytes after those
+-- given before, and none asked for more than a chunk
 pub record IsAskedWithin (limit : ℕ) (old new : Asked) : Type 0 where
   pub furthest : new.furthest ≤ max old.furthest (old.given + (limit + 1))
   pub longest : new.longest ≤ max old.longest longest_chunk

@@ -6,8 +6,8 @@ use Rattle.line_engine.specs.Failures.{HasFailed}
 use Rattle.line_engine.specs.declared.whole.Filled.{Filled}
 use Rattle.line_engine.specs.declared.whole.Filled.TheVariants.{End, TooLong, ReadFault}
 
--- these bytes were taken from the source, and so the reading ended: at the end of an input within the limit, one byte past the
--- limit, or with a read that failed
+-- these bytes were taken from the source, and so the reading ended: at the end of an input within the limit, one byte
+-- past the limit, or with a read that failed
 abbrev pub HasFilled : ℕ → Option (List ℕ) → Option (List ℕ) → ℕ → ℕ → List ℕ → Filled → Type 0
 HasFilled limit left left' failures failures' bytes End = Consumes left left' bytes × IsAtEnd left'
     × (length bytes ≤ limit) × (failures' ≡ failures)

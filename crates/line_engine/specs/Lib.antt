@@ -1,4 +1,5 @@
 pub mod AnswerText
+pub mod Appended
 pub mod Asked
 pub mod Failures
 pub mod Filled

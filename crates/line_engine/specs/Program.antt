@@ -5,8 +5,8 @@ use Rattle.line_engine.specs.Asked.{Asked}
 use Rattle.line_engine.specs.Status.{code_of}
 use Rattle.line_engine.specs.declared.status.Status.{Status}
 
--- what is seen of a source, a sink and a counter of steps at one moment: the bytes that are left and what was asked for, the
--- bytes that were written, how often reads and writes failed, and how many steps were taken
+-- what is seen of a source, a sink and a counter of steps at one moment: the bytes that are left and what was asked
+-- for, the bytes that were written, how often reads and writes failed, and how many steps were taken
 pub record Outside : Type 0 where
   pub left : Option (List ℕ)
   pub asked : Option Asked

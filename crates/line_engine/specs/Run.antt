@@ -3,7 +3,9 @@ use Rattle.std.specs.Prelude.{◌≡◌, ℕ, ◌+◌, ◌*◌, ◌≤◌, ◌�
 use Rattle.std.specs.declared.option.Option.{Option}
 use Rattle.std.specs.Io.KnownBytes.{Appends, Consumes, IsAtEnd}
 use Rattle.line_engine.specs.Lines.{ended_lines, lines}
-use Rattle.line_engine.specs.Output.{AppendsPrefix, AreAnswers, written_of, any_fault}
+use Rattle.line_engine.specs.Output.{AreAnswers, written_of, any_fault}
+pub use Rattle.line_engine.specs.Output.{WritesOutput, status_of}
+use Rattle.line_engine.specs.Appended.{AppendsPrefix}
 use Rattle.line_engine.specs.AnswerText.{AnswerText}
 use Rattle.line_engine.specs.Failures.{HasFailed}
 use Rattle.line_engine.specs.declared.status.Status.{Status}
@@ -80,30 +82,18 @@ abbrev pub HasFailures : ℕ → ℕ → ℕ → ℕ → Status → Type 0
 HasFailures read read' write write' Done = NoFailure read read' write write'
 HasFailures read read' write write' Faults = NoFailure read read' write write'
 HasFailures read read' write write' Usage = NoFailure read read' write write'
-HasFailures read read' write write' ReadFault = HasFailed read read'
-HasFailures read read' write write' WriteFault = HasFailed write write'
+HasFailures read read' write write' ReadFault = HasFailed read read' × (write' ≡ write)
+HasFailures read read' write write' WriteFault = (read' ≡ read) × HasFailed write write'
 HasFailures read read' write write' NoMemory = NoFailure read read' write write'
 HasFailures read read' write write' TooLong = NoFailure read read' write write'
 
--- at most one byte past the limit was taken, and at most per_byte steps for each byte taken and extra for each line of them
+-- at most one byte past the limit was taken, and at most per_byte steps for each byte taken and extra for each line of
+-- them
 pub record Spends (limit per_byte extra : ℕ) (left left' : Option (List ℕ)) (steps steps' : ℕ) : Type 0 where
   pub bytes : List ℕ
   pub taken : Consumes left left' bytes
   pub bound : length bytes ≤ limit + 1
   pub cost : steps' ≤ steps + per_byte * length bytes + extra * length (lines bytes)
-
--- a run that answered all lines ends so
-abbrev pub status_of : Bool → Status
-status_of true = Faults
-status_of false = Done
-
--- the whole output of an input was written, and the status says whether an answer is a fault
-pub record WritesOutput (A : List ℕ → AnswerText → Type 0)
-    (input : List ℕ) (written written' : Option (List ℕ)) (status : Status) : Type 0 where
-  pub replies : List AnswerText
-  pub answers : AreAnswers A (lines input) replies
-  pub output : Appends written written' (written_of replies)
-  pub faulty : status ≡ status_of (any_fault replies)
 
 -- the text was written whole and the call ended as `ending`; or a write failed, and a prefix of the text was written
 abbrev pub WritesText : List ℕ → Status → Option (List ℕ) → Option (List ℕ) → ℕ → ℕ → Status → Type 0

@@ -3,9 +3,11 @@ use Rattle.std.specs.Prelude.{◌≡◌, ℕ, ◌-◌, ◌^◌, ◌<◌, List, S
 use Rattle.std.specs.declared.option.Option.{Option}
 use Rattle.line_engine.specs.AnswerText.{AnswerText}
 use Rattle.line_engine.specs.Filled.{HasFilled}
-use Rattle.line_engine.specs.Run.{WritesOutput, WritesText}
+use Rattle.line_engine.specs.Run.{HasFailures, HasRun, WritesText}
+use Rattle.line_engine.specs.Output.{WritesOutput}
 use Rattle.line_engine.specs.WholeRun.{WritesAnswer}
 use Rattle.line_engine.specs.declared.status.Status.{Status}
+use Rattle.line_engine.specs.declared.status.Status.TheVariants.{NoMemory}
 use Rattle.line_engine.specs.declared.whole.Filled.{Filled}
 
 -- an input of lines has at most one output, and its run at most one status
@@ -17,6 +19,13 @@ OutputIsTheOne A = (input before a b : List ℕ) (s t : Status)
 abbrev pub WholeOutputIsTheOne : (List ℕ → AnswerText → Type 0) → Type 0
 WholeOutputIsTheOne A = (input before a b : List ℕ) (s t : Status)
     → WritesAnswer A input (Some before) (Some a) s → WritesAnswer A input (Some before) (Some b) t → (a ≡ b) × (s ≡ t)
+
+-- while the counts of failures can rise, they say with what was taken how a run over lines ended that found memory
+abbrev pub RunEndIsTheOne : (List ℕ → AnswerText → Type 0) → Type 0
+RunEndIsTheOne A = (limit : ℕ) (left left' before after : List ℕ) (read read' write write' : ℕ) (s t : Status)
+    → read < 2 ^ 64 - 1 → write < 2 ^ 64 - 1 → ¬ (s ≡ NoMemory) → ¬ (t ≡ NoMemory)
+    → HasRun A limit (Some left) (Some left') (Some before) (Some after) s → HasFailures read read' write write' s
+    → HasRun A limit (Some left) (Some left') (Some before) (Some after) t → HasFailures read read' write write' t → s ≡ t
 
 -- while the count of failures can rise, it says how the writing of a text ended
 abbrev pub TextEndIsTheOne : Type 0

@@ -4,8 +4,8 @@ use Rattle.std.specs.declared.option.Option.{Option}
 use Rattle.std.specs.Io.KnownBytes.{Appends, Consumes, IsAtEnd}
 use Rattle.line_engine.specs.AnswerText.{AnswerText}
 use Rattle.line_engine.specs.Filled.{TakesWithin}
-use Rattle.line_engine.specs.Output.{AppendsPrefix}
-use Rattle.line_engine.specs.Run.{status_of}
+use Rattle.line_engine.specs.Appended.{AppendsPrefix}
+use Rattle.line_engine.specs.Output.{status_of}
 use Rattle.line_engine.specs.declared.status.Status.{Status}
 use Rattle.line_engine.specs.declared.status.Status.TheVariants.{Done, Faults, Usage, ReadFault, WriteFault, NoMemory, TooLong}
 

@@ -22,14 +22,14 @@ pub trait Source {
     /// How often a read has failed; it stays at the last value of u64.
     ghost failures: { Self → ℕ };
 
-    /// What its reads have asked for, where the source exposes it: how many bytes they gave, the furthest byte that one asked
-    /// for, and the longest buffer of one.
+    /// What its reads have asked for, where the source exposes it: how many bytes they gave, the furthest byte that one
+    /// asked for, and the longest buffer of one.
     ghost asked: { Self → Option Asked };
 
-    /// Puts the next bytes at the start of the buffer and answers how many bytes they are. On a buffer that isn't empty,
-    /// 0 means the end of the input and only that; on an empty buffer the call changes nothing. `Failed` comes only where
-    /// the count of failures rose, or is at its last value, and then no byte moved. Each call is added to what was asked
-    /// for, with the buffer's length and the count of bytes that it gave.
+    /// Puts the next bytes at the start of the buffer and answers how many bytes they are. On a buffer that isn't
+    /// empty, 0 means the end of the input and only that; on an empty buffer the call changes nothing. `Failed` comes
+    /// only where the count of failures rose, or is at its last value, and then no byte moved. Each call is added to
+    /// what was asked for, with the buffer's length and the count of bytes that it gave.
     fn read(&mut self, buf: &mut [u8]) -> Result<usize, Failed>
         ensures bound { ReadsAtMost result buf.new }
         ensures bytes { ReadConsumes (left self.old) (left self.new) result buf.new }

@@ -4,10 +4,11 @@ ghost use Rattle.std.specs.Prelude.{◌≡◌, ◌≤◌, ◌<◌, ◌⊎◌, Li
 ghost use Rattle.line_engine.specs.Asked.{AskedWithin};
 ghost use Rattle.line_engine.specs.Failures.{HasFailed};
 ghost use Rattle.line_engine.specs.Lines.{kept_length, last_line, lines};
-ghost use Rattle.line_engine.specs.Output.{AppendsPrefix, AreAnswers, written_of};
+ghost use Rattle.line_engine.specs.Output.{AreAnswers, written_of, WritesOutput};
+ghost use Rattle.line_engine.specs.Appended.{AppendsPrefix};
 ghost use Rattle.line_engine.specs.Inner.Progress.{EndsLines, IsKept, state};
 ghost use Rattle.line_engine.specs.AnswerText.{AnswerText};
-ghost use Rattle.line_engine.specs.Run.{HasFailures, HasRun, Spends, WritesOutput};
+ghost use Rattle.line_engine.specs.Run.{HasFailures, HasRun, Spends};
 
 use crate::chunk::{CHUNK, MAX_LIMIT, next_room, read_prefix};
 use crate::line_buffer::LineBuffer;
@@ -87,9 +88,10 @@ fn answer_lines<R: LineRule<L>, S: Source, K: Sink, L: Ledger>(
 /// Has each line of a source answered by a rule, and writes each answer and a newline to a sink.
 ///
 /// It takes memory for one line buffer of 1,048,577 bytes, and answers `NoMemory` where that fails; afterwards it takes
-/// none. Each read asks for at most 4,096 bytes, and for at most limit + 1 bytes less those already taken. The answers of the
-/// lines that ended in a chunk are written before the next is read. A line ends at a newline byte, which isn't part of
-/// it; the rule is given its first 1,048,577 bytes. What follows the last newline is a line where it isn't empty.
+/// none. Each read asks for at most 4,096 bytes, and for at most limit + 1 bytes less those already taken. The answers
+/// of the lines that ended in a chunk are written before the next is read. A line ends at a newline byte, which isn't
+/// part of it; the rule is given its first 1,048,577 bytes. What follows the last newline is a line where it isn't
+/// empty.
 ///
 /// The limit is in bytes, from 1 to 4,294,967,296.
 pub fn run_lines<R: LineRule<L>, S: Source, K: Sink, L: Ledger>(
@@ -111,8 +113,8 @@ pub fn run_lines<R: LineRule<L>, S: Source, K: Sink, L: Ledger>(
     ensures failures { HasFailures (S.failures source.old) (S.failures source.new) (K.failures sink.old)
         (K.failures sink.new) result }
 
-    // With no count risen, an input within the limit is answered whole, and the status says whether an answer is a fault;
-    // or there was no memory.
+    // With no count risen, an input within the limit is answered whole, and the status says whether an answer is a
+    // fault; or there was no memory.
     ensures output { (input : List ℕ) → S.left source.old ≡ Some input → length input ≤ limit
         → ¬ HasFailed (S.failures source.old) (S.failures source.new)
         → ¬ HasFailed (K.failures sink.old) (K.failures sink.new)
@@ -134,7 +136,8 @@ pub fn run_lines<R: LineRule<L>, S: Source, K: Sink, L: Ledger>(
     // How many bytes were taken, and how many steps.
     ensures cost { Spends limit R.PER_BYTE R.EXTRA (S.left source.old) (S.left source.new) steps.old steps.new }
 
-    // What the source was asked for: no read asked for more than limit + 1 bytes less those taken, or for more than 4,096.
+    // What the source was asked for: no read asked for more than limit + 1 bytes less those taken, or for more than
+    // 4,096.
     ensures asked { AskedWithin limit (S.asked source.old) (S.asked source.new) }
 
     // Nothing was read or written.

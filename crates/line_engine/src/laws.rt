@@ -7,7 +7,7 @@ ghost use Rattle.line_engine.specs.LineLaws.{
   LinesAreTheInput,
   NoLineHoldsNewline,
 };
-ghost use Rattle.line_engine.specs.RunLaws.{FillIsTheOne, OutputIsTheOne, TextEndIsTheOne, WholeOutputIsTheOne};
+ghost use Rattle.line_engine.specs.RunLaws.{FillIsTheOne, OutputIsTheOne, RunEndIsTheOne, TextEndIsTheOne, WholeOutputIsTheOne};
 
 use crate::{LineRule, WholeRule};
 use std::sync::ledger::Ledger;
@@ -22,7 +22,8 @@ pub fn no_line_holds_newline()
     ensures { NoLineHoldsNewline }
 {}
 
-/// An input that is cut in two anywhere has the lines of its two parts, where what is unended in the first begins the second.
+/// An input that is cut in two anywhere has the lines of its two parts, where what is unended in the first begins the
+/// second.
 pub fn cut_anywhere()
     ensures { CutAnywhere }
 {}
@@ -45,6 +46,11 @@ pub fn output_is_the_one<R: LineRule<L>, L: Ledger>(_rule: &R)
 /// By a rule over whole inputs an input has at most one output, and its run at most one status.
 pub fn whole_output_is_the_one<R: WholeRule<L>, L: Ledger>(_rule: &R)
     ensures { WholeOutputIsTheOne (R.Answers _rule.now) }
+{}
+
+/// What was taken and the counts of failures say how a run over lines ended, if it found memory.
+pub fn run_end_is_the_one<R: LineRule<L>, L: Ledger>(_rule: &R)
+    ensures { RunEndIsTheOne (R.Answers _rule.now) }
 {}
 
 /// The count of failures says how the writing of a text ended.

@@ -24,8 +24,8 @@ impl MemorySource {
     ghost use Rattle.line_engine.specs.Asked.{nothing_asked};
     ghost use Rattle.line_engine.specs.Memory.{asked_of, bytes_left};
 
-    /// A source of these bytes that gives at most `most` at a call, 1 or more, and fails at the calls with these numbers.
-    /// Calls on a buffer that isn't empty are numbered from 0.
+    /// A source of these bytes that gives at most `most` at a call, 1 or more, and fails at the calls with these
+    /// numbers. Calls on a buffer that isn't empty are numbered from 0.
     pub fn new(bytes: Vec<u8>, most: usize, failing: Vec<u64>) -> MemorySource
         requires { 1 ≤ most }
         ensures left { bytes_left result ≡ bytes.items }
@@ -168,8 +168,8 @@ impl Sink for MemorySink {
 
     ghost failures = { λ s. s.failures };
 
-    /// It fails exactly at the calls that it was given, and where the piece isn't empty and the room is filled. Otherwise
-    /// it moves as many bytes as the smallest of `most`, the piece's length and the room that is left.
+    /// It fails exactly at the calls that it was given, and where the piece isn't empty and the room is filled.
+    /// Otherwise it moves as many bytes as the smallest of `most`, the piece's length and the room that is left.
     fn write(&mut self, piece: &[u8]) -> Result<usize, Failed>
         ensures bound { WritesAtMost result piece.now }
         ensures bytes { WriteAppends (Some (bytes_written self.old)) (Some (bytes_written self.new)) result piece.now }

@@ -1,4 +1,5 @@
-//! Whole runs over a source and a sink in memory, some reads and writes of which fail: what the tests of the crates above share.
+//! Whole runs over a source and a sink in memory, some reads and writes of which fail: what the tests of the crates
+//! above share.
 
 ghost use Rattle.std.specs.Prelude.{◌≡◌};
 
@@ -10,8 +11,8 @@ use std::sync::ledger::Ledger;
 /// No call of a source or a sink in a test has this number.
 pub const NEVER: u64 = 1_000_000;
 
-/// A run: its arguments, its input, how many bytes move at a time, which read and which write fails, what is written and
-/// how the run ends.
+/// A run: its arguments, its input, how many bytes move at a time, which read and which write fails, what is written
+/// and how the run ends.
 #[derive(Drop)]
 pub struct MemoryRun {
     pub args: &'static [&'static str],

@@ -3,7 +3,7 @@
 ghost use Rattle.std.specs.Prelude.{◌≡◌, ◌+◌, ◌*◌, ◌≤◌, ◌<◌, ◌↔◌, ℕ, List, length, take};
 ghost use Rattle.line_engine.specs.AnswerText.{AnswerText};
 ghost use Rattle.line_engine.specs.Lines.{kept_length};
-ghost use Rattle.line_engine.specs.Output.{AppendsAnswer};
+ghost use Rattle.line_engine.specs.Appended.{AppendsAnswer};
 
 use crate::output::Output;
 use fixed_steps::Steps;

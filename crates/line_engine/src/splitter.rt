@@ -34,7 +34,7 @@ ghost use Rattle.line_engine.specs.Inner.Progress.{
   Flushes,
   state,
 };
-ghost use Rattle.line_engine.specs.Output.{AppendsPrefix};
+ghost use Rattle.line_engine.specs.Appended.{AppendsPrefix};
 
 use crate::line_buffer::LineBuffer;
 use crate::output::{OUTPUT_BUFFER, Output};

@@ -86,8 +86,8 @@ impl Whole {
     /// Reads an input to its end, or to the first byte past the limit, which is in bytes and at most 4,294,967,296.
     ///
     /// Memory is taken as the input grows past 1,048,577 bytes; `NoMemory` where there is none. With a limit of at most
-    /// 1,048,576 it takes no memory and doesn't refuse. Each read asks for at most 4,096 bytes, and for at most limit + 1
-    /// bytes less those already taken.
+    /// 1,048,576 it takes no memory and doesn't refuse. Each read asks for at most 4,096 bytes, and for at most limit +
+    /// 1 bytes less those already taken.
     pub fn fill_within<S: Source>(&mut self, limit: u64, source: &mut S) -> Result<Filled, NoMemory>
         requires empty { self.old ≡ [] }
         requires most { limit ≤ 4294967296 }

@@ -5,8 +5,9 @@ ghost use Rattle.std.specs.Prelude.{◌≡◌, ◌≤◌, ◌<◌, ◌⊎◌, Li
 ghost use Rattle.line_engine.specs.AnswerText.{AnswerText};
 ghost use Rattle.line_engine.specs.Asked.{AskedWithin};
 ghost use Rattle.line_engine.specs.Failures.{HasFailed};
-ghost use Rattle.line_engine.specs.Output.{AppendsPrefix};
-ghost use Rattle.line_engine.specs.Run.{HasFailures, WritesText, status_of};
+ghost use Rattle.line_engine.specs.Appended.{AppendsPrefix};
+ghost use Rattle.line_engine.specs.Output.{status_of};
+ghost use Rattle.line_engine.specs.Run.{HasFailures, WritesText};
 ghost use Rattle.line_engine.specs.WholeRun.{HasWholeRun, WritesAnswer, EndsBeforeWriting};
 
 use crate::chunk::MAX_LIMIT;
@@ -33,9 +34,9 @@ fn write_answer<K: Sink>(answer: &WholeAnswer, sink: &mut K) -> Status
 /// Reads an input to its end, has it answered by a rule, and writes the answer.
 ///
 /// The limit is in bytes, at most 4,294,967,296. Memory for 1,048,577 bytes of input is taken first, and `NoMemory`
-/// where that fails, with nothing read. With a limit of at most 1,048,576 no further memory is taken for the input; with
-/// a greater one it is taken as the input grows. Nothing is written before the input is at its end and answered: a longer
-/// input, a read that failed and want of memory leave the sink as it is.
+/// where that fails, with nothing read. With a limit of at most 1,048,576 no further memory is taken for the input;
+/// with a greater one it is taken as the input grows. Nothing is written before the input is at its end and answered: a
+/// longer input, a read that failed and want of memory leave the sink as it is.
 pub fn run_whole<R: WholeRule<L>, S: Source, K: Sink, L: Ledger>(
     alloc: Global,
     limit: u64,
@@ -54,8 +55,8 @@ pub fn run_whole<R: WholeRule<L>, S: Source, K: Sink, L: Ledger>(
     ensures failures { HasFailures (S.failures source.old) (S.failures source.new) (K.failures sink.old)
         (K.failures sink.new) result }
 
-    // With no count risen, the answer to an input within the limit is written, and the status says whether it is a fault;
-    // or there was no memory.
+    // With no count risen, the answer to an input within the limit is written, and the status says whether it is a
+    // fault; or there was no memory.
     ensures output { (input : List ℕ) → S.left source.old ≡ Some input → length input ≤ limit
         → ¬ HasFailed (S.failures source.old) (S.failures source.new)
         → ¬ HasFailed (K.failures sink.old) (K.failures sink.new)
@@ -76,7 +77,8 @@ pub fn run_whole<R: WholeRule<L>, S: Source, K: Sink, L: Ledger>(
     // A run that ended before its input did, or for want of memory, left the sink as it was.
     ensures untouched { EndsBeforeWriting result → sink.new ≡ sink.old }
 
-    // What the source was asked for: no read asked for more than limit + 1 bytes less those taken, or for more than 4,096.
+    // What the source was asked for: no read asked for more than limit + 1 bytes less those taken, or for more than
+    // 4,096.
     ensures asked { AskedWithin limit (S.asked source.old) (S.asked source.new) }
 {
     let mut whole = match Whole::new(alloc) {

@@ -81,8 +81,8 @@ impl<const N: usize> TextBuffer<N> {
         self.len += 1;
     }
 
-    /// Appends a byte where `is_wanted`, else nothing; either way at the same cost, without a branch. There must be room
-    /// for it.
+    /// Appends a byte where `is_wanted`, else nothing; either way at the same cost, without a branch. There must be
+    /// room for it.
     #[inline]
     pub fn push_if(&mut self, byte: u8, is_wanted: bool)
         requires room { length self.old < N }
@@ -104,8 +104,8 @@ impl<const N: usize> TextBuffer<N> {
         self.len = end;
     }
 
-    /// Appends the first `count` of sixteen bytes. There must be room for those; where there is room for sixteen, this is
-    /// one write of sixteen bytes and costs the same for each `count`.
+    /// Appends the first `count` of sixteen bytes. There must be room for those; where there is room for sixteen, this
+    /// is one write of sixteen bytes and costs the same for each `count`.
     #[inline]
     pub fn push_prefix(&mut self, bytes: [u8; 16], count: usize)
         requires count { count ≤ 16 }

@@ -2,11 +2,10 @@
 use Rattle.std.specs.Prelude.{◌≡◌, ℕ, ◌+◌, ◌-◌, ◌*◌, ◌^◌, ◌<◌, ◌≤◌, Bool, IsTrue, List, ◌++◌, length, drop, get_or, Option, IfSome, option_to_list, ℤ}
 use Rattle.std.specs.Char.{digit_value}
 use Rattle.std.specs.Int.{bit_at}
-use Rattle.std.specs.Str.Parse.{AllDigits, digits_value, digits_value_after}
+use Rattle.std.specs.Str.Parse.{AllDigits, digits_value}
 use Rattle.fixed_numeral.specs.declared.radix.Radix.{Radix}
-use Rattle.fixed_numeral.specs.declared.radix.Radix.TheVariants.{Dec}
-use Rattle.fixed_numeral.specs.Numeral.{Parts, Exponent, IsExponentOf, HasNumeral, is_sign, is_minus, fraction_text, exponent_text, fractional_digits}
-use Rattle.fixed_numeral.specs.PartNumbers.{exponent_value, is_power_of_two, IsShortDecimal}
+use Rattle.fixed_numeral.specs.Numeral.{Parts, Exponent, base, IsExponentOf, HasNumeral, is_sign, is_minus, fraction_text, exponent_text, fractional_digits}
+use Rattle.fixed_numeral.specs.PartNumbers.{exponent_value, is_power_of_two, IsShortNumeral}
 
 -- the bytes between two places are an optional sign
 pub record IsSignAt (bs : List ℕ) (from to : ℕ) (negative : Bool) : Type 0 where
@@ -16,29 +15,25 @@ pub record IsSignAt (bs : List ℕ) (from to : ℕ) (negative : Bool) : Type 0 w
   pub is_sign : IfSome sign (λ b. IsTrue (is_sign b))
   pub is_negative : negative ≡ is_minus sign
 
--- the bytes between two places are digits, and after those of `start` they spell this number
-pub record IsDigitRun (b : ℕ) (bs : List ℕ) (from to start number : ℕ) : Type 0 where
+-- the bytes between two places are digits, and they spell this number
+pub record IsDigitRun (b : ℕ) (bs : List ℕ) (from to number : ℕ) : Type 0 where
   pub digits : List ℕ
   pub text : drop from bs ≡ digits ++ drop to bs
   pub count : from + length digits ≡ to
   pub within : to ≤ length bs
   pub are_digits : AllDigits b digits
-  pub spelled : number ≡ digits_value_after b start digits
-
--- the same, and scale is the base to the power of their count
-pub record IsChunk (b : ℕ) (bs : List ℕ) (from to number scale : ℕ) : Type 0 where
-  pub run : IsDigitRun b bs from to 0 number
-  pub scale_is : scale ≡ b ^ length run.digits
+  pub spelled : number ≡ digits_value b digits
 
 -- the bytes between two places are the digits of a mantissa and its point
-pub record IsMantissaAt (b : ℕ) (bs : List ℕ) (from to number places : ℕ) : Type 0 where
+pub record IsMantissaAt (b : ℕ) (bs : List ℕ) (from to whole_number fraction_number places : ℕ) : Type 0 where
   pub whole : List ℕ
   pub fraction : Option (List ℕ)
   pub text : drop from bs ≡ whole ++ (fraction_text fraction ++ drop to bs)
   pub within : to ≤ length bs
   pub whole_digits : AllDigits b whole
   pub fraction_digits : IfSome fraction (AllDigits b)
-  pub spelled : number ≡ digits_value b (whole ++ fractional_digits fraction)
+  pub whole_spelled : whole_number ≡ digits_value b whole
+  pub fraction_spelled : fraction_number ≡ digits_value b (fractional_digits fraction)
   pub places_are : places ≡ length (fractional_digits fraction)
   pub some : 0 < length (whole ++ fractional_digits fraction)
 
@@ -51,24 +46,14 @@ pub record IsExponentAt (r : Radix) (bs : List ℕ) (from : ℕ) (number : ℤ) 
   pub is_number : number ≡ exponent_value exponent
   pub is_by_two : by_two ≡ is_power_of_two r exponent
 
--- the whole text is a decimal without an exponent, and these are the numbers of its parts
-pub record IsDecimalAt (bs : List ℕ) (negative : Bool) (whole fraction places : ℕ) : Type 0 where
+-- a text is a numeral, and these are the numbers of its parts
+pub record IsShortAt (r : Radix) (bs : List ℕ) (negative : Bool) (whole fraction places : ℕ) (exponent : ℤ)
+    (scales_by_two : Bool) : Type 0 where
   pub parts : Parts
-  pub numeral : HasNumeral Dec bs parts
-  pub short : IsShortDecimal parts negative whole fraction places
-  pub below : fraction < 10 ^ places
-  pub digits : whole * 10 ^ places + fraction < 10 ^ length bs
-
--- the same, with few digits before and after the point
-pub record IsShortAt (bs : List ℕ) (negative : Bool) (whole fraction places : ℕ) : Type 0 where
-  pub decimal : IsDecimalAt bs negative whole fraction places
-  pub whole_fits : whole < 10 ^ 16
-  pub few : places ≤ 16
-
--- the same, with as many digits after the point as 128 bits hold when they are rounded
-pub record IsWideAt (bs : List ℕ) (negative : Bool) (whole fraction places : ℕ) : Type 0 where
-  pub decimal : IsDecimalAt bs negative whole fraction places
-  pub whole_fits : whole < 10 ^ 16
+  pub numeral : HasNumeral r bs parts
+  pub numbers : IsShortNumeral r parts negative whole fraction places exponent scales_by_two
+  pub below : fraction < base r ^ places
+  pub whole_fits : whole < base r ^ 16
   pub few : places ≤ 27
 
 -- a byte among the last 16 is a digit where its bit of the marks is not set; the first has the lowest bit

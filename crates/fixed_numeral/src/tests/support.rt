@@ -1,14 +1,11 @@
 //! What the tests ask of a text, each over a ledger of its own.
 
-ghost use Rattle.std.specs.Prelude.{◌≡◌, ◌<◌, ◌^◌, ◌≤◌};
+ghost use Rattle.std.specs.Prelude.{◌≡◌, ◌<◌, ◌≤◌, length};
 
 use crate::error::ParseErrorKind;
 use crate::radix::Radix;
 use crate::scanned::Scanned;
-use crate::{
-    CompactNumeral, DigitView, ShortDecimal, ShortNumeral, WideDecimal, compact_numeral,
-    ending_numeral, scan, scan_lit, short_decimal, short_numeral, wide_decimal,
-};
+use crate::{DigitView, ShortNumeral, scan, scan_lit, short_numeral};
 use fixed_steps::Steps;
 use std::marker::Brand;
 use std::sync::ledger::{Blank, Ledger};
@@ -221,92 +218,44 @@ pub(super) fn kind_of_bad(digits: usize, place: usize, bad: u8) -> Option<ParseE
     refused_bytes(Radix::Dec, &text[..end])
 }
 
-fn short_over<L: Ledger>(text: &[u8], blank: Blank) -> Option<ShortDecimal>
+fn short_over<L: Ledger>(
+    radix: Radix,
+    text: &[u8],
+    from: usize,
+    blank: Blank,
+) -> Option<ShortNumeral>
     requires name { blank.name ≡ L.name }
     requires parts { blank.parts ≡ L.parts }
     requires backed { 0 < L.parts }
+    requires place { from ≤ length text.now }
 {
     let mut steps: Steps<L> = Steps::new(blank);
-    short_decimal(text, &mut steps)
+    short_numeral(text, from, radix, &mut steps)
 }
 
-pub(super) fn short(text: &[u8]) -> Option<ShortDecimal> {
-    short_over::<Brand>(text, Blank::new(1))
+pub(super) fn short(radix: Radix, text: &str) -> Option<ShortNumeral> {
+    short_over::<Brand>(radix, text.as_bytes(), 0, Blank::new(1))
 }
 
-fn wide_over<L: Ledger>(text: &[u8], blank: Blank) -> Option<WideDecimal>
-    requires name { blank.name ≡ L.name }
-    requires parts { blank.parts ≡ L.parts }
-    requires backed { 0 < L.parts }
-{
-    let mut steps: Steps<L> = Steps::new(blank);
-    wide_decimal(text, &mut steps)
+/// A numeral of at most 48 bytes after 16 bytes that are digits of radix 16.
+pub(super) fn short_after(radix: Radix, text: &str) -> Option<ShortNumeral> {
+    let numeral = text.as_bytes();
+    let count = numeral.len().min(48);
+    let mut bytes = [b'e'; 64];
+    bytes[16..16 + count].copy_from_slice(&numeral[..count]);
+    short_over::<Brand>(radix, &bytes[..16 + count], 16, Blank::new(1))
 }
 
-pub(super) fn wide(text: &[u8]) -> Option<WideDecimal> {
-    wide_over::<Brand>(text, Blank::new(1))
-}
-
-/// The wide decimal of 27 ones after a point, once another byte takes the place of one of the 28.
-pub(super) fn wide_with(place: usize, other: u8) -> Option<WideDecimal> {
+/// The decimal of this many ones, at most 28, once another byte takes the place of one of them. Of more than 16, the
+/// first is a point.
+pub(super) fn short_with(length: usize, place: usize, other: u8) -> Option<ShortNumeral> {
     let mut text = [b'1'; 28];
-    text[0] = b'.';
-    if place < text.len() {
-        text[place] = other;
+    if length > 16 {
+        text[0] = b'.';
     }
-    wide(&text)
-}
-
-fn compact_over<L: Ledger>(radix: Radix, text: &[u8], blank: Blank) -> Option<CompactNumeral>
-    requires name { blank.name ≡ L.name }
-    requires parts { blank.parts ≡ L.parts }
-    requires backed { 0 < L.parts }
-{
-    let mut steps: Steps<L> = Steps::new(blank);
-    compact_numeral(text, radix, &mut steps)
-}
-
-pub(super) fn compact(radix: Radix, text: &str) -> Option<CompactNumeral> {
-    compact_over::<Brand>(radix, text.as_bytes(), Blank::new(1))
-}
-
-/// The short decimal of this many ones, at most 16, once another byte takes the place of one of them.
-pub(super) fn short_with(digits: usize, place: usize, other: u8) -> Option<ShortDecimal> {
-    let mut text = [b'1'; 16];
-    let end = digits.min(16);
+    let end = length.min(28);
     if place < end {
         text[place] = other;
     }
-    short(&text[..end])
-}
-
-fn short_in_over<L: Ledger>(radix: Radix, text: &[u8], blank: Blank) -> Option<ShortNumeral>
-    requires name { blank.name ≡ L.name }
-    requires parts { blank.parts ≡ L.parts }
-    requires backed { 0 < L.parts }
-{
-    let mut steps: Steps<L> = Steps::new(blank);
-    short_numeral(text, radix, &mut steps)
-}
-
-pub(super) fn short_in(radix: Radix, text: &str) -> Option<ShortNumeral> {
-    short_in_over::<Brand>(radix, text.as_bytes(), Blank::new(1))
-}
-
-fn ending_in_over<L: Ledger>(radix: Radix, text: &[u8], blank: Blank) -> Option<ShortNumeral>
-    requires name { blank.name ≡ L.name }
-    requires parts { blank.parts ≡ L.parts }
-    requires backed { 0 < L.parts }
-{
-    let mut steps: Steps<L> = Steps::new(blank);
-    ending_numeral(text, 16, radix, &mut steps)
-}
-
-/// A numeral of at most 16 bytes after 16 bytes that are digits of radix 16.
-pub(super) fn ending_in(radix: Radix, text: &str) -> Option<ShortNumeral> {
-    let numeral = text.as_bytes();
-    let count = numeral.len().min(16);
-    let mut bytes = [b'e'; 32];
-    bytes[16..16 + count].copy_from_slice(&numeral[..count]);
-    ending_in_over::<Brand>(radix, &bytes[..16 + count], Blank::new(1))
+    short_over::<Brand>(Radix::Dec, &text[..end], 0, Blank::new(1))
 }

@@ -257,8 +257,8 @@ fn each_write_fails_in_turn(rt: HostRuntime) -> Result<(), Fail> {
     Ok(())
 }
 
-/// What a run asks its source for: the limit, how many bytes there are and how many of them move at a time, the furthest
-/// byte that is asked for and the longest buffer.
+/// What a run asks its source for: the limit, how many bytes there are and how many of them move at a time, the
+/// furthest byte that is asked for and the longest buffer.
 #[derive(Drop)]
 struct Asking {
     limit: u64,

@@ -1,12 +1,75 @@
-use Rattle.std.proofs.Common.{rules, subst, inr, FitsSigned}
-use Rattle.std.specs.Int.{w64}
+use Rattle.std.proofs.Common.{rules, subst, sym, refl, inl, inr, ◌∙◌, ap, FitsSigned, ◌≡◌, ◌↔◌, IsTrue, ℕ, ℤ, Bool, List}
+use Rattle.std.specs.Int.{w128, w32, w64}
 use Rattle.std.proofs.lemmas.Int.{to_z-of_z}
+use Rattle.std.proofs.lemmas.Result.{err_from_is_err_and}
+use Rattle.fixed_bits.specs.Down.{down}
 use Rattle.fixed_bits.specs.Formats.{FormatParts}
-use Rattle.fixed_c.specs.Numbers.{IsBadBits}
+use Rattle.fixed_bits.specs.Images.{IsImage}
+use Rattle.fixed_bits.specs.Ranges.{IsOutOfRange}
+use Rattle.fixed_convert.specs.Order.{order_of}
+use Rattle.fixed_enclose.specs.Enclosure.{IsEnclosed, IsRefusal}
+use Rattle.fixed_numeral.specs.Cause.{HasCause}
+use Rattle.fixed_numeral.specs.Numeral.{HasNumeral}
+use Rattle.fixed_numeral.specs.declared.error.ParseErrorKind.{ParseErrorKind}
+use Rattle.fixed_numeral.specs.declared.error.ParseErrorKind.TheVariants.{Overflow}
+use Rattle.fixed_respell.specs.Reached.{is_signed, number_of}
+use Rattle.fixed_write.specs.Texts.{IsShortestText}
+use Rattle.fixed_c.specs.Arguments.{Names, NamesFormat}
+use Rattle.fixed_c.specs.Convert.{IsCompared, IsConverted, IsNotConverted, IsPrinted, order_code}
+use Rattle.fixed_c.specs.Enclose.{IsEnclosedBy}
+use Rattle.fixed_c.specs.Numbers.{AreBits, AreBitsOf, format_of, has_bits}
+use Rattle.fixed_c.specs.Read.{IsNotRead, IsReadAs, OverflowsBy}
+use Rattle.fixed_c.specs.Respell.{IsNotReached, IsReachedAs}
+use Rattle.fixed_c.proofs.ReadLemmas.{not_read, read_as}
 use Rattle.fixed_c.proofs.numbers.order_by_value.Goals as goal
 
-pub returns-in_default-number_in-2 : goal.returns-in_default-number_in-2
-returns-in_default-number_in-2 c =
-    let given : FitsSigned w64 c.args.b = search rules in
-    let bad : IsBadBits c.args.b c.in-Some-format_of.g = rw (to_z-of_z w64 c.args.b given) at c.in_default-number_in-2.ensures.number in
-    ((c.in-Some.ensures.0, c.in-Some-format_of.ensures.0), inr (subst (λ (h : FormatParts). IsBadBits c.args.b h) c.in-Some-format_of.ensures.1 bad))
+pub returns-in_err-left : goal.returns-in_err-left
+returns-in_err-left c =
+    let given : FitsSigned w64 c.args.a = search rules in
+    let bad : ¬ AreBits c.in_ok-f.f c.args.a = rw (to_z-of_z w64 c.args.a given) at c.in_err-left.ensures.number.0 in
+    let p = err_from_is_err_and c.from_residual-in_err-left.result c.from_residual-in_err-left.ensures.1 in
+    rw (p.1, p.2) (inr (c.in_ok-f.ensures.1, inr (c.in_ok-g.ensures.1, inl (subst (λ (h : FormatParts). ¬ AreBits h c.args.a) c.in_ok-f.ensures.0 bad, c.in_err-left.ensures.number.1))))
+
+pub returns-in_err-right : goal.returns-in_err-right
+returns-in_err-right c =
+    let first : FitsSigned w64 c.args.a = search rules in
+    let second : FitsSigned w64 c.args.b = search rules in
+    let are : AreBitsOf c.in_ok-f.f c.args.a c.in_ok-left.left = rw (to_z-of_z w64 c.args.a first) at c.in_ok-left.ensures.number in
+    let bad : ¬ AreBits c.in_ok-g.g c.args.b = rw (to_z-of_z w64 c.args.b second) at c.in_err-right.ensures.number.0 in
+    let p = err_from_is_err_and c.from_residual-in_err-right.result c.from_residual-in_err-right.ensures.1 in
+    rw (p.1, p.2) (inr (
+      c.in_ok-f.ensures.1,
+      inr (
+        c.in_ok-g.ensures.1,
+        inr (
+          (c.in_ok-left.left, subst (λ (h : FormatParts). AreBitsOf h c.args.a c.in_ok-left.left) c.in_ok-f.ensures.0 are),
+          inl (subst (λ (h : FormatParts). ¬ AreBits h c.args.b) c.in_ok-g.ensures.0 bad, c.in_err-right.ensures.number.1),
+        ),
+      ),
+    ))
+
+pub returns : goal.returns
+returns c =
+    let f : FormatParts = c.in_ok-f.f in
+    let g : FormatParts = c.in_ok-g.g in
+    let first : FitsSigned w64 c.args.a = search rules in
+    let second : FitsSigned w64 c.args.b = search rules in
+    let left : FitsSigned w128 c.in_ok-left.left = search rules in
+    let right : FitsSigned w128 c.in_ok-right.right = search rules in
+    let given : FitsSigned w32 c.order_of.result = search rules in
+    let l : AreBitsOf f c.args.a c.in_ok-left.left = rw (to_z-of_z w64 c.args.a first) at c.in_ok-left.ensures.number in
+    let r : AreBitsOf g c.args.b c.in_ok-right.right = rw (to_z-of_z w64 c.args.b second) at c.in_ok-right.ensures.number in
+    let order : c.order_of.result ≡ order_code (order_of c.in_ok-left.left f.frac c.in_ok-right.right g.frac) = c.order_of.ensures ∙ ap order_code
+    (rw (to_z-of_z w128 c.in_ok-left.left left, to_z-of_z w128 c.in_ok-right.right right, c.frac.ensures.frac, c.frac-2.ensures.frac) at c.compare.ensures) in
+    let made : IsCompared f g c.args.a c.args.b c.order_of.result = record {
+      first_format = (subst (λ (h : FormatParts). NamesFormat h) (sym c.in_ok-f.ensures.0) c.in_ok-f.ensures.1);
+      second_format = (subst (λ (h : FormatParts). NamesFormat h) (sym c.in_ok-g.ensures.0) c.in_ok-g.ensures.1);
+      left = c.in_ok-left.left;
+      left_is = l;
+      right = c.in_ok-right.right;
+      right_is = r;
+      order_is = order;
+    } in
+    rw (to_z-of_z w32 c.order_of.result given)
+    (subst (λ (h : FormatParts). IsCompared h (format_of c.args.b_format.is_signed c.args.b_format.width c.args.b_format.frac) c.args.a c.args.b c.order_of.result) c.in_ok-f.ensures.0
+    (subst (λ (h : FormatParts). IsCompared f h c.args.a c.args.b c.order_of.result) c.in_ok-g.ensures.0 made))

@@ -1,14 +1,24 @@
-use Rattle.std.proofs.Common.{◌≡◌, to_z, of_z, FitsSigned, rules}
+use Rattle.std.proofs.Common.{◌≡◌, pos, ◌-ℤ◌, to_z, of_z, FitsSigned, subst, arith, rules}
 use Rattle.std.specs.Int.{w32}
-use Rattle.std.proofs.lemmas.Int.{to_z-of_z}
+use Rattle.std.proofs.lemmas.Int.{to_z-of_z, ints}
 use Rattle.fixed_read.specs.Inner.BinaryPower.{ups, downs}
-use Rattle.fixed_read.proofs.ShortNumeralLemmas.{cross_frac}
+use Rattle.fixed_read.proofs.ShortNumeralLemmas.{net_up, net_down}
 use Rattle.fixed_read.proofs.short_numeral.binary_ulps.Goals as goal
 
-pub returns : goal.returns
-returns c num den some e =
-    let fit : FitsSigned w32 c.args.found.exponent = search rules in
-    let same : to_z w32 (of_z w32 c.args.found.exponent) ≡ c.args.found.exponent = to_z-of_z w32 c.args.found.exponent fit in
-    let up : c.ups.result ≡ ups c.args.bits c.args.found.places c.args.found.exponent c.args.found.scales_by_two = rw same at c.ups.ensures.ups in
-    let down : c.downs-down.result ≡ downs c.args.bits c.args.found.places c.args.found.exponent c.args.found.scales_by_two = rw same at c.downs-down.ensures in
-    c.shifted_ulps.ensures num den c.args.frac some (rw (up, c.from.ensures, down) (cross_frac c.args.found.digits (ups c.args.bits c.args.found.places c.args.found.exponent c.args.found.scales_by_two) (downs c.args.bits c.args.found.places c.args.found.exponent c.args.found.scales_by_two) num den c.args.frac e))
+pub returns-then-net-ge0 : goal.returns-then-net-ge0
+returns-then-net-ge0 c num den some e =
+    let fit : FitsSigned w32 c.args.exponent = search rules in
+    let same : to_z w32 (of_z w32 c.args.exponent) ≡ c.args.exponent = to_z-of_z w32 c.args.exponent fit in
+    let u = ups c.args.bits c.args.places c.args.exponent c.args.scales_by_two in
+    let d = downs c.args.bits c.args.places c.args.exponent c.args.scales_by_two in
+    let net : c.net_power.result ≡ pos u -ℤ pos d = subst (λ x. c.net_power.result ≡ pos (ups c.args.bits c.args.places x c.args.scales_by_two) -ℤ pos (downs c.args.bits c.args.places x c.args.scales_by_two)) same c.net_power.ensures.power in
+    c.raised_ulps.ensures c.args.direction num den c.args.frac some (net_up c.args.digits u d num den c.args.frac _ e (omega (arith, ints, net, c.if-net-ge0.true, c.from.ensures, c.requires.frac, c.net_power.ensures.least, c.net_power.ensures.most)))
+
+pub returns-else-net-ge0 : goal.returns-else-net-ge0
+returns-else-net-ge0 c num den some e =
+    let fit : FitsSigned w32 c.args.exponent = search rules in
+    let same : to_z w32 (of_z w32 c.args.exponent) ≡ c.args.exponent = to_z-of_z w32 c.args.exponent fit in
+    let u = ups c.args.bits c.args.places c.args.exponent c.args.scales_by_two in
+    let d = downs c.args.bits c.args.places c.args.exponent c.args.scales_by_two in
+    let net : c.net_power.result ≡ pos u -ℤ pos d = subst (λ x. c.net_power.result ≡ pos (ups c.args.bits c.args.places x c.args.scales_by_two) -ℤ pos (downs c.args.bits c.args.places x c.args.scales_by_two)) same c.net_power.ensures.power in
+    c.lowered_ulps.ensures num den c.args.frac some (net_down c.args.digits u d num den c.args.frac _ e (omega (arith, ints, net, c.if-net-ge0.false, c.from.ensures, c.requires.frac, c.net_power.ensures.least, c.net_power.ensures.most)))

@@ -4,7 +4,7 @@ use Rattle.std.proofs.lemmas.Grind.{common_steps}
 use Rattle.std.specs.Io.KnownBytes.{Appends}
 use Rattle.line_engine.specs.Lines.{ended_lines, kept_length}
 use Rattle.line_engine.specs.Inner.Progress.{Answered, AnswersUntilFailure, state}
-use Rattle.line_engine.specs.Output.{AppendsPrefix}
+use Rattle.line_engine.specs.Appended.{AppendsPrefix}
 use Rattle.line_engine.proofs.AnsweredLemmas.{answered_flushed, broken_flush}
 use Rattle.line_engine.proofs.FedLemmas.{Fed, fed_none, fed_more, fed_broken}
 use Rattle.line_engine.proofs.ChunkLemmas.{EndsAt, Next, next, ends_at, ends_nowhere, same_lines, last_line_kept}

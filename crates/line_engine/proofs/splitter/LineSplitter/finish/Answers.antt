@@ -3,7 +3,7 @@ use Rattle.std.proofs.lemmas.Result.{on_ok_weaker, on_err_weaker}
 use Rattle.std.specs.Io.KnownBytes.{Appends}
 use Rattle.line_engine.specs.Lines.{kept_length, last_line}
 use Rattle.line_engine.specs.Inner.Progress.{Answered, AnsweredLine, AnswersUntilFailure, StopsBefore, state}
-use Rattle.line_engine.specs.Output.{AppendsPrefix}
+use Rattle.line_engine.specs.Appended.{AppendsPrefix}
 use Rattle.line_engine.proofs.AnsweredLemmas.{answered_none, answered_one, answered_flushed, broken_flush, broken_none}
 use Rattle.line_engine.proofs.ChunkLemmas.{no_last, one_last}
 use Rattle.line_engine.proofs.PrefixLemmas.{on_err, flushes_none}

@@ -1,0 +1,165 @@
+#!/usr/bin/env python3
+"""Tries the package for Python: its tests and doctests, its types, without numpy, as a wheel, and its example.
+
+    python.py [--built build|out]
+
+With `--built build` it takes the shared library that `make library` left, and with `--built out` it links one from the
+archive of the gate. What an interpreter or a tool is missing for is named and passed over.
+"""
+import argparse
+import filecmp
+import glob
+import os
+import shutil
+import subprocess
+import sys
+import tempfile
+
+TOP = os.path.dirname(os.path.dirname(os.path.abspath(__file__)))
+PACKAGE = f"{TOP}/python"
+WITHOUT_NUMPY = """
+import importlib.abc, sys
+class Hidden(importlib.abc.MetaPathFinder):
+    def find_spec(self, name, path, target=None):
+        if name.partition(".")[0] == "numpy":
+            raise ModuleNotFoundError(name)
+sys.meta_path.insert(0, Hidden())
+import pytest
+sys.exit(pytest.main(sys.argv[1:]))
+"""
+ALONE = "import lomdeqash as l, sys; sys.exit(l.Format('I1F15').text(l.Format('I1F15').read(0.3333)) != '0.3333')"
+
+
+class Failed(Exception):
+    """Something came out otherwise."""
+
+
+def run(words, what, **how):
+    """Runs a command, and prints the last line that it writes; a status other than 0 fails."""
+    ran = subprocess.run(words, stdout=subprocess.PIPE, stderr=subprocess.STDOUT, check=False, **how)
+    text = ran.stdout.decode(errors="replace")
+    if ran.returncode:
+        raise Failed(f"{what}: status {ran.returncode}\n{text[-6000:]}")
+    print(f"{what}: {(text.strip().splitlines() or ['as it should be'])[-1]}", flush=True)
+
+
+def has(python, *modules):
+    """Whether an interpreter finds all of these modules."""
+    words = [python, "-c", "import " + ", ".join(modules)]
+    return subprocess.run(words, stdout=subprocess.DEVNULL, stderr=subprocess.DEVNULL, check=False).returncode == 0
+
+
+def found_with(*modules):
+    """The first interpreter that finds all of these modules."""
+    candidates = [os.environ.get("PYTHON"), sys.executable, "/usr/bin/python3"]
+    return next((each for each in candidates if each and os.path.exists(each) and has(each, *modules)), None)
+
+
+def linked(folder):
+    """The shared library, linked from the archive that the gate made; None where there is none."""
+    archive = f"{TOP}/crates/fixed_c/out/libfixed_c.a"
+    if not os.path.isfile(archive) or not shutil.which("gcc"):
+        return None
+    subprocess.run(
+        [
+            "gcc",
+            "-shared",
+            "-o",
+            f"{folder}/libfixed.so.1",
+            "-Wl,-soname,libfixed.so.1",
+            "-Wl,--gc-sections",
+            f"-Wl,--version-script={TOP}/packaging/fixed.map",
+            "-Wl,--whole-archive",
+            archive,
+            "-Wl,--no-whole-archive",
+            "-nostartfiles",
+            "-lc",
+        ],
+        check=True,
+    )
+    return f"{folder}/libfixed.so.1"
+
+
+def check_sources(python, env):
+    """The tests and doctests of the sources, with numpy and without, and the types."""
+    tests = [
+        "-q",
+        "-p",
+        "no:cacheprovider",
+        "--doctest-modules",
+        "--doctest-ignore-import-errors",
+        "lomdeqash",
+        "tests",
+    ]
+    if has(python, "numpy"):
+        page = ["--doctest-glob=PYTHON.md", f"{TOP}/docs/PYTHON.md"]
+        run([python, "-m", "pytest", *tests, *page], "with numpy", cwd=PACKAGE, env=env)
+    else:
+        print("numpy is not on this machine")
+    run([python, "-c", WITHOUT_NUMPY, *tests], "without numpy", cwd=PACKAGE, env=env)
+    if has(python, "mypy", "numpy"):
+        with tempfile.TemporaryDirectory() as cache:
+            run(
+                [python, "-m", "mypy", "--strict", "--cache-dir", cache, "lomdeqash", "tests"],
+                "mypy --strict",
+                cwd=PACKAGE,
+                env=env,
+            )
+    else:
+        print("mypy is not on this machine")
+
+
+def check_wheel(python, library, folder):
+    """The wheel, made twice, and installed in an environment of its own."""
+    if not has(python, "build", "setuptools", "wheel", "venv", "ensurepip"):
+        print("build, setuptools, wheel or venv is not on this machine, and so no wheel was made")
+        return
+    with open(f"{TOP}/packaging/VERSION", encoding="ascii") as version:
+        words = [f"{TOP}/packaging/wheel.sh", version.read().strip(), library]
+    for name in ("first", "second"):
+        run([*words, f"{folder}/{name}"], "a wheel", env=os.environ | {"PYTHON": python})
+    first, second = (glob.glob(f"{folder}/{name}/*.whl")[0] for name in ("first", "second"))
+    if not filecmp.cmp(first, second, shallow=False):
+        raise Failed("two wheels differ")
+    shutil.copytree(f"{PACKAGE}/tests", f"{folder}/tests", ignore=shutil.ignore_patterns("__pycache__"))
+    env = {key: value for key, value in os.environ.items() if key not in ("PYTHONPATH", "LIBFIXED")}
+    for name, options in (("alone", []), ("beside", ["--system-site-packages"])):
+        subprocess.run([python, "-m", "venv", *options, f"{folder}/{name}"], check=True)
+        inside = f"{folder}/{name}/bin/python"
+        run(
+            [inside, "-m", "pip", "install", "-q", "--no-index", "--no-deps", "--disable-pip-version-check", first],
+            f"installed {name}",
+            env=env,
+        )
+        run([inside, "-c", ALONE], f"installed {name}, one number", cwd=folder, env=env)
+    run(
+        [inside, "-m", "pytest", "-q", "-p", "no:cacheprovider", "tests"], "the tests of the wheel", cwd=folder, env=env
+    )
+
+
+def main():
+    words = argparse.ArgumentParser(description=__doc__.split("\n", maxsplit=1)[0])
+    words.add_argument("--built", choices=("build", "out"), default="build")
+    given = words.parse_args()
+    python = found_with("pytest", "hypothesis", "numpy") or found_with("pytest", "hypothesis")
+    if not python:
+        print("pytest and hypothesis are not on this machine, and so the package for Python was not tried")
+        return 0
+    try:
+        with tempfile.TemporaryDirectory() as folder:
+            library = f"{TOP}/build/lib/libfixed.so.1" if given.built == "build" else linked(folder)
+            if not library or not os.path.isfile(library):
+                print("the library for C is not built, and so the package for Python was not tried")
+                return 0
+            env = os.environ | {"PYTHONPATH": PACKAGE, "LIBFIXED": library, "PYTHONDONTWRITEBYTECODE": "1"}
+            check_sources(python, env)
+            run([python, f"{TOP}/examples/python/filter.py", f"{folder}/filter.png"], "the filter", env=env)
+            check_wheel(python, library, folder)
+    except Failed as why:
+        print(why)
+        return 1
+    return 0
+
+
+if __name__ == "__main__":
+    sys.exit(main())

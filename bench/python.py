@@ -1,0 +1,110 @@
+"""The package for Python beside what a user would take instead, over arrays of 1,000,000 numbers.
+
+It measures within an interpreter that has numpy: `measure` looks for one, and runs this file there.
+"""
+import os
+import shutil
+import subprocess
+import sys
+import time
+
+HERE = os.path.dirname(os.path.abspath(__file__))
+COUNT = 1_000_000
+
+
+def measure(programs, _inputs, tries):
+    library = programs.built("lib/libfixed.so.1")
+    candidates = [os.environ.get("PYTHON"), sys.executable, "/usr/bin/python3"]
+    python = next(
+        (
+            each
+            for each in candidates
+            if each
+            and shutil.which(each)
+            and not subprocess.run([each, "-c", "import numpy"], stderr=subprocess.DEVNULL, check=False).returncode
+        ),
+        None,
+    )
+    if not library or not python:
+        print("the package for Python is not timed: " + ("numpy is missing\n" if library else "make library\n"))
+        return
+    env = os.environ | {
+        "LIBFIXED": library,
+        "PYTHONPATH": os.path.join(HERE, "..", "python"),
+        "PYTHONDONTWRITEBYTECODE": "1",
+    }
+    sys.stdout.flush()
+    subprocess.run([python, os.path.abspath(__file__), str(tries)], env=env, check=True)
+
+
+def contenders():
+    """What is done, by whom, and how: all take the same texts, bits or floats."""
+    from decimal import Decimal
+
+    import numpy
+    from lomdeqash import Format
+
+    form = Format("I1F15")
+    bits = numpy.random.default_rng(1).integers(-32768, 32768, COUNT).astype(numpy.int16)
+    texts = form.text(bits, dtype="S").astype("S16")
+    letters, floats = texts.astype("U16"), bits / 32768 + 1e-6
+    listed, listed_bits = letters.tolist(), bits.tolist()
+    ours, plain = "lomdeqash", "numpy, by floats"
+
+    def as_floats(given):
+        return numpy.rint(given.astype(float) * 32768).astype(numpy.int16)
+
+    rows = {
+        "reading S16": {ours: lambda: form.read(texts), plain: lambda: as_floats(texts)},
+        "reading U16": {ours: lambda: form.read(letters), plain: lambda: as_floats(letters)},
+        "reading a list of str": {
+            ours: lambda: form.read(listed),
+            "int(round(..))": lambda: [int(round(float(text) * 32768)) for text in listed],
+            "Decimal": lambda: [int((Decimal(text) * 32768).to_integral_value()) for text in listed],
+        },
+        "reading floats": {ours: lambda: form.read(floats, policy="saturating"), plain: lambda: as_floats(floats)},
+        "printing S8": {
+            ours: lambda: form.text(bits, dtype="S"),
+            plain: lambda: (bits / 32768).astype("S20"),
+            "numpy's %.5f": lambda: numpy.char.mod(b"%.5f", bits / 32768),
+        },
+        "printing U8": {ours: lambda: form.text(bits), plain: lambda: (bits / 32768).astype("U20")},
+        "printing a list of str": {
+            ours: lambda: form.text(listed_bits),
+            "str(..)": lambda: [str(number / 32768) for number in listed_bits],
+        },
+        "to I8F8, down": {ours: lambda: form.convert(bits, "I8F8"), "numpy": lambda: bits >> 7},
+        "to I8F8, to the nearest": {
+            ours: lambda: form.convert(bits, "I8F8", target_mode="nearest"),
+            plain: lambda: numpy.rint(bits / 128).astype(numpy.int16),
+        },
+    }
+    try:
+        from fxpmath import Fxp
+    except ImportError:
+        print("fxpmath is missing")
+    else:
+        rows["reading floats"]["fxpmath"] = lambda: Fxp(floats, signed=True, n_word=16, n_frac=15)
+    return rows
+
+
+def main():
+    sys.path.insert(0, HERE)
+    from timing import table
+
+    rows = []
+    for what, calls in contenders().items():
+        best = dict.fromkeys(calls, float("inf"))
+        for _ in range(int(sys.argv[1])):
+            for who, call in calls.items():
+                start = time.process_time()
+                call()
+                best[who] = min(best[who], time.process_time() - start)
+        first = next(iter(best.values()))
+        rows += [[what, who, f"{spent:.3f}", f"{spent / first:.1f}"] for who, spent in best.items()]
+    print("the package for Python, 1,000,000 numbers of I1F15")
+    table(rows, ["", "by", "seconds", "/ ours"])
+
+
+if __name__ == "__main__":
+    main()

@@ -1,0 +1,65 @@
+//! Laws: what C gave determines what it has after a call. Each is the contract of a function that does nothing.
+
+ghost use Rattle.fixed_c.specs.Laws.{
+  AnswerEndsOnce,
+  CompareEndsOnce,
+  ConvertEndsOnce,
+  EncloseEndsOnce,
+  MessageEndsOnce,
+  PrintEndsOnce,
+  ReadEndsOnce,
+  RespellEndsOnce,
+};
+
+use fixed_enclose::laws::pair_is_the_one;
+use fixed_respell::laws::{
+    answer_is_the_one, refusal_has_none, refusal_is_the_one, respelled_is_the_one,
+};
+
+/// A reading has one end.
+pub fn read_ends_once()
+    ensures { ReadEndsOnce }
+{}
+
+/// A reading through two formats has one end.
+pub fn respell_ends_once()
+    ensures { RespellEndsOnce }
+{
+    respelled_is_the_one();
+    refusal_has_none();
+    refusal_is_the_one();
+}
+
+/// A call that encloses has one end.
+pub fn enclose_ends_once()
+    ensures { EncloseEndsOnce }
+{
+    pair_is_the_one();
+}
+
+/// A conversion has one end.
+pub fn convert_ends_once()
+    ensures { ConvertEndsOnce }
+{}
+
+/// A comparison has one end.
+pub fn compare_ends_once()
+    ensures { CompareEndsOnce }
+{}
+
+/// A call that prints bits has one end.
+pub fn print_ends_once()
+    ensures { PrintEndsOnce }
+{}
+
+/// A call for a message has one end.
+pub fn message_ends_once()
+    ensures { MessageEndsOnce }
+{}
+
+/// A call that answers a line has one end.
+pub fn answer_ends_once()
+    ensures { AnswerEndsOnce }
+{
+    answer_is_the_one();
+}

@@ -1,0 +1,172 @@
+//! Bits moved to another fraction length in a mode.
+
+ghost use Rattle.std.specs.Prelude.{◌≡◌, ◌<◌, ◌≤◌, ◌*◌, ◌+◌, ◌^◌, IfSome, MatchOption, unsigned_abs};
+ghost use Rattle.std.specs.Int.{is_negative};
+ghost use Rattle.fixed_bits.specs.Nearest.{IsNearest};
+ghost use Rattle.fixed_bits.specs.Ranges.{IsInRange, IsWide};
+ghost use Rattle.fixed_bits.specs.Rounded.{IsNotBelow, IsRounded};
+ghost use Rattle.fixed_convert.specs.Rounded.{IsMovedIn, IsNotReformatted, IsReformatted, with_sign};
+
+use crate::floored::reformat;
+use fixed_bits::{Format, Policy, ReadMode};
+
+/// The image of the bits `b`, moved in a mode from fraction length `from` to that of the format, and whether the moved
+/// number was out of range. `None` exactly where it was, under `Checked`.
+pub fn reformat_mode(
+    format: Format,
+    policy: Policy,
+    mode: ReadMode,
+    b: i128,
+    from: u32,
+) -> Option<(i128, bool)>
+    requires wide { IsWide b }
+    requires from { from ≤ 64 }
+    ensures moved { MatchOption result (IsNotReformatted mode policy format b from) (λ r. IsReformatted mode policy format b from r.0 r.1) }
+    ensures range { IfSome result (λ r. IsInRange format.signed format.width r.0) }
+    ensures wide { IfSome result (λ r. IsWide r.0) }
+{
+    if from <= format.frac() {
+        reformat_exactly(format, policy, mode, b, from)
+    } else {
+        reformat_shorter(format, policy, mode, b, from)
+    }
+}
+
+/// The same for a fraction length that is not shorter, where all modes agree.
+fn reformat_exactly(
+    format: Format,
+    policy: Policy,
+    mode: ReadMode,
+    b: i128,
+    from: u32,
+) -> Option<(i128, bool)>
+    requires wide { IsWide b }
+    requires from { from ≤ 64 }
+    requires longer { from ≤ format.frac }
+    ensures moved { MatchOption result (IsNotReformatted mode policy format b from) (λ r. IsReformatted mode policy format b from r.0 r.1) }
+    ensures range { IfSome result (λ r. IsInRange format.signed format.width r.0) }
+    ensures wide { IfSome result (λ r. IsWide r.0) }
+{
+    match reformat(format, policy, b, from) {
+        Some((image, overflowed)) => Some((image, overflowed)),
+        None => None,
+    }
+}
+
+/// The same for a shorter fraction length.
+fn reformat_shorter(
+    format: Format,
+    policy: Policy,
+    mode: ReadMode,
+    b: i128,
+    from: u32,
+) -> Option<(i128, bool)>
+    requires wide { IsWide b }
+    requires from { from ≤ 64 }
+    requires shorter { format.frac < from }
+    ensures moved { MatchOption result (IsNotReformatted mode policy format b from) (λ r. IsReformatted mode policy format b from r.0 r.1) }
+    ensures range { IfSome result (λ r. IsInRange format.signed format.width r.0) }
+    ensures wide { IfSome result (λ r. IsWide r.0) }
+{
+    let moved = moved_back(b, from, format.frac(), mode);
+    match policy.image(format, moved) {
+        Some(image) => Some((image, !format.contains(moved))),
+        None => None,
+    }
+}
+
+/// The bits `b` moved in a mode from fraction length `from` to a shorter one.
+fn moved_back(b: i128, from: u32, to: u32, mode: ReadMode) -> i128
+    requires wide { IsWide b }
+    requires from { from ≤ 64 }
+    requires shorter { to < from }
+    ensures { IsMovedIn mode b from to result }
+{
+    let negative = is_below_zero(b);
+    let ulps = rounded_quotient(magnitude(b), from - to, mode, negative);
+    with_sign(negative, ulps)
+}
+
+/// Whether a number is below zero.
+fn is_below_zero(b: i128) -> bool
+    ensures { result ≡ is_negative b }
+{
+    b < 0
+}
+
+/// A magnitude with a sign.
+fn with_sign(negative: bool, ulps: u128) -> i128
+    requires { ulps ≤ 2 ^ 64 }
+    ensures { result ≡ with_sign negative ulps }
+{
+    if negative {
+        -(ulps as i128)
+    } else {
+        ulps as i128
+    }
+}
+
+/// The magnitude of a number of at most 64 bits.
+fn magnitude(b: i128) -> u64
+    requires { IsWide b }
+    ensures { result ≡ unsigned_abs b }
+{
+    b.unsigned_abs() as u64
+}
+
+/// A magnitude over two to the power of `bits`, rounded in a mode.
+fn rounded_quotient(magnitude: u64, bits: u32, mode: ReadMode, negative: bool) -> u128
+    requires low { 0 < bits }
+    requires high { bits ≤ 64 }
+    ensures rounded { IsRounded mode negative magnitude (2 ^ bits) result }
+    ensures most { result ≤ 2 ^ 64 }
+{
+    let (whole, rest) = parts(magnitude, bits);
+    let unit = 1u128 << bits;
+    match mode {
+        ReadMode::NearestEven => nearest(whole, rest, unit),
+        ReadMode::Floor if negative => above(whole, rest, unit),
+        ReadMode::Ceil if !negative => above(whole, rest, unit),
+        _ => whole,
+    }
+}
+
+/// A magnitude in units of two to the power of `bits`, and what is left.
+fn parts(magnitude: u64, bits: u32) -> (u128, u128)
+    requires { bits ≤ 64 }
+    ensures sum { magnitude ≡ result.0 * 2 ^ bits + result.1 }
+    ensures rest { result.1 < 2 ^ bits }
+    ensures whole { result.0 < 2 ^ 64 }
+{
+    let unit = 1u128 << bits;
+    let magnitude = u128::from(magnitude);
+    (magnitude / unit, magnitude % unit)
+}
+
+/// A whole number of units and a rest as the nearest whole number, ties to even.
+fn nearest(whole: u128, rest: u128, unit: u128) -> u128
+    requires whole { whole < 2 ^ 64 }
+    requires unit { unit ≤ 2 ^ 64 }
+    requires rest { rest < unit }
+    ensures near { IsNearest (whole * unit + rest) unit result }
+    ensures most { result ≤ whole + 1 }
+{
+    let double = 2 * rest;
+    if double < unit {
+        whole
+    } else if double == unit {
+        whole + whole % 2
+    } else {
+        whole + 1
+    }
+}
+
+/// The least whole number that is not below a whole number of units and a rest.
+fn above(whole: u128, rest: u128, unit: u128) -> u128
+    requires whole { whole < 2 ^ 64 }
+    requires rest { rest < unit }
+    ensures least { IsNotBelow (whole * unit + rest) unit result }
+    ensures most { result ≤ whole + 1 }
+{
+    if rest == 0 { whole } else { whole + 1 }
+}

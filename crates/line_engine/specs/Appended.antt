@@ -1,0 +1,21 @@
+-- What was appended: an answer, or a prefix of a text.
+use Rattle.std.specs.Prelude.{◌≡◌, ℕ, ◌≤◌, List, ◌++◌, Bool, length}
+use Rattle.std.specs.declared.option.Option.{Option}
+use Rattle.std.specs.Io.KnownBytes.{Appends}
+use Rattle.line_engine.specs.AnswerText.{AnswerText}
+
+-- the text of the answer to a line, of at most `most` bytes, was appended to what was gathered before; the flag is the
+-- answer's
+pub record AppendsAnswer (A : List ℕ → AnswerText → Type 0)
+    (most : ℕ) (line before after : List ℕ) (fault : Bool) : Type 0 where
+  pub text : List ℕ
+  pub answer : A line (record { text = text; fault = fault })
+  pub appended : after ≡ before ++ text
+  pub short : length text ≤ most
+
+-- known bytes grew by a prefix of bs
+pub record AppendsPrefix (old new : Option (List ℕ)) (bs : List ℕ) : Type 0 where
+  pub prefix : List ℕ
+  pub rest : List ℕ
+  pub split : bs ≡ prefix ++ rest
+  pub appends : Appends old new prefix

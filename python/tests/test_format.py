@@ -1,0 +1,79 @@
+"""Formats as values of Python."""
+from __future__ import annotations
+
+import copy
+import pickle
+
+import pytest
+from hypothesis import given
+from lomdeqash import Code, FixedError, Format
+from model import formats
+
+
+@given(formats())
+def test_a_format_is_its_name(form: Format) -> None:
+    assert eval(repr(form)) == form == Format(str(form)) == Format(form) == Format(form.word.lower())
+    assert pickle.loads(pickle.dumps(form)) == form == copy.deepcopy(form)
+    assert {form: 1}[Format(form.word)] == 1
+
+
+@pytest.mark.parametrize(
+    ("word", "name"),
+    [
+        ("Q15", "I1F15"),
+        ("q31", "I1F31"),
+        ("Q8.8", "I8F8"),
+        ("UQ8.8", "U8F8"),
+        ("uq16", "U0F16"),
+        ("Q0.8", "I0F8"),
+        ("i1f15", "I1F15"),
+    ],
+)
+def test_names_of_other_tools(word: str, name: str) -> None:
+    assert Format(word).word == name
+
+
+@pytest.mark.parametrize(
+    "word",
+    [
+        "",
+        "I",
+        "I8",
+        "F8",
+        "I8F08",
+        "I08F8",
+        "I65F0",
+        "I0F0",
+        "U40F30",
+        "I1F15 ",
+        "S1F15",
+        "Q",
+        "Q8.",
+        "\u0661",
+        "I\u0664F\u0664",
+        "I8F8\n",
+        "I" + "9" * 999 + "F0",
+    ],
+)
+def test_a_word_that_is_none(word: str) -> None:
+    with pytest.raises(FixedError) as found:
+        Format(word)
+    assert found.value.code is Code.BAD_WORD
+
+
+def test_order() -> None:
+    words = ["U8F0", "U0F8", "I8F0", "U16F0", "I1F15"]
+    assert sorted(map(Format, reversed(words))) == list(map(Format, words))
+    assert Format("I4F4") != object()
+    with pytest.raises(TypeError):
+        assert Format("I4F4") < "I4F4"  # type: ignore[operator]
+
+
+def test_a_format_stays() -> None:
+    with pytest.raises(AttributeError):
+        Format("I4F4").frac = 3  # type: ignore[misc]
+
+
+def test_a_format_is_a_word() -> None:
+    with pytest.raises(TypeError):
+        Format(8)  # type: ignore[arg-type]
