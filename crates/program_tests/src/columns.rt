@@ -4,6 +4,11 @@ use crate::runs::{Program, assert_run};
 use line_engine::{MemoryRun, Status};
 use std::test::Fail;
 
+/// A run without arguments in which no read and no write fails.
+fn unfailing(input: &'static str, written: &'static str, status: Status) -> MemoryRun {
+    MemoryRun::unfailing(&[], input, written, status)
+}
+
 #[test]
 fn columns_are_written_in_order(rt: HostRuntime) -> Result<(), Fail> {
     let cases = [

@@ -12,14 +12,8 @@ mod constants;
 #[cfg(test)]
 mod enclosures;
 #[cfg(test)]
-mod engine;
-#[cfg(test)]
 mod failures;
 #[cfg(test)]
 mod least;
 #[cfg(test)]
-mod respelling;
-#[cfg(test)]
 mod runs;
-#[cfg(test)]
-mod streams;
