@@ -1,5 +1,5 @@
 -- Bits moved in a mode.
-use Rattle.std.proofs.Common.{◌≡◌, ◌∙◌, ℕ, ℤ, Bool, true, false, pos, negsuc, suc, ◌+◌, ◌-◌, ◌*◌, ◌^◌, ◌<◌, ◌≤◌, unsigned_abs, refl, sym, ap, subst, arith}
+use Rattle.std.proofs.Common.{◌≡◌, ◌∙◌, ◌↔◌, ℕ, ℤ, Bool, IsTrue, not, true, false, pos, negsuc, suc, ◌+◌, ◌-◌, ◌*◌, ◌^◌, ◌<◌, ◌≤◌, unsigned_abs, refl, sym, ap, subst, arith}
 use Rattle.std.specs.Int.{is_negative}
 use Rattle.std.proofs.lemmas.Bool.{le-ltb}
 use Rattle.std.proofs.lemmas.Int.{ints}
@@ -9,10 +9,9 @@ use Rattle.fixed_bits.specs.Down.{IsDown, down}
 use Rattle.fixed_bits.specs.Rounded.{IsRounded}
 use Rattle.fixed_bits.specs.declared.mode.ReadMode.{ReadMode}
 use Rattle.fixed_bits.specs.declared.mode.ReadMode.TheVariants.{NearestEven, Floor, Ceil, TowardsZero}
-use Rattle.fixed_bits.proofs.Public.{down_is, nearest_by_rest, rounded_exists, rounded_same, rounded_unique}
+use Rattle.fixed_bits.proofs.Public.{down_is, grown, nearest_by_rest, rounded_exists, rounded_same, rounded_unique}
 use Rattle.fixed_convert.specs.Moved.{shifted}
 use Rattle.fixed_convert.specs.Rounded.{FloorIsDown, IsMovedIn, MovedInIsTheOne, with_sign}
-use Rattle.fixed_convert.proofs.MovedLemmas
 
 not_negative : (a : ℕ) → is_negative (pos a) ≡ false
 not_negative a = le-ltb a 0 (omega arith)
@@ -49,7 +48,7 @@ moved_longer mode (negsuc a) f g h =
 
 -- the number is moved as it is moved down
 pub moved_exact : (mode : ReadMode) (b : ℤ) (f g : ℕ) → f ≤ g → IsMovedIn mode b f g (down b f g)
-moved_exact mode b f g h = subst (λ (v : ℤ). IsMovedIn mode b f g v) (MovedLemmas.grown b f g h) (moved_longer mode b f g h)
+moved_exact mode b f g h = subst (λ (v : ℤ). IsMovedIn mode b f g v) (grown b f g h) (moved_longer mode b f g h)
 
 -- ---- to a shorter one
 pub moved_shorter : (mode : ReadMode) (b v : ℤ) (f g q : ℕ) → g ≤ f → IsRounded mode (is_negative b) (unsigned_abs b) (2 ^ (f - g)) q
@@ -57,6 +56,11 @@ pub moved_shorter : (mode : ReadMode) (b v : ℤ) (f g q : ℕ) → g ≤ f → 
 moved_shorter mode b v f g q h rounded value =
     let e : unsigned_abs b * 2 ^ f ≡ unsigned_abs b * 2 ^ g * 2 ^ (f - g) = sym (powers_joined (unsigned_abs b) g f h) ∙ omega arith in
     record { ulps = q; rounded = rounded_same mode (is_negative b) (unsigned_abs b) (2 ^ (f - g)) (unsigned_abs b * 2 ^ g) (2 ^ f) q (pow_pos (f - g)) (pow_pos f) e rounded; value = value }
+
+-- the contrary of "in range"
+pub not_inside : (t : Bool) (P : Type 0) → ((t ≡ false) ↔ P) → IsTrue (not t) ↔ P
+not_inside true P e = ((λ x. absurd (let y : false ≡ true = x in cc)), (λ p. absurd (let y : true ≡ false = e.1 p in cc)))
+not_inside false P e = ((λ x. e.0 refl), (λ p. refl))
 
 -- ---- laws
 pub moved_in_is_the_one : MovedInIsTheOne

@@ -3,7 +3,7 @@ use Rattle.std.specs.Int.{w128}
 use Rattle.std.proofs.lemmas.Int.{to_z-of_z}
 use Rattle.fixed_bits.specs.Ranges.{IsOutOfRange}
 use Rattle.fixed_convert.specs.Rounded.{IsMovedIn}
-use Rattle.fixed_convert.proofs.RepresentativeLemmas.{not_inside}
+use Rattle.fixed_convert.proofs.RoundedLemmas.{not_inside}
 use Rattle.fixed_convert.proofs.rounded.reformat_shorter.Goals as goal
 
 pub returns-in-Some-clause-moved : goal.returns-in-Some-clause-moved
