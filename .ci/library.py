@@ -1,7 +1,7 @@
 #!/usr/bin/env python3
 """Tries the library for C from outside: its symbols, and the callers in examples/ with what compilers there are.
 
-    library.py [--built build|out] [--lines N]
+    library.py [--built build|out] [--lines N] [--calls N]
 
 With `--built out` it takes the libraries and the program that the gate built, and proves `fixed_c` over these for its archive; with
 `--built build` it takes what `make library` and `make build` left. A compiler that is not on this machine is named and passed over.
@@ -71,7 +71,7 @@ def archive(built, folder):
     for name in sorted(below(crates, crates["fixed_c"].uses)):
         words += ["-L", f"dependency={crates[name].folder}/out/rlib"]
     words += ["--antt-project", f"{kit}/rattle/logic/antt-project.json", "--logic-built", f"{kit}/logic_built", "--links", "fixed_c=",
-              "--crate-type", "staticlib", "--toolchain", f"{kit}/toolchain", "--jobs", str(processes()), "-o", f"{folder}/libfixed_c.a"]
+              "--crate-type", "staticlib", "--cpu", "x86-64", "--toolchain", f"{kit}/toolchain", "--jobs", str(processes()), "-o", f"{folder}/libfixed_c.a"]
     run(["rattle", "build", *words], cwd=crates["fixed_c"].folder, stdin=subprocess.DEVNULL)
     return f"{folder}/libfixed_c.a"
 
@@ -93,9 +93,36 @@ def check_symbols(library, shared):
     names = {line.split()[-1].split("@")[0] for line in run(["nm", "-D", "--defined-only", shared]).splitlines()}
     if names - {"FIXED_1"} != calls():
         raise Failed(f"the shared library has {sorted(names)}")
-    if "libfixed.so.1" not in run(["readelf", "-d", shared]):
-        raise Failed("the shared library has no SONAME")
+    dynamic, segments = run(["readelf", "-d", shared]), run(["readelf", "-lW", shared])
+    for what, found in (("SONAME", "libfixed.so.1" in dynamic), ("binding at its start", "NOW" in dynamic), ("RELRO", "GNU_RELRO" in segments)):
+        if not found:
+            raise Failed(f"the shared library has no {what}")
     print(f"{len(public)} public symbols; wanted from outside: {', '.join(sorted(undefined)) or 'nothing'}", flush=True)
+
+
+def check_header():
+    """The header alone, in every standard of C and C++, and its version."""
+    for compiler, language, standards in (("gcc", "c", "90 99 11 17 2x"), ("g++", "c++", "98 03 11 14 17 20 23")):
+        for standard in standards.split() if shutil.which(compiler) else ():
+            run([compiler, f"-std={language}{standard}", "-Wall", "-Wextra", "-Werror", "-pedantic-errors", "-fsyntax-only", "-x", language, f"{HEADER}/fixed.h"])
+    with open(f"{TOP}/packaging/VERSION", encoding="utf-8") as file, open(f"{HEADER}/fixed.h", encoding="utf-8") as header:
+        text, version = header.read(), file.read().strip()
+    if [f'"{version}"', *version.split(".")] != re.findall(r"#define FIXED_VERSION_(?:STRING|MAJOR|MINOR|PATCH) (\S+)", text)[-1:] + re.findall(
+            r"#define FIXED_VERSION_(?:MAJOR|MINOR|PATCH) (\S+)", text):
+        raise Failed(f"the header's version is not {version}")
+    print("header: compiles in each standard, with the version of the packages", flush=True)
+
+
+def check_processors(folder):
+    """The callers in C on the oldest processors that are promised, by qemu's user mode."""
+    if not shutil.which("qemu-x86_64"):
+        print("qemu-x86_64 is not on this machine, and so no old processor was tried")
+        return
+    for processor in ("qemu64", "core2duo"):
+        wanted(f"example on {processor}", run(["qemu-x86_64", "-cpu", processor, f"{folder}/gcc_example_plain"]), EXAMPLE)
+    if not run(["qemu-x86_64", "-cpu", "qemu64", f"{folder}/gcc_edges_plain", "2000"]).endswith("the threads agree\n"):
+        raise Failed("edges on qemu64")
+    print("edges on qemu64: as it should be", flush=True)
 
 
 def check_c(folder, library, program, lines):
@@ -111,11 +138,13 @@ def check_c(folder, library, program, lines):
                 run([compiler, "-std=c11", *STRICT, *SANITIZED, source, library, "-o", out, "-pthread"])
             except Failed as why:
                 print(f"{compiler} has no sanitizers here: {str(why).splitlines()[-1]:.120}")
-                os.replace(out + "_plain", out)
+                shutil.copy(out + "_plain", out)
         wanted(f"{compiler}, example", run([f"{folder}/{compiler}_example"]), EXAMPLE)
         if not run([f"{folder}/{compiler}_edges"]).endswith("the threads agree\n"):
             raise Failed(f"{compiler}, edges")
         print(f"{compiler}, edges: nothing read or written out of place", flush=True)
+        run([compiler, "-std=c11", *STRICT, f"{TOP}/examples/c/stack.c", library, "-o", f"{folder}/{compiler}_stack", "-pthread"])
+        print(f"{compiler}, stack: {run([f'{folder}/{compiler}_stack']).strip()}", flush=True)
     if program and lines and os.path.isfile(f"{folder}/gcc_lines_plain"):
         compare_lines(f"{folder}/gcc_lines_plain", program, lines)
 
@@ -156,6 +185,7 @@ def main():
     words = argparse.ArgumentParser(description=__doc__.split("\n", maxsplit=1)[0])
     words.add_argument("--built", choices=("build", "out"), default="build")
     words.add_argument("--lines", type=int, default=200_000)
+    words.add_argument("--calls", type=int, default=100_000)
     given = words.parse_args()
     if not shutil.which("gcc") or not shutil.which("nm"):
         print("gcc is not on this machine, and so the library for C was not tried")
@@ -170,10 +200,13 @@ def main():
             shutil.copy(archive(given.built, folder), library)
             undefined = [word for call in sorted(calls()) for word in ("-Wl,-u," + call,)]
             run(["gcc", "-shared", "-o", shared, "-Wl,-soname,libfixed.so.1", f"-Wl,--version-script={TOP}/packaging/fixed.map",
-                 "-Wl,--gc-sections", *undefined, library, "-nostartfiles", "-lc"])
+                 "-Wl,--gc-sections", "-Wl,-z,relro", "-Wl,-z,now", *undefined, library, "-nostartfiles", "-lc"])
             os.symlink("libfixed.so.1", f"{folder}/libfixed.so")
+            check_header()
             check_symbols(library, shared)
             check_c(folder, library, program, given.lines)
+            check_processors(folder)
+            print(run([sys.executable, f"{TOP}/oracle/library.py", shared, "--count", str(given.calls)]), end="", flush=True)
             check_others(folder, library, shared)
     except Failed as why:
         print(why)

@@ -5,14 +5,14 @@
  *  - no pointer is null, but that of a text of length 0 and that of a buffer of size 0;
  *  - text[0..len) is readable, out[0..size) and what the other pointers name are writable, and what a call writes overlaps
  *    nothing else that it is given;
- *  - these declarations are those of the library that is linked (FIXED_ABI).
+ *  - these declarations are those of the library that is linked: fixed_abi() is FIXED_ABI.
  * Every other argument is tested: whatever it is, the call returns and says by its code what was wrong. No call takes memory,
- * keeps state, or depends on a locale, so each may be made from any thread and from a signal handler. Every
- * amd64 processor runs the library.
+ * keeps state, or depends on a locale, so each may be made from any thread and from a signal handler. Every amd64
+ * processor runs the library, and a call takes less than FIXED_STACK_SIZE bytes of stack.
  *
  * Each call returns a code, FIXED_OK or what was wrong first: its arguments are tested first, in the order of the codes from 11
  * on, then the text (1 to 9), then whether the number fits (10), and the room for what is written (17) last. With any other code
- * than FIXED_OK and FIXED_NO_ROOM a call writes nothing.
+ * than FIXED_OK and FIXED_NO_ROOM a call writes nothing. fixed_abi and fixed_version alone return what they are asked for.
  *
  * A numeral is an optional sign, digits of the radix with at most one point among them, and at least one digit; and after these
  * an exponent or none: a separator, an optional sign and at least one decimal digit, in the range of 32 bits. `e`, `E` and `@`
@@ -27,6 +27,13 @@
 
 /* The layout of what is declared here. It stays as it is while calls and codes are added at the end. */
 #define FIXED_ABI 1
+
+/* The version of the library that this file came with. */
+#define FIXED_VERSION_MAJOR 1
+#define FIXED_VERSION_MINOR 31
+#define FIXED_VERSION_PATCH 0
+#define FIXED_VERSION_STRING "1.31.0"
+#define FIXED_VERSION (FIXED_VERSION_MAJOR * 10000 + FIXED_VERSION_MINOR * 100 + FIXED_VERSION_PATCH)
 
 #ifdef __cplusplus
 extern "C" {
@@ -56,6 +63,11 @@ enum fixed_policy { FIXED_CHECKED = 0, FIXED_SATURATING = 1, FIXED_WRAPPING = 2 
 /* How a number between two numbers of a format is rounded: to the nearest with ties to even, down, up, towards zero. */
 enum fixed_mode { FIXED_NEAREST = 0, FIXED_FLOOR = 1, FIXED_CEIL = 2, FIXED_ZERO = 3 };
 
+/* Which whole number a number is rounded to: the least not below it, the greatest not above it, the nearest with ties away from
+ * zero, the nearest with ties to even, the nearest that is not farther from zero. */
+enum fixed_rounding { FIXED_ROUND_CEIL = 0, FIXED_ROUND_FLOOR = 1, FIXED_ROUND_TIES_AWAY = 2, FIXED_ROUND_TIES_EVEN = 3,
+                      FIXED_ROUND_ZERO = 4 };
+
 enum fixed_code {
   FIXED_OK = 0,
   /* Why a text is no numeral of its radix. */
@@ -79,11 +91,16 @@ enum fixed_code {
   FIXED_BAD_BITS = 16, /* the only bits, or a, are not bits of their format */
   /* The text and a zero byte do not fit into size bytes: nothing of it was written, but *len is its length. */
   FIXED_NO_ROOM = 17,
-  FIXED_BAD_OTHER_BITS = 18 /* b is not bits of its format */
+  FIXED_BAD_OTHER_BITS = 18, /* b is not bits of its format */
+  FIXED_BAD_PLACES = 19,
+  FIXED_BAD_ROUNDING = 20,
+  FIXED_BAD_WORD = 21, /* the word is that of no format */
+  FIXED_BAD_ROWS = 22  /* the sizes are not those of the rows */
 };
 
-/* Sizes that are always enough, the zero byte included. Where only a text's length is wanted, out may be null with a size of 0, as with snprintf: the code is then FIXED_NO_ROOM. */
-enum { FIXED_TEXT_SIZE = 49, FIXED_ANSWER_SIZE = 193, FIXED_MESSAGE_SIZE = 48 };
+/* Sizes that are always enough, the zero byte included; and more stack than any call takes. Where
+ * only a text's length is wanted, out may be null with a size of 0, as with snprintf: the code is then FIXED_NO_ROOM. */
+enum { FIXED_TEXT_SIZE = 49, FIXED_PLACES_SIZE = 87, FIXED_ANSWER_SIZE = 193, FIXED_MESSAGE_SIZE = 48, FIXED_WORD_SIZE = 9, FIXED_STACK_SIZE = 8192 };
 
 /* text[0..len), a numeral in a radix of 2, 8, 10 or 16, as a number of a format. */
 uint32_t fixed_read_text(const char *text, size_t len, uint32_t radix, fixed_format format, uint32_t policy, uint32_t mode,
@@ -111,6 +128,38 @@ uint32_t fixed_answer_line(const char *line, size_t line_len, char *out, size_t 
 
 /* The message of a code, and a zero byte; *len is its length. That of a number that is no code is "unknown code". */
 uint32_t fixed_message(uint32_t code, char *out, size_t size, size_t *len);
+
+/* Bits rounded to this many decimal places, 0 to 64, ties to even, and a zero byte; *len is the text's length, at most 86. */
+uint32_t fixed_print_places(int64_t bits, fixed_format format, uint32_t places, char *out, size_t size, size_t *len);
+
+/* Bits rounded to a whole number, as bits of the same format. */
+uint32_t fixed_round_bits(int64_t bits, fixed_format format, uint32_t rounding, uint32_t policy, fixed_number *out);
+
+/* Bits of one format as those of another, rounded in a mode. */
+uint32_t fixed_convert_bits_mode(int64_t bits, fixed_format source, fixed_format target, uint32_t policy, uint32_t mode,
+                                 fixed_number *out);
+
+/* text[0..len), a literal, as a number of a format, rounded to the nearest with ties to even. A literal is a numeral that may have
+ * a `-` where the format is signed and no `+`, after it 0b, 0o or 0x for a radix of 2, 8 or 16, else 10, and underscores after these
+ * and after a digit of their part: "-0x1f.8", "1_000.25". */
+uint32_t fixed_read_literal(const char *text, size_t len, fixed_format format, uint32_t policy, fixed_number *out);
+
+/* The format that word[0..len) names, such as I16F16 or U8F0, and its word, with a zero byte; *len is the word's length, at most 8. */
+uint32_t fixed_format_of_word(const char *word, size_t len, fixed_format *out);
+uint32_t fixed_word_of_format(fixed_format format, char *out, size_t size, size_t *len);
+
+/* The single calls for rows. Row i is rows[i * size..(i + 1) * size), and its text goes up to its first zero byte, or is all of it.
+ * codes[i] is what fixed_read_text or fixed_convert_bits_mode returns for row i, and out[i] what it leaves in a number of zeros;
+ * *refused is how many of the codes are not FIXED_OK. The calls return FIXED_OK, or, where len is not size * code_count, or count or
+ * bits_count is not code_count, FIXED_BAD_ROWS with nothing written. */
+uint32_t fixed_read_rows(const char *rows, size_t len, size_t size, uint32_t radix, fixed_format format, uint32_t policy,
+                         uint32_t mode, fixed_number *out, size_t count, uint32_t *codes, size_t code_count, size_t *refused);
+uint32_t fixed_convert_rows(const int64_t *bits, size_t bits_count, fixed_format source, fixed_format target, uint32_t policy,
+                            uint32_t mode, fixed_number *out, size_t count, uint32_t *codes, size_t code_count, size_t *refused);
+
+/* FIXED_ABI and FIXED_VERSION of the library that is linked. */
+uint32_t fixed_abi(void);
+uint32_t fixed_version(void);
 
 #ifdef __cplusplus
 }

@@ -46,6 +46,22 @@ static uint64_t print_and_read(int64_t bits, fixed_format format, unsigned *seed
   return len;
 }
 
+/* Rounds and converts a number, and finds its format by its word. */
+static uint64_t round_and_convert(int64_t bits, fixed_format format, unsigned *seed) {
+  fixed_number whole = {99, 99}, moved = {99, 99};
+  fixed_format target = some_format(seed), again = {9, 9, 9};
+  uint64_t sum = fixed_round_bits(bits, format, (uint32_t)rand_r(seed) % 6, (uint32_t)rand_r(seed) % 4, &whole);
+  sum = sum * 31 + fixed_convert_bits_mode(bits, format, target, (uint32_t)rand_r(seed) % 4, (uint32_t)rand_r(seed) % 5, &moved);
+  size_t size = (size_t)rand_r(seed) % 90, len = 0;
+  char *out = block(size);
+  uint32_t code = fixed_print_places(bits, format, (uint32_t)rand_r(seed) % 70, out, size, &len);
+  CHECK(code == FIXED_BAD_PLACES || (code == FIXED_OK) == (len < size));
+  if (fixed_word_of_format(format, out, size, &len) == FIXED_OK)
+    CHECK(fixed_format_of_word(out, len, &again) == FIXED_OK && again.width == format.width && again.frac == format.frac);
+  free(out);
+  return sum * 31 + (uint64_t)whole.bits + (uint64_t)moved.bits + len;
+}
+
 static uint64_t use_number(int64_t bits, fixed_format format, unsigned *seed) {
   fixed_number moved = {0, 0};
   fixed_format target = some_format(seed);
@@ -54,7 +70,7 @@ static uint64_t use_number(int64_t bits, fixed_format format, unsigned *seed) {
   sum = sum * 31 + (uint64_t)moved.bits + moved.overflowed;
   int32_t order = 7;
   CHECK(fixed_compare_bits(bits, format, bits, format, &order) == FIXED_OK && order == 0);
-  return sum;
+  return sum * 31 + round_and_convert(bits, format, seed);
 }
 
 static uint64_t some_calls(unsigned seed, int times) {
@@ -77,6 +93,7 @@ static uint64_t some_calls(unsigned seed, int times) {
     }
     fixed_number through = {99, 99};
     sum = sum * 31 + fixed_respell_text(text, count, radix, format, some_format(&seed), policy, mode, &through);
+    sum = sum * 31 + fixed_read_literal(text, count, format, policy, &through);
     fixed_enclosure ends = {99, 99};
     if (fixed_enclose_text(text, count, radix, format, &ends) == FIXED_OK) sum += (uint64_t)ends.lo ^ (uint64_t)ends.hi;
 
@@ -101,6 +118,28 @@ static uint64_t some_calls(unsigned seed, int times) {
   return sum;
 }
 
+/* Calls without bytes: a null pointer is an empty text, and a buffer of size 0 asks for a length alone. */
+static void nothing_at_all(void) {
+  const fixed_format byte = {1, 8, 4};
+  fixed_format named = {9, 9, 9};
+  fixed_number number = {99, 99};
+  fixed_enclosure ends = {99, 99};
+  size_t len = 0;
+  uint32_t is_fault = 9;
+  CHECK(fixed_read_text(NULL, 0, 10, byte, FIXED_CHECKED, FIXED_NEAREST, &number) == FIXED_NO_DIGITS);
+  CHECK(fixed_respell_text(NULL, 0, 10, byte, byte, FIXED_CHECKED, FIXED_NEAREST, &number) == FIXED_NO_DIGITS);
+  CHECK(fixed_enclose_text(NULL, 0, 10, byte, &ends) == FIXED_NO_DIGITS);
+  CHECK(fixed_read_literal(NULL, 0, byte, FIXED_CHECKED, &number) == FIXED_NO_DIGITS);
+  CHECK(fixed_format_of_word(NULL, 0, &named) == FIXED_BAD_WORD);
+  CHECK(number.bits == 99 && ends.lo == 99 && named.width == 9);
+  CHECK(fixed_answer_line(NULL, 0, NULL, 0, &len, &is_fault) == FIXED_NO_ROOM && len == 20 && is_fault == 1);
+  CHECK(fixed_print_bits(25, byte, NULL, 0, &len) == FIXED_NO_ROOM && len == 4);
+  CHECK(fixed_print_places(25, byte, 2, NULL, 0, &len) == FIXED_NO_ROOM && len == 4);
+  CHECK(fixed_word_of_format(byte, NULL, 0, &len) == FIXED_NO_ROOM && len == 4);
+  CHECK(fixed_message(FIXED_BAD_WORD, NULL, 0, &len) == FIXED_NO_ROOM && len == 15);
+  CHECK(fixed_abi() == FIXED_ABI && fixed_version() == FIXED_VERSION);
+}
+
 static void *in_a_thread(void *at) {
   uint64_t *given = at;
   *given = some_calls((unsigned)*given, 5000);
@@ -110,6 +149,7 @@ static void *in_a_thread(void *at) {
 int main(int argc, char **argv) {
   uint64_t sums[4] = {7, 7, 7, 8};
   pthread_t threads[4];
+  nothing_at_all();
   printf("%llu\n", (unsigned long long)some_calls(1, argc > 1 ? atoi(argv[1]) : 100000));
   for (int i = 0; i < 4; i++) CHECK(pthread_create(&threads[i], NULL, in_a_thread, &sums[i]) == 0);
   for (int i = 0; i < 4; i++) CHECK(pthread_join(threads[i], NULL) == 0);

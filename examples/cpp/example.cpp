@@ -9,10 +9,8 @@
 namespace fixed {
 
 std::optional<fixed_number> read(std::string_view text, fixed_format format, uint32_t policy = FIXED_CHECKED) {
-  // the data of an empty view may be null, which no call takes
-  const char *data = text.data() ? text.data() : "";
-  fixed_number number;
-  if (fixed_read_text(data, text.size(), 10, format, policy, FIXED_NEAREST, &number) != FIXED_OK) return std::nullopt;
+  fixed_number number;  // the data of an empty view may be null, which is an empty text
+  if (fixed_read_text(text.data(), text.size(), 10, format, policy, FIXED_NEAREST, &number) != FIXED_OK) return std::nullopt;
   return number;
 }
 

@@ -38,6 +38,12 @@ pub handed : {T : Type 0} (answer : Result T Refusal) (Right : T → Type 0) (Re
 handed (Ok given) Right Refused old new code h e = inl (e.0, subst Right (sym e.1) h)
 handed (Err refusal) Right Refused old new code h e = inr (refusal, e.0, h, e.1)
 
+-- what is said of an answer follows from what was said
+pub carried : {T : Type 0} (answer : Result T Refusal) (P Right : T → Type 0) (Q Refused : Refusal → Type 0)
+    → ((x : T) → P x → Right x) → ((r : Refusal) → Q r → Refused r) → MatchResult answer P Q → MatchResult answer Right Refused
+carried (Ok x) P Right Q Refused right refused h = right x h
+carried (Err r) P Right Q Refused right refused h = refused r h
+
 -- ---- refusals
 pub unless_one : (Holds : Type 0) (bad : Refusal) (Others : Refusal → Type 0) (r s : Refusal) → (Others r → Others s → r ≡ s)
     → Unless Holds bad Others r → Unless Holds bad Others s → r ≡ s

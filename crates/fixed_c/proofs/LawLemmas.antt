@@ -35,7 +35,22 @@ use Rattle.fixed_c.specs.Texts.{PutsText}
 use Rattle.fixed_c.specs.declared.number.FixedEnclosure.{FixedEnclosure}
 use Rattle.fixed_c.specs.declared.number.FixedNumber.{FixedNumber}
 use Rattle.fixed_c.specs.declared.refusal.Refusal.{Refusal}
-use Rattle.fixed_c.specs.declared.refusal.Refusal.TheVariants.{Numeral, BadRadix, BadFormat, BadTarget, BadPolicy, BadMode, BadBits, NoRoom, BadOtherBits, BadPlaces, BadStyle, BadRounding, BadWord, BadRows}
+use Rattle.fixed_c.specs.declared.refusal.Refusal.TheVariants.{Numeral, BadRadix, BadFormat, BadTarget, BadPolicy, BadMode, BadBits, NoRoom, BadOtherBits, BadPlaces, BadRounding, BadWord, BadRows}
+use Rattle.std.proofs.Common.{false, ◌≤◌}
+use Rattle.fixed_bits.specs.declared.mode.ReadMode.TheVariants.{NearestEven}
+use Rattle.fixed_convert.specs.Rounded.{IsMovedIn, MovedInIsTheOne}
+use Rattle.fixed_numeral.specs.Literal.{HasLiteral, literal_radix}
+use Rattle.fixed_numeral.proofs.Public.{one_literal, one_literal_cause}
+use Rattle.fixed_round.specs.declared.rounding.Rounding.TheVariants.{Ceil, Floor, Round, RoundTiesEven}
+use Rattle.fixed_write.specs.Laws.{RoundedTextIsComputed}
+use Rattle.fixed_write.specs.Places.{IsRoundedText}
+use Rattle.fixed_c.specs.Codes.{policy_code}
+use Rattle.fixed_c.specs.Convert.{ConvertInIsRefused, IsConvertedIn, IsNotConvertedIn, IsPrintedTo, PlacesIsRefused}
+use Rattle.fixed_c.specs.Laws.{ConvertInEndsOnce, LiteralEndsOnce, PlacesEndsOnce, RoundEndsOnce}
+use Rattle.fixed_c.specs.Literal.{IsLiteralNotRead, IsLiteralReadAs, LiteralIsRefused}
+use Rattle.fixed_c.specs.Round.{IsNotRoundedTo, IsRoundedTo, NamesRounding, RoundIsRefused, rounded_bits, rounding_code}
+use Rattle.fixed_c.specs.declared.rounding.WholeRounding.{WholeRounding}
+use Rattle.fixed_c.specs.declared.rounding.WholeRounding.TheVariants.{By, ToZero}
 use Rattle.fixed_c.proofs.EndLemmas.{bits_of_number, bits_one, brought_none, brought_one, end_one, kind_one, mode_one, number_same, policy_one, puts_one, radix_one, text_one, unless_none, unless_one}
 
 -- what names a radix, a policy and a mode in two ways names the same
@@ -335,13 +350,12 @@ answer_ends_once one line old a b m n fault flag code other p q =
 
 -- ---- messages
 message_at : ℕ → List ℕ
-message_at n = if nat_lt 23 n then codes "unknown code" else (if n == 0 then codes "done" else (if n == 1 then message_of InvalidDigit else (if n == 2 then message_of MisplacedSign
+message_at n = if nat_lt 22 n then codes "unknown code" else (if n == 0 then codes "done" else (if n == 1 then message_of InvalidDigit else (if n == 2 then message_of MisplacedSign
     else (if n == 3 then message_of MisplacedUnderscore else (if n == 4 then message_of TooManyPoints else (if n == 5 then message_of TooManyExp else (if n == 6 then message_of ExpInvalidDigit
     else (if n == 7 then message_of ExpOverflow else (if n == 8 then message_of NoDigits else (if n == 9 then message_of ExpNoDigits else (if n == 10 then message_of Overflow
     else (if n == 11 then refusal_message BadRadix else (if n == 12 then refusal_message BadFormat else (if n == 13 then refusal_message BadTarget else (if n == 14 then refusal_message BadPolicy
     else (if n == 15 then refusal_message BadMode else (if n == 16 then refusal_message BadBits else (if n == 17 then refusal_message NoRoom else (if n == 18 then refusal_message BadOtherBits
-    else (if n == 19 then refusal_message BadPlaces else (if n == 20 then refusal_message BadStyle else (if n == 21 then refusal_message BadRounding else (if n == 22 then refusal_message BadWord
-    else refusal_message BadRows)))))))))))))))))))))))
+    else (if n == 19 then refusal_message BadPlaces else (if n == 20 then refusal_message BadRounding else (if n == 21 then refusal_message BadWord else refusal_message BadRows))))))))))))))))))))))
 
 message_of_refusal : (r : Refusal) → refusal_message r ≡ message_at (refusal_code r)
 unfolding message_at
@@ -364,7 +378,6 @@ message_of_refusal BadBits = refl
 message_of_refusal NoRoom = refl
 message_of_refusal BadOtherBits = refl
 message_of_refusal BadPlaces = refl
-message_of_refusal BadStyle = refl
 message_of_refusal BadRounding = refl
 message_of_refusal BadWord = refl
 message_of_refusal BadRows = refl
@@ -373,8 +386,208 @@ message_is : (code : ℕ) (text : List ℕ) → IsMessage code text → text ≡
 unfolding message_at
 message_is code text (inl p) = rw (p.0) p.1
 message_is code text (inr (inl p)) = p.2 ∙ message_of_refusal p.0 ∙ ap message_at (sym p.1)
-message_is code text (inr (inr p)) = let h : nat_lt 23 code ≡ true = lt-ltb 23 code p.0 in p.1 ∙ rw h refl
+message_is code text (inr (inr p)) = let h : nat_lt 22 code ≡ true = lt-ltb 22 code p.0 in p.1 ∙ rw h refl
 
 pub message_ends_once : MessageEndsOnce
 message_ends_once code old a b len m n c other =
     text_one (IsMessage code) Never old a b len m n c other (λ s t p q. message_is code s p ∙ sym (message_is code t q)) (λ t r p x. x) (λ r s x y. absurd x)
+
+-- ---- to places
+pub places_ends_once : RoundedTextIsComputed → PlacesEndsOnce
+places_ends_once one f bits places fits old a b len m n code other =
+    text_one (IsPrintedTo f bits places) (PlacesIsRefused f bits places) old a b len m n code other
+    (λ s t p q.
+    let same : IsRoundedText 10 false places p.number f.frac t = subst (λ (x : ℤ). IsRoundedText 10 false places x f.frac t) (bits_one f bits q.number p.number fits q.bits_are p.bits_are) q.rounded in
+    (one 10 false places p.number f.frac s).0 p.rounded ∙ sym ((one 10 false places p.number f.frac t).0 same))
+    (λ t r p. unless_none (NamesFormat f) BadFormat (Unless (AreBits f bits) BadBits (Unless (places ≤ 64) BadPlaces Never)) r p.format
+    (unless_none (AreBits f bits) BadBits (Unless (places ≤ 64) BadPlaces Never) r (p.number, p.bits_are) (unless_none (places ≤ 64) BadPlaces Never r p.few (λ x. x))))
+    (λ r s. unless_one (NamesFormat f) BadFormat (Unless (AreBits f bits) BadBits (Unless (places ≤ 64) BadPlaces Never)) r s
+    (unless_one (AreBits f bits) BadBits (Unless (places ≤ 64) BadPlaces Never) r s (unless_one (places ≤ 64) BadPlaces Never r s (λ x y. absurd x))))
+
+-- ---- rounding
+rounding_at : ℕ → WholeRounding
+rounding_at n = if n == 0 then By Ceil else (if n == 1 then By Floor else (if n == 2 then By Round else (if n == 3 then By RoundTiesEven else ToZero)))
+
+rounding_is : (r : WholeRounding) → r ≡ rounding_at (rounding_code r)
+unfolding rounding_at
+rounding_is (By Ceil) = refl
+rounding_is (By Floor) = refl
+rounding_is (By Round) = refl
+rounding_is (By RoundTiesEven) = refl
+rounding_is ToZero = refl
+
+rounding_one : (r s : WholeRounding) (n : ℕ) → n ≡ rounding_code r → n ≡ rounding_code s → r ≡ s
+rounding_one r s n e g = rounding_is r ∙ ap rounding_at (sym e ∙ g) ∙ sym (rounding_is s)
+
+module _ (f : FormatParts) (rounding policy : ℕ) (bits : ℤ) (fits : FitsSigned w64 bits) where
+  abbrev Rounds : FixedNumber → Type 0
+  Rounds n = IsRoundedTo f rounding policy bits n.bits n.overflowed
+
+  same_rounded : (a b : FixedNumber) → FitsSigned w64 a.bits → FitsSigned w64 b.bits → Rounds a → Rounds b → a ≡ b
+  same_rounded a b fa fb p q =
+      let v : q.number ≡ p.number = bits_one f bits q.number p.number fits q.given_is p.given_is in
+      let y : q.the_policy ≡ p.the_policy = policy_one q.the_policy p.the_policy policy q.policy_is p.policy_is in
+      let w : q.the_rounding ≡ p.the_rounding = rounding_one q.the_rounding p.the_rounding rounding q.rounding_is p.rounding_is in
+      number_same a b (brought_one f p.the_policy (rounded_bits p.the_rounding p.number f.frac) a.bits b.bits a.overflowed b.overflowed p.format fa fb p.brought
+      (subst (λ (x : Policy). IsBrought f x (rounded_bits p.the_rounding p.number f.frac) b.bits b.overflowed) y
+      (subst (λ (x : WholeRounding). IsBrought f q.the_policy (rounded_bits x p.number f.frac) b.bits b.overflowed) w
+      (subst (λ (x : ℤ). IsBrought f q.the_policy (rounded_bits q.the_rounding x f.frac) b.bits b.overflowed) v q.brought))))
+
+  not_rounded : (n : FixedNumber) → Rounds n → IsNotRoundedTo f rounding policy bits → ⊥
+  not_rounded n p q =
+      let v : p.number ≡ q.number = bits_one f bits p.number q.number fits p.given_is q.given_is in
+      let y : p.the_policy ≡ q.the_policy = policy_one p.the_policy q.the_policy policy p.policy_is q.policy_is in
+      let w : p.the_rounding ≡ q.the_rounding = rounding_one p.the_rounding q.the_rounding rounding p.rounding_is q.rounding_is in
+      brought_none f q.the_policy (rounded_bits q.the_rounding q.number f.frac) n.bits n.overflowed
+      (subst (λ (x : Policy). IsBrought f x (rounded_bits q.the_rounding q.number f.frac) n.bits n.overflowed) y
+      (subst (λ (x : WholeRounding). IsBrought f p.the_policy (rounded_bits x q.number f.frac) n.bits n.overflowed) w
+      (subst (λ (x : ℤ). IsBrought f p.the_policy (rounded_bits p.the_rounding x f.frac) n.bits n.overflowed) v p.brought))) q.out
+
+  abbrev RoundKinds : Refusal → Type 0
+  RoundKinds = ForKind (λ kind. (kind ≡ Overflow) × IsNotRoundedTo f rounding policy bits)
+
+  abbrev RoundName : Refusal → Type 0
+  RoundName = Unless (NamesRounding rounding) BadRounding RoundKinds
+
+  abbrev RoundBits : Refusal → Type 0
+  RoundBits = Unless (AreBits f bits) BadBits RoundName
+
+  abbrev RoundPolicy : Refusal → Type 0
+  RoundPolicy = Unless (NamesPolicy policy) BadPolicy RoundBits
+
+  round_none : (n : FixedNumber) (r : Refusal) → Rounds n → RoundIsRefused f rounding policy bits r → ⊥
+  round_none n r h =
+      unless_none (NamesFormat f) BadFormat RoundPolicy r h.format
+      (unless_none (NamesPolicy policy) BadPolicy RoundBits r (h.the_policy, h.policy_is)
+      (unless_none (AreBits f bits) BadBits RoundName r (h.number, h.given_is)
+      (unless_none (NamesRounding rounding) BadRounding RoundKinds r (h.the_rounding, h.rounding_is) (λ k. not_rounded n h k.2.1))))
+
+  round_refusal : (r s : Refusal) → RoundIsRefused f rounding policy bits r → RoundIsRefused f rounding policy bits s → r ≡ s
+  round_refusal r s =
+      unless_one (NamesFormat f) BadFormat RoundPolicy r s
+      (unless_one (NamesPolicy policy) BadPolicy RoundBits r s
+      (unless_one (AreBits f bits) BadBits RoundName r s
+      (unless_one (NamesRounding rounding) BadRounding RoundKinds r s (kind_one (λ kind. (kind ≡ Overflow) × IsNotRoundedTo f rounding policy bits) r s (λ k l x y. x.0 ∙ sym y.0)))))
+
+pub round_ends_once : RoundEndsOnce
+round_ends_once f rounding policy bits fits old a b code other fa fb =
+    end_one (Rounds f rounding policy bits fits) (RoundIsRefused f rounding policy bits) old a b code other
+    (same_rounded f rounding policy bits fits a b fa fb) (round_none f rounding policy bits fits) (round_refusal f rounding policy bits fits)
+
+-- ---- converting in a mode
+module _ (one : MovedInIsTheOne) (f g : FormatParts) (policy mode : ℕ) (bits : ℤ) (fits : FitsSigned w64 bits) where
+  abbrev ConvertsIn : FixedNumber → Type 0
+  ConvertsIn n = IsConvertedIn f g policy mode bits n.bits n.overflowed
+
+  moved_same : (m : ReadMode) (b v w : ℤ) → IsMovedIn m b f.frac g.frac v → IsMovedIn m b f.frac g.frac w → v ≡ w
+  moved_same m b v w p q = let all = one m b f.frac g.frac in all.2 v p ∙ sym (all.2 w q)
+
+  same_converted_in : (a b : FixedNumber) → FitsSigned w64 a.bits → FitsSigned w64 b.bits → ConvertsIn a → ConvertsIn b → a ≡ b
+  same_converted_in a b fa fb p q =
+      let v : q.number ≡ p.number = bits_one f bits q.number p.number fits q.given_is p.given_is in
+      let y : q.the_policy ≡ p.the_policy = policy_one q.the_policy p.the_policy policy q.policy_is p.policy_is in
+      let m : q.the_mode ≡ p.the_mode = mode_one q.the_mode p.the_mode mode q.mode_is p.mode_is in
+      let to : IsMovedIn p.the_mode p.number f.frac g.frac q.moved =
+      subst (λ (x : ReadMode). IsMovedIn x p.number f.frac g.frac q.moved) m (subst (λ (x : ℤ). IsMovedIn q.the_mode x f.frac g.frac q.moved) v q.is_moved) in
+      let same : q.moved ≡ p.moved = moved_same p.the_mode p.number q.moved p.moved to p.is_moved in
+      number_same a b (brought_one g p.the_policy p.moved a.bits b.bits a.overflowed b.overflowed p.target_format fa fb p.brought
+      (subst (λ (x : Policy). IsBrought g x p.moved b.bits b.overflowed) y (subst (λ (x : ℤ). IsBrought g q.the_policy x b.bits b.overflowed) same q.brought)))
+
+  not_converted_in : (n : FixedNumber) → ConvertsIn n → IsNotConvertedIn f g policy mode bits → ⊥
+  not_converted_in n p q =
+      let v : p.number ≡ q.number = bits_one f bits p.number q.number fits p.given_is q.given_is in
+      let y : p.the_policy ≡ q.the_policy = policy_one p.the_policy q.the_policy policy p.policy_is q.policy_is in
+      let m : p.the_mode ≡ q.the_mode = mode_one p.the_mode q.the_mode mode p.mode_is q.mode_is in
+      let to : IsMovedIn q.the_mode q.number f.frac g.frac p.moved =
+      subst (λ (x : ReadMode). IsMovedIn x q.number f.frac g.frac p.moved) m (subst (λ (x : ℤ). IsMovedIn p.the_mode x f.frac g.frac p.moved) v p.is_moved) in
+      let same : p.moved ≡ q.moved = moved_same q.the_mode q.number p.moved q.moved to q.is_moved in
+      brought_none g q.the_policy q.moved n.bits n.overflowed
+      (subst (λ (x : Policy). IsBrought g x q.moved n.bits n.overflowed) y (subst (λ (x : ℤ). IsBrought g p.the_policy x n.bits n.overflowed) same p.brought)) q.out
+
+  abbrev InKinds : Refusal → Type 0
+  InKinds = ForKind (λ kind. (kind ≡ Overflow) × IsNotConvertedIn f g policy mode bits)
+
+  abbrev InBits : Refusal → Type 0
+  InBits = Unless (AreBits f bits) BadBits InKinds
+
+  abbrev InMode : Refusal → Type 0
+  InMode = Unless (NamesMode mode) BadMode InBits
+
+  abbrev InPolicy : Refusal → Type 0
+  InPolicy = Unless (NamesPolicy policy) BadPolicy InMode
+
+  abbrev InTarget : Refusal → Type 0
+  InTarget = Unless (NamesFormat g) BadTarget InPolicy
+
+  convert_in_none : (n : FixedNumber) (r : Refusal) → ConvertsIn n → ConvertInIsRefused f g policy mode bits r → ⊥
+  convert_in_none n r h =
+      unless_none (NamesFormat f) BadFormat InTarget r h.source_format
+      (unless_none (NamesFormat g) BadTarget InPolicy r h.target_format
+      (unless_none (NamesPolicy policy) BadPolicy InMode r (h.the_policy, h.policy_is)
+      (unless_none (NamesMode mode) BadMode InBits r (h.the_mode, h.mode_is)
+      (unless_none (AreBits f bits) BadBits InKinds r (h.number, h.given_is) (λ k. not_converted_in n h k.2.1)))))
+
+  convert_in_refusal : (r s : Refusal) → ConvertInIsRefused f g policy mode bits r → ConvertInIsRefused f g policy mode bits s → r ≡ s
+  convert_in_refusal r s =
+      unless_one (NamesFormat f) BadFormat InTarget r s
+      (unless_one (NamesFormat g) BadTarget InPolicy r s
+      (unless_one (NamesPolicy policy) BadPolicy InMode r s
+      (unless_one (NamesMode mode) BadMode InBits r s
+      (unless_one (AreBits f bits) BadBits InKinds r s (kind_one (λ kind. (kind ≡ Overflow) × IsNotConvertedIn f g policy mode bits) r s (λ k l x y. x.0 ∙ sym y.0))))))
+
+pub convert_in_ends_once : MovedInIsTheOne → ConvertInEndsOnce
+convert_in_ends_once one f g policy mode bits fits old a b code other fa fb =
+    end_one (ConvertsIn one f g policy mode bits fits) (ConvertInIsRefused f g policy mode bits) old a b code other
+    (same_converted_in one f g policy mode bits fits a b fa fb) (convert_in_none one f g policy mode bits fits) (convert_in_refusal one f g policy mode bits fits)
+
+-- ---- literals
+module _ (text : List ℕ) (f : FormatParts) (policy : ℕ) where
+  abbrev Literally : FixedNumber → Type 0
+  Literally n = IsLiteralReadAs text f policy n.bits n.overflowed
+
+  literal_number : (v w : ℤ) → HasNumber (HasLiteral f.signed text) f (literal_radix f.signed text) NearestEven v → HasNumber (HasLiteral f.signed text) f (literal_radix f.signed text) NearestEven w → v ≡ w
+  literal_number v w = number_one (HasLiteral f.signed text) (literal_radix f.signed text) f NearestEven v w (one_literal f.signed text)
+
+  same_literal : (a b : FixedNumber) → FitsSigned w64 a.bits → FitsSigned w64 b.bits → Literally a → Literally b → a ≡ b
+  same_literal a b fa fb p q =
+      let y : q.the_policy ≡ p.the_policy = policy_one q.the_policy p.the_policy policy q.policy_is p.policy_is in
+      let v : q.read.number ≡ p.read.number = literal_number q.read.number p.read.number q.read.has p.read.has in
+      number_same a b (brought_one f p.the_policy p.read.number a.bits b.bits a.overflowed b.overflowed p.read.format fa fb p.read.brought
+      (subst (λ (x : Policy). IsBrought f x p.read.number b.bits b.overflowed) y (subst (λ (x : ℤ). IsBrought f q.the_policy x b.bits b.overflowed) v q.read.brought)))
+
+  abbrev LiteralWhy : ParseErrorKind → Type 0
+  LiteralWhy kind = (p : Policy) × (policy ≡ policy_code p) × IsLiteralNotRead text f p kind
+
+  literal_not_at : (n : FixedNumber) (kind : ParseErrorKind) (p : Literally n) → (q : Policy) → policy ≡ policy_code q → IsLiteralNotRead text f q kind → ⊥
+  literal_not_at n kind p q is (inl cause) = (one_literal_cause f.signed text kind kind cause).1 (p.read.has.parts, p.read.has.has)
+  literal_not_at n kind p q is (inr over) =
+      let y : p.the_policy ≡ q = policy_one p.the_policy q policy p.policy_is is in
+      let v : p.read.number ≡ over.1.number = literal_number p.read.number over.1.number p.read.has over.1.has in
+      brought_none f q over.1.number n.bits n.overflowed
+      (subst (λ (x : Policy). IsBrought f x over.1.number n.bits n.overflowed) y (subst (λ (x : ℤ). IsBrought f p.the_policy x n.bits n.overflowed) v p.read.brought)) over.1.out
+
+  literal_kind_at : (k l : ParseErrorKind) (p q : Policy) → IsLiteralNotRead text f p k → IsLiteralNotRead text f q l → k ≡ l
+  literal_kind_at k l p q (inl a) (inl b) = (one_literal_cause f.signed text k l a).0 b
+  literal_kind_at k l p q (inl a) (inr b) = absurd ((one_literal_cause f.signed text k k a).1 (b.1.has.parts, b.1.has.has))
+  literal_kind_at k l p q (inr a) (inl b) = absurd ((one_literal_cause f.signed text l l b).1 (a.1.has.parts, a.1.has.has))
+  literal_kind_at k l p q (inr a) (inr b) = a.0 ∙ sym b.0
+
+  abbrev LiteralKinds : Refusal → Type 0
+  LiteralKinds = ForKind LiteralWhy
+
+  abbrev LiteralPolicy : Refusal → Type 0
+  LiteralPolicy = Unless (NamesPolicy policy) BadPolicy LiteralKinds
+
+  literal_none : (n : FixedNumber) (r : Refusal) → Literally n → LiteralIsRefused text f policy r → ⊥
+  literal_none n r h =
+      unless_none (NamesFormat f) BadFormat LiteralPolicy r h.read.format
+      (unless_none (NamesPolicy policy) BadPolicy LiteralKinds r (h.the_policy, h.policy_is) (λ k. literal_not_at n k.0 h k.2.0 k.2.1 k.2.2))
+
+  literal_refusal : (r s : Refusal) → LiteralIsRefused text f policy r → LiteralIsRefused text f policy s → r ≡ s
+  literal_refusal r s =
+      unless_one (NamesFormat f) BadFormat LiteralPolicy r s
+      (unless_one (NamesPolicy policy) BadPolicy LiteralKinds r s (kind_one LiteralWhy r s (λ k l x y. literal_kind_at k l x.0 y.0 x.2 y.2)))
+
+pub literal_ends_once : LiteralEndsOnce
+literal_ends_once text f policy old a b code other fa fb =
+    end_one (Literally text f policy) (LiteralIsRefused text f policy) old a b code other (same_literal text f policy a b fa fb) (literal_none text f policy) (literal_refusal text f policy)

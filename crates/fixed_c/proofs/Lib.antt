@@ -1,3 +1,4 @@
 mod EndLemmas
 mod LawLemmas
 mod ReadLemmas
+mod RowLemmas

@@ -8,7 +8,7 @@ use Rattle.fixed_numeral.specs.Messages.{message_of}
 use Rattle.fixed_numeral.specs.declared.error.ParseErrorKind.{ParseErrorKind}
 use Rattle.fixed_numeral.specs.declared.error.ParseErrorKind.TheVariants.{InvalidDigit, MisplacedSign, MisplacedUnderscore, TooManyPoints, TooManyExp, ExpInvalidDigit, ExpOverflow, NoDigits, ExpNoDigits, Overflow}
 use Rattle.fixed_c.specs.declared.refusal.Refusal.{Refusal}
-use Rattle.fixed_c.specs.declared.refusal.Refusal.TheVariants.{Numeral, BadRadix, BadFormat, BadTarget, BadPolicy, BadMode, BadBits, NoRoom, BadOtherBits, BadPlaces, BadStyle, BadRounding, BadWord, BadRows}
+use Rattle.fixed_c.specs.declared.refusal.Refusal.TheVariants.{Numeral, BadRadix, BadFormat, BadTarget, BadPolicy, BadMode, BadBits, NoRoom, BadOtherBits, BadPlaces, BadRounding, BadWord, BadRows}
 
 abbrev pub policy_code : Policy → ℕ
 policy_code Checked = 0
@@ -44,10 +44,9 @@ refusal_code BadBits = 16
 refusal_code NoRoom = 17
 refusal_code BadOtherBits = 18
 refusal_code BadPlaces = 19
-refusal_code BadStyle = 20
-refusal_code BadRounding = 21
-refusal_code BadWord = 22
-refusal_code BadRows = 23
+refusal_code BadRounding = 20
+refusal_code BadWord = 21
+refusal_code BadRows = 22
 
 abbrev pub refusal_message : Refusal → List ℕ
 refusal_message (Numeral kind) = message_of kind
@@ -60,7 +59,6 @@ refusal_message BadBits = codes "bits out of range"
 refusal_message NoRoom = codes "no room for the text"
 refusal_message BadOtherBits = codes "second bits out of range"
 refusal_message BadPlaces = codes "too many places"
-refusal_message BadStyle = codes "bad style"
 refusal_message BadRounding = codes "bad rounding"
 refusal_message BadWord = codes "bad format word"
 refusal_message BadRows = codes "rows of another size"
@@ -69,4 +67,4 @@ refusal_message BadRows = codes "rows of another size"
 abbrev pub IsMessage : ℕ → List ℕ → Type 0
 IsMessage code text = ((code ≡ 0) × (text ≡ codes "done"))
     ⊎ ((refusal : Refusal) × (code ≡ refusal_code refusal) × (text ≡ refusal_message refusal))
-    ⊎ ((23 < code) × (text ≡ codes "unknown code"))
+    ⊎ ((22 < code) × (text ≡ codes "unknown code"))

@@ -1,19 +1,22 @@
 -- What calls that convert, compare and print bits give.
-use Rattle.std.specs.Prelude.{◌≡◌, ℕ, ℤ, List, pos, negsuc}
+use Rattle.std.specs.Prelude.{◌≡◌, ◌≤◌, ℕ, ℤ, List, false, pos, negsuc}
 use Rattle.std.specs.declared.cmp.Ordering.{Ordering}
 use Rattle.std.specs.declared.cmp.Ordering.TheVariants.{Less, Equal, Greater}
 use Rattle.fixed_bits.specs.Down.{down}
 use Rattle.fixed_bits.specs.Formats.{FormatParts}
 use Rattle.fixed_bits.specs.declared.format.Policy.{Policy}
+use Rattle.fixed_bits.specs.declared.mode.ReadMode.{ReadMode}
 use Rattle.fixed_convert.specs.Order.{order_of}
+use Rattle.fixed_convert.specs.Rounded.{IsMovedIn}
 use Rattle.fixed_numeral.specs.declared.error.ParseErrorKind.TheVariants.{Overflow}
+use Rattle.fixed_write.specs.Places.{IsRoundedText}
 use Rattle.fixed_write.specs.Texts.{IsShortestText}
-use Rattle.fixed_c.specs.Arguments.{NamesFormat, NamesPolicy}
-use Rattle.fixed_c.specs.Codes.{policy_code}
+use Rattle.fixed_c.specs.Arguments.{NamesFormat, NamesMode, NamesPolicy}
+use Rattle.fixed_c.specs.Codes.{mode_code, policy_code}
 use Rattle.fixed_c.specs.Numbers.{AreBits, AreBitsOf, IsBrought, IsNotBrought}
 use Rattle.fixed_c.specs.Outcome.{ForKind, Never, Unless}
 use Rattle.fixed_c.specs.declared.refusal.Refusal.{Refusal}
-use Rattle.fixed_c.specs.declared.refusal.Refusal.TheVariants.{BadFormat, BadTarget, BadPolicy, BadBits, BadOtherBits}
+use Rattle.fixed_c.specs.declared.refusal.Refusal.TheVariants.{BadFormat, BadTarget, BadPolicy, BadMode, BadBits, BadOtherBits, BadPlaces}
 
 -- both formats are some, and bits of the first, rounded down to the second's fraction length, are brought into the second
 pub record IsConverted (source target : FormatParts) (policy : ℕ) (given bits : ℤ) (flag : ℕ) : Type 0 where
@@ -41,6 +44,42 @@ ConvertIsRefused f g policy bits =
     (Unless (NamesPolicy policy) BadPolicy
     (Unless (AreBits f bits) BadBits
     (ForKind (λ kind. (kind ≡ Overflow) × IsNotConverted f g policy bits)))))
+
+-- both formats are some, and bits of the first, moved in a mode to the second's fraction length, are brought into the second
+pub record IsConvertedIn (source target : FormatParts) (policy mode : ℕ) (given bits : ℤ) (flag : ℕ) : Type 0 where
+  pub source_format : NamesFormat source
+  pub target_format : NamesFormat target
+  pub number : ℤ
+  pub given_is : AreBitsOf source given number
+  pub the_policy : Policy
+  pub policy_is : policy ≡ policy_code the_policy
+  pub the_mode : ReadMode
+  pub mode_is : mode ≡ mode_code the_mode
+  pub moved : ℤ
+  pub is_moved : IsMovedIn the_mode number source.frac target.frac moved
+  pub brought : IsBrought target the_policy moved bits flag
+
+-- they are not brought into it
+pub record IsNotConvertedIn (source target : FormatParts) (policy mode : ℕ) (given : ℤ) : Type 0 where
+  pub number : ℤ
+  pub given_is : AreBitsOf source given number
+  pub the_policy : Policy
+  pub policy_is : policy ≡ policy_code the_policy
+  pub the_mode : ReadMode
+  pub mode_is : mode ≡ mode_code the_mode
+  pub moved : ℤ
+  pub is_moved : IsMovedIn the_mode number source.frac target.frac moved
+  pub out : IsNotBrought target the_policy moved
+
+-- the refusal of a call that converts in a mode
+abbrev pub ConvertInIsRefused : FormatParts → FormatParts → ℕ → ℕ → ℤ → Refusal → Type 0
+ConvertInIsRefused f g policy mode bits =
+    Unless (NamesFormat f) BadFormat
+    (Unless (NamesFormat g) BadTarget
+    (Unless (NamesPolicy policy) BadPolicy
+    (Unless (NamesMode mode) BadMode
+    (Unless (AreBits f bits) BadBits
+    (ForKind (λ kind. (kind ≡ Overflow) × IsNotConvertedIn f g policy mode bits))))))
 
 -- -1, 0 and 1
 abbrev pub order_code : Ordering → ℤ
@@ -76,3 +115,15 @@ pub record IsPrinted (f : FormatParts) (bits : ℤ) (text : List ℕ) : Type 0 w
   pub number : ℤ
   pub bits_are : AreBitsOf f bits number
   pub shortest : IsShortestText number f.frac text
+
+-- the format is one, and the text is the bits to this many decimal places, at most 64
+pub record IsPrintedTo (f : FormatParts) (bits : ℤ) (places : ℕ) (text : List ℕ) : Type 0 where
+  pub format : NamesFormat f
+  pub number : ℤ
+  pub bits_are : AreBitsOf f bits number
+  pub few : places ≤ 64
+  pub rounded : IsRoundedText 10 false places number f.frac text
+
+-- the refusal of a call that prints to places
+abbrev pub PlacesIsRefused : FormatParts → ℤ → ℕ → Refusal → Type 0
+PlacesIsRefused f bits places = Unless (NamesFormat f) BadFormat (Unless (AreBits f bits) BadBits (Unless (places ≤ 64) BadPlaces Never))

@@ -5,11 +5,13 @@ use Rattle.fixed_bits.specs.Formats.{FormatParts}
 use Rattle.fixed_c.specs.Answer.{IsAnswered}
 use Rattle.fixed_c.specs.Arguments.{Names}
 use Rattle.fixed_c.specs.Codes.{IsMessage}
-use Rattle.fixed_c.specs.Convert.{CompareIsRefused, ConvertIsRefused, IsCompared, IsConverted, IsPrinted, PrintIsRefused}
+use Rattle.fixed_c.specs.Convert.{CompareIsRefused, ConvertInIsRefused, ConvertIsRefused, IsCompared, IsConverted, IsConvertedIn, IsPrinted, IsPrintedTo, PlacesIsRefused, PrintIsRefused}
 use Rattle.fixed_c.specs.Enclose.{EncloseIsRefused, IsEnclosedBy}
+use Rattle.fixed_c.specs.Literal.{IsLiteralReadAs, LiteralIsRefused}
 use Rattle.fixed_c.specs.Outcome.{EndsWith, Never}
 use Rattle.fixed_c.specs.Read.{IsReadAs, ReadIsRefused}
 use Rattle.fixed_c.specs.Respell.{IsReachedAs, RespellIsRefused}
+use Rattle.fixed_c.specs.Round.{IsRoundedTo, RoundIsRefused}
 use Rattle.fixed_c.specs.Texts.{TextEnds}
 use Rattle.fixed_c.specs.declared.number.FixedEnclosure.{FixedEnclosure}
 use Rattle.fixed_c.specs.declared.number.FixedNumber.{FixedNumber}
@@ -52,3 +54,15 @@ MessageEndsOnce = (code : ℕ) → TextIsTheOne (IsMessage code) Never
 
 abbrev pub AnswerEndsOnce : Type 0
 AnswerEndsOnce = (line old a b : List ℕ) (m n fault flag code other : ℕ) → IsAnswered line old a m fault code → IsAnswered line old b n flag other → (code ≡ other) × (a ≡ b) × (m ≡ n) × (fault ≡ flag)
+
+abbrev pub PlacesEndsOnce : Type 0
+PlacesEndsOnce = (f : FormatParts) (bits : ℤ) (places : ℕ) → FitsSigned w64 bits → TextIsTheOne (IsPrintedTo f bits places) (PlacesIsRefused f bits places)
+
+abbrev pub RoundEndsOnce : Type 0
+RoundEndsOnce = (f : FormatParts) (rounding policy : ℕ) (bits : ℤ) → FitsSigned w64 bits → EndIsTheOne NumberInC (λ n. IsRoundedTo f rounding policy bits n.bits n.overflowed) (RoundIsRefused f rounding policy bits)
+
+abbrev pub ConvertInEndsOnce : Type 0
+ConvertInEndsOnce = (f g : FormatParts) (policy mode : ℕ) (bits : ℤ) → FitsSigned w64 bits → EndIsTheOne NumberInC (λ n. IsConvertedIn f g policy mode bits n.bits n.overflowed) (ConvertInIsRefused f g policy mode bits)
+
+abbrev pub LiteralEndsOnce : Type 0
+LiteralEndsOnce = (text : List ℕ) (f : FormatParts) (policy : ℕ) → EndIsTheOne NumberInC (λ n. IsLiteralReadAs text f policy n.bits n.overflowed) (LiteralIsRefused text f policy)

@@ -4,8 +4,12 @@ pub mod Codes
 pub mod Convert
 pub mod Enclose
 pub mod Laws
+pub mod Literal
 pub mod Numbers
 pub mod Outcome
 pub mod Read
 pub mod Respell
+pub mod Round
+pub mod Rows
 pub mod Texts
+pub mod Words

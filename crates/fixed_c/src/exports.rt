@@ -4,19 +4,27 @@ ghost use Rattle.std.specs.Prelude.{◌≡◌, ◌<◌};
 ghost use Rattle.fixed_c.specs.Answer.{IsAnswered};
 ghost use Rattle.fixed_c.specs.Arguments.{Names};
 ghost use Rattle.fixed_c.specs.Codes.{IsMessage};
-ghost use Rattle.fixed_c.specs.Convert.{CompareIsRefused, ConvertIsRefused, IsCompared, IsConverted, IsPrinted, PrintIsRefused};
+ghost use Rattle.fixed_c.specs.Convert.{CompareIsRefused, ConvertInIsRefused, ConvertIsRefused, IsCompared, IsConverted, IsConvertedIn, IsPrinted, IsPrintedTo, PlacesIsRefused, PrintIsRefused};
 ghost use Rattle.fixed_c.specs.Enclose.{EncloseIsRefused, IsEnclosedBy};
+ghost use Rattle.fixed_c.specs.Literal.{IsLiteralReadAs, LiteralIsRefused};
 ghost use Rattle.fixed_c.specs.Numbers.{format_of};
 ghost use Rattle.fixed_c.specs.Outcome.{EndsWith, Never};
 ghost use Rattle.fixed_c.specs.Read.{IsReadAs, ReadIsRefused};
 ghost use Rattle.fixed_c.specs.Respell.{IsReachedAs, RespellIsRefused};
+ghost use Rattle.fixed_c.specs.Round.{IsRoundedTo, RoundIsRefused};
+ghost use Rattle.fixed_c.specs.Rows.{ConvertsRow, HaveBits, HaveRows, ReadsRow, RowsEnd};
 ghost use Rattle.fixed_c.specs.Texts.{TextEnds};
+ghost use Rattle.fixed_c.specs.Words.{FormatIsRefused, IsFormatNamed, WordIsRefused};
+ghost use Rattle.fixed_respell.specs.Words.{IsFormatWord};
 
 use crate::arguments::{FixedFormat, given_text};
 use crate::number::{FixedEnclosure, FixedNumber};
-use crate::numbers::{convert, ends_around, order_by_value, read, respelled};
+use crate::numbers::{convert, convert_in, ends_around, literal, order_by_value, read, respelled};
 use crate::refusal::{hand_over, message_of};
-use crate::texts::{answer_line, print_bits, put_text};
+use crate::rounding::round;
+use crate::rows::{Conversion, Reading, convert_rows, read_rows};
+use crate::texts::{answer_line, print_bits, print_places, put_text};
+use crate::words::{named_format, put_word};
 use std::marker::Brand;
 use std::sync::ledger::Blank;
 
@@ -153,4 +161,153 @@ pub extern "C" fn fixed_message(code: u32, out: &mut [u8], len: &mut usize) -> u
     ensures { TextEnds (IsMessage code) Never out.old out.new len.old len.new result }
 {
     put_text(message_of(code).as_bytes(), out, len)
+}
+
+/// Bits to a count of decimal places: `fixed_print_places` of the header.
+#[unsafe(no_mangle)]
+pub extern "C" fn fixed_print_places(
+    bits: i64,
+    format: FixedFormat,
+    places: u32,
+    out: &mut [u8],
+    len: &mut usize,
+) -> u32
+    ensures { TextEnds
+        (IsPrintedTo (format_of format.is_signed format.width format.frac) bits places)
+        (PlacesIsRefused (format_of format.is_signed format.width format.frac) bits places) out.old out.new len.old len.new result }
+{
+    print_places(bits, format, places, out, len)
+}
+
+/// Bits rounded to a whole number: `fixed_round_bits` of the header.
+#[unsafe(no_mangle)]
+pub extern "C" fn fixed_round_bits(
+    bits: i64,
+    format: FixedFormat,
+    rounding: u32,
+    policy: u32,
+    out: &mut FixedNumber,
+) -> u32
+    ensures { EndsWith
+        (λ n. IsRoundedTo (format_of format.is_signed format.width format.frac) rounding policy bits n.bits n.overflowed)
+        (RoundIsRefused (format_of format.is_signed format.width format.frac) rounding policy bits) out.old out.new result }
+{
+    hand_over(round(bits, format, rounding, policy), out)
+}
+
+/// Bits of one format, moved in a mode to another: `fixed_convert_bits_mode` of the header.
+#[unsafe(no_mangle)]
+pub extern "C" fn fixed_convert_bits_mode(
+    bits: i64,
+    source: FixedFormat,
+    target: FixedFormat,
+    policy: u32,
+    mode: u32,
+    out: &mut FixedNumber,
+) -> u32
+    ensures { EndsWith
+        (λ n. IsConvertedIn (format_of source.is_signed source.width source.frac) (format_of target.is_signed target.width target.frac) policy mode bits n.bits n.overflowed)
+        (ConvertInIsRefused (format_of source.is_signed source.width source.frac) (format_of target.is_signed target.width target.frac) policy mode bits) out.old out.new result }
+{
+    hand_over(convert_in(bits, source, target, policy, mode), out)
+}
+
+/// A literal as a number of a format: `fixed_read_literal` of the header.
+#[unsafe(no_mangle)]
+pub extern "C" fn fixed_read_literal(
+    text: &[u8],
+    format: FixedFormat,
+    policy: u32,
+    out: &mut FixedNumber,
+) -> u32
+    ensures { EndsWith
+        (λ n. IsLiteralReadAs text.now (format_of format.is_signed format.width format.frac) policy n.bits n.overflowed)
+        (LiteralIsRefused text.now (format_of format.is_signed format.width format.frac) policy) out.old out.new result }
+{
+    hand_over(literal(given_text(text), format, policy), out)
+}
+
+/// The format of a word: `fixed_format_of_word` of the header.
+#[unsafe(no_mangle)]
+pub extern "C" fn fixed_format_of_word(word: &[u8], out: &mut FixedFormat) -> u32
+    ensures { EndsWith (IsFormatNamed word.now) (WordIsRefused word.now) out.old out.new result }
+{
+    hand_over(named_format(given_text(word)), out)
+}
+
+/// The word of a format: `fixed_word_of_format` of the header.
+#[unsafe(no_mangle)]
+pub extern "C" fn fixed_word_of_format(format: FixedFormat, out: &mut [u8], len: &mut usize) -> u32
+    ensures { TextEnds
+        (λ word. IsFormatWord word (format_of format.is_signed format.width format.frac))
+        (FormatIsRefused (format_of format.is_signed format.width format.frac)) out.old out.new len.old len.new result }
+{
+    put_word(format, out, len)
+}
+
+/// The numerals of rows as numbers of a format: `fixed_read_rows` of the header.
+#[unsafe(no_mangle)]
+pub extern "C" fn fixed_read_rows(
+    rows: &[u8],
+    size: usize,
+    radix: u32,
+    format: FixedFormat,
+    policy: u32,
+    mode: u32,
+    out: &mut [FixedNumber],
+    codes: &mut [u32],
+    refused: &mut usize,
+) -> u32
+    ensures { RowsEnd (HaveRows rows.now size out.old codes.old)
+        (ReadsRow rows.now size radix (format_of format.is_signed format.width format.frac) policy mode)
+        out.old out.new codes.old codes.new refused.old refused.new result }
+{
+    let reading = Reading {
+        radix,
+        format,
+        policy,
+        mode,
+    };
+    read_rows(given_text(rows), size, reading, out, codes, refused)
+}
+
+/// Bits of rows, moved in a mode to another format: `fixed_convert_rows` of the header.
+#[unsafe(no_mangle)]
+pub extern "C" fn fixed_convert_rows(
+    bits: &[i64],
+    source: FixedFormat,
+    target: FixedFormat,
+    policy: u32,
+    mode: u32,
+    out: &mut [FixedNumber],
+    codes: &mut [u32],
+    refused: &mut usize,
+) -> u32
+    ensures { RowsEnd (HaveBits bits.now out.old codes.old)
+        (ConvertsRow bits.now (format_of source.is_signed source.width source.frac) (format_of target.is_signed target.width target.frac) policy mode)
+        out.old out.new codes.old codes.new refused.old refused.new result }
+{
+    let conversion = Conversion {
+        source,
+        target,
+        policy,
+        mode,
+    };
+    convert_rows(bits, conversion, out, codes, refused)
+}
+
+/// The layout of what the header declares: `fixed_abi` of the header.
+#[unsafe(no_mangle)]
+pub extern "C" fn fixed_abi() -> u32
+    ensures { result ≡ 1 }
+{
+    1
+}
+
+/// The version of the library, 1.31.0: `fixed_version` of the header.
+#[unsafe(no_mangle)]
+pub extern "C" fn fixed_version() -> u32
+    ensures { result ≡ 13100 }
+{
+    13_100
 }

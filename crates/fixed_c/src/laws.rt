@@ -4,17 +4,23 @@ ghost use Rattle.fixed_c.specs.Laws.{
   AnswerEndsOnce,
   CompareEndsOnce,
   ConvertEndsOnce,
+  ConvertInEndsOnce,
   EncloseEndsOnce,
+  LiteralEndsOnce,
   MessageEndsOnce,
+  PlacesEndsOnce,
   PrintEndsOnce,
   ReadEndsOnce,
   RespellEndsOnce,
+  RoundEndsOnce,
 };
 
+use fixed_convert::laws::moved_in_is_the_one;
 use fixed_enclose::laws::pair_is_the_one;
 use fixed_respell::laws::{
     answer_is_the_one, refusal_has_none, refusal_is_the_one, respelled_is_the_one,
 };
+use fixed_write::laws::rounded_text_is_computed;
 
 /// A reading has one end.
 pub fn read_ends_once()
@@ -63,3 +69,27 @@ pub fn answer_ends_once()
 {
     answer_is_the_one();
 }
+
+/// A call that prints to places has one end.
+pub fn places_ends_once()
+    ensures { PlacesEndsOnce }
+{
+    rounded_text_is_computed();
+}
+
+/// A rounding to a whole number has one end.
+pub fn round_ends_once()
+    ensures { RoundEndsOnce }
+{}
+
+/// A conversion in a mode has one end.
+pub fn convert_in_ends_once()
+    ensures { ConvertInEndsOnce }
+{
+    moved_in_is_the_one();
+}
+
+/// A reading of a literal has one end.
+pub fn literal_ends_once()
+    ensures { LiteralEndsOnce }
+{}

@@ -11,4 +11,7 @@ pub mod laws;
 mod number;
 mod numbers;
 mod refusal;
+mod rounding;
+mod rows;
 mod texts;
+mod words;

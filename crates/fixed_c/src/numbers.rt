@@ -2,8 +2,9 @@
 
 ghost use Rattle.std.specs.Prelude.{◌≡◌, ◌<◌, MatchResult};
 ghost use Rattle.fixed_c.specs.Arguments.{Names};
-ghost use Rattle.fixed_c.specs.Convert.{CompareIsRefused, ConvertIsRefused, IsCompared, IsConverted, order_code};
+ghost use Rattle.fixed_c.specs.Convert.{CompareIsRefused, ConvertInIsRefused, ConvertIsRefused, IsCompared, IsConverted, IsConvertedIn, order_code};
 ghost use Rattle.fixed_c.specs.Enclose.{EncloseIsRefused, IsEnclosedBy};
+ghost use Rattle.fixed_c.specs.Literal.{IsLiteralReadAs, LiteralIsRefused};
 ghost use Rattle.fixed_c.specs.Numbers.{format_of, has_bits};
 ghost use Rattle.fixed_c.specs.Read.{IsReadAs, ReadIsRefused};
 ghost use Rattle.fixed_c.specs.Respell.{IsReachedAs, RespellIsRefused};
@@ -12,10 +13,10 @@ ghost use Rattle.fixed_respell.specs.Reached.{is_signed, number_of};
 use crate::arguments::{FixedFormat, format_of, mode_of, policy_of, radix_of};
 use crate::number::{FixedEnclosure, FixedNumber, bits_for_c, flag, number_for_c, number_in};
 use crate::refusal::Refusal;
-use fixed_convert::{compare, reformat};
+use fixed_convert::{compare, reformat, reformat_mode};
 use fixed_enclose::enclose;
 use fixed_numeral::ParseErrorKind;
-use fixed_read::read_format;
+use fixed_read::{read_format, read_literal};
 use fixed_respell::{Bits, respell_mode};
 use fixed_steps::Steps;
 use std::cmp::Ordering;
@@ -68,6 +69,29 @@ pub fn convert(
     let policy = policy_of(policy)?;
     let number = number_in(bits, source, Refusal::BadBits)?;
     match reformat(target, policy, number, source.frac()) {
+        Some((image, overflowed)) => Ok(number_for_c(target, image, overflowed)),
+        None => Err(Refusal::Numeral(ParseErrorKind::Overflow)),
+    }
+}
+
+/// Bits of one format, moved in a mode to another.
+pub fn convert_in(
+    bits: i64,
+    source: FixedFormat,
+    target: FixedFormat,
+    policy: u32,
+    mode: u32,
+) -> Result<FixedNumber, Refusal>
+    ensures { MatchResult result
+        (λ n. IsConvertedIn (format_of source.is_signed source.width source.frac) (format_of target.is_signed target.width target.frac) policy mode bits n.bits n.overflowed)
+        (ConvertInIsRefused (format_of source.is_signed source.width source.frac) (format_of target.is_signed target.width target.frac) policy mode bits) }
+{
+    let source = format_of(source, Refusal::BadFormat)?;
+    let target = format_of(target, Refusal::BadTarget)?;
+    let policy = policy_of(policy)?;
+    let mode = mode_of(mode)?;
+    let number = number_in(bits, source, Refusal::BadBits)?;
+    match reformat_mode(target, policy, mode, number, source.frac()) {
         Some((image, overflowed)) => Ok(number_for_c(target, image, overflowed)),
         None => Err(Refusal::Numeral(ParseErrorKind::Overflow)),
     }
@@ -167,5 +191,23 @@ pub fn respelled<L: Ledger>(
             overflowed: flag(reached.overflowed),
         }),
         Err(error) => Err(Refusal::Numeral(error.kind())),
+    }
+}
+
+/// A literal read into a format.
+pub fn literal(text: &[u8], format: FixedFormat, policy: u32) -> Result<FixedNumber, Refusal>
+    ensures { MatchResult result
+        (λ n. IsLiteralReadAs text.now (format_of format.is_signed format.width format.frac) policy n.bits n.overflowed)
+        (LiteralIsRefused text.now (format_of format.is_signed format.width format.frac) policy) }
+{
+    let format = format_of(format, Refusal::BadFormat)?;
+    let policy = policy_of(policy)?;
+    let found = match read_literal(text, format) {
+        Ok(found) => found,
+        Err(error) => return Err(Refusal::Numeral(error.kind())),
+    };
+    match found.image(policy) {
+        Some(number) => Ok(number_for_c(format, number, found.is_out_of_range())),
+        None => Err(Refusal::Numeral(ParseErrorKind::Overflow)),
     }
 }

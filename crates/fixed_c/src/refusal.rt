@@ -32,8 +32,6 @@ pub enum Refusal {
     BadOtherBits,
     /// There are more than 64 places.
     BadPlaces,
-    /// A member of the style is none of its kind.
-    BadStyle,
     /// The rounding is none of 0 to 4.
     BadRounding,
     /// The word is that of no format.
@@ -61,7 +59,7 @@ fn kind_code(kind: ParseErrorKind) -> u32
 }
 
 impl Refusal {
-    /// The code of the refusal, 1 to 23.
+    /// The code of the refusal, 1 to 22.
     pub fn code(self) -> u32
         ensures { result ≡ refusal_code self }
     {
@@ -76,10 +74,9 @@ impl Refusal {
             Refusal::NoRoom => 17,
             Refusal::BadOtherBits => 18,
             Refusal::BadPlaces => 19,
-            Refusal::BadStyle => 20,
-            Refusal::BadRounding => 21,
-            Refusal::BadWord => 22,
-            Refusal::BadRows => 23,
+            Refusal::BadRounding => 20,
+            Refusal::BadWord => 21,
+            Refusal::BadRows => 22,
         }
     }
 
@@ -99,7 +96,6 @@ impl Refusal {
             Refusal::NoRoom => "no room for the text",
             Refusal::BadOtherBits => "second bits out of range",
             Refusal::BadPlaces => "too many places",
-            Refusal::BadStyle => "bad style",
             Refusal::BadRounding => "bad rounding",
             Refusal::BadWord => "bad format word",
             Refusal::BadRows => "rows of another size",
@@ -109,7 +105,7 @@ impl Refusal {
 
 /// The refusal of a code. None where it is that of none.
 fn refusal_of(code: u32) -> Option<Refusal>
-    ensures { MatchOption result ((code ≡ 0) ⊎ (23 < code)) (λ refusal. code ≡ refusal_code refusal) }
+    ensures { MatchOption result ((code ≡ 0) ⊎ (22 < code)) (λ refusal. code ≡ refusal_code refusal) }
 {
     match code {
         1 => Some(Refusal::Numeral(ParseErrorKind::InvalidDigit)),
@@ -131,10 +127,9 @@ fn refusal_of(code: u32) -> Option<Refusal>
         17 => Some(Refusal::NoRoom),
         18 => Some(Refusal::BadOtherBits),
         19 => Some(Refusal::BadPlaces),
-        20 => Some(Refusal::BadStyle),
-        21 => Some(Refusal::BadRounding),
-        22 => Some(Refusal::BadWord),
-        23 => Some(Refusal::BadRows),
+        20 => Some(Refusal::BadRounding),
+        21 => Some(Refusal::BadWord),
+        22 => Some(Refusal::BadRows),
         _ => None,
     }
 }

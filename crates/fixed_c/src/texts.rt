@@ -2,7 +2,7 @@
 
 ghost use Rattle.std.specs.Prelude.{◌≡◌, ◌<◌, MatchResult};
 ghost use Rattle.fixed_c.specs.Answer.{IsAnswered};
-ghost use Rattle.fixed_c.specs.Convert.{IsPrinted, PrintIsRefused};
+ghost use Rattle.fixed_c.specs.Convert.{IsPrinted, IsPrintedTo, PlacesIsRefused, PrintIsRefused};
 ghost use Rattle.fixed_c.specs.Numbers.{format_of};
 ghost use Rattle.fixed_c.specs.Texts.{PutsText, TextEnds};
 
@@ -11,8 +11,9 @@ use crate::number::{flag, number_in};
 use crate::refusal::{OK, Refusal};
 use fixed_respell::answer;
 use fixed_steps::Steps;
-use fixed_write::{ShortText, shortest};
+use fixed_write::{ShortText, push_decimal, shortest};
 use std::sync::ledger::{Blank, Ledger};
+use text_buffer::TextBuffer;
 
 /// Hands over a text and a zero byte where there is room for both, and its length in any case.
 pub fn put_text(text: &[u8], out: &mut [u8], len: &mut usize) -> u32
@@ -64,6 +65,40 @@ pub fn print_bits<L: Ledger>(
         (PrintIsRefused (format_of format.is_signed format.width format.frac) bits) out.old out.new len.old len.new result }
 {
     match shortest_of::<L>(bits, format, blank) {
+        Ok(text) => put_text(text.as_bytes(), out, len),
+        Err(refusal) => refusal.code(),
+    }
+}
+
+/// Bits to a count of decimal places: a text of at most 86 bytes.
+fn rounded_to(bits: i64, format: FixedFormat, places: u32) -> Result<TextBuffer<130>, Refusal>
+    ensures { MatchResult result
+        (IsPrintedTo (format_of format.is_signed format.width format.frac) bits places)
+        (PlacesIsRefused (format_of format.is_signed format.width format.frac) bits places) }
+{
+    let format = format_of(format, Refusal::BadFormat)?;
+    let number = number_in(bits, format, Refusal::BadBits)?;
+    if places > 64 {
+        return Err(Refusal::BadPlaces);
+    }
+    let mut text = TextBuffer::new();
+    push_decimal(&mut text, number, format.frac(), places);
+    Ok(text)
+}
+
+/// Hands over bits to a count of decimal places.
+pub fn print_places(
+    bits: i64,
+    format: FixedFormat,
+    places: u32,
+    out: &mut [u8],
+    len: &mut usize,
+) -> u32
+    ensures { TextEnds
+        (IsPrintedTo (format_of format.is_signed format.width format.frac) bits places)
+        (PlacesIsRefused (format_of format.is_signed format.width format.frac) bits places) out.old out.new len.old len.new result }
+{
+    match rounded_to(bits, format, places) {
         Ok(text) => put_text(text.as_bytes(), out, len),
         Err(refusal) => refusal.code(),
     }

@@ -15,5 +15,6 @@ pub use forms::{checked_whole, overflowing_whole, plain_whole, saturating_whole,
 pub use overflowing::{
     overflowing_ceil, overflowing_floor, overflowing_round, overflowing_round_ties_even,
 };
-pub use parts::{frac, int, round_to_zero};
+pub use parts::{frac, int, round_to_zero, towards_zero};
 pub use rounding::Rounding;
+pub use whole::whole_of;

@@ -52,9 +52,9 @@ fn whole_part<I: Inner>(bits: I, frac_nbits: u32) -> i128
     }
 }
 
-/// The ceil of a negative number, the floor of any other.
+/// The bits of `b` over two to the power of `f`, rounded towards zero: the ceil of a negative number, the floor of any other.
 #[inline]
-fn towards_zero(b: i128, f: u32) -> i128
+pub fn towards_zero(b: i128, f: u32) -> i128
     requires wide { IsWide b }
     requires frac { f ≤ 64 }
     ensures { result ≡ round_to_zero_bits b f }

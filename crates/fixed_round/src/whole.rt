@@ -13,7 +13,7 @@ use crate::rounding::Rounding;
 
 /// The bits of the whole number that `b` over two to the power of `f` is rounded to. They may be out of the range of `b`.
 #[inline]
-pub(crate) fn whole_of(b: i128, f: u32, rounding: Rounding) -> i128
+pub fn whole_of(b: i128, f: u32, rounding: Rounding) -> i128
     requires wide { IsWide b }
     requires frac { f ≤ 64 }
     ensures { result ≡ whole_bits rounding b f }

@@ -1,0 +1,23 @@
+use Rattle.std.proofs.Common.{rules, FitsSigned}
+use Rattle.std.specs.Int.{w64}
+use Rattle.std.proofs.lemmas.Int.{to_z-of_z}
+use Rattle.fixed_c.specs.Arguments.{Names}
+use Rattle.fixed_c.specs.Convert.{ConvertInIsRefused, IsConvertedIn}
+use Rattle.fixed_c.specs.Literal.{IsLiteralReadAs, LiteralIsRefused}
+use Rattle.fixed_c.specs.Round.{IsRoundedTo, RoundIsRefused}
+use Rattle.fixed_c.specs.Words.{IsFormatNamed, WordIsRefused}
+use Rattle.fixed_c.specs.declared.arguments.FixedFormat.{FixedFormat}
+use Rattle.fixed_c.specs.Enclose.{EncloseIsRefused, IsEnclosedBy}
+use Rattle.fixed_c.specs.Numbers.{format_of}
+use Rattle.fixed_c.specs.Read.{IsReadAs, ReadIsRefused}
+use Rattle.fixed_c.specs.Respell.{IsReachedAs, RespellIsRefused}
+use Rattle.fixed_c.specs.declared.number.FixedEnclosure.{FixedEnclosure}
+use Rattle.fixed_c.specs.declared.number.FixedNumber.{FixedNumber}
+use Rattle.fixed_c.proofs.EndLemmas.{handed}
+use Rattle.fixed_c.proofs.exports.fixed_round_bits.Goals as goal
+
+pub returns : goal.returns
+returns c =
+    let given : FitsSigned w64 c.args.bits = search rules in
+    let ends = rw (to_z-of_z w64 c.args.bits given) at c.round.ensures in
+    handed c.round.result (λ (n : FixedNumber). IsRoundedTo (format_of c.args.format.is_signed c.args.format.width c.args.format.frac) c.args.rounding c.args.policy c.args.bits n.bits n.overflowed) (RoundIsRefused (format_of c.args.format.is_signed c.args.format.width c.args.format.frac) c.args.rounding c.args.policy c.args.bits) c.args.out.now c.hand_over.new.out c.hand_over.result ends c.hand_over.ensures

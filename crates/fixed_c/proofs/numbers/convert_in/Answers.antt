@@ -1,0 +1,120 @@
+use Rattle.std.proofs.Common.{rules, subst, sym, refl, inl, inr, ◌∙◌, ap, FitsSigned, ◌≡◌, ◌↔◌, IsTrue, ℕ, ℤ, Bool, List}
+use Rattle.std.specs.Int.{w128, w32, w64}
+use Rattle.std.proofs.lemmas.Int.{to_z-of_z}
+use Rattle.std.proofs.lemmas.Result.{err_from_is_err_and}
+use Rattle.fixed_bits.specs.Down.{down}
+use Rattle.fixed_bits.specs.Formats.{FormatParts}
+use Rattle.fixed_bits.specs.Images.{IsImage}
+use Rattle.fixed_bits.specs.Ranges.{IsOutOfRange}
+use Rattle.fixed_convert.specs.Order.{order_of}
+use Rattle.fixed_enclose.specs.Enclosure.{IsEnclosed, IsRefusal}
+use Rattle.fixed_numeral.specs.Cause.{HasCause}
+use Rattle.fixed_numeral.specs.Numeral.{HasNumeral}
+use Rattle.fixed_numeral.specs.declared.error.ParseErrorKind.{ParseErrorKind}
+use Rattle.fixed_numeral.specs.declared.error.ParseErrorKind.TheVariants.{Overflow}
+use Rattle.fixed_respell.specs.Reached.{is_signed, number_of}
+use Rattle.fixed_write.specs.Texts.{IsShortestText}
+use Rattle.fixed_c.specs.Arguments.{Names, NamesFormat}
+use Rattle.fixed_c.specs.Convert.{IsConvertedIn, IsNotConvertedIn, IsPrintedTo}
+use Rattle.fixed_c.specs.Literal.{IsLiteralNotRead, IsLiteralReadAs}
+use Rattle.fixed_c.specs.Round.{IsNotRoundedTo, IsRoundedTo, rounded_bits}
+use Rattle.fixed_bits.specs.declared.mode.ReadMode.TheVariants.{NearestEven}
+use Rattle.fixed_convert.specs.Rounded.{IsNotReformatted, IsReformatted}
+use Rattle.fixed_numeral.specs.Literal.{HasLiteral, HasLiteralCause, literal_radix}
+use Rattle.fixed_write.specs.Places.{IsRoundedText, rounded_text}
+use Rattle.std.proofs.Common.{false, ◌≤◌}
+use Rattle.fixed_c.specs.Enclose.{IsEnclosedBy}
+use Rattle.fixed_c.specs.Numbers.{AreBits, AreBitsOf, format_of, has_bits}
+use Rattle.fixed_c.specs.Read.{IsNotRead, IsReadAs, OverflowsBy}
+use Rattle.fixed_c.specs.Respell.{IsNotReached, IsReachedAs}
+use Rattle.fixed_c.proofs.ReadLemmas.{not_read, read_as}
+use Rattle.fixed_c.proofs.numbers.convert_in.Goals as goal
+
+pub returns-in_err-policy : goal.returns-in_err-policy
+returns-in_err-policy c =
+    let p = err_from_is_err_and c.from_residual-in_err-policy.result c.from_residual-in_err-policy.ensures.1 in
+    rw (p.1, p.2) (inr (c.in_ok-source.ensures.1, inr (c.in_ok-target.ensures.1, inl c.in_err-policy.ensures)))
+
+pub returns-in_err-mode : goal.returns-in_err-mode
+returns-in_err-mode c =
+    let p = err_from_is_err_and c.from_residual-in_err-mode.result c.from_residual-in_err-mode.ensures.1 in
+    rw (p.1, p.2) (inr (c.in_ok-source.ensures.1, inr (c.in_ok-target.ensures.1, inr ((c.in_ok-policy.policy, c.in_ok-policy.ensures), inl c.in_err-mode.ensures))))
+
+pub returns-in_err-number : goal.returns-in_err-number
+returns-in_err-number c =
+    let given : FitsSigned w64 c.args.bits = search rules in
+    let bad : ¬ AreBits c.in_ok-source.source c.args.bits = rw (to_z-of_z w64 c.args.bits given) at c.in_err-number.ensures.number.0 in
+    let p = err_from_is_err_and c.from_residual-in_err-number.result c.from_residual-in_err-number.ensures.1 in
+    rw (p.1, p.2) (inr (c.in_ok-source.ensures.1, inr (c.in_ok-target.ensures.1, inr ((c.in_ok-policy.policy, c.in_ok-policy.ensures), inr ((c.in_ok-mode.mode, c.in_ok-mode.ensures), inl (subst (λ (h : FormatParts). ¬ AreBits h c.args.bits) c.in_ok-source.ensures.0 bad, c.in_err-number.ensures.number.1))))))
+
+pub returns-in-Some : goal.returns-in-Some
+returns-in-Some c =
+    let f : FormatParts = c.in_ok-source.source in
+    let g : FormatParts = c.in_ok-target.target in
+    let given : FitsSigned w64 c.args.bits = search rules in
+    let number : FitsSigned w128 c.in_ok-number.number = search rules in
+    let image : FitsSigned w128 c.in-Some.image = search rules in
+    let are : AreBitsOf f c.args.bits c.in_ok-number.number = rw (to_z-of_z w64 c.args.bits given) at c.in_ok-number.ensures.number in
+    let bits_are : has_bits g.signed c.number_for_c.result.bits c.in-Some.image = rw (to_z-of_z w128 c.in-Some.image image) at c.number_for_c.ensures.bits in
+    let re : IsReformatted c.in_ok-mode.mode c.in_ok-policy.policy g c.in_ok-number.number f.frac c.in-Some.image c.in-Some.overflowed =
+    subst (λ (k : ℕ). IsReformatted c.in_ok-mode.mode c.in_ok-policy.policy g c.in_ok-number.number k c.in-Some.image c.in-Some.overflowed) c.frac.ensures.frac (rw (to_z-of_z w128 c.in_ok-number.number number) at c.in-Some.ensures.moved) in
+    let made : IsConvertedIn f g c.args.policy c.args.mode c.args.bits c.number_for_c.result.bits c.number_for_c.result.overflowed = record {
+      source_format = (subst (λ (h : FormatParts). NamesFormat h) (sym c.in_ok-source.ensures.0) c.in_ok-source.ensures.1);
+      target_format = (subst (λ (h : FormatParts). NamesFormat h) (sym c.in_ok-target.ensures.0) c.in_ok-target.ensures.1);
+      number = c.in_ok-number.number;
+      given_is = are;
+      the_policy = c.in_ok-policy.policy;
+      policy_is = c.in_ok-policy.ensures;
+      the_mode = c.in_ok-mode.mode;
+      mode_is = c.in_ok-mode.ensures;
+      moved = re.moved;
+      is_moved = re.is_moved;
+      brought = record { image = c.in-Some.image; image_is = re.image_is; bits_are = bits_are; overflowed = c.in-Some.overflowed; flag_is = c.number_for_c.ensures.flag; overflowed_is = re.verdict };
+    } in
+    subst (λ (h : FormatParts). IsConvertedIn h (format_of c.args.target.is_signed c.args.target.width c.args.target.frac) c.args.policy c.args.mode c.args.bits c.number_for_c.result.bits c.number_for_c.result.overflowed) c.in_ok-source.ensures.0
+    (subst (λ (h : FormatParts). IsConvertedIn f h c.args.policy c.args.mode c.args.bits c.number_for_c.result.bits c.number_for_c.result.overflowed) c.in_ok-target.ensures.0 made)
+
+pub returns-in-None : goal.returns-in-None
+returns-in-None c =
+    let f : FormatParts = c.in_ok-source.source in
+    let g : FormatParts = c.in_ok-target.target in
+    let given : FitsSigned w64 c.args.bits = search rules in
+    let number : FitsSigned w128 c.in_ok-number.number = search rules in
+    let are : AreBitsOf f c.args.bits c.in_ok-number.number = rw (to_z-of_z w64 c.args.bits given) at c.in_ok-number.ensures.number in
+    let why : IsNotReformatted c.in_ok-mode.mode c.in_ok-policy.policy g c.in_ok-number.number f.frac =
+    subst (λ (k : ℕ). IsNotReformatted c.in_ok-mode.mode c.in_ok-policy.policy g c.in_ok-number.number k) c.frac.ensures.frac (rw (to_z-of_z w128 c.in_ok-number.number number) at c.in-None.ensures.moved) in
+    let made : IsNotConvertedIn f g c.args.policy c.args.mode c.args.bits = record {
+      number = c.in_ok-number.number;
+      given_is = are;
+      the_policy = c.in_ok-policy.policy;
+      policy_is = c.in_ok-policy.ensures;
+      the_mode = c.in_ok-mode.mode;
+      mode_is = c.in_ok-mode.ensures;
+      moved = why.moved;
+      is_moved = why.is_moved;
+      out = record { checked = why.checked; out = why.out };
+    } in
+    inr (
+      c.in_ok-source.ensures.1,
+      inr (
+        c.in_ok-target.ensures.1,
+        inr (
+          (c.in_ok-policy.policy, c.in_ok-policy.ensures),
+          inr (
+            (c.in_ok-mode.mode, c.in_ok-mode.ensures),
+            inr (
+              (c.in_ok-number.number, subst (λ (h : FormatParts). AreBitsOf h c.args.bits c.in_ok-number.number) c.in_ok-source.ensures.0 are),
+              (
+                Overflow,
+                refl,
+                (
+                  refl,
+                  subst (λ (h : FormatParts). IsNotConvertedIn h (format_of c.args.target.is_signed c.args.target.width c.args.target.frac) c.args.policy c.args.mode c.args.bits) c.in_ok-source.ensures.0
+                      (subst (λ (h : FormatParts). IsNotConvertedIn f h c.args.policy c.args.mode c.args.bits) c.in_ok-target.ensures.0 made),
+                ),
+              ),
+            ),
+          ),
+        ),
+      ),
+    )

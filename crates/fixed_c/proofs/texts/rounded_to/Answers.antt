@@ -1,0 +1,63 @@
+use Rattle.std.proofs.Common.{rules, arith, subst, sym, refl, inl, inr, ◌∙◌, ap, FitsSigned, ◌≡◌, ◌↔◌, IsTrue, ℕ, ℤ, Bool, List}
+use Rattle.std.specs.Int.{w128, w32, w64}
+use Rattle.std.proofs.lemmas.Int.{to_z-of_z}
+use Rattle.std.proofs.lemmas.Result.{err_from_is_err_and}
+use Rattle.fixed_bits.specs.Down.{down}
+use Rattle.fixed_bits.specs.Formats.{FormatParts}
+use Rattle.fixed_bits.specs.Images.{IsImage}
+use Rattle.fixed_bits.specs.Ranges.{IsOutOfRange}
+use Rattle.fixed_convert.specs.Order.{order_of}
+use Rattle.fixed_enclose.specs.Enclosure.{IsEnclosed, IsRefusal}
+use Rattle.fixed_numeral.specs.Cause.{HasCause}
+use Rattle.fixed_numeral.specs.Numeral.{HasNumeral}
+use Rattle.fixed_numeral.specs.declared.error.ParseErrorKind.{ParseErrorKind}
+use Rattle.fixed_numeral.specs.declared.error.ParseErrorKind.TheVariants.{Overflow}
+use Rattle.fixed_respell.specs.Reached.{is_signed, number_of}
+use Rattle.fixed_write.specs.Texts.{IsShortestText}
+use Rattle.fixed_c.specs.Arguments.{Names, NamesFormat}
+use Rattle.fixed_c.specs.Convert.{IsConvertedIn, IsNotConvertedIn, IsPrintedTo}
+use Rattle.fixed_c.specs.Literal.{IsLiteralNotRead, IsLiteralReadAs}
+use Rattle.fixed_c.specs.Round.{IsNotRoundedTo, IsRoundedTo, rounded_bits}
+use Rattle.fixed_bits.specs.declared.mode.ReadMode.TheVariants.{NearestEven}
+use Rattle.fixed_convert.specs.Rounded.{IsNotReformatted, IsReformatted}
+use Rattle.fixed_numeral.specs.Literal.{HasLiteral, HasLiteralCause, literal_radix}
+use Rattle.fixed_write.specs.Places.{IsRoundedText, rounded_text}
+use Rattle.std.proofs.Common.{false, ◌≤◌}
+use Rattle.fixed_c.specs.Enclose.{IsEnclosedBy}
+use Rattle.fixed_c.specs.Numbers.{AreBits, AreBitsOf, format_of, has_bits}
+use Rattle.fixed_c.specs.Read.{IsNotRead, IsReadAs, OverflowsBy}
+use Rattle.fixed_c.specs.Respell.{IsNotReached, IsReachedAs}
+use Rattle.fixed_c.proofs.ReadLemmas.{not_read, read_as}
+use Rattle.fixed_c.proofs.texts.rounded_to.Goals as goal
+
+pub returns-in_err-number : goal.returns-in_err-number
+returns-in_err-number c =
+    let given : FitsSigned w64 c.args.bits = search rules in
+    let bad : ¬ AreBits c.in_ok-format.format c.args.bits = rw (to_z-of_z w64 c.args.bits given) at c.in_err-number.ensures.number.0 in
+    let p = err_from_is_err_and c.from_residual-in_err-number.result c.from_residual-in_err-number.ensures.1 in
+    rw (p.1, p.2) (inr (c.in_ok-format.ensures.1, inl (subst (λ (h : FormatParts). ¬ AreBits h c.args.bits) c.in_ok-format.ensures.0 bad, c.in_err-number.ensures.number.1)))
+
+pub returns-then-places-gt64 : goal.returns-then-places-gt64
+returns-then-places-gt64 c =
+    let given : FitsSigned w64 c.args.bits = search rules in
+    let are : AreBitsOf c.in_ok-format.format c.args.bits c.in_ok-number.number = rw (to_z-of_z w64 c.args.bits given) at c.in_ok-number.ensures.number in
+    inr (c.in_ok-format.ensures.1, inr ((c.in_ok-number.number, subst (λ (h : FormatParts). AreBitsOf h c.args.bits c.in_ok-number.number) c.in_ok-format.ensures.0 are), inl (λ few. omega (arith, c.if-places-gt64.true), refl)))
+
+pub returns : goal.returns
+returns c =
+    let f : FormatParts = c.in_ok-format.format in
+    let given : FitsSigned w64 c.args.bits = search rules in
+    let number : FitsSigned w128 c.in_ok-number.number = search rules in
+    let are : AreBitsOf f c.args.bits c.in_ok-number.number = rw (to_z-of_z w64 c.args.bits given) at c.in_ok-number.ensures.number in
+    let appended = rw (to_z-of_z w128 c.in_ok-number.number number, c.frac.ensures.frac) at c.push_decimal.ensures.appended in
+    let text : c.push_decimal.new.out ≡ rounded_text 10 false c.args.places c.in_ok-number.number f.frac = search (rules, appended) in
+    let rounded : IsRoundedText 10 false c.args.places c.in_ok-number.number f.frac (rounded_text 10 false c.args.places c.in_ok-number.number f.frac) =
+    rw (to_z-of_z w128 c.in_ok-number.number number, c.frac.ensures.frac) at c.push_decimal.ensures.rounded in
+    let made : IsPrintedTo f c.args.bits c.args.places c.push_decimal.new.out = record {
+      format = subst (λ (h : FormatParts). NamesFormat h) (sym c.in_ok-format.ensures.0) c.in_ok-format.ensures.1;
+      number = c.in_ok-number.number;
+      bits_are = are;
+      few = c.if-places-gt64.false;
+      rounded = rw text rounded;
+    } in
+    subst (λ (h : FormatParts). IsPrintedTo h c.args.bits c.args.places c.push_decimal.new.out) c.in_ok-format.ensures.0 made

@@ -1,0 +1,202 @@
+//! The single calls for rows, one after another.
+
+ghost use Rattle.std.specs.Prelude.{◌≡◌, ◌<◌, ◌≤◌, ◌+◌, ◌*◌, ◌==◌, if◌then◌else◌, pos, length, slice_index_or, take, drop, IsTrue, ◌↔◌};
+ghost use Rattle.fixed_c.specs.Numbers.{format_of};
+ghost use Rattle.fixed_c.specs.Rows.{AreRows, ConvertsRow, HaveBits, HaveRows, ReadsRow, RowsEnd, before_zero, text_of_row};
+
+use crate::arguments::FixedFormat;
+use crate::exports::{fixed_convert_bits_mode, fixed_read_text};
+use crate::number::FixedNumber;
+use crate::refusal::{OK, Refusal};
+
+/// What each number is before its row is read.
+const NO_NUMBER: FixedNumber = FixedNumber {
+    bits: 0,
+    overflowed: 0,
+};
+
+/// How the numerals of rows are read, by the codes of C.
+#[derive(Clone, Copy)]
+pub struct Reading {
+    pub radix: u32,
+    pub format: FixedFormat,
+    pub policy: u32,
+    pub mode: u32,
+}
+
+/// How the bits of rows are converted, by the codes of C.
+#[derive(Clone, Copy)]
+pub struct Conversion {
+    pub source: FixedFormat,
+    pub target: FixedFormat,
+    pub policy: u32,
+    pub mode: u32,
+}
+
+/// The bytes before the first zero byte.
+fn before_zero(row: &[u8]) -> &[u8]
+    ensures { result.now ≡ before_zero row.now }
+{
+    for (k, b) in row.iter().enumerate() {
+        if *b == 0 {
+            return &row[..k];
+        }
+    }
+    row
+}
+
+/// The text of a row.
+fn text_of_row(rows: &[u8], size: usize, i: usize) -> &[u8]
+    requires { i * size + size ≤ length rows.now }
+    ensures { result.now ≡ text_of_row rows.now size i }
+{
+    let start = i * size;
+    before_zero(&rows[start..start + size])
+}
+
+/// 1 for a code that is not 0.
+fn tally(code: u32) -> usize
+    ensures value { result ≡ (if code == 0 then 0 else 1) }
+    ensures most { result ≤ 1 }
+{
+    if code == OK { 0 } else { 1 }
+}
+
+/// The single reading of a row.
+fn read_row(rows: &[u8], size: usize, i: usize, reading: Reading) -> (FixedNumber, u32)
+    requires { i * size + size ≤ length rows.now }
+    ensures { ReadsRow rows.now size reading.radix (format_of reading.format.is_signed reading.format.width reading.format.frac) reading.policy reading.mode i result.0 result.1 }
+{
+    let mut number = NO_NUMBER;
+    let code = fixed_read_text(
+        text_of_row(rows, size, i),
+        reading.radix,
+        reading.format,
+        reading.policy,
+        reading.mode,
+        &mut number,
+    );
+    (number, code)
+}
+
+/// The bits of a row.
+fn bits_at(bits: &[i64], i: usize) -> i64
+    requires { i < length bits.now }
+    ensures { result ≡ slice_index_or bits.now i (pos 0) }
+{
+    bits[i]
+}
+
+/// The single conversion of a row's bits.
+fn convert_row(bits: &[i64], i: usize, conversion: Conversion) -> (FixedNumber, u32)
+    requires { i < length bits.now }
+    ensures { ConvertsRow bits.now (format_of conversion.source.is_signed conversion.source.width conversion.source.frac) (format_of conversion.target.is_signed conversion.target.width conversion.target.frac) conversion.policy conversion.mode i result.0 result.1 }
+{
+    let given = bits_at(bits, i);
+    let mut number = NO_NUMBER;
+    let code = fixed_convert_bits_mode(
+        given,
+        conversion.source,
+        conversion.target,
+        conversion.policy,
+        conversion.mode,
+        &mut number,
+    );
+    (number, code)
+}
+
+/// Whether there are as many rows as numbers and codes.
+fn have_rows(rows: &[u8], size: usize, out: &[FixedNumber], codes: &[u32]) -> bool
+    ensures { IsTrue result ↔ HaveRows rows.now size out.now codes.now }
+{
+    rows.len() as u128 == size as u128 * codes.len() as u128 && out.len() == codes.len()
+}
+
+/// Whether there are as many bits as numbers and codes.
+fn have_bits(bits: &[i64], out: &[FixedNumber], codes: &[u32]) -> bool
+    ensures { IsTrue result ↔ HaveBits bits.now out.now codes.now }
+{
+    bits.len() == codes.len() && out.len() == codes.len()
+}
+
+/// Reads each row, and answers how many are refused.
+fn read_each(
+    rows: &[u8],
+    size: usize,
+    reading: Reading,
+    out: &mut [FixedNumber],
+    codes: &mut [u32],
+) -> usize
+    requires { HaveRows rows.now size out.old codes.old }
+    ensures { AreRows (ReadsRow rows.now size reading.radix (format_of reading.format.is_signed reading.format.width reading.format.frac) reading.policy reading.mode) out.new codes.new result }
+{
+    let mut refused = 0;
+    for i in 0..codes.len() {
+        let (number, code) = read_row(rows, size, i, reading);
+        out[i] = number;
+        codes[i] = code;
+        refused += tally(code);
+    }
+    refused
+}
+
+/// Converts the bits of each row, and answers how many are refused.
+fn convert_each(
+    bits: &[i64],
+    conversion: Conversion,
+    out: &mut [FixedNumber],
+    codes: &mut [u32],
+) -> usize
+    requires { HaveBits bits.now out.old codes.old }
+    ensures { AreRows (ConvertsRow bits.now (format_of conversion.source.is_signed conversion.source.width conversion.source.frac) (format_of conversion.target.is_signed conversion.target.width conversion.target.frac) conversion.policy conversion.mode) out.new codes.new result }
+{
+    let mut refused = 0;
+    for i in 0..codes.len() {
+        let (number, code) = convert_row(bits, i, conversion);
+        out[i] = number;
+        codes[i] = code;
+        refused += tally(code);
+    }
+    refused
+}
+
+/// Reads rows where the sizes are theirs.
+pub fn read_rows(
+    rows: &[u8],
+    size: usize,
+    reading: Reading,
+    out: &mut [FixedNumber],
+    codes: &mut [u32],
+    refused: &mut usize,
+) -> u32
+    ensures { RowsEnd (HaveRows rows.now size out.old codes.old)
+        (ReadsRow rows.now size reading.radix (format_of reading.format.is_signed reading.format.width reading.format.frac) reading.policy reading.mode)
+        out.old out.new codes.old codes.new refused.old refused.new result }
+{
+    if have_rows(rows, size, out, codes) {
+        *refused = read_each(rows, size, reading, out, codes);
+        OK
+    } else {
+        Refusal::BadRows.code()
+    }
+}
+
+/// Converts the bits of rows where the sizes are theirs.
+pub fn convert_rows(
+    bits: &[i64],
+    conversion: Conversion,
+    out: &mut [FixedNumber],
+    codes: &mut [u32],
+    refused: &mut usize,
+) -> u32
+    ensures { RowsEnd (HaveBits bits.now out.old codes.old)
+        (ConvertsRow bits.now (format_of conversion.source.is_signed conversion.source.width conversion.source.frac) (format_of conversion.target.is_signed conversion.target.width conversion.target.frac) conversion.policy conversion.mode)
+        out.old out.new codes.old codes.new refused.old refused.new result }
+{
+    if have_bits(bits, out, codes) {
+        *refused = convert_each(bits, conversion, out, codes);
+        OK
+    } else {
+        Refusal::BadRows.code()
+    }
+}
