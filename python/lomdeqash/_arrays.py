@@ -238,13 +238,18 @@ def enclose(form: Format, flat: Array, how: Reading, one: Callable[[Any], Any]) 
 # ---- bits
 
 
+def expect_integers(given: Array) -> None:
+    """Raises where an array is not of whole numbers, nor of objects, which are tried one by one."""
+    if given.dtype.kind not in "biuO":
+        raise TypeError(f"bits are integers, not {given.dtype}")
+
+
 def words_of(form: Format, flat: Array) -> tuple[Words, Codes]:
     """Bits as C takes them, and a code for each. Those that are none of the format are 0."""
+    expect_integers(flat)
     if flat.dtype.kind == "O":
         own, codes = each(flat.tolist(), form.own_bits, np.int64 if form.is_signed else np.uint64)
         return own.view(np.int64), codes
-    if flat.dtype.kind not in "biu":
-        raise TypeError(f"bits are integers, not {flat.dtype}")
     own = flat.astype(np.int64 if flat.dtype.kind == "i" else np.uint64)
     ends = np.iinfo(own.dtype)
     is_bad = (own < max(form.min_bits, int(ends.min))) | (own > min(form.max_bits, int(ends.max)))
@@ -301,6 +306,8 @@ def convert_rows(words: Words, source: _library.CFormat, target: Format, how: Re
 def compare(bits: Any, others: Any, one: Callable[[Any], int], errors: Errors) -> Any:
     """The order of two arrays, item by item, as numpy brings them into one shape."""
     left, right = (given if hasattr(given, "dtype") else np.asarray(given, object) for given in (bits, others))
+    expect_integers(left)
+    expect_integers(right)
     is_masked = isinstance(left, np.ma.MaskedArray) or isinstance(right, np.ma.MaskedArray)
     flags = np.broadcast_arrays(hidden(left, errors), hidden(right, errors))
     left, right = np.broadcast_arrays(np.asarray(left), np.asarray(right))
