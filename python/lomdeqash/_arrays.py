@@ -267,12 +267,11 @@ def text(form: Format, flat: Array, places: int | None, dtype: str, one: Callabl
         return zeroed(found, codes), codes
     found = np.empty(flat.size, f"{dtype}{size}")
     letters = found.view(np.uint8 if dtype == "S" else np.uint32).reshape(-1, size)
-    rows, ends = np.empty((min(flat.size, BLOCK), size), np.uint8), np.empty(BLOCK, np.uint32)
+    rows, ends = np.empty((min(flat.size, BLOCK), size + 1), np.uint8), np.empty(BLOCK, np.uint32)
     for part, items in blocks(words):
-        target = letters[part] if dtype == "S" else rows[: len(items)]
-        to = target.ctypes.data, size, ends.ctypes.data
+        to = rows.ctypes.data, size + 1, ends.ctypes.data
         done(_library.print_rows(items.ctypes.data, len(items), form.c_format, *to))
-        letters[part] = target
+        letters[part] = rows[: len(items), :size]
     return zeroed(found, codes), codes
 
 
