@@ -32,10 +32,9 @@ class Code(enum.IntEnum):
     NO_ROOM = 17
     BAD_OTHER_BITS = 18
     BAD_PLACES = 19
-    BAD_STYLE = 20
-    BAD_ROUNDING = 21
-    BAD_WORD = 22
-    BAD_ROWS = 23
+    BAD_ROUNDING = 20
+    BAD_WORD = 21
+    BAD_ROWS = 22
 
 
 class FixedError(ValueError):
