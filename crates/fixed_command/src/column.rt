@@ -26,8 +26,8 @@ pub struct ColumnConversion {
     pub delimiter: u8,
 }
 
-/// Converts one column of the records of a text, and says how they ended. A field is answered as `run_convert` answers the
-/// line that it is.
+/// Converts one column of the records of a text, and says how they ended. A field is answered as `run_convert`
+/// answers the line that it is.
 pub fn convert_column<R: Read + Drop, W: Write + Drop, L: Ledger>(
     alloc: Global,
     conversion: &ColumnConversion,
