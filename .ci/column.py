@@ -98,10 +98,10 @@ RUNS = (
 # Words after `column` that are refused, and what one line on standard error says of them.
 BAD_WORDS = (
     ([], b"COLUMN"), (["1"], b"SOURCE"), (["1", "U9F0"], b"U9F0"), (["1", "U8F0", "I9F0"], b"I9F0"),
-    (["0", "U8F0"], b"'0' is no column"), (["x", "U8F0"], b"'x' is no column"), (["99999999999999999999", "U8F0"], b"is no column"),
-    (["1", "U8F0", "--delimiter", ""], b"is empty"), (["1", "U8F0", "--delimiter", ";;"], b"';;' has several bytes"),
-    (["1", "U8F0", "--delimiter", "\u00a7"], b"has several bytes"), (["1", "U8F0", "--delimiter", '"'], b"is no delimiter"),
-    (["1", "U8F0", "--delimiter", "\n"], b"is no delimiter"), (["1", "U8F0", "--delimiter"], b"delimiter"),
+    (["0", "U8F0"], b"'0' is not a column"), (["x", "U8F0"], b"'x' is not a column"), (["99999999999999999999", "U8F0"], b"is not a column"),
+    (["1", "U8F0", "--delimiter", ""], b"'' is not a delimiter"), (["1", "U8F0", "--delimiter", ";;"], b"';;' is not a delimiter"),
+    (["1", "U8F0", "--delimiter", "\u00a7"], b"is not a delimiter"), (["1", "U8F0", "--delimiter", '"'], b"is not a delimiter"),
+    (["1", "U8F0", "--delimiter", "\n"], b"is not a delimiter"), (["1", "U8F0", "--delimiter"], b"delimiter"),
     (["1", "U8F0", "--keep", "--keep"], b"--keep"), (["1", "U8F0", "--print", "text", "--print", "bits"], b"--print"),
     (["1", "U8F0", "--policy", "saturating", "--policy", "wrapping"], b"--policy"), (["1", "U8F0", "--radix", "7"], b"7"),
     (["1", "U8F0", "--name"], b"--name"),

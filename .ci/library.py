@@ -59,11 +59,13 @@ def calls():
         return set(re.findall(r"^uint32_t (fixed_[a-z_]+)\(", header.read(), re.M))
 
 
-def archive(built, folder):
+def archive(built):
     """The path of the archive. The libraries that `rt ci` leaves have no stamp, so that `rt lib` would prove all of them again."""
     if built == "build":
         return f"{TOP}/build/lib/libfixed.a"
     crates = read_crates()
+    made = f"{crates['fixed_c'].folder}/out/libfixed_c.a"
+    os.makedirs(os.path.dirname(made), exist_ok=True)
     kit = os.path.dirname(run(["rt", "doc"]).strip())
     words = ["--crate-name", "fixed_c", "src/lib.rt", "--extern", f"std={kit}/rlibs/std.rlib", "-L", f"dependency={kit}/rlibs"]
     for name in crates["fixed_c"].uses:
@@ -71,9 +73,9 @@ def archive(built, folder):
     for name in sorted(below(crates, crates["fixed_c"].uses)):
         words += ["-L", f"dependency={crates[name].folder}/out/rlib"]
     words += ["--antt-project", f"{kit}/rattle/logic/antt-project.json", "--logic-built", f"{kit}/logic_built", "--links", "fixed_c=",
-              "--crate-type", "staticlib", "--cpu", "x86-64", "--toolchain", f"{kit}/toolchain", "--jobs", str(processes()), "-o", f"{folder}/libfixed_c.a"]
+              "--crate-type", "staticlib", "--cpu", "x86-64", "--toolchain", f"{kit}/toolchain", "--jobs", str(processes()), "-o", made]
     run(["rattle", "build", *words], cwd=crates["fixed_c"].folder, stdin=subprocess.DEVNULL)
-    return f"{folder}/libfixed_c.a"
+    return made
 
 
 def check_symbols(library, shared):
@@ -197,7 +199,7 @@ def main():
     try:
         with tempfile.TemporaryDirectory() as folder:
             library, shared = f"{folder}/libfixed.a", f"{folder}/libfixed.so.1"
-            shutil.copy(archive(given.built, folder), library)
+            shutil.copy(archive(given.built), library)
             undefined = [word for call in sorted(calls()) for word in ("-Wl,-u," + call,)]
             run(["gcc", "-shared", "-o", shared, "-Wl,-soname,libfixed.so.1", f"-Wl,--version-script={TOP}/packaging/fixed.map",
                  "-Wl,--gc-sections", "-Wl,-z,relro", "-Wl,-z,now", *undefined, library, "-nostartfiles", "-lc"])

@@ -15,6 +15,7 @@ import signal
 import subprocess
 import sys
 import tempfile
+from fractions import Fraction
 
 TOP = os.path.dirname(os.path.dirname(os.path.abspath(__file__)))
 sys.path.insert(0, f"{TOP}/oracle")
@@ -46,21 +47,42 @@ RUNS = {
         (["enclose", "no\nfile"], b"", 3, b""),
         (["constants"], b"A = 0b_111e-2 I4F4\n", 0, b"A = 0x1.c I4F4\n"),
         (["constants", "c"], b"A = 1.75 I4F4\n", 0, b"#include <stdint.h>\n\n#define A INT8_C(0x1c) /* I4F4, 1.75 */\n"),
-        (["constants", "c", "A_H"], b"A = 1.75 I4F4\n", 0,
+        (["constants", "c", "--guard", "A_H"], b"A = 1.75 I4F4\n", 0,
          b"#ifndef A_H\n#define A_H\n\n#include <stdint.h>\n\n#define A INT8_C(0x1c) /* I4F4, 1.75 */\n\n#endif\n"),
-        (["constants", "c", "A"], b"A = 1.75 I4F4\n", 1, b"error: line 1: bad name\n"),
+        (["constants", "c", "--guard", "A"], b"A = 1.75 I4F4\n", 1, b""),
+        (["constants", "c", "A_H"], b"A = 1.75 I4F4\n", 3, b""),
+        (["constants"], b"A = 1 U8F0\nB = 300 U8F0\n", 1, b""),
+        (["constants", "--", "c"], b"", 3, b""),
+        (["least", "--", "16"], b"", 3, b""),
+        (["least"], b"1\nx\n", 1, b"error: line 2: invalid digit found in string\n"),
+        (["convert", "U8F0", "--", "I8F0"], b"", 3, b""),
+        (["convert", "--", "U8F0", "-"], b"7\n", 0, b"7\n"),
+        (["convert", "I8F8", "--print", "value"], b"3.14159\n-2.5\n", 0, b"3.140625\n-2.5\n"),
+        (["convert", "I8F8", "--print", "readmemh"], b"-4\n0.5\n", 0, b"fc00\n0080\n"),
+        (["convert", "I8F8", "--places", "3"], b"3.14159\n-2.5\n0\n", 0, b"3.141\n-2.500\n0.000\n"),
+        (["convert", "I8F8", "--places", "0"], b"2.5\n3.5\n-0.25\n", 0, b"2\n4\n-0\n"),
+        (["convert", "-r", "16", "-p", "saturating", "-m", "floor", "U8F0"], b"1ff\n-1\n", 0, b"255\n0\n"),
+        (["convert", "U8F0"], b"\xef\xbb\xbf7\n8\n", 0, b"7\n8\n"),
+        (["convert", "U8F0"], b"\xef\xbb", 1, b"error: invalid digit found in string\n"),
         (["constants", "rust"], b"A = 1.75 I4F4\n", 0, b"pub const A: fixed::types::I4F4 = fixed::types::I4F4::from_bits(0x1c);\n"),
+        (["sort"], b"0.5 U7F1\n-1 I8F0\n", 0, b" " * 22 + b"-1 I8F0\n" + b" " * 21 + b"0.5 U7F1\n"),
+        (["sort", "--", "limit"], b"", 3, b""),
         (["columns"], b"0.5 U7F1\n-1 I8F0\n", 0, b" " * 22 + b"-1 I8F0\n" + b" " * 21 + b"0.5 U7F1\n"),
         (["columns", "limit", "7"], b"1 U8F0\n", 0, b" " * 23 + b"1 U8F0\n"),
         (["columns", "limit", "6", "-"], b"1 U8F0\n", 6, b""),
         (["columns", "--limit", "6"], b"1 U8F0\n", 6, b""),
         (["show", "I16F16", "3.14159", "-0.1"], b"", 0, None),
+        (["show", "I8F8", "-.5", "-1e-3", "--mode", "floor"], b"", 0, None),
+        (["show", "--mode=ceil", "I8F8", "-5.818915989413629393e-04"], b"", 0, None),
+        (["show", "--", "I8F8", "-r"], b"", 1, b"error: invalid digit found in string\n"),
         (["show", "U8F0", "300"], b"", 1, b"error: overflow\n"),
         (["bits", "I16F16", "0xfffc0000", "7x"], b"", 1,
          b"text      -4\nbits      -262144\nhex       0xfffc0000\nvalue     -4\nerror: invalid digit found in string\n"),
         (["bits", "U8F0", "256"], b"", 1, b"error: word is wider than the format\n"),
         (["format", "U8F0"], b"", 0, None),
         (["--version"], b"", 0, b"fixed 1.31.0\n"),
+        (["help"], b"", 0, None),
+        (["help", "convert"], b"", 0, None),
         (["convert", "--help"], b"", 0, None),
     ),
     "fixed_tool": (
@@ -114,9 +136,12 @@ BAD_WORDS = {
         [], [b"converts"], [b"convert"], [b"convert", b"I9F0"], [b"convert", b"U8F0", b"U9F0"], [b"convert", b"U8F0", b"--radix", b"7"],
         [b"convert", b"U8F0", b"--mode"], [b"convert", b"U8F0", b"--print", b"text", b"--print", b"bits"], [b"lines", b"--limit", b"0"],
         [b"lines", b"--limits", b"5"], [b"lines", b"--limit", b"5", b"--limit", b"6"], [b"enclose", b"--radix", b"2"],
-        [b"constants", b"c", b"int"], [b"constants", b"c", b"9"], [b"columns", b"limit"], [b"columns", b"limit", b"07"],
+        [b"constants", b"c", b"--guard", b"int"], [b"constants", b"c", b"--guard", b"9"], [b"constants", b"--guard", b"A_H"], [b"columns", b"limit"], [b"columns", b"limit", b"07"],
         [b"columns", b"limit", b"0"], [b"columns", b"limit", b"4294967297"], [b"columns", b"--limit", b"5", b"limit", b"7"],
         [b"convert", b"U8F0", b"--mode", b"ceil", b"--mode", b"floor"], [b"format", b"U8F0\n\nU8F1"], [b"con\nvert"],
+        [b"lines", b"--limit", b"05"], [b"lines", b"--limit", b"+5"], [b"column", b"01", b"I8F8"], [b"help", b"converts"],
+        [b"convert", b"U8F0", b"--places", b"65"], [b"convert", b"U8F0", b"--places", b"01"],
+        [b"convert", b"U8F0", b"--places", b"2", b"--print", b"bits"], [b"convert", b"--"],
         [b"show", b"U8F0"], [b"show", b"U8F1", b"1"], [b"bits", b"I16F16"], [b"format", b"U8F0", b"X"],
     ),
     "fixed_tool": ([b"limits"], [b"limit"], [b"limit", b"05"], [b"limit", b"0"], [b"self", b"0"], [b"self", b"1000001"], [b"limit", b"5", b""]),
@@ -170,13 +195,17 @@ class Runs:
 
     def is_told(self, status, words, told, answered):
         """Whether standard error has what it must: one line that begins with the program's name and ends with the count of the
-        lines that were answered, or nothing. (`fixed` says it of each input, so its count may be of fewer, and names the first word
-        that it refuses.)"""
-        if self.name == "fixed" and status == 1 and words[0] in ("show", "bits", "format"):
-            return told.count(b"\n") == 1 and any(told.startswith(f"fixed: {word}: ".encode()) for word in words[1:])
-        if status < (2 if self.name == "fixed" else 3):
+        lines that were answered, or nothing. (`fixed` says it of each input, with the first line that it refuses; a refused command line
+        says where there is help, and no words at all give the help.)"""
+        if self.name == "fixed":
+            lines = told.splitlines(keepends=True)
+            if status == 2:
+                return not words or len(lines) == 1 and told.startswith(b"fixed: ") and b"; try 'fixed " in told and told.endswith(b"--help'\n")
+            is_one = bool(lines) and all(line.startswith(b"fixed: ") and line.endswith(b"\n") for line in lines)
+            return is_one if status else told == b""
+        if status < 3:
             return told == b""
-        end = b"\n" if self.name == "fixed" else f", lines answered: {answered}\n".encode()
+        end = f", lines answered: {answered}\n".encode()
         return told.startswith(f"{self.name}: ".encode()) and told.count(b"\n") == 1 and told.endswith(end)
 
     def all(self):
@@ -206,7 +235,8 @@ class Runs:
         whole = subprocess.run([self.path, *words], input=given, stdout=subprocess.PIPE, check=False, timeout=120).stdout
         read, write = os.pipe()
         os.close(read)
-        self.one("a closed pipe", words, 4, None, input=given, stdout=write)
+        ran = subprocess.run([self.path, *words], input=given, stdout=write, stderr=subprocess.PIPE, check=False, timeout=120)
+        self.early("a closed pipe", ran.returncode, ran.stderr, b"", b"")
         os.close(write)
         with tempfile.TemporaryDirectory() as folder:
             source, disk = f"{folder}/source", f"{folder}/disk"
@@ -226,9 +256,12 @@ class Runs:
             self.early("a broken pipe", begun.returncode, told, got, whole[:10_000])
 
     def early(self, what, status, told, got, wanted):
-        """Whether a run whose output ended early says so in one line, and has lost nothing of what went out before."""
+        """Whether a run whose output ended early says so in one line (`fixed` nothing, where nobody reads), and has lost nothing of
+        what went out before."""
         self.tried += 1
-        if status != 4 or told.count(b"\n") != 1 or not told.startswith(f"{self.name}: a write failed".encode()) or got != wanted:
+        is_quiet = self.name == "fixed" and what.endswith("pipe")
+        is_told = told == b"" if is_quiet else told.count(b"\n") == 1 and told.startswith(f"{self.name}: a write failed".encode())
+        if status != 4 or not is_told or got != wanted:
             self.wrong += 1
             print(f"{self.name}, {what}: status {status}, {told!r:.200}, {len(got)} bytes arrived of {len(wanted)}")
 
@@ -315,6 +348,14 @@ class Runs:
             for path, text in ((clean, b"1.5\n"), (faulty, b"x\n2")):
                 with open(path, "wb") as file:
                     file.write(text)
+            first, second = f"{folder}/first", f"{folder}/second"
+            for path, text in ((first, b"A = 1.75 I4F4"), (second, b"B = 1 U8F0\nA = 2 U8F0\n")):
+                with open(path, "wb") as file:
+                    file.write(text)
+            rust = b"pub const A: fixed::types::I4F4 = fixed::types::I4F4::from_bits(0x1c);\n"
+            self.one("constants of one file", ["constants", "rust", first], 0, rust)
+            self.one("a name in two files", ["constants", "rust", first, second], 1, b"")
+            self.one("a missing file of constants", ["constants", "rust", first, f"{folder}/none"], 3, b"")
             convert = ["convert", "U8F8"]
             fault = b"error: invalid digit found in string\n2\n"
             self.one("two files", [*convert, clean, faulty], 1, b"1.5\n" + fault)
@@ -371,6 +412,52 @@ def compared(built):
     return differing, NUMERALS * len(SETTINGS)
 
 
+def exact_decimal(bits, frac):
+    """The value of bits in a decimal that ends."""
+    sign, whole = ("-" if bits < 0 else ""), abs(bits) * 10**frac // 2**frac
+    digits = str(whole).rjust(frac + 1, "0")
+    return sign + (f"{digits[:-frac]}.{digits[-frac:]}".rstrip("0").rstrip(".") if frac else digits)
+
+
+def rounded_decimal(bits, frac, places):
+    """The value of bits rounded to a count of places, ties to even."""
+    digits = str(round(Fraction(abs(bits) * 10**places, 2**frac))).rjust(places + 1, "0")
+    return ("-" if bits < 0 else "") + (f"{digits[:-places]}.{digits[-places:]}" if places else digits)
+
+
+def part_of(answer, target, words):
+    """What is written of an answer `TEXT BITS VERDICT` by options; a fault whole."""
+    if answer.startswith("error: "):
+        return answer
+    bits, frac = int(answer.split(" ")[1]), int(target.split("F")[1])
+    width = int(target[1:].split("F")[0]) + frac
+    digits = f"{bits & (2**width - 1):0{width // 4}x}"
+    if words[0] == "--places":
+        return rounded_decimal(bits, frac, int(words[1]))
+    return {"bits": str(bits), "hex": "0x" + digits, "readmemh": digits, "value": exact_decimal(bits, frac), "text": answer.split(" ")[0]}[words[1]]
+
+
+def parts_compared(built):
+    """How many parts of answers of `fixed convert` are others than Python's fractions give of the bits, of how many; None where it is
+    not built."""
+    path = program("fixed", built)
+    if path is None:
+        return None
+    source, tried, differing = random_module.Random(2), 0, 0
+    asked = [["--print", part] for part in ("text", "bits", "hex", "readmemh", "value")] + [["--places", str(n)] for n in (0, 1, 3, 17, 64)]
+    for radix, first, second, policy, mode in SETTINGS:
+        given = "".join(numeral(source, radix) + "\n" for _ in range(250)).encode()
+        words = [path, "convert", "-r", radix, "-p", policy, "-m", mode, first, second]
+        how = {"input": given, "stdout": subprocess.PIPE, "stderr": subprocess.DEVNULL, "check": False}
+        answers = subprocess.run([*words, "--print", "all"], **how).stdout.decode().splitlines()
+        for option in asked:
+            shown = subprocess.run([*words, *option], **how).stdout.decode().splitlines()
+            wanted = [part_of(answer, second, option) for answer in answers]
+            tried += len(wanted)
+            differing += sum(a != b for a, b in zip(shown, wanted)) + abs(len(shown) - len(wanted))
+    return differing, tried
+
+
 def on_disk_of(most):
     """Leaves a process a disk with this many bytes."""
     def limit():
@@ -405,6 +492,10 @@ def main():
     found = compared(given.built)
     if found is not None:
         print(f"fixed convert: {found[1]} numerals, {found[0]} answered otherwise than by fixed_tool")
+        wrong += found[0]
+    found = parts_compared(given.built)
+    if found is not None:
+        print(f"fixed convert: {found[1]} parts of answers, {found[0]} others than Python's")
         wrong += found[0]
     return 1 if wrong else 0
 

@@ -1,35 +1,40 @@
 # bash completion for fixed
 # Files, and the words that a command has of its own before them.
 _fixed_words() {
-  local words=''
+  local words='' formats='I16F16 U16F16 I8F8 U8F8 I32F32 U32F32 I1F15 I1F31 I4F4 U0F8'
+  case $1:$COMP_CWORD in
+    convert:2 | convert:3 | column:3 | column:4 | show:2 | bits:2 | format:*) words=$formats ;;
+    help:2) words='convert column show bits format lines enclose least constants sort' ;;
+  esac
   if [ "$COMP_CWORD" -eq 2 ]; then
     case $1 in
       least) words='2 8 10 16' ;;
       constants) words='c rust' ;;
-      columns) words='limit' ;;
+      sort) words='limit' ;;
     esac
   fi
   mapfile -t COMPREPLY < <(compgen -f -W "$words" -- "$2")
 }
 _fixed() {
   local word=$2 previous=$3 command=${COMP_WORDS[1]}
-  local commands='convert column show bits format lines enclose least constants columns' words=''
+  local commands='convert column show bits format lines enclose least constants sort help' words=''
   if [ "$COMP_CWORD" -eq 1 ]; then
     mapfile -t COMPREPLY < <(compgen -W "$commands --help --version" -- "$word")
     return
   fi
   case $previous in
-    --radix) words='2 8 10 16' ;;
-    --policy) words='checked saturating wrapping' ;;
-    --mode) words='nearest floor ceil zero' ;;
-    --print) words='text bits hex all' ;;
-    --limit | --delimiter) return ;;
+    --radix | -r) words='2 8 10 16' ;;
+    --policy | -p) words='checked saturating wrapping' ;;
+    --mode | -m) words='nearest floor ceil zero' ;;
+    --print) words='text bits hex readmemh value all' ;;
+    --limit | --delimiter | -d | --places | --guard) return ;;
     *)
       case $command:$word in
-        convert:-*) words='--radix --policy --mode --print --help --version' ;;
-        column:-*) words='--radix --policy --mode --print --delimiter --header --keep --help --version' ;;
+        convert:-*) words='--radix --policy --mode --print --places --help --version' ;;
+        column:-*) words='--radix --policy --mode --print --places --delimiter --header --keep --help --version' ;;
         show:-*) words='--radix --policy --mode --help --version' ;;
-        lines:-* | columns:-*) words='--limit --help --version' ;;
+        lines:-* | sort:-*) words='--limit --help --version' ;;
+        constants:-*) words='--guard --help --version' ;;
         *:-*) words='--help --version' ;;
         *) _fixed_words "$command" "$word"; return ;;
       esac

@@ -238,13 +238,18 @@ def enclose(form: Format, flat: Array, how: Reading, one: Callable[[Any], Any]) 
 # ---- bits
 
 
+def expect_integers(given: Array) -> None:
+    """Raises where an array is not of whole numbers, nor of objects, which are tried one by one."""
+    if given.dtype.kind not in "biuO":
+        raise TypeError(f"bits are integers, not {given.dtype}")
+
+
 def words_of(form: Format, flat: Array) -> tuple[Words, Codes]:
     """Bits as C takes them, and a code for each. Those that are none of the format are 0."""
+    expect_integers(flat)
     if flat.dtype.kind == "O":
         own, codes = each(flat.tolist(), form.own_bits, np.int64 if form.is_signed else np.uint64)
         return own.view(np.int64), codes
-    if flat.dtype.kind not in "biu":
-        raise TypeError(f"bits are integers, not {flat.dtype}")
     own = flat.astype(np.int64 if flat.dtype.kind == "i" else np.uint64)
     ends = np.iinfo(own.dtype)
     is_bad = (own < max(form.min_bits, int(ends.min))) | (own > min(form.max_bits, int(ends.max)))
@@ -262,12 +267,11 @@ def text(form: Format, flat: Array, places: int | None, dtype: str, one: Callabl
         return zeroed(found, codes), codes
     found = np.empty(flat.size, f"{dtype}{size}")
     letters = found.view(np.uint8 if dtype == "S" else np.uint32).reshape(-1, size)
-    rows, ends = np.empty((min(flat.size, BLOCK), size), np.uint8), np.empty(BLOCK, np.uint32)
+    rows, ends = np.empty((min(flat.size, BLOCK), size + 1), np.uint8), np.empty(BLOCK, np.uint32)
     for part, items in blocks(words):
-        target = letters[part] if dtype == "S" else rows[: len(items)]
-        to = target.ctypes.data, size, ends.ctypes.data
+        to = rows.ctypes.data, size + 1, ends.ctypes.data
         done(_library.print_rows(items.ctypes.data, len(items), form.c_format, *to))
-        letters[part] = target
+        letters[part] = rows[: len(items), :size]
     return zeroed(found, codes), codes
 
 
@@ -301,6 +305,8 @@ def convert_rows(words: Words, source: _library.CFormat, target: Format, how: Re
 def compare(bits: Any, others: Any, one: Callable[[Any], int], errors: Errors) -> Any:
     """The order of two arrays, item by item, as numpy brings them into one shape."""
     left, right = (given if hasattr(given, "dtype") else np.asarray(given, object) for given in (bits, others))
+    expect_integers(left)
+    expect_integers(right)
     is_masked = isinstance(left, np.ma.MaskedArray) or isinstance(right, np.ma.MaskedArray)
     flags = np.broadcast_arrays(hidden(left, errors), hidden(right, errors))
     left, right = np.broadcast_arrays(np.asarray(left), np.asarray(right))

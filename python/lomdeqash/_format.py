@@ -200,7 +200,7 @@ class Format:
             if places is not None or set(map(type, items)) != {int}:
                 return None
             is_held = self.min_bits <= min(items) and max(items) <= self.max_bits
-            return _library.print_texts(items, self.c_format, self.text_size(None)) if is_held else None
+            return _library.print_texts(items, self.c_format, self.text_size(None) + 1) if is_held else None
 
         return _apply(bits, one, lambda arrays, flat: arrays.text(self, flat, places, dtype, one), errors, together)
 

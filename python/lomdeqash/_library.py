@@ -9,6 +9,7 @@ import ctypes
 import os
 import pathlib
 from ctypes import POINTER, addressof, byref, c_char_p, c_int32, c_int64, c_size_t, c_uint32, c_uint64, c_void_p
+from itertools import repeat
 from typing import Any, NamedTuple, cast
 
 ABI = 1
@@ -48,7 +49,7 @@ _SLICE = (c_void_p, c_size_t)
 _TEXTS = (c_void_p, c_size_t, c_size_t)
 _CALLS: dict[str, tuple[Any, ...]] = {
     "fixed_read_text": (c_char_p, c_size_t, c_uint32, CFormat, c_uint32, c_uint32, POINTER(CNumber)),
-    "fixed_print_bits": (c_int64, CFormat, c_char_p, c_size_t, POINTER(c_size_t)),
+    "fixed_print_bits": (c_int64, CFormat, c_void_p, c_size_t, POINTER(c_size_t)),
     "fixed_print_places": (c_int64, CFormat, c_uint32, c_char_p, c_size_t, POINTER(c_size_t)),
     "fixed_convert_bits_mode": (c_int64, CFormat, CFormat, c_uint32, c_uint32, POINTER(CNumber)),
     "fixed_compare_bits": (c_int64, CFormat, c_int64, CFormat, POINTER(c_int32)),
@@ -57,7 +58,6 @@ _CALLS: dict[str, tuple[Any, ...]] = {
     "fixed_message": (c_uint32, c_char_p, c_size_t, POINTER(c_size_t)),
     "fixed_abi": (),
     "fixed_read_rows": (*_TEXTS, c_uint32, CFormat, c_uint32, c_uint32, *_SLICE, *_SLICE, POINTER(c_size_t)),
-    "fixed_print_rows": (*_SLICE, CFormat, *_TEXTS, *_SLICE, POINTER(c_size_t)),
     "fixed_convert_rows": (*_SLICE, CFormat, CFormat, c_uint32, c_uint32, *_SLICE, *_SLICE, POINTER(c_size_t)),
 }
 
@@ -154,10 +154,13 @@ def read_rows(
 
 
 def print_rows(bits: int, count: int, form: CFormat, rows: int, size: int, codes: int) -> tuple[int, int]:
-    """Prints each of the bits into a row."""
-    refused = c_size_t()
-    code = _C.fixed_print_rows(bits, count, form, rows, size * count, size, codes, count, byref(refused))
-    return code, refused.value
+    """Prints each of the bits into a row that has room for a zero byte. The library has no call that prints rows yet."""
+    ctypes.memset(rows, 0, size * count)
+    words, places = (c_int64 * count).from_address(bits)[:], range(rows, rows + size * count, size)
+    given = words, repeat(form), places, repeat(size), repeat(byref(c_size_t()))
+    found = list(map(_C.fixed_print_bits, *given))
+    (c_uint32 * count).from_address(codes)[:] = found
+    return 0, count - found.count(0)
 
 
 def convert_rows(
@@ -183,7 +186,7 @@ def read_texts(texts: list[bytes], form: CFormat, how: Reading) -> list[int] | N
 
 
 def print_texts(bits: list[int], form: CFormat, size: int) -> list[str] | None:
-    """The texts of bits, of at most that size, by one call; None where one of them is refused."""
+    """The texts of bits, each with a zero byte of at most that size; None where one of them is refused."""
     count = len(bits)
     words, codes, rows = (c_int64 * count)(*bits), (c_uint32 * count)(), ctypes.create_string_buffer(size * count)
     code, refused = print_rows(addressof(words), count, form, addressof(rows), size, addressof(codes))

@@ -287,6 +287,8 @@ def test_characters_that_are_none() -> None:
         FORM.read(given_)
     assert (found.value.code, found.value.index) == (Code.INVALID_DIGIT, 1)
     assert FORM.read(given_, errors="mask").tolist() == [16, None, None]
+    with pytest.raises(TypeError):
+        FORM.compare(1, given_)
 
 
 def test_order_of_arrays() -> None:

@@ -25,7 +25,8 @@ HEADER = pathlib.Path(__file__).parents[2] / "include" / "fixed.h"
 
 @pytest.mark.skipif(not HEADER.exists(), reason="the header is not beside the tests")
 def test_codes_are_those_of_the_header() -> None:
-    found = re.findall(r"^  FIXED_([A-Z_]+) = (\d+)", HEADER.read_text(encoding="utf-8"), re.M)
+    codes = HEADER.read_text(encoding="utf-8").partition("enum fixed_code {")[2].partition("};")[0]
+    found = re.findall(r"^  FIXED_([A-Z_]+) = (\d+)", codes, re.M)
     assert dict(found).items() <= {code.name: str(code.value) for code in Code}.items()
 
 

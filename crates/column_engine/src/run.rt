@@ -4,7 +4,7 @@ ghost use Rattle.std.specs.Prelude.{◌≡◌, ◌≢◌, ◌⊎◌, ◌<◌, []
 ghost use Rattle.std.specs.Io.KnownBytes.{Keeps};
 ghost use Rattle.csv.specs.Reading.{ReadRecord, has_failed, reader_source, reader_state, source_of, strip_bom};
 ghost use Rattle.csv.specs.Records.{fields_of};
-ghost use Rattle.csv.specs.Writing.{text_written};
+ghost use Rattle.csv.specs.Writing.{text_written, writer_pending};
 ghost use Rattle.csv.specs.declared.parser.State.TheVariants as st;
 ghost use Rattle.column_engine.specs.declared.end.Stop.{Stop};
 ghost use Rattle.column_engine.specs.Column.{HasAnsweredUnder, IsAnswered, IsAnsweredText, IsColumnUnder, IsIdle, IsReady, LacksColumn, NothingAnswered, PassesHeader, StopsHeader, UnansweredBy, explained_stop};
@@ -228,6 +228,7 @@ fn answer_reader<A: LineRule<L>, R: Read + Drop, W: Write + Drop, L: Ledger>(
 fn flushed<W: Write + Drop>(end: ColumnEnd, out: &mut Writer<W>) -> ColumnEnd
     ensures text { Keeps (text_written W.contents out.old) (text_written W.contents out.new) }
     ensures end { result.stop ≢ Stop.WriteFault → result ≡ end }
+    ensures flushed { result.stop ≢ Stop.WriteFault → writer_pending out.new ≡ [] }
 {
     match out.flush() {
         Ok(()) => end,
@@ -250,6 +251,7 @@ pub fn run_column<A: LineRule<L>, R: Read + Drop, W: Write + Drop, L: Ledger>(
     ensures answered { (text : List ℕ) → R.remaining reader ≡ Some text → result.stop ≢ Stop.WriteFault
         → IsAnswered (A.Answers task.now.rule.now) task.now.is_kept task.now.column.now task.now.delimiter text
         (text_written W.contents out.old) (text_written W.contents out.new) result.stop result.answered result.refused result.first }
+    ensures flushed { result.stop ≢ Stop.WriteFault → writer_pending out.new ≡ [] }
 {
     let end = answer_reader(alloc, task, reader, out, steps);
     flushed(end, out)

@@ -1,45 +1,129 @@
-//! A task done with each input, one after another, and a question asked of each word.
+//! What is done with each input, one after another, and a question asked of each word.
 
-use crate::messages::{place_of, refuse_file, report_refused};
-use fixed_command::{Question, Task, first_refused, greater_end, run_blocks, run_task};
-use fixed_io::{StdSink, StdSource, report_end};
+use crate::commands::column;
+use column_engine::record_writer;
+use command_line::device::{Failure, Unmarked, Writer};
+use command_line::report::{Report, push_words, report_end};
+use fixed_command::{
+    ColumnConversion, Question, Task, Watch, convert_column, explanation, first_refused,
+    greater_end, run_blocks, run_task,
+};
+use fixed_io::{StdSink, StdSource};
 use fixed_steps::Steps;
 use line_engine::Status;
 use std::fs::File;
-use std::io::{Read, Stdout};
+use std::io::{Error, Read};
 use std::sync::ledger::Ledger;
 
+/// How many characters of a refused line a report has.
+const MAX_TEXT: usize = 40;
+
+/// What is done with an input.
+#[derive(Drop)]
+pub enum Job<'a> {
+    /// It is answered.
+    Task(Task<'a>),
+    /// One column of it is converted.
+    Column(ColumnConversion),
+}
+
+/// Says on standard error how many lines of an input were refused, and which was the first, with its text and the
+/// cause.
+fn report_refused<L: Ledger>(
+    rt: &HostRuntime,
+    task: &Task<'_>,
+    file: Option<&str>,
+    watch: &Watch,
+    steps: &mut Steps<L>,
+) {
+    if let Some(line) = watch.first() {
+        let mut report = Report::of(file);
+        report.text("lines refused: ");
+        report.number(watch.refused());
+        report.text(", the first in line ");
+        report.number(line.number);
+        report.text(", '");
+        report.bytes(line.text.as_bytes(), MAX_TEXT);
+        report.text("': ");
+        report.bytes(line.cause.as_bytes(), 160);
+        if let Task::Convert(rule) = task {
+            let more = explanation(rule, line.text.as_bytes(), line.cause.as_bytes(), steps);
+            report.bytes(more.as_bytes(), 640);
+        }
+        report.send(rt);
+    }
+}
+
 /// Does a task with one input, and says on standard error why it did not end well.
-fn run_input<R: Read + Drop, L: Ledger>(
+fn run_task_on<R: Read + Drop, L: Ledger>(
     rt: &HostRuntime,
     task: &Task<'_>,
     file: Option<&str>,
     reader: R,
-    sink: &mut StdSink<Stdout>,
     steps: &mut Steps<L>,
 ) -> Status {
-    let mut source = StdSource::new(reader);
-    let status = run_task(rt.alloc(), task, &mut source, sink, steps);
-    let place = place_of(file);
-    let mut errors = StdSink::new(rt.stderr());
-    report_end(place.as_bytes(), status.code(), sink.lines(), &mut errors);
+    let watch = Watch::new();
+    let failure = Failure::new(None);
+    let mut source = StdSource::new(Unmarked::new(reader));
+    let mut sink = StdSink::new(Writer {
+        writer: rt.stdout(),
+        failure: &failure,
+    });
+    let status = run_task(rt.alloc(), task, &watch, &mut source, &mut sink, steps);
+    report_refused(rt, task, file, &watch, steps);
+    report_end(rt, file, status, sink.lines(), &failure);
     status
 }
 
-/// Does a task with a file, or with standard input where its name is `-`.
+/// Converts a column of one input, and says on standard error why it did not end well.
+fn run_column_on<R: Read + Drop, L: Ledger>(
+    rt: &HostRuntime,
+    conversion: &ColumnConversion,
+    file: Option<&str>,
+    reader: R,
+    steps: &mut Steps<L>,
+) -> Status {
+    let mut out = record_writer(conversion.delimiter, rt.stdout());
+    let end = convert_column(rt.alloc(), conversion, reader, &mut out, steps);
+    column::report_end(rt, file, &end);
+    end.status()
+}
+
+/// Does a job with one input.
+fn run_reader<R: Read + Drop, L: Ledger>(
+    rt: &HostRuntime,
+    job: &Job<'_>,
+    file: Option<&str>,
+    reader: R,
+    steps: &mut Steps<L>,
+) -> Status {
+    match job {
+        Job::Task(task) => run_task_on(rt, task, file, reader, steps),
+        Job::Column(conversion) => run_column_on(rt, conversion, file, reader, steps),
+    }
+}
+
+/// Says on standard error why a file could not be opened.
+pub fn refuse_file(rt: &HostRuntime, file: &str, error: &Error) -> Status {
+    let mut report = Report::of(Some(file));
+    push_words(&mut report, rt.alloc(), error);
+    report.send(rt);
+    Status::ReadFault
+}
+
+/// Does a job with a file, or with standard input where its name is `-`.
 fn run_file<L: Ledger>(
     rt: &HostRuntime,
-    task: &Task<'_>,
+    job: &Job<'_>,
     file: &str,
-    sink: &mut StdSink<Stdout>,
     steps: &mut Steps<L>,
 ) -> Status {
     if file == "-" {
-        return run_input(rt, task, None, rt.stdin(), sink, steps);
+        return run_reader(rt, job, None, rt.stdin(), steps);
     }
     match File::open(rt, file) {
-        Ok(reader) => run_input(rt, task, Some(file), reader, sink, steps),
-        Err(error) => refuse_file(rt, file, &error, sink.lines()),
+        Ok(reader) => run_reader(rt, job, Some(file), reader, steps),
+        Err(error) => refuse_file(rt, file, &error),
     }
 }
 
@@ -48,27 +132,41 @@ fn is_last(status: Status) -> bool {
     matches!(status, Status::WriteFault | Status::NoMemory)
 }
 
-/// Does a task with each file in order, each an input of its own, and with standard input where there are none. It ends
-/// with the greatest code, and at once where a write failed or memory is wanting.
+/// Does a job with each file in order, each an input of its own, and with standard input where there are none. It
+/// ends with the greatest code, and at once where a write failed or memory is wanting.
 pub fn run_inputs<L: Ledger>(
     rt: &HostRuntime,
-    task: &Task<'_>,
+    job: &Job<'_>,
     files: &[&str],
     steps: &mut Steps<L>,
 ) -> Status {
-    let mut sink = StdSink::new(rt.stdout());
     if files.is_empty() {
-        return run_file(rt, task, "-", &mut sink, steps);
+        return run_file(rt, job, "-", steps);
     }
     let mut end = Status::Done;
     for file in files {
-        let status = run_file(rt, task, file, &mut sink, steps);
+        let status = run_file(rt, job, file, steps);
         end = greater_end(end, status);
         if is_last(status) {
             return end;
         }
     }
     end
+}
+
+/// Says on standard error which word was the first that is refused, and why.
+fn report_word<L: Ledger>(
+    rt: &HostRuntime,
+    question: &Question,
+    words: &[&str],
+    steps: &mut Steps<L>,
+) {
+    if let Some(refused) = first_refused(question, words, steps) {
+        let mut report = Report::of(words.get(refused.place).copied());
+        let block = refused.block.as_bytes();
+        report.bytes(block.strip_prefix(b"error: ").unwrap_or(block), 200);
+        report.send(rt);
+    }
 }
 
 /// Asks a question of each word. Where one is refused, standard error names the first that is.
@@ -78,15 +176,15 @@ pub fn run_question<L: Ledger>(
     words: &[&str],
     steps: &mut Steps<L>,
 ) -> Status {
-    let mut sink = StdSink::new(rt.stdout());
+    let failure = Failure::new(None);
+    let mut sink = StdSink::new(Writer {
+        writer: rt.stdout(),
+        failure: &failure,
+    });
     let status = run_blocks(question, words, &mut sink, steps);
-    let mut errors = StdSink::new(rt.stderr());
-    report_end(b"fixed", status.code(), sink.lines(), &mut errors);
+    report_end(rt, None, status, sink.lines(), &failure);
     if status == Status::Faults {
-        if let Some(refused) = first_refused(question, words, steps) {
-            let word = words.get(refused.place).copied();
-            report_refused(rt, word, refused.block.as_bytes());
-        }
+        report_word(rt, question, words, steps);
     }
     status
 }

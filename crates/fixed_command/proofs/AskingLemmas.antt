@@ -162,7 +162,7 @@ pub respelled_range : (s : Settings) (numeral : List ℕ) (bits : ℤ) (o : Bool
 respelled_range s numeral bits o is = image_within s.policy s.target.signed s.target.width is.reached.moved bits is.reached.target_image
 
 pub respelled_reply : (s : Settings) (numeral text : List ℕ) (bits : ℤ) (o : Bool) → AreFormats s → length (asking_line s numeral) ≤ longest_line → IsRespelled s.mode s.radix numeral s.policy s.source s.target bits o → IsShortestText bits s.target.frac text → IsWide bits
-    → IsReply s numeral (record { text = printed s.print s.target.width (respelled_answer text bits o).text text bits; fault = false })
+    → IsReply s numeral (record { text = printed s.print s.target (respelled_answer text bits o).text text bits; fault = false })
 respelled_reply s numeral text bits o formats short is shortest wide = record {
   answer = respelled_answer text bits o;
   asked = inr (record {

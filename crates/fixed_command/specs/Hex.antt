@@ -7,6 +7,10 @@ abbrev pub word_of : ℕ → ℤ → ℕ
 word_of width (pos n) = n
 word_of width (negsuc n) = 2 ^ width - suc n
 
--- `0x`, and a digit for every four bits of the width
+-- a digit for every four bits of the width
+abbrev pub hex_digits : ℕ → ℤ → List ℕ
+hex_digits width bits = last_digits 16 false (width / 4) (word_of width bits)
+
+-- the same after `0x`
 abbrev pub hex_text : ℕ → ℤ → List ℕ
-hex_text width bits = codes "0x" ++ last_digits 16 false (width / 4) (word_of width bits)
+hex_text width bits = codes "0x" ++ hex_digits width bits

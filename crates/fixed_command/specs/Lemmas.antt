@@ -1,2 +1,3 @@
 -- What the laws of a rule need; no contract cites it.
+pub mod ProductLemmas
 pub mod ReplyLemmas

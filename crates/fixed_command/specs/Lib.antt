@@ -1,7 +1,9 @@
+pub mod Asked
 pub mod Blocks
 pub mod Convert
 pub mod Hex
 pub mod Lemmas
 pub mod Limits
+pub mod Products
 pub mod Refused
 pub mod Runs

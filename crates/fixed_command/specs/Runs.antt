@@ -16,7 +16,8 @@ use Rattle.line_engine.specs.WholeRun.{HasWholeRun, WritesAnswer}
 use Rattle.line_engine.specs.declared.status.Status.{Status}
 use Rattle.line_engine.specs.declared.status.Status.TheVariants.{NoMemory, TooLong, WriteFault}
 use Rattle.fixed_command.specs.Convert.{IsLineReply}
-use Rattle.fixed_command.specs.Limits.{max_limit, max_whole}
+use Rattle.fixed_command.specs.Limits.{max_limit}
+use Rattle.fixed_command.specs.Products.{IsProduct}
 use Rattle.fixed_command.specs.declared.task.Task.{Task}
 use Rattle.fixed_command.specs.declared.task.Task.TheVariants.{Columns, Constants, Convert, Enclose, Least, Lines}
 
@@ -61,6 +62,6 @@ abbrev pub TaskRuns : Task → Outside → Outside → Status → Type 0
 TaskRuns (Lines limit) = HasLineRun respell.IsAnswer limit 8 624
 TaskRuns (Convert settings) = HasLineRun (IsLineReply settings) max_limit 8 624
 TaskRuns Enclose = HasLineRun enclose.IsAnswer max_limit 16 1248
-TaskRuns (Least radix) = IsWholeRun (least.IsWholeAnswer radix) max_whole
-TaskRuns (Constants rule) = IsWholeRun (constants.IsFormAnswer rule.form rule.guard.now) max_whole
+TaskRuns (Least radix) = IsWholeRun (least.IsWholeAnswer radix) max_limit
+TaskRuns (Constants rule) = IsWholeRun (IsProduct (constants.IsFormAnswer rule.form rule.guard.now)) max_limit
 TaskRuns (Columns limit) = IsWholeRun columns.IsWholeAnswer limit

@@ -1,7 +1,7 @@
 //! One column of a CSV text converted, all else as it was.
 
-ghost use Rattle.std.specs.Prelude.{◌≡◌, ◌≢◌, List, ℕ, Some};
-ghost use Rattle.csv.specs.Writing.{text_written};
+ghost use Rattle.std.specs.Prelude.{◌≡◌, ◌≢◌, [], List, ℕ, Some};
+ghost use Rattle.csv.specs.Writing.{text_written, writer_pending};
 ghost use Rattle.column_engine.specs.Column.{IsAnswered, IsIdle};
 ghost use Rattle.fixed_command.specs.Convert.{IsLineReply};
 
@@ -26,8 +26,8 @@ pub struct ColumnConversion {
     pub delimiter: u8,
 }
 
-/// Converts one column of the records of a text, and says how they ended. A field is answered as `run_convert` answers the
-/// line that it is.
+/// Converts one column of the records of a text, and says how they ended. A field is answered as `run_convert`
+/// answers the line that it is.
 pub fn convert_column<R: Read + Drop, W: Write + Drop, L: Ledger>(
     alloc: Global,
     conversion: &ColumnConversion,
@@ -36,9 +36,10 @@ pub fn convert_column<R: Read + Drop, W: Write + Drop, L: Ledger>(
     steps: &mut Steps<L>,
 ) -> ColumnEnd
     requires { IsIdle conversion.now.delimiter out.old }
-    ensures { (text : List ℕ) → R.remaining reader ≡ Some text → result.stop ≢ Stop.WriteFault
+    ensures answered { (text : List ℕ) → R.remaining reader ≡ Some text → result.stop ≢ Stop.WriteFault
         → IsAnswered (IsLineReply conversion.now.rule) conversion.now.is_kept conversion.now.column conversion.now.delimiter text
         (text_written W.contents out.old) (text_written W.contents out.new) result.stop result.answered result.refused result.first }
+    ensures flushed { result.stop ≢ Stop.WriteFault → writer_pending out.new ≡ [] }
 {
     let task = ColumnTask {
         rule: &conversion.rule,

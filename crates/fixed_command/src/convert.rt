@@ -1,6 +1,6 @@
 //! Numerals converted one a line: the words of a line are given once, and each line is a numeral.
 
-ghost use Rattle.std.specs.Prelude.{◌≡◌, ◌↔◌, ◌+◌, ◌*◌, ◌-◌, ◌≤◌, ◌<◌, ◌++◌, [], IsTrue, length};
+ghost use Rattle.std.specs.Prelude.{◌≡◌, ◌↔◌, ◌+◌, ◌*◌, ◌-◌, ◌≤◌, ◌<◌, ◌++◌, [], IsTrue, false, length};
 ghost use Rattle.fixed_bits.specs.Formats.{IsFormat};
 ghost use Rattle.fixed_bits.specs.Ranges.{IsInRange, IsWide};
 ghost use Rattle.line_engine.specs.Output.{AppendsAnswer};
@@ -10,15 +10,16 @@ ghost use Rattle.fixed_respell.specs.Answer.{respelled_answer};
 ghost use Rattle.fixed_respell.specs.Language.{fault_answer};
 ghost use Rattle.fixed_respell.specs.LineWords.{longest_line};
 ghost use Rattle.fixed_respell.specs.Reached.{number_of};
+ghost use Rattle.fixed_write.specs.Places.{exact_text, rounded_text};
 
-use crate::hex::push_hex;
+use crate::hex::{push_digits, push_hex};
 use crate::print::Print;
 use crate::words::{mode_name, policy_name, radix_name};
 use fixed_bits::{Format, Policy, ReadMode};
 use fixed_numeral::{ParseFixedError, Radix};
 use fixed_respell::{Bits, LineFault, format_name, push_fault, push_verdict, respell_mode};
 use fixed_steps::Steps;
-use fixed_write::push_integer;
+use fixed_write::{Base, push_decimal, push_exact, push_integer};
 use line_engine::{LineRule, MAX_ANSWER, MAX_LINE, Output};
 use std::marker::Model;
 use std::sync::ledger::Ledger;
@@ -85,21 +86,53 @@ fn push_part<const N: usize>(
     requires short { length text.now ≤ 48 }
     requires wide { IsWide bits }
     requires range { IsInRange settings.now.target.signed settings.now.target.width bits }
-    requires room { length out.old + 81 ≤ N }
-    ensures appended { out.new ≡ out.old ++ printed settings.now.print settings.now.target.width
+    requires room { length out.old + 130 ≤ N }
+    ensures appended { out.new ≡ out.old ++ printed settings.now.print settings.now.target
         (respelled_answer text.now bits overflowed).text text.now bits }
-    ensures short { length out.new ≤ length out.old + 81 }
+    ensures short { length out.new ≤ length out.old + 130 }
 {
     match settings.print {
         Print::Text => out.push_bytes(text),
+        Print::Places(places) => push_places(out, settings.target, bits, places.count()),
         Print::Bits => push_integer(out, bits),
         Print::Hex => push_hex(out, settings.target, bits),
+        Print::Readmemh => push_digits(out, settings.target, bits),
+        Print::Value => push_value(out, settings.target, bits),
         Print::All => push_answer(out, text, bits, overflowed),
     }
 }
 
-/// The rule that answers a line with the conversion of its numeral. A carriage return at the end of a line is no part of
-/// it. Contracts see it as its settings.
+/// Appends a number of a format rounded to a count of places.
+fn push_places<const N: usize>(out: &mut TextBuffer<N>, format: Format, bits: i128, places: u32)
+    requires wide { IsWide bits }
+    requires places { places ≤ 64 }
+    requires room { length out.old + 130 ≤ N }
+    ensures appended { out.new ≡ out.old ++ rounded_text 10 false places bits format.frac }
+    ensures short { length out.new ≤ length out.old + 130 }
+{
+    push_decimal(out, bits, frac_of(format), places);
+}
+
+/// Appends the exact value of bits of a format.
+fn push_value<const N: usize>(out: &mut TextBuffer<N>, format: Format, bits: i128)
+    requires wide { IsWide bits }
+    requires room { length out.old + 130 ≤ N }
+    ensures appended { out.new ≡ out.old ++ exact_text 10 false bits format.frac }
+    ensures short { length out.new ≤ length out.old + 130 }
+{
+    push_exact(out, bits, frac_of(format), Base::Dec);
+}
+
+/// A format's fraction length.
+fn frac_of(format: Format) -> u32
+    ensures value { result ≡ format.frac }
+    ensures most { result ≤ 64 }
+{
+    format.frac()
+}
+
+/// The rule that answers a line with the conversion of its numeral. A carriage return at the end of a line is no part
+/// of it. Contracts see it as its settings.
 #[derive(Drop)]
 pub struct ConvertRule {
     settings: Settings,
@@ -132,6 +165,13 @@ impl ConvertRule {
         let formats = source.as_bytes().len() + 1 + target.as_bytes().len() + 1;
         let head = radix_name(settings.radix).len() + 1 + formats + policy + 1;
         ConvertRule { settings, head }
+    }
+
+    /// The settings.
+    pub fn settings(&self) -> &Settings
+        ensures { result.now ≡ self.now }
+    {
+        &self.settings
     }
 
     /// Whether the line that asks for the conversion of a numeral is longer than a line may be.

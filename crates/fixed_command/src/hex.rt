@@ -2,7 +2,7 @@
 
 ghost use Rattle.std.specs.Prelude.{◌≡◌, ◌+◌, ◌≤◌, ◌++◌, length};
 ghost use Rattle.fixed_bits.specs.Ranges.{IsInRange};
-ghost use Rattle.fixed_command.specs.Hex.{hex_text, word_of};
+ghost use Rattle.fixed_command.specs.Hex.{hex_digits, hex_text, word_of};
 
 use fixed_bits::Format;
 use fixed_show::push_hex_digits;
@@ -20,7 +20,17 @@ fn word_of(format: Format, bits: i128) -> u64
     }
 }
 
-/// Appends bits of a format in hexadecimal: `0x`, and a digit for every four bits of its width.
+/// Appends bits of a format in hexadecimal: a digit for every four bits of its width.
+pub fn push_digits<const N: usize>(out: &mut TextBuffer<N>, format: Format, bits: i128)
+    requires range { IsInRange format.signed format.width bits }
+    requires room { length out.old + 16 ≤ N }
+    ensures appended { out.new ≡ out.old ++ hex_digits format.width bits }
+    ensures short { length out.new ≤ length out.old + 16 }
+{
+    push_hex_digits(out, word_of(format, bits), format.width() / 4);
+}
+
+/// Appends bits of a format in hexadecimal after `0x`.
 pub fn push_hex<const N: usize>(out: &mut TextBuffer<N>, format: Format, bits: i128)
     requires range { IsInRange format.signed format.width bits }
     requires room { length out.old + 18 ≤ N }
@@ -28,5 +38,5 @@ pub fn push_hex<const N: usize>(out: &mut TextBuffer<N>, format: Format, bits: i
     ensures short { length out.new ≤ length out.old + 18 }
 {
     out.push_bytes(b"0x");
-    push_hex_digits(out, word_of(format, bits), format.width() / 4);
+    push_digits(out, format, bits);
 }

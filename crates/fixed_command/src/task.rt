@@ -4,24 +4,26 @@ ghost use Rattle.std.specs.Prelude.{◌≡◌, ◌≤◌, MatchOption, max};
 ghost use Rattle.line_engine.specs.Program.{outside};
 ghost use Rattle.line_engine.specs.Status.{code_of};
 ghost use Rattle.fixed_constants.specs.Forms.{IsFormAnswer};
+ghost use Rattle.fixed_columns.specs.Answer as columns;
 ghost use Rattle.fixed_enclose.specs.Answer as enclose;
+ghost use Rattle.fixed_least.specs.Least as least;
 ghost use Rattle.fixed_respell.specs.Answer.{IsAnswer};
 ghost use Rattle.fixed_command.specs.Convert.{IsLineReply};
-ghost use Rattle.fixed_command.specs.Limits.{max_limit, max_whole};
+ghost use Rattle.fixed_command.specs.Limits.{max_limit};
+ghost use Rattle.fixed_command.specs.Products.{IsProduct};
 ghost use Rattle.fixed_command.specs.Runs.{HasLineRun, IsWholeRun, TaskRuns};
 ghost use Rattle.line_engine.specs.WholeRun.{EndsBeforeWriting};
 
 use crate::ConvertRule;
+use crate::watch::{
+    Product, Watch, WatchedEnclosures, WatchedLines, WatchedNumerals, WatchedWhole,
+};
 use fixed_columns::ColumnsRule;
 use fixed_constants::FormRule;
-use fixed_enclose::EncloseRule;
 use fixed_least::LeastRule;
 use fixed_numeral::Radix;
-use fixed_respell::RespellRule;
 use fixed_steps::Steps;
-use line_engine::{
-    LineRule, MAX_LIMIT, MAX_WHOLE, Sink, Source, Status, WholeRule, run_lines, run_whole,
-};
+use line_engine::{LineRule, MAX_LIMIT, Sink, Source, Status, WholeRule, run_lines, run_whole};
 use std::alloc::Global;
 use std::marker::Model;
 use std::sync::ledger::Ledger;
@@ -94,8 +96,10 @@ fn run_rule<R: LineRule<L>, S: Source, K: Sink, L: Ledger>(
     requires some { 1 ≤ limit }
     requires most { limit ≤ max_limit }
     ensures run { HasLineRun (R.Answers rule.now) limit R.PER_BYTE R.EXTRA
-        (outside (S.left source.old) (S.asked source.old) (S.failures source.old) (K.written sink.old) (K.failures sink.old) steps.old)
-        (outside (S.left source.new) (S.asked source.new) (S.failures source.new) (K.written sink.new) (K.failures sink.new) steps.new) result }
+        (outside (S.left source.old) (S.asked source.old) (S.failures source.old)
+        (K.written sink.old) (K.failures sink.old) steps.old)
+        (outside (S.left source.new) (S.asked source.new) (S.failures source.new)
+        (K.written sink.new) (K.failures sink.new) steps.new) result }
     ensures memory { result ≡ Status.NoMemory → (source.new ≡ source.old) × (sink.new ≡ sink.old) × (steps.new ≡ steps.old) }
 {
     run_lines(alloc, limit, rule, source, sink, steps)
@@ -112,8 +116,10 @@ fn run_whole_rule<R: WholeRule<L>, S: Source, K: Sink, L: Ledger>(
 ) -> Status
     requires { limit ≤ max_limit }
     ensures run { IsWholeRun (R.Answers rule.now) limit
-        (outside (S.left source.old) (S.asked source.old) (S.failures source.old) (K.written sink.old) (K.failures sink.old) steps.old)
-        (outside (S.left source.new) (S.asked source.new) (S.failures source.new) (K.written sink.new) (K.failures sink.new) steps.new) result }
+        (outside (S.left source.old) (S.asked source.old) (S.failures source.old)
+        (K.written sink.old) (K.failures sink.old) steps.old)
+        (outside (S.left source.new) (S.asked source.new) (S.failures source.new)
+        (K.written sink.new) (K.failures sink.new) steps.new) result }
     ensures unwritten { EndsBeforeWriting result → sink.new ≡ sink.old }
 {
     run_whole(alloc, limit, rule, source, sink, steps)
@@ -123,91 +129,170 @@ fn run_whole_rule<R: WholeRule<L>, S: Source, K: Sink, L: Ledger>(
 fn run_words<S: Source, K: Sink, L: Ledger>(
     alloc: Global,
     limit: &Limit,
+    watch: &Watch,
     source: &mut S,
     sink: &mut K,
     steps: &mut Steps<L>,
 ) -> Status
     ensures run { HasLineRun IsAnswer limit.now 8 624
-        (outside (S.left source.old) (S.asked source.old) (S.failures source.old) (K.written sink.old) (K.failures sink.old) steps.old)
-        (outside (S.left source.new) (S.asked source.new) (S.failures source.new) (K.written sink.new) (K.failures sink.new) steps.new) result }
+        (outside (S.left source.old) (S.asked source.old) (S.failures source.old)
+        (K.written sink.old) (K.failures sink.old) steps.old)
+        (outside (S.left source.new) (S.asked source.new) (S.failures source.new)
+        (K.written sink.new) (K.failures sink.new) steps.new) result }
     ensures memory { result ≡ Status.NoMemory → sink.new ≡ sink.old }
 {
-    run_rule(alloc, limit.bytes(), &RespellRule, source, sink, steps)
+    let rule = WatchedLines {
+        watch: Watch::new(),
+    };
+    let status = run_rule(alloc, limit.bytes(), &rule, source, sink, steps);
+    watch.take(&rule.watch);
+    status
 }
 
 /// Answers each line of an input of at most 4,294,967,296 bytes with the enclosure of its numeral.
 fn run_enclosures<S: Source, K: Sink, L: Ledger>(
     alloc: Global,
+    watch: &Watch,
     source: &mut S,
     sink: &mut K,
     steps: &mut Steps<L>,
 ) -> Status
     ensures run { HasLineRun enclose.IsAnswer max_limit 16 1248
-        (outside (S.left source.old) (S.asked source.old) (S.failures source.old) (K.written sink.old) (K.failures sink.old) steps.old)
-        (outside (S.left source.new) (S.asked source.new) (S.failures source.new) (K.written sink.new) (K.failures sink.new) steps.new) result }
+        (outside (S.left source.old) (S.asked source.old) (S.failures source.old)
+        (K.written sink.old) (K.failures sink.old) steps.old)
+        (outside (S.left source.new) (S.asked source.new) (S.failures source.new)
+        (K.written sink.new) (K.failures sink.new) steps.new) result }
     ensures memory { result ≡ Status.NoMemory → sink.new ≡ sink.old }
 {
-    run_rule(alloc, MAX_LIMIT, &EncloseRule, source, sink, steps)
+    let rule = WatchedEnclosures {
+        watch: Watch::new(),
+    };
+    let status = run_rule(alloc, MAX_LIMIT, &rule, source, sink, steps);
+    watch.take(&rule.watch);
+    status
 }
 
-/// Answers each line of an input of at most 4,294,967,296 bytes with the conversion of its numeral. It takes memory for one
-/// line buffer before the first read.
+/// Answers each line of an input of at most 4,294,967,296 bytes with the conversion of its numeral. It takes memory
+/// for one line buffer before the first read.
 pub fn run_convert<S: Source, K: Sink, L: Ledger>(
     alloc: Global,
     rule: &ConvertRule,
+    watch: &Watch,
     source: &mut S,
     sink: &mut K,
     steps: &mut Steps<L>,
 ) -> Status
     ensures run { HasLineRun (IsLineReply rule.now) max_limit 8 624
-        (outside (S.left source.old) (S.asked source.old) (S.failures source.old) (K.written sink.old) (K.failures sink.old) steps.old)
-        (outside (S.left source.new) (S.asked source.new) (S.failures source.new) (K.written sink.new) (K.failures sink.new) steps.new) result }
+        (outside (S.left source.old) (S.asked source.old) (S.failures source.old)
+        (K.written sink.old) (K.failures sink.old) steps.old)
+        (outside (S.left source.new) (S.asked source.new) (S.failures source.new)
+        (K.written sink.new) (K.failures sink.new) steps.new) result }
     ensures memory { result ≡ Status.NoMemory → (source.new ≡ source.old) × (sink.new ≡ sink.old) × (steps.new ≡ steps.old) }
 {
-    run_rule(alloc, MAX_LIMIT, rule, source, sink, steps)
+    let rule = WatchedNumerals {
+        rule: ConvertRule::new(*rule.settings()),
+        watch: Watch::new(),
+    };
+    let status = run_rule(alloc, MAX_LIMIT, &rule, source, sink, steps);
+    watch.take(&rule.watch);
+    status
 }
 
-/// Answers a constants file of at most 1,048,576 bytes with its text in a form, or with its first fault.
+/// Answers a constants file of at most 4,294,967,296 bytes with its text in a form; of one with a fault nothing is
+/// written.
 fn run_constants<S: Source, K: Sink, L: Ledger>(
     alloc: Global,
     rule: &FormRule<'_>,
+    watch: &Watch,
     source: &mut S,
     sink: &mut K,
     steps: &mut Steps<L>,
 ) -> Status
-    ensures run { IsWholeRun (IsFormAnswer rule.now.form rule.now.guard.now) max_whole
-        (outside (S.left source.old) (S.asked source.old) (S.failures source.old) (K.written sink.old) (K.failures sink.old) steps.old)
-        (outside (S.left source.new) (S.asked source.new) (S.failures source.new) (K.written sink.new) (K.failures sink.new) steps.new) result }
+    ensures run { IsWholeRun (IsProduct (IsFormAnswer rule.now.form rule.now.guard.now)) max_limit
+        (outside (S.left source.old) (S.asked source.old) (S.failures source.old)
+        (K.written sink.old) (K.failures sink.old) steps.old)
+        (outside (S.left source.new) (S.asked source.new) (S.failures source.new)
+        (K.written sink.new) (K.failures sink.new) steps.new) result }
     ensures memory { result ≡ Status.NoMemory → sink.new ≡ sink.old }
 {
-    run_whole_rule(alloc, MAX_WHOLE, rule, source, sink, steps)
+    let watched = WatchedWhole { rule, watch };
+    run_whole_rule(
+        alloc,
+        MAX_LIMIT,
+        &Product { rule: &watched },
+        source,
+        sink,
+        steps,
+    )
 }
 
-/// Does a task with an input.
+/// Answers a whole input of at most 4,294,967,296 bytes with the least format of its numerals.
+fn run_least<S: Source, K: Sink, L: Ledger>(
+    alloc: Global,
+    radix: Radix,
+    watch: &Watch,
+    source: &mut S,
+    sink: &mut K,
+    steps: &mut Steps<L>,
+) -> Status
+    ensures run { IsWholeRun (least.IsWholeAnswer radix) max_limit
+        (outside (S.left source.old) (S.asked source.old) (S.failures source.old)
+        (K.written sink.old) (K.failures sink.old) steps.old)
+        (outside (S.left source.new) (S.asked source.new) (S.failures source.new)
+        (K.written sink.new) (K.failures sink.new) steps.new) result }
+    ensures memory { result ≡ Status.NoMemory → sink.new ≡ sink.old }
+{
+    let rule = LeastRule { radix };
+    let watched = WatchedWhole { rule: &rule, watch };
+    run_whole_rule(alloc, MAX_LIMIT, &watched, source, sink, steps)
+}
+
+/// Answers lines of cells with the column of them in order, in an input within the limit.
+fn run_cells<S: Source, K: Sink, L: Ledger>(
+    alloc: Global,
+    limit: &Limit,
+    watch: &Watch,
+    source: &mut S,
+    sink: &mut K,
+    steps: &mut Steps<L>,
+) -> Status
+    ensures run { IsWholeRun columns.IsWholeAnswer limit.now
+        (outside (S.left source.old) (S.asked source.old) (S.failures source.old)
+        (K.written sink.old) (K.failures sink.old) steps.old)
+        (outside (S.left source.new) (S.asked source.new) (S.failures source.new)
+        (K.written sink.new) (K.failures sink.new) steps.new) result }
+    ensures memory { result ≡ Status.NoMemory → sink.new ≡ sink.old }
+{
+    let watched = WatchedWhole {
+        rule: &ColumnsRule,
+        watch,
+    };
+    run_whole_rule(alloc, limit.bytes(), &watched, source, sink, steps)
+}
+
+/// Does a task with an input. What there is to report of the lines that it refuses is kept in the watch.
 pub fn run_task<S: Source, K: Sink, L: Ledger>(
     alloc: Global,
     task: &Task<'_>,
+    watch: &Watch,
     source: &mut S,
     sink: &mut K,
     steps: &mut Steps<L>,
 ) -> Status
     ensures run { TaskRuns task.now
-        (outside (S.left source.old) (S.asked source.old) (S.failures source.old) (K.written sink.old) (K.failures sink.old) steps.old)
-        (outside (S.left source.new) (S.asked source.new) (S.failures source.new) (K.written sink.new) (K.failures sink.new) steps.new) result }
+        (outside (S.left source.old) (S.asked source.old) (S.failures source.old)
+        (K.written sink.old) (K.failures sink.old) steps.old)
+        (outside (S.left source.new) (S.asked source.new) (S.failures source.new)
+        (K.written sink.new) (K.failures sink.new) steps.new) result }
     ensures memory { result ≡ Status.NoMemory → sink.new ≡ sink.old }
 {
     match task {
-        Task::Lines(limit) => run_words(alloc, limit, source, sink, steps),
-        Task::Convert(rule) => run_convert(alloc, rule, source, sink, steps),
-        Task::Enclose => run_enclosures(alloc, source, sink, steps),
-        Task::Least(radix) => {
-            let rule = LeastRule { radix: *radix };
-            run_whole_rule(alloc, MAX_WHOLE, &rule, source, sink, steps)
-        }
-        Task::Constants(rule) => run_constants(alloc, rule, source, sink, steps),
-        Task::Columns(limit) => {
-            run_whole_rule(alloc, limit.bytes(), &ColumnsRule, source, sink, steps)
-        }
+        Task::Lines(limit) => run_words(alloc, limit, watch, source, sink, steps),
+        Task::Convert(rule) => run_convert(alloc, rule, watch, source, sink, steps),
+        Task::Enclose => run_enclosures(alloc, watch, source, sink, steps),
+        Task::Least(radix) => run_least(alloc, *radix, watch, source, sink, steps),
+        Task::Constants(rule) => run_constants(alloc, rule, watch, source, sink, steps),
+        Task::Columns(limit) => run_cells(alloc, limit, watch, source, sink, steps),
     }
 }
 

@@ -1,8 +1,14 @@
-//! The words of the line that asks for a conversion.
+//! The words of the line that asks for a conversion, and of the options that name them.
 
-ghost use Rattle.std.specs.Prelude.{◌≡◌, ◌≤◌, length};
+ghost use Rattle.std.specs.Prelude.{◌≡◌, ◌≤◌, MatchOption, length, option_map};
+ghost use Rattle.fixed_bits.specs.declared.format.Policy.{Policy};
+ghost use Rattle.fixed_bits.specs.declared.mode.ReadMode.{ReadMode};
+ghost use Rattle.fixed_command.specs.Asked.{IsNamed, print_text};
+ghost use Rattle.fixed_command.specs.declared.print.Print.{Print};
+ghost use Rattle.fixed_numeral.specs.declared.radix.Radix.{Radix};
 ghost use Rattle.fixed_respell.specs.Words.{mode_text, policy_text, radix_text};
 
+use crate::print::Print;
 use fixed_bits::{Policy, ReadMode};
 use fixed_numeral::Radix;
 
@@ -41,5 +47,110 @@ pub fn mode_name(mode: ReadMode) -> &'static str
         ReadMode::Floor => "floor",
         ReadMode::Ceil => "ceil",
         ReadMode::TowardsZero => "zero",
+    }
+}
+
+/// The radix that the value of an option names.
+fn radix_of_word(word: &str) -> Option<Radix>
+    ensures { MatchOption result ((a : Radix) → ¬ (word.now ≡ radix_text a)) (λ a. word.now ≡ radix_text a) }
+{
+    match word {
+        "2" => Some(Radix::Bin),
+        "8" => Some(Radix::Oct),
+        "10" => Some(Radix::Dec),
+        "16" => Some(Radix::Hex),
+        _ => None,
+    }
+}
+
+/// The radix that the value of an option names. `10` is meant where the option is left out. `None` where the value
+/// names none.
+pub fn radix_named(value: Option<&str>) -> Option<Radix>
+    ensures { MatchOption result
+        ((a : Radix) → ¬ IsNamed Radix radix_text Radix.Dec (option_map (λ w. w.now) value.entry) a)
+        (λ a. IsNamed Radix radix_text Radix.Dec (option_map (λ w. w.now) value.entry) a) }
+{
+    match value {
+        Some(word) => radix_of_word(word),
+        None => Some(Radix::Dec),
+    }
+}
+
+/// The policy that the value of an option names.
+fn policy_of_word(word: &str) -> Option<Policy>
+    ensures { MatchOption result ((a : Policy) → ¬ (word.now ≡ policy_text a)) (λ a. word.now ≡ policy_text a) }
+{
+    match word {
+        "checked" => Some(Policy::Checked),
+        "saturating" => Some(Policy::Saturating),
+        "wrapping" => Some(Policy::Wrapping),
+        _ => None,
+    }
+}
+
+/// The policy that the value of an option names. `checked` is meant where the option is left out. `None` where the
+/// value names none.
+pub fn policy_named(value: Option<&str>) -> Option<Policy>
+    ensures { MatchOption result
+        ((a : Policy) → ¬ IsNamed Policy policy_text Policy.Checked (option_map (λ w. w.now) value.entry) a)
+        (λ a. IsNamed Policy policy_text Policy.Checked (option_map (λ w. w.now) value.entry) a) }
+{
+    match value {
+        Some(word) => policy_of_word(word),
+        None => Some(Policy::Checked),
+    }
+}
+
+/// The mode that the value of an option names.
+fn mode_of_word(word: &str) -> Option<ReadMode>
+    ensures { MatchOption result ((a : ReadMode) → ¬ (word.now ≡ mode_text a)) (λ a. word.now ≡ mode_text a) }
+{
+    match word {
+        "nearest" => Some(ReadMode::NearestEven),
+        "floor" => Some(ReadMode::Floor),
+        "ceil" => Some(ReadMode::Ceil),
+        "zero" => Some(ReadMode::TowardsZero),
+        _ => None,
+    }
+}
+
+/// The mode that the value of an option names. `nearest` is meant where the option is left out. `None` where the
+/// value names none.
+pub fn mode_named(value: Option<&str>) -> Option<ReadMode>
+    ensures { MatchOption result
+        ((a : ReadMode) → ¬ IsNamed ReadMode mode_text ReadMode.NearestEven (option_map (λ w. w.now) value.entry) a)
+        (λ a. IsNamed ReadMode mode_text ReadMode.NearestEven (option_map (λ w. w.now) value.entry) a) }
+{
+    match value {
+        Some(word) => mode_of_word(word),
+        None => Some(ReadMode::NearestEven),
+    }
+}
+
+/// The part of an answer that the value of an option names.
+fn print_of_word(word: &str) -> Option<Print>
+    ensures { MatchOption result ((a : Print) → ¬ (word.now ≡ print_text a)) (λ a. word.now ≡ print_text a) }
+{
+    match word {
+        "text" => Some(Print::Text),
+        "bits" => Some(Print::Bits),
+        "hex" => Some(Print::Hex),
+        "readmemh" => Some(Print::Readmemh),
+        "value" => Some(Print::Value),
+        "all" => Some(Print::All),
+        _ => None,
+    }
+}
+
+/// The part of an answer that the value of an option names. `text` is meant where the option is left out. `None`
+/// where the value names none.
+pub fn print_named(value: Option<&str>) -> Option<Print>
+    ensures { MatchOption result
+        ((a : Print) → ¬ IsNamed Print print_text Print.Text (option_map (λ w. w.now) value.entry) a)
+        (λ a. IsNamed Print print_text Print.Text (option_map (λ w. w.now) value.entry) a) }
+{
+    match value {
+        Some(word) => print_of_word(word),
+        None => Some(Print::Text),
     }
 }

@@ -25,7 +25,8 @@ abbrev pub RunEndIsTheOne : (List ℕ → AnswerText → Type 0) → Type 0
 RunEndIsTheOne A = (limit : ℕ) (left left' before after : List ℕ) (read read' write write' : ℕ) (s t : Status)
     → read < 2 ^ 64 - 1 → write < 2 ^ 64 - 1 → ¬ (s ≡ NoMemory) → ¬ (t ≡ NoMemory)
     → HasRun A limit (Some left) (Some left') (Some before) (Some after) s → HasFailures read read' write write' s
-    → HasRun A limit (Some left) (Some left') (Some before) (Some after) t → HasFailures read read' write write' t → s ≡ t
+    → HasRun A limit (Some left) (Some left') (Some before) (Some after) t → HasFailures read read' write write' t
+    → s ≡ t
 
 -- while the count of failures can rise, it says how the writing of a text ended
 abbrev pub TextEndIsTheOne : Type 0

@@ -55,7 +55,7 @@ part_one s answer a b x y =
     let text : x.text ≡ y.text = ap (λ ws. get_or ws 0 []) same.words in
     let word : signed_decimal x.bits ≡ signed_decimal y.bits = ap (λ ws. get_or ws 1 []) same.words in
     let bits : x.bits ≡ y.bits = signed_one x.bits y.bits x.wide y.wide word in
-    let shown : List ℕ → ℤ → AnswerText = λ t z. record { text = printed s.print s.target.width answer.text t z; fault = false } in
+    let shown : List ℕ → ℤ → AnswerText = λ t z. record { text = printed s.print s.target answer.text t z; fault = false } in
     x.reply_is ∙ (ap (λ t. shown t x.bits) text ∙ (ap (shown y.text) bits ∙ sym y.reply_is))
 
 written_one : (s : Settings) (answer a b : AnswerText) → IsWholeFault answer a ⊎ IsPart s answer a → IsWholeFault answer b ⊎ IsPart s answer b → a ≡ b

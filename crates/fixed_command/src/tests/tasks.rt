@@ -1,6 +1,6 @@
 //! Whole runs of each task over bytes in memory.
 
-use crate::{ConvertRule, Limit, Print, Settings, Task, greater_end, run_task};
+use crate::{ConvertRule, Limit, Places, Print, Settings, Task, Watch, greater_end, run_task};
 use fixed_bits::{Format, Policy, ReadMode};
 use fixed_constants::{Form, FormRule};
 use fixed_numeral::Radix;
@@ -17,6 +17,7 @@ use std::test::Fail;
 #[derive(Drop)]
 struct Case<'a> {
     task: Task<'a>,
+    watch: Watch,
     run: MemoryRun,
 }
 
@@ -29,7 +30,7 @@ impl<'a> MemoryProgram for Case<'a> {
         sink: &mut MemorySink,
         steps: &mut Steps<L>,
     ) -> Status {
-        run_task(alloc, &self.task, source, sink, steps)
+        run_task(alloc, &self.task, &self.watch, source, sink, steps)
     }
 }
 
@@ -42,6 +43,7 @@ fn unfailing<'a>(
 ) -> Case<'a> {
     Case {
         task,
+        watch: Watch::new(),
         run: MemoryRun::unfailing(&[], input, written, status),
     }
 }
@@ -64,7 +66,11 @@ fn failing<'a>(
         written,
         status,
     };
-    Case { task, run }
+    Case {
+        task,
+        watch: Watch::new(),
+        run,
+    }
 }
 
 /// Stops at the first run that writes something else, or ends otherwise.
@@ -103,6 +109,9 @@ fn in_form(form: Form, guard: &[u8]) -> Task<'_> {
 
 #[test]
 fn each_part_of_an_answer_is_written(rt: HostRuntime) -> Result<(), Fail> {
+    let Some(places) = Places::new(2) else {
+        return Ok(());
+    };
     let checked = |print| converting(Policy::Checked, ReadMode::NearestEven, print);
     let cases = [
         unfailing(
@@ -121,6 +130,24 @@ fn each_part_of_an_answer_is_written(rt: HostRuntime) -> Result<(), Fail> {
             checked(Print::Hex),
             "3.14159\n-2.5\n",
             "0x0324\n0xfd80\n",
+            Status::Done,
+        ),
+        unfailing(
+            checked(Print::Readmemh),
+            "3.14159\n-2.5\n",
+            "0324\nfd80\n",
+            Status::Done,
+        ),
+        unfailing(
+            checked(Print::Value),
+            "3.14159\n-2.5\n",
+            "3.140625\n-2.5\n",
+            Status::Done,
+        ),
+        unfailing(
+            checked(Print::Places(places)),
+            "3.14159\n-2.5\n",
+            "3.14\n-2.50\n",
             Status::Done,
         ),
         unfailing(
@@ -217,12 +244,7 @@ fn constants_are_written_in_each_form(rt: HostRuntime) -> Result<(), Fail> {
                 #define B (-INT8_C(0x33)) /* I4F4, -3.2 */\n\n#endif\n",
             Status::Done,
         ),
-        unfailing(
-            in_form(Form::C, b"B"),
-            constants,
-            "error: line 3: bad name\n",
-            Status::Faults,
-        ),
+        unfailing(in_form(Form::C, b"B"), constants, "", Status::Faults),
         unfailing(
             in_form(Form::Rust, b""),
             "A = 0b_111e-2 I4F4\n",
@@ -246,6 +268,50 @@ fn a_failing_read_and_a_failing_write_end_a_run(rt: HostRuntime) -> Result<(), F
         failing(rust(), entry, NEVER, 0, "", Status::WriteFault),
     ];
     expect_runs(&rt, rt.alloc(), &cases)?;
+    Ok(())
+}
+
+/// Stops where the first refused line of a run is not this one.
+fn expect_refused(rt: &impl Abort, case: &Case<'_>, number: u64, text: &str, cause: &str) {
+    match case.watch.first() {
+        None => assert!(rt; false, "no line was refused"),
+        Some(line) => {
+            assert_eq!(rt; line.number, number);
+            assert_eq!(rt; line.text.as_bytes(), text.as_bytes());
+            assert_eq!(rt; line.cause.as_bytes(), cause.as_bytes());
+        }
+    }
+}
+
+#[test]
+fn the_first_refused_line_is_kept(rt: HostRuntime) -> Result<(), Fail> {
+    let numerals = "7\nabc\r\n300\n";
+    let digit = "invalid digit found in string";
+    let cases = [
+        unfailing(
+            converting(Policy::Checked, ReadMode::NearestEven, Print::Text),
+            numerals,
+            "7\nerror: invalid digit found in string\nerror: overflow\n",
+            Status::Faults,
+        ),
+        unfailing(
+            Task::Least(Radix::Dec),
+            numerals,
+            "error: line 2: invalid digit found in string\n",
+            Status::Faults,
+        ),
+        unfailing(
+            in_form(Form::Rust, b""),
+            "A = 1 U8F0\nfn = 1 U8F0",
+            "",
+            Status::Faults,
+        ),
+    ];
+    expect_runs(&rt, rt.alloc(), &cases)?;
+    assert_eq!(rt; cases[0].watch.refused(), 2);
+    expect_refused(&rt, &cases[0], 2, "abc\r", digit);
+    expect_refused(&rt, &cases[1], 2, "abc\r", digit);
+    expect_refused(&rt, &cases[2], 2, "fn = 1 U8F0", "bad name");
     Ok(())
 }
 

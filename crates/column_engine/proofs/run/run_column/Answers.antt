@@ -8,4 +8,5 @@ returns g c = record {
       let same = c.flushed.ensures.end fine in
       let stop = ap (λ e. e.stop) same in
       rw same (keep_all _ _ _ _ text _ _ _ _ _ _ _ (c.answer_reader-end.ensures.answered text known (λ w. fine (stop ∙ w))) c.flushed.ensures.text);
+  flushed = c.flushed.ensures.flushed;
 }

@@ -1,8 +1,3 @@
-use Rattle.std.proofs.Common.{◌≡◌, ℕ, subst}
-use Rattle.line_engine.specs.Program.{Outside}
-use Rattle.line_engine.specs.declared.status.Status.{Status}
-use Rattle.fixed_columns.specs.Answer.{IsWholeAnswer}
-use Rattle.fixed_command.specs.Runs.{IsWholeRun}
 use Rattle.fixed_command.proofs.task.run_task.Goals as goal
 
 pub returns-in-Lines-clause-run : goal.returns-in-Lines-clause-run
@@ -15,13 +10,10 @@ pub returns-in-Enclose-clause-run : goal.returns-in-Enclose-clause-run
 returns-in-Enclose-clause-run g c = rw c.in-Enclose.is c.run_enclosures.ensures.run
 
 pub returns-in-Least-clause-run : goal.returns-in-Least-clause-run
-returns-in-Least-clause-run g c = rw c.in-Least.is c.run_whole_rule.ensures.run
+returns-in-Least-clause-run g c = rw c.in-Least.is c.run_least.ensures.run
 
 pub returns-in-Constants-clause-run : goal.returns-in-Constants-clause-run
 returns-in-Constants-clause-run g c = rw c.in-Constants.is c.run_constants.ensures.run
 
-column : (limit bytes : ℕ) (before after : Outside) (status : Status) → bytes ≡ limit → IsWholeRun IsWholeAnswer bytes before after status → IsWholeRun IsWholeAnswer limit before after status
-column limit bytes before after status same runs = subst (λ n. IsWholeRun IsWholeAnswer n before after status) same runs
-
 pub returns-in-Columns-clause-run : goal.returns-in-Columns-clause-run
-returns-in-Columns-clause-run g c = rw c.in-Columns.is (column _ _ _ _ _ c.bytes.ensures.value c.run_whole_rule-in-Columns.ensures.run)
+returns-in-Columns-clause-run g c = rw c.in-Columns.is c.run_cells.ensures.run

@@ -1,0 +1,240 @@
+//! What the words of a command line ask for, read by `clap` from the tables of the commands, is done.
+
+use crate::device::{Failure, Writer};
+use crate::given::{Asked, Given, Refusal, marked_words, plain_words, split_words};
+use crate::page::{Page, commands_of};
+use crate::report::{Report, refuse, report_end, report_no_memory};
+use clap::error::ErrorKind;
+use clap::{ArgMatches, Command, Error};
+use fixed_io::StdSink;
+use fixed_steps::Steps;
+use line_engine::{Status, write_text};
+use std::alloc::{AllocError, Global};
+use std::sync::ledger::Ledger;
+
+/// A program of several commands.
+#[derive(Clone, Copy)]
+pub struct Program {
+    /// Its name.
+    pub name: &'static str,
+    /// Its version.
+    pub version: &'static str,
+    /// What it does.
+    pub about: &'static str,
+    /// How it is called.
+    pub usage: &'static str,
+    /// What its help ends with: an example.
+    pub end: &'static str,
+    /// Its commands, in the order of the help.
+    pub pages: &'static [Page],
+}
+
+/// What the commands of a program do.
+pub trait Commands<L: Ledger> {
+    /// Does what a command is asked for.
+    fn run<'a>(
+        &self,
+        rt: &HostRuntime,
+        name: &str,
+        given: &Given<'_, 'a>,
+        steps: &mut Steps<L>,
+    ) -> Asked<'a, Status>;
+}
+
+/// A program without its commands, for `clap`.
+fn bare<'a>(alloc: Global, program: &Program) -> Command<'a> {
+    let command = Command::new(alloc, program.name).version(program.version);
+    let command = command.propagate_version(true).no_binary_name(true);
+    let command = command.disable_help_subcommand(true).about(program.about);
+    command
+        .override_usage(program.usage)
+        .after_help(program.end)
+}
+
+/// A program with all its commands, for `clap`.
+fn whole<'a>(alloc: Global, program: &Program) -> Result<Command<'a>, AllocError> {
+    bare(alloc, program).subcommands(commands_of(alloc, program.pages)?)
+}
+
+/// The page of the command that a word names.
+fn page_of(program: &Program, word: &str) -> Option<&'static Page> {
+    program.pages.iter().find(|page| page.name == word
+        || !word.is_empty() && page.hidden_name == word)
+}
+
+/// The words as `clap` is to read them.
+fn prepared(alloc: Global, program: &Program, words: &[String]) -> Result<Vec<String>, AllocError> {
+    if let [first, ..] = words {
+        if let Some(page) = page_of(program, first) {
+            if page.has_numerals {
+                return marked_words(alloc, words, page.options);
+            }
+        }
+    }
+    plain_words(alloc, words)
+}
+
+/// Writes a text to standard output, and says on standard error where that failed.
+fn write_out(rt: &HostRuntime, text: &[u8]) -> Status {
+    let failure = Failure::new(None);
+    let mut sink = StdSink::new(Writer {
+        writer: rt.stdout(),
+        failure: &failure,
+    });
+    let status = write_text(text, Status::Done, &mut sink);
+    report_end(rt, None, status, sink.lines(), &failure);
+    status
+}
+
+/// Appends what an error of `clap` says in one line: what comes before its first empty line, and which word is similar.
+fn push_error(report: &mut Report, text: &str) {
+    let mut has_ended = false;
+    for line in text.lines() {
+        let words = line.trim();
+        has_ended = has_ended || words.is_empty();
+        if !has_ended {
+            report.text(words.strip_prefix("error: ").unwrap_or(words));
+            report.text(" ");
+        } else if words.contains("similar") {
+            report.text("(");
+            report.text(words.strip_prefix("tip: ").unwrap_or(words));
+            report.text(")");
+        }
+    }
+}
+
+/// Says on standard error what an error of `clap` says.
+fn refuse_text(rt: &HostRuntime, command: &str, text: &str) -> Status {
+    let mut report = Report::of(None);
+    push_error(&mut report, text);
+    report.end_with_help(command);
+    report.send(rt);
+    Status::Usage
+}
+
+/// Says on standard error why `clap` refuses the words, or writes the help that they ask for.
+fn report_error(rt: &HostRuntime, command: &str, error: &Error) -> Status {
+    if error.kind() == ErrorKind::OutOfMemory {
+        return report_no_memory(rt);
+    }
+    match error.to_string(rt.alloc()) {
+        Ok(text) if error.use_stderr() => refuse_text(rt, command, &text),
+        Ok(text) => write_out(rt, text.as_bytes()),
+        Err(_) => report_no_memory(rt),
+    }
+}
+
+/// Does what the words that `clap` found ask for.
+fn run_matches<'a, C: Commands<L>, L: Ledger>(
+    rt: &HostRuntime,
+    program: &Program,
+    commands: &C,
+    matches: &ArgMatches<'a>,
+    after: &'a [String],
+    steps: &mut Steps<L>,
+) -> Status {
+    match matches.subcommand() {
+        Some((name, found)) => {
+            let given = match given_of(rt.alloc(), program, name, found, after) {
+                Ok(given) => given,
+                Err(_) => return report_no_memory(rt),
+            };
+            match commands.run(rt, name, &given, steps) {
+                Ok(status) => status,
+                Err(refusal) => report_refusal(rt, name, refusal),
+            }
+        }
+        None => refuse(rt, "", &["no command"]),
+    }
+}
+
+/// Says on standard error why a command refuses its words.
+fn report_refusal(rt: &HostRuntime, name: &str, refusal: Refusal<'_>) -> Status {
+    match refusal {
+        Refusal::NoMemory => report_no_memory(rt),
+        Refusal::Missing(word) => refuse(rt, name, &["there is no ", word]),
+        Refusal::Word(word, why) => refuse_word(rt, name, word, why),
+    }
+}
+
+/// Says on standard error why a command refuses a word.
+fn refuse_word(rt: &HostRuntime, name: &str, word: &str, why: &str) -> Status {
+    let mut report = Report::of(None);
+    report.text("'");
+    report.text(word);
+    report.text("' ");
+    report.text(why);
+    report.end_with_help(name);
+    report.send(rt);
+    Status::Usage
+}
+
+/// What the words give a command.
+fn given_of<'w, 'a>(
+    alloc: Global,
+    program: &Program,
+    name: &str,
+    found: &'w ArgMatches<'a>,
+    after: &'a [String],
+) -> Result<Given<'w, 'a>, AllocError> {
+    let operands = match page_of(program, name) {
+        Some(page) => page.operands,
+        None => &[],
+    };
+    Given::new(alloc, found, operands, after)
+}
+
+/// Does what the words ask for.
+pub fn run_words<C: Commands<L>, L: Ledger>(
+    rt: &HostRuntime,
+    program: &Program,
+    commands: &C,
+    words: &[String],
+    steps: &mut Steps<L>,
+) -> Status {
+    if words.is_empty() {
+        return show_help(rt, program);
+    }
+    let (before, after) = split_words(words);
+    let (command, read) = match (
+        whole(rt.alloc(), program),
+        prepared(rt.alloc(), program, before),
+    ) {
+        (Ok(command), Ok(read)) => (command, read),
+        _ => return report_no_memory(rt),
+    };
+    match command.try_get_matches_from(&read) {
+        Ok(matches) => run_matches(rt, program, commands, &matches, after, steps),
+        Err(error) => report_error(rt, first_page(program, &read), &error),
+    }
+}
+
+/// Writes the help to standard error, where there are no words.
+fn show_help(rt: &HostRuntime, program: &Program) -> Status {
+    let text = match whole(rt.alloc(), program) {
+        Ok(command) => {
+            let mut command = command;
+            command.render_help()
+        }
+        Err(error) => Err(error),
+    };
+    match text {
+        Ok(text) => {
+            let mut errors = StdSink::new(rt.stderr());
+            write_text(text.as_bytes(), Status::Done, &mut errors);
+            Status::Usage
+        }
+        Err(_) => report_no_memory(rt),
+    }
+}
+
+/// The name of the command that the first word names; the empty text where it names none.
+fn first_page(program: &Program, words: &[String]) -> &'static str {
+    match words {
+        [first, ..] => match page_of(program, first) {
+            Some(page) => page.name,
+            None => "",
+        },
+        [] => "",
+    }
+}

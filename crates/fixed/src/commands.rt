@@ -1,0 +1,66 @@
+//! The commands, one file each: what its help shows, and what its words ask for.
+
+pub mod bits;
+pub mod column;
+pub mod constants;
+pub mod convert;
+pub mod enclose;
+pub mod format;
+pub mod least;
+pub mod lines;
+pub mod show;
+pub mod sort;
+
+use command_line::given::{Asked, Given};
+use command_line::run::{Commands, Program};
+use fixed_steps::Steps;
+use line_engine::Status;
+use std::sync::ledger::Ledger;
+
+/// The command for people. Its version is that of the Rust crate whose behaviour is ported.
+pub const PROGRAM: Program = Program {
+    name: "fixed",
+    version: "1.31.0",
+    about: "Read, print and convert binary fixed-point numbers",
+    usage: "fixed COMMAND [OPTIONS] [WORD]...",
+    end: "Example: fixed convert U8F8 --print all <numerals.txt",
+    pages: &[
+        convert::PAGE,
+        column::PAGE,
+        bits::PAGE,
+        show::PAGE,
+        format::PAGE,
+        lines::PAGE,
+        enclose::PAGE,
+        least::PAGE,
+        constants::PAGE,
+        sort::PAGE,
+    ],
+};
+
+/// The commands.
+#[derive(Clone, Copy)]
+pub struct AllCommands;
+
+impl<L: Ledger> Commands<L> for AllCommands {
+    fn run<'a>(
+        &self,
+        rt: &HostRuntime,
+        name: &str,
+        given: &Given<'_, 'a>,
+        steps: &mut Steps<L>,
+    ) -> Asked<'a, Status> {
+        match name {
+            "convert" => convert::run(rt, given, steps),
+            "column" => column::run(rt, given, steps),
+            "bits" => bits::run(rt, given, steps),
+            "show" => show::run(rt, given, steps),
+            "format" => format::run(rt, given, steps),
+            "lines" => lines::run(rt, given, steps),
+            "enclose" => enclose::run(rt, given, steps),
+            "least" => least::run(rt, given, steps),
+            "constants" => constants::run(rt, given, steps),
+            _ => sort::run(rt, given, steps),
+        }
+    }
+}

@@ -1,0 +1,48 @@
+//! `fixed bits`: what number the word of a register is.
+
+use crate::inputs::run_question;
+use crate::settings::format_at;
+use command_line::given::{Asked, Given};
+use command_line::page::{Operand, Page};
+use fixed_command::Question;
+use fixed_steps::Steps;
+use line_engine::Status;
+use std::sync::ledger::Ledger;
+
+const FORMAT: Operand = Operand {
+    name: "FORMAT",
+    help: "The format",
+};
+
+const WORDS: Operand = Operand {
+    name: "WORD",
+    help: "Decimal, or after 0x, 0o or 0b",
+};
+
+pub const PAGE: Page = Page {
+    name: "bits",
+    hidden_name: "",
+    about: "Show what number the word of a register is",
+    usage: "fixed bits FORMAT WORD...",
+    operands: &[FORMAT, WORDS],
+    has_numerals: true,
+    options: &[],
+    end: "A format is I (signed) or U (unsigned), its whole bits, F and its fraction bits,\n\
+          as in I16F16; the two numbers add up to 8, 16, 32 or 64.\n\
+          \n\
+          Example: fixed bits I16F16 0xfffc0000",
+};
+
+/// Shows each word.
+pub fn run<'a, L: Ledger>(
+    rt: &HostRuntime,
+    given: &Given<'_, 'a>,
+    steps: &mut Steps<L>,
+) -> Asked<'a, Status> {
+    let format = match format_at(given, 0, "FORMAT") {
+        Ok(format) => format,
+        Err(refusal) => return Err(refusal),
+    };
+    given.needed(1, "WORD")?;
+    Ok(run_question(rt, &Question::Bits(format), given.from(1), steps))
+}

@@ -1,0 +1,37 @@
+//! `fixed convert`: each line is a numeral.
+
+use crate::inputs::{Job, run_inputs};
+use crate::options::{MODE, PLACES, POLICY, PRINT, RADIX, SOURCE, TARGET};
+use crate::settings::conversion;
+use command_line::given::{Asked, Given};
+use command_line::page::Page;
+use fixed_command::Task;
+use fixed_steps::Steps;
+use line_engine::Status;
+use std::sync::ledger::Ledger;
+
+pub const PAGE: Page = Page {
+    name: "convert",
+    hidden_name: "",
+    about: "Convert numerals, one a line",
+    usage: "fixed convert [OPTIONS] SOURCE [TARGET] [FILE]...",
+    operands: &[SOURCE, TARGET],
+    has_numerals: false,
+    options: &[RADIX, POLICY, MODE, PRINT, PLACES],
+    end: "A format is I (signed) or U (unsigned), its whole bits, F and its fraction bits,\n\
+          as in I16F16; the two numbers add up to 8, 16, 32 or 64. A number is\n\
+          rounded down from SOURCE to TARGET.\n\
+          \n\
+          Example: echo 3.14159 | fixed convert I16F16 I8F8 --print all",
+};
+
+/// Converts the numerals of each file.
+pub fn run<'a, L: Ledger>(
+    rt: &HostRuntime,
+    given: &Given<'_, 'a>,
+    steps: &mut Steps<L>,
+) -> Asked<'a, Status> {
+    let (rule, files) = conversion(given, 0)?;
+    let job = Job::Task(Task::Convert(rule));
+    Ok(run_inputs(rt, &job, given.from(files), steps))
+}

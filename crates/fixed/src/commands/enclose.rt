@@ -1,0 +1,29 @@
+//! `fixed enclose`: each line is one of `enclose_tool`.
+
+use crate::inputs::{Job, run_inputs};
+use command_line::given::{Asked, Given};
+use command_line::page::{FILES, Page};
+use fixed_command::Task;
+use fixed_steps::Steps;
+use line_engine::Status;
+use std::sync::ledger::Ledger;
+
+pub const PAGE: Page = Page {
+    name: "enclose",
+    hidden_name: "",
+    about: "Answer lines `RADIX FORMAT NUMERAL` with the two nearest values",
+    usage: "fixed enclose [FILE]...",
+    operands: &[FILES],
+    has_numerals: false,
+    options: &[],
+    end: "Example: echo '10 I4F4 3.14' | fixed enclose",
+};
+
+/// Answers the lines of each file.
+pub fn run<'a, L: Ledger>(
+    rt: &HostRuntime,
+    given: &Given<'_, 'a>,
+    steps: &mut Steps<L>,
+) -> Asked<'a, Status> {
+    Ok(run_inputs(rt, &Job::Task(Task::Enclose), given.from(0), steps))
+}

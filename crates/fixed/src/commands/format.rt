@@ -1,0 +1,44 @@
+//! `fixed format`: what a format can hold.
+
+use crate::inputs::run_question;
+use crate::settings::format_of;
+use command_line::given::{Asked, Given};
+use command_line::page::{Operand, Page};
+use fixed_command::Question;
+use fixed_steps::Steps;
+use line_engine::Status;
+use std::sync::ledger::Ledger;
+
+const FORMATS: Operand = Operand {
+    name: "FORMAT",
+    help: "The formats",
+};
+
+pub const PAGE: Page = Page {
+    name: "format",
+    hidden_name: "",
+    about: "Show the range, the ulp and the digits of a format",
+    usage: "fixed format FORMAT...",
+    operands: &[FORMATS],
+    has_numerals: false,
+    options: &[],
+    end: "A format is I (signed) or U (unsigned), its whole bits, F and its fraction bits,\n\
+          as in I16F16; the two numbers add up to 8, 16, 32 or 64.\n\
+          \n\
+          Example: fixed format I16F16 U0F8",
+};
+
+/// Shows each format.
+pub fn run<'a, L: Ledger>(
+    rt: &HostRuntime,
+    given: &Given<'_, 'a>,
+    steps: &mut Steps<L>,
+) -> Asked<'a, Status> {
+    given.needed(0, "FORMAT")?;
+    for word in given.from(0) {
+        if let Err(refusal) = format_of(word) {
+            return Err(refusal);
+        }
+    }
+    Ok(run_question(rt, &Question::Format, given.from(0), steps))
+}

@@ -1,0 +1,55 @@
+//! `fixed show`: all there is to know of a number in a format.
+
+use crate::inputs::run_question;
+use crate::options::{MODE, POLICY, RADIX};
+use crate::settings::{format_at, mode_of, policy_of, radix_of};
+use command_line::given::{Asked, Given};
+use command_line::page::{Operand, Page};
+use fixed_command::Question;
+use fixed_steps::Steps;
+use line_engine::Status;
+use std::sync::ledger::Ledger;
+
+const FORMAT: Operand = Operand {
+    name: "FORMAT",
+    help: "The format",
+};
+
+const NUMERALS: Operand = Operand {
+    name: "NUMERAL",
+    help: "The numerals",
+};
+
+pub const PAGE: Page = Page {
+    name: "show",
+    hidden_name: "",
+    about: "Show all there is to know of a number in a format",
+    usage: "fixed show [OPTIONS] FORMAT NUMERAL...",
+    operands: &[FORMAT, NUMERALS],
+    has_numerals: true,
+    options: &[RADIX, POLICY, MODE],
+    end: "A format is I (signed) or U (unsigned), its whole bits, F and its fraction bits,\n\
+          as in I16F16; the two numbers add up to 8, 16, 32 or 64.\n\
+          \n\
+          Example: fixed show I16F16 3.14159 -1e-3",
+};
+
+/// Shows each numeral.
+pub fn run<'a, L: Ledger>(
+    rt: &HostRuntime,
+    given: &Given<'_, 'a>,
+    steps: &mut Steps<L>,
+) -> Asked<'a, Status> {
+    let format = match format_at(given, 0, "FORMAT") {
+        Ok(format) => format,
+        Err(refusal) => return Err(refusal),
+    };
+    given.needed(1, "NUMERAL")?;
+    let question = Question::Show {
+        radix: radix_of(given)?,
+        format,
+        policy: policy_of(given)?,
+        mode: mode_of(given)?,
+    };
+    Ok(run_question(rt, &question, given.from(1), steps))
+}

@@ -1,0 +1,61 @@
+//! The options that several commands have.
+
+use command_line::page::{Operand, Row};
+
+pub const RADIX: Row = Row {
+    name: "radix",
+    letter: Some('r'),
+    value: "RADIX",
+    choices: &["2", "8", "10", "16"],
+    help: "The radix of the numerals: 2, 8, 10 (default), 16",
+};
+
+pub const POLICY: Row = Row {
+    name: "policy",
+    letter: Some('p'),
+    value: "POLICY",
+    choices: &["checked", "saturating", "wrapping"],
+    help: "Out of range: checked (default), saturating, wrapping",
+};
+
+pub const MODE: Row = Row {
+    name: "mode",
+    letter: Some('m'),
+    value: "MODE",
+    choices: &["nearest", "floor", "ceil", "zero"],
+    help: "How it is rounded: nearest (default), floor, ceil, zero",
+};
+
+pub const PRINT: Row = Row {
+    name: "print",
+    letter: None,
+    value: "PART",
+    choices: &["text", "bits", "hex", "readmemh", "value", "all"],
+    help: "text (default), bits, hex, readmemh, value or all",
+};
+
+pub const PLACES: Row = Row {
+    name: "places",
+    letter: None,
+    value: "N",
+    choices: &[],
+    help: "The text with N digits after the point, 0 to 64",
+};
+
+pub const LIMIT: Row = Row {
+    name: "limit",
+    letter: None,
+    value: "N",
+    choices: &[],
+    help: "The most bytes of an input",
+};
+
+pub const SOURCE: Operand = Operand {
+    name: "SOURCE",
+    help: "The format that a numeral is read into",
+};
+
+pub const TARGET: Operand = Operand {
+    name: "TARGET",
+    help: "The format to move to, SOURCE if left out, and files",
+};

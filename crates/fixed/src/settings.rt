@@ -1,0 +1,150 @@
+//! What the formats and the options of a conversion name.
+
+use crate::options::{MODE, PLACES, POLICY, PRINT, RADIX};
+use command_line::given::{Asked, Given, Refusal};
+use command_line::page::Row;
+use fixed_bits::{Format, Policy, ReadMode};
+use fixed_command::{
+    ConvertRule, Limit, Places, Print, Settings, mode_named, policy_named, print_named, radix_named,
+};
+use fixed_numeral::Radix;
+use fixed_respell::format_word;
+
+/// The format that a word names.
+pub fn format_of<'a>(word: &'a str) -> Asked<'a, Format> {
+    match format_word(word.as_bytes()) {
+        Some(format) => Ok(format),
+        None => Err(Refusal::Word(
+            word,
+            "is not a format: I or U, whole bits, F, fraction bits, together 8, 16, 32 or 64",
+        )),
+    }
+}
+
+/// Whether a word has the shape of a format: I or U, and then digits and F. A file of such a name is written `./I8F8`.
+fn is_like_format(word: &str) -> bool {
+    match word.as_bytes() {
+        [b'I' | b'U', rest @ ..] => {
+            !rest.is_empty() && rest.iter().all(|b| b.is_ascii_digit() || *b == b'F')
+        }
+        _ => false,
+    }
+}
+
+/// What an option's value names, or a refusal of the value.
+fn known<'a, T>(found: Option<T>, given: &Given<'_, 'a>, row: &Row) -> Asked<'a, T> {
+    match found {
+        Some(found) => Ok(found),
+        None => Err(Refusal::Word(
+            given.value(row).unwrap_or(""),
+            "is not a value of the option",
+        )),
+    }
+}
+
+/// The radix that the option names.
+pub fn radix_of<'a>(given: &Given<'_, 'a>) -> Asked<'a, Radix> {
+    known(radix_named(given.value(&RADIX)), given, &RADIX)
+}
+
+/// The policy that the option names.
+pub fn policy_of<'a>(given: &Given<'_, 'a>) -> Asked<'a, Policy> {
+    known(policy_named(given.value(&POLICY)), given, &POLICY)
+}
+
+/// The mode that the option names.
+pub fn mode_of<'a>(given: &Given<'_, 'a>) -> Asked<'a, ReadMode> {
+    known(mode_named(given.value(&MODE)), given, &MODE)
+}
+
+/// What the options say of an answer is written.
+fn print_of<'a>(given: &Given<'_, 'a>) -> Asked<'a, Print> {
+    let print = match known(print_named(given.value(&PRINT)), given, &PRINT) {
+        Ok(print) => print,
+        Err(refusal) => return Err(refusal),
+    };
+    match given.value(&PLACES) {
+        None => Ok(print),
+        Some(word) if print != Print::Text => Err(Refusal::Word(
+            word,
+            "rounds nothing: '--places' goes with '--print text' alone",
+        )),
+        Some(word) => match places_of(word) {
+            Some(places) => Ok(Print::Places(places)),
+            None => Err(Refusal::Word(
+                word,
+                "is not a count of places: it is a number from 0 to 64",
+            )),
+        },
+    }
+}
+
+/// The places that a word counts.
+fn places_of(word: &str) -> Option<Places> {
+    let is_plain = word == "0" || !word.starts_with('0') && !word.starts_with('+');
+    match word.parse::<u32>() {
+        Ok(count) if is_plain => Places::new(count),
+        _ => None,
+    }
+}
+
+/// The format that the word at a place names, which must be there.
+pub fn format_at<'a>(given: &Given<'_, 'a>, place: usize, name: &'static str) -> Asked<'a, Format> {
+    match given.words.get(place) {
+        Some(word) => format_of(word),
+        None => Err(Refusal::Missing(name)),
+    }
+}
+
+/// The target that the word at a place names, and the place of the first file: the source where the word is none.
+fn target_of<'a>(
+    given: &Given<'_, 'a>,
+    place: usize,
+    source: Format,
+) -> Asked<'a, (Format, usize)> {
+    match given.keyword(place) {
+        Some(word) if is_like_format(word) => match format_of(word) {
+            Ok(target) => Ok((target, place.saturating_add(1))),
+            Err(refusal) => Err(refusal),
+        },
+        _ => Ok((source, place)),
+    }
+}
+
+/// The conversion that the words from a place on and the options name, and the place of the first file.
+pub fn conversion<'a>(given: &Given<'_, 'a>, place: usize) -> Asked<'a, (ConvertRule, usize)> {
+    let source = match format_at(given, place, "SOURCE") {
+        Ok(source) => source,
+        Err(refusal) => return Err(refusal),
+    };
+    let (target, files) = match target_of(given, place.saturating_add(1), source) {
+        Ok(found) => found,
+        Err(refusal) => return Err(refusal),
+    };
+    let print = match print_of(given) {
+        Ok(print) => print,
+        Err(refusal) => return Err(refusal),
+    };
+    let settings = Settings {
+        radix: radix_of(given)?,
+        source,
+        target,
+        policy: policy_of(given)?,
+        mode: mode_of(given)?,
+        print,
+    };
+    Ok((ConvertRule::new(settings), files))
+}
+
+/// The limit of a word: a number in decimal, without a sign or a leading zero.
+pub fn limit_of<'a>(word: &'a str) -> Asked<'a, Limit> {
+    let is_plain = !word.starts_with('0') && !word.starts_with('+');
+    let limit = match word.parse::<u64>() {
+        Ok(bytes) if is_plain => Limit::new(bytes),
+        _ => None,
+    };
+    match limit {
+        Some(limit) => Ok(limit),
+        None => Err(Refusal::Word(word, "is not a limit: it is a number from 1 to 4294967296")),
+    }
+}
