@@ -22,4 +22,3 @@ pub use fault::{CellFault, CellsError};
 pub use program::run_columns;
 pub use rule::ColumnsRule;
 pub use text_buffer::NoMemory;
-

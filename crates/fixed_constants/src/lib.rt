@@ -25,4 +25,3 @@ pub use form_rule::FormRule;
 pub use program::{is_guard, run_forms};
 pub use rule::ConstantsRule;
 pub use text_buffer::NoMemory;
-

@@ -12,4 +12,3 @@ pub use enclosing::{Enclosure, enclose};
 pub use fault::EncloseFault;
 pub use program::run_enclose;
 pub use rule::EncloseRule;
-

@@ -43,9 +43,9 @@ pub fn run_streams<P: Program<L>, R: Read + Drop, W: Write + Drop, K: Sink, L: L
     requires short { length reports.old.name.now ≤ 256 }
     ensures args { IfOk args (λ all. EndsAs (RunsBetween
         (λ steps. outside (R.remaining source.old.reader) None source.old.failures
-            (W.contents sink.old.writer) sink.old.failures steps)
+        (W.contents sink.old.writer) sink.old.failures steps)
         (λ steps. outside (R.remaining source.new.reader) None source.new.failures
-            (W.contents sink.new.writer) sink.new.failures steps)
+        (W.contents sink.new.writer) sink.new.failures steps)
         (P.Runs program.now all.items)) result) }
     ensures no_memory { args ≡ Err NoArgs.NoMemory → (result ≡ 5) × (source.new ≡ source.old) × (sink.new ≡ sink.old) }
     ensures not_text { args ≡ Err NoArgs.NotText

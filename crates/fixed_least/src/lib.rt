@@ -17,4 +17,3 @@ pub use fixed_bits::format_at;
 pub use least::{Least, LeastFault, least_format};
 pub use program::run_least;
 pub use rule::LeastRule;
-
