@@ -4,7 +4,8 @@
     widths.py            checks; a file of .ci/wide_lines.txt may have as many wide lines as that says
     widths.py --shrink   writes .ci/wide_lines.txt anew, where no file has more than it may
 
-The list is of files not yet mended: it only shrinks.
+The list is of files not yet mended: it only shrinks. A row of a table and a line of code in a document cannot be broken, and so
+may be wider.
 """
 import glob
 import os
@@ -13,6 +14,8 @@ import sys
 TOP = os.path.dirname(os.path.dirname(os.path.abspath(__file__)))
 ALLOWANCE = f"{TOP}/.ci/wide_lines.txt"
 WIDEST = 120
+# How a line of a document begins that cannot be broken.
+UNBROKEN = ("|", "    ")
 FILES = ("crates/*/src/**/*.rt", "crates/*/specs/**/*.antt", "docs/*.md", "man/*")
 
 
@@ -21,7 +24,8 @@ def wide_lines():
     found = {}
     for path in sorted({it for pattern in FILES for it in glob.glob(f"{TOP}/{pattern}", recursive=True)}):
         with open(path, encoding="utf-8") as file:
-            wide = [number for number, line in enumerate(file, 1) if len(line.rstrip("\n")) > WIDEST]
+            kept = UNBROKEN if path.endswith(".md") else ()
+            wide = [number for number, line in enumerate(file, 1) if len(line.rstrip("\n")) > WIDEST and not line.startswith(kept)]
         if wide:
             found[os.path.relpath(path, TOP)] = wide
     return found
