@@ -9,7 +9,6 @@ import ctypes
 import os
 import pathlib
 from ctypes import POINTER, addressof, byref, c_char_p, c_int32, c_int64, c_size_t, c_uint32, c_uint64, c_void_p
-from itertools import repeat
 from typing import Any, NamedTuple, cast
 
 ABI = 1
@@ -58,6 +57,7 @@ _CALLS: dict[str, tuple[Any, ...]] = {
     "fixed_message": (c_uint32, c_char_p, c_size_t, POINTER(c_size_t)),
     "fixed_abi": (),
     "fixed_read_rows": (*_TEXTS, c_uint32, CFormat, c_uint32, c_uint32, *_SLICE, *_SLICE, POINTER(c_size_t)),
+    "fixed_print_rows": (*_SLICE, CFormat, *_TEXTS, *_SLICE, POINTER(c_size_t)),
     "fixed_convert_rows": (*_SLICE, CFormat, CFormat, c_uint32, c_uint32, *_SLICE, *_SLICE, POINTER(c_size_t)),
 }
 
@@ -154,13 +154,10 @@ def read_rows(
 
 
 def print_rows(bits: int, count: int, form: CFormat, rows: int, size: int, codes: int) -> tuple[int, int]:
-    """Prints each of the bits into a row that has room for a zero byte. The library has no call that prints rows yet."""
-    ctypes.memset(rows, 0, size * count)
-    words, places = (c_int64 * count).from_address(bits)[:], range(rows, rows + size * count, size)
-    given = words, repeat(form), places, repeat(size), repeat(byref(c_size_t()))
-    found = list(map(_C.fixed_print_bits, *given))
-    (c_uint32 * count).from_address(codes)[:] = found
-    return 0, count - found.count(0)
+    """Prints each of the bits into a row."""
+    refused = c_size_t()
+    code = _C.fixed_print_rows(bits, count, form, rows, size * count, size, codes, count, byref(refused))
+    return code, refused.value
 
 
 def convert_rows(
