@@ -12,6 +12,7 @@ mod printer;
 mod short;
 pub mod style;
 mod styled;
+mod styled_text;
 #[cfg(test)]
 mod tests;
 pub mod text;
@@ -22,5 +23,6 @@ pub use printer::{push_shortest, push_signed_shortest};
 pub use short::{ShortText, shortest};
 pub use style::{Align, Notation, Style};
 pub use styled::to_text;
+pub use styled_text::{StyledText, text_in_style};
 pub use text::Text;
 pub use text_buffer::NoMemory;
