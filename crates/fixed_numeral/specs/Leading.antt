@@ -15,4 +15,5 @@ HasNoLeading r bs = (m : ℕ) → m ≤ length bs → IsNumeral r (take m bs) �
 
 -- at most one length is that of the numeral at the beginning, and none where no prefix is a numeral
 abbrev pub LeadingIsTheOne : Type 0
-LeadingIsTheOne = (r : Radix) (bs : List ℕ) (m : ℕ) → IsLeadingNumeral r bs m → ((n : ℕ) → IsLeadingNumeral r bs n → m ≡ n) × (HasNoLeading r bs → ⊥)
+LeadingIsTheOne = (r : Radix) (bs : List ℕ) (m : ℕ) → IsLeadingNumeral r bs m
+    → ((n : ℕ) → IsLeadingNumeral r bs n → m ≡ n) × (HasNoLeading r bs → ⊥)

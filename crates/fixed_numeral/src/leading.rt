@@ -41,7 +41,9 @@ pub fn leading_numeral<L: Ledger>(
     radix: Radix,
     steps: &mut Steps<L>,
 ) -> Result<usize, ParseFixedError>
-    ensures leading { MatchResult result (λ n. IsLeadingNumeral radix bytes.now n) (λ kind. HasNoLeading radix bytes.now × HasCause radix bytes.now kind) }
+    ensures leading { MatchResult result
+        (λ n. IsLeadingNumeral radix bytes.now n)
+        (λ kind. HasNoLeading radix bytes.now × HasCause radix bytes.now kind) }
     ensures counted { steps.old ≤ steps.new }
     ensures cost { steps.new ≤ steps.old + length bytes.now }
 {

@@ -15,7 +15,7 @@ use crate::text::fills_before;
 use std::marker::Model;
 use text_buffer::TextBuffer;
 
-/// The text of a number in a style, of at most 327,999 bytes.
+/// The text of a number in a style, in its parts.
 #[derive(Drop)]
 pub struct StyledText {
     fill: TextBuffer<4>,

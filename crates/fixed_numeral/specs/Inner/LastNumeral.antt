@@ -6,4 +6,5 @@ use Rattle.fixed_numeral.specs.Inner.Scan.{IsComplete, IsIncomplete}
 
 -- the place of the last numeral is this one where nothing is missing here, and else stays
 abbrev pub IsLastAfter : State → ℕ → ℕ → ℕ → Type 0
-IsLastAfter s at last next = (IsComplete s × (next ≡ at)) ⊎ ((kind : ParseErrorKind) × IsIncomplete s kind × (next ≡ last))
+IsLastAfter s at last next = (IsComplete s × (next ≡ at))
+    ⊎ ((kind : ParseErrorKind) × IsIncomplete s kind × (next ≡ last))
