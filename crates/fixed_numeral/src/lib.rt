@@ -25,5 +25,3 @@ pub use scanned::Scanned;
 pub use scanner::scan;
 pub use short::{ShortNumeral, short_numeral};
 
-#[cfg(test)]
-mod tests;
