@@ -2,12 +2,13 @@
 
 ghost use Rattle.std.specs.Prelude.{◌≡◌, ◌<◌, ◌≤◌, length};
 
-use fixed_read::{
-    ReadMode, ReadNumber, from_str_radix_mode, lit, overflowing_from_str_radix, read_ending,
-    read_format, read_literal, saturating_from_str_radix, wrapping_from_str_radix, wrapping_from_str_radix_mode,
-};
 use fixed_bits::{Format, Inner, Policy};
 use fixed_numeral::{ParseErrorKind, Radix};
+use fixed_read::{
+    ReadMode, ReadNumber, from_str_radix_mode, lit, overflowing_from_str_radix, read_ending,
+    read_format, read_literal, saturating_from_str_radix, wrapping_from_str_radix,
+    wrapping_from_str_radix_mode,
+};
 use fixed_steps::Steps;
 use std::marker::Brand;
 use std::sync::ledger::{Blank, Ledger};
@@ -625,7 +626,8 @@ fn literals(rt: HostRuntime) {
     assert!(rt; lit::<u8>(b"256", 0).is_err());
 }
 
-/// A numeral read into a format: its image under a policy, whether it is out of range, and whether it is a whole number of ulps.
+/// A numeral read into a format: its image under a policy, whether it is out of range, and whether it is a whole number
+/// of ulps.
 #[derive(Drop)]
 struct FormatCase {
     text: &'static str,
