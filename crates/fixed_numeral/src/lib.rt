@@ -26,6 +26,3 @@ pub use radix::Radix;
 pub use scanned::Scanned;
 pub use scanner::scan;
 pub use short::{ShortNumeral, short_numeral};
-
-#[cfg(test)]
-mod tests;

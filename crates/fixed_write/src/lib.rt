@@ -13,8 +13,6 @@ mod short;
 pub mod style;
 mod styled;
 mod styled_text;
-#[cfg(test)]
-mod tests;
 pub mod text;
 
 pub use in_place::{Base, push_decimal, push_exact};
