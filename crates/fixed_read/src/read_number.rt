@@ -212,25 +212,6 @@ fn read_scanned<L: Ledger>(
     }
 }
 
-/// `read_short` in radix 2, 8 or 16: apart, so that none pays for the room that the other needs.
-#[inline(never)]
-fn read_short_apart<L: Ledger>(
-    text: &[u8],
-    from: usize,
-    radix: Radix,
-    format: Format,
-    mode: ReadMode,
-    steps: &mut Steps<L>,
-) -> Option<ReadNumber>
-    requires place { from ≤ length text.now }
-    ensures numeral { IfSome result (λ found. IsNumeral radix (drop from text.now)) }
-    ensures reading { IfSome result (λ found. (p : Parts) → HasNumeral radix (drop from text.now) p → IsReading mode radix p found) }
-    ensures format { IfSome result (λ found. found.format ≡ format) }
-    ensures cost { steps.new ≤ steps.old + length (drop from text.now) }
-{
-    read_short(text, from, radix, format, mode, steps)
-}
-
 /// The bytes of a text from a place on.
 #[inline(always)]
 fn bytes_from(text: &[u8], from: usize) -> &[u8]
@@ -240,20 +221,25 @@ fn bytes_from(text: &[u8], from: usize) -> &[u8]
     &text[from..]
 }
 
-/// A copy, part by part: where a number comes from a call, the parts are loaded as they were stored, and a processor need not wait
-/// until bytes that were stored one by one can be loaded as a word.
+/// `read_scanned` of the bytes from a place on. Its answer is matched by reference and copied here, and not where it is used: the
+/// answer of a call has room in memory, which is cleared where a function begins.
 #[inline(always)]
-fn copy_of(found: &ReadNumber) -> ReadNumber
-    ensures { result ≡ found.now }
+fn read_scanned_from<L: Ledger>(
+    text: &[u8],
+    from: usize,
+    radix: Radix,
+    format: Format,
+    mode: ReadMode,
+    steps: &mut Steps<L>,
+) -> Result<ReadNumber, ParseFixedError>
+    requires place { from ≤ length text.now }
+    ensures reading { IsReadOrRefused radix (drop from text.now) (IsReading mode radix) result }
+    ensures format { IfOk result (λ found. found.format ≡ format) }
+    ensures cost { steps.new ≤ steps.old + 2 * length (drop from text.now) + 8 * format.width + 64 }
 {
-    ReadNumber {
-        format: found.format,
-        number: Number {
-            negative: found.number.negative,
-            low: found.number.low,
-            has_high_bits: found.number.has_high_bits,
-        },
-        exact: found.exact,
+    match &read_scanned(bytes_from(text, from), radix, format, mode, steps) {
+        Ok(found) => Ok(*found),
+        Err(error) => Err(*error),
     }
 }
 
@@ -277,17 +263,15 @@ pub fn read_ending<L: Ledger>(
     ensures format { IfOk result (λ found. found.format ≡ format) }
     ensures cost { steps.new ≤ steps.old + 8 * (length (drop from text.now) + format.width) + 64 }
 {
+    // Radix 10 by itself, so that it is a constant there.
     if radix == Radix::Dec {
         if let Some(found) = read_short(text, from, radix, format, mode, steps) {
             return Ok(found);
         }
-    } else if let Some(found) = &read_short_apart(text, from, radix, format, mode, steps) {
-        return Ok(copy_of(found));
+    } else if let Some(found) = read_short(text, from, radix, format, mode, steps) {
+        return Ok(found);
     }
-    match &read_scanned(bytes_from(text, from), radix, format, mode, steps) {
-        Ok(found) => Ok(copy_of(found)),
-        Err(error) => Err(*error),
-    }
+    read_scanned_from(text, from, radix, format, mode, steps)
 }
 
 /// Reads a numeral into a format in a mode: the numeral's magnitude in ulps of the format, rounded in the mode, with the
