@@ -36,8 +36,8 @@ use std::sync::ledger::{Blank, Ledger};
 /// format's range.
 #[derive(Clone, Copy, Debug, PartialEq, Eq)]
 pub struct ReadNumber {
-    format: Format,
     number: Number,
+    format: Format,
     exact: bool,
 }
 
@@ -192,7 +192,6 @@ fn read_short<L: Ledger>(
 }
 
 /// Reads any numeral, by its digits.
-#[inline(never)]
 fn read_scanned<L: Ledger>(
     s: &[u8],
     radix: Radix,
@@ -221,10 +220,10 @@ fn bytes_from(text: &[u8], from: usize) -> &[u8]
     &text[from..]
 }
 
-/// `read_scanned` of the bytes from a place on. Its answer is matched by reference and copied here, and not where it is used: the
-/// answer of a call has room in memory, which is cleared where a function begins.
-#[inline(always)]
-fn read_scanned_from<L: Ledger>(
+/// Reads a numeral that a text ends with: a short one in radix 2, 8 or 16, else by its digits. Apart, so that a short decimal
+/// pays for no room of theirs.
+#[inline(never)]
+fn read_apart<L: Ledger>(
     text: &[u8],
     from: usize,
     radix: Radix,
@@ -235,9 +234,33 @@ fn read_scanned_from<L: Ledger>(
     requires place { from ≤ length text.now }
     ensures reading { IsReadOrRefused radix (drop from text.now) (IsReading mode radix) result }
     ensures format { IfOk result (λ found. found.format ≡ format) }
-    ensures cost { steps.new ≤ steps.old + 2 * length (drop from text.now) + 8 * format.width + 64 }
+    ensures cost { steps.new ≤ steps.old + 3 * length (drop from text.now) + 8 * format.width + 64 }
 {
-    match &read_scanned(bytes_from(text, from), radix, format, mode, steps) {
+    if radix != Radix::Dec {
+        if let Some(found) = read_short(text, from, radix, format, mode, steps) {
+            return Ok(found);
+        }
+    }
+    read_scanned(bytes_from(text, from), radix, format, mode, steps)
+}
+
+/// What `read_apart` answers, matched by reference and copied here, and not where it is used: the answer of a call has room in
+/// memory, which is cleared where a function begins.
+#[inline(always)]
+fn copy_apart<L: Ledger>(
+    text: &[u8],
+    from: usize,
+    radix: Radix,
+    format: Format,
+    mode: ReadMode,
+    steps: &mut Steps<L>,
+) -> Result<ReadNumber, ParseFixedError>
+    requires place { from ≤ length text.now }
+    ensures reading { IsReadOrRefused radix (drop from text.now) (IsReading mode radix) result }
+    ensures format { IfOk result (λ found. found.format ≡ format) }
+    ensures cost { steps.new ≤ steps.old + 3 * length (drop from text.now) + 8 * format.width + 64 }
+{
+    match &read_apart(text, from, radix, format, mode, steps) {
         Ok(found) => Ok(*found),
         Err(error) => Err(*error),
     }
@@ -263,15 +286,12 @@ pub fn read_ending<L: Ledger>(
     ensures format { IfOk result (λ found. found.format ≡ format) }
     ensures cost { steps.new ≤ steps.old + 8 * (length (drop from text.now) + format.width) + 64 }
 {
-    // Radix 10 by itself, so that it is a constant there.
     if radix == Radix::Dec {
         if let Some(found) = read_short(text, from, radix, format, mode, steps) {
             return Ok(found);
         }
-    } else if let Some(found) = read_short(text, from, radix, format, mode, steps) {
-        return Ok(found);
     }
-    read_scanned_from(text, from, radix, format, mode, steps)
+    copy_apart(text, from, radix, format, mode, steps)
 }
 
 /// Reads a numeral into a format in a mode: the numeral's magnitude in ulps of the format, rounded in the mode, with the
