@@ -2,7 +2,7 @@ use Rattle.std.proofs.Common.{◌≡◌, ◌+◌, ◌*◌, ◌^◌, arith, pos, 
 use Rattle.std.proofs.Math.Nat.{one-le-pow}
 use Rattle.fixed_numeral.specs.Value.{scaled}
 use Rattle.fixed_read.proofs.ShortNumeralLemmas.{magnitude_same, scaled_den}
-use Rattle.fixed_read.proofs.short_numeral.decimal_ulps.Goals as goal
+use Rattle.fixed_read.proofs.short_numeral.scaled_ulps.Goals as goal
 
 pub returns-in-Some : goal.returns-in-Some
 returns-in-Some c =

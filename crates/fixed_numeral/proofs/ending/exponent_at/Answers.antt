@@ -1,6 +1,6 @@
 use Rattle.std.proofs.Common.{◌+◌, length, sym, ◌∙◌, arith}
 use Rattle.fixed_numeral.proofs.SegmentLemmas.{exponent_at, sign_place}
-use Rattle.fixed_numeral.proofs.ending.power_at.Goals as goal
+use Rattle.fixed_numeral.proofs.ending.exponent_at.Goals as goal
 
 pub decimals_between-requires-clause-few : goal.decimals_between-requires-clause-few
 decimals_between-requires-clause-few c = omega (arith, c.requires.late, sign_place c.args.text.now (c.args.from + 1) c.sign_at-negative.result.1 c.sign_at-negative.result.0 (omega arith) c.sign_at-negative.ensures)
