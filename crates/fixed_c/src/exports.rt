@@ -12,6 +12,8 @@ ghost use Rattle.fixed_c.specs.Outcome.{EndsWith, Never};
 ghost use Rattle.fixed_c.specs.Read.{IsReadAs, ReadIsRefused};
 ghost use Rattle.fixed_c.specs.Respell.{IsReachedAs, RespellIsRefused};
 ghost use Rattle.fixed_c.specs.Round.{IsRoundedTo, RoundIsRefused};
+ghost use Rattle.fixed_c.specs.Scan.{IsLeadingIn, ScanIsRefused};
+ghost use Rattle.fixed_c.specs.Style.{IsPrintedIn, StyledIsRefused};
 ghost use Rattle.fixed_c.specs.Rows.{ConvertsRow, HaveBits, HaveRows, PrintedEnd, ReadsRow, RowsEnd};
 ghost use Rattle.fixed_c.specs.Texts.{TextEnds};
 ghost use Rattle.fixed_c.specs.Words.{FormatIsRefused, IsFormatNamed, WordIsRefused};
@@ -23,6 +25,8 @@ use crate::numbers::{convert, convert_in, ends_around, literal, order_by_value, 
 use crate::refusal::{hand_over, message_of};
 use crate::rounding::round;
 use crate::rows::{Conversion, Reading, convert_rows, print_rows, read_rows};
+use crate::scanning::leading;
+use crate::style::{FixedStyle, print_styled};
 use crate::texts::{answer_line, print_bits, print_places, put_text};
 use crate::words::{named_format, put_word};
 use std::marker::Brand;
@@ -309,6 +313,34 @@ pub extern "C" fn fixed_convert_rows(
         mode,
     };
     convert_rows(bits, conversion, out, codes, refused)
+}
+
+/// Bits in a style: `fixed_print_styled` of the header.
+#[unsafe(no_mangle)]
+pub extern "C" fn fixed_print_styled(
+    bits: i64,
+    format: FixedFormat,
+    style: &FixedStyle,
+    out: &mut [u8],
+    len: &mut usize,
+) -> u32
+    ensures { TextEnds
+        (IsPrintedIn (format_of format.is_signed format.width format.frac) bits style.now)
+        (StyledIsRefused (format_of format.is_signed format.width format.frac) bits style.now)
+        out.old out.new len.old len.new result }
+{
+    print_styled(bits, format, style, out, len)
+}
+
+/// How many bytes the numeral at the beginning of a text takes: `fixed_scan_text` of the header.
+#[unsafe(no_mangle)]
+pub extern "C" fn fixed_scan_text(text: &[u8], radix: u32, count: &mut usize) -> u32
+    ensures { EndsWith (IsLeadingIn text.now radix) (ScanIsRefused text.now radix) count.old count.new result }
+{
+    hand_over(
+        leading::<Brand>(given_text(text), radix, Blank::new(1)),
+        count,
+    )
 }
 
 /// The layout of what the header declares: `fixed_abi` of the header.

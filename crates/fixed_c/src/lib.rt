@@ -13,5 +13,7 @@ mod numbers;
 mod refusal;
 mod rounding;
 mod rows;
+mod scanning;
+mod style;
 mod texts;
 mod words;

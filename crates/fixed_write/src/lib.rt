@@ -12,6 +12,7 @@ mod printer;
 mod short;
 pub mod style;
 mod styled;
+mod styled_text;
 pub mod text;
 
 pub use in_place::{Base, push_decimal, push_exact};
@@ -20,5 +21,6 @@ pub use printer::{push_shortest, push_signed_shortest};
 pub use short::{ShortText, shortest};
 pub use style::{Align, Notation, Style};
 pub use styled::to_text;
+pub use styled_text::{StyledText, text_in_style};
 pub use text::Text;
 pub use text_buffer::NoMemory;

@@ -89,7 +89,7 @@ fn push_point_body(out: &mut Body, magnitude: u64, frac: u32, style: &Style) -> 
 }
 
 /// Appends the body of a number, and the exponent to a tail of its own, and answers how many zeros are between them.
-fn push_body(out: &mut Body, tail: &mut Tail, magnitude: u64, frac: u32, style: &Style) -> usize
+pub(crate) fn push_body(out: &mut Body, tail: &mut Tail, magnitude: u64, frac: u32, style: &Style) -> usize
     requires empty { out.old ≡ [] }
     requires no_tail { tail.old ≡ [] }
     requires frac { frac ≤ 64 }
@@ -122,7 +122,7 @@ fn push_body(out: &mut Body, tail: &mut Tail, magnitude: u64, frac: u32, style: 
 }
 
 /// What comes before a body: the sign and the prefix.
-fn sign_and_prefix(negative: bool, style: &Style) -> TextBuffer<8>
+pub(crate) fn sign_and_prefix(negative: bool, style: &Style) -> TextBuffer<8>
     ensures text { result ≡ sign_and_prefix style.now negative }
     ensures short { length result ≤ 3 }
 {
