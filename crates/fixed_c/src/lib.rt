@@ -14,4 +14,5 @@ mod refusal;
 mod rounding;
 mod rows;
 mod texts;
+mod uncounted;
 mod words;

@@ -13,6 +13,7 @@ mod short;
 pub mod style;
 mod styled;
 pub mod text;
+mod uncounted;
 
 pub use in_place::{Base, push_decimal, push_exact};
 pub use integer::{push_integer, push_signed_integer};
