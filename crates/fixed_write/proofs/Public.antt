@@ -1,5 +1,5 @@
 -- What the proofs of the crates above may cite.
-use Rattle.std.specs.Prelude.{◌≡◌, ℕ, suc, ◌+◌, ◌-◌, ◌*◌, ◌/◌, ◌%◌, ◌^◌, ◌<◌, ◌≤◌, Bool, false, [], ◌∷◌, ◌++◌, length, replicate, ℤ, unsigned_abs}
+use Rattle.std.specs.Prelude.{◌≡◌, ℕ, suc, ◌+◌, ◌-◌, ◌*◌, ◌/◌, ◌%◌, ◌^◌, ◌<◌, ◌≤◌, Bool, false, List, [], ◌∷◌, ◌++◌, length, replicate, ℤ, unsigned_abs}
 use Rattle.std.specs.Fmt.{decimal, digit_glyph}
 use Rattle.fixed_bits.specs.Nearest.{IsEven}
 use Rattle.fixed_bits.specs.Ranges.{IsWide}
@@ -36,6 +36,9 @@ shortest_text_is = TextLemmas.shortest_text_is
 
 pub shortest_text_unique : TextIsTheOne
 shortest_text_unique = TextLemmas.shortest_text_unique
+
+pub exact_text_unique : (base : ℕ) (upper : Bool) (c : ℤ) (g : ℕ) (a b : List ℕ) → IsExactText base upper c g a → IsExactText base upper c g b → a ≡ b
+exact_text_unique = PlacesLemmas.exact_text_unique
 
 pub exact_text_is : (base : ℕ) (upper : Bool) (c : ℤ) (g : ℕ) → IsEven base → IsExactText base upper c g (exact_text base upper c g)
 exact_text_is = PlacesLemmas.exact_text_is
