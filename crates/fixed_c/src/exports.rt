@@ -29,8 +29,6 @@ use crate::scanning::leading;
 use crate::style::{FixedStyle, print_styled};
 use crate::texts::{answer_line, print_bits, print_places, put_text};
 use crate::words::{named_format, put_word};
-use std::marker::Brand;
-use std::sync::ledger::Blank;
 
 /// A numeral in a radix of 2, 8, 10 or 16, as a number of a format: `fixed_read_text` of the header.
 #[unsafe(no_mangle)]
@@ -47,7 +45,7 @@ pub extern "C" fn fixed_read_text(
         (ReadIsRefused text.now radix (format_of format.is_signed format.width format.frac) policy mode) out.old out.new result }
 {
     hand_over(
-        read::<Brand>(given_text(text), radix, format, policy, mode, Blank::new(1)),
+        read(given_text(text), radix, format, policy, mode),
         out,
     )
 }
@@ -64,7 +62,7 @@ pub extern "C" fn fixed_print_bits(
         (IsPrinted (format_of format.is_signed format.width format.frac) bits)
         (PrintIsRefused (format_of format.is_signed format.width format.frac) bits) out.old out.new len.old len.new result }
 {
-    print_bits::<Brand>(bits, format, out, len, Blank::new(1))
+    print_bits(bits, format, out, len)
 }
 
 /// Bits of one format, rounded down to another: `fixed_convert_bits` of the header.
@@ -99,14 +97,13 @@ pub extern "C" fn fixed_respell_text(
         (RespellIsRefused text.now radix (format_of source.is_signed source.width source.frac) (format_of target.is_signed target.width target.frac) policy mode) out.old out.new result }
 {
     hand_over(
-        respelled::<Brand>(
+        respelled(
             given_text(text),
             radix,
             source,
             target,
             policy,
             mode,
-            Blank::new(1),
         ),
         out,
     )
@@ -141,7 +138,7 @@ pub extern "C" fn fixed_enclose_text(
         (EncloseIsRefused text.now radix (format_of format.is_signed format.width format.frac)) out.old out.new result }
 {
     hand_over(
-        ends_around::<Brand>(given_text(text), radix, format, Blank::new(1)),
+        ends_around(given_text(text), radix, format),
         out,
     )
 }
@@ -156,7 +153,7 @@ pub extern "C" fn fixed_answer_line(
 ) -> u32
     ensures { IsAnswered line.now out.old out.new len.new is_fault.new result }
 {
-    answer_line::<Brand>(given_text(line), out, len, is_fault, Blank::new(1))
+    answer_line(given_text(line), out, len, is_fault)
 }
 
 /// The message of a code: `fixed_message` of the header.

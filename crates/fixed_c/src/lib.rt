@@ -16,4 +16,5 @@ mod rows;
 mod scanning;
 mod style;
 mod texts;
+mod uncounted;
 mod words;

@@ -14,6 +14,7 @@ pub mod style;
 mod styled;
 mod styled_text;
 pub mod text;
+mod uncounted;
 
 pub use in_place::{Base, push_decimal, push_exact};
 pub use integer::{push_integer, push_signed_integer};

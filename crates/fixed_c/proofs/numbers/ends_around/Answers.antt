@@ -10,7 +10,7 @@ use Rattle.fixed_c.specs.Numbers.{has_bits}
 use Rattle.fixed_c.proofs.numbers.ends_around.Goals as goal
 
 pub returns-in-Ok : goal.returns-in-Ok
-returns-in-Ok g c =
+returns-in-Ok c =
     let f : FormatParts = c.in_ok-format.format in
     let lo : FitsSigned w128 c.in-Ok.ends.lo = search rules in
     let hi : FitsSigned w128 c.in-Ok.ends.hi = search rules in
@@ -31,8 +31,8 @@ returns-in-Ok g c =
     rw (to_z-of_z w64 c.bits_for_c.result low, to_z-of_z w64 c.bits_for_c-in-Ok.result high)
     (subst (λ (h : FormatParts). IsEnclosedBy c.args.text.now c.args.radix h c.bits_for_c.result c.bits_for_c-in-Ok.result) c.in_ok-format.ensures.0 made)
 
-pub returns : goal.returns
-returns g c =
+pub returns-in-Err : goal.returns-in-Err
+returns-in-Err c =
     let f : FormatParts = c.in_ok-format.format in
     let refused : IsRefusal c.in_ok-radix.radix c.args.text.now f c.kind.result = subst (λ (k : ParseErrorKind). IsRefusal c.in_ok-radix.radix c.args.text.now f k) (sym c.kind.ensures) c.in-Err.ensures.refused in
     inr (
