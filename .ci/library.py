@@ -209,6 +209,7 @@ def main():
             check_c(folder, library, program, given.lines)
             check_processors(folder)
             print(run([sys.executable, f"{TOP}/oracle/library.py", shared, "--count", str(given.calls)]), end="", flush=True)
+            print(run([sys.executable, f"{TOP}/oracle/widths.py", shared]), end="", flush=True)
             check_others(folder, library, shared)
     except Failed as why:
         print(why)
