@@ -30,8 +30,7 @@ use crate::short_numeral::short_ulps;
 use fixed_bits::{Format, Number, Policy, ReadMode};
 use fixed_numeral::{ParseFixedError, Radix, Scanned, ShortNumeral, scan, scan_lit, short_numeral};
 use fixed_steps::Steps;
-use std::marker::Brand;
-use std::sync::ledger::{Blank, Ledger};
+use std::sync::ledger::Ledger;
 
 /// The number that a numeral reads as in a format: a whole number of the format's ulps with a sign, which may be out of
 /// the format's range.
@@ -326,48 +325,26 @@ pub fn read_format<L: Ledger>(
     read_ending(s, 0, radix, format, mode, steps)
 }
 
-/// The reading of a literal over a ledger that no other counter uses.
-fn read_literal_over<L: Ledger>(
+/// `read_literal` with its steps on this counter.
+pub fn read_literal_counted<L: Ledger>(
     s: &[u8],
     format: Format,
-    blank: Blank,
+    steps: &mut Steps<L>,
 ) -> Result<ReadNumber, ParseFixedError>
-    requires name { blank.name ≡ L.name }
-    requires parts { blank.parts ≡ L.parts }
-    requires backed { 0 < L.parts }
     ensures literal { IsOk result ↔ IsLiteral format.signed s.now }
     ensures cause { IfErr result (λ kind. HasLiteralCause format.signed s.now kind) }
     ensures reading { IfOk result (λ found. (p : Parts) → HasLiteral format.signed s.now p
         → IsReading NearestEven (literal_radix format.signed s.now) p found) }
     ensures format { IfOk result (λ found. found.format ≡ format) }
 {
-    let mut steps: Steps<L> = Steps::new(blank);
-    match scan_lit(s, format.signed(), &mut steps) {
+    match scan_lit(s, format.signed(), steps) {
         Ok((radix, found)) => Ok(number_of(
             &found,
             radix,
             format,
             ReadMode::NearestEven,
-            &mut steps,
+            steps,
         )),
         Err(error) => Err(error),
     }
-}
-
-/// Reads a literal into a format, rounded to the nearest ulp, ties to even.
-///
-/// One minus may come first for a signed format. A prefix `0b`, `0o` or `0x` names the radix, which is 10 without one.
-/// Underscores may follow a prefix and a digit of their part.
-///
-/// # Errors
-///
-/// Other bytes than a literal are refused with the kind of their cause.
-pub fn read_literal(s: &[u8], format: Format) -> Result<ReadNumber, ParseFixedError>
-    ensures literal { IsOk result ↔ IsLiteral format.signed s.now }
-    ensures cause { IfErr result (λ kind. HasLiteralCause format.signed s.now kind) }
-    ensures reading { IfOk result (λ found. (p : Parts) → HasLiteral format.signed s.now p
-        → IsReading NearestEven (literal_radix format.signed s.now) p found) }
-    ensures format { IfOk result (λ found. found.format ≡ format) }
-{
-    read_literal_over::<Brand>(s, format, Blank::new(1))
 }
