@@ -211,7 +211,7 @@ fn read_scanned<L: Ledger>(
 ) -> Result<ReadNumber, ParseFixedError>
     ensures reading { IsReadOrRefused radix s.now (IsReading mode radix) result }
     ensures format { IfOk result (λ found. found.format ≡ format) }
-    ensures cost { steps.new ≤ steps.old + 2 * length s.now + 8 * format.width + 64 }
+    ensures cost { steps.new ≤ steps.old + 2 * length s.now + 119 }
 {
     // Matched by reference: moving the views out would copy them.
     let scanned = scan(s, radix, steps);
@@ -294,7 +294,7 @@ pub fn read_ending<L: Ledger>(
     requires place { from ≤ length text.now }
     ensures reading { IsReadOrRefused radix (drop from text.now) (IsReading mode radix) result }
     ensures format { IfOk result (λ found. found.format ≡ format) }
-    ensures cost { steps.new ≤ steps.old + 8 * (length (drop from text.now) + format.width) + 64 }
+    ensures cost { steps.new ≤ steps.old + 8 * length (drop from text.now) + 128 }
 {
     if radix == Radix::Dec {
         if let Some(found) = read_short(text, from, radix, format, mode, steps) {
@@ -305,7 +305,7 @@ pub fn read_ending<L: Ledger>(
 }
 
 /// Reads a numeral into a format in a mode: the numeral's magnitude in ulps of the format, rounded in the mode, with
-/// the numeral's sign. It takes at most eight steps for each byte and each bit, and 64.
+/// the numeral's sign. It takes at most eight steps for each byte, and 128.
 ///
 /// # Errors
 ///
@@ -320,7 +320,7 @@ pub fn read_format<L: Ledger>(
 ) -> Result<ReadNumber, ParseFixedError>
     ensures reading { IsReadOrRefused radix s.now (IsReading mode radix) result }
     ensures format { IfOk result (λ found. found.format ≡ format) }
-    ensures cost { steps.new ≤ steps.old + 8 * (length s.now + format.width) + 64 }
+    ensures cost { steps.new ≤ steps.old + 8 * length s.now + 128 }
 {
     read_ending(s, 0, radix, format, mode, steps)
 }
