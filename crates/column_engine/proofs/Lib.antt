@@ -1,4 +1,4 @@
-mod RecordLemmas
-mod RunLemmas
-mod WatchedLemmas
-mod QuoteLemmas
+mod RowLemmas
+mod GatherLemmas
+mod FeedLemmas
+mod HeaderLemmas
