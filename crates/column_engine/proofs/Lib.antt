@@ -2,3 +2,4 @@ mod RowLemmas
 mod GatherLemmas
 mod FeedLemmas
 mod HeaderLemmas
+mod RunLemmas

@@ -171,7 +171,7 @@ unfolding content
 plain_quoted xs nay = between xs nay
 
 
-from_never : (b : Bool) → (b ≡ true → ⊥) → b ≡ false
+pub from_never : (b : Bool) → (b ≡ true → ⊥) → b ≡ false
 from_never true never = absurd (never refl)
 from_never false never = refl
 

@@ -16,7 +16,6 @@ use Rattle.column_engine.specs.declared.end.ColumnEnd.{ColumnEnd}
 use Rattle.column_engine.specs.declared.end.Stop.{Stop}
 use Rattle.column_engine.specs.declared.end.Stop.TheVariants.{Done, NoColumn, NoMemory, NoName, ReadFault, TooLong, Unclosed, WriteFault}
 use Rattle.column_engine.specs.declared.place.Place.TheVariants.{Quoted, Start}
-use Rattle.column_engine.specs.declared.record_buffer.TheConstants.{MAX_RECORD}
 use Rattle.column_engine.specs.declared.run.TheConstants.{MAX_TEXT}
 
 -- the columns that a word means without a header; for a name that is no number the first one, until a header is read
@@ -60,7 +59,7 @@ RefusesNext stop delimiter columns s rest left part u =
 -- written
 abbrev pub Ends : Stop → (List ℕ → AnswerText → Type 0) → Bool → ℕ → List Column → State → List ℕ → Option (List ℕ) → List ℕ → State → Type 0
 Ends Done A keeps delimiter columns s rest left part u = IsAtEnd left × AnswersLast A keeps delimiter columns s rest part u
-Ends ReadFault A keeps delimiter columns s rest left part u = IsUnended delimiter Start rest × (length rest ≤ MAX_RECORD) × (part ≡ []) × SameCounts s u
+Ends ReadFault A keeps delimiter columns s rest left part u = IsUnended delimiter Start rest × (part ≡ []) × SameCounts s u
 Ends WriteFault A keeps delimiter columns s rest left part u = WritesNext A keeps delimiter columns s rest left part u
 Ends NoMemory A keeps delimiter columns s rest left part u = ⊥
 Ends TooLong A keeps delimiter columns s rest left part u = IsTooLong delimiter rest × (part ≡ []) × SameCounts s u

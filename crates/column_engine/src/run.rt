@@ -1,6 +1,6 @@
 //! Columns of a text answered, from a source to a sink.
 
-ghost use Rattle.std.specs.Prelude.{◌≡◌, ◌⊎◌, ◌≤◌, ◌<◌, ◌+◌, ◌++◌, [], List, ℕ, Option, IfOk, IfErr, OnOk, length, map};
+ghost use Rattle.std.specs.Prelude.{◌≡◌, ◌≢◌, ◌⊎◌, ◌≤◌, ◌<◌, ◌+◌, ◌++◌, [], List, ℕ, Option, IfOk, IfErr, OnOk, length, map};
 ghost use Rattle.std.specs.Io.KnownBytes.{Consumes, IsAtEnd};
 ghost use Rattle.line_engine.specs.Inner.Progress.{Flushes};
 ghost use Rattle.column_engine.specs.Answers.{State};
@@ -64,6 +64,7 @@ fn take_chunk<A: LineRule<L>, K: Sink, L: Ledger>(
         [] [] (K.written sink.old) (K.written sink.new)) }
     ensures err { IfErr result (λ stop. (left : Option (List ℕ)) → StopsText stop (A.Answers task.now.rule.now) task.now.is_kept task.now.delimiter task.now.columns.now
         [] (cutter.old.kept ++ chunk.now) (state_of cutter.old.progress) (state_of cutter.new.progress) left (K.written sink.old) (K.written sink.new)) }
+    ensures reads { IfErr result (λ stop. stop ≢ Stop.ReadFault) }
     ensures as_many { length cutter.new.progress.asked.items ≡ length task.now.columns.now }
     ensures failures { RisesOnly (K.failures sink.old) (K.failures sink.new) result }
 {
@@ -89,6 +90,7 @@ fn end_text<A: LineRule<L>, K: Sink, L: Ledger>(
     requires empty { work.old.out ≡ [] }
     ensures ends { (left : Option (List ℕ)) → IsAtEnd left → StopsText result (A.Answers task.now.rule.now) task.now.is_kept task.now.delimiter task.now.columns.now
         [] cutter.old.kept (state_of cutter.old.progress) (state_of cutter.new.progress) left (K.written sink.old) (K.written sink.new) }
+    ensures reads { result ≢ Stop.ReadFault }
     ensures failures { HasRisen (K.failures sink.old) (K.failures sink.new) result }
 {
     if cutter.kept.is_empty() {
@@ -137,7 +139,10 @@ fn begin_text<A: LineRule<L>, S: Source, K: Sink, L: Ledger>(
             Err(_) => Err(Stop::WriteFault),
             Ok(()) => Ok(()),
         },
-        Ok(Start::Other) => take_chunk(task, cutter, start.as_bytes(), work, sink, steps),
+        Ok(Start::Other) => match take_chunk(task, cutter, start.as_bytes(), work, sink, steps) {
+            Err(stop) => Err(stop),
+            Ok(()) => Ok(()),
+        },
         Ok(Start::Ended) => match take_chunk(task, cutter, start.as_bytes(), work, sink, steps) {
             Err(stop) => Err(stop),
             Ok(()) => Err(end_text(task, cutter, work, sink, steps)),
