@@ -1,7 +1,7 @@
 set -l commands convert column show bits format lines enclose least constants sort help
 complete -c fixed -n "not __fish_seen_subcommand_from $commands" -f
 complete -c fixed -n __fish_use_subcommand -a convert -d 'convert numerals, one a line'
-complete -c fixed -n __fish_use_subcommand -a column -d 'convert one column of CSV'
+complete -c fixed -n __fish_use_subcommand -a column -d 'convert columns of CSV'
 complete -c fixed -n __fish_use_subcommand -a show -d 'show a number in a format'
 complete -c fixed -n __fish_use_subcommand -a bits -d 'show what number a word is'
 complete -c fixed -n __fish_use_subcommand -a format -d 'show what a format holds'

@@ -56,11 +56,14 @@ put_whole held left bytes a b c none first next =
     rw none (record { gone = held ++ bytes; split = sym (append-nil (held ++ bytes)); appends = Appends-trans a b c held bytes first next })
 
 pub put_rest : (held bytes : List ℕ) (a b c : Option (List ℕ)) → Appends a b held → AppendsPrefix b c bytes → (left : List ℕ) × Flushes held bytes left a c
-put_rest held bytes a b c first part = (part.rest, record {
-  gone = held ++ part.prefix;
-  split = ap (λ l. held ++ l) part.split ∙ sym (append_assoc held part.prefix part.rest);
-  appends = Appends-trans a b c held part.prefix first part.appends;
-})
+put_rest held bytes a b c first part = (
+  part.rest,
+  record {
+    gone = held ++ part.prefix;
+    split = ap (λ l. held ++ l) part.split ∙ sym (append_assoc held part.prefix part.rest);
+    appends = Appends-trans a b c held part.prefix first part.appends;
+  },
+)
 
 pub before_none : (d column : ℕ) → column ≡ 0 → before_field d column ≡ []
 before_none d column is = rw is refl

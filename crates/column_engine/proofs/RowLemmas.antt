@@ -170,7 +170,6 @@ pub plain_quoted : (xs : List ℕ) → ((j : ℕ) → j < length xs → (get_or 
 unfolding content
 plain_quoted xs nay = between xs nay
 
-
 pub from_never : (b : Bool) → (b ≡ true → ⊥) → b ≡ false
 from_never true never = absurd (never refl)
 from_never false never = refl

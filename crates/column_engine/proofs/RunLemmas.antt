@@ -299,16 +299,16 @@ module _ (A : List ℕ → AnswerText → Type 0) (keeps : Bool) (d : ℕ) (colu
       → Consumes left' left'' [] → IsStanding d rest place → RunsText ReadFault A keeps d columns s t left left'' a b
   runs_unread rest place s t left left' left'' a b on none standing =
       runs_fail ReadFault rest [] s t t left left' left'' a b b on none (record {
-      rows = [];
-      rest = rest;
-      split = append-nil rest;
-      ended = tt;
-      text = [];
-      between = t;
-      answers = (refl, refl);
-      part = [];
-      ends = (standing.unended, refl, same_counts t);
-      output = Appends-nil b;
+        rows = [];
+        rest = rest;
+        split = append-nil rest;
+        ended = tt;
+        text = [];
+        between = t;
+        answers = (refl, refl);
+        part = [];
+        ends = (standing.unended, refl, same_counts t);
+        output = Appends-nil b;
       })
 
   -- the end of a text

@@ -1,5 +1,7 @@
 -- What is written for the records of a text, some of whose columns are answered by a rule.
-use Rattle.std.specs.Prelude.{◌==◌, ◌&&◌, ◌||◌, ◌≡◌, ◌≢◌, ◌⊎◌, ◌<◌, ◌≤◌, ◌+◌, ◌-◌, ◌^◌, ◌++◌, ⊤, ℕ, suc, zero, List, [], ◌∷◌, Bool, true, false, not, Option, Some, None, get_or, if◌then◌else◌, length, max, min, nat_le, string_bytes}
+use Rattle.std.specs.Prelude.{◌==◌, ◌&&◌, ◌||◌, ◌≡◌, ◌≢◌, ◌⊎◌, ◌<◌, ◌≤◌, ◌+◌, ◌-◌, ◌^◌, ◌++◌, ⊤, ℕ, suc, zero, List}
+use Rattle.std.specs.Prelude.{[], ◌∷◌, Bool, true, false, not, Option, Some, None, get_or, if◌then◌else◌, length, max}
+use Rattle.std.specs.Prelude.{min, nat_le, string_bytes}
 use Rattle.csv.specs.Writing.{default_writer, needs_quotes, quoted}
 use Rattle.csv.specs.declared.writer.WriterBuilder.{WriterBuilder}
 use Rattle.line_engine.specs.AnswerText.{AnswerText}
@@ -39,12 +41,14 @@ pub record IsFirstNamed (name : List ℕ) (names : List (List ℕ)) (place : ℕ
 abbrev pub HasNoNamed : List ℕ → List (List ℕ) → Type 0
 HasNoNamed name names = (k : ℕ) → k < length names → get_or names k [] ≢ name
 
--- the columns that a word means among the names of a header, of which there are none without one: a range, or the first column
+-- the columns that a word means among the names of a header, of which there are none without one: a range, or the
+-- first column
 -- that is named so, and else the range that the name is read as
 abbrev pub IsFound : List (List ℕ) → Column → Range → Type 0
 IsFound names (At range) found = found ≡ range
 IsFound names (Named name range) found =
-    (IsFirstNamed (string_bytes name) names found.from × (found.to ≡ found.from)) ⊎ (HasNoNamed (string_bytes name) names × (range ≡ Some found))
+    (IsFirstNamed (string_bytes name) names found.from × (found.to ≡ found.from))
+    ⊎ (HasNoNamed (string_bytes name) names × (range ≡ Some found))
 
 -- and those that each word means
 abbrev pub AreFound : List (List ℕ) → List Column → List Range → Type 0
@@ -64,32 +68,44 @@ AnyMissing names (column ∷ columns) = IsMissing names column ⊎ AnyMissing na
 
 -- ---- the answer to a record
 
--- a text as a field: in quotes, as csv writes them, where it has a byte that calls for them, is empty, or begins like a byte order mark
+-- a text as a field: in quotes, as csv writes them, where it has a byte that calls for them, is empty, or begins like
+-- a byte order mark
 abbrev pub calls_for_quotes : ℕ → List ℕ → Bool
-calls_for_quotes delimiter text = (length text == 0) || (get_or text 0 0 == 239) || needs_quotes (record default_writer { delimiter = delimiter }) text
+calls_for_quotes delimiter text = (length text == 0) || (get_or text 0 0 == 239) || needs_quotes (record
+    default_writer { delimiter = delimiter }) text
 
 abbrev pub as_field : ℕ → List ℕ → List ℕ
-as_field delimiter text = if calls_for_quotes delimiter text then quoted (record default_writer { delimiter = delimiter }) text else text
+as_field delimiter text = if calls_for_quotes delimiter text then quoted (record default_writer {
+  delimiter =
+      delimiter;
+}) text else text
 
 -- what is written for a field, and whether it was refused
 pub record FieldAnswer : Type 0 where
   pub text : List ℕ
   pub refused : Bool
 
--- the bytes of a field that is not asked for stay; those of one that is are replaced by the reply to its text, by this meaning of a
+-- the bytes of a field that is not asked for stay; those of one that is are replaced by the reply to its text, by
+-- this meaning of a
 -- reply, or stay where it is refused and refused fields are kept
 abbrev pub IsAnswer : (List ℕ → AnswerText → Type 0) → Bool → ℕ → Bool → List ℕ → FieldAnswer → Type 0
 IsAnswer A keeps delimiter false raw answer = answer ≡ record { text = raw; refused = false }
 IsAnswer A keeps delimiter true raw answer = (reply : AnswerText) × A (content Start raw) reply
-    × (answer ≡ record { text = if keeps && reply.fault then raw else as_field delimiter reply.text; refused = reply.fault })
+    × (answer ≡ record {
+      text = if keeps && reply.fault then raw else as_field delimiter reply.text;
+      refused =
+          reply.fault;
+    })
 
 -- these fields, the first of which is in this column, have these answers
-abbrev pub AreAnswers : (List ℕ → AnswerText → Type 0) → Bool → ℕ → List Range → ℕ → List (List ℕ) → List FieldAnswer → Type 0
+abbrev pub AreAnswers : (List ℕ → AnswerText → Type 0) → Bool → ℕ → List Range → ℕ → List (List ℕ) → List FieldAnswer
+    → Type 0
 AreAnswers A keeps delimiter asked column [] [] = ⊤
 AreAnswers A keeps delimiter asked column [] (answer ∷ answers) = ⊥
 AreAnswers A keeps delimiter asked column (raw ∷ raws) [] = ⊥
 AreAnswers A keeps delimiter asked column (raw ∷ raws) (answer ∷ answers) =
-    IsAnswer A keeps delimiter (is_asked asked column) raw answer × AreAnswers A keeps delimiter asked (column + 1) raws answers
+    IsAnswer A keeps delimiter (is_asked asked column) raw answer × AreAnswers A keeps delimiter asked (column + 1)
+    raws answers
 
 -- the delimiter before each field but the first
 abbrev pub before_field : ℕ → ℕ → List ℕ
@@ -98,7 +114,8 @@ before_field delimiter column = if column == 0 then [] else delimiter ∷ []
 -- the text of these fields, the first of which is in this column
 abbrev pub answers_text : ℕ → ℕ → List FieldAnswer → List ℕ
 answers_text delimiter column [] = []
-answers_text delimiter column (answer ∷ answers) = before_field delimiter column ++ answer.text ++ answers_text delimiter (column + 1) answers
+answers_text delimiter column (answer ∷ answers) = before_field delimiter column ++ answer.text ++ answers_text
+    delimiter (column + 1) answers
 
 -- how many of the fields were refused
 abbrev pub count_refused : List FieldAnswer → ℕ
@@ -107,8 +124,10 @@ count_refused (answer ∷ answers) = (if answer.refused then 1 else 0) + count_r
 
 -- ---- the answers to the records of a text
 
--- between two records: whether the next one is the header, and else the columns that are asked for; how many records were answered,
--- a header too, and how many fields refused; and the number of the first record one of whose fields was, 0 where there is none
+-- between two records: whether the next one is the header, and else the columns that are asked for; how many records
+-- were answered,
+-- a header too, and how many fields refused; and the number of the first record one of whose fields was, 0 where
+-- there is none
 pub record State : Type 0 where
   pub headed : Bool
   pub asked : List Range
@@ -129,7 +148,8 @@ one_more s refused = record s {
 }
 
 -- the header: it is written as it is, and says which columns are asked for
-pub record PassesHeader (delimiter : ℕ) (columns : List Column) (s : State) (row : Row) (text : List ℕ) (t : State) : Type 0 where
+pub record PassesHeader (delimiter : ℕ) (columns : List Column) (s : State) (row : Row) (text : List ℕ) (t : State) :
+    Type 0 where
   pub next : s.headed ≡ true
   pub found : List Range
   pub are_found : AreFound (field_texts delimiter row.body) columns found
@@ -138,7 +158,8 @@ pub record PassesHeader (delimiter : ℕ) (columns : List Column) (s : State) (r
   pub after : t ≡ one_more (record s { headed = false; asked = found }) 0
 
 -- a record: the answers to its fields, and the byte that ends it
-pub record AnswersFields (A : List ℕ → AnswerText → Type 0) (keeps : Bool) (delimiter : ℕ) (s : State) (row : Row) (text : List ℕ) (t : State) : Type 0 where
+pub record AnswersFields (A : List ℕ → AnswerText → Type 0) (keeps : Bool) (delimiter : ℕ) (s : State) (row : Row)
+    (text : List ℕ) (t : State) : Type 0 where
   pub known : s.headed ≡ false
   pub enough : needed s.asked ≤ length (raw_fields delimiter Start row.body)
   pub answers : List FieldAnswer
@@ -154,10 +175,13 @@ pub record PassesEmpty (s : State) (row : Row) (text : List ℕ) (t : State) : T
 
 abbrev pub AnswersRow : (List ℕ → AnswerText → Type 0) → Bool → ℕ → List Column → State → Row → List ℕ → State → Type 0
 AnswersRow A keeps delimiter columns s row text t =
-    PassesEmpty s row text t ⊎ ((row.body ≢ []) × (PassesHeader delimiter columns s row text t ⊎ AnswersFields A keeps delimiter s row text t))
+    PassesEmpty s row text t ⊎ ((row.body ≢ []) × (PassesHeader delimiter columns s row text t
+    ⊎ AnswersFields A keeps delimiter s row text t))
 
 -- this text is written for these records
-abbrev pub AnswersRows : (List ℕ → AnswerText → Type 0) → Bool → ℕ → List Column → State → List Row → List ℕ → State → Type 0
+abbrev pub AnswersRows : (List ℕ → AnswerText → Type 0) → Bool → ℕ → List Column → State → List Row → List ℕ → State
+    → Type 0
 AnswersRows A keeps delimiter columns s [] text t = (text ≡ []) × (t ≡ s)
 AnswersRows A keeps delimiter columns s (row ∷ rows) text t = (first : List ℕ) × (rest : List ℕ) × (between : State)
-    × AnswersRow A keeps delimiter columns s row first between × AnswersRows A keeps delimiter columns between rows rest t × (text ≡ first ++ rest)
+    × AnswersRow A keeps delimiter columns s row first between × AnswersRows A keeps delimiter columns between rows
+    rest t × (text ≡ first ++ rest)

@@ -8,7 +8,8 @@ use Rattle.column_engine.specs.Rows.{AreEnded, IsEnded, IsUnended, Row, places_a
 use Rattle.column_engine.specs.Steps.{SameCounts, StopsRow, IsUnanswered, IsRowPart}
 use Rattle.column_engine.specs.declared.columns.Column.{Column}
 use Rattle.column_engine.specs.declared.end.Stop.{Stop}
-use Rattle.column_engine.specs.declared.end.Stop.TheVariants.{Done, NoColumn, NoMemory, NoName, ReadFault, TooLong, Unclosed, WriteFault}
+use Rattle.column_engine.specs.declared.end.Stop.TheVariants.{Done, NoColumn, NoMemory, NoName, ReadFault, TooLong}
+use Rattle.column_engine.specs.declared.end.Stop.TheVariants.{Unclosed, WriteFault}
 use Rattle.column_engine.specs.declared.place.Place.{Place}
 use Rattle.column_engine.specs.declared.place.Place.TheVariants.{Start}
 use Rattle.column_engine.specs.declared.record_buffer.TheConstants.{MAX_RECORD}
@@ -19,7 +20,8 @@ pub record IsStanding (delimiter : ℕ) (kept : List ℕ) (place : Place) : Type
   pub place_is : place ≡ places_after delimiter Start kept
 
 -- the records that end in these bytes were answered, and the rest of the bytes is kept
-pub record FeedsRows (A : List ℕ → AnswerText → Type 0) (keeps : Bool) (delimiter : ℕ) (columns : List Column) (bytes rest : List ℕ) (s t : State)
+pub record FeedsRows (A : List ℕ → AnswerText → Type 0) (keeps : Bool) (delimiter : ℕ) (columns : List Column) (bytes
+    rest : List ℕ) (s t : State)
     (held held' : List ℕ) (written written' : Option (List ℕ)) : Type 0 where
   pub rows : List Row
   pub split : bytes ≡ rows_text rows ++ rest
@@ -65,7 +67,8 @@ IsLeft NoMemory left held = ⊥
 IsLeft Unclosed left held = ⊥
 
 -- the first of the records that end in these bytes were answered, and then no more
-pub record FailsFeed (stop : Stop) (A : List ℕ → AnswerText → Type 0) (keeps : Bool) (delimiter : ℕ) (columns : List Column) (bytes : List ℕ) (s t : State)
+pub record FailsFeed (stop : Stop) (A : List ℕ → AnswerText → Type 0) (keeps : Bool) (delimiter : ℕ) (columns : List
+    Column) (bytes : List ℕ) (s t : State)
     (held held' : List ℕ) (written written' : Option (List ℕ)) : Type 0 where
   pub rest : List ℕ
   pub between : State

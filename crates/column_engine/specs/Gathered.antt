@@ -7,14 +7,16 @@ use Rattle.column_engine.specs.Answers.{AreAnswers, FieldAnswer, IsAnswer, answe
 use Rattle.column_engine.specs.declared.columns.Range.{Range}
 
 -- the answer to a field was gathered, after the delimiter before it
-pub record GathersField (A : List ℕ → AnswerText → Type 0) (keeps : Bool) (delimiter : ℕ) (asks : Bool) (column : ℕ) (raw : List ℕ) (refused : Bool)
+pub record GathersField (A : List ℕ → AnswerText → Type 0) (keeps : Bool) (delimiter : ℕ) (asks : Bool) (column : ℕ)
+    (raw : List ℕ) (refused : Bool)
     (held held' : List ℕ) (written written' : Option (List ℕ)) : Type 0 where
   pub text : List ℕ
   pub answer : IsAnswer A keeps delimiter asks raw (record { text = text; refused = refused })
   pub gathered : Flushes held (before_field delimiter column ++ text) held' written written'
 
 -- the answers to these fields were
-pub record GathersFields (A : List ℕ → AnswerText → Type 0) (keeps : Bool) (delimiter : ℕ) (asked : List Range) (column : ℕ) (raws : List (List ℕ)) (refused : ℕ)
+pub record GathersFields (A : List ℕ → AnswerText → Type 0) (keeps : Bool) (delimiter : ℕ) (asked : List Range)
+    (column : ℕ) (raws : List (List ℕ)) (refused : ℕ)
     (held held' : List ℕ) (written written' : Option (List ℕ)) : Type 0 where
   pub answers : List FieldAnswer
   pub are : AreAnswers A keeps delimiter asked column raws answers
@@ -22,7 +24,8 @@ pub record GathersFields (A : List ℕ → AnswerText → Type 0) (keeps : Bool)
   pub gathered : Flushes held (answers_text delimiter column answers) held' written written'
 
 -- the answers to the first of these fields, or to all, were to be written, and a write failed
-pub record GathersPart (A : List ℕ → AnswerText → Type 0) (keeps : Bool) (delimiter : ℕ) (asked : List Range) (raws : List (List ℕ))
+pub record GathersPart (A : List ℕ → AnswerText → Type 0) (keeps : Bool) (delimiter : ℕ) (asked : List Range) (raws :
+    List (List ℕ))
     (held : List ℕ) (written written' : Option (List ℕ)) : Type 0 where
   pub some : List (List ℕ)
   pub more : List (List ℕ)

@@ -1,5 +1,6 @@
 -- The records and fields of a text of CSV, by their places in it, with this byte between fields.
-use Rattle.std.specs.Prelude.{◌==◌, ◌||◌, ◌≡◌, ◌≢◌, ◌++◌, ⊤, ℕ, List, [], ◌∷◌, Bool, true, false, flat_map, if◌then◌else◌, map, take}
+use Rattle.std.specs.Prelude.{◌==◌, ◌||◌, ◌≡◌, ◌≢◌, ◌++◌, ⊤, ℕ, List, [], ◌∷◌, Bool, true, false, flat_map}
+use Rattle.std.specs.Prelude.{if◌then◌else◌, map, take}
 use Rattle.line_engine.specs.Lines.{onto_first}
 use Rattle.column_engine.specs.declared.place.Place.{Place}
 use Rattle.column_engine.specs.declared.place.Place.TheVariants.{AfterQuote, Inside, Quoted, Start}
@@ -37,7 +38,8 @@ places_after delimiter place (byte ∷ rest) = places_after delimiter (place_aft
 -- no record ends in these bytes
 unfoldable pub IsUnended : ℕ → Place → List ℕ → Type 0
 IsUnended delimiter place [] = ⊤
-IsUnended delimiter place (byte ∷ rest) = (ends_record place byte ≡ false) × IsUnended delimiter (place_after delimiter place byte) rest
+IsUnended delimiter place (byte ∷ rest) = (ends_record place byte ≡ false) × IsUnended delimiter (place_after
+    delimiter place byte) rest
 
 -- the bytes of each field of a record, its quotes too
 unfoldable pub raw_fields : ℕ → Place → List ℕ → List (List ℕ)
@@ -56,13 +58,15 @@ is_dropped AfterQuote byte = false
 -- the text that the bytes of a field mean
 unfoldable pub content : Place → List ℕ → List ℕ
 content place [] = []
-content place (byte ∷ rest) = if is_dropped place byte then content (within_after place byte) rest else byte ∷ content (within_after place byte) rest
+content place (byte ∷ rest) = if is_dropped place byte then content (within_after place byte) rest else byte ∷ content
+    (within_after place byte) rest
 
 -- the texts of the fields of a record
 abbrev pub field_texts : ℕ → List ℕ → List (List ℕ)
 field_texts delimiter body = map (content Start) (raw_fields delimiter Start body)
 
--- a record as it lies in its text, which may be an empty line, and the byte that ends it, which the last one of a text may lack
+-- a record as it lies in its text, which may be an empty line, and the byte that ends it, which the last one of a
+-- text may lack
 pub record Row : Type 0 where
   pub body : List ℕ
   pub end : List ℕ

@@ -1,15 +1,19 @@
 -- How far a text was answered, and why no further.
-use Rattle.std.specs.Prelude.{◌≡◌, ◌≢◌, ◌⊎◌, ◌<◌, ◌≤◌, ◌+◌, ◌++◌, ⊤, ℕ, Bool, true, false, List, [], length, take, Result, OnOk, IfErr}
+use Rattle.std.specs.Prelude.{◌≡◌, ◌≢◌, ◌⊎◌, ◌<◌, ◌≤◌, ◌+◌, ◌++◌, ⊤, ℕ, Bool, true, false, List, [], length, take}
+use Rattle.std.specs.Prelude.{Result, OnOk, IfErr}
 use Rattle.std.specs.declared.option.Option.{Option}
 use Rattle.line_engine.specs.AnswerText.{AnswerText}
 use Rattle.line_engine.specs.Failures.{HasFailed}
 use Rattle.line_engine.specs.Inner.Progress.{Flushes}
-use Rattle.column_engine.specs.Answers.{AnswersRow, AnswersRows, AnyMissing, AreAnswers, AreFound, FieldAnswer, State, answers_text, needed}
-use Rattle.column_engine.specs.Rows.{AreEnded, IsEnded, IsUnended, Row, field_texts, places_after, raw_fields, row_text, rows_text}
+use Rattle.column_engine.specs.Answers.{AnswersRow, AnswersRows, AnyMissing, AreAnswers, AreFound, FieldAnswer, State}
+use Rattle.column_engine.specs.Answers.{answers_text, needed}
+use Rattle.column_engine.specs.Rows.{AreEnded, IsEnded, IsUnended, Row, field_texts, places_after, raw_fields}
+use Rattle.column_engine.specs.Rows.{row_text, rows_text}
 use Rattle.column_engine.specs.declared.columns.Column.{Column}
 use Rattle.column_engine.specs.declared.columns.Range.{Range}
 use Rattle.column_engine.specs.declared.end.Stop.{Stop}
-use Rattle.column_engine.specs.declared.end.Stop.TheVariants.{Done, NoColumn, NoMemory, NoName, ReadFault, TooLong, Unclosed, WriteFault}
+use Rattle.column_engine.specs.declared.end.Stop.TheVariants.{Done, NoColumn, NoMemory, NoName, ReadFault, TooLong}
+use Rattle.column_engine.specs.declared.end.Stop.TheVariants.{Unclosed, WriteFault}
 use Rattle.column_engine.specs.declared.place.Place.{Place}
 use Rattle.column_engine.specs.declared.place.Place.TheVariants.{Quoted, Start}
 use Rattle.column_engine.specs.declared.row.Progress.{Progress}
@@ -27,7 +31,14 @@ HasRisen before now Unclosed = now ≡ before
 
 -- what is seen of a progress
 abbrev pub state_of : Progress → State
-state_of p = record { headed = p.is_headed; asked = p.asked.items; answered = p.answered; refused = p.refused; first = p.first }
+state_of p = record {
+  headed = p.is_headed;
+  asked = p.asked.items;
+  answered = p.answered;
+  refused = p.refused;
+  first =
+      p.first;
+}
 
 -- a record has no column that is asked for, but only this many
 pub record LacksColumn (delimiter : ℕ) (asked : List Range) (row : Row) (count : ℕ) : Type 0 where
@@ -38,7 +49,8 @@ pub record LacksColumn (delimiter : ℕ) (asked : List Range) (row : Row) (count
 abbrev pub IsUnanswered : Stop → ℕ → List Column → State → Row → Type 0
 IsUnanswered (NoColumn count) delimiter columns s row =
     ((s.headed ≡ false) × LacksColumn delimiter s.asked row count)
-    ⊎ ((s.headed ≡ true) × ((found : List Range) × AreFound (field_texts delimiter row.body) columns found × LacksColumn delimiter found row count))
+    ⊎ ((s.headed ≡ true) × ((found : List Range) × AreFound (field_texts delimiter row.body) columns found
+    × LacksColumn delimiter found row count))
 IsUnanswered NoName delimiter columns s row = (s.headed ≡ true) × AnyMissing (field_texts delimiter row.body) columns
 IsUnanswered Done delimiter columns s row = ⊥
 IsUnanswered ReadFault delimiter columns s row = ⊥
@@ -55,7 +67,10 @@ pub record IsHeader (delimiter : ℕ) (columns : List Column) (body : List ℕ) 
 -- and one that has not
 abbrev pub IsNoHeader : Stop → ℕ → List Column → List ℕ → Type 0
 IsNoHeader (NoColumn count) delimiter columns body =
-    (found : List Range) × AreFound (field_texts delimiter body) columns found × LacksColumn delimiter found (record { body = body; end = [] }) count
+    (found : List Range) × AreFound (field_texts delimiter body) columns found × LacksColumn delimiter found (record {
+      body = body;
+      end = [];
+    }) count
 IsNoHeader NoName delimiter columns body = AnyMissing (field_texts delimiter body) columns
 IsNoHeader Done delimiter columns body = ⊥
 IsNoHeader ReadFault delimiter columns body = ⊥
@@ -84,7 +99,8 @@ pub record RisesOnly (before now : ℕ) (result : Result (Unit {0}) Stop) : Type
   pub stops : IfErr result (λ stop. HasRisen before now stop)
 
 -- the answers to the first of the fields of a record
-pub record IsPartOfFields (A : List ℕ → AnswerText → Type 0) (keeps : Bool) (delimiter : ℕ) (asked : List Range) (raws : List (List ℕ)) (text : List ℕ) : Type 0 where
+pub record IsPartOfFields (A : List ℕ → AnswerText → Type 0) (keeps : Bool) (delimiter : ℕ) (asked : List Range) (raws
+    : List (List ℕ)) (text : List ℕ) : Type 0 where
   pub some : List (List ℕ)
   pub more : List (List ℕ)
   pub cut : raws ≡ some ++ more
@@ -96,25 +112,30 @@ pub record IsPartOfFields (A : List ℕ → AnswerText → Type 0) (keeps : Bool
 abbrev pub IsRowPart : (List ℕ → AnswerText → Type 0) → Bool → ℕ → List Column → State → Row → List ℕ → Type 0
 IsRowPart A keeps delimiter columns s row text =
     ((t : State) × AnswersRow A keeps delimiter columns s row text t)
-    ⊎ ((s.headed ≡ false) × (row.body ≢ []) × IsPartOfFields A keeps delimiter s.asked (raw_fields delimiter Start row.body) text)
+    ⊎ ((s.headed ≡ false) × (row.body ≢ []) × IsPartOfFields A keeps delimiter s.asked (raw_fields delimiter Start
+    row.body) text)
 
 -- a record was answered
-pub record PassesRow (A : List ℕ → AnswerText → Type 0) (keeps : Bool) (delimiter : ℕ) (columns : List Column) (row : Row) (s t : State)
+pub record PassesRow (A : List ℕ → AnswerText → Type 0) (keeps : Bool) (delimiter : ℕ) (columns : List Column) (row :
+    Row) (s t : State)
     (held held' : List ℕ) (written written' : Option (List ℕ)) : Type 0 where
   pub text : List ℕ
   pub answer : AnswersRow A keeps delimiter columns s row text t
   pub gathered : Flushes held text held' written written'
 
 -- or it was not, or not to its end
-pub record FailsRow (A : List ℕ → AnswerText → Type 0) (keeps : Bool) (delimiter : ℕ) (columns : List Column) (row : Row) (s : State)
+pub record FailsRow (A : List ℕ → AnswerText → Type 0) (keeps : Bool) (delimiter : ℕ) (columns : List Column) (row :
+    Row) (s : State)
     (held : List ℕ) (written written' : Option (List ℕ)) : Type 0 where
   pub text : List ℕ
   pub part : IsRowPart A keeps delimiter columns s row text
   pub left : List ℕ
   pub gathered : Flushes held text left written written'
 
-abbrev pub StopsRow : Stop → (List ℕ → AnswerText → Type 0) → Bool → ℕ → List Column → Row → State → List ℕ → List ℕ → Option (List ℕ) → Option (List ℕ) → Type 0
-StopsRow WriteFault A keeps delimiter columns row s held held' written written' = FailsRow A keeps delimiter columns row s held written written'
+abbrev pub StopsRow : Stop → (List ℕ → AnswerText → Type 0) → Bool → ℕ → List Column → Row → State → List ℕ → List ℕ
+    → Option (List ℕ) → Option (List ℕ) → Type 0
+StopsRow WriteFault A keeps delimiter columns row s held held' written written' = FailsRow A keeps delimiter columns
+    row s held written written'
 StopsRow (NoColumn count) A keeps delimiter columns row s held held' written written' =
     IsUnanswered (NoColumn count) delimiter columns s row × (held' ≡ held) × (written' ≡ written)
 StopsRow NoName A keeps delimiter columns row s held held' written written' =

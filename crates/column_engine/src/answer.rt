@@ -1,6 +1,7 @@
 //! The answers to the fields of a record.
 
-ghost use Rattle.std.specs.Prelude.{◌≡◌, ◌≤◌, ◌<◌, ◌+◌, ◌++◌, [], ◌∷◌, List, ℕ, Bool, true, if◌then◌else◌, IfOk, OnOk, OnErr, length};
+ghost use Rattle.std.specs.Prelude.{◌≡◌, ◌≤◌, ◌<◌, ◌+◌, ◌++◌, [], ◌∷◌, List, ℕ, Bool, true, if◌then◌else◌, IfOk};
+ghost use Rattle.std.specs.Prelude.{OnOk, OnErr, length};
 ghost use Rattle.line_engine.specs.Failures.{FailsOnlyCounted};
 ghost use Rattle.line_engine.specs.Inner.Progress.{Flushes};
 ghost use Rattle.column_engine.specs.Answers.{IsAnswer, before_field, is_asked};
@@ -44,9 +45,17 @@ pub(crate) struct Work {
 }
 
 /// Has the text of a field answered.
-fn reply_to<A: LineRule<L>, L: Ledger>(rule: &A, raw: &[u8], work: &mut Work, steps: &mut Steps<L>) -> bool
+fn reply_to<A: LineRule<L>, L: Ledger>(
+    rule: &A,
+    raw: &[u8],
+    work: &mut Work,
+    steps: &mut Steps<L>,
+) -> bool
     requires { length raw.now ≤ MAX_RECORD }
-    ensures reply { A.Answers rule.now (content Place.Start raw.now) (record { text = work.new.reply; fault = result }) }
+    ensures reply { A.Answers rule.now (content Place.Start raw.now) (record {
+      text = work.new.reply;
+      fault = result;
+    }) }
     ensures out { work.new.out ≡ work.old.out }
 {
     work.reply.clear();
@@ -67,7 +76,10 @@ fn answer_asked<A: LineRule<L>, L: Ledger>(
     steps: &mut Steps<L>,
 ) -> bool
     requires { length raw.now ≤ MAX_RECORD }
-    ensures answer { IsAnswer (A.Answers task.now.rule.now) task.now.is_kept task.now.delimiter true raw.now (record { text = work.new.text; refused = result }) }
+    ensures answer { IsAnswer (A.Answers task.now.rule.now) task.now.is_kept task.now.delimiter true raw.now (record {
+      text = work.new.text;
+      refused = result;
+    }) }
     ensures out { work.new.out ≡ work.old.out }
 {
     let is_refused = reply_to(task.rule, raw, work, steps);
@@ -81,9 +93,17 @@ fn answer_asked<A: LineRule<L>, L: Ledger>(
 }
 
 /// Gathers the delimiter before a field, where it is not the first one, and the field.
-fn put_field<K: Sink>(delimiter: u8, column: usize, text: &[u8], out: &mut Output, sink: &mut K) -> Result<(), Failed>
-    ensures ok { OnOk result (Flushes out.old (before_field delimiter column ++ text.now) out.new (K.written sink.old) (K.written sink.new)) }
-    ensures err { OnErr result ((left : List ℕ) × Flushes out.old (before_field delimiter column ++ text.now) left (K.written sink.old) (K.written sink.new)) }
+fn put_field<K: Sink>(
+    delimiter: u8,
+    column: usize,
+    text: &[u8],
+    out: &mut Output,
+    sink: &mut K,
+) -> Result<(), Failed>
+    ensures ok { OnOk result (Flushes out.old (before_field delimiter column ++ text.now) out.new (K.written sink.old)
+        (K.written sink.new)) }
+    ensures err { OnErr result ((left : List ℕ) × Flushes out.old (before_field delimiter column ++ text.now) left
+        (K.written sink.old) (K.written sink.new)) }
     ensures failures { FailsOnlyCounted (K.failures sink.old) (K.failures sink.new) result }
 {
     if column == 0 {
@@ -93,7 +113,8 @@ fn put_field<K: Sink>(delimiter: u8, column: usize, text: &[u8], out: &mut Outpu
     put(text, out, sink)
 }
 
-/// Gathers the answer to a field, after the delimiter where it is not the first one. It says whether the field was refused.
+/// Gathers the answer to a field, after the delimiter where it is not the first one. It says whether the field was
+/// refused.
 fn answer_field<A: LineRule<L>, K: Sink, L: Ledger>(
     task: &ColumnTask<'_, A>,
     asked: &[Range],
@@ -104,15 +125,23 @@ fn answer_field<A: LineRule<L>, K: Sink, L: Ledger>(
     steps: &mut Steps<L>,
 ) -> Result<bool, Failed>
     requires { length raw.now ≤ MAX_RECORD }
-    ensures ok { IfOk result (λ refused. GathersField (A.Answers task.now.rule.now) task.now.is_kept task.now.delimiter (is_asked asked.now column) column raw.now
+    ensures ok { IfOk result (λ refused. GathersField (A.Answers task.now.rule.now) task.now.is_kept
+        task.now.delimiter (is_asked asked.now column) column raw.now
         refused work.old.out work.new.out (K.written sink.old) (K.written sink.new)) }
-    ensures err { OnErr result ((refused : Bool) × (left : List ℕ) × GathersField (A.Answers task.now.rule.now) task.now.is_kept task.now.delimiter (is_asked asked.now column) column raw.now
+    ensures err { OnErr result ((refused : Bool) × (left : List ℕ) × GathersField (A.Answers task.now.rule.now)
+        task.now.is_kept task.now.delimiter (is_asked asked.now column) column raw.now
         refused work.old.out left (K.written sink.old) (K.written sink.new)) }
     ensures failures { FailsOnlyCounted (K.failures sink.old) (K.failures sink.new) result }
 {
     if is_asked(asked, column) {
         let is_refused = answer_asked(task, raw, work, steps);
-        put_field(task.delimiter, column, work.text.as_slice(), &mut work.out, sink)?;
+        put_field(
+            task.delimiter,
+            column,
+            work.text.as_slice(),
+            &mut work.out,
+            sink,
+        )?;
         return Ok(is_refused);
     }
     put_field(task.delimiter, column, raw, &mut work.out, sink)?;
@@ -137,9 +166,11 @@ pub(crate) fn answer_fields<A: LineRule<L>, K: Sink, L: Ledger>(
     steps: &mut Steps<L>,
 ) -> Result<u64, Failed>
     requires { length body.now ≤ MAX_RECORD }
-    ensures ok { IfOk result (λ refused. GathersFields (A.Answers task.now.rule.now) task.now.is_kept task.now.delimiter asked.now 0 (raw_fields task.now.delimiter Place.Start body.now)
+    ensures ok { IfOk result (λ refused. GathersFields (A.Answers task.now.rule.now) task.now.is_kept
+        task.now.delimiter asked.now 0 (raw_fields task.now.delimiter Place.Start body.now)
         refused work.old.out work.new.out (K.written sink.old) (K.written sink.new)) }
-    ensures err { OnErr result (GathersPart (A.Answers task.now.rule.now) task.now.is_kept task.now.delimiter asked.now (raw_fields task.now.delimiter Place.Start body.now)
+    ensures err { OnErr result (GathersPart (A.Answers task.now.rule.now) task.now.is_kept task.now.delimiter
+        asked.now (raw_fields task.now.delimiter Place.Start body.now)
         work.old.out (K.written sink.old) (K.written sink.new)) }
     ensures failures { FailsOnlyCounted (K.failures sink.old) (K.failures sink.new) result }
 {

@@ -44,7 +44,11 @@ pub(crate) fn is_asked(asked: &[Range], column: usize) -> bool
 fn needed_for(range: Range) -> usize
     ensures { result ≡ needed_for range }
 {
-    if range.to == usize::MAX { 0 } else { range.to + 1 }
+    if range.to == usize::MAX {
+        0
+    } else {
+        range.to + 1
+    }
 }
 
 /// The greater of two numbers.

@@ -39,10 +39,13 @@ fn end_row<A: LineRule<L>, K: Sink, L: Ledger>(
     requires as_many { length cutter.old.progress.asked.items ≡ length task.now.columns.now }
     ensures kept { OnOk result (cutter.new.kept ≡ []) }
     ensures place { OnOk result (cutter.new.place ≡ Place.Start) }
-    ensures ok { OnOk result (PassesRow (A.Answers task.now.rule.now) task.now.is_kept task.now.delimiter task.now.columns.now
+    ensures ok { OnOk result (PassesRow (A.Answers task.now.rule.now) task.now.is_kept task.now.delimiter
+        task.now.columns.now
         (record { body = cutter.old.kept ++ part.now; end = end.now })
-        (state_of cutter.old.progress) (state_of cutter.new.progress) work.old.out work.new.out (K.written sink.old) (K.written sink.new)) }
-    ensures err { IfErr result (λ stop. StopsRow stop (A.Answers task.now.rule.now) task.now.is_kept task.now.delimiter task.now.columns.now
+        (state_of cutter.old.progress) (state_of cutter.new.progress) work.old.out work.new.out (K.written sink.old)
+        (K.written sink.new)) }
+    ensures err { IfErr result (λ stop. StopsRow stop (A.Answers task.now.rule.now) task.now.is_kept
+        task.now.delimiter task.now.columns.now
         (record { body = cutter.old.kept ++ part.now; end = end.now })
         (state_of cutter.old.progress) work.old.out work.new.out (K.written sink.old) (K.written sink.new)) }
     ensures counts { IfErr result (λ stop. SameCounts (state_of cutter.old.progress) (state_of cutter.new.progress)) }
@@ -54,7 +57,15 @@ fn end_row<A: LineRule<L>, K: Sink, L: Ledger>(
         return answer_row(task, &mut cutter.progress, part, end, work, sink, steps);
     }
     cutter.kept.append(part);
-    answer_row(task, &mut cutter.progress, cutter.kept.as_slice(), end, work, sink, steps)?;
+    answer_row(
+        task,
+        &mut cutter.progress,
+        cutter.kept.as_slice(),
+        end,
+        work,
+        sink,
+        steps,
+    )?;
     cutter.kept.clear();
     Ok(())
 }
@@ -71,10 +82,12 @@ pub(crate) fn feed<A: LineRule<L>, K: Sink, L: Ledger>(
     requires standing { IsStanding task.now.delimiter cutter.old.kept cutter.old.place }
     requires as_many { length cutter.old.progress.asked.items ≡ length task.now.columns.now }
     ensures standing { OnOk result (IsStanding task.now.delimiter cutter.new.kept cutter.new.place) }
-    ensures ok { OnOk result (FeedsRows (A.Answers task.now.rule.now) task.now.is_kept task.now.delimiter task.now.columns.now
+    ensures ok { OnOk result (FeedsRows (A.Answers task.now.rule.now) task.now.is_kept task.now.delimiter
+        task.now.columns.now
         (cutter.old.kept ++ chunk.now) cutter.new.kept (state_of cutter.old.progress) (state_of cutter.new.progress)
         work.old.out work.new.out (K.written sink.old) (K.written sink.new)) }
-    ensures err { IfErr result (λ stop. FailsFeed stop (A.Answers task.now.rule.now) task.now.is_kept task.now.delimiter task.now.columns.now
+    ensures err { IfErr result (λ stop. FailsFeed stop (A.Answers task.now.rule.now) task.now.is_kept
+        task.now.delimiter task.now.columns.now
         (cutter.old.kept ++ chunk.now) (state_of cutter.old.progress) (state_of cutter.new.progress)
         work.old.out work.new.out (K.written sink.old) (K.written sink.new)) }
     ensures as_many { length cutter.new.progress.asked.items ≡ length task.now.columns.now }
@@ -97,7 +110,15 @@ pub(crate) fn feed<A: LineRule<L>, K: Sink, L: Ledger>(
                 if end > room {
                     return Err(Stop::TooLong);
                 }
-                match end_row(task, cutter, &rest[..end], &rest[end..end + 1], work, sink, steps) {
+                match end_row(
+                    task,
+                    cutter,
+                    &rest[..end],
+                    &rest[end..end + 1],
+                    work,
+                    sink,
+                    steps,
+                ) {
                     Err(stop) => return Err(stop),
                     Ok(()) => rest = &rest[end + 1..],
                 }

@@ -20,12 +20,14 @@ pub(crate) fn flush<K: Sink>(out: &mut Output, sink: &mut K) -> Result<(), Faile
     Ok(())
 }
 
-/// Gathers bytes. Where there is no room for them, what was gathered is written first, and they are written at once where they are
+/// Gathers bytes. Where there is no room for them, what was gathered is written first, and they are written at once
+/// where they are
 /// many. Where a write failed, a prefix of all of it was written.
 #[inline]
 pub(crate) fn put<K: Sink>(bytes: &[u8], out: &mut Output, sink: &mut K) -> Result<(), Failed>
     ensures ok { OnOk result (Flushes out.old bytes.now out.new (K.written sink.old) (K.written sink.new)) }
-    ensures err { OnErr result ((left : List ℕ) × Flushes out.old bytes.now left (K.written sink.old) (K.written sink.new)) }
+    ensures err { OnErr result ((left : List ℕ) × Flushes out.old bytes.now left (K.written sink.old) (K.written
+        sink.new)) }
     ensures failures { FailsOnlyCounted (K.failures sink.old) (K.failures sink.new) result }
 {
     if bytes.len() <= out.room() {

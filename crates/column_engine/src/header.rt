@@ -26,9 +26,15 @@ fn is_named(raw: &[u8], name: &[u8], text: &mut RecordBuffer) -> bool
 }
 
 /// The place of the first field of a header that is this name.
-fn place_of_name(delimiter: u8, header: &[u8], name: &[u8], text: &mut RecordBuffer) -> Option<usize>
+fn place_of_name(
+    delimiter: u8,
+    header: &[u8],
+    name: &[u8],
+    text: &mut RecordBuffer,
+) -> Option<usize>
     requires { length header.now ≤ MAX_RECORD }
-    ensures { MatchOption result (HasNoNamed name.now (field_texts delimiter header.now)) (IsFirstNamed name.now (field_texts delimiter header.now)) }
+    ensures { MatchOption result (HasNoNamed name.now (field_texts delimiter header.now)) (IsFirstNamed name.now
+        (field_texts delimiter header.now)) }
 {
     let mut rest = header;
     let mut column = 0;
@@ -46,13 +52,24 @@ fn place_of_name(delimiter: u8, header: &[u8], name: &[u8], text: &mut RecordBuf
 }
 
 /// The columns that a word means under a header.
-pub(crate) fn found_column(delimiter: u8, header: &[u8], column: &Column, text: &mut RecordBuffer) -> Option<Range>
+pub(crate) fn found_column(
+    delimiter: u8,
+    header: &[u8],
+    column: &Column,
+    text: &mut RecordBuffer,
+) -> Option<Range>
     requires { length header.now ≤ MAX_RECORD }
-    ensures { MatchOption result (IsMissing (field_texts delimiter header.now) column.now) (IsFound (field_texts delimiter header.now) column.now) }
+    ensures { MatchOption result (IsMissing (field_texts delimiter header.now) column.now) (IsFound (field_texts
+        delimiter header.now) column.now) }
 {
     match column {
         Column::At(range) => Some(*range),
-        Column::Named(name, range) => match place_of_name(delimiter, header, name.as_bytes(), text) {
+        Column::Named(name, range) => match place_of_name(
+            delimiter,
+            header,
+            name.as_bytes(),
+            text,
+        ) {
             Some(place) => Some(Range {
                 from: place,
                 to: place,

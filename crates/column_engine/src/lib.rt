@@ -4,8 +4,8 @@
 pub mod answer;
 mod begin;
 pub mod columns;
-pub mod end;
 mod cutter;
+pub mod end;
 mod field;
 mod gather;
 mod header;

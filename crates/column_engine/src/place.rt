@@ -1,7 +1,9 @@
 //! Where a record of CSV ends, and where a field of it ends.
 
-ghost use Rattle.std.specs.Prelude.{◌≡◌, ◌≤◌, ◌<◌, ◌+◌, ◌++◌, [], ◌∷◌, true, MatchOption, drop, get_or, length, take, IfSome};
-ghost use Rattle.column_engine.specs.Rows.{IsUnended, ends_field, ends_record, place_after, places_after, raw_fields, within_after};
+ghost use Rattle.std.specs.Prelude.{◌≡◌, ◌≤◌, ◌<◌, ◌+◌, ◌++◌, [], ◌∷◌, true, MatchOption, drop, get_or, length, take};
+ghost use Rattle.std.specs.Prelude.{IfSome};
+ghost use Rattle.column_engine.specs.Rows.{IsUnended, ends_field, ends_record, place_after, places_after, raw_fields};
+ghost use Rattle.column_engine.specs.Rows.{within_after};
 
 /// A place in a record.
 #[derive(Clone, Copy, Debug, PartialEq, Eq)]
@@ -59,11 +61,14 @@ fn place_after(delimiter: u8, place: Place, byte: u8) -> Place
     }
 }
 
-/// Where the record ends that goes on with these bytes from a place, where it ends in them, and the place after those before.
+/// Where the record ends that goes on with these bytes from a place, where it ends in them, and the place after those
+/// before.
 pub(crate) fn record_end(delimiter: u8, from: Place, bytes: &[u8]) -> (Option<usize>, Place)
     ensures some { IfSome result.0 (λ end. (end < length bytes.now) × IsUnended delimiter from (take end bytes.now)
-        × (result.1 ≡ places_after delimiter from (take end bytes.now)) × (ends_record result.1 (get_or bytes.now end 0) ≡ true)) }
-    ensures none { result.0 ≡ None → IsUnended delimiter from bytes.now × (result.1 ≡ places_after delimiter from bytes.now) }
+        × (result.1 ≡ places_after delimiter from (take end bytes.now)) × (ends_record result.1 (get_or bytes.now end
+        0) ≡ true)) }
+    ensures none { result.0 ≡ None → IsUnended delimiter from bytes.now × (result.1 ≡ places_after delimiter from
+        bytes.now) }
 {
     let mut place = from;
     'bytes: for at in 0..bytes.len() {
@@ -80,7 +85,8 @@ pub(crate) fn field_end(delimiter: u8, body: &[u8]) -> usize
     ensures within { result ≤ length body.now }
     ensures last { result ≡ length body.now → raw_fields delimiter Place.Start body.now ≡ body.now ∷ [] }
     ensures more { result < length body.now
-        → raw_fields delimiter Place.Start body.now ≡ take result body.now ∷ raw_fields delimiter Place.Start (drop (result + 1) body.now) }
+        → raw_fields delimiter Place.Start body.now ≡ take result body.now ∷ raw_fields delimiter Place.Start (drop
+        (result + 1) body.now) }
 {
     let mut place = Place::Start;
     'bytes: for at in 0..body.len() {

@@ -1,6 +1,7 @@
 //! Bytes of a record that are kept.
 
-ghost use Rattle.std.specs.Prelude.{◌≡◌, ◌≤◌, ◌<◌, ◌+◌, ◌↔◌, IsTrue, ◌++◌, [], ◌∷◌, List, ℕ, length, IfOk, vec_capacity};
+ghost use Rattle.std.specs.Prelude.{◌≡◌, ◌≤◌, ◌<◌, ◌+◌, ◌↔◌, IsTrue, ◌++◌, [], ◌∷◌, List, ℕ, length, IfOk};
+ghost use Rattle.std.specs.Prelude.{vec_capacity};
 ghost use Rattle.column_engine.specs.declared.record_buffer.TheConstants.{MAX_RECORD};
 
 use std::alloc::{AllocError, Global};

@@ -1,11 +1,13 @@
 //! The answer to a record.
 
-ghost use Rattle.std.specs.Prelude.{◌≡◌, ◌≢◌, ◌≤◌, ◌<◌, ◌+◌, ◌++◌, [], true, false, List, ℕ, MatchOption, IfErr, OnOk, OnErr, length};
+ghost use Rattle.std.specs.Prelude.{◌≡◌, ◌≢◌, ◌≤◌, ◌<◌, ◌+◌, ◌++◌, [], true, false, List, ℕ, MatchOption, IfErr};
+ghost use Rattle.std.specs.Prelude.{OnOk, OnErr, length};
 ghost use Rattle.line_engine.specs.Failures.{FailsOnlyCounted};
 ghost use Rattle.line_engine.specs.Inner.Progress.{Flushes};
 ghost use Rattle.column_engine.specs.Answers.{AnyMissing, AreFound, counted, needed, one_more};
 ghost use Rattle.column_engine.specs.Rows.{field_texts, raw_fields};
-ghost use Rattle.column_engine.specs.Steps.{IsHeader, IsNoHeader, PassesRow, RisesOnly, SameButAsked, SameCounts, StopsRow, state_of};
+ghost use Rattle.column_engine.specs.Steps.{IsHeader, IsNoHeader, PassesRow, RisesOnly, SameButAsked, SameCounts};
+ghost use Rattle.column_engine.specs.Steps.{StopsRow, state_of};
 ghost use Rattle.column_engine.specs.declared.record_buffer.TheConstants.{MAX_RECORD};
 
 use crate::answer::{ColumnTask, Work, answer_fields};
@@ -67,7 +69,13 @@ fn lacking(delimiter: u8, body: &[u8], needed: usize) -> Option<usize>
 }
 
 /// Finds the columns that are asked for under a header, or says that a name is missing.
-fn find_columns(delimiter: u8, header: &[u8], columns: &[Column], asked: &mut [Range], text: &mut RecordBuffer) -> bool
+fn find_columns(
+    delimiter: u8,
+    header: &[u8],
+    columns: &[Column],
+    asked: &mut [Range],
+    text: &mut RecordBuffer,
+) -> bool
     requires short { length header.now ≤ MAX_RECORD }
     requires as_many { length asked.old ≡ length columns.now }
     ensures found { result ≡ true → AreFound (field_texts delimiter header.now) columns.now asked.new }
@@ -85,7 +93,8 @@ fn find_columns(delimiter: u8, header: &[u8], columns: &[Column], asked: &mut [R
 /// Gathers the bytes of a record and the byte that ends it.
 fn put_row<K: Sink>(body: &[u8], end: &[u8], out: &mut Output, sink: &mut K) -> Result<(), Failed>
     ensures ok { OnOk result (Flushes out.old (body.now ++ end.now) out.new (K.written sink.old) (K.written sink.new)) }
-    ensures err { OnErr result ((left : List ℕ) × Flushes out.old (body.now ++ end.now) left (K.written sink.old) (K.written sink.new)) }
+    ensures err { OnErr result ((left : List ℕ) × Flushes out.old (body.now ++ end.now) left (K.written sink.old)
+        (K.written sink.new)) }
     ensures failures { FailsOnlyCounted (K.failures sink.old) (K.failures sink.new) result }
 {
     match put(body, out, sink) {
@@ -95,14 +104,25 @@ fn put_row<K: Sink>(body: &[u8], end: &[u8], out: &mut Output, sink: &mut K) -> 
 }
 
 /// Finds in a header the columns that are asked for.
-fn read_header<A>(task: &ColumnTask<'_, A>, progress: &mut Progress, body: &[u8], text: &mut RecordBuffer) -> Result<(), Stop>
+fn read_header<A>(
+    task: &ColumnTask<'_, A>,
+    progress: &mut Progress,
+    body: &[u8],
+    text: &mut RecordBuffer,
+) -> Result<(), Stop>
     requires short { length body.now ≤ MAX_RECORD }
     requires as_many { length progress.old.asked.items ≡ length task.now.columns.now }
     ensures ok { OnOk result (IsHeader task.now.delimiter task.now.columns.now body.now progress.new.asked.items) }
     ensures stops { IfErr result (λ stop. IsNoHeader stop task.now.delimiter task.now.columns.now body.now) }
     ensures same { SameButAsked progress.old progress.new }
 {
-    if !find_columns(task.delimiter, body, task.columns, &mut progress.asked, text) {
+    if !find_columns(
+        task.delimiter,
+        body,
+        task.columns,
+        &mut progress.asked,
+        text,
+    ) {
         return Err(Stop::NoName);
     }
     match lacking(task.delimiter, body, needed(&progress.asked)) {
@@ -125,9 +145,12 @@ fn answer_record<A: LineRule<L>, K: Sink, L: Ledger>(
     requires some { body.now ≢ [] }
     requires known { progress.old.is_headed ≡ false }
     requires as_many { length progress.old.asked.items ≡ length task.now.columns.now }
-    ensures ok { OnOk result (PassesRow (A.Answers task.now.rule.now) task.now.is_kept task.now.delimiter task.now.columns.now (record { body = body.now; end = end.now })
-        (state_of progress.old) (state_of progress.new) work.old.out work.new.out (K.written sink.old) (K.written sink.new)) }
-    ensures err { IfErr result (λ stop. StopsRow stop (A.Answers task.now.rule.now) task.now.is_kept task.now.delimiter task.now.columns.now (record { body = body.now; end = end.now })
+    ensures ok { OnOk result (PassesRow (A.Answers task.now.rule.now) task.now.is_kept task.now.delimiter
+        task.now.columns.now (record { body = body.now; end = end.now })
+        (state_of progress.old) (state_of progress.new) work.old.out work.new.out (K.written sink.old) (K.written
+        sink.new)) }
+    ensures err { IfErr result (λ stop. StopsRow stop (A.Answers task.now.rule.now) task.now.is_kept
+        task.now.delimiter task.now.columns.now (record { body = body.now; end = end.now })
         (state_of progress.old) work.old.out work.new.out (K.written sink.old) (K.written sink.new)) }
     ensures counts { IfErr result (λ stop. SameCounts (state_of progress.old) (state_of progress.new)) }
     ensures as_many { length progress.new.asked.items ≡ length task.now.columns.now }
@@ -161,9 +184,12 @@ pub(crate) fn answer_row<A: LineRule<L>, K: Sink, L: Ledger>(
 ) -> Result<(), Stop>
     requires short { length body.now ≤ MAX_RECORD }
     requires as_many { length progress.old.asked.items ≡ length task.now.columns.now }
-    ensures ok { OnOk result (PassesRow (A.Answers task.now.rule.now) task.now.is_kept task.now.delimiter task.now.columns.now (record { body = body.now; end = end.now })
-        (state_of progress.old) (state_of progress.new) work.old.out work.new.out (K.written sink.old) (K.written sink.new)) }
-    ensures err { IfErr result (λ stop. StopsRow stop (A.Answers task.now.rule.now) task.now.is_kept task.now.delimiter task.now.columns.now (record { body = body.now; end = end.now })
+    ensures ok { OnOk result (PassesRow (A.Answers task.now.rule.now) task.now.is_kept task.now.delimiter
+        task.now.columns.now (record { body = body.now; end = end.now })
+        (state_of progress.old) (state_of progress.new) work.old.out work.new.out (K.written sink.old) (K.written
+        sink.new)) }
+    ensures err { IfErr result (λ stop. StopsRow stop (A.Answers task.now.rule.now) task.now.is_kept
+        task.now.delimiter task.now.columns.now (record { body = body.now; end = end.now })
         (state_of progress.old) work.old.out work.new.out (K.written sink.old) (K.written sink.new)) }
     ensures counts { IfErr result (λ stop. SameCounts (state_of progress.old) (state_of progress.new)) }
     ensures as_many { length progress.new.asked.items ≡ length task.now.columns.now }

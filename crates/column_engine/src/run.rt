@@ -1,11 +1,13 @@
 //! Columns of a text answered, from a source to a sink.
 
-ghost use Rattle.std.specs.Prelude.{◌≡◌, ◌≢◌, ◌⊎◌, ◌≤◌, ◌<◌, ◌+◌, ◌++◌, [], List, ℕ, Option, IfOk, IfErr, OnOk, length, map};
+ghost use Rattle.std.specs.Prelude.{◌≡◌, ◌≢◌, ◌⊎◌, ◌≤◌, ◌<◌, ◌+◌, ◌++◌, [], List, ℕ, Option, IfOk, IfErr, OnOk};
+ghost use Rattle.std.specs.Prelude.{length, map};
 ghost use Rattle.std.specs.Io.KnownBytes.{Consumes, IsAtEnd};
 ghost use Rattle.line_engine.specs.Inner.Progress.{Flushes};
 ghost use Rattle.column_engine.specs.Answers.{State};
 ghost use Rattle.column_engine.specs.Feeding.{FeedsRows, IsLeft, IsStanding};
-ghost use Rattle.column_engine.specs.Run.{HasFailures, HasRun, RunsOn, RunsText, StopsText, Writes, counts_of, first_range, first_state};
+ghost use Rattle.column_engine.specs.Run.{HasFailures, HasRun, RunsOn, RunsText, StopsText, Writes, counts_of};
+ghost use Rattle.column_engine.specs.Run.{first_range, first_state};
 ghost use Rattle.column_engine.specs.Steps.{HasRisen, RisesOnly, SameCounts, state_of};
 ghost use Rattle.column_engine.specs.declared.end.Stop.{Stop};
 
@@ -32,9 +34,11 @@ const MAX_TEXT: u64 = 9_223_372_036_854_775_808;
 /// Writes what was gathered before the records of a text ended so, and says how they ended: a write may fail here too.
 fn stop_after<K: Sink>(stop: Stop, out: &mut Output, sink: &mut K) -> Stop
     ensures which { (result ≡ stop) ⊎ (result ≡ Stop.WriteFault) }
-    ensures wrote { (start : Option (List ℕ)) (text left : List ℕ) → IsLeft stop left out.old → Flushes [] text left start (K.written sink.old)
+    ensures wrote { (start : Option (List ℕ)) (text left : List ℕ) → IsLeft stop left out.old
+        → Flushes [] text left start (K.written sink.old)
         → Writes result start (K.written sink.new) text }
-    ensures failures { (start : ℕ) → HasRisen start (K.failures sink.old) stop → HasRisen start (K.failures sink.new) result }
+    ensures failures { (start : ℕ) → HasRisen start (K.failures sink.old) stop → HasRisen start (K.failures sink.new)
+        result }
 {
     match stop {
         Stop::WriteFault => Stop::WriteFault,
@@ -59,11 +63,14 @@ fn take_chunk<A: LineRule<L>, K: Sink, L: Ledger>(
     requires empty { work.old.out ≡ [] }
     ensures standing { OnOk result (IsStanding task.now.delimiter cutter.new.kept cutter.new.place) }
     ensures empty { OnOk result (work.new.out ≡ []) }
-    ensures ok { OnOk result (FeedsRows (A.Answers task.now.rule.now) task.now.is_kept task.now.delimiter task.now.columns.now
+    ensures ok { OnOk result (FeedsRows (A.Answers task.now.rule.now) task.now.is_kept task.now.delimiter
+        task.now.columns.now
         (cutter.old.kept ++ chunk.now) cutter.new.kept (state_of cutter.old.progress) (state_of cutter.new.progress)
         [] [] (K.written sink.old) (K.written sink.new)) }
-    ensures err { IfErr result (λ stop. (left : Option (List ℕ)) → StopsText stop (A.Answers task.now.rule.now) task.now.is_kept task.now.delimiter task.now.columns.now
-        [] (cutter.old.kept ++ chunk.now) (state_of cutter.old.progress) (state_of cutter.new.progress) left (K.written sink.old) (K.written sink.new)) }
+    ensures err { IfErr result (λ stop. (left : Option (List ℕ)) → StopsText stop (A.Answers task.now.rule.now)
+        task.now.is_kept task.now.delimiter task.now.columns.now
+        [] (cutter.old.kept ++ chunk.now) (state_of cutter.old.progress) (state_of cutter.new.progress) left
+        (K.written sink.old) (K.written sink.new)) }
     ensures reads { IfErr result (λ stop. stop ≢ Stop.ReadFault) }
     ensures as_many { length cutter.new.progress.asked.items ≡ length task.now.columns.now }
     ensures failures { RisesOnly (K.failures sink.old) (K.failures sink.new) result }
@@ -88,8 +95,10 @@ fn end_text<A: LineRule<L>, K: Sink, L: Ledger>(
     requires standing { IsStanding task.now.delimiter cutter.old.kept cutter.old.place }
     requires as_many { length cutter.old.progress.asked.items ≡ length task.now.columns.now }
     requires empty { work.old.out ≡ [] }
-    ensures ends { (left : Option (List ℕ)) → IsAtEnd left → StopsText result (A.Answers task.now.rule.now) task.now.is_kept task.now.delimiter task.now.columns.now
-        [] cutter.old.kept (state_of cutter.old.progress) (state_of cutter.new.progress) left (K.written sink.old) (K.written sink.new) }
+    ensures ends { (left : Option (List ℕ)) → IsAtEnd left → StopsText result (A.Answers task.now.rule.now)
+        task.now.is_kept task.now.delimiter task.now.columns.now
+        [] cutter.old.kept (state_of cutter.old.progress) (state_of cutter.new.progress) left (K.written sink.old)
+        (K.written sink.new) }
     ensures reads { result ≢ Stop.ReadFault }
     ensures failures { HasRisen (K.failures sink.old) (K.failures sink.new) result }
 {
@@ -99,7 +108,15 @@ fn end_text<A: LineRule<L>, K: Sink, L: Ledger>(
     if let Place::Quoted = cutter.place {
         return Stop::Unclosed;
     }
-    match answer_row(task, &mut cutter.progress, cutter.kept.as_slice(), &[], work, sink, steps) {
+    match answer_row(
+        task,
+        &mut cutter.progress,
+        cutter.kept.as_slice(),
+        &[],
+        work,
+        sink,
+        steps,
+    ) {
         Err(stop) => stop,
         Ok(()) => match flush(&mut work.out, sink) {
             Err(_) => Stop::WriteFault,
@@ -108,7 +125,8 @@ fn end_text<A: LineRule<L>, K: Sink, L: Ledger>(
     }
 }
 
-/// Reads the first bytes of a text, and writes a byte order mark that it begins with. Where the text ends with them, or a read or a
+/// Reads the first bytes of a text, and writes a byte order mark that it begins with. Where the text ends with them,
+/// or a read or a
 /// write fails, it says how the text ended.
 fn begin_text<A: LineRule<L>, S: Source, K: Sink, L: Ledger>(
     task: &ColumnTask<'_, A>,
@@ -125,12 +143,18 @@ fn begin_text<A: LineRule<L>, S: Source, K: Sink, L: Ledger>(
     ensures standing { OnOk result (IsStanding task.now.delimiter cutter.new.kept cutter.new.place) }
     ensures as_many { OnOk result (length cutter.new.progress.asked.items ≡ length task.now.columns.now) }
     ensures empty { OnOk result (work.new.out ≡ []) }
-    ensures ok { OnOk result (RunsOn (A.Answers task.now.rule.now) task.now.is_kept task.now.delimiter task.now.columns.now
-        cutter.new.kept (state_of cutter.old.progress) (state_of cutter.new.progress) (S.left source.old) (S.left source.new) (K.written sink.old) (K.written sink.new)) }
-    ensures err { IfErr result (λ stop. RunsText stop (A.Answers task.now.rule.now) task.now.is_kept task.now.delimiter task.now.columns.now
-        (state_of cutter.old.progress) (state_of cutter.new.progress) (S.left source.old) (S.left source.new) (K.written sink.old) (K.written sink.new)) }
-    ensures same { OnOk result ((S.failures source.new ≡ S.failures source.old) × (K.failures sink.new ≡ K.failures sink.old)) }
-    ensures failures { IfErr result (HasFailures (S.failures source.old) (S.failures source.new) (K.failures sink.old) (K.failures sink.new)) }
+    ensures ok { OnOk result (RunsOn (A.Answers task.now.rule.now) task.now.is_kept task.now.delimiter
+        task.now.columns.now
+        cutter.new.kept (state_of cutter.old.progress) (state_of cutter.new.progress) (S.left source.old) (S.left
+        source.new) (K.written sink.old) (K.written sink.new)) }
+    ensures err { IfErr result (λ stop. RunsText stop (A.Answers task.now.rule.now) task.now.is_kept
+        task.now.delimiter task.now.columns.now
+        (state_of cutter.old.progress) (state_of cutter.new.progress) (S.left source.old) (S.left source.new)
+        (K.written sink.old) (K.written sink.new)) }
+    ensures same { OnOk result ((S.failures source.new ≡ S.failures source.old) × (K.failures sink.new ≡ K.failures
+        sink.old)) }
+    ensures failures { IfErr result (HasFailures (S.failures source.old) (S.failures source.new) (K.failures sink.old)
+        (K.failures sink.new)) }
 {
     let mut start = Output::new();
     match read_start(source, &mut start) {
@@ -164,8 +188,10 @@ fn answer_text<A: LineRule<L>, S: Source, K: Sink, L: Ledger>(
     requires as_many { length cutter.old.progress.asked.items ≡ length task.now.columns.now }
     requires empty { work.old.out ≡ [] }
     ensures run { HasRun result (A.Answers task.now.rule.now) task.now.is_kept task.now.delimiter task.now.columns.now
-        (state_of cutter.old.progress) (state_of cutter.new.progress) (S.left source.old) (S.left source.new) (K.written sink.old) (K.written sink.new) }
-    ensures failures { HasFailures (S.failures source.old) (S.failures source.new) (K.failures sink.old) (K.failures sink.new) result }
+        (state_of cutter.old.progress) (state_of cutter.new.progress) (S.left source.old) (S.left source.new)
+        (K.written sink.old) (K.written sink.new) }
+    ensures failures { HasFailures (S.failures source.old) (S.failures source.new) (K.failures sink.old) (K.failures
+        sink.new) result }
 {
     if let Err(stop) = begin_text(task, cutter, work, source, sink, steps) {
         return stop;
@@ -185,7 +211,8 @@ fn answer_text<A: LineRule<L>, S: Source, K: Sink, L: Ledger>(
     Stop::TooLong
 }
 
-/// The columns that a word means without a header; a name that is no number means the first one, until a header is read.
+/// The columns that a word means without a header; a name that is no number means the first one, until a header is
+/// read.
 fn first_range(column: &Column) -> Range
     ensures { result ≡ first_range column.now }
 {
@@ -223,7 +250,8 @@ fn first_progress<A>(alloc: Global, task: &ColumnTask<'_, A>) -> Result<Progress
 
 /// Room for the run.
 fn begin_cutter<A>(alloc: Global, task: &ColumnTask<'_, A>) -> Result<Cutter, AllocError>
-    ensures progress { IfOk result (λ cutter. state_of cutter.progress ≡ first_state task.now.has_header task.now.columns.now) }
+    ensures progress { IfOk result (λ cutter. state_of cutter.progress ≡ first_state task.now.has_header
+        task.now.columns.now) }
     ensures kept { IfOk result (λ cutter. cutter.kept ≡ []) }
     ensures place { IfOk result (λ cutter. cutter.place ≡ Place.Start) }
 {
@@ -261,11 +289,14 @@ fn end_of(stop: Stop, progress: &Progress) -> ColumnEnd
     }
 }
 
-/// Has columns of a text answered by a rule, and writes the text with these fields replaced to a sink. Every other byte stays as it was:
+/// Has columns of a text answered by a rule, and writes the text with these fields replaced to a sink. Every other
+/// byte stays as it was:
 /// a byte order mark, quotes, blank lines, the ends of lines.
 ///
-/// It takes memory for two records of 1,048,576 bytes and for a range of columns for each word, and ends with `NoMemory` where that
-/// fails; afterwards it takes none. Each read asks for at most 16,384 bytes, and the answers to the records that ended in them are
+/// It takes memory for two records of 1,048,576 bytes and for a range of columns for each word, and ends with
+/// `NoMemory` where that
+/// fails; afterwards it takes none. Each read asks for at most 16,384 bytes, and the answers to the records that
+/// ended in them are
 /// written before the next read.
 ///
 /// The delimiter is an ASCII character that is no quote and no end of a line.
@@ -277,11 +308,14 @@ pub fn run_column<A: LineRule<L>, S: Source, K: Sink, L: Ledger>(
     steps: &mut Steps<L>,
 ) -> ColumnEnd
     // What was taken and what was written, by how the run ended.
-    ensures run { (result.stop ≡ Stop.NoMemory) ⊎ HasRun result.stop (A.Answers task.now.rule.now) task.now.is_kept task.now.delimiter task.now.columns.now
-        (first_state task.now.has_header task.now.columns.now) (counts_of result) (S.left source.old) (S.left source.new) (K.written sink.old) (K.written sink.new) }
+    ensures run { (result.stop ≡ Stop.NoMemory) ⊎ HasRun result.stop (A.Answers task.now.rule.now) task.now.is_kept
+        task.now.delimiter task.now.columns.now
+        (first_state task.now.has_header task.now.columns.now) (counts_of result) (S.left source.old) (S.left
+        source.new) (K.written sink.old) (K.written sink.new) }
 
     // Which count of failures rose.
-    ensures failures { HasFailures (S.failures source.old) (S.failures source.new) (K.failures sink.old) (K.failures sink.new) result.stop }
+    ensures failures { HasFailures (S.failures source.old) (S.failures source.new) (K.failures sink.old) (K.failures
+        sink.new) result.stop }
 
     // Where there was no memory, nothing was read or written.
     ensures memory { result.stop ≡ Stop.NoMemory → (source.new ≡ source.old) × (sink.new ≡ sink.old) }

@@ -41,7 +41,10 @@ impl<L: Ledger> LineRule<L> for NoX {
 
     ghost MAX_ANSWER = { 8 };
 
-    ghost Answers = { λ rule line reply. reply ≡ (if get_or line 0 0 == 120 then record { text = codes "not, so"; fault = true }
+    ghost Answers = { λ rule line reply. reply ≡ (if get_or line 0 0 == 120 then record {
+      text = codes "not, so";
+      fault = true;
+    }
         else record { text = codes "yes"; fault = false }) };
 
     fn answer(&self, line: &[u8], out: &mut Output, _steps: &mut Steps<L>) -> bool {
@@ -92,7 +95,13 @@ fn columns_of(alloc: Global, case: &Case) -> Result<Vec<Column>, AllocError> {
 }
 
 /// How a run of these bytes ends, and what it writes. The case's own input is left out.
-fn run_case<L: Ledger>(alloc: Global, case: &Case, input: Vec<u8>, most: usize, blank: Blank) -> Result<(ColumnEnd, Vec<u8>), AllocError>
+fn run_case<L: Ledger>(
+    alloc: Global,
+    case: &Case,
+    input: Vec<u8>,
+    most: usize,
+    blank: Blank,
+) -> Result<(ColumnEnd, Vec<u8>), AllocError>
     requires name { blank.name ≡ L.name }
     requires parts { blank.parts ≡ L.parts }
     requires some { 0 < blank.parts }
@@ -109,7 +118,11 @@ fn run_case<L: Ledger>(alloc: Global, case: &Case, input: Vec<u8>, most: usize, 
     let most = most.max(1);
     let room = 4_096;
     let mut source = MemorySource::new(input, most, vec![in alloc; case.failing_read]?);
-    let mut sink = MemorySink::new(vec![in alloc; 0u8; room]?, most, vec![in alloc; case.failing_write]?);
+    let mut sink = MemorySink::new(
+        vec![in alloc; 0u8; room]?,
+        most,
+        vec![in alloc; case.failing_write]?,
+    );
     let end = run_column(alloc, &task, &mut source, &mut sink, &mut steps);
     Ok((end, sink.written().to_vec(alloc)?))
 }
@@ -118,7 +131,13 @@ fn run_case<L: Ledger>(alloc: Global, case: &Case, input: Vec<u8>, most: usize, 
 fn assert_runs(rt: &impl Abort, alloc: Global, cases: &[Case]) -> Result<(), AllocError> {
     for case in cases {
         for most in [1, 2, 3, 5, 4096] {
-            let (end, written) = run_case::<Brand>(alloc, case, case.input.to_vec(alloc)?, most, Blank::new(1))?;
+            let (end, written) = run_case::<Brand>(
+                alloc,
+                case,
+                case.input.to_vec(alloc)?,
+                most,
+                Blank::new(1),
+            )?;
             assert_eq!(rt; written.as_slice(), case.written);
             assert_eq!(rt; end, case.end);
         }
@@ -138,7 +157,10 @@ fn ended(stop: Stop, answered: u64) -> ColumnEnd {
 
 /// The columns at one place.
 fn one(place: usize) -> Option<Range> {
-    Some(Range { from: place, to: place })
+    Some(Range {
+        from: place,
+        to: place,
+    })
 }
 
 /// A run of the second column, without a header, none of whose fields is refused.
@@ -158,7 +180,13 @@ fn second(input: &'static [u8], written: &'static [u8], answered: u64) -> Case {
 }
 
 /// A run of the column that a header names so, or by this place.
-fn named(name: &'static str, range: Option<Range>, input: &'static [u8], written: &'static [u8], answered: u64) -> Case {
+fn named(
+    name: &'static str,
+    range: Option<Range>,
+    input: &'static [u8],
+    written: &'static [u8],
+    answered: u64,
+) -> Case {
     Case {
         name: Some(name),
         range,
@@ -194,10 +222,25 @@ fn a_number_is_a_column_of_every_record(rt: HostRuntime) -> Result<(), Fail> {
         second(b"a,b", b"a,yes", 1),
         second(b"a,b\nc,d,e\n", b"a,yes\nc,yes,e\n", 2),
         second(b"", b"", 0),
-        Case { range: one(0), ..second(b"a,b\n1,2\n", b"yes,b\nyes,2\n", 2) },
-        Case { range: one(2), ..second(b"a,b,c\n", b"a,b,yes\n", 1) },
-        Case { range: Some(Range { from: 1, to: 2 }), ..second(b"a,b,c,d\n", b"a,yes,yes,d\n", 1) },
-        Case { range: Some(Range { from: 0, to: usize::MAX }), ..second(b"a,b\n\nc\n", b"yes,yes\n\nyes\n", 2) },
+        Case {
+            range: one(0),
+            ..second(b"a,b\n1,2\n", b"yes,b\nyes,2\n", 2)
+        },
+        Case {
+            range: one(2),
+            ..second(b"a,b,c\n", b"a,b,yes\n", 1)
+        },
+        Case {
+            range: Some(Range { from: 1, to: 2 }),
+            ..second(b"a,b,c,d\n", b"a,yes,yes,d\n", 1)
+        },
+        Case {
+            range: Some(Range {
+                from: 0,
+                to: usize::MAX,
+            }),
+            ..second(b"a,b\n\nc\n", b"yes,yes\n\nyes\n", 2)
+        },
     ];
     assert_runs(&rt, rt.alloc(), &cases)?;
     Ok(())
@@ -250,7 +293,13 @@ fn a_byte_order_mark_stays_before_the_first_field(rt: HostRuntime) -> Result<(),
         second(b"\xef\xbba,1\n", b"\xef\xbba,yes\n", 1),
         stopped(second(b"\xef\xbb", b"", 0), Stop::NoColumn(1)),
         second(b"\xef\xbb\xbf", b"\xef\xbb\xbf", 0),
-        named("n", None, b"\xef\xbb\xbfn,m\n1,2\n", b"\xef\xbb\xbfn,m\nyes,2\n", 2),
+        named(
+            "n",
+            None,
+            b"\xef\xbb\xbfn,m\n1,2\n",
+            b"\xef\xbb\xbfn,m\nyes,2\n",
+            2,
+        ),
     ];
     assert_runs(&rt, rt.alloc(), &cases)?;
     Ok(())
@@ -259,9 +308,18 @@ fn a_byte_order_mark_stays_before_the_first_field(rt: HostRuntime) -> Result<(),
 #[test]
 fn another_byte_can_be_between_fields(rt: HostRuntime) -> Result<(), Fail> {
     let cases = [
-        Case { delimiter: b';', ..second(b"a,b;1;c\n", b"a,b;yes;c\n", 1) },
-        Case { delimiter: b';', ..second(b"\"a;b\";1\n", b"\"a;b\";yes\n", 1) },
-        Case { delimiter: b'\t', ..refusing(second(b"a\tx\n", b"a\tnot, so\n", 1), 1, 1) },
+        Case {
+            delimiter: b';',
+            ..second(b"a,b;1;c\n", b"a,b;yes;c\n", 1)
+        },
+        Case {
+            delimiter: b';',
+            ..second(b"\"a;b\";1\n", b"\"a;b\";yes\n", 1)
+        },
+        Case {
+            delimiter: b'\t',
+            ..refusing(second(b"a\tx\n", b"a\tnot, so\n", 1), 1, 1)
+        },
     ];
     assert_runs(&rt, rt.alloc(), &cases)?;
     Ok(())
@@ -274,7 +332,10 @@ fn refused_fields_are_counted_and_kept_where_that_is_asked(rt: HostRuntime) -> R
     let kept = b"a,yes\nb,\"x,y\"\nx,yes\nd,x\n";
     let cases = [
         refusing(second(input, replaced, 4), 2, 2),
-        Case { is_kept: true, ..refusing(second(input, kept, 4), 2, 2) },
+        Case {
+            is_kept: true,
+            ..refusing(second(input, kept, 4), 2, 2)
+        },
         refusing(named("n", None, b"n\nx\n", b"n\n\"not, so\"\n", 2), 1, 2),
         second(b"a,\"\"\"x\"\n", b"a,yes\n", 1),
         refusing(second(b"a,\"x\"\"\"\n", b"a,\"not, so\"\n", 1), 1, 1),
@@ -288,7 +349,10 @@ fn a_record_or_a_header_without_the_column_ends_the_run(rt: HostRuntime) -> Resu
     let cases = [
         stopped(second(b"a,1\nb\nc,2\n", b"a,yes\n", 1), Stop::NoColumn(1)),
         stopped(second(b"\"\"\n", b"", 0), Stop::NoColumn(1)),
-        stopped(named("n", None, b"a,n,c\n1\n", b"a,n,c\n", 1), Stop::NoColumn(1)),
+        stopped(
+            named("n", None, b"a,n,c\n1\n", b"a,n,c\n", 1),
+            Stop::NoColumn(1),
+        ),
         stopped(named("3", one(2), b"a,b\n1,2\n", b"", 0), Stop::NoColumn(2)),
         stopped(named("c", None, b"a,b\n1,2\n", b"", 0), Stop::NoName),
         stopped(named("A", None, b"a,b\n1,2\n", b"", 0), Stop::NoName),

@@ -13,9 +13,12 @@ returns-in_err-put_field-clause-err g c =
     let part = c.in_err-put_field.ensures.err in
     let answer = subst (λ t. IsAnswer A c.args.task.now.is_kept c.args.task.now.delimiter true c.args.raw.now (record { text = t; refused = refused })) (sym c.as_slice.ensures.bytes) c.answer_asked-is_refused.ensures.answer in
     let one = subst (λ h. Flushes h (before_field c.args.task.now.delimiter c.args.column ++ c.as_slice.result.now) part.0 a b) c.answer_asked-is_refused.ensures.out part.1 in
-    on_err c.from_residual.result (refused, part.0,
-    field_asked A c.args.task.now.is_kept c.args.task.now.delimiter c.args.asked.now (is_asked c.args.asked.now c.args.column) refused c.args.column c.args.raw.now c.as_slice.result.now c.args.work.now.out part.0 a b
-    (sym c.is_asked.ensures ∙ c.if-is_asked.true) answer one)
+    on_err c.from_residual.result (
+      refused,
+      part.0,
+      field_asked A c.args.task.now.is_kept c.args.task.now.delimiter c.args.asked.now (is_asked c.args.asked.now c.args.column) refused c.args.column c.args.raw.now c.as_slice.result.now c.args.work.now.out part.0 a b
+          (sym c.is_asked.ensures ∙ c.if-is_asked.true) answer one,
+    )
 
 pub returns-then-is_asked-clause-ok : goal.returns-then-is_asked-clause-ok
 returns-then-is_asked-clause-ok g c =
@@ -32,9 +35,12 @@ pub returns-in_err-put_field-2-clause-err : goal.returns-in_err-put_field-2-clau
 returns-in_err-put_field-2-clause-err g c =
     let A = g.A.LineRule.Answers c.args.task.now.rule.now in
     let part = c.in_err-put_field-2.ensures.err in
-    on_err c.from_residual-in_err-put_field-2.result (false, part.0,
-    field_unasked A c.args.task.now.is_kept c.args.task.now.delimiter c.args.asked.now (is_asked c.args.asked.now c.args.column) c.args.column c.args.raw.now c.args.work.now.out part.0
-    (g.K.Sink.written c.args.sink.now) (g.K.Sink.written c.put_field-2.new.sink) (sym c.is_asked.ensures ∙ c.if-is_asked.false) part.1)
+    on_err c.from_residual-in_err-put_field-2.result (
+      false,
+      part.0,
+      field_unasked A c.args.task.now.is_kept c.args.task.now.delimiter c.args.asked.now (is_asked c.args.asked.now c.args.column) c.args.column c.args.raw.now c.args.work.now.out part.0
+          (g.K.Sink.written c.args.sink.now) (g.K.Sink.written c.put_field-2.new.sink) (sym c.is_asked.ensures ∙ c.if-is_asked.false) part.1,
+    )
 
 pub returns-clause-ok : goal.returns-clause-ok
 returns-clause-ok g c =

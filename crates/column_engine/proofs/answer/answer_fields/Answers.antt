@@ -25,9 +25,9 @@ returns-in_err-is_refused-clause-err g c =
     let rest = c.fields.rest.now in
     let first = first_field d rest c.field_end-end.result c.field_end-end.ensures.within c.field_end-end.ensures.last c.field_end-end.ensures.more in
     on_err c.from_residual.result (
-      part_one (g.A.LineRule.Answers c.args.task.now.rule.now) c.args.task.now.is_kept d c.args.asked.now (raw_fields d Start c.args.body.now) inv.some first.0 (take c.field_end-end.result rest)
-      c.fields.column c.fields.refused c.args.work.now.out c.fields.work.out (g.K.Sink.written c.args.sink.now) (g.K.Sink.written c.fields.sink) (g.K.Sink.written c.answer_field.new.sink)
-      (cut_more (raw_fields d Start c.args.body.now) inv.some (raw_fields d Start rest) first.0 (take c.field_end-end.result rest) inv.cut first.1) inv.many inv.fields c.in_err-is_refused.ensures.err
+    part_one (g.A.LineRule.Answers c.args.task.now.rule.now) c.args.task.now.is_kept d c.args.asked.now (raw_fields d Start c.args.body.now) inv.some first.0 (take c.field_end-end.result rest)
+    c.fields.column c.fields.refused c.args.work.now.out c.fields.work.out (g.K.Sink.written c.args.sink.now) (g.K.Sink.written c.fields.sink) (g.K.Sink.written c.answer_field.new.sink)
+    (cut_more (raw_fields d Start c.args.body.now) inv.some (raw_fields d Start rest) first.0 (take c.field_end-end.result rest) inv.cut first.1) inv.many inv.fields c.in_err-is_refused.ensures.err
     )
 
 pub returns-then-end-rest-clause-ok : goal.returns-then-end-rest-clause-ok

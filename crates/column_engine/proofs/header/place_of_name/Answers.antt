@@ -26,7 +26,7 @@ returns-then-end-rest c =
     let whole : raw ≡ rest = take_all c.field_end-end.result rest (omega (arith, c.if-end-rest.true)) in
     let other : content Start raw ≢ c.args.name.now = λ e. let t : c.is_named.result ≡ true = c.is_named.ensures.1 e in let both : true ≡ false = sym t ∙ c.if-is_named.false in cc in
     let cut : map (content Start) (raw_fields d Start c.args.header.now) ≡ inv.some ++ content Start raw ∷ [] =
-        inv.cut ∙ ap (λ l. inv.some ++ map (content Start) l) (c.field_end-end.ensures.last c.if-end-rest.true ∙ ap (λ l. l ∷ []) (sym whole)) in
+    inv.cut ∙ ap (λ l. inv.some ++ map (content Start) l) (c.field_end-end.ensures.last c.if-end-rest.true ∙ ap (λ l. l ∷ []) (sym whole)) in
     subst (HasNoNamed c.args.name.now) (sym cut) (named_more c.args.name.now (content Start raw) inv.some inv.others other)
 
 pub fields-preserved : goal.fields-preserved
