@@ -92,23 +92,16 @@ fn range_numbered(word: &str) -> Option<Range> {
     }
 }
 
-/// Appends the columns that one word of a list names.
-fn push_column<'a>(
-    alloc: Global,
-    columns: &mut Vec<Column>,
-    word: &'a str,
-    has_header: bool,
-) -> Asked<'a, ()> {
-    let range = range_numbered(word);
-    match range {
-        _ if has_header => columns.push(Column::Named(String::from_str(alloc, word)?, range))?,
-        Some(range) => columns.push(Column::At(range))?,
-        None => return Err(Refusal::Word(
+/// The columns that one word of a list names.
+fn column_of<'a>(alloc: Global, word: &'a str, has_header: bool) -> Asked<'a, Column> {
+    match range_numbered(word) {
+        range if has_header => Ok(Column::Named(String::from_str(alloc, word)?, range)),
+        Some(range) => Ok(Column::At(range)),
+        None => Err(Refusal::Word(
             word,
             "is not a column: it is a number from 1, a range 2-5, or with --header a name",
         )),
     }
-    Ok(())
 }
 
 /// The columns that a command names.
@@ -116,7 +109,10 @@ fn columns_of<'a>(alloc: Global, given: &Given<'_, 'a>) -> Asked<'a, Vec<Column>
     let words = given.needed(0, "COLUMNS")?;
     let mut columns = Vec::new(alloc);
     for word in words.split(',') {
-        push_column(alloc, &mut columns, word, given.has(&HEADER))?;
+        match columns.push(column_of(alloc, word, given.has(&HEADER))?) {
+            Ok(()) => (),
+            Err(_) => return Err(Refusal::NoMemory),
+        }
     }
     Ok(columns)
 }
