@@ -85,6 +85,8 @@ RUNS = (
     (["b,1", "U8F0", "--header"], b"a,b,1\n7.4,8.4,9.4\n", 0, b"a,b,1\n7.4,8,9\n", b""),
     (["1-2", "U8F0", "--header"], b"a,b,1-2\n7.4,8.4,9.4\n", 0, b"a,b,1-2\n7.4,8.4,9\n", b""),
     (["1-2", "U8F0"], b"x,y\n", 1, DIGIT + b"," + DIGIT + b"\n", refused(2, 1)),
+    (["U8F0", "--all"], b"7.4,8.4\n\n9.4\n", 0, b"7,8\n\n9\n", b""),
+    (["U8F0", "I8F0", "--all", "--header"], b"a,b\n7.4,\"8.4\"\n", 0, b"a,b\n7,8\n", b""),
     (["1,4", "U8F0"], b"7.4,8.4,9.4\n", 3, b"", stopped(1, "has no such column, its fields: 3")),
     # A column that is not there: nothing further is written, and nothing is lost of what was answered before.
     (["2", "U8F0"], b"a,1\nb\nc,3\n", 3, b"a,1\n", stopped(2, "has no such column, its fields: 1")),

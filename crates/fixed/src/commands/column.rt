@@ -27,6 +27,14 @@ const DELIMITER: Row = Row {
     help: "The byte between fields: a comma (default); tab",
 };
 
+const ALL: Row = Row {
+    name: "all",
+    letter: None,
+    value: "",
+    choices: &[],
+    help: "Every column, in place of COLUMNS",
+};
+
 const HEADER: Row = Row {
     name: "header",
     letter: Some('H'),
@@ -50,7 +58,7 @@ pub const PAGE: Page = Page {
     usage: "fixed column [OPTIONS] COLUMNS SOURCE [TARGET] [FILE]...",
     operands: &[COLUMN, SOURCE, TARGET],
     has_numerals: false,
-    options: &[RADIX, POLICY, MODE, PRINT, PLACES, DELIMITER, HEADER, KEEP],
+    options: &[RADIX, POLICY, MODE, PRINT, PLACES, DELIMITER, ALL, HEADER, KEEP],
     end: "A format is I (signed) or U (unsigned), its whole bits, F and its fraction bits,\n\
           as in I16F16; the two numbers add up to 8, 16, 32 or 64. A number is\n\
           rounded down from SOURCE to TARGET.\n\
@@ -104,17 +112,32 @@ fn column_of<'a>(alloc: Global, word: &'a str, has_header: bool) -> Asked<'a, Co
     }
 }
 
-/// The columns that a command names.
-fn columns_of<'a>(alloc: Global, given: &Given<'_, 'a>) -> Asked<'a, Vec<Column>> {
-    let words = given.needed(0, "COLUMNS")?;
-    let mut columns = Vec::new(alloc);
-    for word in words.split(',') {
-        match columns.push(column_of(alloc, word, given.has(&HEADER))?) {
-            Ok(()) => (),
-            Err(_) => return Err(Refusal::NoMemory),
-        }
+/// Every column.
+const EVERY: Column = Column::At(Range {
+    from: 0,
+    to: usize::MAX,
+});
+
+/// Appends a column to a list.
+fn push<'a>(columns: &mut Vec<Column>, column: Column) -> Asked<'a, ()> {
+    match columns.push(column) {
+        Ok(()) => Ok(()),
+        Err(_) => Err(Refusal::NoMemory),
     }
-    Ok(columns)
+}
+
+/// The columns that a command names, and the place of the word that follows them.
+fn columns_of<'a>(alloc: Global, given: &Given<'_, 'a>) -> Asked<'a, (Vec<Column>, usize)> {
+    let mut columns = Vec::new(alloc);
+    if given.has(&ALL) {
+        push(&mut columns, EVERY)?;
+        return Ok((columns, 0));
+    }
+    let words = given.needed(0, "COLUMNS")?;
+    for word in words.split(',') {
+        push(&mut columns, column_of(alloc, word, given.has(&HEADER))?)?;
+    }
+    Ok((columns, 1))
 }
 
 /// Converts the columns of each file.
@@ -123,8 +146,8 @@ pub fn run<'a, L: Ledger>(
     given: &Given<'_, 'a>,
     steps: &mut Steps<L>,
 ) -> Asked<'a, Status> {
-    let columns = columns_of(rt.alloc(), given)?;
-    let (rule, files) = conversion(given, 1)?;
+    let (columns, source) = columns_of(rt.alloc(), given)?;
+    let (rule, files) = conversion(given, source)?;
     let job = Job::Column(ColumnConversion {
         rule,
         columns,
