@@ -31,7 +31,7 @@ _fixed() {
     *)
       case $command:$word in
         convert:-*) words='--radix --policy --mode --print --places --help --version' ;;
-        column:-*) words='--radix --policy --mode --print --places --delimiter --header --keep --help --version' ;;
+        column:-*) words='--radix --policy --mode --print --places --delimiter --all --header --keep --help --version' ;;
         show:-*) words='--radix --policy --mode --help --version' ;;
         lines:-* | sort:-*) words='--limit --help --version' ;;
         constants:-*) words='--guard --help --version' ;;

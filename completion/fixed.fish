@@ -1,7 +1,7 @@
 set -l commands convert column show bits format lines enclose least constants sort help
 complete -c fixed -n "not __fish_seen_subcommand_from $commands" -f
 complete -c fixed -n __fish_use_subcommand -a convert -d 'convert numerals, one a line'
-complete -c fixed -n __fish_use_subcommand -a column -d 'convert one column of CSV'
+complete -c fixed -n __fish_use_subcommand -a column -d 'convert columns of CSV'
 complete -c fixed -n __fish_use_subcommand -a show -d 'show a number in a format'
 complete -c fixed -n __fish_use_subcommand -a bits -d 'show what number a word is'
 complete -c fixed -n __fish_use_subcommand -a format -d 'show what a format holds'
@@ -18,6 +18,7 @@ complete -c fixed -n '__fish_seen_subcommand_from convert column' -l print -x -a
 complete -c fixed -n '__fish_seen_subcommand_from lines sort' -l limit -x -d 'the most bytes of an input'
 complete -c fixed -n '__fish_seen_subcommand_from column' -s d -l delimiter -x -d 'the byte between fields'
 complete -c fixed -n '__fish_seen_subcommand_from column' -s H -l header -d 'the first record is a header'
+complete -c fixed -n '__fish_seen_subcommand_from column' -l all -d 'every column'
 complete -c fixed -n '__fish_seen_subcommand_from column' -l keep -d 'a refused field stays as it was'
 complete -c fixed -n '__fish_seen_subcommand_from least' -a '2 8 10 16' -d 'the radix of the numerals'
 complete -c fixed -n '__fish_seen_subcommand_from constants' -a 'c rust' -d 'what is written'

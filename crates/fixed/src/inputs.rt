@@ -1,7 +1,6 @@
 //! What is done with each input, one after another, and a question asked of each word.
 
 use crate::commands::column;
-use column_engine::record_writer;
 use command_line::device::{Failure, Unmarked, Writer};
 use command_line::report::{Report, push_words, report_end};
 use fixed_command::{
@@ -23,7 +22,7 @@ const MAX_TEXT: usize = 40;
 pub enum Job<'a> {
     /// It is answered.
     Task(Task<'a>),
-    /// One column of it is converted.
+    /// Columns of it are converted.
     Column(ColumnConversion),
 }
 
@@ -75,7 +74,7 @@ fn run_task_on<R: Read + Drop, L: Ledger>(
     status
 }
 
-/// Converts a column of one input, and says on standard error why it did not end well.
+/// Converts columns of one input, and says on standard error why it did not end well.
 fn run_column_on<R: Read + Drop, L: Ledger>(
     rt: &HostRuntime,
     conversion: &ColumnConversion,
@@ -83,9 +82,14 @@ fn run_column_on<R: Read + Drop, L: Ledger>(
     reader: R,
     steps: &mut Steps<L>,
 ) -> Status {
-    let mut out = record_writer(conversion.delimiter, rt.stdout());
-    let end = convert_column(rt.alloc(), conversion, reader, &mut out, steps);
-    column::report_end(rt, file, &end);
+    let failure = Failure::new(None);
+    let mut source = StdSource::new(reader);
+    let mut sink = StdSink::new(Writer {
+        writer: rt.stdout(),
+        failure: &failure,
+    });
+    let end = convert_column(rt.alloc(), conversion, &mut source, &mut sink, steps);
+    column::report_end(rt, file, &end, &failure);
     end.status()
 }
 
