@@ -1,0 +1,6 @@
+mod AnswerLemmas
+mod ByteLemmas
+mod FittingLemmas
+mod NumeralLemmas
+mod ProgressLemmas
+mod ReadingLemmas

@@ -1,0 +1,4 @@
+pub mod Fitting
+pub mod Answer
+pub mod Laws
+pub mod Inner
