@@ -25,6 +25,3 @@ pub use refused::{RefusedWord, first_refused};
 pub use task::{Limit, Task, greater_end, run_convert, run_task};
 pub use watch::{RefusedLine, Watch};
 pub use words::{mode_named, policy_named, print_named, radix_named};
-
-#[cfg(test)]
-mod tests;

@@ -24,6 +24,3 @@ pub use radix::Radix;
 pub use scanned::Scanned;
 pub use scanner::scan;
 pub use short::{ShortNumeral, short_numeral};
-
-#[cfg(test)]
-mod tests;

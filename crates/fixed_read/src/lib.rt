@@ -15,8 +15,6 @@ mod read_number;
 mod reciprocal;
 mod shifts;
 mod short_numeral;
-#[cfg(test)]
-mod tests;
 
 pub use fixed_bits::ReadMode;
 pub use literal::lit;

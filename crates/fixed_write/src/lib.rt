@@ -12,8 +12,6 @@ mod printer;
 mod short;
 pub mod style;
 mod styled;
-#[cfg(test)]
-mod tests;
 pub mod text;
 
 pub use in_place::{Base, push_decimal, push_exact};
