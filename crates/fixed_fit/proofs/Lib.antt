@@ -3,4 +3,6 @@ mod ByteLemmas
 mod FittingLemmas
 mod NumeralLemmas
 mod ProgressLemmas
+mod RangeLemmas
 mod ReadingLemmas
+mod UniqueLemmas
