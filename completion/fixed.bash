@@ -35,7 +35,7 @@ _fixed() {
         column:-*) words='--radix --policy --mode --print --places --delimiter --header --keep --help --version' ;;
         show:-*) words='--radix --policy --mode --help --version' ;;
         lines:-* | sort:-*) words='--limit --help --version' ;;
-        fit:-*) words='--width --signed --why --radix --help --version' ;;
+        fit:-*) words='--width --signed --why --range --radix --help --version' ;;
         constants:-*) words='--guard --help --version' ;;
         *:-*) words='--help --version' ;;
         *) _fixed_words "$command" "$word"; return ;;

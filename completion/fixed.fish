@@ -24,6 +24,7 @@ complete -c fixed -n '__fish_seen_subcommand_from least' -a '2 8 10 16' -d 'the 
 complete -c fixed -n '__fish_seen_subcommand_from fit' -s w -l width -x -a '8 16 32 64' -d 'the width in bits'
 complete -c fixed -n '__fish_seen_subcommand_from fit' -l signed -d 'only signed formats'
 complete -c fixed -n '__fish_seen_subcommand_from fit' -l why -d 'what rules out the next finer format'
+complete -c fixed -n '__fish_seen_subcommand_from fit' -l range -d 'two numerals in place of files'
 complete -c fixed -n '__fish_seen_subcommand_from constants' -a 'c rust' -d 'what is written'
 complete -c fixed -n '__fish_seen_subcommand_from sort' -a limit -d 'the most bytes of an input'
 complete -c fixed -n '__fish_seen_subcommand_from convert column' -l places -x -d 'digits after the point'

@@ -12,15 +12,18 @@ FitsEachShorter = (r : Radix) (s : Bool) (n f g : ℕ) (line : List ℕ) → g �
 
 -- and so does a list
 abbrev pub AllFitEachShorter : Type 0
-AllFitEachShorter = (r : Radix) (s : Bool) (n f g : ℕ) (lines : List (List ℕ)) → g ≤ f → AllFit r s n f lines → AllFit r s n g lines
+AllFitEachShorter = (r : Radix) (s : Bool) (n f g : ℕ) (lines : List (List ℕ)) → g ≤ f → AllFit r s n f lines
+    → AllFit r s n g lines
 
 -- a list has at most one finest fraction length
 abbrev pub FinestIsTheOne : Type 0
-FinestIsTheOne = (r : Radix) (s : Bool) (n f g : ℕ) (lines : List (List ℕ)) → IsFinest r s n lines f → IsFinest r s n lines g → f ≡ g
+FinestIsTheOne = (r : Radix) (s : Bool) (n f g : ℕ) (lines : List (List ℕ)) → IsFinest r s n lines f
+    → IsFinest r s n lines g → f ≡ g
 
 -- and one sign rule
 abbrev pub SignRuleIsTheOne : Type 0
-SignRuleIsTheOne = (r : Radix) (asked s t : Bool) (lines : List (List ℕ)) → IsSignRule r asked lines s → IsSignRule r asked lines t → s ≡ t
+SignRuleIsTheOne = (r : Radix) (asked s t : Bool) (lines : List (List ℕ)) → IsSignRule r asked lines s
+    → IsSignRule r asked lines t → s ≡ t
 
 -- an input has one answer
 abbrev pub AnswerIsTheOne : Type 0

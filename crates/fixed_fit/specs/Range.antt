@@ -9,7 +9,8 @@ use Rattle.fixed_read.specs.Reading.{IsReadNumber}
 
 -- the number with these parts is at most that with those
 abbrev pub IsAtMost : Radix → Parts → Parts → Type 0
-IsAtMost r p q = signed p.sign ((magnitude r p).num * (magnitude r q).den) ≤ℤ signed q.sign ((magnitude r q).num * (magnitude r p).den)
+IsAtMost r p q = signed p.sign ((magnitude r p).num * (magnitude r q).den)
+    ≤ℤ signed q.sign ((magnitude r q).num * (magnitude r p).den)
 
 -- the number with these parts is in range after rounding to nearest
 pub record IsFitting (r : Radix) (s : Bool) (n f : ℕ) (p : Parts) : Type 0 where
@@ -19,4 +20,5 @@ pub record IsFitting (r : Radix) (s : Bool) (n f : ℕ) (p : Parts) : Type 0 whe
 
 -- where two numbers are in range each number between them is
 abbrev pub EndsDecide : Type 0
-EndsDecide = (r : Radix) (s : Bool) (n f : ℕ) (low high p : Parts) → IsAtMost r low p → IsAtMost r p high → IsFitting r s n f low → IsFitting r s n f high → IsFitting r s n f p
+EndsDecide = (r : Radix) (s : Bool) (n f : ℕ) (low high p : Parts) → IsAtMost r low p → IsAtMost r p high
+    → IsFitting r s n f low → IsFitting r s n f high → IsFitting r s n f p

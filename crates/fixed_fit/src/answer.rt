@@ -84,7 +84,8 @@ fn none_answer(place: u64) -> Answer
 /// The answer that names a format by its kind and its fraction length.
 fn found_answer(kind: Format, frac: u32, place: u64, is_asked: bool) -> Answer
     requires { frac ≤ kind.width }
-    ensures text { result.text ≡ name_of kind.signed kind.width frac ++ 10 ∷ reason_of is_asked kind.signed kind.width frac place }
+    ensures text { result.text ≡ name_of kind.signed kind.width frac
+        ++ 10 ∷ reason_of is_asked kind.signed kind.width frac place }
     ensures fault { result.fault ≡ false }
 {
     let mut out: TextBuffer<MOST> = TextBuffer::new();
@@ -110,7 +111,8 @@ fn lengths_answer(lengths: &Lengths, is_asked: bool) -> Answer
 /// The answer to an input, by what is known of its lines.
 pub fn answer_of(progress: &Progress, question: &Question) -> Answer
     requires { (list : List (List ℕ)) × HasProgress question.now.kind.width list progress.now }
-    ensures { (input : List ℕ) → HasProgress question.now.kind.width (lines input) progress.now → progress.now.radix ≡ question.now.radix
+    ensures { (input : List ℕ) → HasProgress question.now.kind.width (lines input) progress.now
+        → progress.now.radix ≡ question.now.radix
         → IsAnswer question.now input result }
 {
     let known = *progress;

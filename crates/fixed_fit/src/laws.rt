@@ -1,7 +1,8 @@
 //! Laws of the finest format, each the contract of a function that does nothing.
 
 ghost use Rattle.fixed_fit.specs.Range.{EndsDecide};
-ghost use Rattle.fixed_fit.specs.Laws.{AllFitEachShorter, AnswerIsTheOne, FinestIsTheOne, FitsEachShorter, SignRuleIsTheOne};
+ghost use Rattle.fixed_fit.specs.Laws.{AllFitEachShorter, AnswerIsTheOne};
+ghost use Rattle.fixed_fit.specs.Laws.{FinestIsTheOne, FitsEachShorter, SignRuleIsTheOne};
 
 /// A numeral that is in range with a fraction length is in range with each shorter one.
 pub fn fits_each_shorter()

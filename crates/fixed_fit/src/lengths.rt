@@ -1,7 +1,7 @@
 //! The fraction lengths of a sign rule and a width with which every numeral so far is in range.
 //!
-//! A numeral that is in range with a fraction length is in range with each shorter one. So the lengths that are left are
-//! those below a count, and a numeral only lowers the count.
+//! A numeral that is in range with a fraction length is in range with each shorter one. So the lengths that are left
+//! are those below a count, and a numeral only lowers the count.
 
 ghost use Rattle.std.specs.Prelude.{◌≡◌, ◌≤◌, ◌<◌, ◌+◌, ◌↔◌, IsTrue, true, false, ℕ};
 ghost use Rattle.fixed_bits.specs.Formats.{IsFormat};
@@ -27,12 +27,7 @@ pub struct Lengths {
 }
 
 /// Whether a numeral is in range in a format, after rounding to nearest.
-fn is_in_range<L: Ledger>(
-    line: &[u8],
-    radix: Radix,
-    format: Format,
-    steps: &mut Steps<L>,
-) -> bool
+fn is_in_range<L: Ledger>(line: &[u8], radix: Radix, format: Format, steps: &mut Steps<L>) -> bool
     requires { IsNumeral radix line.now }
     ensures fits { result ≡ true → Fits radix format.signed format.width format.frac line.now }
     ensures exceeds { result ≡ false → Exceeds radix format.signed format.width format.frac line.now }

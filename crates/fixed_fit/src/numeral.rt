@@ -13,7 +13,8 @@ use std::sync::ledger::Ledger;
 
 /// Whether a numeral that was read is zero: a whole number of ulps, and none of them.
 fn is_zero(found: &ReadNumber) -> bool
-    ensures { IsTrue result ↔ ((found.now.exact ≡ true) × (found.now.number.low ≡ 0) × (found.now.number.has_high_bits ≡ false)) }
+    ensures { IsTrue result ↔ ((found.now.exact ≡ true) × (found.now.number.low ≡ 0)
+        × (found.now.number.has_high_bits ≡ false)) }
 {
     found.is_exact() && found.magnitude() == 0 && !found.has_high_bits()
 }
@@ -38,7 +39,13 @@ pub fn is_below_zero<L: Ledger>(
 ) -> Result<bool, ParseFixedError>
     ensures { IsReadOrRefused radix line.now (λ p below. IsTrue below ↔ IsBelowZero radix p) result }
 {
-    match read_format(line, radix, Format::of(true, 64, 0), ReadMode::TowardsZero, steps) {
+    match read_format(
+        line,
+        radix,
+        Format::of(true, 64, 0),
+        ReadMode::TowardsZero,
+        steps,
+    ) {
         Ok(found) => Ok(is_below(&found)),
         Err(error) => Err(error),
     }

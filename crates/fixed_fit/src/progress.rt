@@ -55,7 +55,14 @@ impl Progress {
 
     /// What is kept where a line is not a numeral.
     fn with_fault(&self, lines: u64, fault: Option<LeastFault>) -> Progress
-        ensures { result ≡ record { radix = self.now.radix; lines = lines; fault = fault; is_below = self.now.is_below; plain = self.now.plain; signed = self.now.signed } }
+        ensures { result ≡ record {
+          radix = self.now.radix;
+          lines = lines;
+          fault = fault;
+          is_below = self.now.is_below;
+          plain = self.now.plain;
+          signed = self.now.signed;
+        } }
     {
         Progress {
             radix: self.radix,
@@ -73,7 +80,8 @@ impl Progress {
         requires known { HasSomeProgress self.now }
         ensures radix { result.radix ≡ self.now.radix }
         ensures lines { result.lines ≡ self.now.lines + 1 }
-        ensures one_more { (n : ℕ) (lines : List (List ℕ)) → HasProgress n lines self.now → HasProgress n (lines ++ line.now ∷ []) result }
+        ensures one_more { (n : ℕ) (lines : List (List ℕ)) → HasProgress n lines self.now
+            → HasProgress n (lines ++ line.now ∷ []) result }
     {
         let place = self.lines + 1;
         if self.fault.is_some() {

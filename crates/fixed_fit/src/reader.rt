@@ -1,6 +1,7 @@
-//! The bytes of an input, taken one after another: the line whose end has not come, and what is kept of those before it.
+//! The bytes of an input, one after another: the line whose end has not come, and what is kept of those before it.
 
-ghost use Rattle.std.specs.Prelude.{◌≡◌, ◌≤◌, ◌<◌, ◌+◌, ◌^◌, ◌++◌, ◌∷◌, [], List, ℕ, OnOk, OnErr, IfOk, IfErr, length, take};
+ghost use Rattle.std.specs.Prelude.{◌≡◌, ◌≤◌, ◌<◌, ◌+◌, ◌^◌, ◌++◌, ◌∷◌, []};
+ghost use Rattle.std.specs.Prelude.{List, ℕ, OnOk, OnErr, IfOk, IfErr, length, take};
 ghost use Rattle.std.specs.Io.KnownBytes.{Consumes, IsAtEnd, Keeps};
 ghost use Rattle.line_engine.specs.Failures.{FailsOnlyCounted};
 ghost use Rattle.fixed_bits.specs.Ranges.{IsWidth};
@@ -35,7 +36,8 @@ impl Reader {
     fn push<L: Ledger>(&mut self, byte: u8, steps: &mut Steps<L>) -> Result<(), NoMemory>
         requires room { self.old.progress.lines < 2 ^ 63 }
         requires known { HasSomeRead self.old }
-        ensures read { OnOk result ((r : Radix) (n : ℕ) (whole : List ℕ) → HasRead r n whole self.old → HasRead r n (whole ++ byte ∷ []) self.new) }
+        ensures read { OnOk result ((r : Radix) (n : ℕ) (whole : List ℕ) → HasRead r n whole self.old
+            → HasRead r n (whole ++ byte ∷ []) self.new) }
         ensures lines { OnOk result (self.new.progress.lines ≤ self.old.progress.lines + 1) }
     {
         if byte != b'\n' {
@@ -53,7 +55,8 @@ impl Reader {
     fn push_all<L: Ledger>(&mut self, bytes: &[u8], steps: &mut Steps<L>) -> Result<(), NoMemory>
         requires room { self.old.progress.lines + length bytes.now < 2 ^ 63 }
         requires known { HasSomeRead self.old }
-        ensures read { OnOk result ((r : Radix) (n : ℕ) (whole : List ℕ) → HasRead r n whole self.old → HasRead r n (whole ++ bytes.now) self.new) }
+        ensures read { OnOk result ((r : Radix) (n : ℕ) (whole : List ℕ) → HasRead r n whole self.old
+            → HasRead r n (whole ++ bytes.now) self.new) }
         ensures lines { OnOk result (self.new.progress.lines ≤ self.old.progress.lines + length bytes.now) }
     {
         for byte in bytes {
@@ -66,7 +69,8 @@ impl Reader {
     fn finish<L: Ledger>(&self, steps: &mut Steps<L>) -> Progress
         requires room { self.now.progress.lines < 2 ^ 63 }
         requires known { HasSomeRead self.now }
-        ensures { (r : Radix) (n : ℕ) (whole : List ℕ) → HasRead r n whole self.now → HasProgress n (lines whole) result × (result.radix ≡ r) }
+        ensures { (r : Radix) (n : ℕ) (whole : List ℕ) → HasRead r n whole self.now
+            → HasProgress n (lines whole) result × (result.radix ≡ r) }
     {
         if self.line.is_empty() {
             return self.progress;
@@ -100,8 +104,10 @@ pub fn read_lines<S: Source, L: Ledger>(
     steps: &mut Steps<L>,
 ) -> Result<Progress, Status>
     requires { IsWidth width }
-    ensures ok { IfOk result (ReadsAll radix width (S.left source.old) (S.left source.new) (S.failures source.old) (S.failures source.new)) }
-    ensures err { IfErr result (StopsReading (S.left source.old) (S.left source.new) (S.failures source.old) (S.failures source.new)) }
+    ensures ok { IfOk result (ReadsAll radix width (S.left source.old) (S.left source.new) (S.failures source.old)
+        (S.failures source.new)) }
+    ensures err { IfErr result (StopsReading (S.left source.old) (S.left source.new) (S.failures source.old)
+        (S.failures source.new)) }
 {
     let mut chunk = [0u8; CHUNK];
     let mut reader = Reader {

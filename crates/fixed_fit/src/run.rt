@@ -25,11 +25,11 @@ fn write_answer<K: Sink>(answer: &Answer, sink: &mut K) -> Status
     }
 }
 
-/// Answers an input, which is a list of numerals, one a line, with the format of the width and the sign rule that has the
-/// greatest fraction length of those in which every numeral is in range after rounding to nearest.
+/// Answers an input, which is a list of numerals, one a line, with the format of the width and the sign rule that has
+/// the greatest fraction length of those in which every numeral is in range after rounding to nearest.
 ///
-/// Each line is read as it comes, and none is kept: memory is taken for the longest line alone. Nothing is written before
-/// the end of the input.
+/// Each line is read as it comes, and none is kept: memory is taken for the longest line alone. Nothing is written
+/// before the end of the input.
 pub fn run_fit<S: Source, K: Sink, L: Ledger>(
     alloc: Global,
     question: &Question,

@@ -6,14 +6,17 @@ use crate::settings::radix_of;
 use command_line::device::{Failure, Writer};
 use command_line::given::{Asked, Given, Refusal};
 use command_line::page::{FILES, Page, Row};
-use command_line::report::report_end;
+use command_line::report::{Report, report_end, report_no_memory};
 use fixed_bits::Format;
 use fixed_fit::{Question, run_fit};
 use fixed_io::StdSink;
 use fixed_steps::Steps;
-use line_engine::{MemorySource, Source, Status};
+use line_engine::{MemorySink, MemorySource, Source, Status, write_text};
 use std::alloc::{AllocError, Global};
 use std::sync::ledger::Ledger;
+
+/// How many bytes an answer has at most.
+const ANSWER: usize = 128;
 
 const WIDTH: Row = Row {
     name: "width",
@@ -79,6 +82,41 @@ fn kind_of<'a>(given: &Given<'_, 'a>) -> Asked<'a, Format> {
     }
 }
 
+/// Says on standard error which line is not a numeral, or is out of range in each format of the width.
+fn report_refused(rt: &HostRuntime, file: Option<&str>, answer: &[u8]) {
+    let mut report = Report::of(file);
+    match answer.strip_prefix(b"error: ") {
+        Some(fault) => report.bytes(fault, 160),
+        None => {
+            report.text("no format of the width fits ");
+            report.bytes(answer.strip_prefix(b"none ").unwrap_or(answer), 40);
+        }
+    }
+    report.send(rt);
+}
+
+/// Writes an answer, and says on standard error why it is none, or why it could not be written.
+fn write_answer(rt: &HostRuntime, file: Option<&str>, answer: &[u8], status: Status) -> Status {
+    let failure = Failure::new(None);
+    let mut sink = StdSink::new(Writer {
+        writer: rt.stdout(),
+        failure: &failure,
+    });
+    let ended = write_text(answer, status, &mut sink);
+    if ended == Status::Faults {
+        report_refused(rt, file, answer);
+    }
+    report_end(rt, file, ended, sink.lines(), &failure);
+    ended
+}
+
+/// Room for an answer.
+fn room(alloc: Global) -> Result<Vec<u8>, AllocError> {
+    let mut room = Vec::new(alloc);
+    room.extend_from_slice(&[0; ANSWER])?;
+    Ok(room)
+}
+
 /// Answers the list of a source, and says on standard error why it did not end well.
 pub fn run_on<S: Source, L: Ledger>(
     rt: &HostRuntime,
@@ -87,14 +125,13 @@ pub fn run_on<S: Source, L: Ledger>(
     source: &mut S,
     steps: &mut Steps<L>,
 ) -> Status {
-    let failure = Failure::new(None);
-    let mut sink = StdSink::new(Writer {
-        writer: rt.stdout(),
-        failure: &failure,
-    });
+    let room = match room(rt.alloc()) {
+        Ok(room) => room,
+        Err(_) => return report_no_memory(rt),
+    };
+    let mut sink = MemorySink::new(room, ANSWER, Vec::new(rt.alloc()));
     let status = run_fit(rt.alloc(), question, source, &mut sink, steps);
-    report_end(rt, file, status, sink.lines(), &failure);
-    status
+    write_answer(rt, file, sink.written(), status)
 }
 
 /// The list of the two ends of a range.
@@ -131,9 +168,13 @@ pub fn run<'a, L: Ledger>(
     given: &Given<'_, 'a>,
     steps: &mut Steps<L>,
 ) -> Asked<'a, Status> {
+    let kind = match kind_of(given) {
+        Ok(kind) => kind,
+        Err(refusal) => return Err(refusal),
+    };
     let question = Question {
         radix: radix_of(given)?,
-        kind: kind_of(given)?,
+        kind,
         is_reason_asked: given.has(&WHY),
     };
     if given.has(&RANGE) {

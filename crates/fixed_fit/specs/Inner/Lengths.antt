@@ -1,13 +1,14 @@
 -- The fraction lengths that are left of a sign rule and a width.
-use Rattle.std.specs.Prelude.{◌≡◌, ◌+◌, ◌<◌, ◌≤◌, ◌&&◌, ℕ, Bool, true, false, List, [], ◌∷◌, ◌++◌, if◌then◌else◌, nat_lt, codes, decimal}
+use Rattle.std.specs.Prelude.{◌≡◌, ◌+◌, ◌<◌, ◌≤◌, ◌&&◌, ℕ, Bool, true}
+use Rattle.std.specs.Prelude.{false, List, [], ◌∷◌, ◌++◌, if◌then◌else◌, nat_lt, codes, decimal}
 use Rattle.line_engine.specs.AnswerText.{AnswerText}
 use Rattle.fixed_fit.specs.Answer.{name_of, ruled_out_line}
 use Rattle.fixed_numeral.specs.declared.radix.Radix.{Radix}
 use Rattle.fixed_fit.specs.Fitting.{AllFit, Exceeds, Fits, IsFirstExceeding}
 use Rattle.fixed_fit.specs.declared.lengths.Lengths.{Lengths}
 
--- each line fits with exactly the fraction lengths that are left, and the place is that of the first line that is out of
--- range with the next longer one
+-- each line fits with exactly the fraction lengths that are left, and the place is that of the first line that is out
+-- of range with the next longer one
 pub record AreLengths (r : Radix) (lines : List (List ℕ)) (l : Lengths) : Type 0 where
   pub most : l.count ≤ l.kind.width + 1
   pub fit : (f : ℕ) → f < l.count → AllFit r l.kind.signed l.kind.width f lines
@@ -30,5 +31,6 @@ reason_of asked s n f place = if asked && nat_lt f n then ruled_out_line s n (f 
 pub record IsLengthsAnswer (asked : Bool) (l : Lengths) (answer : AnswerText) : Type 0 where
   pub none_text : l.count ≡ 0 → answer.text ≡ codes "none line " ++ (decimal l.place ++ 10 ∷ [])
   pub none_fault : l.count ≡ 0 → answer.fault ≡ true
-  pub some_text : (f : ℕ) → l.count ≡ f + 1 → answer.text ≡ name_of l.kind.signed l.kind.width f ++ 10 ∷ reason_of asked l.kind.signed l.kind.width f l.place
+  pub some_text : (f : ℕ) → l.count ≡ f + 1
+      → answer.text ≡ name_of l.kind.signed l.kind.width f ++ 10 ∷ reason_of asked l.kind.signed l.kind.width f l.place
   pub some_fault : (f : ℕ) → l.count ≡ f + 1 → answer.fault ≡ false

@@ -5,7 +5,8 @@ use Rattle.fixed_numeral.specs.declared.radix.Radix.{Radix}
 use Rattle.line_engine.specs.Failures.{HasFailed}
 use Rattle.line_engine.specs.Lines.{ended_lines, lines, unended}
 use Rattle.line_engine.specs.declared.status.Status.{Status}
-use Rattle.line_engine.specs.declared.status.Status.TheVariants.{Done, Faults, Usage, ReadFault, WriteFault, NoMemory, TooLong}
+use Rattle.line_engine.specs.declared.status.Status.TheVariants.{Done, Faults, Usage}
+use Rattle.line_engine.specs.declared.status.Status.TheVariants.{ReadFault, WriteFault, NoMemory, TooLong}
 use Rattle.fixed_fit.specs.Answer.{TakesBytes, most_bytes}
 use Rattle.fixed_fit.specs.Inner.Progress.{HasProgress}
 use Rattle.fixed_fit.specs.declared.progress.Progress.{Progress}
@@ -22,7 +23,8 @@ abbrev pub HasSomeRead : Reader → Type 0
 HasSomeRead reader = (r : Radix) × (n : ℕ) × (whole : List ℕ) × HasRead r n whole reader
 
 -- an input was read to its end, and this is known of its lines
-pub record ReadsAll (r : Radix) (n : ℕ) (left left' : Option (List ℕ)) (failures failures' : ℕ) (progress : Progress) : Type 0 where
+pub record ReadsAll (r : Radix) (n : ℕ) (left left' : Option (List ℕ)) (failures failures' : ℕ)
+    (progress : Progress) : Type 0 where
   pub input : List ℕ
   pub taken : Consumes left left' input
   pub at_end : IsAtEnd left'

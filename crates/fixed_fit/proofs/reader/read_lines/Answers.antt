@@ -17,12 +17,14 @@ loop-taken-init g c = record {
 
 pub returns-in-Err-clause-err : goal.returns-in-Err-clause-err
 returns-in-Err-clause-err g c =
-    let inv = c.loop-taken.invariant in
-    (record {
-      bytes = inv.bytes;
-      taken = taken_kept (g.S.Source.left c.args.source.now) (g.S.Source.left c.loop-taken.source) (g.S.Source.left c.read_chunk.new.source) inv.bytes inv.consumed c.in-Err.ensures.err;
-      some = omega arith;
-    }, grind (arith, common_steps, c.in-Err.ensures.failures.failed, inv.same))
+    let inv = c.loop-taken.invariant in (
+      record {
+        bytes = inv.bytes;
+        taken = taken_kept (g.S.Source.left c.args.source.now) (g.S.Source.left c.loop-taken.source) (g.S.Source.left c.read_chunk.new.source) inv.bytes inv.consumed c.in-Err.ensures.err;
+        some = omega arith;
+      },
+      grind (arith, common_steps, c.in-Err.ensures.failures.failed, inv.same),
+    )
 
 pub returns-in-Ok-eq0-clause-ok : goal.returns-in-Ok-eq0-clause-ok
 returns-in-Ok-eq0-clause-ok g c =
@@ -40,12 +42,14 @@ returns-in-Ok-eq0-clause-ok g c =
 
 pub returns-in-Err-push_all-clause-err : goal.returns-in-Err-push_all-clause-err
 returns-in-Err-push_all-clause-err g c =
-    let inv = c.loop-taken.invariant in
-    (record {
-      bytes = inv.bytes ++ take c.in-Ok.count c.read_chunk.new.chunk;
-      taken = Consumes-trans (g.S.Source.left c.args.source.now) (g.S.Source.left c.loop-taken.source) (g.S.Source.left c.read_chunk.new.source) inv.bytes (take c.in-Ok.count c.read_chunk.new.chunk) inv.consumed c.in-Ok.ensures.bytes;
-      some = omega arith;
-    }, c.in-Ok.ensures.failures.same ∙ inv.same)
+    let inv = c.loop-taken.invariant in (
+      record {
+        bytes = inv.bytes ++ take c.in-Ok.count c.read_chunk.new.chunk;
+        taken = Consumes-trans (g.S.Source.left c.args.source.now) (g.S.Source.left c.loop-taken.source) (g.S.Source.left c.read_chunk.new.source) inv.bytes (take c.in-Ok.count c.read_chunk.new.chunk) inv.consumed c.in-Ok.ensures.bytes;
+        some = omega arith;
+      },
+      c.in-Ok.ensures.failures.same ∙ inv.same,
+    )
 
 pub loop-taken-preserved : goal.loop-taken-preserved
 loop-taken-preserved g c =
