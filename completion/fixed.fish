@@ -1,4 +1,4 @@
-set -l commands convert column show bits format lines enclose least constants sort help
+set -l commands convert column show bits format lines enclose least fit constants sort help
 complete -c fixed -n "not __fish_seen_subcommand_from $commands" -f
 complete -c fixed -n __fish_use_subcommand -a convert -d 'convert numerals, one a line'
 complete -c fixed -n __fish_use_subcommand -a column -d 'convert columns of CSV'
@@ -8,10 +8,11 @@ complete -c fixed -n __fish_use_subcommand -a format -d 'show what a format hold
 complete -c fixed -n __fish_use_subcommand -a lines -d 'answer lines of five words'
 complete -c fixed -n __fish_use_subcommand -a enclose -d 'answer with the two nearest values'
 complete -c fixed -n __fish_use_subcommand -a least -d 'find the least format'
+complete -c fixed -n __fish_use_subcommand -a fit -d 'find the finest format of a width'
 complete -c fixed -n __fish_use_subcommand -a constants -d 'write named literals in one form'
 complete -c fixed -n __fish_use_subcommand -a sort -d 'sort cells by value'
 complete -c fixed -n __fish_use_subcommand -a help -d 'show the help of a command'
-complete -c fixed -n '__fish_seen_subcommand_from convert column show' -s r -l radix -x -a '2 8 10 16' -d 'the radix of the numerals'
+complete -c fixed -n '__fish_seen_subcommand_from convert column show fit' -s r -l radix -x -a '2 8 10 16' -d 'the radix of the numerals'
 complete -c fixed -n '__fish_seen_subcommand_from convert column show' -s p -l policy -x -a 'checked saturating wrapping' -d 'what is done out of range'
 complete -c fixed -n '__fish_seen_subcommand_from convert column show' -s m -l mode -x -a 'nearest floor ceil zero' -d 'how a numeral is rounded'
 complete -c fixed -n '__fish_seen_subcommand_from convert column' -l print -x -a 'text bits hex readmemh value all' -d 'what of an answer is written'
@@ -21,6 +22,10 @@ complete -c fixed -n '__fish_seen_subcommand_from column' -s H -l header -d 'the
 complete -c fixed -n '__fish_seen_subcommand_from column' -l all -d 'every column'
 complete -c fixed -n '__fish_seen_subcommand_from column' -l keep -d 'a refused field stays as it was'
 complete -c fixed -n '__fish_seen_subcommand_from least' -a '2 8 10 16' -d 'the radix of the numerals'
+complete -c fixed -n '__fish_seen_subcommand_from fit' -s w -l width -x -a '8 16 32 64' -d 'the width in bits'
+complete -c fixed -n '__fish_seen_subcommand_from fit' -l signed -d 'only signed formats'
+complete -c fixed -n '__fish_seen_subcommand_from fit' -l why -d 'what rules out the next finer format'
+complete -c fixed -n '__fish_seen_subcommand_from fit' -l range -d 'two numerals in place of files'
 complete -c fixed -n '__fish_seen_subcommand_from constants' -a 'c rust' -d 'what is written'
 complete -c fixed -n '__fish_seen_subcommand_from sort' -a limit -d 'the most bytes of an input'
 complete -c fixed -n '__fish_seen_subcommand_from convert column' -l places -x -d 'digits after the point'

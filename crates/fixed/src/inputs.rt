@@ -1,12 +1,13 @@
 //! What is done with each input, one after another, and a question asked of each word.
 
-use crate::commands::column;
+use crate::commands::{column, fit};
 use command_line::device::{Failure, Unmarked, Writer};
 use command_line::report::{Report, push_words, report_end};
 use fixed_command::{
     ColumnConversion, Question, Task, Watch, convert_column, explanation, first_refused,
     greater_end, run_blocks, run_task,
 };
+use fixed_fit::Question as FitQuestion;
 use fixed_io::{StdSink, StdSource};
 use fixed_steps::Steps;
 use line_engine::Status;
@@ -24,6 +25,8 @@ pub enum Job<'a> {
     Task(Task<'a>),
     /// Columns of it are converted.
     Column(ColumnConversion),
+    /// The finest format is found that its numerals fit.
+    Fit(FitQuestion),
 }
 
 /// Says on standard error how many lines of an input were refused, and which was the first, with its text and the
@@ -104,6 +107,10 @@ fn run_reader<R: Read + Drop, L: Ledger>(
     match job {
         Job::Task(task) => run_task_on(rt, task, file, reader, steps),
         Job::Column(conversion) => run_column_on(rt, conversion, file, reader, steps),
+        Job::Fit(question) => {
+            let mut source = StdSource::new(Unmarked::new(reader));
+            fit::run_on(rt, question, file, &mut source, steps)
+        }
     }
 }
 
