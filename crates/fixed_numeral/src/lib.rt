@@ -6,6 +6,7 @@ mod digit_view;
 mod ending;
 mod error;
 pub mod laws;
+mod leading;
 mod literal;
 mod powers;
 mod radix;
@@ -18,6 +19,7 @@ mod wide;
 
 pub use digit_view::DigitView;
 pub use error::{ParseErrorKind, ParseFixedError};
+pub use leading::leading_numeral;
 pub use literal::scan_lit;
 pub use powers::power_of_ten;
 pub use radix::Radix;

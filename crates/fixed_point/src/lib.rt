@@ -22,6 +22,7 @@ pub mod rounding;
 pub mod styled;
 mod text;
 pub mod types;
+mod uncounted;
 
 pub use ends::Ends;
 pub use fixed_bits::{FixedBits, Inner, ReadMode};
