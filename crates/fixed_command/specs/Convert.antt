@@ -3,7 +3,7 @@ use Rattle.std.specs.Prelude.{◌≡◌, ◌⊎◌, ◌==◌, ◌-◌, ℕ, ℤ,
 use Rattle.std.specs.Fmt.{signed_decimal}
 use Rattle.fixed_bits.specs.Formats.{FormatParts}
 use Rattle.fixed_bits.specs.Ranges.{IsWide}
-use Rattle.fixed_respell.specs.Answer.{IsAnswer}
+use Rattle.fixed_respell.specs.Answer.{IsNamedAnswer}
 use Rattle.fixed_respell.specs.LineWords.{HasWords, spaced}
 use Rattle.fixed_respell.specs.Words.{format_text, mode_text, policy_text, radix_text, slash}
 use Rattle.fixed_write.specs.Places.{exact_text, rounded_text}
@@ -50,10 +50,11 @@ pub record IsWholeFault (answer reply : AnswerText) : Type 0 where
   pub faulty : answer.fault ≡ true
   pub reply_is : reply ≡ answer
 
--- the reply to a numeral: of the answer to the line that asks for its conversion, a fault whole, and else the part that is asked for
+-- the reply to a numeral: of the answer to the line that asks for its conversion, in which formats are of any width, a
+-- fault whole, and else the part that is asked for
 pub record IsReply (s : Settings) (numeral : List ℕ) (reply : AnswerText) : Type 0 where
   pub answer : AnswerText
-  pub asked : IsAnswer (asking_line s numeral) answer
+  pub asked : IsNamedAnswer (asking_line s numeral) answer
   pub written : IsWholeFault answer reply ⊎ IsPart s answer reply
 
 -- the reply to a line, whose numeral is the line without one carriage return at its end
