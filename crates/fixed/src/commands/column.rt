@@ -1,7 +1,9 @@
 //! `fixed column`: one column of CSV is converted.
 
 use crate::inputs::{Job, run_inputs};
-use crate::options::{MODE, PLACES, POLICY, PRINT, RADIX, SOURCE, TARGET};
+use crate::options::{
+    FROM, MODE, PLACES, POLICY, PRINT, RADIX, SOURCE, TARGET, TARGET_MODE,
+};
 use crate::settings::conversion;
 use column_engine::{Column, ColumnEnd, Stop};
 use command_line::given::{Asked, Given, Refusal};
@@ -49,7 +51,9 @@ pub const PAGE: Page = Page {
     usage: "fixed column [OPTIONS] COLUMN SOURCE [TARGET] [FILE]...",
     operands: &[COLUMN, SOURCE, TARGET],
     has_numerals: false,
-    options: &[RADIX, POLICY, MODE, PRINT, PLACES, DELIMITER, HEADER, KEEP],
+    options: &[
+        FROM, RADIX, POLICY, MODE, TARGET_MODE, PRINT, PLACES, DELIMITER, HEADER, KEEP,
+    ],
     end: "A format is I (signed) or U (unsigned), its whole bits, F and its fraction bits,\n\
           as in I16F16; the two numbers add up to 8, 16, 32 or 64. A number is\n\
           rounded down from SOURCE to TARGET.\n\

@@ -1,6 +1,6 @@
 //! `fixed format`: what a format can hold.
 
-use crate::inputs::run_question;
+use crate::questions::run_words;
 use crate::settings::format_of;
 use command_line::given::{Asked, Given};
 use command_line::page::{Operand, Page};
@@ -40,5 +40,5 @@ pub fn run<'a, L: Ledger>(
             return Err(refusal);
         }
     }
-    Ok(run_question(rt, &Question::Format, given.from(0), steps))
+    Ok(run_words(rt, &Question::Format, given.from(0), steps))
 }
