@@ -30,7 +30,7 @@ VECTORS := $(filter $(CRATES),fixed_vectors)
 CPU ?= x86-64
 PROVE := python3 .ci/prove.py --jobs $(JOBS) --cpu $(CPU)
 
-.PHONY: build try demo demo-command quick check test wrong-bodies install uninstall bench compare scale clean
+.PHONY: build build/v2 try demo demo-command quick check test wrong-bodies install uninstall bench compare scale clean
 .DELETE_ON_ERROR:
 
 build:
@@ -84,7 +84,13 @@ bench: build
 	@$(PROVE) $(BENCH)
 	@if command -v rustc >/dev/null; then $(MAKE) -s --no-print-directory build/bench_ideal; fi
 	@if command -v cc >/dev/null; then $(MAKE) -s --no-print-directory build/bench_c library build/bench_library; fi
+	@if command -v valgrind >/dev/null; then $(MAKE) -s --no-print-directory build/v2; fi
 	python3 bench/measure.py
+
+# The same programs and library, compiled for x86-64-v2, which `make bench` compares: what every amd64 processor costs.
+build/v2:
+	@$(PROVE) --cpu x86-64-v2 --into build/v2 $(PROGRAMS) fixed_c
+	@if command -v cc >/dev/null; then cc -O2 -Wall -Wextra -Iinclude bench/library.c build/v2/libfixed_c.a -o build/v2/bench_library; fi
 
 build/bench_ideal: bench/ideal.rs
 	rustc --edition 2024 -A warnings -O -C codegen-units=1 -C panic=abort -C target-cpu=x86-64-v2 $< -o $@

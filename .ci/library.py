@@ -32,6 +32,8 @@ PYTHON = "(205887, False) 3.14159\nmore than one point found in string\n"
 RUST = 'Ok(Number { bits: 205887, overflowed: 0 }) Ok("3.14159")\nErr(8) Err(10)\n'
 CPP = "205887 3.14159\nrefused\n"
 GO = "205887 0 3.14159\n"
+# The oldest processors of which qemu has a model: all of amd64's first years, without x86-64-v2.
+PROCESSORS = ("qemu64", "kvm64", "core2duo", "phenom")
 
 
 class Failed(Exception):
@@ -115,16 +117,22 @@ def check_header():
     print("header: compiles in each standard, with the version of the packages", flush=True)
 
 
-def check_processors(folder):
-    """The callers in C on the oldest processors that are promised, by qemu's user mode."""
+def check_processors(folder, shared):
+    """Every caller that was built, on the oldest processors, by qemu's user mode."""
     if not shutil.which("qemu-x86_64"):
         print("qemu-x86_64 is not on this machine, and so no old processor was tried")
         return
-    for processor in ("qemu64", "core2duo"):
-        wanted(f"example on {processor}", run(["qemu-x86_64", "-cpu", processor, f"{folder}/gcc_example_plain"]), EXAMPLE)
-    if not run(["qemu-x86_64", "-cpu", "qemu64", f"{folder}/gcc_edges_plain", "2000"]).endswith("the threads agree\n"):
-        raise Failed("edges on qemu64")
-    print("edges on qemu64: as it should be", flush=True)
+    example = [(f"{folder}/gcc_example_plain",), EXAMPLE]
+    edges = [(f"{folder}/gcc_edges_plain", "2000"), "the threads agree\n"]
+    others = [[(f"{folder}/cpp",), CPP], [(f"{folder}/rust",), RUST], [(f"{folder}/golang",), GO]]
+    callers = [each for each in (example, edges, *others) if os.path.isfile(each[0][0])]
+    callers.append([(sys.executable, f"{TOP}/examples/python/fixed.py"), PYTHON])
+    env = os.environ | {"LIBFIXED": shared, "LD_LIBRARY_PATH": os.path.dirname(shared)}
+    for processor in PROCESSORS:
+        for words, right in callers:
+            if not run(["qemu-x86_64", "-cpu", processor, *words], env=env).endswith(right):
+                raise Failed(f"{words[0]} on {processor}")
+        print(f"{processor}: {len(callers)} callers as they should be", flush=True)
 
 
 def check_c(folder, library, program, lines):
@@ -207,9 +215,9 @@ def main():
             check_header()
             check_symbols(library, shared)
             check_c(folder, library, program, given.lines)
-            check_processors(folder)
             print(run([sys.executable, f"{TOP}/oracle/library.py", shared, "--count", str(given.calls)]), end="", flush=True)
             check_others(folder, library, shared)
+            check_processors(folder, shared)
     except Failed as why:
         print(why)
         return 1

@@ -1,7 +1,7 @@
 #!/usr/bin/env python3
 """Proves crates and builds programs, each after the crates that it uses, as many at a time as processors and memory allow.
 
-    prove.py [--jobs N] [--cpu CPU] NAME..           these crates and those below them; programs come to build/
+    prove.py [--jobs N] [--cpu CPU] [--into FOLDER] NAME..   these crates and those below them; what is compiled comes to build/ or FOLDER
     prove.py [--jobs N] [--cpu CPU] --above NAME..   these crates and those above them, and what is not proved of those below
 
 `rt lib` proves and builds a library, and `rt run` a program, which it runs once over no input. What neither the crate nor those below it
@@ -30,11 +30,12 @@ UNREAD = ("out", "must-fail", "wrong-bodies")
 class Crate:
     """A crate of crates.txt: the crates of the repository that it names, and what its files say."""
 
-    def __init__(self, name, uses):
+    def __init__(self, name, uses, into=BUILD):
         self.name, self.uses = name, uses
         self.folder = f"{TOP}/crates/{name}"
         self.is_program = os.path.isfile(f"{self.folder}/src/main.rt")
-        self.stamp = f"{BUILD}/{name}" if self.is_program else f"{BUILD}/proved/{name}"
+        self.made = name if self.is_program else f"lib{name}.a" if name in COMPILED else None
+        self.stamp = f"{into}/{self.made}" if self.made else f"{BUILD}/proved/{name}"
         self.log = f"{BUILD}/logs/{name}"
         self.changed, self.lines = 0.0, 0
         for at, folders, files in os.walk(self.folder):
@@ -51,27 +52,27 @@ class Crate:
         return os.path.isfile(self.stamp) and os.path.getmtime(self.stamp) > newest
 
     def begin(self, jobs, cpu):
-        compiled = ["--cpu", cpu] if self.is_program or self.name in COMPILED else []
+        compiled = ["--cpu", cpu] if self.made else []
         words = ["rt", "run" if self.is_program else "lib", "--jobs", str(jobs), *compiled, *WORDS.get(self.name, [])]
         with open(self.log, "wb") as log:
             return subprocess.Popen(words, cwd=self.folder, stdin=subprocess.DEVNULL, stdout=log, stderr=subprocess.STDOUT)
 
     def keep(self, began):
-        """Notes that it is proved as its files were when its check began; a program is copied."""
-        if self.is_program:
-            shutil.copy(f"{self.folder}/out/{self.name}", self.stamp)
+        """Notes that it is proved as its files were when its check began; what is compiled is copied."""
+        if self.made:
+            shutil.copy(f"{self.folder}/out/{self.made}", self.stamp)
         else:
             with open(self.stamp, "w", encoding="utf-8"):
                 pass
         os.utime(self.stamp, (began, began))
 
 
-def read_crates():
-    """The crates of crates.txt by their names."""
+def read_crates(into=BUILD):
+    """The crates of crates.txt by their names; what is compiled comes to a folder."""
     with open(f"{TOP}/crates.txt", encoding="utf-8") as file:
         lines = [line.partition(":") for line in file if line.strip() and not line.startswith("#")]
     uses = {head.split()[0]: below.split() for head, _, below in lines}
-    return {name: Crate(name, [it for it in below if it in uses]) for name, below in uses.items()}
+    return {name: Crate(name, [it for it in below if it in uses], into) for name, below in uses.items()}
 
 
 def below(crates, names):
@@ -157,16 +158,18 @@ def main():
     words = argparse.ArgumentParser(description=__doc__.split("\n", maxsplit=1)[0])
     words.add_argument("--jobs", type=int, default=0)
     words.add_argument("--cpu", default="x86-64")
+    words.add_argument("--into", default=BUILD)
     words.add_argument("--above", action="store_true")
     words.add_argument("names", nargs="+")
     given = words.parse_args()
-    crates = read_crates()
+    crates = read_crates(os.path.abspath(given.into))
     unknown = [it for it in given.names if it not in crates]
     if unknown:
         print(f"crates.txt has no crate {unknown[0]}", file=sys.stderr)
         return 2
     for folder in ("proved", "logs"):
         os.makedirs(f"{BUILD}/{folder}", exist_ok=True)
+    os.makedirs(given.into, exist_ok=True)
     names = above(crates, given.names) if given.above else given.names
     wanted = stale(crates, below(crates, names))
     lanes = given.jobs or processes()

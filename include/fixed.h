@@ -68,6 +68,23 @@ enum fixed_mode { FIXED_NEAREST = 0, FIXED_FLOOR = 1, FIXED_CEIL = 2, FIXED_ZERO
 enum fixed_rounding { FIXED_ROUND_CEIL = 0, FIXED_ROUND_FLOOR = 1, FIXED_ROUND_TIES_AWAY = 2, FIXED_ROUND_TIES_EVEN = 3,
                       FIXED_ROUND_ZERO = 4 };
 
+/* What fixed_print_styled shows a number in: decimal, decimal with an exponent after `e` or `E`, or radix 2, 8 or 16 with letters of
+ * either case; and where the text is in a wider field. */
+enum fixed_notation { FIXED_DECIMAL = 0, FIXED_LOWER_EXPONENT = 1, FIXED_UPPER_EXPONENT = 2, FIXED_BINARY = 3, FIXED_OCTAL = 4,
+                      FIXED_LOWER_HEX = 5, FIXED_UPPER_HEX = 6 };
+enum fixed_align { FIXED_LEFT = 0, FIXED_CENTER = 1, FIXED_RIGHT = 2 };
+
+/* A precision of as many places as a number needs: the shortest decimal, or in radix 2, 8 and 16 the exact value. */
+#define FIXED_NO_PRECISION 0xFFFFFFFFu
+
+/* A style: a notation; a precision of 0 to 65535 digits after the point, rounded to the nearest with ties to even, or
+ * FIXED_NO_PRECISION; the least number of characters, 0 to 65535; the character that fills the field up to it, a Unicode scalar value,
+ * which is written in UTF-8; an alignment; and three flags, set where they are not 0: a `+` before a number that is not negative, a
+ * prefix `0b`, `0o` or `0x`, and zeros after sign and prefix in place of fill and alignment. */
+typedef struct {
+  uint32_t notation, precision, width, fill, align, plus, prefix, zero_pad;
+} fixed_style;
+
 enum fixed_code {
   FIXED_OK = 0,
   /* Why a text is no numeral of its radix. */
@@ -92,10 +109,14 @@ enum fixed_code {
   /* The text and a zero byte do not fit into size bytes: nothing of it was written, but *len is its length. */
   FIXED_NO_ROOM = 17,
   FIXED_BAD_OTHER_BITS = 18, /* b is not bits of its format */
-  FIXED_BAD_PLACES = 19,
+  FIXED_BAD_PLACES = 19, /* more than 64, or in a style a precision of more than 65535 */
   FIXED_BAD_ROUNDING = 20,
   FIXED_BAD_WORD = 21, /* the word is that of no format */
-  FIXED_BAD_ROWS = 22  /* the sizes are not those of the rows */
+  FIXED_BAD_ROWS = 22, /* the sizes are not those of the rows */
+  FIXED_BAD_NOTATION = 23,
+  FIXED_BAD_WIDTH = 24, /* more than 65535 */
+  FIXED_BAD_FILL = 25,  /* not a Unicode scalar value */
+  FIXED_BAD_ALIGN = 26
 };
 
 /* Sizes that are always enough, the zero byte included; and more stack than any call takes. Where
@@ -159,6 +180,13 @@ uint32_t fixed_print_rows(const int64_t *bits, size_t count, fixed_format format
                           uint32_t *codes, size_t code_count, size_t *refused);
 uint32_t fixed_convert_rows(const int64_t *bits, size_t bits_count, fixed_format source, fixed_format target, uint32_t policy,
                             uint32_t mode, fixed_number *out, size_t count, uint32_t *codes, size_t code_count, size_t *refused);
+
+/* Bits in a style, and a zero byte; *len is the text's length in bytes, which a size of 0 asks for. */
+uint32_t fixed_print_styled(int64_t bits, fixed_format format, const fixed_style *style, char *out, size_t size, size_t *len);
+
+/* *count is how many bytes the numeral at the beginning of text[0..len) takes: the length of the longest beginning of the text that is
+ * a numeral, so 3 for "1.5 m", "1.5e" and "1.5.2". Where no beginning is one, the code says why the text is no numeral. */
+uint32_t fixed_scan_text(const char *text, size_t len, uint32_t radix, size_t *count);
 
 /* FIXED_ABI and FIXED_VERSION of the library that is linked. */
 uint32_t fixed_abi(void);

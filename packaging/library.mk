@@ -11,7 +11,7 @@ CC ?= cc
 library:
 	@$(PROVE) fixed_c
 	@mkdir -p build/lib
-	cp crates/fixed_c/out/libfixed_c.a build/lib/libfixed.a
+	cp build/libfixed_c.a build/lib/libfixed.a
 	$(CC) -shared -o build/lib/libfixed.so.1 -Wl,-soname,libfixed.so.1 -Wl,--version-script=packaging/fixed.map \
 	  -Wl,--gc-sections -Wl,-z,relro -Wl,-z,now $(CALLS:%=-Wl,-u,%) build/lib/libfixed.a -nostartfiles -lc
 	ln -sf libfixed.so.1 build/lib/libfixed.so

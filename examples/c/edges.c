@@ -62,6 +62,40 @@ static uint64_t round_and_convert(int64_t bits, fixed_format format, unsigned *s
   return sum * 31 + (uint64_t)whole.bits + (uint64_t)moved.bits + len;
 }
 
+/* Prints bits in a style, good or bad, into a block of some size. */
+static uint64_t print_in_style(int64_t bits, fixed_format format, unsigned *seed) {
+  static const uint32_t fills[] = {' ', '*', 0xe9, 0x20ac, 0x1f600, 0xd800, 0x110000};
+  static const uint32_t precisions[] = {FIXED_NO_PRECISION, 0, 3, 70, 65536};
+  fixed_style style = {(uint32_t)rand_r(seed) % 8, precisions[rand_r(seed) % 5], (uint32_t)rand_r(seed) % 50, fills[rand_r(seed) % 7],
+                       (uint32_t)rand_r(seed) % 4, (uint32_t)rand_r(seed) % 2, (uint32_t)rand_r(seed) % 2, (uint32_t)rand_r(seed) % 2};
+  size_t size = (size_t)rand_r(seed) % 300, len = 999;
+  char *out = block(size);
+  uint32_t code = fixed_print_styled(bits, format, &style, out, size, &len);
+  CHECK(code == FIXED_OK || code == FIXED_NO_ROOM || len == 999);
+  if (code == FIXED_OK || code == FIXED_NO_ROOM) CHECK(len >= style.width && (code == FIXED_OK) == (len < size));
+  if (code == FIXED_OK) CHECK(out[len] == 0);
+  free(out);
+  return code * 31 + len;
+}
+
+/* The numeral at the beginning of a text is one, and with a byte more it is not. */
+static uint64_t scan(const char *text, size_t count, uint32_t radix) {
+  const fixed_format wide = {1, 64, 0};
+  size_t taken = 999;
+  fixed_number number;
+  uint32_t code = fixed_scan_text(text, count, radix, &taken);
+  if (code != FIXED_OK) {
+    CHECK(taken == 999);
+    CHECK(code == fixed_read_text(text, count, radix, wide, FIXED_WRAPPING, FIXED_NEAREST, &number));
+    return code;
+  }
+  CHECK(taken > 0 && taken <= count);
+  CHECK(fixed_read_text(text, taken, radix, wide, FIXED_WRAPPING, FIXED_NEAREST, &number) == FIXED_OK);
+  for (size_t more = taken + 1; more <= count; more++)
+    CHECK(fixed_read_text(text, more, radix, wide, FIXED_WRAPPING, FIXED_NEAREST, &number) != FIXED_OK);
+  return taken;
+}
+
 static uint64_t use_number(int64_t bits, fixed_format format, unsigned *seed) {
   fixed_number moved = {0, 0};
   fixed_format target = some_format(seed);
@@ -70,6 +104,7 @@ static uint64_t use_number(int64_t bits, fixed_format format, unsigned *seed) {
   sum = sum * 31 + (uint64_t)moved.bits + moved.overflowed;
   int32_t order = 7;
   CHECK(fixed_compare_bits(bits, format, bits, format, &order) == FIXED_OK && order == 0);
+  sum = sum * 31 + print_in_style(bits, format, seed);
   return sum * 31 + round_and_convert(bits, format, seed);
 }
 
@@ -91,6 +126,7 @@ static uint64_t some_calls(unsigned seed, int times) {
     } else {
       CHECK(number->bits == 99 && number->overflowed == 99);
     }
+    sum = sum * 31 + scan(text, count, radix);
     fixed_number through = {99, 99};
     sum = sum * 31 + fixed_respell_text(text, count, radix, format, some_format(&seed), policy, mode, &through);
     sum = sum * 31 + fixed_read_literal(text, count, format, policy, &through);
@@ -106,7 +142,7 @@ static uint64_t some_calls(unsigned seed, int times) {
     code = fixed_answer_line(line, count + 24, out, size, &len, &is_fault);
     CHECK(code == FIXED_OK || code == FIXED_NO_ROOM);
     CHECK(len <= 192 && (code == FIXED_OK) == (len < size));
-    code = fixed_message((uint32_t)rand_r(&seed) % 24, out, size, &len);
+    code = fixed_message((uint32_t)rand_r(&seed) % 28, out, size, &len);
     CHECK(code == FIXED_OK || code == FIXED_NO_ROOM);
     CHECK(len < FIXED_MESSAGE_SIZE);
     sum = sum * 31 + len + is_fault;
@@ -130,11 +166,15 @@ static void nothing_at_all(void) {
   CHECK(fixed_respell_text(NULL, 0, 10, byte, byte, FIXED_CHECKED, FIXED_NEAREST, &number) == FIXED_NO_DIGITS);
   CHECK(fixed_enclose_text(NULL, 0, 10, byte, &ends) == FIXED_NO_DIGITS);
   CHECK(fixed_read_literal(NULL, 0, byte, FIXED_CHECKED, &number) == FIXED_NO_DIGITS);
+  CHECK(fixed_scan_text(NULL, 0, 10, &len) == FIXED_NO_DIGITS && len == 0);
+  CHECK(fixed_scan_text("1.5e-x", 6, 10, &len) == FIXED_OK && len == 3);
   CHECK(fixed_format_of_word(NULL, 0, &named) == FIXED_BAD_WORD);
   CHECK(number.bits == 99 && ends.lo == 99 && named.width == 9);
   CHECK(fixed_answer_line(NULL, 0, NULL, 0, &len, &is_fault) == FIXED_NO_ROOM && len == 20 && is_fault == 1);
   CHECK(fixed_print_bits(25, byte, NULL, 0, &len) == FIXED_NO_ROOM && len == 4);
   CHECK(fixed_print_places(25, byte, 2, NULL, 0, &len) == FIXED_NO_ROOM && len == 4);
+  CHECK(fixed_print_styled(25, byte, &(fixed_style){FIXED_LOWER_EXPONENT, 2, 0, ' ', FIXED_RIGHT, 0, 0, 0}, NULL, 0, &len) ==
+            FIXED_NO_ROOM && len == 6);
   CHECK(fixed_word_of_format(byte, NULL, 0, &len) == FIXED_NO_ROOM && len == 4);
   CHECK(fixed_message(FIXED_BAD_WORD, NULL, 0, &len) == FIXED_NO_ROOM && len == 15);
   CHECK(fixed_abi() == FIXED_ABI && fixed_version() == FIXED_VERSION);

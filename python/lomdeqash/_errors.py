@@ -35,6 +35,10 @@ class Code(enum.IntEnum):
     BAD_ROUNDING = 20
     BAD_WORD = 21
     BAD_ROWS = 22
+    BAD_NOTATION = 23
+    BAD_WIDTH = 24
+    BAD_FILL = 25
+    BAD_ALIGN = 26
 
 
 class FixedError(ValueError):

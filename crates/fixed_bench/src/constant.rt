@@ -1,12 +1,10 @@
 //! The line engine alone.
 
-ghost use Rattle.std.specs.Prelude.{◌≡◌, ◌<◌};
-
 use fixed_io::{StdSink, StdSource};
 use fixed_steps::Steps;
 use line_engine::{LineRule, MAX_LIMIT, Output, Status, run_lines};
 use std::alloc::Global;
-use std::sync::ledger::{Blank, Ledger};
+use std::sync::ledger::Ledger;
 
 /// Answers each line by one text.
 #[derive(Clone, Copy, Debug, PartialEq, Eq)]
@@ -42,12 +40,7 @@ impl<L: Ledger> LineRule<L> for ConstantRule {
 }
 
 /// Answers the lines of standard input.
-pub fn run_constant<L: Ledger>(rt: &HostRuntime, alloc: Global, blank: Blank) -> Status
-    requires name { blank.name ≡ L.name }
-    requires parts { blank.parts ≡ L.parts }
-    requires some { 0 < blank.parts }
-{
-    let mut steps = Steps::<L>::new(blank);
+pub fn run_constant<L: Ledger>(rt: &HostRuntime, alloc: Global, steps: &mut Steps<L>) -> Status {
     let mut source = StdSource::new(rt.stdin());
     let mut sink = StdSink::new(rt.stdout());
     run_lines(
@@ -56,6 +49,6 @@ pub fn run_constant<L: Ledger>(rt: &HostRuntime, alloc: Global, blank: Blank) ->
         &ConstantRule,
         &mut source,
         &mut sink,
-        &mut steps,
+        steps,
     )
 }

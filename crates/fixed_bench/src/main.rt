@@ -26,38 +26,20 @@
 
 ghost use Rattle.std.specs.Prelude.{◌≡◌, ◌<◌};
 
+mod calls;
 mod constant;
 mod printing;
 mod reading;
 mod typed;
 
+use calls::{sum_of, text};
 use constant::run_constant;
 use fixed_steps::Steps;
 use line_engine::Status;
-use printing::SignedBits;
 use std::alloc::Global;
 use std::marker::Brand;
 use std::sync::ledger::{Blank, Ledger};
 use std::{env, io};
-
-/// The number that a word spells in decimal, 0 where it spells none.
-fn number(word: Option<&String>) -> u32 {
-    match word {
-        Some(digits) => match digits.as_str().parse::<u32>() {
-            Ok(n) => n,
-            Err(_) => 0,
-        },
-        None => 0,
-    }
-}
-
-/// A word, or nothing where there is none.
-fn text<'a>(word: Option<&'a String>) -> &'a str {
-    match word {
-        Some(word) => word.as_str(),
-        None => "",
-    }
-}
 
 /// The lines of standard input.
 fn lines(rt: &HostRuntime) -> io::Result<Vec<String>> {
@@ -68,8 +50,8 @@ fn lines(rt: &HostRuntime) -> io::Result<Vec<String>> {
     Ok(all)
 }
 
-/// Makes the calls that the words name, and answers their sum.
-fn sum_of<L: Ledger>(
+/// Makes the calls that the words name, with the steps on this blank, and answers their sum.
+fn sum_over<L: Ledger>(
     words: &[String],
     inputs: &[String],
     alloc: Global,
@@ -79,65 +61,28 @@ fn sum_of<L: Ledger>(
     requires parts { blank.parts ≡ L.parts }
     requires some { 0 < blank.parts }
 {
-    let mut steps = Steps::<L>::new(blank);
-    let times = number(words.get(1));
-    let word = text(words.get(2));
-    match text(words.get(0)) {
-        "scan" => Ok(reading::scan_all(inputs, reading::radix_of(word), times, &mut steps)),
-        "read" => Ok(reading::read_as(word, inputs, times, &mut steps)),
-        "ending" => {
-            let radix = reading::radix_of(text(words.get(3)));
-            let from = number(words.get(2)) as usize;
-            Ok(reading::read_endings(inputs, from, radix, times, &mut steps))
-        }
-        "typed" => Ok(typed::read_as(word, inputs, times)),
-        work => {
-            let bits = printing::bits_of(alloc, inputs)?;
-            sum_over_bits(work, word, words.get(3), alloc, &bits, times, &mut steps)
-        }
-    }
+    sum_of(words, inputs, alloc, &mut Steps::<L>::new(blank))
 }
 
-/// The sum of what one work answers for numbers that are given by their bits; -1 where there is no such work.
-fn sum_over_bits<L: Ledger>(
-    work: &str,
-    word: &str,
-    places: Option<&String>,
-    alloc: Global,
-    bits: &[SignedBits],
-    times: u32,
-    steps: &mut Steps<L>,
-) -> io::Result<i128> {
-    Ok(match work {
-        "write" => printing::write_as(word, bits, times, steps),
-        "append" => printing::append_as(word, bits, times, steps),
-        "places" => printing::places_as(word, bits, number(places), times),
-        "styled" => {
-            let places = match text(places).parse::<u16>() {
-                Ok(places) => places,
-                Err(_) => 0,
-            };
-            printing::styled_as(word, alloc, bits, places, times)
-        }
-        "display" => typed::display_as(word, alloc, bits, times)?,
-        "display_places" => typed::display_places_as(word, alloc, bits, times)?,
-        other => match typed::work_of(other) {
-            Some(work) => typed::work_as(work, word, alloc, bits, times)?,
-            None => -1,
-        },
-    })
+/// Answers the lines of standard input, with the steps on this blank.
+fn constant_over<L: Ledger>(rt: &HostRuntime, alloc: Global, blank: Blank) -> Status
+    requires name { blank.name ≡ L.name }
+    requires parts { blank.parts ≡ L.parts }
+    requires some { 0 < blank.parts }
+{
+    run_constant(rt, alloc, &mut Steps::<L>::new(blank))
 }
 
 fn main(rt: HostRuntime) -> io::Result<()> {
     let words: Vec<String> = env::args(&rt)?.skip(1).collect(rt.alloc())?;
     if text(words.get(0)) == "engine" {
-        let status = run_constant::<Brand>(&rt, rt.alloc(), Blank::new(1));
+        let status = constant_over::<Brand>(&rt, rt.alloc(), Blank::new(1));
         if status != Status::Done {
             println!(rt; "stopped early")?;
         }
         return Ok(());
     }
     let inputs = lines(&rt)?;
-    let sum = sum_of::<Brand>(&words, &inputs, rt.alloc(), Blank::new(1))?;
+    let sum = sum_over::<Brand>(&words, &inputs, rt.alloc(), Blank::new(1))?;
     println!(rt; "{sum}")
 }

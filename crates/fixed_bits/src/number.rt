@@ -20,16 +20,16 @@ use crate::format::{Format, Policy};
 /// more.
 #[derive(Clone, Copy, Debug, PartialEq, Eq)]
 pub struct Number {
-    pub negative: bool,
     pub low: u64,
+    pub negative: bool,
     pub has_high_bits: bool,
 }
 
 /// The image of a number in a format by its sign and magnitude, and whether the number was out of the format's range.
 #[derive(Clone, Copy, Debug, PartialEq, Eq)]
 pub struct Image {
-    pub negative: bool,
     pub magnitude: u64,
+    pub negative: bool,
     pub is_out_of_range: bool,
 }
 

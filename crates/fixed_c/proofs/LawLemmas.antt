@@ -35,7 +35,7 @@ use Rattle.fixed_c.specs.Texts.{PutsText}
 use Rattle.fixed_c.specs.declared.number.FixedEnclosure.{FixedEnclosure}
 use Rattle.fixed_c.specs.declared.number.FixedNumber.{FixedNumber}
 use Rattle.fixed_c.specs.declared.refusal.Refusal.{Refusal}
-use Rattle.fixed_c.specs.declared.refusal.Refusal.TheVariants.{Numeral, BadRadix, BadFormat, BadTarget, BadPolicy, BadMode, BadBits, NoRoom, BadOtherBits, BadPlaces, BadRounding, BadWord, BadRows}
+use Rattle.fixed_c.specs.declared.refusal.Refusal.TheVariants.{Numeral, BadRadix, BadFormat, BadTarget, BadPolicy, BadMode, BadBits, NoRoom, BadOtherBits, BadPlaces, BadRounding, BadWord, BadRows, BadNotation, BadWidth, BadFill, BadAlign}
 use Rattle.std.proofs.Common.{false, ◌≤◌}
 use Rattle.fixed_bits.specs.declared.mode.ReadMode.TheVariants.{NearestEven}
 use Rattle.fixed_convert.specs.Rounded.{IsMovedIn, MovedInIsTheOne}
@@ -350,12 +350,13 @@ answer_ends_once one line old a b m n fault flag code other p q =
 
 -- ---- messages
 message_at : ℕ → List ℕ
-message_at n = if nat_lt 22 n then codes "unknown code" else (if n == 0 then codes "done" else (if n == 1 then message_of InvalidDigit else (if n == 2 then message_of MisplacedSign
+message_at n = if nat_lt 26 n then codes "unknown code" else (if n == 0 then codes "done" else (if n == 1 then message_of InvalidDigit else (if n == 2 then message_of MisplacedSign
     else (if n == 3 then message_of MisplacedUnderscore else (if n == 4 then message_of TooManyPoints else (if n == 5 then message_of TooManyExp else (if n == 6 then message_of ExpInvalidDigit
     else (if n == 7 then message_of ExpOverflow else (if n == 8 then message_of NoDigits else (if n == 9 then message_of ExpNoDigits else (if n == 10 then message_of Overflow
     else (if n == 11 then refusal_message BadRadix else (if n == 12 then refusal_message BadFormat else (if n == 13 then refusal_message BadTarget else (if n == 14 then refusal_message BadPolicy
     else (if n == 15 then refusal_message BadMode else (if n == 16 then refusal_message BadBits else (if n == 17 then refusal_message NoRoom else (if n == 18 then refusal_message BadOtherBits
-    else (if n == 19 then refusal_message BadPlaces else (if n == 20 then refusal_message BadRounding else (if n == 21 then refusal_message BadWord else refusal_message BadRows))))))))))))))))))))))
+    else (if n == 19 then refusal_message BadPlaces else (if n == 20 then refusal_message BadRounding else (if n == 21 then refusal_message BadWord else (if n == 22 then refusal_message BadRows
+    else (if n == 23 then refusal_message BadNotation else (if n == 24 then refusal_message BadWidth else (if n == 25 then refusal_message BadFill else refusal_message BadAlign))))))))))))))))))))))))))
 
 message_of_refusal : (r : Refusal) → refusal_message r ≡ message_at (refusal_code r)
 unfolding message_at
@@ -381,12 +382,16 @@ message_of_refusal BadPlaces = refl
 message_of_refusal BadRounding = refl
 message_of_refusal BadWord = refl
 message_of_refusal BadRows = refl
+message_of_refusal BadNotation = refl
+message_of_refusal BadWidth = refl
+message_of_refusal BadFill = refl
+message_of_refusal BadAlign = refl
 
 message_is : (code : ℕ) (text : List ℕ) → IsMessage code text → text ≡ message_at code
 unfolding message_at
 message_is code text (inl p) = rw (p.0) p.1
 message_is code text (inr (inl p)) = p.2 ∙ message_of_refusal p.0 ∙ ap message_at (sym p.1)
-message_is code text (inr (inr p)) = let h : nat_lt 22 code ≡ true = lt-ltb 22 code p.0 in p.1 ∙ rw h refl
+message_is code text (inr (inr p)) = let h : nat_lt 26 code ≡ true = lt-ltb 26 code p.0 in p.1 ∙ rw h refl
 
 pub message_ends_once : MessageEndsOnce
 message_ends_once code old a b len m n c other =

@@ -2,3 +2,5 @@ mod EndLemmas
 mod LawLemmas
 mod ReadLemmas
 mod RowLemmas
+mod ScanEndLemmas
+mod StyleLemmas

@@ -8,7 +8,7 @@ use Rattle.fixed_numeral.specs.Messages.{message_of}
 use Rattle.fixed_numeral.specs.declared.error.ParseErrorKind.{ParseErrorKind}
 use Rattle.fixed_numeral.specs.declared.error.ParseErrorKind.TheVariants.{InvalidDigit, MisplacedSign, MisplacedUnderscore, TooManyPoints, TooManyExp, ExpInvalidDigit, ExpOverflow, NoDigits, ExpNoDigits, Overflow}
 use Rattle.fixed_c.specs.declared.refusal.Refusal.{Refusal}
-use Rattle.fixed_c.specs.declared.refusal.Refusal.TheVariants.{Numeral, BadRadix, BadFormat, BadTarget, BadPolicy, BadMode, BadBits, NoRoom, BadOtherBits, BadPlaces, BadRounding, BadWord, BadRows}
+use Rattle.fixed_c.specs.declared.refusal.Refusal.TheVariants.{Numeral, BadRadix, BadFormat, BadTarget, BadPolicy, BadMode, BadBits, NoRoom, BadOtherBits, BadPlaces, BadRounding, BadWord, BadRows, BadNotation, BadWidth, BadFill, BadAlign}
 
 abbrev pub policy_code : Policy → ℕ
 policy_code Checked = 0
@@ -47,6 +47,10 @@ refusal_code BadPlaces = 19
 refusal_code BadRounding = 20
 refusal_code BadWord = 21
 refusal_code BadRows = 22
+refusal_code BadNotation = 23
+refusal_code BadWidth = 24
+refusal_code BadFill = 25
+refusal_code BadAlign = 26
 
 abbrev pub refusal_message : Refusal → List ℕ
 refusal_message (Numeral kind) = message_of kind
@@ -62,9 +66,13 @@ refusal_message BadPlaces = codes "too many places"
 refusal_message BadRounding = codes "bad rounding"
 refusal_message BadWord = codes "bad format word"
 refusal_message BadRows = codes "rows of another size"
+refusal_message BadNotation = codes "bad notation"
+refusal_message BadWidth = codes "too great a width"
+refusal_message BadFill = codes "bad fill character"
+refusal_message BadAlign = codes "bad alignment"
 
 -- text is the message of the code: that of 0, of a refusal, or of a number that is no code
 abbrev pub IsMessage : ℕ → List ℕ → Type 0
 IsMessage code text = ((code ≡ 0) × (text ≡ codes "done"))
     ⊎ ((refusal : Refusal) × (code ≡ refusal_code refusal) × (text ≡ refusal_message refusal))
-    ⊎ ((22 < code) × (text ≡ codes "unknown code"))
+    ⊎ ((26 < code) × (text ≡ codes "unknown code"))

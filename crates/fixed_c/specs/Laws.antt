@@ -12,10 +12,13 @@ use Rattle.fixed_c.specs.Outcome.{EndsWith, Never}
 use Rattle.fixed_c.specs.Read.{IsReadAs, ReadIsRefused}
 use Rattle.fixed_c.specs.Respell.{IsReachedAs, RespellIsRefused}
 use Rattle.fixed_c.specs.Round.{IsRoundedTo, RoundIsRefused}
+use Rattle.fixed_c.specs.Scan.{IsLeadingIn, ScanIsRefused}
+use Rattle.fixed_c.specs.Style.{IsPrintedIn, StyledIsRefused}
 use Rattle.fixed_c.specs.Texts.{TextEnds}
 use Rattle.fixed_c.specs.declared.number.FixedEnclosure.{FixedEnclosure}
 use Rattle.fixed_c.specs.declared.number.FixedNumber.{FixedNumber}
 use Rattle.fixed_c.specs.declared.refusal.Refusal.{Refusal}
+use Rattle.fixed_c.specs.declared.style.FixedStyle.{FixedStyle}
 
 -- two ends of a call are one; `InC` says that what C has is of 64 bits
 abbrev pub EndIsTheOne : {T : Type 0} → (T → Type 0) → (T → Type 0) → (Refusal → Type 0) → Type 0
@@ -66,3 +69,11 @@ ConvertInEndsOnce = (f g : FormatParts) (policy mode : ℕ) (bits : ℤ) → Fit
 
 abbrev pub LiteralEndsOnce : Type 0
 LiteralEndsOnce = (text : List ℕ) (f : FormatParts) (policy : ℕ) → EndIsTheOne NumberInC (λ n. IsLiteralReadAs text f policy n.bits n.overflowed) (LiteralIsRefused text f policy)
+
+abbrev pub StyledEndsOnce : Type 0
+StyledEndsOnce = (f : FormatParts) (bits : ℤ) (style : FixedStyle) → FitsSigned w64 bits
+    → TextIsTheOne (IsPrintedIn f bits style) (StyledIsRefused f bits style)
+
+abbrev pub ScanEndsOnce : Type 0
+ScanEndsOnce = (text : List ℕ) (radix : ℕ)
+    → EndIsTheOne (λ count. Unit {0}) (IsLeadingIn text radix) (ScanIsRefused text radix)

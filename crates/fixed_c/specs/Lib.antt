@@ -11,5 +11,7 @@ pub mod Read
 pub mod Respell
 pub mod Round
 pub mod Rows
+pub mod Scan
+pub mod Style
 pub mod Texts
 pub mod Words

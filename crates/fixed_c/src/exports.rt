@@ -12,6 +12,8 @@ ghost use Rattle.fixed_c.specs.Outcome.{EndsWith, Never};
 ghost use Rattle.fixed_c.specs.Read.{IsReadAs, ReadIsRefused};
 ghost use Rattle.fixed_c.specs.Respell.{IsReachedAs, RespellIsRefused};
 ghost use Rattle.fixed_c.specs.Round.{IsRoundedTo, RoundIsRefused};
+ghost use Rattle.fixed_c.specs.Scan.{IsLeadingIn, ScanIsRefused};
+ghost use Rattle.fixed_c.specs.Style.{IsPrintedIn, StyledIsRefused};
 ghost use Rattle.fixed_c.specs.Rows.{ConvertsRow, HaveBits, HaveRows, PrintedEnd, ReadsRow, RowsEnd};
 ghost use Rattle.fixed_c.specs.Texts.{TextEnds};
 ghost use Rattle.fixed_c.specs.Words.{FormatIsRefused, IsFormatNamed, WordIsRefused};
@@ -23,10 +25,10 @@ use crate::numbers::{convert, convert_in, ends_around, literal, order_by_value, 
 use crate::refusal::{hand_over, message_of};
 use crate::rounding::round;
 use crate::rows::{Conversion, Reading, convert_rows, print_rows, read_rows};
+use crate::scanning::leading;
+use crate::style::{FixedStyle, print_styled};
 use crate::texts::{answer_line, print_bits, print_places, put_text};
 use crate::words::{named_format, put_word};
-use std::marker::Brand;
-use std::sync::ledger::Blank;
 
 /// A numeral in a radix of 2, 8, 10 or 16, as a number of a format: `fixed_read_text` of the header.
 #[unsafe(no_mangle)]
@@ -43,7 +45,7 @@ pub extern "C" fn fixed_read_text(
         (ReadIsRefused text.now radix (format_of format.is_signed format.width format.frac) policy mode) out.old out.new result }
 {
     hand_over(
-        read::<Brand>(given_text(text), radix, format, policy, mode, Blank::new(1)),
+        read(given_text(text), radix, format, policy, mode),
         out,
     )
 }
@@ -60,7 +62,7 @@ pub extern "C" fn fixed_print_bits(
         (IsPrinted (format_of format.is_signed format.width format.frac) bits)
         (PrintIsRefused (format_of format.is_signed format.width format.frac) bits) out.old out.new len.old len.new result }
 {
-    print_bits::<Brand>(bits, format, out, len, Blank::new(1))
+    print_bits(bits, format, out, len)
 }
 
 /// Bits of one format, rounded down to another: `fixed_convert_bits` of the header.
@@ -95,14 +97,13 @@ pub extern "C" fn fixed_respell_text(
         (RespellIsRefused text.now radix (format_of source.is_signed source.width source.frac) (format_of target.is_signed target.width target.frac) policy mode) out.old out.new result }
 {
     hand_over(
-        respelled::<Brand>(
+        respelled(
             given_text(text),
             radix,
             source,
             target,
             policy,
             mode,
-            Blank::new(1),
         ),
         out,
     )
@@ -137,7 +138,7 @@ pub extern "C" fn fixed_enclose_text(
         (EncloseIsRefused text.now radix (format_of format.is_signed format.width format.frac)) out.old out.new result }
 {
     hand_over(
-        ends_around::<Brand>(given_text(text), radix, format, Blank::new(1)),
+        ends_around(given_text(text), radix, format),
         out,
     )
 }
@@ -152,7 +153,7 @@ pub extern "C" fn fixed_answer_line(
 ) -> u32
     ensures { IsAnswered line.now out.old out.new len.new is_fault.new result }
 {
-    answer_line::<Brand>(given_text(line), out, len, is_fault, Blank::new(1))
+    answer_line(given_text(line), out, len, is_fault)
 }
 
 /// The message of a code: `fixed_message` of the header.
@@ -309,6 +310,34 @@ pub extern "C" fn fixed_convert_rows(
         mode,
     };
     convert_rows(bits, conversion, out, codes, refused)
+}
+
+/// Bits in a style: `fixed_print_styled` of the header.
+#[unsafe(no_mangle)]
+pub extern "C" fn fixed_print_styled(
+    bits: i64,
+    format: FixedFormat,
+    style: &FixedStyle,
+    out: &mut [u8],
+    len: &mut usize,
+) -> u32
+    ensures { TextEnds
+        (IsPrintedIn (format_of format.is_signed format.width format.frac) bits style.now)
+        (StyledIsRefused (format_of format.is_signed format.width format.frac) bits style.now)
+        out.old out.new len.old len.new result }
+{
+    print_styled(bits, format, style, out, len)
+}
+
+/// How many bytes the numeral at the beginning of a text takes: `fixed_scan_text` of the header.
+#[unsafe(no_mangle)]
+pub extern "C" fn fixed_scan_text(text: &[u8], radix: u32, count: &mut usize) -> u32
+    ensures { EndsWith (IsLeadingIn text.now radix) (ScanIsRefused text.now radix) count.old count.new result }
+{
+    hand_over(
+        leading::<Brand>(given_text(text), radix, Blank::new(1)),
+        count,
+    )
 }
 
 /// The layout of what the header declares: `fixed_abi` of the header.

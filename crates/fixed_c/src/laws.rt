@@ -13,10 +13,14 @@ ghost use Rattle.fixed_c.specs.Laws.{
   ReadEndsOnce,
   RespellEndsOnce,
   RoundEndsOnce,
+  ScanEndsOnce,
+  StyledEndsOnce,
 };
 
 use fixed_convert::laws::moved_in_is_the_one;
 use fixed_enclose::laws::pair_is_the_one;
+use fixed_laws::laws::styled_text_is_the_one;
+use fixed_numeral::laws::leading_is_the_one;
 use fixed_respell::laws::{
     answer_is_the_one, refusal_has_none, refusal_is_the_one, respelled_is_the_one,
 };
@@ -93,3 +97,17 @@ pub fn convert_in_ends_once()
 pub fn literal_ends_once()
     ensures { LiteralEndsOnce }
 {}
+
+/// A call that prints in a style has one end.
+pub fn styled_ends_once()
+    ensures { StyledEndsOnce }
+{
+    styled_text_is_the_one();
+}
+
+/// A call that finds the numeral at the beginning of a text has one end.
+pub fn scan_ends_once()
+    ensures { ScanEndsOnce }
+{
+    leading_is_the_one();
+}

@@ -13,5 +13,8 @@ mod numbers;
 mod refusal;
 mod rounding;
 mod rows;
+mod scanning;
+mod style;
 mod texts;
+mod uncounted;
 mod words;

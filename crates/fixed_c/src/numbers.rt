@@ -1,6 +1,6 @@
 //! The calls that give numbers, before they are handed over.
 
-ghost use Rattle.std.specs.Prelude.{◌≡◌, ◌<◌, MatchResult};
+ghost use Rattle.std.specs.Prelude.{◌≡◌, MatchResult};
 ghost use Rattle.fixed_c.specs.Arguments.{Names};
 ghost use Rattle.fixed_c.specs.Convert.{CompareIsRefused, ConvertInIsRefused, ConvertIsRefused, IsCompared, IsConverted, IsConvertedIn, order_code};
 ghost use Rattle.fixed_c.specs.Enclose.{EncloseIsRefused, IsEnclosedBy};
@@ -13,27 +13,21 @@ ghost use Rattle.fixed_respell.specs.Reached.{is_signed, number_of};
 use crate::arguments::{FixedFormat, format_of, mode_of, policy_of, radix_of};
 use crate::number::{FixedEnclosure, FixedNumber, bits_for_c, flag, number_for_c, number_in};
 use crate::refusal::Refusal;
+use crate::uncounted::{enclose_uncounted, respell_uncounted};
 use fixed_convert::{compare, reformat, reformat_mode};
-use fixed_enclose::enclose;
 use fixed_numeral::ParseErrorKind;
-use fixed_read::{read_format, read_literal};
-use fixed_respell::{Bits, respell_mode};
-use fixed_steps::Steps;
+use fixed_read::{read_literal, read_uncounted};
+use fixed_respell::Bits;
 use std::cmp::Ordering;
-use std::sync::ledger::{Blank, Ledger};
 
 /// A text read into a format.
-pub fn read<L: Ledger>(
+pub fn read(
     text: &[u8],
     radix: u32,
     format: FixedFormat,
     policy: u32,
     mode: u32,
-    blank: Blank,
 ) -> Result<FixedNumber, Refusal>
-    requires name { blank.name ≡ L.name }
-    requires parts { blank.parts ≡ L.parts }
-    requires backed { 0 < blank.parts }
     ensures { MatchResult result
         (λ n. Names radix policy mode (IsReadAs text.now (format_of format.is_signed format.width format.frac) n.bits n.overflowed))
         (ReadIsRefused text.now radix (format_of format.is_signed format.width format.frac) policy mode) }
@@ -42,8 +36,7 @@ pub fn read<L: Ledger>(
     let format = format_of(format, Refusal::BadFormat)?;
     let policy = policy_of(policy)?;
     let mode = mode_of(mode)?;
-    let mut steps = Steps::<L>::new(blank);
-    let found = match read_format(text, radix, format, mode, &mut steps) {
+    let found = match read_uncounted(text, radix, format, mode) {
         Ok(found) => found,
         Err(error) => return Err(Refusal::Numeral(error.kind())),
     };
@@ -127,23 +120,18 @@ pub fn order_by_value(
 }
 
 /// The two numbers of a format between which the value of a text lies.
-pub fn ends_around<L: Ledger>(
+pub fn ends_around(
     text: &[u8],
     radix: u32,
     format: FixedFormat,
-    blank: Blank,
 ) -> Result<FixedEnclosure, Refusal>
-    requires name { blank.name ≡ L.name }
-    requires parts { blank.parts ≡ L.parts }
-    requires backed { 0 < blank.parts }
     ensures { MatchResult result
         (λ ends. IsEnclosedBy text.now radix (format_of format.is_signed format.width format.frac) ends.lo ends.hi)
         (EncloseIsRefused text.now radix (format_of format.is_signed format.width format.frac)) }
 {
     let radix = radix_of(radix)?;
     let format = format_of(format, Refusal::BadFormat)?;
-    let mut steps = Steps::<L>::new(blank);
-    match enclose(text, radix, format, &mut steps) {
+    match enclose_uncounted(text, radix, format) {
         Ok(ends) => Ok(FixedEnclosure {
             lo: bits_for_c(format, ends.lo),
             hi: bits_for_c(format, ends.hi),
@@ -163,18 +151,14 @@ fn given_bits(bits: Bits) -> i64
 }
 
 /// A text read into one format and rounded down to another.
-pub fn respelled<L: Ledger>(
+pub fn respelled(
     text: &[u8],
     radix: u32,
     source: FixedFormat,
     target: FixedFormat,
     policy: u32,
     mode: u32,
-    blank: Blank,
 ) -> Result<FixedNumber, Refusal>
-    requires name { blank.name ≡ L.name }
-    requires parts { blank.parts ≡ L.parts }
-    requires backed { 0 < blank.parts }
     ensures { MatchResult result
         (λ n. Names radix policy mode (IsReachedAs text.now (format_of source.is_signed source.width source.frac) (format_of target.is_signed target.width target.frac) n.bits n.overflowed))
         (RespellIsRefused text.now radix (format_of source.is_signed source.width source.frac) (format_of target.is_signed target.width target.frac) policy mode) }
@@ -184,8 +168,7 @@ pub fn respelled<L: Ledger>(
     let target = format_of(target, Refusal::BadTarget)?;
     let policy = policy_of(policy)?;
     let mode = mode_of(mode)?;
-    let mut steps = Steps::<L>::new(blank);
-    match respell_mode(text, radix, source, target, policy, mode, &mut steps) {
+    match respell_uncounted(text, radix, source, target, policy, mode) {
         Ok(reached) => Ok(FixedNumber {
             bits: given_bits(reached.bits),
             overflowed: flag(reached.overflowed),

@@ -30,7 +30,7 @@ pub enum Refusal {
     NoRoom,
     /// The second bits are out of the range of their format.
     BadOtherBits,
-    /// There are more than 64 places.
+    /// There are more than 64 places, or in a style more than 65,535.
     BadPlaces,
     /// The rounding is none of 0 to 4.
     BadRounding,
@@ -38,6 +38,14 @@ pub enum Refusal {
     BadWord,
     /// The sizes that are given are not those of the rows.
     BadRows,
+    /// The notation is none of 0 to 6.
+    BadNotation,
+    /// The width is more than 65,535 characters.
+    BadWidth,
+    /// The fill is no Unicode scalar value.
+    BadFill,
+    /// The alignment is none of 0 to 2.
+    BadAlign,
 }
 
 /// The code of a kind, 1 to 10.
@@ -59,7 +67,7 @@ fn kind_code(kind: ParseErrorKind) -> u32
 }
 
 impl Refusal {
-    /// The code of the refusal, 1 to 22.
+    /// The code of the refusal, 1 to 26.
     pub fn code(self) -> u32
         ensures { result ≡ refusal_code self }
     {
@@ -77,6 +85,10 @@ impl Refusal {
             Refusal::BadRounding => 20,
             Refusal::BadWord => 21,
             Refusal::BadRows => 22,
+            Refusal::BadNotation => 23,
+            Refusal::BadWidth => 24,
+            Refusal::BadFill => 25,
+            Refusal::BadAlign => 26,
         }
     }
 
@@ -99,13 +111,17 @@ impl Refusal {
             Refusal::BadRounding => "bad rounding",
             Refusal::BadWord => "bad format word",
             Refusal::BadRows => "rows of another size",
+            Refusal::BadNotation => "bad notation",
+            Refusal::BadWidth => "too great a width",
+            Refusal::BadFill => "bad fill character",
+            Refusal::BadAlign => "bad alignment",
         }
     }
 }
 
 /// The refusal of a code. None where it is that of none.
 fn refusal_of(code: u32) -> Option<Refusal>
-    ensures { MatchOption result ((code ≡ 0) ⊎ (22 < code)) (λ refusal. code ≡ refusal_code refusal) }
+    ensures { MatchOption result ((code ≡ 0) ⊎ (26 < code)) (λ refusal. code ≡ refusal_code refusal) }
 {
     match code {
         1 => Some(Refusal::Numeral(ParseErrorKind::InvalidDigit)),
@@ -130,6 +146,10 @@ fn refusal_of(code: u32) -> Option<Refusal>
         20 => Some(Refusal::BadRounding),
         21 => Some(Refusal::BadWord),
         22 => Some(Refusal::BadRows),
+        23 => Some(Refusal::BadNotation),
+        24 => Some(Refusal::BadWidth),
+        25 => Some(Refusal::BadFill),
+        26 => Some(Refusal::BadAlign),
         _ => None,
     }
 }

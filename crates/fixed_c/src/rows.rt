@@ -9,8 +9,6 @@ use crate::exports::{fixed_convert_bits_mode, fixed_read_text};
 use crate::number::FixedNumber;
 use crate::refusal::{OK, Refusal};
 use crate::texts::shortest_of;
-use std::marker::Brand;
-use std::sync::ledger::{Blank, Ledger};
 
 /// What each number is before its row is read.
 const NO_NUMBER: FixedNumber = FixedNumber {
@@ -219,13 +217,10 @@ fn put_row(text: &[u8], row: &mut [u8]) -> u32
 }
 
 /// Prints bits into a row.
-fn print_row<L: Ledger>(bits: i64, format: FixedFormat, row: &mut [u8], blank: Blank) -> u32
-    requires name { blank.name ≡ L.name }
-    requires parts { blank.parts ≡ L.parts }
-    requires backed { 0 < blank.parts }
+fn print_row(bits: i64, format: FixedFormat, row: &mut [u8]) -> u32
     ensures { PrintsRow (format_of format.is_signed format.width format.frac) bits row.old row.new result }
 {
-    match shortest_of::<L>(bits, format, blank) {
+    match shortest_of(bits, format) {
         Ok(text) => put_row(text.as_bytes(), row),
         Err(refusal) => refusal.code(),
     }
@@ -238,7 +233,7 @@ fn print_at(bits: i64, format: FixedFormat, rows: &mut [u8], size: usize, i: usi
     ensures others { (k : ℕ) → k ≢ i → row_at rows.new size k ≡ row_at rows.old size k }
 {
     let start = i * size;
-    print_row::<Brand>(bits, format, &mut rows[start..start + size], Blank::new(1))
+    print_row(bits, format, &mut rows[start..start + size])
 }
 
 /// Whether there are as many bits and rows as codes.

@@ -1,6 +1,6 @@
 //! Texts that are handed to a buffer of C.
 
-ghost use Rattle.std.specs.Prelude.{◌≡◌, ◌<◌, MatchResult};
+ghost use Rattle.std.specs.Prelude.{MatchResult};
 ghost use Rattle.fixed_c.specs.Answer.{IsAnswered};
 ghost use Rattle.fixed_c.specs.Convert.{IsPrinted, IsPrintedTo, PlacesIsRefused, PrintIsRefused};
 ghost use Rattle.fixed_c.specs.Numbers.{format_of};
@@ -9,10 +9,8 @@ ghost use Rattle.fixed_c.specs.Texts.{PutsText, TextEnds};
 use crate::arguments::{FixedFormat, format_of};
 use crate::number::{flag, number_in};
 use crate::refusal::{OK, Refusal};
-use fixed_respell::answer;
-use fixed_steps::Steps;
-use fixed_write::{ShortText, push_decimal, shortest};
-use std::sync::ledger::{Blank, Ledger};
+use crate::uncounted::{answer_uncounted, shortest_uncounted};
+use fixed_write::{ShortText, push_decimal};
 use text_buffer::TextBuffer;
 
 /// Hands over a text and a zero byte where there is room for both, and its length in any case.
@@ -31,40 +29,31 @@ pub fn put_text(text: &[u8], out: &mut [u8], len: &mut usize) -> u32
 }
 
 /// The shortest decimal that reads back as bits of a format.
-pub fn shortest_of<L: Ledger>(
+pub fn shortest_of(
     bits: i64,
     format: FixedFormat,
-    blank: Blank,
 ) -> Result<ShortText, Refusal>
-    requires name { blank.name ≡ L.name }
-    requires parts { blank.parts ≡ L.parts }
-    requires backed { 0 < blank.parts }
     ensures { MatchResult result
         (IsPrinted (format_of format.is_signed format.width format.frac) bits)
         (PrintIsRefused (format_of format.is_signed format.width format.frac) bits) }
 {
     let format = format_of(format, Refusal::BadFormat)?;
     let number = number_in(bits, format, Refusal::BadBits)?;
-    let mut steps = Steps::<L>::new(blank);
-    Ok(shortest(number, format.frac(), &mut steps))
+    Ok(shortest_uncounted(number, format.frac()))
 }
 
 /// Hands over the shortest decimal that reads back as bits of a format.
-pub fn print_bits<L: Ledger>(
+pub fn print_bits(
     bits: i64,
     format: FixedFormat,
     out: &mut [u8],
     len: &mut usize,
-    blank: Blank,
 ) -> u32
-    requires name { blank.name ≡ L.name }
-    requires parts { blank.parts ≡ L.parts }
-    requires backed { 0 < blank.parts }
     ensures { TextEnds
         (IsPrinted (format_of format.is_signed format.width format.frac) bits)
         (PrintIsRefused (format_of format.is_signed format.width format.frac) bits) out.old out.new len.old len.new result }
 {
-    match shortest_of::<L>(bits, format, blank) {
+    match shortest_of(bits, format) {
         Ok(text) => put_text(text.as_bytes(), out, len),
         Err(refusal) => refusal.code(),
     }
@@ -105,20 +94,15 @@ pub fn print_places(
 }
 
 /// Hands over the answer to a line, and whether it names a fault.
-pub fn answer_line<L: Ledger>(
+pub fn answer_line(
     line: &[u8],
     out: &mut [u8],
     len: &mut usize,
     is_fault: &mut u32,
-    blank: Blank,
 ) -> u32
-    requires name { blank.name ≡ L.name }
-    requires parts { blank.parts ≡ L.parts }
-    requires backed { 0 < blank.parts }
     ensures { IsAnswered line.now out.old out.new len.new is_fault.new result }
 {
-    let mut steps = Steps::<L>::new(blank);
-    let answer = answer(line, &mut steps);
+    let answer = answer_uncounted(line);
     *is_fault = flag(answer.is_fault());
     put_text(answer.as_bytes(), out, len)
 }

@@ -30,6 +30,3 @@ pub use watch::{RefusedLine, Watch};
 pub use words::{
     mode_named, policy_named, print_named, radix_named, spelling_named, target_mode_named,
 };
-
-#[cfg(test)]
-mod tests;

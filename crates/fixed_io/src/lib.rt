@@ -14,6 +14,3 @@ pub use process::program_args;
 pub use report::{MAX_PLACE, report_end};
 pub use standard::{StdSink, StdSource};
 pub use uncounted::{Reports, run_process, run_streams};
-
-#[cfg(test)]
-mod tests;

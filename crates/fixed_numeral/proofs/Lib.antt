@@ -22,3 +22,4 @@ mod DecimalLemmas
 mod MarkLemmas
 mod ExponentLemmas
 mod MessageLemmas
+mod LeadingLemmas

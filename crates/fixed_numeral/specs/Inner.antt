@@ -6,3 +6,4 @@ pub mod MovedPoint
 pub mod Segments
 pub mod Prefix
 pub mod Run
+pub mod LastNumeral

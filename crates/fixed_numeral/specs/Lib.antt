@@ -9,5 +9,6 @@ pub mod Place
 pub mod Scanned
 pub mod Literal
 pub mod Messages
+pub mod Leading
 pub mod Laws
 pub mod Inner

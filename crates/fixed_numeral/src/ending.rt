@@ -85,12 +85,13 @@ fn mantissa_at(text: &[u8], radix: Radix, from: usize) -> Option<Mantissa>
     let base = u64::from(radix.base());
     let marks = other_marks(text, radix);
     let point = unmarked_end(text, marks, from);
+    let whole = number_between(text, base, from, point);
     if point == text.len() || text[point] != b'.' {
         if point == from {
             return None;
         }
         return Some(Mantissa {
-            whole: number_between(text, base, from, point),
+            whole,
             fraction: 0,
             places: 0,
             end: point,
@@ -101,7 +102,7 @@ fn mantissa_at(text: &[u8], radix: Radix, from: usize) -> Option<Mantissa>
         return None;
     }
     Some(Mantissa {
-        whole: number_between(text, base, from, point),
+        whole,
         fraction: number_between(text, base, point + 1, end),
         places: (end - point - 1) as u32,
         end,
@@ -127,21 +128,14 @@ fn signed_exponent(minus: bool, magnitude: u64) -> i32
     }
 }
 
-/// The exponent from a place on, up to the end of the text, or 0 where the text ends there. None where it has no digit, its
-/// number is no i32, or something else is there.
-#[inline(always)]
-fn power_at(text: &[u8], radix: Radix, from: usize) -> Option<Power>
+/// The exponent from its separator on, up to the end of the text. `None` where it has no digit, its number is no i32, or
+/// something else is there.
+fn exponent_at(text: &[u8], radix: Radix, from: usize) -> Option<Power>
     requires least { LANES ≤ from }
     requires late { length text.now ≤ from + LANES }
-    requires place { from ≤ length text.now }
+    requires place { from < length text.now }
     ensures { IfSome result (λ e. IsExponentAt radix text.now from e.exponent e.by_two) }
 {
-    if from == text.len() {
-        return Some(Power {
-            exponent: 0,
-            by_two: false,
-        });
-    }
     let separator = text[from];
     if !is_separator(radix, separator) {
         return None;
@@ -158,6 +152,26 @@ fn power_at(text: &[u8], radix: Radix, from: usize) -> Option<Power>
         exponent: signed_exponent(negative, number),
         by_two: is_two_separator(radix, separator),
     })
+}
+
+/// The exponent from a place on, up to the end of the text, or 0 where the text ends there. `None` as in `exponent_at`.
+#[inline(always)]
+fn power_at(text: &[u8], radix: Radix, from: usize) -> Option<Power>
+    requires least { LANES ≤ from }
+    requires late { length text.now ≤ from + LANES }
+    requires place { from ≤ length text.now }
+    ensures { IfSome result (λ e. IsExponentAt radix text.now from e.exponent e.by_two) }
+{
+    if from == text.len() {
+        return Some(Power {
+            exponent: 0,
+            by_two: false,
+        });
+    }
+    match &exponent_at(text, radix, from) {
+        Some(power) => Some(*power),
+        None => None,
+    }
 }
 
 /// The numbers of a numeral of at most 16 bytes that a text ends with, with at least as many bytes before it. None otherwise.

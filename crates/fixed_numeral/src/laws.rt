@@ -1,5 +1,6 @@
 //! Laws of numerals and literals and of the messages of errors, each the contract of a function that does nothing.
 
+ghost use Rattle.fixed_numeral.specs.Leading.{LeadingIsTheOne};
 ghost use Rattle.fixed_numeral.specs.Laws.{
   PartsAreDetermined,
   PrefixIsBeginning,
@@ -49,4 +50,9 @@ pub fn one_literal_cause()
 /// The message of an error has at most 64 bytes.
 pub fn message_is_short()
     ensures { MessageIsShort }
+{}
+
+/// The numeral at the beginning of a text is the one, and there is none where no prefix is a numeral.
+pub fn leading_is_the_one()
+    ensures { LeadingIsTheOne }
 {}

@@ -6,6 +6,7 @@ mod digit_view;
 mod ending;
 mod error;
 pub mod laws;
+mod leading;
 mod literal;
 mod powers;
 mod radix;
@@ -18,12 +19,10 @@ mod wide;
 
 pub use digit_view::DigitView;
 pub use error::{ParseErrorKind, ParseFixedError};
+pub use leading::leading_numeral;
 pub use literal::scan_lit;
 pub use powers::power_of_ten;
 pub use radix::Radix;
 pub use scanned::Scanned;
 pub use scanner::scan;
 pub use short::{ShortNumeral, short_numeral};
-
-#[cfg(test)]
-mod tests;

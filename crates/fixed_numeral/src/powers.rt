@@ -3,7 +3,7 @@
 ghost use Rattle.std.specs.Prelude.{◌≡◌, ◌<◌, ◌^◌};
 
 /// 10^n.
-#[inline]
+#[inline(always)]
 pub fn power_of_ten(n: u32) -> u64
     requires { n < 20 }
     ensures { result ≡ 10 ^ n }

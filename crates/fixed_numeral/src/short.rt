@@ -72,6 +72,35 @@ fn padded_numeral(s: &[u8], radix: Radix) -> Option<ShortNumeral>
     ending_numeral(&bytes[..LANES + s.len()], LANES, radix)
 }
 
+/// `padded_numeral` of the bytes from a place on. Its answer is matched by reference and copied here, and not where it is used:
+/// the answer of a call has room in memory, which is cleared where a function begins.
+#[inline(always)]
+fn numeral_from(text: &[u8], from: usize, radix: Radix) -> Option<ShortNumeral>
+    requires place { from ≤ length text.now }
+    requires few { length text.now ≤ from + LANES }
+    ensures short { IfSome result (λ n. IsShortAt radix (drop from text.now) n.negative n.whole n.fraction n.places n.exponent n.scales_by_two) }
+    ensures few { IfSome result (λ n. HasFewDigits (base radix) n.whole n.fraction n.places) }
+{
+    match &padded_numeral(bytes_from(text, from), radix) {
+        Some(found) => Some(*found),
+        None => None,
+    }
+}
+
+/// `wide_decimal` of the bytes from a place on, copied as by `numeral_from`.
+#[inline(always)]
+fn wide_decimal_from(text: &[u8], from: usize) -> Option<ShortNumeral>
+    requires place { from ≤ length text.now }
+    requires long { from + LANES < length text.now }
+    ensures short { IfSome result (λ n. IsShortAt Dec (drop from text.now) n.negative n.whole n.fraction n.places n.exponent n.scales_by_two) }
+    ensures plain { IfSome result (λ n. n.exponent ≡ pos 0) }
+{
+    match &wide_decimal(bytes_from(text, from)) {
+        Some(found) => Some(*found),
+        None => None,
+    }
+}
+
 /// The numbers of a numeral of at most 16 bytes that a text ends with.
 #[inline(always)]
 fn few_bytes(text: &[u8], from: usize, radix: Radix) -> Option<ShortNumeral>
@@ -81,19 +110,15 @@ fn few_bytes(text: &[u8], from: usize, radix: Radix) -> Option<ShortNumeral>
     ensures few { IfSome result (λ n. HasFewDigits (base radix) n.whole n.fraction n.places) }
 {
     if from < LANES {
-        return padded_numeral(bytes_from(text, from), radix);
+        return numeral_from(text, from, radix);
     }
-    // Radix 10 by itself, so that its base is a constant there.
-    match radix {
-        Radix::Dec => ending_numeral(text, from, Radix::Dec),
-        _ => ending_numeral(text, from, radix),
-    }
+    ending_numeral(text, from, radix)
 }
 
 /// The numbers of a numeral that a text ends with from a place on: of one with at most 16 bytes, or of a decimal with at most
 /// 44, without an exponent, whose point is among its first 17 bytes and has at most 27 digits after it. None otherwise, and
-/// where the bytes are no numeral; `scan` then says more. It is quickest where the text has 16 bytes before the numeral.
-/// A step a byte of the numeral is taken, or none.
+/// where the bytes are no numeral; `scan` then says more. It is quickest where the text has 16 bytes before the numeral, and
+/// the radix is a constant. A step a byte of the numeral is taken, or none.
 #[inline(always)]
 pub fn short_numeral<L: Ledger>(
     text: &[u8],
@@ -119,7 +144,7 @@ pub fn short_numeral<L: Ledger>(
     match radix {
         Radix::Dec if count <= WIDE => {
             steps.advance(count as u64);
-            wide_decimal(bytes_from(text, from))
+            wide_decimal_from(text, from)
         }
         _ => None,
     }

@@ -133,7 +133,7 @@ pub(crate) fn last_decimals(word: u64, count: usize) -> Option<u64>
     }
 }
 
-/// The number that the last bytes of a word spell in a base, at most eight, where they are digits.
+/// The number that the last bytes of a word spell in a base, at most eight, where they are digits. Base 10 has no letters.
 #[inline(always)]
 pub(crate) fn last_number(word: u64, count: usize, base: u64) -> u64
     requires few { count ≤ 8 }
@@ -142,7 +142,11 @@ pub(crate) fn last_number(word: u64, count: usize, base: u64) -> u64
     ensures number { (bs : List ℕ) → length bs ≡ 8 → AllBelowBase 256 bs → word ≡ number_l 256 bs → AllDigits base (drop (8 - count) bs) → result ≡ digits_value base (drop (8 - count) bs) }
     ensures small { result < 2 ^ 32 }
 {
-    number_of_eight(digit_values(after_zeros(word, count)), base)
+    let padded = after_zeros(word, count);
+    if base == 10 {
+        return number_of_decimals(padded);
+    }
+    number_of_eight(digit_values(padded), base)
 }
 
 /// The number that the first digits of a slice spell in a base, fewer than eight, where each of its bytes is a digit, and

@@ -140,7 +140,3 @@ reads_in_range r bs f s n e h = record {
   read = number_is r bs f;
   in_range = h;
 }
-
--- what a reading call answers is that number
-pub read_is : (r : Radix) (bs : List ℕ) (f : ℕ) (v : ℤ) → IsTrue (is_plain_numeral r bs) → ((p : Parts) → HasNumeral r bs p → IsReadNumber NearestEven r p f v) → v ≡ number_of r bs f
-read_is r bs f v e h = read_unique NearestEven r (parts_of bs) f v (number_of r bs f) (h (parts_of bs) (has_numeral r bs e)) (number_is r bs f)

@@ -21,6 +21,7 @@ mod reading;
 pub mod rounding;
 pub mod styled;
 mod text;
+mod uncounted;
 
 pub use ends::Ends;
 pub use fixed_bits::{FixedBits, Inner, ReadMode};

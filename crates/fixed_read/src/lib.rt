@@ -15,8 +15,7 @@ mod read_number;
 mod reciprocal;
 mod shifts;
 mod short_numeral;
-#[cfg(test)]
-mod tests;
+mod uncounted;
 
 pub use fixed_bits::ReadMode;
 pub use literal::lit;
@@ -26,4 +25,5 @@ pub use read::{
     overflowing_from_str_radix_mode_counted, saturating_from_str_radix,
     saturating_from_str_radix_mode, wrapping_from_str_radix, wrapping_from_str_radix_mode,
 };
-pub use read_number::{ReadNumber, read_ending, read_format, read_literal};
+pub use read_number::{ReadNumber, read_ending, read_format};
+pub use uncounted::{read_literal, read_uncounted};

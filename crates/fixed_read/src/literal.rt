@@ -8,7 +8,7 @@ ghost use Rattle.fixed_numeral.specs.declared.error.ParseErrorKind.TheVariants.{
 ghost use Rattle.fixed_read.specs.Reading.{IsReadInRange, IsReadNumber, IsReadOutOfRange};
 
 use crate::read::{format_of, in_range};
-use crate::read_number::read_literal;
+use crate::uncounted::read_literal;
 use fixed_bits::Inner;
 use fixed_numeral::ParseFixedError;
 

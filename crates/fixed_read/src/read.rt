@@ -13,11 +13,11 @@ ghost use Rattle.fixed_numeral.specs.declared.error.ParseErrorKind.TheVariants.{
 ghost use Rattle.fixed_read.specs.Reading.{IsImageRead, IsOverflowingRead, IsReadInRange, IsReadNumber, IsReadOutOfRange, IsReading};
 
 use crate::read_number::{ReadNumber, read_format};
+use crate::uncounted::read_uncounted;
 use fixed_bits::{Format, Inner, Policy, ReadMode, signed_number};
 use fixed_numeral::{ParseErrorKind, ParseFixedError, Radix};
 use fixed_steps::Steps;
-use std::marker::Brand;
-use std::sync::ledger::{Blank, Ledger};
+use std::sync::ledger::Ledger;
 
 /// The format of an integer type with a fraction length.
 pub fn format_of<I: Inner>(frac: u32) -> Format
@@ -68,37 +68,6 @@ pub fn in_range<I: Inner>(found: &ReadNumber) -> Result<I, ParseFixedError>
     } else {
         Ok(wrapped(found))
     }
-}
-
-/// `read_format` over a ledger that no other counter uses.
-fn read_over<L: Ledger>(
-    s: &[u8],
-    radix: Radix,
-    format: Format,
-    mode: ReadMode,
-    blank: Blank,
-) -> Result<ReadNumber, ParseFixedError>
-    requires name { blank.name ≡ L.name }
-    requires parts { blank.parts ≡ L.parts }
-    requires backed { 0 < L.parts }
-    ensures reading { IsReadOrRefused radix s.now (IsReading mode radix) result }
-    ensures format { IfOk result (λ found. found.format ≡ format) }
-{
-    let mut steps: Steps<L> = Steps::new(blank);
-    read_format(s, radix, format, mode, &mut steps)
-}
-
-/// `read_format` with a counter of its own.
-pub fn read_uncounted(
-    s: &[u8],
-    radix: Radix,
-    format: Format,
-    mode: ReadMode,
-) -> Result<ReadNumber, ParseFixedError>
-    ensures reading { IsReadOrRefused radix s.now (IsReading mode radix) result }
-    ensures format { IfOk result (λ found. found.format ≡ format) }
-{
-    read_over::<Brand>(s, radix, format, mode, Blank::new(1))
 }
 
 /// The bits that a numeral reads as in a mode, brought into the type's range by a multiple of two to the power of its

@@ -29,15 +29,14 @@ use crate::short_numeral::short_ulps;
 use fixed_bits::{Format, Number, Policy, ReadMode};
 use fixed_numeral::{ParseFixedError, Radix, Scanned, ShortNumeral, scan, scan_lit, short_numeral};
 use fixed_steps::Steps;
-use std::marker::Brand;
-use std::sync::ledger::{Blank, Ledger};
+use std::sync::ledger::Ledger;
 
 /// The number that a numeral reads as in a format: a whole number of the format's ulps with a sign, which may be out of the
 /// format's range.
 #[derive(Clone, Copy, Debug, PartialEq, Eq)]
 pub struct ReadNumber {
-    format: Format,
     number: Number,
+    format: Format,
     exact: bool,
 }
 
@@ -192,7 +191,6 @@ fn read_short<L: Ledger>(
 }
 
 /// Reads any numeral, by its digits.
-#[inline(never)]
 fn read_scanned<L: Ledger>(
     s: &[u8],
     radix: Radix,
@@ -212,25 +210,6 @@ fn read_scanned<L: Ledger>(
     }
 }
 
-/// `read_short` in radix 2, 8 or 16: apart, so that none pays for the room that the other needs.
-#[inline(never)]
-fn read_short_apart<L: Ledger>(
-    text: &[u8],
-    from: usize,
-    radix: Radix,
-    format: Format,
-    mode: ReadMode,
-    steps: &mut Steps<L>,
-) -> Option<ReadNumber>
-    requires place { from ≤ length text.now }
-    ensures numeral { IfSome result (λ found. IsNumeral radix (drop from text.now)) }
-    ensures reading { IfSome result (λ found. (p : Parts) → HasNumeral radix (drop from text.now) p → IsReading mode radix p found) }
-    ensures format { IfSome result (λ found. found.format ≡ format) }
-    ensures cost { steps.new ≤ steps.old + length (drop from text.now) }
-{
-    read_short(text, from, radix, format, mode, steps)
-}
-
 /// The bytes of a text from a place on.
 #[inline(always)]
 fn bytes_from(text: &[u8], from: usize) -> &[u8]
@@ -240,20 +219,49 @@ fn bytes_from(text: &[u8], from: usize) -> &[u8]
     &text[from..]
 }
 
-/// A copy, part by part: where a number comes from a call, the parts are loaded as they were stored, and a processor need not wait
-/// until bytes that were stored one by one can be loaded as a word.
-#[inline(always)]
-fn copy_of(found: &ReadNumber) -> ReadNumber
-    ensures { result ≡ found.now }
+/// Reads a numeral that a text ends with: a short one in radix 2, 8 or 16, else by its digits. Apart, so that a short decimal
+/// pays for no room of theirs.
+#[inline(never)]
+fn read_apart<L: Ledger>(
+    text: &[u8],
+    from: usize,
+    radix: Radix,
+    format: Format,
+    mode: ReadMode,
+    steps: &mut Steps<L>,
+) -> Result<ReadNumber, ParseFixedError>
+    requires place { from ≤ length text.now }
+    ensures reading { IsReadOrRefused radix (drop from text.now) (IsReading mode radix) result }
+    ensures format { IfOk result (λ found. found.format ≡ format) }
+    ensures cost { steps.new ≤ steps.old + 3 * length (drop from text.now) + 8 * format.width + 64 }
 {
-    ReadNumber {
-        format: found.format,
-        number: Number {
-            negative: found.number.negative,
-            low: found.number.low,
-            has_high_bits: found.number.has_high_bits,
-        },
-        exact: found.exact,
+    if radix != Radix::Dec {
+        if let Some(found) = read_short(text, from, radix, format, mode, steps) {
+            return Ok(found);
+        }
+    }
+    read_scanned(bytes_from(text, from), radix, format, mode, steps)
+}
+
+/// What `read_apart` answers, matched by reference and copied here, and not where it is used: the answer of a call has room in
+/// memory, which is cleared where a function begins.
+#[inline(always)]
+fn copy_apart<L: Ledger>(
+    text: &[u8],
+    from: usize,
+    radix: Radix,
+    format: Format,
+    mode: ReadMode,
+    steps: &mut Steps<L>,
+) -> Result<ReadNumber, ParseFixedError>
+    requires place { from ≤ length text.now }
+    ensures reading { IsReadOrRefused radix (drop from text.now) (IsReading mode radix) result }
+    ensures format { IfOk result (λ found. found.format ≡ format) }
+    ensures cost { steps.new ≤ steps.old + 3 * length (drop from text.now) + 8 * format.width + 64 }
+{
+    match &read_apart(text, from, radix, format, mode, steps) {
+        Ok(found) => Ok(*found),
+        Err(error) => Err(*error),
     }
 }
 
@@ -281,13 +289,8 @@ pub fn read_ending<L: Ledger>(
         if let Some(found) = read_short(text, from, radix, format, mode, steps) {
             return Ok(found);
         }
-    } else if let Some(found) = &read_short_apart(text, from, radix, format, mode, steps) {
-        return Ok(copy_of(found));
     }
-    match &read_scanned(bytes_from(text, from), radix, format, mode, steps) {
-        Ok(found) => Ok(copy_of(found)),
-        Err(error) => Err(*error),
-    }
+    copy_apart(text, from, radix, format, mode, steps)
 }
 
 /// Reads a numeral into a format in a mode: the numeral's magnitude in ulps of the format, rounded in the mode, with the
@@ -311,46 +314,25 @@ pub fn read_format<L: Ledger>(
     read_ending(s, 0, radix, format, mode, steps)
 }
 
-/// The reading of a literal over a ledger that no other counter uses.
-fn read_literal_over<L: Ledger>(
+/// `read_literal` with its steps on this counter.
+pub fn read_literal_counted<L: Ledger>(
     s: &[u8],
     format: Format,
-    blank: Blank,
+    steps: &mut Steps<L>,
 ) -> Result<ReadNumber, ParseFixedError>
-    requires name { blank.name ≡ L.name }
-    requires parts { blank.parts ≡ L.parts }
-    requires backed { 0 < L.parts }
     ensures literal { IsOk result ↔ IsLiteral format.signed s.now }
     ensures cause { IfErr result (λ kind. HasLiteralCause format.signed s.now kind) }
     ensures reading { IfOk result (λ found. (p : Parts) → HasLiteral format.signed s.now p → IsReading NearestEven (literal_radix format.signed s.now) p found) }
     ensures format { IfOk result (λ found. found.format ≡ format) }
 {
-    let mut steps: Steps<L> = Steps::new(blank);
-    match scan_lit(s, format.signed(), &mut steps) {
+    match scan_lit(s, format.signed(), steps) {
         Ok((radix, found)) => Ok(number_of(
             &found,
             radix,
             format,
             ReadMode::NearestEven,
-            &mut steps,
+            steps,
         )),
         Err(error) => Err(error),
     }
-}
-
-/// Reads a literal into a format, rounded to the nearest ulp, ties to even.
-///
-/// One minus may come first for a signed format. A prefix `0b`, `0o` or `0x` names the radix, which is 10 without one.
-/// Underscores may follow a prefix and a digit of their part.
-///
-/// # Errors
-///
-/// Other bytes than a literal are refused with the kind of their cause.
-pub fn read_literal(s: &[u8], format: Format) -> Result<ReadNumber, ParseFixedError>
-    ensures literal { IsOk result ↔ IsLiteral format.signed s.now }
-    ensures cause { IfErr result (λ kind. HasLiteralCause format.signed s.now kind) }
-    ensures reading { IfOk result (λ found. (p : Parts) → HasLiteral format.signed s.now p → IsReading NearestEven (literal_radix format.signed s.now) p found) }
-    ensures format { IfOk result (λ found. found.format ≡ format) }
-{
-    read_literal_over::<Brand>(s, format, Blank::new(1))
 }

@@ -127,29 +127,33 @@ fn decimal_digits(found: ShortNumeral) -> u64
     found.whole * power_of_ten(found.places) + to_u64(found.fraction)
 }
 
-/// A short numeral in radix 10 as a decimal. None where its digits have to be looked at.
+/// A short numeral in radix 10 as a decimal. `None` where its digits have to be looked at.
 #[inline(always)]
 fn decimal_of(found: ShortNumeral) -> Option<Decimal>
-    requires fraction { found.fraction < 10 ^ found.places }
-    requires whole { found.whole < 10 ^ 16 }
-    requires places { found.places ≤ 27 }
-    requires few { found.exponent ≢ pos 0 → HasFewDigits 10 found.whole found.fraction found.places }
+    requires { HasFewDigits 10 found.whole found.fraction found.places }
     ensures { IfSome result (λ d. IsSameNumber (record { num = d.whole * 10 ^ d.places + d.fraction; den = 10 ^ d.places }) (scaled (found.whole * 10 ^ found.places + found.fraction) 1 10 (found.exponent -ℤ pos found.places))) }
 {
-    if found.exponent == 0 {
-        return Some(Decimal {
-            whole: found.whole,
-            fraction: found.fraction,
-            places: found.places,
-        });
-    }
     scaled_decimal(
         decimal_digits(found),
         i64::from(found.exponent) - i64::from(found.places),
     )
 }
 
-/// The magnitude of a short numeral in radix 10 in ulps of 2^-frac. None where its digits have to be looked at.
+/// The magnitude of a short numeral in radix 10 and with an exponent in ulps of 2^-frac. `None` where its digits have to be
+/// looked at. Apart from `decimal_ulps`, so that the answer of a call has room in memory only where there is an exponent.
+#[inline(always)]
+fn scaled_ulps(found: ShortNumeral, frac: u32, direction: Direction) -> Option<Ulps>
+    requires few { HasFewDigits 10 found.whole found.fraction found.places }
+    requires frac { frac ≤ 64 }
+    ensures { IfSome result (λ ulps. IsMagnitude direction (scaled (found.whole * 10 ^ found.places + found.fraction) 1 10 (found.exponent -ℤ pos found.places)) frac ulps) }
+{
+    match decimal_of(found) {
+        Some(decimal) => Some(ulps_of_decimal(decimal, frac, direction)),
+        None => None,
+    }
+}
+
+/// The magnitude of a short numeral in radix 10 in ulps of 2^-frac. `None` where its digits have to be looked at.
 #[inline(always)]
 fn decimal_ulps(found: ShortNumeral, frac: u32, direction: Direction) -> Option<Ulps>
     requires fraction { found.fraction < 10 ^ found.places }
@@ -159,10 +163,15 @@ fn decimal_ulps(found: ShortNumeral, frac: u32, direction: Direction) -> Option<
     requires frac { frac ≤ 64 }
     ensures { IfSome result (λ ulps. IsMagnitude direction (scaled (found.whole * 10 ^ found.places + found.fraction) 1 10 (found.exponent -ℤ pos found.places)) frac ulps) }
 {
-    match decimal_of(found) {
-        Some(decimal) => Some(ulps_of_decimal(decimal, frac, direction)),
-        None => None,
+    if found.exponent != 0 {
+        return scaled_ulps(found, frac, direction);
     }
+    let decimal = Decimal {
+        whole: found.whole,
+        fraction: found.fraction,
+        places: found.places,
+    };
+    Some(ulps_of_decimal(decimal, frac, direction))
 }
 
 /// What is lost where `rest` of two halves are left.

@@ -25,6 +25,3 @@ pub use respell_rule::RespellRule;
 pub use respelling::{Bits, Respelled, respell, respell_mode};
 pub use split::split_once;
 pub use words::{FormatName, format_name, format_word, policy_word, radix_word};
-
-#[cfg(test)]
-mod tests;

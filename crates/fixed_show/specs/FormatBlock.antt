@@ -56,3 +56,7 @@ pub record IsFormatBlock (f : FormatParts) (block : List ℕ) : Type 0 where
       ++ (line (codes "ulp       ") ulp
       ++ (line (codes "digits    ") (digits_text whole places)
       ++ line (codes "shortest  ") (short_least ++ (codes " to " ++ short_most))))))
+
+-- it is but one
+abbrev pub FormatBlockIsTheOne : Type 0
+FormatBlockIsTheOne = (f : FormatParts) (a b : List ℕ) → IsFormatBlock f a → IsFormatBlock f b → a ≡ b

@@ -69,7 +69,7 @@ pub record IsShown (mode : ReadMode) (r : Radix) (bytes : List ℕ) (f : FormatP
   pub values : List ℕ
   pub are_values : AreValueLines f bits values
   pub error : List ℕ
-  pub is_error : IsErrorText r read.parts f.frac bits error
+  pub is_error : IsErrorText r read.parts f.frac bits overflowed error
   pub between : List ℕ
   pub is_between : IsBetween r bytes f between
   pub block_is : block ≡ values

@@ -20,6 +20,3 @@ pub use hex::push_hex_digits;
 pub use lines::MAX_BLOCK;
 pub use show::{Shown, read_shown, show_block};
 pub use words::{WordFault, read_word};
-
-#[cfg(test)]
-mod tests;

@@ -23,3 +23,4 @@ mod PaddingLemmas
 mod StyledLemmas
 mod LeadingLemmas
 mod FigureLemmas
+mod PutLemmas

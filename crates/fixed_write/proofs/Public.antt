@@ -1,10 +1,10 @@
 -- What the proofs of the crates above may cite.
-use Rattle.std.specs.Prelude.{◌≡◌, ℕ, suc, ◌-◌, ◌*◌, ◌/◌, ◌%◌, ◌^◌, ◌<◌, ◌≤◌, Bool, false, [], ◌∷◌, ◌++◌, length, replicate, ℤ, unsigned_abs}
+use Rattle.std.specs.Prelude.{◌≡◌, ℕ, suc, ◌+◌, ◌-◌, ◌*◌, ◌/◌, ◌%◌, ◌^◌, ◌<◌, ◌≤◌, Bool, false, List, [], ◌∷◌, ◌++◌, length, replicate, ℤ, unsigned_abs}
 use Rattle.std.specs.Fmt.{decimal, digit_glyph}
 use Rattle.fixed_bits.specs.Nearest.{IsEven}
 use Rattle.fixed_bits.specs.Ranges.{IsWide}
 use Rattle.fixed_write.specs.Laws.{PairIsNearest, PairIsTheOne, TextIsTheOne}
-use Rattle.fixed_write.specs.Places.{IsExactText, exact_text}
+use Rattle.fixed_write.specs.Places.{IsExactText, exact_text, rounded_text}
 use Rattle.fixed_write.specs.Shortest.{IsShortest}
 use Rattle.fixed_write.specs.Texts.{IsShortestText, shortest_text, whole_digits, last_digits, fraction_part, point, zero_digit}
 use Rattle.fixed_write.proofs.DigitLemmas
@@ -13,6 +13,7 @@ use Rattle.fixed_write.proofs.LeadingLemmas
 use Rattle.fixed_write.proofs.PassLemmas
 use Rattle.fixed_write.proofs.PlacesLemmas
 use Rattle.fixed_write.proofs.ShortestLemmas
+use Rattle.fixed_write.proofs.StyledLemmas
 use Rattle.fixed_write.proofs.TextLemmas
 
 -- ---- the shortest decimal
@@ -36,8 +37,15 @@ shortest_text_is = TextLemmas.shortest_text_is
 pub shortest_text_unique : TextIsTheOne
 shortest_text_unique = TextLemmas.shortest_text_unique
 
+pub exact_text_unique : (base : ℕ) (upper : Bool) (c : ℤ) (g : ℕ) (a b : List ℕ) → IsExactText base upper c g a → IsExactText base upper c g b → a ≡ b
+exact_text_unique = PlacesLemmas.exact_text_unique
+
 pub exact_text_is : (base : ℕ) (upper : Bool) (c : ℤ) (g : ℕ) → IsEven base → IsExactText base upper c g (exact_text base upper c g)
 exact_text_is = PlacesLemmas.exact_text_is
+
+-- a value to more than 64 places ends in zeros
+pub rounded_zeros : (z : ℕ) (c : ℤ) (g : ℕ) → g ≤ 64 → rounded_text 10 false (64 + z) c g ≡ rounded_text 10 false 64 c g ++ replicate z zero_digit
+rounded_zeros = StyledLemmas.rounded_zeros
 
 -- ---- numbers
 pub wide_magnitude : (v : ℤ) → IsWide v → unsigned_abs v < 2 ^ 64

@@ -34,13 +34,6 @@ places_of b u m g k w r before after l we re h = record {
         let f : u * s ≡ s * u = mul_comm u s in
         (nearest_scaled s (m * p) u n some).0 (rw (e, f) at h)
 
-signed_places : (b : ℕ) (u : Bool) (v : ℤ) (m g k : ℕ) (before after : List ℕ) → m ≡ unsigned_abs v → before ≡ sign_text (is_negative v) → AppendsRounded b u m g k before after → IsRoundedText b u k v g after
-signed_places b u v m g k before after me s h = record {
-  number = h.number;
-  near = rw (← me) h.near;
-  text_is = h.text_is ∙ rw s refl;
-}
-
 cancel : (s x y : ℕ) → 0 < s → s * x ≡ s * y → x ≡ y
 cancel s x y some e = sym (mul-div_cancel_left x some) ∙ (ap (λ z. z / s) e ∙ mul-div_cancel_left y some)
 
@@ -66,14 +59,6 @@ exact_places_of b u m g w r before after l we re h = record {
   places = h.places;
   exact = exact_of g b m h.places h.number l (rw (in_units m g w r l we re) at h.exact);
   text_is = h.text_is;
-}
-
-signed_exact : (b : ℕ) (u : Bool) (v : ℤ) (m g : ℕ) (before after : List ℕ) → m ≡ unsigned_abs v → before ≡ sign_text (is_negative v) → AppendsExact b u m g before after → IsExactText b u v g after
-signed_exact b u v m g before after me s h = record {
-  number = h.number;
-  places = h.places;
-  exact = rw (← me) h.exact;
-  text_is = h.text_is ∙ rw s refl;
 }
 
 -- ---- the blocks of the four bases

@@ -2,7 +2,7 @@
 use Rattle.std.proofs.Common.{◌≡◌, ℕ, zero, suc, ◌+◌, ◌-◌, ◌*◌, ◌/◌, ◌%◌, ◌^◌, ◌<◌, ◌≤◌, Bool, true, false, List, [], ◌∷◌, ◌++◌, replicate, ℤ, pos, unsigned_abs, refl, sym, ap, ◌∙◌, arith, pow_pos, append-nil, append_assoc, mod-lt, div-add-mod', mul-lt-mul_of_pos_right, ⊎_elim}
 use Rattle.std.proofs.lemmas.Bool.{cases_lt}
 use Rattle.std.specs.Prelude.{Option, Some, None, min}
-use Rattle.std.specs.Fmt.{digit_glyph}
+use Rattle.std.specs.Fmt.{digit_glyph, sign_text}
 use Rattle.std.specs.Int.{is_negative}
 use Rattle.std.proofs.Math.Nat.{one-le-pow}
 use Rattle.std.proofs.lemmas.Nat.{pow-add, mul-pow}
@@ -10,6 +10,8 @@ use Rattle.fixed_bits.specs.Nearest.{IsNearest}
 use Rattle.fixed_bits.proofs.Public.{nearest_by_rest, nearest_unique}
 use Rattle.fixed_write.specs.declared.style.Notation.{Notation}
 use Rattle.fixed_write.specs.declared.style.Notation.TheVariants.{Dec, LowerExp, UpperExp, Bin, Oct, LowerHex, UpperHex}
+use Rattle.fixed_write.specs.Places.{rounded_text}
+use Rattle.fixed_write.specs.Shortest.{nearest_number}
 use Rattle.fixed_write.specs.Texts.{IsShortestText, decimal_text, whole_digits, last_digits, fraction_part, point_text, point, zero_digit}
 use Rattle.fixed_write.specs.Inner.Digits.{AppendsRounded, AppendsExact}
 use Rattle.fixed_write.specs.declared.style.Style.{Style}
@@ -17,6 +19,7 @@ use Rattle.fixed_write.specs.Styled.{base_of, is_upper, IsBody, IsPointBody, IsS
 use Rattle.fixed_write.specs.Inner.Figures.{HasBody, HasExponentBody}
 use Rattle.fixed_write.specs.Inner.Styling.{AppendsBody, IsPointNotation}
 use Rattle.fixed_bits.proofs.Public.{not_negative}
+use Rattle.fixed_write.proofs.ComputedLemmas.{nearest_number_is}
 use Rattle.fixed_write.proofs.DigitLemmas.{last_digits_joined, last_digits_suc, last_digits_none, parts_are, fraction_some}
 
 -- ---- the shortest text has no sign
@@ -138,6 +141,21 @@ more_places b u n k z p some =
     let fraction : fraction_part b u (k + z) (n * b ^ z) ≡ fraction_part b u k n ++ replicate z zero_digit = fraction_some b u (k + z) (n * b ^ z) (omega arith) ∙ (ap (λ (x : List ℕ). point ∷ x) last ∙ ap (λ (x : List ℕ). x ++ replicate z zero_digit) (sym (fraction_some b u k n some))) in
     rw (whole, fraction) (sym (append_assoc (whole_digits b u (n / b ^ k)) (fraction_part b u k n) (replicate z zero_digit)))
 
+moved_places : (c x y n u : ℕ) → c * x ≡ n * u → c * (x * y) ≡ n * y * u
+moved_places c x y n u e = let f : c * x * y ≡ n * u * y = ap (λ t. t * y) e in omega arith
+
+-- a value to more than 64 places ends in zeros
+pub rounded_zeros : (z : ℕ) (c : ℤ) (g : ℕ) → g ≤ 64 → rounded_text 10 false (64 + z) c g ≡ rounded_text 10 false 64 c g ++ replicate z zero_digit
+unfolding rounded_text
+rounded_zeros z c g l =
+    let m : ℕ = unsigned_abs c in
+    let n : ℕ = nearest_number (m * 10 ^ 64) (2 ^ g) in
+    let exact : m * 10 ^ 64 ≡ n * 2 ^ g = all_exact 10 5 m g n refl l (nearest_number_is (m * 10 ^ 64) (2 ^ g) (pow_pos g)) in
+    let steps : m * 10 ^ (64 + z) ≡ n * 10 ^ z * 2 ^ g = ap (λ x. m * x) (pow-add 10 64 z) ∙ moved_places m (10 ^ 64) (10 ^ z) n (2 ^ g) exact in
+    let near : IsNearest (m * 10 ^ (64 + z)) (2 ^ g) (n * 10 ^ z) = nearest_by_rest (m * 10 ^ (64 + z)) (2 ^ g) (n * 10 ^ z) 0 (omega (arith, steps)) (omega arith) (λ t. absurd (omega (arith, one-le-pow g 2 (omega arith)))) in
+    let same : nearest_number (m * 10 ^ (64 + z)) (2 ^ g) ≡ n * 10 ^ z = nearest_unique (m * 10 ^ (64 + z)) (2 ^ g) (nearest_number (m * 10 ^ (64 + z)) (2 ^ g)) (n * 10 ^ z) (pow_pos g) (nearest_number_is (m * 10 ^ (64 + z)) (2 ^ g) (pow_pos g)) near in
+    rw (same, more_places 10 false n 64 z (omega arith) (omega arith)) (sym (append_assoc (sign_text (is_negative c)) (point_text 10 false 64 n) (replicate z zero_digit)))
+
 short_body : (notation : Notation) (p c g k z : ℕ) (before after : List ℕ) → k ≡ p → z ≡ 0 → AppendsRounded (base_of notation) (is_upper notation) c g k before after → AppendsBody notation (Some p) c g before after z
 short_body notation p c g k z before after e f h = record {
   body = point_text (base_of notation) (is_upper notation) k h.number;
@@ -151,15 +169,12 @@ long_body notation p c g z before after l e h =
     let some : 0 < base_of notation = base_some notation in
     let exact : c * base_of notation ^ 64 ≡ h.number * 2 ^ g = all_exact (base_of notation) even.0 c g h.number even.1 l h.near in
     let power : base_of notation ^ p ≡ base_of notation ^ 64 * base_of notation ^ z = ap (λ x. base_of notation ^ x) e ∙ pow-add (base_of notation) 64 z in
-    let steps : c * base_of notation ^ p ≡ h.number * base_of notation ^ z * 2 ^ g = ap (λ x. c * x) power ∙ moved c (base_of notation ^ 64) (base_of notation ^ z) h.number (2 ^ g) exact in
+    let steps : c * base_of notation ^ p ≡ h.number * base_of notation ^ z * 2 ^ g = ap (λ x. c * x) power ∙ moved_places c (base_of notation ^ 64) (base_of notation ^ z) h.number (2 ^ g) exact in
     record {
       body = point_text (base_of notation) (is_upper notation) p (h.number * base_of notation ^ z);
       is_body = record { number = h.number * base_of notation ^ z; places = p; shown = (refl, nearest_by_rest (c * base_of notation ^ p) (2 ^ g) (h.number * base_of notation ^ z) 0 (omega (arith, steps)) (omega arith) (λ t. absurd (omega (arith, one-le-pow g 2 (omega arith))))); body_is = refl };
       text = rw (h.text_is, e, more_places (base_of notation) (is_upper notation) h.number 64 z some (omega arith)) (append_assoc before (point_text (base_of notation) (is_upper notation) 64 h.number) (replicate z zero_digit));
     }
-  where
-    moved : (c x y n u : ℕ) → c * x ≡ n * u → c * (x * y) ≡ n * y * u
-    moved c x y n u e = let f : c * x * y ≡ n * u * y = ap (λ t. t * y) e in omega arith
 
 pub rounded_body : (notation : Notation) (p c g k z : ℕ) (before after : List ℕ) → g ≤ 64 → k ≡ min p 64 → z ≡ p - k → AppendsRounded (base_of notation) (is_upper notation) c g k before after → AppendsBody notation (Some p) c g before after z
 rounded_body notation p c g k z before after l e f h = ⊎_elim

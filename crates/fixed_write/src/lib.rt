@@ -12,9 +12,9 @@ mod printer;
 mod short;
 pub mod style;
 mod styled;
-#[cfg(test)]
-mod tests;
+mod styled_text;
 pub mod text;
+mod uncounted;
 
 pub use in_place::{Base, push_decimal, push_exact};
 pub use integer::{push_integer, push_signed_integer};
@@ -22,5 +22,6 @@ pub use printer::{push_shortest, push_signed_shortest};
 pub use short::{ShortText, shortest};
 pub use style::{Align, Notation, Style};
 pub use styled::to_text;
+pub use styled_text::{StyledText, text_in_style};
 pub use text::Text;
 pub use text_buffer::NoMemory;

@@ -9,30 +9,15 @@ ghost use Rattle.fixed_write.specs.Inner.Styling.{IsPointNotation, AppendsBody};
 
 use crate::exponent::{Body, Tail, push_exponent_body};
 use crate::places::{Split, push_exact_in, push_rounded_in, split_of};
-use crate::printer::{magnitude_of, push_signed_shortest};
+use crate::printer::magnitude_of;
 use crate::style::{Notation, Style};
 use crate::text::{BodyParts, Text, padded};
-use fixed_steps::Steps;
+use crate::uncounted::push_shortest_body;
 use std::alloc::Global;
-use std::marker::Brand;
-use std::sync::ledger::{Blank, Ledger};
 use text_buffer::{NoMemory, TextBuffer};
 
 /// Every value is exact with this many places, in each base: the others are zeros, which are counted.
 const EXACT_PLACES: u32 = 64;
-
-/// Appends the shortest decimal of a magnitude.
-fn push_shortest_body<L: Ledger>(out: &mut Body, magnitude: u64, frac: u32, blank: Blank)
-    requires name { blank.name ≡ L.name }
-    requires parts { blank.parts ≡ L.parts }
-    requires backed { 0 < L.parts }
-    requires frac { frac ≤ 64 }
-    requires room { length out.old ≤ 7 }
-    ensures { AppendsBody Notation.Dec None magnitude frac out.old out.new 0 }
-{
-    let mut steps: Steps<L> = Steps::new(blank);
-    push_signed_shortest(out, false, magnitude, frac, &mut steps);
-}
 
 /// Appends a value to a count of places in the base of a notation.
 fn push_rounded_body(out: &mut Body, value: Split, notation: Notation, places: u32)
@@ -63,7 +48,7 @@ fn push_plain_body(out: &mut Body, magnitude: u64, frac: u32, notation: Notation
         Notation::Oct => push_exact_in::<8, 144>(out, value, false),
         Notation::LowerHex => push_exact_in::<16, 144>(out, value, false),
         Notation::UpperHex => push_exact_in::<16, 144>(out, value, true),
-        _ => push_shortest_body::<Brand>(out, magnitude, frac, Blank::new(1)),
+        _ => push_shortest_body(out, magnitude, frac),
     }
 }
 
@@ -89,7 +74,7 @@ fn push_point_body(out: &mut Body, magnitude: u64, frac: u32, style: &Style) -> 
 }
 
 /// Appends the body of a number, and the exponent to a tail of its own, and answers how many zeros are between them.
-fn push_body(out: &mut Body, tail: &mut Tail, magnitude: u64, frac: u32, style: &Style) -> usize
+pub(crate) fn push_body(out: &mut Body, tail: &mut Tail, magnitude: u64, frac: u32, style: &Style) -> usize
     requires empty { out.old ≡ [] }
     requires no_tail { tail.old ≡ [] }
     requires frac { frac ≤ 64 }
@@ -122,7 +107,7 @@ fn push_body(out: &mut Body, tail: &mut Tail, magnitude: u64, frac: u32, style: 
 }
 
 /// What comes before a body: the sign and the prefix.
-fn sign_and_prefix(negative: bool, style: &Style) -> TextBuffer<8>
+pub(crate) fn sign_and_prefix(negative: bool, style: &Style) -> TextBuffer<8>
     ensures text { result ≡ sign_and_prefix style.now negative }
     ensures short { length result ≤ 3 }
 {

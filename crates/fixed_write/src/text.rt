@@ -56,7 +56,7 @@ fn append_times(bytes: &mut Vec<u8>, part: &[u8], times: usize)
 }
 
 /// How many of the fills come before the text.
-fn fills_before(align: Align, padding: usize) -> usize
+pub(crate) fn fills_before(align: Align, padding: usize) -> usize
     ensures value { result ≡ fills_before align padding }
     ensures most { result ≤ padding }
 {

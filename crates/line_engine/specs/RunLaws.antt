@@ -5,7 +5,7 @@ use Rattle.line_engine.specs.AnswerText.{AnswerText}
 use Rattle.line_engine.specs.Filled.{HasFilled}
 use Rattle.line_engine.specs.Run.{HasFailures, HasRun, WritesText}
 use Rattle.line_engine.specs.Output.{WritesOutput}
-use Rattle.line_engine.specs.WholeRun.{WritesAnswer}
+use Rattle.line_engine.specs.WholeRun.{HasWholeRun, WritesAnswer}
 use Rattle.line_engine.specs.declared.status.Status.{Status}
 use Rattle.line_engine.specs.declared.status.Status.TheVariants.{NoMemory}
 use Rattle.line_engine.specs.declared.whole.Filled.{Filled}
@@ -26,6 +26,14 @@ RunEndIsTheOne A = (limit : ℕ) (left left' before after : List ℕ) (read read
     → read < 2 ^ 64 - 1 → write < 2 ^ 64 - 1 → ¬ (s ≡ NoMemory) → ¬ (t ≡ NoMemory)
     → HasRun A limit (Some left) (Some left') (Some before) (Some after) s → HasFailures read read' write write' s
     → HasRun A limit (Some left) (Some left') (Some before) (Some after) t → HasFailures read read' write write' t
+    → s ≡ t
+
+-- and so with a run over a whole input
+abbrev pub WholeRunEndIsTheOne : (List ℕ → AnswerText → Type 0) → Type 0
+WholeRunEndIsTheOne A = (limit : ℕ) (left left' before after : List ℕ) (read read' write write' : ℕ) (s t : Status)
+    → read < 2 ^ 64 - 1 → write < 2 ^ 64 - 1 → ¬ (s ≡ NoMemory) → ¬ (t ≡ NoMemory)
+    → HasWholeRun A limit (Some left) (Some left') (Some before) (Some after) s → HasFailures read read' write write' s
+    → HasWholeRun A limit (Some left) (Some left') (Some before) (Some after) t → HasFailures read read' write write' t
     → s ≡ t
 
 -- while the count of failures can rise, it says how the writing of a text ended

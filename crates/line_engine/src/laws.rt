@@ -7,7 +7,14 @@ ghost use Rattle.line_engine.specs.LineLaws.{
   LinesAreTheInput,
   NoLineHoldsNewline,
 };
-ghost use Rattle.line_engine.specs.RunLaws.{FillIsTheOne, OutputIsTheOne, RunEndIsTheOne, TextEndIsTheOne, WholeOutputIsTheOne};
+ghost use Rattle.line_engine.specs.RunLaws.{
+  FillIsTheOne,
+  OutputIsTheOne,
+  RunEndIsTheOne,
+  TextEndIsTheOne,
+  WholeOutputIsTheOne,
+  WholeRunEndIsTheOne,
+};
 
 use crate::{LineRule, WholeRule};
 use std::sync::ledger::Ledger;
@@ -51,6 +58,11 @@ pub fn whole_output_is_the_one<R: WholeRule<L>, L: Ledger>(_rule: &R)
 /// What was taken and the counts of failures say how a run over lines ended, if it found memory.
 pub fn run_end_is_the_one<R: LineRule<L>, L: Ledger>(_rule: &R)
     ensures { RunEndIsTheOne (R.Answers _rule.now) }
+{}
+
+/// What was taken and the counts of failures say how a run over a whole input ended, if it found memory.
+pub fn whole_run_end_is_the_one<R: WholeRule<L>, L: Ledger>(_rule: &R)
+    ensures { WholeRunEndIsTheOne (R.Answers _rule.now) }
 {}
 
 /// The count of failures says how the writing of a text ended.

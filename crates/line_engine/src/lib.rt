@@ -44,6 +44,3 @@ pub use whole::{Filled, MAX_WHOLE, Whole};
 pub use whole_engine::run_whole;
 pub use whole_rule::{WholeAnswer, WholeRule};
 pub use writing::{write_text, write_whole};
-
-#[cfg(test)]
-mod tests;

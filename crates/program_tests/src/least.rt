@@ -48,3 +48,24 @@ fn lists_are_answered_as_worked_out(rt: HostRuntime) -> Result<(), Fail> {
     }
     Ok(())
 }
+
+/// A list that no format holds is answered by each of the 248 formats, in order, with the first line that rules it out.
+#[test]
+fn none_names_each_format(rt: HostRuntime) -> Result<(), Fail> {
+    let alloc = rt.alloc();
+    let mut expected = String::from_str(alloc, "none\n")?;
+    for width in [8, 16, 32, 64] {
+        for letter in ["U", "I"] {
+            for frac in 0..=width {
+                let line = format!(in alloc; "{letter}{}F{frac} line 2\n", width - frac)?;
+                expected.push_str(line.as_str())?;
+            }
+        }
+    }
+    let case = MemoryRun::unfailing(&["10"], "0\n0.1\n", "", Status::Done);
+    let input = case.input.as_bytes().to_vec(alloc)?;
+    let (status, written) = case.of(alloc, &Program::Least, input)?;
+    assert_eq!(rt; status, Status::Done);
+    assert!(rt; written.as_slice() == expected.as_bytes());
+    Ok(())
+}

@@ -15,9 +15,6 @@ mod no_memory;
 
 pub use no_memory::NoMemory;
 
-#[cfg(test)]
-mod tests;
-
 /// A list of at most `N` bytes.
 #[derive(Drop)]
 pub struct TextBuffer<const N: usize> {

@@ -1,7 +1,7 @@
 use Rattle.fixed_bench.proofs.main.Given as goal
 
-abbrev pub ghosts-run_constant : goal.ghosts-run_constant
-ghosts-run_constant a = record { name = a.blank.name; parts = a.blank.parts }
+abbrev pub ghosts-constant_over : goal.ghosts-constant_over
+ghosts-constant_over a = record { name = a.blank.name; parts = a.blank.parts }
 
-abbrev pub ghosts-sum_of : goal.ghosts-sum_of
-ghosts-sum_of a = record { name = a.blank.name; parts = a.blank.parts }
+abbrev pub ghosts-sum_over : goal.ghosts-sum_over
+ghosts-sum_over a = record { name = a.blank.name; parts = a.blank.parts }

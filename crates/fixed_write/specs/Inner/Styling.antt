@@ -1,5 +1,5 @@
 -- What the private parts of styled text promise.
-use Rattle.std.specs.Prelude.{◌≡◌, ℕ, List, ◌++◌, replicate, Option}
+use Rattle.std.specs.Prelude.{◌≡◌, ℕ, ◌+◌, List, ◌++◌, length, take, drop, replicate, Option}
 use Rattle.std.specs.List.{repeat}
 use Rattle.fixed_write.specs.declared.style.Notation.{Notation}
 use Rattle.fixed_write.specs.declared.style.Notation.TheVariants.{LowerExp, UpperExp}
@@ -25,3 +25,9 @@ pub record AppendsBody (notation : Notation) (precision : Option ℕ) (c g : ℕ
   pub body : List ℕ
   pub is_body : IsPointBody notation precision c g body
   pub text : after ++ replicate zeros zero_digit ≡ before ++ body
+
+-- a part is put at a place of bytes and ends at another, and the bytes before and after it stay
+pub record IsPut (part old new : List ℕ) (at end : ℕ) : Type 0 where
+  pub place : end ≡ at + length part
+  pub text : take end new ≡ take at old ++ part
+  pub rest : drop end new ≡ drop end old

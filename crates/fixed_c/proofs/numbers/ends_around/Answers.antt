@@ -1,30 +1,16 @@
-use Rattle.std.proofs.Common.{rules, subst, sym, refl, inl, inr, ◌∙◌, ap, FitsSigned, ◌≡◌, ◌↔◌, IsTrue, ℕ, ℤ, Bool, List}
-use Rattle.std.specs.Int.{w128, w32, w64}
+use Rattle.std.proofs.Common.{rules, subst, sym, refl, inr, FitsSigned}
+use Rattle.std.specs.Int.{w128, w64}
 use Rattle.std.proofs.lemmas.Int.{to_z-of_z}
-use Rattle.std.proofs.lemmas.Result.{err_from_is_err_and}
-use Rattle.fixed_bits.specs.Down.{down}
 use Rattle.fixed_bits.specs.Formats.{FormatParts}
-use Rattle.fixed_bits.specs.Images.{IsImage}
-use Rattle.fixed_bits.specs.Ranges.{IsOutOfRange}
-use Rattle.fixed_convert.specs.Order.{order_of}
-use Rattle.fixed_enclose.specs.Enclosure.{IsEnclosed, IsRefusal}
-use Rattle.fixed_numeral.specs.Cause.{HasCause}
-use Rattle.fixed_numeral.specs.Numeral.{HasNumeral}
+use Rattle.fixed_enclose.specs.Enclosure.{IsRefusal}
 use Rattle.fixed_numeral.specs.declared.error.ParseErrorKind.{ParseErrorKind}
-use Rattle.fixed_numeral.specs.declared.error.ParseErrorKind.TheVariants.{Overflow}
-use Rattle.fixed_respell.specs.Reached.{is_signed, number_of}
-use Rattle.fixed_write.specs.Texts.{IsShortestText}
-use Rattle.fixed_c.specs.Arguments.{Names, NamesFormat}
-use Rattle.fixed_c.specs.Convert.{IsCompared, IsConverted, IsNotConverted, IsPrinted, order_code}
+use Rattle.fixed_c.specs.Arguments.{NamesFormat}
 use Rattle.fixed_c.specs.Enclose.{IsEnclosedBy}
-use Rattle.fixed_c.specs.Numbers.{AreBits, AreBitsOf, format_of, has_bits}
-use Rattle.fixed_c.specs.Read.{IsNotRead, IsReadAs, OverflowsBy}
-use Rattle.fixed_c.specs.Respell.{IsNotReached, IsReachedAs}
-use Rattle.fixed_c.proofs.ReadLemmas.{not_read, read_as}
+use Rattle.fixed_c.specs.Numbers.{has_bits}
 use Rattle.fixed_c.proofs.numbers.ends_around.Goals as goal
 
 pub returns-in-Ok : goal.returns-in-Ok
-returns-in-Ok g c =
+returns-in-Ok c =
     let f : FormatParts = c.in_ok-format.format in
     let lo : FitsSigned w128 c.in-Ok.ends.lo = search rules in
     let hi : FitsSigned w128 c.in-Ok.ends.hi = search rules in
@@ -45,8 +31,8 @@ returns-in-Ok g c =
     rw (to_z-of_z w64 c.bits_for_c.result low, to_z-of_z w64 c.bits_for_c-in-Ok.result high)
     (subst (λ (h : FormatParts). IsEnclosedBy c.args.text.now c.args.radix h c.bits_for_c.result c.bits_for_c-in-Ok.result) c.in_ok-format.ensures.0 made)
 
-pub returns : goal.returns
-returns g c =
+pub returns-in-Err : goal.returns-in-Err
+returns-in-Err c =
     let f : FormatParts = c.in_ok-format.format in
     let refused : IsRefusal c.in_ok-radix.radix c.args.text.now f c.kind.result = subst (λ (k : ParseErrorKind). IsRefusal c.in_ok-radix.radix c.args.text.now f k) (sym c.kind.ensures) c.in-Err.ensures.refused in
     inr (

@@ -1,26 +1,12 @@
-use Rattle.std.proofs.Common.{rules, subst, sym, refl, inl, inr, ◌∙◌, ap, FitsSigned, ◌≡◌, ◌↔◌, IsTrue, ℕ, ℤ, Bool, List}
+use Rattle.std.proofs.Common.{rules, subst, sym, inl, inr, ◌∙◌, ap, FitsSigned, ◌≡◌}
 use Rattle.std.specs.Int.{w128, w32, w64}
 use Rattle.std.proofs.lemmas.Int.{to_z-of_z}
 use Rattle.std.proofs.lemmas.Result.{err_from_is_err_and}
-use Rattle.fixed_bits.specs.Down.{down}
 use Rattle.fixed_bits.specs.Formats.{FormatParts}
-use Rattle.fixed_bits.specs.Images.{IsImage}
-use Rattle.fixed_bits.specs.Ranges.{IsOutOfRange}
 use Rattle.fixed_convert.specs.Order.{order_of}
-use Rattle.fixed_enclose.specs.Enclosure.{IsEnclosed, IsRefusal}
-use Rattle.fixed_numeral.specs.Cause.{HasCause}
-use Rattle.fixed_numeral.specs.Numeral.{HasNumeral}
-use Rattle.fixed_numeral.specs.declared.error.ParseErrorKind.{ParseErrorKind}
-use Rattle.fixed_numeral.specs.declared.error.ParseErrorKind.TheVariants.{Overflow}
-use Rattle.fixed_respell.specs.Reached.{is_signed, number_of}
-use Rattle.fixed_write.specs.Texts.{IsShortestText}
-use Rattle.fixed_c.specs.Arguments.{Names, NamesFormat}
-use Rattle.fixed_c.specs.Convert.{IsCompared, IsConverted, IsNotConverted, IsPrinted, order_code}
-use Rattle.fixed_c.specs.Enclose.{IsEnclosedBy}
-use Rattle.fixed_c.specs.Numbers.{AreBits, AreBitsOf, format_of, has_bits}
-use Rattle.fixed_c.specs.Read.{IsNotRead, IsReadAs, OverflowsBy}
-use Rattle.fixed_c.specs.Respell.{IsNotReached, IsReachedAs}
-use Rattle.fixed_c.proofs.ReadLemmas.{not_read, read_as}
+use Rattle.fixed_c.specs.Arguments.{NamesFormat}
+use Rattle.fixed_c.specs.Convert.{IsCompared, order_code}
+use Rattle.fixed_c.specs.Numbers.{AreBits, AreBitsOf, format_of}
 use Rattle.fixed_c.proofs.numbers.order_by_value.Goals as goal
 
 pub returns-in_err-left : goal.returns-in_err-left

@@ -24,12 +24,12 @@ use Rattle.fixed_c.proofs.ReadLemmas.{not_read, read_as}
 use Rattle.fixed_c.proofs.numbers.read.Goals as goal
 
 pub returns-in_err-mode : goal.returns-in_err-mode
-returns-in_err-mode g c =
+returns-in_err-mode c =
     let p = err_from_is_err_and c.from_residual-in_err-mode.result c.from_residual-in_err-mode.ensures.1 in
     rw (p.1, p.2) (inr ((c.in_ok-radix.radix, c.in_ok-radix.ensures), inr (c.in_ok-format.ensures.1, inr ((c.in_ok-policy.policy, c.in_ok-policy.ensures), inl c.in_err-mode.ensures))))
 
 pub returns-in-Err : goal.returns-in-Err
-returns-in-Err g c =
+returns-in-Err c =
     let cause : HasCause c.in_ok-radix.radix c.args.text.now c.kind.result =
     subst (λ (k : ParseErrorKind). HasCause c.in_ok-radix.radix c.args.text.now k) (sym c.kind.ensures) c.in-Err.ensures.reading.cause in
     inr (
@@ -59,7 +59,7 @@ returns-in-Err g c =
     )
 
 pub returns-in-Some : goal.returns-in-Some
-returns-in-Some g c =
+returns-in-Some c =
     let f : FormatParts = c.in_ok-format.format in
     let image : FitsSigned w128 c.in-Some.number = search rules in
     let are : has_bits f.signed c.number_for_c.result.bits c.in-Some.number = rw (to_z-of_z w128 c.in-Some.number image) at c.number_for_c.ensures.bits in
@@ -78,8 +78,8 @@ returns-in-Some g c =
       holds = read;
     })
 
-pub returns : goal.returns
-returns g c =
+pub returns-in-None : goal.returns-in-None
+returns-in-None c =
     let f : FormatParts = c.in_ok-format.format in
     let numeral = c.in-Ok.ensures.reading.numeral.0 refl in
     let over : OverflowsBy (HasNumeral c.in_ok-radix.radix c.args.text.now) f c.in_ok-radix.radix c.in_ok-policy.policy c.in_ok-mode.mode =
@@ -111,3 +111,8 @@ returns g c =
         ),
       ),
     )
+
+pub returns-in_err-policy : goal.returns-in_err-policy
+returns-in_err-policy g c =
+    let p = err_from_is_err_and c.from_residual-in_err-policy.result c.from_residual-in_err-policy.ensures.1 in
+    rw (p.1, p.2) (inr ((c.in_ok-radix.radix, c.in_ok-radix.ensures), inr (c.in_ok-format.ensures.1, inl c.in_err-policy.ensures)))

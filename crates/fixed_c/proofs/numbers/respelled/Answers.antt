@@ -1,40 +1,27 @@
-use Rattle.std.proofs.Common.{rules, subst, sym, refl, inl, inr, ◌∙◌, ap, FitsSigned, ◌≡◌, ◌↔◌, IsTrue, ℕ, ℤ, Bool, List}
-use Rattle.std.specs.Int.{w128, w32, w64}
+use Rattle.std.proofs.Common.{rules, subst, sym, refl, inl, inr, FitsSigned, Bool}
+use Rattle.std.specs.Int.{w64}
 use Rattle.std.proofs.lemmas.Int.{to_z-of_z}
 use Rattle.std.proofs.lemmas.Result.{err_from_is_err_and}
-use Rattle.fixed_bits.specs.Down.{down}
 use Rattle.fixed_bits.specs.Formats.{FormatParts}
-use Rattle.fixed_bits.specs.Images.{IsImage}
-use Rattle.fixed_bits.specs.Ranges.{IsOutOfRange}
-use Rattle.fixed_convert.specs.Order.{order_of}
-use Rattle.fixed_enclose.specs.Enclosure.{IsEnclosed, IsRefusal}
-use Rattle.fixed_numeral.specs.Cause.{HasCause}
-use Rattle.fixed_numeral.specs.Numeral.{HasNumeral}
 use Rattle.fixed_numeral.specs.declared.error.ParseErrorKind.{ParseErrorKind}
-use Rattle.fixed_numeral.specs.declared.error.ParseErrorKind.TheVariants.{Overflow}
-use Rattle.fixed_respell.specs.Reached.{is_signed, number_of}
-use Rattle.fixed_write.specs.Texts.{IsShortestText}
+use Rattle.fixed_respell.specs.Reached.{number_of}
 use Rattle.fixed_c.specs.Arguments.{Names, NamesFormat}
-use Rattle.fixed_c.specs.Convert.{IsCompared, IsConverted, IsNotConverted, IsPrinted, order_code}
-use Rattle.fixed_c.specs.Enclose.{IsEnclosedBy}
-use Rattle.fixed_c.specs.Numbers.{AreBits, AreBitsOf, format_of, has_bits}
-use Rattle.fixed_c.specs.Read.{IsNotRead, IsReadAs, OverflowsBy}
+use Rattle.fixed_c.specs.Numbers.{format_of, has_bits}
 use Rattle.fixed_c.specs.Respell.{IsNotReached, IsReachedAs}
-use Rattle.fixed_c.proofs.ReadLemmas.{not_read, read_as}
 use Rattle.fixed_c.proofs.numbers.respelled.Goals as goal
 
 pub returns-in_err-policy : goal.returns-in_err-policy
-returns-in_err-policy g c =
+returns-in_err-policy c =
     let p = err_from_is_err_and c.from_residual-in_err-policy.result c.from_residual-in_err-policy.ensures.1 in
     rw (p.1, p.2) (inr ((c.in_ok-radix.radix, c.in_ok-radix.ensures), inr (c.in_ok-source.ensures.1, inr (c.in_ok-target.ensures.1, inl c.in_err-policy.ensures))))
 
 pub returns-in_err-mode : goal.returns-in_err-mode
-returns-in_err-mode g c =
+returns-in_err-mode c =
     let p = err_from_is_err_and c.from_residual-in_err-mode.result c.from_residual-in_err-mode.ensures.1 in
     rw (p.1, p.2) (inr ((c.in_ok-radix.radix, c.in_ok-radix.ensures), inr (c.in_ok-source.ensures.1, inr (c.in_ok-target.ensures.1, inr ((c.in_ok-policy.policy, c.in_ok-policy.ensures), inl c.in_err-mode.ensures)))))
 
 pub returns-in-Ok : goal.returns-in-Ok
-returns-in-Ok g c =
+returns-in-Ok c =
     let f : FormatParts = c.in_ok-source.source in
     let h : FormatParts = c.in_ok-target.target in
     let bits : FitsSigned w64 c.given_bits.result = search rules in
@@ -61,8 +48,8 @@ returns-in-Ok g c =
     (subst (λ (s : FormatParts). Names c.args.radix c.args.policy c.args.mode (IsReachedAs c.args.text.now s (format_of c.args.target.is_signed c.args.target.width c.args.target.frac) c.given_bits.result c.flag.result)) c.in_ok-source.ensures.0
     (subst (λ (t : FormatParts). Names c.args.radix c.args.policy c.args.mode (IsReachedAs c.args.text.now f t c.given_bits.result c.flag.result)) c.in_ok-target.ensures.0 made))
 
-pub returns : goal.returns
-returns g c =
+pub returns-in-Err : goal.returns-in-Err
+returns-in-Err c =
     let f : FormatParts = c.in_ok-source.source in
     let h : FormatParts = c.in_ok-target.target in
     let refused : IsNotReached c.args.text.now f h c.kind.result c.in_ok-radix.radix c.in_ok-policy.policy c.in_ok-mode.mode =

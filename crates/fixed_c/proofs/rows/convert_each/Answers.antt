@@ -1,8 +1,8 @@
-use Rattle.std.proofs.Common.{◌≡◌, ◌<◌, ◌≤◌, ◌+◌, ◌∙◌, sym, ap, length, take, arith}
+use Rattle.std.proofs.Common.{◌<◌, ◌≤◌, ◌+◌, ◌∙◌, sym, ap, length, take, arith}
 use Rattle.std.proofs.lemmas.List.{take_all}
 use Rattle.fixed_c.specs.Numbers.{format_of}
-use Rattle.fixed_c.specs.Rows.{ConvertsRow, ReadsRow, refused_of}
-use Rattle.fixed_c.proofs.RowLemmas.{refused_next, row_fits, row_more}
+use Rattle.fixed_c.specs.Rows.{ConvertsRow, refused_of}
+use Rattle.fixed_c.proofs.RowLemmas.{refused_next, row_more}
 use Rattle.fixed_c.proofs.rows.convert_each.Goals as goal
 
 pub loop-i-preserved : goal.loop-i-preserved

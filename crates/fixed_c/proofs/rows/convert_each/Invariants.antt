@@ -1,6 +1,6 @@
 use Rattle.std.proofs.Common.{◌≡◌, ◌<◌, ◌≤◌, ℕ, take, get_or}
 use Rattle.fixed_c.specs.Numbers.{format_of}
-use Rattle.fixed_c.specs.Rows.{ConvertsRow, ReadsRow, refused_of}
+use Rattle.fixed_c.specs.Rows.{ConvertsRow, refused_of}
 use Rattle.fixed_c.specs.declared.number.FixedNumber.{FixedNumber}
 use Rattle.fixed_c.proofs.rows.convert_each.Given as goal
 

@@ -1,4 +1,4 @@
-use Rattle.std.proofs.Common.{rules, FitsSigned, ◌≡◌, ◌≢◌, ◌<◌, ◌≤◌, ◌+◌, ◌∙◌, ℕ, pos, sym, ap, subst, length, take, get_or, arith, List}
+use Rattle.std.proofs.Common.{rules, FitsSigned, ◌≢◌, ◌<◌, ◌≤◌, ◌+◌, ◌∙◌, ℕ, pos, sym, ap, subst, length, take, get_or, arith, List}
 use Rattle.std.specs.Int.{w64}
 use Rattle.std.proofs.lemmas.Int.{to_z-of_z}
 use Rattle.std.proofs.lemmas.List.{take_all}

@@ -7,4 +7,4 @@ pub returns-then-count-le-LANES-clause-parts : goal.returns-then-count-le-LANES-
 returns-then-count-le-LANES-clause-parts g c = if_some _ _ c.few_bytes.result (λ n f p h. short_parts c.args.radix (drop c.args.from c.args.text.now) n.negative n.whole n.fraction n.places n.exponent n.scales_by_two p f h) c.few_bytes.ensures.short
 
 pub returns-in-Dec-clause-parts : goal.returns-in-Dec-clause-parts
-returns-in-Dec-clause-parts g c = rw c.in-Dec.is (if_some _ _ c.wide_decimal.result (λ n f p h. short_parts Dec (drop c.args.from c.args.text.now) n.negative n.whole n.fraction n.places n.exponent n.scales_by_two p f h) (rw c.bytes_from.ensures at c.wide_decimal.ensures.short))
+returns-in-Dec-clause-parts g c = rw c.in-Dec.is (if_some _ _ c.wide_decimal_from.result (λ n f p h. short_parts Dec (drop c.args.from c.args.text.now) n.negative n.whole n.fraction n.places n.exponent n.scales_by_two p f h) c.wide_decimal_from.ensures.short)

@@ -16,4 +16,4 @@ pub returns-in-Some-clause-styled : goal.returns-in-Some-clause-styled
 returns-in-Some-clause-styled g c =
     let within : c.args.frac ≤ c.args.width = c.if-frac-width.true in
     let some : spec_precision (formatter_spec c.args.f.now) ≡ Some c.in-Some.places = sym c.precision.ensures.value ∙ c.in-Some.is in
-    rw (styled_bare_places c.args.f.now (spec_precision (formatter_spec c.args.f.now)) c.in-Some.places c.args.width c.args.frac c.args.value (rounded_text 10 false c.in-Some.places c.args.value c.args.frac) some c.if-places-le64.true within (c.is_bare.ensures.width c.if-is_bare.true) (c.is_bare.ensures.plus c.if-is_bare.true) (c.is_bare.ensures.alternate c.if-is_bare.true) refl) (search (rules, c.write_places.ensures.styled))
+    rw (styled_bare_places c.args.f.now (spec_precision (formatter_spec c.args.f.now)) c.in-Some.places c.args.width c.args.frac c.args.value (rounded_text 10 false c.in-Some.places c.args.value c.args.frac) some within (c.is_bare.ensures.width c.if-is_bare.true) (c.is_bare.ensures.plus c.if-is_bare.true) (c.is_bare.ensures.alternate c.if-is_bare.true) refl) (search (rules, c.write_places.ensures.styled))

@@ -20,8 +20,8 @@ returns-in-Ok-clause-block g c =
     let range : List ℕ = line (codes "range     ") (range_text c.in-Ok.shown.overflowed) in
     let values : Appends (AreValueLines f b) 261 c.args.out.now c.push_value_lines.new.out = rw (to_z-of_z w128 b fit) at c.push_value_lines.ensures.lines in
     let near = inside_is_near c.args.mode r c.args.text.now f c.args.policy b c.in-Ok.shown.overflowed read c.frac_of.ensures.valid.is_width in
-    let error : Appends (IsErrorLine r read.parts f.frac b) 1400 c.push_value_lines.new.out c.push_error_line.new.out
-    = (let h : (c.in-Ok.shown.overflowed ≡ false → IsLessThanUlp r read.parts f.frac b) → Appends (IsErrorLine r read.parts f.frac b) 1400 c.push_value_lines.new.out c.push_error_line.new.out
+    let error : Appends (IsErrorLine r read.parts f.frac b c.in-Ok.shown.overflowed) 1400 c.push_value_lines.new.out c.push_error_line.new.out
+    = (let h : (c.in-Ok.shown.overflowed ≡ false → IsLessThanUlp r read.parts f.frac b) → Appends (IsErrorLine r read.parts f.frac b c.in-Ok.shown.overflowed) 1400 c.push_value_lines.new.out c.push_error_line.new.out
     = rw (to_z-of_z w128 b fit, c.frac_of.ensures.value) at (c.push_error_line.ensures.error read.parts read.numeral) in h near) in
     let between = c.push_between.ensures.between in
     let text : List ℕ = values.text ++ (error.text ++ (between.text ++ range)) in

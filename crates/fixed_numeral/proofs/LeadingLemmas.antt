@@ -1,0 +1,90 @@
+-- The numeral at the beginning of a text.
+use Rattle.std.proofs.Common.{◌≡◌, ℕ, ◌+◌, ◌<◌, ◌≤◌, List, [], length, take, get_or, length-take, Result, Ok, Err, MatchResult, refl, inl, inr, ⊎_elim, arith}
+use Rattle.std.proofs.lemmas.Bool.{cases_lt}
+use Rattle.std.proofs.lemmas.List.{take-take, take_all, get_or-take}
+use Rattle.fixed_numeral.specs.declared.radix.Radix.{Radix}
+use Rattle.fixed_numeral.specs.declared.scanner.State.{State}
+use Rattle.fixed_numeral.specs.declared.error.ParseErrorKind.{ParseErrorKind}
+use Rattle.fixed_numeral.specs.Numeral.{Parts, IsNumeral}
+use Rattle.fixed_numeral.specs.Cause.{HasCause}
+use Rattle.fixed_numeral.specs.Leading.{IsLeadingNumeral, HasNoLeading, LeadingIsTheOne}
+use Rattle.fixed_numeral.specs.Inner.LastNumeral.{IsLastAfter}
+use Rattle.fixed_numeral.specs.Inner.Scan.{CannotExtend, IsAfter, IsComplete, IsIncomplete}
+use Rattle.fixed_numeral.proofs.ScanLemmas.{IsRead, after_nothing, has_numeral, incomplete_cause, no_digits, stuck_no_numeral}
+
+-- of the prefixes up to a place, `last` is the length of the longest that is a numeral, or 0
+pub record IsLast (r : Radix) (bs : List ℕ) (at last : ℕ) : Type 0 where
+  pub within : last ≤ at
+  pub some : 0 < last → IsNumeral r (take last bs)
+  pub longest : (m : ℕ) → m ≤ at → IsNumeral r (take m bs) → m ≤ last
+
+-- what the loop keeps
+pub record IsWalked (r : Radix) (bs : List ℕ) (at last : ℕ) (st : State) (old new : ℕ) : Type 0 where
+  pub read : IsRead r bs at st old new
+  pub is_last : IsLast r bs at last
+
+pub nothing_passed : (r : Radix) (bs : List ℕ) → IsLast r bs 0 0
+nothing_passed r bs = record { within = omega arith; some = λ l. absurd (omega arith); longest = λ m l h. l }
+
+complete : (r : Radix) (bs : List ℕ) (st : State) → IsAfter r bs st → IsComplete st → IsNumeral r bs
+complete r bs st a c = (a.parts, has_numeral r bs st a c.digits c.exponent)
+
+pub last_more : (r : Radix) (bs : List ℕ) (at last next : ℕ) (st : State) → IsLast r bs at last → IsAfter r (take (at + 1) bs) st → IsLastAfter st (at + 1) last next → IsLast r bs (at + 1) next
+last_more r bs at last next st g a (inl (c, e)) = rw e (record {
+  within = omega arith;
+  some = λ l. complete r (take (at + 1) bs) st a c;
+  longest = λ m l h. l;
+})
+last_more r bs at last next st g a (inr (kind, i, e)) = rw e (record {
+  within = omega (arith, g.within);
+  some = g.some;
+  longest = λ m l h. ⊎_elim (λ (k : m < at + 1). g.longest m (omega arith) h) (λ (k : at + 1 ≤ m).
+    let same : m ≡ at + 1 = omega arith in
+    absurd ((incomplete_cause r (take (at + 1) bs) st kind a i).none (rw same at h))) (cases_lt m (at + 1));
+})
+
+-- nothing is no numeral
+empty_none : (r : Radix) → IsNumeral r [] → ⊥
+empty_none r = (no_digits r [] _ (after_nothing r) refl refl).none
+
+none_at_zero : (r : Radix) (bs : List ℕ) (m : ℕ) → m ≤ 0 → IsNumeral r (take m bs) → ⊥
+none_at_zero r bs m l h = let z : m ≡ 0 = omega arith in empty_none r (rw z at h)
+
+-- no prefix past the byte that offends is a numeral
+pub stuck_past : (r : Radix) (bs : List ℕ) (n : ℕ) (p : Parts) (kind : ParseErrorKind) → n < length bs → CannotExtend r (take n bs) p (get_or bs n 0) kind → (m : ℕ) → m ≤ length bs → IsNumeral r (take m bs) → m ≤ n
+stuck_past r bs n p kind l g m lm h = ⊎_elim (λ (k : n < m). absurd (
+    let same : take n (take m bs) ≡ take n bs = take-take n m bs (omega arith) in
+    let byte : get_or (take m bs) n 0 ≡ get_or bs n 0 = get_or-take m bs n 0 k in
+    let g' : CannotExtend r (take n (take m bs)) p (get_or (take m bs) n 0) kind = rw (same, byte) g in
+    stuck_no_numeral r (take m bs) n p kind (omega (arith, length-take m bs)) g' h)) (λ (k : m ≤ n). k) (cases_lt n m)
+
+-- the end of a walk at which something is missing or a byte offends
+pub ended : (r : Radix) (bs : List ℕ) (at last : ℕ) (kind : ParseErrorKind) (result : Result ℕ ParseErrorKind) → IsLast r bs at last → at ≤ length bs
+    → ((m : ℕ) → m ≤ length bs → IsNumeral r (take m bs) → m ≤ at) → HasCause r bs kind
+    → MatchResult result (λ n. (0 < last) × (n ≡ last)) (λ k. (last ≡ 0) × (k ≡ kind))
+    → MatchResult result (λ n. IsLeadingNumeral r bs n) (λ k. HasNoLeading r bs × HasCause r bs k)
+ended r bs at last kind (Ok n) g l past why (some, e) = rw e (record {
+  within = omega (arith, g.within);
+  numeral = g.some some;
+  longest = λ m lm h. g.longest m (past m lm h) h;
+})
+ended r bs at last kind (Err k) g l past why (z, e) = (
+  λ m lm h. none_at_zero r bs m (omega (arith, g.longest m (past m lm h) h, z)) h,
+  rw e why,
+)
+
+-- the end of a text at which nothing is missing
+pub all_leading : (r : Radix) (bs : List ℕ) (at : ℕ) (st : State) → at ≡ length bs → IsAfter r (take at bs) st → IsComplete st → IsLeadingNumeral r bs at
+all_leading r bs at st e a c = record { within = omega arith; numeral = complete r (take at bs) st a c; longest = λ m l h. omega arith }
+
+-- why a text to whose end something is missing is no numeral
+pub missing_cause : (r : Radix) (bs : List ℕ) (at : ℕ) (st : State) (kind : ParseErrorKind) → at ≡ length bs → IsAfter r (take at bs) st → IsIncomplete st kind → HasCause r bs kind
+missing_cause r bs at st kind e a i =
+    let whole : take at bs ≡ bs = take_all at bs (omega arith) in
+    incomplete_cause r bs st kind (rw whole at a) i
+
+pub leading_one : LeadingIsTheOne
+leading_one r bs m g = (
+  λ n h. omega (arith, g.longest n h.within h.numeral, h.longest m g.within g.numeral),
+  λ none. none m g.within g.numeral,
+)

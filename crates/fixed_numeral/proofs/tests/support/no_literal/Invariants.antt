@@ -1,4 +1,0 @@
-use Rattle.fixed_numeral.proofs.tests.support.no_literal.Given as goal
-
-abbrev pub ghosts-no_literal_over : goal.ghosts-no_literal_over
-ghosts-no_literal_over a = record { name = a.blank.name; parts = a.blank.parts }

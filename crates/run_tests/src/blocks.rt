@@ -1,0 +1,225 @@
+//! Blocks of formats, words and numerals.
+
+ghost use Rattle.std.specs.Prelude.{◌≡◌, ◌<◌};
+
+use fixed_bits::{Policy, ReadMode};
+use fixed_numeral::Radix;
+use fixed_respell::format_word;
+use fixed_show::{MAX_BLOCK, bits_block, format_block, show_block};
+use fixed_steps::Steps;
+use std::marker::Brand;
+use std::process::Abort;
+use std::sync::ledger::{Blank, Ledger};
+use text_buffer::TextBuffer;
+
+/// What is asked for, and the block that answers it. A numeral is read in radix 10 in the mode `NearestEven`.
+#[derive(Drop)]
+struct Case {
+    format: &'static str,
+    word: &'static str,
+    numeral: &'static str,
+    policy: Policy,
+    block: &'static str,
+}
+
+/// A format's block.
+fn of_format(format: &'static str, block: &'static str) -> Case {
+    Case {
+        format,
+        word: "",
+        numeral: "",
+        policy: Policy::Checked,
+        block,
+    }
+}
+
+/// A word's block.
+fn of_word(format: &'static str, word: &'static str, block: &'static str) -> Case {
+    Case {
+        format,
+        word,
+        numeral: "",
+        policy: Policy::Checked,
+        block,
+    }
+}
+
+/// A numeral's block.
+fn of_numeral(
+    format: &'static str,
+    policy: Policy,
+    numeral: &'static str,
+    block: &'static str,
+) -> Case {
+    Case {
+        format,
+        word: "",
+        numeral,
+        policy,
+        block,
+    }
+}
+
+fn block_over<L: Ledger>(case: &Case, blank: Blank) -> TextBuffer<MAX_BLOCK>
+    requires name { blank.name ≡ L.name }
+    requires parts { blank.parts ≡ L.parts }
+    requires some { 0 < blank.parts }
+{
+    let mut steps = Steps::<L>::new(blank);
+    let mut out: TextBuffer<MAX_BLOCK> = TextBuffer::new();
+    if let Some(format) = format_word(case.format.as_bytes()) {
+        if !case.word.is_empty() {
+            let _refused = bits_block(
+                case.word.as_bytes(),
+                Radix::Dec,
+                format,
+                &mut out,
+                &mut steps,
+            );
+        } else if !case.numeral.is_empty() {
+            let _refused = show_block(
+                case.numeral.as_bytes(),
+                Radix::Dec,
+                format,
+                case.policy,
+                ReadMode::NearestEven,
+                &mut out,
+                &mut steps,
+            );
+        } else {
+            format_block(format, &mut out, &mut steps);
+        }
+    }
+    out
+}
+
+/// Whether the block is the one that the case says.
+fn is_answered(case: &Case) -> bool {
+    let out = block_over::<Brand>(case, Blank::new(1));
+    out.as_bytes() == case.block.as_bytes()
+}
+
+/// Stops at the first case that is answered otherwise.
+fn expect_blocks(rt: &impl Abort, cases: &[Case]) {
+    for case in cases {
+        assert!(rt;
+            is_answered(case),
+            "{} {}{}",
+            case.format,
+            case.word,
+            case.numeral
+        );
+    }
+}
+
+#[test]
+fn each_format_has_its_block(rt: HostRuntime) {
+    let cases = [
+        of_format(
+            "I16F16",
+            "\
+                format    I16F16\n\
+                least     -32768\n\
+                greatest  32767.9999847412109375\n\
+                ulp       0.0000152587890625\n\
+                digits    4 before the point, 4 after it\n\
+                shortest  -32768 to 32767.99998\n",
+        ),
+        of_format(
+            "I0F8",
+            "format    I0F8\nleast     -0.5\ngreatest  0.49609375\nulp       0.00390625\ndigits    0 before the point, 2 after it\nshortest  -0.5 to 0.496\n",
+        ),
+    ];
+    expect_blocks(&rt, &cases);
+}
+
+#[test]
+fn each_word_has_its_block(rt: HostRuntime) {
+    let cases = [
+        of_word(
+            "I16F16",
+            "0xfffc_0000",
+            "text      -4\nbits      -262144\nhex       0xfffc0000\nvalue     -4\n",
+        ),
+        of_word(
+            "U4F4",
+            "51",
+            "text      3.2\nbits      51\nhex       0x33\nvalue     3.1875\n",
+        ),
+        of_word(
+            "U4F4",
+            "0b1_0000_0000",
+            "error: word is wider than the format\n",
+        ),
+        of_word("U4F4", "0o38", "error: invalid digit found in string\n"),
+        of_word(
+            "I8F8",
+            "-384",
+            "text      -1.5\nbits      -384\nhex       0xfe80\nvalue     -1.5\n",
+        ),
+        of_word(
+            "I8F8",
+            "0XFE80",
+            "text      -1.5\nbits      -384\nhex       0xfe80\nvalue     -1.5\n",
+        ),
+        of_word(
+            "I4F4",
+            "+128",
+            "error: number is out of the format's range\n",
+        ),
+        of_word("U4F4", "0x_", "error: string has no digits\n"),
+        of_word(
+            "U4F4",
+            "_1",
+            "error: misplaced underscore found in string\n",
+        ),
+    ];
+    expect_blocks(&rt, &cases);
+}
+
+/// The block of 3.14159 in I16F16.
+const ROUNDED: &str = "\
+    text      3.14159\n\
+    bits      205887\n\
+    hex       0x0003243f\n\
+    value     3.1415863037109375\n\
+    error     -0.0000036962890625\n\
+    between   3.14159 (205887) and 3.1416 (205888)\n\
+    range     fits\n";
+
+/// The block of a numeral far below the ulp of I4F4, and too long to write out.
+const TOO_SMALL: &str = "\
+    text      0\n\
+    bits      0\n\
+    hex       0x00\n\
+    value     0\n\
+    error     below 1e-1 in size: the numeral is too long to say more\n\
+    between   0 (0) and 0.06 (1)\n\
+    range     fits\n";
+
+/// The block of a numeral far below the least value of I4F4, and too long to write out.
+const TOO_LOW: &str = "\
+    text      -8\n\
+    bits      -128\n\
+    hex       0x80\n\
+    value     -8\n\
+    error     below 1e1202 in size: the numeral is too long to say more\n\
+    between   no two values of the format\n\
+    range     overflowed\n";
+
+#[test]
+fn each_numeral_has_its_block(rt: HostRuntime) {
+    let cases = [
+        of_numeral("I16F16", Policy::Checked, "3.14159", ROUNDED),
+        of_numeral(
+            "U8F0",
+            Policy::Wrapping,
+            "-1",
+            "text      255\nbits      255\nhex       0xff\nvalue     255\nerror     256\nbetween   no two values of the format\nrange     overflowed\n",
+        ),
+        of_numeral("U8F0", Policy::Checked, "300", "error: overflow\n"),
+        of_numeral("I4F4", Policy::Checked, "1e-2000000000", TOO_SMALL),
+        of_numeral("I4F4", Policy::Saturating, "-1e1200", TOO_LOW),
+    ];
+    expect_blocks(&rt, &cases);
+}

@@ -1,0 +1,141 @@
+//! Questions about words, answered into memory.
+
+use fixed_bits::{Format, Policy, ReadMode};
+use fixed_command::{Question, run_blocks};
+use fixed_numeral::Radix;
+use fixed_steps::Steps;
+use line_engine::{MemoryProgram, MemoryRun, MemorySink, MemorySource, NEVER, Status};
+use std::alloc::{AllocError, Global};
+use std::process::Abort;
+use std::sync::ledger::Ledger;
+use std::test::Fail;
+
+/// A question about words, which write fails, what is written and how the run ends.
+#[derive(Drop)]
+struct Asked {
+    question: Question,
+    words: &'static [&'static str],
+    failing_write: u64,
+    written: &'static str,
+    status: Status,
+}
+
+impl MemoryProgram for Asked {
+    fn run<L: Ledger>(
+        &self,
+        _alloc: Global,
+        _args: &[String],
+        _source: &mut MemorySource,
+        sink: &mut MemorySink,
+        steps: &mut Steps<L>,
+    ) -> Status {
+        run_blocks(&self.question, self.words, sink, steps)
+    }
+}
+
+/// Stops at the first question that is answered otherwise.
+fn expect_blocks(rt: &impl Abort, alloc: Global, cases: &[Asked]) -> Result<(), AllocError> {
+    for case in cases {
+        let run = MemoryRun {
+            args: &[],
+            input: "",
+            most: 4096,
+            failing_read: NEVER,
+            failing_write: case.failing_write,
+            written: case.written,
+            status: case.status,
+        };
+        let (status, written) = run.of(alloc, case, Vec::new(alloc))?;
+        assert_eq!(rt; status, case.status, "at {}", case.written);
+        assert_eq!(rt; written.as_slice(), case.written.as_bytes());
+    }
+    Ok(())
+}
+
+/// What is asked of a numeral in I16F16.
+fn showing() -> Question {
+    Question::Show {
+        radix: Radix::Dec,
+        format: Format::of(true, 32, 16),
+        policy: Policy::Checked,
+        mode: ReadMode::NearestEven,
+    }
+}
+
+/// The block of 3.14159 in I16F16, and what is said of a word that is no numeral.
+const ROUNDED_AND_REFUSED: &str = "\
+    text      3.14159\n\
+    bits      205887\n\
+    hex       0x0003243f\n\
+    value     3.1415863037109375\n\
+    error     -0.0000036962890625\n\
+    between   3.14159 (205887) and 3.1416 (205888)\n\
+    range     fits\n\
+    error: invalid digit found in string\n";
+
+/// The block of I0F8, and what is said of a word that is no format.
+const FORMAT_AND_REFUSED: &str = "\
+    format    I0F8\n\
+    least     -0.5\n\
+    greatest  0.49609375\n\
+    ulp       0.00390625\n\
+    digits    0 before the point, 2 after it\n\
+    shortest  -0.5 to 0.496\n\
+    error: bad format\n";
+
+/// The question about a word of a format, whose digits are decimal without a prefix.
+fn bits(format: Format) -> Question {
+    Question::Bits {
+        radix: Radix::Dec,
+        format,
+    }
+}
+
+#[test]
+fn each_word_has_its_block(rt: HostRuntime) -> Result<(), Fail> {
+    let cases = [
+        Asked {
+            question: showing(),
+            words: &["3.14159", "x"],
+            failing_write: NEVER,
+            written: ROUNDED_AND_REFUSED,
+            status: Status::Faults,
+        },
+        Asked {
+            question: bits(Format::of(true, 32, 16)),
+            words: &["0xfffc0000"],
+            failing_write: NEVER,
+            written: "text      -4\nbits      -262144\nhex       0xfffc0000\nvalue     -4\n",
+            status: Status::Done,
+        },
+        Asked {
+            question: bits(Format::of(false, 8, 0)),
+            words: &["256", "255"],
+            failing_write: NEVER,
+            written: "error: word is wider than the format\ntext      255\nbits      255\nhex       0xff\nvalue     255\n",
+            status: Status::Faults,
+        },
+        Asked {
+            question: Question::Format,
+            words: &["I0F8", "I9F0"],
+            failing_write: NEVER,
+            written: FORMAT_AND_REFUSED,
+            status: Status::Faults,
+        },
+    ];
+    expect_blocks(&rt, rt.alloc(), &cases)?;
+    Ok(())
+}
+
+#[test]
+fn a_failing_write_keeps_the_blocks_before_it(rt: HostRuntime) -> Result<(), Fail> {
+    let cases = [Asked {
+        question: bits(Format::of(false, 8, 0)),
+        words: &["256", "255"],
+        failing_write: 1,
+        written: "error: word is wider than the format\n",
+        status: Status::WriteFault,
+    }];
+    expect_blocks(&rt, rt.alloc(), &cases)?;
+    Ok(())
+}
