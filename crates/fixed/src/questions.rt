@@ -177,7 +177,8 @@ fn run_file<L: Ledger>(
     }
 }
 
-/// Asks a question of each word from a place on; where there are none, of each line of the file that the option names, or
+/// Asks a question of each word from a place on; where there are none, of each line of the file that the option
+/// names, or
 /// of standard input.
 pub fn run_question<'a, L: Ledger>(
     rt: &HostRuntime,

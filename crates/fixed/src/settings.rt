@@ -67,7 +67,11 @@ pub fn mode_of<'a>(given: &Given<'_, 'a>) -> Asked<'a, ReadMode> {
 
 /// The mode that the option names for the way to the target.
 fn target_mode_of<'a>(given: &Given<'_, 'a>) -> Asked<'a, ReadMode> {
-    known(target_mode_named(given.value(&TARGET_MODE)), given, &TARGET_MODE)
+    known(
+        target_mode_named(given.value(&TARGET_MODE)),
+        given,
+        &TARGET_MODE,
+    )
 }
 
 /// How a line spells a number, as the option says.

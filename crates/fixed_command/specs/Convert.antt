@@ -1,5 +1,6 @@
 -- What is written for a numeral, or for the word of a register, that is converted.
-use Rattle.std.specs.Prelude.{◌≡◌, ◌⊎◌, ◌==◌, ◌||◌, ◌-◌, ◌<◌, ◌≤◌, ℕ, ℤ, List, [], ◌∷◌, ◌++◌, Bool, true, false, if◌then◌else◌, get_or, length, take}
+use Rattle.std.specs.Prelude.{◌≡◌, ◌⊎◌, ◌==◌, ◌||◌, ◌-◌, ◌<◌, ◌≤◌, ℕ, ℤ, List, [], ◌∷◌, ◌++◌, Bool, true, false}
+use Rattle.std.specs.Prelude.{if◌then◌else◌, get_or, length, take}
 use Rattle.std.specs.Fmt.{signed_decimal}
 use Rattle.fixed_bits.specs.Formats.{IsFormat}
 use Rattle.fixed_bits.specs.Ranges.{IsWide}
@@ -28,7 +29,8 @@ use Rattle.fixed_command.specs.declared.spelling.Spelling.TheVariants.{Numeral, 
 
 -- the four words before the numeral, in the line that asks for its conversion
 abbrev pub asking_words : Settings → List (List ℕ)
-asking_words s = radix_text s.radix ∷ format_text s.source ∷ format_text s.target ∷ (policy_text s.policy ++ slash ∷ mode_text s.mode) ∷ []
+asking_words s = radix_text s.radix ∷ format_text s.source ∷ format_text s.target ∷ (policy_text s.policy ++ slash
+    ∷ mode_text s.mode) ∷ []
 
 -- that line, `RADIX SOURCE TARGET POLICY/MODE NUMERAL`
 abbrev pub asking_line : Settings → List ℕ → List ℕ
@@ -47,8 +49,10 @@ IsSource Word s word number out = IsWord s.radix s.source word number × (out �
 
 -- none, and this message says why
 abbrev pub IsNoSource : Spelling → Settings → List ℕ → List ℕ → Type 0
-IsNoSource Numeral s numeral message = (kind : ParseErrorKind) × IsUnread s.mode s.radix numeral s.source s.policy kind × (message ≡ message_of kind)
-IsNoSource Word s word message = (fault : WordFault) × HasWordFault s.radix s.source word fault × (message ≡ fault_message fault)
+IsNoSource Numeral s numeral message = (kind : ParseErrorKind)
+    × IsUnread s.mode s.radix numeral s.source s.policy kind × (message ≡ message_of kind)
+IsNoSource Word s word message = (fault : WordFault) × HasWordFault s.radix s.source word fault
+    × (message ≡ fault_message fault)
 
 -- ---- the answer where the number is moved to the target in the target mode
 -- the line is too long
@@ -88,7 +92,8 @@ pub record IsMovedTo (s : Settings) (numeral : List ℕ) (answer : AnswerText) :
   pub answer_is : answer ≡ respelled_answer text bits (out || target_out)
 
 abbrev pub IsMovedAnswer : Settings → List ℕ → AnswerText → Type 0
-IsMovedAnswer s numeral answer = IsLong s numeral answer ⊎ (IsUnsourced s numeral answer ⊎ (IsUnmoved s numeral answer ⊎ IsMovedTo s numeral answer))
+IsMovedAnswer s numeral answer = IsLong s numeral answer
+    ⊎ (IsUnsourced s numeral answer ⊎ (IsUnmoved s numeral answer ⊎ IsMovedTo s numeral answer))
 
 -- ---- the answer
 -- whether it is that to a line: of a numeral, where the target mode is Floor, as in every line

@@ -1,12 +1,14 @@
 //! Numerals or words converted one a line: the words of a line are given once, and each line is a numeral or a word.
 
-ghost use Rattle.std.specs.Prelude.{◌≡◌, ◌↔◌, ◌+◌, ◌*◌, ◌-◌, ◌≤◌, ◌<◌, ◌++◌, [], ◌||◌, IfErr, IfOk, IsTrue, MatchResult, false, length, true};
+ghost use Rattle.std.specs.Prelude.{◌≡◌, ◌↔◌, ◌+◌, ◌*◌, ◌-◌, ◌≤◌, ◌<◌, ◌++◌, [], ◌||◌, IfErr, IfOk, IsTrue};
+ghost use Rattle.std.specs.Prelude.{MatchResult, false, length, true};
 ghost use Rattle.fixed_bits.specs.Formats.{IsFormat};
 ghost use Rattle.fixed_bits.specs.Ranges.{IsInRange, IsWide};
 ghost use Rattle.line_engine.specs.Output.{AppendsAnswer};
 ghost use Rattle.fixed_command.specs.Inner.Moved.{HasPushed};
 ghost use Rattle.fixed_command.specs.declared.spelling.Spelling.{Spelling};
-ghost use Rattle.fixed_command.specs.Convert.{asks_a_line, IsNoSource, IsSource, IsLineReply, IsReply, asking_line, without_return};
+ghost use Rattle.fixed_command.specs.Convert.{asks_a_line, IsNoSource, IsSource, IsLineReply, IsReply, asking_line};
+ghost use Rattle.fixed_command.specs.Convert.{without_return};
 ghost use Rattle.fixed_command.specs.Printed.{printed};
 ghost use Rattle.fixed_numeral.specs.Messages.{message_of};
 ghost use Rattle.fixed_respell.specs.Answer.{respelled_answer};
@@ -160,7 +162,8 @@ impl Model for ConvertRule {
 
     ghost view = { λ r. r.settings };
 
-    ghost invariant = { λ r. IsFormat r.settings.source.width r.settings.source.frac × IsFormat r.settings.target.width r.settings.target.frac
+    ghost invariant = { λ r. IsFormat r.settings.source.width r.settings.source.frac × IsFormat
+        r.settings.target.width r.settings.target.frac
         × (r.head ≡ length (asking_line r.settings [])) × (r.head ≤ 64) };
 }
 
@@ -241,7 +244,8 @@ impl ConvertRule {
         }
     }
 
-    /// Appends the part that is asked for of the answer to a numeral or a word whose number is moved in the target mode.
+    /// Appends the part that is asked for of the answer to a numeral or a word whose number is moved in the target
+    /// mode.
     fn push_moved<const N: usize, L: Ledger>(
         &self,
         numeral: &[u8],
@@ -299,7 +303,8 @@ fn source_number<L: Ledger>(
     numeral: &[u8],
     steps: &mut Steps<L>,
 ) -> Result<Shown, &'static str>
-    ensures source { MatchResult result (λ f. IsSource settings.now.spelling settings.now numeral.now f.bits f.overflowed)
+    ensures source { MatchResult result (λ f. IsSource settings.now.spelling settings.now numeral.now f.bits
+        f.overflowed)
         (λ m. IsNoSource settings.now.spelling settings.now numeral.now m.now) }
     ensures wide { IfOk result (λ f. IsWide f.bits) }
     ensures short { IfErr result (λ m. length m.now ≤ 64) }
@@ -347,7 +352,8 @@ fn read_bits(settings: &Settings, word: &[u8]) -> Result<Shown, &'static str>
     }
 }
 
-/// Appends the part that is asked for of a number of the source, moved to the target, or that it has no image there, and
+/// Appends the part that is asked for of a number of the source, moved to the target, or that it has no image there,
+/// and
 /// answers whether that is so.
 fn push_image<const N: usize, L: Ledger>(
     out: &mut TextBuffer<N>,

@@ -86,7 +86,8 @@ fn push_range(out: &mut TextBuffer<MAX_EXPLANATION>, format: Format) {
     push_number(out, greatest, frac_of(format));
 }
 
-/// What more there is to say of a numeral or a word that a rule refuses for this cause: the place from 1 of its first byte
+/// What more there is to say of a numeral or a word that a rule refuses for this cause: the place from 1 of its first
+/// byte
 /// that is in none; what the formats hold, where it overflows; nothing of another cause.
 pub fn explanation<L: Ledger>(
     rule: &ConvertRule,

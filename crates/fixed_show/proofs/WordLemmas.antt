@@ -140,9 +140,9 @@ pub outside_is : (bare : Radix) (f : FormatParts) (text : List ℕ) (c : ℕ) (v
 outside_is bare f text c v most signed is value out =
     let wide = ends_wide f.signed f.width most in
     let size_out : IsOutOfRange f.signed f.width (with_sign (has_minus text) is.number) = ⊎_elim
-        (λ (small : is.number < 18446744073709551616).
-        let same : is.number ≡ c = omega (arith, is.cut, small) in
-        subst (λ z. IsOutOfRange f.signed f.width z) (value ∙ ap (with_sign (has_minus text)) (sym same)) out)
-        (λ (huge : 18446744073709551616 ≤ is.number). huge_out (has_minus text) f.signed f.width is.number wide.0 wide.1 huge)
-        (cases_lt is.number 18446744073709551616) in
+    (λ (small : is.number < 18446744073709551616).
+    let same : is.number ≡ c = omega (arith, is.cut, small) in
+    subst (λ z. IsOutOfRange f.signed f.width z) (value ∙ ap (with_sign (has_minus text)) (sym same)) out)
+    (λ (huge : 18446744073709551616 ≤ is.number). huge_out (has_minus text) f.signed f.width is.number wide.0 wide.1 huge)
+    (cases_lt is.number 18446744073709551616) in
     record { signed = signed; size = is.number; spells = is.spells; out = size_out }

@@ -8,7 +8,8 @@ use Rattle.fixed_write.specs.Texts.{IsShortestText}
 use Rattle.fixed_show.specs.Blocks.{IsHexText, line, refusal_block}
 use Rattle.fixed_show.specs.WordText.{HasWordFault, IsWord}
 use Rattle.fixed_show.specs.declared.words.WordFault.{WordFault}
-use Rattle.fixed_show.specs.declared.words.WordFault.TheVariants.{MisplacedUnderscore, InvalidDigit, NoDigits, TooWide, OutOfRange}
+use Rattle.fixed_show.specs.declared.words.WordFault.TheVariants.{MisplacedUnderscore, InvalidDigit, NoDigits}
+use Rattle.fixed_show.specs.declared.words.WordFault.TheVariants.{TooWide, OutOfRange}
 
 -- the message of a fault
 abbrev pub fault_message : WordFault → List ℕ
@@ -43,7 +44,8 @@ pub record IsRefusedWord (bare : Radix) (f : FormatParts) (text block : List ℕ
   pub is_fault : HasWordFault bare f text fault
   pub block_is : block ≡ refusal_block (fault_message fault)
 
--- block is the answer to a word, whose digits are in the radix `bare` without a prefix, and `refused` says which of the two
+-- block is the answer to a word, whose digits are in the radix `bare` without a prefix, and `refused` says which of
+-- the two
 abbrev pub IsBitsBlock : Radix → FormatParts → List ℕ → Bool → List ℕ → Type 0
 IsBitsBlock bare f text true block = IsRefusedWord bare f text block
 IsBitsBlock bare f text false block = IsWordBlock bare f text block

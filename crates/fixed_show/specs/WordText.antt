@@ -1,5 +1,6 @@
 -- Words: the bits of a register, as a person writes them.
-use Rattle.std.specs.Prelude.{◌≡◌, ◌⊎◌, ℕ, ◌<◌, ◌≤◌, ◌^◌, ◌==◌, ◌||◌, if◌then◌else◌, is_some, Bool, true, false, List, [], ◌∷◌, length, drop, Option, Some, None, ℤ, pos}
+use Rattle.std.specs.Prelude.{◌≡◌, ◌⊎◌, ℕ, ◌<◌, ◌≤◌, ◌^◌, ◌==◌, ◌||◌, if◌then◌else◌, is_some, Bool, true, false, List}
+use Rattle.std.specs.Prelude.{[], ◌∷◌, length, drop, Option, Some, None, ℤ, pos}
 use Rattle.std.specs.Str.Parse.{AllDigits, digits_value}
 use Rattle.fixed_bits.specs.Formats.{FormatParts}
 use Rattle.fixed_bits.specs.Images.{IsWrapped}
@@ -10,7 +11,8 @@ use Rattle.fixed_numeral.specs.declared.radix.Radix.TheVariants.{Bin, Oct, Dec, 
 use Rattle.fixed_numeral.specs.Numeral.{base, is_sign, minus}
 use Rattle.fixed_numeral.specs.Literal.{underscore, without_underscores}
 use Rattle.fixed_show.specs.declared.words.WordFault.{WordFault}
-use Rattle.fixed_show.specs.declared.words.WordFault.TheVariants.{MisplacedUnderscore, InvalidDigit, NoDigits, TooWide, OutOfRange}
+use Rattle.fixed_show.specs.declared.words.WordFault.TheVariants.{MisplacedUnderscore, InvalidDigit, NoDigits}
+use Rattle.fixed_show.specs.declared.words.WordFault.TheVariants.{TooWide, OutOfRange}
 
 -- ---- the prefix: '0' and a letter in either case
 -- 'b' names radix 2, but not where it is itself a digit
@@ -22,7 +24,8 @@ binary_letter Hex = None
 
 -- what a letter names, where digits without a prefix are in the radix `bare`
 abbrev pub letter_radix : Radix → ℕ → Option Radix
-letter_radix bare b = if (b == 120) || (b == 88) then Some Hex else (if (b == 111) || (b == 79) then Some Oct else (if (b == 98) || (b == 66) then binary_letter bare else None))
+letter_radix bare b = if (b == 120) || (b == 88) then Some Hex else (if (b == 111) || (b == 79) then Some Oct else
+    (if (b == 98) || (b == 66) then binary_letter bare else None))
 
 abbrev pub prefix_radix : Radix → List ℕ → Option Radix
 prefix_radix bare [] = None
@@ -109,7 +112,9 @@ pub record IsOutside (bare : Radix) (f : FormatParts) (text : List ℕ) : Type 0
 -- fault says why text is no word of the format: the first of these that is so
 abbrev pub HasWordFault : Radix → FormatParts → List ℕ → WordFault → Type 0
 HasWordFault bare f text MisplacedUnderscore = begins_with_underscore (without_sign text) ≡ true
-HasWordFault bare f text InvalidDigit = (begins_with_underscore (without_sign text) ≡ false) × (¬ AllDigits (base (word_radix bare (without_sign text))) (word_digits bare (without_sign text)))
-HasWordFault bare f text NoDigits = (begins_with_underscore (without_sign text) ≡ false) × (word_digits bare (without_sign text) ≡ [])
+HasWordFault bare f text InvalidDigit = (begins_with_underscore (without_sign text) ≡ false)
+    × (¬ AllDigits (base (word_radix bare (without_sign text))) (word_digits bare (without_sign text)))
+HasWordFault bare f text NoDigits = (begins_with_underscore (without_sign text) ≡ false)
+    × (word_digits bare (without_sign text) ≡ [])
 HasWordFault bare f text TooWide = IsTooWide bare f text
 HasWordFault bare f text OutOfRange = IsOutside bare f text

@@ -1,6 +1,7 @@
 //! What number the bits of a register are.
 
-ghost use Rattle.std.specs.Prelude.{◌≡◌, ◌+◌, ◌-◌, ◌*◌, ◌≤◌, ◌<◌, ◌^◌, ◌/◌, ◌++◌, false, pos, length, codes, IsTrue, ◌↔◌};
+ghost use Rattle.std.specs.Prelude.{◌≡◌, ◌+◌, ◌-◌, ◌*◌, ◌≤◌, ◌<◌, ◌^◌, ◌/◌, ◌++◌, false, pos, length, codes, IsTrue};
+ghost use Rattle.std.specs.Prelude.{◌↔◌};
 ghost use Rattle.fixed_bits.specs.Images.{IsWrapped};
 ghost use Rattle.fixed_bits.specs.Ranges.{IsWide};
 ghost use Rattle.fixed_show.specs.Blocks.{Appends, hex_text, line};
@@ -45,7 +46,8 @@ fn width_of(format: Format) -> u32
     format.width()
 }
 
-/// Appends the lines of bits in a format: the shortest text, the bits in decimal and in hexadecimal, and the exact value.
+/// Appends the lines of bits in a format: the shortest text, the bits in decimal and in hexadecimal, and the exact
+/// value.
 pub(crate) fn push_value_lines<const N: usize, L: Ledger>(
     out: &mut TextBuffer<N>,
     bits: i128,
@@ -65,8 +67,10 @@ pub(crate) fn push_value_lines<const N: usize, L: Ledger>(
 }
 
 /// Appends the block of a word in a format: the shortest text of the number that it is, the bits in decimal and in
-/// hexadecimal, and the exact value. A word without a prefix is in the radix `bare`. A text that is no word of the format is
-/// answered by one line `error: ` and why. Answers whether it was. There must be room for `MAX_BLOCK` bytes. It takes at
+/// hexadecimal, and the exact value. A word without a prefix is in the radix `bare`. A text that is no word of the
+/// format is
+/// answered by one line `error: ` and why. Answers whether it was. There must be room for `MAX_BLOCK` bytes. It takes
+/// at
 /// most 48 steps.
 pub fn bits_block<const N: usize, L: Ledger>(
     text: &[u8],

@@ -1,6 +1,7 @@
 //! Words: the bits of a register, as a person writes them.
 
-ghost use Rattle.std.specs.Prelude.{◌≡◌, ◌⊎◌, ◌+◌, ◌*◌, ◌^◌, ◌≤◌, ◌<◌, ◌↔◌, IsTrue, ℕ, pos, [], true, false, IfOk, MatchOption, MatchResult, length, min};
+ghost use Rattle.std.specs.Prelude.{◌≡◌, ◌⊎◌, ◌+◌, ◌*◌, ◌^◌, ◌≤◌, ◌<◌, ◌↔◌, IsTrue, ℕ, pos, [], true, false, IfOk};
+ghost use Rattle.std.specs.Prelude.{MatchOption, MatchResult, length, min};
 ghost use Rattle.std.specs.Char.{digit_value};
 ghost use Rattle.std.specs.Str.Parse.{AllDigits, digits_value};
 ghost use Rattle.fixed_bits.specs.Images.{IsWrapped};
@@ -8,7 +9,9 @@ ghost use Rattle.fixed_bits.specs.Numbers.{with_sign};
 ghost use Rattle.fixed_bits.specs.Ranges.{IsInRange, IsOutOfRange, IsWide};
 ghost use Rattle.fixed_numeral.specs.Literal.{without_underscores};
 ghost use Rattle.fixed_numeral.specs.Numeral.{base};
-ghost use Rattle.fixed_show.specs.WordText.{HasWordFault, IsWord, IsWordText, after_prefix, begins_with_underscore, has_minus, has_sign, letter_radix, prefix_radix, without_sign, word_digits, word_radix};
+ghost use Rattle.fixed_show.specs.WordText.{HasWordFault, IsWord, IsWordText, after_prefix, begins_with_underscore};
+ghost use Rattle.fixed_show.specs.WordText.{has_minus, has_sign, letter_radix, prefix_radix, without_sign};
+ghost use Rattle.fixed_show.specs.WordText.{word_digits, word_radix};
 ghost use Rattle.fixed_show.specs.BitsBlock.{fault_message};
 ghost use Rattle.fixed_show.specs.Inner.Words.{IsCutOff, IsUnspelled};
 
@@ -105,7 +108,8 @@ fn with_digit(number: u128, base: u32, digit: u8) -> u128
 /// What digits with underscores spell, cut off at `LIMIT`. None where a byte is neither.
 fn digits_number(bytes: &[u8], radix: Radix) -> Option<u128>
     ensures { MatchOption result (¬ AllDigits (base radix) (without_underscores bytes.now))
-        (λ n. AllDigits (base radix) (without_underscores bytes.now) × (n ≡ min (digits_value (base radix) (without_underscores bytes.now)) LIMIT)) }
+        (λ n. AllDigits (base radix) (without_underscores bytes.now) × (n ≡ min (digits_value (base radix)
+        (without_underscores bytes.now)) LIMIT)) }
 {
     let mut number = 0;
     for byte in bytes {
@@ -214,8 +218,10 @@ fn has_sign(text: &[u8]) -> bool
     text.len() > 0 && (text[0] == b'+' || text[0] == b'-')
 }
 
-/// The number that a text is as a word of a format: digits with underscores, in radix 2, 8 or 16 after `0b`, `0o` or `0x`
-/// in either case, else in the radix `bare`, where a `b` after a zero is a digit if that is 16. Without a sign it is a word
+/// The number that a text is as a word of a format: digits with underscores, in radix 2, 8 or 16 after `0b`, `0o` or
+/// `0x`
+/// in either case, else in the radix `bare`, where a `b` after a zero is a digit if that is 16. Without a sign it is
+/// a word
 /// of at most the format's width in two's complement, and with one the number itself.
 ///
 /// # Errors

@@ -1,9 +1,7 @@
 //! `fixed column`: one column of CSV is converted.
 
 use crate::inputs::{Job, run_inputs};
-use crate::options::{
-    FROM, MODE, PLACES, POLICY, PRINT, RADIX, SOURCE, TARGET, TARGET_MODE,
-};
+use crate::options::{FROM, MODE, PLACES, POLICY, PRINT, RADIX, SOURCE, TARGET, TARGET_MODE};
 use crate::settings::conversion;
 use column_engine::{Column, ColumnEnd, Stop};
 use command_line::given::{Asked, Given, Refusal};
@@ -52,7 +50,16 @@ pub const PAGE: Page = Page {
     operands: &[COLUMN, SOURCE, TARGET],
     has_numerals: false,
     options: &[
-        FROM, RADIX, POLICY, MODE, TARGET_MODE, PRINT, PLACES, DELIMITER, HEADER, KEEP,
+        FROM,
+        RADIX,
+        POLICY,
+        MODE,
+        TARGET_MODE,
+        PRINT,
+        PLACES,
+        DELIMITER,
+        HEADER,
+        KEEP,
     ],
     end: "A format is I (signed) or U (unsigned), its whole bits, F and its fraction bits,\n\
           as in I16F16; the two numbers add up to 8, 16, 32 or 64. A number is\n\

@@ -1,9 +1,7 @@
 //! `fixed convert`: each line is a numeral.
 
 use crate::inputs::{Job, run_inputs};
-use crate::options::{
-    FROM, MODE, PLACES, POLICY, PRINT, RADIX, SOURCE, TARGET, TARGET_MODE,
-};
+use crate::options::{FROM, MODE, PLACES, POLICY, PRINT, RADIX, SOURCE, TARGET, TARGET_MODE};
 use crate::settings::conversion;
 use command_line::given::{Asked, Given};
 use command_line::page::Page;

@@ -19,11 +19,13 @@ pub record HasPushedImage (s : Settings) (number : ℤ) (out : Bool) (before aft
   pub text : List ℕ
   pub shortest : IsShortestText bits s.target.frac text
   pub wide : IsWide bits
-  pub appended : after ≡ before ++ printed s.print s.target (respelled_answer text bits (out || target_out)).text text bits
+  pub appended : after ≡ before ++ printed s.print s.target (respelled_answer text bits (out || target_out)).text
+      text bits
   pub short : length after ≤ length before + 130
 
 -- that, or the fault of a number that has none
 abbrev pub HasPushed : Settings → ℤ → Bool → List ℕ → List ℕ → Bool → Type 0
 HasPushed s number out before after true =
-    IsNotReformatted s.target_mode s.policy s.target number s.source.frac × (after ≡ before ++ (fault_answer (message_of Overflow)).text)
+    IsNotReformatted s.target_mode s.policy s.target number s.source.frac
+    × (after ≡ before ++ (fault_answer (message_of Overflow)).text)
 HasPushed s number out before after false = HasPushedImage s number out before after

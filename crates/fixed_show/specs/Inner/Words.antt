@@ -5,7 +5,8 @@ use Rattle.fixed_numeral.specs.Numeral.{base}
 use Rattle.fixed_numeral.specs.declared.radix.Radix.{Radix}
 use Rattle.fixed_show.specs.WordText.{IsWordText, begins_with_underscore, word_digits, word_radix}
 use Rattle.fixed_show.specs.declared.words.WordFault.{WordFault}
-use Rattle.fixed_show.specs.declared.words.WordFault.TheVariants.{MisplacedUnderscore, InvalidDigit, NoDigits, TooWide, OutOfRange}
+use Rattle.fixed_show.specs.declared.words.WordFault.TheVariants.{MisplacedUnderscore, InvalidDigit, NoDigits}
+use Rattle.fixed_show.specs.declared.words.WordFault.TheVariants.{TooWide, OutOfRange}
 
 -- the text spells a number, and c is that cut off at 2^64
 pub record IsCutOff (bare : Radix) (text : List ℕ) (c : ℕ) : Type 0 where
@@ -16,7 +17,8 @@ pub record IsCutOff (bare : Radix) (text : List ℕ) (c : ℕ) : Type 0 where
 -- fault says why a text without a sign spells none
 abbrev pub IsUnspelled : Radix → List ℕ → WordFault → Type 0
 IsUnspelled bare text MisplacedUnderscore = begins_with_underscore text ≡ true
-IsUnspelled bare text InvalidDigit = (begins_with_underscore text ≡ false) × (¬ AllDigits (base (word_radix bare text)) (word_digits bare text))
+IsUnspelled bare text InvalidDigit = (begins_with_underscore text ≡ false)
+    × (¬ AllDigits (base (word_radix bare text)) (word_digits bare text))
 IsUnspelled bare text NoDigits = (begins_with_underscore text ≡ false) × (word_digits bare text ≡ [])
 IsUnspelled bare text TooWide = ⊥
 IsUnspelled bare text OutOfRange = ⊥

@@ -23,4 +23,3 @@ returns-then-is_too_long-clause-reply g c =
     let message : List ℕ = fault_message LineTooLong in
     let long : longest_line < length (asking_line s c.args.numeral.now) = c.is_too_long.ensures.0 c.if-is_too_long.true in
     fault_appended (IsReply s) c.args.numeral.now c.args.out.now c.push_fault.new.out message (omega arith) (long_reply s c.args.numeral.now long) (rw c.words.ensures at c.push_fault.ensures)
-
