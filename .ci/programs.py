@@ -6,6 +6,7 @@
 The proofs speak of values; what a process gets and gives is tried here. A program that is not built is named and passed over.
 """
 import argparse
+import math
 import os
 import random as random_module
 import re
@@ -15,12 +16,14 @@ import signal
 import subprocess
 import sys
 import tempfile
+from decimal import Decimal
 from fractions import Fraction
 
 TOP = os.path.dirname(os.path.dirname(os.path.abspath(__file__)))
 sys.path.insert(0, f"{TOP}/oracle")
 
 from compare import program  # noqa: E402
+from fit import answer as fit_answer  # noqa: E402
 
 USAGE = {
     "fixed_tool": b"usage: fixed_tool [limit N | self N]\n",
@@ -44,6 +47,15 @@ RUNS = {
         (["least"], b"0.5\n3\n", 0, b"least U7F1\nU8F0 line 1\n"),
         (["least", "16"], b"ff\n", 0, b"least U8F0\n"),
         (["least", "9x"], b"", 3, b""),
+        (["fit", "--width", "16"], b"0.5\n-3.2\n", 0, b"I3F13\n"),
+        (["fit", "-w", "16", "--why"], b"0.5\n-3.2\n1e3\n", 0, b"I11F5\nI10F6 line 3\n"),
+        (["fit", "--width", "8", "--why"], b"", 0, b"U0F8\n"),
+        (["fit", "--width", "8", "--signed"], b"-0\n0.5\n", 0, b"I1F7\n"),
+        (["fit", "--width", "8"], b"1\n255.49\n255.5\n", 1, b"none line 3\n"),
+        (["fit", "--width", "32", "--radix", "16"], b"f.f\n", 0, b"U4F28\n"),
+        (["fit", "--width", "16", "--range", "--why", "--", "-3.2", "10"], b"", 0, b"I5F11\nI4F12 line 2\n"),
+        (["fit", "--width", "8", "--range", "0", "255.5"], b"", 1, b"none line 2\n"),
+        (["fit", "--width", "8"], b"1\nx\n", 1, b"error: line 2: invalid digit found in string\n"),
         (["enclose", "no\nfile"], b"", 3, b""),
         (["constants"], b"A = 0b_111e-2 I4F4\n", 0, b"A = 0x1.c I4F4\n"),
         (["constants", "c"], b"A = 1.75 I4F4\n", 0, b"#include <stdint.h>\n\n#define A INT8_C(0x1c) /* I4F4, 1.75 */\n"),
@@ -167,6 +179,8 @@ BAD_WORDS = {
         [b"columns", b"limit", b"0"], [b"columns", b"limit", b"4294967297"], [b"columns", b"--limit", b"5", b"limit", b"7"],
         [b"convert", b"U8F0", b"--mode", b"ceil", b"--mode", b"floor"], [b"format", b"U8F0\n\nU8F1"], [b"con\nvert"],
         [b"lines", b"--limit", b"05"], [b"lines", b"--limit", b"+5"], [b"column", b"01", b"I8F8"], [b"help", b"converts"],
+        [b"fit"], [b"fit", b"--width", b"9"], [b"fit", b"--width", b"8", b"--places", b"2"],
+        [b"fit", b"--width", b"8", b"--range", b"1"], [b"fit", b"--width", b"8", b"--range", b"1", b"2", b"3"],
         [b"convert", b"U8F0", b"--places", b"65"], [b"convert", b"U8F0", b"--places", b"01"],
         [b"convert", b"U8F0", b"--places", b"2", b"--print", b"bits"], [b"convert", b"--"],
         [b"convert", b"U8F0", b"--from", b"hex"], [b"convert", b"U8F0", b"--target-mode", b"up"], [b"convert", b"U8F0", b"--from"],
@@ -487,6 +501,36 @@ def parts_compared(built):
     return differing, tried
 
 
+def signals():
+    """The taps of a low-pass filter and a sine that reaches both ends, as floats."""
+    taps = [math.sin(math.pi * k / 4) / (math.pi * k) if k else 0.25 for k in range(-31, 32)]
+    taps = [tap * (0.54 + 0.46 * math.cos(math.pi * k / 31)) for tap, k in zip(taps, range(-31, 32))]
+    return taps, [math.sin(2 * math.pi * k / 256) for k in range(256)]
+
+
+def signals_compared(built):
+    """How many bits of filter taps and of a sine in Q15 and Q31 differ from what rounding and clipping floats gives, and how
+    many formats of `fixed fit` from its reference, of how many; None where it is not built. A float times a power of two is exact."""
+    path = program("fixed", built)
+    if path is None:
+        return None
+    tried, differing = 0, 0
+    for values in signals():
+        given = "".join(f"{Decimal(value):f}\n" for value in values).encode()
+        for frac in (15, 31):
+            words = [path, "convert", f"I1F{frac}", "--policy", "saturating", "--print", "bits"]
+            shown = subprocess.run(words, input=given, stdout=subprocess.PIPE, check=False).stdout.decode().splitlines()
+            wanted = [str(max(-(2**frac), min(2**frac - 1, round(value * 2.0**frac)))) for value in values]
+            tried += len(wanted)
+            differing += sum(a != b for a, b in zip(shown, wanted)) + abs(len(shown) - len(wanted))
+        for width in (8, 16, 32, 64):
+            words = [path, "fit", "--width", str(width), "--why"]
+            shown = subprocess.run(words, input=given, stdout=subprocess.PIPE, check=False).stdout.decode()
+            tried += 1
+            differing += shown != fit_answer(given, width, False, 10, True)[0]
+    return differing, tried
+
+
 def on_disk_of(most):
     """Leaves a process a disk with this many bytes."""
     def limit():
@@ -525,6 +569,10 @@ def main():
     found = parts_compared(given.built)
     if found is not None:
         print(f"fixed convert: {found[1]} parts of answers, {found[0]} others than Python's")
+        wrong += found[0]
+    found = signals_compared(given.built)
+    if found is not None:
+        print(f"fixed convert and fit: {found[1]} bits and formats of signals, {found[0]} others than Python's")
         wrong += found[0]
     return 1 if wrong else 0
 

@@ -1,14 +1,11 @@
 //! Tests of whole runs over bytes in memory, by a rule that refuses some fields.
 
-ghost use Rattle.std.specs.Prelude.{◌≡◌, ◌==◌, ◌<◌, get_or};
-ghost use Rattle.column_engine.specs.Column.{IsIdle};
+ghost use Rattle.std.specs.Prelude.{◌≡◌, ◌==◌, ◌<◌, ◌≤◌, get_or};
 
-use crate::{Column, ColumnEnd, ColumnTask, Stop, record_writer, run_column};
-use csv::Writer;
+use crate::{Column, ColumnEnd, ColumnTask, Range, Stop, run_column};
 use fixed_steps::Steps;
-use line_engine::{LineRule, Output, Status};
+use line_engine::{LineRule, MemorySink, MemorySource, NEVER, Output, Status};
 use std::alloc::{AllocError, Global};
-use std::io::{self, ErrorKind, Read, Write};
 use std::marker::Brand;
 use std::process::Abort;
 use std::sync::ledger::{Blank, Ledger};
@@ -44,7 +41,10 @@ impl<L: Ledger> LineRule<L> for NoX {
 
     ghost MAX_ANSWER = { 8 };
 
-    ghost Answers = { λ rule line reply. reply ≡ (if get_or line 0 0 == 120 then record { text = codes "not, so"; fault = true }
+    ghost Answers = { λ rule line reply. reply ≡ (if get_or line 0 0 == 120 then record {
+      text = codes "not, so";
+      fault = true;
+    }
         else record { text = codes "yes"; fault = false }) };
 
     fn answer(&self, line: &[u8], out: &mut Output, _steps: &mut Steps<L>) -> bool {
@@ -68,69 +68,79 @@ impl<L: Ledger> LineRule<L> for NoX {
         ((λ is. is ∙ ap reply_to same), λ is. is ∙ ap reply_to (sym same)) };
 }
 
-/// A run: the column by its name or its place, what is read, what is written and how it ends.
+/// A run: the columns, under a header or not, what is read, which read and which write fails, what is
+/// written and how it ends.
 #[derive(Drop)]
 struct Case {
     name: Option<&'static str>,
-    place: Option<usize>,
+    range: Option<Range>,
+    has_header: bool,
     is_kept: bool,
     delimiter: u8,
+    failing_read: u64,
+    failing_write: u64,
     input: &'static [u8],
     written: &'static [u8],
     end: ColumnEnd,
 }
 
-/// The column of a case.
-fn column_of(alloc: Global, case: &Case) -> Result<Column, AllocError> {
+/// The columns of a case.
+fn columns_of(alloc: Global, case: &Case) -> Result<Vec<Column>, AllocError> {
+    let mut columns = Vec::new(alloc);
     match case.name {
-        Some(name) => Ok(Column::Named(String::from_str(alloc, name)?, case.place)),
-        None => Ok(Column::At(case.place.unwrap_or(0))),
+        Some(name) => columns.push(Column::Named(String::from_str(alloc, name)?, case.range))?,
+        None => columns.push(Column::At(case.range.unwrap_or(Range { from: 0, to: 0 })))?,
     }
-}
-
-/// How a run from a reader to a writer ends. The case's own input is left out.
-fn run_over<R: Read + Drop, W: Write + Drop, L: Ledger>(
-    alloc: Global,
-    case: &Case,
-    reader: R,
-    out: &mut Writer<W>,
-    blank: Blank,
-) -> Result<ColumnEnd, AllocError>
-    requires name { blank.name ≡ L.name }
-    requires parts { blank.parts ≡ L.parts }
-    requires some { 0 < blank.parts }
-    requires idle { IsIdle case.now.delimiter out.old }
-{
-    let mut steps = Steps::<L>::new(blank);
-    let column = column_of(alloc, case)?;
-    let task = ColumnTask {
-        rule: &NoX,
-        column: &column,
-        is_kept: case.is_kept,
-        delimiter: case.delimiter,
-    };
-    Ok(run_column(alloc, &task, reader, out, &mut steps))
+    Ok(columns)
 }
 
 /// How a run of these bytes ends, and what it writes. The case's own input is left out.
-fn run_case(alloc: Global, case: &Case, input: &[u8]) -> Result<(ColumnEnd, Vec<u8>), AllocError> {
-    let mut out = record_writer(case.delimiter, Vec::new(alloc));
-    let end = run_over::<&[u8], Vec<u8>, Brand>(alloc, case, input, &mut out, Blank::new(1))?;
-    Ok((end, out.get_ref().to_vec(alloc)?))
+fn run_case<L: Ledger>(
+    alloc: Global,
+    case: &Case,
+    input: Vec<u8>,
+    most: usize,
+    blank: Blank,
+) -> Result<(ColumnEnd, Vec<u8>), AllocError>
+    requires name { blank.name ≡ L.name }
+    requires parts { blank.parts ≡ L.parts }
+    requires some { 0 < blank.parts }
+{
+    let mut steps = Steps::<L>::new(blank);
+    let columns = columns_of(alloc, case)?;
+    let task = ColumnTask {
+        rule: &NoX,
+        columns: &columns,
+        has_header: case.has_header,
+        is_kept: case.is_kept,
+        delimiter: case.delimiter,
+    };
+    let most = most.max(1);
+    let room = 4_096;
+    let mut source = MemorySource::new(input, most, vec![in alloc; case.failing_read]?);
+    let mut sink = MemorySink::new(
+        vec![in alloc; 0u8; room]?,
+        most,
+        vec![in alloc; case.failing_write]?,
+    );
+    let end = run_column(alloc, &task, &mut source, &mut sink, &mut steps);
+    Ok((end, sink.written().to_vec(alloc)?))
 }
 
-/// Asserts what a run of these bytes writes and how it ends.
-fn assert_run(rt: &impl Abort, alloc: Global, case: &Case, input: &[u8]) -> Result<(), AllocError> {
-    let (end, written) = run_case(alloc, case, input)?;
-    assert_eq!(rt; written.as_slice(), case.written);
-    assert_eq!(rt; end, case.end);
-    Ok(())
-}
-
-/// Asserts the same of each case and its own input.
+/// Asserts what a run writes and how it ends, whatever the count of bytes that move at a time.
 fn assert_runs(rt: &impl Abort, alloc: Global, cases: &[Case]) -> Result<(), AllocError> {
     for case in cases {
-        assert_run(rt, alloc, case, case.input)?;
+        for most in [1, 2, 3, 5, 4096] {
+            let (end, written) = run_case::<Brand>(
+                alloc,
+                case,
+                case.input.to_vec(alloc)?,
+                most,
+                Blank::new(1),
+            )?;
+            assert_eq!(rt; written.as_slice(), case.written);
+            assert_eq!(rt; end, case.end);
+        }
     }
     Ok(())
 }
@@ -145,13 +155,24 @@ fn ended(stop: Stop, answered: u64) -> ColumnEnd {
     }
 }
 
+/// The columns at one place.
+fn one(place: usize) -> Option<Range> {
+    Some(Range {
+        from: place,
+        to: place,
+    })
+}
+
 /// A run of the second column, without a header, none of whose fields is refused.
 fn second(input: &'static [u8], written: &'static [u8], answered: u64) -> Case {
     Case {
         name: None,
-        place: Some(1),
+        range: one(1),
+        has_header: false,
         is_kept: false,
         delimiter: b',',
+        failing_read: NEVER,
+        failing_write: NEVER,
         input,
         written,
         end: ended(Stop::Done, answered),
@@ -161,14 +182,15 @@ fn second(input: &'static [u8], written: &'static [u8], answered: u64) -> Case {
 /// A run of the column that a header names so, or by this place.
 fn named(
     name: &'static str,
-    place: Option<usize>,
+    range: Option<Range>,
     input: &'static [u8],
     written: &'static [u8],
     answered: u64,
 ) -> Case {
     Case {
         name: Some(name),
-        place,
+        range,
+        has_header: true,
         ..second(input, written, answered)
     }
 }
@@ -197,16 +219,27 @@ fn refusing(case: Case, refused: u64, first: u64) -> Case {
 fn a_number_is_a_column_of_every_record(rt: HostRuntime) -> Result<(), Fail> {
     let cases = [
         second(b"a,b,c\n1,2,3\n", b"a,yes,c\n1,yes,3\n", 2),
-        second(b"a,b", b"a,yes\n", 1),
+        second(b"a,b", b"a,yes", 1),
         second(b"a,b\nc,d,e\n", b"a,yes\nc,yes,e\n", 2),
         second(b"", b"", 0),
         Case {
-            place: Some(0),
+            range: one(0),
             ..second(b"a,b\n1,2\n", b"yes,b\nyes,2\n", 2)
         },
         Case {
-            place: Some(2),
+            range: one(2),
             ..second(b"a,b,c\n", b"a,b,yes\n", 1)
+        },
+        Case {
+            range: Some(Range { from: 1, to: 2 }),
+            ..second(b"a,b,c,d\n", b"a,yes,yes,d\n", 1)
+        },
+        Case {
+            range: Some(Range {
+                from: 0,
+                to: usize::MAX,
+            }),
+            ..second(b"a,b\n\nc\n", b"yes,yes\n\nyes\n", 2)
         },
     ];
     assert_runs(&rt, rt.alloc(), &cases)?;
@@ -218,12 +251,12 @@ fn a_name_of_the_header_comes_before_a_number(rt: HostRuntime) -> Result<(), Fai
     let cases = [
         named("n", None, b"a,n\n1,2\n", b"a,n\n1,yes\n", 2),
         named("n", None, b"a,n,n\n1,2,3\n", b"a,n,n\n1,yes,3\n", 2),
-        named("2", Some(1), b"2,b\n1,c\n", b"2,b\nyes,c\n", 2),
-        named("2", Some(1), b"a,b\n1,c\n", b"a,b\n1,yes\n", 2),
+        named("2", one(1), b"2,b\n1,c\n", b"2,b\nyes,c\n", 2),
+        named("2", one(1), b"a,b\n1,c\n", b"a,b\n1,yes\n", 2),
         named("b", None, b"a,b\n", b"a,b\n", 1),
-        named("x", None, b"x,b\n1,2\n", b"x,b\nyes,2\n", 2),
         named("a,b", None, b"\"a,b\",c\n1,2\n", b"\"a,b\",c\nyes,2\n", 2),
         named("", None, b"\"\"\n1\n", b"\"\"\nyes\n", 2),
+        named("n", None, b"\r\nn\r\n1\r\n", b"\r\nn\r\nyes\r\n", 2),
         named("n", None, b"", b"", 0),
     ];
     assert_runs(&rt, rt.alloc(), &cases)?;
@@ -231,34 +264,42 @@ fn a_name_of_the_header_comes_before_a_number(rt: HostRuntime) -> Result<(), Fai
 }
 
 #[test]
-fn fields_are_written_with_the_quotes_that_they_need(rt: HostRuntime) -> Result<(), Fail> {
+fn every_other_byte_stays(rt: HostRuntime) -> Result<(), Fail> {
     let cases = [
-        second(b"\"a\",\"1\"\n", b"a,yes\n", 1),
+        second(b"\"a\",\"1\"\n", b"\"a\",yes\n", 1),
         second(b"\"a,b\",1\n", b"\"a,b\",yes\n", 1),
         second(b"\"a\"\"b\",1\n", b"\"a\"\"b\",yes\n", 1),
-        second(b"a\"b,1\n", b"\"a\"\"b\",yes\n", 1),
+        second(b"a\"b,1\n", b"a\"b,yes\n", 1),
         second(b"\"a\nb\",1\nc,2\n", b"\"a\nb\",yes\nc,yes\n", 2),
-        second(b"\"a\r\nb\",1\r\n", b"\"a\r\nb\",yes\n", 1),
+        second(b"\"a\r\nb\",1\r\n", b"\"a\r\nb\",yes\r\n", 1),
         second(b",1,\n", b",yes,\n", 1),
-        second(b"a,\n", b"a,yes\n", 1),
         second(b"a,\"\"\n", b"a,yes\n", 1),
         second(b" a ,1, b\n", b" a ,yes, b\n", 1),
         second(b"\xff\xc3,1\n", b"\xff\xc3,yes\n", 1),
+        second(b"a,1\rb,2\r", b"a,yes\rb,yes\r", 2),
+        second(b"\n\r\na,1\n\n\nb,2\n\n", b"\n\r\na,yes\n\n\nb,yes\n\n", 2),
+        second(b"\n\n", b"\n\n", 0),
+        second(b"\"1\"x,\"1\"x\n", b"\"1\"x,yes\n", 1),
     ];
     assert_runs(&rt, rt.alloc(), &cases)?;
     Ok(())
 }
 
 #[test]
-fn records_end_at_any_end_of_a_line(rt: HostRuntime) -> Result<(), Fail> {
+fn a_byte_order_mark_stays_before_the_first_field(rt: HostRuntime) -> Result<(), Fail> {
     let cases = [
-        second(b"a,1\r\nb,2\r\n", b"a,yes\nb,yes\n", 2),
-        second(b"a,1\rb,2\r", b"a,yes\nb,yes\n", 2),
-        second(b"\n\r\na,1\n\n\nb,2\n\n", b"a,yes\nb,yes\n", 2),
-        second(b"\n\n", b"", 0),
-        second(b"\xef\xbb\xbfa,1\n", b"a,yes\n", 1),
-        second(b"\xef\xbb\xbf\"a,b\",1\n", b"\"a,b\",yes\n", 1),
-        named("n", None, b"\xef\xbb\xbfn,m\n1,2\n", b"n,m\nyes,2\n", 2),
+        second(b"\xef\xbb\xbfa,1\n", b"\xef\xbb\xbfa,yes\n", 1),
+        second(b"\xef\xbb\xbf\"a,b\",1\n", b"\xef\xbb\xbf\"a,b\",yes\n", 1),
+        second(b"\xef\xbba,1\n", b"\xef\xbba,yes\n", 1),
+        stopped(second(b"\xef\xbb", b"", 0), Stop::NoColumn(1)),
+        second(b"\xef\xbb\xbf", b"\xef\xbb\xbf", 0),
+        named(
+            "n",
+            None,
+            b"\xef\xbb\xbfn,m\n1,2\n",
+            b"\xef\xbb\xbfn,m\nyes,2\n",
+            2,
+        ),
     ];
     assert_runs(&rt, rt.alloc(), &cases)?;
     Ok(())
@@ -297,6 +338,7 @@ fn refused_fields_are_counted_and_kept_where_that_is_asked(rt: HostRuntime) -> R
         },
         refusing(named("n", None, b"n\nx\n", b"n\n\"not, so\"\n", 2), 1, 2),
         second(b"a,\"\"\"x\"\n", b"a,yes\n", 1),
+        refusing(second(b"a,\"x\"\"\"\n", b"a,\"not, so\"\n", 1), 1, 1),
     ];
     assert_runs(&rt, rt.alloc(), &cases)?;
     Ok(())
@@ -311,10 +353,7 @@ fn a_record_or_a_header_without_the_column_ends_the_run(rt: HostRuntime) -> Resu
             named("n", None, b"a,n,c\n1\n", b"a,n,c\n", 1),
             Stop::NoColumn(1),
         ),
-        stopped(
-            named("3", Some(2), b"a,b\n1,2\n", b"", 0),
-            Stop::NoColumn(2),
-        ),
+        stopped(named("3", one(2), b"a,b\n1,2\n", b"", 0), Stop::NoColumn(2)),
         stopped(named("c", None, b"a,b\n1,2\n", b"", 0), Stop::NoName),
         stopped(named("A", None, b"a,b\n1,2\n", b"", 0), Stop::NoName),
     ];
@@ -332,120 +371,4 @@ fn a_quote_that_is_never_closed_ends_the_run(rt: HostRuntime) -> Result<(), Fail
     ];
     assert_runs(&rt, rt.alloc(), &cases)?;
     Ok(())
-}
-
-/// A short record, one of so many bytes, and another short one.
-fn long_text(alloc: Global, count: usize) -> Result<Vec<u8>, AllocError> {
-    let mut text = b"1\n".to_vec(alloc)?;
-    for _ in 0..count {
-        text.push(b'a')?;
-    }
-    text.push(b'\n')?;
-    text.push(b'2')?;
-    Ok(text)
-}
-
-#[test]
-fn a_record_that_is_too_long_ends_the_run(rt: HostRuntime) -> Result<(), Fail> {
-    let alloc = rt.alloc();
-    let first = Case {
-        place: Some(0),
-        ..second(b"", b"yes\nyes\nyes\n", 3)
-    };
-    assert_run(&rt, alloc, &first, &long_text(alloc, 131_072)?)?;
-    let longer = Case {
-        written: b"yes\n",
-        end: ended(Stop::TooLong, 1),
-        ..first
-    };
-    assert_run(&rt, alloc, &longer, &long_text(alloc, 131_073)?)?;
-    Ok(())
-}
-
-#[test]
-fn each_end_has_its_status(rt: HostRuntime) {
-    let cases = [
-        (Stop::Done, Status::Done),
-        (Stop::ReadFault, Status::ReadFault),
-        (Stop::Unclosed, Status::ReadFault),
-        (Stop::NoColumn(1), Status::ReadFault),
-        (Stop::NoName, Status::ReadFault),
-        (Stop::WriteFault, Status::WriteFault),
-        (Stop::NoMemory, Status::NoMemory),
-        (Stop::TooLong, Status::TooLong),
-    ];
-    for (stop, status) in cases {
-        assert_eq!(rt; ended(stop, 1).status(), status);
-    }
-    let refused = ColumnEnd {
-        refused: 1,
-        first: 1,
-        ..ended(Stop::Done, 1)
-    };
-    assert_eq!(rt; refused.status(), Status::Faults);
-}
-
-/// A reader of bytes whose end is a failure, and a writer that fails at once.
-#[derive(Drop)]
-struct Broken {
-    rest: &'static [u8],
-}
-
-impl Read for Broken {
-    fn read(&mut self, buf: &mut [u8]) -> io::Result<usize> {
-        let count = self.rest.len().min(buf.len());
-        if count == 0 {
-            return Err(io::Error::from(ErrorKind::BrokenPipe));
-        }
-        buf[..count].copy_from_slice(&self.rest[..count]);
-        self.rest = &self.rest[count..];
-        Ok(count)
-    }
-}
-
-impl Write for Broken {
-    fn write(&mut self, _buf: &[u8]) -> io::Result<usize> {
-        Err(io::Error::from(ErrorKind::BrokenPipe))
-    }
-
-    fn flush(&mut self) -> io::Result<()> {
-        Ok(())
-    }
-}
-
-#[test]
-fn a_failed_read_ends_the_run_after_the_whole_records(rt: HostRuntime) -> Result<(), Fail> {
-    let alloc = rt.alloc();
-    let case = second(b"a,1\nb,2", b"a,yes\n", 1);
-    let reader = Broken { rest: case.input };
-    let mut out = record_writer(case.delimiter, Vec::new(alloc));
-    let end = run_over::<Broken, Vec<u8>, Brand>(alloc, &case, reader, &mut out, Blank::new(1))?;
-    assert_eq!(rt; end, ended(Stop::ReadFault, 1));
-    assert_eq!(rt; out.get_ref().as_slice(), case.written);
-    Ok(())
-}
-
-#[test]
-fn a_failed_write_ends_the_run(rt: HostRuntime) -> Result<(), Fail> {
-    let alloc = rt.alloc();
-    let case = second(b"a,1\nb,2\n", b"", 0);
-    let mut out = record_writer(case.delimiter, Broken { rest: b"" });
-    let end = run_over::<&[u8], Broken, Brand>(alloc, &case, case.input, &mut out, Blank::new(1))?;
-    assert_eq!(rt; end.stop, Stop::WriteFault);
-    assert_eq!(rt; end.status(), Status::WriteFault);
-    Ok(())
-}
-
-/// Where an allocation fails, the run ends as `NoMemory` after whole answers; in any other case its output is whole.
-#[test]
-fn refused_memory_ends_the_run(rt: HostRuntime) {
-    let case = named("n", None, b"a,n\n1,2\n", b"a,n\n1,yes\n", 2);
-    if let Ok((end, written)) = run_case(rt.alloc(), &case, case.input) {
-        if end.stop == Stop::NoMemory {
-            assert!(rt; case.written.starts_with(&written));
-        } else {
-            assert_eq!(rt; end, case.end);
-            assert_eq!(rt; written.as_slice(), case.written);
-        }
-    }
 }

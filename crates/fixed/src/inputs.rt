@@ -1,12 +1,12 @@
 //! What is done with each input, one after another, and a question asked of each word.
 
-use crate::commands::column;
-use column_engine::record_writer;
+use crate::commands::{column, fit};
 use command_line::device::{Failure, Unmarked, Writer};
 use command_line::report::{Report, push_words, report_end};
 use fixed_command::{
     ColumnConversion, RefusedLine, Task, Watch, convert_column, explanation, greater_end, run_task,
 };
+use fixed_fit::Question as FitQuestion;
 use fixed_io::{StdSink, StdSource};
 use fixed_steps::Steps;
 use line_engine::Status;
@@ -22,8 +22,10 @@ const MAX_TEXT: usize = 40;
 pub enum Job<'a> {
     /// It is answered.
     Task(Task<'a>),
-    /// One column of it is converted.
+    /// Columns of it are converted.
     Column(ColumnConversion),
+    /// The finest format is found that its numerals fit.
+    Fit(FitQuestion),
 }
 
 /// A report of how many lines of an input were refused, and which was the first, with its text and the cause.
@@ -80,7 +82,7 @@ fn run_task_on<R: Read + Drop, L: Ledger>(
     status
 }
 
-/// Converts a column of one input, and says on standard error why it did not end well.
+/// Converts columns of one input, and says on standard error why it did not end well.
 fn run_column_on<R: Read + Drop, L: Ledger>(
     rt: &HostRuntime,
     conversion: &ColumnConversion,
@@ -88,9 +90,14 @@ fn run_column_on<R: Read + Drop, L: Ledger>(
     reader: R,
     steps: &mut Steps<L>,
 ) -> Status {
-    let mut out = record_writer(conversion.delimiter, rt.stdout());
-    let end = convert_column(rt.alloc(), conversion, reader, &mut out, steps);
-    column::report_end(rt, file, &end);
+    let failure = Failure::new(None);
+    let mut source = StdSource::new(reader);
+    let mut sink = StdSink::new(Writer {
+        writer: rt.stdout(),
+        failure: &failure,
+    });
+    let end = convert_column(rt.alloc(), conversion, &mut source, &mut sink, steps);
+    column::report_end(rt, file, &end, &failure);
     end.status()
 }
 
@@ -105,6 +112,10 @@ fn run_reader<R: Read + Drop, L: Ledger>(
     match job {
         Job::Task(task) => run_task_on(rt, task, file, reader, steps),
         Job::Column(conversion) => run_column_on(rt, conversion, file, reader, steps),
+        Job::Fit(question) => {
+            let mut source = StdSource::new(Unmarked::new(reader));
+            fit::run_on(rt, question, file, &mut source, steps)
+        }
     }
 }
 

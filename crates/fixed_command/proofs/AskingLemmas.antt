@@ -13,19 +13,20 @@ use Rattle.fixed_bits.specs.declared.format.Policy.{Policy}
 use Rattle.fixed_bits.specs.declared.format.Policy.TheVariants.{Checked, Saturating, Wrapping}
 use Rattle.fixed_bits.specs.declared.mode.ReadMode.{ReadMode}
 use Rattle.fixed_bits.specs.declared.mode.ReadMode.TheVariants.{NearestEven, Floor, Ceil, TowardsZero}
-use Rattle.fixed_bits.proofs.Public.{image_within}
+use Rattle.fixed_bits.proofs.Public.{image_within, width_most}
 use Rattle.fixed_numeral.specs.Messages.{message_of}
 use Rattle.fixed_numeral.specs.declared.error.ParseErrorKind.{ParseErrorKind}
 use Rattle.fixed_numeral.specs.declared.radix.Radix.{Radix}
 use Rattle.fixed_numeral.specs.declared.radix.Radix.TheVariants.{Bin, Oct, Dec, Hex}
 use Rattle.fixed_write.specs.Texts.{IsShortestText, decimal_text, fraction_part, last_digits, point_text, whole_digits}
-use Rattle.fixed_respell.specs.Answer.{Asks, IsAnswer, respelled_answer, task_of, verdict}
+use Rattle.fixed_respell.specs.Answer.{AsksBy, respelled_answer, task_of, verdict}
+use Rattle.fixed_respell.specs.FormatNames.{IsFormatName}
 use Rattle.fixed_respell.specs.Language.{fault_answer}
 use Rattle.fixed_respell.specs.LineWords.{HasWords, longest_line, space}
 use Rattle.fixed_respell.specs.Reached.{IsRefusal, IsRespelled}
 use Rattle.fixed_respell.specs.Split.{count_of}
-use Rattle.fixed_respell.specs.Words.{format_text, mode_text, policy_text, radix_text, sign_letter, slash}
-use Rattle.fixed_respell.specs.Lemmas.FormatLemmas.{width_most}
+use Rattle.fixed_respell.specs.Words.{IsPolicyWord, format_text, mode_text, policy_text, radix_text, sign_letter, slash}
+use Rattle.fixed_respell.proofs.Public.{text_names}
 use Rattle.fixed_respell.specs.Lemmas.SplitLemmas.{count-append, count_cons}
 use Rattle.fixed_numeral.proofs.Public.{message_short}
 use Rattle.fixed_numeral.specs.declared.error.ParseErrorKind.TheVariants.{Overflow}
@@ -133,7 +134,7 @@ format_unspaced f is =
     ∙ both_unspaced (decimal (f.width - f.frac)) (70 ∷ decimal f.frac) (decimal_unspaced (f.width - f.frac) (omega arith)) fraction
 
 -- ---- what the line asks for
-asks : (s : Settings) (numeral : List ℕ) → AreFormats s → length (asking_line s numeral) ≤ longest_line → Asks (asking_line s numeral) (task_of s.radix s.source s.target s.policy s.mode numeral)
+asks : (s : Settings) (numeral : List ℕ) → AreFormats s → length (asking_line s numeral) ≤ longest_line → AsksBy IsFormatName IsPolicyWord (asking_line s numeral) (task_of s.radix s.source s.target s.policy s.mode numeral)
 asks s numeral formats short = record {
   short = short;
   radix_word = radix_text s.radix;
@@ -154,8 +155,8 @@ asks s numeral formats short = record {
     );
   };
   radix = refl;
-  source = record { format = formats.source; text = refl };
-  target = record { format = formats.target; text = refl };
+  source = text_names s.source formats.source;
+  target = text_names s.target formats.target;
   policy = inr refl;
 }
 

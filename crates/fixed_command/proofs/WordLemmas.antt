@@ -1,5 +1,5 @@
 -- What is printed of bits is a word of the format.
-use Rattle.std.proofs.Common.{◌≡◌, ◌∙◌, ◌⊎◌, ◌==◌, ◌||◌, ◌+◌, ◌-◌, ◌*◌, ◌/◌, ◌%◌, ◌^◌, ◌<◌, ◌≤◌, ℕ, zero, suc, ℤ, pos, negsuc, ◌+ℤ◌, List, [], ◌∷◌, ◌++◌, Bool, true, false, if◌then◌else◌, Option, Some, None, is_some, drop, length, codes, refl, sym, ap, subst, arith, inl, inr, mod-eq_of_lt, mod-lt, pow-suc}
+use Rattle.std.proofs.Common.{◌≡◌, ◌∙◌, ◌⊎◌, ◌==◌, ◌||◌, ◌+◌, ◌-◌, ◌*◌, ◌/◌, ◌%◌, ◌^◌, ◌<◌, ◌≤◌, ℕ, zero, suc, ℤ, pos, negsuc, ◌+ℤ◌, List, [], ◌∷◌, ◌++◌, Bool, true, false, if◌then◌else◌, Option, Some, None, is_some, drop, length, codes, refl, sym, ap, subst, arith, inl, inr, mod-eq_of_lt, mod-lt, pow-suc, pow_pos}
 use Rattle.std.specs.Char.{digit_value}
 use Rattle.std.specs.Fmt.{decimal, digit_glyph, signed_decimal}
 use Rattle.std.specs.Str.Parse.{AllDigits, digits_value}
@@ -8,11 +8,12 @@ use Rattle.std.proofs.lemmas.Fmt.{decimal_is_IsNumeral}
 use Rattle.std.proofs.lemmas.Int.{ints}
 use Rattle.std.proofs.lemmas.Int.Digits.{digits_push, digits_value_push}
 use Rattle.std.proofs.Math.Arith.{mod-mul}
-use Rattle.std.proofs.Math.Nat.{one-le-pow, mod-one, pow-zero}
+use Rattle.std.proofs.Math.Nat.{one-le-pow, mod-one, pow-le-pow_right, pow-zero}
 use Rattle.fixed_bits.proofs.Public.{in_wide, width_most}
 use Rattle.fixed_bits.specs.Formats.{FormatParts, IsFormat}
 use Rattle.fixed_bits.specs.Images.{DiffersByMultiple, IsWrapped}
 use Rattle.fixed_bits.specs.Ranges.{IsInRange, IsWidth, greatest, lowest}
+use Rattle.fixed_numeral.proofs.Public.{pow-mul}
 use Rattle.fixed_numeral.specs.Literal.{without_underscores}
 use Rattle.fixed_numeral.specs.Numeral.{base, is_sign}
 use Rattle.fixed_numeral.specs.declared.radix.Radix.{Radix}
@@ -151,27 +152,31 @@ word_at false n h (pos a) whole half some range = record { fits = omega (arith, 
 word_at false n h (negsuc a) whole half some range = absurd (omega (arith, ints, range.low))
 
 word_is : (signed : Bool) (n : ℕ) (v : ℤ) → IsWidth n → IsInRange signed n v → IsWordOf n v
-word_is signed n v (inl e) range = subst (λ m. IsWordOf m v) (sym e) (word_at signed 8 128 v refl refl (omega arith) (subst (λ m. IsInRange signed m v) e range))
-word_is signed n v (inr (inl e)) range = subst (λ m. IsWordOf m v) (sym e) (word_at signed 16 32768 v refl refl (omega arith) (subst (λ m. IsInRange signed m v) e range))
-word_is signed n v (inr (inr (inl e))) range = subst (λ m. IsWordOf m v) (sym e) (word_at signed 32 2147483648 v refl refl (omega arith) (subst (λ m. IsInRange signed m v) e range))
-word_is signed n v (inr (inr (inr e))) range = subst (λ m. IsWordOf m v) (sym e) (word_at signed 64 9223372036854775808 v refl refl (omega arith) (subst (λ m. IsInRange signed m v) e range))
+word_is signed n v width range =
+    let some : 0 < n = width.some in
+    let up : suc (n - 1) ≡ n = omega (arith, some) in
+    let whole : 2 ^ n ≡ 2 * 2 ^ (n - 1) = omega (arith, pow-suc 2 (n - 1), ap (λ k. 2 ^ k) up) in
+    word_at signed n (2 ^ (n - 1)) v whole refl (pow_pos (n - 1)) range
 
 pub record HasHexDigits (n : ℕ) : Type 0 where
-  pub power : 16 ^ (n / 4) ≡ 2 ^ n
-  pub some : 0 < n / 4
+  pub most : 2 ^ n ≤ 16 ^ ((n + 3) / 4)
+  pub some : 0 < (n + 3) / 4
 
 digit_count : (n : ℕ) → IsWidth n → HasHexDigits n
-digit_count n (inl e) = subst HasHexDigits (sym e) (record { power = refl; some = omega arith })
-digit_count n (inr (inl e)) = subst HasHexDigits (sym e) (record { power = refl; some = omega arith })
-digit_count n (inr (inr (inl e))) = subst HasHexDigits (sym e) (record { power = refl; some = omega arith })
-digit_count n (inr (inr (inr e))) = subst HasHexDigits (sym e) (record { power = refl; some = omega arith })
+digit_count n width =
+    let some : 0 < n = width.some in
+    let enough : n ≤ 4 * ((n + 3) / 4) = omega arith in
+    let power : 2 ^ n ≤ 2 ^ (4 * ((n + 3) / 4)) = pow-le-pow_right {n = 2} (omega arith) enough in
+    let same : 16 ^ ((n + 3) / 4) ≡ 2 ^ (4 * ((n + 3) / 4)) = pow-mul 2 4 ((n + 3) / 4) in
+    record { most = omega (arith, power, same); some = omega (arith, some) }
 
 hex_value : (n : ℕ) (v : ℤ) → IsWidth n → word_of n v < 2 ^ n → digits_value 16 (hex_digits n v) ≡ word_of n v
 hex_value n v width fits =
-    last_value (n / 4) (word_of n v) ∙ ap (λ m. word_of n v % m) (digit_count n width).power ∙ mod-eq_of_lt fits
+    let below : word_of n v < 16 ^ ((n + 3) / 4) = omega (arith, fits, (digit_count n width).most) in
+    last_value ((n + 3) / 4) (word_of n v) ∙ mod-eq_of_lt below
 
 hex_some : (n : ℕ) (v : ℤ) → IsWidth n → 0 < length (hex_digits n v)
-hex_some n v width = omega (arith, (digit_count n width).some, last_digits_length 16 false (n / 4) (word_of n v))
+hex_some n v width = omega (arith, (digit_count n width).some, last_digits_length 16 false ((n + 3) / 4) (word_of n v))
 
 -- ---- words
 printed_decimal : (f : FormatParts) (v : ℤ) → IsWidth f.width → IsInRange f.signed f.width v → IsWord Dec f (signed_decimal v) v
@@ -205,7 +210,7 @@ printed_hex f bare v width range =
     inl (record {
       plain = refl;
       word = word_of f.width v;
-      spells = hex_word bare (hex_digits f.width v) (word_of f.width v) (last_all (f.width / 4) (word_of f.width v)) (hex_some f.width v width) (hex_value f.width v width word.fits);
+      spells = hex_word bare (hex_digits f.width v) (word_of f.width v) (last_all ((f.width + 3) / 4) (word_of f.width v)) (hex_some f.width v width) (hex_value f.width v width word.fits);
       fits = word.fits;
       is = record { in_range = range; near = word.near };
     })
@@ -214,7 +219,7 @@ printed_bare : (f : FormatParts) (v : ℤ) → IsWidth f.width → IsInRange f.s
 printed_bare f v width range =
     let word = word_is f.signed f.width v width range in
     let ds = hex_digits f.width v in
-    let all : AllDigits 16 ds = last_all (f.width / 4) (word_of f.width v) in
+    let all : AllDigits 16 ds = last_all ((f.width + 3) / 4) (word_of f.width v) in
     inl (record {
       plain = no_sign ds all;
       word = word_of f.width v;

@@ -11,7 +11,7 @@ use Rattle.fixed_numeral.specs.Messages.{message_of}
 use Rattle.fixed_numeral.specs.declared.error.ParseErrorKind.{ParseErrorKind}
 use Rattle.fixed_numeral.specs.declared.error.ParseErrorKind.TheVariants.{Overflow}
 use Rattle.fixed_respell.specs.Answer as respell
-use Rattle.fixed_respell.specs.Answer.{IsAnswer, respelled_answer}
+use Rattle.fixed_respell.specs.Answer.{IsNamedAnswer, respelled_answer}
 use Rattle.fixed_respell.specs.Language.{fault_answer}
 use Rattle.fixed_respell.specs.LineWords.{HasWords, longest_line, spaced}
 use Rattle.fixed_respell.specs.declared.fault.LineFault.TheVariants.{LineTooLong}
@@ -96,7 +96,8 @@ IsMovedAnswer s numeral answer = IsLong s numeral answer
     ⊎ (IsUnsourced s numeral answer ⊎ (IsUnmoved s numeral answer ⊎ IsMovedTo s numeral answer))
 
 -- ---- the answer
--- whether it is that to a line: of a numeral, where the target mode is Floor, as in every line
+-- whether it is that to a line, in which formats are of any width: of a numeral, where the target mode is Floor, as in
+-- every line
 abbrev pub asks_a_line : Spelling → ReadMode → Bool
 asks_a_line Numeral NearestEven = false
 asks_a_line Numeral Floor = true
@@ -105,7 +106,7 @@ asks_a_line Numeral TowardsZero = false
 asks_a_line Word mode = false
 
 abbrev pub IsAnswerBy : Bool → Settings → List ℕ → AnswerText → Type 0
-IsAnswerBy true s numeral answer = IsAnswer (asking_line s numeral) answer
+IsAnswerBy true s numeral answer = IsNamedAnswer (asking_line s numeral) answer
 IsAnswerBy false s numeral answer = IsMovedAnswer s numeral answer
 
 abbrev pub IsAsked : Settings → List ℕ → AnswerText → Type 0

@@ -10,7 +10,7 @@ ghost use Rattle.line_engine.specs.Output.{AppendsPrefix};
 
 use fixed_bits::{Policy, ReadMode};
 use fixed_numeral::Radix;
-use fixed_respell::format_word;
+use fixed_respell::format_named;
 use fixed_show::{MAX_BLOCK, bits_block, format_block, show_block};
 use fixed_steps::Steps;
 use line_engine::{Failed, Sink, Status, write_whole};
@@ -51,7 +51,7 @@ fn push_format<const N: usize, L: Ledger>(
     requires { length out.old + MAX_BLOCK ≤ N }
     ensures { show_blocks.Appends (λ text. IsFormatAnswer word.now (record { text = text; fault = result })) MAX_BLOCK out.old out.new }
 {
-    match format_word(word) {
+    match format_named(word) {
         Some(format) => {
             format_block(format, out, steps);
             false

@@ -20,14 +20,14 @@ fn word_of(format: Format, bits: i128) -> u64
     }
 }
 
-/// Appends bits of a format in hexadecimal: a digit for every four bits of its width.
+/// Appends bits of a format in hexadecimal: a digit for every four bits of its width, from the last one on.
 pub fn push_digits<const N: usize>(out: &mut TextBuffer<N>, format: Format, bits: i128)
     requires range { IsInRange format.signed format.width bits }
     requires room { length out.old + 16 ≤ N }
     ensures appended { out.new ≡ out.old ++ hex_digits format.width bits }
     ensures short { length out.new ≤ length out.old + 16 }
 {
-    push_hex_digits(out, word_of(format, bits), format.width() / 4);
+    push_hex_digits(out, word_of(format, bits), (format.width() + 3) / 4);
 }
 
 /// Appends bits of a format in hexadecimal after `0x`.

@@ -22,7 +22,7 @@ use text_buffer::TextBuffer;
 fn word_of(bits: i128, format: Format) -> u64
     ensures { IsWrapped false format.width bits (pos result) }
 {
-    let words = Format::new(false, format.width(), 0).unwrap();
+    let words = Format::of(false, format.width(), 0);
     Policy::Wrapping.image(words, bits).unwrap() as u64
 }
 
@@ -34,7 +34,7 @@ fn push_hex_line<const N: usize>(out: &mut TextBuffer<N>, word: u64, width: u32)
     ensures short { length out.new ≤ length out.old + 29 }
 {
     out.push_bytes(b"hex       0x");
-    push_hex_digits(out, word, width / 4);
+    push_hex_digits(out, word, (width + 3) / 4);
     out.push(b'\n');
 }
 

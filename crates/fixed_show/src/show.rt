@@ -46,7 +46,7 @@ pub fn read_shown<L: Ledger>(
     ensures read { IfOk result (λ s. IsReadAs mode radix text.now format policy s.bits s.overflowed) }
     ensures wide { IfOk result (λ s. IsWide s.bits) }
     ensures unread { IfErr result (λ kind. IsUnread mode radix text.now format policy kind) }
-    ensures cost { steps.new ≤ steps.old + 8 * (length text.now + format.width) + 64 }
+    ensures cost { steps.new ≤ steps.old + 8 * length text.now + 128 }
 {
     let found = match read_format(text, radix, format, mode, steps) {
         Ok(found) => found,

@@ -8,12 +8,13 @@ use Rattle.std.specs.Str.Parse.{AllDigits}
 use Rattle.std.proofs.lemmas.Fmt.{decimal_injective, decimal_is_IsNumeral}
 use Rattle.std.proofs.lemmas.Str.Parse.{digit_from_value}
 use Rattle.fixed_bits.specs.Ranges.{IsWide}
-use Rattle.fixed_respell.specs.Answer.{IsAnswer, fault_message}
+use Rattle.fixed_respell.specs.Answer.{fault_message}
+use Rattle.fixed_respell.specs.FormatNames.{IsFormatName}
 use Rattle.fixed_respell.specs.Language.{fault_answer}
 use Rattle.fixed_respell.specs.LineWords.{longest_line, spaced}
 use Rattle.fixed_respell.specs.Words.{format_text, mode_text, policy_text, radix_text, slash}
 use Rattle.fixed_respell.specs.declared.fault.LineFault.TheVariants.{LineTooLong}
-use Rattle.fixed_respell.specs.Lemmas.AnswerLemmas.{answer_one}
+use Rattle.fixed_respell.proofs.Public.{named_answer_one}
 use Rattle.fixed_respell.specs.Lemmas.FaultLemmas.{first_long}
 use Rattle.fixed_respell.specs.Lemmas.LanguageLemmas.{long_by_prefix}
 use Rattle.fixed_respell.specs.Lemmas.LineWordLemmas.{words_one}
@@ -73,7 +74,7 @@ written_one s answer a b (inr x) (inr y) = part_one s answer a b x y
 
 asked_by : (line : Bool) (s : Settings) (numeral : List ℕ) (a b : AnswerText) → IsAnswerBy line s numeral a
     → IsAnswerBy line s numeral b → a ≡ b
-asked_by true s numeral a b x y = answer_one (asking_line s numeral) a b x y
+asked_by true s numeral a b x y = named_answer_one (asking_line s numeral) a b x y
 asked_by false s numeral a b x y = moved_one s numeral a b x y
 
 pub reply_one : (s : Settings) (numeral : List ℕ) (a b : AnswerText) → IsReply s numeral a → IsReply s numeral b → a ≡ b
@@ -128,7 +129,7 @@ long_asked : (line : Bool) (s : Settings) (numeral : List ℕ) → longest_line 
     → IsAnswerBy line s numeral (fault_answer (fault_message LineTooLong))
 long_asked true s numeral long = inl (record {
   fault = LineTooLong;
-  first = first_long (asking_line s numeral)
+  first = first_long IsFormatName (asking_line s numeral)
       long;
   answer_is = refl;
 })
