@@ -100,6 +100,10 @@ RUNS = {
         (["convert", "I8F8", "I8F0", "--target-mode", "ceil", "--mode", "floor", "-p", "saturating"], b"x\n1e\n300\n", 1,
          b"error: invalid digit found in string\nerror: exponent has no digits\n127\n"),
         (["bits", "I8F8", "-384", "+5", "0XFE80"], b"", 0, None),
+        (["convert", "q15", "--print", "bits"], b"0.5\n", 0, b"16384\n"),
+        (["convert", "UQ8.8", "i8f8", "--print", "hex"], b"1.5\n", 0, b"0x0180\n"),
+        (["convert", "I3F2", "--print", "hex"], b"-0.25\n3.75\n", 0, b"0x1f\n0x0f\n"),
+        (["convert", "I3F2", "--from", "bits"], b"0x1f\n31\n32\n", 1, b"-0.2\n-0.2\nerror: word is wider than the format\n"),
         (["bits", "I8F8", "--radix", "16", "fe80"], b"", 0, b"text      -1.5\nbits      -384\nhex       0xfe80\nvalue     -1.5\n"),
         (["show", "I16F16", "3.14159", "-0.1"], b"", 0, None),
         (["show", "I8F8", "-.5", "-1e-3", "--mode", "floor"], b"", 0, None),
@@ -172,7 +176,7 @@ RUNS = {
 # Words that are no command, for each program.
 BAD_WORDS = {
     "fixed": (
-        [], [b"converts"], [b"convert"], [b"convert", b"I9F0"], [b"convert", b"U8F0", b"U9F0"], [b"convert", b"U8F0", b"--radix", b"7"],
+        [], [b"converts"], [b"convert"], [b"convert", b"I65F0"], [b"convert", b"U8F0", b"U60F5"], [b"convert", b"U8F0", b"q64"], [b"convert", b"Q8."], [b"convert", b"U8F0", b"--radix", b"7"],
         [b"convert", b"U8F0", b"--mode"], [b"convert", b"U8F0", b"--print", b"text", b"--print", b"bits"], [b"lines", b"--limit", b"0"],
         [b"lines", b"--limits", b"5"], [b"lines", b"--limit", b"5", b"--limit", b"6"], [b"enclose", b"--radix", b"2"],
         [b"constants", b"c", b"--guard", b"int"], [b"constants", b"c", b"--guard", b"9"], [b"constants", b"--guard", b"A_H"], [b"columns", b"limit"], [b"columns", b"limit", b"07"],
@@ -185,7 +189,7 @@ BAD_WORDS = {
         [b"convert", b"U8F0", b"--places", b"2", b"--print", b"bits"], [b"convert", b"--"],
         [b"convert", b"U8F0", b"--from", b"hex"], [b"convert", b"U8F0", b"--target-mode", b"up"], [b"convert", b"U8F0", b"--from"],
         [b"bits", b"U8F0", b"--radix", b"7", b"1"],
-        [b"show", b"U8F1", b"1"], [b"show"], [b"bits"], [b"bits", b"U8F0", b"--file", b"x", b"1"], [b"format", b"U8F0", b"X"],
+        [b"show", b"U64F1", b"1"], [b"show"], [b"bits"], [b"bits", b"U8F0", b"--file", b"x", b"1"], [b"format", b"U8F0", b"X"],
     ),
     "fixed_tool": ([b"limits"], [b"limit"], [b"limit", b"05"], [b"limit", b"0"], [b"self", b"0"], [b"self", b"1000001"], [b"limit", b"5", b""]),
     "enclose_tool": ([b"limit", b"5"],),

@@ -1,7 +1,7 @@
 //! What the formats and the options of a conversion name.
 
 ghost use Rattle.std.specs.Prelude.{◌≡◌, IfOk, Some};
-ghost use Rattle.fixed_respell.specs.Words.{IsFormatWord};
+ghost use Rattle.fixed_respell.specs.FormatNames.{IsFormatName};
 
 use crate::options::{FROM, MODE, PLACES, POLICY, PRINT, RADIX, TARGET_MODE};
 use command_line::given::{Asked, Given, Refusal};
@@ -12,27 +12,36 @@ use fixed_command::{
     radix_named, spelling_named, target_mode_named,
 };
 use fixed_numeral::Radix;
-use fixed_respell::format_word;
+use fixed_respell::format_named;
 
 /// The format that a word names.
 pub fn format_of<'a>(word: &'a str) -> Asked<'a, Format>
-    ensures { IfOk result (λ f. IsFormatWord word.now f) }
+    ensures { IfOk result (λ f. IsFormatName word.now f) }
 {
-    match format_word(word.as_bytes()) {
+    match format_named(word.as_bytes()) {
         Some(format) => Ok(format),
         None => Err(Refusal::Word(
             word,
-            "is not a format: I or U, whole bits, F, fraction bits, together 8, 16, 32 or 64",
+            "is not a format: I or U, whole bits, F, fraction bits, 1 to 64 in all; or as Q15, UQ8.8",
         )),
     }
 }
 
-/// Whether a word has the shape of a format: I or U, and then digits and F. A file of such a name is written `./I8F8`.
+/// Whether all of some bytes, of which there are some, are digits or one of two others.
+fn are_counts(bytes: &[u8], one: u8, other: u8) -> bool {
+    !bytes.is_empty()
+        && bytes
+            .iter()
+            .all(|b| b.is_ascii_digit() || *b == one || *b == other)
+}
+
+/// Whether a word has the shape of a format: I or U, and then digits and F; or Q or UQ, and then digits and a point. A
+/// file of such a name is written `./I8F8`.
 fn is_like_format(word: &str) -> bool {
     match word.as_bytes() {
-        [b'I' | b'U', rest @ ..] => {
-            !rest.is_empty() && rest.iter().all(|b| b.is_ascii_digit() || *b == b'F')
-        }
+        [b'U' | b'u', b'Q' | b'q', rest @ ..] => are_counts(rest, b'.', b'.'),
+        [b'Q' | b'q', rest @ ..] => are_counts(rest, b'.', b'.'),
+        [b'I' | b'U' | b'i' | b'u', rest @ ..] => are_counts(rest, b'F', b'f'),
         _ => false,
     }
 }

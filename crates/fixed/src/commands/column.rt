@@ -72,8 +72,8 @@ pub const PAGE: Page = Page {
         KEEP,
     ],
     end: "A format is I (signed) or U (unsigned), its whole bits, F and its fraction bits,\n\
-          as in I16F16; the two numbers add up to 8, 16, 32 or 64. A number is\n\
-          rounded down from SOURCE to TARGET.\n\
+          as in I16F16, 1 to 64 bits in all; or as in Q15, Q8.8 and UQ8.8. A\n\
+          number is rounded down from SOURCE to TARGET, or by --target-mode.\n\
           \n\
           Example: fixed column price U16F16 --header <tariff.csv",
 };

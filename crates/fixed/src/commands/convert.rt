@@ -19,8 +19,8 @@ pub const PAGE: Page = Page {
     has_numerals: false,
     options: &[FROM, RADIX, POLICY, MODE, TARGET_MODE, PRINT, PLACES],
     end: "A format is I (signed) or U (unsigned), its whole bits, F and its fraction bits,\n\
-          as in I16F16; the two numbers add up to 8, 16, 32 or 64. A number is\n\
-          rounded down from SOURCE to TARGET, unless --target-mode says otherwise.\n\
+          as in I16F16, 1 to 64 bits in all; or as in Q15, Q8.8 and UQ8.8. A\n\
+          number is rounded down from SOURCE to TARGET, or by --target-mode.\n\
           \n\
           A word is decimal, or after 0x, 0o or 0b, or bare in the radix, of at most the\n\
           bits of SOURCE in two's complement; with a sign it is the number itself.\n\

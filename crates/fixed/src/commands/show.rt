@@ -29,7 +29,7 @@ pub const PAGE: Page = Page {
     has_numerals: true,
     options: &[RADIX, POLICY, MODE, FILE],
     end: "A format is I (signed) or U (unsigned), its whole bits, F and its fraction bits,\n\
-          as in I16F16; the two numbers add up to 8, 16, 32 or 64.\n\
+          as in I16F16, 1 to 64 bits in all; or as in Q15, Q8.8 and UQ8.8.\n\
           \n\
           Example: fixed show I16F16 3.14159 -1e-3",
 };
