@@ -1,4 +1,4 @@
-//! What is done with each input, one after another, and a question asked of each word.
+//! What is done with each input, one after another.
 
 use crate::commands::{column, fit};
 use command_line::device::{Failure, Unmarked, Writer};
