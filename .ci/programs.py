@@ -53,6 +53,7 @@ RUNS = {
         (["fit", "--width", "8", "--signed"], b"-0\n0.5\n", 0, b"I1F7\n"),
         (["fit", "--width", "8"], b"1\n255.49\n255.5\n", 1, b"none line 3\n"),
         (["fit", "--width", "32", "--radix", "16"], b"f.f\n", 0, b"U4F28\n"),
+        (["fit", "--width", "12", "--why"], b"0.5\n-3.2\n", 0, b"I3F9\nI2F10 line 2\n"),
         (["fit", "--width", "16", "--range", "--why", "--", "-3.2", "10"], b"", 0, b"I5F11\nI4F12 line 2\n"),
         (["fit", "--width", "8", "--range", "0", "255.5"], b"", 1, b"none line 2\n"),
         (["fit", "--width", "8"], b"1\nx\n", 1, b"error: line 2: invalid digit found in string\n"),
@@ -183,7 +184,7 @@ BAD_WORDS = {
         [b"columns", b"limit", b"0"], [b"columns", b"limit", b"4294967297"], [b"columns", b"--limit", b"5", b"limit", b"7"],
         [b"convert", b"U8F0", b"--mode", b"ceil", b"--mode", b"floor"], [b"format", b"U8F0\n\nU8F1"], [b"con\nvert"],
         [b"lines", b"--limit", b"05"], [b"lines", b"--limit", b"+5"], [b"column", b"01", b"I8F8"], [b"help", b"converts"],
-        [b"fit"], [b"fit", b"--width", b"9"], [b"fit", b"--width", b"8", b"--places", b"2"],
+        [b"fit"], [b"fit", b"--width", b"65"], [b"fit", b"--width", b"08"], [b"fit", b"--width", b"8", b"--places", b"2"],
         [b"fit", b"--width", b"8", b"--range", b"1"], [b"fit", b"--width", b"8", b"--range", b"1", b"2", b"3"],
         [b"convert", b"U8F0", b"--places", b"65"], [b"convert", b"U8F0", b"--places", b"01"],
         [b"convert", b"U8F0", b"--places", b"2", b"--print", b"bits"], [b"convert", b"--"],
@@ -527,7 +528,7 @@ def signals_compared(built):
             wanted = [str(max(-(2**frac), min(2**frac - 1, round(value * 2.0**frac)))) for value in values]
             tried += len(wanted)
             differing += sum(a != b for a, b in zip(shown, wanted)) + abs(len(shown) - len(wanted))
-        for width in (8, 16, 32, 64):
+        for width in (1, 8, 12, 16, 32, 64):
             words = [path, "fit", "--width", str(width), "--why"]
             shown = subprocess.run(words, input=given, stdout=subprocess.PIPE, check=False).stdout.decode()
             tried += 1
