@@ -326,13 +326,7 @@ pub fn read_literal_counted<L: Ledger>(
     ensures format { IfOk result (λ found. found.format ≡ format) }
 {
     match scan_lit(s, format.signed(), steps) {
-        Ok((radix, found)) => Ok(number_of(
-            &found,
-            radix,
-            format,
-            ReadMode::NearestEven,
-            steps,
-        )),
+        Ok((radix, found)) => Ok(number_of(&found, radix, format, ReadMode::NearestEven, steps)),
         Err(error) => Err(error),
     }
 }

@@ -56,7 +56,8 @@ fn read_literal_over<L: Ledger>(
     requires backed { 0 < L.parts }
     ensures literal { IsOk result ↔ IsLiteral format.signed s.now }
     ensures cause { IfErr result (λ kind. HasLiteralCause format.signed s.now kind) }
-    ensures reading { IfOk result (λ found. (p : Parts) → HasLiteral format.signed s.now p → IsReading NearestEven (literal_radix format.signed s.now) p found) }
+    ensures reading { IfOk result (λ found. (p : Parts) → HasLiteral format.signed s.now p
+        → IsReading NearestEven (literal_radix format.signed s.now) p found) }
     ensures format { IfOk result (λ found. found.format ≡ format) }
 {
     let mut steps: Steps<L> = Steps::new(blank);
@@ -74,7 +75,8 @@ fn read_literal_over<L: Ledger>(
 pub fn read_literal(s: &[u8], format: Format) -> Result<ReadNumber, ParseFixedError>
     ensures literal { IsOk result ↔ IsLiteral format.signed s.now }
     ensures cause { IfErr result (λ kind. HasLiteralCause format.signed s.now kind) }
-    ensures reading { IfOk result (λ found. (p : Parts) → HasLiteral format.signed s.now p → IsReading NearestEven (literal_radix format.signed s.now) p found) }
+    ensures reading { IfOk result (λ found. (p : Parts) → HasLiteral format.signed s.now p
+        → IsReading NearestEven (literal_radix format.signed s.now) p found) }
     ensures format { IfOk result (λ found. found.format ≡ format) }
 {
     read_literal_over::<Brand>(s, format, Blank::new(1))
