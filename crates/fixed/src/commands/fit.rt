@@ -22,8 +22,8 @@ const WIDTH: Row = Row {
     name: "width",
     letter: Some('w'),
     value: "W",
-    choices: &["8", "16", "32", "64"],
-    help: "The width of the format: 8, 16, 32 or 64 bits",
+    choices: &[],
+    help: "The width of the format in bits, from 1 to 64",
 };
 
 const SIGNED: Row = Row {
@@ -72,13 +72,14 @@ fn kind_of<'a>(given: &Given<'_, 'a>) -> Asked<'a, Format> {
         Some(word) => word,
         None => return Err(Refusal::Missing("--width W")),
     };
+    let is_plain = !word.starts_with('0') && !word.starts_with('+');
     let kind = match word.parse::<u32>() {
-        Ok(width) => Format::new(given.has(&SIGNED), width, 0),
-        Err(_) => None,
+        Ok(width) if is_plain => Format::new(given.has(&SIGNED), width, 0),
+        _ => None,
     };
     match kind {
         Some(kind) => Ok(kind),
-        None => Err(Refusal::Word(word, "is not a width: it is 8, 16, 32 or 64")),
+        None => Err(Refusal::Word(word, "is not a width: it is a number from 1 to 64")),
     }
 }
 
