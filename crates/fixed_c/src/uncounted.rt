@@ -6,8 +6,6 @@ ghost use Rattle.fixed_c.specs.Respell.{IsNotReached};
 ghost use Rattle.fixed_numeral.specs.Cause.{HasCause};
 ghost use Rattle.fixed_numeral.specs.Leading.{HasNoLeading, IsLeadingNumeral};
 ghost use Rattle.fixed_enclose.specs.Enclosure.{IsEnclosed, IsRefusal};
-ghost use Rattle.fixed_numeral.specs.Cause.{HasCause};
-ghost use Rattle.fixed_numeral.specs.Leading.{HasNoLeading, IsLeadingNumeral};
 ghost use Rattle.fixed_respell.specs.Answer.{IsAnswer};
 ghost use Rattle.fixed_respell.specs.Reached.{IsRespelled, is_signed, number_of};
 ghost use Rattle.fixed_write.specs.Texts.{IsShortestText};
@@ -149,29 +147,4 @@ pub fn answer_uncounted(line: &[u8]) -> Answer
     ensures { IsAnswer line.now result }
 {
     answer_over::<Brand>(line, Blank::new(1))
-}
-
-/// `leading_numeral` over a ledger that no other counter uses.
-fn leading_over<L: Ledger>(
-    text: &[u8],
-    radix: Radix,
-    blank: Blank,
-) -> Result<usize, ParseFixedError>
-    requires name { blank.name ≡ L.name }
-    requires parts { blank.parts ≡ L.parts }
-    requires backed { 0 < blank.parts }
-    ensures { MatchResult result
-        (λ n. IsLeadingNumeral radix text.now n)
-        (λ kind. HasNoLeading radix text.now × HasCause radix text.now kind) }
-{
-    leading_numeral(text, radix, &mut Steps::<L>::new(blank))
-}
-
-/// `leading_numeral`.
-pub fn leading_uncounted(text: &[u8], radix: Radix) -> Result<usize, ParseFixedError>
-    ensures { MatchResult result
-        (λ n. IsLeadingNumeral radix text.now n)
-        (λ kind. HasNoLeading radix text.now × HasCause radix text.now kind) }
-{
-    leading_over::<Brand>(text, radix, Blank::new(1))
 }
