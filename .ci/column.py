@@ -113,7 +113,7 @@ RUNS = (
 # Words after `column` that are refused, and what one line on standard error says of them.
 BAD_WORDS = (
     ([], b"COLUMNS"), (["1,", "U8F0"], b"'' is not a column"), (["1,x", "U8F0"], b"'x' is not a column"), (["3-2", "U8F0"], b"'3-2' is not a column"),
-    (["1-0", "U8F0"], b"'1-0' is not a column"), (["1"], b"SOURCE"), (["1", "U9F0"], b"U9F0"), (["1", "U8F0", "I9F0"], b"I9F0"),
+    (["1-0", "U8F0"], b"'1-0' is not a column"), (["1"], b"SOURCE"), (["1", "U65F0"], b"U65F0"), (["1", "U8F0", "I65F0"], b"I65F0"),
     (["0", "U8F0"], b"'0' is not a column"), (["x", "U8F0"], b"'x' is not a column"), (["99999999999999999999", "U8F0"], b"is not a column"),
     (["1", "U8F0", "--delimiter", ""], b"'' is not a delimiter"), (["1", "U8F0", "--delimiter", ";;"], b"';;' is not a delimiter"),
     (["1", "U8F0", "--delimiter", "\u00a7"], b"is not a delimiter"), (["1", "U8F0", "--delimiter", '"'], b"is not a delimiter"),

@@ -25,15 +25,21 @@ _fixed() {
   case $previous in
     --radix | -r) words='2 8 10 16' ;;
     --policy | -p) words='checked saturating wrapping' ;;
-    --mode | -m) words='nearest floor ceil zero' ;;
+    --mode | -m | --target-mode) words='nearest floor ceil zero' ;;
+    --from) words='text bits' ;;
+    --file)
+      mapfile -t COMPREPLY < <(compgen -f -- "$word")
+      return
+      ;;
     --print) words='text bits hex readmemh value all' ;;
     --width | -w) words='8 16 32 64' ;;
     --limit | --delimiter | -d | --places | --guard) return ;;
     *)
       case $command:$word in
-        convert:-*) words='--radix --policy --mode --print --places --help --version' ;;
-        column:-*) words='--radix --policy --mode --print --places --delimiter --all --header --keep --help --version' ;;
-        show:-*) words='--radix --policy --mode --help --version' ;;
+        convert:-*) words='--from --radix --policy --mode --target-mode --print --places --help --version' ;;
+        column:-*) words='--from --radix --policy --mode --target-mode --print --places --delimiter --all --header --keep --help --version' ;;
+        show:-*) words='--radix --policy --mode --file --help --version' ;;
+        bits:-*) words='--radix --file --help --version' ;;
         lines:-* | sort:-*) words='--limit --help --version' ;;
         fit:-*) words='--width --signed --why --range --radix --help --version' ;;
         constants:-*) words='--guard --help --version' ;;

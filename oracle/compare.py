@@ -26,6 +26,7 @@ PAIRS = (
     ("constants.py", "constants_tool", 10),
     ("columns.py", "columns_tool", 10),
     ("show.py", "fixed", 100),
+    ("convert.py", "fixed", 100),
     ("column.py", "fixed", 50),
 )
 

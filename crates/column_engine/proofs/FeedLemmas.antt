@@ -9,7 +9,7 @@ use Rattle.line_engine.specs.AnswerText.{AnswerText}
 use Rattle.line_engine.specs.Inner.Progress.{Flushes}
 use Rattle.column_engine.specs.Answers.{AnswersRow, AnswersRows, State, answers_text, needed, one_more}
 use Rattle.column_engine.specs.Gathered.{GathersFields, GathersPart}
-use Rattle.column_engine.specs.Feeding.{BeginsWith, FailsFeed, FeedsRows, IsLeft, IsStanding, IsTooLong, StopsAt}
+use Rattle.column_engine.specs.Feeding.{BeginsWith, FailsFeed, FeedsRows, IsLeft, IsStanding, StopsAt}
 use Rattle.column_engine.specs.Rows.{AreEnded, IsEnded, IsUnended, Row, ends_record, place_after, places_after, raw_fields, row_text, rows_text}
 use Rattle.column_engine.specs.Steps.{FailsRow, IsHeader, PassesRow, SameCounts, StopsRow}
 use Rattle.column_engine.specs.declared.columns.Range.{Range}

@@ -1,15 +1,14 @@
 -- The names of a header, and the columns that words mean.
-use Rattle.std.proofs.Common.{◌≡◌, ◌≢◌, ◌⊎◌, ◌<◌, ◌≤◌, ◌+◌, ℕ, zero, suc, List, [], ◌∷◌, ◌++◌, Bool, true, false, length, take, get_or, refl, sym, ap, ◌∙◌, inl, inr, ⊎_elim, arith, subst, set, add-one, take-suc, length-append, map}
+use Rattle.std.proofs.Common.{◌≡◌, ◌≢◌, ◌<◌, ◌≤◌, ◌+◌, ℕ, zero, suc, List, [], ◌∷◌, ◌++◌, Bool, true, false, length, take, get_or, refl, sym, ap, ◌∙◌, inl, inr, ⊎_elim, arith, subst, set, take-suc, length-append}
 use Rattle.std.proofs.lemmas.Bool.{cases_lt}
 use Rattle.std.proofs.lemmas.List.{get_or_append_left}
 use Rattle.std.proofs.Math.Seq.{get_or-append_seam, take-suc-set}
 use Rattle.line_engine.specs.Lines.{onto_first}
 use Rattle.column_engine.specs.Answers.{AnyMissing, AreFound, HasNoNamed, IsFirstNamed, IsFound, IsMissing}
-use Rattle.column_engine.specs.Rows.{content, ends_field, raw_fields, within_after}
+use Rattle.column_engine.specs.Rows.{ends_field, raw_fields, within_after}
 use Rattle.column_engine.specs.declared.columns.Column.{Column}
 use Rattle.column_engine.specs.declared.columns.Range.{Range}
 use Rattle.column_engine.specs.declared.place.Place.{Place}
-use Rattle.column_engine.specs.declared.place.Place.TheVariants.{Start}
 
 -- every record has a field
 onto_length : (b : ℕ) (fs : List (List ℕ)) → length (onto_first b fs) ≡ length fs

@@ -6,7 +6,7 @@ use Rattle.csv.specs.Writing.{default_writer, escaped}
 use Rattle.line_engine.specs.Lines.{onto_first}
 use Rattle.column_engine.specs.Rows.{IsUnended, content, ends_field, ends_record, is_dropped, place_after, places_after, raw_fields, within_after}
 use Rattle.column_engine.specs.declared.place.Place.{Place}
-use Rattle.column_engine.specs.declared.place.Place.TheVariants.{AfterQuote, Inside, Quoted, Start}
+use Rattle.column_engine.specs.declared.place.Place.TheVariants.{Inside, Quoted, Start}
 
 pub places_append : (d : ℕ) (place : Place) (xs ys : List ℕ) → places_after d place (xs ++ ys) ≡ places_after d (places_after d place xs) ys
 unfolding places_after

@@ -1,21 +1,19 @@
 -- What was taken and written by a run over a text, one chunk after another.
-use lib.Seq.{take-nil}
-use Rattle.std.proofs.Common.{◌≡◌, ◌<◌, ◌≤◌, ◌+◌, List, ℕ, suc, zero, [], ◌∷◌, ◌++◌, Bool, true, false, refl, sym, ap, ◌∙◌, append_assoc, append-nil, length, take, arith, subst, Option, length-append, length-take, inl, inr, ⊎_elim, get_or}
-use Rattle.std.proofs.KnownBytes.{Appends-trans, Appends-nil, Consumes-trans, Consumes-nil}
+use Rattle.std.proofs.Common.{◌≡◌, ◌<◌, ◌≤◌, List, ℕ, suc, zero, [], ◌∷◌, ◌++◌, Bool, true, false, refl, sym, ap, ◌∙◌, append_assoc, append-nil, length, take, arith, subst, Option, inl, inr, ⊎_elim, get_or}
+use Rattle.std.proofs.KnownBytes.{Appends-trans, Appends-nil, Consumes-trans}
 use Rattle.std.proofs.lemmas.Bool.{eqb-true}
 use Rattle.std.proofs.lemmas.Grind.{flat_map-append}
-use Rattle.std.specs.Io.KnownBytes.{Appends, Consumes, IsAtEnd, Keeps}
-use Rattle.std.specs.Prelude.{◌==◌, ◌≢◌, ◌⊎◌, Some, None}
+use Rattle.std.specs.Io.KnownBytes.{Appends, Consumes, IsAtEnd}
+use Rattle.std.specs.Prelude.{◌==◌, ◌≢◌, ◌⊎◌}
 use Rattle.csv.specs.Reading.{strip_bom}
 use Rattle.line_engine.specs.AnswerText.{AnswerText}
 use Rattle.line_engine.specs.Appended.{AppendsPrefix}
-use Rattle.line_engine.specs.Failures.{HasFailed}
 use Rattle.line_engine.specs.Inner.Progress.{Flushes}
-use Rattle.column_engine.specs.Answers.{AnswersRow, AnswersRows, State}
-use Rattle.column_engine.specs.Feeding.{BeginsWith, FailsFeed, FeedsRows, IsLeft, IsStanding, IsTooLong, StopsAt}
-use Rattle.column_engine.specs.Rows.{AreEnded, IsEnded, IsLast, IsUnended, Row, byte_order_mark, ends_record, place_after, places_after, row_text, rows_text}
-use Rattle.column_engine.specs.Run.{AnswersLast, Ends, HasFailures, IsEndless, IsNext, RefusesNext, RunsOn, RunsSoFar, RunsText, StopsText, Writes, WritesNext}
-use Rattle.column_engine.specs.Steps.{FailsRow, HasRisen, IsRowPart, IsUnanswered, PassesRow, SameCounts, StopsRow}
+use Rattle.column_engine.specs.Answers.{State}
+use Rattle.column_engine.specs.Feeding.{FailsFeed, FeedsRows, IsLeft, IsStanding, StopsAt}
+use Rattle.column_engine.specs.Rows.{IsLast, IsUnended, Row, byte_order_mark, ends_record, place_after, row_text, rows_text}
+use Rattle.column_engine.specs.Run.{Ends, HasFailures, IsEndless, RunsOn, RunsSoFar, RunsText, StopsText, Writes}
+use Rattle.column_engine.specs.Steps.{HasRisen, PassesRow, SameCounts, StopsRow}
 use Rattle.column_engine.specs.declared.columns.Column.{Column}
 use Rattle.column_engine.specs.declared.end.Stop.{Stop}
 use Rattle.column_engine.specs.declared.end.Stop.TheVariants.{Done, NoColumn, NoMemory, NoName, ReadFault, TooLong, Unclosed, WriteFault}
@@ -25,7 +23,7 @@ use Rattle.column_engine.specs.declared.run.TheConstants.{MAX_TEXT}
 use Rattle.column_engine.specs.Begin.{IsPartOfMark}
 use Rattle.column_engine.proofs.FeedLemmas.{ended_append, feeds_both, feeds_none, rows_append}
 use Rattle.column_engine.proofs.RowLemmas.{from_never}
-use Rattle.column_engine.proofs.GatherLemmas.{all_flushes, flushes_all, flushes_both, flushes_none, flushes_prefix, prefix_flushes}
+use Rattle.column_engine.proofs.GatherLemmas.{all_flushes, flushes_all, flushes_both, flushes_prefix, prefix_flushes}
 
 -- ---- what is written
 pub writes_all : (stop : Stop) (a b : Option (List ℕ)) (text : List ℕ) → Appends a b text → Writes stop a b text

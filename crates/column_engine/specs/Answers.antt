@@ -1,9 +1,8 @@
 -- What is written for the records of a text, some of whose columns are answered by a rule.
-use Rattle.std.specs.Prelude.{◌==◌, ◌&&◌, ◌||◌, ◌≡◌, ◌≢◌, ◌⊎◌, ◌<◌, ◌≤◌, ◌+◌, ◌-◌, ◌^◌, ◌++◌, ⊤, ℕ, suc, zero, List}
-use Rattle.std.specs.Prelude.{[], ◌∷◌, Bool, true, false, not, Option, Some, None, get_or, if◌then◌else◌, length, max}
+use Rattle.std.specs.Prelude.{◌==◌, ◌&&◌, ◌||◌, ◌≡◌, ◌≢◌, ◌⊎◌, ◌<◌, ◌≤◌, ◌+◌, ◌-◌, ◌^◌, ◌++◌, ⊤, ℕ, List}
+use Rattle.std.specs.Prelude.{[], ◌∷◌, Bool, true, false, not, Some, None, get_or, if◌then◌else◌, length, max}
 use Rattle.std.specs.Prelude.{min, nat_le, string_bytes}
 use Rattle.csv.specs.Writing.{default_writer, needs_quotes, quoted}
-use Rattle.csv.specs.declared.writer.WriterBuilder.{WriterBuilder}
 use Rattle.line_engine.specs.AnswerText.{AnswerText}
 use Rattle.column_engine.specs.Rows.{Row, content, field_texts, raw_fields, row_text}
 use Rattle.column_engine.specs.declared.columns.Column.{Column}

@@ -1,11 +1,11 @@
 -- What the next bytes of a text make of the records that were answered and of the bytes that are kept.
-use Rattle.std.specs.Prelude.{◌≡◌, ◌≢◌, ◌<◌, ◌+◌, ◌++◌, ℕ, Bool, List, [], length, take}
+use Rattle.std.specs.Prelude.{◌≡◌, ◌<◌, ◌+◌, ◌++◌, ℕ, Bool, List, [], length, take}
 use Rattle.std.specs.declared.option.Option.{Option}
 use Rattle.line_engine.specs.AnswerText.{AnswerText}
 use Rattle.line_engine.specs.Inner.Progress.{Flushes}
 use Rattle.column_engine.specs.Answers.{AnswersRows, State}
 use Rattle.column_engine.specs.Rows.{AreEnded, IsEnded, IsUnended, Row, places_after, row_text, rows_text}
-use Rattle.column_engine.specs.Steps.{SameCounts, StopsRow, IsUnanswered, IsRowPart}
+use Rattle.column_engine.specs.Steps.{SameCounts, IsUnanswered, IsRowPart}
 use Rattle.column_engine.specs.declared.columns.Column.{Column}
 use Rattle.column_engine.specs.declared.end.Stop.{Stop}
 use Rattle.column_engine.specs.declared.end.Stop.TheVariants.{Done, NoColumn, NoMemory, NoName, ReadFault, TooLong}

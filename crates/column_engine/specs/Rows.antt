@@ -1,6 +1,6 @@
 -- The records and fields of a text of CSV, by their places in it, with this byte between fields.
 use Rattle.std.specs.Prelude.{◌==◌, ◌||◌, ◌≡◌, ◌≢◌, ◌++◌, ⊤, ℕ, List, [], ◌∷◌, Bool, true, false, flat_map}
-use Rattle.std.specs.Prelude.{if◌then◌else◌, map, take}
+use Rattle.std.specs.Prelude.{if◌then◌else◌, map}
 use Rattle.line_engine.specs.Lines.{onto_first}
 use Rattle.column_engine.specs.declared.place.Place.{Place}
 use Rattle.column_engine.specs.declared.place.Place.TheVariants.{AfterQuote, Inside, Quoted, Start}

@@ -1,5 +1,5 @@
 -- What a run over a text leaves.
-use Rattle.std.specs.Prelude.{false, ◌≡◌, ◌≢◌, ◌⊎◌, ◌<◌, ◌≤◌, ◌+◌, ◌++◌, ⊤, ℕ, Bool, List, [], ◌∷◌, length, map, take}
+use Rattle.std.specs.Prelude.{false, ◌≡◌, ◌⊎◌, ◌≤◌, ◌++◌, ℕ, Bool, List, [], length, map}
 use Rattle.std.specs.Prelude.{Option, Some, None}
 use Rattle.std.specs.Io.KnownBytes.{Appends, Consumes, IsAtEnd}
 use Rattle.csv.specs.Reading.{strip_bom}
@@ -8,7 +8,7 @@ use Rattle.line_engine.specs.Appended.{AppendsPrefix}
 use Rattle.line_engine.specs.Failures.{HasFailed}
 use Rattle.column_engine.specs.Answers.{AnswersRow, AnswersRows, State}
 use Rattle.column_engine.specs.Feeding.{FeedsRows, IsTooLong}
-use Rattle.column_engine.specs.Rows.{AreEnded, IsEnded, IsLast, IsUnended, Row, byte_order_mark, places_after}
+use Rattle.column_engine.specs.Rows.{AreEnded, IsEnded, IsLast, IsUnended, Row, places_after}
 use Rattle.column_engine.specs.Rows.{row_text, rows_text}
 use Rattle.column_engine.specs.Steps.{IsRowPart, IsUnanswered, SameCounts}
 use Rattle.column_engine.specs.declared.columns.Column.{Column}

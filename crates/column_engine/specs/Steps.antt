@@ -1,21 +1,19 @@
 -- How far a text was answered, and why no further.
-use Rattle.std.specs.Prelude.{◌≡◌, ◌≢◌, ◌⊎◌, ◌<◌, ◌≤◌, ◌+◌, ◌++◌, ⊤, ℕ, Bool, true, false, List, [], length, take}
+use Rattle.std.specs.Prelude.{◌≡◌, ◌≢◌, ◌⊎◌, ◌<◌, ◌≤◌, ◌++◌, ℕ, Bool, true, false, List, [], length}
 use Rattle.std.specs.Prelude.{Result, OnOk, IfErr}
 use Rattle.std.specs.declared.option.Option.{Option}
 use Rattle.line_engine.specs.AnswerText.{AnswerText}
 use Rattle.line_engine.specs.Failures.{HasFailed}
 use Rattle.line_engine.specs.Inner.Progress.{Flushes}
-use Rattle.column_engine.specs.Answers.{AnswersRow, AnswersRows, AnyMissing, AreAnswers, AreFound, FieldAnswer, State}
+use Rattle.column_engine.specs.Answers.{AnswersRow, AnyMissing, AreAnswers, AreFound, FieldAnswer, State}
 use Rattle.column_engine.specs.Answers.{answers_text, needed}
-use Rattle.column_engine.specs.Rows.{AreEnded, IsEnded, IsUnended, Row, field_texts, places_after, raw_fields}
-use Rattle.column_engine.specs.Rows.{row_text, rows_text}
+use Rattle.column_engine.specs.Rows.{Row, field_texts, raw_fields}
 use Rattle.column_engine.specs.declared.columns.Column.{Column}
 use Rattle.column_engine.specs.declared.columns.Range.{Range}
 use Rattle.column_engine.specs.declared.end.Stop.{Stop}
 use Rattle.column_engine.specs.declared.end.Stop.TheVariants.{Done, NoColumn, NoMemory, NoName, ReadFault, TooLong}
 use Rattle.column_engine.specs.declared.end.Stop.TheVariants.{Unclosed, WriteFault}
-use Rattle.column_engine.specs.declared.place.Place.{Place}
-use Rattle.column_engine.specs.declared.place.Place.TheVariants.{Quoted, Start}
+use Rattle.column_engine.specs.declared.place.Place.TheVariants.{Start}
 use Rattle.column_engine.specs.declared.row.Progress.{Progress}
 
 -- at a failed write the count of failures rose, and else it is as it was

@@ -19,6 +19,3 @@ pub use columns::{Column, Range};
 pub use end::{ColumnEnd, Stop};
 pub use record_buffer::MAX_RECORD;
 pub use run::run_column;
-
-#[cfg(test)]
-mod tests;

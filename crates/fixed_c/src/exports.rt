@@ -43,10 +43,7 @@ pub extern "C" fn fixed_read_text(
         (λ n. Names radix policy mode (IsReadAs text.now (format_of format.is_signed format.width format.frac) n.bits n.overflowed))
         (ReadIsRefused text.now radix (format_of format.is_signed format.width format.frac) policy mode) out.old out.new result }
 {
-    hand_over(
-        read(given_text(text), radix, format, policy, mode),
-        out,
-    )
+    hand_over(read(given_text(text), radix, format, policy, mode), out)
 }
 
 /// The shortest decimal that reads back as the bits: `fixed_print_bits` of the header.
@@ -96,14 +93,7 @@ pub extern "C" fn fixed_respell_text(
         (RespellIsRefused text.now radix (format_of source.is_signed source.width source.frac) (format_of target.is_signed target.width target.frac) policy mode) out.old out.new result }
 {
     hand_over(
-        respelled(
-            given_text(text),
-            radix,
-            source,
-            target,
-            policy,
-            mode,
-        ),
+        respelled(given_text(text), radix, source, target, policy, mode),
         out,
     )
 }
@@ -136,10 +126,7 @@ pub extern "C" fn fixed_enclose_text(
         (λ ends. IsEnclosedBy text.now radix (format_of format.is_signed format.width format.frac) ends.lo ends.hi)
         (EncloseIsRefused text.now radix (format_of format.is_signed format.width format.frac)) out.old out.new result }
 {
-    hand_over(
-        ends_around(given_text(text), radix, format),
-        out,
-    )
+    hand_over(ends_around(given_text(text), radix, format), out)
 }
 
 /// The answer to a line: `fixed_answer_line` of the header.
@@ -333,10 +320,7 @@ pub extern "C" fn fixed_print_styled(
 pub extern "C" fn fixed_scan_text(text: &[u8], radix: u32, count: &mut usize) -> u32
     ensures { EndsWith (IsLeadingIn text.now radix) (ScanIsRefused text.now radix) count.old count.new result }
 {
-    hand_over(
-        leading::<Brand>(given_text(text), radix, Blank::new(1)),
-        count,
-    )
+    hand_over(leading(given_text(text), radix), count)
 }
 
 /// The layout of what the header declares: `fixed_abi` of the header.

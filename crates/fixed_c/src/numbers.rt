@@ -120,11 +120,7 @@ pub fn order_by_value(
 }
 
 /// The two numbers of a format between which the value of a text lies.
-pub fn ends_around(
-    text: &[u8],
-    radix: u32,
-    format: FixedFormat,
-) -> Result<FixedEnclosure, Refusal>
+pub fn ends_around(text: &[u8], radix: u32, format: FixedFormat) -> Result<FixedEnclosure, Refusal>
     ensures { MatchResult result
         (λ ends. IsEnclosedBy text.now radix (format_of format.is_signed format.width format.frac) ends.lo ends.hi)
         (EncloseIsRefused text.now radix (format_of format.is_signed format.width format.frac)) }

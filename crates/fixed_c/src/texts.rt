@@ -29,10 +29,7 @@ pub fn put_text(text: &[u8], out: &mut [u8], len: &mut usize) -> u32
 }
 
 /// The shortest decimal that reads back as bits of a format.
-pub fn shortest_of(
-    bits: i64,
-    format: FixedFormat,
-) -> Result<ShortText, Refusal>
+pub fn shortest_of(bits: i64, format: FixedFormat) -> Result<ShortText, Refusal>
     ensures { MatchResult result
         (IsPrinted (format_of format.is_signed format.width format.frac) bits)
         (PrintIsRefused (format_of format.is_signed format.width format.frac) bits) }
@@ -43,12 +40,7 @@ pub fn shortest_of(
 }
 
 /// Hands over the shortest decimal that reads back as bits of a format.
-pub fn print_bits(
-    bits: i64,
-    format: FixedFormat,
-    out: &mut [u8],
-    len: &mut usize,
-) -> u32
+pub fn print_bits(bits: i64, format: FixedFormat, out: &mut [u8], len: &mut usize) -> u32
     ensures { TextEnds
         (IsPrinted (format_of format.is_signed format.width format.frac) bits)
         (PrintIsRefused (format_of format.is_signed format.width format.frac) bits) out.old out.new len.old len.new result }
@@ -94,12 +86,7 @@ pub fn print_places(
 }
 
 /// Hands over the answer to a line, and whether it names a fault.
-pub fn answer_line(
-    line: &[u8],
-    out: &mut [u8],
-    len: &mut usize,
-    is_fault: &mut u32,
-) -> u32
+pub fn answer_line(line: &[u8], out: &mut [u8], len: &mut usize, is_fault: &mut u32) -> u32
     ensures { IsAnswered line.now out.old out.new len.new is_fault.new result }
 {
     let answer = answer_uncounted(line);

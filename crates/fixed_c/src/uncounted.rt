@@ -1,8 +1,10 @@
 //! The calls of the crates below that count their steps, each with a counter of its own.
 
-ghost use Rattle.std.specs.Prelude.{◌≡◌, ◌<◌, ◌≤◌, IfErr, IfOk};
+ghost use Rattle.std.specs.Prelude.{◌≡◌, ◌<◌, ◌≤◌, IfErr, IfOk, MatchResult};
 ghost use Rattle.fixed_bits.specs.Ranges.{IsWide};
 ghost use Rattle.fixed_c.specs.Respell.{IsNotReached};
+ghost use Rattle.fixed_numeral.specs.Cause.{HasCause};
+ghost use Rattle.fixed_numeral.specs.Leading.{HasNoLeading, IsLeadingNumeral};
 ghost use Rattle.fixed_enclose.specs.Enclosure.{IsEnclosed, IsRefusal};
 ghost use Rattle.fixed_respell.specs.Answer.{IsAnswer};
 ghost use Rattle.fixed_respell.specs.Reached.{IsRespelled, is_signed, number_of};
@@ -10,12 +12,37 @@ ghost use Rattle.fixed_write.specs.Texts.{IsShortestText};
 
 use fixed_bits::{Format, Policy, ReadMode};
 use fixed_enclose::{Enclosure, enclose};
-use fixed_numeral::{ParseFixedError, Radix};
+use fixed_numeral::{ParseFixedError, Radix, leading_numeral};
 use fixed_respell::{Answer, Respelled, answer, respell_mode};
 use fixed_steps::Steps;
 use fixed_write::{ShortText, shortest};
 use std::marker::Brand;
 use std::sync::ledger::{Blank, Ledger};
+
+/// `leading_numeral` over a ledger that no other counter uses.
+fn leading_over<L: Ledger>(
+    text: &[u8],
+    radix: Radix,
+    blank: Blank,
+) -> Result<usize, ParseFixedError>
+    requires name { blank.name ≡ L.name }
+    requires parts { blank.parts ≡ L.parts }
+    requires backed { 0 < blank.parts }
+    ensures { MatchResult result
+        (IsLeadingNumeral radix text.now)
+        (λ kind. HasNoLeading radix text.now × HasCause radix text.now kind) }
+{
+    leading_numeral(text, radix, &mut Steps::<L>::new(blank))
+}
+
+/// `leading_numeral`.
+pub fn leading_uncounted(text: &[u8], radix: Radix) -> Result<usize, ParseFixedError>
+    ensures { MatchResult result
+        (IsLeadingNumeral radix text.now)
+        (λ kind. HasNoLeading radix text.now × HasCause radix text.now kind) }
+{
+    leading_over::<Brand>(text, radix, Blank::new(1))
+}
 
 /// `enclose` over a ledger that no other counter uses.
 fn enclose_over<L: Ledger>(
@@ -58,7 +85,8 @@ fn respell_over<L: Ledger>(
     requires name { blank.name ≡ L.name }
     requires parts { blank.parts ≡ L.parts }
     requires backed { 0 < blank.parts }
-    ensures reached { IfOk result (λ s. IsRespelled mode radix text.now policy source target (number_of s.bits) s.overflowed) }
+    ensures reached { IfOk result
+        (λ s. IsRespelled mode radix text.now policy source target (number_of s.bits) s.overflowed) }
     ensures sign { IfOk result (λ s. is_signed s.bits ≡ target.signed) }
     ensures refused { IfErr result (λ kind. IsNotReached text.now source target kind radix policy mode) }
 {
@@ -75,7 +103,8 @@ pub fn respell_uncounted(
     policy: Policy,
     mode: ReadMode,
 ) -> Result<Respelled, ParseFixedError>
-    ensures reached { IfOk result (λ s. IsRespelled mode radix text.now policy source target (number_of s.bits) s.overflowed) }
+    ensures reached { IfOk result
+        (λ s. IsRespelled mode radix text.now policy source target (number_of s.bits) s.overflowed) }
     ensures sign { IfOk result (λ s. is_signed s.bits ≡ target.signed) }
     ensures refused { IfErr result (λ kind. IsNotReached text.now source target kind radix policy mode) }
 {

@@ -34,7 +34,7 @@ IsFormatAnswer word block = IsNamedFormat word block ⊎ IsNoFormat word block
 -- the block that answers a question about a word
 abbrev pub IsBlock : Question → List ℕ → AnswerText → Type 0
 IsBlock (Show radix format policy mode) word block = IsShowBlock mode radix word format policy block.fault block.text
-IsBlock (Bits format) word block = IsBitsBlock format word block.fault block.text
+IsBlock (Bits radix format) word block = IsBitsBlock radix format word block.fault block.text
 IsBlock Format word block = IsFormatAnswer word block
 
 -- what is written for these blocks

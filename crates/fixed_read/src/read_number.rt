@@ -244,7 +244,7 @@ fn read_apart<L: Ledger>(
     requires place { from ≤ length text.now }
     ensures reading { IsReadOrRefused radix (drop from text.now) (IsReading mode radix) result }
     ensures format { IfOk result (λ found. found.format ≡ format) }
-    ensures cost { steps.new ≤ steps.old + 3 * length (drop from text.now) + 8 * format.width + 64 }
+    ensures cost { steps.new ≤ steps.old + 3 * length (drop from text.now) + 119 }
 {
     if radix != Radix::Dec {
         if let Some(found) = read_short(text, from, radix, format, mode, steps) {
@@ -268,7 +268,7 @@ fn copy_apart<L: Ledger>(
     requires place { from ≤ length text.now }
     ensures reading { IsReadOrRefused radix (drop from text.now) (IsReading mode radix) result }
     ensures format { IfOk result (λ found. found.format ≡ format) }
-    ensures cost { steps.new ≤ steps.old + 3 * length (drop from text.now) + 8 * format.width + 64 }
+    ensures cost { steps.new ≤ steps.old + 3 * length (drop from text.now) + 119 }
 {
     match &read_apart(text, from, radix, format, mode, steps) {
         Ok(found) => Ok(*found),

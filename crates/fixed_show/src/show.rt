@@ -23,9 +23,11 @@ use text_buffer::TextBuffer;
 
 /// The bits that a numeral is read as, and whether the read number was out of the format's range.
 #[derive(Drop)]
-struct Shown {
-    bits: i128,
-    overflowed: bool,
+pub struct Shown {
+    /// The bits.
+    pub bits: i128,
+    /// Whether the read number was out of range.
+    pub overflowed: bool,
 }
 
 /// Reads a numeral into a format.
@@ -33,7 +35,7 @@ struct Shown {
 /// # Errors
 ///
 /// Other bytes are refused with the kind of their cause, and under `Checked` a read number out of range as `Overflow`.
-fn read_shown<L: Ledger>(
+pub fn read_shown<L: Ledger>(
     text: &[u8],
     radix: Radix,
     format: Format,

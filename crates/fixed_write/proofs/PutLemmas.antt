@@ -51,17 +51,19 @@ pub laid_length : (fill prefix digits tail : List ℕ) (before inner zeros after
     → length (laid_out fill before prefix inner (body_text digits zeros tail) after)
     ≡ (before + after) * length fill + length prefix + inner + length digits + zeros + length tail
 laid_length fill prefix digits tail before inner zeros after =
-    omega (arith,
-    length-append (repeat before fill) (prefix ++ (replicate inner 48 ++ (body_text digits zeros tail ++ repeat after fill))),
-    length-append prefix (replicate inner 48 ++ (body_text digits zeros tail ++ repeat after fill)),
-    length-append (replicate inner 48) (body_text digits zeros tail ++ repeat after fill),
-    length-append (body_text digits zeros tail) (repeat after fill),
-    length-append digits (replicate zeros 48 ++ tail),
-    length-append (replicate zeros 48) tail,
-    length-replicate {A = ℕ} inner 48,
-    length-replicate {A = ℕ} zeros 48,
-    repeat_length before fill,
-    repeat_length after fill)
+    omega (
+      arith,
+      length-append (repeat before fill) (prefix ++ (replicate inner 48 ++ (body_text digits zeros tail ++ repeat after fill))),
+      length-append prefix (replicate inner 48 ++ (body_text digits zeros tail ++ repeat after fill)),
+      length-append (replicate inner 48) (body_text digits zeros tail ++ repeat after fill),
+      length-append (body_text digits zeros tail) (repeat after fill),
+      length-append digits (replicate zeros 48 ++ tail),
+      length-append (replicate zeros 48) tail,
+      length-replicate {A = ℕ} inner 48,
+      length-replicate {A = ℕ} zeros 48,
+      repeat_length before fill,
+      repeat_length after fill,
+    )
 
 -- the parts of a text, put one after another
 pub put_laid : (fill prefix digits tail : List ℕ) (before inner zeros after : ℕ) (o o1 o2 o3 o4 o5 o6 o7 : List ℕ) (a1 a2 a3 a4 a5 a6 a7 : ℕ)

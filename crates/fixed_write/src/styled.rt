@@ -74,7 +74,13 @@ fn push_point_body(out: &mut Body, magnitude: u64, frac: u32, style: &Style) -> 
 }
 
 /// Appends the body of a number, and the exponent to a tail of its own, and answers how many zeros are between them.
-pub(crate) fn push_body(out: &mut Body, tail: &mut Tail, magnitude: u64, frac: u32, style: &Style) -> usize
+pub(crate) fn push_body(
+    out: &mut Body,
+    tail: &mut Tail,
+    magnitude: u64,
+    frac: u32,
+    style: &Style,
+) -> usize
     requires empty { out.old ≡ [] }
     requires no_tail { tail.old ≡ [] }
     requires frac { frac ≤ 64 }

@@ -1,7 +1,7 @@
 //! `fixed column`: columns of CSV are converted.
 
 use crate::inputs::{Job, run_inputs};
-use crate::options::{MODE, PLACES, POLICY, PRINT, RADIX, SOURCE, TARGET};
+use crate::options::{FROM, MODE, PLACES, POLICY, PRINT, RADIX, SOURCE, TARGET, TARGET_MODE};
 use crate::settings::conversion;
 use column_engine::{Column, ColumnEnd, Range, Stop};
 use command_line::device::Failure;
@@ -58,10 +58,22 @@ pub const PAGE: Page = Page {
     usage: "fixed column [OPTIONS] COLUMNS SOURCE [TARGET] [FILE]...",
     operands: &[COLUMN, SOURCE, TARGET],
     has_numerals: false,
-    options: &[RADIX, POLICY, MODE, PRINT, PLACES, DELIMITER, ALL, HEADER, KEEP],
+    options: &[
+        FROM,
+        RADIX,
+        POLICY,
+        MODE,
+        TARGET_MODE,
+        PRINT,
+        PLACES,
+        DELIMITER,
+        ALL,
+        HEADER,
+        KEEP,
+    ],
     end: "A format is I (signed) or U (unsigned), its whole bits, F and its fraction bits,\n\
-          as in I16F16; the two numbers add up to 8, 16, 32 or 64. A number is\n\
-          rounded down from SOURCE to TARGET.\n\
+          as in I16F16, 1 to 64 bits in all; or as in Q15, Q8.8 and UQ8.8. A\n\
+          number is rounded down from SOURCE to TARGET, or by --target-mode.\n\
           \n\
           Example: fixed column price U16F16 --header <tariff.csv",
 };

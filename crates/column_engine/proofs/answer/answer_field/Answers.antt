@@ -1,4 +1,4 @@
-use Rattle.std.proofs.Common.{[], ◌≡◌, ◌++◌, List, ℕ, Bool, true, false, refl, sym, ◌∙◌, subst}
+use Rattle.std.proofs.Common.{◌++◌, true, false, sym, ◌∙◌, subst}
 use Rattle.line_engine.specs.Inner.Progress.{Flushes}
 use Rattle.column_engine.specs.Answers.{IsAnswer, before_field, is_asked}
 use Rattle.column_engine.proofs.GatherLemmas.{field_asked, field_unasked, on_err}

@@ -1,6 +1,5 @@
-use Rattle.std.proofs.Common.{[], ◌≡◌, ◌≤◌, ◌<◌, ◌+◌, ◌-◌, ◌++◌, ◌∷◌, List, ℕ, true, false, refl, length, arith, sym, ap, ◌∙◌, append_assoc, length-append, take, drop, subst}
+use Rattle.std.proofs.Common.{[], ◌≡◌, ◌<◌, ◌+◌, ◌-◌, ◌++◌, ◌∷◌, refl, length, arith, sym, ap, ◌∙◌, length-append, take, drop}
 use Rattle.std.proofs.lemmas.List.{take_all}
-use Rattle.column_engine.specs.Gathered.{GathersFields}
 use Rattle.column_engine.specs.Rows.{raw_fields}
 use Rattle.column_engine.specs.declared.place.Place.TheVariants.{Start}
 use Rattle.column_engine.proofs.GatherLemmas.{fields_none, fields_one, on_err, part_one}

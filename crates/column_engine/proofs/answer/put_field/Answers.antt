@@ -1,4 +1,4 @@
-use Rattle.std.proofs.Common.{[], ◌≡◌, ◌++◌, ◌∷◌, arith, List, ℕ, false}
+use Rattle.std.proofs.Common.{◌≡◌, arith, List, ℕ, false}
 use Rattle.std.specs.Prelude.{◌==◌}
 use Rattle.std.proofs.lemmas.Result.{on_ok_weaker, on_err_weaker}
 use Rattle.line_engine.specs.Inner.Progress.{Flushes}

@@ -1,5 +1,4 @@
-use Rattle.std.proofs.Common.{◌≡◌, ◌++◌, ◌∷◌, [], ap, sym, ◌∙◌, take}
-use Rattle.column_engine.specs.Rows.{byte_order_mark}
+use Rattle.std.proofs.Common.{◌++◌, ◌∷◌, [], ap, ◌∙◌}
 use Rattle.column_engine.proofs.RunLemmas.{other_mark}
 use Rattle.column_engine.proofs.begin.read_start.Goals as goal
 

@@ -1,4 +1,4 @@
-use Rattle.std.proofs.Common.{◌≡◌, length, sym, ◌∙◌, ap, arith, drop, ◌≤◌, refl, true, false, add-one, drop-cons, get_or, ◌<◌, ◌+◌, List, ℕ, suc}
+use Rattle.std.proofs.Common.{◌≡◌, length, sym, ◌∙◌, ap, arith, drop, ◌≤◌, refl, true, false, drop-cons, get_or, ◌<◌, ◌+◌, List, ℕ, suc}
 use Rattle.std.proofs.lemmas.List.{drop_all}
 use Rattle.column_engine.specs.Answers.{is_asked, is_within}
 use Rattle.column_engine.specs.declared.columns.Range.{Range}

@@ -1,4 +1,4 @@
-use Rattle.std.proofs.Common.{◌≡◌, length, sym, ◌∙◌, ap, arith, drop, ◌≤◌, refl, add-one, drop-cons, get_or, ◌<◌, ◌+◌, List, ℕ, max, suc}
+use Rattle.std.proofs.Common.{◌≡◌, length, sym, ◌∙◌, ap, arith, drop, ◌≤◌, drop-cons, get_or, ◌<◌, ◌+◌, List, ℕ, max, suc}
 use Rattle.std.proofs.lemmas.List.{drop_all}
 use Rattle.column_engine.specs.Answers.{needed, needed_for}
 use Rattle.column_engine.specs.declared.columns.Range.{Range}

@@ -1,9 +1,9 @@
-use Rattle.std.proofs.Common.{◌≡◌, ◌≤◌, ◌<◌, ◌+◌, ◌-◌, ◌++◌, ◌∷◌, [], length, arith, ap, subst, sym, ◌∙◌, refl, take, drop, get_or}
-use Rattle.column_engine.specs.Feeding.{BeginsWith, FeedsRows}
+use Rattle.std.proofs.Common.{◌+◌, ◌-◌, ◌++◌, length, arith, ap, subst, sym, ◌∙◌, refl, take, drop}
+use Rattle.column_engine.specs.Feeding.{FeedsRows}
 use Rattle.column_engine.specs.Rows.{Row}
 use Rattle.column_engine.specs.Steps.{state_of}
 use Rattle.column_engine.specs.declared.record_buffer.TheConstants.{MAX_RECORD}
-use Rattle.column_engine.proofs.FeedLemmas.{EndsAt, begins_with, ends_at, fails_long, fails_row, feeds_none, feeds_row, long_ended, long_standing, piece_one, standing_more, standing_start}
+use Rattle.column_engine.proofs.FeedLemmas.{begins_with, ends_at, fails_long, fails_row, feeds_none, feeds_row, long_ended, long_standing, piece_one, standing_more, standing_start}
 use Rattle.column_engine.proofs.RowLemmas.{rest_is}
 use Rattle.column_engine.proofs.cutter.feed.Goals as goal
 

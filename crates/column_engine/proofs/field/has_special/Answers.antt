@@ -1,4 +1,4 @@
-use Rattle.std.proofs.Common.{◌≡◌, length, sym, ◌∙◌, ap, arith, drop, suc, ◌≤◌, refl, true, false, add-one, drop-cons, get_or, ◌<◌, ◌+◌, List, ℕ}
+use Rattle.std.proofs.Common.{◌≡◌, length, sym, ◌∙◌, ap, arith, drop, ◌≤◌, refl, true, false, add-one, drop-cons, get_or, ◌<◌, ◌+◌, List, ℕ}
 use Rattle.std.proofs.lemmas.List.{drop_all}
 use Rattle.csv.specs.Writing.{default_writer, needs_byte, needs_quotes}
 use Rattle.column_engine.proofs.field.has_special.Goals as goal

@@ -1,4 +1,4 @@
-use Rattle.std.proofs.Common.{◌≡◌, ◌≤◌, ◌++◌, ◌∷◌, [], length, sym, ◌∙◌, ap, arith, rules, refl, append_assoc}
+use Rattle.std.proofs.Common.{◌++◌, ◌∷◌, [], sym, ◌∙◌, ap, arith, append_assoc}
 use Rattle.csv.specs.Writing.{default_writer, escaped}
 use Rattle.column_engine.proofs.RowLemmas.{escaped_last, escaped_more}
 use Rattle.column_engine.proofs.field.push_quoted.Goals as goal

@@ -1,4 +1,4 @@
-use Rattle.std.proofs.Common.{◌≡◌, ◌≤◌, length, sym, ◌∙◌, ap, arith, rules, refl}
+use Rattle.std.proofs.Common.{arith}
 use Rattle.column_engine.proofs.RowLemmas.{content_last, content_more}
 use Rattle.column_engine.proofs.field.write_content.Goals as goal
 

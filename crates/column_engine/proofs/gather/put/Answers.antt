@@ -1,4 +1,3 @@
-use Rattle.std.proofs.Common.{[], ◌≡◌}
 use Rattle.std.proofs.lemmas.Result.{on_ok_weaker, on_err_weaker}
 use Rattle.std.specs.Io.KnownBytes.{Appends}
 use Rattle.line_engine.specs.Output.{AppendsPrefix}

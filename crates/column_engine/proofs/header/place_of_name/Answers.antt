@@ -1,4 +1,4 @@
-use Rattle.std.proofs.Common.{[], ◌≡◌, ◌≢◌, ◌≤◌, ◌<◌, ◌+◌, ◌-◌, ◌++◌, ◌∷◌, List, ℕ, true, false, refl, length, arith, sym, ap, ◌∙◌, length-append, take, drop, map, subst}
+use Rattle.std.proofs.Common.{[], ◌≡◌, ◌≢◌, ◌<◌, ◌+◌, ◌-◌, ◌++◌, ◌∷◌, true, false, length, arith, sym, ap, ◌∙◌, length-append, take, drop, map, subst}
 use Rattle.std.proofs.lemmas.List.{take_all}
 use Rattle.column_engine.specs.Answers.{HasNoNamed}
 use Rattle.column_engine.specs.Rows.{content, raw_fields}

@@ -1,7 +1,6 @@
-use Rattle.std.proofs.Common.{◌≡◌, length, sym, ◌∙◌, arith, rules}
-use Rattle.column_engine.proofs.RowLemmas.{fields_begin, fields_end, fields_last, fields_more, onto}
+use Rattle.std.proofs.Common.{sym, ◌∙◌, arith}
+use Rattle.column_engine.proofs.RowLemmas.{fields_begin, fields_end, fields_last, fields_more}
 use Rattle.column_engine.proofs.place.field_end.Goals as goal
-use Rattle.column_engine.specs.declared.place.Place.TheVariants.{Start}
 
 pub bytes-init : goal.bytes-init
 bytes-init c = fields_begin c.args.delimiter c.args.body.now

@@ -1,4 +1,4 @@
-use Rattle.std.proofs.Common.{◌≡◌, length, sym, ◌∙◌, ap, arith, rules, take, subst, ◌≤◌}
+use Rattle.std.proofs.Common.{length, sym, ◌∙◌, ap, arith, subst, ◌≤◌}
 use Rattle.std.proofs.lemmas.List.{take_all}
 use Rattle.column_engine.specs.Rows.{IsUnended, places_after}
 use Rattle.column_engine.proofs.RowLemmas.{places_more, places_none, unended_more, unended_none}

@@ -1,5 +1,4 @@
-use Rattle.std.proofs.Common.{◌≡◌, ◌≤◌, length, arith, ap, subst}
-use Rattle.line_engine.specs.Inner.Progress.{Flushes}
+use Rattle.std.proofs.Common.{◌≤◌, length, arith, ap, subst}
 use Rattle.column_engine.specs.Answers.{needed}
 use Rattle.column_engine.specs.Gathered.{GathersFields}
 use Rattle.column_engine.specs.Rows.{raw_fields}

@@ -1,4 +1,4 @@
-use Rattle.std.proofs.Common.{◌≡◌, ◌++◌, length, sym, ◌∙◌, false}
+use Rattle.std.proofs.Common.{◌++◌, sym, ◌∙◌, false}
 use Rattle.column_engine.specs.Answers.{one_more}
 use Rattle.column_engine.specs.Steps.{state_of}
 use Rattle.column_engine.proofs.FeedLemmas.{fails_whole, nil_of, row_empty, row_header, some_of}

@@ -1,4 +1,4 @@
-use Rattle.std.proofs.Common.{◌≡◌, ◌<◌, ◌+◌, length, arith}
+use Rattle.std.proofs.Common.{◌<◌, length, arith}
 use Rattle.std.proofs.lemmas.Grind.{common_steps}
 use Rattle.column_engine.specs.Rows.{field_texts}
 use Rattle.column_engine.proofs.HeaderLemmas.{found_more, missing_at}

@@ -1,5 +1,4 @@
-use Rattle.std.proofs.Common.{◌≡◌, ◌<◌, ◌+◌, length, arith}
-use Rattle.column_engine.specs.Rows.{raw_fields}
+use Rattle.std.proofs.Common.{arith}
 use Rattle.column_engine.specs.declared.place.Place.TheVariants.{Start}
 use Rattle.column_engine.proofs.HeaderLemmas.{fields_some}
 use Rattle.column_engine.proofs.row.lacking.Goals as goal

@@ -1,4 +1,4 @@
-use Rattle.std.proofs.Common.{◌≡◌, ◌++◌, ◌<◌, ◌≤◌, ◌+◌, [], sym, ap, subst, ◌∙◌, take, length, arith, rules, inl, inr, length-append, length-take}
+use Rattle.std.proofs.Common.{◌≡◌, ◌<◌, [], ap, ◌∙◌, take, length, arith, rules, inl, inr, length-append, length-take}
 use Rattle.std.proofs.lemmas.Grind.{common_steps}
 use Rattle.std.specs.Io.KnownBytes.{IsAtEnd}
 use Rattle.column_engine.specs.Steps.{state_of}

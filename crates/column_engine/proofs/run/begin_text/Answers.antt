@@ -1,4 +1,4 @@
-use Rattle.std.proofs.Common.{◌≡◌, ◌++◌, [], sym, subst, ◌∙◌}
+use Rattle.std.proofs.Common.{subst}
 use Rattle.column_engine.specs.Begin.{Begins}
 use Rattle.column_engine.specs.Steps.{state_of}
 use Rattle.column_engine.proofs.FeedLemmas.{standing_start}

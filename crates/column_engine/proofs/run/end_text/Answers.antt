@@ -1,7 +1,5 @@
-use Rattle.std.proofs.Common.{◌≡◌, [], List, ℕ, IsTrue, subst, sym, ◌∙◌}
-use Rattle.std.specs.Prelude.{◌≢◌}
+use Rattle.std.proofs.Common.{[], subst, ◌∙◌}
 use Rattle.line_engine.specs.Failures.{HasFailed}
-use Rattle.column_engine.specs.Rows.{Row}
 use Rattle.column_engine.specs.Steps.{PassesRow, StopsRow, state_of}
 use Rattle.column_engine.proofs.RunLemmas.{is_last, not_both, row_unread, stops_cut, stops_done, stops_last, stops_none}
 use Rattle.column_engine.proofs.run.end_text.Goals as goal

@@ -1,4 +1,4 @@
-use Rattle.std.proofs.Common.{◌≡◌, sym, subst, inr}
+use Rattle.std.proofs.Common.{sym, subst, inr}
 use Rattle.column_engine.specs.Run.{HasRun, counts_of, first_state}
 use Rattle.column_engine.specs.Steps.{state_of}
 use Rattle.column_engine.proofs.RunLemmas.{run_counts}

@@ -1,4 +1,4 @@
-use Rattle.std.proofs.Common.{◌≡◌, ◌++◌, [], List, ℕ, Option, subst}
+use Rattle.std.proofs.Common.{◌++◌, subst}
 use Rattle.column_engine.specs.Feeding.{FailsFeed, FeedsRows}
 use Rattle.column_engine.specs.Steps.{state_of}
 use Rattle.column_engine.proofs.RunLemmas.{feeds_unwritten, stops_feed, stops_unread}
