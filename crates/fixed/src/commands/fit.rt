@@ -74,7 +74,7 @@ fn kind_of<'a>(given: &Given<'_, 'a>) -> Asked<'a, Format> {
     };
     let is_plain = !word.starts_with('0') && !word.starts_with('+');
     let kind = match word.parse::<u32>() {
-        Ok(width) if is_plain => Format::new(given.has(&SIGNED), width, 0),
+        Ok(width) if is_plain => Format::of_any_width(given.has(&SIGNED), width, 0),
         _ => None,
     };
     match kind {
