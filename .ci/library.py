@@ -216,6 +216,7 @@ def main():
             check_symbols(library, shared)
             check_c(folder, library, program, given.lines)
             print(run([sys.executable, f"{TOP}/oracle/library.py", shared, "--count", str(given.calls)]), end="", flush=True)
+            print(run([sys.executable, f"{TOP}/oracle/widths.py", shared]), end="", flush=True)
             check_others(folder, library, shared)
             check_processors(folder, shared)
     except Failed as why:

@@ -118,7 +118,7 @@ def helps(built):
         if name and not re.search(rf"^\.Cm {name}$", page, re.M):
             yield f"man/fixed.1 does not name the command {name}"
         yield from (f"completion/{file} does not name the command {name}" for file, it in completions.items() if not re.search(rf"\b{name}\b", it))
-        for option in set(re.findall(r"--([a-z]+)", text)) - {"help", "version"}:
+        for option in set(re.findall(r"--([a-z][a-z-]*)", text)) - {"help", "version"}:
             if f"Fl -{option}" not in page:
                 yield f"man/fixed.1 does not name the option --{option}"
             yield from (f"completion/{file} does not name the option --{option}" for file, it in completions.items()

@@ -6,6 +6,7 @@
 The proofs speak of values; what a process gets and gives is tried here. A program that is not built is named and passed over.
 """
 import argparse
+import math
 import os
 import random as random_module
 import re
@@ -15,12 +16,14 @@ import signal
 import subprocess
 import sys
 import tempfile
+from decimal import Decimal
 from fractions import Fraction
 
 TOP = os.path.dirname(os.path.dirname(os.path.abspath(__file__)))
 sys.path.insert(0, f"{TOP}/oracle")
 
 from compare import program  # noqa: E402
+from fit import answer as fit_answer  # noqa: E402
 
 USAGE = {
     "fixed_tool": b"usage: fixed_tool [limit N | self N]\n",
@@ -44,6 +47,16 @@ RUNS = {
         (["least"], b"0.5\n3\n", 0, b"least U7F1\nU8F0 line 1\n"),
         (["least", "16"], b"ff\n", 0, b"least U8F0\n"),
         (["least", "9x"], b"", 3, b""),
+        (["fit", "--width", "16"], b"0.5\n-3.2\n", 0, b"I3F13\n"),
+        (["fit", "-w", "16", "--why"], b"0.5\n-3.2\n1e3\n", 0, b"I11F5\nI10F6 line 3\n"),
+        (["fit", "--width", "8", "--why"], b"", 0, b"U0F8\n"),
+        (["fit", "--width", "8", "--signed"], b"-0\n0.5\n", 0, b"I1F7\n"),
+        (["fit", "--width", "8"], b"1\n255.49\n255.5\n", 1, b"none line 3\n"),
+        (["fit", "--width", "32", "--radix", "16"], b"f.f\n", 0, b"U4F28\n"),
+        (["fit", "--width", "12", "--why"], b"0.5\n-3.2\n", 0, b"I3F9\nI2F10 line 2\n"),
+        (["fit", "--width", "16", "--range", "--why", "--", "-3.2", "10"], b"", 0, b"I5F11\nI4F12 line 2\n"),
+        (["fit", "--width", "8", "--range", "0", "255.5"], b"", 1, b"none line 2\n"),
+        (["fit", "--width", "8"], b"1\nx\n", 1, b"error: line 2: invalid digit found in string\n"),
         (["enclose", "no\nfile"], b"", 3, b""),
         (["constants"], b"A = 0b_111e-2 I4F4\n", 0, b"A = 0x1.c I4F4\n"),
         (["constants", "c"], b"A = 1.75 I4F4\n", 0, b"#include <stdint.h>\n\n#define A INT8_C(0x1c) /* I4F4, 1.75 */\n"),
@@ -71,6 +84,28 @@ RUNS = {
         (["columns", "limit", "7"], b"1 U8F0\n", 0, b" " * 23 + b"1 U8F0\n"),
         (["columns", "limit", "6", "-"], b"1 U8F0\n", 6, b""),
         (["columns", "--limit", "6"], b"1 U8F0\n", 6, b""),
+        (["convert", "I8F8", "--from", "bits"], b"0xfe80\n-384\r\n+5\n0XFE80\n0b1_0\n0o17\n65152\n", 0,
+         b"-1.5\n-1.5\n0.02\n-1.5\n0.008\n0.06\n-1.5\n"),
+        (["convert", "I8F8", "--from=bits", "--radix", "16", "--print", "hex"], b"fe80\n0b10\n-180\n0XFE80\n", 0,
+         b"0xfe80\n0x0b10\n0xfe80\n0xfe80\n"),
+        (["convert", "U8F0", "--from", "bits"], b"256\n-1\n+256\n_1\n1__0_\n0x\n\n1.5\n--1\n", 1,
+         b"error: word is wider than the format\nerror: number is out of the format's range\nerror: number is out of the format's range\n"
+         b"error: misplaced underscore found in string\n10\nerror: string has no digits\nerror: string has no digits\n"
+         b"error: invalid digit found in string\nerror: invalid digit found in string\n"),
+        (["convert", "U16F0", "U8F0", "--from", "bits", "--print", "all"], b"255\n256\n", 1, b"255 255 fits\nerror: overflow\n"),
+        (["convert", "U16F0", "U8F0", "--from", "bits", "-p", "wrapping", "--print", "all"], b"257\n", 0, b"1 1 overflowed\n"),
+        (["convert", "I8F8", "I8F0", "--target-mode", "nearest"], b"2.5\n3.5\n-2.5\n127.6\n", 1, b"2\n4\n-2\nerror: overflow\n"),
+        (["convert", "I8F8", "I8F0", "--target-mode", "ceil"], b"2.1\n-2.1\n", 0, b"3\n-2\n"),
+        (["convert", "I8F8", "I8F0", "--target-mode", "zero"], b"2.9\n-2.9\n", 0, b"2\n-2\n"),
+        (["convert", "I8F8", "I8F0", "--target-mode", "floor"], b"2.9\n-2.1\n", 0, b"2\n-3\n"),
+        (["convert", "I8F8", "I8F0", "--target-mode", "ceil", "--mode", "floor", "-p", "saturating"], b"x\n1e\n300\n", 1,
+         b"error: invalid digit found in string\nerror: exponent has no digits\n127\n"),
+        (["bits", "I8F8", "-384", "+5", "0XFE80"], b"", 0, None),
+        (["convert", "q15", "--print", "bits"], b"0.5\n", 0, b"16384\n"),
+        (["convert", "UQ8.8", "i8f8", "--print", "hex"], b"1.5\n", 0, b"0x0180\n"),
+        (["convert", "I3F2", "--print", "hex"], b"-0.25\n3.75\n", 0, b"0x1f\n0x0f\n"),
+        (["convert", "I3F2", "--from", "bits"], b"0x1f\n31\n32\n", 1, b"-0.2\n-0.2\nerror: word is wider than the format\n"),
+        (["bits", "I8F8", "--radix", "16", "fe80"], b"", 0, b"text      -1.5\nbits      -384\nhex       0xfe80\nvalue     -1.5\n"),
         (["show", "I16F16", "3.14159", "-0.1"], b"", 0, None),
         (["show", "I8F8", "-.5", "-1e-3", "--mode", "floor"], b"", 0, None),
         (["show", "--mode=ceil", "I8F8", "-5.818915989413629393e-04"], b"", 0, None),
@@ -78,6 +113,15 @@ RUNS = {
         (["show", "U8F0", "300"], b"", 1, b"error: overflow\n"),
         (["bits", "I16F16", "0xfffc0000", "7x"], b"", 1,
          b"text      -4\nbits      -262144\nhex       0xfffc0000\nvalue     -4\nerror: invalid digit found in string\n"),
+        (["bits", "I8F8"], b"-384\r\n0x100\n\n7x", 1,
+         b"text      -1.5\nbits      -384\nhex       0xfe80\nvalue     -1.5\ntext      1\nbits      256\nhex       0x0100\nvalue     1\n"
+         b"error: string has no digits\nerror: invalid digit found in string\n"),
+        (["bits", "I8F8"], b"", 0, b""),
+        (["bits", "U8F0", "--file", "-"], b"\xff\n", 1, b"error: invalid digit found in string\n"),
+        (["bits", "U8F0", "--file", "no file"], b"", 3, b""),
+        (["show", "U8F0"], b"300\n", 1, b"error: overflow\n"),
+        (["show", "I8F8", "--mode", "floor"], b"\xef\xbb\xbf-.5\n", 0, None),
+        (["bits", "U8F0"], b"0" * 1_048_577, 6, b""),
         (["bits", "U8F0", "256"], b"", 1, b"error: word is wider than the format\n"),
         (["format", "U8F0"], b"", 0, None),
         (["--version"], b"", 0, b"fixed 1.31.0\n"),
@@ -133,16 +177,20 @@ RUNS = {
 # Words that are no command, for each program.
 BAD_WORDS = {
     "fixed": (
-        [], [b"converts"], [b"convert"], [b"convert", b"I9F0"], [b"convert", b"U8F0", b"U9F0"], [b"convert", b"U8F0", b"--radix", b"7"],
+        [], [b"converts"], [b"convert"], [b"convert", b"I65F0"], [b"convert", b"U8F0", b"U60F5"], [b"convert", b"U8F0", b"q64"], [b"convert", b"Q8."], [b"convert", b"U8F0", b"--radix", b"7"],
         [b"convert", b"U8F0", b"--mode"], [b"convert", b"U8F0", b"--print", b"text", b"--print", b"bits"], [b"lines", b"--limit", b"0"],
         [b"lines", b"--limits", b"5"], [b"lines", b"--limit", b"5", b"--limit", b"6"], [b"enclose", b"--radix", b"2"],
         [b"constants", b"c", b"--guard", b"int"], [b"constants", b"c", b"--guard", b"9"], [b"constants", b"--guard", b"A_H"], [b"columns", b"limit"], [b"columns", b"limit", b"07"],
         [b"columns", b"limit", b"0"], [b"columns", b"limit", b"4294967297"], [b"columns", b"--limit", b"5", b"limit", b"7"],
         [b"convert", b"U8F0", b"--mode", b"ceil", b"--mode", b"floor"], [b"format", b"U8F0\n\nU8F1"], [b"con\nvert"],
         [b"lines", b"--limit", b"05"], [b"lines", b"--limit", b"+5"], [b"column", b"01", b"I8F8"], [b"help", b"converts"],
+        [b"fit"], [b"fit", b"--width", b"65"], [b"fit", b"--width", b"08"], [b"fit", b"--width", b"8", b"--places", b"2"],
+        [b"fit", b"--width", b"8", b"--range", b"1"], [b"fit", b"--width", b"8", b"--range", b"1", b"2", b"3"],
         [b"convert", b"U8F0", b"--places", b"65"], [b"convert", b"U8F0", b"--places", b"01"],
         [b"convert", b"U8F0", b"--places", b"2", b"--print", b"bits"], [b"convert", b"--"],
-        [b"show", b"U8F0"], [b"show", b"U8F1", b"1"], [b"bits", b"I16F16"], [b"format", b"U8F0", b"X"],
+        [b"convert", b"U8F0", b"--from", b"hex"], [b"convert", b"U8F0", b"--target-mode", b"up"], [b"convert", b"U8F0", b"--from"],
+        [b"bits", b"U8F0", b"--radix", b"7", b"1"],
+        [b"show", b"U64F1", b"1"], [b"show"], [b"bits"], [b"bits", b"U8F0", b"--file", b"x", b"1"], [b"format", b"U8F0", b"X"],
     ),
     "fixed_tool": ([b"limits"], [b"limit"], [b"limit", b"05"], [b"limit", b"0"], [b"self", b"0"], [b"self", b"1000001"], [b"limit", b"5", b""]),
     "enclose_tool": ([b"limit", b"5"],),
@@ -458,6 +506,36 @@ def parts_compared(built):
     return differing, tried
 
 
+def signals():
+    """The taps of a low-pass filter and a sine that reaches both ends, as floats."""
+    taps = [math.sin(math.pi * k / 4) / (math.pi * k) if k else 0.25 for k in range(-31, 32)]
+    taps = [tap * (0.54 + 0.46 * math.cos(math.pi * k / 31)) for tap, k in zip(taps, range(-31, 32))]
+    return taps, [math.sin(2 * math.pi * k / 256) for k in range(256)]
+
+
+def signals_compared(built):
+    """How many bits of filter taps and of a sine in Q15 and Q31 differ from what rounding and clipping floats gives, and how
+    many formats of `fixed fit` from its reference, of how many; None where it is not built. A float times a power of two is exact."""
+    path = program("fixed", built)
+    if path is None:
+        return None
+    tried, differing = 0, 0
+    for values in signals():
+        given = "".join(f"{Decimal(value):f}\n" for value in values).encode()
+        for frac in (15, 31):
+            words = [path, "convert", f"I1F{frac}", "--policy", "saturating", "--print", "bits"]
+            shown = subprocess.run(words, input=given, stdout=subprocess.PIPE, check=False).stdout.decode().splitlines()
+            wanted = [str(max(-(2**frac), min(2**frac - 1, round(value * 2.0**frac)))) for value in values]
+            tried += len(wanted)
+            differing += sum(a != b for a, b in zip(shown, wanted)) + abs(len(shown) - len(wanted))
+        for width in (1, 8, 12, 16, 32, 64):
+            words = [path, "fit", "--width", str(width), "--why"]
+            shown = subprocess.run(words, input=given, stdout=subprocess.PIPE, check=False).stdout.decode()
+            tried += 1
+            differing += shown != fit_answer(given, width, False, 10, True)[0]
+    return differing, tried
+
+
 def on_disk_of(most):
     """Leaves a process a disk with this many bytes."""
     def limit():
@@ -496,6 +574,10 @@ def main():
     found = parts_compared(given.built)
     if found is not None:
         print(f"fixed convert: {found[1]} parts of answers, {found[0]} others than Python's")
+        wrong += found[0]
+    found = signals_compared(given.built)
+    if found is not None:
+        print(f"fixed convert and fit: {found[1]} bits and formats of signals, {found[0]} others than Python's")
         wrong += found[0]
     return 1 if wrong else 0
 

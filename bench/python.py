@@ -55,7 +55,12 @@ def contenders():
         return numpy.rint(given.astype(float) * 32768).astype(numpy.int16)
 
     rows = {
-        "reading S16": {ours: lambda: form.read(texts), plain: lambda: as_floats(texts)},
+        "reading S16": {
+            ours: lambda: form.read(texts),
+            plain: lambda: as_floats(texts),
+            "int(round(..))": lambda: [int(round(float(text) * 32768)) for text in texts.tolist()],
+            "Decimal": lambda: [int((Decimal(text.decode()) * 32768).to_integral_value()) for text in texts.tolist()],
+        },
         "reading U16": {ours: lambda: form.read(letters), plain: lambda: as_floats(letters)},
         "reading a list of str": {
             ours: lambda: form.read(listed),
@@ -66,6 +71,8 @@ def contenders():
         "printing S8": {
             ours: lambda: form.text(bits, dtype="S"),
             plain: lambda: (bits / 32768).astype("S20"),
+            "str(..)": lambda: [str(number / 32768).encode() for number in listed_bits],
+            "Decimal": lambda: [str(Decimal(number) / 32768).encode() for number in listed_bits],
             "numpy's %.5f": lambda: numpy.char.mod(b"%.5f", bits / 32768),
         },
         "printing U8": {ours: lambda: form.text(bits), plain: lambda: (bits / 32768).astype("U20")},
@@ -102,7 +109,8 @@ def main():
                 best[who] = min(best[who], time.process_time() - start)
         first = next(iter(best.values()))
         rows += [[what, who, f"{spent:.3f}", f"{spent / first:.1f}"] for who, spent in best.items()]
-    print("the package for Python, 1,000,000 numbers of I1F15")
+    load = ", ".join(f"{each:.1f}" for each in os.getloadavg())
+    print(f"the package for Python, 1,000,000 numbers of I1F15 (load {load} on {os.cpu_count()} processors)")
     table(rows, ["", "by", "seconds", "/ ours"])
 
 

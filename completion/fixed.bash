@@ -4,7 +4,7 @@ _fixed_words() {
   local words='' formats='I16F16 U16F16 I8F8 U8F8 I32F32 U32F32 I1F15 I1F31 I4F4 U0F8'
   case $1:$COMP_CWORD in
     convert:2 | convert:3 | column:3 | column:4 | show:2 | bits:2 | format:*) words=$formats ;;
-    help:2) words='convert column show bits format lines enclose least constants sort' ;;
+    help:2) words='convert column show bits format lines enclose least fit constants sort' ;;
   esac
   if [ "$COMP_CWORD" -eq 2 ]; then
     case $1 in
@@ -17,7 +17,7 @@ _fixed_words() {
 }
 _fixed() {
   local word=$2 previous=$3 command=${COMP_WORDS[1]}
-  local commands='convert column show bits format lines enclose least constants sort help' words=''
+  local commands='convert column show bits format lines enclose least fit constants sort help' words=''
   if [ "$COMP_CWORD" -eq 1 ]; then
     mapfile -t COMPREPLY < <(compgen -W "$commands --help --version" -- "$word")
     return
@@ -25,15 +25,23 @@ _fixed() {
   case $previous in
     --radix | -r) words='2 8 10 16' ;;
     --policy | -p) words='checked saturating wrapping' ;;
-    --mode | -m) words='nearest floor ceil zero' ;;
+    --mode | -m | --target-mode) words='nearest floor ceil zero' ;;
+    --from) words='text bits' ;;
+    --file)
+      mapfile -t COMPREPLY < <(compgen -f -- "$word")
+      return
+      ;;
     --print) words='text bits hex readmemh value all' ;;
+    --width | -w) words='8 16 32 64' ;;
     --limit | --delimiter | -d | --places | --guard) return ;;
     *)
       case $command:$word in
-        convert:-*) words='--radix --policy --mode --print --places --help --version' ;;
-        column:-*) words='--radix --policy --mode --print --places --delimiter --header --keep --help --version' ;;
-        show:-*) words='--radix --policy --mode --help --version' ;;
+        convert:-*) words='--from --radix --policy --mode --target-mode --print --places --help --version' ;;
+        column:-*) words='--from --radix --policy --mode --target-mode --print --places --delimiter --all --header --keep --help --version' ;;
+        show:-*) words='--radix --policy --mode --file --help --version' ;;
+        bits:-*) words='--radix --file --help --version' ;;
         lines:-* | sort:-*) words='--limit --help --version' ;;
+        fit:-*) words='--width --signed --why --range --radix --help --version' ;;
         constants:-*) words='--guard --help --version' ;;
         *:-*) words='--help --version' ;;
         *) _fixed_words "$command" "$word"; return ;;

@@ -39,7 +39,7 @@
 extern "C" {
 #endif
 
-/* A format: signed where is_signed is not 0; width bits, 8, 16, 32 or 64; and frac of them after the point, at most width. */
+/* A format: signed where is_signed is not 0; width bits, from 1 to 64; and frac of them after the point, at most width. */
 typedef struct {
   uint32_t is_signed, width, frac;
 } fixed_format;
@@ -165,7 +165,8 @@ uint32_t fixed_convert_bits_mode(int64_t bits, fixed_format source, fixed_format
  * and after a digit of their part: "-0x1f.8", "1_000.25". */
 uint32_t fixed_read_literal(const char *text, size_t len, fixed_format format, uint32_t policy, fixed_number *out);
 
-/* The format that word[0..len) names, such as I16F16 or U8F0, and its word, with a zero byte; *len is the word's length, at most 8. */
+/* The format that word[0..len) names, such as I16F16, u0f24, Q15 or UQ8.8 (by ARM's counting), and the word of a format, such as
+ * I16F16, with a zero byte; *len is the word's length, at most 8. */
 uint32_t fixed_format_of_word(const char *word, size_t len, fixed_format *out);
 uint32_t fixed_word_of_format(fixed_format format, char *out, size_t size, size_t *len);
 

@@ -22,9 +22,11 @@ PAIRS = (
     ("typed.py", "fixed_vectors", 1000),
     ("enclose.py", "enclose_tool", 100),
     ("least.py", "least_tool", 3),
+    ("fit.py", "fixed", 25),
     ("constants.py", "constants_tool", 10),
     ("columns.py", "columns_tool", 10),
     ("show.py", "fixed", 100),
+    ("convert.py", "fixed", 100),
     ("column.py", "fixed", 50),
 )
 

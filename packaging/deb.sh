@@ -1,7 +1,7 @@
 #!/usr/bin/env bash
-# deb.sh VERSION PROGRAM..: makes three packages below build/deb of what `make build` and `make library` left there: the programs, the
-# shared library, and the files that are needed to build against it. What a package needs is taken from the symbols of its files, by
-# dpkg-shlibdeps. `lintian` reads the packages where it is installed.
+# deb.sh VERSION PROGRAM..: makes four packages below build/deb of what `make build` and `make library` left there: the programs, the
+# shared library, the package for Python, and the files that are needed to build against the library. What a package needs is taken from the symbols of its files, by
+# dpkg-shlibdeps. `lintian` reads the packages where it is installed, and chroot.sh installs them where there is debootstrap.
 set -eu
 cd "$(dirname "$0")/.."
 version=$1
@@ -101,3 +101,4 @@ for package in build/deb/*.deb; do
   echo "$package: $(stat -c %s "$package") bytes"
   if command -v lintian >/dev/null 2>&1; then lintian --allow-root --fail-on error --suppress-tags no-symbols-control-file "$package"; else echo "lintian is not on this machine"; fi
 done
+packaging/chroot.sh build/deb/*.deb

@@ -39,7 +39,8 @@ _Value = TypeVar("_Value", Decimal, Fraction, float)
 # Of each method's forms the first that fits is meant: a text is an iterable of texts as well, and so may an array be.
 @dataclass(frozen=True, init=False, repr=False, order=True)
 class Format:
-    """A format: ``I`` (signed) or ``U`` (unsigned), the count of whole bits, ``F``, and the count of fraction bits.
+    """A format: ``I`` (signed) or ``U`` (unsigned), the count of whole bits, ``F``, and the count of fraction bits,
+    together 1 to 64.
 
     ARM's names are taken as well, in which the sign bit is one of the whole bits: ``Q15`` is ``I1F15``, ``UQ8.8`` is
     ``U8F8``. Formats are hashable, and ordered by width, then unsigned before signed, then by fraction length.

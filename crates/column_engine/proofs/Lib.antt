@@ -1,4 +1,5 @@
-mod RecordLemmas
+mod RowLemmas
+mod GatherLemmas
+mod FeedLemmas
+mod HeaderLemmas
 mod RunLemmas
-mod WatchedLemmas
-mod QuoteLemmas

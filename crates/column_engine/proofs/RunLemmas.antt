@@ -1,235 +1,550 @@
--- One more record answered.
-use Rattle.std.proofs.Common.{◌≡◌, ◌==◌, ◌+◌, ℕ, suc, List, [], ◌∷◌, ◌++◌, Bool, true, false, Option, Some, None, length, refl, sym, ap, ◌∙◌, append_assoc, inl, inr, ◌⊎◌, arith, if◌then◌else◌, length-append}
-use Rattle.std.specs.Prelude.{◌&&◌, flat_map}
-use Rattle.std.proofs.lemmas.Bool.{ne_eqb}
-use Rattle.std.proofs.lemmas.List.{append-nil}
-use Rattle.std.specs.Io.KnownBytes.{Appends, Keeps}
-use Rattle.csv.specs.Machine.{Read, next_record}
-use Rattle.csv.specs.Reading.{ReadRecord, Reached, reader_state, source_of, strip_bom}
-use Rattle.csv.specs.Writing.{row_text}
-use Rattle.csv.specs.declared.parser.State.{State}
-use Rattle.csv.specs.declared.parser.State.TheVariants.{StartRecord}
-use Rattle.csv.specs.declared.reader.Reader.{Reader}
-use Rattle.csv.proofs.ReadFacts.{keeps-trans, rows-end, rows-more}
-use Rattle.csv.proofs.WriteFacts.{appends-more, appends-none}
+-- What was taken and written by a run over a text, one chunk after another.
+use Rattle.std.proofs.Common.{◌≡◌, ◌<◌, ◌≤◌, List, ℕ, suc, zero, [], ◌∷◌, ◌++◌, Bool, true, false, refl, sym, ap, ◌∙◌, append_assoc, append-nil, length, take, arith, subst, Option, inl, inr, ⊎_elim, get_or}
+use Rattle.std.proofs.KnownBytes.{Appends-trans, Appends-nil, Consumes-trans}
+use Rattle.std.proofs.lemmas.Bool.{eqb-true}
+use Rattle.std.proofs.lemmas.Grind.{flat_map-append}
+use Rattle.std.specs.Io.KnownBytes.{Appends, Consumes, IsAtEnd}
+use Rattle.std.specs.Prelude.{◌==◌, ◌≢◌, ◌⊎◌}
+use Rattle.csv.specs.Reading.{strip_bom}
 use Rattle.line_engine.specs.AnswerText.{AnswerText}
-use Rattle.column_engine.specs.declared.column.Column.{Column}
-use Rattle.column_engine.specs.declared.column.Column.TheVariants.{At, Named}
+use Rattle.line_engine.specs.Appended.{AppendsPrefix}
+use Rattle.line_engine.specs.Inner.Progress.{Flushes}
+use Rattle.column_engine.specs.Answers.{State}
+use Rattle.column_engine.specs.Feeding.{FailsFeed, FeedsRows, IsLeft, IsStanding, StopsAt}
+use Rattle.column_engine.specs.Rows.{IsLast, IsUnended, Row, byte_order_mark, ends_record, place_after, row_text, rows_text}
+use Rattle.column_engine.specs.Run.{Ends, HasFailures, IsEndless, RunsOn, RunsSoFar, RunsText, StopsText, Writes}
+use Rattle.column_engine.specs.Steps.{HasRisen, PassesRow, SameCounts, StopsRow}
+use Rattle.column_engine.specs.declared.columns.Column.{Column}
 use Rattle.column_engine.specs.declared.end.Stop.{Stop}
 use Rattle.column_engine.specs.declared.end.Stop.TheVariants.{Done, NoColumn, NoMemory, NoName, ReadFault, TooLong, Unclosed, WriteFault}
-use Rattle.column_engine.specs.declared.watched.Refused.{Refused}
-use Rattle.column_engine.specs.declared.watched.Refused.TheVariants as refused
-use Rattle.column_engine.specs.Column.{AnswersNext, AnswersRecord, AreAnswered, HasAnswered, IsAnswered, IsAnsweredText, IsReadStop, IsReady, LacksColumn, NothingAnswered, StopsHeader, UnansweredBy, count_refused, explained_stop, first_refused, reads_with, writes_with}
+use Rattle.column_engine.specs.declared.place.Place.{Place}
+use Rattle.column_engine.specs.declared.place.Place.TheVariants.{AfterQuote, Inside, Quoted, Start}
+use Rattle.column_engine.specs.declared.run.TheConstants.{MAX_TEXT}
+use Rattle.column_engine.specs.Begin.{IsPartOfMark}
+use Rattle.column_engine.proofs.FeedLemmas.{ended_append, feeds_both, feeds_none, rows_append}
+use Rattle.column_engine.proofs.RowLemmas.{from_never}
+use Rattle.column_engine.proofs.GatherLemmas.{all_flushes, flushes_all, flushes_both, flushes_prefix, prefix_flushes}
 
-flat_one : {X Y : Type 0} (f : X → List Y) (xs : List X) (x : X) → flat_map f (xs ++ x ∷ []) ≡ flat_map f xs ++ f x
-flat_one f [] x = append-nil (f x)
-flat_one f (y ∷ ys) x = rw (flat_one f ys x) (sym (append_assoc (f y) (flat_map f ys) (f x)))
+-- ---- what is written
+pub writes_all : (stop : Stop) (a b : Option (List ℕ)) (text : List ℕ) → Appends a b text → Writes stop a b text
+writes_all WriteFault a b text all = record { prefix = text; rest = []; split = sym (append-nil text); appends = all }
+writes_all Done a b text all = all
+writes_all ReadFault a b text all = all
+writes_all NoMemory a b text all = all
+writes_all TooLong a b text all = all
+writes_all Unclosed a b text all = all
+writes_all (NoColumn count) a b text all = all
+writes_all NoName a b text all = all
 
-are_one : (A : List ℕ → AnswerText → Type 0) (keeps : Bool) (column : ℕ) (rows answers : List (List (List ℕ))) (refusals : List Bool) (fields answered : List (List ℕ)) (refused : Bool)
-    → AreAnswered A keeps column rows answers refusals → AnswersRecord A keeps column fields answered refused
-    → AreAnswered A keeps column (rows ++ fields ∷ []) (answers ++ answered ∷ []) (refusals ++ refused ∷ [])
-are_one A keeps column [] [] [] fields answered refused h n = (n, tt)
-are_one A keeps column [] [] (b ∷ bs) fields answered refused h n = absurd h
-are_one A keeps column [] (a ∷ us) bs fields answered refused h n = absurd h
-are_one A keeps column (r ∷ rs) [] bs fields answered refused h n = absurd h
-are_one A keeps column (r ∷ rs) (a ∷ us) [] fields answered refused h n = absurd h
-are_one A keeps column (r ∷ rs) (a ∷ us) (b ∷ bs) fields answered refused h n = (h.0, are_one A keeps column rs us bs fields answered refused h.1 n)
-
-as_many : (A : List ℕ → AnswerText → Type 0) (keeps : Bool) (column : ℕ) (rows answers : List (List (List ℕ))) (refusals : List Bool)
-    → AreAnswered A keeps column rows answers refusals → length refusals ≡ length rows
-as_many A keeps column [] [] [] h = refl
-as_many A keeps column [] [] (b ∷ bs) h = absurd h
-as_many A keeps column [] (a ∷ us) bs h = absurd h
-as_many A keeps column (r ∷ rs) [] bs h = absurd h
-as_many A keeps column (r ∷ rs) (a ∷ us) [] h = absurd h
-as_many A keeps column (r ∷ rs) (a ∷ us) (b ∷ bs) h = ap suc (as_many A keeps column rs us bs h.1)
-
-count_one : (refusals : List Bool) (refused : Bool) → count_refused (refusals ++ refused ∷ []) ≡ (if refused then 1 else 0) + count_refused refusals
-unfolding count_refused
-count_one [] refused = refl
-count_one (b ∷ bs) refused = omega (arith, count_one bs refused)
-
-and_no : (b : Bool) → (b && false) ≡ false
-and_no true = refl
-and_no false = refl
-
-first_one : (before : ℕ) (refusals : List Bool) (refused : Bool)
-    → first_refused before (refusals ++ refused ∷ []) ≡ (if refused && (first_refused before refusals == 0) then before + length refusals + 1 else first_refused before refusals)
-unfolding first_refused
-first_one before [] true = omega arith
-first_one before [] false = refl
-first_one before (true ∷ bs) refused =
-    let some : (before + 1 == 0) ≡ false = ne_eqb (before + 1) 0 (λ e. absurd (omega (arith, e))) in
-    rw (some, and_no refused) refl
-first_one before (false ∷ bs) refused =
-    let sum : before + 1 + length bs + 1 ≡ before + suc (length bs) + 1 = omega arith in
-    rw (← sum) (first_one (before + 1) bs refused)
-
-pub none_answered : (A : List ℕ → AnswerText → Type 0) (keeps : Bool) (column delimiter before : ℕ) (from : State) (text : List ℕ) (old : Option (List ℕ))
-    → HasAnswered A keeps column delimiter before from text from text old old before 0 0
-unfolding Reached count_refused first_refused
-none_answered A keeps column delimiter before from text old = record {
-  rows = [];
-  answers = [];
-  refusals = [];
-  read = (refl, refl);
-  are = tt;
-  written = appends-none old;
-  answered_is = omega arith;
-  refused_is = refl;
-  first_is = refl;
+-- after more that was written before
+pub writes_after : (stop : Stop) (a b c : Option (List ℕ)) (text more : List ℕ) → Appends a b text → Writes stop b c more → Writes stop a c (text ++ more)
+writes_after WriteFault a b c text more first next = record {
+  prefix = text ++ next.prefix;
+  rest = next.rest;
+  split = ap (λ l. text ++ l) next.split ∙ sym (append_assoc text next.prefix next.rest);
+  appends = Appends-trans a b c text next.prefix first next.appends;
 }
+writes_after Done a b c text more first next = Appends-trans a b c text more first next
+writes_after ReadFault a b c text more first next = Appends-trans a b c text more first next
+writes_after NoMemory a b c text more first next = Appends-trans a b c text more first next
+writes_after TooLong a b c text more first next = Appends-trans a b c text more first next
+writes_after Unclosed a b c text more first next = Appends-trans a b c text more first next
+writes_after (NoColumn count) a b c text more first next = Appends-trans a b c text more first next
+writes_after NoName a b c text more first next = Appends-trans a b c text more first next
 
-pub one_answered : {R : Type 0} (remaining : R → Option (List ℕ)) (A : List ℕ → AnswerText → Type 0) (keeps : Bool) (column delimiter before : ℕ) (from : State) (text rest : List ℕ)
-    (a b : Reader R) (old mid new : Option (List ℕ)) (answered refused first : ℕ) (flag : Bool)
-    → IsReady delimiter a → source_of remaining a ≡ Some rest
-    → HasAnswered A keeps column delimiter before from text (reader_state a) rest old mid answered refused first
-    → AnswersNext remaining A keeps column delimiter a b mid new flag
-    → (z : List ℕ) × (source_of remaining b ≡ Some z)
-    × HasAnswered A keeps column delimiter before from text (reader_state b) z old new (answered + 1) ((if flag then 1 else 0) + refused) (if flag && (first == 0) then answered + 1 else first)
-one_answered remaining A keeps column delimiter before from text rest a b old mid new answered refused first flag ready left h n =
-    let more = rows-more remaining a b n.fields (reads_with delimiter) from text rest h.rows ready.config left h.read n.read in
-    let same = as_many A keeps column h.rows h.answers h.refusals h.are in
-    let texts = flat_one (row_text (writes_with delimiter)) h.answers n.answered in (
-      more.0,
-      more.1,
+-- a prefix of what was gathered
+pub prefix_gathered : (text left : List ℕ) (a b c : Option (List ℕ)) → Flushes [] text left a b → AppendsPrefix b c left → AppendsPrefix a c text
+prefix_gathered text left a b c first part =
+    let more = flushes_prefix left b c part in
+    subst (AppendsPrefix a c) (append-nil text) (prefix_flushes (text ++ []) more.0 a c (flushes_both [] text [] left more.0 a b c first more.1))
+
+-- all of it
+pub all_gathered : (text left : List ℕ) (a b c : Option (List ℕ)) → Flushes [] text left a b → Appends b c left → Appends a c text
+all_gathered text left a b c first all =
+    subst (Appends a c) (append-nil text) (all_flushes (text ++ []) a c (flushes_both [] text [] left [] a b c first (flushes_all left b c all)))
+
+-- ---- counts of failures
+-- from a count that stayed
+pub risen_later : (stop : Stop) (start before now : ℕ) → before ≡ start → HasRisen before now stop → HasRisen start now stop
+risen_later stop start before now same first = subst (λ n. HasRisen n now stop) same first
+
+pub not_both : (b : Bool) → b ≡ false → b ≡ true → ⊥
+not_both b nay yea = let both : true ≡ false = sym yea ∙ nay in cc
+
+-- of a run whose reads did not fail
+pub failures_risen : (stop : Stop) (read read' write write' : ℕ) → (stop ≡ ReadFault → ⊥) → read' ≡ read → HasRisen write write' stop → HasFailures read read' write write' stop
+failures_risen WriteFault read read' write write' other same risen = (same, risen)
+failures_risen Done read read' write write' other same risen = (same, risen)
+failures_risen ReadFault read read' write write' other same risen = absurd (other refl)
+failures_risen NoMemory read read' write write' other same risen = (same, risen)
+failures_risen TooLong read read' write write' other same risen = (same, risen)
+failures_risen Unclosed read read' write write' other same risen = (same, risen)
+failures_risen (NoColumn count) read read' write write' other same risen = (same, risen)
+failures_risen NoName read read' write write' other same risen = (same, risen)
+
+-- ---- a byte order mark
+plain_byte : (place : Place) (b : ℕ) → (b == 10) ≡ false → (b == 13) ≡ false → ends_record place b ≡ false
+plain_byte Start b line return = rw (line, return) refl
+plain_byte Inside b line return = rw (line, return) refl
+plain_byte Quoted b line return = refl
+plain_byte AfterQuote b line return = rw (line, return) refl
+
+pub part_strip : (bytes : List ℕ) → IsPartOfMark bytes → strip_bom bytes ≡ bytes
+unfolding strip_bom
+part_strip bytes (zero, low, is) = rw is refl
+part_strip bytes (suc zero, low, is) = rw is refl
+part_strip bytes (suc (suc zero), low, is) = rw is refl
+part_strip bytes (suc (suc (suc k)), low, is) = absurd (omega (arith, low))
+
+part_unended : (d : ℕ) (bytes : List ℕ) → IsPartOfMark bytes → IsUnended d Start bytes
+unfolding IsUnended
+part_unended d bytes (zero, low, is) = rw is tt
+part_unended d bytes (suc zero, low, is) = rw is (refl, tt)
+part_unended d bytes (suc (suc zero), low, is) = rw is (refl, (plain_byte (place_after d Start 239) 187 refl refl, tt))
+part_unended d bytes (suc (suc (suc k)), low, is) = absurd (omega (arith, low))
+
+mark_none : (bytes : List ℕ) → bytes ≡ byte_order_mark → strip_bom bytes ≡ []
+unfolding strip_bom
+mark_none bytes is = rw is refl
+
+mark_more : (more : List ℕ) → strip_bom (byte_order_mark ++ more) ≡ more
+unfolding strip_bom
+mark_more more = refl
+
+mark_whole : (bytes : List ℕ) → bytes ≡ byte_order_mark → bytes ≡ byte_order_mark ++ strip_bom bytes
+mark_whole bytes is = is ∙ ap (λ l. byte_order_mark ++ l) (sym (mark_none bytes is))
+
+pub strip_whole : (bytes : List ℕ) → ((more : List ℕ) → strip_bom (bytes ++ more) ≡ bytes ++ more) → strip_bom bytes ≡ bytes
+strip_whole bytes goes = ap strip_bom (sym (append-nil bytes)) ∙ goes [] ∙ append-nil bytes
+
+-- a byte that is not the next one of a mark
+first_other : (byte : ℕ) (more : List ℕ) → (byte == 239) ≡ false → strip_bom (byte ∷ more) ≡ byte ∷ more
+unfolding strip_bom
+first_other byte [] other = refl
+first_other byte (x ∷ []) other = refl
+first_other byte (x ∷ y ∷ rest) other = rw other refl
+
+second_other : (byte : ℕ) (more : List ℕ) → (byte == 187) ≡ false → strip_bom (239 ∷ byte ∷ more) ≡ 239 ∷ byte ∷ more
+unfolding strip_bom
+second_other byte [] other = refl
+second_other byte (x ∷ rest) other = rw other refl
+
+third_other : (byte : ℕ) (more : List ℕ) → (byte == 191) ≡ false → strip_bom (239 ∷ 187 ∷ byte ∷ more) ≡ 239 ∷ 187 ∷ byte ∷ more
+unfolding strip_bom
+third_other byte more other = rw other refl
+
+differs : (b n : ℕ) → (b ≡ n → ⊥) → (b == n) ≡ false
+differs b n other = from_never (b == n) (λ same. other (eqb-true b n same))
+
+pub other_mark : (at byte : ℕ) (start more : List ℕ) → at < 3 → start ≡ take at byte_order_mark ++ byte ∷ [] → (byte ≡ get_or byte_order_mark at 0 → ⊥) → strip_bom (start ++ more) ≡ start ++ more
+other_mark zero byte start more low is other = rw is (first_other byte more (differs byte 239 other))
+other_mark (suc zero) byte start more low is other = rw is (second_other byte more (differs byte 187 other))
+other_mark (suc (suc zero)) byte start more low is other = rw is (third_other byte more (differs byte 191 other))
+other_mark (suc (suc (suc k))) byte start more low is other = absurd (omega (arith, low))
+
+-- ---- the ends of a text
+same_counts : (s : State) → SameCounts s s
+same_counts s = record { answered = refl; refused = refl; first = refl }
+
+counts_both : (s t u : State) → SameCounts s t → SameCounts t u → SameCounts s u
+counts_both s t u first next = record { answered = next.answered ∙ first.answered; refused = next.refused ∙ first.refused; first = next.first ∙ first.first }
+
+module _ (A : List ℕ → AnswerText → Type 0) (keeps : Bool) (d : ℕ) (columns : List Column) where
+  -- why the records that ended in a chunk were no longer answered
+  ends_feed : (stop : Stop) (s u : State) (rest part : List ℕ) (left : Option (List ℕ)) → StopsAt stop A keeps d columns s rest part → SameCounts s u → Ends stop A keeps d columns s rest left part u
+  ends_feed WriteFault s u rest part left at counts = inr (at.0, inl (at.1.rest, at.1.split, at.1.ended), inl (at.2, counts))
+  ends_feed TooLong s u rest part left at counts = (at.0, at.1, counts)
+  ends_feed (NoColumn count) s u rest part left at counts = (at.0, inl (at.1.rest, at.1.split, at.1.ended), at.2, at.3, counts)
+  ends_feed NoName s u rest part left at counts = (at.0, inl (at.1.rest, at.1.split, at.1.ended), at.2, at.3, counts)
+  ends_feed Done s u rest part left at counts = absurd at
+  ends_feed ReadFault s u rest part left at counts = absurd at
+  ends_feed NoMemory s u rest part left at counts = absurd at
+  ends_feed Unclosed s u rest part left at counts = absurd at
+
+  -- or a write failed after that
+  ends_fault : (stop : Stop) (s u : State) (rest part : List ℕ) (left : Option (List ℕ)) → StopsAt stop A keeps d columns s rest part → SameCounts s u → Ends WriteFault A keeps d columns s rest left part u
+  ends_fault WriteFault s u rest part left at counts = ends_feed WriteFault s u rest part left at counts
+  ends_fault TooLong s u rest part left at counts = inl (at.1, counts)
+  ends_fault (NoColumn count) s u rest part left at counts = inl (at.3, counts)
+  ends_fault NoName s u rest part left at counts = inl (at.3, counts)
+  ends_fault Done s u rest part left at counts = absurd at
+  ends_fault ReadFault s u rest part left at counts = absurd at
+  ends_fault NoMemory s u rest part left at counts = absurd at
+  ends_fault Unclosed s u rest part left at counts = absurd at
+
+  pub stops_feed : (stop result : Stop) (bytes : List ℕ) (s u : State) (held : List ℕ) (left a b c : Option (List ℕ)) → FailsFeed stop A keeps d columns bytes s u [] held a b
+      → (result ≡ stop) ⊎ (result ≡ WriteFault) → ((text left : List ℕ) → IsLeft stop left held → Flushes [] text left a b → Writes result a c text)
+      → StopsText result A keeps d columns [] bytes s u left a c
+  stops_feed stop result bytes s u held left a b c fails which wrote = record {
+    rows = fails.rows;
+    rest = fails.rest;
+    split = fails.split;
+    ended = fails.ended;
+    text = fails.text;
+    between = fails.between;
+    answers = fails.answers;
+    part = fails.part;
+    ends = ⊎_elim
+        (λ (same : result ≡ stop). subst (λ r. Ends r A keeps d columns fails.between fails.rest left fails.part u) (sym same) (ends_feed stop fails.between u fails.rest fails.part left fails.stops fails.counts))
+        (λ (same : result ≡ WriteFault). subst (λ r. Ends r A keeps d columns fails.between fails.rest left fails.part u) (sym same) (ends_fault stop fails.between u fails.rest fails.part left fails.stops fails.counts))
+        which;
+    output = wrote (fails.text ++ fails.part) fails.left fails.is_left fails.gathered;
+  }
+
+  -- all was answered of a chunk, and written
+  pub feeds_written : (bytes rest held : List ℕ) (s t : State) (a b c : Option (List ℕ)) → FeedsRows A keeps d columns bytes rest s t [] held a b → Appends b c held
+      → FeedsRows A keeps d columns bytes rest s t [] [] a c
+  feeds_written bytes rest held s t a b c fed all = record {
+    rows = fed.rows;
+    split = fed.split;
+    ended = fed.ended;
+    text = fed.text;
+    answers = fed.answers;
+    gathered = subst (λ l. Flushes [] l [] a c) (append-nil fed.text) (flushes_both [] fed.text [] held [] a b c fed.gathered (flushes_all held b c all));
+  }
+
+  -- or a write failed then
+  pub feeds_unwritten : (bytes rest held : List ℕ) (s t : State) (left a b c : Option (List ℕ)) → FeedsRows A keeps d columns bytes rest s t [] held a b → AppendsPrefix b c held
+      → StopsText WriteFault A keeps d columns [] bytes s t left a c
+  feeds_unwritten bytes rest held s t left a b c fed part = record {
+    rows = fed.rows;
+    rest = rest;
+    split = fed.split;
+    ended = fed.ended;
+    text = fed.text;
+    between = t;
+    answers = fed.answers;
+    part = [];
+    ends = inl (refl, same_counts t);
+    output = subst (AppendsPrefix a c) (sym (append-nil fed.text)) (prefix_gathered fed.text held a b c fed.gathered part);
+  }
+
+  -- the records before, and then the rest of a text
+  pub stops_after : (stop : Stop) (mark bytes rest : List ℕ) (s t u : State) (left a m b c : Option (List ℕ)) → Appends a m mark → FeedsRows A keeps d columns bytes rest s t [] [] m b
+      → StopsText stop A keeps d columns [] rest t u left b c → StopsText stop A keeps d columns mark bytes s u left a c
+  stops_after stop mark bytes rest s t u left a m b c marked fed stops = record {
+    rows = fed.rows ++ stops.rows;
+    rest = stops.rest;
+    split = fed.split ∙ ap (λ l. rows_text fed.rows ++ l) stops.split ∙ sym (append_assoc (rows_text fed.rows) (rows_text stops.rows) stops.rest)
+        ∙ ap (λ l. l ++ stops.rest) (sym (flat_map-append row_text fed.rows stops.rows));
+    ended = ended_append d fed.rows stops.rows fed.ended stops.ended;
+    text = fed.text ++ stops.text;
+    between = stops.between;
+    answers = rows_append A keeps d columns s t stops.between fed.rows stops.rows fed.text stops.text fed.answers stops.answers;
+    part = stops.part;
+    ends = stops.ends;
+    output = subst (Writes stop a c) (ap (λ l. mark ++ l) (sym (append_assoc fed.text stops.text stops.part)))
+        (writes_after stop a m c mark (fed.text ++ (stops.text ++ stops.part)) marked
+        (writes_after stop m b c fed.text (stops.text ++ stops.part) (all_flushes fed.text m b fed.gathered) stops.output));
+  }
+
+  -- ---- a run
+  pub runs_end : (stop : Stop) (rest : List ℕ) (s t u : State) (left left' a b c : Option (List ℕ)) → RunsSoFar A keeps d columns rest s t left left' a b
+      → StopsText stop A keeps d columns [] rest t u left' b c → RunsText stop A keeps d columns s u left left' a c
+  runs_end stop rest s t u left left' a b c so_far stops = record {
+    bytes = so_far.bytes;
+    taken = so_far.taken;
+    mark = so_far.mark;
+    mark_is = so_far.mark_is;
+    stops = stops_after stop so_far.mark (strip_bom so_far.bytes) rest s t u left' a so_far.between b c so_far.marked so_far.fed stops;
+  }
+
+  pub mark_on : (mark bytes more : List ℕ) → bytes ≡ mark ++ strip_bom bytes → strip_bom (bytes ++ more) ≡ strip_bom bytes ++ more → bytes ++ more ≡ mark ++ strip_bom (bytes ++ more)
+  mark_on mark bytes more is on = ap (λ l. l ++ more) is ∙ append_assoc mark (strip_bom bytes) more ∙ ap (λ l. mark ++ l) (sym on)
+
+  pub runs_fail : (stop : Stop) (rest chunk : List ℕ) (s t u : State) (left left' left'' a b c : Option (List ℕ)) → RunsOn A keeps d columns rest s t left left' a b
+      → Consumes left' left'' chunk → StopsText stop A keeps d columns [] (rest ++ chunk) t u left'' b c → RunsText stop A keeps d columns s u left left'' a c
+  runs_fail stop rest chunk s t u left left' left'' a b c on more stops =
+      let so_far = on.so_far in
+      let fed : FeedsRows A keeps d columns (strip_bom (so_far.bytes ++ chunk)) (rest ++ chunk) s t [] [] so_far.between b = record {
+        rows = so_far.fed.rows;
+        split = on.goes_on chunk ∙ ap (λ l. l ++ chunk) so_far.fed.split ∙ append_assoc (rows_text so_far.fed.rows) rest chunk;
+        ended = so_far.fed.ended;
+        text = so_far.fed.text;
+        answers = so_far.fed.answers;
+        gathered = so_far.fed.gathered;
+      } in
       record {
-        rows = h.rows ++ n.fields ∷ [];
-        answers = h.answers ++ n.answered ∷ [];
-        refusals = h.refusals ++ flag ∷ [];
-        read = more.2;
-        are = are_one A keeps column h.rows h.answers h.refusals n.fields n.answered flag h.are n.answers;
-        written = rw texts (appends-more old mid new _ _ h.written n.written);
-        answered_is = omega (arith, h.answered_is, length-append h.rows (n.fields ∷ []));
-        refused_is = rw (count_one h.refusals flag, h.refused_is) refl;
-        first_is = rw (first_one before h.refusals flag, same, ← h.answered_is, ← h.first_is) refl;
-      },
-    )
+        bytes = so_far.bytes ++ chunk;
+        taken = Consumes-trans left left' left'' so_far.bytes chunk so_far.taken more;
+        mark = so_far.mark;
+        mark_is = mark_on so_far.mark so_far.bytes chunk so_far.mark_is (on.goes_on chunk);
+        stops = stops_after stop so_far.mark (strip_bom (so_far.bytes ++ chunk)) (rest ++ chunk) s t u left'' a so_far.between b c so_far.marked fed stops;
+      }
 
-next_is : (found : Option Read) (p : Read) (fields : List (List ℕ)) (state : State) (left : List ℕ) → found ≡ Some p → fields ≡ p.0 → p.1 ≡ state → p.2 ≡ left → found ≡ Some (fields, state, left)
-next_is found p fields state left e f s l = rw (f, ← s, ← l) e
+  unfoldable pub runs_more : (rest rest' chunk : List ℕ) (s t u : State) (left left' left'' a b c : Option (List ℕ)) → RunsOn A keeps d columns rest s t left left' a b
+      → Consumes left' left'' chunk → FeedsRows A keeps d columns (rest ++ chunk) rest' t u [] [] b c → RunsOn A keeps d columns rest' s u left left'' a c
+  runs_more rest rest' chunk s t u left left' left'' a b c on more fed =
+      let so_far = on.so_far in
+      record {
+        so_far = record {
+          bytes = so_far.bytes ++ chunk;
+          taken = Consumes-trans left left' left'' so_far.bytes chunk so_far.taken more;
+          mark = so_far.mark;
+          mark_is = mark_on so_far.mark so_far.bytes chunk so_far.mark_is (on.goes_on chunk);
+          between = so_far.between;
+          marked = so_far.marked;
+          fed = subst (λ l. FeedsRows A keeps d columns l rest' s u [] [] so_far.between c) (sym (on.goes_on chunk))
+              (feeds_both A keeps d columns (strip_bom so_far.bytes) chunk rest rest' s t u [] [] [] so_far.between b c so_far.fed fed);
+        };
+        goes_on = λ others.
+            ap strip_bom (append_assoc so_far.bytes chunk others) ∙ on.goes_on (chunk ++ others) ∙ sym (append_assoc (strip_bom so_far.bytes) chunk others)
+            ∙ ap (λ l. l ++ others) (sym (on.goes_on chunk));
+      }
 
--- a header that was read is the next record of the text, and the rest is left
-pub header_read : {R : Type 0} (remaining : R → Option (List ℕ)) (delimiter : ℕ) (text : List ℕ) (header : List (List ℕ)) (a b : Reader R)
-    → IsReady delimiter a → source_of remaining a ≡ Some text → ReadRecord remaining a b true header
-    → (left : List ℕ) × (source_of remaining b ≡ Some left) × (next_record (reads_with delimiter) (reader_state a) [] [] text ≡ Some (header, reader_state b, left))
-unfolding Reached
-header_read remaining delimiter text header a b ready left read =
-    let more = rows-more remaining a b header (reads_with delimiter) (reader_state a) text text [] ready.config left (refl, refl) read in
-    let p = more.2 in
-    (more.0, more.1, next_is _ p.0 header (reader_state b) more.0 p.1 p.2 p.3.0 p.3.1)
+  -- a read failed
+  pub runs_unread : (rest : List ℕ) (place : Place) (s t : State) (left left' left'' a b : Option (List ℕ)) → RunsOn A keeps d columns rest s t left left' a b
+      → Consumes left' left'' [] → IsStanding d rest place → RunsText ReadFault A keeps d columns s t left left'' a b
+  runs_unread rest place s t left left' left'' a b on none standing =
+      runs_fail ReadFault rest [] s t t left left' left'' a b b on none (record {
+        rows = [];
+        rest = rest;
+        split = append-nil rest;
+        ended = tt;
+        text = [];
+        between = t;
+        answers = (refl, refl);
+        part = [];
+        ends = (standing.unended, refl, same_counts t);
+        output = Appends-nil b;
+      })
 
--- a header that was read and has no such column, in the text
-lacks_header : {R : Type 0} (stop : Stop) (remaining : R → Option (List ℕ)) (name : List ℕ) (number : Option ℕ) (delimiter : ℕ) (text : List ℕ) (header : List (List ℕ)) (a b : Reader R)
-    → IsReady delimiter a → source_of remaining a ≡ Some text → ReadRecord remaining a b true header → LacksColumn stop name number header
-    → (next : Read) × (next_record (reads_with delimiter) (reader_state a) [] [] text ≡ Some next) × LacksColumn stop name number next.0
-lacks_header stop remaining name number delimiter text header a b ready left read lacks =
-    let found = header_read remaining delimiter text header a b ready left read in
-    ((header, reader_state b, found.0), found.2, lacks)
+  -- the end of a text
+  pub stops_none : (kept : List ℕ) (s : State) (left a : Option (List ℕ)) → kept ≡ [] → IsAtEnd left → StopsText Done A keeps d columns [] kept s s left a a
+  stops_none kept s left a none end = record {
+    rows = [];
+    rest = kept;
+    split = refl;
+    ended = tt;
+    text = [];
+    between = s;
+    answers = (refl, refl);
+    part = [];
+    ends = (end, inl (none, refl, same_counts s));
+    output = Appends-nil a;
+  }
 
--- why a read gave no header says why the text has no records under one
-pub unanswered_by : {R : Type 0} (stop : Stop) (remaining : R → Option (List ℕ)) (name : List ℕ) (number : Option ℕ) (delimiter : ℕ) (text : List ℕ) (a b : Reader R)
-    → IsReady delimiter a → source_of remaining a ≡ Some text → ((stop ≡ WriteFault) → ⊥) → StopsHeader stop remaining name number a b
-    → UnansweredBy stop name number delimiter (reader_state a) text
-unanswered_by Done remaining name number delimiter text a b ready left fine h = rows-end remaining a b [] (reads_with delimiter) text ready.config left h
-unanswered_by NoName remaining name number delimiter text a b ready left fine h = lacks_header NoName remaining name number delimiter text h.0 a b ready left h.1 h.2
-unanswered_by (NoColumn count) remaining name number delimiter text a b ready left fine h =
-    lacks_header (NoColumn count) remaining name number delimiter text h.0 a b ready left h.1 h.2
-unanswered_by ReadFault remaining name number delimiter text a b ready left fine h = tt
-unanswered_by NoMemory remaining name number delimiter text a b ready left fine h = tt
-unanswered_by WriteFault remaining name number delimiter text a b ready left fine h = fine refl
-unanswered_by TooLong remaining name number delimiter text a b ready left fine h = h
-unanswered_by Unclosed remaining name number delimiter text a b ready left fine h = h
+  pub stops_unclosed : (kept : List ℕ) (place : Place) (s : State) (left a : Option (List ℕ)) → IsStanding d kept place → place ≡ Quoted → IsAtEnd left
+      → StopsText Unclosed A keeps d columns [] kept s s left a a
+  stops_unclosed kept place s left a standing quoted end = record {
+    rows = [];
+    rest = kept;
+    split = refl;
+    ended = tt;
+    text = [];
+    between = s;
+    answers = (refl, refl);
+    part = [];
+    ends = (end, standing.unended, sym standing.place_is ∙ quoted, refl, same_counts s);
+    output = Appends-nil a;
+  }
 
-keep_appends : (a b c : Option (List ℕ)) (xs : List ℕ) → Appends a b xs → Keeps b c → Appends a c xs
-keep_appends None b c xs x k = tt
-keep_appends (Some s) None c xs x k = absurd x
-keep_appends (Some s) (Some t) None xs x k = absurd k
-keep_appends (Some s) (Some t) (Some u) xs x k = k ∙ x
+  pub is_last : (kept : List ℕ) (place : Place) → IsStanding d kept place → kept ≢ [] → place ≢ Quoted → IsLast d (record { body = kept; end = [] })
+  is_last kept place standing some closed = record { unended = standing.unended; some = some; closed = λ quoted. closed (standing.place_is ∙ quoted); is_end = refl }
 
-keep_answered : (A : List ℕ → AnswerText → Type 0) (keeps : Bool) (column delimiter before : ℕ) (from : State) (text : List ℕ) (to : State) (rest : List ℕ)
-    (old mid new : Option (List ℕ)) (answered refused first : ℕ)
-    → HasAnswered A keeps column delimiter before from text to rest old mid answered refused first → Keeps mid new
-    → HasAnswered A keeps column delimiter before from text to rest old new answered refused first
-keep_answered A keeps column delimiter before from text to rest old mid new answered refused first h k =
-    record {
-      rows = h.rows;
-      answers = h.answers;
-      refusals = h.refusals;
-      read = h.read;
-      are = h.are;
-      written = keep_appends old mid new _ h.written k;
-      answered_is = h.answered_is;
-      refused_is = h.refused_is;
-      first_is = h.first_is;
-    }
+  ends_last : (stop : Stop) (kept : List ℕ) (s u : State) (part held' : List ℕ) (left a b : Option (List ℕ)) → IsLast d (record { body = kept; end = [] }) → IsAtEnd left → SameCounts s u
+      → (stop ≡ WriteFault → ⊥) → StopsRow stop A keeps d columns (record { body = kept; end = [] }) s [] held' a b → Ends stop A keeps d columns s kept left [] u × Writes stop a b []
+  ends_last WriteFault kept s u part held' left a b last end counts other stops = absurd (other refl)
+  ends_last (NoColumn count) kept s u part held' left a b last end counts other stops =
+      ((record { body = kept; end = [] }, inr (end, refl, last), stops.0, refl, counts), subst (λ w. Appends a w []) (sym stops.2) (Appends-nil a))
+  ends_last NoName kept s u part held' left a b last end counts other stops =
+      ((record { body = kept; end = [] }, inr (end, refl, last), stops.0, refl, counts), subst (λ w. Appends a w []) (sym stops.2) (Appends-nil a))
+  ends_last Done kept s u part held' left a b last end counts other stops = absurd stops
+  ends_last ReadFault kept s u part held' left a b last end counts other stops = absurd stops
+  ends_last NoMemory kept s u part held' left a b last end counts other stops = absurd stops
+  ends_last TooLong kept s u part held' left a b last end counts other stops = absurd stops
+  ends_last Unclosed kept s u part held' left a b last end counts other stops = absurd stops
 
-keep_nothing : (old mid new : Option (List ℕ)) (answered refused first : ℕ) → NothingAnswered old mid answered refused first → Keeps mid new
-    → NothingAnswered old new answered refused first
-keep_nothing old mid new answered refused first h k =
-    record {
-      kept = keeps-trans old mid new h.kept k;
-      answered_is = h.answered_is;
-      refused_is = h.refused_is;
-      first_is = h.first_is;
-    }
+  -- the last record was not answered
+  stops_last_text : (stop : Stop) (kept part : List ℕ) (s u : State) (left a b : Option (List ℕ)) → Ends stop A keeps d columns s kept left part u → Writes stop a b part
+      → StopsText stop A keeps d columns [] kept s u left a b
+  stops_last_text stop kept part s u left a b ends wrote = record {
+    rows = [];
+    rest = kept;
+    split = refl;
+    ended = tt;
+    text = [];
+    between = s;
+    answers = (refl, refl);
+    part = part;
+    ends = ends;
+    output = wrote;
+  }
 
-keep_text : (A : List ℕ → AnswerText → Type 0) (keeps : Bool) (column : Column) (delimiter : ℕ) (from : State) (text : List ℕ) (old mid new : Option (List ℕ)) (stop : Stop) (answered refused first : ℕ)
-    → IsAnsweredText A keeps column delimiter from text old mid stop answered refused first → Keeps mid new
-    → IsAnsweredText A keeps column delimiter from text old new stop answered refused first
-keep_text A keeps (At place) delimiter from text old mid new stop answered refused first h k =
-    (h.0, h.1, keep_answered A keeps place delimiter 0 from text h.0 h.1 old mid new answered refused first h.2 k, h.3)
-keep_text A keeps (Named name number) delimiter from text old mid new stop answered refused first (inl h) k =
-    inl (record {
-      header = h.header;
-      begun = h.begun;
-      left = h.left;
-      is_header = h.is_header;
-      column = h.column;
-      is_column = h.is_column;
-      there = h.there;
-      mid = h.mid;
-      written = h.written;
-      to = h.to;
-      rest = h.rest;
-      records = keep_answered A keeps h.column delimiter 1 h.begun h.left h.to h.rest h.mid mid new answered refused first h.records k;
-      ends = h.ends;
-    })
-keep_text A keeps (Named name number) delimiter from text old mid new stop answered refused first (inr h) k =
-    inr (keep_nothing old mid new answered refused first h.0 k, h.1)
+  pub stops_last : (stop : Stop) (kept held' : List ℕ) (s u : State) (left a b : Option (List ℕ)) → IsLast d (record { body = kept; end = [] }) → IsAtEnd left → SameCounts s u
+      → StopsRow stop A keeps d columns (record { body = kept; end = [] }) s [] held' a b → StopsText stop A keeps d columns [] kept s u left a b
+  stops_last WriteFault kept held' s u left a b last end counts stops =
+      stops_last_text WriteFault kept stops.text s u left a b (inr (record { body = kept; end = [] }, inr (end, refl, last), inl (stops.part, counts))) (prefix_flushes stops.text stops.left a b stops.gathered)
+  stops_last (NoColumn count) kept held' s u left a b last end counts stops =
+      let both = ends_last (NoColumn count) kept s u [] held' left a b last end counts (λ e. cc) stops in stops_last_text (NoColumn count) kept [] s u left a b both.0 both.1
+  stops_last NoName kept held' s u left a b last end counts stops =
+      let both = ends_last NoName kept s u [] held' left a b last end counts (λ e. cc) stops in stops_last_text NoName kept [] s u left a b both.0 both.1
+  stops_last Done kept held' s u left a b last end counts stops = absurd stops
+  stops_last ReadFault kept held' s u left a b last end counts stops = absurd stops
+  stops_last NoMemory kept held' s u left a b last end counts stops = absurd stops
+  stops_last TooLong kept held' s u left a b last end counts stops = absurd stops
+  stops_last Unclosed kept held' s u left a b last end counts stops = absurd stops
 
-pub keep_all : (A : List ℕ → AnswerText → Type 0) (keeps : Bool) (column : Column) (delimiter : ℕ) (text : List ℕ) (old mid new : Option (List ℕ)) (stop : Stop) (answered refused first : ℕ)
-    → IsAnswered A keeps column delimiter text old mid stop answered refused first → Keeps mid new
-    → IsAnswered A keeps column delimiter text old new stop answered refused first
-keep_all A keeps column delimiter text old mid new stop answered refused first (inl h) k = inl (keep_text A keeps column delimiter StartRecord (strip_bom text) old mid new stop answered refused first h k)
-keep_all A keeps column delimiter text old mid new stop answered refused first (inr (inl h)) k =
-    inr (inl (h.0, keep_text A keeps column delimiter StartRecord (strip_bom text) old mid new ReadFault answered refused first h.1 k))
-keep_all A keeps column delimiter text old mid new stop answered refused first (inr (inr h)) k = inr (inr (h.0, keep_nothing old mid new answered refused first h.1 k))
+  -- or it was, and then written or not
+  pub stops_done : (kept held : List ℕ) (s u : State) (left a b c : Option (List ℕ)) → IsLast d (record { body = kept; end = [] }) → IsAtEnd left
+      → PassesRow A keeps d columns (record { body = kept; end = [] }) s u [] held a b → Appends b c held → StopsText Done A keeps d columns [] kept s u left a c
+  stops_done kept held s u left a b c last end passes all =
+      stops_last_text Done kept passes.text s u left a c (end, inr (record { body = kept; end = [] }, refl, last, u, passes.answer, same_counts u)) (all_gathered passes.text held a b c passes.gathered all)
 
--- the stop that is shown is the one that was, or says why a read failed
-shown_stop : (stop : Stop) (why : Option Refused) → (explained_stop stop why ≡ stop) ⊎ ((stop ≡ ReadFault) × IsReadStop (explained_stop stop why))
-shown_stop ReadFault None = inl refl
-shown_stop ReadFault (Some refused.Failed) = inl refl
-shown_stop ReadFault (Some refused.Unclosed) = inr (refl, inl refl)
-shown_stop ReadFault (Some refused.TooLong) = inr (refl, inr refl)
-shown_stop Done why = inl refl
-shown_stop WriteFault why = inl refl
-shown_stop NoMemory why = inl refl
-shown_stop TooLong why = inl refl
-shown_stop Unclosed why = inl refl
-shown_stop (NoColumn count) why = inl refl
-shown_stop NoName why = inl refl
+  pub stops_cut : (kept held : List ℕ) (s u : State) (left a b c : Option (List ℕ)) → IsLast d (record { body = kept; end = [] }) → IsAtEnd left
+      → PassesRow A keeps d columns (record { body = kept; end = [] }) s u [] held a b → AppendsPrefix b c held → StopsText WriteFault A keeps d columns [] kept s u left a c
+  stops_cut kept held s u left a b c last end passes part =
+      stops_last_text WriteFault kept passes.text s u left a c (inr (record { body = kept; end = [] }, inr (end, refl, last), inr (u, passes.answer, same_counts u)))
+      (prefix_gathered passes.text held a b c passes.gathered part)
 
-pub explained_text : (A : List ℕ → AnswerText → Type 0) (keeps : Bool) (column : Column) (delimiter : ℕ) (text : List ℕ) (old new : Option (List ℕ)) (stop shown : Stop) (why : Option Refused) (answered refused first : ℕ)
-    → shown ≡ explained_stop stop why → ((shown ≡ WriteFault) → ⊥)
-    → (((stop ≡ WriteFault) → ⊥) → IsAnsweredText A keeps column delimiter StartRecord (strip_bom text) old new stop answered refused first)
-    → IsAnswered A keeps column delimiter text old new shown answered refused first
-explained_text A keeps column delimiter text old new stop shown why answered refused first is fine h = by (shown_stop stop why)
-  where
-    by : (explained_stop stop why ≡ stop) ⊎ ((stop ≡ ReadFault) × IsReadStop (explained_stop stop why)) → IsAnswered A keeps column delimiter text old new shown answered refused first
-    by (inl e) =
-        let now = h (λ w. fine (is ∙ e ∙ w)) in
-        inl (rw (is, e) now)
-    by (inr e) =
-        let now = h (λ w. cc (sym e.0 ∙ w)) in
-        inr (inl (rw is e.1, rw e.0 at now))
+  -- at the end of the input
+  pub runs_ended : (stop : Stop) (rest chunk : List ℕ) (s t u : State) (left left' left'' a b c : Option (List ℕ)) → RunsOn A keeps d columns rest s t left left' a b
+      → Consumes left' left'' chunk → chunk ≡ [] → StopsText stop A keeps d columns [] rest t u left'' b c → RunsText stop A keeps d columns s u left left'' a c
+  runs_ended stop rest chunk s t u left left' left'' a b c on taken none stops =
+      runs_fail stop rest [] s t u left left' left'' a b c on (subst (Consumes left' left'') none taken)
+      (subst (λ l. StopsText stop A keeps d columns [] l t u left'' b c) (sym (append-nil rest)) stops)
+
+  -- no more is read of a text without an end
+  pub runs_endless : (rest : List ℕ) (s t : State) (left left' a b : Option (List ℕ)) (on : RunsOn A keeps d columns rest s t left left' a b) → MAX_TEXT ≤ length on.so_far.bytes
+      → IsEndless TooLong A keeps d columns s t left left' a b
+  runs_endless rest s t left left' a b on many = record { is_long = refl; rest = rest; t = t; counts = same_counts t; so_far = on.so_far; many = many }
+
+  -- a read or a write did not end well: these are the stops of a chunk
+  pub stops_unread : (stop result : Stop) (bytes : List ℕ) (s u : State) (held held' : List ℕ) (a b : Option (List ℕ)) → FailsFeed stop A keeps d columns bytes s u held held' a b
+      → (result ≡ stop) ⊎ (result ≡ WriteFault) → result ≡ ReadFault → ⊥
+  stops_unread stop result bytes s u held held' a b fails (inr same) other = let both : WriteFault ≡ ReadFault = sym same ∙ other in cc
+  stops_unread stop result bytes s u held held' a b fails (inl same) other =
+      subst (λ k. StopsAt k A keeps d columns fails.between fails.rest fails.part) (sym same ∙ other) fails.stops
+
+  pub row_unread : (stop : Stop) (row : Row) (s : State) (held held' : List ℕ) (a b : Option (List ℕ)) → StopsRow stop A keeps d columns row s held held' a b → stop ≡ ReadFault → ⊥
+  row_unread stop row s held held' a b stops other = subst (λ k. StopsRow k A keeps d columns row s held held' a b) other stops
+
+  -- ---- the beginning of a text
+  pub begin_unread : (bytes : List ℕ) (s : State) (left left' a : Option (List ℕ)) → IsPartOfMark bytes → Consumes left left' bytes → RunsText ReadFault A keeps d columns s s left left' a a
+  begin_unread bytes s left left' a part taken = record {
+    bytes = bytes;
+    taken = taken;
+    mark = [];
+    mark_is = sym (part_strip bytes part);
+    stops = record {
+      rows = [];
+      rest = strip_bom bytes;
+      split = refl;
+      ended = tt;
+      text = [];
+      between = s;
+      answers = (refl, refl);
+      part = [];
+      ends = (subst (IsUnended d Start) (sym (part_strip bytes part)) (part_unended d bytes part), refl, same_counts s);
+      output = Appends-nil a;
+    };
+  }
+
+  pub begin_unwritten : (bytes : List ℕ) (s : State) (left left' a b : Option (List ℕ)) → bytes ≡ byte_order_mark → Consumes left left' bytes → AppendsPrefix a b byte_order_mark
+      → RunsText WriteFault A keeps d columns s s left left' a b
+  begin_unwritten bytes s left left' a b is taken part = record {
+    bytes = bytes;
+    taken = taken;
+    mark = byte_order_mark;
+    mark_is = mark_whole bytes is;
+    stops = record {
+      rows = [];
+      rest = strip_bom bytes;
+      split = refl;
+      ended = tt;
+      text = [];
+      between = s;
+      answers = (refl, refl);
+      part = [];
+      ends = inl (refl, same_counts s);
+      output = part;
+    };
+  }
+
+  pub begin_marked : (bytes kept : List ℕ) (s : State) (left left' a b : Option (List ℕ)) → bytes ≡ byte_order_mark → Consumes left left' bytes → Appends a b byte_order_mark → kept ≡ []
+      → RunsOn A keeps d columns kept s s left left' a b
+  begin_marked bytes kept s left left' a b is taken all none = record {
+    so_far = record {
+      bytes = bytes;
+      taken = taken;
+      mark = byte_order_mark;
+      mark_is = mark_whole bytes is;
+      between = b;
+      marked = all;
+      fed = subst (λ l. FeedsRows A keeps d columns l kept s s [] [] b b) (none ∙ sym (mark_none bytes is)) (feeds_none A keeps d columns kept s [] b);
+    };
+    goes_on = λ more. ap (λ l. strip_bom (l ++ more)) is ∙ mark_more more ∙ ap (λ l. l ++ more) (sym (mark_none bytes is));
+  }
+
+  pub begin_fails : (stop : Stop) (kept chunk bytes : List ℕ) (s u : State) (left left' a b : Option (List ℕ)) → kept ≡ [] → chunk ≡ bytes → strip_bom bytes ≡ bytes → Consumes left left' bytes
+      → StopsText stop A keeps d columns [] (kept ++ chunk) s u left' a b → RunsText stop A keeps d columns s u left left' a b
+  begin_fails stop kept chunk bytes s u left left' a b none is whole taken stops = record {
+    bytes = bytes;
+    taken = taken;
+    mark = [];
+    mark_is = sym whole;
+    stops = subst (λ l. StopsText stop A keeps d columns [] l s u left' a b) (ap (λ k. k ++ chunk) none ∙ is ∙ sym whole) stops;
+  }
+
+  pub begin_ends : (stop : Stop) (kept chunk bytes rest : List ℕ) (s t u : State) (left left' a b c : Option (List ℕ)) → kept ≡ [] → chunk ≡ bytes → strip_bom bytes ≡ bytes → Consumes left left' bytes
+      → FeedsRows A keeps d columns (kept ++ chunk) rest s t [] [] a b → StopsText stop A keeps d columns [] rest t u left' b c → RunsText stop A keeps d columns s u left left' a c
+  begin_ends stop kept chunk bytes rest s t u left left' a b c none is whole taken fed stops =
+      begin_fails stop kept chunk bytes s u left left' a c none is whole taken (stops_after stop [] (kept ++ chunk) rest s t u left' a a b c (Appends-nil a) fed stops)
+
+  pub begin_other : (kept chunk bytes rest : List ℕ) (s t : State) (left left' a b : Option (List ℕ)) → kept ≡ [] → chunk ≡ bytes → ((more : List ℕ) → strip_bom (bytes ++ more) ≡ bytes ++ more)
+      → Consumes left left' bytes → FeedsRows A keeps d columns (kept ++ chunk) rest s t [] [] a b → RunsOn A keeps d columns rest s t left left' a b
+  begin_other kept chunk bytes rest s t left left' a b none is goes taken fed =
+      let whole : strip_bom bytes ≡ bytes = strip_whole bytes goes in
+      record {
+        so_far = record {
+          bytes = bytes;
+          taken = taken;
+          mark = [];
+          mark_is = sym whole;
+          between = a;
+          marked = Appends-nil a;
+          fed = subst (λ l. FeedsRows A keeps d columns l rest s t [] [] a b) (ap (λ k. k ++ chunk) none ∙ is ∙ sym whole) fed;
+        };
+        goes_on = λ more. goes more ∙ ap (λ l. l ++ more) (sym whole);
+      }
+
+  -- ---- other counts of a run
+  ends_counts : (stop : Stop) (s u v : State) (rest part : List ℕ) (left : Option (List ℕ)) → SameCounts u v → Ends stop A keeps d columns s rest left part u → Ends stop A keeps d columns s rest left part v
+  ends_counts Done s u v rest part left same (end, inl (none, empty, counts)) = (end, inl (none, empty, counts_both s u v counts same))
+  ends_counts Done s u v rest part left same (end, inr (row, is, last, t, answer, counts)) = (end, inr (row, is, last, t, answer, counts_both t u v counts same))
+  ends_counts ReadFault s u v rest part left same ends = (ends.0, ends.1, counts_both s u v ends.2 same)
+  ends_counts WriteFault s u v rest part left same (inl (empty, counts)) = inl (empty, counts_both s u v counts same)
+  ends_counts WriteFault s u v rest part left same (inr (row, next, inl (some, counts))) = inr (row, next, inl (some, counts_both s u v counts same))
+  ends_counts WriteFault s u v rest part left same (inr (row, next, inr (t, answer, counts))) = inr (row, next, inr (t, answer, counts_both t u v counts same))
+  ends_counts NoMemory s u v rest part left same ends = absurd ends
+  ends_counts TooLong s u v rest part left same ends = (ends.0, ends.1, counts_both s u v ends.2 same)
+  ends_counts Unclosed s u v rest part left same ends = (ends.0, ends.1, ends.2, ends.3, counts_both s u v ends.4 same)
+  ends_counts (NoColumn count) s u v rest part left same ends = (ends.0, ends.1, ends.2, ends.3, counts_both s u v ends.4 same)
+  ends_counts NoName s u v rest part left same ends = (ends.0, ends.1, ends.2, ends.3, counts_both s u v ends.4 same)
+
+  text_counts : (stop : Stop) (s u v : State) (left left' a b : Option (List ℕ)) → SameCounts u v → RunsText stop A keeps d columns s u left left' a b → RunsText stop A keeps d columns s v left left' a b
+  text_counts stop s u v left left' a b same run = record {
+    bytes = run.bytes;
+    taken = run.taken;
+    mark = run.mark;
+    mark_is = run.mark_is;
+    stops = record {
+      rows = run.stops.rows;
+      rest = run.stops.rest;
+      split = run.stops.split;
+      ended = run.stops.ended;
+      text = run.stops.text;
+      between = run.stops.between;
+      answers = run.stops.answers;
+      part = run.stops.part;
+      ends = ends_counts stop run.stops.between u v run.stops.rest run.stops.part left' same run.stops.ends;
+      output = run.stops.output;
+    };
+  }
+
+  pub run_counts : (stop : Stop) (s u v : State) (left left' a b : Option (List ℕ)) → SameCounts u v
+      → RunsText stop A keeps d columns s u left left' a b ⊎ IsEndless stop A keeps d columns s u left left' a b
+      → RunsText stop A keeps d columns s v left left' a b ⊎ IsEndless stop A keeps d columns s v left left' a b
+  run_counts stop s u v left left' a b same (inl run) = inl (text_counts stop s u v left left' a b same run)
+  run_counts stop s u v left left' a b same (inr run) =
+      inr (record { is_long = run.is_long; rest = run.rest; t = run.t; counts = counts_both run.t u v run.counts same; so_far = run.so_far; many = run.many })

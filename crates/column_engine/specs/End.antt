@@ -5,7 +5,8 @@ use Rattle.column_engine.specs.declared.end.Stop.TheVariants as stop
 use Rattle.line_engine.specs.declared.status.Status.{Status}
 use Rattle.line_engine.specs.declared.status.Status.TheVariants as status
 
--- the status of a text that ended so, after this many refused fields: an input that cannot be read as it was asked for is a failed read
+-- the status of a text that ended so, after this many refused fields: an input that cannot be read as it was asked
+-- for is a failed read
 abbrev pub end_status : Stop → ℕ → Status
 end_status stop.Done refused = if refused == 0 then status.Done else status.Faults
 end_status stop.ReadFault refused = status.ReadFault

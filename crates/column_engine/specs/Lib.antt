@@ -1,3 +1,8 @@
-pub mod Column
-pub mod Watched
+pub mod Rows
+pub mod Answers
+pub mod Gathered
+pub mod Steps
+pub mod Feeding
+pub mod Begin
+pub mod Run
 pub mod End

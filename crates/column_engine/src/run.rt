@@ -1,258 +1,335 @@
-//! One column of a text answered, from a reader to a writer.
+//! Columns of a text answered, from a source to a sink.
 
-ghost use Rattle.std.specs.Prelude.{◌≡◌, ◌≢◌, ◌⊎◌, ◌<◌, [], true, false, ℕ, List, Ok, Err, IfErr, IfOk, OnOk, Some, length, option_map, string_bytes};
-ghost use Rattle.std.specs.Io.KnownBytes.{Keeps};
-ghost use Rattle.csv.specs.Reading.{ReadRecord, has_failed, reader_source, reader_state, source_of, strip_bom};
-ghost use Rattle.csv.specs.Records.{fields_of};
-ghost use Rattle.csv.specs.Writing.{text_written, writer_pending};
-ghost use Rattle.csv.specs.declared.parser.State.TheVariants as st;
+ghost use Rattle.std.specs.Prelude.{◌≡◌, ◌≢◌, ◌⊎◌, ◌≤◌, ◌<◌, ◌+◌, ◌++◌, [], List, ℕ, Option, IfOk, IfErr, OnOk};
+ghost use Rattle.std.specs.Prelude.{length, map};
+ghost use Rattle.std.specs.Io.KnownBytes.{Consumes, IsAtEnd};
+ghost use Rattle.line_engine.specs.Inner.Progress.{Flushes};
+ghost use Rattle.column_engine.specs.Answers.{State};
+ghost use Rattle.column_engine.specs.Feeding.{FeedsRows, IsLeft, IsStanding};
+ghost use Rattle.column_engine.specs.Run.{HasFailures, HasRun, RunsOn, RunsText, StopsText, Writes, counts_of};
+ghost use Rattle.column_engine.specs.Run.{first_range, first_state};
+ghost use Rattle.column_engine.specs.Steps.{HasRisen, RisesOnly, SameCounts, state_of};
 ghost use Rattle.column_engine.specs.declared.end.Stop.{Stop};
-ghost use Rattle.column_engine.specs.Column.{HasAnsweredUnder, IsAnswered, IsAnsweredText, IsColumnUnder, IsIdle, IsReady, LacksColumn, NothingAnswered, PassesHeader, StopsHeader, UnansweredBy, explained_stop};
 
-use crate::column::{Column, column_under};
+use crate::answer::{ColumnTask, Work};
+use crate::begin::{MARK, Start, read_start};
+use crate::columns::{Column, Range};
+use crate::cutter::{Cutter, feed};
 use crate::end::{ColumnEnd, Stop};
-use crate::engine::{ColumnRule, answer_records, read_stop};
-use crate::watched::{Refused, Watched};
-use csv::{ByteRecord, Error, Reader, ReaderBuilder, Writer};
+use crate::gather::flush;
+use crate::place::Place;
+use crate::record_buffer::RecordBuffer;
+use crate::row::{Progress, answer_row};
 use fixed_steps::Steps;
-use line_engine::LineRule;
-use std::alloc::Global;
-use std::io::{Read, Write};
+use line_engine::{LineRule, Output, Sink, Source, write_whole};
+use std::alloc::{AllocError, Global};
 use std::sync::ledger::Ledger;
 
-/// What is done with the records of a text.
-#[derive(Drop)]
-pub struct ColumnTask<'a, A> {
-    /// What answers a field.
-    pub rule: &'a A,
-    /// Which field of a record.
-    pub column: &'a Column,
-    /// Whether a field that is refused stays as it was.
-    pub is_kept: bool,
-    /// The byte between fields.
-    pub delimiter: u8,
-}
+/// How many bytes are read at a time at most.
+const CHUNK: usize = 16_384;
 
-/// The end of a text none of whose records was answered.
-fn unanswered(stop: Stop) -> ColumnEnd
-    ensures stop { result.stop ≡ stop }
-    ensures answered { result.answered ≡ 0 }
-    ensures refused { result.refused ≡ 0 }
-    ensures first { result.first ≡ 0 }
-{
-    ColumnEnd {
-        stop,
-        answered: 0,
-        refused: 0,
-        first: 0,
-    }
-}
+/// How many bytes a text has at most.
+const MAX_TEXT: u64 = 9_223_372_036_854_775_808;
 
-/// The column that a header has by its name, or by the number that the name is.
-fn column_of(row: &ByteRecord, name: &[u8], number: Option<usize>) -> Result<usize, Stop>
-    ensures column { IfOk result (λ place. IsColumnUnder name.now number (fields_of row.now) place) }
-    ensures there { IfOk result (λ place. place < length (fields_of row.now)) }
-    ensures stops { IfErr result (λ stop. LacksColumn stop name.now number (fields_of row.now)) }
+/// Writes what was gathered before the records of a text ended so, and says how they ended: a write may fail here too.
+fn stop_after<K: Sink>(stop: Stop, out: &mut Output, sink: &mut K) -> Stop
+    ensures which { (result ≡ stop) ⊎ (result ≡ Stop.WriteFault) }
+    ensures wrote { (start : Option (List ℕ)) (text left : List ℕ) → IsLeft stop left out.old
+        → Flushes [] text left start (K.written sink.old)
+        → Writes result start (K.written sink.new) text }
+    ensures failures { (start : ℕ) → HasRisen start (K.failures sink.old) stop → HasRisen start (K.failures sink.new)
+        result }
 {
-    match column_under(row, name, number) {
-        None => Err(Stop::NoName),
-        Some(place) if place >= row.len() => Err(Stop::NoColumn(row.len())),
-        Some(place) => Ok(place),
-    }
-}
-
-/// Reads a header and writes it as it is. It answers which column has the name, or the number that the name is.
-fn pass_header<S: Read, W: Write + Drop>(
-    name: &[u8],
-    number: Option<usize>,
-    delimiter: u8,
-    records: &mut Reader<S>,
-    row: &mut ByteRecord,
-    out: &mut Writer<W>,
-) -> Result<usize, Stop>
-    requires ready { IsReady delimiter records.old }
-    requires idle { IsIdle delimiter out.old }
-    ensures ready { OnOk result (IsReady delimiter records.new) }
-    ensures idle { OnOk result (IsIdle delimiter out.new) }
-    ensures header { IfOk result (λ column. PassesHeader S.remaining name.now number delimiter records.old records.new (text_written W.contents out.old) (text_written W.contents out.new) column) }
-    ensures stops { IfErr result (λ stop. StopsHeader stop S.remaining name.now number records.old records.new) }
-    ensures kept { IfErr result (λ stop. stop ≢ Stop.WriteFault → out.new ≡ out.old) }
-{
-    match records.read_byte_record(row) {
-        Ok(true) => {}
-        Ok(false) => return Err(Stop::Done),
-        Err(error) => return Err(read_stop(&error)),
-    }
-    let column = column_of(row, name, number)?;
-    match out.write_byte_record(row) {
-        Ok(()) => Ok(column),
-        Err(_) => Err(Stop::WriteFault),
-    }
-}
-
-/// Answers the records of a text under a header.
-fn answer_under<A: LineRule<L>, S: Read, W: Write + Drop, L: Ledger>(
-    task: &ColumnTask<'_, A>,
-    name: &[u8],
-    number: Option<usize>,
-    records: &mut Reader<S>,
-    row: &mut ByteRecord,
-    out: &mut Writer<W>,
-    steps: &mut Steps<L>,
-) -> ColumnEnd
-    requires ready { IsReady task.now.delimiter records.old }
-    requires idle { IsIdle task.now.delimiter out.old }
-    ensures failed { (result.stop ≡ Stop.ReadFault) ⊎ (result.stop ≡ Stop.NoMemory) → has_failed records.new ≡ true }
-    ensures answered { (text : List ℕ) → source_of S.remaining records.old ≡ Some text → result.stop ≢ Stop.WriteFault
-        → HasAnsweredUnder (A.Answers task.now.rule.now) task.now.is_kept name.now number task.now.delimiter (reader_state records.old) text
-        (text_written W.contents out.old) (text_written W.contents out.new) result.stop result.answered result.refused result.first
-        ⊎ (NothingAnswered (text_written W.contents out.old) (text_written W.contents out.new) result.answered result.refused result.first
-        × UnansweredBy result.stop name.now number task.now.delimiter (reader_state records.old) text) }
-{
-    match pass_header(name, number, task.delimiter, records, row, out) {
-        Ok(column) => {
-            let job = ColumnRule {
-                rule: task.rule,
-                is_kept: task.is_kept,
-                column,
-                delimiter: task.delimiter,
-            };
-            answer_records(&job, 1, records, row, out, steps)
-        }
-        Err(stop) => unanswered(stop),
-    }
-}
-
-/// Answers one column of the records of a text, and says how they ended.
-pub fn answer_text<A: LineRule<L>, S: Read, W: Write + Drop, L: Ledger>(
-    task: &ColumnTask<'_, A>,
-    records: &mut Reader<S>,
-    row: &mut ByteRecord,
-    out: &mut Writer<W>,
-    steps: &mut Steps<L>,
-) -> ColumnEnd
-    requires ready { IsReady task.now.delimiter records.old }
-    requires idle { IsIdle task.now.delimiter out.old }
-    ensures failed { (result.stop ≡ Stop.ReadFault) ⊎ (result.stop ≡ Stop.NoMemory) → has_failed records.new ≡ true }
-    ensures answered { (text : List ℕ) → source_of S.remaining records.old ≡ Some text → result.stop ≢ Stop.WriteFault
-        → IsAnsweredText (A.Answers task.now.rule.now) task.now.is_kept task.now.column.now task.now.delimiter (reader_state records.old) text
-        (text_written W.contents out.old) (text_written W.contents out.new) result.stop result.answered result.refused result.first }
-{
-    match task.column {
-        Column::At(column) => {
-            let job = ColumnRule {
-                rule: task.rule,
-                is_kept: task.is_kept,
-                column: *column,
-                delimiter: task.delimiter,
-            };
-            answer_records(&job, 0, records, row, out, steps)
-        }
-        Column::Named(name, number) => {
-            answer_under(task, name.as_bytes(), *number, records, row, out, steps)
-        }
-    }
-}
-
-/// A reader of the records of a text, with this byte between fields. It keeps none of them as a header.
-fn record_reader<R: Read + Drop>(
-    alloc: Global,
-    delimiter: u8,
-    reader: R,
-) -> Result<Reader<Watched<R>>, Error>
-    ensures ready { IfOk result (λ records. IsReady delimiter records) }
-    ensures state { IfOk result (λ records. reader_state records ≡ st.StartRecord) }
-    ensures source { IfOk result (λ records. source_of (λ w. R.remaining w.reader) records ≡ option_map strip_bom (R.remaining reader)) }
-{
-    let mut records = ReaderBuilder::new()
-        .delimiter(delimiter)
-        .flexible(true)
-        .from_reader(alloc, Watched::new(reader, delimiter));
-    records.set_byte_headers(ByteRecord::new(alloc))?;
-    Ok(records)
-}
-
-/// Why the records of a text ended, with what the reader refused.
-fn explained(stop: Stop, refused: Option<Refused>) -> Stop
-    ensures { result ≡ explained_stop stop refused }
-{
-    match (stop, refused) {
-        (Stop::ReadFault, Some(Refused::Unclosed)) => Stop::Unclosed,
-        (Stop::ReadFault, Some(Refused::TooLong)) => Stop::TooLong,
-        _ => stop,
-    }
-}
-
-/// Answers one column of the text of a watched reader. Where a read failed, the end says what the reader refused.
-fn answer_watched<A: LineRule<L>, R: Read, W: Write + Drop, L: Ledger>(
-    task: &ColumnTask<'_, A>,
-    records: &mut Reader<Watched<R>>,
-    row: &mut ByteRecord,
-    out: &mut Writer<W>,
-    steps: &mut Steps<L>,
-) -> ColumnEnd
-    requires ready { IsReady task.now.delimiter records.old }
-    requires idle { IsIdle task.now.delimiter out.old }
-    ensures { (stop : Stop) × (result.stop ≡ explained_stop stop (reader_source records.new).refused)
-        × ((stop ≡ Stop.ReadFault) ⊎ (stop ≡ Stop.NoMemory) → has_failed records.new ≡ true)
-        × ((text : List ℕ) → source_of (λ w. R.remaining w.reader) records.old ≡ Some text → stop ≢ Stop.WriteFault
-        → IsAnsweredText (A.Answers task.now.rule.now) task.now.is_kept task.now.column.now task.now.delimiter (reader_state records.old) text
-        (text_written W.contents out.old) (text_written W.contents out.new) stop result.answered result.refused result.first) }
-{
-    let end = answer_text(task, records, row, out, steps);
-    let stop = explained(end.stop, records.get_ref().refused());
-    ColumnEnd { stop, ..end }
-}
-
-/// Answers one column of the text of a reader.
-fn answer_reader<A: LineRule<L>, R: Read + Drop, W: Write + Drop, L: Ledger>(
-    alloc: Global,
-    task: &ColumnTask<'_, A>,
-    reader: R,
-    out: &mut Writer<W>,
-    steps: &mut Steps<L>,
-) -> ColumnEnd
-    requires idle { IsIdle task.now.delimiter out.old }
-    ensures answered { (text : List ℕ) → R.remaining reader ≡ Some text → result.stop ≢ Stop.WriteFault
-        → IsAnswered (A.Answers task.now.rule.now) task.now.is_kept task.now.column.now task.now.delimiter text
-        (text_written W.contents out.old) (text_written W.contents out.new) result.stop result.answered result.refused result.first }
-{
-    let mut row = ByteRecord::new(alloc);
-    match record_reader(alloc, task.delimiter, reader) {
-        Err(_) => unanswered(Stop::NoMemory),
-        Ok(mut records) => answer_watched(task, &mut records, &mut row, out, steps),
-    }
-}
-
-/// Writes what is still to be written, or says that the write failed.
-fn flushed<W: Write + Drop>(end: ColumnEnd, out: &mut Writer<W>) -> ColumnEnd
-    ensures text { Keeps (text_written W.contents out.old) (text_written W.contents out.new) }
-    ensures end { result.stop ≢ Stop.WriteFault → result ≡ end }
-    ensures flushed { result.stop ≢ Stop.WriteFault → writer_pending out.new ≡ [] }
-{
-    match out.flush() {
-        Ok(()) => end,
-        Err(_) => ColumnEnd {
-            stop: Stop::WriteFault,
-            ..end
+    match stop {
+        Stop::WriteFault => Stop::WriteFault,
+        _ => match flush(out, sink) {
+            Err(_) => Stop::WriteFault,
+            Ok(()) => stop,
         },
     }
 }
 
-/// Answers one column of a text, and writes its records. What was answered before a refusal is written all the same.
-pub fn run_column<A: LineRule<L>, R: Read + Drop, W: Write + Drop, L: Ledger>(
+/// Answers the records that end in a chunk, keeps what follows the last of them, and writes the answers.
+fn take_chunk<A: LineRule<L>, K: Sink, L: Ledger>(
+    task: &ColumnTask<'_, A>,
+    cutter: &mut Cutter,
+    chunk: &[u8],
+    work: &mut Work,
+    sink: &mut K,
+    steps: &mut Steps<L>,
+) -> Result<(), Stop>
+    requires standing { IsStanding task.now.delimiter cutter.old.kept cutter.old.place }
+    requires as_many { length cutter.old.progress.asked.items ≡ length task.now.columns.now }
+    requires empty { work.old.out ≡ [] }
+    ensures standing { OnOk result (IsStanding task.now.delimiter cutter.new.kept cutter.new.place) }
+    ensures empty { OnOk result (work.new.out ≡ []) }
+    ensures ok { OnOk result (FeedsRows (A.Answers task.now.rule.now) task.now.is_kept task.now.delimiter
+        task.now.columns.now
+        (cutter.old.kept ++ chunk.now) cutter.new.kept (state_of cutter.old.progress) (state_of cutter.new.progress)
+        [] [] (K.written sink.old) (K.written sink.new)) }
+    ensures err { IfErr result (λ stop. (left : Option (List ℕ)) → StopsText stop (A.Answers task.now.rule.now)
+        task.now.is_kept task.now.delimiter task.now.columns.now
+        [] (cutter.old.kept ++ chunk.now) (state_of cutter.old.progress) (state_of cutter.new.progress) left
+        (K.written sink.old) (K.written sink.new)) }
+    ensures reads { IfErr result (λ stop. stop ≢ Stop.ReadFault) }
+    ensures as_many { length cutter.new.progress.asked.items ≡ length task.now.columns.now }
+    ensures failures { RisesOnly (K.failures sink.old) (K.failures sink.new) result }
+{
+    match feed(task, cutter, chunk, work, sink, steps) {
+        Err(stop) => Err(stop_after(stop, &mut work.out, sink)),
+        Ok(()) => match flush(&mut work.out, sink) {
+            Err(_) => Err(Stop::WriteFault),
+            Ok(()) => Ok(()),
+        },
+    }
+}
+
+/// Answers the last record of a text, which has no end, where it is not empty, and says how the text ended.
+fn end_text<A: LineRule<L>, K: Sink, L: Ledger>(
+    task: &ColumnTask<'_, A>,
+    cutter: &mut Cutter,
+    work: &mut Work,
+    sink: &mut K,
+    steps: &mut Steps<L>,
+) -> Stop
+    requires standing { IsStanding task.now.delimiter cutter.old.kept cutter.old.place }
+    requires as_many { length cutter.old.progress.asked.items ≡ length task.now.columns.now }
+    requires empty { work.old.out ≡ [] }
+    ensures ends { (left : Option (List ℕ)) → IsAtEnd left → StopsText result (A.Answers task.now.rule.now)
+        task.now.is_kept task.now.delimiter task.now.columns.now
+        [] cutter.old.kept (state_of cutter.old.progress) (state_of cutter.new.progress) left (K.written sink.old)
+        (K.written sink.new) }
+    ensures reads { result ≢ Stop.ReadFault }
+    ensures failures { HasRisen (K.failures sink.old) (K.failures sink.new) result }
+{
+    if cutter.kept.is_empty() {
+        return Stop::Done;
+    }
+    if let Place::Quoted = cutter.place {
+        return Stop::Unclosed;
+    }
+    match answer_row(
+        task,
+        &mut cutter.progress,
+        cutter.kept.as_slice(),
+        &[],
+        work,
+        sink,
+        steps,
+    ) {
+        Err(stop) => stop,
+        Ok(()) => match flush(&mut work.out, sink) {
+            Err(_) => Stop::WriteFault,
+            Ok(()) => Stop::Done,
+        },
+    }
+}
+
+/// Reads the first bytes of a text, and writes a byte order mark that it begins with. Where the text ends with them,
+/// or a read or a
+/// write fails, it says how the text ended.
+fn begin_text<A: LineRule<L>, S: Source, K: Sink, L: Ledger>(
+    task: &ColumnTask<'_, A>,
+    cutter: &mut Cutter,
+    work: &mut Work,
+    source: &mut S,
+    sink: &mut K,
+    steps: &mut Steps<L>,
+) -> Result<(), Stop>
+    requires kept { cutter.old.kept ≡ [] }
+    requires place { cutter.old.place ≡ Place.Start }
+    requires as_many { length cutter.old.progress.asked.items ≡ length task.now.columns.now }
+    requires empty { work.old.out ≡ [] }
+    ensures standing { OnOk result (IsStanding task.now.delimiter cutter.new.kept cutter.new.place) }
+    ensures as_many { OnOk result (length cutter.new.progress.asked.items ≡ length task.now.columns.now) }
+    ensures empty { OnOk result (work.new.out ≡ []) }
+    ensures ok { OnOk result (RunsOn (A.Answers task.now.rule.now) task.now.is_kept task.now.delimiter
+        task.now.columns.now
+        cutter.new.kept (state_of cutter.old.progress) (state_of cutter.new.progress) (S.left source.old) (S.left
+        source.new) (K.written sink.old) (K.written sink.new)) }
+    ensures err { IfErr result (λ stop. RunsText stop (A.Answers task.now.rule.now) task.now.is_kept
+        task.now.delimiter task.now.columns.now
+        (state_of cutter.old.progress) (state_of cutter.new.progress) (S.left source.old) (S.left source.new)
+        (K.written sink.old) (K.written sink.new)) }
+    ensures same { OnOk result ((S.failures source.new ≡ S.failures source.old) × (K.failures sink.new ≡ K.failures
+        sink.old)) }
+    ensures failures { IfErr result (HasFailures (S.failures source.old) (S.failures source.new) (K.failures sink.old)
+        (K.failures sink.new)) }
+{
+    let mut start = Output::new();
+    match read_start(source, &mut start) {
+        Err(_) => Err(Stop::ReadFault),
+        Ok(Start::Marked) => match write_whole(sink, &MARK) {
+            Err(_) => Err(Stop::WriteFault),
+            Ok(()) => Ok(()),
+        },
+        Ok(Start::Other) => match take_chunk(task, cutter, start.as_bytes(), work, sink, steps) {
+            Err(stop) => Err(stop),
+            Ok(()) => Ok(()),
+        },
+        Ok(Start::Ended) => match take_chunk(task, cutter, start.as_bytes(), work, sink, steps) {
+            Err(stop) => Err(stop),
+            Ok(()) => Err(end_text(task, cutter, work, sink, steps)),
+        },
+    }
+}
+
+/// Reads a text to its end, and has its records answered.
+fn answer_text<A: LineRule<L>, S: Source, K: Sink, L: Ledger>(
+    task: &ColumnTask<'_, A>,
+    cutter: &mut Cutter,
+    work: &mut Work,
+    source: &mut S,
+    sink: &mut K,
+    steps: &mut Steps<L>,
+) -> Stop
+    requires kept { cutter.old.kept ≡ [] }
+    requires place { cutter.old.place ≡ Place.Start }
+    requires as_many { length cutter.old.progress.asked.items ≡ length task.now.columns.now }
+    requires empty { work.old.out ≡ [] }
+    ensures run { HasRun result (A.Answers task.now.rule.now) task.now.is_kept task.now.delimiter task.now.columns.now
+        (state_of cutter.old.progress) (state_of cutter.new.progress) (S.left source.old) (S.left source.new)
+        (K.written sink.old) (K.written sink.new) }
+    ensures failures { HasFailures (S.failures source.old) (S.failures source.new) (K.failures sink.old) (K.failures
+        sink.new) result }
+{
+    if let Err(stop) = begin_text(task, cutter, work, source, sink, steps) {
+        return stop;
+    }
+    let mut chunk = [0u8; CHUNK];
+    let mut taken = 0u64;
+    'chunks: while taken < MAX_TEXT {
+        match source.read(&mut chunk) {
+            Err(_) => return Stop::ReadFault,
+            Ok(0) => return end_text(task, cutter, work, sink, steps),
+            Ok(count) => match take_chunk(task, cutter, &chunk[..count], work, sink, steps) {
+                Err(stop) => return stop,
+                Ok(()) => taken += count as u64,
+            },
+        }
+    }
+    Stop::TooLong
+}
+
+/// The columns that a word means without a header; a name that is no number means the first one, until a header is
+/// read.
+fn first_range(column: &Column) -> Range
+    ensures { result ≡ first_range column.now }
+{
+    match column {
+        Column::At(range) => *range,
+        Column::Named(_, Some(range)) => *range,
+        Column::Named(_, None) => Range { from: 0, to: 0 },
+    }
+}
+
+/// The columns that each word means without a header.
+fn first_ranges(alloc: Global, columns: &[Column]) -> Result<Vec<Range>, AllocError>
+    ensures { IfOk result (λ asked. asked.items ≡ map first_range columns.now) }
+{
+    let mut asked = Vec::new(alloc);
+    'columns: for at in 0..columns.len() {
+        asked.push(first_range(&columns[at]))?;
+    }
+    Ok(asked)
+}
+
+/// Before the first record.
+fn first_progress<A>(alloc: Global, task: &ColumnTask<'_, A>) -> Result<Progress, AllocError>
+    ensures { IfOk result (λ progress. state_of progress ≡ first_state task.now.has_header task.now.columns.now) }
+{
+    let asked = first_ranges(alloc, task.columns)?;
+    Ok(Progress {
+        is_headed: task.has_header,
+        asked,
+        answered: 0,
+        refused: 0,
+        first: 0,
+    })
+}
+
+/// Room for the run.
+fn begin_cutter<A>(alloc: Global, task: &ColumnTask<'_, A>) -> Result<Cutter, AllocError>
+    ensures progress { IfOk result (λ cutter. state_of cutter.progress ≡ first_state task.now.has_header
+        task.now.columns.now) }
+    ensures kept { IfOk result (λ cutter. cutter.kept ≡ []) }
+    ensures place { IfOk result (λ cutter. cutter.place ≡ Place.Start) }
+{
+    let progress = first_progress(alloc, task)?;
+    let kept = RecordBuffer::new(alloc)?;
+    Ok(Cutter {
+        progress,
+        kept,
+        place: Place::Start,
+    })
+}
+
+/// Room for the answers.
+fn begin_work(alloc: Global) -> Result<Work, AllocError>
+    ensures { IfOk result (λ work. work.out ≡ []) }
+{
+    let text = RecordBuffer::new(alloc)?;
+    Ok(Work {
+        text,
+        reply: Output::new(),
+        out: Output::new(),
+    })
+}
+
+/// How the records of a text ended.
+fn end_of(stop: Stop, progress: &Progress) -> ColumnEnd
+    ensures stop { result.stop ≡ stop }
+    ensures counts { SameCounts (state_of progress.now) (counts_of result) }
+{
+    ColumnEnd {
+        stop,
+        answered: progress.answered,
+        refused: progress.refused,
+        first: progress.first,
+    }
+}
+
+/// Has columns of a text answered by a rule, and writes the text with these fields replaced to a sink. Every other
+/// byte stays as it was:
+/// a byte order mark, quotes, blank lines, the ends of lines.
+///
+/// It takes memory for two records of 1,048,576 bytes and for a range of columns for each word, and ends with
+/// `NoMemory` where that
+/// fails; afterwards it takes none. Each read asks for at most 16,384 bytes, and the answers to the records that
+/// ended in them are
+/// written before the next read.
+///
+/// The delimiter is an ASCII character that is no quote and no end of a line.
+pub fn run_column<A: LineRule<L>, S: Source, K: Sink, L: Ledger>(
     alloc: Global,
     task: &ColumnTask<'_, A>,
-    reader: R,
-    out: &mut Writer<W>,
+    source: &mut S,
+    sink: &mut K,
     steps: &mut Steps<L>,
 ) -> ColumnEnd
-    requires idle { IsIdle task.now.delimiter out.old }
-    ensures answered { (text : List ℕ) → R.remaining reader ≡ Some text → result.stop ≢ Stop.WriteFault
-        → IsAnswered (A.Answers task.now.rule.now) task.now.is_kept task.now.column.now task.now.delimiter text
-        (text_written W.contents out.old) (text_written W.contents out.new) result.stop result.answered result.refused result.first }
-    ensures flushed { result.stop ≢ Stop.WriteFault → writer_pending out.new ≡ [] }
+    // What was taken and what was written, by how the run ended.
+    ensures run { (result.stop ≡ Stop.NoMemory) ⊎ HasRun result.stop (A.Answers task.now.rule.now) task.now.is_kept
+        task.now.delimiter task.now.columns.now
+        (first_state task.now.has_header task.now.columns.now) (counts_of result) (S.left source.old) (S.left
+        source.new) (K.written sink.old) (K.written sink.new) }
+
+    // Which count of failures rose.
+    ensures failures { HasFailures (S.failures source.old) (S.failures source.new) (K.failures sink.old) (K.failures
+        sink.new) result.stop }
+
+    // Where there was no memory, nothing was read or written.
+    ensures memory { result.stop ≡ Stop.NoMemory → (source.new ≡ source.old) × (sink.new ≡ sink.old) }
 {
-    let end = answer_reader(alloc, task, reader, out, steps);
-    flushed(end, out)
+    match (begin_cutter(alloc, task), begin_work(alloc)) {
+        (Ok(mut cutter), Ok(mut work)) => {
+            let stop = answer_text(task, &mut cutter, &mut work, source, sink, steps);
+            end_of(stop, &cutter.progress)
+        }
+        _ => ColumnEnd {
+            stop: Stop::NoMemory,
+            answered: 0,
+            refused: 0,
+            first: 0,
+        },
+    }
 }

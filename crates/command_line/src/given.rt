@@ -1,5 +1,8 @@
 //! What the words of a command line give a command, and why they may be refused.
 
+ghost use Rattle.std.specs.Prelude.{◌≡◌, option_map};
+ghost use Rattle.clap.specs.Words.{first_value, found_of};
+
 use crate::page::{Operand, Row};
 use clap::ArgMatches;
 use std::alloc::{AllocError, Global};
@@ -60,8 +63,10 @@ impl<'w, 'a> Given<'w, 'a> {
         })
     }
 
-    /// The value of an option.
-    pub fn value(&self, row: &Row) -> Option<&'a str> {
+    /// The value of an option: what `clap` found under its name.
+    pub fn value(&self, row: &Row) -> Option<&'a str>
+        ensures { option_map (λ s. s.now) result ≡ first_value (found_of self.now.matches.now) row.now.name.now }
+    {
         self.matches.get_str(row.name)
     }
 

@@ -5,6 +5,7 @@ pub mod column;
 pub mod constants;
 pub mod convert;
 pub mod enclose;
+pub mod fit;
 pub mod format;
 pub mod least;
 pub mod lines;
@@ -33,6 +34,7 @@ pub const PROGRAM: Program = Program {
         lines::PAGE,
         enclose::PAGE,
         least::PAGE,
+        fit::PAGE,
         constants::PAGE,
         sort::PAGE,
     ],
@@ -59,6 +61,7 @@ impl<L: Ledger> Commands<L> for AllCommands {
             "lines" => lines::run(rt, given, steps),
             "enclose" => enclose::run(rt, given, steps),
             "least" => least::run(rt, given, steps),
+            "fit" => fit::run(rt, given, steps),
             "constants" => constants::run(rt, given, steps),
             _ => sort::run(rt, given, steps),
         }

@@ -1,13 +1,12 @@
-//! What is done with each input, one after another, and a question asked of each word.
+//! What is done with each input, one after another.
 
-use crate::commands::column;
-use column_engine::record_writer;
+use crate::commands::{column, fit};
 use command_line::device::{Failure, Unmarked, Writer};
 use command_line::report::{Report, push_words, report_end};
 use fixed_command::{
-    ColumnConversion, Question, Task, Watch, convert_column, explanation, first_refused,
-    greater_end, run_blocks, run_task,
+    ColumnConversion, RefusedLine, Task, Watch, convert_column, explanation, greater_end, run_task,
 };
+use fixed_fit::Question as FitQuestion;
 use fixed_io::{StdSink, StdSource};
 use fixed_steps::Steps;
 use line_engine::Status;
@@ -23,8 +22,24 @@ const MAX_TEXT: usize = 40;
 pub enum Job<'a> {
     /// It is answered.
     Task(Task<'a>),
-    /// One column of it is converted.
+    /// Columns of it are converted.
     Column(ColumnConversion),
+    /// The finest format is found that its numerals fit.
+    Fit(FitQuestion),
+}
+
+/// A report of how many lines of an input were refused, and which was the first, with its text and the cause.
+pub fn refusal_report(file: Option<&str>, count: u64, line: &RefusedLine) -> Report {
+    let mut report = Report::of(file);
+    report.text("lines refused: ");
+    report.number(count);
+    report.text(", the first in line ");
+    report.number(line.number);
+    report.text(", '");
+    report.bytes(line.text.as_bytes(), MAX_TEXT);
+    report.text("': ");
+    report.bytes(line.cause.as_bytes(), 160);
+    report
 }
 
 /// Says on standard error how many lines of an input were refused, and which was the first, with its text and the
@@ -37,15 +52,7 @@ fn report_refused<L: Ledger>(
     steps: &mut Steps<L>,
 ) {
     if let Some(line) = watch.first() {
-        let mut report = Report::of(file);
-        report.text("lines refused: ");
-        report.number(watch.refused());
-        report.text(", the first in line ");
-        report.number(line.number);
-        report.text(", '");
-        report.bytes(line.text.as_bytes(), MAX_TEXT);
-        report.text("': ");
-        report.bytes(line.cause.as_bytes(), 160);
+        let mut report = refusal_report(file, watch.refused(), &line);
         if let Task::Convert(rule) = task {
             let more = explanation(rule, line.text.as_bytes(), line.cause.as_bytes(), steps);
             report.bytes(more.as_bytes(), 640);
@@ -75,7 +82,7 @@ fn run_task_on<R: Read + Drop, L: Ledger>(
     status
 }
 
-/// Converts a column of one input, and says on standard error why it did not end well.
+/// Converts columns of one input, and says on standard error why it did not end well.
 fn run_column_on<R: Read + Drop, L: Ledger>(
     rt: &HostRuntime,
     conversion: &ColumnConversion,
@@ -83,9 +90,14 @@ fn run_column_on<R: Read + Drop, L: Ledger>(
     reader: R,
     steps: &mut Steps<L>,
 ) -> Status {
-    let mut out = record_writer(conversion.delimiter, rt.stdout());
-    let end = convert_column(rt.alloc(), conversion, reader, &mut out, steps);
-    column::report_end(rt, file, &end);
+    let failure = Failure::new(None);
+    let mut source = StdSource::new(reader);
+    let mut sink = StdSink::new(Writer {
+        writer: rt.stdout(),
+        failure: &failure,
+    });
+    let end = convert_column(rt.alloc(), conversion, &mut source, &mut sink, steps);
+    column::report_end(rt, file, &end, &failure);
     end.status()
 }
 
@@ -100,6 +112,10 @@ fn run_reader<R: Read + Drop, L: Ledger>(
     match job {
         Job::Task(task) => run_task_on(rt, task, file, reader, steps),
         Job::Column(conversion) => run_column_on(rt, conversion, file, reader, steps),
+        Job::Fit(question) => {
+            let mut source = StdSource::new(Unmarked::new(reader));
+            fit::run_on(rt, question, file, &mut source, steps)
+        }
     }
 }
 
@@ -152,39 +168,4 @@ pub fn run_inputs<L: Ledger>(
         }
     }
     end
-}
-
-/// Says on standard error which word was the first that is refused, and why.
-fn report_word<L: Ledger>(
-    rt: &HostRuntime,
-    question: &Question,
-    words: &[&str],
-    steps: &mut Steps<L>,
-) {
-    if let Some(refused) = first_refused(question, words, steps) {
-        let mut report = Report::of(words.get(refused.place).copied());
-        let block = refused.block.as_bytes();
-        report.bytes(block.strip_prefix(b"error: ").unwrap_or(block), 200);
-        report.send(rt);
-    }
-}
-
-/// Asks a question of each word. Where one is refused, standard error names the first that is.
-pub fn run_question<L: Ledger>(
-    rt: &HostRuntime,
-    question: &Question,
-    words: &[&str],
-    steps: &mut Steps<L>,
-) -> Status {
-    let failure = Failure::new(None);
-    let mut sink = StdSink::new(Writer {
-        writer: rt.stdout(),
-        failure: &failure,
-    });
-    let status = run_blocks(question, words, &mut sink, steps);
-    report_end(rt, None, status, sink.lines(), &failure);
-    if status == Status::Faults {
-        report_word(rt, question, words, steps);
-    }
-    status
 }

@@ -7,7 +7,7 @@ pub const RADIX: Row = Row {
     letter: Some('r'),
     value: "RADIX",
     choices: &["2", "8", "10", "16"],
-    help: "The radix of the numerals: 2, 8, 10 (default), 16",
+    help: "The radix of numerals and bare words: 2, 8, 10 (default), 16",
 };
 
 pub const POLICY: Row = Row {
@@ -24,6 +24,22 @@ pub const MODE: Row = Row {
     value: "MODE",
     choices: &["nearest", "floor", "ceil", "zero"],
     help: "How it is rounded: nearest (default), floor, ceil, zero",
+};
+
+pub const TARGET_MODE: Row = Row {
+    name: "target-mode",
+    letter: None,
+    value: "MODE",
+    choices: &["nearest", "floor", "ceil", "zero"],
+    help: "How it is rounded to TARGET: nearest, floor (default), ceil, zero",
+};
+
+pub const FROM: Row = Row {
+    name: "from",
+    letter: None,
+    value: "WHAT",
+    choices: &["text", "bits"],
+    help: "A line is a numeral (text, default) or a word of SOURCE (bits)",
 };
 
 pub const PRINT: Row = Row {

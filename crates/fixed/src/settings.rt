@@ -1,38 +1,55 @@
 //! What the formats and the options of a conversion name.
 
-use crate::options::{MODE, PLACES, POLICY, PRINT, RADIX};
+ghost use Rattle.std.specs.Prelude.{◌≡◌, IfOk, Some};
+ghost use Rattle.fixed_respell.specs.FormatNames.{IsFormatName};
+
+use crate::options::{FROM, MODE, PLACES, POLICY, PRINT, RADIX, TARGET_MODE};
 use command_line::given::{Asked, Given, Refusal};
 use command_line::page::Row;
 use fixed_bits::{Format, Policy, ReadMode};
 use fixed_command::{
-    ConvertRule, Limit, Places, Print, Settings, mode_named, policy_named, print_named, radix_named,
+    ConvertRule, Limit, Places, Print, Settings, Spelling, mode_named, policy_named, print_named,
+    radix_named, spelling_named, target_mode_named,
 };
 use fixed_numeral::Radix;
-use fixed_respell::format_word;
+use fixed_respell::format_named;
 
 /// The format that a word names.
-pub fn format_of<'a>(word: &'a str) -> Asked<'a, Format> {
-    match format_word(word.as_bytes()) {
+pub fn format_of<'a>(word: &'a str) -> Asked<'a, Format>
+    ensures { IfOk result (λ f. IsFormatName word.now f) }
+{
+    match format_named(word.as_bytes()) {
         Some(format) => Ok(format),
         None => Err(Refusal::Word(
             word,
-            "is not a format: I or U, whole bits, F, fraction bits, together 8, 16, 32 or 64",
+            "is not a format: I or U, whole bits, F, fraction bits, 1 to 64 in all; or as Q15, UQ8.8",
         )),
     }
 }
 
-/// Whether a word has the shape of a format: I or U, and then digits and F. A file of such a name is written `./I8F8`.
+/// Whether all of some bytes, of which there are some, are digits or one of two others.
+fn are_counts(bytes: &[u8], one: u8, other: u8) -> bool {
+    !bytes.is_empty()
+        && bytes
+            .iter()
+            .all(|b| b.is_ascii_digit() || *b == one || *b == other)
+}
+
+/// Whether a word has the shape of a format: I or U, and then digits and F; or Q or UQ, and then digits and a point. A
+/// file of such a name is written `./I8F8`.
 fn is_like_format(word: &str) -> bool {
     match word.as_bytes() {
-        [b'I' | b'U', rest @ ..] => {
-            !rest.is_empty() && rest.iter().all(|b| b.is_ascii_digit() || *b == b'F')
-        }
+        [b'U' | b'u', b'Q' | b'q', rest @ ..] => are_counts(rest, b'.', b'.'),
+        [b'Q' | b'q', rest @ ..] => are_counts(rest, b'.', b'.'),
+        [b'I' | b'U' | b'i' | b'u', rest @ ..] => are_counts(rest, b'F', b'f'),
         _ => false,
     }
 }
 
 /// What an option's value names, or a refusal of the value.
-fn known<'a, T>(found: Option<T>, given: &Given<'_, 'a>, row: &Row) -> Asked<'a, T> {
+fn known<'a, T>(found: Option<T>, given: &Given<'_, 'a>, row: &Row) -> Asked<'a, T>
+    ensures { IfOk result (λ a. found.entry ≡ Some a) }
+{
     match found {
         Some(found) => Ok(found),
         None => Err(Refusal::Word(
@@ -55,6 +72,20 @@ pub fn policy_of<'a>(given: &Given<'_, 'a>) -> Asked<'a, Policy> {
 /// The mode that the option names.
 pub fn mode_of<'a>(given: &Given<'_, 'a>) -> Asked<'a, ReadMode> {
     known(mode_named(given.value(&MODE)), given, &MODE)
+}
+
+/// The mode that the option names for the way to the target.
+fn target_mode_of<'a>(given: &Given<'_, 'a>) -> Asked<'a, ReadMode> {
+    known(
+        target_mode_named(given.value(&TARGET_MODE)),
+        given,
+        &TARGET_MODE,
+    )
+}
+
+/// How a line spells a number, as the option says.
+fn spelling_of<'a>(given: &Given<'_, 'a>) -> Asked<'a, Spelling> {
+    known(spelling_named(given.value(&FROM)), given, &FROM)
 }
 
 /// What the options say of an answer is written.
@@ -126,11 +157,13 @@ pub fn conversion<'a>(given: &Given<'_, 'a>, place: usize) -> Asked<'a, (Convert
         Err(refusal) => return Err(refusal),
     };
     let settings = Settings {
+        spelling: spelling_of(given)?,
         radix: radix_of(given)?,
         source,
         target,
         policy: policy_of(given)?,
         mode: mode_of(given)?,
+        target_mode: target_mode_of(given)?,
         print,
     };
     Ok((ConvertRule::new(settings), files))

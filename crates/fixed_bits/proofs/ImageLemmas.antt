@@ -1,22 +1,40 @@
 -- Images: what a wide number leaves, uniqueness, and the ends of a range.
-use Rattle.std.proofs.Common.{◌≡◌, ℕ, zero, suc, ◌+◌, ◌-◌, ◌*◌, ◌^◌, ◌<◌, ◌≤◌, Bool, true, false, ℤ, pos, ◌+ℤ◌, ◌-ℤ◌, ◌≤ℤ◌, arith, refl, sym, ap, inl, inr, ⊎_elim, ◌∙◌}
+use Rattle.std.proofs.Common.{◌≡◌, ℕ, zero, suc, ◌+◌, ◌-◌, ◌*◌, ◌^◌, ◌<◌, ◌≤◌, Bool, true, false, ℤ, pos, ◌+ℤ◌, arith, refl, sym, ap, inl, inr, ⊎_elim, ◌∙◌}
 use Rattle.std.specs.Prelude.{◌<ℤ◌}
 use Rattle.std.proofs.lemmas.Bool.{cases_lt}
 use Rattle.std.proofs.lemmas.Int.{ints, by_lt_z}
 use Rattle.std.proofs.lemmas.Nat.{pow_pos}
+use Rattle.std.proofs.Math.Nat.{pow-succ'}
 use Rattle.std.proofs.Math.Pow.{pow_mono}
-use Rattle.fixed_bits.specs.Ranges.{IsInRange, IsOutOfRange, IsWidth, IsWide, lowest, greatest}
-use Rattle.fixed_bits.specs.Images.{IsImage, IsSaturated, IsWrapped, DiffersByMultiple, wrap_to_unsigned}
-use Rattle.fixed_bits.specs.Lemmas.InnerLaws.{below, near_unsigned}
+use Rattle.fixed_bits.specs.Formats.{IsFormat, IsTypeFormat}
+use Rattle.fixed_bits.specs.Ranges.{IsInRange, IsOutOfRange, IsTypeWidth, IsWidth, IsWide, lowest, greatest}
+use Rattle.fixed_bits.specs.Images.{IsImage, IsSaturated, IsWrapped, DiffersByMultiple}
 use Rattle.fixed_bits.specs.declared.format.Policy.{Policy}
 use Rattle.fixed_bits.specs.declared.format.Policy.TheVariants.{Checked, Saturating, Wrapping}
 
--- ---- facts of the four widths
+-- ---- facts of widths
+twice_some : (n : ℕ) → 0 < n → 2 ^ n ≡ 2 * 2 ^ (n - 1)
+twice_some zero some = absurd (omega (arith, some))
+twice_some (suc n) some = let e : suc n - 1 ≡ n = omega arith in rw e (omega (arith, pow-succ' 2 n))
+
 pub twice : (n : ℕ) → IsWidth n → 2 ^ n ≡ 2 * 2 ^ (n - 1)
-twice n (inl e) = rw e refl
-twice n (inr (inl e)) = rw e refl
-twice n (inr (inr (inl e))) = rw e refl
-twice n (inr (inr (inr e))) = rw e refl
+twice n w = twice_some n w.some
+
+-- an integer type has as many bits as a format may have
+pub type_width : (n : ℕ) → IsTypeWidth n → IsWidth n
+type_width n (inl e) = record { some = omega (arith, e); most = omega (arith, e) }
+type_width n (inr (inl e)) = record { some = omega (arith, e); most = omega (arith, e) }
+type_width n (inr (inr (inl e))) = record { some = omega (arith, e); most = omega (arith, e) }
+type_width n (inr (inr (inr e))) = record { some = omega (arith, e); most = omega (arith, e) }
+
+pub type_least : (n : ℕ) → IsTypeWidth n → 8 ≤ n
+type_least n (inl e) = omega (arith, e)
+type_least n (inr (inl e)) = omega (arith, e)
+type_least n (inr (inr (inl e))) = omega (arith, e)
+type_least n (inr (inr (inr e))) = omega (arith, e)
+
+pub type_format : (w f : ℕ) → IsTypeFormat w f → IsFormat w f
+type_format w f is = record { is_width = type_width w is.is_width; within = is.within }
 
 -- ---- the last bits, and what has to be taken off
 
@@ -79,10 +97,7 @@ out_not_in s n v (inr l) h = let k = h.high in omega (arith, ints)
 
 -- ---- what is in range is wide
 pub width_most : (n : ℕ) → IsWidth n → n ≤ 64
-width_most n (inl e) = omega (arith, e)
-width_most n (inr (inl e)) = omega (arith, e)
-width_most n (inr (inr (inl e))) = omega (arith, e)
-width_most n (inr (inr (inr e))) = omega (arith, e)
+width_most n w = w.most
 
 -- the ends of a range of at most 64 bits are wide
 pub lowest_wide : (s : Bool) (n : ℕ) → n ≤ 64 → IsWide (lowest s n)

@@ -1,11 +1,12 @@
 -- Numbers by sign and magnitude: their images, and where they are moved.
 use Rattle.std.proofs.Common.{◌≡◌, ℕ, zero, suc, ◌+◌, ◌-◌, ◌*◌, ◌/◌, ◌%◌, ◌^◌, ◌<◌, ◌≤◌, ◌⊎◌, ◌↔◌, Bool, true, false, not, if◌then◌else◌, IsTrue, IfSome, Option, Some, None, ⊎_elim, div-add-mod', refl, sym, ap, ◌∙◌, arith, inl, inr, ℤ, pos, negsuc, unsigned_abs, ◌+ℤ◌, ◌*ℤ◌, mod-lt, mul-le-mul_right}
 use Rattle.std.specs.Int.{is_negative}
+use mir.Val.{bool_byte}
 use Rattle.std.proofs.Math.Nat.{div-add-mod}
 use Rattle.std.proofs.Math.Pow.{pow_mono}
 use Rattle.std.proofs.lemmas.Bool.{cases_lt}
 use Rattle.std.proofs.lemmas.Int.{ints}
-use Rattle.std.proofs.lemmas.Nat.{pow_pos, pow-add}
+use Rattle.std.proofs.lemmas.Nat.{div-mul-add, pow_pos, pow-add}
 use Rattle.fixed_bits.specs.Down.{IsDown, down}
 use Rattle.fixed_bits.specs.Formats.{FormatParts, IsFormat}
 use Rattle.fixed_bits.specs.Images.{IsImage, IsSaturated, IsWrapped, DiffersByMultiple}
@@ -180,11 +181,20 @@ chosen_in_range f true negative other end low e i = small_in_range f.signed nega
 chosen_in_range f false negative other end low e i = i
 
 -- ---- the ones of a width
+one_less : (m u t : ℕ) → m ≡ u * t → 0 < u → 0 < t → m - 1 ≡ (t - 1) * u + (u - 1)
+one_less m u zero e some more = absurd (omega (arith, more))
+one_less m u (suc t) e some more = let f : suc t - 1 ≡ t = omega arith in rw f (omega (arith, e, some))
+
 pub ones_are : (n : ℕ) → IsWidth n → (2 ^ 64 - 1) / 2 ^ (64 - n) ≡ 2 ^ n - 1
-ones_are n (inl e) = rw e refl
-ones_are n (inr (inl e)) = rw e refl
-ones_are n (inr (inr (inl e))) = rw e refl
-ones_are n (inr (inr (inr e))) = rw e refl
+ones_are n w =
+    let parts : 2 ^ 64 - 1 ≡ (2 ^ n - 1) * 2 ^ (64 - n) + (2 ^ (64 - n) - 1) = one_less (2 ^ 64) (2 ^ (64 - n)) (2 ^ n) (wide_multiple n w.most) (pow_pos (64 - n)) (pow_pos n) in
+    ap (λ m. m / 2 ^ (64 - n)) parts ∙ div-mul-add (2 ^ n - 1) (2 ^ (64 - n)) (2 ^ (64 - n) - 1) (omega (arith, pow_pos (64 - n)))
+
+-- the half of them is the greatest signed magnitude, and one more below zero
+pub half_of_ones : (signed negative : Bool) (n ones one : ℕ) → IsWidth n → signed ≡ true → ones ≡ 2 ^ n - 1 → one ≡ bool_byte negative → ones / 2 + one ≡ greatest_magnitude signed negative n
+half_of_ones false negative n ones one w t e f = absurd (cc)
+half_of_ones true true n ones one w t e f = omega (arith, twice n w, pow_pos (n - 1), e, f)
+half_of_ones true false n ones one w t e f = omega (arith, twice n w, pow_pos (n - 1), e, f)
 
 -- ---- the Wrapping image by the lowest bits of a magnitude
 -- the greatest magnitudes on both sides, and 0, make a turn

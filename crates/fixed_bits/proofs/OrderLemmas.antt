@@ -1,13 +1,13 @@
 -- The order of formats.
-use Rattle.std.proofs.Common.{◌≡◌, ℕ, ◌+◌, ◌-◌, ◌*◌, ◌<◌, ◌≤◌, ◌⊎◌, ◌↔◌, Bool, true, false, refl, ap, ◌∙◌, arith, inl, inr, ⊎_elim}
+use Rattle.std.proofs.Common.{◌≡◌, ℕ, ◌+◌, ◌-◌, ◌*◌, ◌<◌, ◌≤◌, ◌⊎◌, Bool, true, false, refl, ap, ◌∙◌, arith, inl, inr, ⊎_elim}
 use Rattle.std.proofs.lemmas.Bool.{cases_lt}
-use Rattle.fixed_bits.specs.Formats.{FormatParts, IsFormat}
-use Rattle.fixed_bits.specs.Ranges.{IsWidth}
+use Rattle.fixed_bits.specs.Formats.{FormatParts, IsTypeFormat}
+use Rattle.fixed_bits.specs.Ranges.{IsTypeWidth}
 use Rattle.fixed_bits.specs.Laws.{RankIsOrder, RankIsTheOne}
 use Rattle.fixed_bits.specs.Order.{IsBefore, rank, rank_of_width, rank_of_sign}
 
 -- formats of a lesser width have lesser numbers
-widths_apart : (v w : ℕ) → IsWidth v → IsWidth w → v < w → rank_of_width v + 2 * (v + 1) ≤ rank_of_width w
+widths_apart : (v w : ℕ) → IsTypeWidth v → IsTypeWidth w → v < w → rank_of_width v + 2 * (v + 1) ≤ rank_of_width w
 widths_apart v w (inl e) (inl h) l = absurd (omega (arith, e, h, l))
 widths_apart v w (inl e) (inr (inl h)) l = rw (e, h) (omega arith)
 widths_apart v w (inl e) (inr (inr (inl h))) l = rw (e, h) (omega arith)
@@ -29,7 +29,7 @@ pub within_width : (s : Bool) (w f : ℕ) → f ≤ w → rank_of_sign s w + f <
 within_width true w f fits = omega arith
 within_width false w f fits = omega arith
 
-wider : (f g : FormatParts) → IsFormat f.width f.frac → IsFormat g.width g.frac → f.width < g.width → rank f < rank g
+wider : (f g : FormatParts) → IsTypeFormat f.width f.frac → IsTypeFormat g.width g.frac → f.width < g.width → rank f < rank g
 wider f g x y l = omega (arith, widths_apart f.width g.width x.is_width y.is_width l, within_width f.signed f.width f.frac x.within)
 
 same_width : (s t : Bool) (w f g : ℕ) → f ≤ w → (((s ≡ false) × (t ≡ true)) ⊎ ((s ≡ t) × (f < g))) → rank_of_sign s w + f < rank_of_sign t w + g
@@ -82,7 +82,7 @@ parts s w f = record { signed = s; width = w; frac = f }
 parts_are : (f g : FormatParts) → f.signed ≡ g.signed → f.width ≡ g.width → f.frac ≡ g.frac → f ≡ g
 parts_are f g s w r = ap (λ x. parts x f.width f.frac) s ∙ (ap (λ x. parts g.signed x f.frac) w ∙ ap (λ x. parts g.signed g.width x) r)
 
-pub rank_unique : (f g : FormatParts) → IsFormat f.width f.frac → IsFormat g.width g.frac → rank f ≡ rank g → f ≡ g
+pub rank_unique : (f g : FormatParts) → IsTypeFormat f.width f.frac → IsTypeFormat g.width g.frac → rank f ≡ rank g → f ≡ g
 rank_unique f g x y e =
     ⊎_elim
     (λ (less : f.width < g.width). absurd (omega (arith, e, wider f g x y less)))
@@ -96,24 +96,24 @@ rank_unique f g x y e =
     (cases_lt f.width g.width)
 
 -- each format has a number below 248
-most_of : (w : ℕ) → IsWidth w → rank_of_width w + 2 * (w + 1) ≤ 248
+most_of : (w : ℕ) → IsTypeWidth w → rank_of_width w + 2 * (w + 1) ≤ 248
 most_of w (inl e) = rw e (omega arith)
 most_of w (inr (inl e)) = rw e (omega arith)
 most_of w (inr (inr (inl e))) = rw e (omega arith)
 most_of w (inr (inr (inr e))) = rw e (omega arith)
 
-pub rank_below : (f : FormatParts) → IsFormat f.width f.frac → rank f < 248
+pub rank_below : (f : FormatParts) → IsTypeFormat f.width f.frac → rank f < 248
 rank_below f is = omega (arith, most_of f.width is.is_width, within_width f.signed f.width f.frac is.within)
 
 -- each number below 248 is that of a format
-in_width : (w base n : ℕ) → IsWidth w → rank_of_width w ≡ base → base ≤ n → n < base + 2 * (w + 1) → (g : FormatParts) × IsFormat g.width g.frac × (rank g ≡ n)
+in_width : (w base n : ℕ) → IsTypeWidth w → rank_of_width w ≡ base → base ≤ n → n < base + 2 * (w + 1) → (g : FormatParts) × IsTypeFormat g.width g.frac × (rank g ≡ n)
 in_width w base n is place low high =
     ⊎_elim
     (λ (less : n - base < w + 1). (record { signed = false; width = w; frac = n - base }, record { is_width = is; within = omega arith }, omega (arith, place, low, less)))
     (λ (more : w + 1 ≤ n - base). (record { signed = true; width = w; frac = n - base - (w + 1) }, record { is_width = is; within = omega (arith, high, more) }, omega (arith, place, low, more, high)))
     (cases_lt (n - base) (w + 1))
 
-pub rank_has_format : (n : ℕ) → n < 248 → (g : FormatParts) × IsFormat g.width g.frac × (rank g ≡ n)
+pub rank_has_format : (n : ℕ) → n < 248 → (g : FormatParts) × IsTypeFormat g.width g.frac × (rank g ≡ n)
 rank_has_format n most =
     ⊎_elim
     (λ (a : n < 18). in_width 8 0 n (inl refl) refl (omega arith) (omega (arith, a)))

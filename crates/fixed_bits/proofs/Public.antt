@@ -2,13 +2,13 @@
 use Rattle.std.specs.Prelude.{◌≡◌, ℕ, ◌+◌, ◌-◌, ◌*◌, ◌^◌, ◌<◌, ◌≤◌, ◌↔◌, Bool, false, IsTrue, ℤ, pos, ◌*ℤ◌, unsigned_abs, Option, IfSome}
 use Rattle.std.specs.Int.{is_negative}
 use Rattle.fixed_bits.specs.Down.{IsDown, down}
-use Rattle.fixed_bits.specs.Formats.{FormatParts, IsFormat}
+use Rattle.fixed_bits.specs.Formats.{FormatParts, IsFormat, IsTypeFormat}
 use Rattle.fixed_bits.specs.Images.{DiffersByMultiple, IsImage, IsWrapped}
 use Rattle.fixed_bits.specs.Laws.{RangeIsDecided, EndsAreWide, ImagesAgree, CheckedHasNone, ImageIsTheOne, ImageIsInRange, DownIsTheOne, RankIsOrder, RoundedIsTheOne, EqualFractionsRoundAlike}
 use Rattle.fixed_bits.specs.Nearest.{IsNearest, IsEven}
 use Rattle.fixed_bits.specs.Numbers.{IsImageUnlessRefused, IsNumber, IsRefused, number_of_image, with_sign}
 use Rattle.fixed_bits.specs.Order.{rank}
-use Rattle.fixed_bits.specs.Ranges.{IsInRange, IsOutOfRange, IsWidth, IsWide}
+use Rattle.fixed_bits.specs.Ranges.{IsInRange, IsOutOfRange, IsTypeWidth, IsWidth, IsWide}
 use Rattle.fixed_bits.specs.Rounded.{IsRounded}
 use Rattle.fixed_bits.specs.declared.format.Policy.{Policy}
 use Rattle.fixed_bits.specs.declared.format.Policy.TheVariants.{Checked}
@@ -26,6 +26,16 @@ use Rattle.fixed_bits.proofs.RoundedLemmas
 -- ---- ranges and images
 pub width_most : (n : ℕ) → IsWidth n → n ≤ 64
 width_most = ImageLemmas.width_most
+
+-- an integer type has as many bits as a format may have
+pub type_width : (n : ℕ) → IsTypeWidth n → IsWidth n
+type_width = ImageLemmas.type_width
+
+pub type_least : (n : ℕ) → IsTypeWidth n → 8 ≤ n
+type_least = ImageLemmas.type_least
+
+pub type_format : (w f : ℕ) → IsTypeFormat w f → IsFormat w f
+type_format = ImageLemmas.type_format
 
 pub in_wide : (s : Bool) (n : ℕ) (v : ℤ) → n ≤ 64 → IsInRange s n v → IsWide v
 in_wide = ImageLemmas.in_wide
@@ -125,13 +135,13 @@ pub rounded_same : EqualFractionsRoundAlike
 rounded_same = LawLemmas.rounded_alike
 
 -- ---- the order of formats
-pub rank_below : (f : FormatParts) → IsFormat f.width f.frac → rank f < 248
+pub rank_below : (f : FormatParts) → IsTypeFormat f.width f.frac → rank f < 248
 rank_below = OrderLemmas.rank_below
 
-pub rank_has_format : (n : ℕ) → n < 248 → (g : FormatParts) × IsFormat g.width g.frac × (rank g ≡ n)
+pub rank_has_format : (n : ℕ) → n < 248 → (g : FormatParts) × IsTypeFormat g.width g.frac × (rank g ≡ n)
 rank_has_format = OrderLemmas.rank_has_format
 
-pub rank_unique : (f g : FormatParts) → IsFormat f.width f.frac → IsFormat g.width g.frac → rank f ≡ rank g → f ≡ g
+pub rank_unique : (f g : FormatParts) → IsTypeFormat f.width f.frac → IsTypeFormat g.width g.frac → rank f ≡ rank g → f ≡ g
 rank_unique = OrderLemmas.rank_unique
 
 pub rank_order : RankIsOrder

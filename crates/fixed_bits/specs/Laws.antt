@@ -3,7 +3,7 @@ use Rattle.std.specs.Prelude.{◌≡◌, ℕ, ◌*◌, ◌<◌, ◌≤◌, ◌�
 use Rattle.fixed_bits.specs.Ranges.{IsInRange, IsOutOfRange, IsWidth, IsWide, lowest, greatest}
 use Rattle.fixed_bits.specs.Images.{IsImage}
 use Rattle.fixed_bits.specs.Down.{IsDown, down}
-use Rattle.fixed_bits.specs.Formats.{FormatParts, IsFormat}
+use Rattle.fixed_bits.specs.Formats.{FormatParts, IsTypeFormat}
 use Rattle.fixed_bits.specs.Nearest.{IsNearest}
 use Rattle.fixed_bits.specs.Order.{IsBefore, rank}
 use Rattle.fixed_bits.specs.Rounded.{IsRounded}
@@ -19,15 +19,18 @@ abbrev pub NearestIsTheOne : Type 0
 NearestIsTheOne = (num den : ℕ) → 0 < den → HasExactlyOne (IsNearest num den)
 
 abbrev pub RoundedIsTheOne : Type 0
-RoundedIsTheOne = (mode : ReadMode) (negative : Bool) (num den : ℕ) → 0 < den → HasExactlyOne (IsRounded mode negative num den)
+RoundedIsTheOne = (mode : ReadMode) (negative : Bool) (num den : ℕ) → 0 < den
+    → HasExactlyOne (IsRounded mode negative num den)
 
 -- equal fractions have equal cross products
 abbrev pub EqualFractionsRoundAlike : Type 0
-EqualFractionsRoundAlike = (mode : ReadMode) (negative : Bool) (n d n' d' q : ℕ) → 0 < d → 0 < d' → n * d' ≡ n' * d → IsRounded mode negative n d q → IsRounded mode negative n' d' q
+EqualFractionsRoundAlike = (mode : ReadMode) (negative : Bool) (n d n' d' q : ℕ) → 0 < d → 0 < d' → n * d' ≡ n' * d
+    → IsRounded mode negative n d q → IsRounded mode negative n' d' q
 
 -- every number is in the range or out of it, and none is both
 abbrev pub RangeIsDecided : Type 0
-RangeIsDecided = (s : Bool) (n : ℕ) (v : ℤ) → (IsInRange s n v ⊎ IsOutOfRange s n v) × (IsOutOfRange s n v → ¬ IsInRange s n v)
+RangeIsDecided = (s : Bool) (n : ℕ) (v : ℤ)
+    → (IsInRange s n v ⊎ IsOutOfRange s n v) × (IsOutOfRange s n v → ¬ IsInRange s n v)
 
 -- the ends of a range of at most 64 bits are wide
 abbrev pub EndsAreWide : Type 0
@@ -43,7 +46,8 @@ CheckedHasNone = (s : Bool) (n : ℕ) (v c : ℤ) → IsOutOfRange s n v → ¬ 
 
 -- images are determined
 abbrev pub ImageIsTheOne : Type 0
-ImageIsTheOne = (p : Policy) (s : Bool) (n : ℕ) (v c d : ℤ) → IsWidth n → IsImage p s n v c → IsImage p s n v d → c ≡ d
+ImageIsTheOne = (p : Policy) (s : Bool) (n : ℕ) (v c d : ℤ) → IsWidth n → IsImage p s n v c → IsImage p s n v d
+    → c ≡ d
 
 abbrev pub ImageIsInRange : Type 0
 ImageIsInRange = (p : Policy) (s : Bool) (n : ℕ) (v c : ℤ) → IsImage p s n v c → IsInRange s n c
@@ -57,10 +61,11 @@ DownKeepsOrder = (b c : ℤ) (f g : ℕ) → b ≤ℤ c → down b f g ≤ℤ do
 
 -- a format comes before another exactly where its number is less
 abbrev pub RankIsOrder : Type 0
-RankIsOrder = (f g : FormatParts) → IsFormat f.width f.frac → IsFormat g.width g.frac → IsBefore f g ↔ (rank f < rank g)
+RankIsOrder = (f g : FormatParts) → IsTypeFormat f.width f.frac → IsTypeFormat g.width g.frac
+    → IsBefore f g ↔ (rank f < rank g)
 
 -- each number below 248 is that of exactly one format, and no format has another number
 abbrev pub RankIsTheOne : Type 0
-RankIsTheOne = ((f : FormatParts) → IsFormat f.width f.frac → rank f < 248)
-    × ((n : ℕ) → n < 248 → (f : FormatParts) × IsFormat f.width f.frac × (rank f ≡ n))
-    × ((f g : FormatParts) → IsFormat f.width f.frac → IsFormat g.width g.frac → rank f ≡ rank g → f ≡ g)
+RankIsTheOne = ((f : FormatParts) → IsTypeFormat f.width f.frac → rank f < 248)
+    × ((n : ℕ) → n < 248 → (f : FormatParts) × IsTypeFormat f.width f.frac × (rank f ≡ n))
+    × ((f g : FormatParts) → IsTypeFormat f.width f.frac → IsTypeFormat g.width g.frac → rank f ≡ rank g → f ≡ g)

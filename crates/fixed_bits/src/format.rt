@@ -2,14 +2,14 @@
 
 ghost use Rattle.std.specs.Prelude.{◌≡◌, ◌↔◌, ◌≤◌, ◌<◌, ◌^◌, ◌-◌, ◌*◌, ◌/◌, ◌%◌, pos, false, IsTrue, IsSome, IsNone, IfSome, Option};
 ghost use Rattle.fixed_bits.specs.Ranges.{IsInRange, IsOutOfRange, IsWide, lowest, greatest};
-ghost use Rattle.fixed_bits.specs.Formats.{IsFormat};
+ghost use Rattle.fixed_bits.specs.Formats.{IsFormat, IsTypeFormat};
 ghost use Rattle.fixed_bits.specs.Images.{IsImage, IsWrapped};
 
 use crate::masks::mask;
 use crate::number::{Number, greatest_magnitude, signed_number};
 use std::marker::Model;
 
-/// A sign rule, a width in bits of 8, 16, 32 or 64, and a fraction length in bits of at most the width.
+/// A sign rule, a width of 1 to 64 bits, and a fraction length in bits of at most the width.
 #[derive(Clone, Copy, Debug, PartialEq, Eq)]
 pub struct Format {
     signed: bool,
@@ -31,9 +31,10 @@ impl Model for Format {
 }
 
 impl Format {
-    /// The format with these three parts. `None` exactly where the width isn't 8, 16, 32 or 64, or the fraction is longer than the width.
+    /// The format with these three parts, of as many bits as an integer type has. `None` exactly where the width isn't
+    /// 8, 16, 32 or 64, or the fraction is longer than the width.
     pub fn new(signed: bool, width: u32, frac: u32) -> Option<Format>
-        ensures exists { IsSome result ↔ IsFormat width frac }
+        ensures exists { IsSome result ↔ IsTypeFormat width frac }
         ensures parts { IfSome result (λ f. (f.signed ≡ signed) × (f.width ≡ width) × (f.frac ≡ frac)) }
     {
         match width {
@@ -43,6 +44,19 @@ impl Format {
                 frac: frac as u8,
             }),
             _ => None,
+        }
+    }
+
+    /// The format with these three parts, of any width. `None` exactly where the width isn't from 1 to 64, or the
+    /// fraction is longer than the width.
+    pub fn of_any_width(signed: bool, width: u32, frac: u32) -> Option<Format>
+        ensures exists { IsSome result ↔ IsFormat width frac }
+        ensures parts { IfSome result (λ f. (f.signed ≡ signed) × (f.width ≡ width) × (f.frac ≡ frac)) }
+    {
+        if width > 0 && width <= 64 && frac <= width {
+            Some(Format::of(signed, width, frac))
+        } else {
+            None
         }
     }
 

@@ -2,7 +2,7 @@
 
 ghost use Rattle.std.specs.Prelude.{◌≡◌, ◌↔◌, ℕ, ℤ, pos, Bool, IsTrue};
 ghost use Rattle.std.specs.Ordering.{int_cmp};
-ghost use Rattle.fixed_bits.specs.Ranges.{IsWide, IsInRange, IsWidth, lowest, greatest};
+ghost use Rattle.fixed_bits.specs.Ranges.{IsWide, IsInRange, IsTypeWidth, lowest, greatest};
 ghost use Rattle.fixed_bits.specs.Images.{IsWrapped, IsSaturated};
 ghost use Rattle.fixed_bits.specs.Down.{IsDown};
 
@@ -53,7 +53,7 @@ pub trait Inner: Copy + Eq + Ord + Hash {
     fn wrap(v: i128) -> Self
         ensures { result ≡ wrapped v };
 
-    ghost width_law: { IsWidth BITS };
+    ghost width_law: { IsTypeWidth BITS };
 
     ghost zero_law: { number ZERO ≡ pos 0 };
 

@@ -1,13 +1,13 @@
-//! The order of formats: by width, then unsigned before signed, then by fraction length.
+//! The order of the formats of 8, 16, 32 and 64 bits: by width, then unsigned before signed, then by fraction length.
 
 ghost use Rattle.std.specs.Prelude.{◌≡◌, ◌↔◌, ◌<◌, ◌≤◌, ◌+◌, ◌*◌, IsSome, IfSome};
-ghost use Rattle.fixed_bits.specs.Ranges.{IsWidth};
-ghost use Rattle.fixed_bits.specs.Formats.{IsFormat};
+ghost use Rattle.fixed_bits.specs.Ranges.{IsTypeWidth};
+ghost use Rattle.fixed_bits.specs.Formats.{IsTypeFormat};
 ghost use Rattle.fixed_bits.specs.Order.{rank, rank_in_width, rank_of_width};
 
 use crate::format::Format;
 
-/// How many formats there are.
+/// How many formats there are with as many bits as an integer type has.
 pub const FORMAT_COUNT: usize = 248;
 
 /// The rank of the first format with 16 bits, and of those with 32 and 64.
@@ -18,36 +18,36 @@ const FIRST_OF_32: u32 = 52;
 const FIRST_OF_64: u32 = 118;
 
 impl Format {
-    /// The number of the format in the order, from 0 to 247.
-    pub fn rank(self) -> usize
-        ensures rank { result ≡ rank self }
-        ensures below { result < FORMAT_COUNT }
+    /// The number of the format in the order, from 0 to 247. `None` exactly where the width isn't 8, 16, 32 or 64.
+    pub fn rank(self) -> Option<usize>
+        ensures exists { IsSome result ↔ IsTypeFormat self.width self.frac }
+        ensures rank { IfSome result (λ i. (i ≡ rank self) × (i < FORMAT_COUNT)) }
     {
         let width = self.width();
-        let before = first_of_width(width);
+        let before = first_of_width(width)?;
         let sign = if self.signed() { width + 1 } else { 0 };
-        (before + sign + self.frac()) as usize
+        Some((before + sign + self.frac()) as usize)
     }
 }
 
-/// The rank of the first format with this many bits.
-fn first_of_width(width: u32) -> u32
-    requires { IsWidth width }
-    ensures rank { result ≡ rank_of_width width }
-    ensures room { result + 2 * (width + 1) ≤ FORMAT_COUNT }
+/// The rank of the first format with this many bits. `None` exactly where it isn't the width of an integer type.
+fn first_of_width(width: u32) -> Option<u32>
+    ensures exists { IsSome result ↔ IsTypeWidth width }
+    ensures rank { IfSome result (λ i. (i ≡ rank_of_width width) × (i + 2 * (width + 1) ≤ FORMAT_COUNT)) }
 {
     match width {
-        8 => 0,
-        16 => FIRST_OF_16,
-        32 => FIRST_OF_32,
-        _ => FIRST_OF_64,
+        8 => Some(0),
+        16 => Some(FIRST_OF_16),
+        32 => Some(FIRST_OF_32),
+        64 => Some(FIRST_OF_64),
+        _ => None,
     }
 }
 
 /// The format with number `i` in the order, from 0; `None` exactly where `i` is 248 or more.
 pub fn format_at(i: usize) -> Option<Format>
     ensures exists { IsSome result ↔ (i < FORMAT_COUNT) }
-    ensures rank { IfSome result (λ f. IsFormat f.width f.frac × (rank f ≡ i)) }
+    ensures rank { IfSome result (λ f. IsTypeFormat f.width f.frac × (rank f ≡ i)) }
 {
     if i >= FORMAT_COUNT {
         return None;
@@ -66,10 +66,10 @@ pub fn format_at(i: usize) -> Option<Format>
 
 /// The format with number `i` among those with this many bits.
 fn format_of_width(width: u32, i: u32) -> Option<Format>
-    requires width { IsWidth width }
+    requires width { IsTypeWidth width }
     requires below { i < 2 * (width + 1) }
     ensures exists { IsSome result }
-    ensures parts { IfSome result (λ f. (f.width ≡ width) × IsFormat f.width f.frac × (rank_in_width f ≡ i)) }
+    ensures parts { IfSome result (λ f. (f.width ≡ width) × IsTypeFormat f.width f.frac × (rank_in_width f ≡ i)) }
 {
     if i <= width {
         Format::new(false, width, i)

@@ -1,7 +1,8 @@
 -- What the calls for the words of formats give.
 use Rattle.std.specs.Prelude.{◌≡◌, ℕ, List}
 use Rattle.fixed_bits.specs.Formats.{FormatParts}
-use Rattle.fixed_respell.specs.Words.{IsFormatWord}
+use Rattle.fixed_respell.specs.FormatNames.{IsFormatName}
+use Rattle.fixed_respell.specs.Words.{format_text}
 use Rattle.fixed_c.specs.Arguments.{NamesFormat}
 use Rattle.fixed_c.specs.Numbers.{flag_of, format_of}
 use Rattle.fixed_c.specs.Outcome.{Never, Unless}
@@ -9,17 +10,22 @@ use Rattle.fixed_c.specs.declared.arguments.FixedFormat.{FixedFormat}
 use Rattle.fixed_c.specs.declared.refusal.Refusal.{Refusal}
 use Rattle.fixed_c.specs.declared.refusal.Refusal.TheVariants.{BadFormat, BadWord}
 
--- the word is that of some format
+-- the word names some format
 abbrev pub NamesSomeFormat : List ℕ → Type 0
-NamesSomeFormat word = (f : FormatParts) × IsFormatWord word f
+NamesSomeFormat word = (f : FormatParts) × IsFormatName word f
 
--- the word is that of the format, in which 1 is for a signed one
+-- the word names the format, in which 1 is for a signed one
 pub record IsFormatNamed (word : List ℕ) (given : FixedFormat) : Type 0 where
   pub format : FormatParts
-  pub word_is : IsFormatWord word format
+  pub word_is : IsFormatName word format
   pub is_signed : given.is_signed ≡ flag_of format.signed
   pub width : given.width ≡ format.width
   pub frac : given.frac ≡ format.frac
+
+-- the word of a format, as the programs write it
+pub record IsFormatText (word : List ℕ) (f : FormatParts) : Type 0 where
+  pub format : NamesFormat f
+  pub text : word ≡ format_text f
 
 -- the refusals of the two calls
 abbrev pub WordIsRefused : List ℕ → Refusal → Type 0

@@ -77,7 +77,7 @@ pub fn format_of(given: FixedFormat, bad: Refusal) -> Result<Format, Refusal>
         (λ f. (f ≡ format_of given.is_signed given.width given.frac) × NamesFormat (format_of given.is_signed given.width given.frac))
         (λ refusal. (¬ NamesFormat (format_of given.is_signed given.width given.frac)) × (refusal ≡ bad)) }
 {
-    match Format::new(given.is_signed != 0, given.width, given.frac) {
+    match Format::of_any_width(given.is_signed != 0, given.width, given.frac) {
         Some(format) => Ok(format),
         None => Err(bad),
     }

@@ -16,8 +16,7 @@ ghost use Rattle.fixed_c.specs.Scan.{IsLeadingIn, ScanIsRefused};
 ghost use Rattle.fixed_c.specs.Style.{IsPrintedIn, StyledIsRefused};
 ghost use Rattle.fixed_c.specs.Rows.{ConvertsRow, HaveBits, HaveRows, PrintedEnd, ReadsRow, RowsEnd};
 ghost use Rattle.fixed_c.specs.Texts.{TextEnds};
-ghost use Rattle.fixed_c.specs.Words.{FormatIsRefused, IsFormatNamed, WordIsRefused};
-ghost use Rattle.fixed_respell.specs.Words.{IsFormatWord};
+ghost use Rattle.fixed_c.specs.Words.{FormatIsRefused, IsFormatNamed, IsFormatText, WordIsRefused};
 
 use crate::arguments::{FixedFormat, given_text};
 use crate::number::{FixedEnclosure, FixedNumber};
@@ -227,7 +226,7 @@ pub extern "C" fn fixed_format_of_word(word: &[u8], out: &mut FixedFormat) -> u3
 #[unsafe(no_mangle)]
 pub extern "C" fn fixed_word_of_format(format: FixedFormat, out: &mut [u8], len: &mut usize) -> u32
     ensures { TextEnds
-        (λ word. IsFormatWord word (format_of format.is_signed format.width format.frac))
+        (λ word. IsFormatText word (format_of format.is_signed format.width format.frac))
         (FormatIsRefused (format_of format.is_signed format.width format.frac)) out.old out.new len.old len.new result }
 {
     put_word(format, out, len)

@@ -3,20 +3,19 @@
 ghost use Rattle.std.specs.Prelude.{MatchResult};
 ghost use Rattle.fixed_c.specs.Numbers.{format_of};
 ghost use Rattle.fixed_c.specs.Texts.{TextEnds};
-ghost use Rattle.fixed_c.specs.Words.{FormatIsRefused, IsFormatNamed, WordIsRefused};
-ghost use Rattle.fixed_respell.specs.Words.{IsFormatWord};
+ghost use Rattle.fixed_c.specs.Words.{FormatIsRefused, IsFormatNamed, IsFormatText, WordIsRefused};
 
 use crate::arguments::{FixedFormat, format_of};
 use crate::number::flag;
 use crate::refusal::Refusal;
 use crate::texts::put_text;
-use fixed_respell::{format_name, format_word};
+use fixed_respell::{format_name, format_named};
 
 /// The format of a word.
 pub fn named_format(word: &[u8]) -> Result<FixedFormat, Refusal>
     ensures { MatchResult result (IsFormatNamed word.now) (WordIsRefused word.now) }
 {
-    match format_word(word) {
+    match format_named(word) {
         Some(format) => Ok(FixedFormat {
             is_signed: flag(format.signed()),
             width: format.width(),
@@ -29,7 +28,7 @@ pub fn named_format(word: &[u8]) -> Result<FixedFormat, Refusal>
 /// Hands over the word of a format.
 pub fn put_word(format: FixedFormat, out: &mut [u8], len: &mut usize) -> u32
     ensures { TextEnds
-        (λ word. IsFormatWord word (format_of format.is_signed format.width format.frac))
+        (λ word. IsFormatText word (format_of format.is_signed format.width format.frac))
         (FormatIsRefused (format_of format.is_signed format.width format.frac)) out.old out.new len.old len.new result }
 {
     match format_of(format, Refusal::BadFormat) {

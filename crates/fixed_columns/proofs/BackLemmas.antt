@@ -11,13 +11,13 @@ use Rattle.std.proofs.lemmas.Bool.{false≢true}
 use Rattle.std.proofs.lemmas.Fmt.{decimal_is_IsNumeral}
 use Rattle.std.proofs.lemmas.Str.{encode_ascii}
 use Rattle.std.proofs.lemmas.Str.Parse.{digit_from_value}
-use Rattle.fixed_bits.specs.Formats.{FormatParts, IsFormat}
+use Rattle.fixed_bits.specs.Formats.{FormatParts, IsTypeFormat}
 use Rattle.fixed_numeral.specs.Numeral.{Exponent, HasNumeral, IsExponentOf, Parts, exponent_text, fraction_text, fractional_digits, is_sign}
 use Rattle.fixed_numeral.specs.declared.radix.Radix.TheVariants.{Dec}
 use Rattle.fixed_laws.specs.Laws.{DefaultTextReadsBack}
 use Rattle.fixed_respell.specs.Split.{count_of}
 use Rattle.fixed_respell.specs.Words.{format_text, sign_letter}
-use Rattle.fixed_respell.specs.Lemmas.FormatLemmas.{width_most}
+use Rattle.fixed_bits.proofs.Public.{type_width}
 use Rattle.fixed_respell.specs.Lemmas.SplitLemmas.{count_cons}
 use Rattle.fixed_write.specs.Styled.{IsStyledText, padded_text, padding, sign_and_prefix}
 use Rattle.fixed_write.specs.Texts.{IsShortestText, decimal_text, point_text}
@@ -120,9 +120,9 @@ letter_above : (s : Bool) → 32 < sign_letter s
 letter_above true = omega arith
 letter_above false = omega arith
 
-word_above : (f : FormatParts) → IsFormat f.width f.frac → AreAbove 32 (format_text f)
+word_above : (f : FormatParts) → IsTypeFormat f.width f.frac → AreAbove 32 (format_text f)
 word_above f is =
-    let most = width_most f.width is.is_width in
+    let most = (type_width f.width is.is_width).most in
     let within = is.within in
     (letter_above f.signed, above_append 32 (decimal (f.width - f.frac)) (70 ∷ decimal f.frac) (decimal_above (f.width - f.frac) (omega (arith, most))) (omega arith, decimal_above f.frac (omega (arith, most, within))))
 

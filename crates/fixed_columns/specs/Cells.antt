@@ -3,7 +3,7 @@ use Rattle.std.specs.Prelude.{◌≡◌, ◌+◌, ◌<◌, ℕ, ℤ, Bool, false
 use Rattle.std.specs.List.{count_by}
 use Rattle.std.specs.declared.cmp.Ordering.{Ordering}
 use Rattle.std.specs.Ordering.{nat_cmp, bool_cmp, is_eq, is_lt, ordering_then}
-use Rattle.fixed_bits.specs.Formats.{FormatParts, IsFormat}
+use Rattle.fixed_bits.specs.Formats.{FormatParts, IsTypeFormat}
 use Rattle.fixed_bits.specs.Ranges.{IsInRange}
 use Rattle.fixed_convert.specs.Order.{order_of}
 
@@ -14,7 +14,7 @@ pub record CellParts : Type 0 where
 
 -- the format is one, and the bits are in its range
 pub record IsCell (c : CellParts) : Type 0 where
-  pub format : IsFormat c.format.width c.format.frac
+  pub format : IsTypeFormat c.format.width c.format.frac
   pub in_range : IsInRange c.format.signed c.format.width c.bits
 
 -- the cell of a sign rule, a width, a fraction length and bits

@@ -15,8 +15,9 @@ use fixed_point::Fixed;
 use std::cmp::Ordering;
 use std::marker::Model;
 
-/// A number of a format. Equal cells have the same format and the same bits; their order is that of their values, ties
-/// in the order of their formats: by width, then unsigned before signed, then by fraction length.
+/// A number of a format of 8, 16, 32 or 64 bits. Equal cells have the same format and the same bits; their order is
+/// that of their values, ties in the order of their formats: by width, then unsigned before signed, then by fraction
+/// length.
 #[derive(Clone, Copy, Debug, PartialEq, Eq)]
 pub struct Cell {
     format: Format,
@@ -36,25 +37,24 @@ impl Model for Cell {
 }
 
 impl Cell {
-    /// The cell of a format with these bits. `None` exactly where the bits are out of the format's range.
+    /// The cell of a format with these bits. `None` exactly where the format's width isn't 8, 16, 32 or 64, or the bits
+    /// are out of its range.
     pub fn new(format: Format, bits: i128) -> Option<Cell>
-        ensures exists { IsSome result ↔ IsInRange format.signed format.width bits }
+        ensures exists { IsSome result ↔ IsCell (record { format = format; bits = bits }) }
         ensures parts { IfSome result (λ c. c ≡ record { format = format; bits = bits }) }
     {
-        if format.contains(bits) {
+        if format.rank().is_some() && format.contains(bits) {
             Some(Cell { format, bits })
         } else {
             None
         }
     }
 
-    /// The cell of a format with these bits, which are in the format's range.
+    /// The cell of a format with these bits, of which a caller knows that there is one.
     pub(crate) fn within(format: Format, bits: i128) -> Cell
-        requires { IsInRange format.signed format.width bits }
+        requires { IsCell (record { format = format; bits = bits }) }
         ensures { result ≡ record { format = format; bits = bits } }
     {
-        // What its width says of a format: it is one.
-        let _ = format.width();
         Cell { format, bits }
     }
 

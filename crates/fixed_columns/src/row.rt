@@ -1,6 +1,7 @@
 //! What a line spells.
 
 ghost use Rattle.std.specs.Prelude.{◌≡◌, IfOk, IfErr};
+ghost use Rattle.fixed_bits.specs.Formats.{IsTypeFormat};
 ghost use Rattle.fixed_columns.specs.Rows.{HasFault, IsNumeralOf, IsRefusedNumeral, Spells, after_spaces};
 
 use crate::cell::Cell;
@@ -24,6 +25,7 @@ fn without_leading_spaces(line: &[u8]) -> &[u8]
 
 /// The cell of a format that a decimal numeral is read as.
 fn numeral_cell(numeral: &[u8], format: Format) -> Result<Cell, ParseFixedError>
+    requires { IsTypeFormat format.width format.frac }
     ensures cell { IfOk result (λ c. (c.format ≡ format) × IsNumeralOf format numeral.now c.bits) }
     ensures refused { IfErr result (λ kind. IsRefusedNumeral format numeral.now kind) }
 {

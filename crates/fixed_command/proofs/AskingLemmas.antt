@@ -1,5 +1,5 @@
 -- What is answered to the line that asks for a conversion.
-use Rattle.std.proofs.Common.{◌≡◌, ℕ, zero, suc, ◌+◌, ◌-◌, ◌^◌, ◌<◌, ◌≤◌, ◌/◌, ◌%◌, Bool, true, false, cond, eqb, nat_lt, List, [], ◌∷◌, ◌++◌, length, map, ℤ, pos, negsuc, refl, sym, ap, ◌∙◌, subst, arith, inl, inr, length-append, if◌then◌else◌, ◌==◌}
+use Rattle.std.proofs.Common.{◌≡◌, ℕ, zero, suc, ◌+◌, ◌-◌, ◌^◌, ◌<◌, ◌≤◌, ◌/◌, ◌%◌, Bool, true, false, cond, eqb, nat_lt, List, [], ◌∷◌, ◌++◌, length, map, ◌||◌, ℤ, pos, negsuc, refl, sym, ap, ◌∙◌, subst, arith, inl, inr, length-append, if◌then◌else◌, ◌==◌}
 use Rattle.std.specs.Fmt.{decimal, digit_glyph, sign_text, signed_decimal}
 use Rattle.std.specs.Int.{is_negative}
 use Rattle.std.specs.Int.Digits.{digits_of}
@@ -13,22 +13,29 @@ use Rattle.fixed_bits.specs.declared.format.Policy.{Policy}
 use Rattle.fixed_bits.specs.declared.format.Policy.TheVariants.{Checked, Saturating, Wrapping}
 use Rattle.fixed_bits.specs.declared.mode.ReadMode.{ReadMode}
 use Rattle.fixed_bits.specs.declared.mode.ReadMode.TheVariants.{NearestEven, Floor, Ceil, TowardsZero}
-use Rattle.fixed_bits.proofs.Public.{image_within}
+use Rattle.fixed_bits.proofs.Public.{image_within, width_most}
 use Rattle.fixed_numeral.specs.Messages.{message_of}
 use Rattle.fixed_numeral.specs.declared.error.ParseErrorKind.{ParseErrorKind}
 use Rattle.fixed_numeral.specs.declared.radix.Radix.{Radix}
 use Rattle.fixed_numeral.specs.declared.radix.Radix.TheVariants.{Bin, Oct, Dec, Hex}
 use Rattle.fixed_write.specs.Texts.{IsShortestText, decimal_text, fraction_part, last_digits, point_text, whole_digits}
-use Rattle.fixed_respell.specs.Answer.{Asks, IsAnswer, respelled_answer, task_of, verdict}
+use Rattle.fixed_respell.specs.Answer.{AsksBy, respelled_answer, task_of, verdict}
+use Rattle.fixed_respell.specs.FormatNames.{IsFormatName}
 use Rattle.fixed_respell.specs.Language.{fault_answer}
 use Rattle.fixed_respell.specs.LineWords.{HasWords, longest_line, space}
 use Rattle.fixed_respell.specs.Reached.{IsRefusal, IsRespelled}
 use Rattle.fixed_respell.specs.Split.{count_of}
-use Rattle.fixed_respell.specs.Words.{format_text, mode_text, policy_text, radix_text, sign_letter, slash}
-use Rattle.fixed_respell.specs.Lemmas.FormatLemmas.{width_most}
+use Rattle.fixed_respell.specs.Words.{IsPolicyWord, format_text, mode_text, policy_text, radix_text, sign_letter, slash}
+use Rattle.fixed_respell.proofs.Public.{text_names}
 use Rattle.fixed_respell.specs.Lemmas.SplitLemmas.{count-append, count_cons}
+use Rattle.fixed_numeral.proofs.Public.{message_short}
+use Rattle.fixed_numeral.specs.declared.error.ParseErrorKind.TheVariants.{Overflow}
+use Rattle.fixed_respell.proofs.Public.{fault_appended}
 use Rattle.line_engine.specs.AnswerText.{AnswerText}
-use Rattle.fixed_command.specs.Convert.{IsReply, asking_line, asking_words, printed}
+use Rattle.line_engine.specs.Output.{AppendsAnswer}
+use Rattle.fixed_command.specs.Inner.Moved.{HasPushed}
+use Rattle.fixed_command.specs.Convert.{AreFormats, IsAnswerBy, IsMovedAnswer, IsNoSource, IsReply, IsSource, asking_line, asking_words, asks_a_line}
+use Rattle.fixed_command.specs.Printed.{printed}
 use Rattle.fixed_command.specs.declared.convert.Settings.{Settings}
 
 -- ---- what has no space
@@ -127,11 +134,7 @@ format_unspaced f is =
     ∙ both_unspaced (decimal (f.width - f.frac)) (70 ∷ decimal f.frac) (decimal_unspaced (f.width - f.frac) (omega arith)) fraction
 
 -- ---- what the line asks for
-pub record AreFormats (s : Settings) : Type 0 where
-  pub source : IsFormat s.source.width s.source.frac
-  pub target : IsFormat s.target.width s.target.frac
-
-asks : (s : Settings) (numeral : List ℕ) → AreFormats s → length (asking_line s numeral) ≤ longest_line → Asks (asking_line s numeral) (task_of s.radix s.source s.target s.policy s.mode numeral)
+asks : (s : Settings) (numeral : List ℕ) → AreFormats s → length (asking_line s numeral) ≤ longest_line → AsksBy IsFormatName IsPolicyWord (asking_line s numeral) (task_of s.radix s.source s.target s.policy s.mode numeral)
 asks s numeral formats short = record {
   short = short;
   radix_word = radix_text s.radix;
@@ -152,8 +155,8 @@ asks s numeral formats short = record {
     );
   };
   radix = refl;
-  source = record { format = formats.source; text = refl };
-  target = record { format = formats.target; text = refl };
+  source = text_names s.source formats.source;
+  target = text_names s.target formats.target;
   policy = inr refl;
 }
 
@@ -161,15 +164,15 @@ asks s numeral formats short = record {
 pub respelled_range : (s : Settings) (numeral : List ℕ) (bits : ℤ) (o : Bool) → IsRespelled s.mode s.radix numeral s.policy s.source s.target bits o → IsInRange s.target.signed s.target.width bits
 respelled_range s numeral bits o is = image_within s.policy s.target.signed s.target.width is.reached.moved bits is.reached.target_image
 
-pub respelled_reply : (s : Settings) (numeral text : List ℕ) (bits : ℤ) (o : Bool) → AreFormats s → length (asking_line s numeral) ≤ longest_line → IsRespelled s.mode s.radix numeral s.policy s.source s.target bits o → IsShortestText bits s.target.frac text → IsWide bits
+pub respelled_reply : (s : Settings) (numeral text : List ℕ) (bits : ℤ) (o : Bool) → asks_a_line s.spelling s.target_mode ≡ true → AreFormats s → length (asking_line s numeral) ≤ longest_line → IsRespelled s.mode s.radix numeral s.policy s.source s.target bits o → IsShortestText bits s.target.frac text → IsWide bits
     → IsReply s numeral (record { text = printed s.print s.target (respelled_answer text bits o).text text bits; fault = false })
-respelled_reply s numeral text bits o formats short is shortest wide = record {
+respelled_reply s numeral text bits o line formats short is shortest wide = record {
   answer = respelled_answer text bits o;
-  asked = inr (record {
+  asked = subst (λ b. IsAnswerBy b s numeral (respelled_answer text bits o)) (sym line) (inr (record {
     task = task_of s.radix s.source s.target s.policy s.mode numeral;
     asks = asks s numeral formats short;
     answered = inr (record { bits = bits; overflowed = o; respelled = is; text = text; shortest = shortest; answer_is = refl });
-  });
+  }));
   written = inr (record {
     clean = refl;
     text = text;
@@ -181,13 +184,73 @@ respelled_reply s numeral text bits o formats short is shortest wide = record {
   });
 }
 
-pub refused_reply : (s : Settings) (numeral : List ℕ) (kind : ParseErrorKind) → AreFormats s → length (asking_line s numeral) ≤ longest_line → IsRefusal s.mode s.radix numeral s.policy s.source s.target kind → IsReply s numeral (fault_answer (message_of kind))
-refused_reply s numeral kind formats short is = record {
+pub refused_reply : (s : Settings) (numeral : List ℕ) (kind : ParseErrorKind) → asks_a_line s.spelling s.target_mode ≡ true → AreFormats s → length (asking_line s numeral) ≤ longest_line → IsRefusal s.mode s.radix numeral s.policy s.source s.target kind → IsReply s numeral (fault_answer (message_of kind))
+refused_reply s numeral kind line formats short is = record {
   answer = fault_answer (message_of kind);
-  asked = inr (record {
+  asked = subst (λ b. IsAnswerBy b s numeral (fault_answer (message_of kind))) (sym line) (inr (record {
     task = task_of s.radix s.source s.target s.policy s.mode numeral;
     asks = asks s numeral formats short;
     answered = inl (record { kind = kind; refusal = is; answer_is = refl });
-  });
+  }));
   written = inl (record { faulty = refl; reply_is = refl });
 }
+
+-- ---- the replies of numbers that are moved in the target mode
+pub fault_reply : (s : Settings) (numeral message : List ℕ) → asks_a_line s.spelling s.target_mode ≡ false → IsMovedAnswer s numeral (fault_answer message) → IsReply s numeral (fault_answer message)
+fault_reply s numeral message moved is = record {
+  answer = fault_answer message;
+  asked = subst (λ b. IsAnswerBy b s numeral (fault_answer message)) (sym moved) is;
+  written = inl (record { faulty = refl; reply_is = refl });
+}
+
+pub moved_reply : (s : Settings) (numeral text : List ℕ) (bits : ℤ) (o : Bool) → asks_a_line s.spelling s.target_mode ≡ false → IsMovedAnswer s numeral (respelled_answer text bits o) → IsShortestText bits s.target.frac text → IsWide bits
+    → IsReply s numeral (record { text = printed s.print s.target (respelled_answer text bits o).text text bits; fault = false })
+moved_reply s numeral text bits o moved is shortest wide = record {
+  answer = respelled_answer text bits o;
+  asked = subst (λ b. IsAnswerBy b s numeral (respelled_answer text bits o)) (sym moved) is;
+  written = inr (record {
+    clean = refl;
+    text = text;
+    bits = bits;
+    last = verdict o;
+    words = record { text = refl; unspaced = (shortest_unspaced bits s.target.frac text shortest, (signed_unspaced bits wide, tt)) };
+    wide = wide;
+    reply_is = refl;
+  });
+}
+
+-- a number of the source is replied to with what is pushed of it
+pub pushed_reply : (s : Settings) (numeral : List ℕ) (number : ℤ) (out : Bool) (before after : List ℕ) (fault : Bool) → AreFormats s → asks_a_line s.spelling s.target_mode ≡ false → length (asking_line s numeral) ≤ longest_line
+    → IsSource s.spelling s numeral number out → HasPushed s number out before after fault → AppendsAnswer (IsReply s) 192 numeral before after fault
+pushed_reply s numeral number out before after true formats moved short source pushed =
+    fault_appended (IsReply s) numeral before after (message_of Overflow) (message_short Overflow)
+    (fault_reply s numeral (message_of Overflow) moved (inr (inr (inl (record { short = short; formats = formats; number = number; out = out; source = source; none = pushed.0; answer_is = refl })))))
+    pushed.1
+pushed_reply s numeral number out before after false formats moved short source pushed =
+    let o : Bool = out || pushed.target_out in
+    let text : List ℕ = printed s.print s.target (respelled_answer pushed.text pushed.bits o).text pushed.text pushed.bits in
+    let is : IsMovedAnswer s numeral (respelled_answer pushed.text pushed.bits o) = inr (inr (inr (record {
+      short = short;
+      formats = formats;
+      number = number;
+      out = out;
+      source = source;
+      bits = pushed.bits;
+      target_out = pushed.target_out;
+      moved = pushed.moved;
+      text = pushed.text;
+      shortest = pushed.shortest;
+      answer_is = refl;
+    }))) in
+    record {
+      text = text;
+      answer = moved_reply s numeral pushed.text pushed.bits o moved is pushed.shortest pushed.wide;
+      appended = pushed.appended;
+      short = omega (arith, pushed.short, ap length pushed.appended, length-append before text);
+    }
+
+-- one that says none is replied to with why
+pub unsourced_reply : (s : Settings) (numeral message before after : List ℕ) → asks_a_line s.spelling s.target_mode ≡ false → length (asking_line s numeral) ≤ longest_line → length message ≤ 64
+    → IsNoSource s.spelling s numeral message → after ≡ before ++ (fault_answer message).text → AppendsAnswer (IsReply s) 192 numeral before after true
+unsourced_reply s numeral message before after moved short few none appended =
+    fault_appended (IsReply s) numeral before after message few (fault_reply s numeral message moved (inr (inl (record { short = short; message = message; none = none; answer_is = refl })))) appended

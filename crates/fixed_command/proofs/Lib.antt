@@ -1,3 +1,4 @@
 mod AskingLemmas
 mod BlockLemmas
 mod RefusedLemmas
+mod WordLemmas

@@ -3,7 +3,7 @@ use Rattle.std.specs.Prelude.{◌≡◌, ◌⊎◌, ℕ, List, ◌++◌, Bool, t
 use Rattle.std.specs.declared.option.Option.{Option}
 use Rattle.std.specs.Io.KnownBytes.{Appends}
 use Rattle.fixed_bits.specs.Formats.{FormatParts}
-use Rattle.fixed_respell.specs.Words.{IsFormatWord}
+use Rattle.fixed_respell.specs.FormatNames.{IsFormatName}
 use Rattle.fixed_show.specs.BitsBlock.{IsBitsBlock}
 use Rattle.fixed_show.specs.FormatBlock.{IsFormatBlock}
 use Rattle.fixed_show.specs.ShowBlock.{IsShowBlock}
@@ -18,13 +18,13 @@ use Rattle.fixed_command.specs.declared.blocks.Question.TheVariants.{Bits, Forma
 -- the block of the format that a word names
 pub record IsNamedFormat (word : List ℕ) (block : AnswerText) : Type 0 where
   pub format : FormatParts
-  pub word_is : IsFormatWord word format
+  pub word_is : IsFormatName word format
   pub text : IsFormatBlock format block.text
   pub clean : block.fault ≡ false
 
 -- a fault for a word that names none
 pub record IsNoFormat (word : List ℕ) (block : AnswerText) : Type 0 where
-  pub none : (f : FormatParts) → ¬ IsFormatWord word f
+  pub none : (f : FormatParts) → ¬ IsFormatName word f
   pub block_is : block ≡ record { text = codes "error: bad format\n"; fault = true }
 
 -- one of the two
@@ -34,7 +34,7 @@ IsFormatAnswer word block = IsNamedFormat word block ⊎ IsNoFormat word block
 -- the block that answers a question about a word
 abbrev pub IsBlock : Question → List ℕ → AnswerText → Type 0
 IsBlock (Show radix format policy mode) word block = IsShowBlock mode radix word format policy block.fault block.text
-IsBlock (Bits format) word block = IsBitsBlock format word block.fault block.text
+IsBlock (Bits radix format) word block = IsBitsBlock radix format word block.fault block.text
 IsBlock Format word block = IsFormatAnswer word block
 
 -- what is written for these blocks

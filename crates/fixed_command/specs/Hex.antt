@@ -1,5 +1,5 @@
 -- The bits of a number in hexadecimal.
-use Rattle.std.specs.Prelude.{ℕ, suc, ◌-◌, ◌/◌, ◌^◌, ℤ, pos, negsuc, List, ◌++◌, false, codes}
+use Rattle.std.specs.Prelude.{ℕ, suc, ◌+◌, ◌-◌, ◌/◌, ◌^◌, ℤ, pos, negsuc, List, ◌++◌, false, codes}
 use Rattle.fixed_write.specs.Texts.{last_digits}
 
 -- the bits as an unsigned number of this width: two's complement
@@ -7,9 +7,9 @@ abbrev pub word_of : ℕ → ℤ → ℕ
 word_of width (pos n) = n
 word_of width (negsuc n) = 2 ^ width - suc n
 
--- a digit for every four bits of the width
+-- a digit for every four bits of the width, from the last one on
 abbrev pub hex_digits : ℕ → ℤ → List ℕ
-hex_digits width bits = last_digits 16 false (width / 4) (word_of width bits)
+hex_digits width bits = last_digits 16 false ((width + 3) / 4) (word_of width bits)
 
 -- the same after `0x`
 abbrev pub hex_text : ℕ → ℤ → List ℕ

@@ -1,3 +1,4 @@
 -- What the laws of a rule need; no contract cites it.
+pub mod MovedLemmas
 pub mod ProductLemmas
 pub mod ReplyLemmas

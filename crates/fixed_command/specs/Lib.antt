@@ -2,8 +2,11 @@ pub mod Asked
 pub mod Blocks
 pub mod Convert
 pub mod Hex
+pub mod Inner
+pub mod Laws
 pub mod Lemmas
 pub mod Limits
+pub mod Printed
 pub mod Products
 pub mod Refused
 pub mod Runs

@@ -10,7 +10,7 @@ ghost use Rattle.line_engine.specs.Output.{AppendsPrefix};
 
 use fixed_bits::{Policy, ReadMode};
 use fixed_numeral::Radix;
-use fixed_respell::format_word;
+use fixed_respell::format_named;
 use fixed_show::{MAX_BLOCK, bits_block, format_block, show_block};
 use fixed_steps::Steps;
 use line_engine::{Failed, Sink, Status, write_whole};
@@ -32,7 +32,12 @@ pub enum Question {
         mode: ReadMode,
     },
     /// What number a word of a register is in a format.
-    Bits(fixed_bits::Format),
+    Bits {
+        /// The radix of a word without a prefix.
+        radix: Radix,
+        /// The format.
+        format: fixed_bits::Format,
+    },
     /// What the format that the word names can hold.
     Format,
 }
@@ -46,7 +51,7 @@ fn push_format<const N: usize, L: Ledger>(
     requires { length out.old + MAX_BLOCK ≤ N }
     ensures { show_blocks.Appends (λ text. IsFormatAnswer word.now (record { text = text; fault = result })) MAX_BLOCK out.old out.new }
 {
-    match format_word(word) {
+    match format_named(word) {
         Some(format) => {
             format_block(format, out, steps);
             false
@@ -75,9 +80,27 @@ pub(crate) fn push_block<const N: usize, L: Ledger>(
             policy,
             mode,
         } => show_block(word, *radix, *format, *policy, *mode, out, steps),
-        Question::Bits(format) => bits_block(word, *format, out, steps),
+        Question::Bits { radix, format } => bits_block(word, *radix, *format, out, steps),
         Question::Format => push_format(word, out, steps),
     }
+}
+
+/// The block that answers a question about a word.
+#[derive(Drop)]
+pub struct Block {
+    /// Its text.
+    pub text: TextBuffer<MAX_BLOCK>,
+    /// Whether it reports a fault.
+    pub is_fault: bool,
+}
+
+/// The block that answers a question about a word.
+pub fn block_of<L: Ledger>(question: &Question, word: &[u8], steps: &mut Steps<L>) -> Block
+    ensures { IsBlock question.now word.now (record { text = result.text; fault = result.is_fault }) }
+{
+    let mut text: TextBuffer<MAX_BLOCK> = TextBuffer::new();
+    let is_fault = push_block(question, word, &mut text, steps);
+    Block { text, is_fault }
 }
 
 /// Writes the block that answers a question about a word, and answers whether it reports a fault.

@@ -1,51 +1,60 @@
-//! One column of a CSV text converted, all else as it was.
+//! Columns of a CSV text converted; every other byte stays as it was.
 
-ghost use Rattle.std.specs.Prelude.{◌≡◌, ◌≢◌, [], List, ℕ, Some};
-ghost use Rattle.csv.specs.Writing.{text_written, writer_pending};
-ghost use Rattle.column_engine.specs.Column.{IsAnswered, IsIdle};
+ghost use Rattle.std.specs.Prelude.{◌≡◌, ◌⊎◌, List, ℕ};
+ghost use Rattle.column_engine.specs.Run.{HasFailures, HasRun, counts_of, first_state};
+ghost use Rattle.column_engine.specs.declared.end.Stop.{Stop};
 ghost use Rattle.fixed_command.specs.Convert.{IsLineReply};
 
 use crate::ConvertRule;
 use column_engine::{Column, ColumnEnd, ColumnTask, Stop, run_column};
-use csv::Writer;
 use fixed_steps::Steps;
+use line_engine::{Sink, Source};
 use std::alloc::Global;
-use std::io::{Read, Write};
 use std::sync::ledger::Ledger;
 
-/// The conversion of one column of a text.
+/// The conversion of columns of a text.
 #[derive(Drop)]
 pub struct ColumnConversion {
     /// How a field is converted.
     pub rule: ConvertRule,
-    /// Which field of a record.
-    pub column: Column,
+    /// Which fields of a record.
+    pub columns: Vec<Column>,
+    /// Whether the first record is a header, which is passed through.
+    pub has_header: bool,
     /// Whether a field that is refused stays as it was.
     pub is_kept: bool,
-    /// The byte between fields.
+    /// The byte between fields: an ASCII character that is no quote and no end of a line.
     pub delimiter: u8,
 }
 
-/// Converts one column of the records of a text, and says how they ended. A field is answered as `run_convert`
-/// answers the line that it is.
-pub fn convert_column<R: Read + Drop, W: Write + Drop, L: Ledger>(
+/// Converts columns of the records of a text, and says how they ended. A field is answered as `run_convert` answers the
+/// line that it is, and every other byte of the text is written as it was.
+pub fn convert_column<S: Source, K: Sink, L: Ledger>(
     alloc: Global,
     conversion: &ColumnConversion,
-    reader: R,
-    out: &mut Writer<W>,
+    source: &mut S,
+    sink: &mut K,
     steps: &mut Steps<L>,
 ) -> ColumnEnd
-    requires { IsIdle conversion.now.delimiter out.old }
-    ensures answered { (text : List ℕ) → R.remaining reader ≡ Some text → result.stop ≢ Stop.WriteFault
-        → IsAnswered (IsLineReply conversion.now.rule) conversion.now.is_kept conversion.now.column conversion.now.delimiter text
-        (text_written W.contents out.old) (text_written W.contents out.new) result.stop result.answered result.refused result.first }
-    ensures flushed { result.stop ≢ Stop.WriteFault → writer_pending out.new ≡ [] }
+    // What was taken and what was written, by how the run ended.
+    ensures run { (result.stop ≡ Stop.NoMemory)
+        ⊎ HasRun result.stop (IsLineReply conversion.now.rule) conversion.now.is_kept conversion.now.delimiter
+        conversion.now.columns.items (first_state conversion.now.has_header conversion.now.columns.items)
+        (counts_of result) (S.left source.old) (S.left source.new) (K.written sink.old) (K.written sink.new) }
+
+    // Which count of failures rose.
+    ensures failures { HasFailures (S.failures source.old) (S.failures source.new) (K.failures sink.old)
+        (K.failures sink.new) result.stop }
+
+    // Where there was no memory, nothing was read or written.
+    ensures memory { result.stop ≡ Stop.NoMemory → (source.new ≡ source.old) × (sink.new ≡ sink.old) }
 {
     let task = ColumnTask {
         rule: &conversion.rule,
-        column: &conversion.column,
+        columns: &conversion.columns,
+        has_header: conversion.has_header,
         is_kept: conversion.is_kept,
         delimiter: conversion.delimiter,
     };
-    run_column(alloc, &task, reader, out, steps)
+    run_column(alloc, &task, source, sink, steps)
 }

@@ -1,10 +1,15 @@
-//! Numerals converted one a line: the words of a line are given once, and each line is a numeral.
+//! Numerals or words converted one a line: the words of a line are given once, and each line is a numeral or a word.
 
-ghost use Rattle.std.specs.Prelude.{◌≡◌, ◌↔◌, ◌+◌, ◌*◌, ◌-◌, ◌≤◌, ◌<◌, ◌++◌, [], IsTrue, false, length};
+ghost use Rattle.std.specs.Prelude.{◌≡◌, ◌↔◌, ◌+◌, ◌*◌, ◌-◌, ◌≤◌, ◌<◌, ◌++◌, [], ◌||◌, IfErr, IfOk, IsTrue};
+ghost use Rattle.std.specs.Prelude.{MatchResult, false, length, true};
 ghost use Rattle.fixed_bits.specs.Formats.{IsFormat};
 ghost use Rattle.fixed_bits.specs.Ranges.{IsInRange, IsWide};
 ghost use Rattle.line_engine.specs.Output.{AppendsAnswer};
-ghost use Rattle.fixed_command.specs.Convert.{IsLineReply, IsReply, asking_line, printed, without_return};
+ghost use Rattle.fixed_command.specs.Inner.Moved.{HasPushed};
+ghost use Rattle.fixed_command.specs.declared.spelling.Spelling.{Spelling};
+ghost use Rattle.fixed_command.specs.Convert.{asks_a_line, IsNoSource, IsSource, IsLineReply, IsReply, asking_line};
+ghost use Rattle.fixed_command.specs.Convert.{without_return};
+ghost use Rattle.fixed_command.specs.Printed.{printed};
 ghost use Rattle.fixed_numeral.specs.Messages.{message_of};
 ghost use Rattle.fixed_respell.specs.Answer.{respelled_answer};
 ghost use Rattle.fixed_respell.specs.Language.{fault_answer};
@@ -14,21 +19,26 @@ ghost use Rattle.fixed_write.specs.Places.{exact_text, rounded_text};
 
 use crate::hex::{push_digits, push_hex};
 use crate::print::Print;
+use crate::spelling::Spelling;
 use crate::words::{mode_name, policy_name, radix_name};
 use fixed_bits::{Format, Policy, ReadMode};
-use fixed_numeral::{ParseFixedError, Radix};
+use fixed_convert::reformat_mode;
+use fixed_numeral::{ParseErrorKind, ParseFixedError, Radix};
 use fixed_respell::{Bits, LineFault, format_name, push_fault, push_verdict, respell_mode};
+use fixed_show::{Shown, read_shown, read_word};
 use fixed_steps::Steps;
-use fixed_write::{Base, push_decimal, push_exact, push_integer};
+use fixed_write::{Base, push_decimal, push_exact, push_integer, shortest};
 use line_engine::{LineRule, MAX_ANSWER, MAX_LINE, Output};
 use std::marker::Model;
 use std::sync::ledger::Ledger;
 use text_buffer::TextBuffer;
 
-/// How numerals are converted.
+/// How numerals or words are converted.
 #[derive(Clone, Copy, Debug, PartialEq, Eq)]
 pub struct Settings {
-    /// The radix of the numerals.
+    /// How a line spells a number.
+    pub spelling: Spelling,
+    /// The radix of the numerals, or of words without a prefix.
     pub radix: Radix,
     /// The format that a numeral is read into.
     pub source: Format,
@@ -38,6 +48,8 @@ pub struct Settings {
     pub policy: Policy,
     /// How a numeral is rounded.
     pub mode: ReadMode,
+    /// How a number is rounded on its way to the target.
+    pub target_mode: ReadMode,
     /// What of an answer is written.
     pub print: Print,
 }
@@ -150,7 +162,8 @@ impl Model for ConvertRule {
 
     ghost view = { λ r. r.settings };
 
-    ghost invariant = { λ r. IsFormat r.settings.source.width r.settings.source.frac × IsFormat r.settings.target.width r.settings.target.frac
+    ghost invariant = { λ r. IsFormat r.settings.source.width r.settings.source.frac × IsFormat
+        r.settings.target.width r.settings.target.frac
         × (r.head ≡ length (asking_line r.settings [])) × (r.head ≤ 64) };
 }
 
@@ -194,8 +207,27 @@ impl ConvertRule {
     {
         if self.is_too_long(numeral) {
             push_fault(out, LineFault::LineTooLong.words());
-            return true;
+            true
+        } else if asks_a_line(self.settings.spelling, self.settings.target_mode) {
+            self.push_answer(numeral, out, steps)
+        } else {
+            self.push_moved(numeral, out, steps)
         }
+    }
+
+    /// Appends the part that is asked for of the answer to the line of a numeral.
+    fn push_answer<const N: usize, L: Ledger>(
+        &self,
+        numeral: &[u8],
+        out: &mut TextBuffer<N>,
+        steps: &mut Steps<L>,
+    ) -> bool
+        requires short { length (asking_line self.now numeral.now) ≤ longest_line }
+        requires line { asks_a_line self.now.spelling self.now.target_mode ≡ true }
+        requires room { length out.old + MAX_ANSWER ≤ N }
+        ensures reply { AppendsAnswer (IsReply self.now) MAX_ANSWER numeral.now out.old out.new result }
+        ensures cost { steps.new ≤ steps.old + 8 * length numeral.now + 624 }
+    {
         let s = &self.settings;
         match respell_mode(
             numeral, s.radix, s.source, s.target, s.policy, s.mode, steps,
@@ -211,6 +243,150 @@ impl ConvertRule {
             }
         }
     }
+
+    /// Appends the part that is asked for of the answer to a numeral or a word whose number is moved in the target
+    /// mode.
+    fn push_moved<const N: usize, L: Ledger>(
+        &self,
+        numeral: &[u8],
+        out: &mut TextBuffer<N>,
+        steps: &mut Steps<L>,
+    ) -> bool
+        requires short { length (asking_line self.now numeral.now) ≤ longest_line }
+        requires moved { asks_a_line self.now.spelling self.now.target_mode ≡ false }
+        requires room { length out.old + MAX_ANSWER ≤ N }
+        ensures reply { AppendsAnswer (IsReply self.now) MAX_ANSWER numeral.now out.old out.new result }
+        ensures cost { steps.new ≤ steps.old + 8 * length numeral.now + 624 }
+    {
+        match source_number(&self.settings, numeral, steps) {
+            Ok(found) => push_image(out, &self.settings, &found, steps),
+            Err(message) => {
+                push_fault(out, message);
+                true
+            }
+        }
+    }
+}
+
+/// Whether what is answered is the answer to a line.
+#[inline]
+fn asks_a_line(spelling: Spelling, target_mode: ReadMode) -> bool
+    ensures { result ≡ asks_a_line spelling target_mode }
+{
+    match spelling {
+        Spelling::Numeral => match target_mode {
+            ReadMode::NearestEven => false,
+            ReadMode::Floor => true,
+            ReadMode::Ceil => false,
+            ReadMode::TowardsZero => false,
+        },
+        Spelling::Word => false,
+    }
+}
+
+/// A format's width.
+fn width_of(format: Format) -> u32
+    ensures value { result ≡ format.width }
+    ensures most { result ≤ 64 }
+{
+    format.width()
+}
+
+/// The number of the source that a numeral or a word says, and whether what was read was out of its range.
+///
+/// # Errors
+///
+/// The message says why it says none.
+#[inline]
+fn source_number<L: Ledger>(
+    settings: &Settings,
+    numeral: &[u8],
+    steps: &mut Steps<L>,
+) -> Result<Shown, &'static str>
+    ensures source { MatchResult result (λ f. IsSource settings.now.spelling settings.now numeral.now f.bits
+        f.overflowed)
+        (λ m. IsNoSource settings.now.spelling settings.now numeral.now m.now) }
+    ensures wide { IfOk result (λ f. IsWide f.bits) }
+    ensures short { IfErr result (λ m. length m.now ≤ 64) }
+    ensures cost { steps.new ≤ steps.old + 8 * length numeral.now + 576 }
+{
+    match settings.spelling {
+        Spelling::Numeral => read_numeral(settings, numeral, steps),
+        Spelling::Word => read_bits(settings, numeral),
+    }
+}
+
+/// The number of the source that a numeral is read as.
+fn read_numeral<L: Ledger>(
+    settings: &Settings,
+    numeral: &[u8],
+    steps: &mut Steps<L>,
+) -> Result<Shown, &'static str>
+    ensures source { MatchResult result (λ f. IsSource Spelling.Numeral settings.now numeral.now f.bits f.overflowed)
+        (λ m. IsNoSource Spelling.Numeral settings.now numeral.now m.now) }
+    ensures wide { IfOk result (λ f. IsWide f.bits) }
+    ensures short { IfErr result (λ m. length m.now ≤ 64) }
+    ensures cost { steps.new ≤ steps.old + 8 * length numeral.now + 576 }
+{
+    let s = settings;
+    let _width = width_of(s.source);
+    match read_shown(numeral, s.radix, s.source, s.policy, s.mode, steps) {
+        Ok(found) => Ok(found),
+        Err(error) => Err(error.message()),
+    }
+}
+
+/// The number of the source that a word is.
+fn read_bits(settings: &Settings, word: &[u8]) -> Result<Shown, &'static str>
+    ensures source { MatchResult result (λ f. IsSource Spelling.Word settings.now word.now f.bits f.overflowed)
+        (λ m. IsNoSource Spelling.Word settings.now word.now m.now) }
+    ensures wide { IfOk result (λ f. IsWide f.bits) }
+    ensures short { IfErr result (λ m. length m.now ≤ 64) }
+{
+    match read_word(word, settings.radix, settings.source) {
+        Ok(bits) => Ok(Shown {
+            bits,
+            overflowed: false,
+        }),
+        Err(fault) => Err(fault.message()),
+    }
+}
+
+/// Appends the part that is asked for of a number of the source, moved to the target, or that it has no image there,
+/// and
+/// answers whether that is so.
+fn push_image<const N: usize, L: Ledger>(
+    out: &mut TextBuffer<N>,
+    settings: &Settings,
+    found: &Shown,
+    steps: &mut Steps<L>,
+) -> bool
+    requires wide { IsWide found.now.bits }
+    requires room { length out.old + 130 ≤ N }
+    ensures pushed { HasPushed settings.now found.now.bits found.now.overflowed out.old out.new result }
+    ensures cost { steps.new ≤ steps.old + 48 }
+{
+    let s = settings;
+    let from = frac_of(s.source);
+    match reformat_mode(s.target, s.policy, s.target_mode, found.bits, from) {
+        Some((bits, target_overflowed)) => {
+            let text = shortest(bits, frac_of(s.target), steps);
+            let overflowed = is_either(found.overflowed, target_overflowed);
+            push_part(out, s, text.as_bytes(), bits, overflowed);
+            false
+        }
+        None => {
+            push_refusal(out, ParseFixedError::new(ParseErrorKind::Overflow));
+            true
+        }
+    }
+}
+
+/// Whether one of two holds.
+fn is_either(one: bool, other: bool) -> bool
+    ensures { result ≡ (one || other) }
+{
+    one || other
 }
 
 /// A line without one carriage return at its end.

@@ -3,11 +3,12 @@
 ghost use Rattle.std.specs.Prelude.{◌≡◌, ◌≤◌, ◌+◌, length};
 ghost use Rattle.fixed_bits.specs.Ranges.{IsWide};
 
-use crate::ConvertRule;
-use fixed_bits::{Format, ReadMode};
-use fixed_numeral::{ParseErrorKind, Radix};
+use crate::{ConvertRule, Settings, Spelling};
+use fixed_bits::Format;
+use fixed_numeral::ParseErrorKind;
 use fixed_read::read_format;
 use fixed_respell::format_name;
+use fixed_show::{WordFault, read_word};
 use fixed_steps::Steps;
 use fixed_write::{Base, push_exact};
 use itoa::Buffer;
@@ -17,23 +18,25 @@ use text_buffer::TextBuffer;
 /// How many bytes an explanation has at most.
 pub const MAX_EXPLANATION: usize = 640;
 
-/// Whether a text has a byte that is in no numeral of the radix there.
-fn is_invalid<L: Ledger>(text: &[u8], radix: Radix, format: Format, steps: &mut Steps<L>) -> bool {
-    match read_format(text, radix, format, ReadMode::NearestEven, steps) {
-        Ok(_) => false,
-        Err(error) => error.kind() == ParseErrorKind::InvalidDigit,
+/// Whether a text has a byte that is in no numeral, or in no word, there.
+fn is_invalid<L: Ledger>(text: &[u8], settings: &Settings, steps: &mut Steps<L>) -> bool {
+    let s = settings;
+    match s.spelling {
+        Spelling::Numeral => match read_format(text, s.radix, s.source, s.mode, steps) {
+            Ok(_) => false,
+            Err(error) => error.kind() == ParseErrorKind::InvalidDigit,
+        },
+        Spelling::Word => match read_word(text, s.radix, s.source) {
+            Ok(_) => false,
+            Err(fault) => fault == WordFault::InvalidDigit,
+        },
     }
 }
 
-/// The place, from 1, of the first byte that is in no numeral there. 0 where there is none.
-fn refused_place<L: Ledger>(
-    text: &[u8],
-    radix: Radix,
-    format: Format,
-    steps: &mut Steps<L>,
-) -> usize {
+/// The place, from 1, of the first byte that is in no numeral, or in no word, there. 0 where there is none.
+fn refused_place<L: Ledger>(text: &[u8], settings: &Settings, steps: &mut Steps<L>) -> usize {
     for end in 1..=text.len() {
-        if is_invalid(text.get(..end).unwrap_or(&[]), radix, format, steps) {
+        if is_invalid(text.get(..end).unwrap_or(&[]), settings, steps) {
             return end;
         }
     }
@@ -83,8 +86,9 @@ fn push_range(out: &mut TextBuffer<MAX_EXPLANATION>, format: Format) {
     push_number(out, greatest, frac_of(format));
 }
 
-/// What more there is to say of a numeral that a rule refuses for this cause: the place from 1 of its first byte that
-/// is in no numeral; what the formats hold, where it overflows; nothing of another cause.
+/// What more there is to say of a numeral or a word that a rule refuses for this cause: the place from 1 of its first
+/// byte
+/// that is in none; what the formats hold, where it overflows; nothing of another cause.
 pub fn explanation<L: Ledger>(
     rule: &ConvertRule,
     text: &[u8],
@@ -94,25 +98,32 @@ pub fn explanation<L: Ledger>(
     let mut out = TextBuffer::new();
     let settings = rule.settings();
     if cause == b"overflow".as_slice() {
-        push_text(&mut out, b", ");
-        push_range(&mut out, settings.source);
-        if settings.target != settings.source {
-            push_text(&mut out, b", ");
-            push_range(&mut out, settings.target);
-        }
+        push_ranges(&mut out, settings);
     }
     if cause == b"invalid digit found in string".as_slice() {
-        let place = refused_place(text, settings.radix, settings.source, steps);
+        let place = refused_place(text, settings, steps);
         if place > 0 {
-            push_text(&mut out, b", byte ");
-            push_text(&mut out, Buffer::new().format(place).as_bytes());
-            push_text(&mut out, b", '");
-            push_text(
-                &mut out,
-                text.get(place.saturating_sub(1)..place).unwrap_or(&[]),
-            );
-            push_text(&mut out, b"'");
+            push_place(&mut out, text, place);
         }
     }
     out
+}
+
+/// Appends what the formats hold.
+fn push_ranges(out: &mut TextBuffer<MAX_EXPLANATION>, settings: &Settings) {
+    push_text(out, b", ");
+    push_range(out, settings.source);
+    if settings.target != settings.source {
+        push_text(out, b", ");
+        push_range(out, settings.target);
+    }
+}
+
+/// Appends the byte at a place of a text, from 1, and the place.
+fn push_place(out: &mut TextBuffer<MAX_EXPLANATION>, text: &[u8], place: usize) {
+    push_text(out, b", byte ");
+    push_text(out, Buffer::new().format(place).as_bytes());
+    push_text(out, b", '");
+    push_text(out, text.get(place.saturating_sub(1)..place).unwrap_or(&[]));
+    push_text(out, b"'");
 }

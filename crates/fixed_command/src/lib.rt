@@ -9,19 +9,24 @@ pub mod column;
 pub mod convert;
 pub mod explain;
 pub mod hex;
+pub mod laws;
 pub mod print;
 pub mod refused;
+pub mod spelling;
 pub mod task;
 pub mod watch;
 pub mod words;
 
-pub use blocks::{Question, run_blocks};
+pub use blocks::{Block, Question, block_of, run_blocks};
 pub use column::{ColumnConversion, convert_column};
 pub use convert::{ConvertRule, Settings};
 pub use explain::explanation;
 pub use hex::push_hex;
 pub use print::{Places, Print};
 pub use refused::{RefusedWord, first_refused};
+pub use spelling::Spelling;
 pub use task::{Limit, Task, greater_end, run_convert, run_task};
 pub use watch::{RefusedLine, Watch};
-pub use words::{mode_named, policy_named, print_named, radix_named};
+pub use words::{
+    mode_named, policy_named, print_named, radix_named, spelling_named, target_mode_named,
+};

@@ -28,6 +28,17 @@ pub struct RefusedLine {
     pub cause: TextBuffer<KEPT>,
 }
 
+impl RefusedLine {
+    /// The line of this number, whose text and cause are cut.
+    pub fn new(number: u64, text: &[u8], cause: &[u8]) -> RefusedLine {
+        RefusedLine {
+            number,
+            text: kept(text),
+            cause: kept(cause),
+        }
+    }
+}
+
 /// The bytes, cut where they are longer than what is kept.
 fn kept(bytes: &[u8]) -> TextBuffer<KEPT> {
     let mut text = TextBuffer::new();
@@ -91,11 +102,9 @@ impl Watch {
         let refused = self.refused.get();
         self.refused.set(refused.saturating_add(1));
         if refused == 0 {
-            self.first.set(Some(RefusedLine {
-                number: self.lines.get(),
-                text: kept(line),
-                cause: kept(answer.strip_prefix(b"error: ").unwrap_or(answer)),
-            }));
+            let cause = answer.strip_prefix(b"error: ").unwrap_or(answer);
+            let number = self.lines.get();
+            self.first.set(Some(RefusedLine::new(number, line, cause)));
         }
     }
 

@@ -3,12 +3,14 @@
 ghost use Rattle.std.specs.Prelude.{◌≡◌, ◌≤◌, MatchOption, length, option_map};
 ghost use Rattle.fixed_bits.specs.declared.format.Policy.{Policy};
 ghost use Rattle.fixed_bits.specs.declared.mode.ReadMode.{ReadMode};
-ghost use Rattle.fixed_command.specs.Asked.{IsNamed, print_text};
+ghost use Rattle.fixed_command.specs.Asked.{IsNamed, print_text, spelling_text};
 ghost use Rattle.fixed_command.specs.declared.print.Print.{Print};
+ghost use Rattle.fixed_command.specs.declared.spelling.Spelling.{Spelling};
 ghost use Rattle.fixed_numeral.specs.declared.radix.Radix.{Radix};
 ghost use Rattle.fixed_respell.specs.Words.{mode_text, policy_text, radix_text};
 
 use crate::print::Print;
+use crate::spelling::Spelling;
 use fixed_bits::{Policy, ReadMode};
 use fixed_numeral::Radix;
 
@@ -152,5 +154,42 @@ pub fn print_named(value: Option<&str>) -> Option<Print>
     match value {
         Some(word) => print_of_word(word),
         None => Some(Print::Text),
+    }
+}
+
+/// How the value of an option says that a line spells a number.
+fn spelling_of_word(word: &str) -> Option<Spelling>
+    ensures { MatchOption result ((a : Spelling) → ¬ (word.now ≡ spelling_text a)) (λ a. word.now ≡ spelling_text a) }
+{
+    match word {
+        "text" => Some(Spelling::Numeral),
+        "bits" => Some(Spelling::Word),
+        _ => None,
+    }
+}
+
+/// How the value of an option says that a line spells a number. `text` is meant where the option is left out. `None`
+/// where the value names none.
+pub fn spelling_named(value: Option<&str>) -> Option<Spelling>
+    ensures { MatchOption result
+        ((a : Spelling) → ¬ IsNamed Spelling spelling_text Spelling.Numeral (option_map (λ w. w.now) value.entry) a)
+        (λ a. IsNamed Spelling spelling_text Spelling.Numeral (option_map (λ w. w.now) value.entry) a) }
+{
+    match value {
+        Some(word) => spelling_of_word(word),
+        None => Some(Spelling::Numeral),
+    }
+}
+
+/// The mode that the value of an option names for the way to the target. `floor` is meant where the option is left out.
+/// `None` where the value names none.
+pub fn target_mode_named(value: Option<&str>) -> Option<ReadMode>
+    ensures { MatchOption result
+        ((a : ReadMode) → ¬ IsNamed ReadMode mode_text ReadMode.Floor (option_map (λ w. w.now) value.entry) a)
+        (λ a. IsNamed ReadMode mode_text ReadMode.Floor (option_map (λ w. w.now) value.entry) a) }
+{
+    match value {
+        Some(word) => mode_of_word(word),
+        None => Some(ReadMode::Floor),
     }
 }

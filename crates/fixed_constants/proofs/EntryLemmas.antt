@@ -8,8 +8,8 @@ use Rattle.std.proofs.lemmas.Str.Parse.{digit_from_value}
 use Rattle.std.proofs.lemmas.Fmt.{decimal_is_IsNumeral}
 use Rattle.std.proofs.lemmas.Bool.Decides.{nat_tests}
 use Rattle.std.proofs.lemmas.List.Elements.{All-append, All-cons, All-contains, All-from_get_or, All-head, All-nil, All-tail, All-weaker}
-use Rattle.fixed_bits.specs.Formats.{FormatParts, IsFormat}
-use Rattle.fixed_bits.specs.Ranges.{IsWidth}
+use Rattle.fixed_bits.specs.Formats.{FormatParts, IsTypeFormat}
+use Rattle.fixed_bits.specs.Ranges.{IsTypeWidth}
 use Rattle.fixed_respell.specs.LineWords.{space}
 use Rattle.fixed_respell.specs.Split.{count_of}
 use Rattle.fixed_respell.specs.Lemmas.SplitLemmas.{count_cons}
@@ -51,10 +51,10 @@ visible_letter : (s : Bool) (bs : List ℕ) → All IsVisible bs → All IsVisib
 visible_letter true bs all = visible_by 73 bs (omega arith) all
 visible_letter false bs all = visible_by 85 bs (omega arith) all
 
-width_small : (n : ℕ) → IsWidth n → n ≤ 64
+width_small : (n : ℕ) → IsTypeWidth n → n ≤ 64
 width_small n is = omega (arith, is)
 
-visible_format : (f : FormatParts) → IsFormat f.width f.frac → All IsVisible (format_text f)
+visible_format : (f : FormatParts) → IsTypeFormat f.width f.frac → All IsVisible (format_text f)
 visible_format f is =
     let small : f.width ≤ 64 = width_small f.width is.is_width in
     let within : f.frac ≤ f.width = is.within in

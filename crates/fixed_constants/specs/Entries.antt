@@ -1,13 +1,13 @@
 -- Which lists are the constants of some text.
 use Rattle.std.specs.Prelude.{List, [], ◌∷◌}
-use Rattle.fixed_bits.specs.Formats.{IsFormat}
+use Rattle.fixed_bits.specs.Formats.{IsTypeFormat}
 use Rattle.fixed_bits.specs.Ranges.{IsInRange}
 use Rattle.fixed_constants.specs.Constants.{ConstantParts, HasName, IsName}
 
 -- a name, a format, and bits in its range
 pub record IsEntry (c : ConstantParts) : Type 0 where
   pub name : IsName c.name
-  pub format : IsFormat c.format.width c.format.frac
+  pub format : IsTypeFormat c.format.width c.format.frac
   pub bits : IsInRange c.format.signed c.format.width c.bits
 
 -- such constants, of which no two have one name

@@ -83,12 +83,7 @@ fn lowest_magnitude(format: Format) -> u64
     ensures value { result ≡ 2 ^ (format.width - 1) }
     ensures some { 0 < result }
 {
-    match format.width() {
-        8 => 0x80,
-        16 => 0x8000,
-        32 => 0x8000_0000,
-        _ => 0x8000_0000_0000_0000,
-    }
+    1 << (format.width() - 1)
 }
 
 /// Appends the lowest number of a width as the sum of two that its macro can take.

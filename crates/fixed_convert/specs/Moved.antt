@@ -1,6 +1,6 @@
 -- Bits moved from one fraction length to another.
 use Rattle.std.specs.Prelude.{◌≡◌, ℕ, ◌^◌, ◌≤◌, ◌+◌, ℤ, pos, ◌*ℤ◌, Bool, true, false, ◌⊎◌}
-use Rattle.fixed_bits.specs.Ranges.{IsWidth}
+use Rattle.fixed_bits.specs.Ranges.{IsTypeWidth}
 
 -- bits followed by k zero bits
 abbrev pub shifted : ℤ → ℕ → ℤ
@@ -8,7 +8,7 @@ shifted b k = b *ℤ pos (2 ^ k)
 
 -- how many bits a number has: one where it is a truth value, else those of a format
 abbrev pub IsNumWidth : ℕ → Type 0
-IsNumWidth n = (n ≡ 1) ⊎ IsWidth n
+IsNumWidth n = (n ≡ 1) ⊎ IsTypeWidth n
 
 -- the whole bits of the source are enough for the target: their sign rules and counts
 abbrev pub HasRoom : Bool → Bool → ℕ → ℕ → Type 0

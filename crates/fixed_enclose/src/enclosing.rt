@@ -66,7 +66,7 @@ fn read_floor<L: Ledger>(
 ) -> Result<ReadNumber, ParseFixedError>
     ensures reading { IsReadOrRefused radix bytes.now (IsReading Floor radix) result }
     ensures format { IfOk result (λ found. found.format ≡ format) }
-    ensures cost { steps.new ≤ steps.old + 8 * (length bytes.now + format.width) + 64 }
+    ensures cost { steps.new ≤ steps.old + 8 * length bytes.now + 128 }
 {
     read_format(bytes, radix, format, ReadMode::Floor, steps)
 }

@@ -4,7 +4,7 @@ use Rattle.std.specs.Prelude.{Some, None}
 use Rattle.std.proofs.Math.Nat.{le_of_mul-le-mul_left}
 use Rattle.std.proofs.lemmas.Bool.{cases_lt, false≢true}
 use Rattle.std.proofs.lemmas.Int.{ints}
-use Rattle.fixed_bits.specs.Formats.{FormatParts, IsFormat}
+use Rattle.fixed_bits.specs.Formats.{FormatParts, IsTypeFormat}
 use Rattle.fixed_bits.specs.Ranges.{IsInRange}
 use Rattle.fixed_bits.specs.Rounded.{IsNotAbove, IsRounded}
 use Rattle.fixed_bits.specs.declared.mode.ReadMode.TheVariants.{TowardsZero}
@@ -62,7 +62,7 @@ exact_ulps r p fine h is =
     whole_is_rounded ((magnitude r p).num * 2 ^ 64) (magnitude r p).den (h.high * 2 ^ 64 + fine.number.low) k.0 (magnitude_pos r p) h.not_above k.1
 
 -- ---- no format holds a numeral with more fraction bits than 64
-held_is_whole : (r : Radix) (p : Parts) (f : FormatParts) → IsFormat f.width f.frac → Holds r p f → IsWholeUlps r p 64
+held_is_whole : (r : Radix) (p : Parts) (f : FormatParts) → IsTypeFormat f.width f.frac → Holds r p f → IsWholeUlps r p 64
 held_is_whole r p f is h =
     let up : ℕ = 2 ^ f.frac in
     let down : ℕ = 2 ^ (64 - f.frac) in

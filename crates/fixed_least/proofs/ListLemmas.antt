@@ -1,7 +1,7 @@
 -- Lists of lines that grow by one, and what is found of them.
 use Rattle.std.proofs.Common.{◌≡◌, ℕ, ◌+◌, ◌<◌, ◌≤◌, ◌⊎◌, List, [], ◌∷◌, ◌++◌, length, refl, sym, ap, ◌∙◌, subst, arith, inl, inr, Option, Some, None, get_or, replicate, zero, suc, append_assoc, append-nil}
 use Rattle.std.proofs.lemmas.Grind.{flat_map-append}
-use Rattle.fixed_bits.specs.Formats.{FormatParts, IsFormat}
+use Rattle.fixed_bits.specs.Formats.{FormatParts, IsTypeFormat}
 use Rattle.fixed_bits.specs.Order.{rank}
 use Rattle.line_engine.specs.Output.{reply_line, written_of}
 use Rattle.line_engine.specs.AnswerText.{AnswerText}
@@ -38,11 +38,11 @@ refused_longer r f done line n h = record {
 }
 
 -- a format has the value of a line exactly where it holds it
-value_holds : (r : Radix) (f : FormatParts) (line : List ℕ) (value : Option Exact) → IsFormat f.width f.frac → IsExactOf r line value → HasValue f value → HoldsLine r f line
+value_holds : (r : Radix) (f : FormatParts) (line : List ℕ) (value : Option Exact) → IsTypeFormat f.width f.frac → IsExactOf r line value → HasValue f value → HoldsLine r f line
 value_holds r f line None is exact has = absurd has
 value_holds r f line (Some e) is exact has = record { parts = exact.parts; numeral = exact.numeral; holds = (exact_decides r exact.parts f e.negative e.ulps is exact.value_of).1 has }
 
-value_refuses : (r : Radix) (f : FormatParts) (line : List ℕ) (value : Option Exact) → IsFormat f.width f.frac → IsExactOf r line value → (HasValue f value → ⊥) → RefusesLine r f line
+value_refuses : (r : Radix) (f : FormatParts) (line : List ℕ) (value : Option Exact) → IsTypeFormat f.width f.frac → IsExactOf r line value → (HasValue f value → ⊥) → RefusesLine r f line
 value_refuses r f line None is exact none = record { parts = exact.parts; numeral = exact.numeral; refuses = λ h. exact.value_of f is h }
 value_refuses r f line (Some e) is exact none = record { parts = exact.parts; numeral = exact.numeral; refuses = λ h. none ((exact_decides r exact.parts f e.negative e.ulps is exact.value_of).0 h) }
 
@@ -54,7 +54,7 @@ noted_some : (r : Radix) (f : FormatParts) (done : List (List ℕ)) (n : ℕ) �
 noted_some r f done n some (inl h) = absurd (some h.0)
 noted_some r f done n some (inr h) = h
 
-pub noted_one_more : (r : Radix) (f : FormatParts) (done : List (List ℕ)) (line : List ℕ) (value : Option Exact) (place old new : ℕ) → IsFormat f.width f.frac → IsExactOf r line value → place ≡ length done + 1 → NotedSoFar r f done old → IsNoted f value place old new → NotedSoFar r f (done ++ line ∷ []) new
+pub noted_one_more : (r : Radix) (f : FormatParts) (done : List (List ℕ)) (line : List ℕ) (value : Option Exact) (place old new : ℕ) → IsTypeFormat f.width f.frac → IsExactOf r line value → place ≡ length done + 1 → NotedSoFar r f done old → IsNoted f value place old new → NotedSoFar r f (done ++ line ∷ []) new
 noted_one_more r f done line value place old new is exact place_is before (inl h) =
     let P : ℕ → Type 0 = λ n. NotedSoFar r f (done ++ line ∷ []) n in
     subst P (sym h.1) (inr (refused_longer r f done line old (noted_some r f done old h.0 before)))
@@ -74,9 +74,9 @@ pub split_more : (whole done rest after : List (List ℕ)) (line : List ℕ) →
 split_more whole done rest after line split first = split ∙ (ap (λ l. done ++ l) first ∙ sym (append_assoc done (line ∷ []) after))
 
 -- what is found where all lines are done
-pub least_found : (r : Radix) (whole done rest : List (List ℕ)) (slots found : List ℕ) → whole ≡ done ++ rest → rest ≡ [] → AllNumerals r done → ((f : FormatParts) → IsFormat f.width f.frac → NotedSoFar r f done (get_or slots (slot_of f) 0)) → length found ≤ 248
-    → ((f : FormatParts) → IsFormat f.width f.frac → rank f < length found → (get_or found (rank f) 0 ≡ get_or slots (slot_of f) 0) × (get_or slots (slot_of f) 0 ≡ 0 → ⊥))
-    → ((f : FormatParts) → IsFormat f.width f.frac → rank f ≡ length found → get_or slots (slot_of f) 0 ≡ 0) → IsLeast r whole found
+pub least_found : (r : Radix) (whole done rest : List (List ℕ)) (slots found : List ℕ) → whole ≡ done ++ rest → rest ≡ [] → AllNumerals r done → ((f : FormatParts) → IsTypeFormat f.width f.frac → NotedSoFar r f done (get_or slots (slot_of f) 0)) → length found ≤ 248
+    → ((f : FormatParts) → IsTypeFormat f.width f.frac → rank f < length found → (get_or found (rank f) 0 ≡ get_or slots (slot_of f) 0) × (get_or slots (slot_of f) 0 ≡ 0 → ⊥))
+    → ((f : FormatParts) → IsTypeFormat f.width f.frac → rank f ≡ length found → get_or slots (slot_of f) 0 ≡ 0) → IsLeast r whole found
 least_found r whole done rest slots found split none numerals noted short kept first =
     let same : whole ≡ done = split ∙ (ap (λ l. done ++ l) none ∙ append-nil done) in
     let N : List (List ℕ) → Type 0 = λ l. AllNumerals r l in

@@ -7,8 +7,8 @@ use Rattle.std.proofs.lemmas.Bool.{cases_lt}
 use Rattle.std.proofs.lemmas.Int.{ints}
 use Rattle.std.proofs.lemmas.List.{get_or-set_other, get_or-set_same}
 use Rattle.std.proofs.lemmas.Nat.{pow-add}
-use Rattle.fixed_bits.specs.Formats.{FormatParts, IsFormat}
-use Rattle.fixed_bits.specs.Ranges.{IsInRange, IsWidth}
+use Rattle.fixed_bits.specs.Formats.{FormatParts, IsTypeFormat}
+use Rattle.fixed_bits.specs.Ranges.{IsInRange, IsTypeWidth}
 use Rattle.fixed_bits.specs.Numbers.{with_sign}
 use Rattle.fixed_least.specs.Inner.Slots.{AreLiving, AreNoted, IsLiving, IsNoted, slot, slot_of, kind_format, kind_of, kind_signed, kind_width}
 use Rattle.fixed_least.specs.Inner.Exact.{HasUlps}
@@ -21,7 +21,7 @@ pub record IsKindOf (s : Bool) (n : ℕ) : Type 0 where
   pub signed : kind_signed (kind_of s n) ≡ s
   pub below : kind_of s n < 8
 
-pub kind_back : (s : Bool) (n : ℕ) → IsWidth n → IsKindOf s n
+pub kind_back : (s : Bool) (n : ℕ) → IsTypeWidth n → IsKindOf s n
 kind_back true n (inl e) = rw e (record { width = refl; signed = refl; below = omega arith })
 kind_back true n (inr (inl e)) = rw e (record { width = refl; signed = refl; below = omega arith })
 kind_back true n (inr (inr (inl e))) = rw e (record { width = refl; signed = refl; below = omega arith })
@@ -35,7 +35,7 @@ kind_back false n (inr (inr (inr e))) = rw e (record { width = refl; signed = re
 abbrev parts : Bool → ℕ → ℕ → FormatParts
 parts s n f = record { signed = s; width = n; frac = f }
 
-pub kind_format_is : (f : FormatParts) → IsFormat f.width f.frac → kind_format (kind_of f.signed f.width) f.frac ≡ f
+pub kind_format_is : (f : FormatParts) → IsTypeFormat f.width f.frac → kind_format (kind_of f.signed f.width) f.frac ≡ f
 kind_format_is f is =
     let k = kind_back f.signed f.width is.is_width in
     ap (λ s. parts s (kind_width (kind_of f.signed f.width)) f.frac) k.signed ∙ ap (λ n. parts f.signed n f.frac) k.width

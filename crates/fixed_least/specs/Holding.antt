@@ -1,6 +1,6 @@
 -- Which formats hold a list of numerals, and which is the least.
 use Rattle.std.specs.Prelude.{◌≡◌, ◌+◌, ◌*◌, ◌^◌, ℕ, List, [], ◌∷◌, ◌++◌, length}
-use Rattle.fixed_bits.specs.Formats.{FormatParts, IsFormat}
+use Rattle.fixed_bits.specs.Formats.{FormatParts, IsTypeFormat}
 use Rattle.fixed_bits.specs.Ranges.{IsInRange}
 use Rattle.fixed_numeral.specs.Numeral.{Parts, HasNumeral, IsNumeral, signed}
 use Rattle.fixed_numeral.specs.Value.{magnitude}
@@ -46,6 +46,6 @@ pub record IsFirstRefused (r : Radix) (f : FormatParts) (lines : List (List ℕ)
 
 -- f is the first format in the order that holds each line
 pub record IsLeastFormat (r : Radix) (lines : List (List ℕ)) (f : FormatParts) : Type 0 where
-  pub is_format : IsFormat f.width f.frac
+  pub is_format : IsTypeFormat f.width f.frac
   pub holds : AllHold r f lines
-  pub least : (g : FormatParts) → IsFormat g.width g.frac → IsBefore g f → AllHold r g lines → ⊥
+  pub least : (g : FormatParts) → IsTypeFormat g.width g.frac → IsBefore g f → AllHold r g lines → ⊥

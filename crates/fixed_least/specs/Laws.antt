@@ -1,7 +1,7 @@
 -- What the laws of this crate say.
 use Rattle.std.specs.Prelude.{◌≡◌, ◌↔◌, ◌++◌, ℕ, List, String, length}
 use Rattle.std.specs.declared.alloc.Global.{Global}
-use Rattle.fixed_bits.specs.Formats.{FormatParts, IsFormat}
+use Rattle.fixed_bits.specs.Formats.{FormatParts, IsTypeFormat}
 use Rattle.fixed_bits.specs.Order.{IsBefore, rank}
 use Rattle.fixed_numeral.specs.declared.radix.Radix.{Radix}
 use Rattle.line_engine.specs.AnswerText.{AnswerText}
@@ -12,7 +12,7 @@ use Rattle.fixed_least.specs.Program.{NamesRadix}
 -- the format whose rank is the count of places is the least one that holds each line, and there is no other
 abbrev pub LeastIsTheOne : Type 0
 LeastIsTheOne = (r : Radix) (lines : List (List ℕ)) (places : List ℕ) → IsLeast r lines places → (f : FormatParts)
-    → IsFormat f.width f.frac
+    → IsTypeFormat f.width f.frac
     → (rank f ≡ length places) ↔ IsLeastFormat r lines f
 
 -- a list has one outcome: the places are determined

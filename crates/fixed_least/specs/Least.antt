@@ -1,6 +1,6 @@
 -- What is found of a list of numerals, and what is written about it.
 use Rattle.std.specs.Prelude.{◌≡◌, ◌⊎◌, ◌+◌, ◌≤◌, ◌<◌, ℕ, List, [], ◌∷◌, ◌++◌, length, get_or, codes, decimal, true, false}
-use Rattle.fixed_bits.specs.Formats.{FormatParts, IsFormat}
+use Rattle.fixed_bits.specs.Formats.{FormatParts, IsTypeFormat}
 use Rattle.fixed_numeral.specs.Cause.{HasCause}
 use Rattle.fixed_numeral.specs.Messages.{message_of}
 use Rattle.fixed_numeral.specs.declared.error.ParseErrorKind.{ParseErrorKind}
@@ -18,9 +18,9 @@ use Rattle.fixed_least.specs.declared.least.LeastFault.TheVariants.{NotNumeral}
 pub record IsLeast (r : Radix) (lines : List (List ℕ)) (places : List ℕ) : Type 0 where
   pub short : length places ≤ 248
   pub numerals : AllNumerals r lines
-  pub refutes : (f : FormatParts) → IsFormat f.width f.frac → rank f < length places
+  pub refutes : (f : FormatParts) → IsTypeFormat f.width f.frac → rank f < length places
       → IsFirstRefused r f lines (get_or places (rank f) 0)
-  pub holds : (f : FormatParts) → IsFormat f.width f.frac → rank f ≡ length places → AllHold r f lines
+  pub holds : (f : FormatParts) → IsTypeFormat f.width f.frac → rank f ≡ length places → AllHold r f lines
 
 abbrev pub place_of : LeastFault → ℕ
 place_of (NotNumeral place error) = place
@@ -41,12 +41,12 @@ pub record IsNoNumeral (r : Radix) (lines : List (List ℕ)) (fault : LeastFault
 -- the line that names the least format
 abbrev pub IsHeadText : List ℕ → List ℕ → Type 0
 IsHeadText places text = ((length places ≡ 248) × (text ≡ codes "none"))
-    ⊎ ((f : FormatParts) × IsFormat f.width f.frac × (rank f ≡ length places)
+    ⊎ ((f : FormatParts) × IsTypeFormat f.width f.frac × (rank f ≡ length places)
     × (text ≡ codes "least " ++ format_text f))
 
 -- the line that refutes the format with this number
 abbrev pub IsRefutedText : List ℕ → ℕ → List ℕ → Type 0
-IsRefutedText places k text = (f : FormatParts) × IsFormat f.width f.frac × (rank f ≡ k)
+IsRefutedText places k text = (f : FormatParts) × IsTypeFormat f.width f.frac × (rank f ≡ k)
     × (text ≡ format_text f ++ (codes " line " ++ decimal (get_or places k 0)))
 
 -- line i about an outcome

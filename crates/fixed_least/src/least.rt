@@ -19,7 +19,7 @@ ghost use Rattle.std.specs.Prelude.{
   IfErr,
   MatchOption,
 };
-ghost use Rattle.fixed_bits.specs.Formats.{FormatParts, IsFormat};
+ghost use Rattle.fixed_bits.specs.Formats.{FormatParts, IsTypeFormat};
 ghost use Rattle.fixed_bits.specs.Order.{rank};
 ghost use Rattle.line_engine.specs.Lines.{lines};
 ghost use Rattle.fixed_least.specs.Inner.Slots.{slot_of};
@@ -70,7 +70,7 @@ impl Model for Least {
 /// The format with a rank.
 fn format_of_rank(i: usize) -> Format
     requires { i < FORMAT_COUNT }
-    ensures format { IsFormat result.width result.frac }
+    ensures format { IsTypeFormat result.width result.frac }
     ensures rank { rank result ≡ i }
 {
     format_at(i).unwrap()
@@ -79,7 +79,7 @@ fn format_of_rank(i: usize) -> Format
 /// The place in the slot of the format with a rank.
 fn place_of_rank(slots: &[u64; SLOTS], i: usize) -> u64
     requires { i < FORMAT_COUNT }
-    ensures { (f : FormatParts) → IsFormat f.width f.frac → rank f ≡ i → result ≡ get_or slots.now (slot_of f) 0 }
+    ensures { (f : FormatParts) → IsTypeFormat f.width f.frac → rank f ≡ i → result ≡ get_or slots.now (slot_of f) 0 }
 {
     slots[slot_of(format_of_rank(i))]
 }
@@ -87,9 +87,9 @@ fn place_of_rank(slots: &[u64; SLOTS], i: usize) -> u64
 /// The least format without a place in its slot, and the places of those before it.
 fn least_of(slots: &[u64; SLOTS]) -> Least
     ensures short { length result ≤ FORMAT_COUNT }
-    ensures places { (f : FormatParts) → IsFormat f.width f.frac → rank f < length result
+    ensures places { (f : FormatParts) → IsTypeFormat f.width f.frac → rank f < length result
         → (get_or result (rank f) 0 ≡ get_or slots.now (slot_of f) 0) × ¬ (get_or slots.now (slot_of f) 0 ≡ 0) }
-    ensures first { (f : FormatParts) → IsFormat f.width f.frac → rank f ≡ length result
+    ensures first { (f : FormatParts) → IsTypeFormat f.width f.frac → rank f ≡ length result
         → get_or slots.now (slot_of f) 0 ≡ 0 }
 {
     let mut places = [0u64; FORMAT_COUNT];
@@ -146,7 +146,7 @@ pub fn least_format<L: Ledger>(
 impl Least {
     /// The least format that holds each numeral; `None` where no format does.
     pub fn chosen(&self) -> Option<Format>
-        ensures { MatchOption result (length self.now ≡ FORMAT_COUNT) (λ f. IsFormat f.width f.frac
+        ensures { MatchOption result (length self.now ≡ FORMAT_COUNT) (λ f. IsTypeFormat f.width f.frac
             × (rank f ≡ length self.now)) }
     {
         format_at(self.refuted)

@@ -7,7 +7,7 @@
 //! tried there only.
 
 ghost use Rattle.std.specs.Prelude.{◌≡◌, ◌⊎◌, ◌↔◌, ◌≤◌, ◌<◌, ◌+◌, ◌-◌, ◌*◌, ℕ, IsTrue, true, false, get_or};
-ghost use Rattle.fixed_bits.specs.Ranges.{IsWidth};
+ghost use Rattle.fixed_bits.specs.Formats.{IsTypeFormat};
 ghost use Rattle.fixed_least.specs.Inner.Slots.{
   AreLiving,
   AreNoted,
@@ -62,6 +62,7 @@ fn format_of(kind: usize, frac: usize) -> Format
 
 /// The slot of a format.
 pub fn slot_of(format: Format) -> usize
+    requires { IsTypeFormat format.width format.frac }
     ensures slot { result ≡ slot_of format }
     ensures within { result < SLOTS }
 {

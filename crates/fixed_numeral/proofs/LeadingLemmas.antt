@@ -39,8 +39,8 @@ last_more r bs at last next st g a (inr (kind, i, e)) = rw e (record {
   within = omega (arith, g.within);
   some = g.some;
   longest = λ m l h. ⊎_elim (λ (k : m < at + 1). g.longest m (omega arith) h) (λ (k : at + 1 ≤ m).
-    let same : m ≡ at + 1 = omega arith in
-    absurd ((incomplete_cause r (take (at + 1) bs) st kind a i).none (rw same at h))) (cases_lt m (at + 1));
+      let same : m ≡ at + 1 = omega arith in
+      absurd ((incomplete_cause r (take (at + 1) bs) st kind a i).none (rw same at h))) (cases_lt m (at + 1));
 })
 
 -- nothing is no numeral

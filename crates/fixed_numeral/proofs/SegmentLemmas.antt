@@ -1,12 +1,12 @@
 -- Stretches of a text, and the numbers that their digits spell.
-use Rattle.std.proofs.Common.{◌≡◌, ℕ, zero, suc, ◌+◌, ◌-◌, ◌*◌, ◌^◌, ◌%◌, ◌<◌, ◌≤◌, Bool, true, false, List, [], ◌∷◌, ◌++◌, length, take, drop, get_or, Option, Some, None, IfSome, option_to_list, ℤ, pos, neg_ℤ, cond, of_z, to_z, FitsSigned, w32, refl, sym, ap, ◌∙◌, ⊎_elim, arith, add-one, append_assoc, append-nil, subst, length-append, length-take, length-drop, take-append-drop, mul-le-mul_left, mul-le-mul_right}
+use Rattle.std.proofs.Common.{◌≡◌, ℕ, zero, suc, ◌+◌, ◌-◌, ◌*◌, ◌^◌, ◌<◌, ◌≤◌, Bool, true, false, List, [], ◌∷◌, ◌++◌, length, take, drop, get_or, Option, Some, None, IfSome, option_to_list, ℤ, pos, neg_ℤ, cond, of_z, to_z, FitsSigned, w32, refl, sym, ap, ◌∙◌, arith, append_assoc, append-nil, subst, length-append, length-take, length-drop, take-append-drop, mul-le-mul_left, mul-le-mul_right}
 use Rattle.std.proofs.lemmas.List.{drop_more, drop-drop, drop-take, length_push, drop_all, take-take}
-use Rattle.std.proofs.lemmas.Bool.{cases_lt, eqb-true}
+use Rattle.std.proofs.lemmas.Bool.{eqb-true}
 use Rattle.std.specs.Prelude.{eqb}
 use mir.Val.{bool_byte}
 use Rattle.std.proofs.lemmas.Int.{ints, to_z-of_z}
 use Rattle.std.proofs.lemmas.Nat.{pow-add}
-use Rattle.std.proofs.Math.Nat.{pow-zero, pow-suc, pow-le-pow_left, pow-le-pow_right}
+use Rattle.std.proofs.Math.Nat.{pow-zero, pow-suc, pow-le-pow_right}
 use Rattle.std.proofs.lemmas.Int.Digits.{digits_value_push, digits_push, digits_value-lt}
 use Rattle.std.specs.Char.{digit_value}
 use Rattle.std.specs.Int.Digits.{AllBelowBase}

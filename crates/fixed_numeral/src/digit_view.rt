@@ -1,6 +1,7 @@
 //! Digits between two counts of zeros.
 
-ghost use Rattle.std.specs.Prelude.{◌≡◌, ◌+◌, ◌<◌, ◌≤◌, ◌^◌, ◌-◌, ◌↔◌, [], ◌∷◌, ◌++◌, IsTrue, length, take, drop, MatchOption};
+ghost use Rattle.std.specs.Prelude.{◌≡◌, ◌+◌, ◌<◌, ◌≤◌, ◌^◌, ◌-◌, ◌↔◌, [], ◌∷◌, ◌++◌, IsTrue, length, take, drop};
+ghost use Rattle.std.specs.Prelude.{MatchOption};
 ghost use Rattle.std.specs.Prelude.{ℕ, ◌*◌, min};
 ghost use Rattle.std.specs.Int.Digits.{AllBelowBase, number_from_digits};
 ghost use Rattle.fixed_numeral.specs.Digits.{between_zeros, zeros};
@@ -101,7 +102,7 @@ impl<'a> DigitView<'a> {
         self.before + self.left.len() + self.right.len() + self.after
     }
 
-    /// Whether there is none.
+    /// Whether there is no digit.
     #[inline]
     pub fn is_empty(&self) -> bool
         ensures { IsTrue result ↔ (self.now ≡ []) }
@@ -109,10 +110,11 @@ impl<'a> DigitView<'a> {
         self.len() == 0
     }
 
-    /// The first digit, 0 to 15, and the others, for one step. None, for no step, where there is no digit.
+    /// The first digit, 0 to 15, and the others, for one step. `None`, for no step, where there is no digit.
     #[tactic(auto, using(crate::proofs::ViewLemmas::take_before, crate::proofs::ViewLemmas::take_left, crate::proofs::ViewLemmas::take_right, crate::proofs::ViewLemmas::take_after, crate::proofs::ViewLemmas::between_none))]
     pub fn take<L: Ledger>(&self, steps: &mut Steps<L>) -> Option<(u8, DigitView<'a>)>
-        ensures { MatchOption result ((self.now ≡ []) × (steps.new ≡ steps.old)) (λ r. (self.now ≡ r.0 ∷ r.1) × (r.0 < 16) × (steps.new ≡ steps.old + 1)) }
+        ensures { MatchOption result ((self.now ≡ []) × (steps.new ≡ steps.old))
+            (λ r. (self.now ≡ r.0 ∷ r.1) × (r.0 < 16) × (steps.new ≡ steps.old + 1)) }
     {
         let after = self.after;
         if self.before > 0 {
@@ -214,7 +216,8 @@ impl<'a> DigitView<'a> {
         self.same().prefix_number_by_parts(base, i)
     }
 
-    /// A number, and the digits after the first i: slow path of `take_number`. Works on a copy, as `prefix_number_slow` does.
+    /// A number, and the digits after the first i: slow path of `take_number`. Works on a copy, as `prefix_number_slow`
+    /// does.
     #[inline(always)]
     fn suffix_slow(&self, number: u64, i: u64) -> (u64, DigitView<'a>)
         requires { i ≤ length self.now }

@@ -1,10 +1,12 @@
 //! Numerals in any radix that a text ends with.
 //!
-//! At least 16 bytes come before a numeral here, and it has at most 16 itself. So the last 16 bytes of the text are looked at
-//! together: the first byte that is no digit ends the digits, and whole words that reach back over the numeral's beginning
-//! give their number. No branch depends on how many digits there are, nor on which of them are letters.
+//! At least 16 bytes come before a numeral here, and it has at most 16 itself. So the last 16 bytes of the text are
+//! looked at together: the first byte that is not a digit ends the digits, and whole words that reach back over the
+//! numeral's beginning give their number. No branch depends on how many digits there are, nor on which of them are
+//! letters.
 
-ghost use Rattle.std.specs.Prelude.{◌≡◌, ◌+◌, ◌-◌, ◌<◌, ◌≤◌, ℕ, IfSome, drop, length, slice_index, take, pos, neg_ℤ, if◌then◌else◌};
+ghost use Rattle.std.specs.Prelude.{◌≡◌, ◌+◌, ◌-◌, ◌<◌, ◌≤◌, ℕ, IfSome, drop, length, slice_index, take, pos, neg_ℤ};
+ghost use Rattle.std.specs.Prelude.{if◌then◌else◌};
 ghost use Rattle.std.specs.Int.{bit_at};
 ghost use Rattle.std.specs.Str.Parse.{AllDigits};
 ghost use Rattle.fixed_numeral.specs.Numeral.{base};
@@ -22,7 +24,8 @@ use std::simd::prelude::*;
 #[inline(always)]
 fn marks_outside(text: &[u8], least: u8, most: u8) -> u64
     requires { LANES ≤ length text.now }
-    ensures { (k : ℕ) → k < LANES → bit_at result k ≡ 0 → (least ≤ slice_index text.now (length text.now - LANES + k)) × (slice_index text.now (length text.now - LANES + k) ≤ most) }
+    ensures { (k : ℕ) → k < LANES → bit_at result k ≡ 0 → (least ≤ slice_index text.now (length text.now - LANES + k))
+        × (slice_index text.now (length text.now - LANES + k) ≤ most) }
 {
     let start = text.len() - LANES;
     let lanes = u8x16::from_slice(&text[start..]);
@@ -31,7 +34,7 @@ fn marks_outside(text: &[u8], least: u8, most: u8) -> u64
     below | above
 }
 
-/// The marks of those of the last 16 bytes that are no digits of a radix.
+/// The marks of those of the last 16 bytes that are not digits of a radix.
 #[inline(always)]
 fn other_marks(text: &[u8], radix: Radix) -> u64
     requires { LANES ≤ length text.now }
@@ -74,7 +77,7 @@ struct Mantissa {
     end: usize,
 }
 
-/// The mantissa from a place on. None where it has no digit.
+/// The mantissa from a place on. `None` where it has no digit.
 #[inline(always)]
 fn mantissa_at(text: &[u8], radix: Radix, from: usize) -> Option<Mantissa>
     requires least { LANES ≤ from }
@@ -128,8 +131,8 @@ fn signed_exponent(minus: bool, magnitude: u64) -> i32
     }
 }
 
-/// The exponent from its separator on, up to the end of the text. `None` where it has no digit, its number is no i32, or
-/// something else is there.
+/// The exponent from its separator on, up to the end of the text. `None` where it has no digit, its number is not an
+/// i32, or something else is there.
 fn exponent_at(text: &[u8], radix: Radix, from: usize) -> Option<Power>
     requires least { LANES ≤ from }
     requires late { length text.now ≤ from + LANES }
@@ -174,13 +177,15 @@ fn power_at(text: &[u8], radix: Radix, from: usize) -> Option<Power>
     }
 }
 
-/// The numbers of a numeral of at most 16 bytes that a text ends with, with at least as many bytes before it. None otherwise.
+/// The numbers of a numeral of at most 16 bytes that a text ends with, with at least as many bytes before it. `None`
+/// otherwise.
 #[inline(always)]
 pub(crate) fn ending_numeral(text: &[u8], from: usize, radix: Radix) -> Option<ShortNumeral>
     requires least { LANES ≤ from }
     requires late { length text.now ≤ from + LANES }
     requires place { from ≤ length text.now }
-    ensures short { IfSome result (λ n. IsShortAt radix (drop from text.now) n.negative n.whole n.fraction n.places n.exponent n.scales_by_two) }
+    ensures short { IfSome result
+        (λ n. IsShortAt radix (drop from text.now) n.negative n.whole n.fraction n.places n.exponent n.scales_by_two) }
     ensures few { IfSome result (λ n. HasFewDigits (base radix) n.whole n.fraction n.places) }
 {
     let (negative, first) = sign_at(text, from);

@@ -6,7 +6,7 @@ use std::error::Error;
 use std::fmt;
 use std::marker::Model;
 
-/// Why bytes are no numeral, or a numeral does not fit a format.
+/// Why bytes are not a numeral, or a numeral does not fit a format.
 #[derive(Clone, Copy, Debug, PartialEq, Eq)]
 pub enum ParseErrorKind {
     /// A byte that is not allowed before a separator.

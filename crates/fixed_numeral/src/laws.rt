@@ -42,7 +42,7 @@ pub fn literal_is_determined()
     ensures { LiteralIsDetermined }
 {}
 
-/// Bytes have at most one cause why they are no literal, and a literal has none.
+/// Bytes have at most one cause why they are not a literal, and a literal has none.
 pub fn one_literal_cause()
     ensures { OneLiteralCause }
 {}

@@ -1,12 +1,15 @@
 //! Reading a literal: its sign, its prefix, and a numeral that may have underscores.
 
-ghost use Rattle.std.specs.Prelude.{◌≡◌, ◌+◌, ◌*◌, ◌^◌, ◌<◌, ◌≤◌, ℕ, ◌&&◌, not, true, IsTrue, IfSome, None, List, length, MatchResult, IsOk, IfOk, IfErr, ◌↔◌};
+ghost use Rattle.std.specs.Prelude.{◌≡◌, ◌+◌, ◌*◌, ◌^◌, ◌<◌, ◌≤◌, ℕ, ◌&&◌, not, true, IsTrue, IfSome, None, List};
+ghost use Rattle.std.specs.Prelude.{length, MatchResult, IsOk, IfOk, IfErr, ◌↔◌};
 ghost use Rattle.fixed_numeral.specs.declared.radix.Radix.{Radix as TheRadix};
 ghost use Rattle.fixed_numeral.specs.Numeral.{Parts, is_minus, is_sign};
 ghost use Rattle.fixed_numeral.specs.Cause.{is_nil};
 ghost use Rattle.fixed_numeral.specs.Inner.Scan.{Agrees, max_magnitude};
 ghost use Rattle.fixed_numeral.specs.Scanned.{IsScanned};
-ghost use Rattle.fixed_numeral.specs.Literal.{HasLiteralParts, HasRest, HasRestCause, HasLiteral, IsLiteral, HasLiteralCause, last_part, sign_of, after_sign, prefix_of, after_underscores, radix_by, rest_by, literal_radix, literal_rest};
+ghost use Rattle.fixed_numeral.specs.Literal.{HasLiteralParts, HasRest, HasRestCause, HasLiteral, IsLiteral};
+ghost use Rattle.fixed_numeral.specs.Literal.{HasLiteralCause, last_part, sign_of, after_sign, prefix_of};
+ghost use Rattle.fixed_numeral.specs.Literal.{after_underscores, radix_by, rest_by, literal_radix, literal_rest};
 ghost use Rattle.fixed_numeral.specs.Inner.LiteralScan.{LiteralExtends, LiteralCannotExtend, IsLiteralAfter};
 
 use crate::digit_slice::DigitSlice;
@@ -47,7 +50,8 @@ fn is_leading_sign(state: State, b: u8) -> bool
 fn literal_byte(state: State, radix: Radix, b: u8) -> Result<State, ParseErrorKind>
     requires room { state.magnitude ≤ max_magnitude true }
     requires counts { state.whole_len + state.fraction_len + 1 < 2 ^ 64 }
-    ensures { (bs : List ℕ) (p : Parts) → HasLiteralParts radix bs p → Agrees radix state p → MatchResult result (λ next. LiteralExtends radix bs b next) (λ kind. LiteralCannotExtend radix bs p b kind) }
+    ensures { (bs : List ℕ) (p : Parts) → HasLiteralParts radix bs p → Agrees radix state p
+        → MatchResult result (λ next. LiteralExtends radix bs b next) (λ kind. LiteralCannotExtend radix bs p b kind) }
 {
     if b == b'_' {
         if last_part_has_digit(state) {
@@ -68,7 +72,8 @@ fn read_rest<L: Ledger>(
     radix: Radix,
     steps: &mut Steps<L>,
 ) -> Result<State, ParseErrorKind>
-    ensures end { MatchResult result (λ state. IsLiteralAfter radix bytes.now state) (λ kind. HasRestCause radix bytes.now kind) }
+    ensures end { MatchResult result (λ state. IsLiteralAfter radix bytes.now state)
+        (λ kind. HasRestCause radix bytes.now kind) }
     ensures counted { IfOk result (λ s. steps.new ≡ steps.old + length bytes.now) }
     ensures cost { steps.new ≤ steps.old + length bytes.now }
 {
@@ -92,7 +97,9 @@ fn rest_views<'a, L: Ledger>(
     steps: &mut Steps<L>,
 ) -> Scanned<'a>
     requires { IsLiteralAfter radix bytes.now state }
-    ensures value { (p : Parts) → HasRest radix bytes.now (record p { sign = None }) → IfSome p.sign (λ b. IsTrue (is_sign b)) → neg ≡ is_minus p.sign → IsScanned radix p result.neg result.whole result.fraction result.bit_shift }
+    ensures value { (p : Parts) → HasRest radix bytes.now (record p { sign = None })
+        → IfSome p.sign (λ b. IsTrue (is_sign b)) → neg ≡ is_minus p.sign
+        → IsScanned radix p result.neg result.whole result.fraction result.bit_shift }
     ensures counted { steps.old ≤ steps.new }
     ensures cost { steps.new ≤ steps.old + length bytes.now + 2 }
 {
@@ -166,9 +173,9 @@ fn after_prefix(bytes: &[u8]) -> (Radix, &[u8])
 
 /// The radix and the views of a literal, or why the bytes are none.
 ///
-/// Where `signed`, one leading `-` is the literal's sign. A prefix `0b`, `0o` or `0x` names the radix, which is 10 without
-/// one. Underscores are allowed after a prefix and after a digit of their part. The views pass over them. The error is
-/// never `Overflow`. At most 2 steps a byte and 2 more are taken, and none for the bytes before the rest.
+/// Where `signed`, one leading `-` is the literal's sign. A prefix `0b`, `0o` or `0x` names the radix, which is 10
+/// without one. Underscores are allowed after a prefix and after a digit of their part. The views pass over them. The
+/// error is never `Overflow`. At most 2 steps a byte and 2 more are taken, and none for the bytes before the rest.
 pub fn scan_lit<'a, L: Ledger>(
     bytes: &'a [u8],
     signed: bool,
@@ -177,7 +184,8 @@ pub fn scan_lit<'a, L: Ledger>(
     ensures literal { IsOk result ↔ IsLiteral signed bytes.now }
     ensures cause { IfErr result (λ kind. HasLiteralCause signed bytes.now kind) }
     ensures radix { IfOk result (λ r. r.0 ≡ literal_radix signed bytes.now) }
-    ensures value { IfOk result (λ r. (p : Parts) → HasLiteral signed bytes.now p → IsScanned r.0 p r.1.neg r.1.whole r.1.fraction r.1.bit_shift) }
+    ensures value { IfOk result (λ r. (p : Parts) → HasLiteral signed bytes.now p
+        → IsScanned r.0 p r.1.neg r.1.whole r.1.fraction r.1.bit_shift) }
     ensures counted { IfOk result (λ r. steps.old + length (literal_rest signed bytes.now) ≤ steps.new) }
     ensures cost { steps.new ≤ steps.old + 2 * length bytes.now + 2 }
 {

@@ -84,7 +84,10 @@ impl<'a> Scanned<'a> {
     ) -> Scanned<'a>
         requires digits { length whole + length fraction < 2 ^ 63 }
         requires room { magnitude ≤ 2 ^ 31 }
-        ensures value { (p : Parts) → IsPartsOf radix p → neg ≡ is_minus p.sign → whole.entry ≡ digits_in p.whole → fraction.entry ≡ digits_in (fractional_digits p.fraction) → AgreesWithExponent radix two minus magnitude p.exponent → IsScanned radix p result.neg result.whole result.fraction result.bit_shift }
+        ensures value { (p : Parts) → IsPartsOf radix p → neg ≡ is_minus p.sign → whole.entry ≡ digits_in p.whole
+            → fraction.entry ≡ digits_in (fractional_digits p.fraction)
+            → AgreesWithExponent radix two minus magnitude p.exponent
+            → IsScanned radix p result.neg result.whole result.fraction result.bit_shift }
         ensures counted { steps.old ≤ steps.new }
         ensures cost { steps.new ≤ steps.old + (length whole.entry + length fraction.entry) + 2 }
     {

@@ -1,6 +1,7 @@
 //! Reading a numeral from the left.
 
-ghost use Rattle.std.specs.Prelude.{◌≡◌, ◌+◌, ◌*◌, ◌^◌, ◌<◌, ◌≤◌, ◌==◌, ℕ, nat_lt, true, false, IsTrue, List, [], ◌++◌, length, take, drop, MatchResult, IfSome, IfOk};
+ghost use Rattle.std.specs.Prelude.{◌≡◌, ◌+◌, ◌*◌, ◌^◌, ◌<◌, ◌≤◌, ◌==◌, ℕ, nat_lt, true, false, IsTrue, List, [], ◌++◌};
+ghost use Rattle.std.specs.Prelude.{length, take, drop, MatchResult, IfSome, IfOk};
 ghost use Rattle.std.specs.Int.Digits.{AllBelowBase};
 ghost use Rattle.std.specs.Int.{bit_at};
 ghost use Rattle.std.specs.Simd.Lanes.{number_l};
@@ -10,7 +11,8 @@ ghost use Rattle.fixed_numeral.specs.declared.radix.Radix.{Radix as TheRadix};
 ghost use Rattle.fixed_numeral.specs.Answer.{IsReadOrRefused};
 ghost use Rattle.fixed_numeral.specs.Cause.{HasCause};
 ghost use Rattle.fixed_numeral.specs.Numeral.{Parts, HasParts, base, is_sign, is_separator, is_two_separator};
-ghost use Rattle.fixed_numeral.specs.Inner.Scan.{Agrees, Extends, CannotExtend, IsAfter, IsComplete, IsIncomplete, max_magnitude};
+ghost use Rattle.fixed_numeral.specs.Inner.Scan.{Agrees, Extends, CannotExtend, IsAfter, IsComplete, IsIncomplete};
+ghost use Rattle.fixed_numeral.specs.Inner.Scan.{max_magnitude};
 ghost use Rattle.fixed_numeral.specs.Inner.Run.{IsRun};
 ghost use Rattle.fixed_numeral.specs.Scanned.{IsScanned};
 
@@ -95,8 +97,8 @@ fn separator_bits(radix: Radix) -> u64
     }
 }
 
-/// Whether a byte is a separator of a radix. By a bit of a word, since the separators of four radices by branches are hard to
-/// predict.
+/// Whether a byte is a separator of a radix. By a bit of a word, since the separators of four radices by branches are
+/// hard to predict.
 pub(crate) fn is_separator(radix: Radix, b: u8) -> bool
     ensures { result ≡ is_separator radix b }
 {
@@ -123,7 +125,8 @@ fn mantissa_byte(state: State, radix: Radix, b: u8) -> Result<State, ParseErrorK
     requires separator { state.has_separator ≡ false }
     requires room { state.magnitude ≤ max_magnitude true }
     requires counts { state.whole_len + state.fraction_len + 1 < 2 ^ 64 }
-    ensures { (bs : List ℕ) (p : Parts) → HasParts radix bs p → Agrees radix state p → MatchResult result (λ next. Extends radix bs b next) (λ kind. CannotExtend radix bs p b kind) }
+    ensures { (bs : List ℕ) (p : Parts) → HasParts radix bs p → Agrees radix state p
+        → MatchResult result (λ next. Extends radix bs b next) (λ kind. CannotExtend radix bs p b kind) }
 {
     if is_digit_of(radix, b) {
         Ok(after_digits(state, 1))
@@ -167,7 +170,8 @@ fn mantissa_byte(state: State, radix: Radix, b: u8) -> Result<State, ParseErrorK
 fn exponent_byte(state: State, radix: Radix, b: u8) -> Result<State, ParseErrorKind>
     requires separator { state.has_separator ≡ true }
     requires room { state.magnitude ≤ max_magnitude true }
-    ensures { (bs : List ℕ) (p : Parts) → HasParts radix bs p → Agrees radix state p → MatchResult result (λ next. Extends radix bs b next) (λ kind. CannotExtend radix bs p b kind) }
+    ensures { (bs : List ℕ) (p : Parts) → HasParts radix bs p → Agrees radix state p
+        → MatchResult result (λ next. Extends radix bs b next) (λ kind. CannotExtend radix bs p b kind) }
 {
     if is_digit_of(Radix::Dec, b) {
         let magnitude = state.magnitude * 10 + u64::from(b - b'0');
@@ -202,7 +206,8 @@ fn exponent_byte(state: State, radix: Radix, b: u8) -> Result<State, ParseErrorK
 pub(crate) fn transition(state: State, radix: Radix, b: u8) -> Result<State, ParseErrorKind>
     requires room { state.magnitude ≤ max_magnitude true }
     requires counts { state.whole_len + state.fraction_len + 1 < 2 ^ 64 }
-    ensures { (bs : List ℕ) (p : Parts) → HasParts radix bs p → Agrees radix state p → MatchResult result (λ next. Extends radix bs b next) (λ kind. CannotExtend radix bs p b kind) }
+    ensures { (bs : List ℕ) (p : Parts) → HasParts radix bs p → Agrees radix state p
+        → MatchResult result (λ next. Extends radix bs b next) (λ kind. CannotExtend radix bs p b kind) }
 {
     if state.has_separator {
         exponent_byte(state, radix, b)
@@ -225,8 +230,8 @@ fn low_digits(bytes: &[u8], base: u8, from: usize) -> usize
     at - from
 }
 
-/// Shortest text for which testing eight bytes at a time pays: with as many bytes there are mostly eight digits on one side
-/// of the point.
+/// Shortest text for which testing eight bytes at a time pays: with as many bytes there are mostly eight digits on one
+/// side of the point.
 const LONG: usize = 16;
 
 /// Whether the sixteen bytes from a place on are decimal digits.
@@ -319,7 +324,8 @@ fn mantissa_digits(state: State, bytes: &[u8], radix: Radix, from: usize) -> usi
 fn after_digits(state: State, count: u64) -> State
     requires separator { 0 < count → state.has_separator ≡ false }
     requires counts { state.whole_len + state.fraction_len + count < 2 ^ 64 }
-    ensures { (radix : TheRadix) (bs ds : List ℕ) → IsAfter radix bs state → AllDigits (base radix) ds → length ds ≡ count → IsAfter radix (bs ++ ds) result }
+    ensures { (radix : TheRadix) (bs ds : List ℕ) → IsAfter radix bs state → AllDigits (base radix) ds
+        → length ds ≡ count → IsAfter radix (bs ++ ds) result }
 {
     if count == 0 {
         state
@@ -338,12 +344,13 @@ fn after_digits(state: State, count: u64) -> State
     }
 }
 
-/// The state after eight exponent digits more. None where they are not all digits, or the exponent leaves its range.
+/// The state after eight exponent digits more. `None` where they are not all digits, or the exponent leaves its range.
 #[inline(always)]
 fn after_eight_exponent_digits(state: State, word: u64) -> Option<State>
     requires room { state.magnitude ≤ max_magnitude true }
     requires separator { state.has_separator ≡ true }
-    ensures after { IfSome result (λ next. (radix : TheRadix) (bs ds : List ℕ) → IsAfter radix bs state → length ds ≡ 8 → AllBelowBase 256 ds → word ≡ number_l 256 ds → IsAfter radix (bs ++ ds) next) }
+    ensures after { IfSome result (λ next. (radix : TheRadix) (bs ds : List ℕ) → IsAfter radix bs state → length ds ≡ 8
+        → AllBelowBase 256 ds → word ≡ number_l 256 ds → IsAfter radix (bs ++ ds) next) }
     ensures room { IfSome result (λ next. next.magnitude ≤ max_magnitude true) }
 {
     if !are_decimal(word) {
@@ -366,7 +373,8 @@ fn after_eight_exponent_digits(state: State, word: u64) -> Option<State>
 fn after_exponent_digits(state: State, bytes: &[u8], from: usize) -> (State, usize)
     requires place { from ≤ length bytes.now }
     requires room { state.magnitude ≤ max_magnitude true }
-    ensures after { (radix : TheRadix) → IsAfter radix (take from bytes.now) state → IsAfter radix (take result.1 bytes.now) result.0 }
+    ensures after { (radix : TheRadix) → IsAfter radix (take from bytes.now) state
+        → IsAfter radix (take result.1 bytes.now) result.0 }
     ensures place { from ≤ result.1 }
     ensures within { result.1 ≤ length bytes.now }
 {
@@ -456,7 +464,8 @@ fn digit_views<'a, L: Ledger>(
     steps: &mut Steps<L>,
 ) -> Scanned<'a>
     requires { IsAfter radix bytes.now state }
-    ensures value { (p : Parts) → HasParts radix bytes.now p → IsScanned radix p result.neg result.whole result.fraction result.bit_shift }
+    ensures value { (p : Parts) → HasParts radix bytes.now p
+        → IsScanned radix p result.neg result.whole result.fraction result.bit_shift }
     ensures counted { steps.old ≤ steps.new }
     ensures cost { steps.new ≤ steps.old + length bytes.now + 2 }
 {
@@ -485,7 +494,8 @@ fn moved_digit_views<'a, L: Ledger>(
     steps: &mut Steps<L>,
 ) -> Scanned<'a>
     requires { IsAfter radix bytes.now state }
-    ensures value { (p : Parts) → HasParts radix bytes.now p → IsScanned radix p result.neg result.whole result.fraction result.bit_shift }
+    ensures value { (p : Parts) → HasParts radix bytes.now p
+        → IsScanned radix p result.neg result.whole result.fraction result.bit_shift }
     ensures counted { steps.old ≤ steps.new }
     ensures cost { steps.new ≤ steps.old + length bytes.now + 2 }
 {
@@ -501,7 +511,8 @@ pub fn scan<'a, L: Ledger>(
     radix: Radix,
     steps: &mut Steps<L>,
 ) -> Result<Scanned<'a>, ParseFixedError>
-    ensures reading { IsReadOrRefused radix bytes.now (λ p s. IsScanned radix p s.neg s.whole s.fraction s.bit_shift) result }
+    ensures reading { IsReadOrRefused radix bytes.now
+        (λ p s. IsScanned radix p s.neg s.whole s.fraction s.bit_shift) result }
     ensures counted { IfOk result (λ s. steps.old + length bytes.now ≤ steps.new) }
     ensures cost { steps.new ≤ steps.old + 2 * length bytes.now + 2 }
 {

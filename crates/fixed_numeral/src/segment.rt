@@ -64,7 +64,8 @@ pub(crate) fn decimals_at(bytes: &[u8], from: usize, limit: usize) -> Few
     Few { number, end: at }
 }
 
-/// The number of the bytes between two places, at most 16, where they are decimal digits. The second place is at least 8.
+/// The number of the bytes between two places, at most 16, where they are decimal digits. The second place is at least
+/// 8.
 #[inline(always)]
 pub(crate) fn decimals_between(bytes: &[u8], from: usize, to: usize) -> Option<u64>
     requires long { 8 ≤ to }

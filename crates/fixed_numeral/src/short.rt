@@ -1,9 +1,10 @@
 //! Short numerals: from bytes straight to numbers.
 //!
-//! This is the one place that knows which numerals are short: those of at most 16 bytes, in any radix, and decimals of at
-//! most 44 bytes with a point. Any other is scanned (`scan`).
+//! This is the one place that knows which numerals are short: those of at most 16 bytes, in any radix, and decimals of
+//! at most 44 bytes with a point. Any other is scanned (`scan`).
 
-ghost use Rattle.std.specs.Prelude.{◌≡◌, ◌≢◌, ◌+◌, ◌*◌, ◌^◌, ◌<◌, ◌≤◌, ◌⊎◌, ◌++◌, IfSome, drop, length, pos, replicate, take};
+ghost use Rattle.std.specs.Prelude.{◌≡◌, ◌≢◌, ◌+◌, ◌*◌, ◌^◌, ◌<◌, ◌≤◌, ◌⊎◌, ◌++◌, IfSome, drop, length, pos, replicate};
+ghost use Rattle.std.specs.Prelude.{take};
 ghost use Rattle.fixed_numeral.specs.declared.radix.Radix.TheVariants.{Dec};
 ghost use Rattle.fixed_numeral.specs.Numeral.{Parts, HasNumeral, IsNumeral, base};
 ghost use Rattle.fixed_numeral.specs.PartNumbers.{IsShortNumeral, HasFewDigits};
@@ -65,20 +66,22 @@ fn padded(s: &[u8]) -> [u8; 32]
 #[inline]
 fn padded_numeral(s: &[u8], radix: Radix) -> Option<ShortNumeral>
     requires { length s.now ≤ LANES }
-    ensures short { IfSome result (λ n. IsShortAt radix s.now n.negative n.whole n.fraction n.places n.exponent n.scales_by_two) }
+    ensures short { IfSome result
+        (λ n. IsShortAt radix s.now n.negative n.whole n.fraction n.places n.exponent n.scales_by_two) }
     ensures few { IfSome result (λ n. HasFewDigits (base radix) n.whole n.fraction n.places) }
 {
     let bytes = padded(s);
     ending_numeral(&bytes[..LANES + s.len()], LANES, radix)
 }
 
-/// `padded_numeral` of the bytes from a place on. Its answer is matched by reference and copied here, and not where it is used:
-/// the answer of a call has room in memory, which is cleared where a function begins.
+/// `padded_numeral` of the bytes from a place on. Its answer is matched by reference and copied here, and not where it
+/// is used: the answer of a call has room in memory, which is cleared where a function begins.
 #[inline(always)]
 fn numeral_from(text: &[u8], from: usize, radix: Radix) -> Option<ShortNumeral>
     requires place { from ≤ length text.now }
     requires few { length text.now ≤ from + LANES }
-    ensures short { IfSome result (λ n. IsShortAt radix (drop from text.now) n.negative n.whole n.fraction n.places n.exponent n.scales_by_two) }
+    ensures short { IfSome result
+        (λ n. IsShortAt radix (drop from text.now) n.negative n.whole n.fraction n.places n.exponent n.scales_by_two) }
     ensures few { IfSome result (λ n. HasFewDigits (base radix) n.whole n.fraction n.places) }
 {
     match &padded_numeral(bytes_from(text, from), radix) {
@@ -92,7 +95,8 @@ fn numeral_from(text: &[u8], from: usize, radix: Radix) -> Option<ShortNumeral>
 fn wide_decimal_from(text: &[u8], from: usize) -> Option<ShortNumeral>
     requires place { from ≤ length text.now }
     requires long { from + LANES < length text.now }
-    ensures short { IfSome result (λ n. IsShortAt Dec (drop from text.now) n.negative n.whole n.fraction n.places n.exponent n.scales_by_two) }
+    ensures short { IfSome result
+        (λ n. IsShortAt Dec (drop from text.now) n.negative n.whole n.fraction n.places n.exponent n.scales_by_two) }
     ensures plain { IfSome result (λ n. n.exponent ≡ pos 0) }
 {
     match &wide_decimal(bytes_from(text, from)) {
@@ -106,7 +110,8 @@ fn wide_decimal_from(text: &[u8], from: usize) -> Option<ShortNumeral>
 fn few_bytes(text: &[u8], from: usize, radix: Radix) -> Option<ShortNumeral>
     requires late { length text.now ≤ from + LANES }
     requires place { from ≤ length text.now }
-    ensures short { IfSome result (λ n. IsShortAt radix (drop from text.now) n.negative n.whole n.fraction n.places n.exponent n.scales_by_two) }
+    ensures short { IfSome result
+        (λ n. IsShortAt radix (drop from text.now) n.negative n.whole n.fraction n.places n.exponent n.scales_by_two) }
     ensures few { IfSome result (λ n. HasFewDigits (base radix) n.whole n.fraction n.places) }
 {
     if from < LANES {
@@ -115,10 +120,10 @@ fn few_bytes(text: &[u8], from: usize, radix: Radix) -> Option<ShortNumeral>
     ending_numeral(text, from, radix)
 }
 
-/// The numbers of a numeral that a text ends with from a place on: of one with at most 16 bytes, or of a decimal with at most
-/// 44, without an exponent, whose point is among its first 17 bytes and has at most 27 digits after it. None otherwise, and
-/// where the bytes are no numeral; `scan` then says more. It is quickest where the text has 16 bytes before the numeral, and
-/// the radix is a constant. A step a byte of the numeral is taken, or none.
+/// The numbers of a numeral that a text ends with from a place on: of one with at most 16 bytes, or of a decimal with
+/// at most 44, without an exponent, whose point is among its first 17 bytes and has at most 27 digits after it. `None`
+/// otherwise, and where the bytes are not a numeral; `scan` then says more. It is quickest where the text has 16 bytes
+/// before the numeral, and the radix is a constant. A step a byte of the numeral is taken, or none.
 #[inline(always)]
 pub fn short_numeral<L: Ledger>(
     text: &[u8],
@@ -128,11 +133,13 @@ pub fn short_numeral<L: Ledger>(
 ) -> Option<ShortNumeral>
     requires { from ≤ length text.now }
     ensures numeral { IfSome result (λ n. IsNumeral radix (drop from text.now)) }
-    ensures parts { IfSome result (λ n. (p : Parts) → HasNumeral radix (drop from text.now) p → IsShortNumeral radix p n.negative n.whole n.fraction n.places n.exponent n.scales_by_two) }
+    ensures parts { IfSome result (λ n. (p : Parts) → HasNumeral radix (drop from text.now) p
+        → IsShortNumeral radix p n.negative n.whole n.fraction n.places n.exponent n.scales_by_two) }
     ensures fraction { IfSome result (λ n. n.fraction < base radix ^ n.places) }
     ensures whole { IfSome result (λ n. n.whole < base radix ^ 16) }
     ensures places { IfSome result (λ n. n.places ≤ 27) }
-    ensures few { IfSome result (λ n. ((radix ≢ Dec) ⊎ (n.exponent ≢ pos 0)) → HasFewDigits (base radix) n.whole n.fraction n.places) }
+    ensures few { IfSome result (λ n. ((radix ≢ Dec) ⊎ (n.exponent ≢ pos 0))
+        → HasFewDigits (base radix) n.whole n.fraction n.places) }
     ensures counted { IfSome result (λ n. steps.new ≡ steps.old + length (drop from text.now)) }
     ensures cost { steps.new ≤ steps.old + length (drop from text.now) }
 {

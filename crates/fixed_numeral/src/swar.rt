@@ -1,6 +1,7 @@
 //! Eight digits at once, each in a byte of a word.
 
-ghost use Rattle.std.specs.Prelude.{◌≡◌, ◌+◌, ◌-◌, ◌<◌, ◌≤◌, ◌^◌, List, ℕ, ◌++◌, replicate, length, take, drop, IsTrue, IfSome};
+ghost use Rattle.std.specs.Prelude.{◌≡◌, ◌+◌, ◌-◌, ◌<◌, ◌≤◌, ◌^◌, List, ℕ, ◌++◌, replicate, length, take, drop, IsTrue};
+ghost use Rattle.std.specs.Prelude.{IfSome};
 ghost use Rattle.std.specs.Int.Digits.{AllBelowBase, number_from_digits};
 ghost use Rattle.std.specs.Simd.Lanes.{number_l};
 ghost use Rattle.std.specs.Str.Parse.{AllDigits, digits_value};
@@ -28,27 +29,30 @@ pub(crate) fn word_at(bytes: &[u8], at: usize) -> u64
 /// sixth byte after '9', and with 6 added it is still 3 for the digits alone.
 #[inline(always)]
 pub(crate) fn are_decimal(word: u64) -> bool
-    ensures { (bs : List ℕ) → length bs ≡ 8 → AllBelowBase 256 bs → word ≡ number_l 256 bs → IsTrue result → AllDigits 10 bs }
+    ensures { (bs : List ℕ) → length bs ≡ 8 → AllBelowBase 256 bs → word ≡ number_l 256 bs → IsTrue result
+        → AllDigits 10 bs }
 {
     (word & 0xf0f0_f0f0_f0f0_f0f0) == 0x3030_3030_3030_3030
         && ((word + 0x0606_0606_0606_0606) & 0xf0f0_f0f0_f0f0_f0f0) == 0x3030_3030_3030_3030
 }
 
-/// The values of eight digits, each in the byte of its digit. A letter has the bit 64, and the low half of its byte is 9
-/// less than its value.
+/// The values of eight digits, each in the byte of its digit. A letter has the bit 64, and the low half of its byte is
+/// 9 less than its value.
 #[inline(always)]
 fn digit_values(word: u64) -> u64
-    ensures { (bs : List ℕ) → length bs ≡ 8 → length (digits_in bs) ≡ length bs → word ≡ number_l 256 bs → result ≡ number_l 256 (digits_in bs) }
+    ensures { (bs : List ℕ) → length bs ≡ 8 → length (digits_in bs) ≡ length bs → word ≡ number_l 256 bs
+        → result ≡ number_l 256 (digits_in bs) }
 {
     (word & 0x0f0f_0f0f_0f0f_0f0f) + ((word >> 6) & 0x0101_0101_0101_0101) * 9
 }
 
-/// The number that eight digits, each in a byte, spell in a base. Neighbours are joined to pairs, pairs to fours, and the two
-/// fours to the number, each with one multiplication for all.
+/// The number that eight digits, each in a byte, spell in a base. Neighbours are joined to pairs, pairs to fours, and
+/// the two fours to the number, each with one multiplication for all.
 #[inline(always)]
 fn number_of_eight(digits: u64, base: u64) -> u64
     requires { base ≤ 16 }
-    ensures number { (ds : List ℕ) → length ds ≡ 8 → AllBelowBase base ds → digits ≡ number_l 256 ds → result ≡ number_from_digits base ds }
+    ensures number { (ds : List ℕ) → length ds ≡ 8 → AllBelowBase base ds → digits ≡ number_l 256 ds
+        → result ≡ number_from_digits base ds }
     ensures small { result < 2 ^ 32 }
 {
     let square = base * base;
@@ -61,18 +65,21 @@ fn number_of_eight(digits: u64, base: u64) -> u64
 /// The number that eight decimal digits spell.
 #[inline(always)]
 pub(crate) fn number_of_decimals(word: u64) -> u64
-    ensures number { (bs : List ℕ) → length bs ≡ 8 → AllDigits 10 bs → word ≡ number_l 256 bs → result ≡ digits_value 10 bs }
+    ensures number { (bs : List ℕ) → length bs ≡ 8 → AllDigits 10 bs → word ≡ number_l 256 bs
+        → result ≡ digits_value 10 bs }
     ensures small { result < 2 ^ 32 }
 {
     number_of_eight(word & 0x0f0f_0f0f_0f0f_0f0f, 10)
 }
 
-/// The number that the first bytes of a word spell, one to eight, where they are decimal digits. Zeros are put before them.
+/// The number that the first bytes of a word spell, one to eight, where they are decimal digits. Zeros are put before
+/// them.
 #[inline(always)]
 pub(crate) fn first_decimals(word: u64, count: usize) -> Option<u64>
     requires some { 0 < count }
     requires few { count ≤ 8 }
-    ensures { IfSome result (λ n. (bs : List ℕ) → length bs ≡ 8 → AllBelowBase 256 bs → word ≡ number_l 256 bs → AllDigits 10 (take count bs) × (n ≡ digits_value 10 (take count bs))) }
+    ensures { IfSome result (λ n. (bs : List ℕ) → length bs ≡ 8 → AllBelowBase 256 bs → word ≡ number_l 256 bs
+        → AllDigits 10 (take count bs) × (n ≡ digits_value 10 (take count bs))) }
 {
     let zeros = 0x0030_3030_3030_3030u64 >> (8 * count - 8);
     let padded = (word << (64 - 8 * count)) + zeros;
@@ -113,17 +120,19 @@ const ZEROS_BEFORE: [u64; 9] = [
 #[inline(always)]
 fn after_zeros(word: u64, count: usize) -> u64
     requires few { count ≤ 8 }
-    ensures { (bs : List ℕ) → length bs ≡ 8 → AllBelowBase 256 bs → word ≡ number_l 256 bs → result ≡ number_l 256 (replicate (8 - count) 48 ++ drop (8 - count) bs) }
+    ensures { (bs : List ℕ) → length bs ≡ 8 → AllBelowBase 256 bs → word ≡ number_l 256 bs
+        → result ≡ number_l 256 (replicate (8 - count) 48 ++ drop (8 - count) bs) }
 {
     (word & LAST_BYTES[count]) + ZEROS_BEFORE[count]
 }
 
-/// The number that the last bytes of a word spell, at most eight, where they are decimal digits. The bytes before them are
-/// made zeros.
+/// The number that the last bytes of a word spell, at most eight, where they are decimal digits. The bytes before them
+/// are made zeros.
 #[inline(always)]
 pub(crate) fn last_decimals(word: u64, count: usize) -> Option<u64>
     requires few { count ≤ 8 }
-    ensures { IfSome result (λ n. (bs : List ℕ) → length bs ≡ 8 → AllBelowBase 256 bs → word ≡ number_l 256 bs → AllDigits 10 (drop (8 - count) bs) × (n ≡ digits_value 10 (drop (8 - count) bs))) }
+    ensures { IfSome result (λ n. (bs : List ℕ) → length bs ≡ 8 → AllBelowBase 256 bs → word ≡ number_l 256 bs
+        → AllDigits 10 (drop (8 - count) bs) × (n ≡ digits_value 10 (drop (8 - count) bs))) }
 {
     let padded = after_zeros(word, count);
     if are_decimal(padded) {
@@ -133,13 +142,15 @@ pub(crate) fn last_decimals(word: u64, count: usize) -> Option<u64>
     }
 }
 
-/// The number that the last bytes of a word spell in a base, at most eight, where they are digits. Base 10 has no letters.
+/// The number that the last bytes of a word spell in a base, at most eight, where they are digits. Base 10 has no
+/// letters.
 #[inline(always)]
 pub(crate) fn last_number(word: u64, count: usize, base: u64) -> u64
     requires few { count ≤ 8 }
     requires least { 2 ≤ base }
     requires most { base ≤ 16 }
-    ensures number { (bs : List ℕ) → length bs ≡ 8 → AllBelowBase 256 bs → word ≡ number_l 256 bs → AllDigits base (drop (8 - count) bs) → result ≡ digits_value base (drop (8 - count) bs) }
+    ensures number { (bs : List ℕ) → length bs ≡ 8 → AllBelowBase 256 bs → word ≡ number_l 256 bs
+        → AllDigits base (drop (8 - count) bs) → result ≡ digits_value base (drop (8 - count) bs) }
     ensures small { result < 2 ^ 32 }
 {
     let padded = after_zeros(word, count);
@@ -149,8 +160,8 @@ pub(crate) fn last_number(word: u64, count: usize, base: u64) -> u64
     number_of_eight(digit_values(padded), base)
 }
 
-/// The number that the first digits of a slice spell in a base, fewer than eight, where each of its bytes is a digit, and
-/// there are at least eight. The word is moved up until there are zeros before them.
+/// The number that the first digits of a slice spell in a base, fewer than eight, where each of its bytes is a digit,
+/// and there are at least eight. The word is moved up until there are zeros before them.
 #[inline(always)]
 fn number_of_first(bytes: &[u8], count: usize, base: u64) -> u64
     requires long { 8 ≤ length bytes.now }
@@ -167,8 +178,8 @@ fn number_of_first(bytes: &[u8], count: usize, base: u64) -> u64
     number_of_eight(digit_values(word_at(bytes, 0)) << (64 - 8 * count), base)
 }
 
-/// The number that eight digits or more spell in a base, where each byte is a digit. Eight are taken at a time, after the
-/// first few that are left over.
+/// The number that eight digits or more spell in a base, where each byte is a digit. Eight are taken at a time, after
+/// the first few that are left over.
 #[inline(always)]
 fn number_by_eights(bytes: &[u8], base: u64) -> u64
     requires long { 8 ≤ length bytes.now }

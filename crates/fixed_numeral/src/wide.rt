@@ -48,12 +48,13 @@ fn wide_fraction_at(bytes: &[u8], from: usize) -> Option<u128>
     Some(u128::from(high) * 10_000_000_000_000_000 + u128::from(low))
 }
 
-/// The numbers of a decimal numeral of more than 16 bytes without an exponent, whose point is among its first 17 bytes and has
-/// at most 27 digits after it. None otherwise.
+/// The numbers of a decimal numeral of more than 16 bytes without an exponent, whose point is among its first 17 bytes
+/// and has at most 27 digits after it. `None` otherwise.
 #[inline]
 pub(crate) fn wide_decimal(s: &[u8]) -> Option<ShortNumeral>
     requires { LANES < length s.now }
-    ensures short { IfSome result (λ n. IsShortAt Dec s.now n.negative n.whole n.fraction n.places n.exponent n.scales_by_two) }
+    ensures short { IfSome result
+        (λ n. IsShortAt Dec s.now n.negative n.whole n.fraction n.places n.exponent n.scales_by_two) }
     ensures plain { IfSome result (λ n. n.exponent ≡ pos 0) }
 {
     let (negative, first) = sign_at(s, 0);

@@ -21,6 +21,7 @@ mod reading;
 pub mod rounding;
 pub mod styled;
 mod text;
+pub mod types;
 mod uncounted;
 
 pub use ends::Ends;

@@ -1,23 +1,26 @@
 //! How many ulps a decimal fraction of any length is, and what is lost.
 //!
-//! The first 27 digits, with zeros at their end where there are fewer, are a block F. In ulps of 2^-f it makes
-//! F * 2^f / 10^27 = F * 2^b / 5^27 with b = f - 27, so one division gives the whole ulps and `rest / 5^27` of one. Let d be the
-//! number below 1 that the digits after the block spell as 0.DIGITS. What is lost is then exactly (rest + d * 2^b) / 5^27.
+//! The first 27 digits, with zeros at their end where there are fewer, are a block F. In ulps of 2^-f it makes F * 2^f
+//! / 10^27 = F * 2^b / 5^27 with b = f - 27, so one division gives the whole ulps and `rest / 5^27` of one. Let d be
+//! the number below 1 that the digits after the block spell as 0.DIGITS. What is lost is then exactly (rest + d * 2^b)
+//! / 5^27.
 //!
-//! This is below one and a half, since 2^b <= 2^37 is less than half of 5^27. Nearly always `rest` and `rest + 2^b` lie both
-//! below half of 5^27, or both between half and all of it, and d does not matter. Else comparisons decide: what is lost is less
-//! than 1/2^h of an ulp, with h = 1 for the half and h = 0 for the next ulp, exactly where d < (5^27 - rest * 2^h) / 2^(b + h).
-//! The right side, start / 2^n, has exactly n = b + h decimal digits, which spell start * 5^n, at most 38 and so in 128 bits.
-//! They are compared with as many digits of d; where these are equal, any further digit makes d more, as the last is never 0.
+//! This is below one and a half, since 2^b <= 2^37 is less than half of 5^27. Nearly always `rest` and `rest + 2^b` lie
+//! both below half of 5^27, or both between half and all of it, and d does not matter. Else comparisons decide: what is
+//! lost is less than 1/2^h of an ulp, with h = 1 for the half and h = 0 for the next ulp, exactly where d < (5^27 -
+//! rest * 2^h) / 2^(b + h). The right side, start / 2^n, has exactly n = b + h decimal digits, which spell start * 5^n,
+//! at most 38 and so in 128 bits. They are compared with as many digits of d; where these are equal, any further digit
+//! makes d more, as the last is never 0.
 //!
-//! The same with a block of 2 digits and f = 4, so 5^2 = 25 and b = 2: 0.99 makes 99 * 4 = 15 * 25 + 21, that is 15 ulps and
-//! 21/25 of one, more than half; digits after the block add less than 4/25 and change nothing. 0.96875 has the block 96, and
-//! 96 * 4 = 15 * 25 + 9: between 9/25 and 13/25 is lost. Its other digits, d = 0.875, are compared with
+//! The same with a block of 2 digits and f = 4, so 5^2 = 25 and b = 2: 0.99 makes 99 * 4 = 15 * 25 + 21, that is 15
+//! ulps and 21/25 of one, more than half; digits after the block add less than 4/25 and change nothing. 0.96875 has the
+//! block 96, and 96 * 4 = 15 * 25 + 9: between 9/25 and 13/25 is lost. Its other digits, d = 0.875, are compared with
 //! (25 - 9 * 2) / 2^3 = 7/8, which is 0.875 as well: half is lost.
 //!
 //! Ulps coarser than 2^-32 are made of those of 2^-32.
 
-ghost use Rattle.std.specs.Prelude.{◌≡◌, ◌+◌, ◌-◌, ◌*◌, ◌^◌, ◌<◌, ◌≤◌, ◌⊎◌, [], IsTrue, List, ℕ, drop, false, length, MatchOption};
+ghost use Rattle.std.specs.Prelude.{◌≡◌, ◌+◌, ◌-◌, ◌*◌, ◌^◌, ◌<◌, ◌≤◌, ◌⊎◌, [], IsTrue, List, ℕ, drop, false, length};
+ghost use Rattle.std.specs.Prelude.{MatchOption};
 ghost use Rattle.std.specs.Int.Digits.{number_from_digits, AllBelowBase};
 ghost use Rattle.std.specs.Ordering.{MatchOrdering};
 ghost use Rattle.fixed_numeral.specs.Place.{NoTrailingZero};
@@ -71,7 +74,8 @@ fn prefix_number<'a, L: Ledger>(view: &DigitView<'a>, count: u32, steps: &mut St
 
 /// The order of a block to a mark, where more digits after the block make it more.
 fn block_order(block: u128, mark: u128, longer: bool) -> Ordering
-    ensures { MatchOrdering result (block < mark) ((block ≡ mark) × (longer ≡ false)) ((mark < block) ⊎ ((block ≡ mark) × IsTrue longer)) }
+    ensures { MatchOrdering result (block < mark) ((block ≡ mark) × (longer ≡ false))
+        ((mark < block) ⊎ ((block ≡ mark) × IsTrue longer)) }
 {
     if block < mark {
         Ordering::Less
@@ -92,7 +96,10 @@ fn order_to_mark<'a, L: Ledger>(
     requires digits { AllBelowBase 10 view.now }
     requires trailing { NoTrailingZero view.now }
     requires bits { bits ≤ 38 }
-    ensures order { MatchOrdering result (number_from_digits 10 view.now * 2 ^ bits < start * 10 ^ length view.now) (number_from_digits 10 view.now * 2 ^ bits ≡ start * 10 ^ length view.now) (start * 10 ^ length view.now < number_from_digits 10 view.now * 2 ^ bits) }
+    ensures order { MatchOrdering result
+        (number_from_digits 10 view.now * 2 ^ bits < start * 10 ^ length view.now)
+        (number_from_digits 10 view.now * 2 ^ bits ≡ start * 10 ^ length view.now)
+        (start * 10 ^ length view.now < number_from_digits 10 view.now * 2 ^ bits) }
     ensures cost { steps.new ≤ steps.old + bits }
 {
     if start >= power_of_two(bits) {
@@ -112,7 +119,10 @@ fn order_to_share<'a, L: Ledger>(
     requires digits { AllBelowBase 10 view.now }
     requires trailing { NoTrailingZero view.now }
     requires halves { halves ≤ 1 }
-    ensures order { MatchOrdering result (2 ^ halves * scaled_rest found.rest found.bits view.now < scaled_unit 7450580596923828125 view.now) (2 ^ halves * scaled_rest found.rest found.bits view.now ≡ scaled_unit 7450580596923828125 view.now) (scaled_unit 7450580596923828125 view.now < 2 ^ halves * scaled_rest found.rest found.bits view.now) }
+    ensures order { MatchOrdering result
+        (2 ^ halves * scaled_rest found.rest found.bits view.now < scaled_unit 7450580596923828125 view.now)
+        (2 ^ halves * scaled_rest found.rest found.bits view.now ≡ scaled_unit 7450580596923828125 view.now)
+        (scaled_unit 7450580596923828125 view.now < 2 ^ halves * scaled_rest found.rest found.bits view.now) }
     ensures cost { steps.new ≤ steps.old + found.bits + halves }
 {
     let share = shl_u64(found.rest, halves);
@@ -127,7 +137,9 @@ fn order_to_share<'a, L: Ledger>(
 
 /// What less than half of an ulp is: zero where the block leaves nothing and no digit comes after it.
 fn less_than_half(view: &DigitView, rest: u64) -> LostFraction
-    ensures { (bits unit : ℕ) → 0 < unit → AllBelowBase 10 view.now → NoTrailingZero view.now → 2 ^ 1 * scaled_rest rest bits view.now < scaled_unit unit view.now → IsLostFraction result (scaled_rest rest bits view.now) (scaled_unit unit view.now) }
+    ensures { (bits unit : ℕ) → 0 < unit → AllBelowBase 10 view.now → NoTrailingZero view.now
+        → 2 ^ 1 * scaled_rest rest bits view.now < scaled_unit unit view.now
+        → IsLostFraction result (scaled_rest rest bits view.now) (scaled_unit unit view.now) }
 {
     if rest == 0 && view.is_empty() {
         LostFraction::Zero
@@ -153,8 +165,11 @@ fn settle_exactly<'a, L: Ledger>(
 ) -> (u64, LostFraction)
     requires digits { AllBelowBase 10 view.now }
     requires trailing { NoTrailingZero view.now }
-    requires ulps { found.ulps * scaled_unit 7450580596923828125 view.now + scaled_rest found.rest found.bits view.now < 2 ^ 64 * scaled_unit 7450580596923828125 view.now }
-    ensures settled { IsSettled (found.ulps * scaled_unit 7450580596923828125 view.now + scaled_rest found.rest found.bits view.now) (scaled_unit 7450580596923828125 view.now) result.0 result.1 }
+    requires ulps { found.ulps * scaled_unit 7450580596923828125 view.now + scaled_rest found.rest found.bits view.now
+        < 2 ^ 64 * scaled_unit 7450580596923828125 view.now }
+    ensures settled { IsSettled
+        (found.ulps * scaled_unit 7450580596923828125 view.now + scaled_rest found.rest found.bits view.now)
+        (scaled_unit 7450580596923828125 view.now) result.0 result.1 }
     ensures cost { steps.new ≤ steps.old + 2 * found.bits + 1 }
 {
     match order_to_share(view, found, 1, steps) {
@@ -170,7 +185,9 @@ fn settle_exactly<'a, L: Ledger>(
 
 /// What is lost where digits after the block, whichever they are, do not change it, as is nearly always so.
 fn lost_fraction_if_certain(found: Candidate) -> Option<LostFraction>
-    ensures { MatchOption result (Unit {0}) (λ lost. (ds : List ℕ) → AllBelowBase 10 ds → NoTrailingZero ds → (ds ≡ [] → ⊥) → IsLostFraction lost (scaled_rest found.rest found.bits ds) (scaled_unit 7450580596923828125 ds)) }
+    ensures { MatchOption result (Unit {0}) (λ lost. (ds : List ℕ) → AllBelowBase 10 ds → NoTrailingZero ds
+        → (ds ≡ [] → ⊥) → IsLostFraction lost (scaled_rest found.rest found.bits ds)
+        (scaled_unit 7450580596923828125 ds)) }
 {
     let most = found.rest + power_of_two(found.bits);
     let half = FIVE_TO_27 / 2;
@@ -191,8 +208,11 @@ fn ulps_and_lost_fraction<'a, L: Ledger>(
 ) -> (u64, LostFraction)
     requires digits { AllBelowBase 10 view.now }
     requires trailing { NoTrailingZero view.now }
-    requires ulps { found.ulps * scaled_unit 7450580596923828125 (drop 27 view.now) + scaled_rest found.rest found.bits (drop 27 view.now) < 2 ^ 64 * scaled_unit 7450580596923828125 (drop 27 view.now) }
-    ensures settled { IsSettled (found.ulps * scaled_unit 7450580596923828125 (drop 27 view.now) + scaled_rest found.rest found.bits (drop 27 view.now)) (scaled_unit 7450580596923828125 (drop 27 view.now)) result.0 result.1 }
+    requires ulps { found.ulps * scaled_unit 7450580596923828125 (drop 27 view.now) + scaled_rest found.rest found.bits
+        (drop 27 view.now) < 2 ^ 64 * scaled_unit 7450580596923828125 (drop 27 view.now) }
+    ensures settled { IsSettled
+        (found.ulps * scaled_unit 7450580596923828125 (drop 27 view.now) + scaled_rest found.rest found.bits
+        (drop 27 view.now)) (scaled_unit 7450580596923828125 (drop 27 view.now)) result.0 result.1 }
     ensures cost { steps.new ≤ steps.old + 2 * found.bits + 1 }
 {
     if view.len() <= 27 {

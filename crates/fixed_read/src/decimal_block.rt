@@ -1,8 +1,9 @@
 //! How many ulps a block of decimal digits makes.
 //!
-//! A block of n digits spells a number F below 10^n, and the fraction is F / 10^n. In ulps of 2^-frac that is
-//! F * 2^frac / 10^n, which is F * 2^(frac - n) / 5^n: one division by a constant finds the whole ulps, and its rest over 5^n
-//! is what is lost. With 13 digits all of this fits 64 bits, with 27 it fits 128. Ulps coarser than 2^-32 are made of those.
+//! A block of n digits spells a number F below 10^n, and the fraction is F / 10^n. In ulps of 2^-frac that is F *
+//! 2^frac / 10^n, which is F * 2^(frac - n) / 5^n: one division by a constant finds the whole ulps, and its rest over
+//! 5^n is what is lost. With 13 digits all of this fits 64 bits, with 27 it fits 128. Ulps coarser than 2^-32 are made
+//! of those.
 
 ghost use Rattle.std.specs.Prelude.{◌≡◌, ◌+◌, ◌-◌, ◌*◌, ◌/◌, ◌^◌, ◌<◌, ◌≤◌, ℕ};
 ghost use Rattle.fixed_read.specs.Inner.Blocks.{IsCandidate};
@@ -56,7 +57,8 @@ pub fn lost_fraction_of_share(rest: u64, unit: u64) -> LostFraction
 pub fn coarser_ulps(ulps: u64, lost: LostFraction, bits: u32) -> (u64, LostFraction)
     requires some { 0 < bits }
     requires bits { bits ≤ 32 }
-    ensures split { (num den frac : ℕ) → IsSplitUlps num den (frac + bits) ulps lost → IsSplitUlps num den frac result.0 result.1 }
+    ensures split { (num den frac : ℕ) → IsSplitUlps num den (frac + bits) ulps lost
+        → IsSplitUlps num den frac result.0 result.1 }
     ensures whole { result.0 ≡ ulps / 2 ^ bits }
 {
     let (whole, low) = split_bits(u128::from(ulps), bits);
@@ -101,8 +103,9 @@ fn fine_block_of_13(block: u64, finer: u32) -> (u64, u64)
     (shl_u64(ulps, finer) + more, left)
 }
 
-/// The ulps of 2^-frac in a block of 13 digits. They are made of ulps of 2^-32: finer ones first, then coarser ones, and at least
-/// one of the two steps does nothing. Which of them it is isn't tested, since it changes from numeral to numeral.
+/// The ulps of 2^-frac in a block of 13 digits. They are made of ulps of 2^-32: finer ones first, then coarser ones,
+/// and at least one of the two steps does nothing. Which of them it is is not tested, since it changes from numeral to
+/// numeral.
 #[inline(always)]
 fn block_of_13(block: u64, frac: u32) -> SharedUlps
     requires block { block < 10 ^ 13 }

@@ -108,8 +108,8 @@ pub fn is_longer(view: &DigitView, count: u32) -> bool
     view.len() > u64::from(count)
 }
 
-/// The number that the first digits spell, with zeros at their end where there are fewer, in two words of digits: `power` is
-/// the base to the power of the second count.
+/// The number that the first digits spell, with zeros at their end where there are fewer, in two words of digits:
+/// `power` is the base to the power of the second count.
 pub fn leading_number_u128<'a, L: Ledger>(
     view: &DigitView<'a>,
     base: u32,

@@ -22,10 +22,15 @@ use fixed_numeral::ParseFixedError;
 /// A literal whose read number is out of range is refused as Overflow, other bytes with the kind of their cause.
 pub fn lit<I: Inner>(s: &[u8], frac_nbits: u32) -> Result<I, ParseFixedError>
     requires { frac_nbits ≤ I.BITS }
-    ensures fits { IsOk result ↔ IsReadInRange NearestEven (literal_radix I.SIGNED s.now) (HasLiteral I.SIGNED s.now) frac_nbits I.SIGNED I.BITS }
-    ensures number { IfOk result (λ r. (p : Parts) → HasLiteral I.SIGNED s.now p → IsReadNumber NearestEven (literal_radix I.SIGNED s.now) p frac_nbits (I.number r)) }
-    ensures overflow { IsReadOutOfRange NearestEven (literal_radix I.SIGNED s.now) (HasLiteral I.SIGNED s.now) frac_nbits I.SIGNED I.BITS → result ≡ Err Overflow }
-    ensures cause { IfErr result (λ kind. HasLiteralCause I.SIGNED s.now kind ⊎ ((kind ≡ Overflow) × IsReadOutOfRange NearestEven (literal_radix I.SIGNED s.now) (HasLiteral I.SIGNED s.now) frac_nbits I.SIGNED I.BITS)) }
+    ensures fits { IsOk result ↔ IsReadInRange NearestEven (literal_radix I.SIGNED s.now)
+        (HasLiteral I.SIGNED s.now) frac_nbits I.SIGNED I.BITS }
+    ensures number { IfOk result (λ r. (p : Parts) → HasLiteral I.SIGNED s.now p
+        → IsReadNumber NearestEven (literal_radix I.SIGNED s.now) p frac_nbits (I.number r)) }
+    ensures overflow { IsReadOutOfRange NearestEven (literal_radix I.SIGNED s.now)
+        (HasLiteral I.SIGNED s.now) frac_nbits I.SIGNED I.BITS → result ≡ Err Overflow }
+    ensures cause { IfErr result (λ kind. HasLiteralCause I.SIGNED s.now kind
+        ⊎ ((kind ≡ Overflow) × IsReadOutOfRange NearestEven (literal_radix I.SIGNED s.now)
+        (HasLiteral I.SIGNED s.now) frac_nbits I.SIGNED I.BITS)) }
 {
     match read_literal(s, format_of::<I>(frac_nbits)) {
         Ok(found) => in_range(&found),

@@ -69,7 +69,8 @@ pub fn lost_fraction_of(rest: u64, half: u64, more: bool) -> LostFraction
 /// How many ulps the rounding adds: none or one. `odd` is 1 where the whole number of ulps is odd.
 pub fn rounding_increment(lost: LostFraction, direction: Direction, odd: u128) -> u128
     requires { odd < 2 }
-    ensures to { (q s den : ℕ) → 0 < den → q % 2 ≡ odd → IsLostFraction lost s den → IsRoundedTo direction (q * den + s) den (q + result) }
+    ensures to { (q s den : ℕ) → 0 < den → q % 2 ≡ odd
+        → IsLostFraction lost s den → IsRoundedTo direction (q * den + s) den (q + result) }
     ensures most { result ≤ 1 }
 {
     match direction {
@@ -97,8 +98,9 @@ pub fn is_nothing(rest: u64) -> bool
     rest == 0
 }
 
-/// How many ulps the rounding adds where rest / unit of one is left: none or one. `odd` is 1 where the whole number of ulps is odd,
-/// and then half of an ulp is enough. One comparison decides, since a branch on what is left cannot be predicted.
+/// How many ulps the rounding adds where rest / unit of one is left: none or one. `odd` is 1 where the whole number of
+/// ulps is odd, and then half of an ulp is enough. One comparison decides, since a branch on what is left cannot be
+/// predicted.
 #[inline(always)]
 pub fn share_increment(rest: u64, unit: u64, odd: u64, direction: Direction) -> u64
     requires small { rest < unit }

@@ -35,7 +35,8 @@ pub struct Ulps {
 #[inline]
 pub fn rounded_ulps(count: u128, lost: LostFraction, direction: Direction) -> Ulps
     requires { count + 1 < 2 ^ 128 }
-    ensures { (num den frac : ℕ) → 0 < den → IsSplitUlps num den frac count lost → IsMagnitude direction (record { num = num; den = den }) frac result }
+    ensures { (num den frac : ℕ) → 0 < den → IsSplitUlps num den frac count lost
+        → IsMagnitude direction (record { num = num; den = den }) frac result }
 {
     let total = count + rounding_increment(lost, direction, count % 2);
     let (high, low) = split_bits(total, 64);
@@ -52,7 +53,8 @@ pub fn rounded_share(count: u128, rest: u64, unit: u64, direction: Direction) ->
     requires count { count + 1 < 2 ^ 128 }
     requires small { rest < unit }
     requires most { unit < 2 ^ 63 }
-    ensures { (num den frac : ℕ) → 0 < den → IsShare num den frac count rest unit → IsMagnitude direction (record { num = num; den = den }) frac result }
+    ensures { (num den frac : ℕ) → 0 < den → IsShare num den frac count rest unit
+        → IsMagnitude direction (record { num = num; den = den }) frac result }
 {
     let total = count + u128::from(share_increment(rest, unit, (count % 2) as u64, direction));
     let (high, low) = split_bits(total, 64);
@@ -80,7 +82,9 @@ fn rounded_magnitude<'a, L: Ledger>(
     requires even { base % 2 ≡ 0 }
     requires more { more < 2 ^ fraction_bits }
     requires fraction_bits { fraction_bits ≤ 68 }
-    ensures magnitude { (f : List ℕ) (frac s : ℕ) → fraction_bits ≡ frac + s → IsFractionUlps base f fraction_bits more lost → IsMagnitude direction (spelled base whole.now f s) frac result }
+    ensures magnitude { (f : List ℕ) (frac s : ℕ) → fraction_bits ≡ frac + s
+        → IsFractionUlps base f fraction_bits more lost
+        → IsMagnitude direction (spelled base whole.now f s) frac result }
     ensures cost { steps.new ≤ steps.old + (64 - fraction_bits) + 15 }
 {
     let (low, over) = number_mod_power(whole, base, 64_u32.saturating_sub(fraction_bits), steps);
@@ -133,7 +137,8 @@ pub fn magnitude<'a, L: Ledger>(
 ) -> Ulps
     requires split { IsSplitNumeral radix found.now.whole found.now.fraction found.now.bit_shift }
     requires frac { frac ≤ 64 }
-    ensures magnitude { IsMagnitude direction (spelled (base radix) found.now.whole found.now.fraction found.now.bit_shift) frac result }
+    ensures magnitude { IsMagnitude direction
+        (spelled (base radix) found.now.whole found.now.fraction found.now.bit_shift) frac result }
     ensures cost { steps.new ≤ steps.old + 117 }
 {
     let bit_shift = found.bit_shift();

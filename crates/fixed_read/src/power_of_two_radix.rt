@@ -1,7 +1,7 @@
 //! How many ulps a fraction in radix 2, 8 or 16 of any length is, and what is lost.
 //!
-//! A block of digits that has at least one bit more than the fraction decides: its lowest bits and whether a digit comes after it
-//! say what is lost.
+//! A block of digits that has at least one bit more than the fraction decides: its lowest bits and whether a digit
+//! comes after it say what is lost.
 
 ghost use Rattle.std.specs.Prelude.{◌≡◌, ◌+◌, ◌*◌, ◌/◌, ◌^◌, ◌<◌, ◌≤◌, drop};
 ghost use Rattle.std.specs.Int.Digits.{AllBelowBase};
@@ -24,8 +24,8 @@ fn base_of_bits(n: u32) -> u32
     1 << n
 }
 
-/// The number that the first `count` digits spell, one more than the fraction bits fill, with zeros at their end where there
-/// are fewer. Up to 60 fraction bits it fits 64 bits.
+/// The number that the first `count` digits spell, one more than the fraction bits fill, with zeros at their end where
+/// there are fewer. Up to 60 fraction bits it fits 64 bits.
 fn leading_block<'a, L: Ledger>(
     view: &DigitView<'a>,
     bits: u32,

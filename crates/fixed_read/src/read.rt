@@ -10,7 +10,8 @@ ghost use Rattle.fixed_numeral.specs.Answer.{IsReadOrRefused};
 ghost use Rattle.fixed_numeral.specs.Cause.{HasCause};
 ghost use Rattle.fixed_numeral.specs.Numeral.{Parts, HasNumeral};
 ghost use Rattle.fixed_numeral.specs.declared.error.ParseErrorKind.TheVariants.{Overflow};
-ghost use Rattle.fixed_read.specs.Reading.{IsImageRead, IsOverflowingRead, IsReadInRange, IsReadNumber, IsReadOutOfRange, IsReading};
+ghost use Rattle.fixed_read.specs.Reading.{IsImageRead, IsOverflowingRead, IsReadInRange, IsReadNumber};
+ghost use Rattle.fixed_read.specs.Reading.{IsReadOutOfRange, IsReading};
 
 use crate::read_number::{ReadNumber, read_format};
 use crate::uncounted::read_uncounted;
@@ -87,7 +88,8 @@ pub fn overflowing_from_str_radix_mode_counted<I: Inner, L: Ledger>(
     steps: &mut Steps<L>,
 ) -> Result<(I, bool), ParseFixedError>
     requires { frac_nbits ≤ I.BITS }
-    ensures reading { IsReadOrRefused radix s.now (λ p r. IsOverflowingRead mode radix p frac_nbits I.SIGNED I.BITS (I.number r.0) r.1) result }
+    ensures reading { IsReadOrRefused radix s.now
+        (λ p r. IsOverflowingRead mode radix p frac_nbits I.SIGNED I.BITS (I.number r.0) r.1) result }
     ensures cost { steps.new ≤ steps.old + 8 * (length s.now + I.BITS) + 64 }
 {
     match read_format(s, radix, format_of::<I>(frac_nbits), mode, steps) {
@@ -110,7 +112,8 @@ pub fn overflowing_from_str_radix_counted<I: Inner, L: Ledger>(
     steps: &mut Steps<L>,
 ) -> Result<(I, bool), ParseFixedError>
     requires { frac_nbits ≤ I.BITS }
-    ensures reading { IsReadOrRefused radix s.now (λ p r. IsOverflowingRead NearestEven radix p frac_nbits I.SIGNED I.BITS (I.number r.0) r.1) result }
+    ensures reading { IsReadOrRefused radix s.now
+        (λ p r. IsOverflowingRead NearestEven radix p frac_nbits I.SIGNED I.BITS (I.number r.0) r.1) result }
     ensures cost { steps.new ≤ steps.old + 8 * (length s.now + I.BITS) + 64 }
 {
     overflowing_from_str_radix_mode_counted(s, radix, frac_nbits, ReadMode::NearestEven, steps)
@@ -129,7 +132,8 @@ pub fn overflowing_from_str_radix_mode<I: Inner>(
     mode: ReadMode,
 ) -> Result<(I, bool), ParseFixedError>
     requires { frac_nbits ≤ I.BITS }
-    ensures reading { IsReadOrRefused radix s.now (λ p r. IsOverflowingRead mode radix p frac_nbits I.SIGNED I.BITS (I.number r.0) r.1) result }
+    ensures reading { IsReadOrRefused radix s.now
+        (λ p r. IsOverflowingRead mode radix p frac_nbits I.SIGNED I.BITS (I.number r.0) r.1) result }
 {
     match read_uncounted(s, radix, format_of::<I>(frac_nbits), mode) {
         Ok(found) => Ok((wrapped(&found), found.is_out_of_range())),
@@ -149,7 +153,8 @@ pub fn overflowing_from_str_radix<I: Inner>(
     frac_nbits: u32,
 ) -> Result<(I, bool), ParseFixedError>
     requires { frac_nbits ≤ I.BITS }
-    ensures reading { IsReadOrRefused radix s.now (λ p r. IsOverflowingRead NearestEven radix p frac_nbits I.SIGNED I.BITS (I.number r.0) r.1) result }
+    ensures reading { IsReadOrRefused radix s.now
+        (λ p r. IsOverflowingRead NearestEven radix p frac_nbits I.SIGNED I.BITS (I.number r.0) r.1) result }
 {
     overflowing_from_str_radix_mode(s, radix, frac_nbits, ReadMode::NearestEven)
 }
@@ -167,7 +172,8 @@ pub fn wrapping_from_str_radix_mode<I: Inner>(
     mode: ReadMode,
 ) -> Result<I, ParseFixedError>
     requires { frac_nbits ≤ I.BITS }
-    ensures reading { IsReadOrRefused radix s.now (λ p r. IsImageRead Wrapping mode radix p frac_nbits I.SIGNED I.BITS (I.number r)) result }
+    ensures reading { IsReadOrRefused radix s.now
+        (λ p r. IsImageRead Wrapping mode radix p frac_nbits I.SIGNED I.BITS (I.number r)) result }
 {
     match read_uncounted(s, radix, format_of::<I>(frac_nbits), mode) {
         Ok(found) => Ok(wrapped(&found)),
@@ -187,7 +193,8 @@ pub fn wrapping_from_str_radix<I: Inner>(
     frac_nbits: u32,
 ) -> Result<I, ParseFixedError>
     requires { frac_nbits ≤ I.BITS }
-    ensures reading { IsReadOrRefused radix s.now (λ p r. IsImageRead Wrapping NearestEven radix p frac_nbits I.SIGNED I.BITS (I.number r)) result }
+    ensures reading { IsReadOrRefused radix s.now
+        (λ p r. IsImageRead Wrapping NearestEven radix p frac_nbits I.SIGNED I.BITS (I.number r)) result }
 {
     wrapping_from_str_radix_mode(s, radix, frac_nbits, ReadMode::NearestEven)
 }
@@ -204,7 +211,8 @@ pub fn saturating_from_str_radix_mode<I: Inner>(
     mode: ReadMode,
 ) -> Result<I, ParseFixedError>
     requires { frac_nbits ≤ I.BITS }
-    ensures reading { IsReadOrRefused radix s.now (λ p r. IsImageRead Saturating mode radix p frac_nbits I.SIGNED I.BITS (I.number r)) result }
+    ensures reading { IsReadOrRefused radix s.now
+        (λ p r. IsImageRead Saturating mode radix p frac_nbits I.SIGNED I.BITS (I.number r)) result }
 {
     match read_uncounted(s, radix, format_of::<I>(frac_nbits), mode) {
         Ok(found) => Ok(saturated(&found)),
@@ -223,7 +231,8 @@ pub fn saturating_from_str_radix<I: Inner>(
     frac_nbits: u32,
 ) -> Result<I, ParseFixedError>
     requires { frac_nbits ≤ I.BITS }
-    ensures reading { IsReadOrRefused radix s.now (λ p r. IsImageRead Saturating NearestEven radix p frac_nbits I.SIGNED I.BITS (I.number r)) result }
+    ensures reading { IsReadOrRefused radix s.now
+        (λ p r. IsImageRead Saturating NearestEven radix p frac_nbits I.SIGNED I.BITS (I.number r)) result }
 {
     saturating_from_str_radix_mode(s, radix, frac_nbits, ReadMode::NearestEven)
 }
@@ -241,9 +250,12 @@ pub fn from_str_radix_mode<I: Inner>(
 ) -> Result<I, ParseFixedError>
     requires { frac_nbits ≤ I.BITS }
     ensures fits { IsOk result ↔ IsReadInRange mode radix (HasNumeral radix s.now) frac_nbits I.SIGNED I.BITS }
-    ensures number { IfOk result (λ r. (p : Parts) → HasNumeral radix s.now p → IsReadNumber mode radix p frac_nbits (I.number r)) }
-    ensures overflow { IsReadOutOfRange mode radix (HasNumeral radix s.now) frac_nbits I.SIGNED I.BITS → result ≡ Err Overflow }
-    ensures cause { IfErr result (λ kind. HasCause radix s.now kind ⊎ ((kind ≡ Overflow) × IsReadOutOfRange mode radix (HasNumeral radix s.now) frac_nbits I.SIGNED I.BITS)) }
+    ensures number { IfOk result (λ r. (p : Parts) → HasNumeral radix s.now p
+        → IsReadNumber mode radix p frac_nbits (I.number r)) }
+    ensures overflow { IsReadOutOfRange mode radix (HasNumeral radix s.now) frac_nbits I.SIGNED I.BITS
+        → result ≡ Err Overflow }
+    ensures cause { IfErr result (λ kind. HasCause radix s.now kind
+        ⊎ ((kind ≡ Overflow) × IsReadOutOfRange mode radix (HasNumeral radix s.now) frac_nbits I.SIGNED I.BITS)) }
 {
     match read_uncounted(s, radix, format_of::<I>(frac_nbits), mode) {
         Ok(found) => in_range(&found),
@@ -263,9 +275,13 @@ pub fn from_str_radix<I: Inner>(
 ) -> Result<I, ParseFixedError>
     requires { frac_nbits ≤ I.BITS }
     ensures fits { IsOk result ↔ IsReadInRange NearestEven radix (HasNumeral radix s.now) frac_nbits I.SIGNED I.BITS }
-    ensures number { IfOk result (λ r. (p : Parts) → HasNumeral radix s.now p → IsReadNumber NearestEven radix p frac_nbits (I.number r)) }
-    ensures overflow { IsReadOutOfRange NearestEven radix (HasNumeral radix s.now) frac_nbits I.SIGNED I.BITS → result ≡ Err Overflow }
-    ensures cause { IfErr result (λ kind. HasCause radix s.now kind ⊎ ((kind ≡ Overflow) × IsReadOutOfRange NearestEven radix (HasNumeral radix s.now) frac_nbits I.SIGNED I.BITS)) }
+    ensures number { IfOk result (λ r. (p : Parts) → HasNumeral radix s.now p
+        → IsReadNumber NearestEven radix p frac_nbits (I.number r)) }
+    ensures overflow { IsReadOutOfRange NearestEven radix (HasNumeral radix s.now) frac_nbits I.SIGNED I.BITS
+        → result ≡ Err Overflow }
+    ensures cause { IfErr result (λ kind. HasCause radix s.now kind
+        ⊎ ((kind ≡ Overflow) × IsReadOutOfRange NearestEven radix
+        (HasNumeral radix s.now) frac_nbits I.SIGNED I.BITS)) }
 {
     from_str_radix_mode(s, radix, frac_nbits, ReadMode::NearestEven)
 }

@@ -1,9 +1,10 @@
 //! The core of reading: one reading of a numeral into a format chosen at run time.
 //!
-//! A short numeral is read from the numbers of its parts (`short_numeral`). Any other is scanned, and its digits are looked at
-//! (`magnitude`). All other readers are shells over this.
+//! A short numeral is read from the numbers of its parts (`short_numeral`). Any other is scanned, and its digits are
+//! looked at (`magnitude`). All other readers are shells over this.
 
-ghost use Rattle.std.specs.Prelude.{◌≡◌, ◌≢◌, ◌+◌, ◌*◌, ◌^◌, ◌<◌, ◌≤◌, ◌↔◌, ◌⊎◌, ℤ, pos, IsTrue, IsOk, IfOk, IfErr, IsNone, IfSome, drop, length};
+ghost use Rattle.std.specs.Prelude.{◌≡◌, ◌≢◌, ◌+◌, ◌*◌, ◌^◌, ◌<◌, ◌≤◌, ◌↔◌, ◌⊎◌, ℤ, pos, IsTrue, IsOk, IfOk, IfErr};
+ghost use Rattle.std.specs.Prelude.{IsNone, IfSome, drop, length};
 ghost use Rattle.fixed_bits.specs.Formats.{IsFormat};
 ghost use Rattle.fixed_bits.specs.Images.{IsImage};
 ghost use Rattle.fixed_bits.specs.Numbers.{IsNumber};
@@ -31,8 +32,8 @@ use fixed_numeral::{ParseFixedError, Radix, Scanned, ShortNumeral, scan, scan_li
 use fixed_steps::Steps;
 use std::sync::ledger::Ledger;
 
-/// The number that a numeral reads as in a format: a whole number of the format's ulps with a sign, which may be out of the
-/// format's range.
+/// The number that a numeral reads as in a format: a whole number of the format's ulps with a sign, which may be out of
+/// the format's range.
 #[derive(Clone, Copy, Debug, PartialEq, Eq)]
 pub struct ReadNumber {
     number: Number,
@@ -86,7 +87,8 @@ impl ReadNumber {
 
     /// Whether the number is out of the format's range.
     pub fn is_out_of_range(&self) -> bool
-        ensures range { (v : ℤ) → IsNumber self.now.number v → IsTrue result ↔ IsOutOfRange self.now.format.signed self.now.format.width v }
+        ensures range { (v : ℤ) → IsNumber self.now.number v → IsTrue result
+            ↔ IsOutOfRange self.now.format.signed self.now.format.width v }
         ensures valid { IsFormat self.now.format.width self.now.format.frac }
     {
         self.number.is_out_of_range(self.format)
@@ -95,8 +97,10 @@ impl ReadNumber {
     /// The image of the number in the format: the number itself where it is in range. `None` exactly where it is out of
     /// range and the policy is `Checked`.
     pub fn image(&self, policy: Policy) -> Option<i128>
-        ensures image { (v : ℤ) → IsNumber self.now.number v → IfSome result (λ c. IsImage policy self.now.format.signed self.now.format.width v c) }
-        ensures none { (v : ℤ) → IsNumber self.now.number v → IsNone result ↔ ((policy ≡ Policy.Checked) × IsOutOfRange self.now.format.signed self.now.format.width v) }
+        ensures image { (v : ℤ) → IsNumber self.now.number v
+            → IfSome result (λ c. IsImage policy self.now.format.signed self.now.format.width v c) }
+        ensures none { (v : ℤ) → IsNumber self.now.number v → IsNone result
+            ↔ ((policy ≡ Policy.Checked) × IsOutOfRange self.now.format.signed self.now.format.width v) }
         ensures range { IfSome result (λ c. IsInRange self.now.format.signed self.now.format.width c) }
         ensures wide { IfSome result IsWide }
     {
@@ -113,7 +117,8 @@ fn number_of<'a, L: Ledger>(
     steps: &mut Steps<L>,
 ) -> ReadNumber
     requires split { IsSplitNumeral radix found.now.whole found.now.fraction found.now.bit_shift }
-    ensures reading { (p : Parts) → IsScanned radix p found.now.neg found.now.whole found.now.fraction found.now.bit_shift → IsReading mode radix p result }
+    ensures reading { (p : Parts) → IsScanned radix p found.now.neg found.now.whole found.now.fraction
+        found.now.bit_shift → IsReading mode radix p result }
     ensures format { result.format ≡ format }
     ensures valid { IsFormat format.width format.frac }
     ensures cost { steps.new ≤ steps.old + 117 }
@@ -132,7 +137,9 @@ fn number_of<'a, L: Ledger>(
 /// A magnitude as the number of a format.
 #[inline]
 fn number_from(format: Format, negative: bool, ulps: Ulps) -> ReadNumber
-    ensures reading { (mode : ReadMode) (r : Radix) (p : Parts) (number : Fraction) → negative ≡ is_minus p.sign → 0 < number.den → IsSameNumber number (magnitude r p) → IsMagnitude (direction mode negative) number format.frac ulps → IsReading mode r p result }
+    ensures reading { (mode : ReadMode) (r : Radix) (p : Parts) (number : Fraction) → negative ≡ is_minus p.sign
+        → 0 < number.den → IsSameNumber number (magnitude r p)
+        → IsMagnitude (direction mode negative) number format.frac ulps → IsReading mode r p result }
     ensures format { result.format ≡ format }
 {
     ReadNumber {
@@ -146,7 +153,7 @@ fn number_from(format: Format, negative: bool, ulps: Ulps) -> ReadNumber
     }
 }
 
-/// The number that a short numeral reads as. None where its digits have to be looked at.
+/// The number that a short numeral reads as. `None` where its digits have to be looked at.
 #[inline(always)]
 fn number_of_short(
     found: ShortNumeral,
@@ -157,8 +164,11 @@ fn number_of_short(
     requires fraction { found.fraction < base radix ^ found.places }
     requires whole { found.whole < base radix ^ 16 }
     requires places { found.places ≤ 27 }
-    requires few { ((radix ≢ Dec) ⊎ (found.exponent ≢ pos 0)) → HasFewDigits (base radix) found.whole found.fraction found.places }
-    ensures reading { IfSome result (λ n. (p : Parts) → IsShortNumeral radix p found.negative found.whole found.fraction found.places found.exponent found.scales_by_two → IsReading mode radix p n) }
+    requires few { ((radix ≢ Dec) ⊎ (found.exponent ≢ pos 0))
+        → HasFewDigits (base radix) found.whole found.fraction found.places }
+    ensures reading { IfSome result (λ n. (p : Parts)
+        → IsShortNumeral radix p found.negative found.whole found.fraction found.places found.exponent
+        found.scales_by_two → IsReading mode radix p n) }
     ensures format { IfSome result (λ n. n.format ≡ format) }
 {
     let direction = direction_of(mode, found.negative);
@@ -180,7 +190,8 @@ fn read_short<L: Ledger>(
 ) -> Option<ReadNumber>
     requires place { from ≤ length text.now }
     ensures numeral { IfSome result (λ found. IsNumeral radix (drop from text.now)) }
-    ensures reading { IfSome result (λ found. (p : Parts) → HasNumeral radix (drop from text.now) p → IsReading mode radix p found) }
+    ensures reading { IfSome result (λ found. (p : Parts) → HasNumeral radix (drop from text.now) p
+        → IsReading mode radix p found) }
     ensures format { IfSome result (λ found. found.format ≡ format) }
     ensures cost { steps.new ≤ steps.old + length (drop from text.now) }
 {
@@ -200,7 +211,7 @@ fn read_scanned<L: Ledger>(
 ) -> Result<ReadNumber, ParseFixedError>
     ensures reading { IsReadOrRefused radix s.now (IsReading mode radix) result }
     ensures format { IfOk result (λ found. found.format ≡ format) }
-    ensures cost { steps.new ≤ steps.old + 2 * length s.now + 8 * format.width + 64 }
+    ensures cost { steps.new ≤ steps.old + 2 * length s.now + 119 }
 {
     // Matched by reference: moving the views out would copy them.
     let scanned = scan(s, radix, steps);
@@ -219,8 +230,8 @@ fn bytes_from(text: &[u8], from: usize) -> &[u8]
     &text[from..]
 }
 
-/// Reads a numeral that a text ends with: a short one in radix 2, 8 or 16, else by its digits. Apart, so that a short decimal
-/// pays for no room of theirs.
+/// Reads a numeral that a text ends with: a short one in radix 2, 8 or 16, else by its digits. Apart, so that a short
+/// decimal pays for no room of theirs.
 #[inline(never)]
 fn read_apart<L: Ledger>(
     text: &[u8],
@@ -233,7 +244,7 @@ fn read_apart<L: Ledger>(
     requires place { from ≤ length text.now }
     ensures reading { IsReadOrRefused radix (drop from text.now) (IsReading mode radix) result }
     ensures format { IfOk result (λ found. found.format ≡ format) }
-    ensures cost { steps.new ≤ steps.old + 3 * length (drop from text.now) + 8 * format.width + 64 }
+    ensures cost { steps.new ≤ steps.old + 3 * length (drop from text.now) + 119 }
 {
     if radix != Radix::Dec {
         if let Some(found) = read_short(text, from, radix, format, mode, steps) {
@@ -243,8 +254,8 @@ fn read_apart<L: Ledger>(
     read_scanned(bytes_from(text, from), radix, format, mode, steps)
 }
 
-/// What `read_apart` answers, matched by reference and copied here, and not where it is used: the answer of a call has room in
-/// memory, which is cleared where a function begins.
+/// What `read_apart` answers, matched by reference and copied here, and not where it is used: the answer of a call has
+/// room in memory, which is cleared where a function begins.
 #[inline(always)]
 fn copy_apart<L: Ledger>(
     text: &[u8],
@@ -257,7 +268,7 @@ fn copy_apart<L: Ledger>(
     requires place { from ≤ length text.now }
     ensures reading { IsReadOrRefused radix (drop from text.now) (IsReading mode radix) result }
     ensures format { IfOk result (λ found. found.format ≡ format) }
-    ensures cost { steps.new ≤ steps.old + 3 * length (drop from text.now) + 8 * format.width + 64 }
+    ensures cost { steps.new ≤ steps.old + 3 * length (drop from text.now) + 119 }
 {
     match &read_apart(text, from, radix, format, mode, steps) {
         Ok(found) => Ok(*found),
@@ -265,8 +276,8 @@ fn copy_apart<L: Ledger>(
     }
 }
 
-/// Reads the numeral that a text ends with, from a place on, as `read_format` reads it alone. It is quickest where there are 16
-/// bytes before it: then a short numeral is read by whole words, whatever the counts of its digits.
+/// Reads the numeral that a text ends with, from a place on, as `read_format` reads it alone. It is quickest where
+/// there are 16 bytes before it: then a short numeral is read by whole words, whatever the counts of its digits.
 ///
 /// # Errors
 ///
@@ -283,7 +294,7 @@ pub fn read_ending<L: Ledger>(
     requires place { from ≤ length text.now }
     ensures reading { IsReadOrRefused radix (drop from text.now) (IsReading mode radix) result }
     ensures format { IfOk result (λ found. found.format ≡ format) }
-    ensures cost { steps.new ≤ steps.old + 8 * (length (drop from text.now) + format.width) + 64 }
+    ensures cost { steps.new ≤ steps.old + 8 * length (drop from text.now) + 128 }
 {
     if radix == Radix::Dec {
         if let Some(found) = read_short(text, from, radix, format, mode, steps) {
@@ -293,8 +304,8 @@ pub fn read_ending<L: Ledger>(
     copy_apart(text, from, radix, format, mode, steps)
 }
 
-/// Reads a numeral into a format in a mode: the numeral's magnitude in ulps of the format, rounded in the mode, with the
-/// numeral's sign. It takes at most eight steps for each byte and each bit, and 64.
+/// Reads a numeral into a format in a mode: the numeral's magnitude in ulps of the format, rounded in the mode, with
+/// the numeral's sign. It takes at most eight steps for each byte, and 128.
 ///
 /// # Errors
 ///
@@ -309,7 +320,7 @@ pub fn read_format<L: Ledger>(
 ) -> Result<ReadNumber, ParseFixedError>
     ensures reading { IsReadOrRefused radix s.now (IsReading mode radix) result }
     ensures format { IfOk result (λ found. found.format ≡ format) }
-    ensures cost { steps.new ≤ steps.old + 8 * (length s.now + format.width) + 64 }
+    ensures cost { steps.new ≤ steps.old + 8 * length s.now + 128 }
 {
     read_ending(s, 0, radix, format, mode, steps)
 }
@@ -322,7 +333,8 @@ pub fn read_literal_counted<L: Ledger>(
 ) -> Result<ReadNumber, ParseFixedError>
     ensures literal { IsOk result ↔ IsLiteral format.signed s.now }
     ensures cause { IfErr result (λ kind. HasLiteralCause format.signed s.now kind) }
-    ensures reading { IfOk result (λ found. (p : Parts) → HasLiteral format.signed s.now p → IsReading NearestEven (literal_radix format.signed s.now) p found) }
+    ensures reading { IfOk result (λ found. (p : Parts) → HasLiteral format.signed s.now p
+        → IsReading NearestEven (literal_radix format.signed s.now) p found) }
     ensures format { IfOk result (λ found. found.format ≡ format) }
 {
     match scan_lit(s, format.signed(), steps) {

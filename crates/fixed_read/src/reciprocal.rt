@@ -1,8 +1,8 @@
 //! Division by 5^27 as a multiplication.
 //!
 //! `RECIPROCAL` is 2^126 / 5^27 rounded down. So `number * RECIPROCAL / 2^126` is at most `number / 5^27`, and for the
-//! numbers that a block of 27 digits makes it is less than one below that. Its whole part is therefore the quotient or one
-//! less, and one look at the rest says which. A division of 128 bits would take six times as long.
+//! numbers that a block of 27 digits makes it is less than one below that. Its whole part is therefore the quotient or
+//! one less, and one look at the rest says which. A division of 128 bits would take six times as long.
 
 ghost use Rattle.std.specs.Prelude.{◌≡◌, ◌+◌, ◌*◌, ◌^◌, ◌<◌, ◌≤◌};
 

@@ -1,9 +1,10 @@
 //! Readings of short numerals, from the numbers of their parts.
 //!
-//! Nearly all numerals are read here: in radix 10 a whole number and a fraction of at most 27 places, in radix 2, 8 or 16 a
-//! number and a power of two, whatever the exponent. The others are scanned (`read_number`).
+//! Nearly all numerals are read here: in radix 10 a whole number and a fraction of at most 27 places, in radix 2, 8 or
+//! 16 a number and a power of two, whatever the exponent. The others are scanned (`read_number`).
 
-ghost use Rattle.std.specs.Prelude.{◌≡◌, ◌≢◌, ◌+◌, ◌*◌, ◌^◌, ◌<◌, ◌≤◌, ◌↔◌, ◌⊎◌, ◌-ℤ◌, ◌*ℤ◌, ◌≤ℤ◌, ℕ, ℤ, pos, IsTrue, IfSome};
+ghost use Rattle.std.specs.Prelude.{◌≡◌, ◌≢◌, ◌+◌, ◌*◌, ◌^◌, ◌<◌, ◌≤◌, ◌↔◌, ◌⊎◌, ◌-ℤ◌, ◌*ℤ◌, ◌≤ℤ◌, ℕ, ℤ, pos, IsTrue};
+ghost use Rattle.std.specs.Prelude.{IfSome};
 ghost use Rattle.fixed_numeral.specs.Numeral.{Parts, base};
 ghost use Rattle.fixed_numeral.specs.declared.radix.Radix.TheVariants.{Dec};
 ghost use Rattle.fixed_numeral.specs.PartNumbers.{IsShortNumeral, HasFewDigits};
@@ -34,7 +35,9 @@ pub struct Decimal {
 #[inline(always)]
 fn ulps_of_decimal(decimal: Decimal, frac: u32, direction: Direction) -> Ulps
     requires { frac ≤ 64 }
-    ensures { IsMagnitude direction (record { num = decimal.whole * 10 ^ decimal.places + decimal.fraction; den = 10 ^ decimal.places }) frac result }
+    ensures { IsMagnitude direction
+        (record { num = decimal.whole * 10 ^ decimal.places + decimal.fraction; den = 10 ^ decimal.places }) frac
+        result }
 {
     if decimal.places > 13 {
         let (ulps, lost) = ulps_of_many_places(decimal.fraction, decimal.places, frac);
@@ -46,7 +49,7 @@ fn ulps_of_decimal(decimal: Decimal, frac: u32, direction: Direction) -> Ulps
     rounded_share(count, shared.rest, shared.unit, direction)
 }
 
-/// digits * 10^up as a decimal. None where it is too large for one.
+/// digits * 10^up as a decimal. `None` where it is too large for one.
 fn whole_decimal(digits: u64, up: u64) -> Option<Decimal>
     ensures { IfSome result (λ d. (d.whole ≡ digits * 10 ^ up) × (d.fraction ≡ 0) × (d.places ≡ 0)) }
 {
@@ -64,7 +67,7 @@ fn whole_decimal(digits: u64, up: u64) -> Option<Decimal>
     })
 }
 
-/// digits / 10^down as a decimal. None where it has more than 27 places.
+/// digits / 10^down as a decimal. `None` where it has more than 27 places.
 fn fraction_decimal(digits: u64, down: u64) -> Option<Decimal>
     requires { digits < 10 ^ 16 }
     ensures { IfSome result (λ d. (d.whole * 10 ^ down + d.fraction ≡ digits) × (d.places ≡ down)) }
@@ -104,11 +107,12 @@ fn down_of(net: i64) -> u64
     if net < 0 { (-net) as u64 } else { 0 }
 }
 
-/// A number times a power of ten as a decimal. None where it has more than 27 places, or is too large.
+/// A number times a power of ten as a decimal. `None` where it has more than 27 places, or is too large.
 fn scaled_decimal(digits: u64, power: i64) -> Option<Decimal>
     requires digits { digits < 10 ^ 16 }
     requires least { (pos 0 -ℤ pos (2 ^ 40)) ≤ℤ power }
-    ensures { IfSome result (λ d. IsSameNumber (record { num = d.whole * 10 ^ d.places + d.fraction; den = 10 ^ d.places }) (scaled digits 1 10 power)) }
+    ensures { IfSome result (λ d. IsSameNumber
+        (record { num = d.whole * 10 ^ d.places + d.fraction; den = 10 ^ d.places }) (scaled digits 1 10 power)) }
 {
     if power > 0 {
         whole_decimal(digits, up_of(power))
@@ -131,7 +135,9 @@ fn decimal_digits(found: ShortNumeral) -> u64
 #[inline(always)]
 fn decimal_of(found: ShortNumeral) -> Option<Decimal>
     requires { HasFewDigits 10 found.whole found.fraction found.places }
-    ensures { IfSome result (λ d. IsSameNumber (record { num = d.whole * 10 ^ d.places + d.fraction; den = 10 ^ d.places }) (scaled (found.whole * 10 ^ found.places + found.fraction) 1 10 (found.exponent -ℤ pos found.places))) }
+    ensures { IfSome result (λ d. IsSameNumber
+        (record { num = d.whole * 10 ^ d.places + d.fraction; den = 10 ^ d.places })
+        (scaled (found.whole * 10 ^ found.places + found.fraction) 1 10 (found.exponent -ℤ pos found.places))) }
 {
     scaled_decimal(
         decimal_digits(found),
@@ -139,13 +145,16 @@ fn decimal_of(found: ShortNumeral) -> Option<Decimal>
     )
 }
 
-/// The magnitude of a short numeral in radix 10 and with an exponent in ulps of 2^-frac. `None` where its digits have to be
-/// looked at. Apart from `decimal_ulps`, so that the answer of a call has room in memory only where there is an exponent.
+/// The magnitude of a short numeral in radix 10 and with an exponent in ulps of 2^-frac. `None` where its digits have
+/// to be looked at. Apart from `decimal_ulps`, so that the answer of a call has room in memory only where there is an
+/// exponent.
 #[inline(always)]
 fn scaled_ulps(found: ShortNumeral, frac: u32, direction: Direction) -> Option<Ulps>
     requires few { HasFewDigits 10 found.whole found.fraction found.places }
     requires frac { frac ≤ 64 }
-    ensures { IfSome result (λ ulps. IsMagnitude direction (scaled (found.whole * 10 ^ found.places + found.fraction) 1 10 (found.exponent -ℤ pos found.places)) frac ulps) }
+    ensures { IfSome result (λ ulps. IsMagnitude direction
+        (scaled (found.whole * 10 ^ found.places + found.fraction) 1 10
+        (found.exponent -ℤ pos found.places)) frac ulps) }
 {
     match decimal_of(found) {
         Some(decimal) => Some(ulps_of_decimal(decimal, frac, direction)),
@@ -161,7 +170,9 @@ fn decimal_ulps(found: ShortNumeral, frac: u32, direction: Direction) -> Option<
     requires places { found.places ≤ 27 }
     requires few { found.exponent ≢ pos 0 → HasFewDigits 10 found.whole found.fraction found.places }
     requires frac { frac ≤ 64 }
-    ensures { IfSome result (λ ulps. IsMagnitude direction (scaled (found.whole * 10 ^ found.places + found.fraction) 1 10 (found.exponent -ℤ pos found.places)) frac ulps) }
+    ensures { IfSome result (λ ulps. IsMagnitude direction
+        (scaled (found.whole * 10 ^ found.places + found.fraction) 1 10
+        (found.exponent -ℤ pos found.places)) frac ulps) }
 {
     if found.exponent != 0 {
         return scaled_ulps(found, frac, direction);
@@ -225,7 +236,8 @@ fn shifted_down(digits: u64, by: u64) -> (u64, LostFraction)
 #[inline(always)]
 fn lowered_ulps(digits: u64, by: u64, direction: Direction) -> Ulps
     requires { 0 < by }
-    ensures { (num den frac : ℕ) → 0 < den → digits * den ≡ num * 2 ^ frac * 2 ^ by → IsMagnitude direction (record { num = num; den = den }) frac result }
+    ensures { (num den frac : ℕ) → 0 < den → digits * den ≡ num * 2 ^ frac * 2 ^ by
+        → IsMagnitude direction (record { num = num; den = den }) frac result }
 {
     let (count, lost) = shifted_down(digits, by);
     rounded_ulps(u128::from(count), lost, direction)
@@ -241,7 +253,8 @@ fn exceeds(number: u64, limit: u64) -> bool
 /// The magnitude of digits * 2^by ulps.
 #[inline(always)]
 fn raised_ulps(digits: u64, by: u64) -> Ulps
-    ensures { (direction : Direction) (num den frac : ℕ) → 0 < den → digits * 2 ^ by * den ≡ num * 2 ^ frac → IsMagnitude direction (record { num = num; den = den }) frac result }
+    ensures { (direction : Direction) (num den frac : ℕ) → 0 < den → digits * 2 ^ by * den ≡ num * 2 ^ frac
+        → IsMagnitude direction (record { num = num; den = den }) frac result }
 {
     if by >= 64 {
         return Ulps {
@@ -275,7 +288,8 @@ fn times(count: u64, number: i64) -> i64
 #[inline(always)]
 fn net_power(bits: u64, places: u32, exponent: i32, scales_by_two: bool) -> i64
     requires { bits ≤ 4 }
-    ensures power { result ≡ pos (ups bits places exponent scales_by_two) -ℤ pos (downs bits places exponent scales_by_two) }
+    ensures power { result ≡ pos (ups bits places exponent scales_by_two)
+        -ℤ pos (downs bits places exponent scales_by_two) }
     ensures least { (pos 0 -ℤ pos (2 ^ 40)) ≤ℤ result }
     ensures most { result ≤ℤ pos (2 ^ 40) }
 {
@@ -316,7 +330,9 @@ fn binary_ulps(
 ) -> Ulps
     requires bits { bits ≤ 4 }
     requires frac { frac ≤ 64 }
-    ensures { (num den : ℕ) → 0 < den → digits * 2 ^ ups bits places exponent scales_by_two * den ≡ num * 2 ^ downs bits places exponent scales_by_two → IsMagnitude direction (record { num = num; den = den }) frac result }
+    ensures { (num den : ℕ) → 0 < den → digits * 2 ^ ups bits places exponent scales_by_two * den
+        ≡ num * 2 ^ downs bits places exponent scales_by_two
+        → IsMagnitude direction (record { num = num; den = den }) frac result }
 {
     let net = net_power(bits, places, exponent, scales_by_two) + i64::from(frac);
     if net >= 0 {
@@ -326,7 +342,7 @@ fn binary_ulps(
     }
 }
 
-/// The magnitude of a short numeral in ulps of 2^-frac. None where its digits have to be looked at.
+/// The magnitude of a short numeral in ulps of 2^-frac. `None` where its digits have to be looked at.
 #[inline(always)]
 pub fn short_ulps(
     found: ShortNumeral,
@@ -337,9 +353,12 @@ pub fn short_ulps(
     requires fraction { found.fraction < base radix ^ found.places }
     requires whole { found.whole < base radix ^ 16 }
     requires places { found.places ≤ 27 }
-    requires few { ((radix ≢ Dec) ⊎ (found.exponent ≢ pos 0)) → HasFewDigits (base radix) found.whole found.fraction found.places }
+    requires few { ((radix ≢ Dec) ⊎ (found.exponent ≢ pos 0))
+        → HasFewDigits (base radix) found.whole found.fraction found.places }
     requires frac { frac ≤ 64 }
-    ensures { IfSome result (λ ulps. (p : Parts) → IsShortNumeral radix p found.negative found.whole found.fraction found.places found.exponent found.scales_by_two → IsMagnitude direction (magnitude radix p) frac ulps) }
+    ensures { IfSome result (λ ulps. (p : Parts)
+        → IsShortNumeral radix p found.negative found.whole found.fraction found.places found.exponent
+        found.scales_by_two → IsMagnitude direction (magnitude radix p) frac ulps) }
 {
     match radix {
         Radix::Dec => decimal_ulps(found, frac, direction),

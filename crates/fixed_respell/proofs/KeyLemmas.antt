@@ -3,7 +3,7 @@ use Rattle.std.proofs.Common.{Bool, subst, ◌≡◌, ℕ, suc, ◌+◌, ◌-◌
 use Rattle.std.proofs.Math.Nat.{pow-succ', pow-le-pow_right}
 use Rattle.std.specs.Int.Digits.{AllBelowBase}
 use Rattle.std.specs.Simd.Lanes.{number_l}
-use Rattle.fixed_bits.specs.Formats.{FormatParts, IsFormat}
+use Rattle.fixed_bits.specs.Formats.{FormatParts, IsTypeFormat}
 use Rattle.fixed_respell.proofs.TableLemmas.{entry_of}
 use Rattle.fixed_respell.specs.Inner.FormatKeys.{counts_word, word_key}
 use Rattle.fixed_respell.specs.Words.{IsFormatWord, format_text, sign_letter}
@@ -78,7 +78,7 @@ headed : (word rest : List ℕ) (b : ℕ) → 0 < length word → get_or word 0 
 headed [] rest b some e f = absurd (omega (arith, some))
 headed (x ∷ xs) rest b some e f = cc
 
-pub named : (word : List ℕ) (key : ℕ) (s : Bool) (w r : ℕ) → 4 ≤ length word → length word ≤ 6 → AllBelowBase 256 word → get_or word 0 0 ≡ sign_letter s → key ≡ word_key word → IsFormat w r → key ≡ word_key (counts_word w r) → IsFormatWord word (record { signed = s; width = w; frac = r })
+pub named : (word : List ℕ) (key : ℕ) (s : Bool) (w r : ℕ) → 4 ≤ length word → length word ≤ 6 → AllBelowBase 256 word → get_or word 0 0 ≡ sign_letter s → key ≡ word_key word → IsTypeFormat w r → key ≡ word_key (counts_word w r) → IsFormatWord word (record { signed = s; width = w; frac = r })
 named word key s w r least most below first e is f =
     let has = entry_of w r is in
     let same = key_one word (counts_word w r) least most below has.least has.most has.below (sym e ∙ f) in
@@ -88,6 +88,6 @@ pub made : (f : FormatParts) (word : List ℕ) (s : Bool) (w r : ℕ) → IsForm
 made f word s w r is signed width frac =
     let same : format_text (record { signed = s; width = w; frac = r }) ≡ format_text f = cc in
     record {
-      format = subst (λ n. IsFormat n f.frac) (sym width) (subst (λ n. IsFormat w n) (sym frac) is.format);
+      format = subst (λ n. IsTypeFormat n f.frac) (sym width) (subst (λ n. IsTypeFormat w n) (sym frac) is.format);
       text = is.text ∙ same;
     }

@@ -14,5 +14,7 @@ mod ReachLemmas
 mod TableLemmas
 mod KeyLemmas
 mod NameLemmas
+mod FormatNameLemmas
+mod NamedLemmas
 mod FaultAnswerLemmas
 mod EndingLemmas

@@ -7,7 +7,7 @@ use Rattle.fixed_respell.specs.AnswerLaws.{IsPlainLine, PlainLineHasThePlainAnsw
 use Rattle.fixed_respell.specs.Language.{IsAnswerIn}
 use Rattle.fixed_respell.specs.LineWords.{HasWords}
 use Rattle.line_engine.specs.AnswerText.{AnswerText}
-use Rattle.fixed_respell.specs.Words.{IsPlainWord, IsPolicyWord}
+use Rattle.fixed_respell.specs.Words.{IsFormatWord, IsPlainWord, IsPolicyWord}
 use Rattle.fixed_respell.specs.declared.fault.LineFault.{LineFault}
 use Rattle.fixed_respell.specs.declared.fault.LineFault.TheVariants.{LineTooLong, MissingField, BadRadix, BadSource, BadTarget, BadPolicy}
 use Rattle.fixed_respell.specs.Lemmas.AnswerLemmas.{plain_word}
@@ -19,7 +19,7 @@ Agree M N line = (words : List (List ℕ)) (rest : List ℕ) → HasWords line w
 flipped : (M N : List ℕ → Policy → ReadMode → Type 0) (line : List ℕ) → Agree M N line → Agree N M line
 flipped M N line agree words rest has count p m = ((agree words rest has count p m).1, (agree words rest has count p m).0)
 
-fault_too : (M N : List ℕ → Policy → ReadMode → Type 0) (line : List ℕ) → Agree M N line → (f : LineFault) → HasFaultBy M f line → HasFaultBy N f line
+fault_too : (M N : List ℕ → Policy → ReadMode → Type 0) (line : List ℕ) → Agree M N line → (f : LineFault) → HasFaultBy IsFormatWord M f line → HasFaultBy IsFormatWord N f line
 fault_too M N line agree LineTooLong has = has
 fault_too M N line agree MissingField has = has
 fault_too M N line agree BadRadix has = has
@@ -33,13 +33,13 @@ fault_too M N line agree BadPolicy has = record {
   bad = λ (p, m, named). has.bad (p, m, (agree has.words has.rest has.has has.count_is p m).1 named);
 }
 
-first_too : (M N : List ℕ → Policy → ReadMode → Type 0) (line : List ℕ) → Agree M N line → (f : LineFault) → IsFirstFaultBy M f line → IsFirstFaultBy N f line
+first_too : (M N : List ℕ → Policy → ReadMode → Type 0) (line : List ℕ) → Agree M N line → (f : LineFault) → IsFirstFaultBy IsFormatWord M f line → IsFirstFaultBy IsFormatWord N f line
 first_too M N line agree f is = record {
   has = fault_too M N line agree f is.has;
   first = λ other before has. is.first other before (fault_too N M line (flipped M N line agree) other has);
 }
 
-asks_too : (M N : List ℕ → Policy → ReadMode → Type 0) (line : List ℕ) → Agree M N line → (t : Task) → AsksBy M line t → AsksBy N line t
+asks_too : (M N : List ℕ → Policy → ReadMode → Type 0) (line : List ℕ) → Agree M N line → (t : Task) → AsksBy IsFormatWord M line t → AsksBy IsFormatWord N line t
 asks_too M N line agree t asks = record {
   short = asks.short;
   radix_word = asks.radix_word;
@@ -53,7 +53,7 @@ asks_too M N line agree t asks = record {
   policy = (agree _ t.numeral asks.words refl t.policy t.mode).0 asks.policy;
 }
 
-answer_too : (M N : List ℕ → Policy → ReadMode → Type 0) (line : List ℕ) (reply : AnswerText) → Agree M N line → IsAnswerIn (respell_language M) line reply → IsAnswerIn (respell_language N) line reply
+answer_too : (M N : List ℕ → Policy → ReadMode → Type 0) (line : List ℕ) (reply : AnswerText) → Agree M N line → IsAnswerIn (respell_language IsFormatWord M) line reply → IsAnswerIn (respell_language IsFormatWord N) line reply
 answer_too M N line reply agree (inl a) = inl (record { fault = a.fault; first = first_too M N line agree a.fault a.first; answer_is = a.answer_is })
 answer_too M N line reply agree (inr a) = inr (record { task = a.task; asks = asks_too M N line agree a.task a.asks; answered = a.answered })
 

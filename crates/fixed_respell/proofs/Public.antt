@@ -2,9 +2,29 @@
 use Rattle.std.specs.Prelude.{◌≡◌, ◌≤◌, ◌++◌, true, List, ℕ, length}
 use Rattle.line_engine.specs.AnswerText.{AnswerText}
 use Rattle.line_engine.specs.Output.{AppendsAnswer}
+use Rattle.fixed_bits.specs.Formats.{FormatParts, IsFormat}
+use Rattle.fixed_respell.specs.AnswerLaws.{FormatNameIsTheOne, NamedAnswerIsTheAnswer, NamedAnswerIsTheOne}
+use Rattle.fixed_respell.specs.FormatNames.{IsFormatName}
 use Rattle.fixed_respell.specs.Language.{fault_answer}
+use Rattle.fixed_respell.specs.Words.{format_text}
 use Rattle.fixed_respell.proofs.FaultAnswerLemmas
+use Rattle.fixed_respell.proofs.FormatNameLemmas
+use Rattle.fixed_respell.proofs.NamedLemmas
 
 -- a message of at most 64 bytes, reported as the answer to a line
 pub fault_appended : (A : List ℕ → AnswerText → Type 0) (line before after message : List ℕ) → length message ≤ 64 → A line (fault_answer message) → after ≡ before ++ (fault_answer message).text → AppendsAnswer A 192 line before after true
 fault_appended = FaultAnswerLemmas.fault_appended
+
+-- the word of a format is a name of it, and a name is that of one format
+pub text_names : (f : FormatParts) → IsFormat f.width f.frac → IsFormatName (format_text f) f
+text_names = FormatNameLemmas.text_names
+
+pub name_one : FormatNameIsTheOne
+name_one = FormatNameLemmas.name_one
+
+-- a line has one answer where formats have any of their names, and that which it has by their words
+pub named_answer_one : NamedAnswerIsTheOne
+named_answer_one = NamedLemmas.named_answer_one
+
+pub named_answer : NamedAnswerIsTheAnswer
+named_answer = NamedLemmas.named_answer

@@ -29,6 +29,12 @@ both_in s t m n v w a b = (
 pub one_out : (A : Type 0) → A → IsTrue true ↔ A
 one_out A a = ((λ _. a), (λ _. refl))
 
+eight : IsWidth 8
+eight = record { some = omega arith; most = omega arith }
+
+sixteen : IsWidth 16
+sixteen = record { some = omega arith; most = omega arith }
+
 pub kept : (p : Policy) (s : Bool) (n : ℕ) (v : ℤ) → IsWidth n → IsInRange s n v → IsImage p s n v v
 kept p s n v w h = (images_agree p s n v v w h).1 refl
 
@@ -336,7 +342,7 @@ saturated_300 = record {
     read = read_300;
     source_image = to_greatest 300 (omega arith);
     down = record { at_most = omega (arith, ints); above = omega (arith, ints) };
-    target_image = kept Saturating false 16 (pos 255) (inr (inl refl)) (pair 255 (omega arith));
+    target_image = kept Saturating false 16 (pos 255) sixteen (pair 255 (omega arith));
     flag = one_out _ (inl (past 300 (omega arith)));
   };
 }
@@ -373,7 +379,7 @@ saturated_minus_300 = record {
       above = λ a. absurd (omega (arith, ints, a));
     };
     down = record { at_most = omega (arith, ints); above = omega (arith, ints) };
-    target_image = kept Saturating true 8 (negsuc 127) (inl refl) (negative_byte 127 (omega arith));
+    target_image = kept Saturating true 8 (negsuc 127) eight (negative_byte 127 (omega arith));
     flag = one_out _ (inl below_lowest);
   };
 }
@@ -427,7 +433,7 @@ saturated_17 = record {
     in_source = pos 17;
     moved = pos 272;
     read = read_17;
-    source_image = kept Saturating false 8 (pos 17) (inl refl) (byte 17 (omega arith));
+    source_image = kept Saturating false 8 (pos 17) eight (byte 17 (omega arith));
     down = record { at_most = omega (arith, ints); above = omega (arith, ints) };
     target_image = to_greatest 272 (omega arith);
     flag = one_out _ (inr (past 272 (omega arith)));

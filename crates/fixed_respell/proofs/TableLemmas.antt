@@ -4,8 +4,8 @@ use Rattle.std.specs.Prelude.{◌&&◌, ◌||◌, eqb, leb}
 use Rattle.std.specs.Fmt.{digits}
 use Rattle.std.proofs.lemmas.Bool.{and_parts, eqb-true, leb-true, cases_lt}
 use Rattle.std.specs.Int.Digits.{AllBelowBase}
-use Rattle.fixed_bits.specs.Formats.{IsFormat}
-use Rattle.fixed_bits.specs.Ranges.{IsWidth}
+use Rattle.fixed_bits.specs.Formats.{IsTypeFormat}
+use Rattle.fixed_bits.specs.Ranges.{IsTypeWidth}
 use Rattle.fixed_respell.specs.Inner.FormatKeys.{IsEntry, counts_word, word_key}
 
 unfoldable pub table : List ℕ
@@ -76,10 +76,10 @@ read_entry w f word e =
     let d = and_parts _ _ b.1 in
     record { least = leb-true 4 (length word) a.0; most = leb-true (length word) 6 b.0; below = all_bytes word d.0; entry = eqb-true _ _ d.1 }
 
-pub entry_of : (w f : ℕ) → IsFormat w f → HasEntry w f (counts_word w f)
+pub entry_of : (w f : ℕ) → IsTypeFormat w f → HasEntry w f (counts_word w f)
 entry_of w f is = read_entry w f (counts_word w f) (by_width is.is_width)
   where
-    by_width : IsWidth w → has_entry w f (counts_word w f) ≡ true
+    by_width : IsTypeWidth w → has_entry w f (counts_word w f) ≡ true
     by_width (inl e) = subst (λ n. has_entry n f (counts_word n f) ≡ true) (sym e) (up_to (λ i. has_entry 8 i (counts_word 8 i)) 8 f (rw e at is.within) entries_8)
     by_width (inr (inl e)) = subst (λ n. has_entry n f (counts_word n f) ≡ true) (sym e) (up_to (λ i. has_entry 16 i (counts_word 16 i)) 16 f (rw e at is.within) entries_16)
     by_width (inr (inr (inl e))) = subst (λ n. has_entry n f (counts_word n f) ≡ true) (sym e) (up_to (λ i. has_entry 32 i (counts_word 32 i)) 32 f (rw e at is.within) entries_32)
@@ -103,13 +103,13 @@ or_true : (a b : Bool) → (a || b) ≡ true → (a ≡ true) ⊎ (b ≡ true)
 or_true true b e = inl refl
 or_true false b e = inr e
 
-width_is : (w : ℕ) → (eqb w 8 || (eqb w 16 || (eqb w 32 || eqb w 64))) ≡ true → IsWidth w
+width_is : (w : ℕ) → (eqb w 8 || (eqb w 16 || (eqb w 32 || eqb w 64))) ≡ true → IsTypeWidth w
 width_is w e = ⊎_elim
     (λ a. inl (eqb-true w 8 a))
     (λ a. ⊎_elim (λ b. inr (inl (eqb-true w 16 b))) (λ b. ⊎_elim (λ d. inr (inr (inl (eqb-true w 32 d)))) (λ d. inr (inr (inr (eqb-true w 64 d)))) (or_true (eqb w 32) (eqb w 64) b)) (or_true (eqb w 16) (eqb w 32 || eqb w 64) a))
     (or_true (eqb w 8) (eqb w 16 || (eqb w 32 || eqb w 64)) e)
 
-entry_is : (e w f key : ℕ) → (eqb e 0 || is_entry w f key) ≡ true → 0 < e → IsFormat w f × (key ≡ word_key (counts_word w f))
+entry_is : (e w f key : ℕ) → (eqb e 0 || is_entry w f key) ≡ true → 0 < e → IsTypeFormat w f × (key ≡ word_key (counts_word w f))
 entry_is e w f key sound some = ⊎_elim
     (λ z. let n = eqb-true e 0 z in absurd (omega (arith, n, some)))
     (λ s.
@@ -124,5 +124,5 @@ found_sound h some =
     let s = entry_is e (e / 2 ^ 56) (e / 2 ^ 48 % 256) (e % 2 ^ 48) (sound_at h) some in
     record { format = s.0; key = s.1 }
 
-pub found_whole : (key w f : ℕ) → IsFormat w f → key ≡ word_key (counts_word w f) → get_or table (place key) 0 ≡ key + f * 2 ^ 48 + w * 2 ^ 56
+pub found_whole : (key w f : ℕ) → IsTypeFormat w f → key ≡ word_key (counts_word w f) → get_or table (place key) 0 ≡ key + f * 2 ^ 48 + w * 2 ^ 56
 found_whole key w f is e = rw e (entry_of w f is).entry

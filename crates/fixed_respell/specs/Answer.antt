@@ -13,34 +13,41 @@ use Rattle.fixed_respell.specs.Split.{count_of}
 use Rattle.fixed_respell.specs.Reached.{IsRespelled, IsRefusal}
 use Rattle.line_engine.specs.AnswerText.{AnswerText}
 use Rattle.fixed_write.specs.Texts.{IsShortestText}
+use Rattle.fixed_respell.specs.FormatNames.{IsFormatName}
 use Rattle.fixed_respell.specs.Words.{radix_text, IsFormatWord, IsPlainWord, IsPolicyWord}
 use Rattle.fixed_respell.specs.declared.fault.LineFault.{LineFault}
-use Rattle.fixed_respell.specs.declared.fault.LineFault.TheVariants.{LineTooLong, MissingField, BadRadix, BadSource, BadTarget, BadPolicy}
+use Rattle.fixed_respell.specs.declared.fault.LineFault.TheVariants.{LineTooLong, MissingField, BadRadix, BadSource}
+use Rattle.fixed_respell.specs.declared.fault.LineFault.TheVariants.{BadTarget, BadPolicy}
 
 -- ---- the faults of a line
--- Which policy and which mode a fourth word names is a parameter of what follows: with mode words it is `IsPolicyWord`,
--- without them `IsPlainWord`.
+-- Which format a word names, and which policy and which mode a fourth word names, are parameters of what follows. In
+-- the programs of lines they are `IsFormatWord` and `IsPolicyWord`, and without mode words `IsPlainWord`; with formats
+-- of any width the first is `IsFormatName`.
 
 -- a word names a radix
 abbrev pub NamesRadix : List ℕ → Type 0
 NamesRadix word = (r : Radix) × (word ≡ radix_text r)
 
 -- a word names a format
+abbrev pub NamesFormatBy : (List ℕ → FormatParts → Type 0) → List ℕ → Type 0
+NamesFormatBy Names word = (f : FormatParts) × Names word f
+
 abbrev pub NamesFormat : List ℕ → Type 0
-NamesFormat word = (f : FormatParts) × IsFormatWord word f
+NamesFormat = NamesFormatBy IsFormatWord
 
 -- a word names a policy and a mode
 abbrev pub NamesSome : (List ℕ → Policy → ReadMode → Type 0) → List ℕ → Type 0
 NamesSome NamesPolicy word = (p : Policy) × (m : ReadMode) × NamesPolicy word p m
 
 -- the line has the fault
-abbrev pub HasFaultBy : (List ℕ → Policy → ReadMode → Type 0) → LineFault → List ℕ → Type 0
-HasFaultBy NamesPolicy LineTooLong line = longest_line < length line
-HasFaultBy NamesPolicy MissingField line = count_of space line < 4
-HasFaultBy NamesPolicy BadRadix line = HasBadWord 4 0 NamesRadix line
-HasFaultBy NamesPolicy BadSource line = HasBadWord 4 1 NamesFormat line
-HasFaultBy NamesPolicy BadTarget line = HasBadWord 4 2 NamesFormat line
-HasFaultBy NamesPolicy BadPolicy line = HasBadWord 4 3 (NamesSome NamesPolicy) line
+abbrev pub HasFaultBy : (List ℕ → FormatParts → Type 0) → (List ℕ → Policy → ReadMode → Type 0) → LineFault → List ℕ
+    → Type 0
+HasFaultBy Names NamesPolicy LineTooLong line = longest_line < length line
+HasFaultBy Names NamesPolicy MissingField line = count_of space line < 4
+HasFaultBy Names NamesPolicy BadRadix line = HasBadWord 4 0 NamesRadix line
+HasFaultBy Names NamesPolicy BadSource line = HasBadWord 4 1 (NamesFormatBy Names) line
+HasFaultBy Names NamesPolicy BadTarget line = HasBadWord 4 2 (NamesFormatBy Names) line
+HasFaultBy Names NamesPolicy BadPolicy line = HasBadWord 4 3 (NamesSome NamesPolicy) line
 
 -- the rank of a fault in the order in which they are looked for
 abbrev pub fault_rank : LineFault → ℕ
@@ -52,8 +59,9 @@ fault_rank BadTarget = 4
 fault_rank BadPolicy = 5
 
 -- the line has the fault, and none before it
-abbrev pub IsFirstFaultBy : (List ℕ → Policy → ReadMode → Type 0) → LineFault → List ℕ → Type 0
-IsFirstFaultBy NamesPolicy fault line = IsFirst LineFault fault_rank (λ f. HasFaultBy NamesPolicy f line) fault
+abbrev pub IsFirstFaultBy : (List ℕ → FormatParts → Type 0) → (List ℕ → Policy → ReadMode → Type 0) → LineFault
+    → List ℕ → Type 0
+IsFirstFaultBy Names NamesPolicy fault line = IsFirst LineFault fault_rank (λ f. HasFaultBy Names NamesPolicy f line) fault
 
 -- the message of a fault
 abbrev pub fault_message : LineFault → List ℕ
@@ -79,7 +87,8 @@ abbrev pub task_of : Radix → FormatParts → FormatParts → Policy → ReadMo
 task_of r s t p m bytes = record { radix = r; source = s; target = t; policy = p; mode = m; numeral = bytes }
 
 -- the line is not too long, its first four words name the task, and all that follows the fourth space is the numeral
-pub record AsksBy (NamesPolicy : List ℕ → Policy → ReadMode → Type 0) (line : List ℕ) (t : Task) : Type 0 where
+pub record AsksBy (Names : List ℕ → FormatParts → Type 0) (NamesPolicy : List ℕ → Policy → ReadMode
+    → Type 0) (line : List ℕ) (t : Task) : Type 0 where
   pub short : length line ≤ longest_line
   pub radix_word : List ℕ
   pub source_word : List ℕ
@@ -87,8 +96,8 @@ pub record AsksBy (NamesPolicy : List ℕ → Policy → ReadMode → Type 0) (l
   pub policy_word : List ℕ
   pub words : HasWords line (radix_word ∷ source_word ∷ target_word ∷ policy_word ∷ []) t.numeral
   pub radix : radix_word ≡ radix_text t.radix
-  pub source : IsFormatWord source_word t.source
-  pub target : IsFormatWord target_word t.target
+  pub source : Names source_word t.source
+  pub target : Names target_word t.target
   pub policy : NamesPolicy policy_word t.policy t.mode
 
 -- ---- what a task is answered
@@ -121,31 +130,35 @@ abbrev pub IsTaskAnswered : Task → AnswerText → Type 0
 IsTaskAnswered t answer = IsRefusalAnswer t answer ⊎ IsRespelledAnswer t answer
 
 -- ---- the answer
-abbrev pub respell_language : (List ℕ → Policy → ReadMode → Type 0) → Language
-respell_language NamesPolicy = record {
+abbrev pub respell_language : (List ℕ → FormatParts → Type 0) → (List ℕ → Policy → ReadMode → Type 0) → Language
+respell_language Names NamesPolicy = record {
   Fault = LineFault;
   rank = fault_rank;
-  HasFault = HasFaultBy NamesPolicy;
+  HasFault = HasFaultBy Names NamesPolicy;
   message = fault_message;
   Task = Task;
-  Asks = AsksBy NamesPolicy;
+  Asks = AsksBy Names NamesPolicy;
   IsAnswered = IsTaskAnswered;
 }
 
 -- with mode words
 abbrev pub HasFault : LineFault → List ℕ → Type 0
-HasFault = HasFaultBy IsPolicyWord
+HasFault = HasFaultBy IsFormatWord IsPolicyWord
 
 abbrev pub IsFirstFault : LineFault → List ℕ → Type 0
-IsFirstFault = IsFirstFaultBy IsPolicyWord
+IsFirstFault = IsFirstFaultBy IsFormatWord IsPolicyWord
 
 abbrev pub Asks : List ℕ → Task → Type 0
-Asks = AsksBy IsPolicyWord
+Asks = AsksBy IsFormatWord IsPolicyWord
 
 -- the answer to the line, with mode words
 abbrev pub IsAnswer : List ℕ → AnswerText → Type 0
-IsAnswer = IsAnswerIn (respell_language IsPolicyWord)
+IsAnswer = IsAnswerIn (respell_language IsFormatWord IsPolicyWord)
 
 -- and as if there were none
 abbrev pub IsPlainAnswer : List ℕ → AnswerText → Type 0
-IsPlainAnswer = IsAnswerIn (respell_language IsPlainWord)
+IsPlainAnswer = IsAnswerIn (respell_language IsFormatWord IsPlainWord)
+
+-- and the answer with mode words, where a format is of any width and has any of its names
+abbrev pub IsNamedAnswer : List ℕ → AnswerText → Type 0
+IsNamedAnswer = IsAnswerIn (respell_language IsFormatName IsPolicyWord)

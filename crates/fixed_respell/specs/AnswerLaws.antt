@@ -4,7 +4,8 @@ use Rattle.fixed_bits.specs.Formats.{FormatParts}
 use Rattle.fixed_bits.specs.declared.format.Policy.{Policy}
 use Rattle.fixed_bits.specs.declared.mode.ReadMode.{ReadMode}
 use Rattle.fixed_bits.specs.declared.mode.ReadMode.TheVariants.{NearestEven}
-use Rattle.fixed_respell.specs.Answer.{Asks, IsAnswer, IsPlainAnswer, Task}
+use Rattle.fixed_respell.specs.FormatNames.{IsFormatName}
+use Rattle.fixed_respell.specs.Answer.{Asks, IsAnswer, IsNamedAnswer, IsPlainAnswer, Task}
 use Rattle.line_engine.specs.Lines.{kept_length}
 use Rattle.fixed_respell.specs.LineWords.{HasWords}
 use Rattle.line_engine.specs.AnswerText.{AnswerText}
@@ -15,26 +16,48 @@ use Rattle.fixed_respell.specs.Words.{IsFormatWord, IsPlainWord, IsPolicyWord, p
 abbrev pub FormatWordIsTheOne : Type 0
 FormatWordIsTheOne = (word : List ℕ) (f g : FormatParts) → IsFormatWord word f → IsFormatWord word g → f ≡ g
 
+-- a word names one format at most, so a name of a format names that format again
+abbrev pub FormatNameIsTheOne : Type 0
+FormatNameIsTheOne = (word : List ℕ) (f g : FormatParts) → IsFormatName word f → IsFormatName word g → f ≡ g
+
+-- the word of a format is a name of it
+abbrev pub FormatWordIsAName : Type 0
+FormatWordIsAName = (word : List ℕ) (f : FormatParts) → IsFormatWord word f → IsFormatName word f
+
 -- a line has at most one answer
 abbrev pub AnswerIsTheOne : Type 0
 AnswerIsTheOne = (line : List ℕ) (a b : AnswerText) → IsAnswer line a → IsAnswer line b → a ≡ b
 
+-- so it is where formats have any of their names
+abbrev pub NamedAnswerIsTheOne : Type 0
+NamedAnswerIsTheOne = (line : List ℕ) (a b : AnswerText) → IsNamedAnswer line a → IsNamedAnswer line b → a ≡ b
+
+-- and a line that asks for a task by the words of formats has the same answer
+abbrev pub NamedAnswerIsTheAnswer : Type 0
+NamedAnswerIsTheAnswer = (line : List ℕ) (t : Task) (reply : AnswerText) → Asks line t
+    → IsNamedAnswer line reply ↔ IsAnswer line reply
+
 -- a line that is longer than what is kept of a line is answered like its prefix of that length
 abbrev pub LongIsAnsweredByPrefix : Type 0
-LongIsAnsweredByPrefix = (line : List ℕ) (reply : AnswerText) → kept_length < length line → IsAnswer (take kept_length line) reply ↔ IsAnswer line reply
+LongIsAnsweredByPrefix = (line : List ℕ) (reply : AnswerText) → kept_length < length line
+    → IsAnswer (take kept_length line) reply ↔ IsAnswer line reply
 
 -- without a slash a policy word is the name of a policy, and its mode is NearestEven
 abbrev pub PlainWordNamesNearest : Type 0
-PlainWordNamesNearest = (word : List ℕ) (p : Policy) (m : ReadMode) → count_of slash word ≡ 0 → IsPolicyWord word p m ↔ IsPlainWord word p m
+PlainWordNamesNearest = (word : List ℕ) (p : Policy) (m : ReadMode) → count_of slash word ≡ 0
+    → IsPolicyWord word p m ↔ IsPlainWord word p m
 
 -- so a line whose fourth word holds no slash names its policy by that word alone, and its mode is NearestEven
 abbrev pub PlainLineAsksNearest : Type 0
-PlainLineAsksNearest = (line : List ℕ) (t : Task) (asks : Asks line t) → count_of slash asks.policy_word ≡ 0 → (asks.policy_word ≡ policy_text t.policy) × (t.mode ≡ NearestEven)
+PlainLineAsksNearest = (line : List ℕ) (t : Task) (asks : Asks line t) → count_of slash asks.policy_word ≡ 0
+    → (asks.policy_word ≡ policy_text t.policy) × (t.mode ≡ NearestEven)
 
 -- no fourth word of a line holds a slash; a line that has no fourth word is one of these
 abbrev pub IsPlainLine : List ℕ → Type 0
-IsPlainLine line = (words : List (List ℕ)) (rest : List ℕ) → HasWords line words rest → length words ≡ 4 → count_of slash (get_or words 3 []) ≡ 0
+IsPlainLine line = (words : List (List ℕ)) (rest : List ℕ) → HasWords line words rest → length words ≡ 4
+    → count_of slash (get_or words 3 []) ≡ 0
 
 -- such a line is answered as if there were no mode words
 abbrev pub PlainLineHasThePlainAnswer : Type 0
-PlainLineHasThePlainAnswer = (line : List ℕ) (reply : AnswerText) → IsPlainLine line → IsAnswer line reply ↔ IsPlainAnswer line reply
+PlainLineHasThePlainAnswer = (line : List ℕ) (reply : AnswerText) → IsPlainLine line
+    → IsAnswer line reply ↔ IsPlainAnswer line reply

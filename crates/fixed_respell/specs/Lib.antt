@@ -2,6 +2,7 @@ pub mod Split
 pub mod LineWords
 pub mod Language
 pub mod Words
+pub mod FormatNames
 pub mod SelfMode
 pub mod Reached
 pub mod Answer

@@ -1,6 +1,6 @@
 -- The words of a line.
 use Rattle.std.specs.Prelude.{◌≡◌, ℕ, ◌-◌, ◌⊎◌, Bool, true, false, List, ◌∷◌, ◌++◌, codes, decimal}
-use Rattle.fixed_bits.specs.Formats.{FormatParts, IsFormat}
+use Rattle.fixed_bits.specs.Formats.{FormatParts, IsTypeFormat}
 use Rattle.fixed_bits.specs.declared.format.Policy.{Policy}
 use Rattle.fixed_bits.specs.declared.format.Policy.TheVariants.{Checked, Saturating, Wrapping}
 use Rattle.fixed_bits.specs.declared.mode.ReadMode.{ReadMode}
@@ -28,9 +28,9 @@ fraction_letter = 70
 abbrev pub format_text : FormatParts → List ℕ
 format_text f = sign_letter f.signed ∷ (decimal (f.width - f.frac) ++ fraction_letter ∷ decimal f.frac)
 
--- word is the word of the format f
+-- word is the word of the format f, of as many bits as an integer type
 pub record IsFormatWord (word : List ℕ) (f : FormatParts) : Type 0 where
-  pub format : IsFormat f.width f.frac
+  pub format : IsTypeFormat f.width f.frac
   pub text : word ≡ format_text f
 
 -- the word of a policy

@@ -9,7 +9,7 @@
 
 ghost use Rattle.std.specs.Prelude.{◌≡◌, ◌<◌, ◌≤◌, ◌^◌, ◌*◌, ◌+◌, ℕ, length, get_or, MatchOption};
 ghost use Rattle.std.specs.Simd.Lanes.{number_l};
-ghost use Rattle.fixed_bits.specs.Formats.{IsFormat};
+ghost use Rattle.fixed_bits.specs.Formats.{IsTypeFormat};
 ghost use Rattle.fixed_respell.specs.Inner.FormatKeys.{IsEntry, counts_word, word_key};
 
 /// What a key is multiplied with.
@@ -567,7 +567,7 @@ pub(crate) fn key_of(word: &[u8]) -> u64
 #[inline(always)]
 fn entry_at(key: u64) -> u64
     ensures sound { 0 < result → IsEntry result }
-    ensures whole { (width frac : ℕ) → IsFormat width frac → key ≡ word_key (counts_word width frac) → result ≡ key + frac * 2 ^ 48 + width * 2 ^ 56 }
+    ensures whole { (width frac : ℕ) → IsTypeFormat width frac → key ≡ word_key (counts_word width frac) → result ≡ key + frac * 2 ^ 48 + width * 2 ^ 56 }
 {
     FORMATS[(key.wrapping_mul(MULTIPLIER) >> 55) as usize]
 }
@@ -577,7 +577,7 @@ fn entry_at(key: u64) -> u64
 pub(crate) fn counts_of_key(key: u64) -> Option<(u32, u32)>
     requires some { 0 < key }
     requires most { key < 2 ^ 48 }
-    ensures { MatchOption result ((width frac : ℕ) → IsFormat width frac → key ≡ word_key (counts_word width frac) → ⊥) (λ r. IsFormat r.0 r.1 × (key ≡ word_key (counts_word r.0 r.1))) }
+    ensures { MatchOption result ((width frac : ℕ) → IsTypeFormat width frac → key ≡ word_key (counts_word width frac) → ⊥) (λ r. IsTypeFormat r.0 r.1 × (key ≡ word_key (counts_word r.0 r.1))) }
 {
     let entry = entry_at(key);
     if entry % (1 << 48) == key {

@@ -2,7 +2,18 @@
 
 ghost use Rattle.std.specs.Prelude.{pos, negsuc, true, false, codes};
 ghost use Rattle.fixed_respell.specs.Answer.{IsAnswer};
-ghost use Rattle.fixed_respell.specs.AnswerLaws.{AnswerIsTheOne, FormatWordIsTheOne, LongIsAnsweredByPrefix, PlainLineAsksNearest, PlainLineHasThePlainAnswer, PlainWordNamesNearest};
+ghost use Rattle.fixed_respell.specs.AnswerLaws.{
+  AnswerIsTheOne,
+  FormatNameIsTheOne,
+  FormatWordIsAName,
+  FormatWordIsTheOne,
+  LongIsAnsweredByPrefix,
+  NamedAnswerIsTheAnswer,
+  NamedAnswerIsTheOne,
+  PlainLineAsksNearest,
+  PlainLineHasThePlainAnswer,
+  PlainWordNamesNearest,
+};
 ghost use Rattle.fixed_bits.specs.declared.format.Policy.TheVariants.{Checked, Saturating, Wrapping};
 ghost use Rattle.fixed_bits.specs.declared.mode.ReadMode.TheVariants.{NearestEven, Floor, Ceil, TowardsZero};
 ghost use Rattle.fixed_numeral.specs.declared.radix.Radix.TheVariants.{Bin, Oct, Dec, Hex};
@@ -86,9 +97,29 @@ pub fn format_word_is_the_one()
     ensures { FormatWordIsTheOne }
 {}
 
+/// A word names one format at most. So `format_named` of what `format_name` answers is that very format, of any width.
+pub fn format_name_is_the_one()
+    ensures { FormatNameIsTheOne }
+{}
+
+/// The word of a format, by which the programs of lines know it, is a name of it.
+pub fn format_word_is_a_name()
+    ensures { FormatWordIsAName }
+{}
+
 /// A line has at most one answer.
 pub fn answer_is_the_one()
     ensures { AnswerIsTheOne }
+{}
+
+/// A line has at most one answer where formats are of any width and have any of their names.
+pub fn named_answer_is_the_one()
+    ensures { NamedAnswerIsTheOne }
+{}
+
+/// A line that asks for something by the words of formats is answered the same where formats have any of their names.
+pub fn named_answer_is_the_answer()
+    ensures { NamedAnswerIsTheAnswer }
 {}
 
 /// A line that is longer than what is kept of a line is answered like its prefix of that length.

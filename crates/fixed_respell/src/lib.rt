@@ -6,6 +6,7 @@ pub mod answering;
 mod command;
 pub mod fault;
 mod fields;
+mod format_names;
 mod format_table;
 pub mod laws;
 pub mod program;
@@ -17,6 +18,7 @@ pub mod words;
 
 pub use answering::{answer, push_fault, push_respelled, push_verdict};
 pub use fault::LineFault;
+pub use format_names::format_named;
 pub use line_engine::{
     Answer, Failed, LineRule, MemorySink, MemorySource, Sink, Source, Status, run_lines,
 };

@@ -1,12 +1,14 @@
 //! The words of a line: radix, format, policy and mode.
 
 ghost use Rattle.std.specs.Prelude.{◌≡◌, ◌↔◌, ◌≤◌, ◌+◌, ◌/◌, ◌%◌, ◌++◌, length, Bool, IsTrue, MatchOption, decimal};
-ghost use Rattle.fixed_bits.specs.Formats.{FormatParts};
+ghost use Rattle.fixed_bits.specs.Formats.{FormatParts, IsTypeFormat};
 ghost use Rattle.fixed_bits.specs.declared.format.Policy.{Policy};
 ghost use Rattle.fixed_bits.specs.declared.mode.ReadMode.{ReadMode};
 ghost use Rattle.fixed_numeral.specs.declared.radix.Radix.{Radix};
 ghost use Rattle.fixed_respell.specs.Inner.Places.{HasBytes, IsBothNames, policy_of_place, radix_of_place};
-ghost use Rattle.fixed_respell.specs.Words.{IsFormatWord, IsPolicyWord, mode_text, policy_text, radix_text};
+ghost use Rattle.fixed_respell.specs.FormatNames.{IsFormatName};
+ghost use Rattle.fixed_respell.specs.Words.{IsFormatWord, IsPolicyWord, format_text};
+ghost use Rattle.fixed_respell.specs.Words.{mode_text, policy_text, radix_text};
 ghost use Rattle.fixed_respell.specs.Words.{sign_letter};
 
 use crate::format_table::{counts_of_key, four_bytes, key_of};
@@ -234,9 +236,11 @@ fn push_count(bytes: &mut ArrayVec<u8, 8>, count: u32)
         .unwrap();
 }
 
-/// The word of a format.
+/// The word of a format, of any width.
 pub fn format_name(format: Format) -> FormatName
-    ensures { IsFormatWord result format }
+    ensures text { result ≡ format_text format }
+    ensures name { IsFormatName result format }
+    ensures word { IsTypeFormat format.width format.frac → IsFormatWord result format }
 {
     let width = format.width();
     let frac = format.frac();

@@ -9,3 +9,5 @@ pub mod ErrorLemmas
 pub mod DifferenceLemmas
 pub mod BoundLemmas
 pub mod BoundedLemmas
+pub mod WordLawLemmas
+pub mod Public

@@ -1,17 +1,25 @@
 -- Digits with underscores.
-use Rattle.std.proofs.Common.{◌≡◌, ⊎_elim, ℕ, ◌+◌, ◌*◌, ◌<◌, ◌≤◌, List, [], ◌∷◌, ◌++◌, length, take, drop, get_or, min, ap, sym, subst, ◌∙◌, arith, length-append, take-append-drop}
+use Rattle.std.proofs.Common.{◌≡◌, ◌==◌, ◌^◌, ⊎_elim, inl, inr, ℕ, ℤ, pos, ◌+◌, ◌*◌, ◌<◌, ◌≤◌, Bool, true, false, true≢false, if◌then◌else◌, refl, List, [], ◌∷◌, ◌++◌, length, take, drop, get_or, min, ap, sym, subst, ◌∙◌, arith, length-append, take-append-drop}
 use Rattle.std.proofs.Math.Nat.{mul-le-mul_right}
 use Rattle.std.proofs.lemmas.Bool.{cases_lt}
 use Rattle.std.proofs.lemmas.Bool.Decides.{nat_tests}
 use Rattle.std.proofs.lemmas.List.{take_more, drop_more, append-nil}
 use Rattle.std.proofs.lemmas.Int.Digits.{digits_value_push}
+use Rattle.std.proofs.lemmas.Int.{ints}
 use Rattle.std.specs.Char.{digit_value}
 use Rattle.std.specs.Str.Parse.{AllDigits, digits_value}
+use Rattle.fixed_bits.proofs.Public.{ends_wide}
+use Rattle.fixed_bits.specs.Formats.{FormatParts}
+use Rattle.fixed_bits.specs.Images.{IsWrapped}
+use Rattle.fixed_bits.specs.Numbers.{with_sign}
+use Rattle.fixed_bits.specs.Ranges.{IsInRange, IsOutOfRange, IsWide, greatest, lowest}
 use Rattle.fixed_numeral.proofs.Public.{without_append}
 use Rattle.fixed_numeral.specs.Numeral.{base}
 use Rattle.fixed_numeral.specs.declared.radix.Radix.{Radix}
 use Rattle.fixed_numeral.specs.declared.radix.Radix.TheVariants.{Bin, Oct, Dec, Hex}
 use Rattle.fixed_numeral.specs.Literal.{without_underscores}
+use Rattle.fixed_show.specs.Inner.Words.{IsCutOff}
+use Rattle.fixed_show.specs.WordText.{IsOutside, IsWord, has_minus, has_sign, without_sign}
 
 -- a number that is cut off, with one more digit
 pub cut_off : (v b d c : ℕ) → 0 < b → min (min v c * b + d) c ≡ min (v * b + d) c
@@ -89,3 +97,52 @@ base_some Bin = omega arith
 base_some Oct = omega arith
 base_some Dec = omega arith
 base_some Hex = omega arith
+
+-- ---- words of a format
+-- a number below 2^64 that was cut off there is whole
+uncut : (number c : ℕ) → c ≡ min number 18446744073709551616 → c < 18446744073709551616 → number ≡ c
+uncut number c cut small = omega (arith, cut, small)
+
+pub plain_is : (bare : Radix) (f : FormatParts) (text : List ℕ) (c limit : ℕ) (v : ℤ) → has_sign text ≡ false → IsCutOff bare text c → limit ≡ 2 ^ f.width → limit ≤ 18446744073709551616 → c < limit → IsWrapped f.signed f.width (pos c) v → IsWord bare f text v
+plain_is bare f text c limit v plain is limit_is most below wrapped =
+    let same : is.number ≡ c = uncut is.number c is.cut (omega (arith, most, below)) in
+    inl (record {
+      plain = plain;
+      word = is.number;
+      spells = is.spells;
+      fits = omega (arith, same, below, limit_is);
+      is = subst (λ n. IsWrapped f.signed f.width (pos n) v) (sym same) wrapped;
+    })
+
+pub sign_rest : (text : List ℕ) → has_sign text ≡ true → without_sign text ≡ drop 1 text
+sign_rest [] signed = refl
+sign_rest (b ∷ bs) signed = ap (λ t. if t then bs else b ∷ bs) signed
+
+pub minus_is : (text : List ℕ) → has_sign text ≡ true → (get_or text 0 0 == 45) ≡ has_minus text
+minus_is [] signed = absurd (true≢false (sym signed))
+minus_is (b ∷ bs) signed = refl
+
+small_size : (negative : Bool) (c : ℕ) → IsWide (with_sign negative c) → c < 18446744073709551616
+small_size true c wide = omega (arith, ints, wide.low)
+small_size false c wide = omega (arith, ints, wide.high)
+
+pub signed_is : (bare : Radix) (f : FormatParts) (text : List ℕ) (c : ℕ) (v : ℤ) → has_sign text ≡ true → IsCutOff bare (without_sign text) c → v ≡ with_sign (has_minus text) c → IsInRange f.signed f.width v → IsWide v → IsWord bare f text v
+signed_is bare f text c v signed is value range wide =
+    let small : c < 18446744073709551616 = small_size (has_minus text) c (subst IsWide value wide) in
+    let same : is.number ≡ c = uncut is.number c is.cut small in
+    inr (record { signed = signed; size = is.number; spells = is.spells; is = value ∙ ap (with_sign (has_minus text)) (sym same); in_range = range })
+
+huge_out : (negative signed : Bool) (n number : ℕ) → IsWide (lowest signed n) → IsWide (greatest signed n) → 18446744073709551616 ≤ number → IsOutOfRange signed n (with_sign negative number)
+huge_out true signed n number low high huge = inl (omega (arith, ints, low.low, huge))
+huge_out false signed n number low high huge = inr (omega (arith, ints, high.high, huge))
+
+pub outside_is : (bare : Radix) (f : FormatParts) (text : List ℕ) (c : ℕ) (v : ℤ) → f.width ≤ 64 → has_sign text ≡ true → IsCutOff bare (without_sign text) c → v ≡ with_sign (has_minus text) c → IsOutOfRange f.signed f.width v → IsOutside bare f text
+outside_is bare f text c v most signed is value out =
+    let wide = ends_wide f.signed f.width most in
+    let size_out : IsOutOfRange f.signed f.width (with_sign (has_minus text) is.number) = ⊎_elim
+    (λ (small : is.number < 18446744073709551616).
+    let same : is.number ≡ c = omega (arith, is.cut, small) in
+    subst (λ z. IsOutOfRange f.signed f.width z) (value ∙ ap (with_sign (has_minus text)) (sym same)) out)
+    (λ (huge : 18446744073709551616 ≤ is.number). huge_out (has_minus text) f.signed f.width is.number wide.0 wide.1 huge)
+    (cases_lt is.number 18446744073709551616) in
+    record { signed = signed; size = is.number; spells = is.spells; out = size_out }

@@ -1,5 +1,5 @@
 -- Blocks of lines, and the texts that their lines hold.
-use Rattle.std.specs.Prelude.{◌≡◌, ℕ, ◌≤◌, ◌/◌, List, [], ◌∷◌, ◌++◌, ℤ, pos, false, length, codes}
+use Rattle.std.specs.Prelude.{◌≡◌, ℕ, ◌+◌, ◌≤◌, ◌/◌, List, [], ◌∷◌, ◌++◌, ℤ, pos, false, length, codes}
 use Rattle.fixed_bits.specs.Images.{IsWrapped}
 use Rattle.fixed_write.specs.Texts.{last_digits}
 
@@ -18,9 +18,9 @@ pub record Appends (Is : List ℕ → Type 0) (most : ℕ) (before after : List 
   pub appended : after ≡ before ++ text
   pub short : length text ≤ most
 
--- `0x` and n bits, four to a digit
+-- `0x` and n bits, four to a digit, from the last one on
 unfoldable pub hex_text : ℕ → ℕ → List ℕ
-hex_text n word = codes "0x" ++ last_digits 16 false (n / 4) word
+hex_text n word = codes "0x" ++ last_digits 16 false ((n + 3) / 4) word
 
 -- text is the n bits of v in two's complement, in hexadecimal
 pub record IsHexText (n : ℕ) (v : ℤ) (text : List ℕ) : Type 0 where

@@ -3,7 +3,7 @@ use Rattle.std.specs.Prelude.{◌≡◌, ℕ, ◌+◌, ◌-◌, ◌*◌, ◌^◌
 use Rattle.std.specs.Fmt.{signed_decimal}
 use Rattle.fixed_bits.specs.Formats.{FormatParts}
 use Rattle.fixed_bits.specs.Ranges.{lowest, greatest}
-use Rattle.fixed_respell.specs.Words.{IsFormatWord}
+use Rattle.fixed_respell.specs.Words.{format_text}
 use Rattle.fixed_write.specs.Places.{IsExactText}
 use Rattle.fixed_write.specs.Shortest.{ReadsBack, IsShortest}
 use Rattle.fixed_write.specs.Texts.{IsShortestText}
@@ -35,7 +35,7 @@ digits_text whole places = signed_decimal (pos whole) ++ (codes " before the poi
 -- block says the word, the ends and the ulp of a format, how many digits survive, and the shortest texts of the ends
 pub record IsFormatBlock (f : FormatParts) (block : List ℕ) : Type 0 where
   pub word : List ℕ
-  pub is_word : IsFormatWord word f
+  pub is_word : word ≡ format_text f
   pub least : List ℕ
   pub is_least : IsExactText 10 false (lowest f.signed f.width) f.frac least
   pub most : List ℕ

@@ -3,3 +3,4 @@ pub mod Lines
 pub mod Naturals
 pub mod Decimals
 pub mod Errors
+pub mod Words

@@ -1,6 +1,7 @@
 //! What number the bits of a register are.
 
-ghost use Rattle.std.specs.Prelude.{◌≡◌, ◌+◌, ◌-◌, ◌*◌, ◌≤◌, ◌<◌, ◌^◌, ◌/◌, ◌++◌, false, pos, length, codes, IsTrue, ◌↔◌};
+ghost use Rattle.std.specs.Prelude.{◌≡◌, ◌+◌, ◌-◌, ◌*◌, ◌≤◌, ◌<◌, ◌^◌, ◌/◌, ◌++◌, false, pos, length, codes, IsTrue};
+ghost use Rattle.std.specs.Prelude.{◌↔◌};
 ghost use Rattle.fixed_bits.specs.Images.{IsWrapped};
 ghost use Rattle.fixed_bits.specs.Ranges.{IsWide};
 ghost use Rattle.fixed_show.specs.Blocks.{Appends, hex_text, line};
@@ -12,6 +13,7 @@ use crate::lines::{
 };
 use crate::words::read_word;
 use fixed_bits::{Format, Policy};
+use fixed_numeral::Radix;
 use fixed_steps::Steps;
 use std::sync::ledger::Ledger;
 use text_buffer::TextBuffer;
@@ -20,16 +22,8 @@ use text_buffer::TextBuffer;
 fn word_of(bits: i128, format: Format) -> u64
     ensures { IsWrapped false format.width bits (pos result) }
 {
-    let words = Format::new(false, format.width(), 0).unwrap();
+    let words = Format::of(false, format.width(), 0);
     Policy::Wrapping.image(words, bits).unwrap() as u64
-}
-
-/// The bits of a format that a word is in two's complement.
-fn bits_of(word: u64, format: Format) -> i128
-    ensures image { IsWrapped format.signed format.width (pos word) result }
-    ensures wide { IsWide result }
-{
-    Policy::Wrapping.image(format, i128::from(word)).unwrap()
 }
 
 /// Appends the line of a word in hexadecimal.
@@ -40,7 +34,7 @@ fn push_hex_line<const N: usize>(out: &mut TextBuffer<N>, word: u64, width: u32)
     ensures short { length out.new ≤ length out.old + 29 }
 {
     out.push_bytes(b"hex       0x");
-    push_hex_digits(out, word, width / 4);
+    push_hex_digits(out, word, (width + 3) / 4);
     out.push(b'\n');
 }
 
@@ -52,7 +46,8 @@ fn width_of(format: Format) -> u32
     format.width()
 }
 
-/// Appends the lines of bits in a format: the shortest text, the bits in decimal and in hexadecimal, and the exact value.
+/// Appends the lines of bits in a format: the shortest text, the bits in decimal and in hexadecimal, and the exact
+/// value.
 pub(crate) fn push_value_lines<const N: usize, L: Ledger>(
     out: &mut TextBuffer<N>,
     bits: i128,
@@ -71,22 +66,26 @@ pub(crate) fn push_value_lines<const N: usize, L: Ledger>(
     push_exact_line(out, b"value     ", bits, frac);
 }
 
-/// Appends the block of a word in a format: the shortest text of the number that it is in two's complement, the bits in
-/// decimal and in hexadecimal, and the exact value. A text that is no word of the format is answered by one line `error: `
-/// and why. Answers whether it was. There must be room for `MAX_BLOCK` bytes. It takes at most 48 steps.
+/// Appends the block of a word in a format: the shortest text of the number that it is, the bits in decimal and in
+/// hexadecimal, and the exact value. A word without a prefix is in the radix `bare`. A text that is no word of the
+/// format is
+/// answered by one line `error: ` and why. Answers whether it was. There must be room for `MAX_BLOCK` bytes. It takes
+/// at
+/// most 48 steps.
 pub fn bits_block<const N: usize, L: Ledger>(
     text: &[u8],
+    bare: Radix,
     format: Format,
     out: &mut TextBuffer<N>,
     steps: &mut Steps<L>,
 ) -> bool
     requires room { length out.old + MAX_BLOCK ≤ N }
-    ensures block { Appends (IsBitsBlock format text.now result) MAX_BLOCK out.old out.new }
+    ensures block { Appends (IsBitsBlock bare format text.now result) MAX_BLOCK out.old out.new }
     ensures cost { steps.new ≤ steps.old + 48 }
 {
-    match read_word(text, width_of(format)) {
-        Ok(word) => {
-            push_value_lines(out, bits_of(word, format), format, steps);
+    match read_word(text, bare, format) {
+        Ok(bits) => {
+            push_value_lines(out, bits, format, steps);
             false
         }
         Err(fault) => {

@@ -2,10 +2,22 @@
 
 ghost use Rattle.fixed_show.specs.ErrorText.{BoundPowerIsTheOne};
 ghost use Rattle.fixed_show.specs.FormatBlock.{FormatBlockIsTheOne, PlacesSurvive};
+ghost use Rattle.fixed_show.specs.WordLaws.{WordFaultIsTheOne, WordHasNoFault, WordIsTheOne};
 
 /// A decimal with no more digits after the point than the block of a format says survives reading and printing.
 pub fn places_survive()
     ensures { PlacesSurvive }
+{}
+
+/// A text is at most one number as a word of a format.
+pub fn word_is_the_one()
+    ensures { WordIsTheOne }
+{}
+
+/// A text is refused as a word for one fault at most, and never where it is one.
+pub fn word_fault_is_the_one()
+    ensures one { WordFaultIsTheOne }
+    ensures none { WordHasNoFault }
 {}
 
 /// The bound of an error that is too long to write is one power of ten.

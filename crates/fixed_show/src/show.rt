@@ -23,9 +23,11 @@ use text_buffer::TextBuffer;
 
 /// The bits that a numeral is read as, and whether the read number was out of the format's range.
 #[derive(Drop)]
-struct Shown {
-    bits: i128,
-    overflowed: bool,
+pub struct Shown {
+    /// The bits.
+    pub bits: i128,
+    /// Whether the read number was out of range.
+    pub overflowed: bool,
 }
 
 /// Reads a numeral into a format.
@@ -33,7 +35,7 @@ struct Shown {
 /// # Errors
 ///
 /// Other bytes are refused with the kind of their cause, and under `Checked` a read number out of range as `Overflow`.
-fn read_shown<L: Ledger>(
+pub fn read_shown<L: Ledger>(
     text: &[u8],
     radix: Radix,
     format: Format,
@@ -44,7 +46,7 @@ fn read_shown<L: Ledger>(
     ensures read { IfOk result (λ s. IsReadAs mode radix text.now format policy s.bits s.overflowed) }
     ensures wide { IfOk result (λ s. IsWide s.bits) }
     ensures unread { IfErr result (λ kind. IsUnread mode radix text.now format policy kind) }
-    ensures cost { steps.new ≤ steps.old + 8 * (length text.now + format.width) + 64 }
+    ensures cost { steps.new ≤ steps.old + 8 * length text.now + 128 }
 {
     let found = match read_format(text, radix, format, mode, steps) {
         Ok(found) => found,

@@ -1,13 +1,21 @@
 //! Words: the bits of a register, as a person writes them.
 
-ghost use Rattle.std.specs.Prelude.{◌≡◌, ◌+◌, ◌*◌, ◌^◌, ◌≤◌, ◌<◌, ◌↔◌, IsTrue, [], true, MatchOption, MatchResult, length, min};
+ghost use Rattle.std.specs.Prelude.{◌≡◌, ◌⊎◌, ◌+◌, ◌*◌, ◌^◌, ◌≤◌, ◌<◌, ◌↔◌, IsTrue, ℕ, pos, [], true, false, IfOk};
+ghost use Rattle.std.specs.Prelude.{MatchOption, MatchResult, length, min};
 ghost use Rattle.std.specs.Char.{digit_value};
 ghost use Rattle.std.specs.Str.Parse.{AllDigits, digits_value};
+ghost use Rattle.fixed_bits.specs.Images.{IsWrapped};
+ghost use Rattle.fixed_bits.specs.Numbers.{with_sign};
+ghost use Rattle.fixed_bits.specs.Ranges.{IsInRange, IsOutOfRange, IsWide};
 ghost use Rattle.fixed_numeral.specs.Literal.{without_underscores};
 ghost use Rattle.fixed_numeral.specs.Numeral.{base};
-ghost use Rattle.fixed_show.specs.WordText.{HasWordFault, IsWordText, word_radix, after_prefix, begins_with_underscore};
+ghost use Rattle.fixed_show.specs.WordText.{HasWordFault, IsWord, IsWordText, after_prefix, begins_with_underscore};
+ghost use Rattle.fixed_show.specs.WordText.{has_minus, has_sign, letter_radix, prefix_radix, without_sign};
+ghost use Rattle.fixed_show.specs.WordText.{word_digits, word_radix};
 ghost use Rattle.fixed_show.specs.BitsBlock.{fault_message};
+ghost use Rattle.fixed_show.specs.Inner.Words.{IsCutOff, IsUnspelled};
 
+use fixed_bits::{Format, Policy};
 use fixed_numeral::Radix;
 
 /// Why a text is no word of a format.
@@ -21,35 +29,49 @@ pub enum WordFault {
     NoDigits,
     /// The word has more bits than the format.
     TooWide,
+    /// With its sign the number is out of the format's range.
+    OutOfRange,
 }
 
 impl WordFault {
     /// The message of the fault.
     pub fn message(self) -> &'static str
-        ensures { result.now ≡ fault_message self }
+        ensures message { result.now ≡ fault_message self }
+        ensures short { length result.now ≤ 64 }
     {
         match self {
             WordFault::MisplacedUnderscore => "misplaced underscore found in string",
             WordFault::InvalidDigit => "invalid digit found in string",
             WordFault::NoDigits => "string has no digits",
             WordFault::TooWide => "word is wider than the format",
+            WordFault::OutOfRange => "number is out of the format's range",
         }
     }
 }
 
-/// The radix of a word, and the bytes after its prefix.
-fn split_prefix(text: &[u8]) -> (Radix, &[u8])
-    ensures radix { result.0 ≡ word_radix text.now }
-    ensures rest { result.1.now ≡ after_prefix text.now }
+/// The radix that a letter after a zero names, where digits without a prefix are in the radix `bare`.
+fn letter_radix(letter: u8, bare: Radix) -> Option<Radix>
+    ensures { result ≡ letter_radix bare letter }
+{
+    match letter {
+        b'x' | b'X' => Some(Radix::Hex),
+        b'o' | b'O' => Some(Radix::Oct),
+        b'b' | b'B' if bare != Radix::Hex => Some(Radix::Bin),
+        _ => None,
+    }
+}
+
+/// The radix of a word's digits, and the bytes after its prefix.
+fn split_prefix(text: &[u8], bare: Radix) -> (Radix, &[u8])
+    ensures radix { result.0 ≡ word_radix bare text.now }
+    ensures rest { result.1.now ≡ after_prefix bare text.now }
 {
     if text.len() < 2 || text[0] != b'0' {
-        return (Radix::Dec, text);
+        return (bare, text);
     }
-    match text[1] {
-        b'b' => (Radix::Bin, &text[2..]),
-        b'o' => (Radix::Oct, &text[2..]),
-        b'x' => (Radix::Hex, &text[2..]),
-        _ => (Radix::Dec, text),
+    match letter_radix(text[1], bare) {
+        Some(radix) => (radix, &text[2..]),
+        None => (bare, text),
     }
 }
 
@@ -86,7 +108,8 @@ fn with_digit(number: u128, base: u32, digit: u8) -> u128
 /// What digits with underscores spell, cut off at `LIMIT`. None where a byte is neither.
 fn digits_number(bytes: &[u8], radix: Radix) -> Option<u128>
     ensures { MatchOption result (¬ AllDigits (base radix) (without_underscores bytes.now))
-        (λ n. AllDigits (base radix) (without_underscores bytes.now) × (n ≡ min (digits_value (base radix) (without_underscores bytes.now)) LIMIT)) }
+        (λ n. AllDigits (base radix) (without_underscores bytes.now) × (n ≡ min (digits_value (base radix)
+        (without_underscores bytes.now)) LIMIT)) }
 {
     let mut number = 0;
     for byte in bytes {
@@ -112,28 +135,106 @@ fn has_digit(bytes: &[u8]) -> bool
     false
 }
 
-/// The number that a text spells as a word of at most `width` bits: digits with underscores, in radix 2, 8 or 16 after `0b`,
-/// `0o` or `0x`, else in radix 10.
-///
-/// # Errors
-///
-/// A text that begins with an underscore, has another byte, has no digit, or spells more than `width` bits.
-pub fn read_word(text: &[u8], width: u32) -> Result<u64, WordFault>
-    requires { width ≤ 64 }
-    ensures word { MatchResult result (λ n. IsWordText text.now n × (n < 2 ^ width)) (λ fault. HasWordFault width text.now fault) }
+/// What a text without a sign spells, cut off at `LIMIT`.
+fn spelled_number(text: &[u8], bare: Radix) -> Result<u128, WordFault>
+    ensures { MatchResult result (IsCutOff bare text.now) (IsUnspelled bare text.now) }
 {
     if text.len() > 0 && text[0] == b'_' {
         return Err(WordFault::MisplacedUnderscore);
     }
-    let (radix, rest) = split_prefix(text);
+    let (radix, rest) = split_prefix(text, bare);
     let Some(number) = digits_number(rest, radix) else {
         return Err(WordFault::InvalidDigit);
     };
-    if !has_digit(rest) {
-        return Err(WordFault::NoDigits);
+    if has_digit(rest) {
+        Ok(number)
+    } else {
+        Err(WordFault::NoDigits)
     }
-    if number >= 1 << width {
+}
+
+/// The number that a word without a sign is in two's complement.
+fn read_plain(text: &[u8], bare: Radix, format: Format) -> Result<i128, WordFault>
+    requires { has_sign text.now ≡ false }
+    ensures word { MatchResult result (IsWord bare format text.now) (HasWordFault bare format text.now) }
+    ensures wide { IfOk result IsWide }
+{
+    let number = spelled_number(text, bare)?;
+    if number >= words_of(format) {
         return Err(WordFault::TooWide);
     }
-    Ok(number as u64)
+    Ok(bits_of(number as u64, format))
+}
+
+/// How many words a format has.
+fn words_of(format: Format) -> u128
+    ensures count { result ≡ 2 ^ format.width }
+    ensures most { result ≤ LIMIT }
+    ensures width { format.width ≤ 64 }
+{
+    1 << format.width()
+}
+
+/// The bits of a format that a word is in two's complement.
+fn bits_of(word: u64, format: Format) -> i128
+    ensures image { IsWrapped format.signed format.width (pos word) result }
+    ensures wide { IsWide result }
+{
+    Policy::Wrapping.image(format, i128::from(word)).unwrap()
+}
+
+/// The number with that sign of a word whose sign is taken off.
+fn read_signed(text: &[u8], bare: Radix, format: Format) -> Result<i128, WordFault>
+    requires { has_sign text.now ≡ true }
+    ensures word { MatchResult result (IsWord bare format text.now) (HasWordFault bare format text.now) }
+    ensures wide { IfOk result IsWide }
+{
+    let size = spelled_number(&text[1..], bare)?;
+    let number = signed(text[0] == b'-', size);
+    let _words = words_of(format);
+    if format.contains(number) {
+        Ok(number)
+    } else {
+        Err(WordFault::OutOfRange)
+    }
+}
+
+/// A size with a sign.
+fn signed(negative: bool, size: u128) -> i128
+    requires { size ≤ LIMIT }
+    ensures { result ≡ with_sign negative size }
+{
+    if negative {
+        -(size as i128)
+    } else {
+        size as i128
+    }
+}
+
+/// Whether a text begins with a sign.
+fn has_sign(text: &[u8]) -> bool
+    ensures { result ≡ has_sign text.now }
+{
+    text.len() > 0 && (text[0] == b'+' || text[0] == b'-')
+}
+
+/// The number that a text is as a word of a format: digits with underscores, in radix 2, 8 or 16 after `0b`, `0o` or
+/// `0x`
+/// in either case, else in the radix `bare`, where a `b` after a zero is a digit if that is 16. Without a sign it is
+/// a word
+/// of at most the format's width in two's complement, and with one the number itself.
+///
+/// # Errors
+///
+/// A text whose digits begin with an underscore, that has another byte, has no digit, spells more than the format's
+/// width, or with its sign a number that is out of the format's range.
+pub fn read_word(text: &[u8], bare: Radix, format: Format) -> Result<i128, WordFault>
+    ensures word { MatchResult result (IsWord bare format text.now) (HasWordFault bare format text.now) }
+    ensures wide { IfOk result IsWide }
+{
+    if has_sign(text) {
+        read_signed(text, bare, format)
+    } else {
+        read_plain(text, bare, format)
+    }
 }

@@ -20,6 +20,31 @@ fn a_format_has_a_width_of_four_and_no_more_fraction_bits(rt: HostRuntime) {
     }
 }
 
+#[test]
+fn any_width_from_1_to_64_makes_a_format(rt: HostRuntime) {
+    for (signed, width, frac, ends) in [
+        (true, 1, 0, (-1, 0)),
+        (true, 1, 1, (-1, 0)),
+        (false, 1, 1, (0, 1)),
+        (true, 18, 17, (-131_072, 131_071)),
+        (false, 24, 24, (0, 16_777_215)),
+        (true, 48, 31, (-140_737_488_355_328, 140_737_488_355_327)),
+        (false, 63, 0, (0, 9_223_372_036_854_775_807)),
+        (false, 64, 64, (0, 18_446_744_073_709_551_615)),
+    ] {
+        match Format::of_any_width(signed, width, frac) {
+            Some(format) => {
+                assert!(rt; (format.lowest(), format.greatest()) == ends, "{width}");
+                assert!(rt; format.rank().is_some() == (width == 64), "{width}");
+            }
+            None => assert!(rt; false, "{width}"),
+        }
+    }
+    assert!(rt; Format::of_any_width(true, 0, 0).is_none());
+    assert!(rt; Format::of_any_width(false, 65, 0).is_none());
+    assert!(rt; Format::of_any_width(true, 12, 13).is_none());
+}
+
 /// The sign rule, width and fraction length of the format with a rank, and its ends.
 type Row = (usize, (bool, u32, u32), (i128, i128));
 
@@ -44,7 +69,7 @@ fn formats_are_ordered_by_width_then_sign_then_fraction(rt: HostRuntime) {
     for (rank, parts, ends) in rows {
         match format_at(rank) {
             Some(format) => {
-                assert!(rt; format.rank() == rank);
+                assert!(rt; format.rank() == Some(rank));
                 assert!(rt;
                     (format.signed(), format.width(), format.frac()) == parts,
                     "{rank}"

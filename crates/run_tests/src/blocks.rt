@@ -69,7 +69,13 @@ fn block_over<L: Ledger>(case: &Case, blank: Blank) -> TextBuffer<MAX_BLOCK>
     let mut out: TextBuffer<MAX_BLOCK> = TextBuffer::new();
     if let Some(format) = format_word(case.format.as_bytes()) {
         if !case.word.is_empty() {
-            let _refused = bits_block(case.word.as_bytes(), format, &mut out, &mut steps);
+            let _refused = bits_block(
+                case.word.as_bytes(),
+                Radix::Dec,
+                format,
+                &mut out,
+                &mut steps,
+            );
         } else if !case.numeral.is_empty() {
             let _refused = show_block(
                 case.numeral.as_bytes(),
@@ -146,6 +152,21 @@ fn each_word_has_its_block(rt: HostRuntime) {
             "error: word is wider than the format\n",
         ),
         of_word("U4F4", "0o38", "error: invalid digit found in string\n"),
+        of_word(
+            "I8F8",
+            "-384",
+            "text      -1.5\nbits      -384\nhex       0xfe80\nvalue     -1.5\n",
+        ),
+        of_word(
+            "I8F8",
+            "0XFE80",
+            "text      -1.5\nbits      -384\nhex       0xfe80\nvalue     -1.5\n",
+        ),
+        of_word(
+            "I4F4",
+            "+128",
+            "error: number is out of the format's range\n",
+        ),
         of_word("U4F4", "0x_", "error: string has no digits\n"),
         of_word(
             "U4F4",

@@ -83,6 +83,14 @@ const FORMAT_AND_REFUSED: &str = "\
     shortest  -0.5 to 0.496\n\
     error: bad format\n";
 
+/// The question about a word of a format, whose digits are decimal without a prefix.
+fn bits(format: Format) -> Question {
+    Question::Bits {
+        radix: Radix::Dec,
+        format,
+    }
+}
+
 #[test]
 fn each_word_has_its_block(rt: HostRuntime) -> Result<(), Fail> {
     let cases = [
@@ -94,14 +102,14 @@ fn each_word_has_its_block(rt: HostRuntime) -> Result<(), Fail> {
             status: Status::Faults,
         },
         Asked {
-            question: Question::Bits(Format::of(true, 32, 16)),
+            question: bits(Format::of(true, 32, 16)),
             words: &["0xfffc0000"],
             failing_write: NEVER,
             written: "text      -4\nbits      -262144\nhex       0xfffc0000\nvalue     -4\n",
             status: Status::Done,
         },
         Asked {
-            question: Question::Bits(Format::of(false, 8, 0)),
+            question: bits(Format::of(false, 8, 0)),
             words: &["256", "255"],
             failing_write: NEVER,
             written: "error: word is wider than the format\ntext      255\nbits      255\nhex       0xff\nvalue     255\n",
@@ -122,7 +130,7 @@ fn each_word_has_its_block(rt: HostRuntime) -> Result<(), Fail> {
 #[test]
 fn a_failing_write_keeps_the_blocks_before_it(rt: HostRuntime) -> Result<(), Fail> {
     let cases = [Asked {
-        question: Question::Bits(Format::of(false, 8, 0)),
+        question: bits(Format::of(false, 8, 0)),
         words: &["256", "255"],
         failing_write: 1,
         written: "error: word is wider than the format\n",

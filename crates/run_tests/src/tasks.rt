@@ -2,7 +2,7 @@
 
 use fixed_bits::{Format, Policy, ReadMode};
 use fixed_command::{
-    ConvertRule, Limit, Places, Print, Settings, Task, Watch, greater_end, run_task,
+    ConvertRule, Limit, Places, Print, Settings, Spelling, Task, Watch, greater_end, run_task,
 };
 use fixed_constants::{Form, FormRule};
 use fixed_numeral::Radix;
@@ -95,12 +95,28 @@ fn expect_runs(rt: &impl Abort, alloc: Global, cases: &[Case<'_>]) -> Result<(),
 /// The task of a conversion from I16F16 to I8F8 with this policy and mode, of whose answers this part is written.
 fn converting(policy: Policy, mode: ReadMode, print: Print) -> Task<'static> {
     Task::Convert(ConvertRule::new(Settings {
+        spelling: Spelling::Numeral,
         radix: Radix::Dec,
         source: Format::of(true, 32, 16),
         target: Format::of(true, 16, 8),
         policy,
         mode,
+        target_mode: ReadMode::Floor,
         print,
+    }))
+}
+
+/// The task of a conversion of words or numerals from I8F8 to I8F0, checked, of whose answers all is written.
+fn moving(spelling: Spelling, target_mode: ReadMode) -> Task<'static> {
+    Task::Convert(ConvertRule::new(Settings {
+        spelling,
+        radix: Radix::Dec,
+        source: Format::of(true, 16, 8),
+        target: Format::of(true, 8, 0),
+        policy: Policy::Checked,
+        mode: ReadMode::NearestEven,
+        target_mode,
+        print: Print::All,
     }))
 }
 
@@ -341,4 +357,30 @@ fn of_two_ends_the_greater_code_counts(rt: HostRuntime) {
         greater_end(Status::TooLong, Status::NoMemory),
         Status::TooLong
     );
+}
+
+#[test]
+fn words_and_numerals_are_moved_in_the_target_mode(rt: HostRuntime) -> Result<(), Fail> {
+    let cases = [
+        unfailing(
+            moving(Spelling::Word, ReadMode::Floor),
+            "0xfe80\n-384\r\n0x180\n0x8000\n0x10000\n",
+            "-2 -2 fits\n-2 -2 fits\n1 1 fits\n-128 -128 fits\nerror: word is wider than the format\n",
+            Status::Faults,
+        ),
+        unfailing(
+            moving(Spelling::Word, ReadMode::NearestEven),
+            "0xfe80\n384\n0x7fff\n",
+            "-2 -2 fits\n2 2 fits\nerror: overflow\n",
+            Status::Faults,
+        ),
+        unfailing(
+            moving(Spelling::Numeral, ReadMode::Ceil),
+            "-1.5\n1.25\n1.x\n",
+            "-1 -1 fits\n2 2 fits\nerror: invalid digit found in string\n",
+            Status::Faults,
+        ),
+    ];
+    expect_runs(&rt, rt.alloc(), &cases)?;
+    Ok(())
 }

@@ -1,7 +1,8 @@
 //! `fixed bits`: what number the word of a register is.
 
-use crate::inputs::run_question;
-use crate::settings::format_at;
+use crate::options::RADIX;
+use crate::questions::{FILE, run_question};
+use crate::settings::{format_at, radix_of};
 use command_line::given::{Asked, Given};
 use command_line::page::{Operand, Page};
 use fixed_command::Question;
@@ -16,19 +17,19 @@ const FORMAT: Operand = Operand {
 
 const WORDS: Operand = Operand {
     name: "WORD",
-    help: "Decimal, or after 0x, 0o or 0b",
+    help: "Decimal, or after 0x, 0o or 0b; with a sign the number itself",
 };
 
 pub const PAGE: Page = Page {
     name: "bits",
     hidden_name: "",
     about: "Show what number the word of a register is",
-    usage: "fixed bits FORMAT WORD...",
+    usage: "fixed bits [OPTIONS] FORMAT [WORD]...",
     operands: &[FORMAT, WORDS],
     has_numerals: true,
-    options: &[],
+    options: &[RADIX, FILE],
     end: "A format is I (signed) or U (unsigned), its whole bits, F and its fraction bits,\n\
-          as in I16F16; the two numbers add up to 8, 16, 32 or 64.\n\
+          as in I16F16, 1 to 64 bits in all; or as in Q15, Q8.8 and UQ8.8.\n\
           \n\
           Example: fixed bits I16F16 0xfffc0000",
 };
@@ -43,6 +44,9 @@ pub fn run<'a, L: Ledger>(
         Ok(format) => format,
         Err(refusal) => return Err(refusal),
     };
-    given.needed(1, "WORD")?;
-    Ok(run_question(rt, &Question::Bits(format), given.from(1), steps))
+    let question = Question::Bits {
+        radix: radix_of(given)?,
+        format,
+    };
+    run_question(rt, &question, given, 1, steps)
 }

@@ -1,12 +1,13 @@
-//! `fixed column`: one column of CSV is converted.
+//! `fixed column`: columns of CSV are converted.
 
 use crate::inputs::{Job, run_inputs};
-use crate::options::{MODE, PLACES, POLICY, PRINT, RADIX, SOURCE, TARGET};
+use crate::options::{FROM, MODE, PLACES, POLICY, PRINT, RADIX, SOURCE, TARGET, TARGET_MODE};
 use crate::settings::conversion;
-use column_engine::{Column, ColumnEnd, Stop};
+use column_engine::{Column, ColumnEnd, Range, Stop};
+use command_line::device::Failure;
 use command_line::given::{Asked, Given, Refusal};
 use command_line::page::{Operand, Page, Row};
-use command_line::report::Report;
+use command_line::report::{Report, is_broken_pipe, push_words};
 use fixed_command::ColumnConversion;
 use fixed_steps::Steps;
 use line_engine::Status;
@@ -14,8 +15,8 @@ use std::alloc::{AllocError, Global};
 use std::sync::ledger::Ledger;
 
 const COLUMN: Operand = Operand {
-    name: "COLUMN",
-    help: "The column: a number from 1, or a name of the header",
+    name: "COLUMNS",
+    help: "Numbers from 1, ranges 2-5, names of the header; commas between them",
 };
 
 const DELIMITER: Row = Row {
@@ -23,7 +24,15 @@ const DELIMITER: Row = Row {
     letter: Some('d'),
     value: "C",
     choices: &[],
-    help: "The byte between fields: a comma (default)",
+    help: "The byte between fields: a comma (default); tab",
+};
+
+const ALL: Row = Row {
+    name: "all",
+    letter: None,
+    value: "",
+    choices: &[],
+    help: "Every column, in place of COLUMNS",
 };
 
 const HEADER: Row = Row {
@@ -31,7 +40,7 @@ const HEADER: Row = Row {
     letter: Some('H'),
     value: "",
     choices: &[],
-    help: "The first record is a header that may name COLUMN",
+    help: "The first record is a header, which may name COLUMNS",
 };
 
 const KEEP: Row = Row {
@@ -45,14 +54,26 @@ const KEEP: Row = Row {
 pub const PAGE: Page = Page {
     name: "column",
     hidden_name: "",
-    about: "Convert one column of CSV, all else as it was",
-    usage: "fixed column [OPTIONS] COLUMN SOURCE [TARGET] [FILE]...",
+    about: "Convert columns of CSV, every other byte as it was",
+    usage: "fixed column [OPTIONS] COLUMNS SOURCE [TARGET] [FILE]...",
     operands: &[COLUMN, SOURCE, TARGET],
     has_numerals: false,
-    options: &[RADIX, POLICY, MODE, PRINT, PLACES, DELIMITER, HEADER, KEEP],
+    options: &[
+        FROM,
+        RADIX,
+        POLICY,
+        MODE,
+        TARGET_MODE,
+        PRINT,
+        PLACES,
+        DELIMITER,
+        ALL,
+        HEADER,
+        KEEP,
+    ],
     end: "A format is I (signed) or U (unsigned), its whole bits, F and its fraction bits,\n\
-          as in I16F16; the two numbers add up to 8, 16, 32 or 64. A number is\n\
-          rounded down from SOURCE to TARGET.\n\
+          as in I16F16, 1 to 64 bits in all; or as in Q15, Q8.8 and UQ8.8. A\n\
+          number is rounded down from SOURCE to TARGET, or by --target-mode.\n\
           \n\
           Example: fixed column price U16F16 --header <tariff.csv",
 };
@@ -66,7 +87,8 @@ fn delimiter_of<'a>(given: &Given<'_, 'a>) -> Asked<'a, u8> {
             "is not a delimiter: it is a quote or the end of a line",
         )),
         [delimiter] => Ok(*delimiter),
-        _ => Err(Refusal::Word(word, "is not a delimiter: it is one byte")),
+        b"tab" | b"\\t" => Ok(b'\t'),
+        _ => Err(Refusal::Word(word, "is not a delimiter: it is one byte, or tab")),
     }
 }
 
@@ -81,38 +103,67 @@ fn place_numbered(word: &str) -> Option<usize> {
     }
 }
 
-/// The name of a column.
-fn named(alloc: Global, name: &str, place: Option<usize>) -> Result<Column, AllocError> {
-    Ok(Column::Named(String::from_str(alloc, name)?, place))
+/// The columns that a word numbers: one, or a range of them.
+fn range_numbered(word: &str) -> Option<Range> {
+    let (first, last) = word.split_once('-').unwrap_or((word, word));
+    match (place_numbered(first), place_numbered(last)) {
+        (Some(from), Some(to)) if from <= to => Some(Range { from, to }),
+        _ => None,
+    }
 }
 
-/// The column that a command names.
-fn column_of<'a>(alloc: Global, given: &Given<'_, 'a>) -> Asked<'a, Column> {
-    let word = given.needed(0, "COLUMN")?;
-    let place = place_numbered(word);
-    if given.has(&HEADER) {
-        return Ok(named(alloc, word, place)?);
-    }
-    match place {
-        Some(place) => Ok(Column::At(place)),
+/// The columns that one word of a list names.
+fn column_of<'a>(alloc: Global, word: &'a str, has_header: bool) -> Asked<'a, Column> {
+    match range_numbered(word) {
+        range if has_header => Ok(Column::Named(String::from_str(alloc, word)?, range)),
+        Some(range) => Ok(Column::At(range)),
         None => Err(Refusal::Word(
             word,
-            "is not a column: it is a number from 1, or with --header a name",
+            "is not a column: it is a number from 1, a range 2-5, or with --header a name",
         )),
     }
 }
 
-/// Converts the column of each file.
+/// Every column.
+const EVERY: Column = Column::At(Range {
+    from: 0,
+    to: usize::MAX,
+});
+
+/// Appends a column to a list.
+fn push<'a>(columns: &mut Vec<Column>, column: Column) -> Asked<'a, ()> {
+    match columns.push(column) {
+        Ok(()) => Ok(()),
+        Err(_) => Err(Refusal::NoMemory),
+    }
+}
+
+/// The columns that a command names, and the place of the word that follows them.
+fn columns_of<'a>(alloc: Global, given: &Given<'_, 'a>) -> Asked<'a, (Vec<Column>, usize)> {
+    let mut columns = Vec::new(alloc);
+    if given.has(&ALL) {
+        push(&mut columns, EVERY)?;
+        return Ok((columns, 0));
+    }
+    let words = given.needed(0, "COLUMNS")?;
+    for word in words.split(',') {
+        push(&mut columns, column_of(alloc, word, given.has(&HEADER))?)?;
+    }
+    Ok((columns, 1))
+}
+
+/// Converts the columns of each file.
 pub fn run<'a, L: Ledger>(
     rt: &HostRuntime,
     given: &Given<'_, 'a>,
     steps: &mut Steps<L>,
 ) -> Asked<'a, Status> {
-    let column = column_of(rt.alloc(), given)?;
-    let (rule, files) = conversion(given, 1)?;
+    let (columns, source) = columns_of(rt.alloc(), given)?;
+    let (rule, files) = conversion(given, source)?;
     let job = Job::Column(ColumnConversion {
         rule,
-        column,
+        columns,
+        has_header: given.has(&HEADER),
         is_kept: given.has(&KEEP),
         delimiter: delimiter_of(given)?,
     });
@@ -138,7 +189,7 @@ fn push_stop(report: &mut Report, end: &ColumnEnd) {
 /// Appends what is wrong with the record at which a text ended.
 fn push_record_fault(report: &mut Report, end: &ColumnEnd) {
     match end.stop {
-        Stop::TooLong => report.text(" is longer than 131072 bytes"),
+        Stop::TooLong => report.text(" is longer than 1048576 bytes"),
         Stop::Unclosed => report.text(" has a quote that is never closed"),
         Stop::NoColumn(count) => {
             report.text(" has no such column, its fields: ");
@@ -149,7 +200,8 @@ fn push_record_fault(report: &mut Report, end: &ColumnEnd) {
 }
 
 /// Says on standard error how many fields of a file were refused, and why its records ended before its end.
-pub fn report_end(rt: &HostRuntime, file: Option<&str>, end: &ColumnEnd) {
+pub fn report_end(rt: &HostRuntime, file: Option<&str>, end: &ColumnEnd, failure: &Failure) {
+    let error = failure.take();
     if end.refused > 0 {
         let mut report = Report::of(file);
         report.text("fields refused: ");
@@ -158,9 +210,13 @@ pub fn report_end(rt: &HostRuntime, file: Option<&str>, end: &ColumnEnd) {
         report.number(end.first);
         report.send(rt);
     }
-    if end.stop != Stop::Done {
+    if end.stop != Stop::Done && !is_broken_pipe(&error) {
         let mut report = Report::of(file);
         push_stop(&mut report, end);
+        if let Some(error) = &error {
+            report.text(": ");
+            push_words(&mut report, rt.alloc(), error);
+        }
         report.text(", records answered: ");
         report.number(end.answered);
         report.send(rt);

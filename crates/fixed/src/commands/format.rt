@@ -1,6 +1,6 @@
 //! `fixed format`: what a format can hold.
 
-use crate::inputs::run_question;
+use crate::questions::run_words;
 use crate::settings::format_of;
 use command_line::given::{Asked, Given};
 use command_line::page::{Operand, Page};
@@ -23,7 +23,7 @@ pub const PAGE: Page = Page {
     has_numerals: false,
     options: &[],
     end: "A format is I (signed) or U (unsigned), its whole bits, F and its fraction bits,\n\
-          as in I16F16; the two numbers add up to 8, 16, 32 or 64.\n\
+          as in I16F16, 1 to 64 bits in all; or as in Q15, Q8.8 and UQ8.8.\n\
           \n\
           Example: fixed format I16F16 U0F8",
 };
@@ -40,5 +40,5 @@ pub fn run<'a, L: Ledger>(
             return Err(refusal);
         }
     }
-    Ok(run_question(rt, &Question::Format, given.from(0), steps))
+    Ok(run_words(rt, &Question::Format, given.from(0), steps))
 }

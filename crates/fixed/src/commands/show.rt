@@ -1,7 +1,7 @@
 //! `fixed show`: all there is to know of a number in a format.
 
-use crate::inputs::run_question;
 use crate::options::{MODE, POLICY, RADIX};
+use crate::questions::{FILE, run_question};
 use crate::settings::{format_at, mode_of, policy_of, radix_of};
 use command_line::given::{Asked, Given};
 use command_line::page::{Operand, Page};
@@ -24,12 +24,12 @@ pub const PAGE: Page = Page {
     name: "show",
     hidden_name: "",
     about: "Show all there is to know of a number in a format",
-    usage: "fixed show [OPTIONS] FORMAT NUMERAL...",
+    usage: "fixed show [OPTIONS] FORMAT [NUMERAL]...",
     operands: &[FORMAT, NUMERALS],
     has_numerals: true,
-    options: &[RADIX, POLICY, MODE],
+    options: &[RADIX, POLICY, MODE, FILE],
     end: "A format is I (signed) or U (unsigned), its whole bits, F and its fraction bits,\n\
-          as in I16F16; the two numbers add up to 8, 16, 32 or 64.\n\
+          as in I16F16, 1 to 64 bits in all; or as in Q15, Q8.8 and UQ8.8.\n\
           \n\
           Example: fixed show I16F16 3.14159 -1e-3",
 };
@@ -44,12 +44,11 @@ pub fn run<'a, L: Ledger>(
         Ok(format) => format,
         Err(refusal) => return Err(refusal),
     };
-    given.needed(1, "NUMERAL")?;
     let question = Question::Show {
         radix: radix_of(given)?,
         format,
         policy: policy_of(given)?,
         mode: mode_of(given)?,
     };
-    Ok(run_question(rt, &question, given.from(1), steps))
+    run_question(rt, &question, given, 1, steps)
 }

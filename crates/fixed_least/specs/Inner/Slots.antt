@@ -1,7 +1,7 @@
 -- The first places whose numerals formats do not hold, in slots: 65 for each of the eight pairs of a width and a sign
 -- rule.
 use Rattle.std.specs.Prelude.{◌≡◌, ◌⊎◌, ◌↔◌, ◌+◌, ◌*◌, ◌%◌, ◌<◌, ◌≤◌, ◌==◌, ℕ, Bool, true, false, List, Option, get_or, if◌then◌else◌, nat_lt}
-use Rattle.fixed_bits.specs.Formats.{FormatParts, IsFormat}
+use Rattle.fixed_bits.specs.Formats.{FormatParts, IsTypeFormat}
 use Rattle.fixed_least.specs.Inner.Valued.{HasValue}
 use Rattle.fixed_least.specs.declared.exact.Exact.{Exact}
 
@@ -50,5 +50,5 @@ IsNoted f value place old new = ((old ≡ 0 → ⊥) × (new ≡ old))
 
 -- what a value at a place leaves of the slots of all formats
 abbrev pub AreNoted : Option Exact → ℕ → List ℕ → List ℕ → Type 0
-AreNoted value place old new = (f : FormatParts) → IsFormat f.width f.frac
+AreNoted value place old new = (f : FormatParts) → IsTypeFormat f.width f.frac
     → IsNoted f value place (get_or old (slot_of f) 0) (get_or new (slot_of f) 0)

@@ -1,6 +1,6 @@
 -- What is found of one line.
 use Rattle.std.specs.Prelude.{ℕ, List, Option, Some, None}
-use Rattle.fixed_bits.specs.Formats.{FormatParts, IsFormat}
+use Rattle.fixed_bits.specs.Formats.{FormatParts, IsTypeFormat}
 use Rattle.fixed_numeral.specs.Numeral.{Parts, HasNumeral}
 use Rattle.fixed_numeral.specs.declared.radix.Radix.{Radix}
 use Rattle.fixed_least.specs.Holding.{Holds}
@@ -9,7 +9,7 @@ use Rattle.fixed_least.specs.declared.exact.Exact.{Exact}
 
 -- the value of a numeral with these parts; or no format holds it
 abbrev pub IsValueOf : Radix → Parts → Option Exact → Type 0
-IsValueOf r p None = (f : FormatParts) → IsFormat f.width f.frac → ¬ Holds r p f
+IsValueOf r p None = (f : FormatParts) → IsTypeFormat f.width f.frac → ¬ Holds r p f
 IsValueOf r p (Some e) = IsExact r p e.negative e.ulps
 
 -- bytes are a numeral, of this value

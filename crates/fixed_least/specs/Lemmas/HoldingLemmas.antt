@@ -2,8 +2,8 @@
 use Rattle.std.proofs.Common.{◌≡◌, ℕ, ◌+◌, ◌-◌, ◌*◌, ◌^◌, ◌<◌, ◌≤◌, ◌↔◌, Bool, sym, ap, ◌∙◌, subst, arith, pow_pos, inl, inr}
 use Rattle.std.proofs.Math.Nat.{le_of_mul-le-mul_left}
 use Rattle.std.proofs.lemmas.Nat.{pow-add}
-use Rattle.fixed_bits.specs.Formats.{FormatParts, IsFormat}
-use Rattle.fixed_bits.specs.Ranges.{IsInRange, IsWidth}
+use Rattle.fixed_bits.specs.Formats.{FormatParts, IsTypeFormat}
+use Rattle.fixed_bits.specs.Ranges.{IsInRange, IsTypeWidth}
 use Rattle.fixed_numeral.specs.Numeral.{Parts}
 use Rattle.fixed_numeral.specs.Value.{magnitude}
 use Rattle.fixed_numeral.specs.declared.radix.Radix.{Radix}
@@ -25,13 +25,13 @@ split_power f fits =
     let whole : f + (64 - f) ≡ 64 = omega arith in
     ap (λ k. 2 ^ k) (sym whole) ∙ pow-add 2 f (64 - f)
 
-pub width_most : (n : ℕ) → IsWidth n → n ≤ 64
+pub width_most : (n : ℕ) → IsTypeWidth n → n ≤ 64
 width_most n (inl e) = omega arith
 width_most n (inr (inl e)) = omega arith
 width_most n (inr (inr (inl e))) = omega arith
 width_most n (inr (inr (inr e))) = omega arith
 
-pub frac_most : (f : FormatParts) → IsFormat f.width f.frac → f.frac ≤ 64
+pub frac_most : (f : FormatParts) → IsTypeFormat f.width f.frac → f.frac ≤ 64
 frac_most f is = omega (arith, is.within, width_most f.width is.is_width)
 
 to_ulps : (num den up down one ulps count : ℕ) → 0 < den → one ≡ up * down → num * one ≡ ulps * den → num * up ≡ count * den → ulps ≡ count * down
@@ -42,7 +42,7 @@ to_count : (num den up down one ulps count : ℕ) → 0 < down → one ≡ up * 
 to_count num den up down one ulps count some split exact is =
     cancel down (num * up) (count * den) some (omega (arith, ap (λ x. num * x) split, exact, ap (λ x. x * den) is))
 
-pub exact_decides : (r : Radix) (p : Parts) (f : FormatParts) (negative : Bool) (ulps : ℕ) → IsFormat f.width f.frac → IsExact r p negative ulps → Holds r p f ↔ HasUlps f negative ulps
+pub exact_decides : (r : Radix) (p : Parts) (f : FormatParts) (negative : Bool) (ulps : ℕ) → IsTypeFormat f.width f.frac → IsExact r p negative ulps → Holds r p f ↔ HasUlps f negative ulps
 exact_decides r p f negative ulps is exact = (to, back)
   where
     to : Holds r p f → HasUlps f negative ulps

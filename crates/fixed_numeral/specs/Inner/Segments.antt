@@ -1,5 +1,5 @@
 -- Stretches of a text, for the functions that read numbers straight from its bytes.
-use Rattle.std.specs.Prelude.{◌≡◌, ℕ, ◌+◌, ◌-◌, ◌*◌, ◌^◌, ◌<◌, ◌≤◌, Bool, IsTrue, List, ◌++◌, length, drop, get_or, Option, IfSome, option_to_list, ℤ}
+use Rattle.std.specs.Prelude.{◌≡◌, ℕ, ◌+◌, ◌-◌, ◌^◌, ◌<◌, ◌≤◌, Bool, IsTrue, List, ◌++◌, length, drop, get_or, Option, IfSome, option_to_list, ℤ}
 use Rattle.std.specs.Char.{digit_value}
 use Rattle.std.specs.Int.{bit_at}
 use Rattle.std.specs.Str.Parse.{AllDigits, digits_value}

@@ -1,7 +1,7 @@
 -- The keys of words.
 use Rattle.std.specs.Prelude.{◌≡◌, ℕ, ◌+◌, ◌*◌, ◌/◌, ◌%◌, ◌^◌, true, List, length, drop}
 use Rattle.std.specs.Simd.Lanes.{number_l}
-use Rattle.fixed_bits.specs.Formats.{IsFormat}
+use Rattle.fixed_bits.specs.Formats.{IsTypeFormat}
 use Rattle.fixed_respell.specs.Words.{format_text}
 
 -- the bytes after the first as a number, the first of them in the lowest place, and how many bytes there are, in the sixth byte
@@ -14,5 +14,5 @@ counts_word width frac = format_text (record { signed = true; width = width; fra
 
 -- the eighth byte of an entry is the width of a format, the seventh its fraction length, and the others are its words' key
 pub record IsEntry (entry : ℕ) : Type 0 where
-  pub format : IsFormat (entry / 2 ^ 56) (entry / 2 ^ 48 % 256)
+  pub format : IsTypeFormat (entry / 2 ^ 56) (entry / 2 ^ 48 % 256)
   pub key : entry % 2 ^ 48 ≡ word_key (counts_word (entry / 2 ^ 56) (entry / 2 ^ 48 % 256))

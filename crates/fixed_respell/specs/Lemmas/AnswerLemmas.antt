@@ -1,8 +1,10 @@
 -- A line has one answer.
-use Rattle.std.proofs.Common.{◌≡◌, ℕ, ◌-◌, ◌<◌, List, [], ◌∷◌, ◌++◌, Bool, length, get_or, refl, sym, ap, ◌∙◌, subst, arith, ℤ, inl, inr, if◌then◌else◌, ◌==◌}
+use Rattle.std.proofs.Common.{◌≡◌, ℕ, ◌-◌, ◌<◌, List, [], ◌∷◌, ◌++◌, Bool, length, get_or, refl, sym, ap, ◌∙◌, subst}
+use Rattle.std.proofs.Common.{arith, ℤ, inl, inr, if◌then◌else◌, ◌==◌}
 use Rattle.std.specs.Fmt.{decimal}
 use Rattle.std.proofs.lemmas.Fmt.{decimal_injective}
-use Rattle.fixed_bits.specs.Formats.{FormatParts}
+use Rattle.fixed_bits.specs.Formats.{FormatParts, IsFormat}
+use Rattle.fixed_bits.proofs.Public.{type_format}
 use Rattle.fixed_bits.specs.declared.format.Policy.{Policy}
 use Rattle.fixed_bits.specs.declared.format.Policy.TheVariants.{Checked, Saturating, Wrapping}
 use Rattle.fixed_bits.specs.declared.mode.ReadMode.{ReadMode}
@@ -10,17 +12,20 @@ use Rattle.fixed_bits.specs.declared.mode.ReadMode.TheVariants.{NearestEven, Flo
 use Rattle.fixed_numeral.specs.Messages.{message_of}
 use Rattle.fixed_numeral.specs.declared.radix.Radix.{Radix}
 use Rattle.fixed_numeral.specs.declared.radix.Radix.TheVariants.{Bin, Oct, Dec, Hex}
-use Rattle.fixed_respell.specs.Answer.{Task, task_of, Asks, IsAnswer, IsRefusalAnswer, IsRespelledAnswer, IsTaskAnswered, fault_message, respell_language, respelled_answer}
-use Rattle.fixed_respell.specs.AnswerLaws.{AnswerIsTheOne, LongIsAnsweredByPrefix, PlainWordNamesNearest, PlainLineAsksNearest}
-use Rattle.fixed_respell.specs.Language.{fault_answer}
+use Rattle.fixed_respell.specs.Answer.{Task, task_of, Asks, AsksBy, IsAnswer, IsRefusalAnswer, IsRespelledAnswer}
+use Rattle.fixed_respell.specs.Answer.{IsTaskAnswered, fault_message, respell_language, respelled_answer}
+use Rattle.fixed_respell.specs.AnswerLaws.{AnswerIsTheOne, LongIsAnsweredByPrefix, PlainWordNamesNearest}
+use Rattle.fixed_respell.specs.AnswerLaws.{PlainLineAsksNearest}
+use Rattle.fixed_respell.specs.Language.{IsAnswerIn, fault_answer}
 use Rattle.line_engine.specs.Lines.{kept_length}
 use Rattle.fixed_respell.specs.LineWords.{longest_line}
 use Rattle.line_engine.specs.AnswerText.{AnswerText}
 use Rattle.fixed_respell.specs.Split.{count_of}
-use Rattle.fixed_respell.specs.Words.{radix_text, format_text, policy_text, mode_text, IsFormatWord, IsPolicyWord, slash, sign_letter, fraction_letter}
+use Rattle.fixed_respell.specs.Words.{radix_text, format_text, policy_text, mode_text, IsFormatWord, IsPolicyWord}
+use Rattle.fixed_respell.specs.Words.{slash, sign_letter, fraction_letter}
 use Rattle.fixed_respell.specs.declared.fault.LineFault.TheVariants.{LineTooLong}
 use Rattle.fixed_respell.specs.Lemmas.FaultLemmas.{faults_apart, first_long, no_fault}
-use Rattle.fixed_respell.specs.Lemmas.FormatLemmas.{letters_differ, width_most, decimal_no_letter}
+use Rattle.fixed_respell.specs.Lemmas.FormatLemmas.{letters_differ, decimal_no_letter}
 use Rattle.fixed_respell.specs.Lemmas.LanguageLemmas.{IsDefinite, answer_in_one, long_by_prefix}
 use Rattle.fixed_respell.specs.Lemmas.LineWordLemmas.{words_one}
 use Rattle.fixed_respell.specs.Lemmas.ReachedLemmas.{respelled_one, refusal_none, refusal_one}
@@ -74,7 +79,8 @@ mode_back TowardsZero = refl
 mode_one : (m k : ReadMode) → mode_text m ≡ mode_text k → m ≡ k
 mode_one m k e = sym (mode_back m) ∙ (ap mode_at e ∙ mode_back k)
 
-policy_word_one : (word : List ℕ) (p q : Policy) (m k : ReadMode) → IsPolicyWord word p m → IsPolicyWord word q k → (p ≡ q) × (m ≡ k)
+policy_word_one : (word : List ℕ) (p q : Policy) (m k : ReadMode) → IsPolicyWord word p m → IsPolicyWord word q k
+    → (p ≡ q) × (m ≡ k)
 policy_word_one word p q m k (inl a) (inl b) = (policy_one p q (sym a.0 ∙ b.0), a.1 ∙ sym b.1)
 policy_word_one word p q m k (inl a) (inr b) = absurd (split_has_one slash word (policy_text q) (mode_text k) b (ap (count_of slash) a.0 ∙ no_slash p))
 policy_word_one word p q m k (inr a) (inl b) = absurd (split_has_one slash word (policy_text p) (mode_text m) a (ap (count_of slash) b.0 ∙ no_slash q))
@@ -89,21 +95,25 @@ parts s w r = record { signed = s; width = w; frac = r }
 parts_are : (f g : FormatParts) → f.signed ≡ g.signed → f.width ≡ g.width → f.frac ≡ g.frac → f ≡ g
 parts_are f g s w r = ap (λ x. parts x f.width f.frac) s ∙ (ap (λ x. parts g.signed x f.frac) w ∙ ap (λ x. parts g.signed g.width x) r)
 
-pub format_word_one : (word : List ℕ) (f g : FormatParts) → IsFormatWord word f → IsFormatWord word g → f ≡ g
-format_word_one word f g a b =
-    let e : format_text f ≡ format_text g = sym a.text ∙ b.text in
+pub format_text_one : (f g : FormatParts) → IsFormat f.width f.frac → IsFormat g.width g.frac
+    → format_text f ≡ format_text g → f ≡ g
+format_text_one f g a b e =
     let head : sign_letter f.signed ≡ sign_letter g.signed = cc in
     let tail : decimal (f.width - f.frac) ++ fraction_letter ∷ decimal f.frac ≡ decimal (g.width - g.frac) ++ fraction_letter ∷ decimal g.frac = cc in
-    let most_f = width_most f.width a.format.is_width in
-    let most_g = width_most g.width b.format.is_width in
-    let within_f = a.format.within in
-    let within_g = b.format.within in
+    let most_f = a.is_width.most in
+    let most_g = b.is_width.most in
+    let within_f = a.within in
+    let within_g = b.within in
     let same = same_split fraction_letter (decimal (f.width - f.frac)) (decimal (g.width - g.frac)) (decimal f.frac) (decimal g.frac) tail (decimal_no_letter (f.width - f.frac) (omega arith)) (decimal_no_letter (g.width - g.frac) (omega arith)) in
     let whole : f.width - f.frac ≡ g.width - g.frac = decimal_injective (f.width - f.frac) (g.width - g.frac) (omega arith) (omega arith) same.before in
     let frac : f.frac ≡ g.frac = decimal_injective f.frac g.frac (omega arith) (omega arith) same.after in
     parts_are f g (letters_differ f.signed g.signed head) (omega arith) frac
 
-task_is : (t u : Task) → t.radix ≡ u.radix → t.source ≡ u.source → t.target ≡ u.target → t.policy ≡ u.policy → t.mode ≡ u.mode → t.numeral ≡ u.numeral → t ≡ u
+pub format_word_one : (word : List ℕ) (f g : FormatParts) → IsFormatWord word f → IsFormatWord word g → f ≡ g
+format_word_one word f g a b = format_text_one f g (type_format f.width f.frac a.format) (type_format g.width g.frac b.format) (sym a.text ∙ b.text)
+
+task_is : (t u : Task) → t.radix ≡ u.radix → t.source ≡ u.source → t.target ≡ u.target → t.policy ≡ u.policy
+    → t.mode ≡ u.mode → t.numeral ≡ u.numeral → t ≡ u
 task_is t u r s g p m n =
     ap (λ x. task_of x t.source t.target t.policy t.mode t.numeral) r
     ∙ (ap (λ x. task_of u.radix x t.target t.policy t.mode t.numeral) s
@@ -111,21 +121,6 @@ task_is t u r s g p m n =
     ∙ (ap (λ x. task_of u.radix u.source u.target x t.mode t.numeral) p
     ∙ (ap (λ x. task_of u.radix u.source u.target u.policy x t.numeral) m
     ∙ ap (λ x. task_of u.radix u.source u.target u.policy u.mode x) n))))
-
--- a line asks for one task
-task_one : (line : List ℕ) (t u : Task) → Asks line t → Asks line u → t ≡ u
-task_one line t u a b =
-    let same = words_one line _ _ t.numeral u.numeral a.words b.words refl in
-    let radix : a.radix_word ≡ b.radix_word = ap (λ ws. get_or ws 0 []) same.words in
-    let source : a.source_word ≡ b.source_word = ap (λ ws. get_or ws 1 []) same.words in
-    let target : a.target_word ≡ b.target_word = ap (λ ws. get_or ws 2 []) same.words in
-    let policy : a.policy_word ≡ b.policy_word = ap (λ ws. get_or ws 3 []) same.words in
-    let named = policy_word_one b.policy_word t.policy u.policy t.mode u.mode (subst (λ w. IsPolicyWord w t.policy t.mode) policy a.policy) b.policy in
-    task_is t u
-    (radix_one t.radix u.radix (sym a.radix ∙ (radix ∙ b.radix)))
-    (format_word_one b.source_word t.source u.source (subst (λ w. IsFormatWord w t.source) source a.source) b.source)
-    (format_word_one b.target_word t.target u.target (subst (λ w. IsFormatWord w t.target) target a.target) b.target)
-    named.0 named.1 same.rests
 
 -- ---- a task has one answer
 refusals : (t : Task) (a b : AnswerText) → IsRefusalAnswer t a → IsRefusalAnswer t b → a ≡ b
@@ -136,30 +131,58 @@ refusals t a b x y =
 refused_or_not : (t : Task) (a b : AnswerText) → IsRefusalAnswer t a → IsRespelledAnswer t b → ⊥
 refused_or_not t a b x y = refusal_none t.mode t.radix t.numeral t.policy t.source t.target x.kind y.bits y.overflowed x.refusal y.respelled
 
-respellings : (line : List ℕ) (t : Task) (a b : AnswerText) → Asks line t → IsRespelledAnswer t a → IsRespelledAnswer t b → a ≡ b
-respellings line t a b asks x y =
-    let one = respelled_one t.mode t.radix t.numeral t.policy t.source t.target x.bits y.bits x.overflowed y.overflowed asks.source.format asks.target.format x.respelled y.respelled in
-    let text = shortest_text_unique y.bits t.target.frac x.text y.text (subst (λ c. IsShortestText c t.target.frac x.text) one.0 x.shortest) y.shortest in
-    x.answer_is ∙ (alike x.text y.text x.bits y.bits x.overflowed y.overflowed text one.0 one.1 ∙ sym y.answer_is)
-  where
-    alike : (s t : List ℕ) (b c : ℤ) (o u : Bool) → s ≡ t → b ≡ c → o ≡ u → respelled_answer s b o ≡ respelled_answer t c u
-    alike s t b c o u e f g = ap (λ x. respelled_answer x b o) e ∙ (ap (λ x. respelled_answer t x o) f ∙ ap (λ x. respelled_answer t c x) g)
+-- ---- a line has one answer, whichever relation tells which format a word names, if a word names one at most
+module _ (Names : List ℕ → FormatParts → Type 0) (one_format : (word : List ℕ) (f g : FormatParts) → Names word f
+    → Names word g → f ≡ g) (valid : (word : List ℕ) (f : FormatParts) → Names word f → IsFormat f.width f.frac) where
+  -- a line asks for one task
+  pub task_one : (line : List ℕ) (t u : Task) → AsksBy Names IsPolicyWord line t → AsksBy Names IsPolicyWord line u
+      → t ≡ u
+  task_one line t u a b =
+      let same = words_one line _ _ t.numeral u.numeral a.words b.words refl in
+      let radix : a.radix_word ≡ b.radix_word = ap (λ ws. get_or ws 0 []) same.words in
+      let source : a.source_word ≡ b.source_word = ap (λ ws. get_or ws 1 []) same.words in
+      let target : a.target_word ≡ b.target_word = ap (λ ws. get_or ws 2 []) same.words in
+      let policy : a.policy_word ≡ b.policy_word = ap (λ ws. get_or ws 3 []) same.words in
+      let named = policy_word_one b.policy_word t.policy u.policy t.mode u.mode (subst (λ w. IsPolicyWord w t.policy t.mode) policy a.policy) b.policy in
+      task_is t u
+      (radix_one t.radix u.radix (sym a.radix ∙ (radix ∙ b.radix)))
+      (one_format b.source_word t.source u.source (subst (λ w. Names w t.source) source a.source) b.source)
+      (one_format b.target_word t.target u.target (subst (λ w. Names w t.target) target a.target) b.target)
+      named.0 named.1 same.rests
 
-task_answer_one : (line : List ℕ) (t : Task) (a b : AnswerText) → Asks line t → IsTaskAnswered t a → IsTaskAnswered t b → a ≡ b
-task_answer_one line t a b asks (inl x) (inl y) = refusals t a b x y
-task_answer_one line t a b asks (inl x) (inr y) = absurd (refused_or_not t a b x y)
-task_answer_one line t a b asks (inr x) (inl y) = absurd (refused_or_not t b a y x)
-task_answer_one line t a b asks (inr x) (inr y) = respellings line t a b asks x y
+  respellings : (line : List ℕ) (t : Task) (a b : AnswerText) → AsksBy Names IsPolicyWord line t
+      → IsRespelledAnswer t a → IsRespelledAnswer t b → a ≡ b
+  respellings line t a b asks x y =
+      let one = respelled_one t.mode t.radix t.numeral t.policy t.source t.target x.bits y.bits x.overflowed y.overflowed (valid asks.source_word t.source asks.source) (valid asks.target_word t.target asks.target) x.respelled y.respelled in
+      let text = shortest_text_unique y.bits t.target.frac x.text y.text (subst (λ c. IsShortestText c t.target.frac x.text) one.0 x.shortest) y.shortest in
+      x.answer_is ∙ (alike x.text y.text x.bits y.bits x.overflowed y.overflowed text one.0 one.1 ∙ sym y.answer_is)
+    where
+      alike : (s t : List ℕ) (b c : ℤ) (o u : Bool) → s ≡ t → b ≡ c → o ≡ u
+          → respelled_answer s b o ≡ respelled_answer t c u
+      alike s t b c o u e f g = ap (λ x. respelled_answer x b o) e ∙ (ap (λ x. respelled_answer t x o) f ∙ ap (λ x. respelled_answer t c x) g)
 
--- ---- a line has one answer
-definite : IsDefinite (respell_language IsPolicyWord)
-definite = record { apart = faults_apart; no_fault = no_fault; task_one = task_one; answer_one = task_answer_one }
+  task_answer_one : (line : List ℕ) (t : Task) (a b : AnswerText) → AsksBy Names IsPolicyWord line t
+      → IsTaskAnswered t a → IsTaskAnswered t b → a ≡ b
+  task_answer_one line t a b asks (inl x) (inl y) = refusals t a b x y
+  task_answer_one line t a b asks (inl x) (inr y) = absurd (refused_or_not t a b x y)
+  task_answer_one line t a b asks (inr x) (inl y) = absurd (refused_or_not t b a y x)
+  task_answer_one line t a b asks (inr x) (inr y) = respellings line t a b asks x y
+
+  definite : IsDefinite (respell_language Names IsPolicyWord)
+  definite = record { apart = faults_apart; no_fault = no_fault Names; task_one = task_one; answer_one = task_answer_one }
+
+  pub answer_by : (line : List ℕ) (a b : AnswerText) → IsAnswerIn (respell_language Names IsPolicyWord) line a
+      → IsAnswerIn (respell_language Names IsPolicyWord) line b → a ≡ b
+  answer_by line a b x y = answer_in_one (respell_language Names IsPolicyWord) definite line a b x y
+
+word_valid : (word : List ℕ) (f : FormatParts) → IsFormatWord word f → IsFormat f.width f.frac
+word_valid word f is = type_format f.width f.frac is.format
 
 pub answer_one : AnswerIsTheOne
-answer_one line a b x y = answer_in_one (respell_language IsPolicyWord) definite line a b x y
+answer_one = answer_by IsFormatWord format_word_one word_valid
 
 long_answer : (line : List ℕ) → longest_line < length line → IsAnswer line (fault_answer (fault_message LineTooLong))
-long_answer line long = inl (record { fault = LineTooLong; first = first_long line long; answer_is = refl })
+long_answer line long = inl (record { fault = LineTooLong; first = first_long IsFormatWord line long; answer_is = refl })
 
 pub long_by_its_prefix : LongIsAnsweredByPrefix
 long_by_its_prefix line reply long = long_by_prefix IsAnswer (fault_answer (fault_message LineTooLong)) answer_one long_answer kept_length line reply (omega arith) long

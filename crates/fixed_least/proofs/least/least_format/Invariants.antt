@@ -1,5 +1,5 @@
 use Rattle.std.proofs.Common.{◌≡◌, ◌+◌, ◌≤◌, ◌++◌, ℕ, List, get_or, length}
-use Rattle.fixed_bits.specs.Formats.{FormatParts, IsFormat}
+use Rattle.fixed_bits.specs.Formats.{FormatParts, IsTypeFormat}
 use Rattle.line_engine.specs.Lines.{lines}
 use Rattle.fixed_least.specs.Holding.{AllNumerals}
 use Rattle.fixed_least.specs.Inner.Slots.{AreLiving, slot_of}
@@ -14,7 +14,7 @@ invariant-loop-rest g l = record {
   room : l.place + length l.rest ≤ length l.text;
   numerals : AllNumerals l.radix done;
   living : AreLiving l.slots l.lows l.highs;
-  noted : (f : FormatParts) → IsFormat f.width f.frac → NotedSoFar l.radix f done (get_or l.slots (slot_of f) 0);
+  noted : (f : FormatParts) → IsTypeFormat f.width f.frac → NotedSoFar l.radix f done (get_or l.slots (slot_of f) 0);
 }
 
 abbrev pub decreases-loop-rest : goal.decreases-loop-rest

@@ -1,4 +1,4 @@
-use Rattle.std.proofs.Common.{◌≤◌, ◌+◌, arith, length, refl}
+use Rattle.std.proofs.Common.{◌≤◌, ◌+◌, arith}
 use Rattle.fixed_numeral.specs.Numeral.{base}
 use Rattle.fixed_numeral.proofs.MagnitudeLemmas.{base_small, base_least}
 use Rattle.fixed_numeral.proofs.SegmentLemmas.{ending_short, few_digits, sign_place, mantissa_place}

@@ -228,7 +228,7 @@ no_radix Dec e = let first : 57 ≡ 49 = at_place 0 e in omega (arith, first)
 no_radix Hex e = let first : 57 ≡ 49 = at_place 0 e in omega (arith, first)
 
 radix_fault : IsFirstFault BadRadix (codes "9 U8F0 U9F0 checked 1")
-radix_fault = first_radix (codes "9 U8F0 U9F0 checked 1") (codes "9") (codes "U8F0") (codes "U9F0") (codes "checked") (codes "1") (omega arith) (record { text = refl; unspaced = (refl, (refl, (refl, (refl, tt)))) }) no_radix
+radix_fault = first_radix IsFormatWord (codes "9 U8F0 U9F0 checked 1") (codes "9") (codes "U8F0") (codes "U9F0") (codes "checked") (codes "1") (omega arith) (record { text = refl; unspaced = (refl, (refl, (refl, (refl, tt)))) }) no_radix
 
 pub returns-clause-line_fault : goal.returns-clause-line_fault
 returns-clause-line_fault c = inl (record { fault = BadRadix; first = radix_fault; answer_is = refl })

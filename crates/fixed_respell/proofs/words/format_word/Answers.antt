@@ -1,4 +1,5 @@
 use Rattle.std.proofs.Common.{arith}
+use Rattle.fixed_bits.proofs.Public.{type_format}
 use Rattle.fixed_respell.proofs.KeyLemmas.{each_below, made, named, word_length}
 use Rattle.fixed_respell.proofs.words.format_word.Goals as goal
 use Rattle.fixed_respell.proofs.words.format_word.Goals.{then-word-lt4-via-then-word-lt4, then-word-lt4-via-else-word-lt4+then-word-gt6}
@@ -12,7 +13,7 @@ returns-then-word-lt4 c f is =
     ]
 
 pub of-requires : goal.of-requires
-of-requires c = record { valid = c.in-Some-Some.ensures'.0 }
+of-requires c = record { valid = type_format c.in-Some-Some.width c.in-Some-Some.frac c.in-Some-Some.ensures'.0 }
 
 pub returns-in-Some-Some : goal.returns-in-Some-Some
 returns-in-Some-Some c =

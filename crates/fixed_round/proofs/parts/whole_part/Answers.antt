@@ -1,7 +1,7 @@
 use Rattle.std.proofs.Common.{rules, arith, ◌≡◌, ◌∙◌, sym, FitsSigned, ◌-ℤ◌, pos, to_z, of_z}
 use Rattle.std.specs.Int.{w128}
 use Rattle.std.proofs.lemmas.Int.{ints, to_z-of_z}
-use Rattle.fixed_bits.proofs.Public.{in_wide, width_most}
+use Rattle.fixed_bits.proofs.Public.{in_wide, type_width, width_most}
 use Rattle.fixed_round.specs.Parts.{int_bits}
 use Rattle.fixed_round.proofs.PartLemmas.{int_none, int_floor, int_fits, rest_fits}
 use Rattle.fixed_round.proofs.parts.whole_part.Given.{Over}
@@ -38,5 +38,5 @@ returns-else-frac_nbits-BITS-clause-rest g c =
 
 pub returns-else-frac_nbits-BITS-clause-wide : goal.returns-else-frac_nbits-BITS-clause-wide
 returns-else-frac_nbits-BITS-clause-wide g c =
-    in_wide g.I.Inner.SIGNED g.I.Inner.BITS (to_z w128 (of_z w128 c.whole_of.result)) (width_most g.I.Inner.BITS g.met.I.Inner.width_law)
+    in_wide g.I.Inner.SIGNED g.I.Inner.BITS (to_z w128 (of_z w128 c.whole_of.result)) (width_most g.I.Inner.BITS (type_width g.I.Inner.BITS g.met.I.Inner.width_law))
     (rw (floor_is g c) (int_fits g.I.Inner.SIGNED g.I.Inner.BITS (g.I.Inner.number c.args.bits) c.args.frac_nbits c.requires (λ e. c.if-frac_nbits-BITS.false (e ∙ sym c.BITS.ensures)) c.value-b.ensures.range))

@@ -11,7 +11,6 @@ returns c =
     let b : ℤ = c.args.bits in
     let fit : FitsSigned w128 v = search rules in
     let given : FitsSigned w128 b = search rules in
-    let words = c.unwrap-words.result in
-    let parts : (words.signed ≡ false) × (words.width ≡ c.width.result) × (words.frac ≡ 0) = rw c.unwrap-words.ensures at c.new.ensures.parts in
+    let words = c.of-words.result in
     let image : IsWrapped words.signed words.width b v = rw (c.unwrap.ensures, to_z-of_z w128 b given) at c.image.ensures.image in
-    rw (to_z-of_z w128 v fit) (unsigned_word words.signed words.width c.args.format.width b v parts.0 (parts.1 ∙ c.width.ensures.width) image)
+    rw (to_z-of_z w128 v fit) (unsigned_word words.signed words.width c.args.format.width b v c.of-words.ensures.signed (c.of-words.ensures.width ∙ c.width.ensures.width) image)

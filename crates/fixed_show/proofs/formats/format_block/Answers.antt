@@ -1,8 +1,7 @@
-use Rattle.std.proofs.Common.{◌≡◌, ◌++◌, ℕ, ℤ, pos, List, codes, false, FitsSigned, rules, arith, refl, sym, subst}
+use Rattle.std.proofs.Common.{◌≡◌, ◌++◌, ℕ, ℤ, pos, List, codes, false, FitsSigned, rules, arith, refl, ◌∙◌}
 use Rattle.std.specs.Int.{w128}
 use Rattle.std.proofs.lemmas.Int.{to_z-of_z}
 use Rattle.fixed_bits.specs.Ranges.{lowest, greatest}
-use Rattle.fixed_respell.specs.Words.{IsFormatWord}
 use Rattle.fixed_write.specs.Places.{IsExactText, exact_text}
 use Rattle.fixed_write.specs.Texts.{IsShortestText, shortest_text}
 use Rattle.fixed_show.specs.Blocks.{line}
@@ -45,7 +44,7 @@ returns-clause-block g c =
       text = text;
       is_text = record {
         word = word;
-        is_word = subst (λ t. IsFormatWord t f) (sym c.as_bytes.ensures.bytes) c.format_name.ensures;
+        is_word = c.as_bytes.ensures.bytes ∙ c.format_name.ensures.text;
         least = least;
         is_least = is_least;
         most = most;

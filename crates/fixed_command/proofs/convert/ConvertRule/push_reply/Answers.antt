@@ -10,16 +10,12 @@ use Rattle.fixed_respell.specs.LineWords.{longest_line}
 use Rattle.fixed_respell.specs.Reached.{number_of}
 use Rattle.fixed_respell.specs.declared.fault.LineFault.TheVariants.{LineTooLong}
 use Rattle.line_engine.specs.Output.{AppendsAnswer}
-use Rattle.fixed_command.specs.Convert.{IsReply, asking_line, printed}
+use Rattle.fixed_command.specs.Convert.{IsReply, asking_line}
+use Rattle.fixed_command.specs.Printed.{printed}
 use Rattle.fixed_command.specs.declared.convert.Settings.{Settings}
 use Rattle.fixed_command.specs.Lemmas.ReplyLemmas.{long_reply}
 use Rattle.fixed_command.proofs.AskingLemmas.{refused_reply, respelled_range, respelled_reply}
 use Rattle.fixed_command.proofs.convert.ConvertRule.push_reply.Goals as goal
-
-not_longer : (long : Bool) (most n : ℕ) → (IsTrue long ↔ most < n) → long ≡ false → n ≤ most
-not_longer long most n means short =
-    let no : ¬ (most < n) = λ more. absurd (true≢false (sym (means.1 more) ∙ short)) in
-    omega (arith, no)
 
 pub returns-then-is_too_long-clause-reply : goal.returns-then-is_too_long-clause-reply
 returns-then-is_too_long-clause-reply g c =
@@ -27,38 +23,3 @@ returns-then-is_too_long-clause-reply g c =
     let message : List ℕ = fault_message LineTooLong in
     let long : longest_line < length (asking_line s c.args.numeral.now) = c.is_too_long.ensures.0 c.if-is_too_long.true in
     fault_appended (IsReply s) c.args.numeral.now c.args.out.now c.push_fault.new.out message (omega arith) (long_reply s c.args.numeral.now long) (rw c.words.ensures at c.push_fault.ensures)
-
-pub push_part-requires : goal.push_part-requires
-push_part-requires g c =
-    let s = c.self.inside.settings in
-    let number : ℤ = c.number_of-bits.result in
-    let fits : FitsSigned w128 number = search rules in
-    let range : IsInRange s.target.signed s.target.width number = rw c.number_of-bits.ensures.number (respelled_range s c.args.numeral.now (number_of c.in-Ok.found.bits) c.in-Ok.found.overflowed c.in-Ok.ensures.reached) in
-    (search rules, (search rules, (rw (to_z-of_z w128 number fits) c.number_of-bits.ensures.wide, (rw (to_z-of_z w128 number fits) range, search rules))))
-
-pub returns-in-Ok-clause-reply : goal.returns-in-Ok-clause-reply
-returns-in-Ok-clause-reply g c =
-    let s = c.self.inside.settings in
-    let found = c.in-Ok.found in
-    let number : ℤ = c.number_of-bits.result in
-    let fits : FitsSigned w128 number = search rules in
-    let text : List ℕ = printed s.print s.target (respelled_answer found.text number found.overflowed).text found.text number in
-    let appended : c.push_part.new.out ≡ c.args.out.now ++ text = rw (to_z-of_z w128 number fits, c.as_bytes.ensures.bytes) at c.push_part.ensures.appended in
-    let short : length (asking_line s c.args.numeral.now) ≤ longest_line = subst (λ t. length (asking_line t c.args.numeral.now) ≤ longest_line) (sym c.self.view_is) (not_longer _ _ _ c.is_too_long.ensures c.if-is_too_long.false) in
-    let P : Settings → Type 0 = λ t. AppendsAnswer (IsReply t) 192 c.args.numeral.now c.args.out.now c.push_part.new.out false in
-    subst P c.self.view_is (record {
-      text = text;
-      answer = respelled_reply s c.args.numeral.now found.text number found.overflowed (record { source = c.self.invariant.0; target = c.self.invariant.1 }) short
-          (rw c.number_of-bits.ensures.number c.in-Ok.ensures.reached) (rw c.number_of-bits.ensures.number c.in-Ok.ensures.text) c.number_of-bits.ensures.wide;
-      appended = appended;
-      short = omega (arith, c.push_part.ensures.short, ap length appended, length-append c.args.out.now text);
-    })
-
-pub returns-in-Err-clause-reply : goal.returns-in-Err-clause-reply
-returns-in-Err-clause-reply g c =
-    let s = c.self.inside.settings in
-    let message : List ℕ = message_of c.in-Err.error in
-    let short : length (asking_line s c.args.numeral.now) ≤ longest_line = subst (λ t. length (asking_line t c.args.numeral.now) ≤ longest_line) (sym c.self.view_is) (not_longer _ _ _ c.is_too_long.ensures c.if-is_too_long.false) in
-    let P : Settings → Type 0 = λ t. AppendsAnswer (IsReply t) 192 c.args.numeral.now c.args.out.now c.push_refusal.new.out true in
-    let answer = refused_reply s c.args.numeral.now c.in-Err.error (record { source = c.self.invariant.0; target = c.self.invariant.1 }) short c.in-Err.ensures.refused in
-    subst P c.self.view_is (fault_appended (IsReply s) c.args.numeral.now c.args.out.now c.push_refusal.new.out message (message_short c.in-Err.error) answer c.push_refusal.ensures)

@@ -1,4 +1,0 @@
-use Rattle.column_engine.proofs.tests.run_case.Given as goal
-
-abbrev pub ghosts-run_over : goal.ghosts-run_over
-ghosts-run_over a = record { name = a.blank.name; parts = a.blank.parts }

@@ -1,0 +1,186 @@
+-- What is written for the records of a text, some of whose columns are answered by a rule.
+use Rattle.std.specs.Prelude.{◌==◌, ◌&&◌, ◌||◌, ◌≡◌, ◌≢◌, ◌⊎◌, ◌<◌, ◌≤◌, ◌+◌, ◌-◌, ◌^◌, ◌++◌, ⊤, ℕ, List}
+use Rattle.std.specs.Prelude.{[], ◌∷◌, Bool, true, false, not, Some, None, get_or, if◌then◌else◌, length, max}
+use Rattle.std.specs.Prelude.{min, nat_le, string_bytes}
+use Rattle.csv.specs.Writing.{default_writer, needs_quotes, quoted}
+use Rattle.line_engine.specs.AnswerText.{AnswerText}
+use Rattle.column_engine.specs.Rows.{Row, content, field_texts, raw_fields, row_text}
+use Rattle.column_engine.specs.declared.columns.Column.{Column}
+use Rattle.column_engine.specs.declared.columns.Column.TheVariants.{At, Named}
+use Rattle.column_engine.specs.declared.columns.Range.{Range}
+use Rattle.column_engine.specs.declared.place.Place.TheVariants.{Start}
+
+-- ---- which columns are asked for
+
+-- whether a range has a column
+abbrev pub is_within : ℕ → Range → Bool
+is_within column range = nat_le range.from column && nat_le column range.to
+
+-- whether one of these ranges has a column
+abbrev pub is_asked : List Range → ℕ → Bool
+is_asked [] column = false
+is_asked (range ∷ ranges) column = is_within column range || is_asked ranges column
+
+-- how many fields a record must have for a range: none where it goes on to the last field, whichever that is
+abbrev pub needed_for : Range → ℕ
+needed_for range = if range.to == 2 ^ 64 - 1 then 0 else range.to + 1
+
+-- and for all of these ranges
+abbrev pub needed : List Range → ℕ
+needed [] = 0
+needed (range ∷ ranges) = max (needed_for range) (needed ranges)
+
+-- the first of these names that is this one
+pub record IsFirstNamed (name : List ℕ) (names : List (List ℕ)) (place : ℕ) : Type 0 where
+  pub there : place < length names
+  pub named : get_or names place [] ≡ name
+  pub first : (k : ℕ) → k < place → get_or names k [] ≢ name
+
+-- none of these names is this one
+abbrev pub HasNoNamed : List ℕ → List (List ℕ) → Type 0
+HasNoNamed name names = (k : ℕ) → k < length names → get_or names k [] ≢ name
+
+-- the columns that a word means among the names of a header, of which there are none without one: a range, or the
+-- first column
+-- that is named so, and else the range that the name is read as
+abbrev pub IsFound : List (List ℕ) → Column → Range → Type 0
+IsFound names (At range) found = found ≡ range
+IsFound names (Named name range) found =
+    (IsFirstNamed (string_bytes name) names found.from × (found.to ≡ found.from))
+    ⊎ (HasNoNamed (string_bytes name) names × (range ≡ Some found))
+
+-- and those that each word means
+abbrev pub AreFound : List (List ℕ) → List Column → List Range → Type 0
+AreFound names [] [] = ⊤
+AreFound names [] (range ∷ ranges) = ⊥
+AreFound names (column ∷ columns) [] = ⊥
+AreFound names (column ∷ columns) (range ∷ ranges) = IsFound names column range × AreFound names columns ranges
+
+-- a word that means no column
+abbrev pub IsMissing : List (List ℕ) → Column → Type 0
+IsMissing names (At range) = ⊥
+IsMissing names (Named name range) = HasNoNamed (string_bytes name) names × (range ≡ None)
+
+abbrev pub AnyMissing : List (List ℕ) → List Column → Type 0
+AnyMissing names [] = ⊥
+AnyMissing names (column ∷ columns) = IsMissing names column ⊎ AnyMissing names columns
+
+-- ---- the answer to a record
+
+-- a text as a field: in quotes, as csv writes them, where it has a byte that calls for them, is empty, or begins like
+-- a byte order mark
+abbrev pub calls_for_quotes : ℕ → List ℕ → Bool
+calls_for_quotes delimiter text = (length text == 0) || (get_or text 0 0 == 239) || needs_quotes (record
+    default_writer { delimiter = delimiter }) text
+
+abbrev pub as_field : ℕ → List ℕ → List ℕ
+as_field delimiter text = if calls_for_quotes delimiter text then quoted (record default_writer {
+  delimiter =
+      delimiter;
+}) text else text
+
+-- what is written for a field, and whether it was refused
+pub record FieldAnswer : Type 0 where
+  pub text : List ℕ
+  pub refused : Bool
+
+-- the bytes of a field that is not asked for stay; those of one that is are replaced by the reply to its text, by
+-- this meaning of a
+-- reply, or stay where it is refused and refused fields are kept
+abbrev pub IsAnswer : (List ℕ → AnswerText → Type 0) → Bool → ℕ → Bool → List ℕ → FieldAnswer → Type 0
+IsAnswer A keeps delimiter false raw answer = answer ≡ record { text = raw; refused = false }
+IsAnswer A keeps delimiter true raw answer = (reply : AnswerText) × A (content Start raw) reply
+    × (answer ≡ record {
+      text = if keeps && reply.fault then raw else as_field delimiter reply.text;
+      refused =
+          reply.fault;
+    })
+
+-- these fields, the first of which is in this column, have these answers
+abbrev pub AreAnswers : (List ℕ → AnswerText → Type 0) → Bool → ℕ → List Range → ℕ → List (List ℕ) → List FieldAnswer
+    → Type 0
+AreAnswers A keeps delimiter asked column [] [] = ⊤
+AreAnswers A keeps delimiter asked column [] (answer ∷ answers) = ⊥
+AreAnswers A keeps delimiter asked column (raw ∷ raws) [] = ⊥
+AreAnswers A keeps delimiter asked column (raw ∷ raws) (answer ∷ answers) =
+    IsAnswer A keeps delimiter (is_asked asked column) raw answer × AreAnswers A keeps delimiter asked (column + 1)
+    raws answers
+
+-- the delimiter before each field but the first
+abbrev pub before_field : ℕ → ℕ → List ℕ
+before_field delimiter column = if column == 0 then [] else delimiter ∷ []
+
+-- the text of these fields, the first of which is in this column
+abbrev pub answers_text : ℕ → ℕ → List FieldAnswer → List ℕ
+answers_text delimiter column [] = []
+answers_text delimiter column (answer ∷ answers) = before_field delimiter column ++ answer.text ++ answers_text
+    delimiter (column + 1) answers
+
+-- how many of the fields were refused
+abbrev pub count_refused : List FieldAnswer → ℕ
+count_refused [] = 0
+count_refused (answer ∷ answers) = (if answer.refused then 1 else 0) + count_refused answers
+
+-- ---- the answers to the records of a text
+
+-- between two records: whether the next one is the header, and else the columns that are asked for; how many records
+-- were answered,
+-- a header too, and how many fields refused; and the number of the first record one of whose fields was, 0 where
+-- there is none
+pub record State : Type 0 where
+  pub headed : Bool
+  pub asked : List Range
+  pub answered : ℕ
+  pub refused : ℕ
+  pub first : ℕ
+
+-- the sum, up to the greatest count
+abbrev pub counted : ℕ → ℕ → ℕ
+counted a b = min (a + b) (2 ^ 64 - 1)
+
+-- after one more record, this many of whose fields were refused
+abbrev pub one_more : State → ℕ → State
+one_more s refused = record s {
+  answered = counted s.answered 1;
+  refused = counted s.refused refused;
+  first = if (s.first == 0) && not (refused == 0) then counted s.answered 1 else s.first;
+}
+
+-- the header: it is written as it is, and says which columns are asked for
+pub record PassesHeader (delimiter : ℕ) (columns : List Column) (s : State) (row : Row) (text : List ℕ) (t : State) :
+    Type 0 where
+  pub next : s.headed ≡ true
+  pub found : List Range
+  pub are_found : AreFound (field_texts delimiter row.body) columns found
+  pub enough : needed found ≤ length (raw_fields delimiter Start row.body)
+  pub text_is : text ≡ row_text row
+  pub after : t ≡ one_more (record s { headed = false; asked = found }) 0
+
+-- a record: the answers to its fields, and the byte that ends it
+pub record AnswersFields (A : List ℕ → AnswerText → Type 0) (keeps : Bool) (delimiter : ℕ) (s : State) (row : Row)
+    (text : List ℕ) (t : State) : Type 0 where
+  pub known : s.headed ≡ false
+  pub enough : needed s.asked ≤ length (raw_fields delimiter Start row.body)
+  pub answers : List FieldAnswer
+  pub are : AreAnswers A keeps delimiter s.asked 0 (raw_fields delimiter Start row.body) answers
+  pub text_is : text ≡ answers_text delimiter 0 answers ++ row.end
+  pub after : t ≡ one_more s (count_refused answers)
+
+-- an empty line stays
+pub record PassesEmpty (s : State) (row : Row) (text : List ℕ) (t : State) : Type 0 where
+  pub empty : row.body ≡ []
+  pub text_is : text ≡ row.end
+  pub after : t ≡ s
+
+abbrev pub AnswersRow : (List ℕ → AnswerText → Type 0) → Bool → ℕ → List Column → State → Row → List ℕ → State → Type 0
+AnswersRow A keeps delimiter columns s row text t =
+    PassesEmpty s row text t ⊎ ((row.body ≢ []) × (PassesHeader delimiter columns s row text t
+    ⊎ AnswersFields A keeps delimiter s row text t))
+
+-- this text is written for these records
+abbrev pub AnswersRows : (List ℕ → AnswerText → Type 0) → Bool → ℕ → List Column → State → List Row → List ℕ → State
+    → Type 0
+AnswersRows A keeps delimiter columns s [] text t = (text ≡ []) × (t ≡ s)
+AnswersRows A keeps delimiter columns s (row ∷ rows) text t = (first : List ℕ) × (rest : List ℕ) × (between : State)
+    × AnswersRow A keeps delimiter columns s row first between × AnswersRows A keeps delimiter columns between rows
+    rest t × (text ≡ first ++ rest)

@@ -1,0 +1,22 @@
+-- How a text begins.
+use Rattle.std.specs.Prelude.{◌≡◌, ◌<◌, ◌++◌, ℕ, List, [], ◌∷◌, Option, Some, None, take}
+use Rattle.std.specs.Io.KnownBytes.{IsAtEnd}
+use Rattle.csv.specs.Reading.{strip_bom}
+use Rattle.column_engine.specs.Rows.{byte_order_mark}
+use Rattle.column_engine.specs.declared.begin.Start.{Start}
+use Rattle.column_engine.specs.declared.begin.Start.TheVariants.{Ended, Marked, Other}
+
+-- the byte that a read gave, where it gave one
+abbrev pub given : Option ℕ → List ℕ
+given None = []
+given (Some byte) = byte ∷ []
+
+-- the first bytes of a byte order mark, but not all
+abbrev pub IsPartOfMark : List ℕ → Type 0
+IsPartOfMark bytes = (k : ℕ) × (k < 3) × (bytes ≡ take k byte_order_mark)
+
+-- what the first bytes of a text are
+abbrev pub Begins : Start → List ℕ → Option (List ℕ) → Type 0
+Begins Marked bytes left = bytes ≡ byte_order_mark
+Begins Ended bytes left = IsPartOfMark bytes × IsAtEnd left
+Begins Other bytes left = (more : List ℕ) → strip_bom (bytes ++ more) ≡ bytes ++ more

@@ -1,0 +1,85 @@
+-- What the next bytes of a text make of the records that were answered and of the bytes that are kept.
+use Rattle.std.specs.Prelude.{◌≡◌, ◌<◌, ◌+◌, ◌++◌, ℕ, Bool, List, [], length, take}
+use Rattle.std.specs.declared.option.Option.{Option}
+use Rattle.line_engine.specs.AnswerText.{AnswerText}
+use Rattle.line_engine.specs.Inner.Progress.{Flushes}
+use Rattle.column_engine.specs.Answers.{AnswersRows, State}
+use Rattle.column_engine.specs.Rows.{AreEnded, IsEnded, IsUnended, Row, places_after, row_text, rows_text}
+use Rattle.column_engine.specs.Steps.{SameCounts, IsUnanswered, IsRowPart}
+use Rattle.column_engine.specs.declared.columns.Column.{Column}
+use Rattle.column_engine.specs.declared.end.Stop.{Stop}
+use Rattle.column_engine.specs.declared.end.Stop.TheVariants.{Done, NoColumn, NoMemory, NoName, ReadFault, TooLong}
+use Rattle.column_engine.specs.declared.end.Stop.TheVariants.{Unclosed, WriteFault}
+use Rattle.column_engine.specs.declared.place.Place.{Place}
+use Rattle.column_engine.specs.declared.place.Place.TheVariants.{Start}
+use Rattle.column_engine.specs.declared.record_buffer.TheConstants.{MAX_RECORD}
+
+-- these bytes are kept of a record that has not ended, and this is the place after them
+pub record IsStanding (delimiter : ℕ) (kept : List ℕ) (place : Place) : Type 0 where
+  pub unended : IsUnended delimiter Start kept
+  pub place_is : place ≡ places_after delimiter Start kept
+
+-- the records that end in these bytes were answered, and the rest of the bytes is kept
+pub record FeedsRows (A : List ℕ → AnswerText → Type 0) (keeps : Bool) (delimiter : ℕ) (columns : List Column) (bytes
+    rest : List ℕ) (s t : State)
+    (held held' : List ℕ) (written written' : Option (List ℕ)) : Type 0 where
+  pub rows : List Row
+  pub split : bytes ≡ rows_text rows ++ rest
+  pub ended : AreEnded delimiter rows
+  pub text : List ℕ
+  pub answers : AnswersRows A keeps delimiter columns s rows text t
+  pub gathered : Flushes held text held' written written'
+
+-- more bytes than a record has, and no record ends before those
+pub record IsTooLong (delimiter : ℕ) (bytes : List ℕ) : Type 0 where
+  pub many : MAX_RECORD < length bytes
+  pub unended : IsUnended delimiter Start (take (MAX_RECORD + 1) bytes)
+
+-- a record that ended, at the start of these bytes
+pub record BeginsWith (delimiter : ℕ) (row : Row) (bytes : List ℕ) : Type 0 where
+  pub rest : List ℕ
+  pub split : bytes ≡ row_text row ++ rest
+  pub ended : IsEnded delimiter row
+
+-- why no more records were answered of a text that goes on so, and what of the next record was to be written
+abbrev pub StopsAt : Stop → (List ℕ → AnswerText → Type 0) → Bool → ℕ → List Column → State → List ℕ → List ℕ → Type 0
+StopsAt TooLong A keeps delimiter columns s bytes part = IsTooLong delimiter bytes × (part ≡ [])
+StopsAt (NoColumn count) A keeps delimiter columns s bytes part =
+    (row : Row) × BeginsWith delimiter row bytes × IsUnanswered (NoColumn count) delimiter columns s row × (part ≡ [])
+StopsAt NoName A keeps delimiter columns s bytes part =
+    (row : Row) × BeginsWith delimiter row bytes × IsUnanswered NoName delimiter columns s row × (part ≡ [])
+StopsAt WriteFault A keeps delimiter columns s bytes part =
+    (row : Row) × BeginsWith delimiter row bytes × IsRowPart A keeps delimiter columns s row part
+StopsAt Done A keeps delimiter columns s bytes part = ⊥
+StopsAt ReadFault A keeps delimiter columns s bytes part = ⊥
+StopsAt NoMemory A keeps delimiter columns s bytes part = ⊥
+StopsAt Unclosed A keeps delimiter columns s bytes part = ⊥
+
+-- all of this is gathered, unless a write failed
+abbrev pub IsLeft : Stop → List ℕ → List ℕ → Type 0
+IsLeft WriteFault left held = Unit {0}
+IsLeft TooLong left held = left ≡ held
+IsLeft (NoColumn count) left held = left ≡ held
+IsLeft NoName left held = left ≡ held
+IsLeft Done left held = ⊥
+IsLeft ReadFault left held = ⊥
+IsLeft NoMemory left held = ⊥
+IsLeft Unclosed left held = ⊥
+
+-- the first of the records that end in these bytes were answered, and then no more
+pub record FailsFeed (stop : Stop) (A : List ℕ → AnswerText → Type 0) (keeps : Bool) (delimiter : ℕ) (columns : List
+    Column) (bytes : List ℕ) (s t : State)
+    (held held' : List ℕ) (written written' : Option (List ℕ)) : Type 0 where
+  pub rest : List ℕ
+  pub between : State
+  pub part : List ℕ
+  pub stops : StopsAt stop A keeps delimiter columns between rest part
+  pub counts : SameCounts between t
+  pub left : List ℕ
+  pub is_left : IsLeft stop left held'
+  pub rows : List Row
+  pub split : bytes ≡ rows_text rows ++ rest
+  pub ended : AreEnded delimiter rows
+  pub text : List ℕ
+  pub answers : AnswersRows A keeps delimiter columns s rows text between
+  pub gathered : Flushes held (text ++ part) left written written'

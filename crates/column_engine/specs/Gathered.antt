@@ -1,0 +1,35 @@
+-- What was gathered or written for a record so far.
+use Rattle.std.specs.Prelude.{◌≡◌, ◌++◌, ℕ, Bool, List}
+use Rattle.std.specs.declared.option.Option.{Option}
+use Rattle.line_engine.specs.AnswerText.{AnswerText}
+use Rattle.line_engine.specs.Inner.Progress.{Flushes}
+use Rattle.column_engine.specs.Answers.{AreAnswers, FieldAnswer, IsAnswer, answers_text, before_field, count_refused}
+use Rattle.column_engine.specs.declared.columns.Range.{Range}
+
+-- the answer to a field was gathered, after the delimiter before it
+pub record GathersField (A : List ℕ → AnswerText → Type 0) (keeps : Bool) (delimiter : ℕ) (asks : Bool) (column : ℕ)
+    (raw : List ℕ) (refused : Bool)
+    (held held' : List ℕ) (written written' : Option (List ℕ)) : Type 0 where
+  pub text : List ℕ
+  pub answer : IsAnswer A keeps delimiter asks raw (record { text = text; refused = refused })
+  pub gathered : Flushes held (before_field delimiter column ++ text) held' written written'
+
+-- the answers to these fields were
+pub record GathersFields (A : List ℕ → AnswerText → Type 0) (keeps : Bool) (delimiter : ℕ) (asked : List Range)
+    (column : ℕ) (raws : List (List ℕ)) (refused : ℕ)
+    (held held' : List ℕ) (written written' : Option (List ℕ)) : Type 0 where
+  pub answers : List FieldAnswer
+  pub are : AreAnswers A keeps delimiter asked column raws answers
+  pub refused_is : refused ≡ count_refused answers
+  pub gathered : Flushes held (answers_text delimiter column answers) held' written written'
+
+-- the answers to the first of these fields, or to all, were to be written, and a write failed
+pub record GathersPart (A : List ℕ → AnswerText → Type 0) (keeps : Bool) (delimiter : ℕ) (asked : List Range) (raws :
+    List (List ℕ))
+    (held : List ℕ) (written written' : Option (List ℕ)) : Type 0 where
+  pub some : List (List ℕ)
+  pub more : List (List ℕ)
+  pub cut : raws ≡ some ++ more
+  pub refused : ℕ
+  pub left : List ℕ
+  pub fields : GathersFields A keeps delimiter asked 0 some refused held left written written'

@@ -1,0 +1,70 @@
+//! Which columns of a text are answered.
+
+ghost use Rattle.std.specs.Prelude.{◌≡◌, max};
+ghost use Rattle.column_engine.specs.Answers.{is_asked, is_within, needed, needed_for};
+
+/// Some columns that are side by side, by their places, from 0.
+#[derive(Clone, Copy, Debug, Drop, PartialEq, Eq)]
+pub struct Range {
+    /// The first of them.
+    pub from: usize,
+    /// The last of them, or the greatest number for all columns that a record has.
+    pub to: usize,
+}
+
+/// What a word asks for.
+#[derive(Drop)]
+pub enum Column {
+    /// The columns at these places.
+    At(Range),
+    /// Under a header the first column with this name, and else the ones that the name is read as.
+    Named(String, Option<Range>),
+}
+
+/// Whether a range has a column.
+fn is_within(column: usize, range: Range) -> bool
+    ensures { result ≡ is_within column range }
+{
+    range.from <= column && column <= range.to
+}
+
+/// Whether a column is asked for.
+pub(crate) fn is_asked(asked: &[Range], column: usize) -> bool
+    ensures { result ≡ is_asked asked.now column }
+{
+    'spans: for at in 0..asked.len() {
+        if is_within(column, asked[at]) {
+            return true;
+        }
+    }
+    false
+}
+
+/// How many fields a record must have for a range.
+fn needed_for(range: Range) -> usize
+    ensures { result ≡ needed_for range }
+{
+    if range.to == usize::MAX {
+        0
+    } else {
+        range.to + 1
+    }
+}
+
+/// The greater of two numbers.
+fn greater(a: usize, b: usize) -> usize
+    ensures { result ≡ max a b }
+{
+    if a < b { b } else { a }
+}
+
+/// How many fields a record must have.
+pub(crate) fn needed(asked: &[Range]) -> usize
+    ensures { result ≡ needed asked.now }
+{
+    let mut most = 0;
+    'spans: for at in 0..asked.len() {
+        most = greater(most, needed_for(asked[at]));
+    }
+    most
+}

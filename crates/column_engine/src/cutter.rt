@@ -1,0 +1,128 @@
+//! What is kept between two chunks of a text, and how its records are answered.
+
+ghost use Rattle.std.specs.Prelude.{◌≡◌, ◌≤◌, ◌<◌, ◌+◌, ◌++◌, [], List, ℕ, IfErr, OnOk, OnErr, length};
+ghost use Rattle.column_engine.specs.Feeding.{FailsFeed, FeedsRows, IsStanding};
+ghost use Rattle.column_engine.specs.Steps.{PassesRow, RisesOnly, SameCounts, StopsRow, state_of};
+ghost use Rattle.column_engine.specs.declared.record_buffer.TheConstants.{MAX_RECORD};
+
+use crate::answer::{ColumnTask, Work};
+use crate::end::Stop;
+use crate::place::{Place, record_end};
+use crate::record_buffer::{MAX_RECORD, RecordBuffer};
+use crate::row::{Progress, answer_row};
+use fixed_steps::Steps;
+use line_engine::{LineRule, Sink};
+use std::sync::ledger::Ledger;
+
+/// What is kept between two chunks of a text.
+#[derive(Drop)]
+pub(crate) struct Cutter {
+    /// How far the text was answered.
+    pub progress: Progress,
+    /// The bytes of the record at hand that earlier chunks had.
+    pub kept: RecordBuffer,
+    /// The place after them.
+    pub place: Place,
+}
+
+/// Answers the record at hand, which ends with this part and this byte.
+fn end_row<A: LineRule<L>, K: Sink, L: Ledger>(
+    task: &ColumnTask<'_, A>,
+    cutter: &mut Cutter,
+    part: &[u8],
+    end: &[u8],
+    work: &mut Work,
+    sink: &mut K,
+    steps: &mut Steps<L>,
+) -> Result<(), Stop>
+    requires short { length cutter.old.kept + length part.now ≤ MAX_RECORD }
+    requires as_many { length cutter.old.progress.asked.items ≡ length task.now.columns.now }
+    ensures kept { OnOk result (cutter.new.kept ≡ []) }
+    ensures place { OnOk result (cutter.new.place ≡ Place.Start) }
+    ensures ok { OnOk result (PassesRow (A.Answers task.now.rule.now) task.now.is_kept task.now.delimiter
+        task.now.columns.now
+        (record { body = cutter.old.kept ++ part.now; end = end.now })
+        (state_of cutter.old.progress) (state_of cutter.new.progress) work.old.out work.new.out (K.written sink.old)
+        (K.written sink.new)) }
+    ensures err { IfErr result (λ stop. StopsRow stop (A.Answers task.now.rule.now) task.now.is_kept
+        task.now.delimiter task.now.columns.now
+        (record { body = cutter.old.kept ++ part.now; end = end.now })
+        (state_of cutter.old.progress) work.old.out work.new.out (K.written sink.old) (K.written sink.new)) }
+    ensures counts { IfErr result (λ stop. SameCounts (state_of cutter.old.progress) (state_of cutter.new.progress)) }
+    ensures as_many { length cutter.new.progress.asked.items ≡ length task.now.columns.now }
+    ensures failures { RisesOnly (K.failures sink.old) (K.failures sink.new) result }
+{
+    cutter.place = Place::Start;
+    if cutter.kept.is_empty() {
+        return answer_row(task, &mut cutter.progress, part, end, work, sink, steps);
+    }
+    cutter.kept.append(part);
+    answer_row(
+        task,
+        &mut cutter.progress,
+        cutter.kept.as_slice(),
+        end,
+        work,
+        sink,
+        steps,
+    )?;
+    cutter.kept.clear();
+    Ok(())
+}
+
+/// Answers the records that end in a chunk, and keeps what follows the last of them.
+pub(crate) fn feed<A: LineRule<L>, K: Sink, L: Ledger>(
+    task: &ColumnTask<'_, A>,
+    cutter: &mut Cutter,
+    chunk: &[u8],
+    work: &mut Work,
+    sink: &mut K,
+    steps: &mut Steps<L>,
+) -> Result<(), Stop>
+    requires standing { IsStanding task.now.delimiter cutter.old.kept cutter.old.place }
+    requires as_many { length cutter.old.progress.asked.items ≡ length task.now.columns.now }
+    ensures standing { OnOk result (IsStanding task.now.delimiter cutter.new.kept cutter.new.place) }
+    ensures ok { OnOk result (FeedsRows (A.Answers task.now.rule.now) task.now.is_kept task.now.delimiter
+        task.now.columns.now
+        (cutter.old.kept ++ chunk.now) cutter.new.kept (state_of cutter.old.progress) (state_of cutter.new.progress)
+        work.old.out work.new.out (K.written sink.old) (K.written sink.new)) }
+    ensures err { IfErr result (λ stop. FailsFeed stop (A.Answers task.now.rule.now) task.now.is_kept
+        task.now.delimiter task.now.columns.now
+        (cutter.old.kept ++ chunk.now) (state_of cutter.old.progress) (state_of cutter.new.progress)
+        work.old.out work.new.out (K.written sink.old) (K.written sink.new)) }
+    ensures as_many { length cutter.new.progress.asked.items ≡ length task.now.columns.now }
+    ensures failures { RisesOnly (K.failures sink.old) (K.failures sink.new) result }
+{
+    let mut rest = chunk;
+    'rows: loop {
+        let (end, place) = record_end(task.delimiter, cutter.place, rest);
+        let room = MAX_RECORD - cutter.kept.len();
+        match end {
+            None => {
+                if rest.len() > room {
+                    return Err(Stop::TooLong);
+                }
+                cutter.kept.append(rest);
+                cutter.place = place;
+                return Ok(());
+            }
+            Some(end) => {
+                if end > room {
+                    return Err(Stop::TooLong);
+                }
+                match end_row(
+                    task,
+                    cutter,
+                    &rest[..end],
+                    &rest[end..end + 1],
+                    work,
+                    sink,
+                    steps,
+                ) {
+                    Err(stop) => return Err(stop),
+                    Ok(()) => rest = &rest[end + 1..],
+                }
+            }
+        }
+    }
+}

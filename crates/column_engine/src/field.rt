@@ -1,0 +1,128 @@
+//! The text that the bytes of a field mean, and the bytes that mean a text.
+
+ghost use Rattle.std.specs.Prelude.{◌≡◌, ◌==◌, ◌<◌, ◌≤◌, ◌+◌, ◌*◌, ◌++◌, [], ◌∷◌, IfSome, if◌then◌else◌, length};
+ghost use Rattle.csv.specs.Writing.{default_writer, needs_byte, needs_quotes, quoted};
+ghost use Rattle.column_engine.specs.Answers.{as_field, calls_for_quotes};
+ghost use Rattle.column_engine.specs.Rows.{content, is_dropped};
+ghost use Rattle.column_engine.specs.declared.record_buffer.TheConstants.{MAX_RECORD};
+
+use crate::place::{Place, within_after};
+use crate::record_buffer::RecordBuffer;
+use memchr::memchr;
+
+/// Whether a byte of a field is a quote around its text, or the first of two that mean one.
+fn is_dropped(place: Place, byte: u8) -> bool
+    ensures { result ≡ is_dropped place byte }
+{
+    match place {
+        Place::Start | Place::Quoted => byte == b'"',
+        Place::Inside | Place::AfterQuote => false,
+    }
+}
+
+/// The text of a field, where it lies in the field's bytes.
+pub(crate) fn plain_content(raw: &[u8]) -> Option<&[u8]>
+    ensures { IfSome result (λ text. text.now ≡ content Place.Start raw.now) }
+{
+    if raw.is_empty() {
+        return Some(raw);
+    }
+    if raw[0] != b'"' {
+        return Some(raw);
+    }
+    let rest = &raw[1..];
+    match memchr(b'"', rest) {
+        Some(end) if end + 1 == rest.len() => Some(&rest[..end]),
+        _ => None,
+    }
+}
+
+/// Goes on with a byte of a field, where it is of its text.
+fn push_kept(place: Place, byte: u8, text: &mut RecordBuffer)
+    requires { length text.old < MAX_RECORD }
+    ensures text { text.new ≡ text.old ++ (if is_dropped place byte then [] else byte ∷ []) }
+    ensures short { length text.new ≤ length text.old + 1 }
+{
+    if !is_dropped(place, byte) {
+        text.push(byte);
+    }
+}
+
+/// Writes out the text of a field.
+pub(crate) fn write_content(raw: &[u8], text: &mut RecordBuffer)
+    requires { length raw.now ≤ MAX_RECORD }
+    ensures { text.new ≡ content Place.Start raw.now }
+{
+    text.clear();
+    let mut place = Place::Start;
+    'bytes: for at in 0..raw.len() {
+        push_kept(place, raw[at], text);
+        place = within_after(place, raw[at]);
+    }
+}
+
+/// Whether a byte calls for quotes.
+fn is_special(delimiter: u8, byte: u8) -> bool
+    ensures { result ≡ needs_byte (record default_writer { delimiter = delimiter }) byte }
+{
+    byte == delimiter || byte == b'"' || byte == b'\r' || byte == b'\n'
+}
+
+/// Whether a byte of a text calls for quotes.
+fn has_special(delimiter: u8, text: &[u8]) -> bool
+    ensures { result ≡ needs_quotes (record default_writer { delimiter = delimiter }) text.now }
+{
+    'bytes: for at in 0..text.len() {
+        if is_special(delimiter, text[at]) {
+            return true;
+        }
+    }
+    false
+}
+
+/// Whether a text is a field only in quotes.
+pub(crate) fn calls_for_quotes(delimiter: u8, text: &[u8]) -> bool
+    ensures { result ≡ calls_for_quotes delimiter text.now }
+{
+    if text.is_empty() || text[0] == 0xef {
+        return true;
+    }
+    has_special(delimiter, text)
+}
+
+/// Goes on with a byte between quotes.
+fn push_escaped(byte: u8, shown: &mut RecordBuffer)
+    requires { length shown.old + 2 ≤ MAX_RECORD }
+    ensures text { shown.new ≡ shown.old ++ (if byte == 34 then 34 ∷ byte ∷ [] else byte ∷ []) }
+    ensures short { length shown.new ≤ length shown.old + 2 }
+{
+    if byte == b'"' {
+        shown.push(b'"');
+    }
+    shown.push(byte);
+}
+
+/// Goes on with a text in quotes, each quote in it twice.
+fn push_quoted(delimiter: u8, text: &[u8], shown: &mut RecordBuffer)
+    requires { length shown.old + 2 * length text.now + 2 ≤ MAX_RECORD }
+    ensures { shown.new ≡ shown.old ++ quoted (record default_writer { delimiter = delimiter }) text.now }
+{
+    shown.push(b'"');
+    'bytes: for at in 0..text.len() {
+        push_escaped(text[at], shown);
+    }
+    shown.push(b'"');
+}
+
+/// Writes out a text as a field.
+pub(crate) fn write_as_field(delimiter: u8, text: &[u8], shown: &mut RecordBuffer)
+    requires { 2 * length text.now + 2 ≤ MAX_RECORD }
+    ensures { shown.new ≡ as_field delimiter text.now }
+{
+    shown.clear();
+    if calls_for_quotes(delimiter, text) {
+        push_quoted(delimiter, text, shown);
+    } else {
+        shown.append(text);
+    }
+}

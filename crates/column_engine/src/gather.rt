@@ -1,0 +1,43 @@
+//! The gathering of an output before it is written.
+
+ghost use Rattle.std.specs.Prelude.{◌≡◌, ◌≤◌, List, ℕ, [], OnOk, OnErr, length};
+ghost use Rattle.std.specs.Io.KnownBytes.{Appends};
+ghost use Rattle.line_engine.specs.Failures.{FailsOnlyCounted};
+ghost use Rattle.line_engine.specs.Inner.Progress.{Flushes};
+ghost use Rattle.line_engine.specs.Output.{AppendsPrefix};
+
+use line_engine::{Failed, OUTPUT_BUFFER, Output, Sink, write_whole};
+
+/// Writes what was gathered.
+pub(crate) fn flush<K: Sink>(out: &mut Output, sink: &mut K) -> Result<(), Failed>
+    ensures none { OnOk result (out.new ≡ []) }
+    ensures ok { OnOk result (Appends (K.written sink.old) (K.written sink.new) out.old) }
+    ensures err { OnErr result (AppendsPrefix (K.written sink.old) (K.written sink.new) out.old) }
+    ensures failures { FailsOnlyCounted (K.failures sink.old) (K.failures sink.new) result }
+{
+    write_whole(sink, out.as_bytes())?;
+    out.clear();
+    Ok(())
+}
+
+/// Gathers bytes. Where there is no room for them, what was gathered is written first, and they are written at once
+/// where they are
+/// many. Where a write failed, a prefix of all of it was written.
+#[inline]
+pub(crate) fn put<K: Sink>(bytes: &[u8], out: &mut Output, sink: &mut K) -> Result<(), Failed>
+    ensures ok { OnOk result (Flushes out.old bytes.now out.new (K.written sink.old) (K.written sink.new)) }
+    ensures err { OnErr result ((left : List ℕ) × Flushes out.old bytes.now left (K.written sink.old) (K.written
+        sink.new)) }
+    ensures failures { FailsOnlyCounted (K.failures sink.old) (K.failures sink.new) result }
+{
+    if bytes.len() <= out.room() {
+        out.push_bytes(bytes);
+        return Ok(());
+    }
+    flush(out, sink)?;
+    if bytes.len() <= OUTPUT_BUFFER {
+        out.push_bytes(bytes);
+        return Ok(());
+    }
+    write_whole(sink, bytes)
+}

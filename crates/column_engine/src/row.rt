@@ -1,0 +1,216 @@
+//! The answer to a record.
+
+ghost use Rattle.std.specs.Prelude.{◌≡◌, ◌≢◌, ◌≤◌, ◌<◌, ◌+◌, ◌++◌, [], true, false, List, ℕ, MatchOption, IfErr};
+ghost use Rattle.std.specs.Prelude.{OnOk, OnErr, length};
+ghost use Rattle.line_engine.specs.Failures.{FailsOnlyCounted};
+ghost use Rattle.line_engine.specs.Inner.Progress.{Flushes};
+ghost use Rattle.column_engine.specs.Answers.{AnyMissing, AreFound, counted, needed, one_more};
+ghost use Rattle.column_engine.specs.Rows.{field_texts, raw_fields};
+ghost use Rattle.column_engine.specs.Steps.{IsHeader, IsNoHeader, PassesRow, RisesOnly, SameButAsked, SameCounts};
+ghost use Rattle.column_engine.specs.Steps.{StopsRow, state_of};
+ghost use Rattle.column_engine.specs.declared.record_buffer.TheConstants.{MAX_RECORD};
+
+use crate::answer::{ColumnTask, Work, answer_fields};
+use crate::columns::{Column, Range, needed};
+use crate::end::Stop;
+use crate::gather::put;
+use crate::header::found_column;
+use crate::place::{Place, field_end};
+use crate::record_buffer::RecordBuffer;
+use fixed_steps::Steps;
+use line_engine::{Failed, LineRule, Output, Sink};
+use std::sync::ledger::Ledger;
+
+/// How far a text was answered.
+#[derive(Drop)]
+pub struct Progress {
+    /// Whether the next record is the header.
+    pub is_headed: bool,
+    /// The columns that are asked for, where they are known.
+    pub asked: Vec<Range>,
+    /// How many records were answered, a header too; it stays at the last value of u64.
+    pub answered: u64,
+    /// How many fields were refused; it stays at the last value of u64.
+    pub refused: u64,
+    /// The number of the first record one of whose fields was refused, from 1; 0 where there is none.
+    pub first: u64,
+}
+
+/// Counts a record, this many of whose fields were refused.
+fn count_record(progress: &mut Progress, refused: u64)
+    ensures { state_of progress.new ≡ one_more (state_of progress.old) refused }
+{
+    progress.answered = progress.answered.saturating_add(1);
+    progress.refused = progress.refused.saturating_add(refused);
+    if progress.first == 0 && refused != 0 {
+        progress.first = progress.answered;
+    }
+}
+
+/// How many fields a record has, where it has too few.
+fn lacking(delimiter: u8, body: &[u8], needed: usize) -> Option<usize>
+    requires { length body.now ≤ MAX_RECORD }
+    ensures { MatchOption result (needed ≤ length (raw_fields delimiter Place.Start body.now))
+        (λ count. (count ≡ length (raw_fields delimiter Place.Start body.now)) × (count < needed)) }
+{
+    let mut rest = body;
+    let mut count = 1;
+    'fields: loop {
+        if needed <= count {
+            return None;
+        }
+        let end = field_end(delimiter, rest);
+        if end == rest.len() {
+            return Some(count);
+        }
+        rest = &rest[end + 1..];
+        count += 1;
+    }
+}
+
+/// Finds the columns that are asked for under a header, or says that a name is missing.
+fn find_columns(
+    delimiter: u8,
+    header: &[u8],
+    columns: &[Column],
+    asked: &mut [Range],
+    text: &mut RecordBuffer,
+) -> bool
+    requires short { length header.now ≤ MAX_RECORD }
+    requires as_many { length asked.old ≡ length columns.now }
+    ensures found { result ≡ true → AreFound (field_texts delimiter header.now) columns.now asked.new }
+    ensures missing { result ≡ false → AnyMissing (field_texts delimiter header.now) columns.now }
+{
+    'columns: for at in 0..columns.len() {
+        match found_column(delimiter, header, &columns[at], text) {
+            Some(range) => asked[at] = range,
+            None => return false,
+        }
+    }
+    true
+}
+
+/// Gathers the bytes of a record and the byte that ends it.
+fn put_row<K: Sink>(body: &[u8], end: &[u8], out: &mut Output, sink: &mut K) -> Result<(), Failed>
+    ensures ok { OnOk result (Flushes out.old (body.now ++ end.now) out.new (K.written sink.old) (K.written sink.new)) }
+    ensures err { OnErr result ((left : List ℕ) × Flushes out.old (body.now ++ end.now) left (K.written sink.old)
+        (K.written sink.new)) }
+    ensures failures { FailsOnlyCounted (K.failures sink.old) (K.failures sink.new) result }
+{
+    match put(body, out, sink) {
+        Err(_) => Err(Failed),
+        Ok(()) => put(end, out, sink),
+    }
+}
+
+/// Finds in a header the columns that are asked for.
+fn read_header<A>(
+    task: &ColumnTask<'_, A>,
+    progress: &mut Progress,
+    body: &[u8],
+    text: &mut RecordBuffer,
+) -> Result<(), Stop>
+    requires short { length body.now ≤ MAX_RECORD }
+    requires as_many { length progress.old.asked.items ≡ length task.now.columns.now }
+    ensures ok { OnOk result (IsHeader task.now.delimiter task.now.columns.now body.now progress.new.asked.items) }
+    ensures stops { IfErr result (λ stop. IsNoHeader stop task.now.delimiter task.now.columns.now body.now) }
+    ensures same { SameButAsked progress.old progress.new }
+{
+    if !find_columns(
+        task.delimiter,
+        body,
+        task.columns,
+        &mut progress.asked,
+        text,
+    ) {
+        return Err(Stop::NoName);
+    }
+    match lacking(task.delimiter, body, needed(&progress.asked)) {
+        Some(count) => Err(Stop::NoColumn(count)),
+        None => Ok(()),
+    }
+}
+
+/// Answers a record that is no header.
+fn answer_record<A: LineRule<L>, K: Sink, L: Ledger>(
+    task: &ColumnTask<'_, A>,
+    progress: &mut Progress,
+    body: &[u8],
+    end: &[u8],
+    work: &mut Work,
+    sink: &mut K,
+    steps: &mut Steps<L>,
+) -> Result<(), Stop>
+    requires short { length body.now ≤ MAX_RECORD }
+    requires some { body.now ≢ [] }
+    requires known { progress.old.is_headed ≡ false }
+    requires as_many { length progress.old.asked.items ≡ length task.now.columns.now }
+    ensures ok { OnOk result (PassesRow (A.Answers task.now.rule.now) task.now.is_kept task.now.delimiter
+        task.now.columns.now (record { body = body.now; end = end.now })
+        (state_of progress.old) (state_of progress.new) work.old.out work.new.out (K.written sink.old) (K.written
+        sink.new)) }
+    ensures err { IfErr result (λ stop. StopsRow stop (A.Answers task.now.rule.now) task.now.is_kept
+        task.now.delimiter task.now.columns.now (record { body = body.now; end = end.now })
+        (state_of progress.old) work.old.out work.new.out (K.written sink.old) (K.written sink.new)) }
+    ensures counts { IfErr result (λ stop. SameCounts (state_of progress.old) (state_of progress.new)) }
+    ensures as_many { length progress.new.asked.items ≡ length task.now.columns.now }
+    ensures failures { RisesOnly (K.failures sink.old) (K.failures sink.new) result }
+{
+    if let Some(count) = lacking(task.delimiter, body, needed(&progress.asked)) {
+        return Err(Stop::NoColumn(count));
+    }
+    let refused = match answer_fields(task, &progress.asked, body, work, sink, steps) {
+        Err(_) => return Err(Stop::WriteFault),
+        Ok(refused) => refused,
+    };
+    match put(end, &mut work.out, sink) {
+        Err(_) => Err(Stop::WriteFault),
+        Ok(()) => {
+            count_record(progress, refused);
+            Ok(())
+        }
+    }
+}
+
+/// Answers a record, or passes over an empty line or the header.
+pub(crate) fn answer_row<A: LineRule<L>, K: Sink, L: Ledger>(
+    task: &ColumnTask<'_, A>,
+    progress: &mut Progress,
+    body: &[u8],
+    end: &[u8],
+    work: &mut Work,
+    sink: &mut K,
+    steps: &mut Steps<L>,
+) -> Result<(), Stop>
+    requires short { length body.now ≤ MAX_RECORD }
+    requires as_many { length progress.old.asked.items ≡ length task.now.columns.now }
+    ensures ok { OnOk result (PassesRow (A.Answers task.now.rule.now) task.now.is_kept task.now.delimiter
+        task.now.columns.now (record { body = body.now; end = end.now })
+        (state_of progress.old) (state_of progress.new) work.old.out work.new.out (K.written sink.old) (K.written
+        sink.new)) }
+    ensures err { IfErr result (λ stop. StopsRow stop (A.Answers task.now.rule.now) task.now.is_kept
+        task.now.delimiter task.now.columns.now (record { body = body.now; end = end.now })
+        (state_of progress.old) work.old.out work.new.out (K.written sink.old) (K.written sink.new)) }
+    ensures counts { IfErr result (λ stop. SameCounts (state_of progress.old) (state_of progress.new)) }
+    ensures as_many { length progress.new.asked.items ≡ length task.now.columns.now }
+    ensures failures { RisesOnly (K.failures sink.old) (K.failures sink.new) result }
+{
+    if body.is_empty() {
+        return match put(end, &mut work.out, sink) {
+            Err(_) => Err(Stop::WriteFault),
+            Ok(()) => Ok(()),
+        };
+    }
+    if !progress.is_headed {
+        return answer_record(task, progress, body, end, work, sink, steps);
+    }
+    read_header(task, progress, body, &mut work.text)?;
+    match put_row(body, end, &mut work.out, sink) {
+        Err(_) => Err(Stop::WriteFault),
+        Ok(()) => {
+            progress.is_headed = false;
+            count_record(progress, 0);
+            Ok(())
+        }
+    }
+}

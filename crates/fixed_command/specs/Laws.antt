@@ -1,0 +1,21 @@
+-- What the laws of this crate say.
+use Rattle.std.specs.Prelude.{◌≡◌, ℕ, ℤ, List}
+use Rattle.fixed_bits.specs.Formats.{FormatParts, IsFormat}
+use Rattle.fixed_bits.specs.Ranges.{IsInRange}
+use Rattle.fixed_numeral.specs.declared.radix.Radix.{Radix}
+use Rattle.fixed_numeral.specs.declared.radix.Radix.TheVariants.{Dec, Hex as Sixteen}
+use Rattle.fixed_show.specs.WordText.{IsWord}
+use Rattle.fixed_command.specs.Printed.{printed}
+use Rattle.fixed_command.specs.declared.print.Print.TheVariants.{Bits, Hex, Readmemh}
+
+-- what is printed of bits of a format is a word of the format, and those bits: in decimal without a radix, in
+-- hexadecimal
+-- after `0x` in every radix, and without it in radix 16
+pub record PrintedIsWord (f : FormatParts) (bits : ℤ) (answer text : List ℕ) : Type 0 where
+  pub decimal : IsWord Dec f (printed Bits f answer text bits) bits
+  pub hexadecimal : (bare : Radix) → IsWord bare f (printed Hex f answer text bits) bits
+  pub bare : IsWord Sixteen f (printed Readmemh f answer text bits) bits
+
+abbrev pub PrintedBitsAreWords : Type 0
+PrintedBitsAreWords = (f : FormatParts) (bits : ℤ) (answer text : List ℕ) → IsFormat f.width f.frac
+    → IsInRange f.signed f.width bits → PrintedIsWord f bits answer text

@@ -1,0 +1,10 @@
+use Rattle.std.proofs.Common.{◌≡◌, [], ℕ, length, arith}
+use Rattle.std.proofs.lemmas.Grind.{common_steps}
+use Rattle.fixed_fit.proofs.ReadingLemmas.{ends_empty, ends_line, nil_of}
+use Rattle.fixed_fit.proofs.reader.Reader.finish.Goals as goal
+
+pub returns-then-is_empty : goal.returns-then-is_empty
+returns-then-is_empty g c = λ r n whole h. ends_empty r n whole c.args.self.now (nil_of c.args.self.now.line.items (grind (arith, common_steps, c.is_empty.ensures, c.if-is_empty.true))) h
+
+pub returns : goal.returns
+returns g c = λ r n whole h. ends_line r n whole c.args.self.now c.deref.result.now c.after.result (grind (arith, common_steps, c.is_empty.ensures, c.if-is_empty.false)) c.deref.ensures.value c.after.ensures.one_more c.after.ensures.radix h

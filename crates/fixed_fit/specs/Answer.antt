@@ -1,0 +1,103 @@
+-- What is written about a list, and what a run leaves.
+use Rattle.std.specs.Prelude.{◌≡◌, ◌⊎◌, ◌+◌, ◌*◌, ◌^◌, ◌<◌, ◌≤◌, ℕ, Bool}
+use Rattle.std.specs.Prelude.{true, false, List, [], ◌∷◌, ◌++◌, length, codes, decimal}
+use Rattle.std.specs.declared.option.Option.{Option}
+use Rattle.std.specs.Io.KnownBytes.{Appends, Consumes, IsAtEnd}
+use Rattle.fixed_bits.specs.Formats.{FormatParts}
+use Rattle.fixed_least.specs.Holding.{AllNumerals}
+use Rattle.fixed_least.specs.Least.{IsFaultAnswer}
+use Rattle.fixed_respell.specs.Words.{format_text}
+use Rattle.line_engine.specs.AnswerText.{AnswerText}
+use Rattle.line_engine.specs.Appended.{AppendsPrefix}
+use Rattle.line_engine.specs.Lines.{lines}
+use Rattle.line_engine.specs.declared.status.Status.{Status}
+use Rattle.line_engine.specs.declared.status.Status.TheVariants.{Done, Faults, Usage}
+use Rattle.line_engine.specs.declared.status.Status.TheVariants.{ReadFault, WriteFault, NoMemory, TooLong}
+use Rattle.fixed_fit.specs.Fitting.{IsFinest, IsFirstExceeding, IsSignRule}
+use Rattle.fixed_fit.specs.declared.question.Question.{Question}
+
+-- a format's name
+abbrev pub name_of : Bool → ℕ → ℕ → List ℕ
+name_of s n f = format_text (record { signed = s; width = n; frac = f })
+
+-- the line that says which line rules out a fraction length
+abbrev pub ruled_out_line : Bool → ℕ → ℕ → ℕ → List ℕ
+ruled_out_line s n f place = name_of s n f ++ (codes " line " ++ (decimal place ++ 10 ∷ []))
+
+-- why no finer format fits: the first line that rules out the next one; nothing where there is none, or where it is
+-- not asked for
+pub record IsReason (q : Question) (s : Bool) (list : List (List ℕ)) (f : ℕ) (text : List ℕ) : Type 0 where
+  pub unasked : q.is_reason_asked ≡ false → text ≡ []
+  pub no_next : q.kind.width ≤ f → text ≡ []
+  pub next : q.is_reason_asked ≡ true → f < q.kind.width
+      → (place : ℕ) × IsFirstExceeding q.radix s q.kind.width (f + 1) list place
+      × (text ≡ ruled_out_line s q.kind.width (f + 1) place)
+
+-- the finest format is named
+pub record IsFoundAnswer (q : Question) (list : List (List ℕ)) (answer : AnswerText) : Type 0 where
+  pub numerals : AllNumerals q.radix list
+  pub signed : Bool
+  pub sign : IsSignRule q.radix q.kind.signed list signed
+  pub frac : ℕ
+  pub finest : IsFinest q.radix signed q.kind.width list frac
+  pub reason : List ℕ
+  pub is_reason : IsReason q signed list frac reason
+  pub text : answer.text ≡ name_of signed q.kind.width frac ++ 10 ∷ reason
+  pub fault : answer.fault ≡ false
+
+-- no fraction length is left, and the first line that rules out the last of them is named
+pub record IsNoneAnswer (q : Question) (list : List (List ℕ)) (answer : AnswerText) : Type 0 where
+  pub numerals : AllNumerals q.radix list
+  pub signed : Bool
+  pub sign : IsSignRule q.radix q.kind.signed list signed
+  pub place : ℕ
+  pub first : IsFirstExceeding q.radix signed q.kind.width 0 list place
+  pub text : answer.text ≡ codes "none line " ++ (decimal place ++ 10 ∷ [])
+  pub fault : answer.fault ≡ true
+
+-- the answer to an input: a line is no numeral, and the first such line is named; or its list of numerals is answered
+abbrev pub IsAnswer : Question → List ℕ → AnswerText → Type 0
+IsAnswer q input answer = IsFaultAnswer q.radix input answer
+    ⊎ (IsFoundAnswer q (lines input) answer ⊎ IsNoneAnswer q (lines input) answer)
+
+-- an input was read to its end and its answer written whole
+pub record AnswersInput (A : List ℕ → AnswerText → Type 0)
+    (left left' written written' : Option (List ℕ)) (fault : Bool) : Type 0 where
+  pub input : List ℕ
+  pub taken : Consumes left left' input
+  pub at_end : IsAtEnd left'
+  pub answer : AnswerText
+  pub is_answer : A input answer
+  pub output : Appends written written' answer.text
+  pub faulty : answer.fault ≡ fault
+
+-- an input was read to its end and a prefix of its answer written
+pub record AnswersInPart (A : List ℕ → AnswerText → Type 0)
+    (left left' written written' : Option (List ℕ)) : Type 0 where
+  pub input : List ℕ
+  pub taken : Consumes left left' input
+  pub at_end : IsAtEnd left'
+  pub answer : AnswerText
+  pub is_answer : A input answer
+  pub output : AppendsPrefix written written' answer.text
+
+-- at least so many bytes were taken
+pub record TakesBytes (least : ℕ) (left left' : Option (List ℕ)) : Type 0 where
+  pub bytes : List ℕ
+  pub taken : Consumes left left' bytes
+  pub some : least ≤ length bytes
+
+-- from how many bytes on an input is too long: no machine can hand over so many
+abbrev pub most_bytes : ℕ
+most_bytes = 2 ^ 62
+
+-- what a run that ended so has taken and written
+abbrev pub HasFitRun : (List ℕ → AnswerText → Type 0) → Option (List ℕ) → Option (List ℕ) → Option (List ℕ)
+    → Option (List ℕ) → Status → Type 0
+HasFitRun A left left' written written' Done = AnswersInput A left left' written written' false
+HasFitRun A left left' written written' Faults = AnswersInput A left left' written written' true
+HasFitRun A left left' written written' Usage = ⊥
+HasFitRun A left left' written written' ReadFault = TakesBytes 0 left left' × (written' ≡ written)
+HasFitRun A left left' written written' WriteFault = AnswersInPart A left left' written written'
+HasFitRun A left left' written written' NoMemory = TakesBytes 0 left left' × (written' ≡ written)
+HasFitRun A left left' written written' TooLong = TakesBytes most_bytes left left' × (written' ≡ written)

@@ -1,0 +1,36 @@
+-- The fraction lengths that are left of a sign rule and a width.
+use Rattle.std.specs.Prelude.{◌≡◌, ◌+◌, ◌<◌, ◌≤◌, ◌&&◌, ℕ, Bool, true}
+use Rattle.std.specs.Prelude.{false, List, [], ◌∷◌, ◌++◌, if◌then◌else◌, nat_lt, codes, decimal}
+use Rattle.line_engine.specs.AnswerText.{AnswerText}
+use Rattle.fixed_fit.specs.Answer.{name_of, ruled_out_line}
+use Rattle.fixed_numeral.specs.declared.radix.Radix.{Radix}
+use Rattle.fixed_fit.specs.Fitting.{AllFit, Exceeds, Fits, IsFirstExceeding}
+use Rattle.fixed_fit.specs.declared.lengths.Lengths.{Lengths}
+
+-- each line fits with exactly the fraction lengths that are left, and the place is that of the first line that is out
+-- of range with the next longer one
+pub record AreLengths (r : Radix) (lines : List (List ℕ)) (l : Lengths) : Type 0 where
+  pub most : l.count ≤ l.kind.width + 1
+  pub fit : (f : ℕ) → f < l.count → AllFit r l.kind.signed l.kind.width f lines
+  pub first : l.count ≤ l.kind.width → IsFirstExceeding r l.kind.signed l.kind.width l.count lines l.place
+
+-- what a line at a place leaves of the lengths
+pub record AreLowered (r : Radix) (line : List ℕ) (place : ℕ) (old new : Lengths) : Type 0 where
+  pub kind : new.kind ≡ old.kind
+  pub fewer : new.count ≤ old.count
+  pub fit : (f : ℕ) → f < new.count → Fits r old.kind.signed old.kind.width f line
+  pub same : new.count ≡ old.count → new.place ≡ old.place
+  pub exceeds : new.count < old.count → Exceeds r old.kind.signed old.kind.width new.count line
+  pub noted : new.count < old.count → new.place ≡ place
+
+-- the reason that is written: the line that rules out the next longer fraction length
+abbrev pub reason_of : Bool → Bool → ℕ → ℕ → ℕ → List ℕ
+reason_of asked s n f place = if asked && nat_lt f n then ruled_out_line s n (f + 1) place else []
+
+-- what is written where these lengths are left
+pub record IsLengthsAnswer (asked : Bool) (l : Lengths) (answer : AnswerText) : Type 0 where
+  pub none_text : l.count ≡ 0 → answer.text ≡ codes "none line " ++ (decimal l.place ++ 10 ∷ [])
+  pub none_fault : l.count ≡ 0 → answer.fault ≡ true
+  pub some_text : (f : ℕ) → l.count ≡ f + 1
+      → answer.text ≡ name_of l.kind.signed l.kind.width f ++ 10 ∷ reason_of asked l.kind.signed l.kind.width f l.place
+  pub some_fault : (f : ℕ) → l.count ≡ f + 1 → answer.fault ≡ false

@@ -1,0 +1,43 @@
+-- What is known while an input is read.
+use Rattle.std.specs.Prelude.{◌≡◌, ◌≤◌, ℕ, List, length, Option}
+use Rattle.std.specs.Io.KnownBytes.{Consumes, IsAtEnd}
+use Rattle.fixed_numeral.specs.declared.radix.Radix.{Radix}
+use Rattle.line_engine.specs.Failures.{HasFailed}
+use Rattle.line_engine.specs.Lines.{ended_lines, lines, unended}
+use Rattle.line_engine.specs.declared.status.Status.{Status}
+use Rattle.line_engine.specs.declared.status.Status.TheVariants.{Done, Faults, Usage}
+use Rattle.line_engine.specs.declared.status.Status.TheVariants.{ReadFault, WriteFault, NoMemory, TooLong}
+use Rattle.fixed_fit.specs.Answer.{TakesBytes, most_bytes}
+use Rattle.fixed_fit.specs.Inner.Progress.{HasProgress}
+use Rattle.fixed_fit.specs.declared.progress.Progress.{Progress}
+use Rattle.fixed_fit.specs.declared.reader.Reader.{Reader}
+
+-- what is kept of these bytes
+pub record HasRead (r : Radix) (n : ℕ) (whole : List ℕ) (reader : Reader) : Type 0 where
+  pub line : reader.line.items ≡ unended whole
+  pub progress : HasProgress n (ended_lines whole) reader.progress
+  pub radix : reader.progress.radix ≡ r
+
+-- this is kept of some bytes
+abbrev pub HasSomeRead : Reader → Type 0
+HasSomeRead reader = (r : Radix) × (n : ℕ) × (whole : List ℕ) × HasRead r n whole reader
+
+-- an input was read to its end, and this is known of its lines
+pub record ReadsAll (r : Radix) (n : ℕ) (left left' : Option (List ℕ)) (failures failures' : ℕ)
+    (progress : Progress) : Type 0 where
+  pub input : List ℕ
+  pub taken : Consumes left left' input
+  pub at_end : IsAtEnd left'
+  pub known : HasProgress n (lines input) progress
+  pub radix : progress.radix ≡ r
+  pub same : failures' ≡ failures
+
+-- reading stopped before the end
+abbrev pub StopsReading : Option (List ℕ) → Option (List ℕ) → ℕ → ℕ → Status → Type 0
+StopsReading left left' failures failures' Done = ⊥
+StopsReading left left' failures failures' Faults = ⊥
+StopsReading left left' failures failures' Usage = ⊥
+StopsReading left left' failures failures' ReadFault = TakesBytes 0 left left' × HasFailed failures failures'
+StopsReading left left' failures failures' WriteFault = ⊥
+StopsReading left left' failures failures' NoMemory = TakesBytes 0 left left' × (failures' ≡ failures)
+StopsReading left left' failures failures' TooLong = TakesBytes most_bytes left left' × (failures' ≡ failures)

@@ -1,0 +1,30 @@
+-- What the laws of this crate say.
+use Rattle.std.specs.Prelude.{◌≡◌, ◌<◌, ◌≤◌, ℕ, Bool, List}
+use Rattle.fixed_numeral.specs.declared.radix.Radix.{Radix}
+use Rattle.line_engine.specs.AnswerText.{AnswerText}
+use Rattle.fixed_fit.specs.Answer.{IsAnswer}
+use Rattle.fixed_fit.specs.Fitting.{AllFit, Fits, IsFinest, IsSignRule}
+use Rattle.fixed_fit.specs.declared.question.Question.{Question}
+
+-- a numeral that fits a fraction length fits each shorter one
+abbrev pub FitsEachShorter : Type 0
+FitsEachShorter = (r : Radix) (s : Bool) (n f g : ℕ) (line : List ℕ) → g ≤ f → Fits r s n f line → Fits r s n g line
+
+-- and so does a list
+abbrev pub AllFitEachShorter : Type 0
+AllFitEachShorter = (r : Radix) (s : Bool) (n f g : ℕ) (lines : List (List ℕ)) → g ≤ f → AllFit r s n f lines
+    → AllFit r s n g lines
+
+-- a list has at most one finest fraction length
+abbrev pub FinestIsTheOne : Type 0
+FinestIsTheOne = (r : Radix) (s : Bool) (n f g : ℕ) (lines : List (List ℕ)) → IsFinest r s n lines f
+    → IsFinest r s n lines g → f ≡ g
+
+-- and one sign rule
+abbrev pub SignRuleIsTheOne : Type 0
+SignRuleIsTheOne = (r : Radix) (asked s t : Bool) (lines : List (List ℕ)) → IsSignRule r asked lines s
+    → IsSignRule r asked lines t → s ≡ t
+
+-- an input has one answer
+abbrev pub AnswerIsTheOne : Type 0
+AnswerIsTheOne = (q : Question) (input : List ℕ) (a b : AnswerText) → IsAnswer q input a → IsAnswer q input b → a ≡ b

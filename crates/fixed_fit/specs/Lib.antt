@@ -1,0 +1,5 @@
+pub mod Fitting
+pub mod Answer
+pub mod Range
+pub mod Laws
+pub mod Inner

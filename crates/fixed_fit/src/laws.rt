@@ -1,0 +1,36 @@
+//! Laws of the finest format, each the contract of a function that does nothing.
+
+ghost use Rattle.fixed_fit.specs.Range.{EndsDecide};
+ghost use Rattle.fixed_fit.specs.Laws.{AllFitEachShorter, AnswerIsTheOne};
+ghost use Rattle.fixed_fit.specs.Laws.{FinestIsTheOne, FitsEachShorter, SignRuleIsTheOne};
+
+/// A numeral that is in range with a fraction length is in range with each shorter one.
+pub fn fits_each_shorter()
+    ensures { FitsEachShorter }
+{}
+
+/// So is a list of numerals.
+pub fn all_fit_each_shorter()
+    ensures { AllFitEachShorter }
+{}
+
+/// A list has at most one finest fraction length.
+pub fn finest_is_the_one()
+    ensures { FinestIsTheOne }
+{}
+
+/// A list has at most one sign rule.
+pub fn sign_rule_is_the_one()
+    ensures { SignRuleIsTheOne }
+{}
+
+/// An input has at most one answer.
+pub fn answer_is_the_one()
+    ensures { AnswerIsTheOne }
+{}
+
+/// Where the two ends of a range fit, every number between them fits: so the answer for a range is that for the list of
+/// its two ends.
+pub fn ends_decide()
+    ensures { EndsDecide }
+{}

@@ -1,0 +1,102 @@
+//! What is kept of the lines so far.
+
+ghost use Rattle.std.specs.Prelude.{◌≡◌, ◌<◌, ◌||◌, ◌+◌, ◌^◌, ◌∷◌, ◌++◌, [], List, ℕ, None, false, true};
+ghost use Rattle.fixed_bits.specs.Ranges.{IsWidth};
+ghost use Rattle.fixed_fit.specs.Inner.Progress.{HasProgress, HasSomeProgress};
+
+use crate::lengths::{Lengths, all_lengths, lowered};
+use crate::numeral::is_below_zero;
+use fixed_bits::Format;
+use fixed_least::LeastFault;
+use fixed_numeral::Radix;
+use fixed_steps::Steps;
+use std::sync::ledger::Ledger;
+
+/// What is kept of the lines so far.
+#[derive(Clone, Copy, Debug, PartialEq, Eq)]
+pub struct Progress {
+    /// The radix of the numerals.
+    pub radix: Radix,
+    /// How many lines there were.
+    pub lines: u64,
+    /// The first that is not a numeral.
+    pub fault: Option<LeastFault>,
+    /// Whether a numeral is below zero.
+    pub is_below: bool,
+    /// The fraction lengths that are left without a sign.
+    pub plain: Lengths,
+    /// The fraction lengths that are left with a sign.
+    pub signed: Lengths,
+}
+
+/// Whether one of two holds.
+pub fn is_either(one: bool, other: bool) -> bool
+    ensures { result ≡ (one || other) }
+{
+    one || other
+}
+
+impl Progress {
+    /// No line.
+    pub fn new(radix: Radix, width: u32) -> Progress
+        requires { IsWidth width }
+        ensures radix { result.radix ≡ radix }
+        ensures none { HasProgress width [] result }
+    {
+        Progress {
+            radix,
+            lines: 0,
+            fault: None,
+            is_below: false,
+            plain: all_lengths(Format::of(false, width, 0)),
+            signed: all_lengths(Format::of(true, width, 0)),
+        }
+    }
+
+    /// What is kept where a line is not a numeral.
+    fn with_fault(&self, lines: u64, fault: Option<LeastFault>) -> Progress
+        ensures { result ≡ record {
+          radix = self.now.radix;
+          lines = lines;
+          fault = fault;
+          is_below = self.now.is_below;
+          plain = self.now.plain;
+          signed = self.now.signed;
+        } }
+    {
+        Progress {
+            radix: self.radix,
+            lines,
+            fault,
+            is_below: self.is_below,
+            plain: self.plain,
+            signed: self.signed,
+        }
+    }
+
+    /// What is kept after one more line.
+    pub fn after<L: Ledger>(&self, line: &[u8], steps: &mut Steps<L>) -> Progress
+        requires room { self.now.lines < 2 ^ 63 }
+        requires known { HasSomeProgress self.now }
+        ensures radix { result.radix ≡ self.now.radix }
+        ensures lines { result.lines ≡ self.now.lines + 1 }
+        ensures one_more { (n : ℕ) (lines : List (List ℕ)) → HasProgress n lines self.now
+            → HasProgress n (lines ++ line.now ∷ []) result }
+    {
+        let place = self.lines + 1;
+        if self.fault.is_some() {
+            return self.with_fault(place, self.fault);
+        }
+        match is_below_zero(line, self.radix, steps) {
+            Err(error) => self.with_fault(place, Some(LeastFault::NotNumeral { place, error })),
+            Ok(below) => Progress {
+                radix: self.radix,
+                lines: place,
+                fault: None,
+                is_below: is_either(self.is_below, below),
+                plain: lowered(&self.plain, line, self.radix, place, steps),
+                signed: lowered(&self.signed, line, self.radix, place, steps),
+            },
+        }
+    }
+}

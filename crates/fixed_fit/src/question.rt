@@ -1,0 +1,15 @@
+//! What is asked of a list.
+
+use fixed_bits::Format;
+use fixed_numeral::Radix;
+
+/// What is asked of a list.
+#[derive(Clone, Copy, Debug, PartialEq, Eq)]
+pub struct Question {
+    /// The radix of the numerals.
+    pub radix: Radix,
+    /// A format of the width, which is signed where only signed formats are asked for.
+    pub kind: Format,
+    /// Whether it is asked which line rules out the next finer format.
+    pub is_reason_asked: bool,
+}

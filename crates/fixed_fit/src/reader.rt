@@ -1,0 +1,129 @@
+//! The bytes of an input, one after another: the line whose end has not come, and what is kept of those before it.
+
+ghost use Rattle.std.specs.Prelude.{◌≡◌, ◌≤◌, ◌<◌, ◌+◌, ◌^◌, ◌++◌, ◌∷◌, []};
+ghost use Rattle.std.specs.Prelude.{List, ℕ, OnOk, OnErr, IfOk, IfErr, length, take};
+ghost use Rattle.std.specs.Io.KnownBytes.{Consumes, IsAtEnd, Keeps};
+ghost use Rattle.line_engine.specs.Failures.{FailsOnlyCounted};
+ghost use Rattle.fixed_bits.specs.Ranges.{IsWidth};
+ghost use Rattle.line_engine.specs.Lines.{lines};
+ghost use Rattle.fixed_fit.specs.Inner.Progress.{HasProgress};
+ghost use Rattle.fixed_fit.specs.Inner.Reading.{HasRead, HasSomeRead, ReadsAll, StopsReading};
+
+use crate::progress::Progress;
+use fixed_numeral::Radix;
+use fixed_steps::Steps;
+use line_engine::{Failed, NoMemory, Source, Status};
+use std::alloc::Global;
+use std::sync::ledger::Ledger;
+
+/// How many bytes are read at a time at most.
+const CHUNK: usize = 4096;
+
+/// From how many bytes on an input is too long.
+const MOST_BYTES: u64 = 4_611_686_018_427_387_904;
+
+/// What is kept of the bytes so far.
+#[derive(Drop)]
+pub struct Reader {
+    /// The line whose end has not come.
+    pub line: Vec<u8>,
+    /// What is kept of the lines before it.
+    pub progress: Progress,
+}
+
+impl Reader {
+    /// Takes the next byte.
+    fn push<L: Ledger>(&mut self, byte: u8, steps: &mut Steps<L>) -> Result<(), NoMemory>
+        requires room { self.old.progress.lines < 2 ^ 63 }
+        requires known { HasSomeRead self.old }
+        ensures read { OnOk result ((r : Radix) (n : ℕ) (whole : List ℕ) → HasRead r n whole self.old
+            → HasRead r n (whole ++ byte ∷ []) self.new) }
+        ensures lines { OnOk result (self.new.progress.lines ≤ self.old.progress.lines + 1) }
+    {
+        if byte != b'\n' {
+            return match self.line.push(byte) {
+                Ok(()) => Ok(()),
+                Err(_) => Err(NoMemory),
+            };
+        }
+        self.progress = self.progress.after(&self.line, steps);
+        self.line.clear();
+        Ok(())
+    }
+
+    /// Takes the next bytes.
+    fn push_all<L: Ledger>(&mut self, bytes: &[u8], steps: &mut Steps<L>) -> Result<(), NoMemory>
+        requires room { self.old.progress.lines + length bytes.now < 2 ^ 63 }
+        requires known { HasSomeRead self.old }
+        ensures read { OnOk result ((r : Radix) (n : ℕ) (whole : List ℕ) → HasRead r n whole self.old
+            → HasRead r n (whole ++ bytes.now) self.new) }
+        ensures lines { OnOk result (self.new.progress.lines ≤ self.old.progress.lines + length bytes.now) }
+    {
+        for byte in bytes {
+            self.push(*byte, steps)?;
+        }
+        Ok(())
+    }
+
+    /// What is known at the end of an input.
+    fn finish<L: Ledger>(&self, steps: &mut Steps<L>) -> Progress
+        requires room { self.now.progress.lines < 2 ^ 63 }
+        requires known { HasSomeRead self.now }
+        ensures { (r : Radix) (n : ℕ) (whole : List ℕ) → HasRead r n whole self.now
+            → HasProgress n (lines whole) result × (result.radix ≡ r) }
+    {
+        if self.line.is_empty() {
+            return self.progress;
+        }
+        self.progress.after(&self.line, steps)
+    }
+}
+
+/// Reads the next bytes into the start of a chunk.
+fn read_chunk<S: Source>(source: &mut S, chunk: &mut [u8]) -> Result<usize, Failed>
+    requires { 0 < length chunk.old }
+    ensures bound { IfOk result (λ count. count ≤ length chunk.old) }
+    ensures bytes { IfOk result (λ count. Consumes (S.left source.old) (S.left source.new) (take count chunk.new)) }
+    ensures end { IfOk result (λ count. count ≡ 0 → IsAtEnd (S.left source.new)) }
+    ensures err { OnErr result (Keeps (S.left source.old) (S.left source.new)) }
+    ensures failures { FailsOnlyCounted (S.failures source.old) (S.failures source.new) result }
+{
+    source.read(chunk)
+}
+
+/// Reads an input to its end, and tells what is known of its lines.
+///
+/// # Errors
+///
+/// The status says whether a read failed, there was no memory for a line, or there were 2^62 bytes or more.
+pub fn read_lines<S: Source, L: Ledger>(
+    alloc: Global,
+    radix: Radix,
+    width: u32,
+    source: &mut S,
+    steps: &mut Steps<L>,
+) -> Result<Progress, Status>
+    requires { IsWidth width }
+    ensures ok { IfOk result (ReadsAll radix width (S.left source.old) (S.left source.new) (S.failures source.old)
+        (S.failures source.new)) }
+    ensures err { IfErr result (StopsReading (S.left source.old) (S.left source.new) (S.failures source.old)
+        (S.failures source.new)) }
+{
+    let mut chunk = [0u8; CHUNK];
+    let mut reader = Reader {
+        line: Vec::new(alloc),
+        progress: Progress::new(radix, width),
+    };
+    let mut taken = 0u64;
+    while taken < MOST_BYTES {
+        match read_chunk(source, &mut chunk) {
+            Err(_) => return Err(Status::ReadFault),
+            Ok(0) => return Ok(reader.finish(steps)),
+            Ok(count) => match reader.push_all(&chunk[..count], steps) {
+                Err(_) => return Err(Status::NoMemory),
+                Ok(()) => taken += count as u64,
+            },
+        }
+    }
+    Err(Status::TooLong)
+}

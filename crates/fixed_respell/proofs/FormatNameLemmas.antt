@@ -1,0 +1,459 @@
+-- The names of formats: how counts are read, what follows the letters, and that a word names one format.
+use Rattle.std.proofs.Common.{◌≡◌, ℕ, zero, suc, ◌+◌, ◌-◌, ◌*◌, ◌/◌, ◌%◌, ◌^◌, ◌<◌, ◌≤◌, ◌⊎◌, ◌↔◌, Bool, true, false, IsTrue, List, [], ◌∷◌, ◌++◌, length, get_or, Option, Some, None, IsSome, IfSome, MatchOption, refl, sym, ap, ◌∙◌, subst, arith, inl, inr, ⊎_elim}
+use Rattle.std.specs.Fmt.{decimal}
+use Rattle.std.specs.Str.Parse.{AllDigits}
+use Rattle.std.proofs.lemmas.Bool.{cases_lt}
+use Rattle.std.proofs.lemmas.Fmt.{decimal_digit, decimal_injective, decimal_is_IsNumeral, decimal_step}
+use Rattle.std.proofs.lemmas.Str.Parse.{digit_from_value}
+use Rattle.fixed_bits.specs.Formats.{FormatParts, IsFormat}
+use Rattle.fixed_bits.proofs.Public.{type_format}
+use Rattle.fixed_respell.specs.AnswerLaws.{FormatNameIsTheOne, FormatWordIsAName}
+use Rattle.fixed_respell.specs.FormatNames.{IsCountedName, IsFormatName, IsFractionName, IsLetter, IsPointedName, IsQ, counts_text, point, q_letter}
+use Rattle.fixed_respell.specs.Inner.NameParts.{IsAfterQ, IsAfterU, IsCounted, IsFraction, IsPointed, IsPointedByQ, two_counts}
+use Rattle.fixed_respell.specs.Split.{IsSplit, count_of}
+use Rattle.fixed_respell.specs.Words.{format_text, fraction_letter, sign_letter}
+use Rattle.fixed_respell.specs.Lemmas.FormatLemmas.{IsNoDigit, decimal_without, no_digit_is}
+use Rattle.fixed_respell.specs.Lemmas.SplitLemmas.{IsSameSplit, split_has_one, split_is_one}
+
+-- ---- counts of at most two digits
+decimal_two : (n : ℕ) → 10 ≤ n → n < 100 → decimal n ≡ (48 + n / 10) ∷ (48 + n % 10) ∷ []
+decimal_two n some few =
+    let high : n / 10 < 10 = omega (arith, few) in
+    decimal_step n some (omega (arith, few)) ∙ ap (λ ds. ds ++ (48 + n % 10) ∷ []) (decimal_digit (n / 10) high)
+
+-- a count is one digit, or two of which the first is not 0
+count_digits : (n : ℕ) → n < 100 → ((n < 10) × (decimal n ≡ (48 + n) ∷ [])) ⊎ ((10 ≤ n) × (decimal n ≡ (48 + n / 10) ∷ (48 + n % 10) ∷ []))
+count_digits n few = ⊎_elim
+    (λ (less : n < 10). inl (less, decimal_digit n less))
+    (λ (more : 10 ≤ n). inr (more, decimal_two n more few))
+    (cases_lt n 10)
+
+pub one_digit : (xs : List ℕ) (o : Option ℕ) → length xs ≡ 1 → MatchOption o ((n : ℕ) → n < 10 → ¬ (get_or xs 0 0 ≡ 48 + n)) (λ n. (n < 10) × (get_or xs 0 0 ≡ 48 + n)) → MatchOption o ((n : ℕ) → n < 100 → ¬ (xs ≡ decimal n)) (λ n. (n < 100) × (xs ≡ decimal n))
+one_digit [] o count found = absurd (omega (arith, count))
+one_digit (x ∷ y ∷ xs) o count found = absurd (omega (arith, count))
+one_digit (x ∷ []) None count none = λ n few is. ⊎_elim
+    (λ (w : (n < 10) × (decimal n ≡ (48 + n) ∷ [])). let e : x ∷ [] ≡ (48 + n) ∷ [] = is ∙ w.1 in let head : x ≡ 48 + n = cc in none n w.0 head)
+    (λ (w : (10 ≤ n) × (decimal n ≡ (48 + n / 10) ∷ (48 + n % 10) ∷ [])). absurd (omega (arith, ap length (is ∙ w.1))))
+    (count_digits n few)
+one_digit (x ∷ []) (Some n) count found = (omega (arith, found.0), ap (λ d. d ∷ []) found.1 ∙ sym (decimal_digit n found.0))
+
+pub two_digits : (xs : List ℕ) (o : Option ℕ) → length xs ≡ 2 → MatchOption o ((n : ℕ) → 10 ≤ n → n < 100 → ¬ ((get_or xs 0 0 ≡ 48 + n / 10) × (get_or xs 1 0 ≡ 48 + n % 10))) (λ n. (10 ≤ n) × (n < 100) × (get_or xs 0 0 ≡ 48 + n / 10) × (get_or xs 1 0 ≡ 48 + n % 10))
+    → MatchOption o ((n : ℕ) → n < 100 → ¬ (xs ≡ decimal n)) (λ n. (n < 100) × (xs ≡ decimal n))
+two_digits [] o count found = absurd (omega (arith, count))
+two_digits (x ∷ []) o count found = absurd (omega (arith, count))
+two_digits (x ∷ y ∷ z ∷ xs) o count found = absurd (omega (arith, count))
+two_digits (x ∷ y ∷ []) None count none = λ n few is. ⊎_elim
+    (λ (w : (n < 10) × (decimal n ≡ (48 + n) ∷ [])). absurd (omega (arith, ap length (is ∙ w.1))))
+    (λ (w : (10 ≤ n) × (decimal n ≡ (48 + n / 10) ∷ (48 + n % 10) ∷ [])).
+    let e : x ∷ y ∷ [] ≡ (48 + n / 10) ∷ (48 + n % 10) ∷ [] = is ∙ w.1 in
+    let head : x ≡ 48 + n / 10 = cc in
+    let next : y ≡ 48 + n % 10 = cc in
+    none n w.0 few (head, next))
+    (count_digits n few)
+two_digits (x ∷ y ∷ []) (Some n) count found =
+    let both : x ∷ y ∷ [] ≡ (48 + n / 10) ∷ (48 + n % 10) ∷ [] = ap (λ d. d ∷ y ∷ []) found.2 ∙ ap (λ d. (48 + n / 10) ∷ d ∷ []) found.3 in
+    (found.1, both ∙ sym (decimal_two n found.0 found.1))
+
+pub other_count : (xs : List ℕ) (n : ℕ) → (length xs ≡ 1 → ⊥) → (length xs ≡ 2 → ⊥) → n < 100 → xs ≡ decimal n → ⊥
+other_count xs n one two few is = ⊎_elim (λ w. one (ap length (is ∙ w.1))) (λ w. two (ap length (is ∙ w.1))) (count_digits n few)
+
+-- ---- two counts around a byte that is no digit
+abbrev IsSameCounts : ℕ → ℕ → List ℕ → List ℕ → List ℕ → List ℕ → Type 0
+IsSameCounts m n xs ys r s = (xs ≡ ys) × (m ≡ n) × (r ≡ s)
+
+digits_end : (m n : ℕ) (xs ys r s : List ℕ) → AllDigits 10 xs → AllDigits 10 ys → IsNoDigit m → IsNoDigit n → xs ++ m ∷ r ≡ ys ++ n ∷ s → IsSameCounts m n xs ys r s
+digits_end m n [] [] r s x y other other' e = let head : m ≡ n = cc in let tail : r ≡ s = cc in (refl, head, tail)
+digits_end m n [] (b ∷ ys) r s x y other other' e = let h : m ≡ b = cc in let is = digit_from_value b y.0 in absurd (no_digit_is m b other is.0 is.1 h)
+digits_end m n (a ∷ xs) [] r s x y other other' e = let h : n ≡ a = cc in let is = digit_from_value a x.0 in absurd (no_digit_is n a other' is.0 is.1 h)
+digits_end m n (a ∷ xs) (b ∷ ys) r s x y other other' e =
+    let head : a ≡ b = cc in
+    let tail : xs ++ m ∷ r ≡ ys ++ n ∷ s = cc in
+    let more = digits_end m n xs ys r s x.1 y.1 other other' tail in
+    let rest : xs ≡ ys = more.0 in
+    let all : a ∷ xs ≡ b ∷ ys = cc in
+    (all, more.1, more.2)
+
+all_digits : (n : ℕ) → n < 100 → AllDigits 10 (decimal n)
+all_digits n few = (decimal_is_IsNumeral n (omega (arith, few))).0.1
+
+count_one : (m n : ℕ) → m < 100 → n < 100 → decimal m ≡ decimal n → m ≡ n
+count_one m n few few' e = decimal_injective m n (omega (arith, few)) (omega (arith, few')) e
+
+counts_one : (m n w f w' f' : ℕ) → IsNoDigit m → IsNoDigit n → w < 100 → f < 100 → w' < 100 → f' < 100 → two_counts m w f ≡ two_counts n w' f' → (w ≡ w') × (m ≡ n) × (f ≡ f')
+counts_one m n w f w' f' other other' a b a' b' e =
+    let same = digits_end m n (decimal w) (decimal w') (decimal f) (decimal f') (all_digits w a) (all_digits w' a') other other' e in
+    (count_one w w' a a' same.0, same.1, count_one f f' b b' same.2)
+
+pub split_counts : (mark w f : ℕ) (bytes before after : List ℕ) → IsNoDigit mark → w < 100 → IsSplit mark bytes before after → bytes ≡ two_counts mark w f → IsSameSplit before (decimal w) after (decimal f)
+split_counts mark w f bytes before after other few split is =
+    split_is_one mark bytes before after (decimal w) (decimal f) split (record { split = is; first = decimal_without mark w other (omega (arith, few)) })
+
+letter_no_digit : (capital m : ℕ) → 57 < capital → IsLetter capital m → IsNoDigit m
+letter_no_digit capital m high (inl e) = inr (omega (arith, high, e))
+letter_no_digit capital m high (inr e) = inr (omega (arith, high, e))
+
+-- ---- a format of two counts
+abbrev parts : Bool → ℕ → ℕ → FormatParts
+parts s w r = record { signed = s; width = w; frac = r }
+
+parts_are : (f : FormatParts) (s : Bool) (w r : ℕ) → f.signed ≡ s → f.width ≡ w → f.frac ≡ r → f ≡ parts s w r
+parts_are f s w r a b c = ap (λ x. parts x f.width f.frac) a ∙ (ap (λ x. parts s x f.frac) b ∙ ap (λ x. parts s w x) c)
+
+-- what is found of the only format that it can be
+found_by : (P : FormatParts → Type 0) (s : Bool) (w r : ℕ) (o : Option FormatParts) → (IsSome o ↔ IsFormat w r) → IfSome o (λ f. (f.signed ≡ s) × (f.width ≡ w) × (f.frac ≡ r)) → (IsFormat w r → P (parts s w r)) → ((f : FormatParts) → P f → IsFormat f.width f.frac × (f ≡ parts s w r))
+    → MatchOption o ((f : FormatParts) → ¬ P f) (λ f. P f)
+found_by P s w r None exists are to back = λ f is.
+    let b = back f is in
+    let valid : IsFormat w r = subst (λ g. IsFormat g.width g.frac) b.1 b.0 in
+    let some : IsSome {T = FormatParts} None = exists.1 valid in
+    absurd (cc)
+found_by P s w r (Some f) exists are to back =
+    let is = parts_are f s w r are.0 are.1 are.2 in
+    subst P (sym is) (to (exists.0 refl))
+
+counted_to : (s : Bool) (w r mark : ℕ) (rest : List ℕ) → IsLetter fraction_letter mark → rest ≡ two_counts mark w r → IsFormat (w + r) r → IsCounted s rest (parts s (w + r) r)
+counted_to s w r mark rest letter is valid =
+    let whole : w + r - r ≡ w = omega arith in
+    record { is = record { format = valid; signed_is = refl }; mark = mark; is_mark = letter; text = is ∙ ap (λ n. two_counts mark n r) (sym whole) }
+
+counted_back : (s : Bool) (w r mark : ℕ) (rest : List ℕ) → w < 100 → r < 100 → IsLetter fraction_letter mark → rest ≡ two_counts mark w r → (f : FormatParts) → IsCounted s rest f → IsFormat f.width f.frac × (f ≡ parts s (w + r) r)
+counted_back s w r mark rest few few' letter is f c =
+    let most = c.is.format.is_width.most in
+    let within = c.is.format.within in
+    let same = counts_one mark c.mark w r (f.width - f.frac) f.frac (letter_no_digit fraction_letter mark (omega arith) letter) (letter_no_digit fraction_letter c.mark (omega arith) c.is_mark) few few' (omega (arith, most)) (omega (arith, most, within)) (sym is ∙ c.text) in
+    (c.is.format, parts_are f s (w + r) r c.is.signed_is (omega (arith, same.0, same.2, within)) (sym same.2))
+
+pub counted_found : (s : Bool) (w r mark : ℕ) (rest : List ℕ) (o : Option FormatParts) → w < 100 → r < 100 → IsLetter fraction_letter mark → rest ≡ two_counts mark w r → (IsSome o ↔ IsFormat (w + r) r) → IfSome o (λ f. (f.signed ≡ s) × (f.width ≡ w + r) × (f.frac ≡ r))
+    → MatchOption o ((f : FormatParts) → ¬ IsCounted s rest f) (λ f. IsCounted s rest f)
+counted_found s w r mark rest o few few' letter is exists are =
+    found_by (IsCounted s rest) s (w + r) r o exists are (counted_to s w r mark rest letter is) (counted_back s w r mark rest few few' letter is)
+
+other_point : IsNoDigit point
+other_point = inl (omega arith)
+
+pointed_counts : (s : Bool) (w r : ℕ) (rest : List ℕ) → w < 100 → r < 100 → rest ≡ two_counts point w r → (f : FormatParts) → IsPointed s rest f → (f.width - f.frac ≡ w) × (f.frac ≡ r)
+pointed_counts s w r rest few few' is f c =
+    let most = c.is.format.is_width.most in
+    let within = c.is.format.within in
+    let same = counts_one point point w r (f.width - f.frac) f.frac other_point other_point few few' (omega (arith, most)) (omega (arith, most, within)) (sym is ∙ c.text) in
+    (sym same.0, sym same.2)
+
+-- without whole bits there is no sign bit
+pub no_sign_bit : (s : Bool) (w r : ℕ) (rest : List ℕ) → s ≡ true → w ≡ 0 → w < 100 → r < 100 → rest ≡ two_counts point w r → (f : FormatParts) → IsPointed s rest f → ⊥
+no_sign_bit s w r rest sign none few few' is f c =
+    let same = pointed_counts s w r rest few few' is f c in
+    omega (arith, same.0, none, c.sign_bit sign)
+
+pub pointed_found : (s : Bool) (w r : ℕ) (rest : List ℕ) (o : Option FormatParts) → w < 100 → r < 100 → (s ≡ true → 0 < w) → rest ≡ two_counts point w r → (IsSome o ↔ IsFormat (w + r) r) → IfSome o (λ f. (f.signed ≡ s) × (f.width ≡ w + r) × (f.frac ≡ r))
+    → MatchOption o ((f : FormatParts) → ¬ IsPointed s rest f) (λ f. IsPointed s rest f)
+pointed_found s w r rest o few few' some is exists are = found_by (IsPointed s rest) s (w + r) r o exists are to back
+  where
+    to : IsFormat (w + r) r → IsPointed s rest (parts s (w + r) r)
+    to valid =
+        let whole : w + r - r ≡ w = omega arith in
+        record { is = record { format = valid; signed_is = refl }; sign_bit = λ e. omega (arith, some e); text = is ∙ ap (λ n. two_counts point n r) (sym whole) }
+
+    back : (f : FormatParts) → IsPointed s rest f → IsFormat f.width f.frac × (f ≡ parts s (w + r) r)
+    back f c =
+        let same = pointed_counts s w r rest few few' is f c in
+        let within = c.is.format.within in
+        (c.is.format, parts_are f s (w + r) r c.is.signed_is (omega (arith, same.0, same.1, within)) same.1)
+
+pub fraction_found : (r : ℕ) (rest : List ℕ) (o : Option FormatParts) → r < 100 → rest ≡ decimal r → (IsSome o ↔ IsFormat (r + 1) r) → IfSome o (λ f. (f.signed ≡ true) × (f.width ≡ r + 1) × (f.frac ≡ r))
+    → MatchOption o ((f : FormatParts) → ¬ IsFraction rest f) (λ f. IsFraction rest f)
+fraction_found r rest o few is exists are = found_by (IsFraction rest) true (r + 1) r o exists are to back
+  where
+    to : IsFormat (r + 1) r → IsFraction rest (parts true (r + 1) r)
+    to valid = record { is = record { format = valid; signed_is = refl }; sign_bit = refl; text = is }
+
+    back : (f : FormatParts) → IsFraction rest f → IsFormat f.width f.frac × (f ≡ parts true (r + 1) r)
+    back f c =
+        let most = c.is.format.is_width.most in
+        let same : f.frac ≡ r = count_one f.frac r (omega (arith, most, c.is.format.within)) few (sym c.text ∙ is) in
+        (c.is.format, parts_are f true (r + 1) r c.is.signed_is (omega (arith, c.sign_bit, same)) same)
+
+-- ---- what follows the letters
+-- what is found of a part of a name is found of the name
+carried : (P Q : FormatParts → Type 0) (o : Option FormatParts) → ((f : FormatParts) → P f → Q f) → ((f : FormatParts) → Q f → P f) → MatchOption o ((f : FormatParts) → ¬ P f) (λ f. P f) → MatchOption o ((f : FormatParts) → ¬ Q f) (λ f. Q f)
+carried P Q None to back none = λ f is. none f (back f is)
+carried P Q (Some f) to back is = to f is
+
+-- two counts begin with a digit
+digit_first : (ds r : List ℕ) (m b : ℕ) (rest : List ℕ) → 0 < length ds → AllDigits 10 ds → ds ++ m ∷ r ≡ b ∷ rest → IsNoDigit b → ⊥
+digit_first [] r m b rest some digits e other = omega (arith, some)
+digit_first (d ∷ ds) r m b rest some digits e other = let h : b ≡ d = cc in let is = digit_from_value d digits.0 in no_digit_is b d other is.0 is.1 h
+
+counts_begin : (w m : ℕ) (r : List ℕ) (b : ℕ) (rest : List ℕ) → w < 100 → decimal w ++ m ∷ r ≡ b ∷ rest → IsNoDigit b → ⊥
+counts_begin w m r b rest few e other =
+    let is = decimal_is_IsNumeral w (omega (arith, few)) in
+    digit_first (decimal w) r m b rest is.0.0 is.0.1 e other
+
+pub after_q_found : (rest : List ℕ) (first : ℕ) (counts : List ℕ) (o : Option FormatParts) → rest ≡ first ∷ counts → IsLetter q_letter first → MatchOption o ((f : FormatParts) → ¬ IsPointed false counts f) (λ f. IsPointed false counts f) → MatchOption o ((f : FormatParts) → ¬ IsAfterU rest f) (λ f. IsAfterU rest f)
+after_q_found rest first counts o is letter found = carried (IsPointed false counts) (IsAfterU rest) o to back found
+  where
+    to : (f : FormatParts) → IsPointed false counts f → IsAfterU rest f
+    to f p = inr (record { q = first; is_q = letter; counts = counts; head = is; pointed = p })
+
+    back : (f : FormatParts) → IsAfterU rest f → IsPointed false counts f
+    back f (inl c) = absurd (counts_begin (f.width - f.frac) c.mark (decimal f.frac) first counts (omega (arith, c.is.format.is_width.most)) (sym c.text ∙ is) (letter_no_digit q_letter first (omega arith) letter))
+    back f (inr p) =
+        let e : first ∷ counts ≡ p.q ∷ p.counts = sym is ∙ p.head in
+        let same : p.counts ≡ counts = cc in
+        subst (λ t. IsPointed false t f) same p.pointed
+
+pub counted_after_u : (rest : List ℕ) (o : Option FormatParts) → ((q : ℕ) (counts : List ℕ) → IsLetter q_letter q → rest ≡ q ∷ counts → ⊥) → MatchOption o ((f : FormatParts) → ¬ IsCounted false rest f) (λ f. IsCounted false rest f) → MatchOption o ((f : FormatParts) → ¬ IsAfterU rest f) (λ f. IsAfterU rest f)
+counted_after_u rest o other found = carried (IsCounted false rest) (IsAfterU rest) o (λ f c. inl c) back found
+  where
+    back : (f : FormatParts) → IsAfterU rest f → IsCounted false rest f
+    back f (inl c) = c
+    back f (inr p) = absurd (other p.q p.counts p.is_q p.head)
+
+-- letters differ
+letters_apart : (a b c : ℕ) → IsLetter a c → IsLetter b c → a < b + 32 → b < a + 32 → (a ≡ b → ⊥) → ⊥
+letters_apart a b c (inl e) (inl h) l m other = other (sym e ∙ h)
+letters_apart a b c (inl e) (inr h) l m other = omega (arith, e, h, l, m)
+letters_apart a b c (inr e) (inl h) l m other = omega (arith, e, h, l, m)
+letters_apart a b c (inr e) (inr h) l m other = other (omega (arith, e, h))
+
+not_q : (s : Bool) (c : ℕ) → IsLetter (sign_letter s) c → IsLetter q_letter c → ⊥
+not_q true c a b = letters_apart 73 81 c a b (omega arith) (omega arith) (λ e. omega (arith, e))
+not_q false c a b = letters_apart 85 81 c a b (omega arith) (omega arith) (λ e. omega (arith, e))
+
+sign_is : (s t : Bool) (c : ℕ) → IsLetter (sign_letter s) c → IsLetter (sign_letter t) c → t ≡ s
+sign_is true true c a b = refl
+sign_is false false c a b = refl
+sign_is true false c a b = absurd (letters_apart 73 85 c a b (omega arith) (omega arith) (λ e. omega (arith, e)))
+sign_is false true c a b = absurd (letters_apart 85 73 c a b (omega arith) (omega arith) (λ e. omega (arith, e)))
+
+counted_name : (s : Bool) (word : List ℕ) (first : ℕ) (rest : List ℕ) → word ≡ first ∷ rest → IsLetter (sign_letter s) first → (f : FormatParts) → IsFormat f.width f.frac → IsCountedName word f → IsCounted s rest f
+counted_name s word first rest is letter f valid c =
+    let e : first ∷ rest ≡ c.sign ∷ counts_text c.mark f = sym is ∙ c.text in
+    let head : c.sign ≡ first = cc in
+    let tail : rest ≡ counts_text c.mark f = cc in
+    let signed = sign_is s f.signed first letter (subst (IsLetter (sign_letter f.signed)) head c.is_sign) in
+    record { is = record { format = valid; signed_is = signed }; mark = c.mark; is_mark = c.is_mark; text = tail }
+
+-- the head of a pointed name, by its sign rule
+abbrev IsHeadOf : Bool → List ℕ → List ℕ → Type 0
+IsHeadOf true counts word = (q : ℕ) × IsLetter q_letter q × (word ≡ q ∷ counts)
+IsHeadOf false counts word = (u : ℕ) × (q : ℕ) × IsLetter 85 u × IsLetter q_letter q × (word ≡ u ∷ q ∷ counts)
+
+head_of : (s : Bool) (head counts word : List ℕ) → IsQ s head → word ≡ head ++ counts → IsHeadOf s counts word
+head_of true head counts word (q, letter, is) e = (q, letter, e ∙ ap (λ h. h ++ counts) is)
+head_of false head counts word (u, q, l, letter, is) e = (u, q, l, letter, e ∙ ap (λ h. h ++ counts) is)
+
+-- after I
+not_pointed_by_i : (s : Bool) (counts word : List ℕ) (first : ℕ) (rest : List ℕ) → word ≡ first ∷ rest → IsLetter 73 first → IsHeadOf s counts word → ⊥
+not_pointed_by_i true counts word first rest is letter (q, l, e) =
+    let both : first ∷ rest ≡ q ∷ counts = sym is ∙ e in
+    let head : q ≡ first = cc in
+    not_q true first letter (subst (IsLetter q_letter) head l)
+not_pointed_by_i false counts word first rest is letter (u, q, l, m, e) =
+    let both : first ∷ rest ≡ u ∷ q ∷ counts = sym is ∙ e in
+    let head : u ≡ first = cc in
+    letters_apart 73 85 first letter (subst (IsLetter 85) head l) (omega arith) (omega arith) (λ e. omega (arith, e))
+
+not_fraction : (s : Bool) (word : List ℕ) (first : ℕ) (rest : List ℕ) (f : FormatParts) → word ≡ first ∷ rest → IsLetter (sign_letter s) first → IsFractionName word f → ⊥
+not_fraction s word first rest f is letter n =
+    let both : first ∷ rest ≡ n.q ∷ decimal f.frac = sym is ∙ n.text in
+    let head : n.q ≡ first = cc in
+    not_q s first letter (subst (IsLetter q_letter) head n.is_q)
+
+i_kind : (word : List ℕ) (first : ℕ) (rest : List ℕ) → word ≡ first ∷ rest → IsLetter 73 first → (f : FormatParts) → IsFormat f.width f.frac → IsCountedName word f ⊎ IsPointedName word f ⊎ IsFractionName word f → IsCounted true rest f
+i_kind word first rest is letter f valid (inl c) = counted_name true word first rest is letter f valid c
+i_kind word first rest is letter f valid (inr (inl p)) = absurd (not_pointed_by_i f.signed (counts_text point f) word first rest is letter (head_of f.signed p.head (counts_text point f) word p.is_head p.text))
+i_kind word first rest is letter f valid (inr (inr n)) = absurd (not_fraction true word first rest f is letter n)
+
+i_back : (word : List ℕ) (first : ℕ) (rest : List ℕ) → word ≡ first ∷ rest → IsLetter 73 first → (f : FormatParts) → IsFormatName word f → IsCounted true rest f
+i_back word first rest is letter f n = i_kind word first rest is letter f n.format n.named
+
+pub name_after_i : (word : List ℕ) (first : ℕ) (rest : List ℕ) (o : Option FormatParts) → word ≡ first ∷ rest → IsLetter 73 first → MatchOption o ((f : FormatParts) → ¬ IsCounted true rest f) (λ f. IsCounted true rest f) → MatchOption o ((f : FormatParts) → ¬ IsFormatName word f) (λ f. IsFormatName word f)
+name_after_i word first rest o is letter found = carried (IsCounted true rest) (IsFormatName word) o to (i_back word first rest is letter) found
+  where
+    to : (f : FormatParts) → IsCounted true rest f → IsFormatName word f
+    to f c = record {
+      format = c.is.format;
+      named = inl (record {
+        sign = first;
+        is_sign = subst (λ s. IsLetter (sign_letter s) first) (sym c.is.signed_is) letter;
+        mark = c.mark;
+        is_mark = c.is_mark;
+        text = is ∙ ap (λ t. first ∷ t) c.text;
+      });
+    }
+
+-- after Q
+pointed_by_q : (s : Bool) (counts word : List ℕ) (first : ℕ) (rest : List ℕ) → word ≡ first ∷ rest → IsLetter q_letter first → IsHeadOf s counts word → (s ≡ true) × (rest ≡ counts)
+pointed_by_q true counts word first rest is letter (q, l, e) =
+    let both : first ∷ rest ≡ q ∷ counts = sym is ∙ e in
+    let tail : rest ≡ counts = cc in
+    (refl, tail)
+pointed_by_q false counts word first rest is letter (u, q, l, m, e) =
+    let both : first ∷ rest ≡ u ∷ q ∷ counts = sym is ∙ e in
+    let head : u ≡ first = cc in
+    absurd (not_q false first (subst (IsLetter 85) head l) letter)
+
+q_kind : (word : List ℕ) (first : ℕ) (rest : List ℕ) → word ≡ first ∷ rest → IsLetter q_letter first → (f : FormatParts) → IsFormat f.width f.frac → IsCountedName word f ⊎ IsPointedName word f ⊎ IsFractionName word f → IsAfterQ rest f
+q_kind word first rest is letter f valid (inl c) =
+    let both : first ∷ rest ≡ c.sign ∷ counts_text c.mark f = sym is ∙ c.text in
+    let head : c.sign ≡ first = cc in
+    absurd (not_q f.signed first (subst (IsLetter (sign_letter f.signed)) head c.is_sign) letter)
+q_kind word first rest is letter f valid (inr (inl p)) =
+    let q = pointed_by_q f.signed (counts_text point f) word first rest is letter (head_of f.signed p.head (counts_text point f) word p.is_head p.text) in
+    inl (record { is = record { format = valid; signed_is = q.0 }; sign_bit = λ _. p.sign_bit q.0; text = q.1 })
+q_kind word first rest is letter f valid (inr (inr n)) =
+    let both : first ∷ rest ≡ n.q ∷ decimal f.frac = sym is ∙ n.text in
+    let tail : rest ≡ decimal f.frac = cc in
+    inr (record { is = record { format = valid; signed_is = n.signed }; sign_bit = n.sign_bit; text = tail })
+
+q_back : (word : List ℕ) (first : ℕ) (rest : List ℕ) → word ≡ first ∷ rest → IsLetter q_letter first → (f : FormatParts) → IsFormatName word f → IsAfterQ rest f
+q_back word first rest is letter f n = q_kind word first rest is letter f n.format n.named
+
+pub name_after_q : (word : List ℕ) (first : ℕ) (rest : List ℕ) (o : Option FormatParts) → word ≡ first ∷ rest → IsLetter q_letter first → MatchOption o ((f : FormatParts) → ¬ IsAfterQ rest f) (λ f. IsAfterQ rest f) → MatchOption o ((f : FormatParts) → ¬ IsFormatName word f) (λ f. IsFormatName word f)
+name_after_q word first rest o is letter found = carried (IsAfterQ rest) (IsFormatName word) o to (q_back word first rest is letter) found
+  where
+    pointed_name : (f : FormatParts) (s : Bool) → f.signed ≡ s → s ≡ true → IsPointed true rest f → IsPointedName word f
+    pointed_name f s e t p = record {
+      head = first ∷ [];
+      is_head = subst (λ b. IsQ b (first ∷ [])) (sym (e ∙ t)) (first, letter, refl);
+      sign_bit = λ _. p.sign_bit refl;
+      text = is ∙ ap (λ r. first ∷ r) p.text;
+    }
+
+    to : (f : FormatParts) → IsAfterQ rest f → IsFormatName word f
+    to f (inl p) = record { format = p.is.format; named = inr (inl (pointed_name f true p.is.signed_is refl p)) }
+    to f (inr n) = record {
+      format = n.is.format;
+      named = inr (inr (record { q = first; is_q = letter; signed = n.is.signed_is; sign_bit = n.sign_bit; text = is ∙ ap (λ r. first ∷ r) n.text }));
+    }
+
+-- after U
+pointed_by_u : (s : Bool) (counts word : List ℕ) (first : ℕ) (rest : List ℕ) → word ≡ first ∷ rest → IsLetter 85 first → IsHeadOf s counts word → (s ≡ false) × ((q : ℕ) × IsLetter q_letter q × (rest ≡ q ∷ counts))
+pointed_by_u true counts word first rest is letter (q, l, e) =
+    let both : first ∷ rest ≡ q ∷ counts = sym is ∙ e in
+    let head : q ≡ first = cc in
+    absurd (not_q false first letter (subst (IsLetter q_letter) head l))
+pointed_by_u false counts word first rest is letter (u, q, l, m, e) =
+    let both : first ∷ rest ≡ u ∷ q ∷ counts = sym is ∙ e in
+    let tail : rest ≡ q ∷ counts = cc in
+    (refl, (q, m, tail))
+
+u_kind : (word : List ℕ) (first : ℕ) (rest : List ℕ) → word ≡ first ∷ rest → IsLetter 85 first → (f : FormatParts) → IsFormat f.width f.frac → IsCountedName word f ⊎ IsPointedName word f ⊎ IsFractionName word f → IsAfterU rest f
+u_kind word first rest is letter f valid (inl c) = inl (counted_name false word first rest is letter f valid c)
+u_kind word first rest is letter f valid (inr (inl p)) =
+    let u = pointed_by_u f.signed (counts_text point f) word first rest is letter (head_of f.signed p.head (counts_text point f) word p.is_head p.text) in
+    inr (record {
+      q = u.1.0;
+      is_q = u.1.1;
+      counts = counts_text point f;
+      head = u.1.2;
+      pointed = record { is = record { format = valid; signed_is = u.0 }; sign_bit = λ e. absurd (cc); text = refl };
+    })
+u_kind word first rest is letter f valid (inr (inr n)) = absurd (not_fraction false word first rest f is letter n)
+
+u_back : (word : List ℕ) (first : ℕ) (rest : List ℕ) → word ≡ first ∷ rest → IsLetter 85 first → (f : FormatParts) → IsFormatName word f → IsAfterU rest f
+u_back word first rest is letter f n = u_kind word first rest is letter f n.format n.named
+
+pub name_after_u : (word : List ℕ) (first : ℕ) (rest : List ℕ) (o : Option FormatParts) → word ≡ first ∷ rest → IsLetter 85 first → MatchOption o ((f : FormatParts) → ¬ IsAfterU rest f) (λ f. IsAfterU rest f) → MatchOption o ((f : FormatParts) → ¬ IsFormatName word f) (λ f. IsFormatName word f)
+name_after_u word first rest o is letter found = carried (IsAfterU rest) (IsFormatName word) o to (u_back word first rest is letter) found
+  where
+    to : (f : FormatParts) → IsAfterU rest f → IsFormatName word f
+    to f (inl c) = record {
+      format = c.is.format;
+      named = inl (record {
+        sign = first;
+        is_sign = subst (λ s. IsLetter (sign_letter s) first) (sym c.is.signed_is) letter;
+        mark = c.mark;
+        is_mark = c.is_mark;
+        text = is ∙ ap (λ t. first ∷ t) c.text;
+      });
+    }
+    to f (inr p) = record {
+      format = p.pointed.is.format;
+      named = inr (inl (record {
+        head = first ∷ p.q ∷ [];
+        is_head = subst (λ b. IsQ b (first ∷ p.q ∷ [])) (sym p.pointed.is.signed_is) (first, p.q, letter, p.is_q, refl);
+        sign_bit = λ e. (let other : true ≡ false = sym e ∙ p.pointed.is.signed_is in absurd (cc));
+        text = is ∙ ap (λ r. first ∷ r) (p.head ∙ ap (λ r. p.q ∷ r) p.pointed.text);
+      }));
+    }
+
+-- where the first byte after U is no Q
+pub not_q_first : (rest : List ℕ) (first : ℕ) (counts : List ℕ) (is_q : Bool) → rest ≡ first ∷ counts → (IsTrue is_q ↔ IsLetter q_letter first) → is_q ≡ false → (q : ℕ) (more : List ℕ) → IsLetter q_letter q → rest ≡ q ∷ more → ⊥
+not_q_first rest first counts is_q is test none q more letter e =
+    let both : first ∷ counts ≡ q ∷ more = sym is ∙ e in
+    let head : q ≡ first = cc in
+    let holds : IsTrue is_q = test.1 (subst (IsLetter q_letter) head letter) in
+    absurd (cc)
+
+-- ---- a word names one format
+counted_same : (s : Bool) (rest : List ℕ) (f g : FormatParts) → IsCounted s rest f → IsCounted s rest g → f ≡ g
+counted_same s rest f g a b =
+    let most = b.is.format.is_width.most in
+    let within = b.is.format.within in
+    let found = counted_back s (g.width - g.frac) g.frac b.mark rest (omega (arith, most)) (omega (arith, most, within)) b.is_mark b.text f a in
+    found.1 ∙ sym (parts_are g s (g.width - g.frac + g.frac) g.frac b.is.signed_is (omega (arith, within)) refl)
+
+pointed_same : (s : Bool) (rest : List ℕ) (f g : FormatParts) → IsPointed s rest f → IsPointed s rest g → f ≡ g
+pointed_same s rest f g a b =
+    let most = b.is.format.is_width.most in
+    let within = b.is.format.within in
+    let same = pointed_counts s (g.width - g.frac) g.frac rest (omega (arith, most)) (omega (arith, most, within)) b.text f a in
+    parts_are f s g.width g.frac a.is.signed_is (omega (arith, same.0, same.1, within, a.is.format.within)) same.1 ∙ sym (parts_are g s g.width g.frac b.is.signed_is refl refl)
+
+fraction_same : (rest : List ℕ) (f g : FormatParts) → IsFraction rest f → IsFraction rest g → f ≡ g
+fraction_same rest f g a b =
+    let e : f.frac ≡ g.frac = count_one f.frac g.frac (omega (arith, a.is.format.is_width.most, a.is.format.within)) (omega (arith, b.is.format.is_width.most, b.is.format.within)) (sym a.text ∙ b.text) in
+    parts_are f true g.width g.frac a.is.signed_is (omega (arith, a.sign_bit, b.sign_bit, e)) e ∙ sym (parts_are g true g.width g.frac b.is.signed_is refl refl)
+
+pointed_or_fraction : (rest : List ℕ) (f g : FormatParts) → IsPointed true rest f → IsFraction rest g → ⊥
+pointed_or_fraction rest f g a b =
+    split_has_one point rest (decimal (f.width - f.frac)) (decimal f.frac) a.text
+    (ap (count_of point) b.text ∙ decimal_without point g.frac other_point (omega (arith, b.is.format.is_width.most, b.is.format.within)))
+
+after_q_same : (rest : List ℕ) (f g : FormatParts) → IsAfterQ rest f → IsAfterQ rest g → f ≡ g
+after_q_same rest f g (inl a) (inl b) = pointed_same true rest f g a b
+after_q_same rest f g (inl a) (inr b) = absurd (pointed_or_fraction rest f g a b)
+after_q_same rest f g (inr a) (inl b) = absurd (pointed_or_fraction rest g f b a)
+after_q_same rest f g (inr a) (inr b) = fraction_same rest f g a b
+
+counted_or_pointed : (rest : List ℕ) (f g : FormatParts) → IsCounted false rest f → IsPointedByQ rest g → ⊥
+counted_or_pointed rest f g a b = counts_begin (f.width - f.frac) a.mark (decimal f.frac) b.q b.counts (omega (arith, a.is.format.is_width.most)) (sym a.text ∙ b.head) (letter_no_digit q_letter b.q (omega arith) b.is_q)
+
+after_u_same : (rest : List ℕ) (f g : FormatParts) → IsAfterU rest f → IsAfterU rest g → f ≡ g
+after_u_same rest f g (inl a) (inl b) = counted_same false rest f g a b
+after_u_same rest f g (inl a) (inr b) = absurd (counted_or_pointed rest f g a b)
+after_u_same rest f g (inr a) (inl b) = absurd (counted_or_pointed rest g f b a)
+after_u_same rest f g (inr a) (inr b) =
+    let both : a.q ∷ a.counts ≡ b.q ∷ b.counts = sym a.head ∙ b.head in
+    let tail : a.counts ≡ b.counts = cc in
+    pointed_same false b.counts f g (subst (λ t. IsPointed false t f) tail a.pointed) b.pointed
+
+by_sign : (word rest : List ℕ) (first : ℕ) (s : Bool) (f g : FormatParts) → word ≡ first ∷ rest → IsLetter (sign_letter s) first → IsFormatName word f → IsFormatName word g → f ≡ g
+by_sign word rest first true f g is letter a b = counted_same true rest f g (i_back word first rest is letter f a) (i_back word first rest is letter g b)
+by_sign word rest first false f g is letter a b = after_u_same rest f g (u_back word first rest is letter f a) (u_back word first rest is letter g b)
+
+by_q : (word rest : List ℕ) (first : ℕ) (f g : FormatParts) → word ≡ first ∷ rest → IsLetter q_letter first → IsFormatName word f → IsFormatName word g → f ≡ g
+by_q word rest first f g is letter a b = after_q_same rest f g (q_back word first rest is letter f a) (q_back word first rest is letter g b)
+
+by_head : (word counts : List ℕ) (s : Bool) (f g : FormatParts) → IsHeadOf s counts word → IsFormatName word f → IsFormatName word g → f ≡ g
+by_head word counts true f g (q, letter, is) a b = by_q word counts q f g is letter a b
+by_head word counts false f g (u, q, letter, l, is) a b = by_sign word (q ∷ counts) u false f g is letter a b
+
+by_kind : (word : List ℕ) (f g : FormatParts) → IsCountedName word f ⊎ IsPointedName word f ⊎ IsFractionName word f → IsFormatName word f → IsFormatName word g → f ≡ g
+by_kind word f g (inl c) a b = by_sign word (counts_text c.mark f) c.sign f.signed f g c.text c.is_sign a b
+by_kind word f g (inr (inl p)) a b = by_head word (counts_text point f) f.signed f g (head_of f.signed p.head (counts_text point f) word p.is_head p.text) a b
+by_kind word f g (inr (inr n)) a b = by_q word (decimal f.frac) n.q f g n.text n.is_q a b
+
+pub name_one : FormatNameIsTheOne
+name_one word f g a b = by_kind word f g a.named a b
+
+-- ---- the words of the programs are names
+pub text_names : (f : FormatParts) → IsFormat f.width f.frac → IsFormatName (format_text f) f
+text_names f valid = record {
+  format = valid;
+  named = inl (record { sign = sign_letter f.signed; is_sign = inl refl; mark = fraction_letter; is_mark = inl refl; text = refl });
+}
+
+pub word_names : FormatWordIsAName
+word_names word f is = subst (λ t. IsFormatName t f) (sym is.text) (text_names f (type_format f.width f.frac is.format))

@@ -1,0 +1,45 @@
+-- Lines in which formats have any of their names.
+use Rattle.std.proofs.Common.{◌≡◌, ℕ, List, subst, inl, inr, ◌↔◌}
+use Rattle.fixed_bits.specs.Formats.{FormatParts, IsFormat}
+use Rattle.fixed_respell.specs.Answer.{Asks, AsksBy, IsAnswer, IsNamedAnswer, IsTaskAnswered, Task}
+use Rattle.fixed_respell.specs.AnswerLaws.{NamedAnswerIsTheAnswer, NamedAnswerIsTheOne}
+use Rattle.fixed_respell.specs.FormatNames.{IsFormatName}
+use Rattle.fixed_respell.specs.Words.{IsFormatWord, IsPolicyWord}
+use Rattle.fixed_respell.specs.Lemmas.AnswerLemmas.{answer_by, task_one}
+use Rattle.fixed_respell.specs.Lemmas.FaultLemmas.{no_fault}
+use Rattle.line_engine.specs.AnswerText.{AnswerText}
+use Rattle.fixed_respell.proofs.FormatNameLemmas.{name_one, word_names}
+
+name_valid : (word : List ℕ) (f : FormatParts) → IsFormatName word f → IsFormat f.width f.frac
+name_valid word f is = is.format
+
+pub named_answer_one : NamedAnswerIsTheOne
+named_answer_one = answer_by IsFormatName name_one name_valid
+
+-- a line that asks by the words of the programs asks by names
+named_asks : (line : List ℕ) (t : Task) → Asks line t → AsksBy IsFormatName IsPolicyWord line t
+named_asks line t asks = record {
+  short = asks.short;
+  radix_word = asks.radix_word;
+  source_word = asks.source_word;
+  target_word = asks.target_word;
+  policy_word = asks.policy_word;
+  words = asks.words;
+  radix = asks.radix;
+  source = word_names asks.source_word t.source asks.source;
+  target = word_names asks.target_word t.target asks.target;
+  policy = asks.policy;
+}
+
+pub named_answer : NamedAnswerIsTheAnswer
+named_answer line t reply asks = (to, back)
+  where
+    to : IsNamedAnswer line reply → IsAnswer line reply
+    to (inl a) = absurd (no_fault IsFormatName line t a.fault (named_asks line t asks) a.first.has)
+    to (inr a) =
+        let same : a.task ≡ t = task_one IsFormatName name_one name_valid line a.task t a.asks (named_asks line t asks) in
+        inr (record { task = t; asks = asks; answered = subst (λ u. IsTaskAnswered u reply) same a.answered })
+
+    back : IsAnswer line reply → IsNamedAnswer line reply
+    back (inl a) = absurd (no_fault IsFormatWord line t a.fault asks a.first.has)
+    back (inr a) = inr (record { task = a.task; asks = named_asks line a.task a.asks; answered = a.answered })

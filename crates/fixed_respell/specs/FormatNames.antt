@@ -1,0 +1,52 @@
+-- The names of formats of any width.
+use Rattle.std.specs.Prelude.{◌≡◌, ◌⊎◌, ◌+◌, ◌-◌, ◌<◌, ℕ, Bool, true, false, List, [], ◌∷◌, ◌++◌, decimal}
+use Rattle.fixed_bits.specs.Formats.{FormatParts, IsFormat}
+use Rattle.fixed_respell.specs.Words.{fraction_letter, sign_letter}
+
+-- a letter, by its capital, in either case
+abbrev pub IsLetter : ℕ → ℕ → Type 0
+IsLetter capital byte = (byte ≡ capital) ⊎ (byte ≡ capital + 32)
+
+abbrev pub q_letter : ℕ
+q_letter = 81
+
+-- between the counts of ARM's notation
+abbrev pub point : ℕ
+point = 46
+
+-- a count of whole bits, a byte, and a count of fraction bits
+abbrev pub counts_text : ℕ → FormatParts → List ℕ
+counts_text mark f = decimal (f.width - f.frac) ++ mark ∷ decimal f.frac
+
+-- I or U, whole bits, F, fraction bits
+pub record IsCountedName (word : List ℕ) (f : FormatParts) : Type 0 where
+  pub sign : ℕ
+  pub is_sign : IsLetter (sign_letter f.signed) sign
+  pub mark : ℕ
+  pub is_mark : IsLetter fraction_letter mark
+  pub text : word ≡ sign ∷ counts_text mark f
+
+-- Q, and before it U where there is no sign
+abbrev pub IsQ : Bool → List ℕ → Type 0
+IsQ true head = (q : ℕ) × IsLetter q_letter q × (head ≡ q ∷ [])
+IsQ false head = (u : ℕ) × (q : ℕ) × IsLetter (sign_letter false) u × IsLetter q_letter q × (head ≡ u ∷ q ∷ [])
+
+-- Q or UQ, whole bits, a point, fraction bits, by ARM's counting: the sign bit is one of the whole bits
+pub record IsPointedName (word : List ℕ) (f : FormatParts) : Type 0 where
+  pub head : List ℕ
+  pub is_head : IsQ f.signed head
+  pub sign_bit : f.signed ≡ true → f.frac < f.width
+  pub text : word ≡ head ++ counts_text point f
+
+-- Q and fraction bits: the sign bit is the one whole bit
+pub record IsFractionName (word : List ℕ) (f : FormatParts) : Type 0 where
+  pub q : ℕ
+  pub is_q : IsLetter q_letter q
+  pub signed : f.signed ≡ true
+  pub sign_bit : f.width ≡ f.frac + 1
+  pub text : word ≡ q ∷ decimal f.frac
+
+-- the word names the format: a law says that it names one at most
+pub record IsFormatName (word : List ℕ) (f : FormatParts) : Type 0 where
+  pub format : IsFormat f.width f.frac
+  pub named : IsCountedName word f ⊎ IsPointedName word f ⊎ IsFractionName word f

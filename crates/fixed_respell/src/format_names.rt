@@ -1,0 +1,182 @@
+//! The names of formats of any width: whole bits and fraction bits after I or U, in either case, and ARM's Q notation.
+
+ghost use Rattle.std.specs.Prelude.{◌≡◌, ◌⊎◌, ◌↔◌, ◌+◌, ◌/◌, ◌%◌, ◌<◌, ◌≤◌, ◌∷◌, []};
+ghost use Rattle.std.specs.Prelude.{ℕ, IsTrue, MatchOption, decimal};
+ghost use Rattle.fixed_bits.specs.Formats.{FormatParts};
+ghost use Rattle.fixed_respell.specs.FormatNames.{IsFormatName, IsLetter};
+ghost use Rattle.fixed_respell.specs.Inner.NameParts.{IsAfterQ, IsAfterU, IsCounted, IsFraction, IsPointed, two_counts};
+ghost use Rattle.fixed_respell.specs.Words.{fraction_letter};
+
+use crate::split::split_once;
+use fixed_bits::Format;
+
+/// The digit that a byte is.
+fn digit_of(byte: u8) -> Option<u32>
+    ensures { MatchOption result ((n : ℕ) → n < 10 → ¬ (byte ≡ 48 + n)) (λ n. (n < 10) × (byte ≡ 48 + n)) }
+{
+    if byte >= b'0' && byte <= b'9' {
+        Some(u32::from(byte - b'0'))
+    } else {
+        None
+    }
+}
+
+/// The number of two digits that bytes are, of which the first is not 0.
+fn number_of(high: u8, low: u8) -> Option<u32>
+    ensures { MatchOption result
+        ((n : ℕ) → 10 ≤ n → n < 100 → ¬ ((high ≡ 48 + n / 10) × (low ≡ 48 + n % 10)))
+        (λ n. (10 ≤ n) × (n < 100) × (high ≡ 48 + n / 10) × (low ≡ 48 + n % 10)) }
+{
+    if high > b'0' && high <= b'9' && low >= b'0' && low <= b'9' {
+        Some(u32::from(high - b'0') * 10 + u32::from(low - b'0'))
+    } else {
+        None
+    }
+}
+
+/// A count of bits in decimal: a digit, or two that do not begin with 0. None for other bytes.
+fn count_of(digits: &[u8]) -> Option<u32>
+    ensures { MatchOption result
+        ((n : ℕ) → n < 100 → ¬ (digits.now ≡ decimal n))
+        (λ n. (n < 100) × (digits.now ≡ decimal n)) }
+{
+    if digits.len() == 1 {
+        digit_of(digits[0])
+    } else if digits.len() == 2 {
+        number_of(digits[0], digits[1])
+    } else {
+        None
+    }
+}
+
+/// The counts around the first byte of a kind that is no digit. None where the bytes are not two counts around it.
+fn counts_around(bytes: &[u8], mark: u8) -> Option<(u32, u32)>
+    requires { (mark < 48) ⊎ (57 < mark) }
+    ensures { MatchOption result
+        ((whole frac : ℕ) → whole < 100 → frac < 100 → ¬ (bytes.now ≡ two_counts mark whole frac))
+        (λ r. (r.0 < 100) × (r.1 < 100) × (bytes.now ≡ two_counts mark r.0 r.1)) }
+{
+    let Some((whole, frac)) = split_once(bytes, mark) else {
+        return None;
+    };
+    let Some(whole) = count_of(whole) else {
+        return None;
+    };
+    let Some(frac) = count_of(frac) else {
+        return None;
+    };
+    Some((whole, frac))
+}
+
+/// The counts around an F in either case.
+fn counts_around_letter(bytes: &[u8]) -> Option<(u32, u32)>
+    ensures { MatchOption result
+        ((mark whole frac : ℕ) → IsLetter fraction_letter mark → whole < 100 → frac < 100
+        → ¬ (bytes.now ≡ two_counts mark whole frac))
+        (λ r. (r.0 < 100) × (r.1 < 100)
+        × ((mark : ℕ) × IsLetter fraction_letter mark × (bytes.now ≡ two_counts mark r.0 r.1))) }
+{
+    match counts_around(bytes, b'F') {
+        Some(counts) => Some(counts),
+        None => counts_around(bytes, b'f'),
+    }
+}
+
+/// The format with a sign rule whose whole bits, F and fraction bits these are.
+fn counted(signed: bool, rest: &[u8]) -> Option<Format>
+    ensures { MatchOption result
+        ((f : FormatParts) → ¬ IsCounted signed rest.now f)
+        (λ f. IsCounted signed rest.now f) }
+{
+    match counts_around_letter(rest) {
+        Some((whole, frac)) => Format::of_any_width(signed, whole + frac, frac),
+        None => None,
+    }
+}
+
+/// The format with a sign rule whose whole bits, point and fraction bits these are, where the sign bit is one of the
+/// whole bits.
+fn pointed(signed: bool, rest: &[u8]) -> Option<Format>
+    ensures { MatchOption result
+        ((f : FormatParts) → ¬ IsPointed signed rest.now f)
+        (λ f. IsPointed signed rest.now f) }
+{
+    let Some((whole, frac)) = counts_around(rest, b'.') else {
+        return None;
+    };
+    if signed && whole == 0 {
+        return None;
+    }
+    Format::of_any_width(signed, whole + frac, frac)
+}
+
+/// The format whose fraction bits these are, beside its sign bit.
+fn fraction(rest: &[u8]) -> Option<Format>
+    ensures { MatchOption result ((f : FormatParts) → ¬ IsFraction rest.now f) (λ f. IsFraction rest.now f) }
+{
+    match count_of(rest) {
+        Some(frac) => Format::of_any_width(true, frac + 1, frac),
+        None => None,
+    }
+}
+
+/// The format of what is left of a name after Q.
+fn after_q(rest: &[u8]) -> Option<Format>
+    ensures { MatchOption result ((f : FormatParts) → ¬ IsAfterQ rest.now f) (λ f. IsAfterQ rest.now f) }
+{
+    match pointed(true, rest) {
+        Some(format) => Some(format),
+        None => fraction(rest),
+    }
+}
+
+/// The first byte, and those after it. None where there is none.
+fn split_first(bytes: &[u8]) -> Option<(u8, &[u8])>
+    ensures { MatchOption result (bytes.now ≡ []) (λ r. bytes.now ≡ r.0 ∷ r.1.now) }
+{
+    if bytes.is_empty() {
+        None
+    } else {
+        Some((bytes[0], &bytes[1..]))
+    }
+}
+
+/// Whether a byte is a letter, by its capital, in either case.
+fn is_letter(byte: u8, capital: u8) -> bool
+    requires { capital < 128 }
+    ensures { IsTrue result ↔ IsLetter capital byte }
+{
+    byte == capital || byte == capital + 32
+}
+
+/// The format of what is left of a name after U.
+fn after_u(rest: &[u8]) -> Option<Format>
+    ensures { MatchOption result ((f : FormatParts) → ¬ IsAfterU rest.now f) (λ f. IsAfterU rest.now f) }
+{
+    match split_first(rest) {
+        Some((first, counts)) if is_letter(first, b'Q') => pointed(false, counts),
+        _ => counted(false, rest),
+    }
+}
+
+/// The format that a word names, of any width from 1 to 64 bits. `None` where it names none.
+///
+/// It is I or U, whole bits, F, fraction bits; or Q or UQ, whole bits, a point, fraction bits, by ARM's counting, in
+/// which the sign bit is one of the whole bits; or Q and fraction bits, with one whole bit. Letters stand in either
+/// case.
+pub fn format_named(word: &[u8]) -> Option<Format>
+    ensures { MatchOption result ((f : FormatParts) → ¬ IsFormatName word.now f) (λ f. IsFormatName word.now f) }
+{
+    let Some((first, rest)) = split_first(word) else {
+        return None;
+    };
+    if is_letter(first, b'I') {
+        counted(true, rest)
+    } else if is_letter(first, b'Q') {
+        after_q(rest)
+    } else if is_letter(first, b'U') {
+        after_u(rest)
+    } else {
+        None
+    }
+}
