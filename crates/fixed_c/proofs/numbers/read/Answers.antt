@@ -113,6 +113,6 @@ returns-in-None c =
     )
 
 pub returns-in_err-policy : goal.returns-in_err-policy
-returns-in_err-policy g c =
+returns-in_err-policy c =
     let p = err_from_is_err_and c.from_residual-in_err-policy.result c.from_residual-in_err-policy.ensures.1 in
     rw (p.1, p.2) (inr ((c.in_ok-radix.radix, c.in_ok-radix.ensures), inr (c.in_ok-format.ensures.1, inl c.in_err-policy.ensures)))
