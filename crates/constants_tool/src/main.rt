@@ -1,5 +1,5 @@
-//! Reads a constants file from standard input, and writes it to standard output: in its canonical form, as a C header or as
-//! Rust.
+//! Reads a constants file from standard input, and writes it to standard output: in its canonical form, as a C header
+//! or as Rust.
 #![tactic(auto)]
 
 ghost use Rattle.std.specs.Prelude.{◌≡◌, ◌<◌};

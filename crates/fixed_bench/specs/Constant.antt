@@ -10,7 +10,8 @@ IsConstant line reply = reply ≡ record { text = codes "0 0 fits"; fault = fals
 pub constant_one : (line : List ℕ) (a b : AnswerText) → IsConstant line a → IsConstant line b → a ≡ b
 constant_one line a b p q = p ∙ sym q
 
-pub constant_kept : (line : List ℕ) (reply : AnswerText) → kept_length < length line → IsConstant (take kept_length line) reply ↔ IsConstant line reply
+pub constant_kept : (line : List ℕ) (reply : AnswerText) → kept_length < length line
+    → IsConstant (take kept_length line) reply ↔ IsConstant line reply
 constant_kept line reply long = ((λ p. p), (λ p. p))
 
 pub constant_room : 8 < 8192

@@ -1,8 +1,8 @@
 //! Times single library calls.
 //!
-//! `fixed_bench CALL TIMES WORDS..` reads the lines of standard input once, makes the call with each line, as many times
-//! over as TIMES says, and prints the sum of what the calls answered, so that none can be left out. With TIMES 0 it makes
-//! no call, so that the difference of two runs is the time of the calls alone.
+//! `fixed_bench CALL TIMES WORDS..` reads the lines of standard input once, makes the call with each line, as many
+//! times over as TIMES says, and prints the sum of what the calls answered, so that none can be left out. With TIMES 0
+//! it makes no call, so that the difference of two runs is the time of the calls alone.
 //!
 //! | CALL | WORDS | A line | The call |
 //! |---|---|---|---|

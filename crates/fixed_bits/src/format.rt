@@ -1,6 +1,7 @@
 //! Formats chosen at run time, and what is done with a number that is out of range.
 
-ghost use Rattle.std.specs.Prelude.{◌≡◌, ◌↔◌, ◌≤◌, ◌<◌, ◌^◌, ◌-◌, ◌*◌, ◌/◌, ◌%◌, pos, false, IsTrue, IsSome, IsNone, IfSome, Option};
+ghost use Rattle.std.specs.Prelude.{◌≡◌, ◌↔◌, ◌≤◌, ◌<◌, ◌^◌, ◌-◌, ◌*◌, ◌/◌, ◌%◌, pos, false, IsTrue, IsSome, IsNone};
+ghost use Rattle.std.specs.Prelude.{IfSome, Option};
 ghost use Rattle.fixed_bits.specs.Ranges.{IsInRange, IsOutOfRange, IsWide, lowest, greatest};
 ghost use Rattle.fixed_bits.specs.Formats.{IsFormat, IsTypeFormat};
 ghost use Rattle.fixed_bits.specs.Images.{IsImage, IsWrapped};
@@ -133,7 +134,8 @@ pub enum Policy {
 }
 
 impl Policy {
-    /// The image of a number in a format: the number itself where it is in range. `None` exactly where it is out of range and the policy is `Checked`.
+    /// The image of a number in a format: the number itself where it is in range. `None` exactly where it is out of
+    /// range and the policy is `Checked`.
     pub fn image(self, format: Format, v: i128) -> Option<i128>
         ensures image { IfSome result (λ c. IsImage self format.signed format.width v c) }
         ensures none { IsNone result ↔ ((self ≡ Policy.Checked) × IsOutOfRange format.signed format.width v) }

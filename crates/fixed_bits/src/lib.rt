@@ -1,4 +1,5 @@
-//! Integer types that hold the bits of fixed-point numbers, formats, images of numbers out of range, and rounding modes.
+//! Integer types that hold the bits of fixed-point numbers, formats, images of numbers out of range, and rounding
+//! modes.
 #![tactic(auto)]
 
 pub mod bits;

@@ -6,9 +6,15 @@ use Rattle.fixed_bits.specs.declared.mode.ReadMode.{ReadMode}
 use Rattle.fixed_bits.specs.declared.mode.ReadMode.TheVariants.{NearestEven, Floor, Ceil, TowardsZero}
 use Rattle.fixed_numeral.specs.Messages.{message_of}
 use Rattle.fixed_numeral.specs.declared.error.ParseErrorKind.{ParseErrorKind}
-use Rattle.fixed_numeral.specs.declared.error.ParseErrorKind.TheVariants.{InvalidDigit, MisplacedSign, MisplacedUnderscore, TooManyPoints, TooManyExp, ExpInvalidDigit, ExpOverflow, NoDigits, ExpNoDigits, Overflow}
+use Rattle.fixed_numeral.specs.declared.error.ParseErrorKind.TheVariants.{InvalidDigit, MisplacedSign}
+use Rattle.fixed_numeral.specs.declared.error.ParseErrorKind.TheVariants.{MisplacedUnderscore, TooManyPoints}
+use Rattle.fixed_numeral.specs.declared.error.ParseErrorKind.TheVariants.{TooManyExp, ExpInvalidDigit, ExpOverflow}
+use Rattle.fixed_numeral.specs.declared.error.ParseErrorKind.TheVariants.{NoDigits, ExpNoDigits, Overflow}
 use Rattle.fixed_c.specs.declared.refusal.Refusal.{Refusal}
-use Rattle.fixed_c.specs.declared.refusal.Refusal.TheVariants.{Numeral, BadRadix, BadFormat, BadTarget, BadPolicy, BadMode, BadBits, NoRoom, BadOtherBits, BadPlaces, BadRounding, BadWord, BadRows, BadNotation, BadWidth, BadFill, BadAlign}
+use Rattle.fixed_c.specs.declared.refusal.Refusal.TheVariants.{Numeral, BadRadix, BadFormat, BadTarget, BadPolicy}
+use Rattle.fixed_c.specs.declared.refusal.Refusal.TheVariants.{BadMode, BadBits, NoRoom, BadOtherBits, BadPlaces}
+use Rattle.fixed_c.specs.declared.refusal.Refusal.TheVariants.{BadRounding, BadWord, BadRows, BadNotation, BadWidth}
+use Rattle.fixed_c.specs.declared.refusal.Refusal.TheVariants.{BadFill, BadAlign}
 
 abbrev pub policy_code : Policy → ℕ
 policy_code Checked = 0

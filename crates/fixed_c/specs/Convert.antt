@@ -16,9 +16,11 @@ use Rattle.fixed_c.specs.Codes.{mode_code, policy_code}
 use Rattle.fixed_c.specs.Numbers.{AreBits, AreBitsOf, IsBrought, IsNotBrought}
 use Rattle.fixed_c.specs.Outcome.{ForKind, Never, Unless}
 use Rattle.fixed_c.specs.declared.refusal.Refusal.{Refusal}
-use Rattle.fixed_c.specs.declared.refusal.Refusal.TheVariants.{BadFormat, BadTarget, BadPolicy, BadMode, BadBits, BadOtherBits, BadPlaces}
+use Rattle.fixed_c.specs.declared.refusal.Refusal.TheVariants.{BadFormat, BadTarget, BadPolicy, BadMode, BadBits}
+use Rattle.fixed_c.specs.declared.refusal.Refusal.TheVariants.{BadOtherBits, BadPlaces}
 
--- both formats are some, and bits of the first, rounded down to the second's fraction length, are brought into the second
+-- both formats are some, and bits of the first, rounded down to the second's fraction length, are brought into the
+-- second
 pub record IsConverted (source target : FormatParts) (policy : ℕ) (given bits : ℤ) (flag : ℕ) : Type 0 where
   pub source_format : NamesFormat source
   pub target_format : NamesFormat target
@@ -45,7 +47,8 @@ ConvertIsRefused f g policy bits =
     (Unless (AreBits f bits) BadBits
     (ForKind (λ kind. (kind ≡ Overflow) × IsNotConverted f g policy bits)))))
 
--- both formats are some, and bits of the first, moved in a mode to the second's fraction length, are brought into the second
+-- both formats are some, and bits of the first, moved in a mode to the second's fraction length, are brought into the
+-- second
 pub record IsConvertedIn (source target : FormatParts) (policy mode : ℕ) (given bits : ℤ) (flag : ℕ) : Type 0 where
   pub source_format : NamesFormat source
   pub target_format : NamesFormat target
@@ -126,4 +129,5 @@ pub record IsPrintedTo (f : FormatParts) (bits : ℤ) (places : ℕ) (text : Lis
 
 -- the refusal of a call that prints to places
 abbrev pub PlacesIsRefused : FormatParts → ℤ → ℕ → Refusal → Type 0
-PlacesIsRefused f bits places = Unless (NamesFormat f) BadFormat (Unless (AreBits f bits) BadBits (Unless (places ≤ 64) BadPlaces Never))
+PlacesIsRefused f bits places = Unless (NamesFormat f) BadFormat
+    (Unless (AreBits f bits) BadBits (Unless (places ≤ 64) BadPlaces Never))

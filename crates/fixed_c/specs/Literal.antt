@@ -21,7 +21,8 @@ pub record IsLiteralReadAs (text : List ℕ) (f : FormatParts) (policy : ℕ) (b
 
 -- why there is none: the text is no literal, or under Checked its number is out of range
 abbrev pub IsLiteralNotRead : List ℕ → FormatParts → Policy → ParseErrorKind → Type 0
-IsLiteralNotRead text f p kind = HasLiteralCause f.signed text kind ⊎ ((kind ≡ Overflow) × OverflowsBy (HasLiteral f.signed text) f (literal_radix f.signed text) p NearestEven)
+IsLiteralNotRead text f p kind = HasLiteralCause f.signed text kind
+    ⊎ ((kind ≡ Overflow) × OverflowsBy (HasLiteral f.signed text) f (literal_radix f.signed text) p NearestEven)
 
 -- the refusal of a call with these arguments
 abbrev pub LiteralIsRefused : List ℕ → FormatParts → ℕ → Refusal → Type 0

@@ -1,5 +1,6 @@
 -- Bits and formats as C has them.
-use Rattle.std.specs.Prelude.{◌≡◌, ◌⊎◌, ◌↔◌, ◌≤ℤ◌, ◌<ℤ◌, ℕ, ℤ, Bool, true, false, pos, ◌+ℤ◌, ◌^◌, ◌==◌, if◌then◌else◌, IsTrue}
+use Rattle.std.specs.Prelude.{◌≡◌, ◌⊎◌, ◌↔◌, ◌≤ℤ◌, ◌<ℤ◌, ℕ, ℤ, Bool, true, false, pos, ◌+ℤ◌, ◌^◌, ◌==◌, if◌then◌else◌}
+use Rattle.std.specs.Prelude.{IsTrue}
 use Rattle.fixed_bits.specs.Formats.{FormatParts}
 use Rattle.fixed_bits.specs.Images.{IsImage}
 use Rattle.fixed_bits.specs.Ranges.{IsInRange, IsOutOfRange}
@@ -9,7 +10,8 @@ use Rattle.fixed_bits.specs.declared.format.Policy.TheVariants.{Checked}
 -- 64 bits, read by a sign rule, are a number
 abbrev pub has_bits : Bool → ℤ → ℤ → Type 0
 has_bits true bits number = number ≡ bits
-has_bits false bits number = (pos 0 ≤ℤ number) × (number <ℤ pos (2 ^ 64)) × ((number ≡ bits) ⊎ (number ≡ bits +ℤ pos (2 ^ 64)))
+has_bits false bits number = (pos 0 ≤ℤ number) × (number <ℤ pos (2 ^ 64))
+    × ((number ≡ bits) ⊎ (number ≡ bits +ℤ pos (2 ^ 64)))
 
 -- the bits are a number that the format holds
 pub record AreBitsOf (f : FormatParts) (bits number : ℤ) : Type 0 where

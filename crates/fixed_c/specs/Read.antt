@@ -22,7 +22,8 @@ pub record HasNumber (Has : Parts → Type 0) (f : FormatParts) (r : Radix) (m :
   pub read : IsReadNumber m r parts f.frac number
 
 -- the format is one, and the number of a text with these parts is brought into it
-pub record IsReadBy (Has : Parts → Type 0) (f : FormatParts) (bits : ℤ) (flag : ℕ) (r : Radix) (p : Policy) (m : ReadMode) : Type 0 where
+pub record IsReadBy (Has : Parts → Type 0) (f : FormatParts) (bits : ℤ) (flag : ℕ) (r : Radix) (p : Policy)
+    (m : ReadMode) : Type 0 where
   pub format : NamesFormat f
   pub number : ℤ
   pub has : HasNumber Has f r m number

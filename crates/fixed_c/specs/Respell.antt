@@ -12,8 +12,10 @@ use Rattle.fixed_c.specs.Outcome.{ForKind, Unless}
 use Rattle.fixed_c.specs.declared.refusal.Refusal.{Refusal}
 use Rattle.fixed_c.specs.declared.refusal.Refusal.TheVariants.{BadRadix, BadFormat, BadTarget, BadPolicy, BadMode}
 
--- the formats are two, the bits are those that are reached from the text, and the flag says whether a number on the way was out of its format
-pub record IsReachedAs (text : List ℕ) (source target : FormatParts) (bits : ℤ) (flag : ℕ) (r : Radix) (p : Policy) (m : ReadMode) : Type 0 where
+-- the formats are two, the bits are those that are reached from the text, and the flag says whether a number on the way
+-- was out of its format
+pub record IsReachedAs (text : List ℕ) (source target : FormatParts) (bits : ℤ) (flag : ℕ) (r : Radix) (p : Policy)
+    (m : ReadMode) : Type 0 where
   pub source_format : NamesFormat source
   pub target_format : NamesFormat target
   pub number : ℤ

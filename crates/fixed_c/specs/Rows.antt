@@ -1,5 +1,6 @@
 -- What calls over rows give: for each row what the single call gives.
-use Rattle.std.specs.Prelude.{◌≡◌, ◌⊎◌, ◌<◌, ◌≤◌, ◌+◌, ◌-◌, ◌*◌, ◌++◌, replicate, ◌==◌, if◌then◌else◌, ℕ, ℤ, pos, List, [], ◌∷◌, length, take, drop, slice_index, slice_index_or}
+use Rattle.std.specs.Prelude.{◌≡◌, ◌⊎◌, ◌<◌, ◌≤◌, ◌+◌, ◌-◌, ◌*◌, ◌++◌, replicate, ◌==◌, if◌then◌else◌, ℕ, ℤ, pos, List}
+use Rattle.std.specs.Prelude.{[], ◌∷◌, length, take, drop, slice_index, slice_index_or}
 use Rattle.fixed_bits.specs.Formats.{FormatParts}
 use Rattle.fixed_c.specs.Arguments.{Names}
 use Rattle.fixed_c.specs.Codes.{refusal_code}
@@ -29,12 +30,14 @@ refused_of [] = 0
 refused_of (c ∷ cs) = (if c == 0 then 0 else 1) + refused_of cs
 
 -- each number and each code are those of the single call for that row, and so many are refused
-pub record AreRows (Single : ℕ → FixedNumber → ℕ → Type 0) (numbers : List FixedNumber) (codes : List ℕ) (refused : ℕ) : Type 0 where
+pub record AreRows (Single : ℕ → FixedNumber → ℕ → Type 0) (numbers : List FixedNumber) (codes : List ℕ)
+    (refused : ℕ) : Type 0 where
   pub each : (d : FixedNumber) (i : ℕ) → i < length codes → Single i (slice_index_or numbers i d) (slice_index codes i)
   pub counted : refused ≡ refused_of codes
 
 -- the sizes fit, and the rows are right; or they do not, and nothing has changed
-abbrev pub RowsEnd : Type 0 → (ℕ → FixedNumber → ℕ → Type 0) → List FixedNumber → List FixedNumber → List ℕ → List ℕ → ℕ → ℕ → ℕ → Type 0
+abbrev pub RowsEnd : Type 0 → (ℕ → FixedNumber → ℕ → Type 0) → List FixedNumber → List FixedNumber → List ℕ → List ℕ → ℕ
+    → ℕ → ℕ → Type 0
 RowsEnd Fit Single old new olds codes refused refused' code = (Fit × (code ≡ 0) × AreRows Single new codes refused')
     ⊎ ((¬ Fit) × (code ≡ refusal_code BadRows) × (new ≡ old) × (codes ≡ olds) × (refused' ≡ refused))
 
@@ -64,9 +67,11 @@ pub record HaveBits (bits : List ℤ) (numbers : List FixedNumber) (codes : List
 abbrev pub row_at : List ℕ → ℕ → ℕ → List ℕ
 row_at rows size i = take size (drop (i * size) rows)
 
--- the code is 0 and the row is the text and then zero bytes; or there was no room for the text, and the row is as it was
+-- the code is 0 and the row is the text and then zero bytes; or there was no room for the text, and the row is as it
+-- was
 abbrev pub PutsRow : List ℕ → List ℕ → List ℕ → ℕ → Type 0
-PutsRow text old new code = ((code ≡ 0) × (length text ≤ length old) × (new ≡ text ++ replicate (length old - length text) 0))
+PutsRow text old new code = ((code ≡ 0) × (length text ≤ length old)
+    × (new ≡ text ++ replicate (length old - length text) 0))
     ⊎ ((code ≡ refusal_code NoRoom) × (length old < length text) × (new ≡ old))
 
 -- the shortest text of the bits was put into the row; or the code is that of a refusal, and the row is as it was
@@ -81,10 +86,13 @@ pub record HaveTexts (bits : List ℤ) (rows : List ℕ) (size : ℕ) (codes : L
 
 -- each row and each code are right, and so many are refused
 pub record ArePrinted (f : FormatParts) (bits : List ℤ) (size : ℕ) (old new codes : List ℕ) (refused : ℕ) : Type 0 where
-  pub each : (i : ℕ) → i < length codes → PrintsRow f (slice_index_or bits i (pos 0)) (row_at old size i) (row_at new size i) (slice_index codes i)
+  pub each : (i : ℕ) → i < length codes → PrintsRow f (slice_index_or bits i (pos 0)) (row_at old size i)
+      (row_at new size i) (slice_index codes i)
   pub counted : refused ≡ refused_of codes
 
 -- the sizes fit, and the rows are right; or they do not, and nothing has changed
 abbrev pub PrintedEnd : FormatParts → List ℤ → ℕ → List ℕ → List ℕ → List ℕ → List ℕ → ℕ → ℕ → ℕ → Type 0
-PrintedEnd f bits size old new olds codes refused refused' code = (HaveTexts bits old size olds × (code ≡ 0) × ArePrinted f bits size old new codes refused')
-    ⊎ ((¬ HaveTexts bits old size olds) × (code ≡ refusal_code BadRows) × (new ≡ old) × (codes ≡ olds) × (refused' ≡ refused))
+PrintedEnd f bits size old new olds codes refused refused' code =
+    (HaveTexts bits old size olds × (code ≡ 0) × ArePrinted f bits size old new codes refused')
+    ⊎ ((¬ HaveTexts bits old size olds) × (code ≡ refusal_code BadRows) × (new ≡ old) × (codes ≡ olds)
+    × (refused' ≡ refused))

@@ -10,10 +10,12 @@ pub record IsPlaced (text old new : List ℕ) : Type 0 where
   pub text_is : take (length text + 1) new ≡ text ++ 0 ∷ []
   pub rest_is : drop (length text + 1) new ≡ drop (length text + 1) old
 
--- the length is that of the text; the code is 0 and the text was placed, or there was no room for it and the buffer is as it was
+-- the length is that of the text; the code is 0 and the text was placed, or there was no room for it and the buffer is
+-- as it was
 pub record PutsText (text old new : List ℕ) (len code : ℕ) : Type 0 where
   pub len_is : len ≡ length text
-  pub placed : ((code ≡ 0) × IsPlaced text old new) ⊎ ((code ≡ refusal_code NoRoom) × (length old ≤ length text) × (new ≡ old))
+  pub placed : ((code ≡ 0) × IsPlaced text old new) ⊎ ((code ≡ refusal_code NoRoom) × (length old ≤ length text)
+      × (new ≡ old))
 
 -- a text that is right was handed to the buffer; or the code is that of a refusal with its cause, and C has what it had
 abbrev pub TextEnds : (List ℕ → Type 0) → (Refusal → Type 0) → List ℕ → List ℕ → ℕ → ℕ → ℕ → Type 0

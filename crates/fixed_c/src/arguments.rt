@@ -74,7 +74,8 @@ pub fn mode_of(code: u32) -> Result<ReadMode, Refusal>
 /// The format that C gives. The refusal where it is none is `bad`.
 pub fn format_of(given: FixedFormat, bad: Refusal) -> Result<Format, Refusal>
     ensures { MatchResult result
-        (λ f. (f ≡ format_of given.is_signed given.width given.frac) × NamesFormat (format_of given.is_signed given.width given.frac))
+        (λ f. (f ≡ format_of given.is_signed given.width given.frac)
+        × NamesFormat (format_of given.is_signed given.width given.frac))
         (λ refusal. (¬ NamesFormat (format_of given.is_signed given.width given.frac)) × (refusal ≡ bad)) }
 {
     match Format::of_any_width(given.is_signed != 0, given.width, given.frac) {

@@ -4,7 +4,9 @@ ghost use Rattle.std.specs.Prelude.{◌≡◌, ◌<◌};
 ghost use Rattle.fixed_c.specs.Answer.{IsAnswered};
 ghost use Rattle.fixed_c.specs.Arguments.{Names};
 ghost use Rattle.fixed_c.specs.Codes.{IsMessage};
-ghost use Rattle.fixed_c.specs.Convert.{CompareIsRefused, ConvertInIsRefused, ConvertIsRefused, IsCompared, IsConverted, IsConvertedIn, IsPrinted, IsPrintedTo, PlacesIsRefused, PrintIsRefused};
+ghost use Rattle.fixed_c.specs.Convert.{CompareIsRefused, ConvertInIsRefused, ConvertIsRefused, IsCompared};
+ghost use Rattle.fixed_c.specs.Convert.{IsConverted, IsConvertedIn, IsPrinted, IsPrintedTo, PlacesIsRefused};
+ghost use Rattle.fixed_c.specs.Convert.{PrintIsRefused};
 ghost use Rattle.fixed_c.specs.Enclose.{EncloseIsRefused, IsEnclosedBy};
 ghost use Rattle.fixed_c.specs.Literal.{IsLiteralReadAs, LiteralIsRefused};
 ghost use Rattle.fixed_c.specs.Numbers.{format_of};
@@ -40,8 +42,10 @@ pub extern "C" fn fixed_read_text(
     out: &mut FixedNumber,
 ) -> u32
     ensures { EndsWith
-        (λ n. Names radix policy mode (IsReadAs text.now (format_of format.is_signed format.width format.frac) n.bits n.overflowed))
-        (ReadIsRefused text.now radix (format_of format.is_signed format.width format.frac) policy mode) out.old out.new result }
+        (λ n. Names radix policy mode (IsReadAs text.now (format_of format.is_signed format.width format.frac) n.bits
+        n.overflowed))
+        (ReadIsRefused text.now radix (format_of format.is_signed format.width format.frac) policy mode) out.old out.new
+        result }
 {
     hand_over(read(given_text(text), radix, format, policy, mode), out)
 }
@@ -56,7 +60,8 @@ pub extern "C" fn fixed_print_bits(
 ) -> u32
     ensures { TextEnds
         (IsPrinted (format_of format.is_signed format.width format.frac) bits)
-        (PrintIsRefused (format_of format.is_signed format.width format.frac) bits) out.old out.new len.old len.new result }
+        (PrintIsRefused (format_of format.is_signed format.width format.frac) bits) out.old out.new len.old len.new
+        result }
 {
     print_bits(bits, format, out, len)
 }
@@ -71,8 +76,10 @@ pub extern "C" fn fixed_convert_bits(
     out: &mut FixedNumber,
 ) -> u32
     ensures { EndsWith
-        (λ n. IsConverted (format_of source.is_signed source.width source.frac) (format_of target.is_signed target.width target.frac) policy bits n.bits n.overflowed)
-        (ConvertIsRefused (format_of source.is_signed source.width source.frac) (format_of target.is_signed target.width target.frac) policy bits) out.old out.new result }
+        (λ n. IsConverted (format_of source.is_signed source.width source.frac)
+        (format_of target.is_signed target.width target.frac) policy bits n.bits n.overflowed)
+        (ConvertIsRefused (format_of source.is_signed source.width source.frac)
+        (format_of target.is_signed target.width target.frac) policy bits) out.old out.new result }
 {
     hand_over(convert(bits, source, target, policy), out)
 }
@@ -89,8 +96,10 @@ pub extern "C" fn fixed_respell_text(
     out: &mut FixedNumber,
 ) -> u32
     ensures { EndsWith
-        (λ n. Names radix policy mode (IsReachedAs text.now (format_of source.is_signed source.width source.frac) (format_of target.is_signed target.width target.frac) n.bits n.overflowed))
-        (RespellIsRefused text.now radix (format_of source.is_signed source.width source.frac) (format_of target.is_signed target.width target.frac) policy mode) out.old out.new result }
+        (λ n. Names radix policy mode (IsReachedAs text.now (format_of source.is_signed source.width source.frac)
+        (format_of target.is_signed target.width target.frac) n.bits n.overflowed))
+        (RespellIsRefused text.now radix (format_of source.is_signed source.width source.frac)
+        (format_of target.is_signed target.width target.frac) policy mode) out.old out.new result }
 {
     hand_over(
         respelled(given_text(text), radix, source, target, policy, mode),
@@ -108,8 +117,10 @@ pub extern "C" fn fixed_compare_bits(
     order: &mut i32,
 ) -> u32
     ensures { EndsWith
-        (IsCompared (format_of a_format.is_signed a_format.width a_format.frac) (format_of b_format.is_signed b_format.width b_format.frac) a b)
-        (CompareIsRefused (format_of a_format.is_signed a_format.width a_format.frac) (format_of b_format.is_signed b_format.width b_format.frac) a b) order.old order.new result }
+        (IsCompared (format_of a_format.is_signed a_format.width a_format.frac)
+        (format_of b_format.is_signed b_format.width b_format.frac) a b)
+        (CompareIsRefused (format_of a_format.is_signed a_format.width a_format.frac)
+        (format_of b_format.is_signed b_format.width b_format.frac) a b) order.old order.new result }
 {
     hand_over(order_by_value(a, a_format, b, b_format), order)
 }
@@ -161,7 +172,8 @@ pub extern "C" fn fixed_print_places(
 ) -> u32
     ensures { TextEnds
         (IsPrintedTo (format_of format.is_signed format.width format.frac) bits places)
-        (PlacesIsRefused (format_of format.is_signed format.width format.frac) bits places) out.old out.new len.old len.new result }
+        (PlacesIsRefused (format_of format.is_signed format.width format.frac) bits places) out.old out.new len.old
+        len.new result }
 {
     print_places(bits, format, places, out, len)
 }
@@ -176,8 +188,10 @@ pub extern "C" fn fixed_round_bits(
     out: &mut FixedNumber,
 ) -> u32
     ensures { EndsWith
-        (λ n. IsRoundedTo (format_of format.is_signed format.width format.frac) rounding policy bits n.bits n.overflowed)
-        (RoundIsRefused (format_of format.is_signed format.width format.frac) rounding policy bits) out.old out.new result }
+        (λ n. IsRoundedTo (format_of format.is_signed format.width format.frac) rounding policy bits n.bits
+        n.overflowed)
+        (RoundIsRefused (format_of format.is_signed format.width format.frac) rounding policy bits) out.old out.new
+        result }
 {
     hand_over(round(bits, format, rounding, policy), out)
 }
@@ -193,8 +207,10 @@ pub extern "C" fn fixed_convert_bits_mode(
     out: &mut FixedNumber,
 ) -> u32
     ensures { EndsWith
-        (λ n. IsConvertedIn (format_of source.is_signed source.width source.frac) (format_of target.is_signed target.width target.frac) policy mode bits n.bits n.overflowed)
-        (ConvertInIsRefused (format_of source.is_signed source.width source.frac) (format_of target.is_signed target.width target.frac) policy mode bits) out.old out.new result }
+        (λ n. IsConvertedIn (format_of source.is_signed source.width source.frac)
+        (format_of target.is_signed target.width target.frac) policy mode bits n.bits n.overflowed)
+        (ConvertInIsRefused (format_of source.is_signed source.width source.frac)
+        (format_of target.is_signed target.width target.frac) policy mode bits) out.old out.new result }
 {
     hand_over(convert_in(bits, source, target, policy, mode), out)
 }
@@ -268,7 +284,8 @@ pub extern "C" fn fixed_print_rows(
     codes: &mut [u32],
     refused: &mut usize,
 ) -> u32
-    ensures { PrintedEnd (format_of format.is_signed format.width format.frac) bits.now size rows.old rows.new codes.old codes.new refused.old refused.new result }
+    ensures { PrintedEnd (format_of format.is_signed format.width format.frac) bits.now size rows.old rows.new codes.old
+        codes.new refused.old refused.new result }
 {
     print_rows(bits, format, rows, size, codes, refused)
 }
@@ -286,7 +303,8 @@ pub extern "C" fn fixed_convert_rows(
     refused: &mut usize,
 ) -> u32
     ensures { RowsEnd (HaveBits bits.now out.old codes.old)
-        (ConvertsRow bits.now (format_of source.is_signed source.width source.frac) (format_of target.is_signed target.width target.frac) policy mode)
+        (ConvertsRow bits.now (format_of source.is_signed source.width source.frac)
+        (format_of target.is_signed target.width target.frac) policy mode)
         out.old out.new codes.old codes.new refused.old refused.new result }
 {
     let conversion = Conversion {

@@ -42,7 +42,8 @@ pub fn bits_for_c(format: Format, number: i128) -> i64
 /// The number that bits of C are in a format. The refusal where the format does not hold it is `bad`.
 pub fn number_in(bits: i64, format: Format, bad: Refusal) -> Result<i128, Refusal>
     ensures wide { IfOk result IsWide }
-    ensures number { MatchResult result (λ n. AreBitsOf format bits n) (λ refusal. (¬ AreBits format bits) × (refusal ≡ bad)) }
+    ensures number { MatchResult result (λ n. AreBitsOf format bits n)
+        (λ refusal. (¬ AreBits format bits) × (refusal ≡ bad)) }
 {
     let number = if format.signed() {
         i128::from(bits)

@@ -2,7 +2,8 @@
 
 ghost use Rattle.std.specs.Prelude.{◌≡◌, MatchResult};
 ghost use Rattle.fixed_c.specs.Arguments.{Names};
-ghost use Rattle.fixed_c.specs.Convert.{CompareIsRefused, ConvertInIsRefused, ConvertIsRefused, IsCompared, IsConverted, IsConvertedIn, order_code};
+ghost use Rattle.fixed_c.specs.Convert.{CompareIsRefused, ConvertInIsRefused, ConvertIsRefused, IsCompared};
+ghost use Rattle.fixed_c.specs.Convert.{IsConverted, IsConvertedIn, order_code};
 ghost use Rattle.fixed_c.specs.Enclose.{EncloseIsRefused, IsEnclosedBy};
 ghost use Rattle.fixed_c.specs.Literal.{IsLiteralReadAs, LiteralIsRefused};
 ghost use Rattle.fixed_c.specs.Numbers.{format_of, has_bits};
@@ -29,7 +30,8 @@ pub fn read(
     mode: u32,
 ) -> Result<FixedNumber, Refusal>
     ensures { MatchResult result
-        (λ n. Names radix policy mode (IsReadAs text.now (format_of format.is_signed format.width format.frac) n.bits n.overflowed))
+        (λ n. Names radix policy mode (IsReadAs text.now (format_of format.is_signed format.width format.frac) n.bits
+        n.overflowed))
         (ReadIsRefused text.now radix (format_of format.is_signed format.width format.frac) policy mode) }
 {
     let radix = radix_of(radix)?;
@@ -54,8 +56,10 @@ pub fn convert(
     policy: u32,
 ) -> Result<FixedNumber, Refusal>
     ensures { MatchResult result
-        (λ n. IsConverted (format_of source.is_signed source.width source.frac) (format_of target.is_signed target.width target.frac) policy bits n.bits n.overflowed)
-        (ConvertIsRefused (format_of source.is_signed source.width source.frac) (format_of target.is_signed target.width target.frac) policy bits) }
+        (λ n. IsConverted (format_of source.is_signed source.width source.frac)
+        (format_of target.is_signed target.width target.frac) policy bits n.bits n.overflowed)
+        (ConvertIsRefused (format_of source.is_signed source.width source.frac)
+        (format_of target.is_signed target.width target.frac) policy bits) }
 {
     let source = format_of(source, Refusal::BadFormat)?;
     let target = format_of(target, Refusal::BadTarget)?;
@@ -76,8 +80,10 @@ pub fn convert_in(
     mode: u32,
 ) -> Result<FixedNumber, Refusal>
     ensures { MatchResult result
-        (λ n. IsConvertedIn (format_of source.is_signed source.width source.frac) (format_of target.is_signed target.width target.frac) policy mode bits n.bits n.overflowed)
-        (ConvertInIsRefused (format_of source.is_signed source.width source.frac) (format_of target.is_signed target.width target.frac) policy mode bits) }
+        (λ n. IsConvertedIn (format_of source.is_signed source.width source.frac)
+        (format_of target.is_signed target.width target.frac) policy mode bits n.bits n.overflowed)
+        (ConvertInIsRefused (format_of source.is_signed source.width source.frac)
+        (format_of target.is_signed target.width target.frac) policy mode bits) }
 {
     let source = format_of(source, Refusal::BadFormat)?;
     let target = format_of(target, Refusal::BadTarget)?;
@@ -109,8 +115,10 @@ pub fn order_by_value(
     b_format: FixedFormat,
 ) -> Result<i32, Refusal>
     ensures { MatchResult result
-        (IsCompared (format_of a_format.is_signed a_format.width a_format.frac) (format_of b_format.is_signed b_format.width b_format.frac) a b)
-        (CompareIsRefused (format_of a_format.is_signed a_format.width a_format.frac) (format_of b_format.is_signed b_format.width b_format.frac) a b) }
+        (IsCompared (format_of a_format.is_signed a_format.width a_format.frac)
+        (format_of b_format.is_signed b_format.width b_format.frac) a b)
+        (CompareIsRefused (format_of a_format.is_signed a_format.width a_format.frac)
+        (format_of b_format.is_signed b_format.width b_format.frac) a b) }
 {
     let f = format_of(a_format, Refusal::BadFormat)?;
     let g = format_of(b_format, Refusal::BadTarget)?;
@@ -156,8 +164,10 @@ pub fn respelled(
     mode: u32,
 ) -> Result<FixedNumber, Refusal>
     ensures { MatchResult result
-        (λ n. Names radix policy mode (IsReachedAs text.now (format_of source.is_signed source.width source.frac) (format_of target.is_signed target.width target.frac) n.bits n.overflowed))
-        (RespellIsRefused text.now radix (format_of source.is_signed source.width source.frac) (format_of target.is_signed target.width target.frac) policy mode) }
+        (λ n. Names radix policy mode (IsReachedAs text.now (format_of source.is_signed source.width source.frac)
+        (format_of target.is_signed target.width target.frac) n.bits n.overflowed))
+        (RespellIsRefused text.now radix (format_of source.is_signed source.width source.frac)
+        (format_of target.is_signed target.width target.frac) policy mode) }
 {
     let radix = radix_of(radix)?;
     let source = format_of(source, Refusal::BadFormat)?;

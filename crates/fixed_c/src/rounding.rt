@@ -25,7 +25,8 @@ pub enum WholeRounding {
 
 /// The rounding of a code.
 fn rounding_of(code: u32) -> Result<WholeRounding, Refusal>
-    ensures { MatchResult result (λ r. code ≡ rounding_code r) (λ refusal. (¬ NamesRounding code) × (refusal ≡ BadRounding)) }
+    ensures { MatchResult result (λ r. code ≡ rounding_code r)
+        (λ refusal. (¬ NamesRounding code) × (refusal ≡ BadRounding)) }
 {
     match code {
         0 => Ok(WholeRounding::By(Rounding::Ceil)),
@@ -69,7 +70,8 @@ pub fn round(
     policy: u32,
 ) -> Result<FixedNumber, Refusal>
     ensures { MatchResult result
-        (λ n. IsRoundedTo (format_of format.is_signed format.width format.frac) rounding policy bits n.bits n.overflowed)
+        (λ n. IsRoundedTo (format_of format.is_signed format.width format.frac) rounding policy bits n.bits
+        n.overflowed)
         (RoundIsRefused (format_of format.is_signed format.width format.frac) rounding policy bits) }
 {
     let format = format_of(format, Refusal::BadFormat)?;

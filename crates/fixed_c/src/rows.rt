@@ -1,8 +1,10 @@
 //! The single calls for rows, one after another.
 
-ghost use Rattle.std.specs.Prelude.{◌≡◌, ◌≢◌, ℕ, ◌<◌, ◌≤◌, ◌+◌, ◌*◌, ◌==◌, if◌then◌else◌, pos, length, slice_index_or, take, drop, IsTrue, ◌↔◌};
+ghost use Rattle.std.specs.Prelude.{◌≡◌, ◌≢◌, ℕ, ◌<◌, ◌≤◌, ◌+◌, ◌*◌, ◌==◌, if◌then◌else◌, pos, length, slice_index_or};
+ghost use Rattle.std.specs.Prelude.{take, drop, IsTrue, ◌↔◌};
 ghost use Rattle.fixed_c.specs.Numbers.{format_of};
-ghost use Rattle.fixed_c.specs.Rows.{AreRows, ArePrinted, ConvertsRow, HaveBits, HaveRows, HaveTexts, PrintedEnd, PrintsRow, PutsRow, ReadsRow, RowsEnd, before_zero, row_at, text_of_row};
+ghost use Rattle.fixed_c.specs.Rows.{AreRows, ArePrinted, ConvertsRow, HaveBits, HaveRows, HaveTexts, PrintedEnd};
+ghost use Rattle.fixed_c.specs.Rows.{PrintsRow, PutsRow, ReadsRow, RowsEnd, before_zero, row_at, text_of_row};
 
 use crate::arguments::FixedFormat;
 use crate::exports::{fixed_convert_bits_mode, fixed_read_text};
@@ -66,7 +68,8 @@ fn tally(code: u32) -> usize
 /// The single reading of a row.
 fn read_row(rows: &[u8], size: usize, i: usize, reading: Reading) -> (FixedNumber, u32)
     requires { i * size + size ≤ length rows.now }
-    ensures { ReadsRow rows.now size reading.radix (format_of reading.format.is_signed reading.format.width reading.format.frac) reading.policy reading.mode i result.0 result.1 }
+    ensures { ReadsRow rows.now size reading.radix (format_of reading.format.is_signed reading.format.width
+        reading.format.frac) reading.policy reading.mode i result.0 result.1 }
 {
     let mut number = NO_NUMBER;
     let code = fixed_read_text(
@@ -91,7 +94,9 @@ fn bits_at(bits: &[i64], i: usize) -> i64
 /// The single conversion of a row's bits.
 fn convert_row(bits: &[i64], i: usize, conversion: Conversion) -> (FixedNumber, u32)
     requires { i < length bits.now }
-    ensures { ConvertsRow bits.now (format_of conversion.source.is_signed conversion.source.width conversion.source.frac) (format_of conversion.target.is_signed conversion.target.width conversion.target.frac) conversion.policy conversion.mode i result.0 result.1 }
+    ensures { ConvertsRow bits.now (format_of conversion.source.is_signed conversion.source.width
+        conversion.source.frac) (format_of conversion.target.is_signed conversion.target.width conversion.target.frac)
+        conversion.policy conversion.mode i result.0 result.1 }
 {
     let given = bits_at(bits, i);
     let mut number = NO_NUMBER;
@@ -129,7 +134,8 @@ fn read_each(
     codes: &mut [u32],
 ) -> usize
     requires { HaveRows rows.now size out.old codes.old }
-    ensures { AreRows (ReadsRow rows.now size reading.radix (format_of reading.format.is_signed reading.format.width reading.format.frac) reading.policy reading.mode) out.new codes.new result }
+    ensures { AreRows (ReadsRow rows.now size reading.radix (format_of reading.format.is_signed reading.format.width
+        reading.format.frac) reading.policy reading.mode) out.new codes.new result }
 {
     let mut refused = 0;
     for i in 0..codes.len() {
@@ -149,7 +155,9 @@ fn convert_each(
     codes: &mut [u32],
 ) -> usize
     requires { HaveBits bits.now out.old codes.old }
-    ensures { AreRows (ConvertsRow bits.now (format_of conversion.source.is_signed conversion.source.width conversion.source.frac) (format_of conversion.target.is_signed conversion.target.width conversion.target.frac) conversion.policy conversion.mode) out.new codes.new result }
+    ensures { AreRows (ConvertsRow bits.now (format_of conversion.source.is_signed conversion.source.width
+        conversion.source.frac) (format_of conversion.target.is_signed conversion.target.width conversion.target.frac)
+        conversion.policy conversion.mode) out.new codes.new result }
 {
     let mut refused = 0;
     for i in 0..codes.len() {
@@ -171,7 +179,8 @@ pub fn read_rows(
     refused: &mut usize,
 ) -> u32
     ensures { RowsEnd (HaveRows rows.now size out.old codes.old)
-        (ReadsRow rows.now size reading.radix (format_of reading.format.is_signed reading.format.width reading.format.frac) reading.policy reading.mode)
+        (ReadsRow rows.now size reading.radix (format_of reading.format.is_signed reading.format.width
+        reading.format.frac) reading.policy reading.mode)
         out.old out.new codes.old codes.new refused.old refused.new result }
 {
     if have_rows(rows, size, out, codes) {
@@ -191,7 +200,9 @@ pub fn convert_rows(
     refused: &mut usize,
 ) -> u32
     ensures { RowsEnd (HaveBits bits.now out.old codes.old)
-        (ConvertsRow bits.now (format_of conversion.source.is_signed conversion.source.width conversion.source.frac) (format_of conversion.target.is_signed conversion.target.width conversion.target.frac) conversion.policy conversion.mode)
+        (ConvertsRow bits.now (format_of conversion.source.is_signed conversion.source.width conversion.source.frac)
+        (format_of conversion.target.is_signed conversion.target.width conversion.target.frac) conversion.policy
+        conversion.mode)
         out.old out.new codes.old codes.new refused.old refused.new result }
 {
     if have_bits(bits, out, codes) {
@@ -229,7 +240,8 @@ fn print_row(bits: i64, format: FixedFormat, row: &mut [u8]) -> u32
 /// Prints bits into row `i`, and leaves every other row as it was.
 fn print_at(bits: i64, format: FixedFormat, rows: &mut [u8], size: usize, i: usize) -> u32
     requires { i * size + size ≤ length rows.old }
-    ensures printed { PrintsRow (format_of format.is_signed format.width format.frac) bits (row_at rows.old size i) (row_at rows.new size i) result }
+    ensures printed { PrintsRow (format_of format.is_signed format.width format.frac) bits (row_at rows.old size i)
+        (row_at rows.new size i) result }
     ensures others { (k : ℕ) → k ≢ i → row_at rows.new size k ≡ row_at rows.old size k }
 {
     let start = i * size;
@@ -252,7 +264,8 @@ fn print_each(
     codes: &mut [u32],
 ) -> usize
     requires { HaveTexts bits.now rows.old size codes.old }
-    ensures { ArePrinted (format_of format.is_signed format.width format.frac) bits.now size rows.old rows.new codes.new result }
+    ensures { ArePrinted (format_of format.is_signed format.width format.frac) bits.now size rows.old rows.new codes.new
+        result }
 {
     let mut refused = 0;
     for i in 0..codes.len() {
@@ -273,7 +286,8 @@ pub fn print_rows(
     codes: &mut [u32],
     refused: &mut usize,
 ) -> u32
-    ensures { PrintedEnd (format_of format.is_signed format.width format.frac) bits.now size rows.old rows.new codes.old codes.new refused.old refused.new result }
+    ensures { PrintedEnd (format_of format.is_signed format.width format.frac) bits.now size rows.old rows.new codes.old
+        codes.new refused.old refused.new result }
 {
     if have_texts(bits, rows, size, codes) {
         *refused = print_each(bits, format, rows, size, codes);

@@ -43,7 +43,8 @@ pub fn shortest_of(bits: i64, format: FixedFormat) -> Result<ShortText, Refusal>
 pub fn print_bits(bits: i64, format: FixedFormat, out: &mut [u8], len: &mut usize) -> u32
     ensures { TextEnds
         (IsPrinted (format_of format.is_signed format.width format.frac) bits)
-        (PrintIsRefused (format_of format.is_signed format.width format.frac) bits) out.old out.new len.old len.new result }
+        (PrintIsRefused (format_of format.is_signed format.width format.frac) bits) out.old out.new len.old len.new
+        result }
 {
     match shortest_of(bits, format) {
         Ok(text) => put_text(text.as_bytes(), out, len),
@@ -77,7 +78,8 @@ pub fn print_places(
 ) -> u32
     ensures { TextEnds
         (IsPrintedTo (format_of format.is_signed format.width format.frac) bits places)
-        (PlacesIsRefused (format_of format.is_signed format.width format.frac) bits places) out.old out.new len.old len.new result }
+        (PlacesIsRefused (format_of format.is_signed format.width format.frac) bits places) out.old out.new len.old
+        len.new result }
 {
     match rounded_to(bits, format, places) {
         Ok(text) => put_text(text.as_bytes(), out, len),

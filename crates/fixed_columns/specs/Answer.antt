@@ -23,7 +23,16 @@ fault_line p fault = codes "error: line " ++ (decimal p ++ (codes ": " ++ (fault
 
 -- the default text of a number, with spaces before it up to a width
 abbrev pub decimal_style : ℕ → Style
-decimal_style width = record { notation = Dec; precision = None; width = width; fill = 32; align = Right; plus = false; prefix = false; zero_pad = false }
+decimal_style width = record {
+  notation = Dec;
+  precision = None;
+  width = width;
+  fill = 32;
+  align = Right;
+  plus = false;
+  prefix = false;
+  zero_pad = false;
+}
 
 abbrev pub column_style : Style
 column_style = decimal_style 24

@@ -11,7 +11,8 @@ use Rattle.line_engine.specs.AnswerText.{AnswerText}
 use Rattle.line_engine.specs.Failures.{HasFailed}
 use Rattle.line_engine.specs.Output.{AppendsPrefix, AreAnswers, any_fault}
 use Rattle.line_engine.specs.declared.status.Status.{Status}
-use Rattle.line_engine.specs.declared.status.Status.TheVariants.{Done, Faults, Usage, ReadFault, WriteFault, NoMemory, TooLong}
+use Rattle.line_engine.specs.declared.status.Status.TheVariants.{Done, Faults, Usage, ReadFault, WriteFault, NoMemory}
+use Rattle.line_engine.specs.declared.status.Status.TheVariants.{TooLong}
 use Rattle.fixed_command.specs.declared.blocks.Question.{Question}
 use Rattle.fixed_command.specs.declared.blocks.Question.TheVariants.{Bits, Format, Show}
 
@@ -45,7 +46,8 @@ abbrev pub blocks_text : List AnswerText → List ℕ
 blocks_text blocks = flat_map text_of blocks
 
 -- for each word, in order and nothing else, its block was written
-pub record WritesBlocks (q : Question) (words : List (List ℕ)) (written written' : Option (List ℕ)) (fault : Bool) : Type 0 where
+pub record WritesBlocks (q : Question) (words : List (List ℕ)) (written written' : Option (List ℕ))
+    (fault : Bool) : Type 0 where
   pub blocks : List AnswerText
   pub answers : AreAnswers (IsBlock q) words blocks
   pub output : Appends written written' (blocks_text blocks)
@@ -62,10 +64,13 @@ pub record BreaksBlocks (q : Question) (words : List (List ℕ)) (written writte
 
 -- what a run over words that ended so has written, and whether a write failed
 abbrev pub BlocksRun : Question → List (List ℕ) → Option (List ℕ) → Option (List ℕ) → ℕ → ℕ → Status → Type 0
-BlocksRun q words written written' failures failures' Done = WritesBlocks q words written written' false × (failures' ≡ failures)
-BlocksRun q words written written' failures failures' Faults = WritesBlocks q words written written' true × (failures' ≡ failures)
+BlocksRun q words written written' failures failures' Done = WritesBlocks q words written written' false
+    × (failures' ≡ failures)
+BlocksRun q words written written' failures failures' Faults = WritesBlocks q words written written' true
+    × (failures' ≡ failures)
 BlocksRun q words written written' failures failures' Usage = ⊥
 BlocksRun q words written written' failures failures' ReadFault = ⊥
-BlocksRun q words written written' failures failures' WriteFault = BreaksBlocks q words written written' × HasFailed failures failures'
+BlocksRun q words written written' failures failures' WriteFault = BreaksBlocks q words written written'
+    × HasFailed failures failures'
 BlocksRun q words written written' failures failures' NoMemory = ⊥
 BlocksRun q words written written' failures failures' TooLong = ⊥

@@ -23,18 +23,24 @@ use Rattle.fixed_command.specs.declared.task.Task.TheVariants.{Columns, Constant
 
 -- no read and no write failed
 abbrev pub Undisturbed : Outside → Outside → Type 0
-Undisturbed before after = (¬ HasFailed before.read_failures after.read_failures) × (¬ HasFailed before.write_failures after.write_failures)
+Undisturbed before after = (¬ HasFailed before.read_failures after.read_failures)
+    × (¬ HasFailed before.write_failures after.write_failures)
 
 -- a run over lines, by this meaning of the answer to a line
-pub record HasLineRun (A : List ℕ → AnswerText → Type 0) (limit per_byte extra : ℕ) (before after : Outside) (status : Status) : Type 0 where
+pub record HasLineRun (A : List ℕ → AnswerText → Type 0) (limit per_byte extra : ℕ) (before after : Outside)
+    (status : Status) : Type 0 where
   -- an input within the limit is answered whole, line for line in order, or there was no memory
-  pub output : (input : List ℕ) → before.left ≡ Some input → length input ≤ limit → Undisturbed before after → (status ≡ NoMemory) ⊎ WritesOutput A input before.written after.written status
+  pub output : (input : List ℕ) → before.left ≡ Some input → length input ≤ limit → Undisturbed before after
+      → (status ≡ NoMemory) ⊎ WritesOutput A input before.written after.written status
   -- and a longer one is reported
-  pub too_long : (input : List ℕ) → before.left ≡ Some input → limit < length input → Undisturbed before after → (status ≡ NoMemory) ⊎ (status ≡ TooLong)
+  pub too_long : (input : List ℕ) → before.left ≡ Some input → limit < length input → Undisturbed before after
+      → (status ≡ NoMemory) ⊎ (status ≡ TooLong)
   -- what was taken and what was written, by status
   pub run : HasRun A limit before.left after.left before.written after.written status
   -- a prefix of the whole output, where a write failed
-  pub prefix_on_write_fault : status ≡ WriteFault → (input : List ℕ) (answers : List AnswerText) → before.left ≡ Some input → AreAnswers A (lines input) answers → AppendsPrefix before.written after.written (written_of answers)
+  pub prefix_on_write_fault : status ≡ WriteFault → (input : List ℕ) (answers : List AnswerText)
+      → before.left ≡ Some input → AreAnswers A (lines input) answers
+      → AppendsPrefix before.written after.written (written_of answers)
   -- how many steps a byte and a line cost at most
   pub cost : Spends limit per_byte extra before.left after.left before.steps after.steps
   -- what the source was asked for
@@ -43,15 +49,19 @@ pub record HasLineRun (A : List ℕ → AnswerText → Type 0) (limit per_byte e
   pub failures : HasFailures before.read_failures after.read_failures before.write_failures after.write_failures status
 
 -- a run over a whole input, by this meaning of its answer
-pub record IsWholeRun (A : List ℕ → AnswerText → Type 0) (limit : ℕ) (before after : Outside) (status : Status) : Type 0 where
+pub record IsWholeRun (A : List ℕ → AnswerText → Type 0) (limit : ℕ) (before after : Outside)
+    (status : Status) : Type 0 where
   -- the answer to an input within the limit is written, or there was no memory
-  pub output : (input : List ℕ) → before.left ≡ Some input → length input ≤ limit → Undisturbed before after → (status ≡ NoMemory) ⊎ WritesAnswer A input before.written after.written status
+  pub output : (input : List ℕ) → before.left ≡ Some input → length input ≤ limit → Undisturbed before after
+      → (status ≡ NoMemory) ⊎ WritesAnswer A input before.written after.written status
   -- and a longer one is reported
-  pub too_long : (input : List ℕ) → before.left ≡ Some input → limit < length input → Undisturbed before after → (status ≡ NoMemory) ⊎ (status ≡ TooLong)
+  pub too_long : (input : List ℕ) → before.left ≡ Some input → limit < length input → Undisturbed before after
+      → (status ≡ NoMemory) ⊎ (status ≡ TooLong)
   -- what was taken and what was written, by status
   pub run : HasWholeRun A limit before.left after.left before.written after.written status
   -- a prefix of the answer, where a write failed
-  pub prefix_on_write_fault : status ≡ WriteFault → (input : List ℕ) (answer : AnswerText) → before.left ≡ Some input → A input answer → AppendsPrefix before.written after.written answer.text
+  pub prefix_on_write_fault : status ≡ WriteFault → (input : List ℕ) (answer : AnswerText) → before.left ≡ Some input
+      → A input answer → AppendsPrefix before.written after.written answer.text
   -- what the source was asked for
   pub asked : AskedWithin limit before.asked after.asked
   -- which count of failures rose, by status

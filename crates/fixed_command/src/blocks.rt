@@ -49,7 +49,8 @@ fn push_format<const N: usize, L: Ledger>(
     steps: &mut Steps<L>,
 ) -> bool
     requires { length out.old + MAX_BLOCK ≤ N }
-    ensures { show_blocks.Appends (λ text. IsFormatAnswer word.now (record { text = text; fault = result })) MAX_BLOCK out.old out.new }
+    ensures { show_blocks.Appends (λ text. IsFormatAnswer word.now (record { text = text; fault = result })) MAX_BLOCK
+        out.old out.new }
 {
     match format_named(word) {
         Some(format) => {
@@ -71,7 +72,8 @@ pub(crate) fn push_block<const N: usize, L: Ledger>(
     steps: &mut Steps<L>,
 ) -> bool
     requires { length out.old + MAX_BLOCK ≤ N }
-    ensures { show_blocks.Appends (λ text. IsBlock question.now word.now (record { text = text; fault = result })) MAX_BLOCK out.old out.new }
+    ensures { show_blocks.Appends (λ text. IsBlock question.now word.now (record { text = text; fault = result }))
+        MAX_BLOCK out.old out.new }
 {
     match question {
         Question::Show {
@@ -111,7 +113,8 @@ fn write_block<K: Sink, L: Ledger>(
     sink: &mut K,
     steps: &mut Steps<L>,
 ) -> Result<bool, Failed>
-    ensures ok { IfOk result (λ fault. (text : List ℕ) × IsBlock question.now word.now (record { text = text; fault = fault })
+    ensures ok { IfOk result (λ fault. (text : List ℕ) × IsBlock question.now word.now
+        (record { text = text; fault = fault })
         × Appends (K.written sink.old) (K.written sink.new) text) }
     ensures err { OnErr result ((block : AnswerText) × IsBlock question.now word.now block
         × AppendsPrefix (K.written sink.old) (K.written sink.new) block.text) }
@@ -137,7 +140,8 @@ pub fn run_blocks<K: Sink, L: Ledger>(
     sink: &mut K,
     steps: &mut Steps<L>,
 ) -> Status
-    ensures { BlocksRun question.now (map (λ w. w.now) words.now) (K.written sink.old) (K.written sink.new) (K.failures sink.old) (K.failures sink.new) result }
+    ensures { BlocksRun question.now (map (λ w. w.now) words.now) (K.written sink.old) (K.written sink.new)
+        (K.failures sink.old) (K.failures sink.new) result }
 {
     let mut has_fault = false;
     let mut rest = words;

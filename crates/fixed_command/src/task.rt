@@ -100,7 +100,8 @@ fn run_rule<R: LineRule<L>, S: Source, K: Sink, L: Ledger>(
         (K.written sink.old) (K.failures sink.old) steps.old)
         (outside (S.left source.new) (S.asked source.new) (S.failures source.new)
         (K.written sink.new) (K.failures sink.new) steps.new) result }
-    ensures memory { result ≡ Status.NoMemory → (source.new ≡ source.old) × (sink.new ≡ sink.old) × (steps.new ≡ steps.old) }
+    ensures memory { result ≡ Status.NoMemory → (source.new ≡ source.old) × (sink.new ≡ sink.old)
+        × (steps.new ≡ steps.old) }
 {
     run_lines(alloc, limit, rule, source, sink, steps)
 }
@@ -187,7 +188,8 @@ pub fn run_convert<S: Source, K: Sink, L: Ledger>(
         (K.written sink.old) (K.failures sink.old) steps.old)
         (outside (S.left source.new) (S.asked source.new) (S.failures source.new)
         (K.written sink.new) (K.failures sink.new) steps.new) result }
-    ensures memory { result ≡ Status.NoMemory → (source.new ≡ source.old) × (sink.new ≡ sink.old) × (steps.new ≡ steps.old) }
+    ensures memory { result ≡ Status.NoMemory → (source.new ≡ source.old) × (sink.new ≡ sink.old)
+        × (steps.new ≡ steps.old) }
 {
     let rule = WatchedNumerals {
         rule: ConvertRule::new(*rule.settings()),

@@ -5,7 +5,8 @@ use Rattle.line_engine.specs.AnswerText.{AnswerText}
 use Rattle.fixed_constants.specs.Canonical.{canonical_text}
 use Rattle.fixed_constants.specs.Constants.{ConstantParts, IsConstantsOf, IsFaultOf}
 use Rattle.fixed_constants.specs.declared.fault.ConstantFault.{ConstantFault}
-use Rattle.fixed_constants.specs.declared.fault.ConstantFault.TheVariants.{MissingField, BadName, MissingEquals, BadFormat, BadLiteral, Duplicate}
+use Rattle.fixed_constants.specs.declared.fault.ConstantFault.TheVariants.{MissingField, BadName, MissingEquals}
+use Rattle.fixed_constants.specs.declared.fault.ConstantFault.TheVariants.{BadFormat, BadLiteral, Duplicate}
 
 -- the message of a fault
 abbrev pub fault_message : ConstantFault → List ℕ

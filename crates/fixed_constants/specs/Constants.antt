@@ -13,7 +13,8 @@ use Rattle.fixed_respell.specs.Split.{count_of, IsSplit}
 use Rattle.fixed_respell.specs.Words.{IsFormatWord}
 use Rattle.line_engine.specs.Lines.{lines}
 use Rattle.fixed_constants.specs.declared.fault.ConstantFault.{ConstantFault}
-use Rattle.fixed_constants.specs.declared.fault.ConstantFault.TheVariants.{MissingField, BadName, MissingEquals, BadFormat, BadLiteral, Duplicate}
+use Rattle.fixed_constants.specs.declared.fault.ConstantFault.TheVariants.{MissingField, BadName, MissingEquals}
+use Rattle.fixed_constants.specs.declared.fault.ConstantFault.TheVariants.{BadFormat, BadLiteral, Duplicate}
 use Rattle.fixed_constants.specs.declared.fault.ConstantsError.{ConstantsError}
 use Rattle.fixed_constants.specs.declared.fault.ConstantsError.TheVariants.{Refused, NoMemory}
 

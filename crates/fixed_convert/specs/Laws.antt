@@ -15,13 +15,17 @@ IsExact b f g = down b f g *ℤ pos (2 ^ f) ≡ b *ℤ pos (2 ^ g)
 abbrev pub FinerIsExact : Type 0
 FinerIsExact = (b : ℤ) (f g : ℕ) → f ≤ g → IsExact b f g
 
--- a conversion that loses no fraction bits and fits, and the one back: c and e are what the two give, under any policies
+-- a conversion that loses no fraction bits and fits, and the one back: c and e are what the two give, under any
+-- policies
 abbrev pub ConversionIsUndone : Type 0
-ConversionIsUndone = (p q : Policy) (s t : Bool) (m n f g : ℕ) (b c e : ℤ) → IsWidth m → IsWidth n → IsInRange s m b → IsExact b f g → IsInRange t n (down b f g) → IsImage p t n (down b f g) c → IsImage q s m (down c g f) e → e ≡ b
+ConversionIsUndone = (p q : Policy) (s t : Bool) (m n f g : ℕ) (b c e : ℤ) → IsWidth m → IsWidth n → IsInRange s m b
+    → IsExact b f g → IsInRange t n (down b f g) → IsImage p t n (down b f g) c → IsImage q s m (down c g f) e → e ≡ b
 
 -- one answer, and what it says of the two values
 abbrev pub OrderIsOfValues : Type 0
-OrderIsOfValues = (b : ℤ) (f : ℕ) (c : ℤ) (g : ℕ) → MatchOrdering (order_of b f c g) ((b *ℤ pos (2 ^ g)) <ℤ (c *ℤ pos (2 ^ f))) (b *ℤ pos (2 ^ g) ≡ c *ℤ pos (2 ^ f)) ((c *ℤ pos (2 ^ f)) <ℤ (b *ℤ pos (2 ^ g)))
+OrderIsOfValues = (b : ℤ) (f : ℕ) (c : ℤ) (g : ℕ) → MatchOrdering (order_of b f c g)
+    ((b *ℤ pos (2 ^ g)) <ℤ (c *ℤ pos (2 ^ f))) (b *ℤ pos (2 ^ g) ≡ c *ℤ pos (2 ^ f))
+    ((c *ℤ pos (2 ^ f)) <ℤ (b *ℤ pos (2 ^ g)))
 
 -- reversed when the sides are swapped, transitive through any third format
 abbrev pub OrderIsTotal : Type 0

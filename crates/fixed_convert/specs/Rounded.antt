@@ -22,7 +22,8 @@ pub record IsMovedIn (mode : ReadMode) (b : ℤ) (f g : ℕ) (v : ℤ) : Type 0 
   pub value : v ≡ with_sign (is_negative b) ulps
 
 -- image is that of the moved number in the target, and overflowed says whether the moved number is out of its range
-pub record IsReformatted (mode : ReadMode) (policy : Policy) (target : FormatParts) (b : ℤ) (f : ℕ) (image : ℤ) (overflowed : Bool) : Type 0 where
+pub record IsReformatted (mode : ReadMode) (policy : Policy) (target : FormatParts) (b : ℤ) (f : ℕ) (image : ℤ)
+    (overflowed : Bool) : Type 0 where
   pub moved : ℤ
   pub is_moved : IsMovedIn mode b f target.frac moved
   pub image_is : IsImage policy target.signed target.width moved image
@@ -37,7 +38,8 @@ pub record IsNotReformatted (mode : ReadMode) (policy : Policy) (target : Format
 
 -- each number is moved to exactly one in each mode
 abbrev pub MovedInIsTheOne : Type 0
-MovedInIsTheOne = (mode : ReadMode) (b : ℤ) (f g : ℕ) → (v : ℤ) × IsMovedIn mode b f g v × ((w : ℤ) → IsMovedIn mode b f g w → w ≡ v)
+MovedInIsTheOne = (mode : ReadMode) (b : ℤ) (f g : ℕ) → (v : ℤ) × IsMovedIn mode b f g v
+    × ((w : ℤ) → IsMovedIn mode b f g w → w ≡ v)
 
 -- moving in the mode Floor is moving down
 abbrev pub FloorIsDown : Type 0

@@ -1,4 +1,5 @@
-//! Casts between numbers. The moved number is the bits of the source, moved down from its fraction length to that of the target.
+//! Casts between numbers. The moved number is the bits of the source, moved down from its fraction length to that of
+//! the target.
 
 ghost use Rattle.std.specs.Prelude.{◌≡◌, ◌↔◌, ◌≤◌, Bool, IsTrue, IsSome, IfSome, Option};
 ghost use Rattle.fixed_bits.specs.Ranges.{IsInRange, IsOutOfRange};
@@ -26,7 +27,8 @@ pub trait Cast<D> {
 }
 
 impl<S: Num, D: NumTarget> Cast<D> for S {
-    ghost can_cast = { λ s. (S.FRAC ≤ S.WIDTH) × (D.FRAC ≤ D.WIDTH) × IsInRange D.SIGNED D.WIDTH (down (S.wide s) S.FRAC D.FRAC) };
+    ghost can_cast = { λ s. (S.FRAC ≤ S.WIDTH) × (D.FRAC ≤ D.WIDTH)
+        × IsInRange D.SIGNED D.WIDTH (down (S.wide s) S.FRAC D.FRAC) };
 
     ghost cast_gives = { λ s d. D.wide d ≡ down (S.wide s) S.FRAC D.FRAC };
 
@@ -77,7 +79,8 @@ pub trait SaturatingCast<D> {
 impl<S: Num, D: NumTarget> SaturatingCast<D> for S {
     ghost can_saturating_cast = { λ s. (S.FRAC ≤ S.WIDTH) × (D.FRAC ≤ D.WIDTH) };
 
-    ghost saturating_cast_gives = { λ s d. IsImage Saturating D.SIGNED D.WIDTH (down (S.wide s) S.FRAC D.FRAC) (D.wide d) };
+    ghost saturating_cast_gives = { λ s d. IsImage Saturating D.SIGNED D.WIDTH (down (S.wide s) S.FRAC D.FRAC)
+        (D.wide d) };
 
     fn saturating_cast(self) -> D {
         saturating_number(self.to_wide(), S::FRAC)
@@ -125,7 +128,8 @@ pub trait OverflowingCast<D> {
 impl<S: Num, D: NumTarget> OverflowingCast<D> for S {
     ghost can_overflowing_cast = { λ s. (S.FRAC ≤ S.WIDTH) × (D.FRAC ≤ D.WIDTH) };
 
-    ghost overflowing_cast_gives = { λ s d o. IsImage Wrapping D.SIGNED D.WIDTH (down (S.wide s) S.FRAC D.FRAC) (D.wide d)
+    ghost overflowing_cast_gives = { λ s d o. IsImage Wrapping D.SIGNED D.WIDTH (down (S.wide s) S.FRAC D.FRAC)
+        (D.wide d)
         × (IsTrue o ↔ IsOutOfRange D.SIGNED D.WIDTH (down (S.wide s) S.FRAC D.FRAC)) };
 
     fn overflowing_cast(self) -> (D, bool) {
@@ -148,7 +152,8 @@ pub trait StrictCast<D> {
 }
 
 impl<S: Num, D: NumTarget> StrictCast<D> for S {
-    ghost can_strict_cast = { λ s. (S.FRAC ≤ S.WIDTH) × (D.FRAC ≤ D.WIDTH) × IsInRange D.SIGNED D.WIDTH (down (S.wide s) S.FRAC D.FRAC) };
+    ghost can_strict_cast = { λ s. (S.FRAC ≤ S.WIDTH) × (D.FRAC ≤ D.WIDTH)
+        × IsInRange D.SIGNED D.WIDTH (down (S.wide s) S.FRAC D.FRAC) };
 
     ghost strict_cast_gives = { λ s d. D.wide d ≡ down (S.wide s) S.FRAC D.FRAC };
 
@@ -172,7 +177,8 @@ pub trait UnwrappedCast<D> {
 }
 
 impl<S: Num, D: NumTarget> UnwrappedCast<D> for S {
-    ghost can_unwrapped_cast = { λ s. (S.FRAC ≤ S.WIDTH) × (D.FRAC ≤ D.WIDTH) × IsInRange D.SIGNED D.WIDTH (down (S.wide s) S.FRAC D.FRAC) };
+    ghost can_unwrapped_cast = { λ s. (S.FRAC ≤ S.WIDTH) × (D.FRAC ≤ D.WIDTH)
+        × IsInRange D.SIGNED D.WIDTH (down (S.wide s) S.FRAC D.FRAC) };
 
     ghost unwrapped_cast_gives = { λ s d. D.wide d ≡ down (S.wide s) S.FRAC D.FRAC };
 

@@ -1,4 +1,5 @@
-//! Conversion to and from types of fixed-point numbers. The moved number is the bits of the source, moved down from its fraction length to that of the target.
+//! Conversion to and from types of fixed-point numbers. The moved number is the bits of the source, moved down from its
+//! fraction length to that of the target.
 
 ghost use Rattle.std.specs.Prelude.{◌≡◌, ◌↔◌, ◌≤◌, IsTrue, IsSome, IfSome, Option};
 ghost use Rattle.fixed_bits.specs.Ranges.{IsInRange, IsOutOfRange};
@@ -26,27 +27,32 @@ pub trait ToFixed: Num {
     fn checked_to_fixed<F: FixedBits>(self) -> Option<F>
         requires source { Self.FRAC ≤ Self.WIDTH }
         requires target { F.FRAC_NBITS ≤ F.Inner.BITS }
-        ensures exists { IsSome result ↔ IsInRange F.Inner.SIGNED F.Inner.BITS (down (Self.wide self) Self.FRAC F.FRAC_NBITS) }
+        ensures exists { IsSome result ↔ IsInRange F.Inner.SIGNED F.Inner.BITS
+            (down (Self.wide self) Self.FRAC F.FRAC_NBITS) }
         ensures same { IfSome result (λ x. F.Inner.number (F.bits_of x) ≡ down (Self.wide self) Self.FRAC F.FRAC_NBITS) };
 
     /// Gives the Saturating image of the moved number.
     fn saturating_to_fixed<F: FixedBits>(self) -> F
         requires source { Self.FRAC ≤ Self.WIDTH }
         requires target { F.FRAC_NBITS ≤ F.Inner.BITS }
-        ensures { IsImage Saturating F.Inner.SIGNED F.Inner.BITS (down (Self.wide self) Self.FRAC F.FRAC_NBITS) (F.Inner.number (F.bits_of result)) };
+        ensures { IsImage Saturating F.Inner.SIGNED F.Inner.BITS (down (Self.wide self) Self.FRAC F.FRAC_NBITS)
+            (F.Inner.number (F.bits_of result)) };
 
     /// Gives the Wrapping image of the moved number.
     fn wrapping_to_fixed<F: FixedBits>(self) -> F
         requires source { Self.FRAC ≤ Self.WIDTH }
         requires target { F.FRAC_NBITS ≤ F.Inner.BITS }
-        ensures { IsImage Wrapping F.Inner.SIGNED F.Inner.BITS (down (Self.wide self) Self.FRAC F.FRAC_NBITS) (F.Inner.number (F.bits_of result)) };
+        ensures { IsImage Wrapping F.Inner.SIGNED F.Inner.BITS (down (Self.wide self) Self.FRAC F.FRAC_NBITS)
+            (F.Inner.number (F.bits_of result)) };
 
     /// Gives the Wrapping image of the moved number, and whether it does not fit.
     fn overflowing_to_fixed<F: FixedBits>(self) -> (F, bool)
         requires source { Self.FRAC ≤ Self.WIDTH }
         requires target { F.FRAC_NBITS ≤ F.Inner.BITS }
-        ensures image { IsImage Wrapping F.Inner.SIGNED F.Inner.BITS (down (Self.wide self) Self.FRAC F.FRAC_NBITS) (F.Inner.number (F.bits_of result.0)) }
-        ensures verdict { IsTrue result.1 ↔ IsOutOfRange F.Inner.SIGNED F.Inner.BITS (down (Self.wide self) Self.FRAC F.FRAC_NBITS) };
+        ensures image { IsImage Wrapping F.Inner.SIGNED F.Inner.BITS (down (Self.wide self) Self.FRAC F.FRAC_NBITS)
+            (F.Inner.number (F.bits_of result.0)) }
+        ensures verdict { IsTrue result.1 ↔ IsOutOfRange F.Inner.SIGNED F.Inner.BITS
+            (down (Self.wide self) Self.FRAC F.FRAC_NBITS) };
 
     /// Gives the moved number, which fits.
     fn strict_to_fixed<F: FixedBits>(self) -> F
@@ -99,27 +105,32 @@ pub trait FromFixed: NumTarget {
     fn checked_from_fixed<F: FixedBits>(src: F) -> Option<Self>
         requires source { F.FRAC_NBITS ≤ F.Inner.BITS }
         requires target { Self.FRAC ≤ Self.WIDTH }
-        ensures exists { IsSome result ↔ IsInRange Self.SIGNED Self.WIDTH (down (F.Inner.number (F.bits_of src)) F.FRAC_NBITS Self.FRAC) }
+        ensures exists { IsSome result ↔ IsInRange Self.SIGNED Self.WIDTH
+            (down (F.Inner.number (F.bits_of src)) F.FRAC_NBITS Self.FRAC) }
         ensures same { IfSome result (λ x. Self.wide x ≡ down (F.Inner.number (F.bits_of src)) F.FRAC_NBITS Self.FRAC) };
 
     /// Gives the Saturating image of the moved number.
     fn saturating_from_fixed<F: FixedBits>(src: F) -> Self
         requires source { F.FRAC_NBITS ≤ F.Inner.BITS }
         requires target { Self.FRAC ≤ Self.WIDTH }
-        ensures { IsImage Saturating Self.SIGNED Self.WIDTH (down (F.Inner.number (F.bits_of src)) F.FRAC_NBITS Self.FRAC) (Self.wide result) };
+        ensures { IsImage Saturating Self.SIGNED Self.WIDTH (down
+            (F.Inner.number (F.bits_of src)) F.FRAC_NBITS Self.FRAC) (Self.wide result) };
 
     /// Gives the Wrapping image of the moved number.
     fn wrapping_from_fixed<F: FixedBits>(src: F) -> Self
         requires source { F.FRAC_NBITS ≤ F.Inner.BITS }
         requires target { Self.FRAC ≤ Self.WIDTH }
-        ensures { IsImage Wrapping Self.SIGNED Self.WIDTH (down (F.Inner.number (F.bits_of src)) F.FRAC_NBITS Self.FRAC) (Self.wide result) };
+        ensures { IsImage Wrapping Self.SIGNED Self.WIDTH (down (F.Inner.number (F.bits_of src)) F.FRAC_NBITS Self.FRAC)
+            (Self.wide result) };
 
     /// Gives the Wrapping image of the moved number, and whether it does not fit.
     fn overflowing_from_fixed<F: FixedBits>(src: F) -> (Self, bool)
         requires source { F.FRAC_NBITS ≤ F.Inner.BITS }
         requires target { Self.FRAC ≤ Self.WIDTH }
-        ensures image { IsImage Wrapping Self.SIGNED Self.WIDTH (down (F.Inner.number (F.bits_of src)) F.FRAC_NBITS Self.FRAC) (Self.wide result.0) }
-        ensures verdict { IsTrue result.1 ↔ IsOutOfRange Self.SIGNED Self.WIDTH (down (F.Inner.number (F.bits_of src)) F.FRAC_NBITS Self.FRAC) };
+        ensures image { IsImage Wrapping Self.SIGNED Self.WIDTH
+            (down (F.Inner.number (F.bits_of src)) F.FRAC_NBITS Self.FRAC) (Self.wide result.0) }
+        ensures verdict { IsTrue result.1 ↔ IsOutOfRange Self.SIGNED Self.WIDTH
+            (down (F.Inner.number (F.bits_of src)) F.FRAC_NBITS Self.FRAC) };
 
     /// Gives the moved number, which fits.
     fn strict_from_fixed<F: FixedBits>(src: F) -> Self

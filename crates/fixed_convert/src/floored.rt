@@ -136,8 +136,10 @@ pub fn reformat(format: Format, policy: Policy, b: i128, from: u32) -> Option<(i
     requires wide { IsWide b }
     requires from { from ≤ 64 }
     ensures image { IfSome result (λ r. IsImage policy format.signed format.width (down b from format.frac) r.0) }
-    ensures verdict { IfSome result (λ r. IsTrue r.1 ↔ IsOutOfRange format.signed format.width (down b from format.frac)) }
-    ensures none { IsNone result ↔ ((policy ≡ Checked) × IsOutOfRange format.signed format.width (down b from format.frac)) }
+    ensures verdict { IfSome result (λ r. IsTrue r.1 ↔ IsOutOfRange format.signed format.width
+        (down b from format.frac)) }
+    ensures none { IsNone result ↔ ((policy ≡ Checked) × IsOutOfRange format.signed format.width
+        (down b from format.frac)) }
     ensures range { IfSome result (λ r. IsInRange format.signed format.width r.0) }
     ensures wide { IfSome result (λ r. IsWide r.0) }
 {

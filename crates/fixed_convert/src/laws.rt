@@ -1,7 +1,8 @@
 //! Laws of conversions and of the order, each the contract of a function that does nothing.
 
 ghost use Rattle.fixed_convert.specs.Rounded.{FloorIsDown, MovedInIsTheOne};
-ghost use Rattle.fixed_convert.specs.Laws.{FinerIsExact, ConversionIsUndone, OrderIsOfValues, OrderIsTotal, ExactIsEqual};
+ghost use Rattle.fixed_convert.specs.Laws.{FinerIsExact, ConversionIsUndone, OrderIsOfValues, OrderIsTotal};
+ghost use Rattle.fixed_convert.specs.Laws.{ExactIsEqual};
 
 /// Moving to a length that is no shorter loses nothing.
 pub fn finer_is_exact()

@@ -23,7 +23,8 @@ pub trait LossyFrom<S> {
 }
 
 impl<S: Num, D: NumTarget> LossyFrom<S> for D {
-    ghost can_lose = { (S.FRAC ≤ S.WIDTH) × (D.FRAC ≤ D.WIDTH) × HasRoom S.SIGNED D.SIGNED (S.WIDTH - S.FRAC) (D.WIDTH - D.FRAC) };
+    ghost can_lose = { (S.FRAC ≤ S.WIDTH) × (D.FRAC ≤ D.WIDTH)
+        × HasRoom S.SIGNED D.SIGNED (S.WIDTH - S.FRAC) (D.WIDTH - D.FRAC) };
 
     ghost lossy_gives = { λ s d. D.wide d ≡ down (S.wide s) S.FRAC D.FRAC };
 
@@ -44,7 +45,8 @@ fn moved_with_room<S: Num, D: NumTarget>(src: S) -> D
 
 /// A conversion that loses nothing, where the value fits: the target has no shorter fraction than the source.
 pub trait LosslessTryFrom<S>: Sized {
-    /// What has to hold before the call: both fraction lengths are at most the widths, and that of the target is no shorter.
+    /// What has to hold before the call: both fraction lengths are at most the widths, and that of the target is no
+    /// shorter.
     ghost can_try: { Type 0 };
 
     /// What the answer is.

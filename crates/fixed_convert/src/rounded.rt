@@ -21,7 +21,8 @@ pub fn reformat_mode(
 ) -> Option<(i128, bool)>
     requires wide { IsWide b }
     requires from { from ≤ 64 }
-    ensures moved { MatchOption result (IsNotReformatted mode policy format b from) (λ r. IsReformatted mode policy format b from r.0 r.1) }
+    ensures moved { MatchOption result (IsNotReformatted mode policy format b from)
+        (λ r. IsReformatted mode policy format b from r.0 r.1) }
     ensures range { IfSome result (λ r. IsInRange format.signed format.width r.0) }
     ensures wide { IfSome result (λ r. IsWide r.0) }
 {
@@ -43,7 +44,8 @@ fn reformat_exactly(
     requires wide { IsWide b }
     requires from { from ≤ 64 }
     requires longer { from ≤ format.frac }
-    ensures moved { MatchOption result (IsNotReformatted mode policy format b from) (λ r. IsReformatted mode policy format b from r.0 r.1) }
+    ensures moved { MatchOption result (IsNotReformatted mode policy format b from)
+        (λ r. IsReformatted mode policy format b from r.0 r.1) }
     ensures range { IfSome result (λ r. IsInRange format.signed format.width r.0) }
     ensures wide { IfSome result (λ r. IsWide r.0) }
 {
@@ -64,7 +66,8 @@ fn reformat_shorter(
     requires wide { IsWide b }
     requires from { from ≤ 64 }
     requires shorter { format.frac < from }
-    ensures moved { MatchOption result (IsNotReformatted mode policy format b from) (λ r. IsReformatted mode policy format b from r.0 r.1) }
+    ensures moved { MatchOption result (IsNotReformatted mode policy format b from)
+        (λ r. IsReformatted mode policy format b from r.0 r.1) }
     ensures range { IfSome result (λ r. IsInRange format.signed format.width r.0) }
     ensures wide { IfSome result (λ r. IsWide r.0) }
 {

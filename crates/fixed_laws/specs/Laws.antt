@@ -20,4 +20,5 @@ ExactTextReadsBack = (r : Radix) (upper : Bool) (c : ℤ) (g : ℕ) (text : List
 
 -- the text to any count of places is a numeral of the base
 abbrev pub RoundedTextIsNumeral : Type 0
-RoundedTextIsNumeral = (r : Radix) (upper : Bool) (c : ℤ) (g k : ℕ) (text : List ℕ) → IsRoundedText (base r) upper k c g text → IsNumeral r text
+RoundedTextIsNumeral = (r : Radix) (upper : Bool) (c : ℤ) (g k : ℕ) (text : List ℕ)
+    → IsRoundedText (base r) upper k c g text → IsNumeral r text

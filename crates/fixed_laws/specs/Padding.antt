@@ -18,8 +18,10 @@ flags_number plus prefix zero_pad = (if plus then 1 else 0) + (if prefix then 2 
 
 -- what the toolchain's `pad_integral` writes of sign, prefix and body under the options of a style
 abbrev pub toolchain_text : Style → ℕ → Bool → List ℕ → List ℕ
-toolchain_text s precision negative body = padded_integral (format_spec s.fill (align_number s.align) (flags_number s.plus s.prefix s.zero_pad) s.width precision) negative (prefix_of s.notation) body
+toolchain_text s precision negative body = padded_integral (format_spec s.fill (align_number s.align)
+    (flags_number s.plus s.prefix s.zero_pad) s.width precision) negative (prefix_of s.notation) body
 
 -- it is the padded text of the style
 abbrev pub PaddingIsTheToolchains : Type 0
-PaddingIsTheToolchains = (s : Style) (precision : ℕ) (negative : Bool) (body : List ℕ) → toolchain_text s precision negative body ≡ padded_text s (sign_and_prefix s negative) body
+PaddingIsTheToolchains = (s : Style) (precision : ℕ) (negative : Bool) (body : List ℕ)
+    → toolchain_text s precision negative body ≡ padded_text s (sign_and_prefix s negative) body

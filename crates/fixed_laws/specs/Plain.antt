@@ -26,4 +26,5 @@ ReadsAs r text g c = (p : Parts) × HasNumeral r text p × IsReadNumber NearestE
 
 -- the plain text of c / 2^g in any notation is a numeral of its radix whose read number for g is c
 abbrev pub PlainTextReadsBack : Type 0
-PlainTextReadsBack = (n : Notation) (c : ℤ) (g : ℕ) (text : List ℕ) → IsWide c → g ≤ 64 → IsStyledText (plain_style n) c g text → ReadsAs (radix_of n) text g c
+PlainTextReadsBack = (n : Notation) (c : ℤ) (g : ℕ) (text : List ℕ) → IsWide c → g ≤ 64
+    → IsStyledText (plain_style n) c g text → ReadsAs (radix_of n) text g c

@@ -20,8 +20,8 @@ pub fn rounded_text_is_numeral()
     ensures { RoundedTextIsNumeral }
 {}
 
-/// The plain text of a value in any of the seven notations is a numeral of its radix, and is read as the bits that it came
-/// from.
+/// The plain text of a value in any of the seven notations is a numeral of its radix, and is read as the bits that it
+/// came from.
 pub fn plain_text_reads_back()
     ensures { PlainTextReadsBack }
 {}

@@ -1,5 +1,6 @@
 -- What is found of a list of numerals, and what is written about it.
-use Rattle.std.specs.Prelude.{◌≡◌, ◌⊎◌, ◌+◌, ◌≤◌, ◌<◌, ℕ, List, [], ◌∷◌, ◌++◌, length, get_or, codes, decimal, true, false}
+use Rattle.std.specs.Prelude.{◌≡◌, ◌⊎◌, ◌+◌, ◌≤◌, ◌<◌, ℕ, List, [], ◌∷◌, ◌++◌, length, get_or, codes, decimal, true}
+use Rattle.std.specs.Prelude.{false}
 use Rattle.fixed_bits.specs.Formats.{FormatParts, IsTypeFormat}
 use Rattle.fixed_numeral.specs.Cause.{HasCause}
 use Rattle.fixed_numeral.specs.Messages.{message_of}

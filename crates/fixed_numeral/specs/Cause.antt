@@ -1,9 +1,12 @@
 -- Why bytes are no numeral.
-use Rattle.std.specs.Prelude.{◌≡◌, ℕ, ◌≤◌, ◌==◌, nat_lt, if◌then◌else◌, Bool, true, false, is_some, List, [], length, take, slice_get, Option, Some, None}
+use Rattle.std.specs.Prelude.{◌≡◌, ℕ, ◌≤◌, ◌==◌, nat_lt, if◌then◌else◌, Bool, true, false, is_some, List, [], length}
+use Rattle.std.specs.Prelude.{take, slice_get, Option, Some, None}
 use Rattle.std.specs.Char.{digit_value}
 use Rattle.fixed_numeral.specs.declared.radix.Radix.{Radix}
 use Rattle.fixed_numeral.specs.declared.error.ParseErrorKind.{ParseErrorKind}
-use Rattle.fixed_numeral.specs.declared.error.ParseErrorKind.TheVariants.{InvalidDigit, MisplacedSign, TooManyPoints, TooManyExp, ExpInvalidDigit, ExpOverflow, NoDigits, ExpNoDigits}
+use Rattle.fixed_numeral.specs.declared.error.ParseErrorKind.TheVariants.{InvalidDigit, MisplacedSign, TooManyPoints}
+use Rattle.fixed_numeral.specs.declared.error.ParseErrorKind.TheVariants.{TooManyExp, ExpInvalidDigit, ExpOverflow}
+use Rattle.fixed_numeral.specs.declared.error.ParseErrorKind.TheVariants.{NoDigits, ExpNoDigits}
 use Rattle.fixed_numeral.specs.Numeral.{Parts, HasParts, IsBeginning, IsNumeral, is_sign, is_separator, point, mantissa}
 
 -- the first n bytes are the longest prefix of bs that is a beginning, and p are its parts
@@ -18,7 +21,8 @@ kind_before_separator b = if is_sign b then MisplacedSign else (if b == point th
 
 -- a byte that offends after a separator
 abbrev pub kind_after_separator : Radix → ℕ → ParseErrorKind
-kind_after_separator r b = if is_sign b then MisplacedSign else (if is_separator r b then TooManyExp else (if nat_lt (digit_value b) 10 then ExpOverflow else ExpInvalidDigit))
+kind_after_separator r b = if is_sign b then MisplacedSign else
+    (if is_separator r b then TooManyExp else (if nat_lt (digit_value b) 10 then ExpOverflow else ExpInvalidDigit))
 
 abbrev pub is_nil : List ℕ → Bool
 is_nil [] = true

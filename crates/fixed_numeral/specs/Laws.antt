@@ -22,7 +22,8 @@ NumeralOrCause = (r : Radix) (bs : List ℕ) → IsNumeral r bs ⊎ ((kind : Par
 
 -- there is at most one cause
 abbrev pub OneCause : Type 0
-OneCause = (r : Radix) (bs : List ℕ) (kind other : ParseErrorKind) → HasCause r bs kind → HasCause r bs other → kind ≡ other
+OneCause = (r : Radix) (bs : List ℕ) (kind other : ParseErrorKind) → HasCause r bs kind → HasCause r bs other
+    → kind ≡ other
 
 -- the denominator of a magnitude is at least 1
 abbrev pub DenominatorIsPositive : Type 0
@@ -30,11 +31,13 @@ DenominatorIsPositive = (r : Radix) (p : Parts) → 1 ≤ (magnitude r p).den
 
 -- the parts of a literal are determined by its bytes
 abbrev pub LiteralIsDetermined : Type 0
-LiteralIsDetermined = (of_signed : Bool) (bs : List ℕ) (p q : Parts) → HasLiteral of_signed bs p → HasLiteral of_signed bs q → p ≡ q
+LiteralIsDetermined = (of_signed : Bool) (bs : List ℕ) (p q : Parts) → HasLiteral of_signed bs p
+    → HasLiteral of_signed bs q → p ≡ q
 
 -- there is at most one cause why bytes are no literal, and a literal has none
 abbrev pub OneLiteralCause : Type 0
-OneLiteralCause = (of_signed : Bool) (bs : List ℕ) (kind other : ParseErrorKind) → HasLiteralCause of_signed bs kind → (HasLiteralCause of_signed bs other → kind ≡ other) × (IsLiteral of_signed bs → ⊥)
+OneLiteralCause = (of_signed : Bool) (bs : List ℕ) (kind other : ParseErrorKind) → HasLiteralCause of_signed bs kind
+    → (HasLiteralCause of_signed bs other → kind ≡ other) × (IsLiteral of_signed bs → ⊥)
 
 -- a message has at most 64 bytes
 abbrev pub MessageIsShort : Type 0

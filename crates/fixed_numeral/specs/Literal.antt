@@ -1,5 +1,6 @@
 -- Literals: numerals with a sign, a prefix and underscores.
-use Rattle.std.specs.Prelude.{◌≡◌, ℕ, ◌≤◌, ◌==◌, if◌then◌else◌, Bool, false, ◌&&◌, List, [], ◌∷◌, ◌++◌, length, take, drop, slice_get, Option, Some, None}
+use Rattle.std.specs.Prelude.{◌≡◌, ℕ, ◌≤◌, ◌==◌, if◌then◌else◌, Bool, false, ◌&&◌, List, [], ◌∷◌, ◌++◌, length, take}
+use Rattle.std.specs.Prelude.{drop, slice_get, Option, Some, None}
 use Rattle.fixed_numeral.specs.declared.radix.Radix.{Radix}
 use Rattle.fixed_numeral.specs.declared.radix.Radix.TheVariants.{Bin, Oct, Dec, Hex}
 use Rattle.fixed_numeral.specs.declared.error.ParseErrorKind.{ParseErrorKind}
@@ -34,7 +35,8 @@ last_part p = part_of p.whole p.fraction p.exponent
 pub record HasLiteralParts (r : Radix) (bs : List ℕ) (p : Parts) : Type 0 where
   pub beginning : HasParts r (without_underscores bs) p
   pub unsigned : begins_signed (without_underscores bs) ≡ false
-  pub underscores : (xs ys : List ℕ) → bs ≡ xs ++ underscore ∷ ys → (q : Parts) → HasParts r (without_underscores xs) q → is_nil (last_part q) ≡ false
+  pub underscores : (xs ys : List ℕ) → bs ≡ xs ++ underscore ∷ ys → (q : Parts) → HasParts r (without_underscores xs) q
+      → is_nil (last_part q) ≡ false
 
 abbrev pub IsLiteralBeginning : Radix → List ℕ → Type 0
 IsLiteralBeginning r bs = (p : Parts) × HasLiteralParts r bs p

@@ -1,6 +1,9 @@
 use Rattle.std.specs.Prelude.{ℕ, List, codes}
 use Rattle.fixed_numeral.specs.declared.error.ParseErrorKind.{ParseErrorKind}
-use Rattle.fixed_numeral.specs.declared.error.ParseErrorKind.TheVariants.{InvalidDigit, MisplacedSign, MisplacedUnderscore, TooManyPoints, TooManyExp, ExpInvalidDigit, ExpOverflow, NoDigits, ExpNoDigits, Overflow}
+use Rattle.fixed_numeral.specs.declared.error.ParseErrorKind.TheVariants.{InvalidDigit, MisplacedSign}
+use Rattle.fixed_numeral.specs.declared.error.ParseErrorKind.TheVariants.{MisplacedUnderscore, TooManyPoints}
+use Rattle.fixed_numeral.specs.declared.error.ParseErrorKind.TheVariants.{TooManyExp, ExpInvalidDigit, ExpOverflow}
+use Rattle.fixed_numeral.specs.declared.error.ParseErrorKind.TheVariants.{NoDigits, ExpNoDigits, Overflow}
 
 -- the words of a kind
 abbrev pub message_of : ParseErrorKind → List ℕ

@@ -2,7 +2,8 @@
 use Rattle.std.specs.Prelude.{◌≡◌, ℕ, ◌+◌, ◌*◌, ◌^◌, ◌<◌, Bool, true, false, length, Option, Some, None, ℤ, pos, ◌-ℤ◌}
 use Rattle.std.specs.Str.Parse.{digits_value}
 use Rattle.fixed_numeral.specs.declared.radix.Radix.{Radix}
-use Rattle.fixed_numeral.specs.Numeral.{Parts, Exponent, base, is_minus, is_two_separator, exponent_number, fractional_digits}
+use Rattle.fixed_numeral.specs.Numeral.{Parts, Exponent, base, is_minus, is_two_separator, exponent_number}
+use Rattle.fixed_numeral.specs.Numeral.{fractional_digits}
 use Rattle.fixed_numeral.specs.Value.{Fraction, scaled, magnitude}
 
 -- the number of an exponent, which is 0 without one

@@ -5,7 +5,10 @@ use Rattle.fixed_numeral.specs.Value.{Fraction}
 
 -- whole.fraction in the base, times 2^shift
 abbrev pub spelled : ℕ → List ℕ → List ℕ → ℕ → Fraction
-spelled base whole fraction shift = record { num = number_from_digits base (whole ++ fraction) * 2 ^ shift; den = base ^ length fraction }
+spelled base whole fraction shift = record {
+  num = number_from_digits base (whole ++ fraction) * 2 ^ shift;
+  den = base ^ length fraction;
+}
 
 -- two fractions are one number
 abbrev pub IsSameNumber : Fraction → Fraction → Type 0

@@ -2,7 +2,8 @@
 use Rattle.std.specs.Prelude.{ℕ, suc, ◌*◌, ◌^◌, if◌then◌else◌, length, Option, Some, None, ℤ, pos, negsuc, ◌-ℤ◌}
 use Rattle.std.specs.Str.Parse.{digits_value}
 use Rattle.fixed_numeral.specs.declared.radix.Radix.{Radix}
-use Rattle.fixed_numeral.specs.Numeral.{Parts, Exponent, base, is_two_separator, exponent_number, mantissa, fractional_digits}
+use Rattle.fixed_numeral.specs.Numeral.{Parts, Exponent, base, is_two_separator, exponent_number, mantissa}
+use Rattle.fixed_numeral.specs.Numeral.{fractional_digits}
 
 -- a number that isn't negative, as a fraction
 pub record Fraction : Type 0 where

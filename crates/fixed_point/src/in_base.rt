@@ -15,8 +15,8 @@ use text_buffer::TextBuffer;
 
 /// A number whose Display writes its exact value in a base, in the fewest places.
 ///
-/// Under `#` the prefix `0b`, `0o` or `0x` comes first; width, fill, alignment, `+` and zero padding are obeyed as for an
-/// integer, and a precision is ignored. A fraction length above the width is shown as `(bits >> FRAC)`.
+/// Under `#` the prefix `0b`, `0o` or `0x` comes first; width, fill, alignment, `+` and zero padding are obeyed as for
+/// an integer, and a precision is ignored. A fraction length above the width is shown as `(bits >> FRAC)`.
 #[derive(Clone, Copy)]
 pub struct InBase<I, const FRAC: u32> {
     /// The number.
@@ -82,7 +82,8 @@ impl<I: Inner, const FRAC: u32> Fixed<I, FRAC> {
 impl<I: Inner, const FRAC: u32> fmt::Display for InBase<I, FRAC> {
     ghost output = { λ x. Some (exact_shown_text x.base I.BITS FRAC (I.number x.number)) };
 
-    ghost styled_output = { λ x s. Some (exact_styled_text x.base (padded_integral s (is_negative (I.number x.number)) (prefix_of x.base)) I.BITS FRAC (I.number x.number)) };
+    ghost styled_output = { λ x s. Some (exact_styled_text x.base
+        (padded_integral s (is_negative (I.number x.number)) (prefix_of x.base)) I.BITS FRAC (I.number x.number)) };
 
     fn fmt<W: fmt::Write>(&self, f: &mut fmt::Formatter<W>) -> fmt::Result {
         write_in_base(self.number.to_bits().value(), FRAC, I::BITS, self.base, f)
@@ -100,7 +101,9 @@ fn write_in_base<W: fmt::Write>(
     requires wide { IsWide value }
     requires width { width ≤ 64 }
     ensures writes { DisplaysOnOk W.write_str_gives f.old result (Some (exact_shown_text base width frac value)) f.new }
-    ensures styled { DisplaysStyledOnOk W.write_str_gives f.old result (Some (exact_styled_text base (padded_integral (formatter_spec f.old) (is_negative value) (prefix_of base)) width frac value)) f.new }
+    ensures styled { DisplaysStyledOnOk W.write_str_gives f.old result
+        (Some (exact_styled_text base (padded_integral (formatter_spec f.old) (is_negative value) (prefix_of base))
+        width frac value)) f.new }
 {
     if frac > width {
         return f.write_str(shift_text(value, frac).as_ascii_str());

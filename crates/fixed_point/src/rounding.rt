@@ -190,7 +190,8 @@ impl<I: Inner, const FRAC: u32> Fixed<I, FRAC> {
         Self::from_some(checked_whole(self.to_bits(), FRAC, Rounding::Round))
     }
 
-    /// The nearest whole number, halfway between two the one farther from zero; the nearer end of the range where it does not fit.
+    /// The nearest whole number, halfway between two the one farther from zero; the nearer end of the range where it
+    /// does not fit.
     #[inline]
     pub fn saturating_round(self) -> Self
         requires { FRAC ≤ I.BITS }
@@ -199,7 +200,8 @@ impl<I: Inner, const FRAC: u32> Fixed<I, FRAC> {
         Fixed::from_bits(saturating_whole(self.to_bits(), FRAC, Rounding::Round))
     }
 
-    /// The nearest whole number, halfway between two the one farther from zero; its bits wrap around where it does not fit.
+    /// The nearest whole number, halfway between two the one farther from zero; its bits wrap around where it does not
+    /// fit.
     #[inline]
     pub fn wrapping_round(self) -> Self
         requires { FRAC ≤ I.BITS }
@@ -218,7 +220,8 @@ impl<I: Inner, const FRAC: u32> Fixed<I, FRAC> {
         self.round()
     }
 
-    /// The nearest whole number, halfway between two the one farther from zero: its Wrapping image, and whether it does not fit.
+    /// The nearest whole number, halfway between two the one farther from zero: its Wrapping image, and whether it does
+    /// not fit.
     #[inline]
     pub fn overflowing_round(self) -> (Self, bool)
         requires { FRAC ≤ I.BITS }
@@ -284,8 +287,10 @@ impl<I: Inner, const FRAC: u32> Fixed<I, FRAC> {
     #[inline]
     pub fn overflowing_round_ties_even(self) -> (Self, bool)
         requires { FRAC ≤ I.BITS }
-        ensures image { IsImage Wrapping I.SIGNED I.BITS (whole_bits RoundTiesEven (I.number self) FRAC) (I.number result.0) }
-        ensures verdict { IsTrue result.1 ↔ IsOutOfRange I.SIGNED I.BITS (whole_bits RoundTiesEven (I.number self) FRAC) }
+        ensures image { IsImage Wrapping I.SIGNED I.BITS (whole_bits RoundTiesEven (I.number self) FRAC)
+            (I.number result.0) }
+        ensures verdict { IsTrue result.1 ↔ IsOutOfRange I.SIGNED I.BITS
+            (whole_bits RoundTiesEven (I.number self) FRAC) }
     {
         let (bits, overflowed) = overflowing_whole(self.to_bits(), FRAC, Rounding::RoundTiesEven);
         (Fixed::from_bits(bits), overflowed)

@@ -7,4 +7,5 @@ use Rattle.fixed_read.specs.Reading.{IsReadNumber}
 
 -- one number, and no other, is the read number
 abbrev pub ReadNumberIsTheOne : Type 0
-ReadNumberIsTheOne = (mode : ReadMode) (r : Radix) (p : Parts) (f : ℕ) → (v : ℤ) × IsReadNumber mode r p f v × ((w : ℤ) → IsReadNumber mode r p f w → w ≡ v)
+ReadNumberIsTheOne = (mode : ReadMode) (r : Radix) (p : Parts) (f : ℕ) → (v : ℤ) × IsReadNumber mode r p f v
+    × ((w : ℤ) → IsReadNumber mode r p f w → w ≡ v)

@@ -25,7 +25,8 @@ IsMultipleOf d m = (k : ℕ) × (m ≡ k * d)
 abbrev pub IsWholeUlps : Radix → Parts → ℕ → Type 0
 IsWholeUlps r p f = IsMultipleOf (magnitude r p).den ((magnitude r p).num * 2 ^ f)
 
--- the answer holds the read number of a numeral with these parts, and says whether the numeral was a whole number of ulps
+-- the answer holds the read number of a numeral with these parts, and says whether the numeral was a whole number of
+-- ulps
 pub record IsReading (mode : ReadMode) (r : Radix) (p : Parts) (found : ReadNumber) : Type 0 where
   pub number : ℤ
   pub read : IsReadNumber mode r p found.format.frac number
@@ -34,20 +35,23 @@ pub record IsReading (mode : ReadMode) (r : Radix) (p : Parts) (found : ReadNumb
   pub exact : IsTrue found.exact ↔ IsWholeUlps r p found.format.frac
 
 -- bits is the Wrapping image of the read number, and overflowed says whether that is out of range
-pub record IsOverflowingRead (mode : ReadMode) (r : Radix) (p : Parts) (f : ℕ) (sign : Bool) (n : ℕ) (bits : ℤ) (overflowed : Bool) : Type 0 where
+pub record IsOverflowingRead (mode : ReadMode) (r : Radix) (p : Parts) (f : ℕ) (sign : Bool) (n : ℕ) (bits : ℤ)
+    (overflowed : Bool) : Type 0 where
   pub number : ℤ
   pub read : IsReadNumber mode r p f number
   pub image : IsWrapped sign n number bits
   pub flag : IsTrue overflowed ↔ IsOutOfRange sign n number
 
 -- bits is the image of the read number under the policy
-pub record IsImageRead (policy : Policy) (mode : ReadMode) (r : Radix) (p : Parts) (f : ℕ) (sign : Bool) (n : ℕ) (bits : ℤ) : Type 0 where
+pub record IsImageRead (policy : Policy) (mode : ReadMode) (r : Radix) (p : Parts) (f : ℕ) (sign : Bool) (n : ℕ)
+    (bits : ℤ) : Type 0 where
   pub number : ℤ
   pub read : IsReadNumber mode r p f number
   pub image : IsImage policy sign n number bits
 
 -- parts that the bytes have, by HasNumeral or HasLiteral, give a read number in range
-pub record IsReadInRange (mode : ReadMode) (r : Radix) (Has : Parts → Type 0) (f : ℕ) (sign : Bool) (n : ℕ) : Type 0 where
+pub record IsReadInRange (mode : ReadMode) (r : Radix) (Has : Parts → Type 0) (f : ℕ) (sign : Bool)
+    (n : ℕ) : Type 0 where
   pub parts : Parts
   pub has : Has parts
   pub number : ℤ
@@ -55,7 +59,8 @@ pub record IsReadInRange (mode : ReadMode) (r : Radix) (Has : Parts → Type 0) 
   pub in_range : IsInRange sign n number
 
 -- and out of range
-pub record IsReadOutOfRange (mode : ReadMode) (r : Radix) (Has : Parts → Type 0) (f : ℕ) (sign : Bool) (n : ℕ) : Type 0 where
+pub record IsReadOutOfRange (mode : ReadMode) (r : Radix) (Has : Parts → Type 0) (f : ℕ) (sign : Bool)
+    (n : ℕ) : Type 0 where
   pub parts : Parts
   pub has : Has parts
   pub number : ℤ

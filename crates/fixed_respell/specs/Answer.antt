@@ -61,7 +61,8 @@ fault_rank BadPolicy = 5
 -- the line has the fault, and none before it
 abbrev pub IsFirstFaultBy : (List ℕ → FormatParts → Type 0) → (List ℕ → Policy → ReadMode → Type 0) → LineFault
     → List ℕ → Type 0
-IsFirstFaultBy Names NamesPolicy fault line = IsFirst LineFault fault_rank (λ f. HasFaultBy Names NamesPolicy f line) fault
+IsFirstFaultBy Names NamesPolicy fault line = IsFirst LineFault fault_rank
+    (λ f. HasFaultBy Names NamesPolicy f line) fault
 
 -- the message of a fault
 abbrev pub fault_message : LineFault → List ℕ
@@ -73,8 +74,8 @@ fault_message BadTarget = codes "bad target format"
 fault_message BadPolicy = codes "bad policy"
 
 -- ---- what a line asks for
--- a numeral in a radix, the format that it is read into and the one that it is moved to, what is done with a number that
--- is out of range, and how the numeral is rounded
+-- a numeral in a radix, the format that it is read into and the one that it is moved to, what is done with a number
+-- that is out of range, and how the numeral is rounded
 pub record Task : Type 0 where
   pub radix : Radix
   pub source : FormatParts
@@ -114,7 +115,11 @@ verdict false = codes "fits"
 
 -- the answer of a text, the bits in decimal, and whether a number was out of its format
 abbrev pub respelled_answer : List ℕ → ℤ → Bool → AnswerText
-respelled_answer text bits overflowed = record { text = text ++ space ∷ (signed_decimal bits ++ space ∷ verdict overflowed); fault = false }
+respelled_answer text bits overflowed = record {
+  text = text ++ space
+      ∷ (signed_decimal bits ++ space ∷ verdict overflowed);
+  fault = false;
+}
 
 -- the bits that are reached from its numeral, and their shortest decimal
 pub record IsRespelledAnswer (t : Task) (answer : AnswerText) : Type 0 where

@@ -15,8 +15,10 @@ max_self_lines = 1000000
 
 -- a name and a number in decimal ask for this command
 abbrev pub IsNumbered : List ℕ → List ℕ → Command → Type 0
-IsNumbered name number (Read limit) = (name ≡ codes "limit") × (number ≡ decimal limit) × (1 ≤ limit) × (limit ≤ max_limit)
-IsNumbered name number (SelfTest count) = (name ≡ codes "self") × (number ≡ decimal count) × (1 ≤ count) × (count ≤ max_self_lines)
+IsNumbered name number (Read limit) = (name ≡ codes "limit") × (number ≡ decimal limit) × (1 ≤ limit)
+    × (limit ≤ max_limit)
+IsNumbered name number (SelfTest count) = (name ≡ codes "self") × (number ≡ decimal count) × (1 ≤ count)
+    × (count ≤ max_self_lines)
 
 -- the arguments ask for this command
 abbrev pub IsCommand : List (String Global) → Command → Type 0

@@ -3,7 +3,8 @@ use Rattle.std.specs.Prelude.{◌≡◌, ◌⊎◌, ℕ, List, ◌++◌, true, c
 use Rattle.fixed_respell.specs.LineWords.{IsFirst}
 use Rattle.line_engine.specs.AnswerText.{AnswerText}
 
--- the faults of a line in the order of their ranks, each with its message, and the tasks that lines ask for, each with its answer
+-- the faults of a line in the order of their ranks, each with its message, and the tasks that lines ask for, each with
+-- its answer
 pub record Language : Type 1 where
   pub Fault : Type 0
   pub rank : Fault → ℕ

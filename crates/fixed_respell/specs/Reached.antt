@@ -17,9 +17,10 @@ use Rattle.fixed_respell.specs.declared.respelling.Bits.{Bits}
 use Rattle.fixed_respell.specs.declared.respelling.Bits.TheVariants.{Signed, Unsigned}
 
 -- `number` is the read number of a numeral with these parts, `in_source` its image in the source, `moved` that rounded
--- down (floor) to the target's fraction length, and `bits` the image of this in the target; the flag says whether one of
--- the two numbers was out of its format
-pub record IsReached (mode : ReadMode) (r : Radix) (p : Parts) (policy : Policy) (source target : FormatParts) (bits : ℤ) (overflowed : Bool) : Type 0 where
+-- down (floor) to the target's fraction length, and `bits` the image of this in the target; the flag says whether one
+-- of the two numbers was out of its format
+pub record IsReached (mode : ReadMode) (r : Radix) (p : Parts) (policy : Policy) (source target : FormatParts)
+    (bits : ℤ) (overflowed : Bool) : Type 0 where
   pub number : ℤ
   pub in_source : ℤ
   pub moved : ℤ
@@ -27,11 +28,13 @@ pub record IsReached (mode : ReadMode) (r : Radix) (p : Parts) (policy : Policy)
   pub source_image : IsImage policy source.signed source.width number in_source
   pub down : IsDown in_source source.frac target.frac moved
   pub target_image : IsImage policy target.signed target.width moved bits
-  pub flag : IsTrue overflowed ↔ (IsOutOfRange source.signed source.width number ⊎ IsOutOfRange target.signed target.width moved)
+  pub flag : IsTrue overflowed ↔ (IsOutOfRange source.signed source.width number
+      ⊎ IsOutOfRange target.signed target.width moved)
 
 -- under Checked the read number is out of the source's range, or rounded down to the target's fraction length it is out
 -- of the target's, and so it has no image there and nothing is reached
-pub record IsOverflowed (mode : ReadMode) (r : Radix) (p : Parts) (policy : Policy) (source target : FormatParts) : Type 0 where
+pub record IsOverflowed (mode : ReadMode) (r : Radix) (p : Parts) (policy : Policy)
+    (source target : FormatParts) : Type 0 where
   pub number : ℤ
   pub moved : ℤ
   pub checked : policy ≡ Checked
@@ -40,20 +43,23 @@ pub record IsOverflowed (mode : ReadMode) (r : Radix) (p : Parts) (policy : Poli
   pub out : IsOutOfRange source.signed source.width number ⊎ IsOutOfRange target.signed target.width moved
 
 -- bytes are a numeral, and these bits and this flag are reached from it
-pub record IsRespelled (mode : ReadMode) (r : Radix) (bytes : List ℕ) (policy : Policy) (source target : FormatParts) (bits : ℤ) (overflowed : Bool) : Type 0 where
+pub record IsRespelled (mode : ReadMode) (r : Radix) (bytes : List ℕ) (policy : Policy) (source target : FormatParts)
+    (bits : ℤ) (overflowed : Bool) : Type 0 where
   pub parts : Parts
   pub numeral : HasNumeral r bytes parts
   pub reached : IsReached mode r parts policy source target bits overflowed
 
 -- bytes are a numeral, and nothing is reached from it
-pub record OverflowsOn (mode : ReadMode) (r : Radix) (bytes : List ℕ) (policy : Policy) (source target : FormatParts) : Type 0 where
+pub record OverflowsOn (mode : ReadMode) (r : Radix) (bytes : List ℕ) (policy : Policy)
+    (source target : FormatParts) : Type 0 where
   pub parts : Parts
   pub numeral : HasNumeral r bytes parts
   pub overflowed : IsOverflowed mode r parts policy source target
 
 -- kind says why no bits are reached: bytes are no numeral, or nothing is reached from it
 abbrev pub IsRefusal : ReadMode → Radix → List ℕ → Policy → FormatParts → FormatParts → ParseErrorKind → Type 0
-IsRefusal mode r bytes policy source target kind = HasCause r bytes kind ⊎ ((kind ≡ Overflow) × OverflowsOn mode r bytes policy source target)
+IsRefusal mode r bytes policy source target kind = HasCause r bytes kind
+    ⊎ ((kind ≡ Overflow) × OverflowsOn mode r bytes policy source target)
 
 -- the number of some bits
 abbrev pub number_of : Bits → ℤ

@@ -1,5 +1,6 @@
 -- The self test: generated lines, and the sums over their answers.
-use Rattle.std.specs.Prelude.{◌≡◌, ℕ, zero, suc, ◌*◌, ◌/◌, ◌%◌, ◌<◌, ◌≤◌, ◌==◌, Bool, if◌then◌else◌, List, [], ◌∷◌, ◌++◌, length, map, get_or, codes}
+use Rattle.std.specs.Prelude.{◌≡◌, ℕ, zero, suc, ◌*◌, ◌/◌, ◌%◌, ◌<◌, ◌≤◌, ◌==◌, Bool, if◌then◌else◌, List, [], ◌∷◌}
+use Rattle.std.specs.Prelude.{◌++◌, length, map, get_or, codes}
 use Rattle.std.specs.declared.option.Option.{Option}
 use Rattle.std.specs.Int.Digits.{digits_of}
 use Rattle.std.specs.Io.KnownBytes.{Appends}
@@ -10,7 +11,8 @@ use Rattle.line_engine.specs.Failures.{HasFailed}
 use Rattle.line_engine.specs.Output.{AreAnswers, is_fault, written_of, AppendsPrefix}
 use Rattle.line_engine.specs.AnswerText.{AnswerText}
 use Rattle.line_engine.specs.declared.status.Status.{Status}
-use Rattle.line_engine.specs.declared.status.Status.TheVariants.{Done, Faults, Usage, ReadFault, WriteFault, NoMemory, TooLong}
+use Rattle.line_engine.specs.declared.status.Status.TheVariants.{Done, Faults, Usage, ReadFault, WriteFault, NoMemory}
+use Rattle.line_engine.specs.declared.status.Status.TheVariants.{TooLong}
 
 -- how a digit below 16 is written
 abbrev pub digit_letter : ℕ → ℕ
@@ -26,7 +28,8 @@ radix_at i = get_or (2 ∷ 8 ∷ 10 ∷ 16 ∷ []) (i % 4) 0
 
 -- the format at place k of the list, which starts over after its end
 abbrev pub format_at : ℕ → List ℕ
-format_at k = get_or (codes "U8F0" ∷ codes "I4F4" ∷ codes "U0F8" ∷ codes "I8F8" ∷ codes "U16F16" ∷ codes "I1F31" ∷ codes "U0F64" ∷ codes "I32F32" ∷ []) (k % 8) []
+format_at k = get_or (codes "U8F0" ∷ codes "I4F4" ∷ codes "U0F8" ∷ codes "I8F8" ∷ codes "U16F16" ∷ codes "I1F31"
+    ∷ codes "U0F64" ∷ codes "I32F32" ∷ []) (k % 8) []
 
 -- the policy of line i
 abbrev pub policy_at : ℕ → List ℕ
@@ -34,7 +37,8 @@ policy_at i = get_or (codes "checked" ∷ codes "saturating" ∷ codes "wrapping
 
 -- the four words before the numeral of line i, each followed by a space
 abbrev pub self_words : ℕ → List ℕ
-self_words i = (number_text 10 (radix_at i) ++ space ∷ []) ++ (format_at (i / 4) ++ space ∷ []) ++ (format_at (i / 32) ++ space ∷ []) ++ (policy_at i ++ space ∷ [])
+self_words i = (number_text 10 (radix_at i) ++ space ∷ []) ++ (format_at (i / 4) ++ space ∷ [])
+    ++ (format_at (i / 32) ++ space ∷ []) ++ (policy_at i ++ space ∷ [])
 
 -- the sign of the numeral of line i
 abbrev pub self_sign : ℕ → List ℕ
@@ -46,7 +50,8 @@ self_exponent i = if i % 7 == 6 then codes "@-3" else []
 
 -- the numeral of line i
 abbrev pub self_numeral : ℕ → List ℕ
-self_numeral i = self_sign i ++ number_text (radix_at i) i ++ codes "." ++ number_text (radix_at i) (7919 * i % 65536) ++ self_exponent i
+self_numeral i = self_sign i ++ number_text (radix_at i) i ++ codes "." ++ number_text (radix_at i) (7919 * i % 65536)
+    ++ self_exponent i
 
 -- line i
 unfoldable pub self_line : ℕ → List ℕ
@@ -61,7 +66,8 @@ self_lines (suc n) = self_lines n ++ self_line n ∷ []
 abbrev pub ends_in : List ℕ → AnswerText → Bool
 ends_in word reply = ends_with (λ x y. x == y) reply.text word
 
--- of some replies: how many end in `fits`, how many in `overflowed`, how many are faults, and the bytes of all, with a newline each
+-- of some replies: how many end in `fits`, how many in `overflowed`, how many are faults, and the bytes of all, with a
+-- newline each
 pub record Tally : Type 0 where
   pub fit : ℕ
   pub overflowed : ℕ
@@ -91,7 +97,9 @@ pub record IsTally (n : ℕ) (tally : Tally) : Type 0 where
 
 -- the summary line of n lines with this tally
 unfoldable pub summary_text : ℕ → Tally → List ℕ
-summary_text n tally = number_text 10 n ++ codes " lines, " ++ number_text 10 tally.fit ++ codes " fit, " ++ number_text 10 tally.overflowed ++ codes " overflowed, " ++ number_text 10 tally.faults ++ codes " faults, " ++ number_text 10 tally.bytes ++ codes " bytes\n"
+summary_text n tally = number_text 10 n ++ codes " lines, " ++ number_text 10 tally.fit ++ codes " fit, "
+    ++ number_text 10 tally.overflowed ++ codes " overflowed, " ++ number_text 10 tally.faults ++ codes " faults, "
+    ++ number_text 10 tally.bytes ++ codes " bytes\n"
 
 -- text is the summary of n lines, of whose answers `faults` are faults
 pub record IsSummary (n : ℕ) (text : List ℕ) (faults : ℕ) : Type 0 where
@@ -118,7 +126,8 @@ pub record BreaksSummary (n : ℕ) (written written' : Option (List ℕ)) (faile
 -- what a self test of n lines that ended with this status has written, and whether a write failed
 abbrev pub HasSelfRun : ℕ → Option (List ℕ) → Option (List ℕ) → ℕ → ℕ → Status → Type 0
 HasSelfRun n written written' failed failed' Done = WritesSummary n 0 written written' failed failed'
-HasSelfRun n written written' failed failed' Faults = (faults : ℕ) × (0 < faults) × WritesSummary n faults written written' failed failed'
+HasSelfRun n written written' failed failed' Faults = (faults : ℕ) × (0 < faults)
+    × WritesSummary n faults written written' failed failed'
 HasSelfRun n written written' failed failed' Usage = ⊥
 HasSelfRun n written written' failed failed' ReadFault = ⊥
 HasSelfRun n written written' failed failed' WriteFault = BreaksSummary n written written' failed failed'

@@ -27,7 +27,8 @@ use text_buffer::TextBuffer;
 // Always inlined, so that the task stays in registers: an answer of a call would go through memory.
 #[inline(always)]
 fn read_task(line: &[u8]) -> Result<Task<'_>, LineFault>
-    ensures task { MatchResult result (λ t. Asks line.now (task_of t.radix t.source t.target t.policy t.mode t.numeral.now)) (λ fault. IsFirstFault fault line.now) }
+    ensures task { MatchResult result (λ t. Asks line.now (task_of t.radix t.source t.target t.policy t.mode
+        t.numeral.now)) (λ fault. IsFirstFault fault line.now) }
     ensures short { IfOk result (λ t. length t.numeral.now ≤ length line.now) }
     ensures ending { IfOk result (λ t. drop (length line.now - length t.numeral.now) line.now ≡ t.numeral.now) }
 {

@@ -22,7 +22,8 @@ pub(crate) enum Command {
 /// The number that the digits spell. None where a byte is no decimal digit.
 fn digits_number(digits: &[u8]) -> Option<u64>
     requires { length digits.now ≤ 10 }
-    ensures { MatchOption result (¬ AllDigits 10 digits.now) (λ n. AllDigits 10 digits.now × (n ≡ digits_value 10 digits.now)) }
+    ensures { MatchOption result (¬ AllDigits 10 digits.now)
+        (λ n. AllDigits 10 digits.now × (n ≡ digits_value 10 digits.now)) }
 {
     let mut number = 0;
     for b in digits {
@@ -55,7 +56,8 @@ fn number_word(word: &[u8], most: u64) -> Option<u64>
 /// The number from 1 to `most` that the word is in decimal. None where it is none.
 fn count_word(word: &[u8], most: u64) -> Option<u64>
     requires { most < 10 ^ 10 }
-    ensures number { MatchOption result ((n : ℕ) → 1 ≤ n → n ≤ most → ¬ (word.now ≡ decimal n)) (λ n. word.now ≡ decimal n) }
+    ensures number { MatchOption result ((n : ℕ) → 1 ≤ n → n ≤ most → ¬ (word.now ≡ decimal n))
+        (λ n. word.now ≡ decimal n) }
     ensures range { IfSome result (λ n. (1 ≤ n) × (n ≤ most)) }
 {
     match number_word(word, most) {
@@ -66,7 +68,8 @@ fn count_word(word: &[u8], most: u64) -> Option<u64>
 
 /// The command of a name and a number. None where they are no command.
 fn numbered_command(name: &[u8], number: &[u8]) -> Option<Command>
-    ensures { MatchOption result ((c : Command) → ¬ IsNumbered name.now number.now c) (λ c. IsNumbered name.now number.now c) }
+    ensures { MatchOption result ((c : Command) → ¬ IsNumbered name.now number.now c)
+        (λ c. IsNumbered name.now number.now c) }
 {
     match name {
         b"limit" => match count_word(number, MAX_LIMIT) {

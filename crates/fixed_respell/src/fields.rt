@@ -1,7 +1,8 @@
 //! The fields of a line: the words before its first four spaces, and all that follows the fourth.
 //!
-//! In nearly every line the four spaces are among the first 32 bytes. Those are compared with a space at once, which makes
-//! a mask with a bit for each byte; each lowest bit of it ends a word. Other lines are split at one space after the other.
+//! In nearly every line the four spaces are among the first 32 bytes. Those are compared with a space at once, which
+//! makes a mask with a bit for each byte; each lowest bit of it ends a word. Other lines are split at one space after
+//! the other.
 
 ghost use Rattle.std.specs.Prelude.{◌≡◌, ◌<◌, ◌≤◌, ◌/◌, ◌==◌, [], ◌∷◌, length, map, take, MatchOption, IfSome};
 ghost use lib.Lanes.{mask_l};
@@ -78,7 +79,8 @@ fn split_at_space(line: &[u8], spaces: u64) -> Option<(&[u8], &[u8], u64)>
 #[inline(always)]
 fn split_at_spaces(line: &[u8], spaces: u64) -> Option<Fields<'_>>
     requires { HasSpaces line.now spaces }
-    ensures { IfSome result (λ f. HasWords line.now (f.radix.now ∷ f.source.now ∷ f.target.now ∷ f.policy.now ∷ []) f.numeral.now) }
+    ensures { IfSome result (λ f. HasWords line.now (f.radix.now ∷ f.source.now ∷ f.target.now ∷ f.policy.now ∷ [])
+        f.numeral.now) }
 {
     let Some((radix, rest, spaces)) = split_at_space(line, spaces) else {
         return None;
@@ -104,7 +106,8 @@ fn split_at_spaces(line: &[u8], spaces: u64) -> Option<Fields<'_>>
 /// The fields of a line, split at one space after the other. None where it has fewer than four.
 #[inline(never)]
 fn split_one_by_one(line: &[u8]) -> Option<Fields<'_>>
-    ensures { MatchOption result (count_of space line.now < 4) (λ f. HasWords line.now (f.radix.now ∷ f.source.now ∷ f.target.now ∷ f.policy.now ∷ []) f.numeral.now) }
+    ensures { MatchOption result (count_of space line.now < 4)
+        (λ f. HasWords line.now (f.radix.now ∷ f.source.now ∷ f.target.now ∷ f.policy.now ∷ []) f.numeral.now) }
 {
     let Some((radix, rest)) = split_once(line, b' ') else {
         return None;
@@ -130,7 +133,8 @@ fn split_one_by_one(line: &[u8]) -> Option<Fields<'_>>
 /// The fields of a line. None where it has fewer than four spaces.
 #[inline(always)]
 pub(crate) fn split_line(line: &[u8]) -> Option<Fields<'_>>
-    ensures { MatchOption result (count_of space line.now < 4) (λ f. HasWords line.now (f.radix.now ∷ f.source.now ∷ f.target.now ∷ f.policy.now ∷ []) f.numeral.now) }
+    ensures { MatchOption result (count_of space line.now < 4)
+        (λ f. HasWords line.now (f.radix.now ∷ f.source.now ∷ f.target.now ∷ f.policy.now ∷ []) f.numeral.now) }
 {
     if line.len() >= LANES {
         if let Some(fields) = split_at_spaces(line, spaces_of_prefix(line)) {

@@ -1,11 +1,12 @@
 //! The formats by the counts in their words, in a table.
 //!
-//! The word of a format has four to six bytes: a letter for its sign rule, and two counts with an `F` between them. The bytes after
-//! the letter are one number of at most 40 bits, the first byte in the lowest place. With the count of the word's bytes in the
-//! sixth byte that is the word's key, below 2^48. An entry of the table is a key, the fraction length in the seventh byte, and
-//! the width in the eighth. It is at the place that the first nine bits of the product of its key and `MULTIPLIER` name: of
-//! the multipliers that were tried this is the first by which no two of the 124 keys share a place. So one multiplication and one
-//! comparison find the two counts, and no branch depends on how many digits they have.
+//! The word of a format has four to six bytes: a letter for its sign rule, and two counts with an `F` between them. The
+//! bytes after the letter are one number of at most 40 bits, the first byte in the lowest place. With the count of the
+//! word's bytes in the sixth byte that is the word's key, below 2^48. An entry of the table is a key, the fraction
+//! length in the seventh byte, and the width in the eighth. It is at the place that the first nine bits of the product
+//! of its key and `MULTIPLIER` name: of the multipliers that were tried this is the first by which no two of the 124
+//! keys share a place. So one multiplication and one comparison find the two counts, and no branch depends on how many
+//! digits they have.
 
 ghost use Rattle.std.specs.Prelude.{◌≡◌, ◌<◌, ◌≤◌, ◌^◌, ◌*◌, ◌+◌, ℕ, length, get_or, MatchOption};
 ghost use Rattle.std.specs.Simd.Lanes.{number_l};
@@ -535,7 +536,8 @@ const FORMATS: [u64; 512] = [
 #[inline(always)]
 pub(crate) fn four_bytes(word: &[u8], at: usize) -> u64
     requires { at + 4 ≤ length word.now }
-    ensures { result ≡ get_or word.now at 0 + 256 * get_or word.now (at + 1) 0 + 65536 * get_or word.now (at + 2) 0 + 16777216 * get_or word.now (at + 3) 0 }
+    ensures { result ≡ get_or word.now at 0 + 256 * get_or word.now (at + 1) 0 + 65536 * get_or word.now (at + 2) 0
+        + 16777216 * get_or word.now (at + 3) 0 }
 {
     u64::from(u32::from_le_bytes([word[at], word[at + 1], word[at + 2], word[at + 3]]))
 }
@@ -567,7 +569,8 @@ pub(crate) fn key_of(word: &[u8]) -> u64
 #[inline(always)]
 fn entry_at(key: u64) -> u64
     ensures sound { 0 < result → IsEntry result }
-    ensures whole { (width frac : ℕ) → IsTypeFormat width frac → key ≡ word_key (counts_word width frac) → result ≡ key + frac * 2 ^ 48 + width * 2 ^ 56 }
+    ensures whole { (width frac : ℕ) → IsTypeFormat width frac → key ≡ word_key (counts_word width frac)
+        → result ≡ key + frac * 2 ^ 48 + width * 2 ^ 56 }
 {
     FORMATS[(key.wrapping_mul(MULTIPLIER) >> 55) as usize]
 }
@@ -577,7 +580,8 @@ fn entry_at(key: u64) -> u64
 pub(crate) fn counts_of_key(key: u64) -> Option<(u32, u32)>
     requires some { 0 < key }
     requires most { key < 2 ^ 48 }
-    ensures { MatchOption result ((width frac : ℕ) → IsTypeFormat width frac → key ≡ word_key (counts_word width frac) → ⊥) (λ r. IsTypeFormat r.0 r.1 × (key ≡ word_key (counts_word r.0 r.1))) }
+    ensures { MatchOption result ((width frac : ℕ) → IsTypeFormat width frac → key ≡ word_key (counts_word width frac)
+        → ⊥) (λ r. IsTypeFormat r.0 r.1 × (key ≡ word_key (counts_word r.0 r.1))) }
 {
     let entry = entry_at(key);
     if entry % (1 << 48) == key {

@@ -53,43 +53,71 @@ pub fn refusal_is_the_one()
 {}
 
 /// What some numerals reach. 2.99 is 48 ulps of 1/16, and these are 3: the value is rounded to the source first. 300 is
-/// brought into the source by the policy, and 17 into the target. 2.5 and -2.5 are ties between two whole numbers. In radix
-/// 8 and 2 an exponent after `p` scales by two: 0.1p1 is 1/4, and 1.1p3 is 12. C0F.FE is 790,526 ulps of 1/256.
+/// brought into the source by the policy, and 17 into the target. 2.5 and -2.5 are ties between two whole numbers. In
+/// radix 8 and 2 an exponent after `p` scales by two: 0.1p1 is 1/4, and 1.1p3 is 12. C0F.FE is 790,526 ulps of 1/256.
 pub fn worked_examples()
-    ensures to_the_source_step_first { IsRespelled NearestEven Dec (codes "2.99") Checked (unsigned_format 4 4) (unsigned_format 8 0) (pos 3) false }
-    ensures down_below_zero { IsRespelled NearestEven Dec (codes "-2.5") Checked (signed_format 4 4) (signed_format 8 0) (negsuc 2) false }
-    ensures source_wraps { IsRespelled NearestEven Dec (codes "300") Wrapping (unsigned_format 8 0) (unsigned_format 16 0) (pos 44) true }
-    ensures source_saturates { IsRespelled NearestEven Dec (codes "300") Saturating (unsigned_format 8 0) (unsigned_format 16 0) (pos 255) true }
-    ensures source_refuses { OverflowsOn NearestEven Dec (codes "300") Checked (unsigned_format 8 0) (unsigned_format 16 0) }
-    ensures target_wraps { IsRespelled NearestEven Dec (codes "17") Wrapping (unsigned_format 8 0) (unsigned_format 4 4) (pos 16) true }
-    ensures target_saturates { IsRespelled NearestEven Dec (codes "17") Saturating (unsigned_format 8 0) (unsigned_format 4 4) (pos 255) true }
-    ensures target_refuses { OverflowsOn NearestEven Dec (codes "17") Checked (unsigned_format 8 0) (unsigned_format 4 4) }
-    ensures in_the_mode { IsRespelled Ceil Dec (codes "2.1") Checked (unsigned_format 8 0) (unsigned_format 8 0) (pos 3) false }
-    ensures tie_above_zero { IsRespelled NearestEven Dec (codes "2.5") Checked (signed_format 8 0) (signed_format 8 0) (pos 2) false }
-    ensures tie_below_zero { IsRespelled NearestEven Dec (codes "-2.5") Checked (signed_format 8 0) (signed_format 8 0) (negsuc 1) false }
-    ensures floor_below_zero { IsRespelled Floor Dec (codes "-2.5") Checked (signed_format 8 0) (signed_format 8 0) (negsuc 2) false }
-    ensures ceil_below_zero { IsRespelled Ceil Dec (codes "-2.5") Checked (signed_format 8 0) (signed_format 8 0) (negsuc 1) false }
-    ensures towards_zero_below_zero { IsRespelled TowardsZero Dec (codes "-2.5") Checked (signed_format 8 0) (signed_format 8 0) (negsuc 1) false }
-    ensures saturates_below { IsRespelled NearestEven Dec (codes "-300") Saturating (signed_format 8 0) (signed_format 8 0) (negsuc 127) true }
-    ensures negative_wraps { IsRespelled NearestEven Dec (codes "-1") Wrapping (unsigned_format 8 0) (unsigned_format 8 0) (pos 255) true }
-    ensures octal_exponent { IsRespelled NearestEven Oct (codes "0.1p1") Checked (unsigned_format 0 8) (unsigned_format 0 8) (pos 64) false }
-    ensures binary_exponent { IsRespelled NearestEven Bin (codes "1.1p3") Checked (unsigned_format 8 0) (unsigned_format 8 0) (pos 12) false }
-    ensures hexadecimal_wraps { IsRespelled NearestEven Hex (codes "C0F.FE") Wrapping (unsigned_format 8 8) (unsigned_format 8 8) (pos 4094) true }
+    ensures to_the_source_step_first { IsRespelled NearestEven Dec (codes "2.99") Checked (unsigned_format 4 4)
+        (unsigned_format 8 0) (pos 3) false }
+    ensures down_below_zero { IsRespelled NearestEven Dec (codes "-2.5") Checked (signed_format 4 4) (signed_format 8 0)
+        (negsuc 2) false }
+    ensures source_wraps { IsRespelled NearestEven Dec (codes "300") Wrapping (unsigned_format 8 0)
+        (unsigned_format 16 0) (pos 44) true }
+    ensures source_saturates { IsRespelled NearestEven Dec (codes "300") Saturating (unsigned_format 8 0)
+        (unsigned_format 16 0) (pos 255) true }
+    ensures source_refuses { OverflowsOn NearestEven Dec (codes "300") Checked (unsigned_format 8 0)
+        (unsigned_format 16 0) }
+    ensures target_wraps { IsRespelled NearestEven Dec (codes "17") Wrapping (unsigned_format 8 0) (unsigned_format 4 4)
+        (pos 16) true }
+    ensures target_saturates { IsRespelled NearestEven Dec (codes "17") Saturating (unsigned_format 8 0)
+        (unsigned_format 4 4) (pos 255) true }
+    ensures target_refuses { OverflowsOn NearestEven Dec (codes "17") Checked (unsigned_format 8 0)
+        (unsigned_format 4 4) }
+    ensures in_the_mode { IsRespelled Ceil Dec (codes "2.1") Checked (unsigned_format 8 0) (unsigned_format 8 0)
+        (pos 3) false }
+    ensures tie_above_zero { IsRespelled NearestEven Dec (codes "2.5") Checked (signed_format 8 0) (signed_format 8 0)
+        (pos 2) false }
+    ensures tie_below_zero { IsRespelled NearestEven Dec (codes "-2.5") Checked (signed_format 8 0) (signed_format 8 0)
+        (negsuc 1) false }
+    ensures floor_below_zero { IsRespelled Floor Dec (codes "-2.5") Checked (signed_format 8 0) (signed_format 8 0)
+        (negsuc 2) false }
+    ensures ceil_below_zero { IsRespelled Ceil Dec (codes "-2.5") Checked (signed_format 8 0) (signed_format 8 0)
+        (negsuc 1) false }
+    ensures towards_zero_below_zero { IsRespelled TowardsZero Dec (codes "-2.5") Checked (signed_format 8 0)
+        (signed_format 8 0) (negsuc 1) false }
+    ensures saturates_below { IsRespelled NearestEven Dec (codes "-300") Saturating (signed_format 8 0)
+        (signed_format 8 0) (negsuc 127) true }
+    ensures negative_wraps { IsRespelled NearestEven Dec (codes "-1") Wrapping (unsigned_format 8 0)
+        (unsigned_format 8 0) (pos 255) true }
+    ensures octal_exponent { IsRespelled NearestEven Oct (codes "0.1p1") Checked (unsigned_format 0 8)
+        (unsigned_format 0 8) (pos 64) false }
+    ensures binary_exponent { IsRespelled NearestEven Bin (codes "1.1p3") Checked (unsigned_format 8 0)
+        (unsigned_format 8 0) (pos 12) false }
+    ensures hexadecimal_wraps { IsRespelled NearestEven Hex (codes "C0F.FE") Wrapping (unsigned_format 8 8)
+        (unsigned_format 8 8) (pos 4094) true }
 {}
 
-/// What some whole lines are answered. 2.99 is rounded to the source first, so its text is 3. 51 ulps of 1/16 are 3.1875,
-/// and 3.2 reads back as them; 1/4 is as near to 0.2 as to 0.3, and both read back. 300 is past its source, and Checked
-/// refuses it. `1_0` is no numeral. The last line has two faults, and is answered with the first of them.
+/// What some whole lines are answered. 2.99 is rounded to the source first, so its text is 3. 51 ulps of 1/16 are
+/// 3.1875, and 3.2 reads back as them; 1/4 is as near to 0.2 as to 0.3, and both read back. 300 is past its source, and
+/// Checked refuses it. `1_0` is no numeral. The last line has two faults, and is answered with the first of them.
 pub fn worked_answers()
-    ensures respelled { IsAnswer (codes "10 U4F4 U8F0 checked 2.99") (record { text = codes "3 3 fits"; fault = false }) }
-    ensures shortest_text { IsAnswer (codes "10 I4F4 I4F4 checked 3.1875") (record { text = codes "3.2 51 fits"; fault = false }) }
-    ensures tie_of_texts { IsAnswer (codes "10 U6F2 U6F2 checked 0.25") (record { text = codes "0.2 1 fits"; fault = false }) }
-    ensures octal { IsAnswer (codes "8 U0F8 U0F8 checked 0.1p1") (record { text = codes "0.25 64 fits"; fault = false }) }
-    ensures hexadecimal { IsAnswer (codes "16 U8F8 U8F8 wrapping C0F.FE") (record { text = codes "15.992 4094 overflowed"; fault = false }) }
-    ensures mode_word { IsAnswer (codes "10 I8F0 I8F0 checked/floor -2.5") (record { text = codes "-3 -3 fits"; fault = false }) }
-    ensures overflow { IsAnswer (codes "10 U8F0 U16F0 checked 300") (record { text = codes "error: overflow"; fault = true }) }
-    ensures refused { IsAnswer (codes "10 U8F0 U8F0 checked 1_0") (record { text = codes "error: invalid digit found in string"; fault = true }) }
-    ensures line_fault { IsAnswer (codes "9 U8F0 U9F0 checked 1") (record { text = codes "error: bad radix"; fault = true }) }
+    ensures respelled { IsAnswer (codes "10 U4F4 U8F0 checked 2.99")
+        (record { text = codes "3 3 fits"; fault = false }) }
+    ensures shortest_text { IsAnswer (codes "10 I4F4 I4F4 checked 3.1875")
+        (record { text = codes "3.2 51 fits"; fault = false }) }
+    ensures tie_of_texts { IsAnswer (codes "10 U6F2 U6F2 checked 0.25")
+        (record { text = codes "0.2 1 fits"; fault = false }) }
+    ensures octal { IsAnswer (codes "8 U0F8 U0F8 checked 0.1p1")
+        (record { text = codes "0.25 64 fits"; fault = false }) }
+    ensures hexadecimal { IsAnswer (codes "16 U8F8 U8F8 wrapping C0F.FE")
+        (record { text = codes "15.992 4094 overflowed"; fault = false }) }
+    ensures mode_word { IsAnswer (codes "10 I8F0 I8F0 checked/floor -2.5")
+        (record { text = codes "-3 -3 fits"; fault = false }) }
+    ensures overflow { IsAnswer (codes "10 U8F0 U16F0 checked 300")
+        (record { text = codes "error: overflow"; fault = true }) }
+    ensures refused { IsAnswer (codes "10 U8F0 U8F0 checked 1_0")
+        (record { text = codes "error: invalid digit found in string"; fault = true }) }
+    ensures line_fault { IsAnswer (codes "9 U8F0 U9F0 checked 1")
+        (record { text = codes "error: bad radix"; fault = true }) }
 {}
 
 /// A word is the word of one format at most. So `format_word` of what `format_name` answers is that very format.
@@ -127,7 +155,8 @@ pub fn long_is_answered_by_prefix()
     ensures { LongIsAnsweredByPrefix }
 {}
 
-/// A word without a slash names a policy and a mode exactly where it is the policy's own word and the mode is NearestEven.
+/// A word without a slash names a policy and a mode exactly where it is the policy's own word and the mode is
+/// NearestEven.
 pub fn plain_word_names_nearest()
     ensures { PlainWordNamesNearest }
 {}
@@ -138,9 +167,9 @@ pub fn plain_line_asks_nearest()
     ensures { PlainLineAsksNearest }
 {}
 
-/// A line whose fourth word holds no slash is answered as if mode words did not exist: it has the answers that it has where
-/// a fourth word names a policy by the policy's own word alone, with the mode NearestEven, and no others. So does a line
-/// without a fourth word.
+/// A line whose fourth word holds no slash is answered as if mode words did not exist: it has the answers that it has
+/// where a fourth word names a policy by the policy's own word alone, with the mode NearestEven, and no others. So does
+/// a line without a fourth word.
 pub fn plain_line_has_the_plain_answer()
     ensures { PlainLineHasThePlainAnswer }
 {}

@@ -25,10 +25,10 @@ const USAGE: &[u8] = b"usage: fixed_tool [limit N | self N]\n";
 
 /// Does what the arguments ask for.
 ///
-/// No argument asks for the answers to the lines of an input of at most 4,294,967,296 bytes, and `limit N` for those of an
-/// input of at most N bytes, from 1 to 4,294,967,296. `self N`, from 1 to 1,000,000, asks for the summary of the answers
-/// to N generated lines: it reads nothing. For other arguments the usage line is written. N is in decimal, without a sign
-/// or a leading zero. Only a run that reads takes memory, for one line buffer before the first read.
+/// No argument asks for the answers to the lines of an input of at most 4,294,967,296 bytes, and `limit N` for those of
+/// an input of at most N bytes, from 1 to 4,294,967,296. `self N`, from 1 to 1,000,000, asks for the summary of the
+/// answers to N generated lines: it reads nothing. For other arguments the usage line is written. N is in decimal,
+/// without a sign or a leading zero. Only a run that reads takes memory, for one line buffer before the first read.
 pub fn run<S: Source, K: Sink, L: Ledger>(
     alloc: Global,
     args: &[String],
@@ -36,40 +36,54 @@ pub fn run<S: Source, K: Sink, L: Ledger>(
     sink: &mut K,
     steps: &mut Steps<L>,
 ) -> Status
-    // For every input within the limit, with no failed read or write, the run writes for each line, in order and nothing
-    // else, its answer and a newline, and the status says whether an answer is a fault; or there was no memory.
-    ensures output { (limit : ℕ) → IsCommand args.now (Read limit) → (input : List ℕ) → S.left source.old ≡ Some input → length input ≤ limit
-        → ¬ HasFailed (S.failures source.old) (S.failures source.new) → ¬ HasFailed (K.failures sink.old) (K.failures sink.new)
+    // For every input within the limit, with no failed read or write, the run writes for each line, in order and
+    // nothing else, its answer and a newline, and the status says whether an answer is a fault; or there was no memory.
+    ensures output { (limit : ℕ) → IsCommand args.now (Read limit) → (input : List ℕ) → S.left source.old ≡ Some input
+        → length input ≤ limit
+        → ¬ HasFailed (S.failures source.old) (S.failures source.new)
+        → ¬ HasFailed (K.failures sink.old) (K.failures sink.new)
         → (result ≡ Status.NoMemory) ⊎ WritesOutput IsAnswer input (K.written sink.old) (K.written sink.new) result }
 
     // A longer input is reported.
-    ensures too_long { (limit : ℕ) → IsCommand args.now (Read limit) → (input : List ℕ) → S.left source.old ≡ Some input → limit < length input
-        → ¬ HasFailed (S.failures source.old) (S.failures source.new) → ¬ HasFailed (K.failures sink.old) (K.failures sink.new)
+    ensures too_long { (limit : ℕ) → IsCommand args.now (Read limit) → (input : List ℕ) → S.left source.old ≡ Some input
+        → limit < length input
+        → ¬ HasFailed (S.failures source.old) (S.failures source.new)
+        → ¬ HasFailed (K.failures sink.old) (K.failures sink.new)
         → (result ≡ Status.NoMemory) ⊎ (result ≡ Status.TooLong) }
 
     // What was taken and what was written, by status, also after a failed read or write.
     ensures run { (limit : ℕ) → IsCommand args.now (Read limit)
-        → HasRun IsAnswer limit (S.left source.old) (S.left source.new) (K.written sink.old) (K.written sink.new) result }
-    ensures prefix_on_write_fault { (limit : ℕ) → IsCommand args.now (Read limit) → result ≡ Status.WriteFault → (input : List ℕ) (replies : List AnswerText) → S.left source.old ≡ Some input
-        → AreAnswers IsAnswer (lines input) replies → AppendsPrefix (K.written sink.old) (K.written sink.new) (written_of replies) }
-    ensures cost { (limit : ℕ) → IsCommand args.now (Read limit) → Spends limit 8 624 (S.left source.old) (S.left source.new) steps.old steps.new }
+        → HasRun IsAnswer limit (S.left source.old) (S.left source.new) (K.written sink.old)
+        (K.written sink.new) result }
+    ensures prefix_on_write_fault { (limit : ℕ) → IsCommand args.now (Read limit) → result ≡ Status.WriteFault
+        → (input : List ℕ) (replies : List AnswerText) → S.left source.old ≡ Some input
+        → AreAnswers IsAnswer (lines input) replies → AppendsPrefix (K.written sink.old) (K.written sink.new)
+        (written_of replies) }
+    ensures cost { (limit : ℕ) → IsCommand args.now (Read limit)
+        → Spends limit 8 624 (S.left source.old) (S.left source.new) steps.old steps.new }
 
-    // What the source was asked for: no read asked for more than limit + 1 bytes less those taken, or for more than 4,096.
-    ensures asked { (limit : ℕ) → IsCommand args.now (Read limit) → AskedWithin limit (S.asked source.old) (S.asked source.new) }
+    // What the source was asked for: no read asked for more than limit + 1 bytes less those taken, or for more than
+    // 4,096.
+    ensures asked { (limit : ℕ) → IsCommand args.now (Read limit)
+        → AskedWithin limit (S.asked source.old) (S.asked source.new) }
 
     // The generated lines.
     ensures self_test { (count : ℕ) → IsCommand args.now (SelfTest count)
-        → HasSelfRun count (K.written sink.old) (K.written sink.new) (K.failures sink.old) (K.failures sink.new) result }
+        → HasSelfRun count (K.written sink.old) (K.written sink.new) (K.failures sink.old)
+        (K.failures sink.new) result }
 
     // Other arguments.
     ensures usage { IsUsageFault args.now
-        → WritesText usage_line Status.Usage (K.written sink.old) (K.written sink.new) (K.failures sink.old) (K.failures sink.new) result }
+        → WritesText usage_line Status.Usage (K.written sink.old) (K.written sink.new) (K.failures sink.old)
+        (K.failures sink.new) result }
     ensures usage_only { result ≡ Status.Usage → IsUsageFault args.now }
 
     // Which count of failures rose, by status; and what was left alone.
-    ensures failures { HasFailures (S.failures source.old) (S.failures source.new) (K.failures sink.old) (K.failures sink.new) result }
+    ensures failures { HasFailures (S.failures source.old) (S.failures source.new) (K.failures sink.old)
+        (K.failures sink.new) result }
     ensures untouched { ((limit : ℕ) → ¬ IsCommand args.now (Read limit)) → source.new ≡ source.old }
-    ensures memory { result ≡ Status.NoMemory → (source.new ≡ source.old) × (sink.new ≡ sink.old) × (steps.new ≡ steps.old) }
+    ensures memory { result ≡ Status.NoMemory → (source.new ≡ source.old) × (sink.new ≡ sink.old)
+        × (steps.new ≡ steps.old) }
 {
     match read_command(args) {
         Some(Command::Read(limit)) => run_lines(alloc, limit, &RespellRule, source, sink, steps),

@@ -49,8 +49,10 @@ pub fn respell<L: Ledger>(
     policy: Policy,
     steps: &mut Steps<L>,
 ) -> Result<Respelled, ParseFixedError>
-    ensures ok { IsOk result ↔ ((bits : ℤ) × (overflowed : Bool) × IsRespelled NearestEven radix bytes.now policy source target bits overflowed) }
-    ensures reached { IfOk result (λ s. IsRespelled NearestEven radix bytes.now policy source target (number_of s.bits) s.overflowed) }
+    ensures ok { IsOk result ↔ ((bits : ℤ) × (overflowed : Bool)
+        × IsRespelled NearestEven radix bytes.now policy source target bits overflowed) }
+    ensures reached { IfOk result (λ s. IsRespelled NearestEven radix bytes.now policy source target
+        (number_of s.bits) s.overflowed) }
     ensures sign { IfOk result (λ s. is_signed s.bits ≡ target.signed) }
     ensures text { IfOk result (λ s. IsShortestText (number_of s.bits) target.frac s.text) }
     ensures refused { IfErr result (λ kind. IsRefusal NearestEven radix bytes.now policy source target kind) }
@@ -81,8 +83,10 @@ pub fn respell_mode<L: Ledger>(
     mode: ReadMode,
     steps: &mut Steps<L>,
 ) -> Result<Respelled, ParseFixedError>
-    ensures ok { IsOk result ↔ ((bits : ℤ) × (overflowed : Bool) × IsRespelled mode radix bytes.now policy source target bits overflowed) }
-    ensures reached { IfOk result (λ s. IsRespelled mode radix bytes.now policy source target (number_of s.bits) s.overflowed) }
+    ensures ok { IsOk result ↔ ((bits : ℤ) × (overflowed : Bool)
+        × IsRespelled mode radix bytes.now policy source target bits overflowed) }
+    ensures reached { IfOk result (λ s. IsRespelled mode radix bytes.now policy source target
+        (number_of s.bits) s.overflowed) }
     ensures sign { IfOk result (λ s. is_signed s.bits ≡ target.signed) }
     ensures text { IfOk result (λ s. IsShortestText (number_of s.bits) target.frac s.text) }
     ensures refused { IfErr result (λ kind. IsRefusal mode radix bytes.now policy source target kind) }

@@ -5,7 +5,9 @@ ghost use Rattle.std.specs.Int.{from_bool};
 ghost use Rattle.fixed_respell.specs.LineWords.{space};
 ghost use Rattle.line_engine.specs.Output.{reply_line};
 ghost use Rattle.line_engine.specs.AnswerText.{AnswerText};
-ghost use Rattle.fixed_respell.specs.SelfMode.{HasSelfRun, IsTally, IsWithin, digit_letter, ends_in, format_at, number_text, policy_at, radix_at, self_exponent, self_line, self_numeral, self_sign, self_words, summary_text, tally_of};
+ghost use Rattle.fixed_respell.specs.SelfMode.{HasSelfRun, IsTally, IsWithin, digit_letter, ends_in, format_at};
+ghost use Rattle.fixed_respell.specs.SelfMode.{number_text, policy_at, radix_at, self_exponent, self_line};
+ghost use Rattle.fixed_respell.specs.SelfMode.{self_numeral, self_sign, self_words, summary_text, tally_of};
 
 use crate::answering::answer;
 use crate::{Answer, Sink, Status};
@@ -220,7 +222,8 @@ impl Counts {
     fn add(&mut self, reply: &Answer)
         requires { IsWithin 1000000 self.old }
         ensures within { (n : ℕ) → IsWithin n self.old → IsWithin (n + 1) self.new }
-        ensures tally { (replies : List AnswerText) → self.old ≡ tally_of replies → self.new ≡ tally_of (replies ++ reply.now ∷ []) }
+        ensures tally { (replies : List AnswerText) → self.old ≡ tally_of replies
+            → self.new ≡ tally_of (replies ++ reply.now ∷ []) }
     {
         self.fit += times_at_the_end(b"fits", reply);
         self.overflowed += times_at_the_end(b"overflowed", reply);
@@ -284,7 +287,8 @@ fn summary(count: u64, counts: &Counts) -> Text
 /// where one is, and in `WriteFault` where a write failed.
 pub(crate) fn run_self<K: Sink, L: Ledger>(count: u64, sink: &mut K, steps: &mut Steps<L>) -> Status
     requires most { count ≤ 1000000 }
-    ensures run { HasSelfRun count (K.written sink.old) (K.written sink.new) (K.failures sink.old) (K.failures sink.new) result }
+    ensures run { HasSelfRun count (K.written sink.old) (K.written sink.new) (K.failures sink.old)
+        (K.failures sink.new) result }
     ensures cost { steps.new ≤ steps.old + 1424 * count }
 {
     let counts = count_answers(count, steps);

@@ -148,7 +148,8 @@ fn named_mode(name: &[u8]) -> Option<ReadMode>
 // A call, since few lines have such a word.
 #[inline(never)]
 fn policy_and_mode(word: &[u8]) -> Option<(Policy, ReadMode)>
-    ensures { MatchOption result ((p : Policy) (m : ReadMode) → ¬ IsBothNames word.now p m) (λ r. IsBothNames word.now r.0 r.1) }
+    ensures { MatchOption result ((p : Policy) (m : ReadMode) → ¬ IsBothNames word.now p m)
+        (λ r. IsBothNames word.now r.0 r.1) }
 {
     match split_once(word, b'/') {
         None => None,
@@ -163,7 +164,8 @@ fn policy_and_mode(word: &[u8]) -> Option<(Policy, ReadMode)>
 // In line, since each line has one.
 #[inline(always)]
 pub fn policy_word(word: &[u8]) -> Option<(Policy, ReadMode)>
-    ensures { MatchOption result ((p : Policy) (m : ReadMode) → ¬ IsPolicyWord word.now p m) (λ r. IsPolicyWord word.now r.0 r.1) }
+    ensures { MatchOption result ((p : Policy) (m : ReadMode) → ¬ IsPolicyWord word.now p m)
+        (λ r. IsPolicyWord word.now r.0 r.1) }
 {
     match named_policy(word) {
         Some(policy) => Some((policy, ReadMode::NearestEven)),

@@ -1,5 +1,6 @@
 -- The whole number w that the value b / 2^f is rounded to, for bits b and a fraction length f.
-use Rattle.std.specs.Prelude.{◌≡◌, ℕ, ◌+◌, ◌*◌, ◌%◌, ◌^◌, ◌<◌, ◌≤◌, ◌==◌, nat_lt, nat_le, Bool, true, false, cond, if◌then◌else◌, ℤ, pos, ◌+ℤ◌, ◌-ℤ◌, ◌*ℤ◌, ◌≤ℤ◌, ◌<ℤ◌, unsigned_abs}
+use Rattle.std.specs.Prelude.{◌≡◌, ℕ, ◌+◌, ◌*◌, ◌%◌, ◌^◌, ◌<◌, ◌≤◌, ◌==◌, nat_lt, nat_le, Bool, true, false, cond}
+use Rattle.std.specs.Prelude.{if◌then◌else◌, ℤ, pos, ◌+ℤ◌, ◌-ℤ◌, ◌*ℤ◌, ◌≤ℤ◌, ◌<ℤ◌, unsigned_abs}
 use Rattle.std.specs.Int.{is_negative}
 use Rattle.fixed_bits.specs.Down.{down}
 use Rattle.fixed_round.specs.declared.rounding.Rounding.{Rounding}
@@ -36,16 +37,19 @@ IsWhole Floor b f w = IsFloor b f w
 IsWhole Round b f w = IsRound b f w
 IsWhole RoundTiesEven b f w = IsTiesEven b f w
 
--- whether the whole number above the floor w is the one, where the value is `rest` ulps above w and `unit` ulps make one
+-- whether the whole number above the floor w is the one, where the value is `rest` ulps above w and `unit` ulps make
+-- one
 abbrev pub is_up : Rounding → Bool → ℤ → ℕ → ℕ → Bool
 is_up Ceil negative w rest unit = nat_lt 0 rest
 is_up Floor negative w rest unit = false
 is_up Round negative w rest unit = if negative then nat_lt unit (2 * rest) else nat_le unit (2 * rest)
-is_up RoundTiesEven negative w rest unit = if unsigned_abs w % 2 == 0 then nat_lt unit (2 * rest) else nat_le unit (2 * rest)
+is_up RoundTiesEven negative w rest unit = if unsigned_abs w % 2 == 0 then nat_lt unit (2 * rest)
+    else nat_le unit (2 * rest)
 
 -- the one number w for which IsWhole holds, by the law WholeIsTheOne
 unfoldable pub whole : Rounding → ℤ → ℕ → ℤ
-whole r b f = down b f 0 +ℤ cond (is_up r (is_negative b) (down b f 0) (whole_distance b f (down b f 0)) (2 ^ f)) (pos 1) (pos 0)
+whole r b f = down b f 0 +ℤ cond (is_up r (is_negative b) (down b f 0) (whole_distance b f (down b f 0)) (2 ^ f))
+    (pos 1) (pos 0)
 
 -- its bits, with the fraction length f
 unfoldable pub whole_bits : Rounding → ℤ → ℕ → ℤ

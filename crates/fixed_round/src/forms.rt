@@ -44,7 +44,8 @@ pub fn saturating_whole<I: Inner>(bits: I, frac_nbits: u32, rounding: Rounding) 
     I::saturate(whole_of(bits.value(), frac_nbits, rounding))
 }
 
-/// The Wrapping image of the bits of the rounded number: reduced modulo two to the power of the width where it does not fit.
+/// The Wrapping image of the bits of the rounded number: reduced modulo two to the power of the width where it does not
+/// fit.
 #[inline]
 pub fn wrapping_whole<I: Inner>(bits: I, frac_nbits: u32, rounding: Rounding) -> I
     requires { frac_nbits ≤ I.BITS }
@@ -57,7 +58,8 @@ pub fn wrapping_whole<I: Inner>(bits: I, frac_nbits: u32, rounding: Rounding) ->
 #[inline]
 pub fn overflowing_whole<I: Inner>(bits: I, frac_nbits: u32, rounding: Rounding) -> (I, bool)
     requires { frac_nbits ≤ I.BITS }
-    ensures image { IsImage Wrapping I.SIGNED I.BITS (whole_bits rounding (I.number bits) frac_nbits) (I.number result.0) }
+    ensures image { IsImage Wrapping I.SIGNED I.BITS (whole_bits rounding (I.number bits) frac_nbits)
+        (I.number result.0) }
     ensures verdict { IsTrue result.1 ↔ IsOutOfRange I.SIGNED I.BITS (whole_bits rounding (I.number bits) frac_nbits) }
 {
     let whole = whole_of(bits.value(), frac_nbits, rounding);

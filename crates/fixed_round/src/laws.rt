@@ -7,7 +7,8 @@ pub fn whole_is_the_one()
     ensures { WholeIsTheOne }
 {}
 
-/// A whole number is its own ceil, floor, nearest and ties-to-even result. Its bits are those of the number, so nothing overflows.
+/// A whole number is its own ceil, floor, nearest and ties-to-even result. Its bits are those of the number, so nothing
+/// overflows.
 pub fn whole_is_its_own()
     ensures { WholeIsItsOwn }
 {}

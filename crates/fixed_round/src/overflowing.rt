@@ -11,7 +11,8 @@ use crate::forms::overflowing_whole;
 use crate::rounding::Rounding;
 use fixed_bits::Inner;
 
-/// The bits of the least whole number that is not below the number: their Wrapping image, and whether they are out of the range.
+/// The bits of the least whole number that is not below the number: their Wrapping image, and whether they are out of
+/// the range.
 #[inline]
 pub fn overflowing_ceil<I: Inner>(bits: I, frac_nbits: u32) -> (I, bool)
     requires { frac_nbits ≤ I.BITS }
@@ -21,7 +22,8 @@ pub fn overflowing_ceil<I: Inner>(bits: I, frac_nbits: u32) -> (I, bool)
     overflowing_whole(bits, frac_nbits, Rounding::Ceil)
 }
 
-/// The bits of the greatest whole number that is not above the number: their Wrapping image, and whether they are out of the range.
+/// The bits of the greatest whole number that is not above the number: their Wrapping image, and whether they are out
+/// of the range.
 #[inline]
 pub fn overflowing_floor<I: Inner>(bits: I, frac_nbits: u32) -> (I, bool)
     requires { frac_nbits ≤ I.BITS }
@@ -31,7 +33,8 @@ pub fn overflowing_floor<I: Inner>(bits: I, frac_nbits: u32) -> (I, bool)
     overflowing_whole(bits, frac_nbits, Rounding::Floor)
 }
 
-/// The bits of the nearest whole number, ties away from zero: their Wrapping image, and whether they are out of the range.
+/// The bits of the nearest whole number, ties away from zero: their Wrapping image, and whether they are out of the
+/// range.
 #[inline]
 pub fn overflowing_round<I: Inner>(bits: I, frac_nbits: u32) -> (I, bool)
     requires { frac_nbits ≤ I.BITS }
@@ -45,8 +48,10 @@ pub fn overflowing_round<I: Inner>(bits: I, frac_nbits: u32) -> (I, bool)
 #[inline]
 pub fn overflowing_round_ties_even<I: Inner>(bits: I, frac_nbits: u32) -> (I, bool)
     requires { frac_nbits ≤ I.BITS }
-    ensures image { IsImage Wrapping I.SIGNED I.BITS (whole_bits RoundTiesEven (I.number bits) frac_nbits) (I.number result.0) }
-    ensures verdict { IsTrue result.1 ↔ IsOutOfRange I.SIGNED I.BITS (whole_bits RoundTiesEven (I.number bits) frac_nbits) }
+    ensures image { IsImage Wrapping I.SIGNED I.BITS (whole_bits RoundTiesEven (I.number bits) frac_nbits)
+        (I.number result.0) }
+    ensures verdict { IsTrue result.1 ↔ IsOutOfRange I.SIGNED I.BITS
+        (whole_bits RoundTiesEven (I.number bits) frac_nbits) }
 {
     overflowing_whole(bits, frac_nbits, Rounding::RoundTiesEven)
 }

@@ -52,7 +52,8 @@ fn whole_part<I: Inner>(bits: I, frac_nbits: u32) -> i128
     }
 }
 
-/// The bits of `b` over two to the power of `f`, rounded towards zero: the ceil of a negative number, the floor of any other.
+/// The bits of `b` over two to the power of `f`, rounded towards zero: the ceil of a negative number, the floor of any
+/// other.
 #[inline]
 pub fn towards_zero(b: i128, f: u32) -> i128
     requires wide { IsWide b }

@@ -11,7 +11,8 @@ ghost use Rattle.fixed_round.specs.Whole.{is_up, whole_bits};
 
 use crate::rounding::Rounding;
 
-/// The bits of the whole number that `b` over two to the power of `f` is rounded to. They may be out of the range of `b`.
+/// The bits of the whole number that `b` over two to the power of `f` is rounded to. They may be out of the range of
+/// `b`.
 #[inline]
 pub fn whole_of(b: i128, f: u32, rounding: Rounding) -> i128
     requires wide { IsWide b }

@@ -30,7 +30,8 @@ PlacesSurvive = (f k : ℕ) → ArePlaces f k → Survives f k
 
 -- how many digits survive before the point and after it
 abbrev pub digits_text : ℕ → ℕ → List ℕ
-digits_text whole places = signed_decimal (pos whole) ++ (codes " before the point, " ++ (signed_decimal (pos places) ++ codes " after it"))
+digits_text whole places = signed_decimal (pos whole) ++ (codes " before the point, "
+    ++ (signed_decimal (pos places) ++ codes " after it"))
 
 -- block says the word, the ends and the ulp of a format, how many digits survive, and the shortest texts of the ends
 pub record IsFormatBlock (f : FormatParts) (block : List ℕ) : Type 0 where

@@ -21,7 +21,8 @@ use Rattle.fixed_show.specs.BitsBlock.{AreValueLines}
 use Rattle.fixed_show.specs.ErrorText.{IsErrorText}
 
 -- bytes are a numeral, bits are the image of its read number, and overflowed says whether that is out of range
-pub record IsReadAs (mode : ReadMode) (r : Radix) (bytes : List ℕ) (f : FormatParts) (policy : Policy) (bits : ℤ) (overflowed : Bool) : Type 0 where
+pub record IsReadAs (mode : ReadMode) (r : Radix) (bytes : List ℕ) (f : FormatParts) (policy : Policy) (bits : ℤ)
+    (overflowed : Bool) : Type 0 where
   pub parts : Parts
   pub numeral : HasNumeral r bytes parts
   pub number : ℤ
@@ -36,7 +37,8 @@ IsUnread mode r bytes f policy kind = HasCause r bytes kind
 
 -- two texts, each with its bits
 abbrev pub neighbours_text : List ℕ → ℤ → List ℕ → ℤ → List ℕ
-neighbours_text low lo high hi = low ++ (codes " (" ++ (signed_decimal lo ++ (codes ") and " ++ (high ++ (codes " (" ++ (signed_decimal hi ++ codes ")"))))))
+neighbours_text low lo high hi = low ++ (codes " (" ++ (signed_decimal lo
+    ++ (codes ") and " ++ (high ++ (codes " (" ++ (signed_decimal hi ++ codes ")"))))))
 
 -- text says the two values of the format that enclose the numeral, by their shortest texts and their bits
 pub record HasNeighbours (r : Radix) (bytes : List ℕ) (f : FormatParts) (text : List ℕ) : Type 0 where
@@ -62,7 +64,8 @@ range_text true = codes "overflowed"
 range_text false = codes "fits"
 
 -- block says all of this of the numeral
-pub record IsShown (mode : ReadMode) (r : Radix) (bytes : List ℕ) (f : FormatParts) (policy : Policy) (block : List ℕ) : Type 0 where
+pub record IsShown (mode : ReadMode) (r : Radix) (bytes : List ℕ) (f : FormatParts) (policy : Policy)
+    (block : List ℕ) : Type 0 where
   pub bits : ℤ
   pub overflowed : Bool
   pub read : IsReadAs mode r bytes f policy bits overflowed
@@ -78,7 +81,8 @@ pub record IsShown (mode : ReadMode) (r : Radix) (bytes : List ℕ) (f : FormatP
       ++ line (codes "range     ") (range_text overflowed)))
 
 -- block says why there is nothing to show
-pub record IsRefusedNumeral (mode : ReadMode) (r : Radix) (bytes : List ℕ) (f : FormatParts) (policy : Policy) (block : List ℕ) : Type 0 where
+pub record IsRefusedNumeral (mode : ReadMode) (r : Radix) (bytes : List ℕ) (f : FormatParts) (policy : Policy)
+    (block : List ℕ) : Type 0 where
   pub kind : ParseErrorKind
   pub unread : IsUnread mode r bytes f policy kind
   pub block_is : block ≡ refusal_block (message_of kind)

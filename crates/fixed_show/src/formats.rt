@@ -78,7 +78,8 @@ fn push_shortest_ends<const N: usize, L: Ledger>(
     requires high { IsWide high }
     requires frac { frac ≤ 64 }
     requires room { length out.old + 120 ≤ N }
-    ensures appended { out.new ≡ out.old ++ line (codes "shortest  ") (shortest_text low frac ++ (codes " to " ++ shortest_text high frac)) }
+    ensures appended { out.new ≡ out.old ++ line (codes "shortest  ")
+        (shortest_text low frac ++ (codes " to " ++ shortest_text high frac)) }
     ensures low { IsShortestText low frac (shortest_text low frac) }
     ensures high { IsShortestText high frac (shortest_text high frac) }
     ensures short { length out.new ≤ length out.old + 120 }
@@ -91,9 +92,9 @@ fn push_shortest_ends<const N: usize, L: Ledger>(
     out.push(b'\n');
 }
 
-/// Appends the block of a format: its word, its least and its greatest value and its ulp exactly, how many decimal digits
-/// always survive reading and printing, and the shortest texts of the two ends. There must be room for `MAX_BLOCK` bytes.
-/// It takes at most 96 steps.
+/// Appends the block of a format: its word, its least and its greatest value and its ulp exactly, how many decimal
+/// digits always survive reading and printing, and the shortest texts of the two ends. There must be room for
+/// `MAX_BLOCK` bytes. It takes at most 96 steps.
 pub fn format_block<const N: usize, L: Ledger>(
     format: Format,
     out: &mut TextBuffer<N>,

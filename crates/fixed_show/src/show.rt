@@ -73,7 +73,8 @@ fn push_neighbours<const N: usize, L: Ledger>(
     requires high { IsWide high }
     requires frac { frac ≤ 64 }
     requires room { length out.old + 180 ≤ N }
-    ensures appended { out.new ≡ out.old ++ line (codes "between   ") (neighbours_text (shortest_text low frac) low (shortest_text high frac) high) }
+    ensures appended { out.new ≡ out.old ++ line (codes "between   ")
+        (neighbours_text (shortest_text low frac) low (shortest_text high frac) high) }
     ensures low { IsShortestText low frac (shortest_text low frac) }
     ensures high { IsShortestText high frac (shortest_text high frac) }
     ensures short { length out.new ≤ length out.old + 180 }
@@ -96,7 +97,8 @@ fn push_neighbour<const N: usize, L: Ledger>(
     requires wide { IsWide bits }
     requires frac { frac ≤ 64 }
     requires room { length out.old + 72 ≤ N }
-    ensures appended { out.new ≡ out.old ++ (shortest_text bits frac ++ (codes " (" ++ (signed_decimal bits ++ codes ")"))) }
+    ensures appended { out.new ≡ out.old ++ (shortest_text bits frac
+        ++ (codes " (" ++ (signed_decimal bits ++ codes ")"))) }
     ensures shortest { IsShortestText bits frac (shortest_text bits frac) }
     ensures short { length out.new ≤ length out.old + 72 }
     ensures cost { steps.new ≤ steps.old + 48 }
@@ -139,13 +141,13 @@ fn push_range<const N: usize>(out: &mut TextBuffer<N>, overflowed: bool)
     }
 }
 
-/// Appends the block of a numeral in a format: the shortest text of the bits that it is read as, the bits in decimal and in
-/// hexadecimal, their exact value, the exact error, which is that value less the numeral's, the two values of the format
-/// that enclose the numeral, and whether the read number was in range. The error is written in full where the numeral
-/// has at most 1,100 digits without its exponent, or 128 bits in another radix than 10; of a longer one the line says a
-/// power of ten below which the error is. A numeral that is refused is answered by one line `error: ` and why. Answers
-/// whether it was. There must be room for `MAX_BLOCK` bytes. It takes at most 26 steps for each byte, and 2,974, but for
-/// the arithmetic of the error, which takes at most some 1,500 passes over a number of 144 limbs.
+/// Appends the block of a numeral in a format: the shortest text of the bits that it is read as, the bits in decimal
+/// and in hexadecimal, their exact value, the exact error, which is that value less the numeral's, the two values of
+/// the format that enclose the numeral, and whether the read number was in range. The error is written in full where
+/// the numeral has at most 1,100 digits without its exponent, or 128 bits in another radix than 10; of a longer one the
+/// line says a power of ten below which the error is. A numeral that is refused is answered by one line `error: ` and
+/// why. Answers whether it was. There must be room for `MAX_BLOCK` bytes. It takes at most 26 steps for each byte, and
+/// 2,974, but for the arithmetic of the error, which takes at most some 1,500 passes over a number of 144 limbs.
 pub fn show_block<const N: usize, L: Ledger>(
     text: &[u8],
     radix: Radix,

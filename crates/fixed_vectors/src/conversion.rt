@@ -8,8 +8,8 @@ use fixed_convert::{Num, NumTarget};
 use fixed_point::Fixed;
 use std::io;
 
-/// Writes what a conversion answers: `FORM SOURCE TARGET BITS`. Bits that are even go through `to_num` where the source is
-/// a `Fixed`, all others through `from_num`.
+/// Writes what a conversion answers: `FORM SOURCE TARGET BITS`. Bits that are even go through `to_num` where the source
+/// is a `Fixed`, all others through `from_num`.
 pub fn answer(
     rt: &impl Print,
     form: &str,

@@ -1,6 +1,6 @@
-//! Answers lines that name a call of the library and what it is made with, so that another implementation can be compared
-//! with it. `oracle/typed.py` describes the lines about typed calls of `fixed_point`, `oracle/styled.py` those about texts in
-//! a style (`styles`); each makes such lines and answers them.
+//! Answers lines that name a call of the library and what it is made with, so that another implementation can be
+//! compared with it. `oracle/typed.py` describes the lines about typed calls of `fixed_point`, `oracle/styled.py` those
+//! about texts in a style (`styles`); each makes such lines and answers them.
 #![tactic(auto)]
 
 mod comparison;

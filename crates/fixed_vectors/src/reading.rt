@@ -85,7 +85,8 @@ fn read_in_mode<I: Inner, const FRAC: u32>(
 
 /// Writes the answers of the calls on a text and on its bytes.
 macro_rules! both_calls {
-    ($rt:expr, $form:expr, $text:expr, $plain:ident, $plain_bytes:ident, $saturating:ident, $saturating_bytes:ident, $wrapping:ident, $wrapping_bytes:ident, $overflowing:ident, $overflowing_bytes:ident) => {
+    ($rt:expr, $form:expr, $text:expr, $plain:ident, $plain_bytes:ident, $saturating:ident, $saturating_bytes:ident,
+        $wrapping:ident, $wrapping_bytes:ident, $overflowing:ident, $overflowing_bytes:ident) => {
         match ($form, $text.len() % 2 == 0) {
             ("plain", true) => write_number($rt, Fixed::<I, FRAC>::$plain($text)),
             ("plain", false) => {

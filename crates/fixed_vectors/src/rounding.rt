@@ -43,7 +43,8 @@ fn round<I: Inner, const FRAC: u32>(
 
 /// Writes the answer of a form of a rounding; `none` where the plain and the strict form may not be called.
 macro_rules! six_forms {
-    ($rt:expr, $x:expr, $form:expr, $plain:ident, $checked:ident, $saturating:ident, $wrapping:ident, $strict:ident, $overflowing:ident) => {
+    ($rt:expr, $x:expr, $form:expr, $plain:ident, $checked:ident, $saturating:ident, $wrapping:ident, $strict:ident,
+        $overflowing:ident) => {
         match $form {
             "saturating" => write_number($rt, $x.$saturating()),
             "wrapping" => write_number($rt, $x.$wrapping()),

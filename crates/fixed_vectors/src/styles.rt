@@ -1,5 +1,5 @@
-//! Texts of numbers in styles that lines describe. Bits are in decimal; the fill is a code point, and the flags are some of
-//! `+`, `#`, `0`, or `-` for none:
+//! Texts of numbers in styles that lines describe. Bits are in decimal; the fill is a code point, and the flags are
+//! some of `+`, `#`, `0`, or `-` for none:
 //!
 //! - `text NOTATION PRECISION WIDTH FILL ALIGN FLAGS BITS FRAC`
 //! - `decimal PLACES BITS FRAC`

@@ -1,5 +1,6 @@
 -- A value to a count of places in a base, rounded or exactly.
-use Rattle.std.specs.Prelude.{◌≡◌, ℕ, zero, suc, ◌*◌, ◌/◌, ◌%◌, ◌^◌, ◌≤◌, ◌==◌, Bool, if◌then◌else◌, List, ◌++◌, ℤ, unsigned_abs}
+use Rattle.std.specs.Prelude.{◌≡◌, ℕ, zero, suc, ◌*◌, ◌/◌, ◌%◌, ◌^◌, ◌≤◌, ◌==◌, Bool, if◌then◌else◌, List, ◌++◌, ℤ}
+use Rattle.std.specs.Prelude.{unsigned_abs}
 use Rattle.std.specs.Fmt.{sign_text}
 use Rattle.std.specs.Int.{is_negative}
 use Rattle.fixed_bits.specs.Nearest.{IsNearest}
@@ -15,7 +16,8 @@ pub record IsRoundedText (base : ℕ) (upper : Bool) (k : ℕ) (c : ℤ) (g : �
 
 -- that text, computed
 unfoldable pub rounded_text : ℕ → Bool → ℕ → ℤ → ℕ → List ℕ
-rounded_text base upper k c g = sign_text (is_negative c) ++ point_text base upper k (nearest_number (unsigned_abs c * base ^ k) (2 ^ g))
+rounded_text base upper k c g = sign_text (is_negative c) ++ point_text base upper k
+    (nearest_number (unsigned_abs c * base ^ k) (2 ^ g))
 
 -- ---- exactly
 -- n / base^k is exactly c ulps of 2^-g, and no fewer places would do
@@ -33,7 +35,8 @@ pub record IsExactText (base : ℕ) (upper : Bool) (c : ℤ) (g : ℕ) (text : L
 -- the least count of places from k on that is exact, of at most `more` places more
 unfoldable pub exact_places_from : ℕ → ℕ → ℕ → ℕ → ℕ → ℕ
 exact_places_from zero k base c g = k
-exact_places_from (suc more) k base c g = if c * base ^ k % 2 ^ g == 0 then k else exact_places_from more (suc k) base c g
+exact_places_from (suc more) k base c g = if c * base ^ k % 2 ^ g == 0 then k
+    else exact_places_from more (suc k) base c g
 
 -- for an even base g places are enough
 unfoldable pub exact_places : ℕ → ℕ → ℕ → ℕ
@@ -41,4 +44,5 @@ exact_places base c g = exact_places_from g 0 base c g
 
 -- that text, computed
 unfoldable pub exact_text : ℕ → Bool → ℤ → ℕ → List ℕ
-exact_text base upper c g = sign_text (is_negative c) ++ point_text base upper (exact_places base (unsigned_abs c) g) (unsigned_abs c * base ^ exact_places base (unsigned_abs c) g / 2 ^ g)
+exact_text base upper c g = sign_text (is_negative c) ++ point_text base upper (exact_places base (unsigned_abs c) g)
+    (unsigned_abs c * base ^ exact_places base (unsigned_abs c) g / 2 ^ g)

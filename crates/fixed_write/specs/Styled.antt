@@ -1,5 +1,7 @@
 -- Styled text: what a style shows of the value c / 2^g.
-use Rattle.std.specs.Prelude.{◌≡◌, ℕ, zero, suc, ◌+◌, ◌-◌, ◌*◌, ◌/◌, ◌%◌, ◌^◌, ◌<◌, ◌≤◌, Bool, true, false, if◌then◌else◌, List, [], ◌∷◌, ◌++◌, length, replicate, ℤ, pos, negsuc, ◌+ℤ◌, ◌-ℤ◌, unsigned_abs, Option, Some, None, unwrap_or}
+use Rattle.std.specs.Prelude.{◌≡◌, ℕ, zero, suc, ◌+◌, ◌-◌, ◌*◌, ◌/◌, ◌%◌, ◌^◌, ◌<◌, ◌≤◌, Bool, true, false}
+use Rattle.std.specs.Prelude.{if◌then◌else◌, List, [], ◌∷◌, ◌++◌, length, replicate, ℤ, pos, negsuc, ◌+ℤ◌, ◌-ℤ◌}
+use Rattle.std.specs.Prelude.{unsigned_abs, Option, Some, None, unwrap_or}
 use Rattle.std.specs.Fmt.{sign_text_with, signed_decimal}
 use Rattle.std.specs.List.{repeat}
 use Rattle.std.specs.Char.{encode_utf8}
@@ -17,7 +19,16 @@ use Rattle.fixed_write.specs.Places.{IsExact}
 -- ---- notations
 -- a notation and nothing else
 abbrev pub plain_style : Notation → Style
-plain_style n = record { notation = n; precision = None; width = 0; fill = 32; align = Right; plus = false; prefix = false; zero_pad = false }
+plain_style n = record {
+  notation = n;
+  precision = None;
+  width = 0;
+  fill = 32;
+  align = Right;
+  plus = false;
+  prefix = false;
+  zero_pad = false;
+}
 
 abbrev pub base_of : Notation → ℕ
 base_of Bin = 2
@@ -116,7 +127,8 @@ pub record HasFigures (notation : Notation) (precision : Option ℕ) (c g : ℕ)
 
 -- body is the number with an exponent; zero has the exponent 0
 abbrev pub IsExponentBody : Notation → Option ℕ → ℕ → ℕ → List ℕ → Type 0
-IsExponentBody notation precision zero g body = body ≡ pointed (replicate (suc (unwrap_or precision 0)) zero_digit) ++ exponent_text notation (pos 0)
+IsExponentBody notation precision zero g body = body ≡ pointed (replicate (suc (unwrap_or precision 0)) zero_digit)
+    ++ exponent_text notation (pos 0)
 IsExponentBody notation precision (suc c) g body = HasFigures notation precision (suc c) g body
 
 abbrev pub IsBody : Notation → Option ℕ → ℕ → ℕ → List ℕ → Type 0
@@ -147,7 +159,8 @@ padding s prefix body = s.width - (length prefix + length body)
 -- the body padded up to the width
 unfoldable pub padded_text : Style → List ℕ → List ℕ → List ℕ
 padded_text s prefix body = if s.zero_pad then prefix ++ replicate (padding s prefix body) zero_digit ++ body
-    else fills s (fills_before s.align (padding s prefix body)) ++ (prefix ++ body) ++ fills s (padding s prefix body - fills_before s.align (padding s prefix body))
+    else fills s (fills_before s.align (padding s prefix body)) ++ (prefix ++ body)
+    ++ fills s (padding s prefix body - fills_before s.align (padding s prefix body))
 
 -- text shows c / 2^g in the style
 pub record IsStyledText (style : Style) (c : ℤ) (g : ℕ) (text : List ℕ) : Type 0 where

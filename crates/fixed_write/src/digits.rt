@@ -1,8 +1,8 @@
 //! Decimal digits, sixteen of them at a time.
 //!
-//! A number below 10^16 is split in the lanes of a vector: into four digits a lane, then two, then one. Before that it is
-//! moved up by a power of ten so that its first digit comes first, and all sixteen characters are written by one store,
-//! whatever the count of digits. So digits need no loop and no branch on their count.
+//! A number below 10^16 is split in the lanes of a vector: into four digits a lane, then two, then one. Before that it
+//! is moved up by a power of ten so that its first digit comes first, and all sixteen characters are written by one
+//! store, whatever the count of digits. So digits need no loop and no branch on their count.
 
 ghost use Rattle.std.specs.Prelude.{◌≡◌, false, ◌+◌, ◌-◌, ◌*◌, ◌/◌, ◌%◌, ◌^◌, ◌<◌, ◌≤◌, [], ◌∷◌, ◌++◌, length, map};
 ghost use Rattle.std.specs.Simd.Lanes.{mask_l};
@@ -60,7 +60,8 @@ fn halves(number: u64) -> u64
 #[inline(always)]
 fn fours(number: u64) -> u16x8
     requires { number < 10 ^ 16 }
-    ensures { result ≡ number / 10 ^ 12 ∷ number / 10 ^ 8 % 10000 ∷ number / 10000 % 10000 ∷ number % 10000 ∷ 0 ∷ 0 ∷ 0 ∷ 0 ∷ [] }
+    ensures { result ≡ number / 10 ^ 12 ∷ number / 10 ^ 8 % 10000 ∷ number / 10000 % 10000 ∷ number % 10000 ∷ 0 ∷ 0 ∷ 0
+        ∷ 0 ∷ [] }
 {
     let word = halves(number / 100_000_000) + (halves(number % 100_000_000) << 32);
     u16x8::from_le_bytes(u64x2::from_array([word, 0]).to_le_bytes())
@@ -144,8 +145,8 @@ pub(crate) fn push_reduced<const N: usize>(out: &mut TextBuffer<N>, number: u64)
     out.push_prefix(characters, count);
 }
 
-/// Appends the point and twenty digits, of which `low` spells the last four, without the zeros at their end, or nothing where
-/// all of them are zeros.
+/// Appends the point and twenty digits, of which `low` spells the last four, without the zeros at their end, or nothing
+/// where all of them are zeros.
 #[inline(never)]
 pub(crate) fn push_long_reduced<const N: usize>(out: &mut TextBuffer<N>, high: u64, low: u64)
     requires high { high < 10 ^ 16 }
@@ -204,8 +205,8 @@ fn push_long_places<const N: usize>(out: &mut TextBuffer<N>, number: u64, places
     push_sixteen(out, number % 10_000_000_000_000_000, 16);
 }
 
-/// The count of a number's digits, up to sixteen. A number of `bits` bits has `bits` · log10(2) digits, rounded down, or one
-/// more, with 1233 / 4096 for log10(2); a power of ten tells which.
+/// The count of a number's digits, up to sixteen. A number of `bits` bits has `bits` · log10(2) digits, rounded down,
+/// or one more, with 1233 / 4096 for log10(2); a power of ten tells which.
 #[inline(always)]
 fn digit_count(number: u64) -> u32
     requires some { 0 < number }

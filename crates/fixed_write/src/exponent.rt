@@ -1,17 +1,19 @@
 //! The figures of a number with an exponent, and its exponent.
 //!
-//! A value is first moved by a power of ten so that its first digit is before the point: above one it stays as it is, and
-//! below one the zeros after the point are counted away. Then it is rounded to the places that the precision leaves after
-//! the digits before the point, by the rounding of texts with a point, or, where the precision is less than these
-//! digits, by one division. Where the rounded number has reached the next power of ten, its figures are a one and zeros,
-//! and the exponent is one more.
+//! A value is first moved by a power of ten so that its first digit is before the point: above one it stays as it is,
+//! and below one the zeros after the point are counted away. Then it is rounded to the places that the precision leaves
+//! after the digits before the point, by the rounding of texts with a point, or, where the precision is less than these
+//! digits, by one division. Where the rounded number has reached the next power of ten, its figures are a one and
+//! zeros, and the exponent is one more.
 
-ghost use Rattle.std.specs.Prelude.{◌≡◌, ℕ, ◌+◌, ◌*◌, ◌/◌, ◌%◌, ◌-◌, ◌^◌, ◌<◌, ◌≤◌, ◌++◌, [], ◌⊎◌, ◌↔◌, false, length, replicate, IsTrue, pos, ◌≤ℤ◌, ◌-ℤ◌, neg_ℤ, take, drop, Some};
+ghost use Rattle.std.specs.Prelude.{◌≡◌, ℕ, ◌+◌, ◌*◌, ◌/◌, ◌%◌, ◌-◌, ◌^◌, ◌<◌, ◌≤◌, ◌++◌, [], ◌⊎◌, ◌↔◌, false, length};
+ghost use Rattle.std.specs.Prelude.{replicate, IsTrue, pos, ◌≤ℤ◌, ◌-ℤ◌, neg_ℤ, take, drop, Some};
 ghost use Rattle.fixed_bits.specs.Nearest.{IsNearest, IsEven};
 ghost use Rattle.fixed_write.specs.Texts.{whole_digits};
 ghost use Rattle.fixed_write.specs.Styled.{mark_of, exponent_text, pointed};
 ghost use Rattle.fixed_write.specs.Inner.Fraction.{IsShortestFraction};
-ghost use Rattle.fixed_write.specs.Inner.Figures.{IsLeading, HasRoundedFigures, HasShortFigures, HasFigureText, HasExponentBody};
+ghost use Rattle.fixed_write.specs.Inner.Figures.{IsLeading, HasRoundedFigures, HasShortFigures, HasFigureText};
+ghost use Rattle.fixed_write.specs.Inner.Figures.{HasExponentBody};
 
 use crate::digits::{power_of_ten, push_places, push_whole};
 use crate::integer::push_integer;
@@ -59,7 +61,8 @@ fn decade_of(number: u64) -> u32
 /// A value that is not zero, moved so that its first digit is before the point.
 fn leading_of(value: Split) -> Leading
     requires { 0 < value.whole * 2 ^ 64 + value.rest }
-    ensures { IsLeading (value.whole * 2 ^ 64 + value.rest) result.value.whole result.value.rest result.decade result.shift }
+    ensures { IsLeading (value.whole * 2 ^ 64 + value.rest) result.value.whole result.value.rest result.decade
+        result.shift }
 {
     if value.whole > 0 {
         Leading {
@@ -102,7 +105,8 @@ struct Rounded {
     carried: bool,
 }
 
-/// Whether a quotient is raised, where `left` and a rest are left of it: more than half of the divisor, or half and odd.
+/// Whether a quotient is raised, where `left` and a rest are left of it: more than half of the divisor, or half and
+/// odd.
 #[inline]
 fn is_raised_by(left: u64, half: u64, rest: u64, number: u64) -> bool
     ensures { IsTrue result ↔ ((half < left) ⊎ ((left ≡ half) × ((0 < rest) ⊎ (number % 2 ≡ 1)))) }
@@ -129,7 +133,8 @@ fn push_rounded_whole(out: &mut Figures, value: Split, decade: u32, precision: u
     requires empty { out.old ≡ [] }
     requires decade { decade ≤ 19 }
     requires fewer { precision < decade }
-    ensures figures { HasRoundedFigures precision (value.whole * 2 ^ 64 + value.rest) decade out.new result.zeros result.carried }
+    ensures figures { HasRoundedFigures precision (value.whole * 2 ^ 64 + value.rest) decade out.new result.zeros
+        result.carried }
     ensures some { 0 < length out.new }
     ensures zeros { result.zeros ≤ precision }
 {
@@ -170,7 +175,8 @@ fn push_rounded_places(out: &mut Figures, value: Split, decade: u32, precision: 
     requires low { 10 ^ decade ≤ value.whole }
     requires high { value.whole < 10 ^ (decade + 1) }
     requires decade { decade ≤ precision }
-    ensures figures { HasRoundedFigures precision (value.whole * 2 ^ 64 + value.rest) decade out.new result.zeros result.carried }
+    ensures figures { HasRoundedFigures precision (value.whole * 2 ^ 64 + value.rest) decade out.new result.zeros
+        result.carried }
     ensures some { 0 < length out.new }
     ensures zeros { result.zeros ≤ precision }
 {
@@ -228,7 +234,8 @@ fn push_parts(out: &mut Figures, whole: u64, fraction: Fraction)
     requires places { fraction.places ≤ 19 }
     requires fits { fraction.number < 10 ^ fraction.places }
     requires digit { fraction.digit < 10 }
-    ensures { out.new ≡ whole_digits 10 false (whole * 10 ^ (fraction.places + 1) + (fraction.number * 10 + fraction.digit)) }
+    ensures { out.new ≡ whole_digits 10 false (whole * 10 ^ (fraction.places + 1)
+        + (fraction.number * 10 + fraction.digit)) }
 {
     let digit = b'0' + fraction.digit as u8;
     if whole > 0 {
@@ -300,7 +307,8 @@ fn push_rounded(out: &mut Figures, value: Split, decade: u32, precision: u32) ->
     requires low { 10 ^ decade ≤ value.whole }
     requires high { value.whole < 10 ^ (decade + 1) }
     requires few { decade ≤ 19 }
-    ensures figures { HasRoundedFigures precision (value.whole * 2 ^ 64 + value.rest) decade out.new result.zeros result.carried }
+    ensures figures { HasRoundedFigures precision (value.whole * 2 ^ 64 + value.rest) decade out.new result.zeros
+        result.carried }
     ensures some { 0 < length out.new }
     ensures zeros { result.zeros ≤ precision }
 {
@@ -397,7 +405,8 @@ fn push_tail(tail: &mut Tail, notation: Notation, exponent: i32)
     push_integer(tail, i128::from(exponent));
 }
 
-/// Appends the body of a number with an exponent, but for the zeros that it answers, and the exponent to a tail of its own.
+/// Appends the body of a number with an exponent, but for the zeros that it answers, and the exponent to a tail of its
+/// own.
 pub(crate) fn push_exponent_body(
     out: &mut Body,
     tail: &mut Tail,

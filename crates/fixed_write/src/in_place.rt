@@ -21,8 +21,8 @@ pub enum Base {
     UpperHex,
 }
 
-/// Appends `value` ulps of 2^-`frac` in decimal with `places` digits after the point, rounded to the nearest with ties to
-/// even. There must be room for 130 bytes.
+/// Appends `value` ulps of 2^-`frac` in decimal with `places` digits after the point, rounded to the nearest with ties
+/// to even. There must be room for 130 bytes.
 #[inline]
 pub fn push_decimal<const N: usize>(out: &mut TextBuffer<N>, value: i128, frac: u32, places: u32)
     requires wide { IsWide value }
@@ -45,7 +45,8 @@ pub fn push_exact<const N: usize>(out: &mut TextBuffer<N>, value: i128, frac: u3
     requires frac { frac ≤ 64 }
     requires room { length out.old + 130 ≤ N }
     ensures appended { out.new ≡ out.old ++ exact_text (number_of base) (has_capitals base) value frac }
-    ensures exact { IsExactText (number_of base) (has_capitals base) value frac (exact_text (number_of base) (has_capitals base) value frac) }
+    ensures exact { IsExactText (number_of base) (has_capitals base) value frac
+        (exact_text (number_of base) (has_capitals base) value frac) }
     ensures short { length (exact_text (number_of base) (has_capitals base) value frac) ≤ 130 }
     ensures ascii { IsAscii (exact_text (number_of base) (has_capitals base) value frac) }
 {

@@ -1,6 +1,7 @@
 //! The digits of a value in a base, to a count of places or exactly.
 
-ghost use Rattle.std.specs.Prelude.{◌≡◌, ℕ, ◌+◌, ◌*◌, ◌/◌, ◌%◌, ◌-◌, ◌^◌, ◌<◌, ◌≤◌, ◌++◌, [], ◌∷◌, ◌⊎◌, ◌==◌, if◌then◌else◌, length};
+ghost use Rattle.std.specs.Prelude.{◌≡◌, ℕ, ◌+◌, ◌*◌, ◌/◌, ◌%◌, ◌-◌, ◌^◌, ◌<◌, ◌≤◌, ◌++◌, [], ◌∷◌, ◌⊎◌, ◌==◌};
+ghost use Rattle.std.specs.Prelude.{if◌then◌else◌, length};
 ghost use Rattle.fixed_bits.specs.Nearest.{IsNearest, IsEven};
 ghost use Rattle.fixed_write.specs.Texts.{last_digits};
 ghost use Rattle.fixed_write.specs.Inner.Digits.{IsBlock, AppendsRounded, AppendsExact};
@@ -61,7 +62,8 @@ pub(crate) fn nearest_part(rest: u64, scale: u64, above: u64) -> u64
 pub(crate) fn rounded(value: Split, scale: u64) -> Places
     requires scale { 1 ≤ scale }
     requires even { (scale ≡ 1) ⊎ IsEven scale }
-    ensures near { IsNearest ((value.whole * 2 ^ 64 + value.rest) * scale) (2 ^ 64) (result.whole * scale + result.part) }
+    ensures near { IsNearest ((value.whole * 2 ^ 64 + value.rest) * scale) (2 ^ 64)
+        (result.whole * scale + result.part) }
     ensures part { result.part < scale }
 {
     let part = nearest_part(value.rest, scale, value.whole);

@@ -248,7 +248,8 @@ fn is_near_next(rest: u64, reach: u64) -> bool
 #[inline]
 fn nearer_digit(digit: u64, rest: u64) -> u64
     requires { digit < 10 }
-    ensures near { (above : ℕ) → (2 * rest ≡ 2 ^ 64 → IsEven above) → IsNearest ((above + digit) * 2 ^ 64 + rest) (2 ^ 64) (above + result) }
+    ensures near { (above : ℕ) → (2 * rest ≡ 2 ^ 64 → IsEven above)
+        → IsNearest ((above + digit) * 2 ^ 64 + rest) (2 ^ 64) (above + result) }
     ensures below { result ≤ digit + 1 }
 {
     if is_raised(rest, digit) {

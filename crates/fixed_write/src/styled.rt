@@ -24,7 +24,8 @@ fn push_rounded_body(out: &mut Body, value: Split, notation: Notation, places: u
     requires notation { IsPointNotation notation }
     requires places { places ≤ 64 }
     requires room { length out.old ≤ 7 }
-    ensures { AppendsRounded (base_of notation) (is_upper notation) (value.whole * 2 ^ 64 + value.rest) 64 places out.old out.new }
+    ensures { AppendsRounded (base_of notation) (is_upper notation)
+        (value.whole * 2 ^ 64 + value.rest) 64 places out.old out.new }
 {
     match notation {
         Notation::Bin => push_rounded_in::<2, 63, 144>(out, value, places, false),

@@ -1,6 +1,7 @@
 //! A text in memory, padded up to a width. Memory is taken once, and exactly as much as the text has bytes.
 
-ghost use Rattle.std.specs.Prelude.{◌≡◌, ◌+◌, ◌*◌, ◌^◌, ◌<◌, ◌≤◌, ◌++◌, [], length, replicate, vec_len, vec_capacity, IfOk};
+ghost use Rattle.std.specs.Prelude.{◌≡◌, ◌+◌, ◌*◌, ◌^◌, ◌<◌, ◌≤◌, ◌++◌, [], length, replicate, vec_len, vec_capacity};
+ghost use Rattle.std.specs.Prelude.{IfOk};
 ghost use Rattle.std.specs.List.{repeat};
 ghost use Rattle.fixed_write.specs.Styled.{padded_text, fills_before};
 ghost use Rattle.fixed_write.specs.Inner.Styling.{laid_out, body_text};
@@ -85,7 +86,8 @@ fn written(
     requires zeros { body.now.zeros < 2 ^ 20 }
     requires tail { length body.now.tail.now ≤ 200 }
     requires after { after < 2 ^ 20 }
-    ensures { IfOk result (λ t. t ≡ laid_out fill.now before prefix.now inner (body_text body.now.digits.now body.now.zeros body.now.tail.now) after) }
+    ensures { IfOk result (λ t. t ≡ laid_out fill.now before prefix.now inner
+        (body_text body.now.digits.now body.now.zeros body.now.tail.now) after) }
 {
     let length = (before + after) * fill.len()
         + prefix.len()
@@ -128,7 +130,8 @@ pub(crate) fn padded(
     requires digits { length body.now.digits.now ≤ 200 }
     requires zeros { body.now.zeros < 2 ^ 16 }
     requires tail { length body.now.tail.now ≤ 200 }
-    ensures { IfOk result (λ t. t ≡ padded_text style.now prefix.now (body_text body.now.digits.now body.now.zeros body.now.tail.now)) }
+    ensures { IfOk result (λ t. t ≡ padded_text style.now prefix.now
+        (body_text body.now.digits.now body.now.zeros body.now.tail.now)) }
 {
     let shown = prefix.len() + body.digits.len() + body.zeros + body.tail.len();
     let padding = (style.width as usize).saturating_sub(shown);

@@ -9,7 +9,8 @@ use Rattle.line_engine.specs.Appended.{AppendsPrefix}
 use Rattle.line_engine.specs.AnswerText.{AnswerText}
 use Rattle.line_engine.specs.Failures.{HasFailed}
 use Rattle.line_engine.specs.declared.status.Status.{Status}
-use Rattle.line_engine.specs.declared.status.Status.TheVariants.{Done, Faults, Usage, ReadFault, WriteFault, NoMemory, TooLong}
+use Rattle.line_engine.specs.declared.status.Status.TheVariants.{Done, Faults, Usage, ReadFault, WriteFault, NoMemory}
+use Rattle.line_engine.specs.declared.status.Status.TheVariants.{TooLong}
 
 -- an input within the limit was read to its end, its whole output written, and an answer is a fault or none is
 pub record AnswersAll (A : List ℕ → AnswerText → Type 0)

@@ -1,7 +1,8 @@
 -- The codes of the statuses.
 use Rattle.std.specs.Prelude.{ℕ}
 use Rattle.line_engine.specs.declared.status.Status.{Status}
-use Rattle.line_engine.specs.declared.status.Status.TheVariants.{Done, Faults, Usage, ReadFault, WriteFault, NoMemory, TooLong}
+use Rattle.line_engine.specs.declared.status.Status.TheVariants.{Done, Faults, Usage, ReadFault, WriteFault, NoMemory}
+use Rattle.line_engine.specs.declared.status.Status.TheVariants.{TooLong}
 
 -- the status with which the program ends
 abbrev pub code_of : Status → ℕ

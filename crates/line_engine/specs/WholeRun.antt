@@ -7,7 +7,8 @@ use Rattle.line_engine.specs.Filled.{TakesWithin}
 use Rattle.line_engine.specs.Appended.{AppendsPrefix}
 use Rattle.line_engine.specs.Output.{status_of}
 use Rattle.line_engine.specs.declared.status.Status.{Status}
-use Rattle.line_engine.specs.declared.status.Status.TheVariants.{Done, Faults, Usage, ReadFault, WriteFault, NoMemory, TooLong}
+use Rattle.line_engine.specs.declared.status.Status.TheVariants.{Done, Faults, Usage, ReadFault, WriteFault, NoMemory}
+use Rattle.line_engine.specs.declared.status.Status.TheVariants.{TooLong}
 
 -- the answer to an input within the limit, which was read to its end, was written whole, and it holds a fault or none
 pub record AnswersWhole (A : List ℕ → AnswerText → Type 0)

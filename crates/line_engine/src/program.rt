@@ -45,7 +45,8 @@ pub trait Program<L: Ledger> {
         ensures run { Runs self.now args.now
             (outside (S.left source.old) (S.asked source.old) (S.failures source.old) (K.written sink.old)
             (K.failures sink.old) steps.old)
-            (outside (S.left source.new) (S.asked source.new) (S.failures source.new) (K.written sink.new) (K.failures sink.new) steps.new) result }
+            (outside (S.left source.new) (S.asked source.new) (S.failures source.new) (K.written sink.new)
+            (K.failures sink.new) steps.new) result }
         ensures usage { IsUsageFault self.now args.now
             → WritesText (usage_line self.now) Status.Usage (K.written sink.old) (K.written sink.new)
             (K.failures sink.old) (K.failures sink.new) result }
@@ -73,7 +74,8 @@ pub fn run_program<P: Program<L>, S: Source, K: Sink, L: Ledger>(
         (λ all. EndsAs (P.Runs program.now all.items
         (outside (S.left source.old) (S.asked source.old) (S.failures source.old) (K.written sink.old)
         (K.failures sink.old) steps.old)
-        (outside (S.left source.new) (S.asked source.new) (S.failures source.new) (K.written sink.new) (K.failures sink.new) steps.new)) result) }
+        (outside (S.left source.new) (S.asked source.new) (S.failures source.new) (K.written sink.new)
+        (K.failures sink.new) steps.new)) result) }
 
     // For arguments that it doesn't know the usage line is written, and nothing is read.
     ensures usage { IfOk args (λ all. P.IsUsageFault program.now all.items

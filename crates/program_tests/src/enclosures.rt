@@ -1,5 +1,5 @@
-//! Enclosures of numerals at the ends of ranges and of exponents, and beside a search over all bits; and runs that write
-//! them.
+//! Enclosures of numerals at the ends of ranges and of exponents, and beside a search over all bits; and runs that
+//! write them.
 
 ghost use Rattle.std.specs.Prelude.{◌≡◌, ◌<◌};
 

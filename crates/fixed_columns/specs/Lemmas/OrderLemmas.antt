@@ -20,7 +20,8 @@ abbrev format_of : CellParts → FormatParts
 format_of c = c.format
 
 format_total : IsTotalOrder format_order
-format_total = then_total (then_total (on_total (λ (f : FormatParts). f.width) nat_cmp_total) (on_total (λ (f : FormatParts). f.signed) bool_cmp_total)) (on_total (λ (f : FormatParts). f.frac) nat_cmp_total)
+format_total = then_total (then_total (on_total (λ (f : FormatParts). f.width) nat_cmp_total)
+    (on_total (λ (f : FormatParts). f.signed) bool_cmp_total)) (on_total (λ (f : FormatParts). f.frac) nat_cmp_total)
 
 pub cell_total : IsTotalOrder cell_order
 unfolding order
@@ -45,10 +46,15 @@ same_sign true true e = refl
 
 pub same_format : (f g : FormatParts) → format_order f g ≡ Equal → f ≡ g
 same_format f g e =
-    let before = first_equal (ordering_then (nat_cmp f.width g.width) (bool_cmp f.signed g.signed)) (nat_cmp f.frac g.frac) e in
-    let width : f.width ≡ g.width = exact_unsigned f.width g.width (first_equal (nat_cmp f.width g.width) (bool_cmp f.signed g.signed) before) in
-    let signed : f.signed ≡ g.signed = same_sign f.signed g.signed (second_equal (nat_cmp f.width g.width) (bool_cmp f.signed g.signed) before) in
-    let frac : f.frac ≡ g.frac = exact_unsigned f.frac g.frac (second_equal (ordering_then (nat_cmp f.width g.width) (bool_cmp f.signed g.signed)) (nat_cmp f.frac g.frac) e) in
+    let before = first_equal (ordering_then (nat_cmp f.width g.width) (bool_cmp f.signed g.signed))
+    (nat_cmp f.frac g.frac) e in
+    let width : f.width ≡ g.width = exact_unsigned f.width g.width
+    (first_equal (nat_cmp f.width g.width) (bool_cmp f.signed g.signed) before) in
+    let signed : f.signed ≡ g.signed = same_sign f.signed g.signed
+    (second_equal (nat_cmp f.width g.width) (bool_cmp f.signed g.signed) before) in
+    let frac : f.frac ≡ g.frac = exact_unsigned f.frac g.frac
+    (second_equal (ordering_then (nat_cmp f.width g.width) (bool_cmp f.signed g.signed)) (nat_cmp f.frac g.frac) e)
+    in
     let F : Bool → ℕ → ℕ → FormatParts = λ s w k. record { signed = s; width = w; frac = k } in
     ap (λ s. F s f.width f.frac) signed ∙ (ap (λ w. F g.signed w f.frac) width ∙ ap (λ k. F g.signed g.width k) frac)
 
@@ -59,7 +65,8 @@ same_bits b c f e = exact_signed b c (cmp_times b c (2 ^ f) (pow_pos f) ∙ e)
 pub same_cell : (a b : CellParts) → cell_order a b ≡ Equal → a ≡ b
 same_cell a b e =
     let value = first_equal (order_of a.bits a.format.frac b.bits b.format.frac) (format_order a.format b.format) e in
-    let format : a.format ≡ b.format = same_format a.format b.format (second_equal (order_of a.bits a.format.frac b.bits b.format.frac) (format_order a.format b.format) e) in
+    let format : a.format ≡ b.format = same_format a.format b.format
+    (second_equal (order_of a.bits a.format.frac b.bits b.format.frac) (format_order a.format b.format) e) in
     let V : FormatParts → Type 0 = λ f. order_of a.bits a.format.frac b.bits f.frac ≡ Equal in
     let bits : a.bits ≡ b.bits = same_bits a.bits b.bits a.format.frac (subst V (sym format) value) in
     let C : FormatParts → ℤ → CellParts = λ f v. record { format = f; bits = v } in

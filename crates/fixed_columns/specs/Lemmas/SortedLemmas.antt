@@ -27,10 +27,13 @@ pub record IsAt (c : CellParts) (xs : List CellParts) : Type 0 where
   pub below : place < length xs
   pub is : (d : CellParts) → get_or xs place d ≡ c
 
-at_by : (c x : CellParts) (xs : List CellParts) (o : Ordering) → cell_order x c ≡ o → 0 < cond (is_eq o) 1 0 + times c xs → (0 < times c xs → IsAt c xs) → IsAt c (x ∷ xs)
+at_by : (c x : CellParts) (xs : List CellParts) (o : Ordering) → cell_order x c ≡ o
+    → 0 < cond (is_eq o) 1 0 + times c xs → (0 < times c xs → IsAt c xs) → IsAt c (x ∷ xs)
 at_by c x xs Equal e some rest = record { place = 0; below = omega arith; is = λ d. same_cell x c e }
-at_by c x xs Less e some rest = let h = rest (omega (arith, some)) in record { place = suc h.place; below = let b = h.below in omega (arith, b); is = h.is }
-at_by c x xs Greater e some rest = let h = rest (omega (arith, some)) in record { place = suc h.place; below = let b = h.below in omega (arith, b); is = h.is }
+at_by c x xs Less e some rest = let h = rest (omega (arith, some))
+    in record { place = suc h.place; below = let b = h.below in omega (arith, b); is = h.is }
+at_by c x xs Greater e some rest = let h = rest (omega (arith, some))
+    in record { place = suc h.place; below = let b = h.below in omega (arith, b); is = h.is }
 
 pub occurs : (c : CellParts) (xs : List CellParts) → 0 < times c xs → IsAt c xs
 occurs c [] some = absurd (omega (arith, some))
@@ -42,10 +45,12 @@ weak : IsStrictWeakOrder (λ x y. is_lt (cell_order x y))
 weak = ranks_by cell_total (λ (c : CellParts). c)
 
 -- no cell of a list in order is less than its first
-first_least : (c x : CellParts) (xs : List CellParts) → IsInOrder (x ∷ xs) → IsAt c (x ∷ xs) → is_lt (cell_order c x) ≡ false
+first_least : (c x : CellParts) (xs : List CellParts) → IsInOrder (x ∷ xs) → IsAt c (x ∷ xs)
+    → is_lt (cell_order c x) ≡ false
 first_least c x xs up at =
     let L : CellParts → Bool = λ y. is_lt (cell_order y x) in
-    let far = sorted_far (λ x y. is_lt (cell_order x y)) weak (x ∷ xs) (λ k d low high. up k d high) 0 at.place x (omega arith) at.below in
+    let far = sorted_far (λ x y. is_lt (cell_order x y)) weak (x ∷ xs) (λ k d low high. up k d high) 0 at.place x
+    (omega arith) at.below in
     sym (ap L (at.is x)) ∙ far
 
 tied : (o r : Ordering) → is_lt o ≡ false → is_lt r ≡ false → o ≡ ordering_reverse r → o ≡ Equal
@@ -55,7 +60,8 @@ tied Greater Less a b e = absurd cc
 tied Greater Equal a b e = e
 tied Greater Greater a b e = absurd cc
 
-first_one : (x y : CellParts) (xs ys : List CellParts) → HoldsAsOften (x ∷ xs) (y ∷ ys) → IsInOrder (x ∷ xs) → IsInOrder (y ∷ ys) → x ≡ y
+first_one : (x y : CellParts) (xs ys : List CellParts) → HoldsAsOften (x ∷ xs) (y ∷ ys) → IsInOrder (x ∷ xs)
+    → IsInOrder (y ∷ ys) → x ≡ y
 first_one x y xs ys same up vp =
     let a : 0 < times x (y ∷ ys) = omega (arith, same x, times_head x xs) in
     let b : 0 < times y (x ∷ xs) = omega (arith, same y, times_head y ys) in
@@ -76,11 +82,18 @@ sorted_one [] (y ∷ ys) same up vp = absurd (omega (arith, same y, times_head y
 sorted_one (x ∷ xs) [] same up vp = absurd (omega (arith, same x, times_head x xs))
 sorted_one (x ∷ xs) (y ∷ ys) same up vp =
     let first : x ≡ y = first_one x y xs ys same up vp in
-    let rest : HoldsAsOften xs ys = λ c. omega (arith, same c, times_cons c x xs, times_cons c y ys, ap (one_of c) first) in
+    let rest : HoldsAsOften xs ys = λ c. omega (
+      arith,
+      same c,
+      times_cons c x xs,
+      times_cons c y ys,
+      ap (one_of c) first,
+    ) in
     let tail : xs ≡ ys = sorted_one xs ys rest (rest_up x xs up) (rest_up y ys vp) in
     let C : CellParts → List CellParts → List CellParts = λ z zs. z ∷ zs in
     ap (λ z. C z xs) first ∙ ap (λ zs. C y zs) tail
 
 -- two lists in order that hold what one list holds are one
-pub both_sorted : (cells xs ys : List CellParts) → HoldsAsOften cells xs → HoldsAsOften cells ys → IsInOrder xs → IsInOrder ys → xs ≡ ys
+pub both_sorted : (cells xs ys : List CellParts) → HoldsAsOften cells xs → HoldsAsOften cells ys → IsInOrder xs
+    → IsInOrder ys → xs ≡ ys
 both_sorted cells xs ys a b up vp = let same : HoldsAsOften xs ys = λ c. b c ∙ sym (a c) in sorted_one xs ys same up vp

@@ -4,7 +4,8 @@ use Rattle.fixed_bits.specs.Images.{DiffersByMultiple}
 
 -- v and w are one number, or both are past the same end of every type of at most 64 bits
 abbrev pub OnSameSide : ℤ → ℤ → Type 0
-OnSameSide v w = (w ≡ v) ⊎ ((pos (2 ^ 64) ≤ℤ v) × (pos (2 ^ 64) ≤ℤ w)) ⊎ ((v <ℤ neg_ℤ (pos (2 ^ 63))) × (w <ℤ neg_ℤ (pos (2 ^ 63))))
+OnSameSide v w = (w ≡ v) ⊎ ((pos (2 ^ 64) ≤ℤ v) × (pos (2 ^ 64) ≤ℤ w))
+    ⊎ ((v <ℤ neg_ℤ (pos (2 ^ 63))) × (w <ℤ neg_ℤ (pos (2 ^ 63))))
 
 -- w has the images and the order of v in every type of at most 64 bits
 pub record Represents (v w : ℤ) : Type 0 where

@@ -1,5 +1,6 @@
 -- A line has one answer.
-use Rattle.std.proofs.Common.{◌≡◌, ℕ, ◌<◌, List, [], Bool, true, false, IsTrue, length, get_or, refl, sym, ap, ◌∙◌, subst, arith, ℤ, inl, inr, ◌↔◌}
+use Rattle.std.proofs.Common.{◌≡◌, ℕ, ◌<◌, List, [], Bool, true, false, IsTrue, length, get_or, refl, sym, ap, ◌∙◌}
+use Rattle.std.proofs.Common.{subst, arith, ℤ, inl, inr, ◌↔◌}
 use Rattle.std.proofs.lemmas.Bool.{false≢true}
 use Rattle.fixed_numeral.specs.Messages.{message_of}
 use Rattle.fixed_respell.specs.Language.{fault_answer}
@@ -12,7 +13,8 @@ use Rattle.fixed_write.specs.Texts.{IsShortestText}
 use Rattle.fixed_write.proofs.Public.{shortest_text_unique}
 use Rattle.line_engine.specs.AnswerText.{AnswerText}
 use Rattle.line_engine.specs.Lines.{kept_length}
-use Rattle.fixed_enclose.specs.Answer.{Asks, IsAnswer, IsEnclosedAnswer, IsRefusalAnswer, IsTaskAnswered, Task, enclose_language, ends_answer, fault_message, task_of}
+use Rattle.fixed_enclose.specs.Answer.{Asks, IsAnswer, IsEnclosedAnswer, IsRefusalAnswer, IsTaskAnswered, Task}
+use Rattle.fixed_enclose.specs.Answer.{enclose_language, ends_answer, fault_message, task_of}
 use Rattle.fixed_enclose.specs.Laws.{AnswerIsTheOne, LongIsAnsweredByPrefix}
 use Rattle.fixed_enclose.specs.declared.fault.EncloseFault.TheVariants.{LineTooLong}
 use Rattle.fixed_enclose.specs.Lemmas.EnclosureLemmas.{enclosed_one, refusal_none, refusal_one}
@@ -37,13 +39,15 @@ task_one line t u a b =
 
 -- ---- a task has one answer
 refusals : (t : Task) (a b : AnswerText) → IsRefusalAnswer t a → IsRefusalAnswer t b → a ≡ b
-refusals t a b x y = x.answer_is ∙ (ap (λ k. fault_answer (message_of k)) (refusal_one t.radix t.numeral t.format x.kind y.kind x.refusal y.refusal) ∙ sym y.answer_is)
+refusals t a b x y = x.answer_is ∙ (ap (λ k. fault_answer (message_of k))
+    (refusal_one t.radix t.numeral t.format x.kind y.kind x.refusal y.refusal) ∙ sym y.answer_is)
 
 refused_or_not : (t : Task) (a b : AnswerText) → IsRefusalAnswer t a → IsEnclosedAnswer t b → ⊥
 refused_or_not t a b x y = refusal_none t.radix t.numeral t.format y.lo y.hi x.kind y.enclosed x.refusal
 
 -- whether two numbers are equal is decided
-verdict_one : (a b : Bool) (lo hi lo' hi' : ℤ) → lo ≡ lo' → hi ≡ hi' → (IsTrue a ↔ (lo ≡ hi)) → (IsTrue b ↔ (lo' ≡ hi')) → a ≡ b
+verdict_one : (a b : Bool) (lo hi lo' hi' : ℤ) → lo ≡ lo' → hi ≡ hi' → (IsTrue a ↔ (lo ≡ hi)) → (IsTrue b ↔ (lo' ≡ hi'))
+    → a ≡ b
 verdict_one true true lo hi lo' hi' e f x y = refl
 verdict_one false false lo hi lo' hi' e f x y = refl
 verdict_one true false lo hi lo' hi' e f x y = absurd (false≢true (y.1 (sym e ∙ (x.0 refl ∙ f))))
@@ -52,12 +56,16 @@ verdict_one false true lo hi lo' hi' e f x y = absurd (false≢true (x.1 (e ∙ 
 enclosures : (t : Task) (a b : AnswerText) → IsEnclosedAnswer t a → IsEnclosedAnswer t b → a ≡ b
 enclosures t a b x y =
     let ends = enclosed_one t.radix t.numeral t.format x.lo x.hi y.lo y.hi x.enclosed y.enclosed in
-    let low = shortest_text_unique y.lo t.format.frac x.low_text y.low_text (subst (λ c. IsShortestText c t.format.frac x.low_text) ends.0 x.low_shortest) y.low_shortest in
-    let high = shortest_text_unique y.hi t.format.frac x.high_text y.high_text (subst (λ c. IsShortestText c t.format.frac x.high_text) ends.1 x.high_shortest) y.high_shortest in
+    let low = shortest_text_unique y.lo t.format.frac x.low_text y.low_text
+    (subst (λ c. IsShortestText c t.format.frac x.low_text) ends.0 x.low_shortest) y.low_shortest in
+    let high = shortest_text_unique y.hi t.format.frac x.high_text y.high_text
+    (subst (λ c. IsShortestText c t.format.frac x.high_text) ends.1 x.high_shortest) y.high_shortest in
     let exact = verdict_one x.exact y.exact x.lo x.hi y.lo y.hi ends.0 ends.1 x.is_exact y.is_exact in
-    x.answer_is ∙ (alike x.low_text y.low_text x.high_text y.high_text x.lo y.lo x.hi y.hi x.exact y.exact low ends.0 high ends.1 exact ∙ sym y.answer_is)
+    x.answer_is ∙ (alike x.low_text y.low_text x.high_text y.high_text x.lo y.lo x.hi y.hi x.exact y.exact low ends.0
+    high ends.1 exact ∙ sym y.answer_is)
   where
-    alike : (s s' t t' : List ℕ) (l l' h h' : ℤ) (e e' : Bool) → s ≡ s' → l ≡ l' → t ≡ t' → h ≡ h' → e ≡ e' → ends_answer s l t h e ≡ ends_answer s' l' t' h' e'
+    alike : (s s' t t' : List ℕ) (l l' h h' : ℤ) (e e' : Bool) → s ≡ s' → l ≡ l' → t ≡ t' → h ≡ h' → e ≡ e'
+        → ends_answer s l t h e ≡ ends_answer s' l' t' h' e'
     alike s s' t t' l l' h h' e e' p q r u v =
         ap (λ x. ends_answer x l t h e) p
         ∙ (ap (λ x. ends_answer s' x t h e) q
@@ -65,7 +73,8 @@ enclosures t a b x y =
         ∙ (ap (λ x. ends_answer s' l' t' x e) u
         ∙ ap (λ x. ends_answer s' l' t' h' x) v)))
 
-task_answer_one : (line : List ℕ) (t : Task) (a b : AnswerText) → Asks line t → IsTaskAnswered t a → IsTaskAnswered t b → a ≡ b
+task_answer_one : (line : List ℕ) (t : Task) (a b : AnswerText) → Asks line t → IsTaskAnswered t a → IsTaskAnswered t b
+    → a ≡ b
 task_answer_one line t a b asks (inl x) (inl y) = refusals t a b x y
 task_answer_one line t a b asks (inl x) (inr y) = absurd (refused_or_not t a b x y)
 task_answer_one line t a b asks (inr x) (inl y) = absurd (refused_or_not t b a y x)
@@ -82,4 +91,5 @@ long_answer : (line : List ℕ) → longest_line < length line → IsAnswer line
 long_answer line long = inl (record { fault = LineTooLong; first = first_long line long; answer_is = refl })
 
 pub long_by_its_prefix : LongIsAnsweredByPrefix
-long_by_its_prefix line answer long = long_by_prefix IsAnswer (fault_answer (fault_message LineTooLong)) answer_one long_answer kept_length line answer (omega arith) long
+long_by_its_prefix line answer long = long_by_prefix IsAnswer
+    (fault_answer (fault_message LineTooLong)) answer_one long_answer kept_length line answer (omega arith) long

@@ -1,5 +1,6 @@
 -- Enclosures: from one reading in mode Floor, and that there is one.
-use Rattle.std.proofs.Common.{◌≡◌, ℕ, ◌*◌, ◌^◌, ◌≤◌, ◌<◌, ◌↔◌, Bool, true, false, IsTrue, List, take, slice_get, refl, sym, ap, ◌∙◌, subst, arith, inl, inr, ⊎_elim, ℤ, pos, neg_ℤ, ◌+ℤ◌, ◌*ℤ◌, ◌≤ℤ◌}
+use Rattle.std.proofs.Common.{◌≡◌, ℕ, ◌*◌, ◌^◌, ◌≤◌, ◌<◌, ◌↔◌, Bool, true, false, IsTrue, List, take, slice_get, refl}
+use Rattle.std.proofs.Common.{sym, ap, ◌∙◌, subst, arith, inl, inr, ⊎_elim, ℤ, pos, neg_ℤ, ◌+ℤ◌, ◌*ℤ◌, ◌≤ℤ◌}
 use Rattle.std.specs.Prelude.{if◌then◌else◌, ◌-ℤ◌, ◌<ℤ◌}
 use Rattle.std.proofs.lemmas.Bool.{cases_lt, false≢true}
 use Rattle.std.proofs.lemmas.Int.{ints}
@@ -33,19 +34,25 @@ before_times a m =
 -- a multiple of the denominator is rounded to its factor, in both directions
 down_exact : (m den q k : ℕ) → 0 < den → IsRounded TowardsZero false m den q → m ≡ k * den → m ≡ q * den
 down_exact m den q k some h e =
-    let itself : IsRounded TowardsZero false m den k = record { at_most = omega (arith, e); next = omega (arith, e, some) } in
+    let itself : IsRounded TowardsZero false m den k = record
+    { at_most = omega (arith, e); next = omega (arith, e, some) } in
     e ∙ ap (λ x. x * den) (rounded_unique TowardsZero false m den k q some itself h)
 
 up_exact : (m den q k : ℕ) → 0 < den → IsRounded Ceil false m den q → m ≡ k * den → m ≡ q * den
 up_exact m den q k some h e =
-    let itself : IsRounded Ceil false m den k = record { at_least = omega (arith, e); before = omega (arith, e, some) } in
+    let itself : IsRounded Ceil false m den k = record {
+      at_least = omega (arith, e);
+      before = omega (arith, e, some);
+    } in
     e ∙ ap (λ x. x * den) (rounded_unique Ceil false m den k q some itself h)
 
 -- hi is lo where the value is whole, else the next
 abbrev pub upper : Bool → ℤ → ℤ
 upper whole lo = if whole then lo else (lo +ℤ pos 1)
 
-around : (minus : Bool) (m den q : ℕ) (whole : Bool) → 0 < den → IsRounded Floor minus m den q → (IsTrue whole ↔ IsMultipleOf den m) → Encloses (with_sign minus m) den (with_sign minus q) (upper whole (with_sign minus q))
+around : (minus : Bool) (m den q : ℕ) (whole : Bool) → 0 < den → IsRounded Floor minus m den q
+    → (IsTrue whole ↔ IsMultipleOf den m) → Encloses (with_sign minus m) den (with_sign minus q)
+    (upper whole (with_sign minus q))
 around false m den q true some h w =
     let k = w.0 refl in
     let e : m ≡ q * den = down_exact m den q k.0 some h k.1 in
@@ -91,10 +98,12 @@ around true m den q false some h w =
       high = omega (arith, ints, next_times (neg_ℤ (pos q)) den, neg_times q den, h.before);
     }
 
-pub encloses_of : (r : Radix) (p : Parts) (f : ℕ) (lo : ℤ) (whole : Bool) → IsReadNumber Floor r p f lo → (IsTrue whole ↔ IsWholeUlps r p f) → Encloses (in_ulps r p f) (magnitude r p).den lo (upper whole lo)
+pub encloses_of : (r : Radix) (p : Parts) (f : ℕ) (lo : ℤ) (whole : Bool) → IsReadNumber Floor r p f lo
+    → (IsTrue whole ↔ IsWholeUlps r p f) → Encloses (in_ulps r p f) (magnitude r p).den lo (upper whole lo)
 encloses_of r p f lo whole read is =
     let E : ℤ → Type 0 = λ v. Encloses (in_ulps r p f) (magnitude r p).den v (upper whole v) in
-    subst E (sym read.value) (around (is_minus p.sign) ((magnitude r p).num * 2 ^ f) (magnitude r p).den read.steps whole (magnitude_pos r p) read.rounded is)
+    subst E (sym read.value) (around (is_minus p.sign) ((magnitude r p).num * 2 ^ f)
+    (magnitude r p).den read.steps whole (magnitude_pos r p) read.rounded is)
 
 pub parts_one : (r : Radix) (bytes : List ℕ) (p q : Parts) → HasNumeral r bytes p → HasNumeral r bytes q → p ≡ q
 parts_one r bytes p q a b = parts_unique r bytes p q a.beginning b.beginning
@@ -126,7 +135,15 @@ encloses_one y den lo hi a b h k =
 
 pub in_order : (y : ℤ) (den : ℕ) (lo hi : ℤ) → Encloses y den lo hi → lo ≤ℤ hi
 in_order y den lo hi h =
-    let next : y <ℤ ((hi +ℤ pos 1) *ℤ pos den) = omega (arith, ints, next_times lo den, next_times hi den, h.low, h.low_next, h.high) in
+    let next : y <ℤ ((hi +ℤ pos 1) *ℤ pos den) = omega (
+      arith,
+      ints,
+      next_times lo den,
+      next_times hi den,
+      h.low,
+      h.low_next,
+      h.high,
+    ) in
     not_past y den lo hi h.low next
 
 pub exact : ExactWhereEqual
@@ -144,7 +161,8 @@ exact y den lo hi h = (to, back)
         both lo hi (in_order y den lo hi h) (tightest y den lo hi lo lo h h.low high).1
 
 -- ---- what bytes have, whose parts are determined
-pub enclosed_one : (r : Radix) (bytes : List ℕ) (format : FormatParts) (lo hi a b : ℤ) → IsEnclosed r bytes format lo hi → IsEnclosed r bytes format a b → (lo ≡ a) × (hi ≡ b)
+pub enclosed_one : (r : Radix) (bytes : List ℕ) (format : FormatParts) (lo hi a b : ℤ) → IsEnclosed r bytes format lo hi
+    → IsEnclosed r bytes format a b → (lo ≡ a) × (hi ≡ b)
 enclosed_one r bytes format lo hi a b x y =
     let p = parts_one r bytes x.parts y.parts x.numeral y.numeral in
     let first : Encloses (in_ulps r y.parts format.frac) (magnitude r y.parts).den lo hi = rw p at x.encloses in
@@ -153,7 +171,8 @@ enclosed_one r bytes format lo hi a b x y =
 in_not_out : (s : Bool) (n : ℕ) (v : ℤ) → IsInRange s n v → IsOutOfRange s n v → ⊥
 in_not_out s n v i o = (range_decided s n v).1 o i
 
-pub refusal_none : (r : Radix) (bytes : List ℕ) (format : FormatParts) (lo hi : ℤ) (kind : ParseErrorKind) → IsEnclosed r bytes format lo hi → IsRefusal r bytes format kind → ⊥
+pub refusal_none : (r : Radix) (bytes : List ℕ) (format : FormatParts) (lo hi : ℤ) (kind : ParseErrorKind)
+    → IsEnclosed r bytes format lo hi → IsRefusal r bytes format kind → ⊥
 refusal_none r bytes format lo hi kind x (inl h) = h.none (x.parts, x.numeral)
 refusal_none r bytes format lo hi kind x (inr (is, h)) =
     let p = parts_one r bytes x.parts h.parts x.numeral h.numeral in
@@ -161,10 +180,14 @@ refusal_none r bytes format lo hi kind x (inr (is, h)) =
     let one = encloses_one (in_ulps r h.parts format.frac) (magnitude r h.parts).den lo hi h.lo h.hi first h.encloses in
     let low : IsInRange format.signed format.width h.lo = rw one.0 at x.low in
     let high : IsInRange format.signed format.width h.hi = rw one.1 at x.high in
-    ⊎_elim (λ o. in_not_out format.signed format.width h.lo low o) (λ o. in_not_out format.signed format.width h.hi high o) h.out
+    ⊎_elim (λ o. in_not_out format.signed format.width h.lo low o)
+    (λ o. in_not_out format.signed format.width h.hi high o) h.out
 
 pub pair_one : PairIsTheOne
-pair_one r bytes format lo hi x = ((λ a b y. enclosed_one r bytes format lo hi a b x y), (λ kind h. refusal_none r bytes format lo hi kind x h))
+pair_one r bytes format lo hi x = (
+  (λ a b y. enclosed_one r bytes format lo hi a b x y),
+  (λ kind h. refusal_none r bytes format lo hi kind x h),
+)
 
 cause_one : (r : Radix) (bytes : List ℕ) (k l : ParseErrorKind) → HasCause r bytes k → HasCause r bytes l → k ≡ l
 cause_one r bytes k l x y =
@@ -172,10 +195,13 @@ cause_one r bytes k l x y =
     let a = y.prefix.longest x.count x.prefix.within (x.parts, x.prefix.beginning) in
     let b = x.prefix.longest y.count y.prefix.within (y.parts, y.prefix.beginning) in
     omega (arith, a, b) in
-    let p : x.parts ≡ y.parts = parts_unique r (take y.count bytes) x.parts y.parts (rw longest at x.prefix.beginning) y.prefix.beginning in
-    x.is_kind ∙ ap (λ n. kind_of r x.parts (slice_get bytes n)) longest ∙ ap (λ q. kind_of r q (slice_get bytes y.count)) p ∙ sym y.is_kind
+    let p : x.parts ≡ y.parts = parts_unique r (take y.count bytes) x.parts y.parts
+    (rw longest at x.prefix.beginning) y.prefix.beginning in
+    x.is_kind ∙ ap (λ n. kind_of r x.parts (slice_get bytes n)) longest ∙ ap
+    (λ q. kind_of r q (slice_get bytes y.count)) p ∙ sym y.is_kind
 
-pub refusal_one : (r : Radix) (bytes : List ℕ) (format : FormatParts) (k l : ParseErrorKind) → IsRefusal r bytes format k → IsRefusal r bytes format l → k ≡ l
+pub refusal_one : (r : Radix) (bytes : List ℕ) (format : FormatParts) (k l : ParseErrorKind)
+    → IsRefusal r bytes format k → IsRefusal r bytes format l → k ≡ l
 refusal_one r bytes format k l (inl a) (inl b) = cause_one r bytes k l a b
 refusal_one r bytes format k l (inl a) (inr b) = absurd (a.none (b.1.parts, b.1.numeral))
 refusal_one r bytes format k l (inr a) (inl b) = absurd (b.none (a.1.parts, a.1.numeral))

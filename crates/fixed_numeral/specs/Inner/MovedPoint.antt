@@ -22,7 +22,8 @@ pub record IsWithoutTrailing (ds rest : List ℕ) : Type 0 where
 abbrev pub moved : ℕ → List ℕ → List ℕ → ℕ → ℕ → Fraction
 moved b whole fraction u d = record { num = number_from_digits b (whole ++ fraction) * b ^ u; den = b ^ d }
 
--- the digits W before the point and F after it are those of w and r where the point moves up digits to the right and down digits to the left
+-- the digits W before the point and F after it are those of w and r where the point moves up digits to the right and
+-- down digits to the left
 pub record IsPlaced (w r W F : List ℕ) (up down : ℕ) : Type 0 where
   pub leading : NoLeadingZero W
   pub trailing : NoTrailingZero F

@@ -1,5 +1,6 @@
 -- What the scanner knows of the bytes that it has read.
-use Rattle.std.specs.Prelude.{ℕ, ◌+◌, ◌^◌, ◌-◌, ◌<◌, ◌≤◌, ◌⊎◌, true, false, if◌then◌else◌, List, [], ◌∷◌, ◌++◌, ◌≡◌, ◌&&◌, not, Bool, is_some, is_none, Option, Some, None, IfSome, option_to_list, length}
+use Rattle.std.specs.Prelude.{ℕ, ◌+◌, ◌^◌, ◌-◌, ◌<◌, ◌≤◌, ◌⊎◌, true, false, if◌then◌else◌, List, [], ◌∷◌, ◌++◌, ◌≡◌}
+use Rattle.std.specs.Prelude.{◌&&◌, not, Bool, is_some, is_none, Option, Some, None, IfSome, option_to_list, length}
 use Rattle.fixed_numeral.specs.declared.scanner.State.{State}
 use Rattle.fixed_numeral.specs.Numeral.{Parts, Exponent, HasParts, IsBeginning, is_minus, fractional_digits}
 use Rattle.fixed_numeral.specs.Cause.{is_nil, kind_of}
@@ -54,4 +55,6 @@ pub record IsComplete (s : State) : Type 0 where
 
 -- a mantissa digit is missing, or else an exponent digit
 abbrev pub IsIncomplete : State → ParseErrorKind → Type 0
-IsIncomplete s kind = ((s.whole_len + s.fraction_len ≡ 0) × (kind ≡ NoDigits)) ⊎ ((0 < s.whole_len + s.fraction_len) × (s.has_separator ≡ true) × (s.has_exponent_digit ≡ false) × (kind ≡ ExpNoDigits))
+IsIncomplete s kind = ((s.whole_len + s.fraction_len ≡ 0) × (kind ≡ NoDigits))
+    ⊎ ((0 < s.whole_len + s.fraction_len) × (s.has_separator ≡ true) × (s.has_exponent_digit ≡ false)
+    × (kind ≡ ExpNoDigits))

@@ -1,10 +1,12 @@
 -- Stretches of a text, for the functions that read numbers straight from its bytes.
-use Rattle.std.specs.Prelude.{◌≡◌, ℕ, ◌+◌, ◌-◌, ◌^◌, ◌<◌, ◌≤◌, Bool, IsTrue, List, ◌++◌, length, drop, get_or, Option, IfSome, option_to_list, ℤ}
+use Rattle.std.specs.Prelude.{◌≡◌, ℕ, ◌+◌, ◌-◌, ◌^◌, ◌<◌, ◌≤◌, Bool, IsTrue, List, ◌++◌, length, drop, get_or, Option}
+use Rattle.std.specs.Prelude.{IfSome, option_to_list, ℤ}
 use Rattle.std.specs.Char.{digit_value}
 use Rattle.std.specs.Int.{bit_at}
 use Rattle.std.specs.Str.Parse.{AllDigits, digits_value}
 use Rattle.fixed_numeral.specs.declared.radix.Radix.{Radix}
-use Rattle.fixed_numeral.specs.Numeral.{Parts, Exponent, base, IsExponentOf, HasNumeral, is_sign, is_minus, fraction_text, exponent_text, fractional_digits}
+use Rattle.fixed_numeral.specs.Numeral.{Parts, Exponent, base, IsExponentOf, HasNumeral, is_sign, is_minus}
+use Rattle.fixed_numeral.specs.Numeral.{fraction_text, exponent_text, fractional_digits}
 use Rattle.fixed_numeral.specs.PartNumbers.{exponent_value, is_power_of_two, IsShortNumeral}
 
 -- the bytes between two places are an optional sign

@@ -17,4 +17,5 @@ IsShift true unit magnitude up down bits = (down * unit ≡ magnitude + bits) ×
 -- what is known of an exponent
 abbrev pub AgreesWithExponent : Radix → Bool → Bool → ℕ → Option Exponent → Type 0
 AgreesWithExponent r two minus magnitude None = (two ≡ false) × (minus ≡ false) × (magnitude ≡ 0)
-AgreesWithExponent r two minus magnitude (Some e) = (two ≡ is_two_separator r e.separator) × (minus ≡ is_minus e.sign) × (magnitude ≡ digits_value 10 e.digits)
+AgreesWithExponent r two minus magnitude (Some e) = (two ≡ is_two_separator r e.separator) × (minus ≡ is_minus e.sign)
+    × (magnitude ≡ digits_value 10 e.digits)

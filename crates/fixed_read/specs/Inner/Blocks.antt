@@ -5,7 +5,8 @@ use Rattle.fixed_numeral.specs.Place.{NoTrailingZero}
 
 -- 0.BLOCK REST, with count digits in the block, is the number 0.DS
 pub record IsBlockOf (b : ℕ) (ds rest : List ℕ) (block count : ℕ) : Type 0 where
-  pub same : (block * b ^ length rest + number_from_digits b rest) * b ^ length ds ≡ number_from_digits b ds * b ^ (count + length rest)
+  pub same : (block * b ^ length rest + number_from_digits b rest) * b ^ length ds
+      ≡ number_from_digits b ds * b ^ (count + length rest)
   pub small : block < b ^ count
   pub digits : AllBelowBase b rest
   pub trailing : NoTrailingZero rest

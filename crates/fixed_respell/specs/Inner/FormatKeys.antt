@@ -4,7 +4,8 @@ use Rattle.std.specs.Simd.Lanes.{number_l}
 use Rattle.fixed_bits.specs.Formats.{IsTypeFormat}
 use Rattle.fixed_respell.specs.Words.{format_text}
 
--- the bytes after the first as a number, the first of them in the lowest place, and how many bytes there are, in the sixth byte
+-- the bytes after the first as a number, the first of them in the lowest place, and how many bytes there are, in the
+-- sixth byte
 abbrev pub word_key : List ℕ → ℕ
 word_key word = number_l 256 (drop 1 word) + length word * 2 ^ 40
 
@@ -12,7 +13,8 @@ word_key word = number_l 256 (drop 1 word) + length word * 2 ^ 40
 abbrev pub counts_word : ℕ → ℕ → List ℕ
 counts_word width frac = format_text (record { signed = true; width = width; frac = frac })
 
--- the eighth byte of an entry is the width of a format, the seventh its fraction length, and the others are its words' key
+-- the eighth byte of an entry is the width of a format, the seventh its fraction length, and the others are its words'
+-- key
 pub record IsEntry (entry : ℕ) : Type 0 where
   pub format : IsTypeFormat (entry / 2 ^ 56) (entry / 2 ^ 48 % 256)
   pub key : entry % 2 ^ 48 ≡ word_key (counts_word (entry / 2 ^ 56) (entry / 2 ^ 48 % 256))

@@ -42,7 +42,8 @@ second_byte : List ℕ → ℕ
 second_byte word = get_or word 1 0
 
 radix_at : List ℕ → Radix
-radix_at word = if first_byte word == 50 then Bin else if first_byte word == 56 then Oct else if second_byte word == 48 then Dec else Hex
+radix_at word = if first_byte word == 50 then Bin else if first_byte word == 56 then Oct else if second_byte word == 48
+    then Dec else Hex
 
 radix_back : (r : Radix) → radix_at (radix_text r) ≡ r
 unfolding radix_at first_byte second_byte
@@ -67,7 +68,8 @@ policy_one : (p q : Policy) → policy_text p ≡ policy_text q → p ≡ q
 policy_one p q e = sym (policy_back p) ∙ (ap policy_at e ∙ policy_back q)
 
 mode_at : List ℕ → ReadMode
-mode_at word = if first_byte word == 110 then NearestEven else if first_byte word == 102 then Floor else if first_byte word == 99 then Ceil else TowardsZero
+mode_at word = if first_byte word == 110 then NearestEven else if first_byte word == 102 then Floor
+    else if first_byte word == 99 then Ceil else TowardsZero
 
 mode_back : (m : ReadMode) → mode_at (mode_text m) ≡ m
 unfolding mode_at first_byte
@@ -82,10 +84,13 @@ mode_one m k e = sym (mode_back m) ∙ (ap mode_at e ∙ mode_back k)
 policy_word_one : (word : List ℕ) (p q : Policy) (m k : ReadMode) → IsPolicyWord word p m → IsPolicyWord word q k
     → (p ≡ q) × (m ≡ k)
 policy_word_one word p q m k (inl a) (inl b) = (policy_one p q (sym a.0 ∙ b.0), a.1 ∙ sym b.1)
-policy_word_one word p q m k (inl a) (inr b) = absurd (split_has_one slash word (policy_text q) (mode_text k) b (ap (count_of slash) a.0 ∙ no_slash p))
-policy_word_one word p q m k (inr a) (inl b) = absurd (split_has_one slash word (policy_text p) (mode_text m) a (ap (count_of slash) b.0 ∙ no_slash q))
+policy_word_one word p q m k (inl a) (inr b) = absurd (split_has_one slash word (policy_text q) (mode_text k) b
+    (ap (count_of slash) a.0 ∙ no_slash p))
+policy_word_one word p q m k (inr a) (inl b) = absurd (split_has_one slash word (policy_text p) (mode_text m) a
+    (ap (count_of slash) b.0 ∙ no_slash q))
 policy_word_one word p q m k (inr a) (inr b) =
-    let same = same_split slash (policy_text p) (policy_text q) (mode_text m) (mode_text k) (sym a ∙ b) (no_slash p) (no_slash q) in
+    let same = same_split slash (policy_text p) (policy_text q) (mode_text m) (mode_text k) (sym a ∙ b) (no_slash p)
+    (no_slash q) in
     (policy_one p q same.before, mode_one m k same.after)
 
 -- and one format
@@ -93,24 +98,30 @@ abbrev parts : Bool → ℕ → ℕ → FormatParts
 parts s w r = record { signed = s; width = w; frac = r }
 
 parts_are : (f g : FormatParts) → f.signed ≡ g.signed → f.width ≡ g.width → f.frac ≡ g.frac → f ≡ g
-parts_are f g s w r = ap (λ x. parts x f.width f.frac) s ∙ (ap (λ x. parts g.signed x f.frac) w ∙ ap (λ x. parts g.signed g.width x) r)
+parts_are f g s w r = ap (λ x. parts x f.width f.frac) s ∙ (ap (λ x. parts g.signed x f.frac) w ∙ ap
+    (λ x. parts g.signed g.width x) r)
 
 pub format_text_one : (f g : FormatParts) → IsFormat f.width f.frac → IsFormat g.width g.frac
     → format_text f ≡ format_text g → f ≡ g
 format_text_one f g a b e =
     let head : sign_letter f.signed ≡ sign_letter g.signed = cc in
-    let tail : decimal (f.width - f.frac) ++ fraction_letter ∷ decimal f.frac ≡ decimal (g.width - g.frac) ++ fraction_letter ∷ decimal g.frac = cc in
+    let tail : decimal (f.width - f.frac) ++ fraction_letter ∷ decimal f.frac
+    ≡ decimal (g.width - g.frac) ++ fraction_letter ∷ decimal g.frac = cc in
     let most_f = a.is_width.most in
     let most_g = b.is_width.most in
     let within_f = a.within in
     let within_g = b.within in
-    let same = same_split fraction_letter (decimal (f.width - f.frac)) (decimal (g.width - g.frac)) (decimal f.frac) (decimal g.frac) tail (decimal_no_letter (f.width - f.frac) (omega arith)) (decimal_no_letter (g.width - g.frac) (omega arith)) in
-    let whole : f.width - f.frac ≡ g.width - g.frac = decimal_injective (f.width - f.frac) (g.width - g.frac) (omega arith) (omega arith) same.before in
+    let same = same_split fraction_letter (decimal (f.width - f.frac)) (decimal (g.width - g.frac)) (decimal f.frac)
+    (decimal g.frac) tail (decimal_no_letter (f.width - f.frac) (omega arith))
+    (decimal_no_letter (g.width - g.frac) (omega arith)) in
+    let whole : f.width - f.frac ≡ g.width - g.frac = decimal_injective (f.width - f.frac) (g.width - g.frac)
+    (omega arith) (omega arith) same.before in
     let frac : f.frac ≡ g.frac = decimal_injective f.frac g.frac (omega arith) (omega arith) same.after in
     parts_are f g (letters_differ f.signed g.signed head) (omega arith) frac
 
 pub format_word_one : (word : List ℕ) (f g : FormatParts) → IsFormatWord word f → IsFormatWord word g → f ≡ g
-format_word_one word f g a b = format_text_one f g (type_format f.width f.frac a.format) (type_format g.width g.frac b.format) (sym a.text ∙ b.text)
+format_word_one word f g a b = format_text_one f g (type_format f.width f.frac a.format)
+    (type_format g.width g.frac b.format) (sym a.text ∙ b.text)
 
 task_is : (t u : Task) → t.radix ≡ u.radix → t.source ≡ u.source → t.target ≡ u.target → t.policy ≡ u.policy
     → t.mode ≡ u.mode → t.numeral ≡ u.numeral → t ≡ u
@@ -129,7 +140,8 @@ refusals t a b x y =
     x.answer_is ∙ (ap (λ k. fault_answer (message_of k)) kind ∙ sym y.answer_is)
 
 refused_or_not : (t : Task) (a b : AnswerText) → IsRefusalAnswer t a → IsRespelledAnswer t b → ⊥
-refused_or_not t a b x y = refusal_none t.mode t.radix t.numeral t.policy t.source t.target x.kind y.bits y.overflowed x.refusal y.respelled
+refused_or_not t a b x y = refusal_none t.mode t.radix t.numeral t.policy t.source t.target x.kind y.bits y.overflowed
+    x.refusal y.respelled
 
 -- ---- a line has one answer, whichever relation tells which format a word names, if a word names one at most
 module _ (Names : List ℕ → FormatParts → Type 0) (one_format : (word : List ℕ) (f g : FormatParts) → Names word f
@@ -143,7 +155,8 @@ module _ (Names : List ℕ → FormatParts → Type 0) (one_format : (word : Lis
       let source : a.source_word ≡ b.source_word = ap (λ ws. get_or ws 1 []) same.words in
       let target : a.target_word ≡ b.target_word = ap (λ ws. get_or ws 2 []) same.words in
       let policy : a.policy_word ≡ b.policy_word = ap (λ ws. get_or ws 3 []) same.words in
-      let named = policy_word_one b.policy_word t.policy u.policy t.mode u.mode (subst (λ w. IsPolicyWord w t.policy t.mode) policy a.policy) b.policy in
+      let named = policy_word_one b.policy_word t.policy u.policy t.mode u.mode
+      (subst (λ w. IsPolicyWord w t.policy t.mode) policy a.policy) b.policy in
       task_is t u
       (radix_one t.radix u.radix (sym a.radix ∙ (radix ∙ b.radix)))
       (one_format b.source_word t.source u.source (subst (λ w. Names w t.source) source a.source) b.source)
@@ -153,13 +166,17 @@ module _ (Names : List ℕ → FormatParts → Type 0) (one_format : (word : Lis
   respellings : (line : List ℕ) (t : Task) (a b : AnswerText) → AsksBy Names IsPolicyWord line t
       → IsRespelledAnswer t a → IsRespelledAnswer t b → a ≡ b
   respellings line t a b asks x y =
-      let one = respelled_one t.mode t.radix t.numeral t.policy t.source t.target x.bits y.bits x.overflowed y.overflowed (valid asks.source_word t.source asks.source) (valid asks.target_word t.target asks.target) x.respelled y.respelled in
-      let text = shortest_text_unique y.bits t.target.frac x.text y.text (subst (λ c. IsShortestText c t.target.frac x.text) one.0 x.shortest) y.shortest in
+      let one = respelled_one t.mode t.radix t.numeral t.policy t.source t.target x.bits y.bits x.overflowed
+      y.overflowed (valid asks.source_word t.source asks.source)
+      (valid asks.target_word t.target asks.target) x.respelled y.respelled in
+      let text = shortest_text_unique y.bits t.target.frac x.text y.text
+      (subst (λ c. IsShortestText c t.target.frac x.text) one.0 x.shortest) y.shortest in
       x.answer_is ∙ (alike x.text y.text x.bits y.bits x.overflowed y.overflowed text one.0 one.1 ∙ sym y.answer_is)
     where
       alike : (s t : List ℕ) (b c : ℤ) (o u : Bool) → s ≡ t → b ≡ c → o ≡ u
           → respelled_answer s b o ≡ respelled_answer t c u
-      alike s t b c o u e f g = ap (λ x. respelled_answer x b o) e ∙ (ap (λ x. respelled_answer t x o) f ∙ ap (λ x. respelled_answer t c x) g)
+      alike s t b c o u e f g = ap (λ x. respelled_answer x b o) e ∙
+          (ap (λ x. respelled_answer t x o) f ∙ ap (λ x. respelled_answer t c x) g)
 
   task_answer_one : (line : List ℕ) (t : Task) (a b : AnswerText) → AsksBy Names IsPolicyWord line t
       → IsTaskAnswered t a → IsTaskAnswered t b → a ≡ b
@@ -169,7 +186,12 @@ module _ (Names : List ℕ → FormatParts → Type 0) (one_format : (word : Lis
   task_answer_one line t a b asks (inr x) (inr y) = respellings line t a b asks x y
 
   definite : IsDefinite (respell_language Names IsPolicyWord)
-  definite = record { apart = faults_apart; no_fault = no_fault Names; task_one = task_one; answer_one = task_answer_one }
+  definite = record {
+    apart = faults_apart;
+    no_fault = no_fault Names;
+    task_one = task_one;
+    answer_one = task_answer_one;
+  }
 
   pub answer_by : (line : List ℕ) (a b : AnswerText) → IsAnswerIn (respell_language Names IsPolicyWord) line a
       → IsAnswerIn (respell_language Names IsPolicyWord) line b → a ≡ b
@@ -182,10 +204,15 @@ pub answer_one : AnswerIsTheOne
 answer_one = answer_by IsFormatWord format_word_one word_valid
 
 long_answer : (line : List ℕ) → longest_line < length line → IsAnswer line (fault_answer (fault_message LineTooLong))
-long_answer line long = inl (record { fault = LineTooLong; first = first_long IsFormatWord line long; answer_is = refl })
+long_answer line long = inl (record {
+  fault = LineTooLong;
+  first = first_long IsFormatWord line long;
+  answer_is = refl;
+})
 
 pub long_by_its_prefix : LongIsAnsweredByPrefix
-long_by_its_prefix line reply long = long_by_prefix IsAnswer (fault_answer (fault_message LineTooLong)) answer_one long_answer kept_length line reply (omega arith) long
+long_by_its_prefix line reply long = long_by_prefix IsAnswer
+    (fault_answer (fault_message LineTooLong)) answer_one long_answer kept_length line reply (omega arith) long
 
 -- ---- words without a slash
 pub plain_word : PlainWordNamesNearest

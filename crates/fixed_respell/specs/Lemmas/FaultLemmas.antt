@@ -18,7 +18,8 @@ use Rattle.fixed_respell.specs.Lemmas.LineWordLemmas.{not_bad, not_missing}
 
 -- the fault of a rank
 fault_at : ℕ → LineFault
-fault_at n = if n == 0 then LineTooLong else if n == 1 then MissingField else if n == 2 then BadRadix else if n == 3 then BadSource else if n == 4 then BadTarget else BadPolicy
+fault_at n = if n == 0 then LineTooLong else if n == 1 then MissingField else if n == 2 then BadRadix else if n == 3
+    then BadSource else if n == 4 then BadTarget else BadPolicy
 
 back : (f : LineFault) → fault_at (fault_rank f) ≡ f
 unfolding fault_at
@@ -40,9 +41,12 @@ module _ (Names : List ℕ → FormatParts → Type 0) where
   no_fault line t LineTooLong asks long = omega (arith, asks.short, long)
   no_fault line t MissingField asks few = not_missing 4 line _ t.numeral asks.words refl few
   no_fault line t BadRadix asks bad = not_bad 4 0 NamesRadix line _ t.numeral asks.words refl (t.radix, asks.radix) bad
-  no_fault line t BadSource asks bad = not_bad 4 1 (NamesFormatBy Names) line _ t.numeral asks.words refl (t.source, asks.source) bad
-  no_fault line t BadTarget asks bad = not_bad 4 2 (NamesFormatBy Names) line _ t.numeral asks.words refl (t.target, asks.target) bad
-  no_fault line t BadPolicy asks bad = not_bad 4 3 (NamesSome IsPolicyWord) line _ t.numeral asks.words refl (t.policy, t.mode, asks.policy) bad
+  no_fault line t BadSource asks bad = not_bad 4 1 (NamesFormatBy Names) line _ t.numeral asks.words refl
+      (t.source, asks.source) bad
+  no_fault line t BadTarget asks bad = not_bad 4 2 (NamesFormatBy Names) line _ t.numeral asks.words refl
+      (t.target, asks.target) bad
+  no_fault line t BadPolicy asks bad = not_bad 4 3 (NamesSome IsPolicyWord) line _ t.numeral asks.words refl
+      (t.policy, t.mode, asks.policy) bad
 
   -- the line has no fault of a rank below n
   abbrev NoFaultBefore : ℕ → List ℕ → Type 0
@@ -50,36 +54,46 @@ module _ (Names : List ℕ → FormatParts → Type 0) where
 
   after : (line : List ℕ) (f : LineFault) (n : ℕ) → fault_rank f ≡ n → (HasFaultBy Names IsPolicyWord f line → ⊥)
       → NoFaultBefore n line → NoFaultBefore (n + 1) line
-  after line f n is none before = none_next LineFault fault_rank (λ f. HasFaultBy Names IsPolicyWord f line) faults_apart f n is none before
+  after line f n is none before = none_next LineFault fault_rank
+      (λ f. HasFaultBy Names IsPolicyWord f line) faults_apart f n is none before
 
   first : (line : List ℕ) (f : LineFault) (n : ℕ) → fault_rank f ≡ n → HasFaultBy Names IsPolicyWord f line
       → NoFaultBefore n line → IsFirstFaultBy Names IsPolicyWord f line
-  first line f n is has before = first_is LineFault fault_rank (λ f. HasFaultBy Names IsPolicyWord f line) f n is has before
+  first line f n is has before = first_is LineFault fault_rank
+      (λ f. HasFaultBy Names IsPolicyWord f line) f n is has before
 
   -- what a line has whose first words were read so far
   short_line : (line : List ℕ) → length line ≤ longest_line → NoFaultBefore 1 line
-  short_line line short = after line LineTooLong 0 refl (λ long. omega (arith, short, long)) (none_at_first LineFault fault_rank (λ f. HasFaultBy Names IsPolicyWord f line))
+  short_line line short = after line LineTooLong 0 refl (λ long. omega (arith, short, long))
+      (none_at_first LineFault fault_rank (λ f. HasFaultBy Names IsPolicyWord f line))
 
   worded : (line r s t p n : List ℕ) → length line ≤ longest_line → HasWords line (r ∷ s ∷ t ∷ p ∷ []) n
       → NoFaultBefore 2 line
-  worded line r s t p n short has = after line MissingField 1 refl (λ few. not_missing 4 line _ n has refl few) (short_line line short)
+  worded line r s t p n short has = after line MissingField 1 refl (λ few. not_missing 4 line _ n has refl few)
+      (short_line line short)
 
   with_radix : (line r s t p n : List ℕ) (radix : Radix) → length line ≤ longest_line
       → HasWords line (r ∷ s ∷ t ∷ p ∷ []) n → r ≡ radix_text radix → NoFaultBefore 3 line
-  with_radix line r s t p n radix short has is = after line BadRadix 2 refl (λ bad. not_bad 4 0 NamesRadix line _ n has refl (radix, is) bad) (worded line r s t p n short has)
+  with_radix line r s t p n radix short has is = after line BadRadix 2 refl
+      (λ bad. not_bad 4 0 NamesRadix line _ n has refl (radix, is) bad) (worded line r s t p n short has)
 
   with_source : (line r s t p n : List ℕ) (radix : Radix) (source : FormatParts) → length line ≤ longest_line
       → HasWords line (r ∷ s ∷ t ∷ p ∷ []) n → r ≡ radix_text radix → Names s source → NoFaultBefore 4 line
-  with_source line r s t p n radix source short has is is_source = after line BadSource 3 refl (λ bad. not_bad 4 1 (NamesFormatBy Names) line _ n has refl (source, is_source) bad) (with_radix line r s t p n radix short has is)
+  with_source line r s t p n radix source short has is is_source = after line BadSource 3 refl
+      (λ bad. not_bad 4 1 (NamesFormatBy Names) line _ n has refl (source, is_source) bad)
+      (with_radix line r s t p n radix short has is)
 
   with_target : (line r s t p n : List ℕ) (radix : Radix) (source target : FormatParts) → length line ≤ longest_line
       → HasWords line (r ∷ s ∷ t ∷ p ∷ []) n → r ≡ radix_text radix → Names s source → Names t target
       → NoFaultBefore 5 line
-  with_target line r s t p n radix source target short has is is_source is_target = after line BadTarget 4 refl (λ bad. not_bad 4 2 (NamesFormatBy Names) line _ n has refl (target, is_target) bad) (with_source line r s t p n radix source short has is is_source)
+  with_target line r s t p n radix source target short has is is_source is_target = after line BadTarget 4 refl
+      (λ bad. not_bad 4 2 (NamesFormatBy Names) line _ n has refl (target, is_target) bad)
+      (with_source line r s t p n radix source short has is is_source)
 
   -- the first faults
   pub first_long : (line : List ℕ) → longest_line < length line → IsFirstFaultBy Names IsPolicyWord LineTooLong line
-  first_long line long = first line LineTooLong 0 refl long (none_at_first LineFault fault_rank (λ f. HasFaultBy Names IsPolicyWord f line))
+  first_long line long = first line LineTooLong 0 refl long (none_at_first LineFault fault_rank
+      (λ f. HasFaultBy Names IsPolicyWord f line))
 
   pub first_missing : (line : List ℕ) → length line ≤ longest_line → count_of space line < 4
       → IsFirstFaultBy Names IsPolicyWord MissingField line
@@ -87,20 +101,28 @@ module _ (Names : List ℕ → FormatParts → Type 0) where
 
   pub first_radix : (line r s t p n : List ℕ) → length line ≤ longest_line → HasWords line (r ∷ s ∷ t ∷ p ∷ []) n
       → ((radix : Radix) → r ≡ radix_text radix → ⊥) → IsFirstFaultBy Names IsPolicyWord BadRadix line
-  first_radix line r s t p n short has none = first line BadRadix 2 refl (record { words = _; rest = n; has = has; count_is = refl; bad = λ (radix, is). none radix is }) (worded line r s t p n short has)
+  first_radix line r s t p n short has none = first line BadRadix 2 refl
+      (record { words = _; rest = n; has = has; count_is = refl; bad = λ (radix, is). none radix is })
+      (worded line r s t p n short has)
 
   pub first_source : (line r s t p n : List ℕ) (radix : Radix) → length line ≤ longest_line
       → HasWords line (r ∷ s ∷ t ∷ p ∷ []) n → r ≡ radix_text radix → ((source : FormatParts) → Names s source → ⊥)
       → IsFirstFaultBy Names IsPolicyWord BadSource line
-  first_source line r s t p n radix short has is none = first line BadSource 3 refl (record { words = _; rest = n; has = has; count_is = refl; bad = λ (source, is). none source is }) (with_radix line r s t p n radix short has is)
+  first_source line r s t p n radix short has is none = first line BadSource 3 refl
+      (record { words = _; rest = n; has = has; count_is = refl; bad = λ (source, is). none source is })
+      (with_radix line r s t p n radix short has is)
 
   pub first_target : (line r s t p n : List ℕ) (radix : Radix) (source : FormatParts) → length line ≤ longest_line
       → HasWords line (r ∷ s ∷ t ∷ p ∷ []) n → r ≡ radix_text radix → Names s source
       → ((target : FormatParts) → Names t target → ⊥) → IsFirstFaultBy Names IsPolicyWord BadTarget line
-  first_target line r s t p n radix source short has is is_source none = first line BadTarget 4 refl (record { words = _; rest = n; has = has; count_is = refl; bad = λ (target, is). none target is }) (with_source line r s t p n radix source short has is is_source)
+  first_target line r s t p n radix source short has is is_source none = first line BadTarget 4 refl
+      (record { words = _; rest = n; has = has; count_is = refl; bad = λ (target, is). none target is })
+      (with_source line r s t p n radix source short has is is_source)
 
   pub first_policy : (line r s t p n : List ℕ) (radix : Radix) (source target : FormatParts)
       → length line ≤ longest_line → HasWords line (r ∷ s ∷ t ∷ p ∷ []) n → r ≡ radix_text radix → Names s source
       → Names t target → ((policy : Policy) (mode : ReadMode) → IsPolicyWord p policy mode → ⊥)
       → IsFirstFaultBy Names IsPolicyWord BadPolicy line
-  first_policy line r s t p n radix source target short has is is_source is_target none = first line BadPolicy 5 refl (record { words = _; rest = n; has = has; count_is = refl; bad = λ (policy, mode, is). none policy mode is }) (with_target line r s t p n radix source target short has is is_source is_target)
+  first_policy line r s t p n radix source target short has is is_source is_target none = first line BadPolicy 5 refl
+      (record { words = _; rest = n; has = has; count_is = refl; bad = λ (policy, mode, is). none policy mode is })
+      (with_target line r s t p n radix source target short has is is_source is_target)

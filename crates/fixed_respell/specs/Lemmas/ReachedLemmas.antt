@@ -1,5 +1,6 @@
 -- What is reached is the one.
-use Rattle.std.proofs.Common.{◌≡◌, ℕ, ◌↔◌, Bool, true, false, IsTrue, List, take, slice_get, refl, sym, ap, ◌∙◌, arith, ⊎_elim, ℤ}
+use Rattle.std.proofs.Common.{◌≡◌, ℕ, ◌↔◌, Bool, true, false, IsTrue, List, take, slice_get, refl, sym, ap, ◌∙◌, arith}
+use Rattle.std.proofs.Common.{⊎_elim, ℤ}
 use Rattle.fixed_bits.specs.Down.{IsDown}
 use Rattle.fixed_bits.specs.Images.{IsImage}
 use Rattle.fixed_bits.specs.declared.format.Policy.TheVariants.{Checked}
@@ -12,10 +13,12 @@ use Rattle.fixed_numeral.specs.declared.error.ParseErrorKind.TheVariants.{Overfl
 use Rattle.fixed_numeral.specs.declared.radix.Radix.{Radix}
 use Rattle.fixed_numeral.proofs.Public.{parts_unique, magnitude_pos}
 use Rattle.fixed_read.specs.Reading.{IsReadNumber}
-use Rattle.fixed_respell.specs.Laws.{ReachedIsTheOne, OverflowedHasNone, RespelledIsTheOne, RefusalHasNone, RefusalIsTheOne}
+use Rattle.fixed_respell.specs.Laws.{ReachedIsTheOne, OverflowedHasNone, RespelledIsTheOne, RefusalHasNone}
+use Rattle.fixed_respell.specs.Laws.{RefusalIsTheOne}
 use Rattle.fixed_respell.specs.Reached.{OverflowsOn}
 
-read_one : (mode : ReadMode) (r : Radix) (p : Parts) (f : ℕ) (v w : ℤ) → IsReadNumber mode r p f v → IsReadNumber mode r p f w → v ≡ w
+read_one : (mode : ReadMode) (r : Radix) (p : Parts) (f : ℕ) (v w : ℤ) → IsReadNumber mode r p f v
+    → IsReadNumber mode r p f w → v ≡ w
 read_one mode r p f v w a b =
     let one = rounded_one mode (is_minus p.sign) _ _ (magnitude_pos r p) in
     let same : a.steps ≡ b.steps = one.2 a.steps a.rounded ∙ sym (one.2 b.steps b.rounded) in
@@ -33,9 +36,11 @@ down_same b f g d e x y = (down_one b f g d).0 x ∙ sym ((down_one b f g e).0 y
 pub reached_one : ReachedIsTheOne
 reached_one mode r p policy source target b c o u f g x y =
     let e = read_one mode r p source.frac x.number y.number x.read y.read in
-    let i = image_one policy source.signed source.width y.number x.in_source y.in_source f.is_width (rw e at x.source_image) y.source_image in
+    let i = image_one policy source.signed source.width y.number x.in_source y.in_source f.is_width
+    (rw e at x.source_image) y.source_image in
     let d = down_same y.in_source source.frac target.frac x.moved y.moved (rw i at x.down) y.down in
-    let j = image_one policy target.signed target.width y.moved b c g.is_width (rw d at x.target_image) y.target_image in
+    let j = image_one policy target.signed target.width y.moved b c g.is_width
+    (rw d at x.target_image) y.target_image in
     (j, same_flag o u _ (rw (e, d) at x.flag) y.flag)
 
 pub overflowed_none : OverflowedHasNone
@@ -72,8 +77,10 @@ cause_one r bytes k l x y =
     let a = y.prefix.longest x.count x.prefix.within (x.parts, x.prefix.beginning) in
     let b = x.prefix.longest y.count y.prefix.within (y.parts, y.prefix.beginning) in
     omega (arith, a, b) in
-    let p : x.parts ≡ y.parts = parts_unique r (take y.count bytes) x.parts y.parts (rw longest at x.prefix.beginning) y.prefix.beginning in
-    x.is_kind ∙ ap (λ n. kind_of r x.parts (slice_get bytes n)) longest ∙ ap (λ q. kind_of r q (slice_get bytes y.count)) p ∙ sym y.is_kind
+    let p : x.parts ≡ y.parts = parts_unique r (take y.count bytes) x.parts y.parts
+    (rw longest at x.prefix.beginning) y.prefix.beginning in
+    x.is_kind ∙ ap (λ n. kind_of r x.parts (slice_get bytes n)) longest ∙ ap
+    (λ q. kind_of r q (slice_get bytes y.count)) p ∙ sym y.is_kind
 
 pub refusal_one : RefusalIsTheOne
 refusal_one mode r bytes policy source target k l x y = ⊎_elim

@@ -23,19 +23,24 @@ count_yes b x xs e = count_cons b x xs ∙ ap (λ t. cond t 1 0 + count_of b xs)
 pub count_one : (b : ℕ) (xs ys : List ℕ) → count_of b (xs ++ b ∷ ys) ≡ count_of b xs + (1 + count_of b ys)
 count_one b xs ys = count-append b xs (b ∷ ys) ∙ ap (λ n. count_of b xs + n) (count_yes b b ys refl)
 
-pub same_split : (b : ℕ) (xs ys rest rest' : List ℕ) → xs ++ b ∷ rest ≡ ys ++ b ∷ rest' → count_of b xs ≡ 0 → count_of b ys ≡ 0 → IsSameSplit xs ys rest rest'
+pub same_split : (b : ℕ) (xs ys rest rest' : List ℕ) → xs ++ b ∷ rest ≡ ys ++ b ∷ rest' → count_of b xs ≡ 0
+    → count_of b ys ≡ 0 → IsSameSplit xs ys rest rest'
 same_split b [] [] rest rest' e none none' = record { before = refl; after = cc }
-same_split b [] (y ∷ ys) rest rest' e none none' = let h : b ≡ y = cc in absurd (omega (arith, none', count_yes b y ys h))
-same_split b (x ∷ xs) [] rest rest' e none none' = let h : b ≡ x = cc in absurd (omega (arith, none, count_yes b x xs h))
+same_split b [] (y ∷ ys) rest rest' e none none' = let h : b ≡ y = cc
+    in absurd (omega (arith, none', count_yes b y ys h))
+same_split b (x ∷ xs) [] rest rest' e none none' = let h : b ≡ x = cc
+    in absurd (omega (arith, none, count_yes b x xs h))
 same_split b (x ∷ xs) (y ∷ ys) rest rest' e none none' =
     let head : x ≡ y = cc in
     let tail : xs ++ b ∷ rest ≡ ys ++ b ∷ rest' = cc in
-    let later = same_split b xs ys rest rest' tail (omega (arith, none, count_cons b x xs)) (omega (arith, none', count_cons b y ys)) in
+    let later = same_split b xs ys rest rest' tail (omega (arith, none, count_cons b x xs))
+    (omega (arith, none', count_cons b y ys)) in
     let before : xs ≡ ys = later.before in
     record { before = cc; after = later.after }
 
 -- bytes have one split
-pub split_is_one : (b : ℕ) (bytes xs rest ys rest' : List ℕ) → IsSplit b bytes xs rest → IsSplit b bytes ys rest' → IsSameSplit xs ys rest rest'
+pub split_is_one : (b : ℕ) (bytes xs rest ys rest' : List ℕ) → IsSplit b bytes xs rest → IsSplit b bytes ys rest'
+    → IsSameSplit xs ys rest rest'
 split_is_one b bytes xs rest ys rest' p q = same_split b xs ys rest rest' (sym p.split ∙ q.split) p.first q.first
 
 -- bytes without b have none

@@ -13,6 +13,9 @@ no_slash Saturating = refl
 no_slash Wrapping = refl
 
 -- a policy word with a slash is split there
-pub policy_split : (word xs ys : List ℕ) (p : Policy) (m : ReadMode) → IsSplit slash word xs ys → IsPolicyWord word p m → IsSameSplit xs (policy_text p) ys (mode_text m)
-policy_split word xs ys p m cut (inl plain) = absurd (split_has_one slash word xs ys cut.split (ap (count_of slash) plain.0 ∙ no_slash p))
-policy_split word xs ys p m cut (inr split) = split_is_one slash word xs ys (policy_text p) (mode_text m) cut (record { split = split; first = no_slash p })
+pub policy_split : (word xs ys : List ℕ) (p : Policy) (m : ReadMode) → IsSplit slash word xs ys → IsPolicyWord word p m
+    → IsSameSplit xs (policy_text p) ys (mode_text m)
+policy_split word xs ys p m cut (inl plain) = absurd (split_has_one slash word xs ys cut.split
+    (ap (count_of slash) plain.0 ∙ no_slash p))
+policy_split word xs ys p m cut (inr split) = split_is_one slash word xs ys (policy_text p) (mode_text m) cut
+    (record { split = split; first = no_slash p })

@@ -8,15 +8,17 @@ pub record IsReduced (n places m k : ℕ) : Type 0 where
   pub same : n * 10 ^ k ≡ m * 10 ^ places
   pub ends : (k ≡ 0) ⊎ (m % 10 ≡ 0 → ⊥)
 
--- `places` digits that spell `number`, and `digit`: without the zeros at their end they are the digits after the point of the
--- shortest decimal of c ulps of 2^-g
+-- `places` digits that spell `number`, and `digit`: without the zeros at their end they are the digits after the point
+-- of the shortest decimal of c ulps of 2^-g
 pub record IsPaddedFraction (c g number places digit : ℕ) : Type 0 where
-  pub shortest : (m k : ℕ) → IsReduced (number * 10 + digit) (suc places) m k → IsShortest c g (c / 2 ^ g * 10 ^ k + m) k
+  pub shortest : (m k : ℕ) → IsReduced (number * 10 + digit) (suc places) m k
+      → IsShortest c g (c / 2 ^ g * 10 ^ k + m) k
   pub fits : number < 10 ^ places
   pub few : places ≤ 19
   pub small : digit < 10
 
--- the digits after the point of the shortest decimal of c ulps of 2^-g: `places` digits that spell `number`, and `digit`
+-- the digits after the point of the shortest decimal of c ulps of 2^-g: `places` digits that spell `number`, and
+-- `digit`
 pub record IsShortestFraction (c g number places digit : ℕ) : Type 0 where
   pub shortest : IsShortest c g (c / 2 ^ g * 10 ^ suc places + (number * 10 + digit)) (suc places)
   pub fits : number < 10 ^ places

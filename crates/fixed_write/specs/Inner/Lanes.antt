@@ -4,7 +4,8 @@ use Rattle.fixed_write.specs.Texts.{zero_digit}
 
 -- the sixteen digits of n, two by two
 abbrev pub pairs_of : ℕ → List ℕ
-pairs_of n = n / 10 ^ 14 ∷ n / 10 ^ 12 % 100 ∷ n / 10 ^ 10 % 100 ∷ n / 10 ^ 8 % 100 ∷ n / 10 ^ 6 % 100 ∷ n / 10000 % 100 ∷ n / 100 % 100 ∷ n % 100 ∷ []
+pairs_of n = n / 10 ^ 14 ∷ n / 10 ^ 12 % 100 ∷ n / 10 ^ 10 % 100 ∷ n / 10 ^ 8 % 100 ∷ n / 10 ^ 6 % 100 ∷ n / 10000 % 100
+    ∷ n / 100 % 100 ∷ n % 100 ∷ []
 
 -- both digits of each
 abbrev pub digits_of_pairs : List ℕ → List ℕ

@@ -12,7 +12,8 @@ body_text digits zeros tail = digits ++ (replicate zeros zero_digit ++ tail)
 
 -- fills, sign and prefix, zeros, the body, and fills
 abbrev pub laid_out : List ℕ → ℕ → List ℕ → ℕ → List ℕ → ℕ → List ℕ
-laid_out fill before prefix inner body after = repeat before fill ++ (prefix ++ (replicate inner zero_digit ++ (body ++ repeat after fill)))
+laid_out fill before prefix inner body after = repeat before fill
+    ++ (prefix ++ (replicate inner zero_digit ++ (body ++ repeat after fill)))
 
 -- the notations with a point and no exponent
 abbrev pub IsPointNotation : Notation → Type 0
@@ -21,7 +22,8 @@ IsPointNotation UpperExp = ⊥
 IsPointNotation _ = Unit {0}
 
 -- after, followed by zeros, is before followed by the body
-pub record AppendsBody (notation : Notation) (precision : Option ℕ) (c g : ℕ) (before after : List ℕ) (zeros : ℕ) : Type 0 where
+pub record AppendsBody (notation : Notation) (precision : Option ℕ) (c g : ℕ) (before after : List ℕ)
+    (zeros : ℕ) : Type 0 where
   pub body : List ℕ
   pub is_body : IsPointBody notation precision c g body
   pub text : after ++ replicate zeros zero_digit ≡ before ++ body

@@ -8,7 +8,8 @@ use Rattle.line_engine.specs.Output.{AreAnswers, reply_line, written_of, any_fau
 use Rattle.line_engine.specs.Appended.{AppendsPrefix}
 use Rattle.line_engine.specs.AnswerText.{AnswerText}
 use Rattle.line_engine.specs.declared.status.Status.{Status}
-use Rattle.line_engine.specs.declared.status.Status.TheVariants.{Done, Faults, Usage, ReadFault, WriteFault, NoMemory, TooLong}
+use Rattle.line_engine.specs.declared.status.Status.TheVariants.{Done, Faults, Usage, ReadFault, WriteFault, NoMemory}
+use Rattle.line_engine.specs.declared.status.Status.TheVariants.{TooLong}
 
 -- of the bytes gathered and those that came, a prefix was written, and the rest is gathered
 pub record Flushes (held more held' : List ℕ) (old new : Option (List ℕ)) : Type 0 where
@@ -81,6 +82,7 @@ EndsLines A per_byte extra lines before written steps failures failures' Faults 
     (state [] written true steps) × (failures' ≡ failures)
 EndsLines A per_byte extra lines before written steps failures failures' Usage = ⊥
 EndsLines A per_byte extra lines before written steps failures failures' ReadFault = ⊥
-EndsLines A per_byte extra lines before written steps failures failures' WriteFault = AnswersUntilFailure A per_byte extra lines before written steps × HasFailed failures failures'
+EndsLines A per_byte extra lines before written steps failures failures' WriteFault = AnswersUntilFailure A per_byte
+    extra lines before written steps × HasFailed failures failures'
 EndsLines A per_byte extra lines before written steps failures failures' NoMemory = ⊥
 EndsLines A per_byte extra lines before written steps failures failures' TooLong = ⊥
