@@ -48,7 +48,7 @@ fn is_like_format(word: &str) -> bool {
 
 /// What an option's value names, or a refusal of the value.
 fn known<'a, T>(found: Option<T>, given: &Given<'_, 'a>, row: &Row) -> Asked<'a, T>
-    ensures { IfOk result (λ a. found.entry ≡ Some a) }
+    ensures { IfOk result (λ a. found ≡ Some a) }
 {
     match found {
         Some(found) => Ok(found),
