@@ -14,7 +14,7 @@ use std::sync::ledger::Ledger;
 
 /// A program of several commands.
 #[derive(Clone, Copy)]
-pub struct Program {
+pub struct Program<'p> {
     /// Its name.
     pub name: &'static str,
     /// Its version.
@@ -26,7 +26,7 @@ pub struct Program {
     /// What its help ends with: an example.
     pub end: &'static str,
     /// Its commands, in the order of the help.
-    pub pages: &'static [Page],
+    pub pages: &'p [Page],
 }
 
 /// What the commands of a program do.
@@ -42,7 +42,7 @@ pub trait Commands<L: Ledger> {
 }
 
 /// A program without its commands, for `clap`.
-fn bare<'a>(alloc: Global, program: &Program) -> Command<'a> {
+fn bare<'a>(alloc: Global, program: &Program<'_>) -> Command<'a> {
     let command = Command::new(alloc, program.name).version(program.version);
     let command = command.propagate_version(true).no_binary_name(true);
     let command = command.disable_help_subcommand(true).about(program.about);
@@ -52,18 +52,22 @@ fn bare<'a>(alloc: Global, program: &Program) -> Command<'a> {
 }
 
 /// A program with all its commands, for `clap`.
-fn whole<'a>(alloc: Global, program: &Program) -> Result<Command<'a>, AllocError> {
+fn whole<'a>(alloc: Global, program: &Program<'_>) -> Result<Command<'a>, AllocError> {
     bare(alloc, program).subcommands(commands_of(alloc, program.pages)?)
 }
 
 /// The page of the command that a word names.
-fn page_of(program: &Program, word: &str) -> Option<&'static Page> {
+fn page_of<'p>(program: &Program<'p>, word: &str) -> Option<&'p Page> {
     program.pages.iter().find(|page| page.name == word
         || !word.is_empty() && page.hidden_name == word)
 }
 
 /// The words as `clap` is to read them.
-fn prepared(alloc: Global, program: &Program, words: &[String]) -> Result<Vec<String>, AllocError> {
+fn prepared(
+    alloc: Global,
+    program: &Program<'_>,
+    words: &[String],
+) -> Result<Vec<String>, AllocError> {
     if let [first, ..] = words {
         if let Some(page) = page_of(program, first) {
             if page.has_numerals {
@@ -127,7 +131,7 @@ fn report_error(rt: &HostRuntime, command: &str, error: &Error) -> Status {
 /// Does what the words that `clap` found ask for.
 fn run_matches<'a, C: Commands<L>, L: Ledger>(
     rt: &HostRuntime,
-    program: &Program,
+    program: &Program<'_>,
     commands: &C,
     matches: &ArgMatches<'a>,
     after: &'a [String],
@@ -172,7 +176,7 @@ fn refuse_word(rt: &HostRuntime, name: &str, word: &str, why: &str) -> Status {
 /// What the words give a command.
 fn given_of<'w, 'a>(
     alloc: Global,
-    program: &Program,
+    program: &Program<'_>,
     name: &str,
     found: &'w ArgMatches<'a>,
     after: &'a [String],
@@ -187,7 +191,7 @@ fn given_of<'w, 'a>(
 /// Does what the words ask for.
 pub fn run_words<C: Commands<L>, L: Ledger>(
     rt: &HostRuntime,
-    program: &Program,
+    program: &Program<'_>,
     commands: &C,
     words: &[String],
     steps: &mut Steps<L>,
@@ -210,7 +214,7 @@ pub fn run_words<C: Commands<L>, L: Ledger>(
 }
 
 /// Writes the help to standard error, where there are no words.
-fn show_help(rt: &HostRuntime, program: &Program) -> Status {
+fn show_help(rt: &HostRuntime, program: &Program<'_>) -> Status {
     let text = match whole(rt.alloc(), program) {
         Ok(command) => {
             let mut command = command;
@@ -229,7 +233,7 @@ fn show_help(rt: &HostRuntime, program: &Program) -> Status {
 }
 
 /// The name of the command that the first word names; the empty text where it names none.
-fn first_page(program: &Program, words: &[String]) -> &'static str {
+fn first_page(program: &Program<'_>, words: &[String]) -> &'static str {
     match words {
         [first, ..] => match page_of(program, first) {
             Some(page) => page.name,

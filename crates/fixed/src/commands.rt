@@ -13,32 +13,41 @@ pub mod show;
 pub mod sort;
 
 use command_line::given::{Asked, Given};
+use command_line::page::Page;
 use command_line::run::{Commands, Program};
 use fixed_steps::Steps;
 use line_engine::Status;
 use std::sync::ledger::Ledger;
 
-/// The command for people. Its version is that of the Rust crate whose behaviour is ported.
-pub const PROGRAM: Program = Program {
-    name: "fixed",
-    version: "1.31.0",
-    about: "Read, print and convert binary fixed-point numbers",
-    usage: "fixed COMMAND [OPTIONS] [WORD]...",
-    end: "Example: fixed convert U8F8 --print all <numerals.txt",
-    pages: &[
-        convert::PAGE,
-        column::PAGE,
-        bits::PAGE,
-        show::PAGE,
-        format::PAGE,
-        lines::PAGE,
-        enclose::PAGE,
-        least::PAGE,
-        fit::PAGE,
-        constants::PAGE,
-        sort::PAGE,
-    ],
-};
+/// The pages of the commands, in the order of the help. Each is made by a function of its own: as parts of one constant
+/// they are more than the prover reads at once.
+pub fn pages() -> [Page; 11] {
+    [
+        convert::page(),
+        column::page(),
+        bits::page(),
+        show::page(),
+        format::page(),
+        lines::page(),
+        enclose::page(),
+        least::page(),
+        fit::page(),
+        constants::page(),
+        sort::page(),
+    ]
+}
+
+/// The command for people, with these pages. Its version is that of the Rust crate whose behaviour is ported.
+pub fn program(pages: &[Page]) -> Program<'_> {
+    Program {
+        name: "fixed",
+        version: "1.31.0",
+        about: "Read, print and convert binary fixed-point numbers",
+        usage: "fixed COMMAND [OPTIONS] [WORD]...",
+        end: "Example: fixed convert U8F8 --print all <numerals.txt",
+        pages,
+    }
+}
 
 /// The commands.
 #[derive(Clone, Copy)]

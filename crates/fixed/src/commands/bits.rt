@@ -20,19 +20,21 @@ const WORDS: Operand = Operand {
     help: "Decimal, or after 0x, 0o or 0b; with a sign the number itself",
 };
 
-pub const PAGE: Page = Page {
-    name: "bits",
-    hidden_name: "",
-    about: "Show what number the word of a register is",
-    usage: "fixed bits [OPTIONS] FORMAT [WORD]...",
-    operands: &[FORMAT, WORDS],
-    has_numerals: true,
-    options: &[RADIX, FILE],
-    end: "A format is I (signed) or U (unsigned), its whole bits, F and its fraction bits,\n\
-          as in I16F16, 1 to 64 bits in all; or as in Q15, Q8.8 and UQ8.8.\n\
-          \n\
-          Example: fixed bits I16F16 0xfffc0000",
-};
+pub fn page() -> Page {
+    Page {
+        name: "bits",
+        hidden_name: "",
+        about: "Show what number the word of a register is",
+        usage: "fixed bits [OPTIONS] FORMAT [WORD]...",
+        operands: &[FORMAT, WORDS],
+        has_numerals: true,
+        options: &[RADIX, FILE],
+        end: "A format is I (signed) or U (unsigned), its whole bits, F and its fraction bits,\n\
+              as in I16F16, 1 to 64 bits in all; or as in Q15, Q8.8 and UQ8.8.\n\
+              \n\
+              Example: fixed bits I16F16 0xfffc0000",
+    }
+}
 
 /// Shows each word.
 pub fn run<'a, L: Ledger>(

@@ -51,32 +51,34 @@ const KEEP: Row = Row {
     help: "A field that is refused stays as it was",
 };
 
-pub const PAGE: Page = Page {
-    name: "column",
-    hidden_name: "",
-    about: "Convert columns of CSV, every other byte as it was",
-    usage: "fixed column [OPTIONS] COLUMNS SOURCE [TARGET] [FILE]...",
-    operands: &[COLUMN, SOURCE, TARGET],
-    has_numerals: false,
-    options: &[
-        FROM,
-        RADIX,
-        POLICY,
-        MODE,
-        TARGET_MODE,
-        PRINT,
-        PLACES,
-        DELIMITER,
-        ALL,
-        HEADER,
-        KEEP,
-    ],
-    end: "A format is I (signed) or U (unsigned), its whole bits, F and its fraction bits,\n\
-          as in I16F16, 1 to 64 bits in all; or as in Q15, Q8.8 and UQ8.8. A\n\
-          number is rounded down from SOURCE to TARGET, or by --target-mode.\n\
-          \n\
-          Example: fixed column price U16F16 --header <tariff.csv",
-};
+pub fn page() -> Page {
+    Page {
+        name: "column",
+        hidden_name: "",
+        about: "Convert columns of CSV, every other byte as it was",
+        usage: "fixed column [OPTIONS] COLUMNS SOURCE [TARGET] [FILE]...",
+        operands: &[COLUMN, SOURCE, TARGET],
+        has_numerals: false,
+        options: &[
+            FROM,
+            RADIX,
+            POLICY,
+            MODE,
+            TARGET_MODE,
+            PRINT,
+            PLACES,
+            DELIMITER,
+            ALL,
+            HEADER,
+            KEEP,
+        ],
+        end: "A format is I (signed) or U (unsigned), its whole bits, F and its fraction bits,\n\
+              as in I16F16, 1 to 64 bits in all; or as in Q15, Q8.8 and UQ8.8. A\n\
+              number is rounded down from SOURCE to TARGET, or by --target-mode.\n\
+              \n\
+              Example: fixed column price U16F16 --header <tariff.csv",
+    }
+}
 
 /// The delimiter that the option names.
 fn delimiter_of<'a>(given: &Given<'_, 'a>) -> Asked<'a, u8> {

@@ -22,16 +22,18 @@ const GUARD: Row = Row {
     help: "The name that guards the C header",
 };
 
-pub const PAGE: Page = Page {
-    name: "constants",
-    hidden_name: "",
-    about: "Write named literals in one form, as a C header or as Rust",
-    usage: "fixed constants [c | rust] [--guard NAME] [FILE]...",
-    operands: &[WORDS],
-    has_numerals: false,
-    options: &[GUARD],
-    end: "Example: echo 'A = 0b_111e-2 I4F4' | fixed constants c --guard A_H",
-};
+pub fn page() -> Page {
+    Page {
+        name: "constants",
+        hidden_name: "",
+        about: "Write named literals in one form, as a C header or as Rust",
+        usage: "fixed constants [c | rust] [--guard NAME] [FILE]...",
+        operands: &[WORDS],
+        has_numerals: false,
+        options: &[GUARD],
+        end: "Example: echo 'A = 0b_111e-2 I4F4' | fixed constants c --guard A_H",
+    }
+}
 
 /// The form that the first word names, and the place of the first file. A file of such a name is written `./c`, or
 /// after `--`.

@@ -8,16 +8,18 @@ use fixed_steps::Steps;
 use line_engine::Status;
 use std::sync::ledger::Ledger;
 
-pub const PAGE: Page = Page {
-    name: "enclose",
-    hidden_name: "",
-    about: "Answer lines `RADIX FORMAT NUMERAL` with the two nearest values",
-    usage: "fixed enclose [FILE]...",
-    operands: &[FILES],
-    has_numerals: false,
-    options: &[],
-    end: "Example: echo '10 I4F4 3.14' | fixed enclose",
-};
+pub fn page() -> Page {
+    Page {
+        name: "enclose",
+        hidden_name: "",
+        about: "Answer lines `RADIX FORMAT NUMERAL` with the two nearest values",
+        usage: "fixed enclose [FILE]...",
+        operands: &[FILES],
+        has_numerals: false,
+        options: &[],
+        end: "Example: echo '10 I4F4 3.14' | fixed enclose",
+    }
+}
 
 /// Answers the lines of each file.
 pub fn run<'a, L: Ledger>(

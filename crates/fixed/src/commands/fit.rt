@@ -50,21 +50,23 @@ const RANGE: Row = Row {
     help: "Every value between two numerals, which stand in place of files",
 };
 
-pub const PAGE: Page = Page {
-    name: "fit",
-    hidden_name: "",
-    about: "Find the finest format of a width that each numeral of an input fits",
-    usage: "fixed fit --width W [OPTIONS] [FILE]...\n       fixed fit --width W [OPTIONS] --range [--] LO HI",
-    operands: &[FILES],
-    has_numerals: false,
-    options: &[WIDTH, SIGNED, WHY, RANGE, RADIX],
-    end: "A numeral fits a format where it is in range after rounding to nearest, ties to\n\
-          even. The finest format has the greatest fraction length. It is signed exactly\n\
-          where a numeral is below zero, or where --signed asks for it. Of a range LO is\n\
-          line 1 and HI line 2; where LO begins with a minus, -- comes before it.\n\
-          \n\
-          Example: printf '0.5\\n-3.2\\n' | fixed fit --width 16 --why",
-};
+pub fn page() -> Page {
+    Page {
+        name: "fit",
+        hidden_name: "",
+        about: "Find the finest format of a width that each numeral of an input fits",
+        usage: "fixed fit --width W [OPTIONS] [FILE]...\n       fixed fit --width W [OPTIONS] --range [--] LO HI",
+        operands: &[FILES],
+        has_numerals: false,
+        options: &[WIDTH, SIGNED, WHY, RANGE, RADIX],
+        end: "A numeral fits a format where it is in range after rounding to nearest, ties to\n\
+              even. The finest format has the greatest fraction length. It is signed exactly\n\
+              where a numeral is below zero, or where --signed asks for it. Of a range LO is\n\
+              line 1 and HI line 2; where LO begins with a minus, -- comes before it.\n\
+              \n\
+              Example: printf '0.5\\n-3.2\\n' | fixed fit --width 16 --why",
+    }
+}
 
 /// The format of the width and the sign rule that the options name.
 fn kind_of<'a>(given: &Given<'_, 'a>) -> Asked<'a, Format> {

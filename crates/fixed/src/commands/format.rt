@@ -14,19 +14,21 @@ const FORMATS: Operand = Operand {
     help: "The formats",
 };
 
-pub const PAGE: Page = Page {
-    name: "format",
-    hidden_name: "",
-    about: "Show the range, the ulp and the digits of a format",
-    usage: "fixed format FORMAT...",
-    operands: &[FORMATS],
-    has_numerals: false,
-    options: &[],
-    end: "A format is I (signed) or U (unsigned), its whole bits, F and its fraction bits,\n\
-          as in I16F16, 1 to 64 bits in all; or as in Q15, Q8.8 and UQ8.8.\n\
-          \n\
-          Example: fixed format I16F16 U0F8",
-};
+pub fn page() -> Page {
+    Page {
+        name: "format",
+        hidden_name: "",
+        about: "Show the range, the ulp and the digits of a format",
+        usage: "fixed format FORMAT...",
+        operands: &[FORMATS],
+        has_numerals: false,
+        options: &[],
+        end: "A format is I (signed) or U (unsigned), its whole bits, F and its fraction bits,\n\
+              as in I16F16, 1 to 64 bits in all; or as in Q15, Q8.8 and UQ8.8.\n\
+              \n\
+              Example: fixed format I16F16 U0F8",
+    }
+}
 
 /// Shows each format.
 pub fn run<'a, L: Ledger>(

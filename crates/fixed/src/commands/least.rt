@@ -15,16 +15,18 @@ const WORDS: Operand = Operand {
     help: "2, 8, 10 (if left out) or 16, and files",
 };
 
-pub const PAGE: Page = Page {
-    name: "least",
-    hidden_name: "",
-    about: "Find the least format that holds each numeral of an input exactly",
-    usage: "fixed least [RADIX] [FILE]...",
-    operands: &[WORDS],
-    has_numerals: false,
-    options: &[],
-    end: "Example: printf '0.5\\n3\\n' | fixed least",
-};
+pub fn page() -> Page {
+    Page {
+        name: "least",
+        hidden_name: "",
+        about: "Find the least format that holds each numeral of an input exactly",
+        usage: "fixed least [RADIX] [FILE]...",
+        operands: &[WORDS],
+        has_numerals: false,
+        options: &[],
+        end: "Example: printf '0.5\\n3\\n' | fixed least",
+    }
+}
 
 /// The radix that the first word names, and the place of the first file. A file of such a name is written `./10`, or
 /// after `--`.

@@ -10,16 +10,18 @@ use fixed_steps::Steps;
 use line_engine::Status;
 use std::sync::ledger::Ledger;
 
-pub const PAGE: Page = Page {
-    name: "lines",
-    hidden_name: "",
-    about: "Answer lines `RADIX SOURCE TARGET POLICY NUMERAL`",
-    usage: "fixed lines [OPTIONS] [FILE]...",
-    operands: &[FILES],
-    has_numerals: false,
-    options: &[LIMIT],
-    end: "Example: echo '10 I16F16 I8F8 checked 3.14159' | fixed lines",
-};
+pub fn page() -> Page {
+    Page {
+        name: "lines",
+        hidden_name: "",
+        about: "Answer lines `RADIX SOURCE TARGET POLICY NUMERAL`",
+        usage: "fixed lines [OPTIONS] [FILE]...",
+        operands: &[FILES],
+        has_numerals: false,
+        options: &[LIMIT],
+        end: "Example: echo '10 I16F16 I8F8 checked 3.14159' | fixed lines",
+    }
+}
 
 /// Answers the lines of each file.
 pub fn run<'a, L: Ledger>(

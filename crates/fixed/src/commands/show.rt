@@ -20,19 +20,21 @@ const NUMERALS: Operand = Operand {
     help: "The numerals",
 };
 
-pub const PAGE: Page = Page {
-    name: "show",
-    hidden_name: "",
-    about: "Show all there is to know of a number in a format",
-    usage: "fixed show [OPTIONS] FORMAT [NUMERAL]...",
-    operands: &[FORMAT, NUMERALS],
-    has_numerals: true,
-    options: &[RADIX, POLICY, MODE, FILE],
-    end: "A format is I (signed) or U (unsigned), its whole bits, F and its fraction bits,\n\
-          as in I16F16, 1 to 64 bits in all; or as in Q15, Q8.8 and UQ8.8.\n\
-          \n\
-          Example: fixed show I16F16 3.14159 -1e-3",
-};
+pub fn page() -> Page {
+    Page {
+        name: "show",
+        hidden_name: "",
+        about: "Show all there is to know of a number in a format",
+        usage: "fixed show [OPTIONS] FORMAT [NUMERAL]...",
+        operands: &[FORMAT, NUMERALS],
+        has_numerals: true,
+        options: &[RADIX, POLICY, MODE, FILE],
+        end: "A format is I (signed) or U (unsigned), its whole bits, F and its fraction bits,\n\
+              as in I16F16, 1 to 64 bits in all; or as in Q15, Q8.8 and UQ8.8.\n\
+              \n\
+              Example: fixed show I16F16 3.14159 -1e-3",
+    }
+}
 
 /// Shows each numeral.
 pub fn run<'a, L: Ledger>(

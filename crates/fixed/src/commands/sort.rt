@@ -15,16 +15,18 @@ const WORDS: Operand = Operand {
     help: "limit and a number, as the option; and files",
 };
 
-pub const PAGE: Page = Page {
-    name: "sort",
-    hidden_name: "columns",
-    about: "Sort lines `NUMERAL FORMAT` by value, in one aligned column",
-    usage: "fixed sort [limit N | --limit N] [FILE]...",
-    operands: &[WORDS],
-    has_numerals: false,
-    options: &[LIMIT],
-    end: "Example: printf '0.5 U7F1\\n-1 I8F0\\n' | fixed sort",
-};
+pub fn page() -> Page {
+    Page {
+        name: "sort",
+        hidden_name: "columns",
+        about: "Sort lines `NUMERAL FORMAT` by value, in one aligned column",
+        usage: "fixed sort [limit N | --limit N] [FILE]...",
+        operands: &[WORDS],
+        has_numerals: false,
+        options: &[LIMIT],
+        end: "Example: printf '0.5 U7F1\\n-1 I8F0\\n' | fixed sort",
+    }
+}
 
 /// The word that names the limit, and the place of the first file. A first word `limit` has a number after it; a file
 /// of such a name is written `./limit`, or after `--`.
