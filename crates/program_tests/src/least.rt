@@ -54,10 +54,13 @@ fn lists_are_answered_as_worked_out(rt: HostRuntime) -> Result<(), Fail> {
 fn none_names_each_format(rt: HostRuntime) -> Result<(), Fail> {
     let alloc = rt.alloc();
     let mut expected = String::from_str(alloc, "none\n")?;
-    for width in [8, 16, 32, 64] {
+    for width in [8u32, 16, 32, 64] {
         for letter in ["U", "I"] {
             for frac in 0..=width {
-                let line = format!(in alloc; "{letter}{}F{frac} line 2\n", width - frac)?;
+                let line = format!(in alloc;
+                    "{letter}{}F{frac} line 2\n",
+                    width.saturating_sub(frac)
+                )?;
                 expected.push_str(line.as_str())?;
             }
         }
