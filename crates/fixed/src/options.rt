@@ -7,7 +7,7 @@ pub const RADIX: Row = Row {
     letter: Some('r'),
     value: "RADIX",
     choices: &["2", "8", "10", "16"],
-    help: "The radix of numerals and bare words: 2, 8, 10 (default), 16",
+    help: "Of numerals and bare words: 2, 8, 10 (default), 16",
 };
 
 pub const POLICY: Row = Row {
@@ -15,7 +15,7 @@ pub const POLICY: Row = Row {
     letter: Some('p'),
     value: "POLICY",
     choices: &["checked", "saturating", "wrapping"],
-    help: "Out of range: checked (default), saturating, wrapping",
+    help: "Overflow: checked (default), saturating, wrapping",
 };
 
 pub const MODE: Row = Row {
@@ -23,7 +23,7 @@ pub const MODE: Row = Row {
     letter: Some('m'),
     value: "MODE",
     choices: &["nearest", "floor", "ceil", "zero"],
-    help: "How it is rounded: nearest (default), floor, ceil, zero",
+    help: "Rounding: nearest (default), floor, ceil, zero",
 };
 
 pub const TARGET_MODE: Row = Row {
@@ -31,7 +31,7 @@ pub const TARGET_MODE: Row = Row {
     letter: None,
     value: "MODE",
     choices: &["nearest", "floor", "ceil", "zero"],
-    help: "How it is rounded to TARGET: nearest, floor (default), ceil, zero",
+    help: "To TARGET: nearest, floor (default), ceil, zero",
 };
 
 pub const FROM: Row = Row {
@@ -39,7 +39,7 @@ pub const FROM: Row = Row {
     letter: None,
     value: "WHAT",
     choices: &["text", "bits"],
-    help: "A line is a numeral (text, default) or a word of SOURCE (bits)",
+    help: "text (default): numerals; bits: words of SOURCE",
 };
 
 pub const PRINT: Row = Row {

@@ -16,7 +16,7 @@ use std::sync::ledger::Ledger;
 
 const COLUMN: Operand = Operand {
     name: "COLUMNS",
-    help: "Numbers from 1, ranges 2-5, names of the header; commas between them",
+    help: "Numbers from 1, ranges 2-5, names of the header, with commas",
 };
 
 const DELIMITER: Row = Row {

@@ -47,14 +47,14 @@ const RANGE: Row = Row {
     letter: None,
     value: "",
     choices: &[],
-    help: "Every value between two numerals, which stand in place of files",
+    help: "Every value from LO to HI, in place of files",
 };
 
 pub fn page() -> Page {
     Page {
         name: "fit",
         hidden_name: "",
-        about: "Find the finest format of a width that each numeral of an input fits",
+        about: "Find the finest format of a width that each numeral fits",
         usage: "fixed fit --width W [OPTIONS] [FILE]...\n       fixed fit --width W [OPTIONS] --range [--] LO HI",
         operands: &[FILES],
         has_numerals: false,
