@@ -1,6 +1,7 @@
 #!/usr/bin/env bash
-# chroot.sh PACKAGE..: installs packages in a new Debian of debootstrap, runs what they bring, and removes them again. SUITE and MIRROR
-# say which Debian and from where. Where there is no debootstrap, or who calls is not root, it says so and does nothing.
+# chroot.sh PACKAGE..: installs packages in a new Debian of debootstrap, runs what they bring, and removes them again. SUITE
+# and MIRROR say which Debian and from where. Where there is no debootstrap, or who calls is not root, it says so and does
+# nothing.
 set -eu
 cd "$(dirname "$0")/.."
 if ! command -v debootstrap >/dev/null || [ "$(id -u)" -ne 0 ]; then
@@ -10,7 +11,7 @@ fi
 suite=${SUITE:-$(. /etc/os-release && echo "${VERSION_CODENAME:-stable}")}
 room=$(mktemp -d) && trap 'rm -rf "$room"' EXIT
 root=$room/root
-debootstrap --variant=minbase --include=python3,gcc,libc6-dev,pkg-config "$suite" "$root" "${MIRROR:-http://deb.debian.org/debian}" \
+debootstrap --variant=minbase --include=python3,gcc,libc6-dev,pkg-config "$suite" "$root" ${MIRROR:+"$MIRROR"} \
   >"$room/log" 2>&1 || { tail -n 5 "$room/log" >&2; exit 1; }
 mkdir "$root/packages"
 cp "$@" examples/c/example.c examples/c/edges.c examples/python/fixed.py "$root/packages"
@@ -34,7 +35,7 @@ gcc -O1 edges.c -lfixed -o edges
 python3 -c "import lomdeqash; f = lomdeqash.Format('I1F15'); print(lomdeqash.__file__, f.text(f.read(0.3333)))"
 LIBFIXED=libfixed.so.1 python3 fixed.py
 dpkg --purge $names >/dev/null
-if command -v fixed >/dev/null || [ -e /usr/include/fixed.h ] || [ -e /usr/lib/python3/dist-packages/lomdeqash ]; then
+if [ -e /usr/bin/fixed ] || [ -e /usr/include/fixed.h ] || [ -e /usr/lib/python3/dist-packages/lomdeqash ]; then
   echo 'something was left behind' >&2
   exit 1
 fi
