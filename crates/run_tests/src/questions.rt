@@ -117,7 +117,7 @@ fn each_word_has_its_block(rt: HostRuntime) -> Result<(), Fail> {
         },
         Asked {
             question: Question::Format,
-            words: &["I0F8", "I9F0"],
+            words: &["I0F8", "I65F0"],
             failing_write: NEVER,
             written: FORMAT_AND_REFUSED,
             status: Status::Faults,
