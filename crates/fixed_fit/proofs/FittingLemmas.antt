@@ -66,9 +66,9 @@ shorter : (r : Radix) (p : Parts) (s : Bool) (n f g : ℕ) (v w : ℤ) → g ≤
 shorter r p s n f g v w order x y h =
     let num : ℕ = (magnitude r p).num in
     let fewer : num * 2 ^ g ≤ num * 2 ^ f = mul-le-mul_left num (pow-le-pow_right (omega arith) order) in
-    let less : y.steps ≤ x.steps = nearest_grows (num * 2 ^ g) (num * 2 ^ f) (magnitude r p).den y.steps x.steps (magnitude_pos r p) fewer y.rounded x.rounded in
+    let less : y.ulps ≤ x.ulps = nearest_grows (num * 2 ^ g) (num * 2 ^ f) (magnitude r p).den y.ulps x.ulps (magnitude_pos r p) fewer y.rounded x.rounded in
     let P : ℤ → Type 0 = λ z. IsInRange s n z in
-    subst P (sym y.value) (range_shrinks s n (is_minus p.sign) y.steps x.steps less (subst P x.value h))
+    subst P (sym y.value) (range_shrinks s n (is_minus p.sign) y.ulps x.ulps less (subst P x.value h))
 
 pub fits_each_shorter : FitsEachShorter
 fits_each_shorter r s n f g line order h =

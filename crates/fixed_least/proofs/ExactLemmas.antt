@@ -42,7 +42,7 @@ read_down r p f found at x =
       not_above =
           let whole = x.holds.high * 2 ^ 64 + found.low in
           let number = sym x.read.value ∙ (x.holds.value ∙ ap (λ b. with_sign b whole) x.sign) in
-          let same : x.read.steps ≡ whole = same_magnitude (is_minus p.sign) x.read.steps whole number in
+          let same : x.read.ulps ≡ whole = same_magnitude (is_minus p.sign) x.read.ulps whole number in
           let P : ℕ → Type 0 = λ q. IsNotAbove ((magnitude r p).num * 2 ^ found.format.frac) (magnitude r p).den q in
           subst P same x.read.rounded;
       over = x.holds.over;

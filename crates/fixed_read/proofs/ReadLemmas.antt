@@ -23,12 +23,12 @@ use Rattle.fixed_read.proofs.DirectionLemmas.{to_rounded}
 
 -- ---- a numeral has one read number
 pub read_unique : (mode : ReadMode) (r : Radix) (p : Parts) (f : ℕ) (v w : ℤ) → IsReadNumber mode r p f v → IsReadNumber mode r p f w → v ≡ w
-read_unique mode r p f v w g h = g.value ∙ ap (signed p.sign) (rounded_unique mode (is_minus p.sign) ((magnitude r p).num * 2 ^ f) (magnitude r p).den g.steps h.steps (magnitude_pos r p) g.rounded h.rounded) ∙ sym h.value
+read_unique mode r p f v w g h = g.value ∙ ap (signed p.sign) (rounded_unique mode (is_minus p.sign) ((magnitude r p).num * 2 ^ f) (magnitude r p).den g.ulps h.ulps (magnitude_pos r p) g.rounded h.rounded) ∙ sym h.value
 
 pub read_number_is_the_one : ReadNumberIsTheOne
 read_number_is_the_one mode r p f =
     let found = rounded_exists mode (is_minus p.sign) ((magnitude r p).num * 2 ^ f) (magnitude r p).den (magnitude_pos r p) in
-    let read : IsReadNumber mode r p f (signed p.sign found.0) = record { steps = found.0; rounded = found.1; value = refl } in
+    let read : IsReadNumber mode r p f (signed p.sign found.0) = record { ulps = found.0; rounded = found.1; value = refl } in
     (signed p.sign found.0, read, λ w h. read_unique mode r p f w (signed p.sign found.0) h read)
 
 -- ---- a result's cases
@@ -79,7 +79,7 @@ reading_from mode r p number ulps found sign some same mag low high exact =
     let rounded = to_rounded mode found.negative _ _ _ own.to in
     record {
       number = with_sign found.negative (own.high * 2 ^ 64 + ulps.low);
-      read = record { steps = own.high * 2 ^ 64 + ulps.low; rounded = subst (λ s. IsRounded mode s ((magnitude r p).num * 2 ^ found.format.frac) (magnitude r p).den (own.high * 2 ^ 64 + ulps.low)) sign rounded; value = ap (λ s. with_sign s (own.high * 2 ^ 64 + ulps.low)) sign };
+      read = record { ulps = own.high * 2 ^ 64 + ulps.low; rounded = subst (λ s. IsRounded mode s ((magnitude r p).num * 2 ^ found.format.frac) (magnitude r p).den (own.high * 2 ^ 64 + ulps.low)) sign rounded; value = ap (λ s. with_sign s (own.high * 2 ^ 64 + ulps.low)) sign };
       holds = record { high = own.high; value = rw low refl; over = rw high own.over };
       sign = sign;
       exact = rw exact own.exact;

@@ -14,9 +14,9 @@ use Rattle.fixed_read.specs.declared.read_number.ReadNumber.{ReadNumber}
 
 -- v is the read number of a numeral with these parts: its magnitude in ulps of 2^-f, rounded in the mode, with its sign
 pub record IsReadNumber (mode : ReadMode) (r : Radix) (p : Parts) (f : ℕ) (v : ℤ) : Type 0 where
-  pub steps : ℕ
-  pub rounded : IsRounded mode (is_minus p.sign) ((magnitude r p).num * 2 ^ f) (magnitude r p).den steps
-  pub value : v ≡ signed p.sign steps
+  pub ulps : ℕ
+  pub rounded : IsRounded mode (is_minus p.sign) ((magnitude r p).num * 2 ^ f) (magnitude r p).den ulps
+  pub value : v ≡ signed p.sign ulps
 
 -- m is a multiple of d
 abbrev pub IsMultipleOf : ℕ → ℕ → Type 0
