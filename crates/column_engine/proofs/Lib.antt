@@ -1,5 +1,7 @@
 mod RowLemmas
+mod PlaceLemmas
 mod GatherLemmas
+mod FieldsLemmas
 mod FeedLemmas
 mod HeaderLemmas
 mod RunLemmas

@@ -1,4 +1,5 @@
 pub mod Rows
+pub mod Places
 pub mod Answers
 pub mod Gathered
 pub mod Steps

@@ -7,6 +7,7 @@ pub mod columns;
 mod cutter;
 pub mod end;
 mod field;
+mod fields;
 mod gather;
 mod header;
 pub mod place;
