@@ -6,7 +6,7 @@ use Rattle.column_engine.proofs.answer.answer_field.Goals as goal
 
 pub returns-in_err-put_field-clause-err : goal.returns-in_err-put_field-clause-err
 returns-in_err-put_field-clause-err g c =
-    let A = g.A.LineRule.Answers c.args.task.now.rule.now in
+    let A = g.A.FieldRule.Answers c.args.task.now.rule.now in
     let a = g.K.Sink.written c.args.sink.now in
     let b = g.K.Sink.written c.put_field.new.sink in
     let refused = c.answer_asked-is_refused.result in
@@ -22,7 +22,7 @@ returns-in_err-put_field-clause-err g c =
 
 pub returns-then-is_asked-clause-ok : goal.returns-then-is_asked-clause-ok
 returns-then-is_asked-clause-ok g c =
-    let A = g.A.LineRule.Answers c.args.task.now.rule.now in
+    let A = g.A.FieldRule.Answers c.args.task.now.rule.now in
     let a = g.K.Sink.written c.args.sink.now in
     let b = g.K.Sink.written c.put_field.new.sink in
     let refused = c.answer_asked-is_refused.result in
@@ -33,7 +33,7 @@ returns-then-is_asked-clause-ok g c =
 
 pub returns-in_err-put_field-2-clause-err : goal.returns-in_err-put_field-2-clause-err
 returns-in_err-put_field-2-clause-err g c =
-    let A = g.A.LineRule.Answers c.args.task.now.rule.now in
+    let A = g.A.FieldRule.Answers c.args.task.now.rule.now in
     let part = c.in_err-put_field-2.ensures.err in
     on_err c.from_residual-in_err-put_field-2.result (
       false,
@@ -44,6 +44,6 @@ returns-in_err-put_field-2-clause-err g c =
 
 pub returns-clause-ok : goal.returns-clause-ok
 returns-clause-ok g c =
-    let A = g.A.LineRule.Answers c.args.task.now.rule.now in
+    let A = g.A.FieldRule.Answers c.args.task.now.rule.now in
     field_unasked A c.args.task.now.is_kept c.args.task.now.delimiter c.args.asked.now (is_asked c.args.asked.now c.args.column) c.args.column c.args.raw.now c.args.work.now.out c.put_field-2.new.out
     (g.K.Sink.written c.args.sink.now) (g.K.Sink.written c.put_field-2.new.sink) (sym c.is_asked.ensures ∙ c.if-is_asked.false) c.in_ok-put_field-2.ensures.ok

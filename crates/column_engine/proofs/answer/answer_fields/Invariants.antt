@@ -12,7 +12,7 @@ invariant-fields g l = record {
   many : l.column ≡ length some;
   fits : l.column + length l.rest ≤ length l.body;
   few : l.refused ≤ l.column;
-  fields : GathersFields (g.A.LineRule.Answers l.task.rule.now) l.task.is_kept l.task.delimiter l.asked 0 some l.refused l.initial.work.out l.work.out
+  fields : GathersFields (g.A.FieldRule.Answers l.task.rule.now) l.task.is_kept l.task.delimiter l.asked 0 some l.refused l.initial.work.out l.work.out
       (g.K.Sink.written l.initial.sink) (g.K.Sink.written l.sink);
 }
 
