@@ -1,7 +1,7 @@
 //! The answer to a field.
 
 ghost use Rattle.std.specs.Prelude.{◌≡◌, ◌≤◌, true, length};
-ghost use Rattle.column_engine.specs.Answers.{IsAnswer};
+ghost use Rattle.column_engine.specs.Answers.{IsAnswer, stays};
 ghost use Rattle.column_engine.specs.Rows.{content};
 ghost use Rattle.column_engine.specs.declared.record_buffer.TheConstants.{MAX_RECORD};
 
@@ -9,8 +9,10 @@ use crate::columns::Column;
 use crate::field::{plain_content, write_as_field, write_content};
 use crate::place::Place;
 use crate::record_buffer::RecordBuffer;
+use crate::rule::FieldRule;
+use crate::watch::ColumnWatch;
 use fixed_steps::Steps;
-use line_engine::{LineRule, Output};
+use line_engine::Output;
 use std::sync::ledger::Ledger;
 
 /// What of a text is answered, and how.
@@ -26,6 +28,8 @@ pub struct ColumnTask<'a, A> {
     pub is_kept: bool,
     /// The byte between fields: an ASCII character that is no quote and no end of a line.
     pub delimiter: u8,
+    /// What is kept to be reported.
+    pub watch: &'a ColumnWatch,
 }
 
 /// Room for the answer to a field, and the output that is gathered.
@@ -33,6 +37,8 @@ pub struct ColumnTask<'a, A> {
 pub(crate) struct Work {
     /// The text of a field, and then the bytes that are written for it.
     pub text: RecordBuffer,
+    /// Room for the rule.
+    pub scratch: RecordBuffer,
     /// The reply to a field.
     pub reply: Output,
     /// What is still to be written.
@@ -40,7 +46,7 @@ pub(crate) struct Work {
 }
 
 /// Has the text of a field answered.
-fn reply_to<A: LineRule<L>, L: Ledger>(
+fn reply_to<A: FieldRule<L>, L: Ledger>(
     rule: &A,
     raw: &[u8],
     work: &mut Work,
@@ -55,17 +61,38 @@ fn reply_to<A: LineRule<L>, L: Ledger>(
 {
     work.reply.clear();
     match plain_content(raw) {
-        Some(text) => rule.answer(text, &mut work.reply, steps),
+        Some(text) => rule.answer(text, &mut work.scratch, &mut work.reply, steps),
         None => {
             write_content(raw, &mut work.text);
-            rule.answer(work.text.as_slice(), &mut work.reply, steps)
+            rule.answer(
+                work.text.as_slice(),
+                &mut work.scratch,
+                &mut work.reply,
+                steps,
+            )
         }
     }
 }
 
+/// Keeps what there is to report of a field that was just refused.
+fn watch_refusal(watch: &ColumnWatch, column: usize, raw: &[u8], work: &Work) {
+    match plain_content(raw) {
+        Some(text) => watch.refuse(column, text, work.reply.as_bytes()),
+        None => watch.refuse(column, work.text.as_slice(), work.reply.as_bytes()),
+    }
+}
+
+/// Whether a field stays as it was.
+fn stays(is_kept: bool, is_refused: bool, reply: &[u8]) -> bool
+    ensures { result ≡ stays is_kept (record { text = reply.now; fault = is_refused }) }
+{
+    is_kept && is_refused || reply.is_empty()
+}
+
 /// Writes out the answer to a field that is asked for. It says whether the field was refused.
-pub(crate) fn answer_asked<A: LineRule<L>, L: Ledger>(
+pub(crate) fn answer_asked<A: FieldRule<L>, L: Ledger>(
     task: &ColumnTask<'_, A>,
+    column: usize,
     raw: &[u8],
     work: &mut Work,
     steps: &mut Steps<L>,
@@ -78,7 +105,10 @@ pub(crate) fn answer_asked<A: LineRule<L>, L: Ledger>(
     ensures out { work.new.out ≡ work.old.out }
 {
     let is_refused = reply_to(task.rule, raw, work, steps);
-    if task.is_kept && is_refused {
+    if is_refused {
+        watch_refusal(task.watch, column, raw, work);
+    }
+    if stays(task.is_kept, is_refused, work.reply.as_bytes()) {
         work.text.clear();
         work.text.append(raw);
     } else {

@@ -12,8 +12,9 @@ use crate::answer::{ColumnTask, Work, answer_asked};
 use crate::columns::{Range, is_asked};
 use crate::gather::put;
 use crate::place::{Place, field_end};
+use crate::rule::FieldRule;
 use fixed_steps::Steps;
-use line_engine::{Failed, LineRule, Sink};
+use line_engine::{Failed, Sink};
 use std::sync::ledger::Ledger;
 
 /// A field by its place in a record.
@@ -28,8 +29,9 @@ pub(crate) struct Field {
 }
 
 /// Gathers the answer to a field that is asked for, after the bytes before it. It says whether the field was refused.
-fn gather_answer<A: LineRule<L>, K: Sink, L: Ledger>(
+fn gather_answer<A: FieldRule<L>, K: Sink, L: Ledger>(
     task: &ColumnTask<'_, A>,
+    column: usize,
     before: &[u8],
     raw: &[u8],
     work: &mut Work,
@@ -45,7 +47,7 @@ fn gather_answer<A: LineRule<L>, K: Sink, L: Ledger>(
         (K.written sink.new)) }
     ensures failures { FailsOnlyCounted (K.failures sink.old) (K.failures sink.new) result }
 {
-    let is_refused = answer_asked(task, raw, work, steps);
+    let is_refused = answer_asked(task, column, raw, work, steps);
     put(before, &mut work.out, sink)?;
     put(work.text.as_slice(), &mut work.out, sink)?;
     Ok(is_refused)
@@ -53,7 +55,7 @@ fn gather_answer<A: LineRule<L>, K: Sink, L: Ledger>(
 
 /// Gathers the answer to a field with the bytes from a place on, or leaves both for later where the field isn't asked
 /// for. It says from where bytes are left, and how many fields were refused.
-fn pass_field<A: LineRule<L>, K: Sink, L: Ledger>(
+fn pass_field<A: FieldRule<L>, K: Sink, L: Ledger>(
     task: &ColumnTask<'_, A>,
     asked: &[Range],
     body: &[u8],
@@ -83,7 +85,8 @@ fn pass_field<A: LineRule<L>, K: Sink, L: Ledger>(
         return Ok((from, 0));
     }
     let raw = &body[field.start..field.end];
-    match gather_answer(task, &body[from..field.start], raw, work, sink, steps) {
+    let before = &body[from..field.start];
+    match gather_answer(task, field.column, before, raw, work, sink, steps) {
         Err(_) => Err(Failed),
         Ok(is_refused) => Ok((field.end, as_count(is_refused))),
     }
@@ -120,7 +123,7 @@ fn past_asked(asked: &[Range]) -> usize
 }
 
 /// Gathers the answers to the fields of a record, and says how many were refused.
-pub(crate) fn answer_fields<A: LineRule<L>, K: Sink, L: Ledger>(
+pub(crate) fn answer_fields<A: FieldRule<L>, K: Sink, L: Ledger>(
     task: &ColumnTask<'_, A>,
     asked: &[Range],
     body: &[u8],

@@ -13,10 +13,14 @@ mod header;
 pub mod place;
 pub mod record_buffer;
 pub mod row;
+pub mod rule;
 pub mod run;
+pub mod watch;
 
 pub use answer::ColumnTask;
 pub use columns::{Column, Range};
 pub use end::{ColumnEnd, Stop};
-pub use record_buffer::MAX_RECORD;
+pub use record_buffer::{MAX_RECORD, RecordBuffer};
+pub use rule::FieldRule;
 pub use run::run_column;
+pub use watch::{ColumnWatch, RefusedField};

@@ -23,7 +23,7 @@ returns-in_err-put-clause-err g c =
 
 pub returns-in_err-put-2-clause-err : goal.returns-in_err-put-2-clause-err
 returns-in_err-put-2-clause-err g c =
-    let A = g.A.LineRule.Answers c.args.task.now.rule.now in
+    let A = g.A.FieldRule.Answers c.args.task.now.rule.now in
     let part = c.in_err-put-2.ensures.err in
     let a = g.K.Sink.written c.args.sink.now in
     let b = g.K.Sink.written c.put.new.sink in
@@ -42,7 +42,7 @@ returns-in_err-put-2-clause-err g c =
 
 pub returns-clause-ok : goal.returns-clause-ok
 returns-clause-ok g c =
-    let A = g.A.LineRule.Answers c.args.task.now.rule.now in
+    let A = g.A.FieldRule.Answers c.args.task.now.rule.now in
     let a = g.K.Sink.written c.args.sink.now in
     let b = g.K.Sink.written c.put.new.sink in
     let z = g.K.Sink.written c.put-2.new.sink in
