@@ -70,11 +70,11 @@ module _ (A : List ℕ → AnswerText → Type 0) (keeps : Bool) (d : ℕ) where
   pass_asked asks refused held new body raw from start end a b is one = rw (ahead_none new body end) (pass_part asks refused held new body raw from start a b is one)
 
 -- ---- the fields after the last that is asked for
-pub joined_more : ℕ → List (List ℕ) → List ℕ
+unfoldable pub joined_more : ℕ → List (List ℕ) → List ℕ
 joined_more d [] = []
 joined_more d (raw ∷ raws) = d ∷ raw ++ joined_more d raws
 
-pub joined : ℕ → List (List ℕ) → List ℕ
+unfoldable pub joined : ℕ → List (List ℕ) → List ℕ
 joined d [] = []
 joined d (raw ∷ raws) = raw ++ joined_more d raws
 

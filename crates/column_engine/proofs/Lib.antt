@@ -5,3 +5,5 @@ mod FieldsLemmas
 mod FeedLemmas
 mod HeaderLemmas
 mod RunLemmas
+mod RecordLemmas
+mod ReplaceLemmas

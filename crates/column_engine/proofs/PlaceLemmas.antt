@@ -125,3 +125,13 @@ outside_is Start other = tt
 outside_is Inside other = tt
 outside_is AfterQuote other = tt
 outside_is Quoted other = other refl
+
+-- a field without a quote first
+pub first_inside : (d : ℕ) (body : List ℕ) → (get_or body 0 0 == 34) ≡ false → raw_fields d Start body ≡ raw_fields d Inside body
+unfolding raw_fields
+first_inside d [] other = refl
+first_inside d (b ∷ rest) other = rw other refl
+
+pub first_nothing : (d : ℕ) (body : List ℕ) → (length body == 0) ≡ true → raw_fields d Start body ≡ raw_fields d Inside body
+first_nothing d [] none = first_inside d [] refl
+first_nothing d (b ∷ rest) none = absurd (omega (arith, eqb-true (length (b ∷ rest)) 0 none))

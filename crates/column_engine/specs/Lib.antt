@@ -7,3 +7,4 @@ pub mod Feeding
 pub mod Begin
 pub mod Run
 pub mod End
+pub mod Laws

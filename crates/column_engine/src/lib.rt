@@ -10,6 +10,7 @@ mod field;
 mod fields;
 mod gather;
 mod header;
+pub mod laws;
 pub mod place;
 pub mod record_buffer;
 pub mod row;

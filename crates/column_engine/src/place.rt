@@ -1,6 +1,6 @@
 //! Where a record of CSV ends, and where a field of it ends.
 
-ghost use Rattle.std.specs.Prelude.{◌≡◌, ◌≢◌, ◌≤◌, ◌<◌, ◌+◌, ◌++◌, [], ◌∷◌, true, MatchOption, drop, get_or, length};
+ghost use Rattle.std.specs.Prelude.{◌≡◌, ◌≤◌, ◌<◌, ◌+◌, ◌++◌, [], ◌∷◌, ℕ, true, drop, get_or, length};
 ghost use Rattle.std.specs.Prelude.{IfSome, take};
 ghost use Rattle.column_engine.specs.Places.{HasNoBefore, IsPlainBefore, StaysFor, behind_plain};
 ghost use Rattle.column_engine.specs.Rows.{IsUnended, ends_field, ends_record, place_after, places_after, raw_fields};
@@ -80,6 +80,9 @@ fn before_mark(bytes: &[u8]) -> usize
     ensures within { result ≤ length bytes.now }
     ensures plain { IsPlainBefore bytes.now result }
 {
+    if !bytes.is_empty() && bytes[0] == b'"' {
+        return 0;
+    }
     match memchr3(b'"', b'\n', b'\r', bytes) {
         Some(count) => count,
         None => bytes.len(),
@@ -108,6 +111,7 @@ fn pass_over(delimiter: u8, place: Place, bytes: &[u8]) -> (usize, Place)
 {
     match place {
         Place::Quoted => (before_byte(b'"', bytes), Place::Quoted),
+        Place::AfterQuote => (0, Place::AfterQuote),
         _ => {
             let count = before_mark(bytes);
             (count, behind_plain(delimiter, place, &bytes[..count]))
@@ -152,6 +156,20 @@ fn staying(delimiter: u8, place: Place, bytes: &[u8]) -> usize
     }
 }
 
+/// A place at which the first field of a record can be taken to begin: inside of one where it has no quote first.
+fn first_place(body: &[u8]) -> Place
+    ensures { (delimiter : ℕ) → raw_fields delimiter Place.Start body.now ≡ raw_fields delimiter result body.now }
+{
+    if body.is_empty() {
+        return Place::Inside;
+    }
+    if body[0] == b'"' {
+        Place::Start
+    } else {
+        Place::Inside
+    }
+}
+
 /// How many bytes the first field of a record has.
 pub(crate) fn field_end(delimiter: u8, body: &[u8]) -> usize
     ensures within { result ≤ length body.now }
@@ -161,7 +179,7 @@ pub(crate) fn field_end(delimiter: u8, body: &[u8]) -> usize
         (result + 1) body.now) }
     ensures delimiter { result < length body.now → get_or body.now result 0 ≡ delimiter }
 {
-    let mut place = Place::Start;
+    let mut place = first_place(body);
     let mut at = 0;
     'bytes: loop {
         at += staying(delimiter, place, &body[at..]);

@@ -4,11 +4,14 @@ use Rattle.column_engine.specs.Places.{StaysFor}
 use Rattle.column_engine.specs.Rows.{raw_fields}
 use Rattle.column_engine.specs.declared.place.Place.TheVariants.{Start}
 use Rattle.column_engine.proofs.PlaceLemmas.{ends_is, stay_more}
-use Rattle.column_engine.proofs.RowLemmas.{fields_begin, fields_end, fields_last, fields_more, onto}
+use Rattle.column_engine.proofs.RowLemmas.{fields_end, fields_from, fields_last, fields_more, onto}
 use Rattle.column_engine.proofs.place.field_end.Goals as goal
 
 pub bytes-init : goal.bytes-init
-bytes-init c = record { within = omega arith; fields = fields_begin c.args.delimiter c.args.body.now }
+bytes-init c = record {
+  within = omega arith;
+  fields = c.first_place-place.ensures c.args.delimiter ∙ fields_from c.args.delimiter c.first_place-place.result c.args.body.now;
+}
 
 pub returns-then-at-body-clause-last : goal.returns-then-at-body-clause-last
 returns-then-at-body-clause-last c =
