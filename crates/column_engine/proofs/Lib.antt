@@ -7,3 +7,4 @@ mod HeaderLemmas
 mod RunLemmas
 mod RecordLemmas
 mod ReplaceLemmas
+mod UniqueLemmas

@@ -260,6 +260,9 @@ pub record Means (d : ℕ) (raw text : List ℕ) : Type 0 where
   pub some : raw ≢ []
   pub text_is : content Start raw ≡ text
 
+inside_open : Inside ≢ Quoted
+inside_open = λ e. cc e
+
 plain_means : (d : ℕ) (text : List ℕ) → text ≢ [] → needs_quotes (record default_writer { delimiter = d }) text ≡ false → Means d text text
 unfolding IsRaw places_after
 plain_means d [] some none = absurd (some refl)
@@ -271,7 +274,7 @@ plain_means d (b ∷ rest) some none =
     let inside : places_after d (place_after d Start b) rest ≡ Inside = ap (λ q. places_after d q rest) place ∙ later.1 in
     record {
       raw_is = (rw (plain.newline, plain.return) refl, plain.delimiter, subst (λ q. IsRaw d q rest) (sym within) later.0);
-      closed = λ e. cc (sym inside ∙ e);
+      closed = λ e. inside_open (sym inside ∙ e);
       some = some;
       text_is = plain_first (b ∷ rest) plain.quote;
     }

@@ -1,13 +1,14 @@
 -- Laws of the records of a text.
-use Rattle.std.specs.Prelude.{◌≡◌, ◌≢◌, ◌⊎◌, ◌==◌, ◌+◌, ⊤, ℕ, Bool, true, false, List, [], ◌∷◌, if◌then◌else◌, length}
+use Rattle.std.specs.Prelude.{◌≡◌, ◌≢◌, ◌⊎◌, ◌==◌, ◌+◌, ◌++◌, ⊤, ℕ, Bool, true, false, List, [], ◌∷◌, if◌then◌else◌, length}
 use Rattle.csv.specs.Reading.{AreRecords, default_config}
 use Rattle.csv.specs.declared.parser.Config.{Config}
 use Rattle.csv.specs.declared.parser.State.TheVariants.{StartRecord}
 use Rattle.line_engine.specs.AnswerText.{AnswerText}
 use Rattle.column_engine.specs.Answers.{AnswersRow, AnswersRows, State, is_asked, stays}
-use Rattle.column_engine.specs.Rows.{IsEnded, IsLast, Row, field_texts, row_text, rows_text}
+use Rattle.column_engine.specs.Rows.{AreEnded, IsEnded, IsLast, IsUnended, Row, field_texts, row_text, rows_text}
 use Rattle.column_engine.specs.declared.columns.Column.{Column}
 use Rattle.column_engine.specs.declared.columns.Range.{Range}
+use Rattle.column_engine.specs.declared.place.Place.TheVariants.{Start}
 
 -- a byte that is no quote and no end of a line
 pub record IsDelimiter (delimiter : ℕ) : Type 0 where
@@ -72,3 +73,15 @@ abbrev pub FieldsAreReplaced : (List ℕ → AnswerText → Type 0) → Type 0
 FieldsAreReplaced A = (keeps : Bool) (delimiter : ℕ) (columns : List Column) (s t : State) (rows : List Row)
     (text : List ℕ) → IsDelimiter delimiter → AreRows delimiter rows → AnswersRows A keeps delimiter columns s rows text t
     → (news : List Row) × (text ≡ rows_text news) × AreRows delimiter news × AreReplacedRows A keeps delimiter columns s rows news t
+
+-- by a rule of one reply, at most one text is written for records, and one state follows
+abbrev pub AnswersAreTheOne : (List ℕ → AnswerText → Type 0) → Type 0
+AnswersAreTheOne A = (keeps : Bool) (delimiter : ℕ) (columns : List Column) (s : State) (rows : List Row) (a b : List ℕ)
+    (t u : State) → AnswersRows A keeps delimiter columns s rows a t → AnswersRows A keeps delimiter columns s rows b u
+    → (a ≡ b) × (t ≡ u)
+
+-- the records that end in a text, and what follows the last of them, are the ones
+abbrev pub RowsAreTheOnes : Type 0
+RowsAreTheOnes = (delimiter : ℕ) (text rest rest' : List ℕ) (rows rows' : List Row) → AreEnded delimiter rows
+    → AreEnded delimiter rows' → IsUnended delimiter Start rest → IsUnended delimiter Start rest'
+    → text ≡ rows_text rows ++ rest → text ≡ rows_text rows' ++ rest' → (rows ≡ rows') × (rest ≡ rest')
