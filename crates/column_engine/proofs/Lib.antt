@@ -1,5 +1,10 @@
 mod RowLemmas
+mod PlaceLemmas
 mod GatherLemmas
+mod FieldsLemmas
 mod FeedLemmas
 mod HeaderLemmas
 mod RunLemmas
+mod RecordLemmas
+mod ReplaceLemmas
+mod UniqueLemmas

@@ -84,14 +84,17 @@ pub record FieldAnswer : Type 0 where
   pub text : List ℕ
   pub refused : Bool
 
+-- whether a field stays as it was: by a reply without a byte, and where it is refused and refused fields are kept
+abbrev pub stays : Bool → AnswerText → Bool
+stays keeps reply = (keeps && reply.fault) || (length reply.text == 0)
+
 -- the bytes of a field that is not asked for stay; those of one that is are replaced by the reply to its text, by
--- this meaning of a
--- reply, or stay where it is refused and refused fields are kept
+-- this meaning of a reply, or stay
 abbrev pub IsAnswer : (List ℕ → AnswerText → Type 0) → Bool → ℕ → Bool → List ℕ → FieldAnswer → Type 0
 IsAnswer A keeps delimiter false raw answer = answer ≡ record { text = raw; refused = false }
 IsAnswer A keeps delimiter true raw answer = (reply : AnswerText) × A (content Start raw) reply
     × (answer ≡ record {
-      text = if keeps && reply.fault then raw else as_field delimiter reply.text;
+      text = if stays keeps reply then raw else as_field delimiter reply.text;
       refused =
           reply.fault;
     })

@@ -9,7 +9,7 @@ use Rattle.column_engine.proofs.row.answer_record.Goals as goal
 
 pub returns-in-Err-put-clause-err : goal.returns-in-Err-put-clause-err
 returns-in-Err-put-clause-err g c =
-    let A = g.A.LineRule.Answers c.args.task.now.rule.now in
+    let A = g.A.FieldRule.Answers c.args.task.now.rule.now in
     let keeps = c.args.task.now.is_kept in
     let d = c.args.task.now.delimiter in
     let raws = raw_fields d Start c.args.body.now in
@@ -22,7 +22,7 @@ returns-in-Err-put-clause-err g c =
 
 pub returns-in-Ok-put-clause-ok : goal.returns-in-Ok-put-clause-ok
 returns-in-Ok-put-clause-ok g c =
-    let A = g.A.LineRule.Answers c.args.task.now.rule.now in
+    let A = g.A.FieldRule.Answers c.args.task.now.rule.now in
     let keeps = c.args.task.now.is_kept in
     let d = c.args.task.now.delimiter in
     let raws = raw_fields d Start c.args.body.now in

@@ -6,7 +6,7 @@ use Rattle.column_engine.proofs.row.answer_row.Goals as goal
 
 pub returns-in-Err-clause-err : goal.returns-in-Err-clause-err
 returns-in-Err-clause-err g c =
-    let A = g.A.LineRule.Answers c.args.task.now.rule.now in
+    let A = g.A.FieldRule.Answers c.args.task.now.rule.now in
     let keeps = c.args.task.now.is_kept in
     let d = c.args.task.now.delimiter in
     let columns = c.args.task.now.columns.now in
@@ -16,7 +16,7 @@ returns-in-Err-clause-err g c =
 
 pub returns-in-Err-put_row-clause-err : goal.returns-in-Err-put_row-clause-err
 returns-in-Err-put_row-clause-err g c =
-    let A = g.A.LineRule.Answers c.args.task.now.rule.now in
+    let A = g.A.FieldRule.Answers c.args.task.now.rule.now in
     let keeps = c.args.task.now.is_kept in
     let d = c.args.task.now.delimiter in
     let columns = c.args.task.now.columns.now in
