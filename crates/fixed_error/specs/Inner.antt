@@ -1,0 +1,3 @@
+-- Contracts of private functions. Nothing that is public cites them.
+pub mod Sums
+pub mod Gap

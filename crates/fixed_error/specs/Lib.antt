@@ -1,0 +1,2 @@
+pub mod ErrorSize
+pub mod Inner
