@@ -92,7 +92,7 @@ pub record IsInUlps (num den w n power unit : ℕ) : Type 0 where
 cancel_le : (a b t : ℕ) → 0 < t → a * t ≤ b * t → a ≤ b
 cancel_le a b t h e = ⊎_elim (λ (less : b < a). let m : (b + 1) * t ≤ a * t = mul-le-mul_right t (omega (arith, less)) in absurd (omega (arith, m, e, h))) (λ (more : a ≤ b). more) (cases_lt b a)
 
-cancel_lt : (a b t : ℕ) → a * t < b * t → a < b
+pub cancel_lt : (a b t : ℕ) → a * t < b * t → a < b
 cancel_lt a b t e = ⊎_elim (λ (less : a < b). less) (λ (more : b ≤ a). let m : b * t ≤ a * t = mul-le-mul_right t more in absurd (omega (arith, m, e))) (cases_lt a b)
 
 -- the number of ulps below, without those of the whole digits

@@ -3,6 +3,8 @@
 
 mod gap;
 pub mod greater;
+pub mod greatest;
 mod sums;
 
 pub use greater::is_error_greater;
+pub use greatest::GreatestError;
