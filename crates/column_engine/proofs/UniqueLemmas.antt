@@ -26,7 +26,7 @@ first_one name names a b first next = ⊎_elim
     (cases_lt b a))
     (cases_lt a b)
 
-named_none : (name : List ℕ) (names : List (List ℕ)) (place : ℕ) → IsFirstNamed name names place → HasNoNamed name names → ⊥
+pub named_none : (name : List ℕ) (names : List (List ℕ)) (place : ℕ) → IsFirstNamed name names place → HasNoNamed name names → ⊥
 named_none name names place first none = none place first.there first.named
 
 range_is : (a b : Range) → a.from ≡ b.from → a.to ≡ b.to → a ≡ b
@@ -45,7 +45,7 @@ found_one names (Named name range) a b (inl first) (inr next) = absurd (named_no
 found_one names (Named name range) a b (inr first) (inl next) = absurd (named_none (string_bytes name) names b.from next.0 first.0)
 found_one names (Named name range) a b (inr first) (inr next) = some_is a b range first.1 next.1
 
-all_found_one : (names : List (List ℕ)) (columns : List Column) (a b : List Range) → AreFound names columns a → AreFound names columns b → a ≡ b
+pub all_found_one : (names : List (List ℕ)) (columns : List Column) (a b : List Range) → AreFound names columns a → AreFound names columns b → a ≡ b
 all_found_one names [] [] [] first next = refl
 all_found_one names [] [] (r ∷ rs) first next = absurd next
 all_found_one names [] (r ∷ rs) b first next = absurd first
@@ -91,7 +91,7 @@ module _ (A : List ℕ → AnswerText → Type 0) (one : (field : List ℕ) (a b
   some_one columns s t u row a b (inr first) (inl next) = absurd (false≢true (sym first.known ∙ next.next))
   some_one columns s t u row a b (inr first) (inr next) = fields_one_text s t u row a b first next
 
-  row_one : (columns : List Column) (s t u : State) (row : Row) (a b : List ℕ) → AnswersRow A keeps d columns s row a t → AnswersRow A keeps d columns s row b u → (a ≡ b) × (t ≡ u)
+  pub row_one : (columns : List Column) (s t u : State) (row : Row) (a b : List ℕ) → AnswersRow A keeps d columns s row a t → AnswersRow A keeps d columns s row b u → (a ≡ b) × (t ≡ u)
   row_one columns s t u row a b (inl first) (inl next) = (first.text_is ∙ sym next.text_is, first.after ∙ sym next.after)
   row_one columns s t u row a b (inl first) (inr next) = absurd (next.0 first.empty)
   row_one columns s t u row a b (inr first) (inl next) = absurd (first.0 next.empty)
@@ -141,7 +141,7 @@ end_one d p (b ∷ body) (b' ∷ body') more more' byte byte' first next ends en
     (subst (λ q. ends_record (places_after d q body') byte' ≡ true) place ends') (tail_is b b' (body ++ byte ∷ more) (body' ++ byte' ∷ more') e) in
     record { bodies = ap (λ x. x ∷ body) same ∙ ap (λ l. b' ∷ l) later.bodies; ends = later.ends; rests = later.rests }
 
-row_is : (a b : Row) → a.body ≡ b.body → a.end ≡ b.end → a ≡ b
+pub row_is : (a b : Row) → a.body ≡ b.body → a.end ≡ b.end → a ≡ b
 row_is a b body end = ap (λ l. record a { body = l }) body ∙ ap (λ l. record b { end = l }) end
 
 -- a record that ended, and what follows it
@@ -195,19 +195,19 @@ length_zero : (xs : List ℕ) → length xs ≡ 0 → xs ≡ []
 length_zero [] e = refl
 length_zero (x ∷ xs) e = absurd (omega (arith, e))
 
-right_cancel : (xs ys zs : List ℕ) → xs ++ zs ≡ ys ++ zs → xs ≡ ys
+pub right_cancel : (xs ys zs : List ℕ) → xs ++ zs ≡ ys ++ zs → xs ≡ ys
 right_cancel [] [] zs e = refl
 right_cancel [] (y ∷ ys) zs e = absurd (omega (arith, ap length e, length-append ys zs))
 right_cancel (x ∷ xs) [] zs e = absurd (omega (arith, ap length e, length-append xs zs))
 right_cancel (x ∷ xs) (y ∷ ys) zs e =
     ap (λ b. b ∷ xs) (head_is x y (xs ++ zs) (ys ++ zs) e) ∙ ap (λ l. y ∷ l) (right_cancel xs ys zs (tail_is x y (xs ++ zs) (ys ++ zs) e))
 
-unended_none : (d : ℕ) (rest : List ℕ) → rest ≡ [] → IsUnended d Start rest
+pub unended_none : (d : ℕ) (rest : List ℕ) → rest ≡ [] → IsUnended d Start rest
 unfolding IsUnended
 unended_none d rest is = rw is tt
 
 module _ (A : List ℕ → AnswerText → Type 0) (one : (field : List ℕ) (a b : AnswerText) → A field a → A field b → a ≡ b) (keeps : Bool) (d : ℕ) (columns : List Column) where
-  last_unended : (s u : State) (rest part : List ℕ) → AnswersLast A keeps d columns s rest part u → IsUnended d Start rest
+  pub last_unended : (s u : State) (rest part : List ℕ) → AnswersLast A keeps d columns s rest part u → IsUnended d Start rest
   last_unended s u rest part (inl none) = unended_none d rest none.0
   last_unended s u rest part (inr some) = subst (IsUnended d Start) (sym some.1) some.2.unended
 
