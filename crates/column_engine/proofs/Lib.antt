@@ -8,3 +8,4 @@ mod RunLemmas
 mod RecordLemmas
 mod ReplaceLemmas
 mod UniqueLemmas
+mod EndLemmas
