@@ -110,7 +110,7 @@ mantissa_parted b bs from point to whole fraction places h l dot k p some = reco
 pub exponent_none : (r : Radix) (bs : List ℕ) (from : ℕ) → from ≡ length bs → IsExponentAt r bs from (pos 0) false
 exponent_none r bs from e = record { exponent = None; text = at_end bs from e; is_exponent = tt; some = tt; is_number = refl; is_by_two = refl }
 
--- where the text ends there is none
+-- where the text ends there is no exponent
 pub exponent_ended : (r : Radix) (bs : List ℕ) (from : ℕ) (x : ℤ) (two : Bool) → from ≡ length bs → IsExponentAt r bs from x two → x ≡ pos 0
 exponent_ended r bs from x two end h = by_cases h.exponent h.is_number (sym h.text ∙ at_end bs from end)
   where
@@ -312,7 +312,7 @@ sign_dropped bs from to negative l h = record {
   is_negative = h.is_negative;
 }
 
--- ---- places, from the lengths of what stands between them
+-- ---- places, from the lengths of what is between them
 pub sign_place : (bs : List ℕ) (from to : ℕ) (negative : Bool) → from ≤ length bs → IsSignAt bs from to negative → from ≤ to
 sign_place bs from to negative l h = omega (arith, ap length h.text, length-append (option_to_list h.sign) (drop to bs), length-drop from bs, length-drop to bs, h.within)
 

@@ -22,7 +22,7 @@ pub fn prefix_is_beginning()
     ensures { PrefixIsBeginning }
 {}
 
-/// Bytes are a numeral, or there is a cause why they are none.
+/// Bytes are a numeral, or there is a cause why they are not one.
 pub fn numeral_or_cause()
     ensures { NumeralOrCause }
 {}

@@ -33,7 +33,7 @@ fn passed(last: usize, kind: ParseErrorKind) -> Result<usize, ParseFixedError>
 }
 
 /// How many bytes the numeral at the beginning of a text takes: the length of the longest prefix that is a numeral of
-/// the radix. Where no prefix is one, the error says why the text is none.
+/// the radix. Where no prefix is one, the error says why the text is not a numeral.
 ///
 /// At most one step a byte is taken.
 pub fn leading_numeral<L: Ledger>(

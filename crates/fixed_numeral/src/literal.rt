@@ -171,7 +171,7 @@ fn after_prefix(bytes: &[u8]) -> (Radix, &[u8])
     }
 }
 
-/// The radix and the views of a literal, or why the bytes are none.
+/// The radix and the views of a literal, or why the bytes are not one.
 ///
 /// Where `signed`, one leading `-` is the literal's sign. A prefix `0b`, `0o` or `0x` names the radix, which is 10
 /// without one. Underscores are allowed after a prefix and after a digit of their part. The views pass over them. The

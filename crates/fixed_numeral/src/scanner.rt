@@ -502,7 +502,7 @@ fn moved_digit_views<'a, L: Ledger>(
     digit_views(bytes, radix, state, steps)
 }
 
-/// The views of a numeral, or why the bytes are none.
+/// The views of a numeral, or why the bytes are not one.
 ///
 /// `bytes` is a numeral of the radix whole: an optional sign, digits with an optional point, and an optional exponent.
 /// The error is never `MisplacedUnderscore` or `Overflow`. At most 2 steps a byte and 2 more are taken.

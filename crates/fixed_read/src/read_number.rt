@@ -36,6 +36,8 @@ use std::sync::ledger::Ledger;
 
 /// The number that a numeral reads as in a format: a whole number of the format's ulps with a sign, which may be out of
 /// the format's range.
+///
+/// It has a `Number` in its parts: bytes between the fields of a record in it would be moved wherever it is.
 #[derive(Clone, Copy, Debug, PartialEq, Eq)]
 pub struct ReadNumber {
     low: u64,

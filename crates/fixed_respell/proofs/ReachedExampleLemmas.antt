@@ -2,7 +2,8 @@
 use Rattle.std.proofs.Common.{◌≡◌, ℕ, ◌+◌, ◌<◌, ◌⊎◌, ◌↔◌, Bool, IsTrue, List, Option, Some, None, [], ◌∷◌, true, false, refl, arith, inl, inr, ℤ, pos, negsuc, ⊎_elim}
 use Rattle.std.proofs.lemmas.Bool.{false≢true}
 use Rattle.std.proofs.lemmas.Int.{ints}
-use Rattle.std.specs.Prelude.{codes}
+use Rattle.std.specs.Prelude.{codes, IfSome, ◌++◌, length}
+use Rattle.std.specs.Str.Parse.{AllDigits}
 use Rattle.fixed_bits.proofs.Public.{images_agree, range_decided}
 use Rattle.fixed_bits.specs.Down.{IsDown}
 use Rattle.fixed_bits.specs.Formats.{FormatParts}
@@ -12,7 +13,7 @@ use Rattle.fixed_bits.specs.declared.format.Policy.{Policy}
 use Rattle.fixed_bits.specs.declared.format.Policy.TheVariants.{Checked, Saturating, Wrapping}
 use Rattle.fixed_bits.specs.declared.mode.ReadMode.{ReadMode}
 use Rattle.fixed_bits.specs.declared.mode.ReadMode.TheVariants.{NearestEven, Floor, Ceil, TowardsZero}
-use Rattle.fixed_numeral.specs.Numeral.{Exponent, Parts, HasNumeral}
+use Rattle.fixed_numeral.specs.Numeral.{Exponent, Parts, HasNumeral, base, fractional_digits, is_sign, text_of}
 use Rattle.fixed_numeral.specs.declared.radix.Radix.{Radix}
 use Rattle.fixed_numeral.specs.declared.radix.Radix.TheVariants.{Bin, Oct, Dec, Hex}
 use Rattle.fixed_read.specs.Reading.{IsReadNumber}
@@ -84,114 +85,48 @@ held mode r bytes p f v numeral read range down = record {
 abbrev pub parts : Option ℕ → List ℕ → Option (List ℕ) → Parts
 parts sign whole fraction = record { sign = sign; whole = whole; fraction = fraction; exponent = None }
 
+-- one without an exponent
+plain : (r : Radix) (sign : Option ℕ) (whole : List ℕ) (fraction : Option (List ℕ)) → IfSome sign (λ b. IsTrue (is_sign b)) → AllDigits (base r) whole → IfSome fraction (AllDigits (base r)) → 0 < length (whole ++ fractional_digits fraction) → HasNumeral r (text_of (parts sign whole fraction)) (parts sign whole fraction)
+plain r sign whole fraction s w f some = record { beginning = record { parts = record { sign = s; whole = w; fraction = f; exponent = tt }; text = refl }; mantissa = some; exponent = tt }
+
 numeral_2_99 : HasNumeral Dec (codes "2.99") (parts None (50 ∷ []) (Some (57 ∷ 57 ∷ [])))
-numeral_2_99 = record {
-  beginning = record {
-    parts = record { sign = tt; whole = (omega arith, tt); fraction = (omega arith, (omega arith, tt)); exponent = tt };
-    text = refl;
-  };
-  mantissa = omega arith;
-  exponent = tt;
-}
+numeral_2_99 = plain Dec _ _ _ tt (omega arith, tt) (omega arith, (omega arith, tt)) (omega arith)
 
 abbrev two_and_a_half : Option ℕ → Parts
 two_and_a_half sign = parts sign (50 ∷ []) (Some (53 ∷ []))
 
 numeral_2_5 : HasNumeral Dec (codes "2.5") (two_and_a_half None)
-numeral_2_5 = record {
-  beginning = record {
-    parts = record { sign = tt; whole = (omega arith, tt); fraction = (omega arith, tt); exponent = tt };
-    text = refl;
-  };
-  mantissa = omega arith;
-  exponent = tt;
-}
+numeral_2_5 = plain Dec _ _ _ tt (omega arith, tt) (omega arith, tt) (omega arith)
 
 numeral_minus_2_5 : HasNumeral Dec (codes "-2.5") (two_and_a_half (Some 45))
-numeral_minus_2_5 = record {
-  beginning = record {
-    parts = record { sign = refl; whole = (omega arith, tt); fraction = (omega arith, tt); exponent = tt };
-    text = refl;
-  };
-  mantissa = omega arith;
-  exponent = tt;
-}
+numeral_minus_2_5 = plain Dec _ _ _ refl (omega arith, tt) (omega arith, tt) (omega arith)
 
 numeral_2_1 : HasNumeral Dec (codes "2.1") (parts None (50 ∷ []) (Some (49 ∷ [])))
-numeral_2_1 = record {
-  beginning = record {
-    parts = record { sign = tt; whole = (omega arith, tt); fraction = (omega arith, tt); exponent = tt };
-    text = refl;
-  };
-  mantissa = omega arith;
-  exponent = tt;
-}
+numeral_2_1 = plain Dec _ _ _ tt (omega arith, tt) (omega arith, tt) (omega arith)
 
 abbrev three_hundred : Option ℕ → Parts
 three_hundred sign = parts sign (51 ∷ 48 ∷ 48 ∷ []) None
 
 numeral_300 : HasNumeral Dec (codes "300") (three_hundred None)
-numeral_300 = record {
-  beginning = record {
-    parts = record { sign = tt; whole = (omega arith, (omega arith, (omega arith, tt))); fraction = tt; exponent = tt };
-    text = refl;
-  };
-  mantissa = omega arith;
-  exponent = tt;
-}
+numeral_300 = plain Dec _ _ _ tt (omega arith, (omega arith, (omega arith, tt))) tt (omega arith)
 
 numeral_minus_300 : HasNumeral Dec (codes "-300") (three_hundred (Some 45))
-numeral_minus_300 = record {
-  beginning = record {
-    parts = record { sign = refl; whole = (omega arith, (omega arith, (omega arith, tt))); fraction = tt; exponent = tt };
-    text = refl;
-  };
-  mantissa = omega arith;
-  exponent = tt;
-}
+numeral_minus_300 = plain Dec _ _ _ refl (omega arith, (omega arith, (omega arith, tt))) tt (omega arith)
 
 numeral_minus_1 : HasNumeral Dec (codes "-1") (parts (Some 45) (49 ∷ []) None)
-numeral_minus_1 = record {
-  beginning = record {
-    parts = record { sign = refl; whole = (omega arith, tt); fraction = tt; exponent = tt };
-    text = refl;
-  };
-  mantissa = omega arith;
-  exponent = tt;
-}
+numeral_minus_1 = plain Dec _ _ _ refl (omega arith, tt) tt (omega arith)
 
 abbrev seventeen : Parts
 seventeen = parts None (49 ∷ 55 ∷ []) None
 
 numeral_17 : HasNumeral Dec (codes "17") seventeen
-numeral_17 = record {
-  beginning = record {
-    parts = record { sign = tt; whole = (omega arith, (omega arith, tt)); fraction = tt; exponent = tt };
-    text = refl;
-  };
-  mantissa = omega arith;
-  exponent = tt;
-}
+numeral_17 = plain Dec _ _ _ tt (omega arith, (omega arith, tt)) tt (omega arith)
 
 numeral_3_1875 : HasNumeral Dec (codes "3.1875") (parts None (51 ∷ []) (Some (49 ∷ 56 ∷ 55 ∷ 53 ∷ [])))
-numeral_3_1875 = record {
-  beginning = record {
-    parts = record { sign = tt; whole = (omega arith, tt); fraction = (omega arith, (omega arith, (omega arith, (omega arith, tt)))); exponent = tt };
-    text = refl;
-  };
-  mantissa = omega arith;
-  exponent = tt;
-}
+numeral_3_1875 = plain Dec _ _ _ tt (omega arith, tt) (omega arith, (omega arith, (omega arith, (omega arith, tt)))) (omega arith)
 
 numeral_0_25 : HasNumeral Dec (codes "0.25") (parts None (48 ∷ []) (Some (50 ∷ 53 ∷ [])))
-numeral_0_25 = record {
-  beginning = record {
-    parts = record { sign = tt; whole = (omega arith, tt); fraction = (omega arith, (omega arith, tt)); exponent = tt };
-    text = refl;
-  };
-  mantissa = omega arith;
-  exponent = tt;
-}
+numeral_0_25 = plain Dec _ _ _ tt (omega arith, tt) (omega arith, (omega arith, tt)) (omega arith)
 
 -- 'p' and one digit
 abbrev by_two : ℕ → Exponent
@@ -237,14 +172,7 @@ abbrev hexadecimal_parts : Parts
 hexadecimal_parts = parts None (67 ∷ 48 ∷ 70 ∷ []) (Some (70 ∷ 69 ∷ []))
 
 numeral_C0F_FE : HasNumeral Hex (codes "C0F.FE") hexadecimal_parts
-numeral_C0F_FE = record {
-  beginning = record {
-    parts = record { sign = tt; whole = (omega arith, (omega arith, (omega arith, tt))); fraction = (omega arith, (omega arith, tt)); exponent = tt };
-    text = refl;
-  };
-  mantissa = omega arith;
-  exponent = tt;
-}
+numeral_C0F_FE = plain Hex _ _ _ tt (omega arith, (omega arith, (omega arith, tt))) (omega arith, (omega arith, tt)) (omega arith)
 
 -- ---- what is reached
 -- 2.99 is 48 ulps of 1/16, and 3 of 1

@@ -15,6 +15,6 @@ returns-clause-few c = rw (c.numeral_of.ensures.whole, c.numeral_of.ensures.frac
     let m = c.in_ok-mantissa.mantissa in
     let e = c.in_ok-power.power in
     ⊎_elim
-      (λ short. (few_digits 10 c.args.s.now c.sign_at-negative.result.1 m.end m.whole m.fraction m.places (omega arith) (omega arith) c.sign_at-negative.ensures.within c.in_ok-mantissa.ensures.mantissa (omega (arith, short, c.in_ok-mantissa.ensures.mantissa.within))).0)
-      (λ ended. absurd (some (exponent_ended Dec c.args.s.now m.end e.exponent e.by_two ended c.in_ok-power.ensures)))
-      c.in_ok-mantissa.ensures.end)
+    (λ short. (few_digits 10 c.args.s.now c.sign_at-negative.result.1 m.end m.whole m.fraction m.places (omega arith) (omega arith) c.sign_at-negative.ensures.within c.in_ok-mantissa.ensures.mantissa (omega (arith, short, c.in_ok-mantissa.ensures.mantissa.within))).0)
+    (λ ended. absurd (some (exponent_ended Dec c.args.s.now m.end e.exponent e.by_two ended c.in_ok-power.ensures)))
+    c.in_ok-mantissa.ensures.end)
