@@ -5,3 +5,4 @@ mod RowLemmas
 mod ScanEndLemmas
 mod StyleLemmas
 mod AskedLemmas
+mod RowEndLemmas

@@ -5,16 +5,21 @@ ghost use Rattle.fixed_c.specs.Laws.{
   CompareEndsOnce,
   ConvertEndsOnce,
   ConvertInEndsOnce,
+  ConvertRowsEndOnce,
   EncloseEndsOnce,
+  FormatEndsOnce,
   LiteralEndsOnce,
   MessageEndsOnce,
   PlacesEndsOnce,
   PrintEndsOnce,
+  PrintRowsEndOnce,
   ReadEndsOnce,
+  ReadRowsEndOnce,
   RespellEndsOnce,
   RoundEndsOnce,
   ScanEndsOnce,
   StyledEndsOnce,
+  WordEndsOnce,
 };
 
 use fixed_convert::laws::moved_in_is_the_one;
@@ -111,3 +116,30 @@ pub fn scan_ends_once()
 {
     leading_is_the_one();
 }
+
+/// A call for the format of a word has one end.
+pub fn format_ends_once()
+    ensures { FormatEndsOnce }
+{}
+
+/// A call for the word of a format has one end.
+pub fn word_ends_once()
+    ensures { WordEndsOnce }
+{}
+
+/// A reading of rows has one end.
+pub fn read_rows_end_once()
+    ensures { ReadRowsEndOnce }
+{}
+
+/// A conversion of rows has one end.
+pub fn convert_rows_end_once()
+    ensures { ConvertRowsEndOnce }
+{
+    moved_in_is_the_one();
+}
+
+/// A call that prints rows has one end.
+pub fn print_rows_end_once()
+    ensures { PrintRowsEndOnce }
+{}

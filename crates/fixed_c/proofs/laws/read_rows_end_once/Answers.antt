@@ -1,0 +1,5 @@
+use Rattle.fixed_c.proofs.RowEndLemmas
+use Rattle.fixed_c.proofs.laws.read_rows_end_once.Goals as goal
+
+pub returns : goal.returns
+returns c = RowEndLemmas.read_rows_end_once
