@@ -11,4 +11,5 @@ pub mod BoundLemmas
 pub mod BoundedLemmas
 pub mod WordLawLemmas
 pub mod ToolNameLemmas
+pub mod BlockLawLemmas
 pub mod Public

@@ -6,4 +6,5 @@ pub mod WordLaws
 pub mod BitsBlock
 pub mod ErrorText
 pub mod ShowBlock
+pub mod BlockLaws
 pub mod Inner
