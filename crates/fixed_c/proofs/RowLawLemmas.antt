@@ -6,10 +6,7 @@ use Rattle.std.proofs.lemmas.List.{ext_get_or, get_or-drop, get_or-take}
 use Rattle.fixed_bits.specs.Formats.{FormatParts}
 use Rattle.fixed_convert.proofs.Public.{moved_in_is_the_one}
 use Rattle.fixed_respell.proofs.Public.{name_one}
-use Rattle.fixed_write.proofs.Public.{shortest_text_unique}
-use Rattle.fixed_write.specs.Texts.{IsShortestText}
 use Rattle.fixed_c.specs.Codes.{refusal_code}
-use Rattle.fixed_c.specs.Convert.{IsPrinted}
 use Rattle.fixed_c.specs.Laws.{NumberInC}
 use Rattle.fixed_c.specs.Numbers.{flag_of}
 use Rattle.fixed_c.specs.Outcome.{Never}
@@ -20,8 +17,8 @@ use Rattle.fixed_c.specs.declared.arguments.FixedFormat.{FixedFormat}
 use Rattle.fixed_c.specs.declared.number.FixedNumber.{FixedNumber}
 use Rattle.fixed_c.specs.declared.refusal.Refusal.{Refusal}
 use Rattle.fixed_c.specs.declared.refusal.Refusal.TheVariants.{BadFormat, BadWord}
-use Rattle.fixed_c.proofs.EndLemmas.{bits_one, end_one, puts_one, text_one, unless_none, unless_one}
-use Rattle.fixed_c.proofs.LawLemmas.{convert_in_ends_once, print_none, print_refusal, read_ends_once}
+use Rattle.fixed_c.proofs.EndLemmas.{end_one, puts_one, text_one, unless_none, unless_one}
+use Rattle.fixed_c.proofs.LawLemmas.{convert_in_ends_once, print_none, print_refusal, printed_one, read_ends_once}
 
 -- ---- numbers
 abbrev OnceAt : (ℕ → FixedNumber → ℕ → Type 0) → ℕ → Type 0
@@ -67,14 +64,9 @@ puts_row_one text old a b c e (inl p) (inr q) = absurd (let h = p.1 in let g = q
 puts_row_one text old a b c e (inr p) (inl q) = absurd (let h = p.1 in let g = q.1 in omega (arith, h, g))
 puts_row_one text old a b c e (inr p) (inr q) = (p.0 ∙ sym q.0, p.2 ∙ sym q.2)
 
-printed_one : (f : FormatParts) (bits : ℤ) (s t : List ℕ) → FitsSigned w64 bits → IsPrinted f bits s → IsPrinted f bits t → s ≡ t
-printed_one f bits s t fits p q =
-    let number = bits_one f bits q.number p.number fits q.bits_are p.bits_are in
-    shortest_text_unique p.number f.frac s t p.shortest (subst (λ (x : ℤ). IsShortestText x f.frac t) number q.shortest)
-
 prints_row_one : (f : FormatParts) (bits : ℤ) (old a b : List ℕ) (c e : ℕ) → FitsSigned w64 bits → PrintsRow f bits old a c → PrintsRow f bits old b e → (c ≡ e) × (a ≡ b)
 prints_row_one f bits old a b c e fits (inl p) (inl q) =
-    puts_row_one p.0 old a b c e p.2 (subst (λ (t : List ℕ). PutsRow t old b e) (printed_one f bits q.0 p.0 fits q.1 p.1) q.2)
+    puts_row_one p.0 old a b c e p.2 (subst (λ (t : List ℕ). PutsRow t old b e) (printed_one f bits fits q.0 p.0 q.1 p.1) q.2)
 prints_row_one f bits old a b c e fits (inl p) (inr q) = absurd (print_none f bits p.1.number q.0 p.1.format p.1.bits_are q.2)
 prints_row_one f bits old a b c e fits (inr p) (inl q) = absurd (print_none f bits q.1.number p.0 q.1.format q.1.bits_are p.2)
 prints_row_one f bits old a b c e fits (inr p) (inr q) = (p.1 ∙ ap refusal_code (print_refusal f bits p.0 q.0 p.2 q.2) ∙ sym q.1, p.3 ∙ sym q.3)
