@@ -89,7 +89,7 @@ pub record IsInUlps (num den w n power unit : ℕ) : Type 0 where
   pub number : num * power ≡ (w * power + n) * unit * den
   pub less : n < power
 
-cancel_le : (a b t : ℕ) → 0 < t → a * t ≤ b * t → a ≤ b
+pub cancel_le : (a b t : ℕ) → 0 < t → a * t ≤ b * t → a ≤ b
 cancel_le a b t h e = ⊎_elim (λ (less : b < a). let m : (b + 1) * t ≤ a * t = mul-le-mul_right t (omega (arith, less)) in absurd (omega (arith, m, e, h))) (λ (more : a ≤ b). more) (cases_lt b a)
 
 pub cancel_lt : (a b t : ℕ) → a * t < b * t → a < b
@@ -313,9 +313,9 @@ gap_found mode r f bytes negative whole fraction s k q unit more w hf hs scanned
 
 -- ---- two errors
 -- by places of both: b is the power of all places, x is what the digits spell, and size is the error in ulps
-record HasSizeBy (num den q b x : ℕ) (gap : Gap) (size : ℕ) : Type 0 where
-  high : size + (less_part gap).whole * b + (less_part gap).factor * x ≡ (greater_part gap).whole * b + (greater_part gap).factor * x
-  error : distance num (q * den) * b ≡ size * den
+pub record HasSizeBy (num den q b x : ℕ) (gap : Gap) (size : ℕ) : Type 0 where
+  pub high : size + (less_part gap).whole * b + (less_part gap).factor * x ≡ (greater_part gap).whole * b + (greater_part gap).factor * x
+  pub error : distance num (q * den) * b ≡ size * den
 
 size_by_places : (num den q power n c b x : ℕ) (gap : Gap) (size : ℕ) → HasSize num den q power n gap size → b ≡ power * c → x ≡ n * c → HasSizeBy num den q b x gap (size * c)
 size_by_places num den q power n c b x gap size h eb ex =
@@ -341,7 +341,7 @@ sizes_of : (b n : ℕ) (one other : List ℕ) (g h : Gap) (s t : ℕ) → (s + (
 unfolding sum_value
 sizes_of b n one other g h s t e f = sums_of (less_part g).whole (less_part g).factor (greater_part g).whole (greater_part g).factor (less_part h).whole (less_part h).factor (greater_part h).whole (greater_part h).factor s t (b ^ n) (padded b n one) (padded b n other) e f
 
-greater_by : (d e den den' s t b u : ℕ) → 0 < den → 0 < den' → 0 < u → d * b ≡ s * den → e * b ≡ t * den' → t < s → e * (u * den) < d * (u * den')
+pub greater_by : (d e den den' s t b u : ℕ) → 0 < den → 0 < den' → 0 < u → d * b ≡ s * den → e * b ≡ t * den' → t < s → e * (u * den) < d * (u * den')
 greater_by d e den den' s t b u hd he hu p q less =
     let step : (t + 1) * (den * den') ≤ s * (den * den') = mul-le-mul_right (den * den') (omega (arith, less)) in
     let some : 1 * 1 ≤ den * den' = mul_mono 1 den 1 den' (omega (arith, hd)) (omega (arith, he)) in
@@ -354,7 +354,7 @@ greater_by d e den den' s t b u hd he hu p q less =
     mul_mono : (a b c d : ℕ) → a ≤ b → c ≤ d → a * c ≤ b * d
     mul_mono a b c d h k = let x : a * c ≤ b * c = mul-le-mul_right c h in let y : b * c ≤ b * d = mul-le-mul_left b k in omega (arith, x, y)
 
-at_most_by : (d e den den' s t b u : ℕ) → 0 < b → d * b ≡ s * den → e * b ≡ t * den' → s ≤ t → d * (u * den') ≤ e * (u * den)
+pub at_most_by : (d e den den' s t b u : ℕ) → 0 < b → d * b ≡ s * den → e * b ≡ t * den' → s ≤ t → d * (u * den') ≤ e * (u * den)
 at_most_by d e den den' s t b u hb p q less =
     let step : s * (den * den') ≤ t * (den * den') = mul-le-mul_right (den * den') less in
     let pp : d * b * den' ≡ s * den * den' = ap (λ v. v * den') p in
@@ -363,14 +363,14 @@ at_most_by d e den den' s t b u hb p q less =
     let m : d * den' * u ≤ e * den * u = mul-le-mul_right u l in
     omega (arith, m)
 
-base_least : (r : Radix) → 1 ≤ base r
+pub base_least : (r : Radix) → 1 ≤ base r
 base_least Bin = omega arith
 base_least Oct = omega arith
 base_least Dec = omega arith
 base_least Hex = omega arith
 
 -- the size of one error by the places of both
-places_of : (mode : ReadMode) (r : Radix) (f n : ℕ) (bytes digits : List ℕ) (gap : Gap) (x : IsGap mode r f bytes digits gap) → length digits ≤ n
+pub places_of : (mode : ReadMode) (r : Radix) (f n : ℕ) (bytes digits : List ℕ) (gap : Gap) (x : IsGap mode r f bytes digits gap) → length digits ≤ n
     → (size : ℕ) × HasSizeBy ((magnitude r x.parts).num * 2 ^ f) (magnitude r x.parts).den x.read.ulps (base r ^ n) (padded (base r) n digits) gap size
 unfolding padded
 places_of mode r f n bytes digits gap x h =
