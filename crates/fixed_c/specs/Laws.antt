@@ -1,5 +1,5 @@
 -- Each call has one end: what C has afterwards and the code are determined by what C gave.
-use Rattle.std.specs.Prelude.{◌≡◌, ◌<◌, ℕ, ℤ, pos, List, FitsSigned, length, slice_index_or}
+use Rattle.std.specs.Prelude.{◌≡◌, ℕ, ℤ, List, FitsSigned}
 use Rattle.std.specs.Int.{w64}
 use Rattle.fixed_bits.specs.Formats.{FormatParts}
 use Rattle.fixed_c.specs.Answer.{IsAnswered}
@@ -13,11 +13,9 @@ use Rattle.fixed_c.specs.Outcome.{EndsWith, Never}
 use Rattle.fixed_c.specs.Read.{IsReadAs, ReadIsRefused}
 use Rattle.fixed_c.specs.Respell.{IsReachedAs, RespellIsRefused}
 use Rattle.fixed_c.specs.Round.{IsRoundedTo, RoundIsRefused}
-use Rattle.fixed_c.specs.Rows.{ConvertsRow, HaveBits, HaveRows, PrintedEnd, ReadsRow, RowsEnd, row_at}
 use Rattle.fixed_c.specs.Scan.{IsLeadingIn, ScanIsRefused}
 use Rattle.fixed_c.specs.Style.{IsPrintedIn, StyledIsRefused}
 use Rattle.fixed_c.specs.Texts.{TextEnds}
-use Rattle.fixed_c.specs.Words.{FormatIsRefused, IsFormatNamed, IsFormatText, WordIsRefused}
 use Rattle.fixed_c.specs.declared.number.FixedEnclosure.{FixedEnclosure}
 use Rattle.fixed_c.specs.declared.number.FixedNumber.{FixedNumber}
 use Rattle.fixed_c.specs.declared.refusal.Refusal.{Refusal}
@@ -98,39 +96,3 @@ StyledEndsOnce = (f : FormatParts) (bits : ℤ) (style : FixedStyle) → FitsSig
 abbrev pub ScanEndsOnce : Type 0
 ScanEndsOnce = (text : List ℕ) (radix : ℕ)
     → EndIsTheOne (λ count. Unit {0}) (IsLeadingIn text radix) (ScanIsRefused text radix)
-
-abbrev pub FormatEndsOnce : Type 0
-FormatEndsOnce = (word : List ℕ) → EndIsTheOne (λ format. Unit {0}) (IsFormatNamed word) (WordIsRefused word)
-
-abbrev pub WordEndsOnce : Type 0
-WordEndsOnce = (f : FormatParts) → TextIsTheOne (λ word. IsFormatText word f) (FormatIsRefused f)
-
--- ---- rows
-abbrev pub NumbersInC : List FixedNumber → Type 0
-NumbersInC numbers = (d : FixedNumber) (i : ℕ) → i < length numbers → NumberInC (slice_index_or numbers i d)
-
-abbrev pub BitsInC : List ℤ → Type 0
-BitsInC bits = (i : ℕ) → FitsSigned w64 (slice_index_or bits i (pos 0))
-
--- two ends of a call over rows are one; a call leaves its slices as long as they were
-abbrev pub RowsAreTheOne : (List FixedNumber → List ℕ → Type 0) → (ℕ → FixedNumber → ℕ → Type 0) → Type 0
-RowsAreTheOne Fit Single = (old a b : List FixedNumber) (olds codes others : List ℕ) (refused m n code other : ℕ)
-    → length a ≡ length old → length b ≡ length old → length codes ≡ length olds → length others ≡ length olds
-    → NumbersInC a → NumbersInC b → RowsEnd (Fit old olds) Single old a olds codes refused m code
-    → RowsEnd (Fit old olds) Single old b olds others refused n other
-    → (code ≡ other) × (a ≡ b) × (codes ≡ others) × (m ≡ n)
-
-abbrev pub ReadRowsEndOnce : Type 0
-ReadRowsEndOnce = (rows : List ℕ) (size radix : ℕ) (f : FormatParts) (policy mode : ℕ)
-    → RowsAreTheOne (HaveRows rows size) (ReadsRow rows size radix f policy mode)
-
-abbrev pub ConvertRowsEndOnce : Type 0
-ConvertRowsEndOnce = (bits : List ℤ) (f g : FormatParts) (policy mode : ℕ) → BitsInC bits
-    → RowsAreTheOne (HaveBits bits) (ConvertsRow bits f g policy mode)
-
-abbrev pub PrintRowsEndOnce : Type 0
-PrintRowsEndOnce = (bits : List ℤ) (f : FormatParts) (size : ℕ) → BitsInC bits
-    → (old a b olds codes others : List ℕ) (refused m n code other : ℕ)
-    → length codes ≡ length olds → length others ≡ length olds
-    → PrintedEnd f bits size old a olds codes refused m code → PrintedEnd f bits size old b olds others refused n other
-    → (code ≡ other) × ((i : ℕ) → i < length olds → row_at a size i ≡ row_at b size i) × (codes ≡ others) × (m ≡ n)

@@ -5,20 +5,23 @@ ghost use Rattle.fixed_c.specs.Laws.{
   CompareEndsOnce,
   ConvertEndsOnce,
   ConvertInEndsOnce,
-  ConvertRowsEndOnce,
   EncloseEndsOnce,
-  FormatEndsOnce,
   LiteralEndsOnce,
   MessageEndsOnce,
   PlacesEndsOnce,
   PrintEndsOnce,
-  PrintRowsEndOnce,
   ReadEndsOnce,
-  ReadRowsEndOnce,
   RespellEndsOnce,
   RoundEndsOnce,
   ScanEndsOnce,
   StyledEndsOnce,
+};
+ghost use Rattle.fixed_c.specs.RowLaws.{
+  ConvertRowsEndOnce,
+  FormatEndsOnce,
+  PrintRowsEndOnce,
+  PutsOnce,
+  ReadRowsEndOnce,
   WordEndsOnce,
 };
 
@@ -117,16 +120,6 @@ pub fn scan_ends_once()
     leading_is_the_one();
 }
 
-/// A call for the format of a word has one end.
-pub fn format_ends_once()
-    ensures { FormatEndsOnce }
-{}
-
-/// A call for the word of a format has one end.
-pub fn word_ends_once()
-    ensures { WordEndsOnce }
-{}
-
 /// A reading of rows has one end.
 pub fn read_rows_end_once()
     ensures { ReadRowsEndOnce }
@@ -135,11 +128,24 @@ pub fn read_rows_end_once()
 /// A conversion of rows has one end.
 pub fn convert_rows_end_once()
     ensures { ConvertRowsEndOnce }
-{
-    moved_in_is_the_one();
-}
+{}
 
 /// A call that prints rows has one end.
 pub fn print_rows_end_once()
     ensures { PrintRowsEndOnce }
+{}
+
+/// A buffer takes a text in one way.
+pub fn puts_once()
+    ensures { PutsOnce }
+{}
+
+/// A call for the format of a word has one end.
+pub fn word_ends_once()
+    ensures { WordEndsOnce }
+{}
+
+/// A call for the word of a format has one end.
+pub fn format_ends_once()
+    ensures { FormatEndsOnce }
 {}

@@ -42,7 +42,7 @@ fn steps_in<L: Ledger>(
 }
 
 /// Two to a power.
-fn power_of_two(exponent: u32) -> u128
+pub fn power_of_two(exponent: u32) -> u128
     requires { exponent ≤ 67 }
     ensures { result ≡ 2 ^ exponent }
 {

@@ -6,5 +6,5 @@ pub mod greater;
 pub mod greatest;
 mod sums;
 
-pub use greater::is_error_greater;
+pub use greater::{is_error_above, is_error_greater};
 pub use greatest::GreatestError;
