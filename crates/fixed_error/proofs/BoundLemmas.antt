@@ -51,17 +51,17 @@ whole_bound mode r f bytes bound negative [] fraction s w n scanned some = absur
 whole_bound mode r f bytes bound negative (x ∷ xs) fraction s w n scanned some =
     let num : ℕ = (magnitude r w.parts).num * 2 ^ f in
     let den : ℕ = (magnitude r w.parts).den in
-    let c = close mode (is_minus w.parts.sign) num den w.read.steps (magnitude_pos r w.parts) w.read.rounded in
+    let c = close mode (is_minus w.parts.sign) num den w.read.ulps (magnitude_pos r w.parts) w.read.rounded in
     let i = in_ulps_of r n.0 0 negative (x ∷ xs) fraction s (scanned n.0 n.1) in
     let p : 1 ≤ base r ^ length fraction = one-le-pow (length fraction) (base r) (base_least r) in
     let unit : 0 < 2 ^ (0 + s) = pow_pos (0 + s) in
     let more : (magnitude r n.0).den ≤ (magnitude r n.0).num * 2 ^ 0 = one_or_more ((magnitude r n.0).num * 2 ^ 0) (magnitude r n.0).den (number_from_digits (base r) (x ∷ xs)) (number_from_digits (base r) fraction) (base r ^ length fraction) (2 ^ (0 + s)) (omega (arith, p)) (whole_some (base r) x xs (base_least r) (scanned n.0 n.1).leading) (omega (arith, unit)) i.number in
     record {
-      size = error_size (magnitude r w.parts) f w.read.steps;
+      size = error_size (magnitude r w.parts) f w.read.ulps;
       has_size = record { parts = w.parts; numeral = w.numeral; number = w.number; read = w.read; size_is = refl };
       bound_parts = n.0;
       bound_numeral = n.1;
-      at_most = far (distance num (w.read.steps * den)) (magnitude r n.0).num den (magnitude r n.0).den (2 ^ f) (near_size num den w.read.steps c.above c.below) (omega (arith, more)) (pow_pos f);
+      at_most = far (distance num (w.read.ulps * den)) (magnitude r n.0).num den (magnitude r n.0).den (2 ^ f) (near_size num den w.read.ulps c.above c.below) (omega (arith, more)) (pow_pos f);
     }
 
 -- ---- a bound below 1
@@ -116,12 +116,12 @@ error_above mode r f bytes bound ones fraction g negative whole s result x n sca
     let both = bound_sums (base r) places ones fraction g u.0 (2 ^ (f + s)) u.1.high in
     let less : 2 ^ (f + s) * padded (base r) places fraction < u.0 = omega (arith, both.same, d.greater is) in
     record {
-      size = error_size (magnitude r x.parts) f x.read.steps;
+      size = error_size (magnitude r x.parts) f x.read.ulps;
       has_size = record { parts = x.parts; numeral = x.numeral; number = x.number; read = x.read; size_is = refl };
       bound_parts = n.0;
       bound_numeral = n.1;
-      above = above_of (distance ((magnitude r x.parts).num * 2 ^ f) (x.read.steps * (magnitude r x.parts).den)) (magnitude r x.parts).den (magnitude r n.0).num (magnitude r n.0).den (2 ^ f)
-          (greater_by (distance ((magnitude r x.parts).num * 2 ^ f) (x.read.steps * (magnitude r x.parts).den)) ((magnitude r n.0).num * 2 ^ f) (magnitude r x.parts).den (magnitude r n.0).den u.0 (2 ^ (f + s) * padded (base r) places fraction) (base r ^ places) 1 (magnitude_pos r x.parts) (magnitude_pos r n.0) (omega arith) u.1.error v.same less);
+      above = above_of (distance ((magnitude r x.parts).num * 2 ^ f) (x.read.ulps * (magnitude r x.parts).den)) (magnitude r x.parts).den (magnitude r n.0).num (magnitude r n.0).den (2 ^ f)
+          (greater_by (distance ((magnitude r x.parts).num * 2 ^ f) (x.read.ulps * (magnitude r x.parts).den)) ((magnitude r n.0).num * 2 ^ f) (magnitude r x.parts).den (magnitude r n.0).den u.0 (2 ^ (f + s) * padded (base r) places fraction) (base r ^ places) 1 (magnitude_pos r x.parts) (magnitude_pos r n.0) (omega arith) u.1.error v.same less);
     }
 
 pub error_within : (mode : ReadMode) (r : Radix) (f : ℕ) (bytes bound ones fraction : List ℕ) (g : Gap) (negative : Bool) (whole : List ℕ) (s : ℕ) (result : Bool) → IsGap mode r f bytes ones g → (n : IsNumeral r bound) → ((p : Parts) → HasNumeral r bound p → IsScanned r p negative whole fraction s)
@@ -134,10 +134,10 @@ error_within mode r f bytes bound ones fraction g negative whole s result x n sc
     let less : u.0 ≤ 2 ^ (f + s) * padded (base r) places fraction = omega (arith, both.same, d.not is) in
     let some : 1 ≤ base r ^ places = one-le-pow places (base r) (base_least r) in
     record {
-      size = error_size (magnitude r x.parts) f x.read.steps;
+      size = error_size (magnitude r x.parts) f x.read.ulps;
       has_size = record { parts = x.parts; numeral = x.numeral; number = x.number; read = x.read; size_is = refl };
       bound_parts = n.0;
       bound_numeral = n.1;
-      at_most = within_of (distance ((magnitude r x.parts).num * 2 ^ f) (x.read.steps * (magnitude r x.parts).den)) (magnitude r x.parts).den (magnitude r n.0).num (magnitude r n.0).den (2 ^ f)
-          (at_most_by (distance ((magnitude r x.parts).num * 2 ^ f) (x.read.steps * (magnitude r x.parts).den)) ((magnitude r n.0).num * 2 ^ f) (magnitude r x.parts).den (magnitude r n.0).den u.0 (2 ^ (f + s) * padded (base r) places fraction) (base r ^ places) 1 (omega (arith, some)) u.1.error v.same less);
+      at_most = within_of (distance ((magnitude r x.parts).num * 2 ^ f) (x.read.ulps * (magnitude r x.parts).den)) (magnitude r x.parts).den (magnitude r n.0).num (magnitude r n.0).den (2 ^ f)
+          (at_most_by (distance ((magnitude r x.parts).num * 2 ^ f) (x.read.ulps * (magnitude r x.parts).den)) ((magnitude r n.0).num * 2 ^ f) (magnitude r x.parts).den (magnitude r n.0).den u.0 (2 ^ (f + s) * padded (base r) places fraction) (base r ^ places) 1 (omega (arith, some)) u.1.error v.same less);
     }

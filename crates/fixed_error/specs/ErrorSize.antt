@@ -17,7 +17,7 @@ pub record HasErrorSize (mode : ReadMode) (r : Radix) (f : ℕ) (bytes : List �
   pub numeral : HasNumeral r bytes parts
   pub number : ℤ
   pub read : IsReadNumber mode r parts f number
-  pub size_is : size ≡ error_size (magnitude r parts) f read.steps
+  pub size_is : size ≡ error_size (magnitude r parts) f read.ulps
 
 -- a fraction is less than another
 abbrev pub IsLess : Fraction → Fraction → Type 0
@@ -65,4 +65,4 @@ pub record IsReadWithin (mode : ReadMode) (r : Radix) (f : ℕ) (bytes : List �
   pub numeral : HasNumeral r bytes parts
   pub number : ℤ
   pub read : IsReadNumber mode r parts f number
-  pub within : read.steps < 2 ^ 64
+  pub within : read.ulps < 2 ^ 64

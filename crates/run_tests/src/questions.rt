@@ -81,6 +81,11 @@ const FORMAT_AND_REFUSED: &str = "\
     ulp       0.00390625\n\
     digits    0 before the point, 2 after it\n\
     shortest  -0.5 to 0.496\n\
+    ARM       none\n\
+    TI        none\n\
+    HLS       ap_fixed<8,0>\n\
+    VHDL      sfixed(-1 downto -8)\n\
+    MATLAB    fi(_,1,8,8)\n\
     error: bad format\n";
 
 /// The question about a word of a format, whose digits are decimal without a prefix.
