@@ -1,4 +1,6 @@
 mod AskingLemmas
 mod BlockLemmas
+mod OutcomeLemmas
+mod OutcomeNumbers
 mod RefusedLemmas
 mod WordLemmas

@@ -1,5 +1,5 @@
 -- The gap between a numeral and what it is rounded to, and which of two errors is the greater.
-use Rattle.std.proofs.Common.{◌≡◌, ℕ, ◌+◌, ◌-◌, ◌*◌, ◌%◌, ◌^◌, ◌<◌, ◌≤◌, Bool, true, false, List, ◌++◌, length, refl, sym, ap, ◌∙◌, subst, arith, nat_eq, not, ⊎_elim, mul-le-mul_right, mul-le-mul_left, ℤ, pow_pos}
+use Rattle.std.proofs.Common.{◌≡◌, ℕ, ◌+◌, ◌-◌, ◌*◌, ◌%◌, ◌^◌, ◌<◌, ◌≤◌, ◌↔◌, Bool, true, false, IsTrue, List, ◌++◌, length, refl, sym, ap, ◌∙◌, subst, arith, nat_eq, not, ⊎_elim, mul-le-mul_right, mul-le-mul_left, ℤ, pow_pos}
 use Rattle.std.specs.Int.Digits.{number_from_digits}
 use Rattle.std.proofs.Math.Nat.{one-le-pow, pow-le-pow_right}
 use Rattle.std.proofs.lemmas.Bool.{cases_lt}
@@ -13,7 +13,7 @@ use Rattle.fixed_bits.specs.Rounded.{IsNotAbove, IsRounded}
 use Rattle.fixed_bits.specs.declared.mode.ReadMode.{ReadMode}
 use Rattle.fixed_bits.specs.declared.mode.ReadMode.TheVariants.{NearestEven, TowardsZero, Floor, Ceil}
 use Rattle.fixed_numeral.proofs.Public.{magnitude_pos, number_append, parts_unique}
-use Rattle.fixed_numeral.specs.Numeral.{Parts, HasNumeral, base, is_minus, signed}
+use Rattle.fixed_numeral.specs.Numeral.{Parts, HasNumeral, IsNumeral, base, is_minus, signed}
 use Rattle.fixed_numeral.specs.Scanned.{IsScanned, exponent_unit}
 use Rattle.fixed_numeral.specs.Value.{magnitude}
 use Rattle.fixed_numeral.specs.declared.radix.Radix.{Radix}
@@ -35,13 +35,40 @@ same_magnitude true m n e = omega (arith, ints, e)
 none_high : (high low : ℕ) → high * 2 ^ 64 + low < 2 ^ 64 → high * 2 ^ 64 + low ≡ low
 none_high high low h = omega (arith, h)
 
-pub steps_read : (mode : ReadMode) (r : Radix) (p : Parts) (f : ℕ) (found : ReadNumber) (number : ℤ) → found.format.frac ≡ f → IsReading mode r p found → (read : IsReadNumber mode r p f number) → read.ulps < 2 ^ 64 → read.ulps ≡ found.low
-steps_read mode r p f found number at x read small =
+steps_whole : (mode : ReadMode) (r : Radix) (p : Parts) (f : ℕ) (found : ReadNumber) (number : ℤ) → found.format.frac ≡ f → (x : IsReading mode r p found) → (read : IsReadNumber mode r p f number) → read.ulps ≡ x.holds.high * 2 ^ 64 + found.low
+steps_whole mode r p f found number at x read =
     let P : ℕ → Type 0 = λ k. IsReadNumber mode r p k x.number in
     let same : x.number ≡ number = read_unique mode r p f x.number number (subst P at x.read) read in
     let whole : ℕ = x.holds.high * 2 ^ 64 + found.low in
-    let steps : read.ulps ≡ whole = same_magnitude (is_minus p.sign) read.ulps whole (sym read.value ∙ (sym same ∙ (x.holds.value ∙ ap (λ b. with_sign b whole) x.sign))) in
+    same_magnitude (is_minus p.sign) read.ulps whole (sym read.value ∙ (sym same ∙ (x.holds.value ∙ ap (λ b. with_sign b whole) x.sign)))
+
+pub steps_read : (mode : ReadMode) (r : Radix) (p : Parts) (f : ℕ) (found : ReadNumber) (number : ℤ) → found.format.frac ≡ f → IsReading mode r p found → (read : IsReadNumber mode r p f number) → read.ulps < 2 ^ 64 → read.ulps ≡ found.low
+steps_read mode r p f found number at x read small =
+    let steps = steps_whole mode r p f found number at x read in
     steps ∙ none_high x.holds.high found.low (omega (arith, steps, small))
+
+-- whether there are more than 64 bits
+few_bits : (b : Bool) (high : ℕ) → (IsTrue b ↔ (0 < high)) → not b ≡ true → high ≡ 0
+few_bits b high = grind (arith, nat_tests)
+
+no_more_bits : (b : Bool) (high : ℕ) → (IsTrue b ↔ (0 < high)) → high ≡ 0 → not b ≡ true
+no_more_bits b high = grind (arith, nat_tests)
+
+pub within_by : (mode : ReadMode) (r : Radix) (f : ℕ) (bytes : List ℕ) (found : ReadNumber) → found.format.frac ≡ f → found.low < 2 ^ 64 → IsNumeral r bytes → ((p : Parts) → HasNumeral r bytes p → IsReading mode r p found)
+    → IsTrue (not found.has_high_bits) ↔ IsReadWithin mode r f bytes
+within_by mode r f bytes found at low n reading = (to, back)
+  where
+    to : IsTrue (not found.has_high_bits) → IsReadWithin mode r f bytes
+    to t =
+        let x = reading n.0 n.1 in
+        let read : IsReadNumber mode r n.0 f x.number = subst (λ k. IsReadNumber mode r n.0 k x.number) at x.read in
+        let none : x.holds.high ≡ 0 = few_bits found.has_high_bits x.holds.high x.holds.over t in
+        record { parts = n.0; numeral = n.1; number = x.number; read = read; within = omega (arith, steps_whole mode r n.0 f found x.number at x read, none, low) }
+
+    back : IsReadWithin mode r f bytes → IsTrue (not found.has_high_bits)
+    back w =
+        let x = reading w.parts w.numeral in
+        no_more_bits found.has_high_bits x.holds.high x.holds.over (omega (arith, steps_whole mode r w.parts f found w.number at x w.read, w.within))
 
 -- ---- roundings
 pub record IsClose (num den q : ℕ) : Type 0 where
@@ -89,7 +116,7 @@ pub record IsInUlps (num den w n power unit : ℕ) : Type 0 where
   pub number : num * power ≡ (w * power + n) * unit * den
   pub less : n < power
 
-cancel_le : (a b t : ℕ) → 0 < t → a * t ≤ b * t → a ≤ b
+pub cancel_le : (a b t : ℕ) → 0 < t → a * t ≤ b * t → a ≤ b
 cancel_le a b t h e = ⊎_elim (λ (less : b < a). let m : (b + 1) * t ≤ a * t = mul-le-mul_right t (omega (arith, less)) in absurd (omega (arith, m, e, h))) (λ (more : a ≤ b). more) (cases_lt b a)
 
 pub cancel_lt : (a b t : ℕ) → a * t < b * t → a < b
@@ -313,9 +340,9 @@ gap_found mode r f bytes negative whole fraction s k q unit more w hf hs scanned
 
 -- ---- two errors
 -- by places of both: b is the power of all places, x is what the digits spell, and size is the error in ulps
-record HasSizeBy (num den q b x : ℕ) (gap : Gap) (size : ℕ) : Type 0 where
-  high : size + (less_part gap).whole * b + (less_part gap).factor * x ≡ (greater_part gap).whole * b + (greater_part gap).factor * x
-  error : distance num (q * den) * b ≡ size * den
+pub record HasSizeBy (num den q b x : ℕ) (gap : Gap) (size : ℕ) : Type 0 where
+  pub high : size + (less_part gap).whole * b + (less_part gap).factor * x ≡ (greater_part gap).whole * b + (greater_part gap).factor * x
+  pub error : distance num (q * den) * b ≡ size * den
 
 size_by_places : (num den q power n c b x : ℕ) (gap : Gap) (size : ℕ) → HasSize num den q power n gap size → b ≡ power * c → x ≡ n * c → HasSizeBy num den q b x gap (size * c)
 size_by_places num den q power n c b x gap size h eb ex =
@@ -341,7 +368,7 @@ sizes_of : (b n : ℕ) (one other : List ℕ) (g h : Gap) (s t : ℕ) → (s + (
 unfolding sum_value
 sizes_of b n one other g h s t e f = sums_of (less_part g).whole (less_part g).factor (greater_part g).whole (greater_part g).factor (less_part h).whole (less_part h).factor (greater_part h).whole (greater_part h).factor s t (b ^ n) (padded b n one) (padded b n other) e f
 
-greater_by : (d e den den' s t b u : ℕ) → 0 < den → 0 < den' → 0 < u → d * b ≡ s * den → e * b ≡ t * den' → t < s → e * (u * den) < d * (u * den')
+pub greater_by : (d e den den' s t b u : ℕ) → 0 < den → 0 < den' → 0 < u → d * b ≡ s * den → e * b ≡ t * den' → t < s → e * (u * den) < d * (u * den')
 greater_by d e den den' s t b u hd he hu p q less =
     let step : (t + 1) * (den * den') ≤ s * (den * den') = mul-le-mul_right (den * den') (omega (arith, less)) in
     let some : 1 * 1 ≤ den * den' = mul_mono 1 den 1 den' (omega (arith, hd)) (omega (arith, he)) in
@@ -354,7 +381,7 @@ greater_by d e den den' s t b u hd he hu p q less =
     mul_mono : (a b c d : ℕ) → a ≤ b → c ≤ d → a * c ≤ b * d
     mul_mono a b c d h k = let x : a * c ≤ b * c = mul-le-mul_right c h in let y : b * c ≤ b * d = mul-le-mul_left b k in omega (arith, x, y)
 
-at_most_by : (d e den den' s t b u : ℕ) → 0 < b → d * b ≡ s * den → e * b ≡ t * den' → s ≤ t → d * (u * den') ≤ e * (u * den)
+pub at_most_by : (d e den den' s t b u : ℕ) → 0 < b → d * b ≡ s * den → e * b ≡ t * den' → s ≤ t → d * (u * den') ≤ e * (u * den)
 at_most_by d e den den' s t b u hb p q less =
     let step : s * (den * den') ≤ t * (den * den') = mul-le-mul_right (den * den') less in
     let pp : d * b * den' ≡ s * den * den' = ap (λ v. v * den') p in
@@ -363,14 +390,14 @@ at_most_by d e den den' s t b u hb p q less =
     let m : d * den' * u ≤ e * den * u = mul-le-mul_right u l in
     omega (arith, m)
 
-base_least : (r : Radix) → 1 ≤ base r
+pub base_least : (r : Radix) → 1 ≤ base r
 base_least Bin = omega arith
 base_least Oct = omega arith
 base_least Dec = omega arith
 base_least Hex = omega arith
 
 -- the size of one error by the places of both
-places_of : (mode : ReadMode) (r : Radix) (f n : ℕ) (bytes digits : List ℕ) (gap : Gap) (x : IsGap mode r f bytes digits gap) → length digits ≤ n
+pub places_of : (mode : ReadMode) (r : Radix) (f n : ℕ) (bytes digits : List ℕ) (gap : Gap) (x : IsGap mode r f bytes digits gap) → length digits ≤ n
     → (size : ℕ) × HasSizeBy ((magnitude r x.parts).num * 2 ^ f) (magnitude r x.parts).den x.read.ulps (base r ^ n) (padded (base r) n digits) gap size
 unfolding padded
 places_of mode r f n bytes digits gap x h =

@@ -43,6 +43,22 @@ pub record HasNoGreaterError (mode : ReadMode) (r : Radix) (f : ℕ) (one other 
   pub has_other : HasErrorSize mode r f other other_size
   pub at_most : IsAtMost one_size other_size
 
+-- the error of a numeral is greater in size than the magnitude of another
+pub record HasErrorAbove (mode : ReadMode) (r : Radix) (f : ℕ) (bytes bound : List ℕ) : Type 0 where
+  pub size : Fraction
+  pub has_size : HasErrorSize mode r f bytes size
+  pub bound_parts : Parts
+  pub bound_numeral : HasNumeral r bound bound_parts
+  pub above : IsLess (magnitude r bound_parts) size
+
+-- it is at most that
+pub record HasErrorWithin (mode : ReadMode) (r : Radix) (f : ℕ) (bytes bound : List ℕ) : Type 0 where
+  pub size : Fraction
+  pub has_size : HasErrorSize mode r f bytes size
+  pub bound_parts : Parts
+  pub bound_numeral : HasNumeral r bound bound_parts
+  pub at_most : IsAtMost size (magnitude r bound_parts)
+
 -- bytes are a numeral that is rounded to fewer than 2^64 ulps
 pub record IsReadWithin (mode : ReadMode) (r : Radix) (f : ℕ) (bytes : List ℕ) : Type 0 where
   pub parts : Parts

@@ -12,6 +12,7 @@ pub mod laws;
 mod lines;
 mod natural;
 pub mod show;
+mod tool_names;
 pub mod words;
 
 pub use bits::bits_block;
