@@ -1,4 +1,6 @@
 mod AskingLemmas
 mod BlockLemmas
 mod RefusedLemmas
+mod RunLawLemmas
+mod NameLawLemmas
 mod WordLemmas

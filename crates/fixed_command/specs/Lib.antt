@@ -6,7 +6,9 @@ pub mod Inner
 pub mod Laws
 pub mod Lemmas
 pub mod Limits
+pub mod NameLaws
 pub mod Printed
 pub mod Products
 pub mod Refused
+pub mod RunLaws
 pub mod Runs
