@@ -1,5 +1,7 @@
 mod AskingLemmas
 mod BlockLemmas
+mod OutcomeLemmas
+mod OutcomeNumbers
 mod RefusedLemmas
 mod RunLawLemmas
 mod NameLawLemmas

@@ -12,7 +12,7 @@ use Rattle.line_engine.proofs.Public.{not_failed, output_one, whole_output_one}
 use Rattle.fixed_show.proofs.Public.{show_refusal_one, word_fault_one, word_has_no_fault}
 use Rattle.fixed_show.specs.BitsBlock.{fault_message}
 use Rattle.fixed_show.specs.Blocks.{refusal_block}
-use Rattle.fixed_command.specs.Blocks.{IsBlock, WritesBlocks}
+use Rattle.fixed_command.specs.Blocks.{IsBlock, IsHeaded, WritesBlocks}
 use Rattle.fixed_command.specs.Refused.{IsClean}
 use Rattle.fixed_command.specs.RunLaws.{BlocksEndIsTheOne, FirstRefusedIsTheOne, LineRunIsTheOne, WholeRunIsTheOne}
 use Rattle.fixed_command.specs.declared.blocks.Question.{Question}
@@ -85,8 +85,8 @@ module _ (A : List ℕ → AnswerText → Type 0) (flag : (word : List ℕ) (x y
 
 faults_one : (q : Question) (words : List (List ℕ)) (before a b : Option (List ℕ)) (o p : Bool) → WritesBlocks q words before a o → WritesBlocks q words before b p → o ≡ p
 faults_one q words before a b o p x y =
-    let flag : (word : List ℕ) (t u : AnswerText) → IsBlock q word t → IsBlock q word u → t.fault ≡ u.fault = λ word t u v w. flag_by q word t.fault u.fault t.text u.text v w in
-    sym x.faulty ∙ flags_one (IsBlock q) flag words x.blocks y.blocks x.answers y.answers ∙ y.faulty
+    let flag : (word : List ℕ) (t u : AnswerText) → IsHeaded q word t → IsHeaded q word u → t.fault ≡ u.fault = λ word t u v w. flag_by q word t.fault u.fault v.body w.body v.is_body w.is_body in
+    sym x.faulty ∙ flags_one (IsHeaded q) flag words x.blocks y.blocks x.answers y.answers ∙ y.faulty
 
 pub blocks_end_one : BlocksEndIsTheOne
 blocks_end_one q words before a b f f' Done Done room x y = refl

@@ -1,6 +1,6 @@
 //! Laws of the definitions, each the contract of a function that does nothing.
 
-ghost use Rattle.fixed_command.specs.Laws.{PrintedBitsAreWords};
+ghost use Rattle.fixed_command.specs.Laws.{OutcomeIsTheOne, PrintedBitsAreWords};
 ghost use Rattle.fixed_command.specs.NameLaws.{NamesAreTheOnes};
 ghost use Rattle.fixed_command.specs.RunLaws.{
   BlocksEndIsTheOne,
@@ -49,4 +49,9 @@ pub fn whole_run_is_the_one<R: WholeRule<L>, L: Ledger>(_rule: &R)
 /// The value of an option names at most one radix, policy, mode, spelling or part of an answer.
 pub fn names_are_the_ones()
     ensures { NamesAreTheOnes }
+{}
+
+/// A numeral comes through its conversion in one way.
+pub fn outcome_is_the_one()
+    ensures { OutcomeIsTheOne }
 {}

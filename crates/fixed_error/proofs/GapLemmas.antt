@@ -1,5 +1,5 @@
 -- The gap between a numeral and what it is rounded to, and which of two errors is the greater.
-use Rattle.std.proofs.Common.{◌≡◌, ℕ, ◌+◌, ◌-◌, ◌*◌, ◌%◌, ◌^◌, ◌<◌, ◌≤◌, Bool, true, false, List, ◌++◌, length, refl, sym, ap, ◌∙◌, subst, arith, nat_eq, not, ⊎_elim, mul-le-mul_right, mul-le-mul_left, ℤ, pow_pos}
+use Rattle.std.proofs.Common.{◌≡◌, ℕ, ◌+◌, ◌-◌, ◌*◌, ◌%◌, ◌^◌, ◌<◌, ◌≤◌, ◌↔◌, Bool, true, false, IsTrue, List, ◌++◌, length, refl, sym, ap, ◌∙◌, subst, arith, nat_eq, not, ⊎_elim, mul-le-mul_right, mul-le-mul_left, ℤ, pow_pos}
 use Rattle.std.specs.Int.Digits.{number_from_digits}
 use Rattle.std.proofs.Math.Nat.{one-le-pow, pow-le-pow_right}
 use Rattle.std.proofs.lemmas.Bool.{cases_lt}
@@ -13,7 +13,7 @@ use Rattle.fixed_bits.specs.Rounded.{IsNotAbove, IsRounded}
 use Rattle.fixed_bits.specs.declared.mode.ReadMode.{ReadMode}
 use Rattle.fixed_bits.specs.declared.mode.ReadMode.TheVariants.{NearestEven, TowardsZero, Floor, Ceil}
 use Rattle.fixed_numeral.proofs.Public.{magnitude_pos, number_append, parts_unique}
-use Rattle.fixed_numeral.specs.Numeral.{Parts, HasNumeral, base, is_minus, signed}
+use Rattle.fixed_numeral.specs.Numeral.{Parts, HasNumeral, IsNumeral, base, is_minus, signed}
 use Rattle.fixed_numeral.specs.Scanned.{IsScanned, exponent_unit}
 use Rattle.fixed_numeral.specs.Value.{magnitude}
 use Rattle.fixed_numeral.specs.declared.radix.Radix.{Radix}
@@ -35,13 +35,40 @@ same_magnitude true m n e = omega (arith, ints, e)
 none_high : (high low : ℕ) → high * 2 ^ 64 + low < 2 ^ 64 → high * 2 ^ 64 + low ≡ low
 none_high high low h = omega (arith, h)
 
-pub steps_read : (mode : ReadMode) (r : Radix) (p : Parts) (f : ℕ) (found : ReadNumber) (number : ℤ) → found.format.frac ≡ f → IsReading mode r p found → (read : IsReadNumber mode r p f number) → read.ulps < 2 ^ 64 → read.ulps ≡ found.low
-steps_read mode r p f found number at x read small =
+steps_whole : (mode : ReadMode) (r : Radix) (p : Parts) (f : ℕ) (found : ReadNumber) (number : ℤ) → found.format.frac ≡ f → (x : IsReading mode r p found) → (read : IsReadNumber mode r p f number) → read.ulps ≡ x.holds.high * 2 ^ 64 + found.low
+steps_whole mode r p f found number at x read =
     let P : ℕ → Type 0 = λ k. IsReadNumber mode r p k x.number in
     let same : x.number ≡ number = read_unique mode r p f x.number number (subst P at x.read) read in
     let whole : ℕ = x.holds.high * 2 ^ 64 + found.low in
-    let steps : read.ulps ≡ whole = same_magnitude (is_minus p.sign) read.ulps whole (sym read.value ∙ (sym same ∙ (x.holds.value ∙ ap (λ b. with_sign b whole) x.sign))) in
+    same_magnitude (is_minus p.sign) read.ulps whole (sym read.value ∙ (sym same ∙ (x.holds.value ∙ ap (λ b. with_sign b whole) x.sign)))
+
+pub steps_read : (mode : ReadMode) (r : Radix) (p : Parts) (f : ℕ) (found : ReadNumber) (number : ℤ) → found.format.frac ≡ f → IsReading mode r p found → (read : IsReadNumber mode r p f number) → read.ulps < 2 ^ 64 → read.ulps ≡ found.low
+steps_read mode r p f found number at x read small =
+    let steps = steps_whole mode r p f found number at x read in
     steps ∙ none_high x.holds.high found.low (omega (arith, steps, small))
+
+-- whether there are more than 64 bits
+few_bits : (b : Bool) (high : ℕ) → (IsTrue b ↔ (0 < high)) → not b ≡ true → high ≡ 0
+few_bits b high = grind (arith, nat_tests)
+
+no_more_bits : (b : Bool) (high : ℕ) → (IsTrue b ↔ (0 < high)) → high ≡ 0 → not b ≡ true
+no_more_bits b high = grind (arith, nat_tests)
+
+pub within_by : (mode : ReadMode) (r : Radix) (f : ℕ) (bytes : List ℕ) (found : ReadNumber) → found.format.frac ≡ f → found.low < 2 ^ 64 → IsNumeral r bytes → ((p : Parts) → HasNumeral r bytes p → IsReading mode r p found)
+    → IsTrue (not found.has_high_bits) ↔ IsReadWithin mode r f bytes
+within_by mode r f bytes found at low n reading = (to, back)
+  where
+    to : IsTrue (not found.has_high_bits) → IsReadWithin mode r f bytes
+    to t =
+        let x = reading n.0 n.1 in
+        let read : IsReadNumber mode r n.0 f x.number = subst (λ k. IsReadNumber mode r n.0 k x.number) at x.read in
+        let none : x.holds.high ≡ 0 = few_bits found.has_high_bits x.holds.high x.holds.over t in
+        record { parts = n.0; numeral = n.1; number = x.number; read = read; within = omega (arith, steps_whole mode r n.0 f found x.number at x read, none, low) }
+
+    back : IsReadWithin mode r f bytes → IsTrue (not found.has_high_bits)
+    back w =
+        let x = reading w.parts w.numeral in
+        no_more_bits found.has_high_bits x.holds.high x.holds.over (omega (arith, steps_whole mode r w.parts f found w.number at x w.read, w.within))
 
 -- ---- roundings
 pub record IsClose (num den q : ℕ) : Type 0 where
