@@ -3,4 +3,6 @@ mod BlockLemmas
 mod OutcomeLemmas
 mod OutcomeNumbers
 mod RefusedLemmas
+mod RunLawLemmas
+mod NameLawLemmas
 mod WordLemmas

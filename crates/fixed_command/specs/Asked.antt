@@ -7,15 +7,20 @@ use Rattle.fixed_command.specs.declared.print.Print.TheVariants.{All, Bits, Hex,
 use Rattle.fixed_command.specs.declared.spelling.Spelling.{Spelling}
 use Rattle.fixed_command.specs.declared.spelling.Spelling.TheVariants.{Numeral, Word}
 
--- the word of a part of an answer
-abbrev pub print_text : Print → List ℕ
-print_text Text = codes "text"
-print_text (Places count) = codes "text"
-print_text Bits = codes "bits"
-print_text Hex = codes "hex"
-print_text Readmemh = codes "readmemh"
-print_text Value = codes "value"
-print_text All = codes "all"
+-- a word names a part of an answer; a count of places has no word
+abbrev pub IsPrintWord : List ℕ → Print → Type 0
+IsPrintWord word Text = word ≡ codes "text"
+IsPrintWord word (Places count) = ⊥
+IsPrintWord word Bits = word ≡ codes "bits"
+IsPrintWord word Hex = word ≡ codes "hex"
+IsPrintWord word Readmemh = word ≡ codes "readmemh"
+IsPrintWord word Value = word ≡ codes "value"
+IsPrintWord word All = word ≡ codes "all"
+
+-- a value names a part, and the text is meant where the option is left out
+abbrev pub IsPrintNamed : Option (List ℕ) → Print → Type 0
+IsPrintNamed None print = print ≡ Text
+IsPrintNamed (Some word) print = IsPrintWord word print
 
 -- the word of how a line spells a number
 abbrev pub spelling_text : Spelling → List ℕ

@@ -8,9 +8,11 @@ pub mod Laws
 pub mod Layout
 pub mod Lemmas
 pub mod Limits
+pub mod NameLaws
 pub mod Outcome
 pub mod Printed
 pub mod Products
 pub mod Refused
+pub mod RunLaws
 pub mod Runs
 pub mod Watched

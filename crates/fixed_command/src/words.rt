@@ -3,7 +3,7 @@
 ghost use Rattle.std.specs.Prelude.{◌≡◌, ◌≤◌, MatchOption, length, option_map};
 ghost use Rattle.fixed_bits.specs.declared.format.Policy.{Policy};
 ghost use Rattle.fixed_bits.specs.declared.mode.ReadMode.{ReadMode};
-ghost use Rattle.fixed_command.specs.Asked.{IsNamed, print_text, spelling_text};
+ghost use Rattle.fixed_command.specs.Asked.{IsNamed, IsPrintNamed, IsPrintWord, spelling_text};
 ghost use Rattle.fixed_command.specs.declared.print.Print.{Print};
 ghost use Rattle.fixed_command.specs.declared.spelling.Spelling.{Spelling};
 ghost use Rattle.fixed_numeral.specs.declared.radix.Radix.{Radix};
@@ -131,7 +131,7 @@ pub fn mode_named(value: Option<&str>) -> Option<ReadMode>
 
 /// The part of an answer that the value of an option names.
 fn print_of_word(word: &str) -> Option<Print>
-    ensures { MatchOption result ((a : Print) → ¬ (word.now ≡ print_text a)) (λ a. word.now ≡ print_text a) }
+    ensures { MatchOption result ((a : Print) → ¬ IsPrintWord word.now a) (λ a. IsPrintWord word.now a) }
 {
     match word {
         "text" => Some(Print::Text),
@@ -147,9 +147,8 @@ fn print_of_word(word: &str) -> Option<Print>
 /// The part of an answer that the value of an option names. `text` is meant where the option is left out. `None`
 /// where the value names none.
 pub fn print_named(value: Option<&str>) -> Option<Print>
-    ensures { MatchOption result
-        ((a : Print) → ¬ IsNamed Print print_text Print.Text (option_map (λ w. w.now) value.entry) a)
-        (λ a. IsNamed Print print_text Print.Text (option_map (λ w. w.now) value.entry) a) }
+    ensures { MatchOption result ((a : Print) → ¬ IsPrintNamed (option_map (λ w. w.now) value.entry) a)
+        (λ a. IsPrintNamed (option_map (λ w. w.now) value.entry) a) }
 {
     match value {
         Some(word) => print_of_word(word),

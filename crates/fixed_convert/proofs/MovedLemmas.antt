@@ -1,11 +1,9 @@
 -- The two ways of moving down.
 use Rattle.std.proofs.Common.{◌≡◌, ℕ, ◌+◌, ◌-◌, ◌^◌, ◌≤◌, ℤ, pos, ◌*ℤ◌, arith, refl, sym, ap, ◌∙◌}
-use Rattle.std.specs.Prelude.{◌+ℤ◌, Bool}
 use Rattle.std.proofs.lemmas.Int.{ints}
 use Rattle.std.proofs.lemmas.Nat.{pow_pos, pow-add}
 use Rattle.fixed_bits.specs.Down.{IsDown, down}
-use Rattle.fixed_bits.specs.Ranges.{IsInRange}
-use Rattle.fixed_bits.proofs.Integers.{next_times, le_times, lt_times, times_times}
+use Rattle.fixed_bits.proofs.Integers.{next_times, times_times}
 use Rattle.fixed_bits.proofs.Public
 use Rattle.fixed_bits.proofs.Public.{images_agree, down_one, grown}
 use Rattle.fixed_convert.specs.Moved.{shifted}

@@ -1,17 +1,21 @@
 -- Bits moved in a mode.
-use Rattle.std.proofs.Common.{◌≡◌, ◌∙◌, ◌↔◌, ℕ, ℤ, Bool, IsTrue, not, true, false, pos, negsuc, suc, ◌+◌, ◌-◌, ◌*◌, ◌^◌, ◌<◌, ◌≤◌, unsigned_abs, refl, sym, ap, subst, arith}
+use Rattle.std.proofs.Common.{◌≡◌, ◌∙◌, ◌↔◌, ℕ, ℤ, Bool, IsTrue, not, true, false, pos, negsuc, zero, suc, ◌+◌, ◌-◌, ◌*◌, ◌/◌, ◌^◌, ◌<◌, ◌≤◌, unsigned_abs, refl, sym, ap, subst, arith, div-add-mod', mul-le-mul_left, pow-suc}
 use Rattle.std.specs.Int.{is_negative}
 use Rattle.std.proofs.lemmas.Bool.{le-ltb}
 use Rattle.std.proofs.lemmas.Int.{ints}
 use Rattle.std.proofs.lemmas.Nat.{pow_pos, pow-add}
 use Rattle.fixed_bits.proofs.Integers.{plus_times}
 use Rattle.fixed_bits.specs.Down.{IsDown, down}
+use Rattle.fixed_bits.specs.Images.{IsImage}
+use Rattle.fixed_bits.specs.Numbers.{with_sign}
+use Rattle.fixed_bits.specs.Ranges.{IsOutOfRange}
 use Rattle.fixed_bits.specs.Rounded.{IsRounded}
+use Rattle.fixed_bits.specs.declared.format.Policy.TheVariants.{Checked}
 use Rattle.fixed_bits.specs.declared.mode.ReadMode.{ReadMode}
 use Rattle.fixed_bits.specs.declared.mode.ReadMode.TheVariants.{NearestEven, Floor, Ceil, TowardsZero}
-use Rattle.fixed_bits.proofs.Public.{down_is, grown, nearest_by_rest, rounded_exists, rounded_same, rounded_unique}
+use Rattle.fixed_bits.proofs.Public.{down_is, grown, has_none, image_one, nearest_by_rest, rounded_exists, rounded_same, rounded_unique}
 use Rattle.fixed_convert.specs.Moved.{shifted}
-use Rattle.fixed_convert.specs.Rounded.{FloorIsDown, IsMovedIn, MovedInIsTheOne, with_sign}
+use Rattle.fixed_convert.specs.Rounded.{FloorIsDown, IsMovedIn, MovedInIsTheOne, ReformattedIsTheOne}
 
 not_negative : (a : ℕ) → is_negative (pos a) ≡ false
 not_negative a = le-ltb a 0 (omega arith)
@@ -57,19 +61,69 @@ moved_shorter mode b v f g q h rounded value =
     let e : unsigned_abs b * 2 ^ f ≡ unsigned_abs b * 2 ^ g * 2 ^ (f - g) = sym (powers_joined (unsigned_abs b) g f h) ∙ omega arith in
     record { ulps = q; rounded = rounded_same mode (is_negative b) (unsigned_abs b) (2 ^ (f - g)) (unsigned_abs b * 2 ^ g) (2 ^ f) q (pow_pos (f - g)) (pow_pos f) e rounded; value = value }
 
+nothing_rounded : (mode : ReadMode) (negative : Bool) (u : ℕ) → 0 < u → IsRounded mode negative 0 u 0
+nothing_rounded mode negative u h =
+    let e : 0 * u ≡ 0 = omega arith in
+    subst (λ (k : ℕ). IsRounded mode negative k u 0) e (exact_rounded mode negative 0 u h)
+
+-- by sign and magnitude, where zero may have either sign
+pub moved_parts : (mode : ReadMode) (negative : Bool) (m f g q : ℕ) → g ≤ f → IsRounded mode negative m (2 ^ (f - g)) q → IsMovedIn mode (with_sign negative m) f g (with_sign negative q)
+moved_parts mode false m f g q h rounded = moved_shorter mode (pos m) (pos q) f g q h (rw (not_negative m) rounded) (rw (not_negative m) refl)
+moved_parts mode true (suc m) f g q h rounded = moved_shorter mode (negsuc m) (with_sign true q) f g q h rounded refl
+moved_parts mode true zero f g q h rounded =
+    let unit = pow_pos (f - g) in
+    let none : q ≡ 0 = rounded_unique mode true 0 (2 ^ (f - g)) q 0 unit rounded (nothing_rounded mode true (2 ^ (f - g)) unit) in
+    let zero_is : IsMovedIn mode (pos 0) f g (pos 0) = moved_shorter mode (pos 0) (pos 0) f g 0 h (rw (not_negative 0) (nothing_rounded mode false (2 ^ (f - g)) unit)) refl in
+    subst (λ (k : ℕ). IsMovedIn mode (pos 0) f g (with_sign true k)) (sym none) zero_is
+
+-- half of 64 bits at most are left where a magnitude is shortened
+pub half_at_most : (m bits : ℕ) → 0 < bits → m < 2 ^ 64 → m / 2 ^ bits < 2 ^ 63
+half_at_most m zero some few = absurd (omega arith)
+half_at_most m (suc bits) some few =
+    let one : 1 ≤ 2 ^ bits = pow_pos bits in
+    let more : m / 2 ^ suc bits * 1 ≤ m / 2 ^ suc bits * 2 ^ bits = mul-le-mul_left (m / 2 ^ suc bits) one in
+    let sum = div-add-mod' m (2 ^ suc bits) in
+    let double = ap (λ x. m / 2 ^ suc bits * x) (pow-suc 2 bits) in
+    omega (arith, more, sum, double)
+
 -- the contrary of "in range"
 pub not_inside : (t : Bool) (P : Type 0) → ((t ≡ false) ↔ P) → IsTrue (not t) ↔ P
 not_inside true P e = ((λ x. absurd (let y : false ≡ true = x in cc)), (λ p. absurd (let y : true ≡ false = e.1 p in cc)))
 not_inside false P e = ((λ x. e.0 refl), (λ p. refl))
 
 -- ---- laws
+moved_one : (mode : ReadMode) (b : ℤ) (f g : ℕ) (v w : ℤ) → IsMovedIn mode b f g v → IsMovedIn mode b f g w → v ≡ w
+moved_one mode b f g v w x y =
+    let same : x.ulps ≡ y.ulps = rounded_unique mode (is_negative b) (unsigned_abs b * 2 ^ g) (2 ^ f) x.ulps y.ulps (pow_pos f) x.rounded y.rounded in
+    x.value ∙ ap (with_sign (is_negative b)) same ∙ sym y.value
+
 pub moved_in_is_the_one : MovedInIsTheOne
 moved_in_is_the_one mode b f g =
-    let some = rounded_exists mode (is_negative b) (unsigned_abs b * 2 ^ g) (2 ^ f) (pow_pos f) in (
-      with_sign (is_negative b) some.0,
-      record { ulps = some.0; rounded = some.1; value = refl },
-      λ w h. h.value ∙ ap (with_sign (is_negative b)) (rounded_unique mode (is_negative b) (unsigned_abs b * 2 ^ g) (2 ^ f) h.ulps some.0 (pow_pos f) h.rounded some.1),
-    )
+    let some = rounded_exists mode (is_negative b) (unsigned_abs b * 2 ^ g) (2 ^ f) (pow_pos f) in
+    let v = with_sign (is_negative b) some.0 in
+    let is : IsMovedIn mode b f g v = record { ulps = some.0; rounded = some.1; value = refl } in
+    (v, is, λ w h. moved_one mode b f g w v h is)
+
+same_flag : (a b : Bool) (P : Type 0) → (IsTrue a ↔ P) → (IsTrue b ↔ P) → a ≡ b
+same_flag true true P f g = refl
+same_flag true false P f g = sym (g.1 (f.0 refl))
+same_flag false true P f g = f.1 (g.0 refl)
+same_flag false false P f g = refl
+
+pub reformatted_is_the_one : ReformattedIsTheOne
+reformatted_is_the_one mode policy target b f c o format x = (
+  λ d u y.
+      let m : x.moved ≡ y.moved = moved_one mode b f target.frac x.moved y.moved x.is_moved y.is_moved in
+      let Image : ℤ → Type 0 = λ v. IsImage policy target.signed target.width v c in
+      let Verdict : ℤ → Type 0 = λ v. IsTrue o ↔ IsOutOfRange target.signed target.width v in (
+        image_one policy target.signed target.width y.moved c d format.is_width (subst Image m x.image_is) y.image_is,
+        same_flag o u (IsOutOfRange target.signed target.width y.moved) (subst Verdict m x.verdict) y.verdict,
+      ),
+  λ none.
+      let m : x.moved ≡ none.moved = moved_one mode b f target.frac x.moved none.moved x.is_moved none.is_moved in
+      let image : IsImage Checked target.signed target.width x.moved c = subst (λ p. IsImage p target.signed target.width x.moved c) none.checked x.image_is in
+      has_none target.signed target.width none.moved c none.out (subst (λ v. IsImage Checked target.signed target.width v c) m image),
+)
 
 floor_at : (b d : ℤ) (f g : ℕ) → IsDown b f g d → IsMovedIn Floor b f g d
 floor_at (pos a) (pos q) f g h =

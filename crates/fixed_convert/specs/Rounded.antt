@@ -1,19 +1,16 @@
 -- Bits moved from one fraction length to another in a mode.
-use Rattle.std.specs.Prelude.{◌≡◌, ◌↔◌, ◌*◌, ◌^◌, ℕ, ℤ, Bool, IsTrue, pos, neg_ℤ, unsigned_abs, if◌then◌else◌}
+use Rattle.std.specs.Prelude.{◌≡◌, ◌↔◌, ◌*◌, ◌^◌, ℕ, ℤ, Bool, IsTrue, unsigned_abs}
 use Rattle.std.specs.Int.{is_negative}
 use Rattle.fixed_bits.specs.Down.{down}
-use Rattle.fixed_bits.specs.Formats.{FormatParts}
+use Rattle.fixed_bits.specs.Formats.{FormatParts, IsFormat}
 use Rattle.fixed_bits.specs.Images.{IsImage}
+use Rattle.fixed_bits.specs.Numbers.{with_sign}
 use Rattle.fixed_bits.specs.Ranges.{IsOutOfRange}
 use Rattle.fixed_bits.specs.Rounded.{IsRounded}
 use Rattle.fixed_bits.specs.declared.format.Policy.{Policy}
 use Rattle.fixed_bits.specs.declared.format.Policy.TheVariants.{Checked}
 use Rattle.fixed_bits.specs.declared.mode.ReadMode.{ReadMode}
 use Rattle.fixed_bits.specs.declared.mode.ReadMode.TheVariants.{Floor}
-
--- a magnitude with a sign
-abbrev pub with_sign : Bool → ℕ → ℤ
-with_sign negative ulps = if negative then neg_ℤ (pos ulps) else pos ulps
 
 -- v is b / 2^f in ulps of 2^-g: its magnitude rounded in the mode, with its sign
 pub record IsMovedIn (mode : ReadMode) (b : ℤ) (f g : ℕ) (v : ℤ) : Type 0 where
@@ -44,3 +41,10 @@ MovedInIsTheOne = (mode : ReadMode) (b : ℤ) (f g : ℕ) → (v : ℤ) × IsMov
 -- moving in the mode Floor is moving down
 abbrev pub FloorIsDown : Type 0
 FloorIsDown = (b : ℤ) (f g : ℕ) → IsMovedIn Floor b f g (down b f g)
+
+-- a number has one image in a format and one verdict, or it has none
+abbrev pub ReformattedIsTheOne : Type 0
+ReformattedIsTheOne = (mode : ReadMode) (policy : Policy) (target : FormatParts) (b : ℤ) (f : ℕ) (c : ℤ) (o : Bool)
+    → IsFormat target.width target.frac → IsReformatted mode policy target b f c o
+    → ((d : ℤ) (u : Bool) → IsReformatted mode policy target b f d u → (c ≡ d) × (o ≡ u))
+    × (¬ IsNotReformatted mode policy target b f)

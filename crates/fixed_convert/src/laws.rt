@@ -1,6 +1,6 @@
 //! Laws of conversions and of the order, each the contract of a function that does nothing.
 
-ghost use Rattle.fixed_convert.specs.Rounded.{FloorIsDown, MovedInIsTheOne};
+ghost use Rattle.fixed_convert.specs.Rounded.{FloorIsDown, MovedInIsTheOne, ReformattedIsTheOne};
 ghost use Rattle.fixed_convert.specs.Laws.{FinerIsExact, ConversionIsUndone, OrderIsOfValues, OrderIsTotal};
 ghost use Rattle.fixed_convert.specs.Laws.{ExactIsEqual};
 
@@ -37,4 +37,9 @@ pub fn moved_in_is_the_one()
 /// In the mode Floor a number is moved down.
 pub fn floor_is_down()
     ensures { FloorIsDown }
+{}
+
+/// A number moved in a mode has one image and one verdict in a format under a policy, or it is refused.
+pub fn reformatted_is_the_one()
+    ensures { ReformattedIsTheOne }
 {}

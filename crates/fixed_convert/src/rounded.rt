@@ -1,14 +1,13 @@
 //! Bits moved to another fraction length in a mode.
 
-ghost use Rattle.std.specs.Prelude.{◌≡◌, ◌<◌, ◌≤◌, ◌*◌, ◌+◌, ◌^◌, IfSome, MatchOption, unsigned_abs};
-ghost use Rattle.std.specs.Int.{is_negative};
+ghost use Rattle.std.specs.Prelude.{◌≡◌, ◌<◌, ◌≤◌, ◌*◌, ◌+◌, ◌^◌, ℕ, IfSome, MatchOption};
 ghost use Rattle.fixed_bits.specs.Nearest.{IsNearest};
 ghost use Rattle.fixed_bits.specs.Ranges.{IsInRange, IsWide};
 ghost use Rattle.fixed_bits.specs.Rounded.{IsNotBelow, IsRounded};
-ghost use Rattle.fixed_convert.specs.Rounded.{IsMovedIn, IsNotReformatted, IsReformatted, with_sign};
+ghost use Rattle.fixed_convert.specs.Rounded.{IsMovedIn, IsNotReformatted, IsReformatted};
 
 use crate::floored::reformat;
-use fixed_bits::{Format, Policy, ReadMode};
+use fixed_bits::{Format, Policy, ReadMode, sign_and_magnitude, signed_number};
 
 /// The image of the bits `b`, moved in a mode from fraction length `from` to that of the format, and whether the moved
 /// number was out of range. `None` exactly where it was, under `Checked`.
@@ -85,74 +84,55 @@ fn moved_back(b: i128, from: u32, to: u32, mode: ReadMode) -> i128
     requires shorter { to < from }
     ensures { IsMovedIn mode b from to result }
 {
-    let negative = is_below_zero(b);
-    let ulps = rounded_quotient(magnitude(b), from - to, mode, negative);
-    with_sign(negative, ulps)
-}
-
-/// Whether a number is below zero.
-fn is_below_zero(b: i128) -> bool
-    ensures { result ≡ is_negative b }
-{
-    b < 0
-}
-
-/// A magnitude with a sign.
-fn with_sign(negative: bool, ulps: u128) -> i128
-    requires { ulps ≤ 2 ^ 64 }
-    ensures { result ≡ with_sign negative ulps }
-{
-    if negative {
-        -(ulps as i128)
-    } else {
-        ulps as i128
-    }
-}
-
-/// The magnitude of a number of at most 64 bits.
-fn magnitude(b: i128) -> u64
-    requires { IsWide b }
-    ensures { result ≡ unsigned_abs b }
-{
-    b.unsigned_abs() as u64
+    let (negative, magnitude) = sign_and_magnitude(b);
+    let ulps = rounded_quotient(magnitude, from - to, mode, negative);
+    signed_number(negative, ulps)
 }
 
 /// A magnitude over two to the power of `bits`, rounded in a mode.
-fn rounded_quotient(magnitude: u64, bits: u32, mode: ReadMode, negative: bool) -> u128
+fn rounded_quotient(magnitude: u64, bits: u32, mode: ReadMode, negative: bool) -> u64
     requires low { 0 < bits }
     requires high { bits ≤ 64 }
-    ensures rounded { IsRounded mode negative magnitude (2 ^ bits) result }
-    ensures most { result ≤ 2 ^ 64 }
+    ensures { IsRounded mode negative magnitude (2 ^ bits) result }
 {
     let (whole, rest) = parts(magnitude, bits);
-    let unit = 1u128 << bits;
+    let unit = power_of_two(bits);
     match mode {
         ReadMode::NearestEven => nearest(whole, rest, unit),
-        ReadMode::Floor if negative => above(whole, rest, unit),
-        ReadMode::Ceil if !negative => above(whole, rest, unit),
+        ReadMode::Floor if negative => above(whole, rest),
+        ReadMode::Ceil if !negative => above(whole, rest),
         _ => whole,
     }
 }
 
 /// A magnitude in units of two to the power of `bits`, and what is left.
-fn parts(magnitude: u64, bits: u32) -> (u128, u128)
-    requires { bits ≤ 64 }
+#[tactic(auto, using(crate::proofs::RoundedLemmas::half_at_most))]
+fn parts(magnitude: u64, bits: u32) -> (u64, u128)
+    requires low { 0 < bits }
+    requires high { bits ≤ 64 }
     ensures sum { magnitude ≡ result.0 * 2 ^ bits + result.1 }
     ensures rest { result.1 < 2 ^ bits }
-    ensures whole { result.0 < 2 ^ 64 }
+    ensures whole { result.0 < 2 ^ 63 }
 {
-    let unit = 1u128 << bits;
+    let unit = power_of_two(bits);
     let magnitude = u128::from(magnitude);
-    (magnitude / unit, magnitude % unit)
+    ((magnitude / unit) as u64, magnitude % unit)
+}
+
+/// Two to the power of `bits`.
+fn power_of_two(bits: u32) -> u128
+    requires { bits ≤ 64 }
+    ensures { result ≡ 2 ^ bits }
+{
+    1 << bits
 }
 
 /// A whole number of units and a rest as the nearest whole number, ties to even.
-fn nearest(whole: u128, rest: u128, unit: u128) -> u128
-    requires whole { whole < 2 ^ 64 }
+fn nearest(whole: u64, rest: u128, unit: u128) -> u64
+    requires whole { whole < 2 ^ 63 }
     requires unit { unit ≤ 2 ^ 64 }
     requires rest { rest < unit }
-    ensures near { IsNearest (whole * unit + rest) unit result }
-    ensures most { result ≤ whole + 1 }
+    ensures { IsNearest (whole * unit + rest) unit result }
 {
     let double = 2 * rest;
     if double < unit {
@@ -165,11 +145,9 @@ fn nearest(whole: u128, rest: u128, unit: u128) -> u128
 }
 
 /// The least whole number that is not below a whole number of units and a rest.
-fn above(whole: u128, rest: u128, unit: u128) -> u128
-    requires whole { whole < 2 ^ 64 }
-    requires rest { rest < unit }
-    ensures least { IsNotBelow (whole * unit + rest) unit result }
-    ensures most { result ≤ whole + 1 }
+fn above(whole: u64, rest: u128) -> u64
+    requires { whole < 2 ^ 63 }
+    ensures { (unit : ℕ) → rest < unit → IsNotBelow (whole * unit + rest) unit result }
 {
     if rest == 0 { whole } else { whole + 1 }
 }

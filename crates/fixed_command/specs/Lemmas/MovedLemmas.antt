@@ -10,7 +10,8 @@ use Rattle.fixed_bits.specs.Ranges.{IsOutOfRange, IsWidth}
 use Rattle.fixed_bits.specs.declared.format.Policy.{Policy}
 use Rattle.fixed_bits.specs.declared.format.Policy.TheVariants.{Checked}
 use Rattle.fixed_bits.specs.declared.mode.ReadMode.{ReadMode}
-use Rattle.fixed_convert.specs.Rounded.{IsMovedIn, IsNotReformatted, IsReformatted, with_sign}
+use Rattle.fixed_bits.specs.Numbers.{with_sign}
+use Rattle.fixed_convert.specs.Rounded.{IsMovedIn, IsNotReformatted, IsReformatted}
 use Rattle.fixed_numeral.proofs.Public.{one_cause, parts_unique}
 use Rattle.fixed_numeral.specs.Messages.{message_of}
 use Rattle.fixed_numeral.specs.Numeral.{HasNumeral, Parts}

@@ -1,5 +1,5 @@
 -- A number in place of one that may be too long for 128 bits.
-use Rattle.std.specs.Prelude.{◌≡◌, ℕ, ◌^◌, ℤ, pos, neg_ℤ, ◌≤ℤ◌, ◌<ℤ◌, ◌⊎◌}
+use Rattle.std.specs.Prelude.{◌≡◌, ◌^◌, ℤ, pos, neg_ℤ, ◌≤ℤ◌, ◌<ℤ◌, ◌⊎◌}
 use Rattle.fixed_bits.specs.Images.{DiffersByMultiple}
 
 -- v and w are one number, or both are past the same end of every type of at most 64 bits

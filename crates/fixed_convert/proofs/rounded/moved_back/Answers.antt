@@ -1,13 +1,18 @@
-use Rattle.std.proofs.Common.{rules, FitsSigned, arith}
+use Rattle.std.proofs.Common.{rules, subst, ◌≡◌, ◌∙◌, FitsSigned, arith, ℤ}
 use Rattle.std.specs.Int.{w128}
 use Rattle.std.proofs.lemmas.Int.{to_z-of_z}
-use Rattle.fixed_convert.proofs.RoundedLemmas.{moved_shorter}
+use Rattle.fixed_bits.specs.Numbers.{with_sign}
+use Rattle.fixed_convert.specs.Rounded.{IsMovedIn}
+use Rattle.fixed_convert.proofs.RoundedLemmas.{moved_parts}
 use Rattle.fixed_convert.proofs.rounded.moved_back.Goals as goal
 
 pub returns : goal.returns
 returns c =
-    let signed : FitsSigned w128 c.with_sign.result = search rules in
-    rw (to_z-of_z w128 c.with_sign.result signed)
-    (moved_shorter c.args.mode c.args.b c.with_sign.result c.args.from c.args.to c.rounded_quotient-ulps.result (omega arith)
-    (rw (c.magnitude.ensures, c.is_below_zero-negative.ensures, to_z-of_z w128 c.args.b c.ranges.b) at c.rounded_quotient-ulps.ensures.rounded)
-    (rw (c.is_below_zero-negative.ensures, to_z-of_z w128 c.args.b c.ranges.b) at c.with_sign.ensures))
+    let signed : FitsSigned w128 c.signed_number.result = search rules in
+    let negative = c.sign_and_magnitude-negative.result.0 in
+    let magnitude = c.sign_and_magnitude-negative.result.1 in
+    let ulps = c.rounded_quotient-ulps.result in
+    let is : with_sign negative magnitude ≡ c.args.b = c.sign_and_magnitude-negative.ensures ∙ to_z-of_z w128 c.args.b c.ranges.b in
+    let moved = moved_parts c.args.mode negative magnitude c.args.from c.args.to ulps (omega arith) c.rounded_quotient-ulps.ensures in
+    rw (to_z-of_z w128 c.signed_number.result signed, c.signed_number.ensures)
+    (subst (λ (b : ℤ). IsMovedIn c.args.mode b c.args.from c.args.to (with_sign negative ulps)) is moved)

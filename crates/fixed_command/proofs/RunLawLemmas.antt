@@ -1,0 +1,134 @@
+-- One first refused word, and one end.
+use Rattle.std.proofs.Common.{◌≡◌, ◌∙◌, ◌⊎◌, ◌+◌, ◌-◌, ◌++◌, ℕ, suc, Bool, true, false, List, [], ◌∷◌, Option, Some, length, ap, inl, inr, refl, sym, subst}
+use Rattle.std.specs.Prelude.{All}
+use Rattle.std.proofs.lemmas.Bool.{false≢true}
+use Rattle.std.proofs.lemmas.List.Elements.{All-head, All-tail}
+use Rattle.line_engine.specs.AnswerText.{AnswerText}
+use Rattle.line_engine.specs.Output.{AreAnswers, WritesOutput, any_fault}
+use Rattle.line_engine.specs.WholeRun.{WritesAnswer}
+use Rattle.line_engine.specs.declared.status.Status.{Status}
+use Rattle.line_engine.specs.declared.status.Status.TheVariants.{Done, Faults, Usage, ReadFault, WriteFault, NoMemory, TooLong}
+use Rattle.line_engine.proofs.Public.{not_failed, output_one, whole_output_one}
+use Rattle.fixed_show.proofs.Public.{show_refusal_one, word_fault_one, word_has_no_fault}
+use Rattle.fixed_show.specs.BitsBlock.{fault_message}
+use Rattle.fixed_show.specs.Blocks.{refusal_block}
+use Rattle.fixed_command.specs.Blocks.{IsBlock, IsHeaded, WritesBlocks}
+use Rattle.fixed_command.specs.Refused.{IsClean}
+use Rattle.fixed_command.specs.RunLaws.{BlocksEndIsTheOne, FirstRefusedIsTheOne, LineRunIsTheOne, WholeRunIsTheOne}
+use Rattle.fixed_command.specs.declared.blocks.Question.{Question}
+use Rattle.fixed_command.specs.declared.blocks.Question.TheVariants.{Bits, Format, Show}
+
+abbrev refused : List ℕ → AnswerText
+refused text = record { text = text; fault = true }
+
+abbrev clean : List ℕ → AnswerText
+clean text = record { text = text; fault = false }
+
+-- ---- a word is refused with one block, or not at all
+refusal_one : (q : Question) (word a b : List ℕ) → IsBlock q word (refused a) → IsBlock q word (refused b) → a ≡ b
+refusal_one (Show r f p m) word a b x y = (show_refusal_one m r word f p true a b x y).1
+refusal_one (Bits r f) word a b x y =
+    x.block_is ∙ ap (λ w. refusal_block (fault_message w)) (word_fault_one r f word x.fault y.fault x.is_fault y.is_fault) ∙ sym y.block_is
+refusal_one Format word a b (inl x) y = absurd (false≢true (sym x.clean))
+refusal_one Format word a b (inr x) (inl y) = absurd (false≢true (sym y.clean))
+refusal_one Format word a b (inr x) (inr y) = ap (λ t. t.text) (x.block_is ∙ sym y.block_is)
+
+not_both : (q : Question) (word a b : List ℕ) → IsBlock q word (refused a) → IsBlock q word (clean b) → ⊥
+not_both (Show r f p m) word a b x y = false≢true (show_refusal_one m r word f p false a b x y).0
+not_both (Bits r f) word a b x y = word_has_no_fault r f word x.fault y.bits x.is_fault y.is_word
+not_both Format word a b (inl x) y = false≢true (sym x.clean)
+not_both Format word a b (inr x) (inl y) = x.none y.format y.word_is
+not_both Format word a b (inr x) (inr y) = false≢true (ap (λ t. t.fault) y.block_is)
+
+-- ---- the first of some
+first_one : (q : Question) (xs ys : List (List ℕ)) (w v : List ℕ) (more others : List (List ℕ)) (a b : List ℕ) → xs ++ w ∷ more ≡ ys ++ v ∷ others
+    → All (IsClean q) xs → All (IsClean q) ys → IsBlock q w (refused a) → IsBlock q v (refused b) → (length xs ≡ length ys) × (a ≡ b)
+first_one q [] [] w v more others a b e c d x y =
+    let same : w ≡ v = cc in
+    (refl, refusal_one q v a b (subst (λ (u : List ℕ). IsBlock q u (refused a)) same x) y)
+first_one q [] (z ∷ ys) w v more others a b e c d x y =
+    let same : w ≡ z = cc in
+    let clear = All-head (IsClean q) z ys d in
+    absurd (not_both q z a clear.0 (subst (λ (u : List ℕ). IsBlock q u (refused a)) same x) clear.1)
+first_one q (z ∷ xs) [] w v more others a b e c d x y =
+    let same : v ≡ z = cc in
+    let clear = All-head (IsClean q) z xs c in
+    absurd (not_both q z b clear.0 (subst (λ (u : List ℕ). IsBlock q u (refused b)) same y) clear.1)
+first_one q (z ∷ xs) (u ∷ ys) w v more others a b e c d x y =
+    let rest : xs ++ w ∷ more ≡ ys ++ v ∷ others = cc in
+    let one = first_one q xs ys w v more others a b rest (All-tail (IsClean q) z xs c) (All-tail (IsClean q) u ys d) x y in
+    (ap (λ n. suc n) one.0, one.1)
+
+pub first_refused_one : FirstRefusedIsTheOne
+first_refused_one q words i j a b x y =
+    let one = first_one q x.some y.some x.word y.word x.more y.more a b (sym x.cut ∙ y.cut) x.clean y.clean x.refused y.refused in
+    (sym x.counted ∙ one.0 ∙ y.counted, one.1)
+
+-- ---- runs over words
+flag_by : (q : Question) (word : List ℕ) (o p : Bool) (a b : List ℕ) → IsBlock q word (record { text = a; fault = o }) → IsBlock q word (record { text = b; fault = p }) → o ≡ p
+flag_by q word true true a b x y = refl
+flag_by q word true false a b x y = absurd (not_both q word a b x y)
+flag_by q word false true a b x y = absurd (not_both q word b a y x)
+flag_by q word false false a b x y = refl
+
+module _ (A : List ℕ → AnswerText → Type 0) (flag : (word : List ℕ) (x y : AnswerText) → A word x → A word y → x.fault ≡ y.fault) where
+  flags_one : (words : List (List ℕ)) (xs ys : List AnswerText) → AreAnswers A words xs → AreAnswers A words ys → any_fault xs ≡ any_fault ys
+  flags_one [] [] [] a b = refl
+  flags_one [] [] (y ∷ ys) a b = absurd b
+  flags_one [] (x ∷ xs) ys a b = absurd a
+  flags_one (l ∷ ls) [] ys a b = absurd a
+  flags_one (l ∷ ls) (x ∷ xs) [] a b = absurd b
+  flags_one (l ∷ ls) (x ∷ xs) (y ∷ ys) a b =
+      let first : x.fault ≡ y.fault = flag l x y a.0 b.0 in
+      let rest = flags_one ls xs ys a.1 b.1 in
+      rw (first, rest) refl
+
+faults_one : (q : Question) (words : List (List ℕ)) (before a b : Option (List ℕ)) (o p : Bool) → WritesBlocks q words before a o → WritesBlocks q words before b p → o ≡ p
+faults_one q words before a b o p x y =
+    let flag : (word : List ℕ) (t u : AnswerText) → IsHeaded q word t → IsHeaded q word u → t.fault ≡ u.fault = λ word t u v w. flag_by q word t.fault u.fault v.body w.body v.is_body w.is_body in
+    sym x.faulty ∙ flags_one (IsHeaded q) flag words x.blocks y.blocks x.answers y.answers ∙ y.faulty
+
+pub blocks_end_one : BlocksEndIsTheOne
+blocks_end_one q words before a b f f' Done Done room x y = refl
+blocks_end_one q words before a b f f' Done Faults room x y = absurd (false≢true (faults_one q words (Some before) (Some a) (Some b) false true x.0 y.0))
+blocks_end_one q words before a b f f' Done Usage room x y = absurd y
+blocks_end_one q words before a b f f' Done ReadFault room x y = absurd y
+blocks_end_one q words before a b f f' Done WriteFault room x y = absurd (not_failed f f' room x.1 y.1)
+blocks_end_one q words before a b f f' Done NoMemory room x y = absurd y
+blocks_end_one q words before a b f f' Done TooLong room x y = absurd y
+blocks_end_one q words before a b f f' Faults Done room x y = absurd (false≢true (faults_one q words (Some before) (Some b) (Some a) false true y.0 x.0))
+blocks_end_one q words before a b f f' Faults Faults room x y = refl
+blocks_end_one q words before a b f f' Faults Usage room x y = absurd y
+blocks_end_one q words before a b f f' Faults ReadFault room x y = absurd y
+blocks_end_one q words before a b f f' Faults WriteFault room x y = absurd (not_failed f f' room x.1 y.1)
+blocks_end_one q words before a b f f' Faults NoMemory room x y = absurd y
+blocks_end_one q words before a b f f' Faults TooLong room x y = absurd y
+blocks_end_one q words before a b f f' Usage t room x y = absurd x
+blocks_end_one q words before a b f f' ReadFault t room x y = absurd x
+blocks_end_one q words before a b f f' WriteFault Done room x y = absurd (not_failed f f' room y.1 x.1)
+blocks_end_one q words before a b f f' WriteFault Faults room x y = absurd (not_failed f f' room y.1 x.1)
+blocks_end_one q words before a b f f' WriteFault Usage room x y = absurd y
+blocks_end_one q words before a b f f' WriteFault ReadFault room x y = absurd y
+blocks_end_one q words before a b f f' WriteFault WriteFault room x y = refl
+blocks_end_one q words before a b f f' WriteFault NoMemory room x y = absurd y
+blocks_end_one q words before a b f f' WriteFault TooLong room x y = absurd y
+blocks_end_one q words before a b f f' NoMemory t room x y = absurd x
+blocks_end_one q words before a b f f' TooLong t room x y = absurd x
+
+-- ---- runs over inputs
+found : (s : Status) (P : Type 0) → (s ≡ NoMemory → ⊥) → (s ≡ NoMemory) ⊎ P → P
+found s P some (inl none) = absurd (some none)
+found s P some (inr p) = p
+
+module _ (A : List ℕ → AnswerText → Type 0) (one : (input : List ℕ) (a b : AnswerText) → A input a → A input b → a ≡ b) where
+  pub line_run_one : LineRunIsTheOne A
+  line_run_one limit per_byte extra before after other input text a b s t left within old new new' calm calm' some some' x y =
+      let p : WritesOutput A input (Some text) (Some a) s = rw (old, new) at (found s _ some (x.output input left within calm)) in
+      let q : WritesOutput A input (Some text) (Some b) t = rw (old, new') at (found t _ some' (y.output input left within calm')) in
+      output_one A one input text a b s t p q
+
+  pub whole_run_one : WholeRunIsTheOne A
+  whole_run_one limit before after other input text a b s t left within old new new' calm calm' some some' x y =
+      let p : WritesAnswer A input (Some text) (Some a) s = rw (old, new) at (found s _ some (x.output input left within calm)) in
+      let q : WritesAnswer A input (Some text) (Some b) t = rw (old, new') at (found t _ some' (y.output input left within calm')) in
+      whole_output_one A one input text a b s t p q
