@@ -19,9 +19,9 @@ pub mod words;
 
 pub use blocks::{Block, Question, block_of, run_blocks};
 pub use column::{ColumnConversion, convert_column};
-pub use convert::{ConvertRule, Settings};
+pub use convert::{ConvertRule, Settings, without_return};
 pub use explain::explanation;
-pub use hex::push_hex;
+pub use hex::{push_hex, word_of};
 pub use print::{Places, Print};
 pub use refused::{RefusedWord, first_refused};
 pub use spelling::Spelling;
