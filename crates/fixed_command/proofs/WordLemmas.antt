@@ -204,16 +204,25 @@ printed_decimal f (negsuc n) width range =
       in_range = range;
     })
 
-printed_hex : (f : FormatParts) (bare : Radix) (v : ℤ) → IsWidth f.width → IsInRange f.signed f.width v → IsWord bare f (hex_text f.width v) v
-printed_hex f bare v width range =
+-- all bits of a word in hexadecimal after `0x`, in digits enough for them
+pub spelled_word : (f : FormatParts) (bare : Radix) (k : ℕ) (v : ℤ) → IsWidth f.width → IsInRange f.signed f.width v → 0 < k → 2 ^ f.width ≤ 16 ^ k → IsWord bare f (codes "0x" ++ last_digits 16 false k (word_of f.width v)) v
+spelled_word f bare k v width range some most =
     let word = word_is f.signed f.width v width range in
+    let w : ℕ = word_of f.width v in
+    let below : w < 16 ^ k = omega (arith, word.fits, most) in
     inl (record {
       plain = refl;
-      word = word_of f.width v;
-      spells = hex_word bare (hex_digits f.width v) (word_of f.width v) (last_all ((f.width + 3) / 4) (word_of f.width v)) (hex_some f.width v width) (hex_value f.width v width word.fits);
+      word = w;
+      spells = hex_word bare (last_digits 16 false k w) w (last_all k w) (omega (arith, some, last_digits_length 16 false k w)) (last_value k w ∙ mod-eq_of_lt below);
       fits = word.fits;
       is = record { in_range = range; near = word.near };
     })
+
+pub word_fits : (f : FormatParts) (v : ℤ) → IsWidth f.width → IsInRange f.signed f.width v → word_of f.width v < 2 ^ f.width
+word_fits f v width range = (word_is f.signed f.width v width range).fits
+
+printed_hex : (f : FormatParts) (bare : Radix) (v : ℤ) → IsWidth f.width → IsInRange f.signed f.width v → IsWord bare f (hex_text f.width v) v
+printed_hex f bare v width range = spelled_word f bare ((f.width + 3) / 4) v width range (digit_count f.width width).some (digit_count f.width width).most
 
 printed_bare : (f : FormatParts) (v : ℤ) → IsWidth f.width → IsInRange f.signed f.width v → IsWord Hex f (hex_digits f.width v) v
 printed_bare f v width range =

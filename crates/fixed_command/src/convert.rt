@@ -390,7 +390,7 @@ pub(crate) fn is_either(one: bool, other: bool) -> bool
 }
 
 /// A line without one carriage return at its end.
-pub(crate) fn without_return(line: &[u8]) -> &[u8]
+pub fn without_return(line: &[u8]) -> &[u8]
     ensures line { result.now ≡ without_return line.now }
     ensures short { length result.now ≤ length line.now }
 {

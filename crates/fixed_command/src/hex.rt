@@ -18,7 +18,7 @@ fn turn_of(format: Format) -> u128
 }
 
 /// The bits of a format as an unsigned number: two's complement.
-fn word_of(format: Format, bits: i128) -> u64
+pub fn word_of(format: Format, bits: i128) -> u64
     requires { IsInRange format.signed format.width bits }
     ensures { result ≡ word_of format.width bits }
 {

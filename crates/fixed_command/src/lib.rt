@@ -21,9 +21,9 @@ pub mod words;
 
 pub use blocks::{Block, Question, block_of, run_blocks};
 pub use column::{ColumnConversion, convert_column};
-pub use convert::{ConvertRule, Settings};
+pub use convert::{ConvertRule, Settings, without_return};
 pub use explain::explanation;
-pub use hex::push_hex;
+pub use hex::{push_hex, word_of};
 pub use layout::{LaidOutRule, Layout, MAX_PREFIX};
 pub use outcome::{MAX_TALLY, Outcome, Place, Tally, outcome_of, tally_text};
 pub use print::{Places, Print};

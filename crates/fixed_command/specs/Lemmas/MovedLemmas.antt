@@ -51,12 +51,19 @@ read_as_one mode r bytes f policy v w o u a b =
     read_unique mode r b.parts f.frac a.number b.number (subst (λ q. IsReadNumber mode r q f.frac a.number) p
     a.read) b.read
 
+-- a numeral is read as one number
+pub read_bits_one : (mode : ReadMode) (r : Radix) (bytes : List ℕ) (f : FormatParts) (policy : Policy) (v w : ℤ) (o u :
+    Bool) → IsWidth f.width → IsReadAs mode r bytes f policy v o → IsReadAs mode r bytes f policy w u → v ≡ w
+read_bits_one mode r bytes f policy v w o u width a b =
+    let n : a.number ≡ b.number = read_as_one mode r bytes f policy v w o u a b in
+    image_one policy f.signed f.width b.number v w width (subst (λ x. IsImage policy f.signed f.width x v) n a.image)
+    b.image
+
 pub source_by : (spelling : Spelling) (s : Settings) (line : List ℕ) (v w : ℤ) (o u : Bool) → AreFormats s
     → IsSource spelling s line v o → IsSource spelling s line w u → (v ≡ w) × (o ≡ u)
 source_by Numeral s line v w o u formats a b =
     let n : a.number ≡ b.number = read_as_one s.mode s.radix line s.source s.policy v w o u a b in (
-      image_one s.policy s.source.signed s.source.width b.number v w formats.source.is_width (subst (λ x. IsImage
-          s.policy s.source.signed s.source.width x v) n a.image) b.image,
+      read_bits_one s.mode s.radix line s.source s.policy v w o u formats.source.is_width a b,
       same_flag o u _ (subst (λ x. IsTrue o ↔ IsOutOfRange s.source.signed s.source.width x) n a.flag) b.flag,
     )
 source_by Word s line v w o u formats a b = (
@@ -65,14 +72,14 @@ source_by Word s line v w o u formats a b = (
 )
 
 -- ---- and why there is none
-unread_one : (mode : ReadMode) (r : Radix) (bytes : List ℕ) (f : FormatParts) (policy : Policy) (k l : ParseErrorKind)
+pub unread_one : (mode : ReadMode) (r : Radix) (bytes : List ℕ) (f : FormatParts) (policy : Policy) (k l : ParseErrorKind)
     → IsUnread mode r bytes f policy k → IsUnread mode r bytes f policy l → k ≡ l
 unread_one mode r bytes f policy k l (inl a) (inl b) = one_cause r bytes k l a b
 unread_one mode r bytes f policy k l (inl a) (inr b) = absurd (a.none (b.2.parts, b.2.has))
 unread_one mode r bytes f policy k l (inr a) (inl b) = absurd (b.none (a.2.parts, a.2.has))
 unread_one mode r bytes f policy k l (inr a) (inr b) = a.0 ∙ sym b.0
 
-read_or_not : (mode : ReadMode) (r : Radix) (bytes : List ℕ) (f : FormatParts) (policy : Policy) (v : ℤ) (o : Bool)
+pub read_or_not : (mode : ReadMode) (r : Radix) (bytes : List ℕ) (f : FormatParts) (policy : Policy) (v : ℤ) (o : Bool)
     (k : ParseErrorKind)
     → IsReadAs mode r bytes f policy v o → IsUnread mode r bytes f policy k → ⊥
 read_or_not mode r bytes f policy v o k a (inl b) = b.none (a.parts, a.numeral)

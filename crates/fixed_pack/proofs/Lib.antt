@@ -1,0 +1,7 @@
+mod LawLemmas
+mod LineLemmas
+mod PackLemmas
+mod TakenLemmas
+mod UnpackLawLemmas
+mod UnpackLemmas
+mod WordLemmas

@@ -1,0 +1,271 @@
+-- What was packed is unpacked to the texts of the numbers.
+use Rattle.std.proofs.Common.{◌≡◌, ◌∙◌, ◌⊎◌, ◌↔◌, ◌||◌, ◌+◌, ◌-◌, ◌*◌, ◌/◌, ◌^◌, ◌<◌, ◌≤◌, ℕ, zero, suc, ℤ, pos, Bool, true, false, IsTrue, unsigned_abs, List, [], ◌∷◌, ◌++◌, length, codes, refl, sym, ap, subst, arith, inl, inr, append-nil, append_assoc, length-append}
+use Rattle.std.specs.Int.{is_negative}
+use Rattle.std.specs.Fmt.{signed_decimal}
+use Rattle.std.proofs.Math.Nat.{pow-le-pow_right}
+use Rattle.std.proofs.lemmas.Nat.{pow_pos}
+use Rattle.std.specs.Prelude.{decimal}
+use Rattle.std.proofs.lemmas.Fmt.{length-decimal-le_succ}
+use Rattle.fixed_bits.proofs.Public.{image_within, images_agree, in_wide, nearest_by_rest, range_decided, rounded_unique, sign_and_magnitude, width_most}
+use Rattle.fixed_bits.specs.Formats.{FormatParts, IsFormat}
+use Rattle.fixed_bits.specs.Images.{IsImage}
+use Rattle.fixed_bits.specs.Numbers.{with_sign}
+use Rattle.fixed_bits.specs.Ranges.{IsInRange, IsOutOfRange, IsWide, IsWidth}
+use Rattle.fixed_bits.specs.Rounded.{IsNotAbove, IsNotBelow, IsRounded}
+use Rattle.fixed_bits.specs.declared.format.Policy.{Policy}
+use Rattle.fixed_bits.specs.declared.format.Policy.TheVariants.{Checked, Saturating, Wrapping}
+use Rattle.fixed_bits.specs.declared.mode.ReadMode.{ReadMode}
+use Rattle.fixed_bits.specs.declared.mode.ReadMode.TheVariants.{Ceil, Floor, NearestEven, TowardsZero}
+use Rattle.fixed_convert.specs.Rounded.{IsMovedIn, IsNotReformatted, IsReformatted}
+use Rattle.fixed_numeral.proofs.Public.{pow-mul}
+use Rattle.fixed_numeral.specs.declared.radix.Radix.{Radix}
+use Rattle.fixed_numeral.specs.declared.radix.Radix.TheVariants.{Bin, Dec, Hex, Oct}
+use Rattle.fixed_respell.specs.Answer.{respelled_answer}
+use Rattle.fixed_respell.specs.LineWords.{longest_line}
+use Rattle.fixed_respell.specs.Words.{format_text, fraction_letter, mode_text, policy_text, radix_text, slash}
+use Rattle.fixed_show.proofs.Public.{word_has_no_fault, word_one}
+use Rattle.fixed_show.specs.WordText.{IsWord}
+use Rattle.fixed_write.proofs.Public.{last_digits_length}
+use Rattle.fixed_write.specs.Texts.{IsShortestText, last_digits}
+use Rattle.line_engine.specs.AnswerText.{AnswerText}
+use Rattle.line_engine.specs.Output.{AreAnswers}
+use Rattle.fixed_command.proofs.Public.{moved_reply, spelled_word, word_fits}
+use Rattle.fixed_command.specs.Convert.{IsAnswerBy, IsMovedAnswer, IsNoSource, IsReply, IsSource, asking_line, asks_a_line}
+use Rattle.fixed_command.specs.Hex.{word_of}
+use Rattle.fixed_command.specs.Lemmas.ReplyLemmas.{reply_one, spaced_sum}
+use Rattle.fixed_command.specs.Printed.{printed}
+use Rattle.fixed_command.specs.declared.convert.Settings.{Settings}
+use Rattle.fixed_command.specs.declared.print.Print.TheVariants.{Text}
+use Rattle.fixed_command.specs.declared.spelling.Spelling.TheVariants.{Word}
+use Rattle.fixed_pack.specs.Laws.{HasItsText, PackedUnpacks, Undoes}
+use Rattle.fixed_pack.specs.Pack.{ArePacked, IsPacked}
+use Rattle.fixed_pack.specs.Unpack.{HaveLength, IsWordReply, count_of, word_text}
+use Rattle.fixed_pack.specs.Word.{joined, number_of, word_bytes, word_length}
+use Rattle.fixed_pack.specs.declared.endian.Endian.{Endian}
+use Rattle.fixed_pack.specs.declared.pack.PackSettings.{PackSettings}
+use Rattle.fixed_pack.specs.declared.unpack.UnpackRule.{UnpackRule}
+use Rattle.fixed_pack.proofs.WordLemmas.{bytes_length, word_back}
+
+-- ---- a number that keeps its fraction length stays the same in every mode
+not_above : (k den : ℕ) → 0 < den → IsNotAbove (k * den) den k
+not_above k den some = record { at_most = omega arith; next = omega (arith, some) }
+
+not_below : (k den : ℕ) → 0 < den → IsNotBelow (k * den) den k
+not_below k den some = record { at_least = omega arith; before = omega (arith, some) }
+
+exact : (m : ReadMode) (n : Bool) (k den : ℕ) → 0 < den → IsRounded m n (k * den) den k
+exact NearestEven n k den some = nearest_by_rest (k * den) den k 0 (omega arith) (omega arith) (λ half. absurd (omega (arith, half, some)))
+exact TowardsZero n k den some = not_above k den some
+exact Floor false k den some = not_above k den some
+exact Floor true k den some = not_below k den some
+exact Ceil false k den some = not_below k den some
+exact Ceil true k den some = not_above k den some
+
+pub stays : (m : ReadMode) (b : ℤ) (f : ℕ) (v : ℤ) → IsMovedIn m b f f v → v ≡ b
+stays m b f v moved =
+    let k : ℕ = unsigned_abs b in
+    let some : 0 < 2 ^ f = pow_pos f in
+    let same : moved.ulps ≡ k = rounded_unique m (is_negative b) (k * 2 ^ f) (2 ^ f) moved.ulps k some moved.rounded (exact m (is_negative b) k (2 ^ f) some) in
+    moved.value ∙ (ap (with_sign (is_negative b)) same ∙ sign_and_magnitude b)
+
+-- and so do its bits, which are in range
+kept : (m : ReadMode) (policy : Policy) (f : FormatParts) (b c : ℤ) (o : Bool) → IsWidth f.width → IsInRange f.signed f.width b → IsReformatted m policy f b f.frac c o → c ≡ b
+kept m policy f b c o width range h =
+    let same : h.moved ≡ b = stays m b f.frac h.moved h.is_moved in
+    let image : IsImage policy f.signed f.width b c = subst (λ v. IsImage policy f.signed f.width v c) same h.image_is in
+    (images_agree policy f.signed f.width b c width range).0 image
+
+not_lost : (m : ReadMode) (policy : Policy) (f : FormatParts) (b : ℤ) → IsInRange f.signed f.width b → IsNotReformatted m policy f b f.frac → ⊥
+not_lost m policy f b range h =
+    let same : h.moved ≡ b = stays m b f.frac h.moved h.is_moved in
+    let out : IsOutOfRange f.signed f.width b = subst (λ v. IsOutOfRange f.signed f.width v) same h.out in
+    (range_decided f.signed f.width b).1 out range
+
+-- ---- the text of a word
+-- the digits of a word have room for its bits
+pub record HasDigits (n : ℕ) : Type 0 where
+  pub bytes : 2 ^ n ≤ 256 ^ word_length n
+  pub digits : 2 ^ n ≤ 16 ^ (2 * word_length n)
+  pub some : 0 < 2 * word_length n
+
+has_digits : (n : ℕ) → IsWidth n → HasDigits n
+has_digits n width =
+    let c : ℕ = word_length n in
+    let some : 0 < n = width.some in
+    let enough : n ≤ 8 * c = omega arith in
+    let power : 2 ^ n ≤ 2 ^ (8 * c) = pow-le-pow_right {n = 2} (omega arith) enough in
+    let eight : 256 ^ c ≡ 2 ^ (8 * c) = pow-mul 2 8 c in
+    let four : 16 ^ (2 * c) ≡ 2 ^ (4 * (2 * c)) = pow-mul 2 4 (2 * c) in
+    let same : 2 ^ (4 * (2 * c)) ≡ 2 ^ (8 * c) = ap (λ k. 2 ^ k) (omega arith) in
+    record { bytes = omega (arith, power, eight); digits = omega (arith, power, four, same); some = omega (arith, some) }
+
+-- the text of the word of bits is a word of the format, and those bits
+word_is : (endian : Endian) (f : FormatParts) (bare : Radix) (v : ℤ) → IsWidth f.width → IsInRange f.signed f.width v → IsWord bare f (word_text endian (word_length f.width) (word_bytes endian f v)) v
+word_is endian f bare v width range =
+    let c : ℕ = word_length f.width in
+    let room = has_digits f.width width in
+    let fits : word_of f.width v < 256 ^ c = omega (arith, word_fits f v width range, room.bytes) in
+    let back : number_of endian (word_bytes endian f v) ≡ word_of f.width v = word_back endian c (word_of f.width v) fits in
+    subst (λ n. IsWord bare f (codes "0x" ++ last_digits 16 false (2 * c) n) v) (sym back) (spelled_word f bare (2 * c) v width range room.some room.digits)
+
+-- ---- the line that asks for the conversion of the text is no longer than a line may be
+radix_length : (r : Radix) → length (radix_text r) ≤ 2
+radix_length Bin = omega arith
+radix_length Oct = omega arith
+radix_length Dec = omega arith
+radix_length Hex = omega arith
+
+policy_length : (p : Policy) → length (policy_text p) ≤ 10
+policy_length Checked = omega arith
+policy_length Saturating = omega arith
+policy_length Wrapping = omega arith
+
+mode_length : (m : ReadMode) → length (mode_text m) ≤ 7
+mode_length NearestEven = omega arith
+mode_length TowardsZero = omega arith
+mode_length Floor = omega arith
+mode_length Ceil = omega arith
+
+format_length : (f : FormatParts) → IsFormat f.width f.frac → length (format_text f) ≤ 132
+format_length f format =
+    let most : f.width ≤ 64 = width_most f.width format.is_width in
+    let whole = length-decimal-le_succ (f.width - f.frac) (omega (arith, most)) in
+    let frac = length-decimal-le_succ f.frac (omega (arith, most, format.within)) in
+    omega (arith, most, format.within, whole, frac, length-append (decimal (f.width - f.frac)) (fraction_letter ∷ decimal f.frac))
+
+line_short : (s : Settings) (text : List ℕ) → IsFormat s.source.width s.source.frac → s.target ≡ s.source → length text ≤ 1000 → length (asking_line s text) ≤ longest_line
+line_short s text format target short =
+    let source = format_length s.source format in
+    let same : length (format_text s.target) ≡ length (format_text s.source) = ap (λ f. length (format_text f)) target in
+    omega (
+      arith,
+      short,
+      source,
+      same,
+      radix_length s.radix,
+      policy_length s.policy,
+      mode_length s.mode,
+      length-append (policy_text s.policy) (slash ∷ mode_text s.mode),
+      spaced_sum (radix_text s.radix) (format_text s.source) (format_text s.target) (policy_text s.policy ++ slash ∷ mode_text s.mode) text,
+    )
+
+-- ---- the reply to a word of bits that stay in their format is their text
+abbrev pub IsTextOf : ℤ → ℕ → AnswerText → Type 0
+IsTextOf v f reply = IsShortestText v f reply.text × (reply.fault ≡ false)
+
+record Stays (s : Settings) (text : List ℕ) (v : ℤ) : Type 0 where
+  format : IsFormat s.source.width s.source.frac
+  range : IsInRange s.source.signed s.source.width v
+  target : s.target ≡ s.source
+  spelling : s.spelling ≡ Word
+  print : s.print ≡ Text
+  word : IsWord s.radix s.source text v
+  short : length text ≤ 1000
+
+reply_is : (s : Settings) (text : List ℕ) (v : ℤ) (reply : AnswerText) → Stays s text v → IsReply s text reply → IsTextOf v s.source.frac reply
+reply_is s text v reply k h = by (subst (λ b. IsAnswerBy b s text h.answer) asks h.asked)
+  where
+    text_of : AnswerText → List ℕ
+    text_of a = a.text
+
+    fault_of : AnswerText → Bool
+    fault_of a = a.fault
+
+    asks : asks_a_line s.spelling s.target_mode ≡ false
+    asks = ap (λ p. asks_a_line p s.target_mode) k.spelling
+
+    width : IsWidth s.source.width
+    width = k.format.is_width
+
+    by : IsMovedAnswer s text h.answer → IsTextOf v s.source.frac reply
+    by (inl long) = absurd (omega (arith, long.long, line_short s text k.format k.target k.short))
+    by (inr (inl none)) =
+        let source : IsNoSource Word s text none.message = subst (λ p. IsNoSource p s text none.message) k.spelling none.none in
+        absurd (word_has_no_fault s.radix s.source text source.0 v source.1 k.word)
+    by (inr (inr (inl none))) =
+        let source : IsSource Word s text none.number none.out = subst (λ p. IsSource p s text none.number none.out) k.spelling none.source in
+        let same : none.number ≡ v = word_one s.radix s.source text none.number v width source.0 k.word in
+        let lost : IsNotReformatted s.target_mode s.policy s.source none.number s.source.frac = subst (λ f. IsNotReformatted s.target_mode s.policy f none.number s.source.frac) k.target none.none in
+        absurd (not_lost s.target_mode s.policy s.source v k.range (subst (λ n. IsNotReformatted s.target_mode s.policy s.source n s.source.frac) same lost))
+    by (inr (inr (inr m))) =
+        let source : IsSource Word s text m.number m.out = subst (λ p. IsSource p s text m.number m.out) k.spelling m.source in
+        let same : m.number ≡ v = word_one s.radix s.source text m.number v width source.0 k.word in
+        let moved : IsReformatted s.target_mode s.policy s.source m.number s.source.frac m.bits m.target_out = subst (λ f. IsReformatted s.target_mode s.policy f m.number s.source.frac m.bits m.target_out) k.target m.moved in
+        let bits : m.bits ≡ v = kept s.target_mode s.policy s.source v m.bits m.target_out width k.range (subst (λ n. IsReformatted s.target_mode s.policy s.source n s.source.frac m.bits m.target_out) same moved) in
+        let wide : IsWide m.bits = subst IsWide (sym bits) (in_wide s.source.signed s.source.width v (width_most s.source.width width) k.range) in
+        let o : Bool = m.out || m.target_out in
+        let again : IsMovedAnswer s text (respelled_answer m.text m.bits o) = inr (inr (inr (record {
+          short = m.short;
+          formats = m.formats;
+          number = m.number;
+          out = m.out;
+          source = m.source;
+          bits = m.bits;
+          target_out = m.target_out;
+          moved = m.moved;
+          text = m.text;
+          shortest = m.shortest;
+          answer_is = refl;
+        }))) in
+        let shown : AnswerText = record { text = printed s.print s.target (respelled_answer m.text m.bits o).text m.text m.bits; fault = false } in
+        let same_reply : reply ≡ shown = reply_one s text reply shown h (moved_reply s text m.text m.bits o asks again m.shortest wide) in
+        let text_is : reply.text ≡ m.text = ap text_of same_reply ∙ ap (λ p. printed p s.target (respelled_answer m.text m.bits o).text m.text m.bits) k.print in
+        let shortest : IsShortestText v s.source.frac m.text = subst (λ b. IsShortestText b s.source.frac m.text) bits (subst (λ f. IsShortestText m.bits f.frac m.text) k.target m.shortest) in
+        (subst (IsShortestText v s.source.frac) (sym text_is) shortest, ap fault_of same_reply)
+
+-- ---- the words of lines
+in_format : (s : PackSettings) (line word : List ℕ) (p : IsPacked s line word) → IsInRange s.format.signed s.format.width p.bits
+in_format s line word p = image_within s.policy s.format.signed s.format.width p.read.number p.bits p.read.image
+
+text_short : (endian : Endian) (width : ℕ) (word : List ℕ) → width ≤ 64 → length (word_text endian (word_length width) word) ≤ 1000
+text_short endian width word most = omega (arith, most, last_digits_length 16 false (2 * word_length width) (number_of endian word))
+
+one_text : (s : PackSettings) (u : UnpackRule) (line word : List ℕ) (reply : AnswerText) → IsFormat s.format.width s.format.frac → Undoes s u → IsPacked s line word → IsWordReply u word reply → HasItsText s line reply
+one_text s u line word reply format undoes p h =
+    let source : IsFormat u.rule.source.width u.rule.source.frac = subst (λ f. IsFormat f.width f.frac) (sym undoes.source) format in
+    let range : IsInRange u.rule.source.signed u.rule.source.width p.bits = subst (λ f. IsInRange f.signed f.width p.bits) (sym undoes.source) (in_format s line word p) in
+    let word_there : word ≡ word_bytes u.endian u.rule.source p.bits = p.word_is ∙ (ap (λ e. word_bytes e s.format p.bits) (sym undoes.endian) ∙ ap (λ f. word_bytes u.endian f p.bits) (sym undoes.source)) in
+    let text : List ℕ = word_text u.endian (count_of u) word in
+    let spelled : IsWord u.rule.radix u.rule.source text p.bits = subst (λ w. IsWord u.rule.radix u.rule.source (word_text u.endian (count_of u) w) p.bits) (sym word_there) (word_is u.endian u.rule.source u.rule.radix p.bits source.is_width range) in
+    let found = reply_is u.rule text p.bits reply (record {
+      format = source;
+      range = range;
+      target = undoes.target ∙ sym undoes.source;
+      spelling = undoes.spelling;
+      print = undoes.print;
+      word = spelled;
+      short = text_short u.endian u.rule.source.width word (width_most u.rule.source.width source.is_width);
+    }) h in
+    record {
+      bits = p.bits;
+      overflowed = p.overflowed;
+      read = p.read;
+      shortest = subst (λ f. IsShortestText p.bits f.frac reply.text) undoes.source found.0;
+      clean = found.1;
+    }
+
+all_texts : (s : PackSettings) (u : UnpackRule) (lines words : List (List ℕ)) (replies : List AnswerText) → IsFormat s.format.width s.format.frac → Undoes s u → ArePacked s lines words → AreAnswers (IsWordReply u) words replies → AreAnswers (HasItsText s) lines replies
+all_texts s u [] [] [] format undoes packed answers = tt
+all_texts s u [] [] (r ∷ rs) format undoes packed answers = absurd answers
+all_texts s u [] (w ∷ ws) replies format undoes packed answers = absurd packed
+all_texts s u (l ∷ ls) [] replies format undoes packed answers = absurd packed
+all_texts s u (l ∷ ls) (w ∷ ws) [] format undoes packed answers = absurd answers
+all_texts s u (l ∷ ls) (w ∷ ws) (r ∷ rs) format undoes packed answers = (one_text s u l w r format undoes packed.0 answers.0, all_texts s u ls ws rs format undoes packed.1 answers.1)
+
+word_size : (s : PackSettings) (u : UnpackRule) (line word : List ℕ) → Undoes s u → IsPacked s line word → length word ≡ count_of u
+word_size s u line word undoes p = ap length p.word_is ∙ (bytes_length s.endian (word_length s.format.width) (word_of s.format.width p.bits) ∙ ap (λ f. word_length f.width) (sym undoes.source))
+
+all_sizes : (s : PackSettings) (u : UnpackRule) (lines words : List (List ℕ)) → Undoes s u → ArePacked s lines words → HaveLength (count_of u) words
+all_sizes s u [] [] undoes packed = tt
+all_sizes s u [] (w ∷ ws) undoes packed = absurd packed
+all_sizes s u (l ∷ ls) [] undoes packed = absurd packed
+all_sizes s u (l ∷ ls) (w ∷ ws) undoes packed = (word_size s u l w undoes packed.0, all_sizes s u ls ws undoes packed.1)
+
+pub packed_unpacks : PackedUnpacks
+packed_unpacks s u lines words format undoes packed =
+    let some : 0 < s.format.width = format.is_width.some in
+    let count : count_of u ≡ word_length s.format.width = ap (λ f. word_length f.width) undoes.source in
+    record {
+      words_are = record { whole = all_sizes s u lines words undoes packed; short = omega (arith, some, count); cut = sym (append-nil (joined words)) };
+      texts = λ replies answers. all_texts s u lines words replies format undoes packed answers;
+    }

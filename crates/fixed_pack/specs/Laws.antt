@@ -1,0 +1,67 @@
+-- What the laws of this crate say.
+use Rattle.std.specs.Prelude.{◌≡◌, ◌^◌, ◌<◌, ℕ, ℤ, Bool, false, List, [], ◌∷◌}
+use Rattle.fixed_bits.specs.Formats.{IsFormat}
+use Rattle.fixed_command.specs.Convert.{without_return}
+use Rattle.fixed_command.specs.declared.print.Print.TheVariants.{Text}
+use Rattle.fixed_command.specs.declared.spelling.Spelling.TheVariants.{Word}
+use Rattle.fixed_numeral.specs.declared.error.ParseErrorKind.{ParseErrorKind}
+use Rattle.fixed_show.specs.ShowBlock.{IsReadAs}
+use Rattle.fixed_write.specs.Texts.{IsShortestText}
+use Rattle.line_engine.specs.AnswerText.{AnswerText}
+use Rattle.line_engine.specs.Output.{AreAnswers}
+use Rattle.fixed_pack.specs.Pack.{ArePacked, IsPacked, IsRefused}
+use Rattle.fixed_pack.specs.Unpack.{AreWords, IsWordReply, count_of}
+use Rattle.fixed_pack.specs.Word.{bytes_of, joined, number_of}
+use Rattle.fixed_pack.specs.declared.endian.Endian.{Endian}
+use Rattle.fixed_pack.specs.declared.pack.PackSettings.{PackSettings}
+use Rattle.fixed_pack.specs.declared.unpack.UnpackRule.{UnpackRule}
+
+-- ---- one outcome
+-- the bytes of a number that they have room for are read as that number, in either order
+abbrev pub WordReadsBack : Type 0
+WordReadsBack = (endian : Endian) (count n : ℕ) → n < 256 ^ count → number_of endian (bytes_of endian count n) ≡ n
+
+-- lines have one list of words
+abbrev pub PackedIsTheOne : Type 0
+PackedIsTheOne = (s : PackSettings) (lines a b : List (List ℕ)) → IsFormat s.format.width s.format.frac
+    → ArePacked s lines a → ArePacked s lines b → a ≡ b
+
+-- a line is refused for one kind, and never where it has a word
+pub record RefusalIsOne (s : PackSettings) (line : List ℕ) : Type 0 where
+  pub one : (k l : ParseErrorKind) → IsRefused s line k → IsRefused s line l → k ≡ l
+  pub never : (word : List ℕ) (k : ParseErrorKind) → IsPacked s line word → ¬ IsRefused s line k
+
+abbrev pub RefusalIsTheOne : Type 0
+RefusalIsTheOne = (s : PackSettings) (line : List ℕ) → RefusalIsOne s line
+
+-- bytes are cut into words in one way
+abbrev pub WordsAreTheOnes : Type 0
+WordsAreTheOnes = (count : ℕ) (bytes : List ℕ) (a b : List (List ℕ)) (x y : List ℕ) → AreWords count bytes a x
+    → AreWords count bytes b y → (a ≡ b) × (x ≡ y)
+
+-- ---- what was packed is unpacked
+-- the words of these settings are unpacked to the texts of their numbers
+pub record Undoes (s : PackSettings) (u : UnpackRule) : Type 0 where
+  pub endian : u.endian ≡ s.endian
+  pub source : u.rule.source ≡ s.format
+  pub target : u.rule.target ≡ s.format
+  pub spelling : u.rule.spelling ≡ Word
+  pub print : u.rule.print ≡ Text
+
+-- the reply is the shortest text of the number that the line was read as
+pub record HasItsText (s : PackSettings) (line : List ℕ) (reply : AnswerText) : Type 0 where
+  pub bits : ℤ
+  pub overflowed : Bool
+  pub read : IsReadAs s.mode s.radix (without_return line) s.format s.policy bits overflowed
+  pub shortest : IsShortestText bits s.format.frac reply.text
+  pub clean : reply.fault ≡ false
+
+-- the words of lines, one after another, are cut into these words again, and the replies to them are the texts
+pub record UnpacksTo (s : PackSettings) (u : UnpackRule) (lines words : List (List ℕ)) : Type 0 where
+  pub words_are : AreWords (count_of u) (joined words) words []
+  pub texts : (replies : List AnswerText) → AreAnswers (IsWordReply u) words replies
+      → AreAnswers (HasItsText s) lines replies
+
+abbrev pub PackedUnpacks : Type 0
+PackedUnpacks = (s : PackSettings) (u : UnpackRule) (lines words : List (List ℕ))
+    → IsFormat s.format.width s.format.frac → Undoes s u → ArePacked s lines words → UnpacksTo s u lines words

@@ -1,0 +1,5 @@
+pub mod Word
+pub mod Pack
+pub mod Unpack
+pub mod Laws
+pub mod Inner
