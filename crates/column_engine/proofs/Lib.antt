@@ -3,3 +3,4 @@ mod GatherLemmas
 mod FeedLemmas
 mod HeaderLemmas
 mod RunLemmas
+mod SkipLemmas

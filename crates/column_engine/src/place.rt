@@ -81,7 +81,7 @@ pub(crate) fn record_end(delimiter: u8, from: Place, bytes: &[u8]) -> (Option<us
 }
 
 /// How many bytes the first field of a record has.
-pub(crate) fn field_end(delimiter: u8, body: &[u8]) -> usize
+pub fn field_end(delimiter: u8, body: &[u8]) -> usize
     ensures within { result ≤ length body.now }
     ensures last { result ≡ length body.now → raw_fields delimiter Place.Start body.now ≡ body.now ∷ [] }
     ensures more { result < length body.now
