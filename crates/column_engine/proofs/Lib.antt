@@ -1,6 +1,11 @@
 mod RowLemmas
+mod PlaceLemmas
 mod GatherLemmas
+mod FieldsLemmas
 mod FeedLemmas
 mod HeaderLemmas
 mod RunLemmas
 mod SkipLemmas
+mod RecordLemmas
+mod ReplaceLemmas
+mod UniqueLemmas

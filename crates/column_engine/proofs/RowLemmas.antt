@@ -61,18 +61,18 @@ unfolding onto
 onto_one xs b [] = refl
 onto_one xs b (f ∷ fs) = ap (λ l. l ∷ fs) (sym (append_assoc xs (b ∷ []) f))
 
-pub fields_begin : (d : ℕ) (body : List ℕ) → raw_fields d Start body ≡ onto (take 0 body) (raw_fields d Start (drop 0 body))
-fields_begin d body = sym (onto_none (raw_fields d Start body))
+pub fields_from : (d : ℕ) (place : Place) (body : List ℕ) → raw_fields d place body ≡ onto (take 0 body) (raw_fields d place (drop 0 body))
+fields_from d place body = sym (onto_none (raw_fields d place body))
 
-raw_on : (d : ℕ) (place : Place) (b : ℕ) (rest : List ℕ) → ends_field d place b ≡ false → raw_fields d place (b ∷ rest) ≡ onto_first b (raw_fields d (within_after place b) rest)
+pub raw_on : (d : ℕ) (place : Place) (b : ℕ) (rest : List ℕ) → ends_field d place b ≡ false → raw_fields d place (b ∷ rest) ≡ onto_first b (raw_fields d (within_after place b) rest)
 unfolding raw_fields
 raw_on d place b rest nay = rw nay refl
 
-raw_end : (d : ℕ) (place : Place) (b : ℕ) (rest : List ℕ) → ends_field d place b ≡ true → raw_fields d place (b ∷ rest) ≡ [] ∷ raw_fields d Start rest
+pub raw_end : (d : ℕ) (place : Place) (b : ℕ) (rest : List ℕ) → ends_field d place b ≡ true → raw_fields d place (b ∷ rest) ≡ [] ∷ raw_fields d Start rest
 unfolding raw_fields
 raw_end d place b rest yea = rw yea refl
 
-raw_none : (d : ℕ) (place : Place) → raw_fields d place [] ≡ [] ∷ []
+pub raw_none : (d : ℕ) (place : Place) → raw_fields d place [] ≡ [] ∷ []
 unfolding raw_fields
 raw_none d place = refl
 

@@ -19,19 +19,19 @@ use Rattle.column_engine.proofs.RunLemmas.{run_counts}
 use Rattle.column_engine.specs.declared.end.Stop.TheVariants.{ReadFault, TooLong, WriteFault}
 use Rattle.column_engine.proofs.GatherLemmas.{all_flushes, flushes_all, flushes_both, flushes_none, flushes_prefix, prefix_flushes}
 
-newlines_more : (bytes : List ℕ) (byte : ℕ) → newlines (bytes ++ byte ∷ []) ≡ newlines bytes + (if byte == 10 then 1 else 0)
+pub newlines_more : (bytes : List ℕ) (byte : ℕ) → newlines (bytes ++ byte ∷ []) ≡ newlines bytes + (if byte == 10 then 1 else 0)
 newlines_more [] byte = omega arith
 newlines_more (b ∷ bytes) byte = omega (arith, newlines_more bytes byte)
 
 -- the last byte
-last_is : (bytes : List ℕ) (byte : ℕ) → get_or (bytes ++ byte ∷ []) (length (bytes ++ byte ∷ []) - 1) 0 ≡ byte
+pub last_is : (bytes : List ℕ) (byte : ℕ) → get_or (bytes ++ byte ∷ []) (length (bytes ++ byte ∷ []) - 1) 0 ≡ byte
 last_is bytes byte =
     let place : length (bytes ++ byte ∷ []) - 1 ≡ length bytes = omega (arith, length-append bytes (byte ∷ [])) in
     ap (λ k. get_or (bytes ++ byte ∷ []) k 0) place ∙ middle bytes byte
   where
-  middle : (xs : List ℕ) (b : ℕ) → get_or (xs ++ b ∷ []) (length xs) 0 ≡ b
-  middle [] b = refl
-  middle (x ∷ xs) b = middle xs b
+    middle : (xs : List ℕ) (b : ℕ) → get_or (xs ++ b ∷ []) (length xs) 0 ≡ b
+    middle [] b = refl
+    middle (x ∷ xs) b = middle xs b
 
 -- a write failed, after these bytes
 pub stops_write : (count : ℕ) (bytes left-over : List ℕ) (left left' a c : Option (List ℕ)) → Consumes left left' bytes → newlines bytes ≤ count
@@ -53,11 +53,10 @@ newlines_both (x ∷ xs) ys = omega (arith, newlines_both xs ys)
 pub still_plain : (held held' : List ℕ) (byte : ℕ) (a b : Option (List ℕ)) → (byte == 10) ≡ false → Flushes held (byte ∷ []) held' a b
     → newlines held ≡ 0 → newlines held' ≡ 0
 still_plain held held' byte a b other gathered plain =
-    let none : (if byte == 10 then 1 else 0) ≡ 0 = ap (λ e. if e then 1 else 0) other in
-    let one = newlines_more held byte in
+    let none : newlines (held ++ byte ∷ []) ≡ newlines held + 0 = newlines_more held byte ∙ ap (λ e. newlines held + (if e then 1 else 0)) other in
     let both = newlines_both gathered.gone held' in
     let same : newlines (held ++ byte ∷ []) ≡ newlines (gathered.gone ++ held') = ap newlines gathered.split in
-    omega (arith, none, one, both, same, plain)
+    omega (arith, none, both, same, plain)
 
 -- the bytes that were taken by the time that a write of one more failed
 pub broken : (count lines byte : ℕ) (held held' : List ℕ) (left left' left'' a b c : Option (List ℕ))
@@ -68,12 +67,13 @@ broken count lines byte held held' left left' left'' a b c some so_far taken gat
     (at_most byte (newlines_more so_far.bytes byte) so_far.as_many)
     (flushes_both [] so_far.bytes (byte ∷ []) held held' a b c so_far.gathered gathered)
   where
-  bit : (e : Bool) → (if e then 1 else 0) ≤ 1
-  bit true = omega arith
-  bit false = omega arith
-  at_most : (b : ℕ) → newlines (so_far.bytes ++ byte ∷ []) ≡ newlines so_far.bytes + (if byte == 10 then 1 else 0) → newlines so_far.bytes + lines ≡ count
-      → newlines (so_far.bytes ++ byte ∷ []) ≤ count
-  at_most b one as_many = omega (arith, one, as_many, some, bit (byte == 10))
+    bit : (e : Bool) → (if e then 1 else 0) ≤ 1
+    bit true = omega arith
+    bit false = omega arith
+
+    at_most : (b : ℕ) → newlines (so_far.bytes ++ byte ∷ []) ≡ newlines so_far.bytes + (if byte == 10 then 1 else 0) → newlines so_far.bytes + lines ≡ count
+        → newlines (so_far.bytes ++ byte ∷ []) ≤ count
+    at_most b one as_many = omega (arith, one, as_many, some, bit (byte == 10))
 
 -- the same where what was gathered could not be written
 pub unflushed : (count lines : ℕ) (held : List ℕ) (left left' left'' a b c : Option (List ℕ)) → IsPassing count lines held left left' a b
@@ -95,12 +95,12 @@ passing_none count left written = record {
 }
 
 -- one more byte
-counts_more : (count lines : ℕ) (bytes : List ℕ) (byte : ℕ) (ends : Bool) → (byte == 10) ≡ ends → 0 < lines → newlines bytes + lines ≡ count
+pub counts_more : (count lines : ℕ) (bytes : List ℕ) (byte : ℕ) (ends : Bool) → (byte == 10) ≡ ends → 0 < lines → newlines bytes + lines ≡ count
     → newlines (bytes ++ byte ∷ []) + (if ends then lines - 1 else lines) ≡ count
 counts_more count lines bytes byte true is some as_many = let more = newlines_more bytes byte in let one : newlines (bytes ++ byte ∷ []) ≡ newlines bytes + 1 = more ∙ ap (λ e. newlines bytes + (if e then 1 else 0)) is in omega (arith, one, some, as_many)
 counts_more count lines bytes byte false is some as_many = let more = newlines_more bytes byte in let none : newlines (bytes ++ byte ∷ []) ≡ newlines bytes + 0 = more ∙ ap (λ e. newlines bytes + (if e then 1 else 0)) is in omega (arith, none, as_many)
 
-whole_more : (lines : ℕ) (bytes : List ℕ) (byte : ℕ) (ends : Bool) → (byte == 10) ≡ ends → 0 < lines
+pub whole_more : (lines : ℕ) (bytes : List ℕ) (byte : ℕ) (ends : Bool) → (byte == 10) ≡ ends → 0 < lines
     → (if ends then lines - 1 else lines) ≡ 0 → AreWhole (bytes ++ byte ∷ [])
 whole_more lines bytes byte true is some none = inr (last_is bytes byte ∙ eqb-true byte 10 is)
 whole_more lines bytes byte false is some none = absurd (omega (arith, some, none))

@@ -1,4 +1,5 @@
 pub mod Rows
+pub mod Places
 pub mod Answers
 pub mod Gathered
 pub mod Steps
@@ -8,3 +9,4 @@ pub mod Run
 pub mod Skip
 pub mod Passing
 pub mod End
+pub mod Laws

@@ -10,9 +10,10 @@ ghost use Rattle.column_engine.specs.Steps.{IsHeader, IsNoHeader, PassesRow, Ris
 ghost use Rattle.column_engine.specs.Steps.{StopsRow, state_of};
 ghost use Rattle.column_engine.specs.declared.record_buffer.TheConstants.{MAX_RECORD};
 
-use crate::answer::{ColumnTask, Work, answer_fields};
+use crate::answer::{ColumnTask, Work};
 use crate::columns::{Column, Range, needed};
 use crate::end::Stop;
+use crate::fields::answer_fields;
 use crate::gather::put;
 use crate::header::found_column;
 use crate::place::{Place, field_end};

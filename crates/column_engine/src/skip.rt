@@ -16,12 +16,7 @@ use line_engine::{Failed, Output, Sink, Source};
 pub const MAX_SKIPPED: u64 = 9_223_372_036_854_775_808;
 
 /// Passes a byte through, and says how many lines are left after it. A line that it ends is written.
-fn pass_byte<K: Sink>(
-    byte: u8,
-    left: u64,
-    out: &mut Output,
-    sink: &mut K,
-) -> Result<u64, Failed>
+fn pass_byte<K: Sink>(byte: u8, left: u64, out: &mut Output, sink: &mut K) -> Result<u64, Failed>
     requires { 0 < left }
     ensures ok { IfOk result (λ now. now ≡ (if byte == 10 then left - 1 else left)) }
     ensures gathered { OnOk result (Flushes out.old (byte ∷ []) out.new (K.written sink.old) (K.written sink.new)) }

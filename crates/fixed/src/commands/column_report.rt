@@ -101,13 +101,7 @@ fn push_first<L: Ledger>(
     push_quoted(report, text);
     report.text(": ");
     report.bytes(cause, 160);
-    let more = field_explanation(
-        &conversion.rule,
-        &conversion.form,
-        text,
-        cause,
-        steps,
-    );
+    let more = field_explanation(&conversion.rule, &conversion.form, text, cause, steps);
     report.bytes(more.as_bytes(), 640);
 }
 

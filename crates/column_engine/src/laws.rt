@@ -1,0 +1,26 @@
+//! Laws of the records of a text, each the contract of a function that does nothing.
+
+ghost use Rattle.column_engine.specs.Laws.{AnswersAreTheOne, FieldsAreReplaced, RecordsAreTheKits, RowsAreTheOnes};
+
+use crate::rule::FieldRule;
+use std::sync::ledger::Ledger;
+
+/// The records and fields of a text, by their places in it, are those that the kit's reader of CSV reads.
+pub fn records_are_the_kits()
+    ensures { RecordsAreTheKits }
+{}
+
+/// What is written for records has the same fields, but for those that are asked for, which are the replies.
+pub fn fields_are_replaced<A: FieldRule<L>, L: Ledger>(_rule: &A)
+    ensures { FieldsAreReplaced (A.Answers _rule.now) }
+{}
+
+/// A text is cut into the records that end in it, and a rest, in one way.
+pub fn rows_are_the_ones()
+    ensures { RowsAreTheOnes }
+{}
+
+/// For given records at most one text is written, and one state follows.
+pub fn answers_are_the_one<A: FieldRule<L>, L: Ledger>(_rule: &A)
+    ensures { AnswersAreTheOne (A.Answers _rule.now) }
+{}
