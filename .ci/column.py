@@ -132,7 +132,7 @@ RUNS = (
      refused(1, 2, 2, "'b \"\"c\"\"'", "2??3", "invalid digit found in string, byte 2", "?")),
     (["1", "U8F0"], b"1" * 60 + b"x\n", 1, DIGIT + b"\n", refused(1, 1, 1, 1, "1" * 40, "invalid digit found in string, byte 61", "x")),
     (["1", "I8F8", "I4F4"], b"128\n", 1, b"error: overflow\n",
-     refused(1, 1, 1, 1, "128", "overflow, I8F8 holds -128 to 127.99609375, I4F4 holds -8 to 7.9375")),
+     refused(1, 1, 1, 1, "128", "overflow, reached 128, I8F8 holds -128 to 127.99609375")),
     (["1", "U8F0", "--header"], b"a" * 5000 + b"\nx\n", 1, b"a" * 5000 + b"\n" + DIGIT + b"\n", refused(1, 2, 2, 1, "x")),
     (["q,1", "U8F0", "--header"], b'a,"b, c"\n1,2\n', 3, b"", b"fixed: the header has no column 'q', records answered: 0; it has 'a', 'b, c'\n"),
     (["1,q", "U8F0", "--header"], b"a\n1\n", 3, b"", b"fixed: the header has no column 'q', records answered: 0; it has 'a'\n"),

@@ -9,3 +9,4 @@ mod SkipLemmas
 mod RecordLemmas
 mod ReplaceLemmas
 mod UniqueLemmas
+mod EndLemmas

@@ -1,10 +1,14 @@
 -- Records, and the answers to them, are the ones.
-use Rattle.std.proofs.Common.{◌≡◌, ◌==◌, ◌<◌, ◌≤◌, ◌+◌, ℕ, suc, List, [], ◌∷◌, ◌++◌, Bool, true, false, refl, sym, ap, ◌∙◌, subst, append_assoc, append-nil, arith, if◌then◌else◌, length, inl, inr, ◌⊎◌, ⊎_elim, get_or}
+use Rattle.std.proofs.Common.{◌≡◌, ◌==◌, ◌<◌, ◌≤◌, ◌+◌, ℕ, suc, List, [], ◌∷◌, ◌++◌, Bool, true, false, refl, sym, ap, ◌∙◌, subst, append_assoc, append-nil, arith, if◌then◌else◌, length, inl, inr, ◌⊎◌, ⊎_elim, get_or, length-append}
 use Rattle.std.proofs.lemmas.Bool.{cases_lt, false≢true}
 use Rattle.std.specs.Prelude.{◌≢◌, Option, Some, None, string_bytes}
 use Rattle.line_engine.specs.AnswerText.{AnswerText}
 use Rattle.column_engine.specs.Answers.{AnswersFields, AnswersRow, AnswersRows, AreAnswers, AreFound, FieldAnswer, HasNoNamed, IsAnswer, IsFirstNamed, IsFound, PassesEmpty, PassesHeader, State, answers_text, as_field, count_refused, is_asked, one_more, stays}
-use Rattle.column_engine.specs.Laws.{AnswersAreTheOne, RowsAreTheOnes}
+use Rattle.column_engine.specs.Laws.{AnswersAreTheOne, OutputIsTheOne, RowsAreTheOnes}
+use Rattle.csv.specs.Reading.{strip_bom}
+use Rattle.column_engine.specs.Run.{AnswersLast, HasRun, RunsText, StopsText}
+use Rattle.column_engine.specs.Steps.{SameCounts}
+use Rattle.column_engine.specs.declared.end.Stop.TheVariants.{Done}
 use Rattle.column_engine.specs.Rows.{AreEnded, IsEnded, IsUnended, Row, ends_record, place_after, places_after, raw_fields, row_text, rows_text}
 use Rattle.column_engine.specs.declared.columns.Column.{Column}
 use Rattle.column_engine.specs.declared.columns.Column.TheVariants.{At, Named}
@@ -22,7 +26,7 @@ first_one name names a b first next = ⊎_elim
     (cases_lt b a))
     (cases_lt a b)
 
-named_none : (name : List ℕ) (names : List (List ℕ)) (place : ℕ) → IsFirstNamed name names place → HasNoNamed name names → ⊥
+pub named_none : (name : List ℕ) (names : List (List ℕ)) (place : ℕ) → IsFirstNamed name names place → HasNoNamed name names → ⊥
 named_none name names place first none = none place first.there first.named
 
 range_is : (a b : Range) → a.from ≡ b.from → a.to ≡ b.to → a ≡ b
@@ -41,7 +45,7 @@ found_one names (Named name range) a b (inl first) (inr next) = absurd (named_no
 found_one names (Named name range) a b (inr first) (inl next) = absurd (named_none (string_bytes name) names b.from next.0 first.0)
 found_one names (Named name range) a b (inr first) (inr next) = some_is a b range first.1 next.1
 
-all_found_one : (names : List (List ℕ)) (columns : List Column) (a b : List Range) → AreFound names columns a → AreFound names columns b → a ≡ b
+pub all_found_one : (names : List (List ℕ)) (columns : List Column) (a b : List Range) → AreFound names columns a → AreFound names columns b → a ≡ b
 all_found_one names [] [] [] first next = refl
 all_found_one names [] [] (r ∷ rs) first next = absurd next
 all_found_one names [] (r ∷ rs) b first next = absurd first
@@ -87,7 +91,7 @@ module _ (A : List ℕ → AnswerText → Type 0) (one : (field : List ℕ) (a b
   some_one columns s t u row a b (inr first) (inl next) = absurd (false≢true (sym first.known ∙ next.next))
   some_one columns s t u row a b (inr first) (inr next) = fields_one_text s t u row a b first next
 
-  row_one : (columns : List Column) (s t u : State) (row : Row) (a b : List ℕ) → AnswersRow A keeps d columns s row a t → AnswersRow A keeps d columns s row b u → (a ≡ b) × (t ≡ u)
+  pub row_one : (columns : List Column) (s t u : State) (row : Row) (a b : List ℕ) → AnswersRow A keeps d columns s row a t → AnswersRow A keeps d columns s row b u → (a ≡ b) × (t ≡ u)
   row_one columns s t u row a b (inl first) (inl next) = (first.text_is ∙ sym next.text_is, first.after ∙ sym next.after)
   row_one columns s t u row a b (inl first) (inr next) = absurd (next.0 first.empty)
   row_one columns s t u row a b (inr first) (inl next) = absurd (first.0 next.empty)
@@ -137,7 +141,7 @@ end_one d p (b ∷ body) (b' ∷ body') more more' byte byte' first next ends en
     (subst (λ q. ends_record (places_after d q body') byte' ≡ true) place ends') (tail_is b b' (body ++ byte ∷ more) (body' ++ byte' ∷ more') e) in
     record { bodies = ap (λ x. x ∷ body) same ∙ ap (λ l. b' ∷ l) later.bodies; ends = later.ends; rests = later.rests }
 
-row_is : (a b : Row) → a.body ≡ b.body → a.end ≡ b.end → a ≡ b
+pub row_is : (a b : Row) → a.body ≡ b.body → a.end ≡ b.end → a ≡ b
 row_is a b body end = ap (λ l. record a { body = l }) body ∙ ap (λ l. record b { end = l }) end
 
 -- a record that ended, and what follows it
@@ -174,3 +178,79 @@ splits_one d rest rest' (row ∷ rows) (row' ∷ rows') ended ended' unended une
 
 pub rows_are_the_ones : RowsAreTheOnes
 rows_are_the_ones d text rest rest' rows rows' ended ended' unended unended' is is' = splits_one d rest rest' rows rows' ended ended' unended unended' (sym is ∙ is')
+
+-- ---- runs to the end of a text
+counts_one : (s t u : State) → SameCounts s t → SameCounts s u → SameCounts t u
+counts_one s t u first next = record {
+  answered = next.answered ∙ sym first.answered;
+  refused = next.refused ∙ sym first.refused;
+  first = next.first ∙ sym first.first;
+}
+
+left_cancel : (xs ys zs : List ℕ) → xs ++ ys ≡ xs ++ zs → ys ≡ zs
+left_cancel [] ys zs e = e
+left_cancel (x ∷ xs) ys zs e = left_cancel xs ys zs (tail_is x x (xs ++ ys) (xs ++ zs) e)
+
+length_zero : (xs : List ℕ) → length xs ≡ 0 → xs ≡ []
+length_zero [] e = refl
+length_zero (x ∷ xs) e = absurd (omega (arith, e))
+
+pub right_cancel : (xs ys zs : List ℕ) → xs ++ zs ≡ ys ++ zs → xs ≡ ys
+right_cancel [] [] zs e = refl
+right_cancel [] (y ∷ ys) zs e = absurd (omega (arith, ap length e, length-append ys zs))
+right_cancel (x ∷ xs) [] zs e = absurd (omega (arith, ap length e, length-append xs zs))
+right_cancel (x ∷ xs) (y ∷ ys) zs e =
+    ap (λ b. b ∷ xs) (head_is x y (xs ++ zs) (ys ++ zs) e) ∙ ap (λ l. y ∷ l) (right_cancel xs ys zs (tail_is x y (xs ++ zs) (ys ++ zs) e))
+
+pub unended_none : (d : ℕ) (rest : List ℕ) → rest ≡ [] → IsUnended d Start rest
+unfolding IsUnended
+unended_none d rest is = rw is tt
+
+module _ (A : List ℕ → AnswerText → Type 0) (one : (field : List ℕ) (a b : AnswerText) → A field a → A field b → a ≡ b) (keeps : Bool) (d : ℕ) (columns : List Column) where
+  pub last_unended : (s u : State) (rest part : List ℕ) → AnswersLast A keeps d columns s rest part u → IsUnended d Start rest
+  last_unended s u rest part (inl none) = unended_none d rest none.0
+  last_unended s u rest part (inr some) = subst (IsUnended d Start) (sym some.1) some.2.unended
+
+  last_one : (s t u : State) (rest a b : List ℕ) → AnswersLast A keeps d columns s rest a t → AnswersLast A keeps d columns s rest b u → (a ≡ b) × SameCounts t u
+  last_one s t u rest a b (inl first) (inl next) = (first.1 ∙ sym next.1, counts_one s t u first.2 next.2)
+  last_one s t u rest a b (inl first) (inr next) = absurd (next.2.some (sym next.1 ∙ first.0))
+  last_one s t u rest a b (inr first) (inl next) = absurd (first.2.some (sym first.1 ∙ next.0))
+  last_one s t u rest a b (inr first) (inr next) =
+      let row = row_is first.0 next.0 (sym first.1 ∙ next.1) (first.2.is_end ∙ sym next.2.is_end) in
+      let same = row_one A one keeps d columns s first.3 next.3 next.0 a b (subst (λ r. AnswersRow A keeps d columns s r a first.3) row first.4) next.4 in
+      (same.0, counts_one next.3 t u (subst (λ q. SameCounts q t) same.1 first.5) next.5)
+
+  stops_one : (s t u : State) (mark bytes before a b left left' : List ℕ)
+      → StopsText Done A keeps d columns mark bytes s t (Some left) (Some before) (Some a) → StopsText Done A keeps d columns mark bytes s u (Some left') (Some before) (Some b)
+      → (a ≡ b) × SameCounts t u
+  stops_one s t u mark bytes before a b left left' first next =
+      let cut = splits_one d first.rest next.rest first.rows next.rows first.ended next.ended
+      (last_unended first.between t first.rest first.part first.ends.1) (last_unended next.between u next.rest next.part next.ends.1) (sym first.split ∙ next.split) in
+      let texts = rows_one A one keeps d columns s first.between next.between next.rows first.text next.text
+      (subst (λ l. AnswersRows A keeps d columns s l first.text first.between) cut.0 first.answers) next.answers in
+      let last = last_one next.between t u next.rest first.part next.part
+      (subst (λ q. AnswersLast A keeps d columns q next.rest first.part t) texts.1 (subst (λ l. AnswersLast A keeps d columns first.between l first.part t) cut.1 first.ends.1)) next.ends.1 in (
+        first.output ∙ ap (λ l. before ++ (mark ++ (l ++ first.part))) texts.0 ∙ ap (λ l. before ++ (mark ++ (next.text ++ l))) last.0 ∙ sym next.output,
+        last.1,
+      )
+
+  runs_one : (s t u : State) (input left left' before a b : List ℕ) → RunsText Done A keeps d columns s t (Some input) (Some left) (Some before) (Some a)
+      → RunsText Done A keeps d columns s u (Some input) (Some left') (Some before) (Some b) → (a ≡ b) × SameCounts t u
+  runs_one s t u input left left' before a b first next =
+      let whole : input ≡ first.bytes = first.taken ∙ ap (λ l. first.bytes ++ l) first.stops.ends.0 ∙ append-nil first.bytes in
+      let whole' : input ≡ next.bytes = next.taken ∙ ap (λ l. next.bytes ++ l) next.stops.ends.0 ∙ append-nil next.bytes in
+      let same : first.bytes ≡ next.bytes = sym whole ∙ whole' in
+      let text = ap strip_bom same in
+      let mark = right_cancel first.mark next.mark (strip_bom next.bytes) (ap (λ l. first.mark ++ l) (sym text) ∙ sym first.mark_is ∙ same ∙ next.mark_is) in
+      stops_one s t u next.mark (strip_bom next.bytes) before a b left left'
+      (subst (λ m. StopsText Done A keeps d columns m (strip_bom next.bytes) s t (Some left) (Some before) (Some a)) mark
+      (subst (λ l. StopsText Done A keeps d columns first.mark l s t (Some left) (Some before) (Some a)) text first.stops)) next.stops
+
+  run_one : (s t u : State) (input left left' before a b : List ℕ) → HasRun Done A keeps d columns s t (Some input) (Some left) (Some before) (Some a)
+      → HasRun Done A keeps d columns s u (Some input) (Some left') (Some before) (Some b) → (a ≡ b) × SameCounts t u
+  run_one s t u input left left' before a b (inl first) (inl next) = runs_one s t u input left left' before a b first next
+  run_one s t u input left left' before a b (inl first) (inr next) = absurd (cc next.is_long)
+  run_one s t u input left left' before a b (inr first) next = absurd (cc first.is_long)
+
+pub output_is_the_one : (A : List ℕ → AnswerText → Type 0) → ((field : List ℕ) (a b : AnswerText) → A field a → A field b → a ≡ b) → OutputIsTheOne A
+output_is_the_one A one keeps d columns s t u input left left' before a b first next = run_one A one keeps d columns s t u input left left' before a b first next

@@ -9,6 +9,7 @@ use Rattle.column_engine.specs.declared.columns.Column.{Column}
 use Rattle.column_engine.specs.declared.columns.Column.TheVariants.{At, Named}
 use Rattle.column_engine.specs.declared.columns.Range.{Range}
 use Rattle.column_engine.specs.declared.place.Place.TheVariants.{Start}
+use Rattle.column_engine.specs.declared.record_buffer.TheConstants.{MAX_RECORD}
 
 -- ---- which columns are asked for
 
@@ -153,6 +154,7 @@ one_more s refused = record s {
 pub record PassesHeader (delimiter : ℕ) (columns : List Column) (s : State) (row : Row) (text : List ℕ) (t : State) :
     Type 0 where
   pub next : s.headed ≡ true
+  pub short : length row.body ≤ MAX_RECORD
   pub found : List Range
   pub are_found : AreFound (field_texts delimiter row.body) columns found
   pub enough : needed found ≤ length (raw_fields delimiter Start row.body)
@@ -163,6 +165,7 @@ pub record PassesHeader (delimiter : ℕ) (columns : List Column) (s : State) (r
 pub record AnswersFields (A : List ℕ → AnswerText → Type 0) (keeps : Bool) (delimiter : ℕ) (s : State) (row : Row)
     (text : List ℕ) (t : State) : Type 0 where
   pub known : s.headed ≡ false
+  pub short : length row.body ≤ MAX_RECORD
   pub enough : needed s.asked ≤ length (raw_fields delimiter Start row.body)
   pub answers : List FieldAnswer
   pub are : AreAnswers A keeps delimiter s.asked 0 (raw_fields delimiter Start row.body) answers

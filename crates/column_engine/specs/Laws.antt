@@ -1,14 +1,19 @@
 -- Laws of the records of a text.
-use Rattle.std.specs.Prelude.{◌≡◌, ◌≢◌, ◌⊎◌, ◌==◌, ◌+◌, ◌++◌, ⊤, ℕ, Bool, true, false, List, [], ◌∷◌, if◌then◌else◌, length}
+use Rattle.std.specs.Prelude.{◌≡◌, ◌≢◌, ◌⊎◌, ◌==◌, ◌<◌, ◌+◌, ◌-◌, ◌^◌, ◌++◌, ⊤, ℕ, Bool, true, false, List, [], ◌∷◌, Some, if◌then◌else◌, length}
 use Rattle.csv.specs.Reading.{AreRecords, default_config}
 use Rattle.csv.specs.declared.parser.Config.{Config}
 use Rattle.csv.specs.declared.parser.State.TheVariants.{StartRecord}
 use Rattle.line_engine.specs.AnswerText.{AnswerText}
 use Rattle.column_engine.specs.Answers.{AnswersRow, AnswersRows, State, is_asked, stays}
 use Rattle.column_engine.specs.Rows.{AreEnded, IsEnded, IsLast, IsUnended, Row, field_texts, row_text, rows_text}
+use Rattle.column_engine.specs.Run.{HasFailures, HasRun}
+use Rattle.column_engine.specs.Steps.{SameCounts}
 use Rattle.column_engine.specs.declared.columns.Column.{Column}
 use Rattle.column_engine.specs.declared.columns.Range.{Range}
+use Rattle.column_engine.specs.declared.end.Stop.{Stop}
+use Rattle.column_engine.specs.declared.end.Stop.TheVariants.{Done, NoMemory}
 use Rattle.column_engine.specs.declared.place.Place.TheVariants.{Start}
+use Rattle.column_engine.specs.declared.run.TheConstants.{MAX_TEXT}
 
 -- a byte that is no quote and no end of a line
 pub record IsDelimiter (delimiter : ℕ) : Type 0 where
@@ -85,3 +90,22 @@ abbrev pub RowsAreTheOnes : Type 0
 RowsAreTheOnes = (delimiter : ℕ) (text rest rest' : List ℕ) (rows rows' : List Row) → AreEnded delimiter rows
     → AreEnded delimiter rows' → IsUnended delimiter Start rest → IsUnended delimiter Start rest'
     → text ≡ rows_text rows ++ rest → text ≡ rows_text rows' ++ rest' → (rows ≡ rows') × (rest ≡ rest')
+
+-- and a text has at most one output of a run to its end, with the counts
+abbrev pub OutputIsTheOne : (List ℕ → AnswerText → Type 0) → Type 0
+OutputIsTheOne A = (keeps : Bool) (delimiter : ℕ) (columns : List Column) (s t u : State)
+    (input left left' before a b : List ℕ)
+    → HasRun Done A keeps delimiter columns s t (Some input) (Some left) (Some before) (Some a)
+    → HasRun Done A keeps delimiter columns s u (Some input) (Some left') (Some before) (Some b)
+    → (a ≡ b) × SameCounts t u
+
+-- while the counts of failures can rise, they say with what was taken of a text how its run ended that found memory, for
+-- a text of fewer bytes than a run takes
+abbrev pub RunEndIsTheOne : (List ℕ → AnswerText → Type 0) → Type 0
+RunEndIsTheOne A = (keeps : Bool) (delimiter : ℕ) (columns : List Column) (s t u : State) (input left before a b : List ℕ)
+    (read read' write write' : ℕ) (stop other : Stop) → length input < MAX_TEXT → read < 2 ^ 64 - 1 → write < 2 ^ 64 - 1
+    → stop ≢ NoMemory → other ≢ NoMemory
+    → HasRun stop A keeps delimiter columns s t (Some input) (Some left) (Some before) (Some a)
+    → HasFailures read read' write write' stop
+    → HasRun other A keeps delimiter columns s u (Some input) (Some left) (Some before) (Some b)
+    → HasFailures read read' write write' other → stop ≡ other

@@ -10,6 +10,7 @@ pub mod Outcome
 pub mod Read
 pub mod Respell
 pub mod Round
+pub mod RowLaws
 pub mod Rows
 pub mod Scan
 pub mod Style

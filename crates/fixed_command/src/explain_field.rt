@@ -1,7 +1,9 @@
 //! What more there is to say of a field that a conversion refuses.
 
+ghost use Rattle.std.specs.Prelude.{◌≡◌, []};
+
 use crate::ConvertRule;
-use crate::explain::{MAX_EXPLANATION, push_ranges, push_text, refused_place};
+use crate::explain::{MAX_EXPLANATION, explanation, refused_place};
 use crate::field::{FieldForm, bare};
 use fixed_steps::Steps;
 use itoa::Buffer;
@@ -46,26 +48,21 @@ fn place_in_field(form: &FieldForm<'_>, field: &[u8], place: usize) -> usize {
     at
 }
 
-/// Appends the byte of a field that is in no numeral, or in no word, where there is one, and its place from 1.
-fn push_place(
-    out: &mut TextBuffer<MAX_EXPLANATION>,
-    form: &FieldForm<'_>,
-    field: &[u8],
-    place: usize,
-) {
-    if place > 0 {
-        let at = place_in_field(form, field, place);
-        push_text(out, b", byte ");
-        push_text(out, Buffer::new().format(at).as_bytes());
-        push_text(out, b", '");
-        let byte = field.get(at.saturating_sub(1)..at).unwrap_or(&[]);
-        push_text(out, if byte == b"\n".as_slice() { b"?" } else { byte });
-        push_text(out, b"'");
-    }
+/// Appends the byte at a place of a field, from 1, and the place.
+fn push_byte(out: &mut TextBuffer<MAX_EXPLANATION>, field: &[u8], place: usize)
+    requires empty { out.old ≡ [] }
+{
+    out.push_bytes(b", byte ");
+    out.push_bytes(Buffer::new().format(place).as_bytes());
+    out.push_bytes(b", '");
+    let byte = field.get(place.saturating_sub(1)).copied().unwrap_or(b'?');
+    out.push(if byte == b'\n' { b'?' } else { byte });
+    out.push(b'\'');
 }
 
-/// What more there is to say of a field that is refused for this cause: the place from 1 of its first byte that is in
-/// no numeral, or in no word; what the formats hold, where it overflows; nothing of another cause.
+/// What more there is to say of a field that is refused for this cause: of an overflow the number that was reached and
+/// what the format holds; of an invalid digit the place from 1 of the first byte that is in no numeral, or in no word,
+/// there; nothing of another cause.
 pub fn field_explanation<L: Ledger>(
     rule: &ConvertRule,
     form: &FieldForm<'_>,
@@ -73,14 +70,16 @@ pub fn field_explanation<L: Ledger>(
     cause: &[u8],
     steps: &mut Steps<L>,
 ) -> TextBuffer<MAX_EXPLANATION> {
-    let mut out = TextBuffer::new();
-    if cause == b"overflow".as_slice() {
-        push_ranges(&mut out, rule.settings());
+    let numeral = numeral_of(form, field);
+    if cause != b"invalid digit found in string".as_slice() {
+        let read = numeral.as_bytes();
+        let read = read.strip_suffix(b"\r").unwrap_or(read);
+        return explanation(rule, read, 0, cause, steps);
     }
-    if cause == b"invalid digit found in string".as_slice() {
-        let numeral = numeral_of(form, field);
-        let place = refused_place(numeral.as_bytes(), rule.settings(), steps);
-        push_place(&mut out, form, field, place);
+    let mut out = TextBuffer::new();
+    let place = refused_place(numeral.as_bytes(), rule.settings(), steps);
+    if place > 0 {
+        push_byte(&mut out, field, place_in_field(form, field, place));
     }
     out
 }

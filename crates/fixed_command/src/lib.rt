@@ -12,6 +12,8 @@ pub mod explain_field;
 pub mod field;
 pub mod hex;
 pub mod laws;
+pub mod layout;
+pub mod outcome;
 pub mod print;
 pub mod refused;
 pub mod spelling;
@@ -26,11 +28,13 @@ pub use explain::explanation;
 pub use explain_field::field_explanation;
 pub use field::{Empty, FieldForm, FieldNumerals};
 pub use hex::push_hex;
+pub use layout::{LaidOutRule, Layout, MAX_PREFIX};
+pub use outcome::{MAX_TALLY, Outcome, Place, Tally, outcome_of, tally_text};
 pub use print::{Places, Print};
 pub use refused::{RefusedWord, first_refused};
 pub use spelling::Spelling;
 pub use task::{Limit, Task, greater_end, run_convert, run_task};
-pub use watch::{RefusedLine, Watch};
+pub use watch::{Refusals, RefusedLine, Watch};
 pub use words::{
     mode_named, policy_named, print_named, radix_named, spelling_named, target_mode_named,
 };

@@ -1,5 +1,5 @@
 -- The gap between a numeral and what it is rounded to, and which of two errors is the greater.
-use Rattle.std.proofs.Common.{◌≡◌, ℕ, ◌+◌, ◌-◌, ◌*◌, ◌%◌, ◌^◌, ◌<◌, ◌≤◌, Bool, true, false, List, ◌++◌, length, refl, sym, ap, ◌∙◌, subst, arith, nat_eq, not, ⊎_elim, mul-le-mul_right, mul-le-mul_left, ℤ, pow_pos}
+use Rattle.std.proofs.Common.{◌≡◌, ℕ, ◌+◌, ◌-◌, ◌*◌, ◌%◌, ◌^◌, ◌<◌, ◌≤◌, ◌↔◌, Bool, true, false, IsTrue, List, ◌++◌, length, refl, sym, ap, ◌∙◌, subst, arith, nat_eq, not, ⊎_elim, mul-le-mul_right, mul-le-mul_left, ℤ, pow_pos}
 use Rattle.std.specs.Int.Digits.{number_from_digits}
 use Rattle.std.proofs.Math.Nat.{one-le-pow, pow-le-pow_right}
 use Rattle.std.proofs.lemmas.Bool.{cases_lt}
@@ -13,7 +13,7 @@ use Rattle.fixed_bits.specs.Rounded.{IsNotAbove, IsRounded}
 use Rattle.fixed_bits.specs.declared.mode.ReadMode.{ReadMode}
 use Rattle.fixed_bits.specs.declared.mode.ReadMode.TheVariants.{NearestEven, TowardsZero, Floor, Ceil}
 use Rattle.fixed_numeral.proofs.Public.{magnitude_pos, number_append, parts_unique}
-use Rattle.fixed_numeral.specs.Numeral.{Parts, HasNumeral, base, is_minus, signed}
+use Rattle.fixed_numeral.specs.Numeral.{Parts, HasNumeral, IsNumeral, base, is_minus, signed}
 use Rattle.fixed_numeral.specs.Scanned.{IsScanned, exponent_unit}
 use Rattle.fixed_numeral.specs.Value.{magnitude}
 use Rattle.fixed_numeral.specs.declared.radix.Radix.{Radix}
@@ -35,13 +35,40 @@ same_magnitude true m n e = omega (arith, ints, e)
 none_high : (high low : ℕ) → high * 2 ^ 64 + low < 2 ^ 64 → high * 2 ^ 64 + low ≡ low
 none_high high low h = omega (arith, h)
 
-pub steps_read : (mode : ReadMode) (r : Radix) (p : Parts) (f : ℕ) (found : ReadNumber) (number : ℤ) → found.format.frac ≡ f → IsReading mode r p found → (read : IsReadNumber mode r p f number) → read.steps < 2 ^ 64 → read.steps ≡ found.number.low
-steps_read mode r p f found number at x read small =
+steps_whole : (mode : ReadMode) (r : Radix) (p : Parts) (f : ℕ) (found : ReadNumber) (number : ℤ) → found.format.frac ≡ f → (x : IsReading mode r p found) → (read : IsReadNumber mode r p f number) → read.ulps ≡ x.holds.high * 2 ^ 64 + found.low
+steps_whole mode r p f found number at x read =
     let P : ℕ → Type 0 = λ k. IsReadNumber mode r p k x.number in
     let same : x.number ≡ number = read_unique mode r p f x.number number (subst P at x.read) read in
-    let whole : ℕ = x.holds.high * 2 ^ 64 + found.number.low in
-    let steps : read.steps ≡ whole = same_magnitude (is_minus p.sign) read.steps whole (sym read.value ∙ (sym same ∙ (x.holds.value ∙ ap (λ b. with_sign b whole) x.sign))) in
-    steps ∙ none_high x.holds.high found.number.low (omega (arith, steps, small))
+    let whole : ℕ = x.holds.high * 2 ^ 64 + found.low in
+    same_magnitude (is_minus p.sign) read.ulps whole (sym read.value ∙ (sym same ∙ (x.holds.value ∙ ap (λ b. with_sign b whole) x.sign)))
+
+pub steps_read : (mode : ReadMode) (r : Radix) (p : Parts) (f : ℕ) (found : ReadNumber) (number : ℤ) → found.format.frac ≡ f → IsReading mode r p found → (read : IsReadNumber mode r p f number) → read.ulps < 2 ^ 64 → read.ulps ≡ found.low
+steps_read mode r p f found number at x read small =
+    let steps = steps_whole mode r p f found number at x read in
+    steps ∙ none_high x.holds.high found.low (omega (arith, steps, small))
+
+-- whether there are more than 64 bits
+few_bits : (b : Bool) (high : ℕ) → (IsTrue b ↔ (0 < high)) → not b ≡ true → high ≡ 0
+few_bits b high = grind (arith, nat_tests)
+
+no_more_bits : (b : Bool) (high : ℕ) → (IsTrue b ↔ (0 < high)) → high ≡ 0 → not b ≡ true
+no_more_bits b high = grind (arith, nat_tests)
+
+pub within_by : (mode : ReadMode) (r : Radix) (f : ℕ) (bytes : List ℕ) (found : ReadNumber) → found.format.frac ≡ f → found.low < 2 ^ 64 → IsNumeral r bytes → ((p : Parts) → HasNumeral r bytes p → IsReading mode r p found)
+    → IsTrue (not found.has_high_bits) ↔ IsReadWithin mode r f bytes
+within_by mode r f bytes found at low n reading = (to, back)
+  where
+    to : IsTrue (not found.has_high_bits) → IsReadWithin mode r f bytes
+    to t =
+        let x = reading n.0 n.1 in
+        let read : IsReadNumber mode r n.0 f x.number = subst (λ k. IsReadNumber mode r n.0 k x.number) at x.read in
+        let none : x.holds.high ≡ 0 = few_bits found.has_high_bits x.holds.high x.holds.over t in
+        record { parts = n.0; numeral = n.1; number = x.number; read = read; within = omega (arith, steps_whole mode r n.0 f found x.number at x read, none, low) }
+
+    back : IsReadWithin mode r f bytes → IsTrue (not found.has_high_bits)
+    back w =
+        let x = reading w.parts w.numeral in
+        no_more_bits found.has_high_bits x.holds.high x.holds.over (omega (arith, steps_whole mode r w.parts f found w.number at x w.read, w.within))
 
 -- ---- roundings
 pub record IsClose (num den q : ℕ) : Type 0 where
@@ -80,7 +107,7 @@ within_below mode r f bytes w =
     let num : ℕ = (magnitude r w.parts).num * 2 ^ f in
     let den : ℕ = (magnitude r w.parts).den in
     let some = magnitude_pos r w.parts in
-    let n = next_to num den v.1.steps w.read.steps some v.1.rounded (close mode (is_minus w.parts.sign) num den w.read.steps some w.read.rounded) in
+    let n = next_to num den v.1.ulps w.read.ulps some v.1.rounded (close mode (is_minus w.parts.sign) num den w.read.ulps some w.read.rounded) in
     record { parts = w.parts; numeral = w.numeral; number = v.0; read = v.1; within = omega (arith, n.least, w.within) }
 
 -- ---- the gap
@@ -89,7 +116,7 @@ pub record IsInUlps (num den w n power unit : ℕ) : Type 0 where
   pub number : num * power ≡ (w * power + n) * unit * den
   pub less : n < power
 
-cancel_le : (a b t : ℕ) → 0 < t → a * t ≤ b * t → a ≤ b
+pub cancel_le : (a b t : ℕ) → 0 < t → a * t ≤ b * t → a ≤ b
 cancel_le a b t h e = ⊎_elim (λ (less : b < a). let m : (b + 1) * t ≤ a * t = mul-le-mul_right t (omega (arith, less)) in absurd (omega (arith, m, e, h))) (λ (more : a ≤ b). more) (cases_lt b a)
 
 pub cancel_lt : (a b t : ℕ) → a * t < b * t → a < b
@@ -212,14 +239,14 @@ size_of : (num den q power n : ℕ) (gap : Gap) → 0 < power → IsGapOf num de
 size_of num den q power n gap h g = size_by num den q power n gap.unit gap.whole gap.is_rounded_up h g
 
 -- ---- a numeral's gap
-pub steps_for : (mode : ReadMode) (r : Radix) (f : ℕ) (bytes : List ℕ) (n : ℕ) → HasSteps mode r f bytes n → (p : Parts) → HasNumeral r bytes p → (v : ℤ) (read : IsReadNumber mode r p f v) → read.steps ≡ n
+pub steps_for : (mode : ReadMode) (r : Radix) (f : ℕ) (bytes : List ℕ) (n : ℕ) → HasSteps mode r f bytes n → (p : Parts) → HasNumeral r bytes p → (v : ℤ) (read : IsReadNumber mode r p f v) → read.ulps ≡ n
 steps_for mode r f bytes n h p numeral v read =
     let same : h.parts ≡ p = parts_unique r bytes h.parts p h.numeral.beginning numeral.beginning in
     let value : h.number ≡ signed h.parts.sign n = h.read.value ∙ ap (signed h.parts.sign) h.steps_are in
     let moved : h.number ≡ signed p.sign n = subst (λ q. h.number ≡ signed q.sign n) same value in
     let found : IsReadNumber mode r p f h.number = subst (λ q. IsReadNumber mode r q f h.number) same h.read in
     let one : v ≡ h.number = read_unique mode r p f v h.number read found in
-    same_magnitude (is_minus p.sign) read.steps n (sym read.value ∙ (one ∙ moved))
+    same_magnitude (is_minus p.sign) read.ulps n (sym read.value ∙ (one ∙ moved))
 
 -- k ulps are below a numeral, and q are what it is rounded to
 pub record AreAround (mode : ReadMode) (r : Radix) (f : ℕ) (p : Parts) (v : ℤ) (read : IsReadNumber mode r p f v) (k q : ℕ) : Type 0 where
@@ -227,7 +254,7 @@ pub record AreAround (mode : ReadMode) (r : Radix) (f : ℕ) (p : Parts) (v : �
   pub near : IsClose ((magnitude r p).num * 2 ^ f) (magnitude r p).den q
   pub least : k ≤ q
   pub most : q ≤ k + 1
-  pub steps : read.steps ≡ q
+  pub steps : read.ulps ≡ q
 
 pub around : (mode : ReadMode) (r : Radix) (f : ℕ) (bytes : List ℕ) (k q : ℕ) (w : IsReadWithin mode r f bytes) → (IsReadWithin TowardsZero r f bytes → HasSteps TowardsZero r f bytes k) → (IsReadWithin mode r f bytes → HasSteps mode r f bytes q)
     → AreAround mode r f w.parts w.number w.read k q
@@ -237,10 +264,10 @@ around mode r f bytes k q w below rounded =
     let den : ℕ = (magnitude r w.parts).den in
     let some = magnitude_pos r w.parts in
     let z = within_below mode r f bytes w in
-    let k_is : z.read.steps ≡ k = steps_for TowardsZero r f bytes k (below z) z.parts z.numeral z.number z.read in
-    let q_is : w.read.steps ≡ q = steps_for mode r f bytes q (rounded w) w.parts w.numeral w.number w.read in
+    let k_is : z.read.ulps ≡ k = steps_for TowardsZero r f bytes k (below z) z.parts z.numeral z.number z.read in
+    let q_is : w.read.ulps ≡ q = steps_for mode r f bytes q (rounded w) w.parts w.numeral w.number w.read in
     let floor : IsNotAbove num den k = subst (λ t. IsNotAbove num den t) k_is z.read.rounded in
-    let near : IsClose num den q = subst (λ t. IsClose num den t) q_is (close mode (is_minus w.parts.sign) num den w.read.steps some w.read.rounded) in
+    let near : IsClose num den q = subst (λ t. IsClose num den t) q_is (close mode (is_minus w.parts.sign) num den w.read.ulps some w.read.rounded) in
     let n = next_to num den k q some floor near in
     record { floor = floor; near = near; least = n.least; most = n.most; steps = q_is }
 
@@ -291,7 +318,7 @@ gap_found mode r f bytes negative whole fraction s k q unit more w hf hs scanned
     with_more : IsGapOf num den q power n (record { unit = 2 ^ (f + s); whole = more; is_rounded_up = up })
     with_more = subst (λ m. IsGapOf num den q power n (record { unit = 2 ^ (f + s); whole = m; is_rounded_up = up })) (sym more_by) known
 
-    with_steps : IsGapOf num den w.read.steps power n (record { unit = 2 ^ (f + s); whole = more; is_rounded_up = up })
+    with_steps : IsGapOf num den w.read.ulps power n (record { unit = 2 ^ (f + s); whole = more; is_rounded_up = up })
     with_steps = subst (λ t. IsGapOf num den t power n (record { unit = 2 ^ (f + s); whole = more; is_rounded_up = up })) (sym a.steps) with_more
 
     unit_small : 2 ^ (f + s) ≤ 2 ^ 67
@@ -313,9 +340,9 @@ gap_found mode r f bytes negative whole fraction s k q unit more w hf hs scanned
 
 -- ---- two errors
 -- by places of both: b is the power of all places, x is what the digits spell, and size is the error in ulps
-record HasSizeBy (num den q b x : ℕ) (gap : Gap) (size : ℕ) : Type 0 where
-  high : size + (less_part gap).whole * b + (less_part gap).factor * x ≡ (greater_part gap).whole * b + (greater_part gap).factor * x
-  error : distance num (q * den) * b ≡ size * den
+pub record HasSizeBy (num den q b x : ℕ) (gap : Gap) (size : ℕ) : Type 0 where
+  pub high : size + (less_part gap).whole * b + (less_part gap).factor * x ≡ (greater_part gap).whole * b + (greater_part gap).factor * x
+  pub error : distance num (q * den) * b ≡ size * den
 
 size_by_places : (num den q power n c b x : ℕ) (gap : Gap) (size : ℕ) → HasSize num den q power n gap size → b ≡ power * c → x ≡ n * c → HasSizeBy num den q b x gap (size * c)
 size_by_places num den q power n c b x gap size h eb ex =
@@ -341,7 +368,7 @@ sizes_of : (b n : ℕ) (one other : List ℕ) (g h : Gap) (s t : ℕ) → (s + (
 unfolding sum_value
 sizes_of b n one other g h s t e f = sums_of (less_part g).whole (less_part g).factor (greater_part g).whole (greater_part g).factor (less_part h).whole (less_part h).factor (greater_part h).whole (greater_part h).factor s t (b ^ n) (padded b n one) (padded b n other) e f
 
-greater_by : (d e den den' s t b u : ℕ) → 0 < den → 0 < den' → 0 < u → d * b ≡ s * den → e * b ≡ t * den' → t < s → e * (u * den) < d * (u * den')
+pub greater_by : (d e den den' s t b u : ℕ) → 0 < den → 0 < den' → 0 < u → d * b ≡ s * den → e * b ≡ t * den' → t < s → e * (u * den) < d * (u * den')
 greater_by d e den den' s t b u hd he hu p q less =
     let step : (t + 1) * (den * den') ≤ s * (den * den') = mul-le-mul_right (den * den') (omega (arith, less)) in
     let some : 1 * 1 ≤ den * den' = mul_mono 1 den 1 den' (omega (arith, hd)) (omega (arith, he)) in
@@ -354,7 +381,7 @@ greater_by d e den den' s t b u hd he hu p q less =
     mul_mono : (a b c d : ℕ) → a ≤ b → c ≤ d → a * c ≤ b * d
     mul_mono a b c d h k = let x : a * c ≤ b * c = mul-le-mul_right c h in let y : b * c ≤ b * d = mul-le-mul_left b k in omega (arith, x, y)
 
-at_most_by : (d e den den' s t b u : ℕ) → 0 < b → d * b ≡ s * den → e * b ≡ t * den' → s ≤ t → d * (u * den') ≤ e * (u * den)
+pub at_most_by : (d e den den' s t b u : ℕ) → 0 < b → d * b ≡ s * den → e * b ≡ t * den' → s ≤ t → d * (u * den') ≤ e * (u * den)
 at_most_by d e den den' s t b u hb p q less =
     let step : s * (den * den') ≤ t * (den * den') = mul-le-mul_right (den * den') less in
     let pp : d * b * den' ≡ s * den * den' = ap (λ v. v * den') p in
@@ -363,21 +390,21 @@ at_most_by d e den den' s t b u hb p q less =
     let m : d * den' * u ≤ e * den * u = mul-le-mul_right u l in
     omega (arith, m)
 
-base_least : (r : Radix) → 1 ≤ base r
+pub base_least : (r : Radix) → 1 ≤ base r
 base_least Bin = omega arith
 base_least Oct = omega arith
 base_least Dec = omega arith
 base_least Hex = omega arith
 
 -- the size of one error by the places of both
-places_of : (mode : ReadMode) (r : Radix) (f n : ℕ) (bytes digits : List ℕ) (gap : Gap) (x : IsGap mode r f bytes digits gap) → length digits ≤ n
-    → (size : ℕ) × HasSizeBy ((magnitude r x.parts).num * 2 ^ f) (magnitude r x.parts).den x.read.steps (base r ^ n) (padded (base r) n digits) gap size
+pub places_of : (mode : ReadMode) (r : Radix) (f n : ℕ) (bytes digits : List ℕ) (gap : Gap) (x : IsGap mode r f bytes digits gap) → length digits ≤ n
+    → (size : ℕ) × HasSizeBy ((magnitude r x.parts).num * 2 ^ f) (magnitude r x.parts).den x.read.ulps (base r ^ n) (padded (base r) n digits) gap size
 unfolding padded
 places_of mode r f n bytes digits gap x h =
     let power : ℕ = base r ^ length digits in
     let some : 1 ≤ base r ^ length digits = one-le-pow (length digits) (base r) (base_least r) in
-    let s = size_of ((magnitude r x.parts).num * 2 ^ f) (magnitude r x.parts).den x.read.steps power (number_from_digits (base r) digits) gap (omega (arith, some)) x.is_gap in
-    (s.0 * base r ^ (n - length digits), size_by_places ((magnitude r x.parts).num * 2 ^ f) (magnitude r x.parts).den x.read.steps power (number_from_digits (base r) digits) (base r ^ (n - length digits)) (base r ^ n) _ gap s.0 s.1 (power_split (base r) (length digits) n h) refl)
+    let s = size_of ((magnitude r x.parts).num * 2 ^ f) (magnitude r x.parts).den x.read.ulps power (number_from_digits (base r) digits) gap (omega (arith, some)) x.is_gap in
+    (s.0 * base r ^ (n - length digits), size_by_places ((magnitude r x.parts).num * 2 ^ f) (magnitude r x.parts).den x.read.ulps power (number_from_digits (base r) digits) (base r ^ (n - length digits)) (base r ^ n) _ gap s.0 s.1 (power_split (base r) (length digits) n h) refl)
 
 pub greater_error : (mode : ReadMode) (r : Radix) (f : ℕ) (one other ones others : List ℕ) (g h : Gap) (result : Bool) → IsGap mode r f one ones g → IsGap mode r f other others h
     → Decides (base r) ones others (sum_of (greater_part g) (less_part h)) (sum_of (less_part g) (greater_part h)) result → result ≡ true → HasGreaterError mode r f one other
@@ -388,11 +415,11 @@ greater_error mode r f one other ones others g h result x y d is =
     let both = sizes_of (base r) n ones others g h u.0 v.0 u.1.high v.1.high in
     let less : v.0 < u.0 = omega (arith, both.same, d.greater is) in
     record {
-      one_size = error_size (magnitude r x.parts) f x.read.steps;
+      one_size = error_size (magnitude r x.parts) f x.read.ulps;
       has_one = record { parts = x.parts; numeral = x.numeral; number = x.number; read = x.read; size_is = refl };
-      other_size = error_size (magnitude r y.parts) f y.read.steps;
+      other_size = error_size (magnitude r y.parts) f y.read.ulps;
       has_other = record { parts = y.parts; numeral = y.numeral; number = y.number; read = y.read; size_is = refl };
-      greater = greater_by (distance ((magnitude r x.parts).num * 2 ^ f) (x.read.steps * (magnitude r x.parts).den)) (distance ((magnitude r y.parts).num * 2 ^ f) (y.read.steps * (magnitude r y.parts).den)) (magnitude r x.parts).den (magnitude r y.parts).den u.0 v.0 (base r ^ n) (2 ^ f) (magnitude_pos r x.parts) (magnitude_pos r y.parts) (pow_pos f) u.1.error v.1.error less;
+      greater = greater_by (distance ((magnitude r x.parts).num * 2 ^ f) (x.read.ulps * (magnitude r x.parts).den)) (distance ((magnitude r y.parts).num * 2 ^ f) (y.read.ulps * (magnitude r y.parts).den)) (magnitude r x.parts).den (magnitude r y.parts).den u.0 v.0 (base r ^ n) (2 ^ f) (magnitude_pos r x.parts) (magnitude_pos r y.parts) (pow_pos f) u.1.error v.1.error less;
     }
 
 pub no_greater_error : (mode : ReadMode) (r : Radix) (f : ℕ) (one other ones others : List ℕ) (g h : Gap) (result : Bool) → IsGap mode r f one ones g → IsGap mode r f other others h
@@ -405,9 +432,9 @@ no_greater_error mode r f one other ones others g h result x y d is =
     let less : u.0 ≤ v.0 = omega (arith, both.same, d.not is) in
     let some : 1 ≤ base r ^ n = one-le-pow n (base r) (base_least r) in
     record {
-      one_size = error_size (magnitude r x.parts) f x.read.steps;
+      one_size = error_size (magnitude r x.parts) f x.read.ulps;
       has_one = record { parts = x.parts; numeral = x.numeral; number = x.number; read = x.read; size_is = refl };
-      other_size = error_size (magnitude r y.parts) f y.read.steps;
+      other_size = error_size (magnitude r y.parts) f y.read.ulps;
       has_other = record { parts = y.parts; numeral = y.numeral; number = y.number; read = y.read; size_is = refl };
-      at_most = at_most_by (distance ((magnitude r x.parts).num * 2 ^ f) (x.read.steps * (magnitude r x.parts).den)) (distance ((magnitude r y.parts).num * 2 ^ f) (y.read.steps * (magnitude r y.parts).den)) (magnitude r x.parts).den (magnitude r y.parts).den u.0 v.0 (base r ^ n) (2 ^ f) (omega (arith, some)) u.1.error v.1.error less;
+      at_most = at_most_by (distance ((magnitude r x.parts).num * 2 ^ f) (x.read.ulps * (magnitude r x.parts).den)) (distance ((magnitude r y.parts).num * 2 ^ f) (y.read.ulps * (magnitude r y.parts).den)) (magnitude r x.parts).den (magnitude r y.parts).den u.0 v.0 (base r ^ n) (2 ^ f) (omega (arith, some)) u.1.error v.1.error less;
     }

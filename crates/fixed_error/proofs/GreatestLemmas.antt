@@ -13,10 +13,10 @@ use Rattle.fixed_error.specs.Inner.Gap.{HasSteps}
 -- a numeral's error has one size
 pub size_unique : (mode : ReadMode) (r : Radix) (f : ℕ) (bytes : List ℕ) (d e : Fraction) → HasErrorSize mode r f bytes d → HasErrorSize mode r f bytes e → d ≡ e
 size_unique mode r f bytes d e h k =
-    let steps : HasSteps mode r f bytes h.read.steps = record { parts = h.parts; numeral = h.numeral; number = h.number; read = h.read; steps_are = refl } in
-    let same : k.read.steps ≡ h.read.steps = steps_for mode r f bytes h.read.steps steps k.parts k.numeral k.number k.read in
+    let steps : HasSteps mode r f bytes h.read.ulps = record { parts = h.parts; numeral = h.numeral; number = h.number; read = h.read; steps_are = refl } in
+    let same : k.read.ulps ≡ h.read.ulps = steps_for mode r f bytes h.read.ulps steps k.parts k.numeral k.number k.read in
     let parts : h.parts ≡ k.parts = parts_unique r bytes h.parts k.parts h.numeral.beginning k.numeral.beginning in
-    h.size_is ∙ (ap (λ p. error_size (magnitude r p) f h.read.steps) parts ∙ (ap (λ n. error_size (magnitude r k.parts) f n) (sym same) ∙ sym k.size_is))
+    h.size_is ∙ (ap (λ p. error_size (magnitude r p) f h.read.ulps) parts ∙ (ap (λ n. error_size (magnitude r k.parts) f n) (sym same) ∙ sym k.size_is))
 
 den_some : (mode : ReadMode) (r : Radix) (f : ℕ) (bytes : List ℕ) (d : Fraction) → HasErrorSize mode r f bytes d → 0 < d.den
 den_some mode r f bytes d h = subst P (sym h.size_is) (both (2 ^ f) (magnitude r h.parts).den (pow_pos f) (magnitude_pos r h.parts))

@@ -17,7 +17,7 @@ pub record HasErrorSize (mode : ReadMode) (r : Radix) (f : ℕ) (bytes : List �
   pub numeral : HasNumeral r bytes parts
   pub number : ℤ
   pub read : IsReadNumber mode r parts f number
-  pub size_is : size ≡ error_size (magnitude r parts) f read.steps
+  pub size_is : size ≡ error_size (magnitude r parts) f read.ulps
 
 -- a fraction is less than another
 abbrev pub IsLess : Fraction → Fraction → Type 0
@@ -43,10 +43,26 @@ pub record HasNoGreaterError (mode : ReadMode) (r : Radix) (f : ℕ) (one other 
   pub has_other : HasErrorSize mode r f other other_size
   pub at_most : IsAtMost one_size other_size
 
+-- the error of a numeral is greater in size than the magnitude of another
+pub record HasErrorAbove (mode : ReadMode) (r : Radix) (f : ℕ) (bytes bound : List ℕ) : Type 0 where
+  pub size : Fraction
+  pub has_size : HasErrorSize mode r f bytes size
+  pub bound_parts : Parts
+  pub bound_numeral : HasNumeral r bound bound_parts
+  pub above : IsLess (magnitude r bound_parts) size
+
+-- it is at most that
+pub record HasErrorWithin (mode : ReadMode) (r : Radix) (f : ℕ) (bytes bound : List ℕ) : Type 0 where
+  pub size : Fraction
+  pub has_size : HasErrorSize mode r f bytes size
+  pub bound_parts : Parts
+  pub bound_numeral : HasNumeral r bound bound_parts
+  pub at_most : IsAtMost size (magnitude r bound_parts)
+
 -- bytes are a numeral that is rounded to fewer than 2^64 ulps
 pub record IsReadWithin (mode : ReadMode) (r : Radix) (f : ℕ) (bytes : List ℕ) : Type 0 where
   pub parts : Parts
   pub numeral : HasNumeral r bytes parts
   pub number : ℤ
   pub read : IsReadNumber mode r parts f number
-  pub within : read.steps < 2 ^ 64
+  pub within : read.ulps < 2 ^ 64

@@ -1,6 +1,6 @@
 //! The gap between a numeral and the whole number of ulps that it is rounded to.
 
-ghost use Rattle.std.specs.Prelude.{◌≡◌, ◌+◌, ◌%◌, ◌<◌, ◌≤◌, ◌^◌};
+ghost use Rattle.std.specs.Prelude.{IsTrue, ◌↔◌, ◌≡◌, ◌+◌, ◌%◌, ◌<◌, ◌≤◌, ◌^◌};
 ghost use Rattle.fixed_numeral.specs.Numeral.{HasNumeral, Parts};
 ghost use Rattle.fixed_numeral.specs.Scanned.{IsScanned, exponent_unit};
 ghost use Rattle.fixed_error.specs.ErrorSize.{IsReadWithin};
@@ -42,7 +42,7 @@ fn steps_in<L: Ledger>(
 }
 
 /// Two to a power.
-fn power_of_two(exponent: u32) -> u128
+pub fn power_of_two(exponent: u32) -> u128
     requires { exponent ≤ 67 }
     ensures { result ≡ 2 ^ exponent }
 {
@@ -81,5 +81,26 @@ pub fn gap_of<'a, L: Ledger>(
         unit,
         whole: whole_of(below, unit, rounded - below),
         is_rounded_up: rounded != below,
+    }
+}
+
+/// Whether a text is a numeral that is rounded in a mode to fewer than 2^64 ulps of 2^-`frac`. Each numeral that is in
+/// range in a format of that fraction length is.
+pub fn is_read_within<L: Ledger>(
+    text: &[u8],
+    radix: Radix,
+    frac: u32,
+    mode: ReadMode,
+    steps: &mut Steps<L>,
+) -> bool
+    requires { frac ≤ 64 }
+    ensures { IsTrue result ↔ IsReadWithin mode radix frac text.now }
+{
+    match read_format(text, radix, Format::of(false, 64, frac), mode, steps) {
+        Ok(found) => {
+            let _low = found.magnitude();
+            !found.has_high_bits()
+        }
+        Err(_) => false,
     }
 }

@@ -7,7 +7,7 @@ use Rattle.fixed_bits.specs.declared.format.Policy.TheVariants.{Wrapping}
 use Rattle.fixed_bits.specs.declared.number.Number.{Number}
 use Rattle.fixed_bits.proofs.Public.{image_one, range_decided}
 use Rattle.fixed_numeral.proofs.Public.{one_cause, parts_unique}
-use Rattle.fixed_read.specs.Reading.{IsWholeUlps}
+use Rattle.fixed_read.specs.Reading.{IsWholeUlps, number_in}
 use Rattle.fixed_read.specs.declared.read_number.ReadNumber.{ReadNumber}
 use Rattle.fixed_read.proofs.Public.{read_unique}
 use Rattle.fixed_laws.specs.Readings.{ImageReadIsTheOne, OverflowingReadIsTheOne, ReadAnswerIsTheOne, ReadRangeIsDecided, ReadingIsTheOne}
@@ -38,17 +38,17 @@ number_one a b v few few' sign x y =
     let high : x.high ≡ y.high = omega arith in
     number_made a b sign low (same_flag a.has_high_bits b.has_high_bits (0 < y.high) (subst (λ (h : ℕ). IsTrue a.has_high_bits ↔ (0 < h)) high x.over) y.over)
 
-found_made : (a b : ReadNumber) → a.number ≡ b.number → a.format ≡ b.format → a.exact ≡ b.exact → a ≡ b
+found_made : (a b : ReadNumber) → number_in a ≡ number_in b → a.format ≡ b.format → a.exact ≡ b.exact → a ≡ b
 found_made a b p q r =
-    let made : Number → FormatParts → Bool → ReadNumber = λ x y z. record { number = x; format = y; exact = z } in
-    ap (λ x. made x a.format a.exact) p ∙ ap (λ y. made b.number y a.exact) q ∙ ap (λ z. made b.number b.format z) r
+    let made : Number → FormatParts → Bool → ReadNumber = λ x y z. record { low = x.low; negative = x.negative; has_high_bits = x.has_high_bits; format = y; exact = z } in
+    ap (λ x. made x a.format a.exact) p ∙ ap (λ y. made (number_in b) y a.exact) q ∙ ap (λ z. made (number_in b) b.format z) r
 
 pub reading_one : ReadingIsTheOne
 reading_one mode r p f a b in_a in_b x y =
     let format : a.format ≡ b.format = in_a.0 ∙ sym in_b.0 in
     let frac : a.format.frac ≡ b.format.frac = ap (λ g. g.frac) format in
     let value : x.number ≡ y.number = read_unique mode r p b.format.frac x.number y.number (rw frac at x.read) y.read in
-    let number : a.number ≡ b.number = number_one a.number b.number y.number in_a.1 in_b.1 (x.sign ∙ sym y.sign) (rw value at x.holds) y.holds in
+    let number : number_in a ≡ number_in b = number_one (number_in a) (number_in b) y.number in_a.1 in_b.1 (x.sign ∙ sym y.sign) (rw value at x.holds) y.holds in
     let exact : a.exact ≡ b.exact = same_flag a.exact b.exact (IsWholeUlps r p b.format.frac) (rw frac at x.exact) y.exact in
     found_made a b number format exact
 

@@ -13,7 +13,7 @@ use Rattle.fixed_read.specs.declared.read_number.ReadNumber.{ReadNumber}
 
 -- a number read into this format; its low part has 64 bits
 abbrev pub IsNumberIn : FormatParts → ReadNumber → Type 0
-IsNumberIn f found = (found.format ≡ f) × (found.number.low < 2 ^ 64)
+IsNumberIn f found = (found.format ≡ f) × (found.low < 2 ^ 64)
 
 -- a numeral is read into a format in one way
 abbrev pub ReadingIsTheOne : Type 0

@@ -125,7 +125,7 @@ nearest_is num den pos = nearest_by num den (nat_lt den (2 * (num % den))) (2 * 
 
 number_is : (r : Radix) (bs : List ℕ) (f : ℕ) → IsReadNumber NearestEven r (parts_of bs) f (number_of r bs f)
 number_is r bs f = record {
-  steps = nearest_of ((magnitude r (parts_of bs)).num * 2 ^ f) (magnitude r (parts_of bs)).den;
+  ulps = nearest_of ((magnitude r (parts_of bs)).num * 2 ^ f) (magnitude r (parts_of bs)).den;
   rounded = nearest_is ((magnitude r (parts_of bs)).num * 2 ^ f) (magnitude r (parts_of bs)).den (magnitude_pos r (parts_of bs));
   value = refl;
 }

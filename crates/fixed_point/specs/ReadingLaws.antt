@@ -5,7 +5,8 @@ use Rattle.fixed_bits.specs.declared.format.Policy.{Policy}
 use Rattle.fixed_bits.specs.declared.mode.ReadMode.{ReadMode}
 use Rattle.fixed_numeral.specs.declared.error.ParseErrorKind.{ParseErrorKind}
 use Rattle.fixed_numeral.specs.declared.radix.Radix.{Radix}
-use Rattle.fixed_point.specs.Readings.{IsImageReading, IsLiteralReading, IsOverflowingReading, IsPlainReading, IsRefusing}
+use Rattle.fixed_point.specs.Readings.{IsImageReading, IsLiteralReading, IsOverflowingReading, IsPlainReading}
+use Rattle.fixed_point.specs.Readings.{IsRefusing}
 
 -- two answers are one: bits of one number, with one verdict where there is one, or one kind
 abbrev pub AreSame : {A : Type 0} → (A → A → Type 0) → Result A ParseErrorKind → Result A ParseErrorKind → Type 0

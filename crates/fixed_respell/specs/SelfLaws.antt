@@ -1,7 +1,13 @@
--- The self test ends in one way, and bytes are split in one way.
-use Rattle.std.specs.Prelude.{◌≡◌, ℕ, ◌-◌, ◌^◌, ◌<◌, List, Some}
+-- The self test ends in one way, words name one thing, and bytes are split in one way.
+use Rattle.std.specs.Prelude.{◌≡◌, ℕ, ◌-◌, ◌^◌, ◌<◌, List, Some, String}
+use Rattle.std.specs.declared.alloc.Global.{Global}
+use Rattle.fixed_bits.specs.declared.format.Policy.{Policy}
+use Rattle.fixed_bits.specs.declared.mode.ReadMode.{ReadMode}
+use Rattle.fixed_respell.specs.Command.{IsCommand}
 use Rattle.fixed_respell.specs.SelfMode.{HasSelfRun, IsSummary}
 use Rattle.fixed_respell.specs.Split.{IsSplit}
+use Rattle.fixed_respell.specs.Words.{IsPolicyWord}
+use Rattle.fixed_respell.specs.declared.command.Command.{Command}
 use Rattle.line_engine.specs.declared.status.Status.{Status}
 use Rattle.line_engine.specs.declared.status.Status.TheVariants.{WriteFault}
 
@@ -9,6 +15,15 @@ use Rattle.line_engine.specs.declared.status.Status.TheVariants.{WriteFault}
 abbrev pub SplitIsTheOne : Type 0
 SplitIsTheOne = (b : ℕ) (bytes xs rest ys others : List ℕ) → IsSplit b bytes xs rest → IsSplit b bytes ys others
     → (xs ≡ ys) × (rest ≡ others)
+
+-- a word names at most one policy and one mode
+abbrev pub PolicyWordIsTheOne : Type 0
+PolicyWordIsTheOne = (word : List ℕ) (p q : Policy) (m k : ReadMode) → IsPolicyWord word p m → IsPolicyWord word q k
+    → (p ≡ q) × (m ≡ k)
+
+-- arguments ask for at most one command
+abbrev pub CommandIsTheOne : Type 0
+CommandIsTheOne = (args : List (String Global)) (c d : Command) → IsCommand args c → IsCommand args d → c ≡ d
 
 -- so many lines have one summary, and one count of faults
 abbrev pub SummaryIsTheOne : Type 0

@@ -26,7 +26,13 @@ ghost use Rattle.fixed_respell.specs.Laws.{
   RefusalHasNone,
   RefusalIsTheOne,
 };
-ghost use Rattle.fixed_respell.specs.SelfLaws.{SelfRunIsTheOne, SplitIsTheOne, SummaryIsTheOne};
+ghost use Rattle.fixed_respell.specs.SelfLaws.{
+  CommandIsTheOne,
+  PolicyWordIsTheOne,
+  SelfRunIsTheOne,
+  SplitIsTheOne,
+  SummaryIsTheOne,
+};
 
 /// From a numeral at most one pair of bits and a flag is reached.
 pub fn reached_is_the_one()
@@ -188,4 +194,14 @@ pub fn summary_is_the_one()
 /// The count of failed writes says how a self test ended, and where none failed it wrote one text.
 pub fn self_run_is_the_one()
     ensures { SelfRunIsTheOne }
+{}
+
+/// A word names at most one policy and one mode.
+pub fn policy_word_is_the_one()
+    ensures { PolicyWordIsTheOne }
+{}
+
+/// Arguments ask for at most one command.
+pub fn command_is_the_one()
+    ensures { CommandIsTheOne }
 {}

@@ -1,5 +1,5 @@
 -- A text is answered with one block.
-use Rattle.std.proofs.Common.{◌≡◌, ◌∙◌, ◌++◌, ℕ, ℤ, List, Bool, true, false, pos, codes, ap, inl, inr, refl, sym, subst}
+use Rattle.std.proofs.Common.{◌≡◌, ◌∙◌, ℕ, ℤ, List, Bool, true, false, pos, ap, inl, inr, refl, sym, subst}
 use Rattle.std.specs.Prelude.{unsigned_abs}
 use Rattle.fixed_bits.specs.Formats.{FormatParts}
 use Rattle.fixed_bits.specs.Images.{IsImage}
@@ -9,7 +9,7 @@ use Rattle.fixed_bits.specs.declared.format.Policy.TheVariants.{Checked, Wrappin
 use Rattle.fixed_bits.specs.declared.mode.ReadMode.{ReadMode}
 use Rattle.fixed_bits.proofs.Public.{has_none, image_one}
 use Rattle.fixed_numeral.specs.Messages.{message_of}
-use Rattle.fixed_numeral.specs.Numeral.{HasNumeral, Parts}
+use Rattle.fixed_numeral.specs.Numeral.{Parts}
 use Rattle.fixed_numeral.specs.declared.error.ParseErrorKind.{ParseErrorKind}
 use Rattle.fixed_numeral.specs.declared.radix.Radix.{Radix}
 use Rattle.fixed_numeral.proofs.Public.{one_cause, parts_unique}

@@ -1,4 +1,5 @@
 pub mod Blocks
+pub mod ToolNames
 pub mod FormatBlock
 pub mod WordText
 pub mod WordLaws

@@ -11,6 +11,9 @@ use std::sync::ledger::Ledger;
 /// How many characters of a field, or of a name, a report has.
 const MAX_TEXT: usize = 40;
 
+/// How many bytes of a field are known at most.
+const MAX_KEPT: usize = 160;
+
 /// How many bytes of a header are known at most: the last of that many may be within a name.
 const MAX_HEADER: usize = 4096;
 
@@ -101,8 +104,11 @@ fn push_first<L: Ledger>(
     push_quoted(report, text);
     report.text(": ");
     report.bytes(cause, 160);
-    let more = field_explanation(&conversion.rule, &conversion.form, text, cause, steps);
-    report.bytes(more.as_bytes(), 640);
+    // Of a text that may be cut no more is said.
+    if text.len() < MAX_KEPT {
+        let more = field_explanation(&conversion.rule, &conversion.form, text, cause, steps);
+        report.bytes(more.as_bytes(), 640);
+    }
 }
 
 /// Appends the name that a header lacks.

@@ -16,7 +16,7 @@ pub record HasSteps (mode : ReadMode) (r : Radix) (f : ℕ) (bytes : List ℕ) (
   pub numeral : HasNumeral r bytes parts
   pub number : ℤ
   pub read : IsReadNumber mode r parts f number
-  pub steps_are : read.steps ≡ n
+  pub steps_are : read.ulps ≡ n
 
 -- with m of the fraction's digits, the gap between num / den and a number of ulps
 pub record IsGapOf (num den ulps power number : ℕ) (gap : Gap) : Type 0 where
@@ -30,7 +30,7 @@ pub record IsGap (mode : ReadMode) (r : Radix) (f : ℕ) (bytes : List ℕ) (dig
   pub numeral : HasNumeral r bytes parts
   pub number : ℤ
   pub read : IsReadNumber mode r parts f number
-  pub is_gap : IsGapOf ((magnitude r parts).num * 2 ^ f) (magnitude r parts).den read.steps (base r ^ length digits)
+  pub is_gap : IsGapOf ((magnitude r parts).num * 2 ^ f) (magnitude r parts).den read.ulps (base r ^ length digits)
       (number_from_digits (base r) digits) gap
   pub unit_small : gap.unit ≤ 2 ^ 67
   pub whole_small : gap.whole ≤ 2 ^ 67
