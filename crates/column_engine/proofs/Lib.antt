@@ -5,6 +5,7 @@ mod FieldsLemmas
 mod FeedLemmas
 mod HeaderLemmas
 mod RunLemmas
+mod SkipLemmas
 mod RecordLemmas
 mod ReplaceLemmas
 mod UniqueLemmas

@@ -94,6 +94,7 @@ fn run_case<L: Ledger>(
     let columns = columns_of(alloc, case)?;
     let task = ColumnTask {
         rule: &NoX,
+        skipped: 0,
         columns: &columns,
         has_header: case.has_header,
         is_kept: case.is_kept,
