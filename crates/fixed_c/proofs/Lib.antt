@@ -4,3 +4,4 @@ mod ReadLemmas
 mod RowLemmas
 mod ScanEndLemmas
 mod StyleLemmas
+mod AskedLemmas

@@ -15,3 +15,4 @@ pub mod Scan
 pub mod Style
 pub mod Texts
 pub mod Words
+pub mod Inner

@@ -26,6 +26,7 @@ ghost use Rattle.fixed_respell.specs.Laws.{
   RefusalHasNone,
   RefusalIsTheOne,
 };
+ghost use Rattle.fixed_respell.specs.SelfLaws.{SelfRunIsTheOne, SplitIsTheOne, SummaryIsTheOne};
 
 /// From a numeral at most one pair of bits and a flag is reached.
 pub fn reached_is_the_one()
@@ -172,4 +173,19 @@ pub fn plain_line_asks_nearest()
 /// a line without a fourth word.
 pub fn plain_line_has_the_plain_answer()
     ensures { PlainLineHasThePlainAnswer }
+{}
+
+/// Bytes are split at the first byte of a kind in one way.
+pub fn split_is_the_one()
+    ensures { SplitIsTheOne }
+{}
+
+/// The generated lines have one summary.
+pub fn summary_is_the_one()
+    ensures { SummaryIsTheOne }
+{}
+
+/// The count of failed writes says how a self test ended, and where none failed it wrote one text.
+pub fn self_run_is_the_one()
+    ensures { SelfRunIsTheOne }
 {}

@@ -10,4 +10,5 @@ pub mod DifferenceLemmas
 pub mod BoundLemmas
 pub mod BoundedLemmas
 pub mod WordLawLemmas
+pub mod BlockLawLemmas
 pub mod Public

@@ -5,4 +5,5 @@ pub mod WordLaws
 pub mod BitsBlock
 pub mod ErrorText
 pub mod ShowBlock
+pub mod BlockLaws
 pub mod Inner

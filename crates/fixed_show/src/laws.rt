@@ -1,5 +1,6 @@
 //! Laws of what the blocks say, each the contract of a function that does nothing.
 
+ghost use Rattle.fixed_show.specs.BlockLaws.{BitsBlockIsTheOne, ShowRefusalIsTheOne};
 ghost use Rattle.fixed_show.specs.ErrorText.{BoundPowerIsTheOne};
 ghost use Rattle.fixed_show.specs.FormatBlock.{FormatBlockIsTheOne, PlacesSurvive};
 ghost use Rattle.fixed_show.specs.WordLaws.{WordFaultIsTheOne, WordHasNoFault, WordIsTheOne};
@@ -28,4 +29,14 @@ pub fn bound_power_is_the_one()
 /// A format has one block.
 pub fn format_block_is_the_one()
     ensures { FormatBlockIsTheOne }
+{}
+
+/// A word has one block: that of its number, or that of its fault.
+pub fn bits_block_is_the_one()
+    ensures { BitsBlockIsTheOne }
+{}
+
+/// A numeral that is refused has one block.
+pub fn show_refusal_is_the_one()
+    ensures { ShowRefusalIsTheOne }
 {}

@@ -1,0 +1,10 @@
+//! The error of a rounded numeral: its size, compared exactly with that of another, whatever their lengths.
+#![tactic(auto)]
+
+mod gap;
+pub mod greater;
+pub mod greatest;
+mod sums;
+
+pub use greater::is_error_greater;
+pub use greatest::GreatestError;
