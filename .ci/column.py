@@ -23,8 +23,15 @@ LONGEST = 1_048_576
 TARIFF = b'name,price\ntea,1.50\n"milk, fresh",0.99\nsalt,free\n'
 
 
-def refused(count, first):
-    return f"fixed: fields refused: {count}, the first in record {first}\n".encode()
+def refused(count, record, line, column, text, why="invalid digit found in string, byte 1", byte=None):
+    """A report of fields that are refused; of the first one the text, the cause and the byte, by default its first."""
+    wrong = "" if byte is None and "byte" not in why else f", '{byte or text[:1]}'"
+    return f"fixed: fields refused: {count}, the first in record {record}, line {line}, column {column}, '{text}': {why}{wrong}\n".encode()
+
+
+def refused_bytes(text):
+    """A report of a first field of bytes that are no text."""
+    return b"fixed: fields refused: 1, the first in record 1, line 1, column 1, '%s': %s, byte 1, '%s'\n" % (text, DIGIT[7:], text[:1])
 
 
 def stopped(record, why):
@@ -37,8 +44,10 @@ LONG = f"is longer than {LONGEST} bytes"
 RUNS = (
     # Which column: a number, a name, a name that is a number too, and the first of two.
     (["2", "U16F16"], b"a,1.5,z\nb,2.25,z\n", 0, b"a,1.5,z\nb,2.25,z\n", b""),
-    (["price", "U16F16", "--header"], TARIFF, 1, b'name,price\ntea,1.5\n"milk, fresh",0.99\nsalt,' + DIGIT + b"\n", refused(1, 4)),
-    (["price", "U16F16", "--header", "--keep"], TARIFF, 1, b'name,price\ntea,1.5\n"milk, fresh",0.99\nsalt,free\n', refused(1, 4)),
+    (["price", "U16F16", "--header"], TARIFF, 1, b'name,price\ntea,1.5\n"milk, fresh",0.99\nsalt,' + DIGIT + b"\n",
+     refused(1, 4, 4, "'price'", "free")),
+    (["price", "U16F16", "--header", "--keep"], TARIFF, 1, b'name,price\ntea,1.5\n"milk, fresh",0.99\nsalt,free\n',
+     refused(1, 4, 4, "'price'", "free")),
     (["2", "U16F16", "--header"], TARIFF[:20], 0, b"name,price\ntea,1.5\n", b""),
     (["1", "U8F0", "--header"], b"2,1\nx,7.4\n", 0, b"2,1\nx,7\n", b""),
     (["v", "U8F0", "--header"], b"v,v\n7.4,7.4\n", 0, b"v,v\n7,7.4\n", b""),
@@ -57,21 +66,22 @@ RUNS = (
     (["2", "I8F8", "--delimiter", "."], b"a.\"7.5\"\n", 0, b"a.\"7.5\"\n", b""),
     # Quotes, newlines in fields, CRLF, carriage returns alone, empty fields and records, a byte order mark, bytes that are no text.
     (["2", "U8F0"], b'"a ""b"" c","7.4","d\ne","f\rg"\n', 0, b'"a ""b"" c",7,"d\ne","f\rg"\n', b""),
-    (["1", "U8F0"], b'"7.4"x,y\n7"4,z\n', 1, DIGIT + b",y\n" + DIGIT + b",z\n", refused(2, 1)),
+    (["1", "U8F0"], b'"7.4"x,y\n7"4,z\n', 1, DIGIT + b",y\n" + DIGIT + b",z\n",
+     refused(2, 1, 1, 1, "7.4x", "invalid digit found in string, byte 4", "x")),
     (["1", "U8F0"], b"7.4,a\r\n8,b\r\n", 0, b"7,a\r\n8,b\r\n", b""),
     (["1", "U8F0"], b"7.4,a\r8,b\r\n9,c", 0, b"7,a\r8,b\r\n9,c", b""),
     (["2", "U8F0"], b'"a","7.4",b"c,"d"\n', 0, b'"a",7,b"c,"d"\n', b""),
     (["2", "U8F0"], b"7.4,\"8.4\r\"\n", 0, b"7.4,8\n", b""),
-    (["2", "U8F0"], b",7.4,\n,,\n", 1, b",7,\n,error: string has no digits,\n", refused(1, 2)),
-    (["2", "U8F0", "--keep"], b",,\n", 1, b",,\n", refused(1, 1)),
+    (["2", "U8F0"], b",7.4,\n,,\n", 1, b",7,\n,error: string has no digits,\n", refused(1, 2, 2, 2, "", "string has no digits")),
+    (["2", "U8F0", "--keep"], b",,\n", 1, b",,\n", refused(1, 1, 1, 2, "", "string has no digits")),
     (["1", "U8F0"], b"\n7.4\n\r\n\n8\n", 0, b"\n7\n\r\n\n8\n", b""),
-    (["1", "U8F0", "--keep"], b'""\n7.4\n', 1, b'""\n7\n', refused(1, 1)),
+    (["1", "U8F0", "--keep"], b'""\n7.4\n', 1, b'""\n7\n', refused(1, 1, 1, 1, "", "string has no digits")),
     (["1", "U8F0"], MARK + b"7.4,a\n", 0, MARK + b"7,a\n", b""),
     (["1", "U8F0"], MARK + b'"7.4",a\n', 0, MARK + b"7,a\n", b""),
     (["x", "U8F0", "--header"], MARK + b'"x",y\n7.4,a\n', 0, MARK + b'"x",y\n7,a\n', b""),
-    (["1", "U8F0"], MARK[:2] + b"7.4,a\n", 1, DIGIT + b",a\n", refused(1, 1)),
+    (["1", "U8F0"], MARK[:2] + b"7.4,a\n", 1, DIGIT + b",a\n", refused_bytes(MARK[:2] + b"7.4")),
     (["2", "U8F0"], b"\xff\xfe,7.4,\x00\xc3\n", 0, b"\xff\xfe,7,\x00\xc3\n", b""),
-    (["1", "U8F0"], b"\xff,7\n", 1, DIGIT + b",7\n", refused(1, 1)),
+    (["1", "U8F0"], b"\xff,7\n", 1, DIGIT + b",7\n", refused_bytes(b"\xff")),
     # As spreadsheets write it, with a byte order mark, CRLF and semicolons; as numpy's savetxt does; and as mlr does with quotes everywhere.
     (["price", "U16F16", "--header", "--delimiter", ";"], MARK + b'name;price\r\ntea;1.50\r\n"milk; fresh";0.99\r\n', 0,
      MARK + b'name;price\r\ntea;1.5\r\n"milk; fresh";0.99\r\n', b""),
@@ -84,22 +94,22 @@ RUNS = (
     (["x", "U8F0", "--header"], b"a,x\n", 0, b"a,x\n", b""),
     (["3", "U8F0"], b"\n\r\n", 0, b"\n\r\n", b""),
     (["3", "U8F0"], MARK, 0, MARK, b""),
-    (["1", "U8F0"], MARK[:2], 1, DIGIT, refused(1, 1)),
+    (["1", "U8F0"], MARK[:2], 1, DIGIT, refused_bytes(MARK[:2])),
     # Several columns: numbers, ranges, names, each once however often it is named.
     (["1,3", "U8F0"], b"7.4,8.4,9.4\n", 0, b"7,8.4,9\n", b""),
     (["2-3", "U8F0"], b"7.4,8.4,9.4,1.4\n", 0, b"7.4,8,9,1.4\n", b""),
     (["1,1-2", "U8F0"], b"7.4,8.4,9.4\n", 0, b"7,8,9.4\n", b""),
     (["b,1", "U8F0", "--header"], b"a,b,1\n7.4,8.4,9.4\n", 0, b"a,b,1\n7.4,8,9\n", b""),
     (["1-2", "U8F0", "--header"], b"a,b,1-2\n7.4,8.4,9.4\n", 0, b"a,b,1-2\n7.4,8.4,9\n", b""),
-    (["1-2", "U8F0"], b"x,y\n", 1, DIGIT + b"," + DIGIT + b"\n", refused(2, 1)),
+    (["1-2", "U8F0"], b"x,y\n", 1, DIGIT + b"," + DIGIT + b"\n", refused(2, 1, 1, 1, "x")),
     (["U8F0", "--all"], b"7.4,8.4\n\n9.4\n", 0, b"7,8\n\n9\n", b""),
     (["U8F0", "I8F0", "--all", "--header"], b"a,b\n7.4,\"8.4\"\n", 0, b"a,b\n7,8\n", b""),
     (["1,4", "U8F0"], b"7.4,8.4,9.4\n", 3, b"", stopped(1, "has no such column, its fields: 3")),
     # A column that is not there: nothing further is written, and nothing is lost of what was answered before.
     (["2", "U8F0"], b"a,1\nb\nc,3\n", 3, b"a,1\n", stopped(2, "has no such column, its fields: 1")),
-    (["2", "U8F0"], b"a,x\nb\nc,3\n", 3, b"a," + DIGIT + b"\n", refused(1, 1) + stopped(2, "has no such column, its fields: 1")),
+    (["2", "U8F0"], b"a,x\nb\nc,3\n", 3, b"a," + DIGIT + b"\n", refused(1, 1, 1, 2, "x") + stopped(2, "has no such column, its fields: 1")),
     (["9", "U8F0", "--header"], b"a,b\n1,2\n", 3, b"", stopped(1, "has no such column, its fields: 2")),
-    (["c", "U8F0", "--header"], b"a,b\n1,2\n", 3, b"", b"fixed: the header has no such column, records answered: 0\n"),
+    (["c", "U8F0", "--header"], b"a,b\n1,2\n", 3, b"", b"fixed: the header has no column 'c', records answered: 0; it has 'a', 'b'\n"),
     # A quote that is never closed.
     (["1", "U8F0"], b'1,a\n2,"b\n3,c\n', 3, b"1,a\n", stopped(2, UNCLOSED)),
     (["1", "U8F0"], b'1,a\n2,"', 3, b"1,a\n", stopped(2, UNCLOSED)),
@@ -115,6 +125,62 @@ RUNS = (
     (["1", "U8F0"], b"1,a\n1," + b"x" * (LONGEST - 1), 6, b"1,a\n", stopped(2, LONG)),
     (["1", "U8F0"], b'1,a\n1,"' + b"x\n" * LONGEST, 6, b"1,a\n", stopped(2, LONG)),
     (["1", "U8F0"], b"\n" * (2 * LONGEST) + b"7.4\n", 0, b"\n" * (2 * LONGEST) + b"7\n", b""),
+    # Which field was refused first: its line, its column, its text cut and without control characters, why, and where.
+    (["2", "U8F0"], b'"a\nb",1\r\n\r\n"c",2\r\n"d",x\r\n', 1, b'"a\nb",1\r\n\r\n"c",2\r\n"d",' + DIGIT + b"\r\n", refused(1, 3, 5, 2, "x")),
+    (["1", "U8F0"], b"1\r2\rx\r", 1, b"1\r2\r" + DIGIT + b"\r", refused(1, 3, 3, 1, "x")),
+    (["2", "U8F0", "--header"], b'"a","b ""c"""\n1,"2\n\t3"\n', 1, b'"a","b ""c"""\n1,' + DIGIT + b"\n",
+     refused(1, 2, 2, "'b \"\"c\"\"'", "2??3", "invalid digit found in string, byte 2", "?")),
+    (["1", "U8F0"], b"1" * 60 + b"x\n", 1, DIGIT + b"\n", refused(1, 1, 1, 1, "1" * 40, "invalid digit found in string, byte 61", "x")),
+    (["1", "I8F8", "I4F4"], b"128\n", 1, b"error: overflow\n",
+     refused(1, 1, 1, 1, "128", "overflow, I8F8 holds -128 to 127.99609375, I4F4 holds -8 to 7.9375")),
+    (["1", "U8F0", "--header"], b"a" * 5000 + b"\nx\n", 1, b"a" * 5000 + b"\n" + DIGIT + b"\n", refused(1, 2, 2, 1, "x")),
+    (["q,1", "U8F0", "--header"], b'a,"b, c"\n1,2\n', 3, b"", b"fixed: the header has no column 'q', records answered: 0; it has 'a', 'b, c'\n"),
+    (["1,q", "U8F0", "--header"], b"a\n1\n", 3, b"", b"fixed: the header has no column 'q', records answered: 0; it has 'a'\n"),
+    # Blanks, decimal commas, thousands.
+    (["1", "I16F16", "--trim"], b"  1.50\t,a\n 2 ,b\n", 0, b"1.5,a\n2,b\n", b""),
+    (["1", "I16F16"], b" 1.50,a\n", 1, DIGIT + b",a\n", refused(1, 1, 1, 1, " 1.50")),
+    (["1", "I16F16", "--trim"], b"  1.x ,a\n", 1, DIGIT + b",a\n", refused(1, 1, 1, 1, "  1.x ", "invalid digit found in string, byte 5", "x")),
+    (["2", "I16F16", "--delimiter", ";", "--decimal", ","], b"a;1,50;b\n", 0, b"a;1.5;b\n", b""),
+    (["2", "I16F16", "--decimal", ","], b'a,"1,50",b\n', 0, b"a,1.5,b\n", b""),
+    (["1", "I16F16", "--delimiter", ";", "--decimal", ","], b"1.5\n", 1, DIGIT + b"\n",
+     refused(1, 1, 1, 1, "1.5", "invalid digit found in string, byte 2", ".")),
+    (["1", "I16F16", "--delimiter", ";", "--decimal", ",", "--thousands", "."], b"1.234,50;x\n-12.345,5;y\n", 0, b"1234.5;x\n-12345.5;y\n", b""),
+    (["1", "I16F16", "--delimiter", ";", "--decimal", ",", "--thousands", "."], b"1.234,5x\n", 1, DIGIT + b"\n",
+     refused(1, 1, 1, 1, "1.234,5x", "invalid digit found in string, byte 8", "x")),
+    (["1", "I16F16", "--thousands", ","], b'"1,234.50",x\n', 0, b"1234.5,x\n", b""),
+    (["1", "I16F16", "--thousands", "'"], b"1'234.50,x\n", 0, b"1234.5,x\n", b""),
+    (["1", "I16F16", "--thousands", "\u202f"], "1\u202f234.50,x\n".encode(), 0, b"1234.5,x\n", b""),
+    (["1", "I16F16", "--thousands", " ", "--decimal", ",", "--delimiter", "tab", "--trim"], b" 1 234,5 \tx\n", 0, b"1234.5\tx\n", b""),
+    # Empty fields.
+    (["2", "I8F8", "--empty", "keep"], b'a,,b\na,"",b\na,1.50,b\n', 0, b'a,,b\na,"",b\na,1.5,b\n', b""),
+    (["2", "I8F8", "--empty", "0", "--print", "bits"], b'a,,b\na,"",b\n', 0, b"a,0,b\na,0,b\n", b""),
+    (["2", "I8F8", "--empty", "fault"], b"a,,b\n", 1, b"a,error: string has no digits,b\n", refused(1, 1, 1, 2, "", "string has no digits")),
+    (["2", "I8F8", "--empty", "keep", "--trim"], b'a, ,b\na," \t",b\n', 0, b'a, ,b\na," \t",b\n', b""),
+    (["2", "I8F8", "--empty", "keep"], b"a, ,b\n", 1, b"a," + DIGIT + b",b\n", refused(1, 1, 1, 2, " ")),
+    (["2", "I8F8", "--empty", "keep", "--thousands", "."], b"a,.,b\n", 1, b"a,error: string has no digits,b\n",
+     refused(1, 1, 1, 2, ".", "string has no digits")),
+    # Lines before the records.
+    (["v", "U8F0", "--header", "--skip", "1"], b"sep=,\nv,w\n7.4,8.4\n", 0, b"sep=,\nv,w\n7,8.4\n", b""),
+    (["1", "U8F0", "--skip", "2"], b'# "a\r\n\r\n7.4\r\nx\r\n', 1, b'# "a\r\n\r\n7\r\n' + DIGIT + b"\r\n", refused(1, 2, 4, 1, "x")),
+    (["1", "U8F0", "--skip", "0"], b"7.4\n", 0, b"7\n", b""),
+    (["1", "U8F0", "--skip", "3"], b"7.4\n8.4", 0, b"7.4\n8.4", b""),
+    (["1", "U8F0", "--skip", "18446744073709551615"], b"7.4\n8.4\n", 0, b"7.4\n8.4\n", b""),
+    (["1", "U8F0", "--skip", "1"], MARK + b"a\n" + MARK + b"7.4\n", 0, MARK + b"a\n" + MARK + b"7\n", b""),
+    (["1", "U8F0", "--skip", "1"], b"x" * 3_000_000 + b"\n7.4\n", 0, b"x" * 3_000_000 + b"\n7\n", b""),
+    # Words of registers, every part, every rounding.
+    (["1", "I8F8", "--from", "bits"], b"0x0180,a\n-256,b\n0b1,c\n", 0, b"1.5,a\n-1,b\n0.004,c\n", b""),
+    (["1-2", "I4F4", "--from", "bits", "--radix", "16"], b"ff,7f\n8_0,zz\n", 1, b"-0.06,7.94\n-8," + DIGIT + b"\n", refused(1, 2, 2, 2, "zz")),
+    (["1", "I8F8", "--print", "readmemh"], b"-1,a\n", 0, b"ff00,a\n", b""),
+    (["1", "I8F8", "--print", "value"], b"0.1,a\n", 0, b"0.1015625,a\n", b""),
+    (["1", "I8F8", "--places", "2"], b"0.1,a\n", 0, b"0.10,a\n", b""),
+    (["1", "I8F8", "I8F0", "--target-mode", "nearest"], b"1.75,a\n", 0, b"2,a\n", b""),
+    (["1", "I8F8", "I8F0", "--target-mode", "ceil"], b"1.25,a\n", 0, b"2,a\n", b""),
+    (["1", "I8F0", "--mode", "floor", "--policy", "saturating"], b"1.75,a\n-1.25,a\n999,a\n", 0, b"1,a\n-2,a\n127,a\n", b""),
+    # As spreadsheets, numpy and Miller write them.
+    (["b", "I16F16", "--header", "--delimiter", ";", "--decimal", ",", "--thousands", ".", "--skip", "1", "--empty", "keep"],
+     MARK + b'sep=;\r\n"a";"b"\r\n"x; y";"1.234,50"\r\n\r\n"z";\r\n', 0, MARK + b'sep=;\r\n"a";"b"\r\n"x; y";1234.5\r\n\r\n"z";\r\n', b""),
+    (["U8F8", "--all"], b"1.500000000000000000e+00,2.500000000000000000e-01\n", 0, b"1.5,0.25\n", b""),
+    (["y", "U8F8", "--header", "--trim"], b"x,y\n1, 2.50\n3,4.0\n", 0, b"x,y\n1,2.5\n3,4\n", b""),
     (["--help"], b"", 0, None, b""),
 )
 # Words after `column` that are refused, and what one line on standard error says of them.
@@ -125,6 +191,13 @@ BAD_WORDS = (
     (["1", "U8F0", "--delimiter", ""], b"'' is not a delimiter"), (["1", "U8F0", "--delimiter", ";;"], b"';;' is not a delimiter"),
     (["1", "U8F0", "--delimiter", "\u00a7"], b"is not a delimiter"), (["1", "U8F0", "--delimiter", '"'], b"is not a delimiter"),
     (["1", "U8F0", "--delimiter", "\n"], b"is not a delimiter"), (["1", "U8F0", "--delimiter"], b"delimiter"),
+    (["1", "U8F0", "--decimal", ""], b"'' is not a decimal"), (["1", "U8F0", "--decimal", "1"], b"'1' is not a decimal"),
+    (["1", "U8F0", "--decimal", ",,"], b"',,' is not a decimal"), (["1", "U8F0", "--decimal", "e"], b"'e' is not a decimal"),
+    (["1", "U8F0", "--thousands", "."], b"'.' does not separate thousands"), (["1", "U8F0", "--thousands", "ab"], b"'ab' does not"),
+    (["1", "U8F0", "--thousands", "-"], b"does not separate"), (["1", "U8F0", "--thousands", ""], b"'' does not separate"),
+    (["1", "U8F0", "--decimal", ",", "--thousands", ","], b"',' does not separate"), (["1", "U8F0", "--empty", "1"], b"1"),
+    (["1", "U8F0", "--skip", "01"], b"'01' is not a count"), (["1", "U8F0", "--skip", "+1"], b"'+1' is not a count"),
+    (["1", "U8F0", "--skip", "-1"], b"-1"), (["1", "U8F0", "--skip", "18446744073709551616"], b"is not a count"),
     (["1", "U8F0", "--keep", "--keep"], b"--keep"), (["1", "U8F0", "--print", "text", "--print", "bits"], b"--print"),
     (["1", "U8F0", "--policy", "saturating", "--policy", "wrapping"], b"--policy"), (["1", "U8F0", "--radix", "7"], b"7"),
     (["1", "U8F0", "--name"], b"--name"),
@@ -179,7 +252,8 @@ class Runs:
             self.one([*under, one, none, two], b"", 3, b"v\n1\nw,v\nx,2\n", one_line(none.encode()))
             self.one([*under, folder, one], b"", 3, b"v\n1\n", one_line(f"fixed: {folder}: a read failed".encode()))
             self.one(["w", *under[1:], one, two], b"", 3, b"w,v\n" + DIGIT + b",2.4\n",
-                     f"fixed: {one}: the header has no such column, records answered: 0\nfixed: {two}: fields refused: 1, the first in record 2\n".encode())
+                     f"fixed: {one}: the header has no column 'w', records answered: 0; it has 'v'\n".encode()
+                     + refused(1, 2, 2, "'w'", "x").replace(b"fixed:", f"fixed: {two}:".encode(), 1))
 
     def devices(self):
         plain = b"1,a\n" * 5_000

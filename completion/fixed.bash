@@ -33,11 +33,12 @@ _fixed() {
       ;;
     --print) words='text bits hex readmemh value all' ;;
     --width | -w) words='8 16 32 64' ;;
-    --limit | --delimiter | -d | --places | --guard) return ;;
+    --empty) words='fault keep 0' ;;
+    --limit | --delimiter | -d | --places | --guard | --skip | --decimal | --thousands) return ;;
     *)
       case $command:$word in
         convert:-*) words='--from --radix --policy --mode --target-mode --print --places --help --version' ;;
-        column:-*) words='--from --radix --policy --mode --target-mode --print --places --delimiter --all --header --keep --help --version' ;;
+        column:-*) words='--from --radix --policy --mode --target-mode --print --places --delimiter --all --header --skip --trim --decimal --thousands --empty --keep --help --version' ;;
         show:-*) words='--radix --policy --mode --file --help --version' ;;
         bits:-*) words='--radix --file --help --version' ;;
         lines:-* | sort:-*) words='--limit --help --version' ;;

@@ -9,3 +9,5 @@ mod RecordLemmas
 mod ReplaceLemmas
 mod UniqueLemmas
 mod EndLemmas
+mod AfterLemmas
+mod SkipLemmas

@@ -6,5 +6,7 @@ pub mod Steps
 pub mod Feeding
 pub mod Begin
 pub mod Run
+pub mod Skip
+pub mod Passing
 pub mod End
 pub mod Laws

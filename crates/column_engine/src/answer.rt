@@ -20,6 +20,8 @@ use std::sync::ledger::Ledger;
 pub struct ColumnTask<'a, A> {
     /// What answers a field.
     pub rule: &'a A,
+    /// How many lines come before the records; they are passed through.
+    pub skipped: u64,
     /// Which columns are asked for.
     pub columns: &'a [Column],
     /// Whether the first record is a header, which is passed through.

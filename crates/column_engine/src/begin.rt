@@ -22,7 +22,7 @@ pub enum Start {
 }
 
 /// Reads the next byte, where there is one.
-fn read_byte<S: Source>(source: &mut S) -> Result<Option<u8>, Failed>
+pub(crate) fn read_byte<S: Source>(source: &mut S) -> Result<Option<u8>, Failed>
     ensures bytes { IfOk result (λ byte. Consumes (S.left source.old) (S.left source.new) (given byte)) }
     ensures end { IfOk result (λ byte. byte ≡ None → IsAtEnd (S.left source.new)) }
     ensures err { OnErr result (Keeps (S.left source.old) (S.left source.new)) }

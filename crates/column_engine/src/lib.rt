@@ -16,6 +16,7 @@ pub mod record_buffer;
 pub mod row;
 pub mod rule;
 pub mod run;
+pub mod skip;
 pub mod watch;
 
 pub use answer::ColumnTask;

@@ -171,7 +171,7 @@ fn first_place(body: &[u8]) -> Place
 }
 
 /// How many bytes the first field of a record has.
-pub(crate) fn field_end(delimiter: u8, body: &[u8]) -> usize
+pub fn field_end(delimiter: u8, body: &[u8]) -> usize
     ensures within { result ≤ length body.now }
     ensures last { result ≡ length body.now → raw_fields delimiter Place.Start body.now ≡ body.now ∷ [] }
     ensures more { result < length body.now

@@ -8,6 +8,7 @@ ghost use Rattle.column_engine.specs.Answers.{State};
 ghost use Rattle.column_engine.specs.Feeding.{FeedsRows, IsLeft, IsStanding};
 ghost use Rattle.column_engine.specs.Run.{HasFailures, HasRun, RunsOn, RunsText, StopsText, Writes, counts_of};
 ghost use Rattle.column_engine.specs.Run.{first_range, first_state};
+ghost use Rattle.column_engine.specs.Skip.{HasRunAfter};
 ghost use Rattle.column_engine.specs.Steps.{HasRisen, RisesOnly, SameCounts, state_of};
 ghost use Rattle.column_engine.specs.declared.end.Stop.{Stop};
 
@@ -21,6 +22,7 @@ use crate::place::Place;
 use crate::record_buffer::RecordBuffer;
 use crate::row::{Progress, answer_row};
 use crate::rule::FieldRule;
+use crate::skip::pass_lines;
 use fixed_steps::Steps;
 use line_engine::{Output, Sink, Source, write_whole};
 use std::alloc::{AllocError, Global};
@@ -212,6 +214,31 @@ fn answer_text<A: FieldRule<L>, S: Source, K: Sink, L: Ledger>(
     Stop::TooLong
 }
 
+/// Passes the lines before the records through, and then reads the text to its end and has its records answered.
+fn answer_after_lines<A: FieldRule<L>, S: Source, K: Sink, L: Ledger>(
+    task: &ColumnTask<'_, A>,
+    cutter: &mut Cutter,
+    work: &mut Work,
+    source: &mut S,
+    sink: &mut K,
+    steps: &mut Steps<L>,
+) -> Stop
+    requires kept { cutter.old.kept ≡ [] }
+    requires place { cutter.old.place ≡ Place.Start }
+    requires as_many { length cutter.old.progress.asked.items ≡ length task.now.columns.now }
+    requires empty { work.old.out ≡ [] }
+    ensures run { HasRunAfter task.now.skipped result (A.Answers task.now.rule.now) task.now.is_kept task.now.delimiter
+        task.now.columns.now (state_of cutter.old.progress) (state_of cutter.new.progress) (S.left source.old) (S.left
+        source.new) (K.written sink.old) (K.written sink.new) }
+    ensures failures { HasFailures (S.failures source.old) (S.failures source.new) (K.failures sink.old) (K.failures
+        sink.new) result }
+{
+    if let Err(stop) = pass_lines(task.skipped, &mut work.out, source, sink) {
+        return stop;
+    }
+    answer_text(task, cutter, work, source, sink, steps)
+}
+
 /// The columns that a word means without a header; a name that is no number means the first one, until a header is
 /// read.
 fn first_range(column: &Column) -> Range
@@ -292,8 +319,8 @@ fn end_of(stop: Stop, progress: &Progress) -> ColumnEnd
     }
 }
 
-/// Has columns of a text answered by a rule, and writes the text with these fields replaced to a sink. Every other
-/// byte stays as it was:
+/// Has columns of a text answered by a rule, and writes the text with these fields replaced to a sink. Lines before its
+/// records are passed through. Every other byte stays as it was:
 /// a byte order mark, quotes, blank lines, the ends of lines.
 ///
 /// It takes memory for three records of 1,048,576 bytes and for a range of columns for each word, and ends with
@@ -311,8 +338,8 @@ pub fn run_column<A: FieldRule<L>, S: Source, K: Sink, L: Ledger>(
     steps: &mut Steps<L>,
 ) -> ColumnEnd
     // What was taken and what was written, by how the run ended.
-    ensures run { (result.stop ≡ Stop.NoMemory) ⊎ HasRun result.stop (A.Answers task.now.rule.now) task.now.is_kept
-        task.now.delimiter task.now.columns.now
+    ensures run { (result.stop ≡ Stop.NoMemory) ⊎ HasRunAfter task.now.skipped result.stop (A.Answers task.now.rule.now)
+        task.now.is_kept task.now.delimiter task.now.columns.now
         (first_state task.now.has_header task.now.columns.now) (counts_of result) (S.left source.old) (S.left
         source.new) (K.written sink.old) (K.written sink.new) }
 
@@ -325,7 +352,7 @@ pub fn run_column<A: FieldRule<L>, S: Source, K: Sink, L: Ledger>(
 {
     match (begin_cutter(alloc, task), begin_work(alloc)) {
         (Ok(mut cutter), Ok(mut work)) => {
-            let stop = answer_text(task, &mut cutter, &mut work, source, sink, steps);
+            let stop = answer_after_lines(task, &mut cutter, &mut work, source, sink, steps);
             end_of(stop, &cutter.progress)
         }
         _ => ColumnEnd {

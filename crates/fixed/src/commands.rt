@@ -2,6 +2,7 @@
 
 pub mod bits;
 pub mod column;
+pub mod column_report;
 pub mod constants;
 pub mod convert;
 pub mod enclose;

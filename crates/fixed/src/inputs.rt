@@ -1,6 +1,7 @@
 //! What is done with each input, one after another.
 
-use crate::commands::{column, fit};
+use crate::commands::{column_report, fit};
+use column_engine::ColumnWatch;
 use command_line::device::{Failure, Unmarked, Writer};
 use command_line::report::{Report, push_words, report_end};
 use fixed_command::{
@@ -23,7 +24,7 @@ pub enum Job<'a> {
     /// It is answered.
     Task(Task<'a>),
     /// Columns of it are converted.
-    Column(ColumnConversion),
+    Column(ColumnConversion<'a>),
     /// The finest format is found that its numerals fit.
     Fit(FitQuestion),
 }
@@ -85,7 +86,7 @@ fn run_task_on<R: Read + Drop, L: Ledger>(
 /// Converts columns of one input, and says on standard error why it did not end well.
 fn run_column_on<R: Read + Drop, L: Ledger>(
     rt: &HostRuntime,
-    conversion: &ColumnConversion,
+    conversion: &ColumnConversion<'_>,
     file: Option<&str>,
     reader: R,
     steps: &mut Steps<L>,
@@ -96,8 +97,16 @@ fn run_column_on<R: Read + Drop, L: Ledger>(
         writer: rt.stdout(),
         failure: &failure,
     });
-    let end = convert_column(rt.alloc(), conversion, &mut source, &mut sink, steps);
-    column::report_end(rt, file, &end, &failure);
+    let watch = ColumnWatch::new(conversion.skipped.saturating_add(1));
+    let end = convert_column(
+        rt.alloc(),
+        conversion,
+        &watch,
+        &mut source,
+        &mut sink,
+        steps,
+    );
+    column_report::report_end(rt, file, conversion, &watch, &end, &failure, steps);
     end.status()
 }
 

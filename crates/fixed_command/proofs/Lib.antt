@@ -1,4 +1,5 @@
 mod AskingLemmas
 mod BlockLemmas
+mod FieldLemmas
 mod RefusedLemmas
 mod WordLemmas

@@ -1,6 +1,7 @@
 pub mod Asked
 pub mod Blocks
 pub mod Convert
+pub mod Fields
 pub mod Hex
 pub mod Inner
 pub mod Laws

@@ -1,12 +1,14 @@
 //! Columns of a CSV text converted; every other byte stays as it was.
 
 ghost use Rattle.std.specs.Prelude.{◌≡◌, ◌⊎◌, List, ℕ};
-ghost use Rattle.column_engine.specs.Run.{HasFailures, HasRun, counts_of, first_state};
+ghost use Rattle.column_engine.specs.Run.{HasFailures, counts_of, first_state};
+ghost use Rattle.column_engine.specs.Skip.{HasRunAfter};
 ghost use Rattle.column_engine.specs.declared.end.Stop.{Stop};
-ghost use Rattle.fixed_command.specs.Convert.{IsLineReply};
+ghost use Rattle.fixed_command.specs.Fields.{IsFieldReply};
 
 use crate::ConvertRule;
-use column_engine::{Column, ColumnEnd, ColumnTask, Stop, run_column};
+use crate::field::{FieldForm, FieldNumerals};
+use column_engine::{Column, ColumnEnd, ColumnTask, ColumnWatch, Stop, run_column};
 use fixed_steps::Steps;
 use line_engine::{Sink, Source};
 use std::alloc::Global;
@@ -14,9 +16,13 @@ use std::sync::ledger::Ledger;
 
 /// The conversion of columns of a text.
 #[derive(Drop)]
-pub struct ColumnConversion {
-    /// How a field is converted.
+pub struct ColumnConversion<'a> {
+    /// How the numeral of a field is converted.
     pub rule: ConvertRule,
+    /// How a field spells it.
+    pub form: FieldForm<'a>,
+    /// How many lines come before the records; they are passed through.
+    pub skipped: u64,
     /// Which fields of a record.
     pub columns: Vec<Column>,
     /// Whether the first record is a header, which is passed through.
@@ -28,19 +34,22 @@ pub struct ColumnConversion {
 }
 
 /// Converts columns of the records of a text, and says how they ended. A field is answered as `run_convert` answers the
-/// line that it is, and every other byte of the text is written as it was.
+/// line that its numeral is, and every other byte of the text is written as it was. What there is to report of the
+/// fields that are refused is kept in the watch.
 pub fn convert_column<S: Source, K: Sink, L: Ledger>(
     alloc: Global,
-    conversion: &ColumnConversion,
+    conversion: &ColumnConversion<'_>,
+    watch: &ColumnWatch,
     source: &mut S,
     sink: &mut K,
     steps: &mut Steps<L>,
 ) -> ColumnEnd
     // What was taken and what was written, by how the run ended.
     ensures run { (result.stop ≡ Stop.NoMemory)
-        ⊎ HasRun result.stop (IsLineReply conversion.now.rule) conversion.now.is_kept conversion.now.delimiter
-        conversion.now.columns.items (first_state conversion.now.has_header conversion.now.columns.items)
-        (counts_of result) (S.left source.old) (S.left source.new) (K.written sink.old) (K.written sink.new) }
+        ⊎ HasRunAfter conversion.now.skipped result.stop (IsFieldReply conversion.now.form conversion.now.rule)
+        conversion.now.is_kept conversion.now.delimiter conversion.now.columns.items
+        (first_state conversion.now.has_header conversion.now.columns.items) (counts_of result)
+        (S.left source.old) (S.left source.new) (K.written sink.old) (K.written sink.new) }
 
     // Which count of failures rose.
     ensures failures { HasFailures (S.failures source.old) (S.failures source.new) (K.failures sink.old)
@@ -49,12 +58,18 @@ pub fn convert_column<S: Source, K: Sink, L: Ledger>(
     // Where there was no memory, nothing was read or written.
     ensures memory { result.stop ≡ Stop.NoMemory → (source.new ≡ source.old) × (sink.new ≡ sink.old) }
 {
-    let task = ColumnTask {
+    let rule = FieldNumerals {
         rule: &conversion.rule,
+        form: &conversion.form,
+    };
+    let task = ColumnTask {
+        rule: &rule,
+        skipped: conversion.skipped,
         columns: &conversion.columns,
         has_header: conversion.has_header,
         is_kept: conversion.is_kept,
         delimiter: conversion.delimiter,
+        watch,
     };
     run_column(alloc, &task, source, sink, steps)
 }

@@ -34,7 +34,7 @@ fn is_invalid<L: Ledger>(text: &[u8], settings: &Settings, steps: &mut Steps<L>)
 }
 
 /// The place, from 1, of the first byte that is in no numeral, or in no word, there. 0 where there is none.
-fn refused_place<L: Ledger>(text: &[u8], settings: &Settings, steps: &mut Steps<L>) -> usize {
+pub(crate) fn refused_place<L: Ledger>(text: &[u8], settings: &Settings, steps: &mut Steps<L>) -> usize {
     for end in 1..=text.len() {
         if is_invalid(text.get(..end).unwrap_or(&[]), settings, steps) {
             return end;
@@ -54,7 +54,7 @@ fn push_number(out: &mut TextBuffer<MAX_EXPLANATION>, bits: i128, frac: u32)
 }
 
 /// Appends bytes where there is room for them.
-fn push_text(out: &mut TextBuffer<MAX_EXPLANATION>, text: &[u8]) {
+pub(crate) fn push_text(out: &mut TextBuffer<MAX_EXPLANATION>, text: &[u8]) {
     if out.room() >= text.len() {
         out.push_bytes(text);
     }
@@ -110,7 +110,7 @@ pub fn explanation<L: Ledger>(
 }
 
 /// Appends what the formats hold.
-fn push_ranges(out: &mut TextBuffer<MAX_EXPLANATION>, settings: &Settings) {
+pub(crate) fn push_ranges(out: &mut TextBuffer<MAX_EXPLANATION>, settings: &Settings) {
     push_text(out, b", ");
     push_range(out, settings.source);
     if settings.target != settings.source {

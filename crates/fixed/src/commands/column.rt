@@ -3,12 +3,10 @@
 use crate::inputs::{Job, run_inputs};
 use crate::options::{FROM, MODE, PLACES, POLICY, PRINT, RADIX, SOURCE, TARGET, TARGET_MODE};
 use crate::settings::conversion;
-use column_engine::{Column, ColumnEnd, Range, Stop};
-use command_line::device::Failure;
+use column_engine::{Column, Range};
 use command_line::given::{Asked, Given, Refusal};
 use command_line::page::{Operand, Page, Row};
-use command_line::report::{Report, is_broken_pipe, push_words};
-use fixed_command::ColumnConversion;
+use fixed_command::{ColumnConversion, Empty, FieldForm};
 use fixed_steps::Steps;
 use line_engine::Status;
 use std::alloc::{AllocError, Global};
@@ -51,6 +49,46 @@ const KEEP: Row = Row {
     help: "A field that is refused stays as it was",
 };
 
+const SKIP: Row = Row {
+    name: "skip",
+    letter: None,
+    value: "N",
+    choices: &[],
+    help: "The first N lines come before the records, and stay",
+};
+
+const TRIM: Row = Row {
+    name: "trim",
+    letter: None,
+    value: "",
+    choices: &[],
+    help: "Blanks around a field are no part of it",
+};
+
+const DECIMAL: Row = Row {
+    name: "decimal",
+    letter: None,
+    value: "C",
+    choices: &[],
+    help: "The byte before a fraction: a point (default)",
+};
+
+const THOUSANDS: Row = Row {
+    name: "thousands",
+    letter: None,
+    value: "C",
+    choices: &[],
+    help: "What separates thousands: it is not read",
+};
+
+const EMPTY: Row = Row {
+    name: "empty",
+    letter: None,
+    value: "WHAT",
+    choices: &["fault", "keep", "0"],
+    help: "An empty field: fault (default), keep, or 0",
+};
+
 pub fn page() -> Page {
     Page {
         name: "column",
@@ -70,6 +108,11 @@ pub fn page() -> Page {
             DELIMITER,
             ALL,
             HEADER,
+            SKIP,
+            TRIM,
+            DECIMAL,
+            THOUSANDS,
+            EMPTY,
             KEEP,
         ],
         end: "A format is I (signed) or U (unsigned), its whole bits, F and its fraction bits,\n\
@@ -92,6 +135,74 @@ fn delimiter_of<'a>(given: &Given<'_, 'a>) -> Asked<'a, u8> {
         b"tab" | b"\\t" => Ok(b'\t'),
         _ => Err(Refusal::Word(word, "is not a delimiter: it is one byte, or tab")),
     }
+}
+
+/// How many lines come before the records: a number in decimal, without a sign or a leading zero.
+fn skipped_of<'a>(given: &Given<'_, 'a>) -> Asked<'a, u64> {
+    let word = given.value(&SKIP).unwrap_or("0");
+    let is_plain = word == "0" || !word.starts_with('0') && !word.starts_with('+');
+    match word.parse::<u64>() {
+        Ok(count) if is_plain => Ok(count),
+        _ => Err(Refusal::Word(word, "is not a count of lines: it is a number from 0")),
+    }
+}
+
+/// The byte before a fraction that the option names: none that a numeral has.
+fn decimal_of<'a>(given: &Given<'_, 'a>) -> Asked<'a, u8> {
+    let word = given.value(&DECIMAL).unwrap_or(".");
+    match word.as_bytes() {
+        [decimal] if is_separator(*decimal) && !decimal.is_ascii_whitespace() => Ok(*decimal),
+        _ => Err(Refusal::Word(
+            word,
+            "is not a decimal separator: it is one byte, no letter, digit, blank or sign",
+        )),
+    }
+}
+
+/// Whether a byte is in no numeral, or a point.
+fn is_separator(byte: u8) -> bool {
+    !byte.is_ascii_alphanumeric() && !matches!(byte, b'+' | b'-' | b'@')
+}
+
+/// The bytes that separate thousands: those of the character that the option names.
+fn thousands_of<'a>(given: &Given<'_, 'a>, decimal: u8) -> Asked<'a, &'a [u8]> {
+    let word = match given.value(&THOUSANDS) {
+        Some(word) => word,
+        None => return Ok(&[]),
+    };
+    if word.chars().count() != 1 || !word.bytes().all(is_separator) {
+        return Err(Refusal::Word(
+            word,
+            "does not separate thousands: it is one character, no letter, digit or sign",
+        ));
+    }
+    if word.bytes().any(|byte| byte == decimal) {
+        return Err(Refusal::Word(
+            word,
+            "does not separate thousands: it comes before a fraction; see --decimal",
+        ));
+    }
+    Ok(word.as_bytes())
+}
+
+/// How a field spells a numeral, as the options say.
+fn form_of<'a>(given: &Given<'_, 'a>) -> Asked<'a, FieldForm<'a>> {
+    let decimal = decimal_of(given)?;
+    let thousands = match thousands_of(given, decimal) {
+        Ok(thousands) => thousands,
+        Err(refusal) => return Err(refusal),
+    };
+    let empty = match given.value(&EMPTY) {
+        Some("keep") => Empty::Kept,
+        Some("0") => Empty::Zero,
+        _ => Empty::Refused,
+    };
+    Ok(FieldForm {
+        is_trimmed: given.has(&TRIM),
+        decimal,
+        thousands,
+        empty,
+    })
 }
 
 /// The place that a word numbers, from 0, where it is the number of a column.
@@ -162,65 +273,18 @@ pub fn run<'a, L: Ledger>(
 ) -> Asked<'a, Status> {
     let (columns, source) = columns_of(rt.alloc(), given)?;
     let (rule, files) = conversion(given, source)?;
+    let form = match form_of(given) {
+        Ok(form) => form,
+        Err(refusal) => return Err(refusal),
+    };
     let job = Job::Column(ColumnConversion {
         rule,
+        form,
+        skipped: skipped_of(given)?,
         columns,
         has_header: given.has(&HEADER),
         is_kept: given.has(&KEEP),
         delimiter: delimiter_of(given)?,
     });
     Ok(run_inputs(rt, &job, given.from(files), steps))
-}
-
-/// Appends why the records of a text ended before its end.
-fn push_stop(report: &mut Report, end: &ColumnEnd) {
-    match end.stop {
-        Stop::Done => (),
-        Stop::ReadFault => report.text("a read failed"),
-        Stop::WriteFault => report.text("a write failed"),
-        Stop::NoMemory => report.text("there is no memory"),
-        Stop::NoName => report.text("the header has no such column"),
-        Stop::TooLong | Stop::Unclosed | Stop::NoColumn(_) => {
-            report.text("record ");
-            report.number(end.answered.saturating_add(1));
-            push_record_fault(report, end);
-        }
-    }
-}
-
-/// Appends what is wrong with the record at which a text ended.
-fn push_record_fault(report: &mut Report, end: &ColumnEnd) {
-    match end.stop {
-        Stop::TooLong => report.text(" is longer than 1048576 bytes"),
-        Stop::Unclosed => report.text(" has a quote that is never closed"),
-        Stop::NoColumn(count) => {
-            report.text(" has no such column, its fields: ");
-            report.number(count as u64);
-        }
-        _ => (),
-    }
-}
-
-/// Says on standard error how many fields of a file were refused, and why its records ended before its end.
-pub fn report_end(rt: &HostRuntime, file: Option<&str>, end: &ColumnEnd, failure: &Failure) {
-    let error = failure.take();
-    if end.refused > 0 {
-        let mut report = Report::of(file);
-        report.text("fields refused: ");
-        report.number(end.refused);
-        report.text(", the first in record ");
-        report.number(end.first);
-        report.send(rt);
-    }
-    if end.stop != Stop::Done && !is_broken_pipe(&error) {
-        let mut report = Report::of(file);
-        push_stop(&mut report, end);
-        if let Some(error) = &error {
-            report.text(": ");
-            push_words(&mut report, rt.alloc(), error);
-        }
-        report.text(", records answered: ");
-        report.number(end.answered);
-        report.send(rt);
-    }
 }

@@ -1,0 +1,230 @@
+//! What `fixed column` says on standard error of an input.
+
+use column_engine::place::field_end;
+use column_engine::{Column, ColumnEnd, ColumnWatch, RefusedField, Stop};
+use command_line::device::Failure;
+use command_line::report::{Report, is_broken_pipe, push_words};
+use fixed_command::{ColumnConversion, field_explanation};
+use fixed_steps::Steps;
+use std::sync::ledger::Ledger;
+
+/// How many characters of a field, or of a name, a report has.
+const MAX_TEXT: usize = 40;
+
+/// How many bytes of a header are known at most: the last of that many may be within a name.
+const MAX_HEADER: usize = 4096;
+
+/// The names of a header that are known.
+#[derive(Drop)]
+struct Names<'h> {
+    delimiter: u8,
+    rest: Option<&'h [u8]>,
+    is_cut: bool,
+}
+
+impl<'h> Names<'h> {
+    /// The names of these bytes of a header.
+    fn new(delimiter: u8, header: &'h [u8]) -> Names<'h> {
+        Names {
+            delimiter,
+            rest: Some(header),
+            is_cut: header.len() >= MAX_HEADER,
+        }
+    }
+
+    /// The next name, without the quotes around it. None where no more is known.
+    fn next_name(&mut self) -> Option<&'h [u8]> {
+        let rest = self.rest?;
+        let end = field_end(self.delimiter, rest);
+        self.rest = rest.get(end.saturating_add(1)..);
+        if self.rest.is_none() && self.is_cut {
+            return None;
+        }
+        let name = rest.get(..end).unwrap_or(&[]);
+        match name {
+            [b'"', inner @ .., b'"'] => Some(inner),
+            _ => Some(name),
+        }
+    }
+}
+
+/// Appends a text between quotes, cut where it is long. A newline in it is shown like any control character.
+fn push_quoted(report: &mut Report, text: &[u8]) {
+    report.text("'");
+    let mut left = MAX_TEXT;
+    for byte in text {
+        let is_begun = *byte & 0xc0 == 0x80;
+        if left == 0 && !is_begun {
+            break;
+        }
+        if !is_begun {
+            left = left.saturating_sub(1);
+        }
+        report.bytes(&[if *byte == b'\n' { b'?' } else { *byte }], 1);
+    }
+    report.text("'");
+}
+
+/// Appends a column: its name where it is known, and else its number.
+fn push_column(report: &mut Report, column: usize, delimiter: u8, header: Option<&[u8]>) {
+    if let Some(header) = header {
+        let mut names = Names::new(delimiter, header);
+        for _ in 0..column {
+            if names.next_name().is_none() {
+                break;
+            }
+        }
+        if let Some(name) = names.next_name() {
+            push_quoted(report, name);
+            return;
+        }
+    }
+    report.number((column as u64).saturating_add(1));
+}
+
+/// Appends which field was refused first, its text and the cause.
+fn push_first<L: Ledger>(
+    report: &mut Report,
+    conversion: &ColumnConversion<'_>,
+    field: &RefusedField,
+    header: Option<&[u8]>,
+    steps: &mut Steps<L>,
+) {
+    let text = field.text.as_bytes();
+    let reply = field.reply.as_bytes();
+    let cause = reply.strip_prefix(b"error: ").unwrap_or(reply);
+    report.text(", line ");
+    report.number(field.line);
+    report.text(", column ");
+    push_column(report, field.column, conversion.delimiter, header);
+    report.text(", ");
+    push_quoted(report, text);
+    report.text(": ");
+    report.bytes(cause, 160);
+    let more = field_explanation(
+        &conversion.rule,
+        &conversion.form,
+        text,
+        cause,
+        steps,
+    );
+    report.bytes(more.as_bytes(), 640);
+}
+
+/// Appends the name that a header lacks.
+fn push_missing(report: &mut Report, columns: &[Column], word: usize) {
+    report.text("the header has no column ");
+    match columns.get(word) {
+        Some(Column::Named(name, _)) => push_quoted(report, name.as_bytes()),
+        _ => report.number(word as u64),
+    }
+}
+
+/// Appends the names that a header has.
+fn push_names(report: &mut Report, delimiter: u8, header: &[u8]) {
+    let mut names = Names::new(delimiter, header);
+    report.text("; it has");
+    let mut mark = " ";
+    for _ in 0..MAX_HEADER {
+        match names.next_name() {
+            Some(name) => {
+                report.text(mark);
+                push_quoted(report, name);
+                mark = ", ";
+            }
+            None => break,
+        }
+    }
+    if names.is_cut {
+        report.text(" and more");
+    }
+}
+
+/// Appends why the records of a text ended before its end.
+fn push_stop(report: &mut Report, columns: &[Column], watch: &ColumnWatch, end: &ColumnEnd) {
+    match end.stop {
+        Stop::Done => (),
+        Stop::ReadFault => report.text("a read failed"),
+        Stop::WriteFault => report.text("a write failed"),
+        Stop::NoMemory => report.text("there is no memory"),
+        Stop::NoName => push_missing(report, columns, watch.word()),
+        Stop::TooLong | Stop::Unclosed | Stop::NoColumn(_) => {
+            report.text("record ");
+            report.number(end.answered.saturating_add(1));
+            push_record_fault(report, end);
+        }
+    }
+}
+
+/// Appends what is wrong with the record at which a text ended.
+fn push_record_fault(report: &mut Report, end: &ColumnEnd) {
+    match end.stop {
+        Stop::TooLong => report.text(" is longer than 1048576 bytes"),
+        Stop::Unclosed => report.text(" has a quote that is never closed"),
+        Stop::NoColumn(count) => {
+            report.text(" has no such column, its fields: ");
+            report.number(count as u64);
+        }
+        _ => (),
+    }
+}
+
+/// Says on standard error how many fields of a file were refused, and which was the first. Where a write failed it says
+/// nothing, since not all that was answered was written.
+fn report_refused<L: Ledger>(
+    rt: &HostRuntime,
+    file: Option<&str>,
+    conversion: &ColumnConversion<'_>,
+    watch: &ColumnWatch,
+    header: Option<&[u8]>,
+    end: &ColumnEnd,
+    steps: &mut Steps<L>,
+) {
+    if end.refused == 0 || end.stop == Stop::WriteFault {
+        return;
+    }
+    let mut report = Report::of(file);
+    report.text("fields refused: ");
+    report.number(end.refused);
+    report.text(", the first in record ");
+    report.number(end.first);
+    if let Some(field) = watch.first() {
+        push_first(&mut report, conversion, &field, header, steps);
+    }
+    report.send(rt);
+}
+
+/// Says on standard error how many fields of a file were refused, which was the first, and why its records ended before
+/// its end.
+pub fn report_end<L: Ledger>(
+    rt: &HostRuntime,
+    file: Option<&str>,
+    conversion: &ColumnConversion<'_>,
+    watch: &ColumnWatch,
+    end: &ColumnEnd,
+    failure: &Failure,
+    steps: &mut Steps<L>,
+) {
+    let error = failure.take();
+    let kept = watch.header();
+    let header = match &kept {
+        Some(header) => Some(header.as_bytes()),
+        None => None,
+    };
+    report_refused(rt, file, conversion, watch, header, end, steps);
+    if end.stop == Stop::Done || is_broken_pipe(&error) {
+        return;
+    }
+    let mut report = Report::of(file);
+    push_stop(&mut report, &conversion.columns, watch, end);
+    if let Some(error) = &error {
+        report.text(": ");
+        push_words(&mut report, rt.alloc(), error);
+    }
+    report.text(", records answered: ");
+    report.number(end.answered);
+    if let (Stop::NoName, Some(header)) = (end.stop, header) {
+        push_names(&mut report, conversion.delimiter, header);
+    }
+    report.send(rt);
+}

@@ -1,0 +1,51 @@
+-- What is written for a field that is converted, as people spell fields.
+use Rattle.std.specs.Prelude.{◌≡◌, ◌==◌, ◌-◌, ℕ, List, [], ◌∷◌, Bool, true, false, drop, flat_map, if◌then◌else◌}
+use Rattle.std.specs.Prelude.{length, take}
+use Rattle.std.specs.Char.{is_ascii_whitespace}
+use Rattle.std.specs.List.{list_any, prefix_len, suffix_len}
+use Rattle.line_engine.specs.AnswerText.{AnswerText}
+use Rattle.fixed_command.specs.Convert.{IsLineReply}
+use Rattle.fixed_command.specs.declared.convert.Settings.{Settings}
+use Rattle.fixed_command.specs.declared.field.Empty.{Empty}
+use Rattle.fixed_command.specs.declared.field.Empty.TheVariants.{Kept, Refused, Zero}
+use Rattle.fixed_command.specs.declared.field.FieldForm.{FieldForm}
+
+-- the bytes after the blanks at the beginning: ASCII's white space
+abbrev pub after_blanks : List ℕ → List ℕ
+after_blanks bytes = drop (prefix_len is_ascii_whitespace bytes) bytes
+
+-- without those at the end as well
+abbrev pub trimmed : List ℕ → List ℕ
+trimmed bytes = take (length (after_blanks bytes) - suffix_len is_ascii_whitespace (after_blanks bytes))
+    (after_blanks bytes)
+
+-- a field without the blanks around it, where they are passed over
+abbrev pub bare : FieldForm → List ℕ → List ℕ
+bare form field = if form.is_trimmed then trimmed field else field
+
+-- a byte of a field as it is read: the byte before a fraction and the point change places
+abbrev pub swapped : ℕ → ℕ → ℕ
+swapped decimal byte = if byte == decimal then 46 else (if byte == 46 then decimal else byte)
+
+-- what is read for a byte of a field: nothing for one that separates thousands
+abbrev pub read_for : List ℕ → ℕ → ℕ → List ℕ
+read_for thousands decimal byte = if list_any (λ b. b == byte) thousands then [] else swapped decimal byte ∷ []
+
+-- the numeral, or the word, of a field
+abbrev pub field_numeral : FieldForm → List ℕ → List ℕ
+field_numeral form field = flat_map (read_for form.thousands.now form.decimal) (bare form field)
+
+-- the reply to a field without a byte: none, which leaves it as it was; that to an empty line; or that to a zero
+abbrev pub IsEmptyReply : Empty → Settings → AnswerText → Type 0
+IsEmptyReply Kept s reply = reply ≡ record { text = []; fault = false }
+IsEmptyReply Refused s reply = IsLineReply s [] reply
+IsEmptyReply Zero s reply = IsLineReply s (48 ∷ []) reply
+
+-- the reply to a field that is empty or not
+abbrev pub IsFieldReplyBy : Bool → FieldForm → Settings → List ℕ → AnswerText → Type 0
+IsFieldReplyBy true form s field reply = IsEmptyReply form.empty s reply
+IsFieldReplyBy false form s field reply = IsLineReply s (field_numeral form field) reply
+
+-- the reply to a field: that to the line that its numeral is
+abbrev pub IsFieldReply : FieldForm → Settings → List ℕ → AnswerText → Type 0
+IsFieldReply form s field reply = IsFieldReplyBy (length (bare form field) == 0) form s field reply
