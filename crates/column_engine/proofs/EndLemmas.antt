@@ -1,15 +1,14 @@
 -- How a run ended is determined by what was taken and by the counts of failures.
-use Rattle.std.proofs.Common.{◌≡◌, ◌<◌, ◌≤◌, ◌+◌, ◌-◌, ◌^◌, ℕ, zero, suc, List, [], ◌∷◌, ◌++◌, Bool, true, false, refl, sym, ap, ◌∙◌, subst, append_assoc, append-nil, arith, length, length-append, take, inl, inr, ◌⊎◌, ⊎_elim}
+use Rattle.std.proofs.Common.{◌≡◌, ◌<◌, ◌≤◌, ◌+◌, ◌-◌, ◌^◌, ℕ, zero, suc, List, [], ◌∷◌, ◌++◌, Bool, true, false, refl, sym, ap, ◌∙◌, subst, append_assoc, arith, length, length-append, take, inl, inr, ◌⊎◌, ⊎_elim}
 use Rattle.std.proofs.lemmas.Bool.{false≢true}
-use Rattle.std.specs.Prelude.{◌≢◌, ⊤, Option, Some, None, string_bytes}
+use Rattle.std.specs.Prelude.{◌≢◌, ⊤, Option, Some, string_bytes}
 use Rattle.csv.specs.Reading.{strip_bom}
 use Rattle.line_engine.specs.AnswerText.{AnswerText}
 use Rattle.line_engine.specs.Failures.{HasFailed}
-use Rattle.column_engine.specs.Answers.{AnswersFields, AnswersRow, AnswersRows, AnyMissing, AreFound, HasNoNamed, IsFirstNamed, IsFound, IsMissing, PassesHeader, State, needed}
+use Rattle.column_engine.specs.Answers.{AnswersFields, AnswersRow, AnswersRows, AnyMissing, AreFound, IsFound, IsMissing, PassesHeader, State, needed}
 use Rattle.column_engine.specs.Feeding.{IsTooLong}
-use Rattle.column_engine.specs.Laws.{RunEndIsTheOne}
-use Rattle.column_engine.specs.Rows.{AreEnded, IsEnded, IsLast, IsUnended, Row, ends_record, field_texts, place_after, places_after, raw_fields, row_text, rows_text}
-use Rattle.column_engine.specs.Run.{AnswersLast, Ends, HasFailures, HasRun, IsEndless, IsNext, RefusesNext, RunsText, StopsText}
+use Rattle.column_engine.specs.Rows.{AreEnded, IsEnded, IsUnended, Row, ends_record, field_texts, place_after, places_after, raw_fields, row_text, rows_text}
+use Rattle.column_engine.specs.Run.{AnswersLast, Ends, HasFailures, HasRun, IsEndless, IsNext, RefusesNext, RunsText}
 use Rattle.column_engine.specs.Steps.{IsRecord, IsUnanswered, LacksColumn}
 use Rattle.column_engine.specs.declared.columns.Column.{Column}
 use Rattle.column_engine.specs.declared.columns.Column.TheVariants.{At, Named}
@@ -20,7 +19,7 @@ use Rattle.column_engine.specs.declared.place.Place.{Place}
 use Rattle.column_engine.specs.declared.place.Place.TheVariants.{Quoted, Start}
 use Rattle.column_engine.specs.declared.record_buffer.TheConstants.{MAX_RECORD}
 use Rattle.column_engine.specs.declared.run.TheConstants.{MAX_TEXT}
-use Rattle.column_engine.proofs.UniqueLemmas.{all_found_one, first_row_one, last_unended, named_none, right_cancel, row_is, row_one, unended_none, unended_row}
+use Rattle.column_engine.proofs.UniqueLemmas.{all_found_one, first_row_one, last_unended, named_none, right_cancel, row_is, row_one, unended_row}
 
 -- ---- failures
 not_failed : (n m : ℕ) → n < 2 ^ 64 - 1 → m ≡ n → HasFailed n m → ⊥
@@ -36,6 +35,14 @@ IsCalm TooLong = ⊤
 IsCalm Unclosed = ⊤
 IsCalm (NoColumn count) = ⊤
 IsCalm NoName = ⊤
+
+pub never_read : IsCalm ReadFault → ⊥
+unfolding IsCalm
+never_read calm = calm
+
+pub never_write : IsCalm WriteFault → ⊥
+unfolding IsCalm
+never_write calm = calm
 
 calm_same : (read read' write write' : ℕ) (stop : Stop) → IsCalm stop → HasFailures read read' write write' stop → (read' ≡ read) × (write' ≡ write)
 unfolding IsCalm
@@ -295,7 +302,7 @@ module _ (A : List ℕ → AnswerText → Type 0) (one : (field : List ℕ) (a b
   not_endless stop s u input left written written' short endless =
       absurd (omega (arith, short, endless.many, ap length endless.so_far.taken, length-append endless.so_far.bytes left))
 
-  calm_one : (stop other : Stop) (s u v : State) (input left before a b : List ℕ) → length input < MAX_TEXT → IsCalm stop → IsCalm other
+  pub calm_one : (stop other : Stop) (s u v : State) (input left before a b : List ℕ) → length input < MAX_TEXT → IsCalm stop → IsCalm other
       → HasRun stop A keeps d columns s u (Some input) (Some left) (Some before) (Some a) → HasRun other A keeps d columns s v (Some input) (Some left) (Some before) (Some b) → stop ≡ other
   calm_one stop other s u v input left before a b short calm calm' (inl first) (inl next) = texts_one stop other s u v input left before a b calm calm' first next
   calm_one stop other s u v input left before a b short calm calm' (inl first) (inr next) = absurd (not_endless other s v input left (Some before) (Some b) short next)
@@ -320,8 +327,9 @@ module _ (read read' write write' : ℕ) (can_read : read < 2 ^ 64 - 1) (can_wri
       others)
       (kinds other found)
 
-pub run_end_is_the_one : (A : List ℕ → AnswerText → Type 0) → ((field : List ℕ) (a b : AnswerText) → A field a → A field b → a ≡ b) → RunEndIsTheOne A
-run_end_is_the_one A one keeps d columns s u v input left before a b read read' write write' stop other short can_read can_write found found' first f next g = ⊎_elim
+pub ends_by_failures : (read read' write write' : ℕ) → read < 2 ^ 64 - 1 → write < 2 ^ 64 - 1 → (stop other : Stop) → stop ≢ NoMemory → other ≢ NoMemory
+    → HasFailures read read' write write' stop → HasFailures read read' write write' other → (IsCalm stop → IsCalm other → stop ≡ other) → stop ≡ other
+ends_by_failures read read' write write' can_read can_write stop other found found' f g both = ⊎_elim
     (λ (is : stop ≡ ReadFault). read_one read read' write write' can_read can_write stop other is found' f g)
     (λ (others : (stop ≡ WriteFault) ⊎ IsCalm stop). ⊎_elim
     (λ (is : stop ≡ WriteFault). write_one read read' write write' can_read can_write stop other is found' f g)
@@ -329,7 +337,7 @@ run_end_is_the_one A one keeps d columns s u v input left before a b read read' 
     (λ (is : other ≡ ReadFault). sym (read_one read read' write write' can_read can_write other stop is found g f))
     (λ (more : (other ≡ WriteFault) ⊎ IsCalm other). ⊎_elim
     (λ (is : other ≡ WriteFault). sym (write_one read read' write write' can_read can_write other stop is found g f))
-    (λ (calm' : IsCalm other). calm_one A one keeps d columns stop other s u v input left before a b short calm calm' first next)
+    (λ (calm' : IsCalm other). both calm calm')
     more)
     (kinds other found'))
     others)

@@ -6,7 +6,7 @@ use Rattle.std.specs.Prelude.{Option}
 use Rattle.line_engine.specs.AnswerText.{AnswerText}
 use Rattle.line_engine.specs.Inner.Progress.{Flushes}
 use Rattle.line_engine.specs.Lines.{onto_first}
-use Rattle.column_engine.specs.Answers.{AreAnswers, FieldAnswer, IsAnswer, answers_text, before_field, count_refused, is_asked}
+use Rattle.column_engine.specs.Answers.{AreAnswers, FieldAnswer, answers_text, before_field, count_refused, is_asked}
 use Rattle.column_engine.specs.Gathered.{GathersAnswer, GathersField, GathersFields, GathersPart, ahead}
 use Rattle.column_engine.specs.Rows.{ends_field, raw_fields, within_after}
 use Rattle.column_engine.specs.declared.columns.Range.{Range}

@@ -5,8 +5,9 @@ mod FieldsLemmas
 mod FeedLemmas
 mod HeaderLemmas
 mod RunLemmas
-mod SkipLemmas
 mod RecordLemmas
 mod ReplaceLemmas
 mod UniqueLemmas
 mod EndLemmas
+mod AfterLemmas
+mod SkipLemmas

@@ -1,5 +1,5 @@
 -- Bytes of a record that are passed over at once.
-use Rattle.std.proofs.Common.{◌≡◌, ◌==◌, ◌<◌, ◌≤◌, ◌+◌, ◌-◌, ℕ, zero, suc, List, [], ◌∷◌, ◌++◌, Bool, true, false, length, take, drop, get_or, refl, sym, ap, ◌∙◌, arith, if◌then◌else◌, subst, add-one}
+use Rattle.std.proofs.Common.{◌≡◌, ◌==◌, ◌≤◌, ◌+◌, ◌-◌, ℕ, zero, suc, List, [], ◌∷◌, ◌++◌, Bool, true, false, length, take, drop, get_or, refl, sym, ap, ◌∙◌, arith, if◌then◌else◌, subst}
 use Rattle.std.specs.Prelude.{⊤, ◌≢◌}
 use Rattle.std.proofs.lemmas.Bool.{eqb-true, false≢true}
 use Rattle.std.proofs.lemmas.List.{get_or-drop, take_all}
@@ -8,7 +8,7 @@ use Rattle.column_engine.specs.Places.{HasNoBefore, IsPlainBefore, StaysFor, beh
 use Rattle.column_engine.specs.Rows.{IsUnended, ends_field, ends_record, place_after, places_after, raw_fields, within_after}
 use Rattle.column_engine.specs.declared.place.Place.{Place}
 use Rattle.column_engine.specs.declared.place.Place.TheVariants.{AfterQuote, Inside, Quoted, Start}
-use Rattle.column_engine.proofs.RowLemmas.{fields_more, from_never, onto, places_append, places_none, unended_append, unended_none}
+use Rattle.column_engine.proofs.RowLemmas.{fields_more, onto, places_append, unended_append}
 
 -- between quotes
 pub quoted_over : (d : ℕ) (bytes : List ℕ) (k : ℕ) → HasNoBefore 34 bytes k → IsUnended d Quoted (take k bytes) × (Quoted ≡ places_after d Quoted (take k bytes))

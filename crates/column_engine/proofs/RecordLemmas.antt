@@ -1,9 +1,9 @@
 -- The records of a text are those that the kit's machine of CSV reads.
 use Rattle.std.proofs.Common.{◌≡◌, ◌==◌, ◌||◌, ℕ, List, [], ◌∷◌, ◌++◌, Bool, true, false, refl, sym, ap, ◌∙◌, subst, append_assoc, append-nil, arith, if◌then◌else◌, map, length, inl, inr, ◌⊎◌, ⊎_elim}
-use Rattle.std.proofs.lemmas.Bool.{eqb-true, false≢true, eq-eqb}
+use Rattle.std.proofs.lemmas.Bool.{eqb-true, false≢true}
 use Rattle.std.proofs.lemmas.List.{nil_from_length}
-use Rattle.std.specs.Prelude.{◌≢◌, Option, Some, None}
-use Rattle.csv.specs.Machine.{field_after, fields_after, in_field, is_end, next_record, step, Read}
+use Rattle.std.specs.Prelude.{◌≢◌, Some, None}
+use Rattle.csv.specs.Machine.{field_after, fields_after, in_field, is_end, next_record, step}
 use Rattle.csv.specs.Reading.{AreRecords, Reached}
 use Rattle.csv.specs.declared.parser.Action.{Action}
 use Rattle.csv.specs.declared.parser.Action.TheVariants as act
@@ -11,7 +11,7 @@ use Rattle.csv.specs.declared.parser.State.{State}
 use Rattle.csv.specs.declared.parser.State.TheVariants as st
 use Rattle.line_engine.specs.Lines.{onto_first}
 use Rattle.column_engine.specs.Laws.{AreRows, IsDelimiter, RecordsAreTheKits, reads_with, records_of}
-use Rattle.column_engine.specs.Rows.{IsEnded, IsLast, IsUnended, Row, content, ends_field, ends_record, field_texts, is_dropped, place_after, places_after, raw_fields, row_text, rows_text, within_after}
+use Rattle.column_engine.specs.Rows.{IsEnded, IsLast, IsUnended, Row, content, ends_field, ends_record, field_texts, is_dropped, place_after, places_after, raw_fields, rows_text, within_after}
 use Rattle.column_engine.specs.declared.place.Place.{Place}
 use Rattle.column_engine.specs.declared.place.Place.TheVariants.{AfterQuote, Inside, Quoted, Start}
 use Rattle.column_engine.proofs.RowLemmas.{from_never, raw_end, raw_none, raw_on}

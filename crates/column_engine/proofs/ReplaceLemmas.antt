@@ -1,14 +1,13 @@
 -- What is written for a record has its fields, with the replies in place of those that are asked for.
-use Rattle.std.proofs.Common.{◌≡◌, ◌==◌, ◌||◌, ◌+◌, ℕ, suc, List, [], ◌∷◌, ◌++◌, Bool, true, false, refl, sym, ap, ◌∙◌, subst, append_assoc, append-nil, arith, if◌then◌else◌, map, length, inl, inr, ◌⊎◌, ⊎_elim, get_or, length-append}
+use Rattle.std.proofs.Common.{◌≡◌, ◌==◌, ◌||◌, ◌+◌, ℕ, List, [], ◌∷◌, ◌++◌, Bool, true, false, refl, sym, ap, ◌∙◌, subst, append-nil, arith, if◌then◌else◌, map, length, inl, inr, ⊎_elim, length-append}
 use Rattle.std.proofs.lemmas.Bool.{eq-eqb, eqb-true, false≢true}
-use Rattle.std.specs.List.{list_any}
 use Rattle.std.specs.Prelude.{◌≢◌, ⊤}
 use Rattle.csv.specs.Writing.{default_writer, escaped, needs_byte, needs_quotes, quoted}
 use Rattle.line_engine.specs.AnswerText.{AnswerText}
 use Rattle.line_engine.specs.Lines.{onto_first}
 use Rattle.column_engine.specs.Answers.{AnswersFields, AnswersRow, AnswersRows, AreAnswers, FieldAnswer, IsAnswer, PassesHeader, State, answers_text, as_field, before_field, calls_for_quotes, is_asked, stays}
 use Rattle.column_engine.specs.Laws.{AreReplaced, AreReplacedRows, AreRows, FieldsAreReplaced, IsDelimiter, IsReplaced, IsReplacedRow}
-use Rattle.column_engine.specs.Rows.{IsEnded, IsLast, IsUnended, Row, content, ends_field, ends_record, field_texts, is_dropped, place_after, places_after, raw_fields, row_text, rows_text, within_after}
+use Rattle.column_engine.specs.Rows.{IsEnded, IsLast, IsUnended, Row, content, ends_field, ends_record, field_texts, place_after, places_after, raw_fields, row_text, rows_text, within_after}
 use Rattle.column_engine.specs.declared.columns.Column.{Column}
 use Rattle.column_engine.specs.declared.columns.Range.{Range}
 use Rattle.column_engine.specs.declared.place.Place.{Place}

@@ -1,13 +1,12 @@
 -- The first lines of a text, one more byte at a time.
-use Rattle.std.proofs.Common.{◌≡◌, ◌∙◌, ◌==◌, ◌+◌, ◌-◌, ◌<◌, ◌≤◌, ◌↔◌, ℕ, List, [], ◌∷◌, ◌++◌, Bool, true, false, length, length-append, get_or, if◌then◌else◌, refl, sym, ap, subst, arith, inl, inr, append-nil}
-use Rattle.std.proofs.KnownBytes.{Appends-nil, Consumes-nil, Consumes-trans}
+use Rattle.std.proofs.Common.{◌≡◌, ◌∙◌, ◌==◌, ◌+◌, ◌-◌, ◌<◌, ◌≤◌, ℕ, List, [], ◌∷◌, ◌++◌, Bool, true, false, length, length-append, get_or, if◌then◌else◌, refl, sym, ap, subst, arith, inl, inr, append-nil}
+use Rattle.std.proofs.KnownBytes.{Consumes-nil, Consumes-trans}
 use Rattle.std.specs.Prelude.{Option}
 use Rattle.std.specs.Io.KnownBytes.{Appends, Consumes, IsAtEnd}
 use Rattle.std.proofs.lemmas.Bool.{eqb-true}
 use Rattle.line_engine.specs.Inner.Progress.{Flushes}
 use Rattle.line_engine.specs.Output.{AppendsPrefix}
 use Rattle.column_engine.specs.Passing.{IsPassing}
-use Rattle.column_engine.specs.Run.{Writes}
 use Rattle.column_engine.specs.Skip.{AreWhole, HasRunAfter, PassesLines, StopsLines, newlines}
 use Rattle.column_engine.specs.Answers.{State}
 use Rattle.column_engine.specs.Steps.{SameCounts}
@@ -19,12 +18,16 @@ use Rattle.column_engine.proofs.RunLemmas.{run_counts}
 use Rattle.column_engine.specs.declared.end.Stop.TheVariants.{ReadFault, TooLong, WriteFault}
 use Rattle.column_engine.proofs.GatherLemmas.{all_flushes, flushes_all, flushes_both, flushes_none, flushes_prefix, prefix_flushes}
 
-pub newlines_more : (bytes : List ℕ) (byte : ℕ) → newlines (bytes ++ byte ∷ []) ≡ newlines bytes + (if byte == 10 then 1 else 0)
+-- how many newlines a byte is
+abbrev newline_of : ℕ → ℕ
+newline_of byte = if byte == 10 then 1 else 0
+
+newlines_more : (bytes : List ℕ) (byte : ℕ) → newlines (bytes ++ byte ∷ []) ≡ newlines bytes + (if byte == 10 then 1 else 0)
 newlines_more [] byte = omega arith
 newlines_more (b ∷ bytes) byte = omega (arith, newlines_more bytes byte)
 
 -- the last byte
-pub last_is : (bytes : List ℕ) (byte : ℕ) → get_or (bytes ++ byte ∷ []) (length (bytes ++ byte ∷ []) - 1) 0 ≡ byte
+last_is : (bytes : List ℕ) (byte : ℕ) → get_or (bytes ++ byte ∷ []) (length (bytes ++ byte ∷ []) - 1) 0 ≡ byte
 last_is bytes byte =
     let place : length (bytes ++ byte ∷ []) - 1 ≡ length bytes = omega (arith, length-append bytes (byte ∷ [])) in
     ap (λ k. get_or (bytes ++ byte ∷ []) k 0) place ∙ middle bytes byte
@@ -53,10 +56,11 @@ newlines_both (x ∷ xs) ys = omega (arith, newlines_both xs ys)
 pub still_plain : (held held' : List ℕ) (byte : ℕ) (a b : Option (List ℕ)) → (byte == 10) ≡ false → Flushes held (byte ∷ []) held' a b
     → newlines held ≡ 0 → newlines held' ≡ 0
 still_plain held held' byte a b other gathered plain =
-    let none : newlines (held ++ byte ∷ []) ≡ newlines held + 0 = newlines_more held byte ∙ ap (λ e. newlines held + (if e then 1 else 0)) other in
+    let none : newline_of byte ≡ 0 = rw other refl in
+    let one = newlines_more held byte in
     let both = newlines_both gathered.gone held' in
     let same : newlines (held ++ byte ∷ []) ≡ newlines (gathered.gone ++ held') = ap newlines gathered.split in
-    omega (arith, none, both, same, plain)
+    omega (arith, none, one, both, same, plain)
 
 -- the bytes that were taken by the time that a write of one more failed
 pub broken : (count lines byte : ℕ) (held held' : List ℕ) (left left' left'' a b c : Option (List ℕ))

@@ -1,10 +1,10 @@
 -- Records, and the answers to them, are the ones.
-use Rattle.std.proofs.Common.{◌≡◌, ◌==◌, ◌<◌, ◌≤◌, ◌+◌, ℕ, suc, List, [], ◌∷◌, ◌++◌, Bool, true, false, refl, sym, ap, ◌∙◌, subst, append_assoc, append-nil, arith, if◌then◌else◌, length, inl, inr, ◌⊎◌, ⊎_elim, get_or, length-append}
+use Rattle.std.proofs.Common.{◌≡◌, ◌<◌, ◌≤◌, ◌+◌, ℕ, List, [], ◌∷◌, ◌++◌, Bool, true, false, refl, sym, ap, ◌∙◌, subst, append_assoc, append-nil, arith, if◌then◌else◌, length, inl, inr, ◌⊎◌, ⊎_elim, get_or, length-append}
 use Rattle.std.proofs.lemmas.Bool.{cases_lt, false≢true}
-use Rattle.std.specs.Prelude.{◌≢◌, Option, Some, None, string_bytes}
+use Rattle.std.specs.Prelude.{Option, Some, None, string_bytes}
 use Rattle.line_engine.specs.AnswerText.{AnswerText}
-use Rattle.column_engine.specs.Answers.{AnswersFields, AnswersRow, AnswersRows, AreAnswers, AreFound, FieldAnswer, HasNoNamed, IsAnswer, IsFirstNamed, IsFound, PassesEmpty, PassesHeader, State, answers_text, as_field, count_refused, is_asked, one_more, stays}
-use Rattle.column_engine.specs.Laws.{AnswersAreTheOne, OutputIsTheOne, RowsAreTheOnes}
+use Rattle.column_engine.specs.Answers.{AnswersFields, AnswersRow, AnswersRows, AreAnswers, AreFound, FieldAnswer, HasNoNamed, IsAnswer, IsFirstNamed, IsFound, PassesHeader, State, answers_text, as_field, count_refused, is_asked, one_more, stays}
+use Rattle.column_engine.specs.Laws.{AnswersAreTheOne, RowsAreTheOnes}
 use Rattle.csv.specs.Reading.{strip_bom}
 use Rattle.column_engine.specs.Run.{AnswersLast, HasRun, RunsText, StopsText}
 use Rattle.column_engine.specs.Steps.{SameCounts}
@@ -109,14 +109,14 @@ pub answers_are_the_one : (A : List ℕ → AnswerText → Type 0) → ((field :
 answers_are_the_one A one keeps d columns s rows a b t u first next = rows_one A one keeps d columns s t u rows a b first next
 
 -- ---- the records of a text
-head_is : (x y : ℕ) (xs ys : List ℕ) → x ∷ xs ≡ y ∷ ys → x ≡ y
+pub head_is : (x y : ℕ) (xs ys : List ℕ) → x ∷ xs ≡ y ∷ ys → x ≡ y
 head_is x y xs ys e = ap (λ l. get_or l 0 0) e
 
 tail_of : List ℕ → List ℕ
 tail_of [] = []
 tail_of (x ∷ xs) = xs
 
-tail_is : (x y : ℕ) (xs ys : List ℕ) → x ∷ xs ≡ y ∷ ys → xs ≡ ys
+pub tail_is : (x y : ℕ) (xs ys : List ℕ) → x ∷ xs ≡ y ∷ ys → xs ≡ ys
 unfolding tail_of
 tail_is x y xs ys e = ap tail_of e
 
@@ -187,7 +187,7 @@ counts_one s t u first next = record {
   first = next.first ∙ sym first.first;
 }
 
-left_cancel : (xs ys zs : List ℕ) → xs ++ ys ≡ xs ++ zs → ys ≡ zs
+pub left_cancel : (xs ys zs : List ℕ) → xs ++ ys ≡ xs ++ zs → ys ≡ zs
 left_cancel [] ys zs e = e
 left_cancel (x ∷ xs) ys zs e = left_cancel xs ys zs (tail_is x x (xs ++ ys) (xs ++ zs) e)
 
@@ -246,11 +246,8 @@ module _ (A : List ℕ → AnswerText → Type 0) (one : (field : List ℕ) (a b
       (subst (λ m. StopsText Done A keeps d columns m (strip_bom next.bytes) s t (Some left) (Some before) (Some a)) mark
       (subst (λ l. StopsText Done A keeps d columns first.mark l s t (Some left) (Some before) (Some a)) text first.stops)) next.stops
 
-  run_one : (s t u : State) (input left left' before a b : List ℕ) → HasRun Done A keeps d columns s t (Some input) (Some left) (Some before) (Some a)
+  pub run_one : (s t u : State) (input left left' before a b : List ℕ) → HasRun Done A keeps d columns s t (Some input) (Some left) (Some before) (Some a)
       → HasRun Done A keeps d columns s u (Some input) (Some left') (Some before) (Some b) → (a ≡ b) × SameCounts t u
   run_one s t u input left left' before a b (inl first) (inl next) = runs_one s t u input left left' before a b first next
   run_one s t u input left left' before a b (inl first) (inr next) = absurd (cc next.is_long)
   run_one s t u input left left' before a b (inr first) next = absurd (cc first.is_long)
-
-pub output_is_the_one : (A : List ℕ → AnswerText → Type 0) → ((field : List ℕ) (a b : AnswerText) → A field a → A field b → a ≡ b) → OutputIsTheOne A
-output_is_the_one A one keeps d columns s t u input left left' before a b first next = run_one A one keeps d columns s t u input left left' before a b first next

@@ -1,12 +1,14 @@
 -- Laws of the records of a text.
-use Rattle.std.specs.Prelude.{◌≡◌, ◌≢◌, ◌⊎◌, ◌==◌, ◌<◌, ◌+◌, ◌-◌, ◌^◌, ◌++◌, ⊤, ℕ, Bool, true, false, List, [], ◌∷◌, Some, if◌then◌else◌, length}
+use Rattle.std.specs.Prelude.{◌≡◌, ◌≢◌, ◌⊎◌, ◌==◌, ◌<◌, ◌+◌, ◌-◌, ◌^◌, ◌++◌, ⊤, ℕ, Bool, true, false, List, []}
+use Rattle.std.specs.Prelude.{◌∷◌, Some, if◌then◌else◌, length}
 use Rattle.csv.specs.Reading.{AreRecords, default_config}
 use Rattle.csv.specs.declared.parser.Config.{Config}
 use Rattle.csv.specs.declared.parser.State.TheVariants.{StartRecord}
 use Rattle.line_engine.specs.AnswerText.{AnswerText}
 use Rattle.column_engine.specs.Answers.{AnswersRow, AnswersRows, State, is_asked, stays}
 use Rattle.column_engine.specs.Rows.{AreEnded, IsEnded, IsLast, IsUnended, Row, field_texts, row_text, rows_text}
-use Rattle.column_engine.specs.Run.{HasFailures, HasRun}
+use Rattle.column_engine.specs.Run.{HasFailures}
+use Rattle.column_engine.specs.Skip.{AreFirst, HasRunAfter}
 use Rattle.column_engine.specs.Steps.{SameCounts}
 use Rattle.column_engine.specs.declared.columns.Column.{Column}
 use Rattle.column_engine.specs.declared.columns.Range.{Range}
@@ -35,7 +37,8 @@ AreRows delimiter (row ∷ rows) = (IsEnded delimiter row × AreRows delimiter r
 abbrev pub records_of : ℕ → List Row → List (List (List ℕ))
 records_of delimiter [] = []
 records_of delimiter (row ∷ rows) =
-    if length row.body == 0 then records_of delimiter rows else field_texts delimiter row.body ∷ records_of delimiter rows
+    if length row.body == 0 then records_of delimiter rows
+    else field_texts delimiter row.body ∷ records_of delimiter rows
 
 -- the records of a text, by their places in it, are those that the kit's reader of CSV reads
 abbrev pub RecordsAreTheKits : Type 0
@@ -46,7 +49,8 @@ RecordsAreTheKits = (delimiter : ℕ) (rows : List Row) → IsDelimiter delimite
 -- is the field's text
 abbrev pub IsReplaced : (List ℕ → AnswerText → Type 0) → Bool → Bool → List ℕ → List ℕ → Type 0
 IsReplaced A keeps false text new = new ≡ text
-IsReplaced A keeps true text new = (reply : AnswerText) × A text reply × (new ≡ (if stays keeps reply then text else reply.text))
+IsReplaced A keeps true text new = (reply : AnswerText) × A text reply
+    × (new ≡ (if stays keeps reply then text else reply.text))
 
 -- the texts of these fields, the first of which is in this column, are those of other fields but where they are asked
 -- for
@@ -63,8 +67,8 @@ IsReplacedRow A keeps delimiter s row new = (new ≡ row)
     ⊎ ((s.headed ≡ false) × (row.body ≢ []) × (new.end ≡ row.end)
     × AreReplaced A keeps s.asked 0 (field_texts delimiter row.body) (field_texts delimiter new.body))
 
-abbrev pub AreReplacedRows : (List ℕ → AnswerText → Type 0) → Bool → ℕ → List Column → State → List Row → List Row → State
-    → Type 0
+abbrev pub AreReplacedRows : (List ℕ → AnswerText → Type 0) → Bool → ℕ → List Column → State → List Row → List Row
+    → State → Type 0
 AreReplacedRows A keeps delimiter columns s [] [] t = t ≡ s
 AreReplacedRows A keeps delimiter columns s [] (new ∷ news) t = ⊥
 AreReplacedRows A keeps delimiter columns s (row ∷ rows) [] t = ⊥
@@ -76,8 +80,10 @@ AreReplacedRows A keeps delimiter columns s (row ∷ rows) (new ∷ news) t = (b
 -- keeps its end
 abbrev pub FieldsAreReplaced : (List ℕ → AnswerText → Type 0) → Type 0
 FieldsAreReplaced A = (keeps : Bool) (delimiter : ℕ) (columns : List Column) (s t : State) (rows : List Row)
-    (text : List ℕ) → IsDelimiter delimiter → AreRows delimiter rows → AnswersRows A keeps delimiter columns s rows text t
-    → (news : List Row) × (text ≡ rows_text news) × AreRows delimiter news × AreReplacedRows A keeps delimiter columns s rows news t
+    (text : List ℕ) → IsDelimiter delimiter → AreRows delimiter rows
+    → AnswersRows A keeps delimiter columns s rows text t
+    → (news : List Row) × (text ≡ rows_text news) × AreRows delimiter news
+    × AreReplacedRows A keeps delimiter columns s rows news t
 
 -- by a rule of one reply, at most one text is written for records, and one state follows
 abbrev pub AnswersAreTheOne : (List ℕ → AnswerText → Type 0) → Type 0
@@ -91,21 +97,26 @@ RowsAreTheOnes = (delimiter : ℕ) (text rest rest' : List ℕ) (rows rows' : Li
     → AreEnded delimiter rows' → IsUnended delimiter Start rest → IsUnended delimiter Start rest'
     → text ≡ rows_text rows ++ rest → text ≡ rows_text rows' ++ rest' → (rows ≡ rows') × (rest ≡ rest')
 
--- and a text has at most one output of a run to its end, with the counts
+-- the lines that a run passes over, and what follows them, are the ones
+abbrev pub LinesAreTheOnes : Type 0
+LinesAreTheOnes = (count : ℕ) (bytes bytes' rest rest' : List ℕ) → bytes ++ rest ≡ bytes' ++ rest'
+    → AreFirst count bytes (Some rest) → AreFirst count bytes' (Some rest') → (bytes ≡ bytes') × (rest ≡ rest')
+
+-- a text has at most one output of a run to its end, with the counts
 abbrev pub OutputIsTheOne : (List ℕ → AnswerText → Type 0) → Type 0
-OutputIsTheOne A = (keeps : Bool) (delimiter : ℕ) (columns : List Column) (s t u : State)
+OutputIsTheOne A = (skipped : ℕ) (keeps : Bool) (delimiter : ℕ) (columns : List Column) (s t u : State)
     (input left left' before a b : List ℕ)
-    → HasRun Done A keeps delimiter columns s t (Some input) (Some left) (Some before) (Some a)
-    → HasRun Done A keeps delimiter columns s u (Some input) (Some left') (Some before) (Some b)
+    → HasRunAfter skipped Done A keeps delimiter columns s t (Some input) (Some left) (Some before) (Some a)
+    → HasRunAfter skipped Done A keeps delimiter columns s u (Some input) (Some left') (Some before) (Some b)
     → (a ≡ b) × SameCounts t u
 
--- while the counts of failures can rise, they say with what was taken of a text how its run ended that found memory, for
--- a text of fewer bytes than a run takes
+-- while the counts of failures can rise, they say with what was taken of a text how its run ended that found memory,
+-- for a text of fewer bytes than a run takes
 abbrev pub RunEndIsTheOne : (List ℕ → AnswerText → Type 0) → Type 0
-RunEndIsTheOne A = (keeps : Bool) (delimiter : ℕ) (columns : List Column) (s t u : State) (input left before a b : List ℕ)
-    (read read' write write' : ℕ) (stop other : Stop) → length input < MAX_TEXT → read < 2 ^ 64 - 1 → write < 2 ^ 64 - 1
-    → stop ≢ NoMemory → other ≢ NoMemory
-    → HasRun stop A keeps delimiter columns s t (Some input) (Some left) (Some before) (Some a)
+RunEndIsTheOne A = (skipped : ℕ) (keeps : Bool) (delimiter : ℕ) (columns : List Column) (s t u : State)
+    (input left before a b : List ℕ) (read read' write write' : ℕ) (stop other : Stop) → length input < MAX_TEXT
+    → read < 2 ^ 64 - 1 → write < 2 ^ 64 - 1 → stop ≢ NoMemory → other ≢ NoMemory
+    → HasRunAfter skipped stop A keeps delimiter columns s t (Some input) (Some left) (Some before) (Some a)
     → HasFailures read read' write write' stop
-    → HasRun other A keeps delimiter columns s u (Some input) (Some left) (Some before) (Some b)
+    → HasRunAfter skipped other A keeps delimiter columns s u (Some input) (Some left) (Some before) (Some b)
     → HasFailures read read' write write' other → stop ≡ other

@@ -1,5 +1,5 @@
 -- Bytes of a record that are passed over at once.
-use Rattle.std.specs.Prelude.{◌≡◌, ◌≢◌, ◌<◌, ◌==◌, ◌-◌, ℕ, List, false, get_or, if◌then◌else◌, length}
+use Rattle.std.specs.Prelude.{◌≡◌, ◌<◌, ◌==◌, ◌-◌, ℕ, List, false, get_or, if◌then◌else◌, length}
 use Rattle.column_engine.specs.Rows.{ends_field, within_after}
 use Rattle.column_engine.specs.declared.place.Place.{Place}
 use Rattle.column_engine.specs.declared.place.Place.TheVariants.{Inside, Start}

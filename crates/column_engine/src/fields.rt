@@ -73,11 +73,13 @@ fn pass_field<A: FieldRule<L>, K: Sink, L: Ledger>(
     ensures most { IfOk result (λ r. r.1 ≤ 1) }
     ensures ok { IfOk result (λ r. (refused : Bool) × (r.1 ≡ (if refused then 1 else 0)) × GathersField
         (A.Answers task.now.rule.now) task.now.is_kept task.now.delimiter (is_asked asked.now field.column)
-        (take (field.end - field.start) (drop field.start body.now)) refused (ahead work.old.out body.now from field.start)
+        (take (field.end - field.start) (drop field.start body.now)) refused
+        (ahead work.old.out body.now from field.start)
         (ahead work.new.out body.now r.0 field.end) (K.written sink.old) (K.written sink.new)) }
     ensures err { OnErr result ((refused : Bool) × (left : List ℕ) × GathersField (A.Answers task.now.rule.now)
         task.now.is_kept task.now.delimiter (is_asked asked.now field.column)
-        (take (field.end - field.start) (drop field.start body.now)) refused (ahead work.old.out body.now from field.start)
+        (take (field.end - field.start) (drop field.start body.now)) refused
+        (ahead work.old.out body.now from field.start)
         left (K.written sink.old) (K.written sink.new)) }
     ensures failures { FailsOnlyCounted (K.failures sink.old) (K.failures sink.new) result }
 {

@@ -1,7 +1,7 @@
 //! Laws of the records of a text, each the contract of a function that does nothing.
 
-ghost use Rattle.column_engine.specs.Laws.{AnswersAreTheOne, FieldsAreReplaced, OutputIsTheOne, RecordsAreTheKits};
-ghost use Rattle.column_engine.specs.Laws.{RowsAreTheOnes, RunEndIsTheOne};
+ghost use Rattle.column_engine.specs.Laws.{AnswersAreTheOne, FieldsAreReplaced, LinesAreTheOnes, OutputIsTheOne};
+ghost use Rattle.column_engine.specs.Laws.{RecordsAreTheKits, RowsAreTheOnes, RunEndIsTheOne};
 
 use crate::rule::FieldRule;
 use std::sync::ledger::Ledger;
@@ -19,6 +19,11 @@ pub fn fields_are_replaced<A: FieldRule<L>, L: Ledger>(_rule: &A)
 /// A text is cut into the records that end in it, and a rest, in one way.
 pub fn rows_are_the_ones()
     ensures { RowsAreTheOnes }
+{}
+
+/// The lines that a run passes over, and what follows them, are the ones.
+pub fn lines_are_the_ones()
+    ensures { LinesAreTheOnes }
 {}
 
 /// For given records at most one text is written, and one state follows.

@@ -52,10 +52,11 @@ impl<L: Ledger> FieldRule<L> for NoX {
     ghost one_law = { λ rule field a b is same. is ∙ sym same };
 }
 
-/// A run: the columns, under a header or not, what is read, which read and which write fails, what is
-/// written and how it ends.
+/// A run: how many lines are passed over, the columns, under a header or not, what is read, which read and which write
+/// fails, what is written and how it ends.
 #[derive(Drop)]
 struct Case {
+    skipped: u64,
     name: Option<&'static str>,
     range: Option<Range>,
     has_header: bool,
@@ -94,7 +95,7 @@ fn run_case<L: Ledger>(
     let columns = columns_of(alloc, case)?;
     let task = ColumnTask {
         rule: &NoX,
-        skipped: 0,
+        skipped: case.skipped,
         columns: &columns,
         has_header: case.has_header,
         is_kept: case.is_kept,
@@ -152,6 +153,7 @@ fn one(place: usize) -> Option<Range> {
 /// A run of the second column, without a header, none of whose fields is refused.
 fn second(input: &'static [u8], written: &'static [u8], answered: u64) -> Case {
     Case {
+        skipped: 0,
         name: None,
         range: one(1),
         has_header: false,
@@ -266,6 +268,14 @@ fn every_other_byte_stays(rt: HostRuntime) -> Result<(), Fail> {
         second(b"\n\r\na,1\n\n\nb,2\n\n", b"\n\r\na,yes\n\n\nb,yes\n\n", 2),
         second(b"\n\n", b"\n\n", 0),
         second(b"\"1\"x,\"1\"x\n", b"\"1\"x,yes\n", 1),
+        Case {
+            skipped: 2,
+            ..second(b"sep=,\r\n\"\na,1\n", b"sep=,\r\n\"\na,yes\n", 1)
+        },
+        Case {
+            skipped: 2,
+            ..second(b"a,1", b"a,1", 0)
+        },
     ];
     assert_runs(&rt, rt.alloc(), &cases)?;
     Ok(())

@@ -1,4 +1,4 @@
-use Rattle.std.proofs.Common.{[], ◌≡◌, ◌<◌, ◌≤◌, ◌+◌, ◌-◌, ◌++◌, ◌∷◌, refl, length, arith, sym, ap, subst, ◌∙◌, length-append, take, drop, append-nil}
+use Rattle.std.proofs.Common.{[], ◌≡◌, ◌<◌, ◌+◌, ◌-◌, ◌++◌, ◌∷◌, refl, length, arith, ap, subst, ◌∙◌, length-append, take, drop}
 use Rattle.std.proofs.lemmas.List.{take_rest}
 use Rattle.column_engine.specs.Answers.{before_field}
 use Rattle.column_engine.specs.Gathered.{GathersFields, ahead}

@@ -1,5 +1,4 @@
-use Rattle.std.proofs.Common.{◌≡◌, ◌≤◌, ◌<◌, ◌+◌, ℕ, List, suc, false, ap, ◌∙◌, arith, drop, drop-cons, get_or, length}
-use Rattle.std.specs.Prelude.{nat_le, ◌&&◌}
+use Rattle.std.proofs.Common.{◌≡◌, ◌<◌, ◌+◌, ℕ, List, suc, false, ap, ◌∙◌, arith, drop, drop-cons, get_or, length}
 use Rattle.column_engine.specs.Answers.{is_asked, is_within}
 use Rattle.column_engine.specs.declared.columns.Range.{Range}
 use Rattle.column_engine.proofs.fields.past_asked.Goals as goal

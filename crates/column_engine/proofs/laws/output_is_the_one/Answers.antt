@@ -1,4 +1,4 @@
-use Rattle.column_engine.proofs.UniqueLemmas.{output_is_the_one}
+use Rattle.column_engine.proofs.AfterLemmas.{output_is_the_one}
 use Rattle.column_engine.proofs.laws.output_is_the_one.Goals as goal
 
 pub returns : goal.returns

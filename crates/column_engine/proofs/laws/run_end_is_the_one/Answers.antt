@@ -1,4 +1,4 @@
-use Rattle.column_engine.proofs.EndLemmas.{run_end_is_the_one}
+use Rattle.column_engine.proofs.AfterLemmas.{run_end_is_the_one}
 use Rattle.column_engine.proofs.laws.run_end_is_the_one.Goals as goal
 
 pub returns : goal.returns

@@ -1,10 +1,8 @@
-use Rattle.std.proofs.Common.{◌≡◌, ◌<◌, ◌+◌, drop, length, take, sym, ◌∙◌, arith, subst}
+use Rattle.std.proofs.Common.{◌<◌, ◌+◌, length, sym, ◌∙◌, arith, subst}
 use Rattle.std.proofs.lemmas.List.{take_rest}
 use Rattle.column_engine.specs.Places.{StaysFor}
-use Rattle.column_engine.specs.Rows.{raw_fields}
-use Rattle.column_engine.specs.declared.place.Place.TheVariants.{Start}
 use Rattle.column_engine.proofs.PlaceLemmas.{ends_is, stay_more}
-use Rattle.column_engine.proofs.RowLemmas.{fields_end, fields_from, fields_last, fields_more, onto}
+use Rattle.column_engine.proofs.RowLemmas.{fields_end, fields_from, fields_last, fields_more}
 use Rattle.column_engine.proofs.place.field_end.Goals as goal
 
 pub bytes-init : goal.bytes-init

@@ -1,5 +1,4 @@
-use Rattle.std.proofs.Common.{◌≡◌, ◌∙◌, ap, sym, subst, refl, take}
-use Rattle.column_engine.specs.Rows.{IsUnended, places_after}
+use Rattle.std.proofs.Common.{◌∙◌, sym}
 use Rattle.column_engine.proofs.PlaceLemmas.{outside_is, plain_over, quoted_over}
 use Rattle.column_engine.specs.declared.place.Place.TheVariants.{AfterQuote}
 use Rattle.column_engine.proofs.RowLemmas.{places_none, unended_none}

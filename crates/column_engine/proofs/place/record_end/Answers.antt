@@ -1,6 +1,6 @@
 use Rattle.std.proofs.Common.{◌+◌, ◌<◌, sym, ◌∙◌, arith, length}
 use Rattle.std.proofs.lemmas.List.{take_rest}
-use Rattle.column_engine.proofs.PlaceLemmas.{Reaches, reach_all, reach_more}
+use Rattle.column_engine.proofs.PlaceLemmas.{reach_all, reach_more}
 use Rattle.column_engine.proofs.RowLemmas.{places_more, places_none, unended_more, unended_none}
 use Rattle.column_engine.proofs.place.record_end.Goals as goal
 

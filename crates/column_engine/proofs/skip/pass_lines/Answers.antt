@@ -1,4 +1,4 @@
-use Rattle.std.proofs.Common.{◌≡◌, ◌==◌, ◌+◌, ◌-◌, ◌<◌, ◌≤◌, ◌∙◌, [], ◌∷◌, false, length, length-append, arith, subst, sym, if◌then◌else◌}
+use Rattle.std.proofs.Common.{◌∙◌, [], ◌∷◌, length-append, arith, subst}
 use Rattle.std.proofs.KnownBytes.{Consumes-nil}
 use Rattle.std.specs.Io.KnownBytes.{Consumes}
 use Rattle.column_engine.specs.Begin.{given}
