@@ -5,7 +5,7 @@ use Rattle.fixed_numeral.specs.declared.error.ParseErrorKind.{ParseErrorKind}
 use Rattle.fixed_numeral.specs.Cause.{HasCause}
 use Rattle.fixed_numeral.specs.Numeral.{Parts, HasNumeral, IsNumeral}
 
--- Ok exactly where bs is a numeral, and then with what is right for its parts; else the kind that says why it is not one
+-- Ok exactly where bs is a numeral, and then with what is right for its parts; else the kind that says why it is none
 pub record IsReadOrRefused {A : Type 0} (r : Radix) (bs : List ℕ) (IsRight : Parts → A → Type 0)
     (answer : Result A ParseErrorKind) : Type 0 where
   pub numeral : IsOk answer ↔ IsNumeral r bs
