@@ -1,6 +1,6 @@
 //! What is done with each input, one after another.
 
-use crate::commands::{column, fit};
+use crate::commands::{column, fit, pack, unpack};
 use command_line::device::{Failure, Unmarked, Writer};
 use command_line::report::{Report, push_words, report_end};
 use fixed_command::{
@@ -8,6 +8,7 @@ use fixed_command::{
 };
 use fixed_fit::Question as FitQuestion;
 use fixed_io::{StdSink, StdSource};
+use fixed_pack::{PackSettings, UnpackRule};
 use fixed_steps::Steps;
 use line_engine::Status;
 use std::fs::File;
@@ -26,6 +27,10 @@ pub enum Job<'a> {
     Column(ColumnConversion),
     /// The finest format is found that its numerals fit.
     Fit(FitQuestion),
+    /// Its numerals are packed into words.
+    Pack(PackSettings),
+    /// Its words are unpacked into lines.
+    Unpack(UnpackRule),
 }
 
 /// A report of how many lines of an input were refused, and which was the first, with its text and the cause.
@@ -116,6 +121,8 @@ fn run_reader<R: Read + Drop, L: Ledger>(
             let mut source = StdSource::new(Unmarked::new(reader));
             fit::run_on(rt, question, file, &mut source, steps)
         }
+        Job::Pack(settings) => pack::run_on(rt, settings, file, reader, steps),
+        Job::Unpack(rule) => unpack::run_on(rt, rule, file, reader, steps),
     }
 }
 
