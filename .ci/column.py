@@ -6,6 +6,7 @@
 import argparse
 import os
 import resource
+import select
 import subprocess
 import sys
 import tempfile
@@ -71,6 +72,12 @@ RUNS = (
     (["1", "U8F0"], MARK[:2] + b"7.4,a\n", 1, DIGIT + b",a\n", refused(1, 1)),
     (["2", "U8F0"], b"\xff\xfe,7.4,\x00\xc3\n", 0, b"\xff\xfe,7,\x00\xc3\n", b""),
     (["1", "U8F0"], b"\xff,7\n", 1, DIGIT + b",7\n", refused(1, 1)),
+    # As spreadsheets write it, with a byte order mark, CRLF and semicolons; as numpy's savetxt does; and as mlr does with quotes everywhere.
+    (["price", "U16F16", "--header", "--delimiter", ";"], MARK + b'name;price\r\ntea;1.50\r\n"milk; fresh";0.99\r\n', 0,
+     MARK + b'name;price\r\ntea;1.5\r\n"milk; fresh";0.99\r\n', b""),
+    (["1-2", "I8F8"], b"1.500000000000000000e+00,-2.250000000000000000e+00\n", 0, b"1.5,-2.25\n", b""),
+    (["1", "I8F8", "--delimiter", " "], b"1.500000000000000000e+00 -2.250000000000000000e+00\n", 0, b"1.5 -2.250000000000000000e+00\n", b""),
+    (["b", "U8F8", "--header"], b'"a","b"\n"1.50","2.50"\n\n"x, y","3.50"\n', 0, b'"a","b"\n"1.50",2.5\n\n"x, y",3.5\n', b""),
     # Nothing at all.
     (["3", "U8F0"], b"", 0, b"", b""),
     (["x", "U8F0", "--header"], b"", 0, b"", b""),
@@ -157,6 +164,7 @@ class Runs:
         self.one([b"1", b"U8F0", b"\xff"], b"", 2, b"", one_line(b"UTF-8"))
         self.files()
         self.devices()
+        self.one_by_one()
 
     def files(self):
         with tempfile.TemporaryDirectory() as folder:
@@ -187,6 +195,21 @@ class Runs:
             os.close(write)
         many = b"1" + b"," * (LONGEST - 1) + b"\n"
         self.one(["1", "U8F0"], many, 5, b"", one_line(b"there is no memory"), preexec_fn=within(1_500_000))
+
+    def one_by_one(self):
+        """Each record is answered as soon as it was read, also where its bytes come one at a time."""
+        self.tried += 1
+        words = [self.path, "column", "1", "U8F0"]
+        with subprocess.Popen(words, stdin=subprocess.PIPE, stdout=subprocess.PIPE, bufsize=0) as ran:
+            answers = []
+            for record in (b"7.4,a\n", b"\n", b'"8.4",b\r', b"9,c\n"):
+                for byte in record:
+                    ran.stdin.write(bytes((byte,)))
+                answers.append(os.read(ran.stdout.fileno(), 100) if select.select([ran.stdout], [], [], 20)[0] else None)
+            ran.stdin.close()
+        if answers != [b"7,a\n", b"\n", b"8,b\r", b"9,c\n"] or ran.returncode:
+            self.wrong += 1
+            print(f"fixed column, a record at a time: {answers}, {ran.returncode}")
 
     def memory(self):
         for words, part, times in LARGE:

@@ -100,29 +100,44 @@ RUNS = {
         (["convert", "I8F8", "I8F0", "--target-mode", "floor"], b"2.9\n-2.1\n", 0, b"2\n-3\n"),
         (["convert", "I8F8", "I8F0", "--target-mode", "ceil", "--mode", "floor", "-p", "saturating"], b"x\n1e\n300\n", 1,
          b"error: invalid digit found in string\nerror: exponent has no digits\n127\n"),
+        (["convert", "U8F0", "--trim"], b" 7 \t\r\n\x0b8\n 9\n \n9 9\n", 1,
+         b"7\nerror: invalid digit found in string\n9\nerror: string has no digits\nerror: invalid digit found in string\n"),
+        (["convert", "U8F0", "--skip-blank"], b"7\n\n \t\r\n 8\n9", 1, b"7\n\n\nerror: invalid digit found in string\n9\n"),
+        (["convert", "U8F0", "--comments", "//"], b"7\n// seven\n \t//\n/ 8\n", 1, b"7\n\n\nerror: invalid digit found in string\n"),
+        (["convert", "U8F0", "--trim", "--skip-blank", "--comments=#", "--from", "bits"], b"# words\n\n 0x10 \n", 0, b"\n\n16\n"),
+        (["convert", "U8F0", "--skip-blank"], b" " * 1_048_577 + b"\n7\n", 1, b"error: line too long\n7\n"),
+        (["convert", "U8F0", "-o", "/dev/null"], b"7\n", 0, b""),
+        (["convert", "U8F0", "-o", "-"], b"7\n", 0, b"7\n"),
+        (["convert", "U8F0", "-o", "no/such/folder"], b"7\n", 4, b""),
+        (["convert", "U8F0", "-o", "/dev/full"], b"7\n", 4, b""),
         (["bits", "I8F8", "-384", "+5", "0XFE80"], b"", 0, None),
         (["convert", "q15", "--print", "bits"], b"0.5\n", 0, b"16384\n"),
         (["convert", "UQ8.8", "i8f8", "--print", "hex"], b"1.5\n", 0, b"0x0180\n"),
         (["convert", "I3F2", "--print", "hex"], b"-0.25\n3.75\n", 0, b"0x1f\n0x0f\n"),
         (["convert", "I3F2", "--from", "bits"], b"0x1f\n31\n32\n", 1, b"-0.2\n-0.2\nerror: word is wider than the format\n"),
-        (["bits", "I8F8", "--radix", "16", "fe80"], b"", 0, b"text      -1.5\nbits      -384\nhex       0xfe80\nvalue     -1.5\n"),
+        (["bits", "I8F8", "--radix", "16", "fe80"], b"", 0,
+         b"given     fe80\ntext      -1.5\nbits      -384\nhex       0xfe80\nvalue     -1.5\n"),
         (["show", "I16F16", "3.14159", "-0.1"], b"", 0, None),
         (["show", "I8F8", "-.5", "-1e-3", "--mode", "floor"], b"", 0, None),
         (["show", "--mode=ceil", "I8F8", "-5.818915989413629393e-04"], b"", 0, None),
-        (["show", "--", "I8F8", "-r"], b"", 1, b"error: invalid digit found in string\n"),
-        (["show", "U8F0", "300"], b"", 1, b"error: overflow\n"),
+        (["show", "--", "I8F8", "-r"], b"", 1, b"given     -r\nerror: invalid digit found in string\n"),
+        (["show", "U8F0", "300"], b"", 1, b"given     300\nerror: overflow\n"),
+        (["show", "U8F0", "a\nb\x7f"], b"", 1, b"given     a\nb\x7f\nerror: invalid digit found in string\n"),
+        (["show", "U8F0", "0" * 1_030], b"", 0, None),
         (["bits", "I16F16", "0xfffc0000", "7x"], b"", 1,
-         b"text      -4\nbits      -262144\nhex       0xfffc0000\nvalue     -4\nerror: invalid digit found in string\n"),
+         b"given     0xfffc0000\ntext      -4\nbits      -262144\nhex       0xfffc0000\nvalue     -4\n\n"
+         b"given     7x\nerror: invalid digit found in string\n"),
         (["bits", "I8F8"], b"-384\r\n0x100\n\n7x", 1,
-         b"text      -1.5\nbits      -384\nhex       0xfe80\nvalue     -1.5\ntext      1\nbits      256\nhex       0x0100\nvalue     1\n"
-         b"error: string has no digits\nerror: invalid digit found in string\n"),
+         b"given     -384\ntext      -1.5\nbits      -384\nhex       0xfe80\nvalue     -1.5\n\n"
+         b"given     0x100\ntext      1\nbits      256\nhex       0x0100\nvalue     1\n\n"
+         b"given     \nerror: string has no digits\n\ngiven     7x\nerror: invalid digit found in string\n"),
         (["bits", "I8F8"], b"", 0, b""),
-        (["bits", "U8F0", "--file", "-"], b"\xff\n", 1, b"error: invalid digit found in string\n"),
+        (["bits", "U8F0", "--file", "-"], b"\xff\n", 1, b"given     \xff\nerror: invalid digit found in string\n"),
         (["bits", "U8F0", "--file", "no file"], b"", 3, b""),
-        (["show", "U8F0"], b"300\n", 1, b"error: overflow\n"),
+        (["show", "U8F0"], b"300\n", 1, b"given     300\nerror: overflow\n"),
         (["show", "I8F8", "--mode", "floor"], b"\xef\xbb\xbf-.5\n", 0, None),
         (["bits", "U8F0"], b"0" * 1_048_577, 6, b""),
-        (["bits", "U8F0", "256"], b"", 1, b"error: word is wider than the format\n"),
+        (["bits", "U8F0", "256"], b"", 1, b"given     256\nerror: word is wider than the format\n"),
         (["format", "U8F0"], b"", 0, None),
         (["pack", "Q15"], b"0.5\n-1\n", 0, b"\x00\x40\x00\x80"),
         (["pack", "Q15", "--endian", "big"], b"0.5\r\n-1", 0, b"\x40\x00\x80\x00"),
@@ -212,6 +227,8 @@ BAD_WORDS = {
         [b"fit", b"--width", b"8", b"--range", b"1"], [b"fit", b"--width", b"8", b"--range", b"1", b"2", b"3"],
         [b"convert", b"U8F0", b"--places", b"65"], [b"convert", b"U8F0", b"--places", b"01"],
         [b"convert", b"U8F0", b"--places", b"2", b"--print", b"bits"], [b"convert", b"--"],
+        [b"convert", b"U8F0", b"--comments", b""], [b"convert", b"U8F0", b"--comments", b" #"], [b"convert", b"U8F0", b"--comments", b"#" * 65],
+        [b"convert", b"U8F0", b"--trim=yes"], [b"convert", b"U8F0", b"-o"], [b"convert", b"U8F0", b"--report", b"--report"],
         [b"convert", b"U8F0", b"--from", b"hex"], [b"convert", b"U8F0", b"--target-mode", b"up"], [b"convert", b"U8F0", b"--from"],
         [b"bits", b"U8F0", b"--radix", b"7", b"1"],
         [b"pack"], [b"pack", b"U8F0", b"--endian", b"middle"], [b"pack", b"U8F0", b"--print", b"bits"], [b"pack", b"U60F5"],
@@ -301,6 +318,8 @@ class Runs:
             self.outputs(*LONG[self.name])
         if self.name == "fixed":
             self.files()
+            self.told()
+            self.outputs_to_files()
         if self.name in GROWING:
             self.without_memory(*GROWING[self.name])
 
@@ -414,6 +433,62 @@ class Runs:
         if ran is None or (ran.returncode, ran.stdout) != (0, wanted):
             self.wrong += 1
             print(f"{self.name}: lines of Rust with {len(NUMBERS)} numbers, {ran and ran.stdout!r}, not {wanted!r}")
+
+    def told(self):
+        """What standard error says: of an overflow the number that was reached and the range; of a byte its place in its line; and the
+        report after each input."""
+        kept = [["--policy", policy, "--report"] for policy in ("checked", "saturating")]
+        asked = (
+            (["convert", "U8F0"], b"1\n300\n", b"fixed: lines refused: 1, the first in line 2, '300': overflow, reached 300, U8F0 holds 0 to 255\n"),
+            (["convert", "I8F8", "I8F0"], b"127.5\n128\n",
+             b"fixed: lines refused: 1, the first in line 2, '128': overflow, reached 128, I8F8 holds -128 to 127.99609375\n"),
+            (["convert", "I16F16", "I8F8"], b"300.5\n",
+             b"fixed: lines refused: 1, the first in line 1, '300.5': overflow, reached 300.5, I8F8 holds -128 to 127.99609375\n"),
+            (["convert", "U8F8", "U8F0", "--target-mode", "ceil"], b"255.5\n",
+             b"fixed: lines refused: 1, the first in line 1, '255.5': overflow, reached 256, U8F0 holds 0 to 255\n"),
+            (["convert", "U64F0", "U0F64"], b"18446744073709551615\n",
+             b"fixed: lines refused: 1, the first in line 1, '18446744073709551615': overflow, reached 18446744073709551615, "
+             b"U0F64 holds 0 to 0.9999999999999999999457898913757247782996273599565029144287109375\n"),
+            (["convert", "U8F0"], b"1e30\n",
+             b"fixed: lines refused: 1, the first in line 1, '1e30': overflow, reached a number of more than 64 bits, U8F0 holds 0 to 255\n"),
+            (["convert", "U8F0", "--trim"], b"\t 1x2\r\n",
+             b"fixed: lines refused: 1, the first in line 1, '? 1x2': invalid digit found in string, byte 4, 'x'\n"),
+            (["convert", "I8F0", *kept[0]], b"1\n2.5\n300\n-1\n",
+             b"fixed: lines refused: 1, the first in line 3, '300': overflow, reached 300, I8F0 holds -128 to 127\n"
+             b"fixed: numerals: 4, exact: 2, rounded: 1, overflowed: 0, refused: 1 (the first in line 3)\n"),
+            (["convert", "I8F0", *kept[1], "--skip-blank"], b"1\n\n300\nx\n0.5\n-300\n",
+             b"fixed: lines refused: 1, the first in line 4, 'x': invalid digit found in string, byte 1, 'x'\n"
+             b"fixed: numerals: 5, exact: 1, rounded: 1, overflowed: 2 (the first in line 3), refused: 1 (the first in line 4)\n"),
+            (["convert", "I8F8", "--report"], b"", b"fixed: numerals: 0, exact: 0, rounded: 0, overflowed: 0, refused: 0\n"),
+        )
+        for words, given, wanted in asked:
+            self.tried += 1
+            ran = subprocess.run([self.path, *words], input=given, stdout=subprocess.PIPE, stderr=subprocess.PIPE, check=False, timeout=120)
+            if ran.stderr != wanted:
+                self.wrong += 1
+                print(f"{self.name}, {words} {given!r}: on standard error {ran.stderr!r}, not {wanted!r}")
+
+    def outputs_to_files(self):
+        """Answers that go to a file: it is made anew, it is no input, and what fails is said."""
+        with tempfile.TemporaryDirectory() as folder:
+            given, written = f"{folder}/given", f"{folder}/written"
+            for path, text in ((given, b"1.5\n"), (written, b"what was there\n")):
+                with open(path, "wb") as file:
+                    file.write(text)
+            os.symlink(given, f"{folder}/link")
+            for words, wanted in ((["convert", "U8F8", "--print", "hex"], b"0x0180\n"), (["bits", "U8F8", "--file"], None), (["show", "U8F8", "--file"], None)):
+                self.one(f"an output of {words}", [*words, given, "-o", written], int(wanted is None and words[0] == "bits"), b"")
+                with open(written, "rb") as file:
+                    got = file.read()
+                if not got or wanted is not None and got != wanted:
+                    self.wrong += 1
+                    print(f"{self.name}, {words}: the file has {got!r}")
+            self.one("an output that is an input", ["convert", "U8F8", given, "-o", f"{folder}/link"], 2, b"")
+            with open(given, "rb") as file:
+                if file.read() != b"1.5\n":
+                    self.wrong += 1
+                    print(f"{self.name}: an input was lost")
+            self.one("a folder as output", ["convert", "U8F8", given, "-o", folder], 4, b"")
 
     def files(self):
         """Inputs from files: several one after another, `-`, one that is missing, a folder, and the greatest status."""

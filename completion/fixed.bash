@@ -15,6 +15,45 @@ _fixed_words() {
   fi
   mapfile -t COMPREPLY < <(compgen -f -W "$words" -- "$2")
 }
+# The names in the header of the first file among the words, one a line, each after the part of a list that is there.
+_fixed_names() {
+  local word i delimiter=, file='' before=''
+  for word in "${COMP_WORDS[@]:2}"; do
+    [ -z "$file" ] && [ -f "$word" ] && file=$word
+  done
+  for ((i = 2; i < ${#COMP_WORDS[@]} - 1; i++)); do
+    case ${COMP_WORDS[i]} in
+      -d | --delimiter) delimiter=${COMP_WORDS[i + 1]} ;;
+    esac
+  done
+  case $delimiter in
+    tab | '\t') delimiter=$'\t' ;;
+  esac
+  [ -n "$file" ] || return
+  case $1 in
+    *,*) before=${1%,*}, ;;
+  esac
+  head -n 1 -- "$file" | tr -d '"\r' | tr "$delimiter" '\n' | while IFS= read -r word || [ -n "$word" ]; do
+    printf '%s%s\n' "$before" "$word"
+  done
+}
+# Whether the word is the columns of a command that has a header.
+_fixed_is_columns() {
+  local i has_header=false
+  for ((i = 2; i < ${#COMP_WORDS[@]}; i++)); do
+    case ${COMP_WORDS[i]} in
+      -H | --header) has_header=true ;;
+      -*) ;;
+      *)
+        case ${COMP_WORDS[i - 1]} in
+          -d | --delimiter | -r | --radix | -p | --policy | -m | --mode | --target-mode | --from | --print | --places) ;;
+          *) [ "$i" -lt "$COMP_CWORD" ] && return 1 ;;
+        esac
+        ;;
+    esac
+  done
+  $has_header
+}
 _fixed() {
   local word=$2 previous=$3 command=${COMP_WORDS[1]}
   local commands='convert column show bits format lines enclose least fit pack unpack constants sort help' words=''
@@ -27,26 +66,34 @@ _fixed() {
     --policy | -p) words='checked saturating wrapping' ;;
     --mode | -m | --target-mode) words='nearest floor ceil zero' ;;
     --from) words='text bits' ;;
-    --file)
+    --file | --output | -o)
       mapfile -t COMPREPLY < <(compgen -f -- "$word")
       return
       ;;
     --print) words='text bits hex readmemh value all' ;;
     --width | -w) words='8 16 32 64' ;;
     --endian) words='little big' ;;
-    --limit | --delimiter | -d | --places | --guard) return ;;
+    --limit | --delimiter | -d | --places | --guard | --comments) return ;;
     *)
       case $command:$word in
-        convert:-*) words='--from --radix --policy --mode --target-mode --print --places --help --version' ;;
+        convert:-*) words='--from --radix --policy --mode --target-mode --print --places --trim --skip-blank --comments --report --output --help --version' ;;
         column:-*) words='--from --radix --policy --mode --target-mode --print --places --delimiter --all --header --keep --help --version' ;;
-        show:-*) words='--radix --policy --mode --file --help --version' ;;
-        bits:-*) words='--radix --file --help --version' ;;
+        show:-*) words='--radix --policy --mode --file --output --help --version' ;;
+        bits:-*) words='--radix --file --output --help --version' ;;
         lines:-* | sort:-*) words='--limit --help --version' ;;
         fit:-*) words='--width --signed --why --range --radix --help --version' ;;
         pack:-*) words='--endian --radix --policy --mode --help --version' ;;
         unpack:-*) words='--endian --policy --target-mode --print --places --help --version' ;;
         constants:-*) words='--guard --help --version' ;;
         *:-*) words='--help --version' ;;
+        column:*)
+          if _fixed_is_columns; then
+            mapfile -t COMPREPLY < <(IFS=$'\n'; compgen -W "$(_fixed_names "$word")" -- "$word")
+            return
+          fi
+          _fixed_words "$command" "$word"
+          return
+          ;;
         *) _fixed_words "$command" "$word"; return ;;
       esac
       ;;

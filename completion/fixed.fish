@@ -36,4 +36,25 @@ complete -c fixed -n '__fish_seen_subcommand_from constants' -a 'c rust' -d 'wha
 complete -c fixed -n '__fish_seen_subcommand_from sort' -a limit -d 'the most bytes of an input'
 complete -c fixed -n '__fish_seen_subcommand_from convert column unpack' -l places -x -d 'digits after the point'
 complete -c fixed -n '__fish_seen_subcommand_from constants' -l guard -x -d 'the name that guards the header'
+complete -c fixed -n '__fish_seen_subcommand_from convert' -l trim -d 'blanks around a numeral are no part of it'
+complete -c fixed -n '__fish_seen_subcommand_from convert' -l skip-blank -d 'a blank line is answered by an empty one'
+complete -c fixed -n '__fish_seen_subcommand_from convert' -l comments -x -d 'so is a line that begins so'
+complete -c fixed -n '__fish_seen_subcommand_from convert' -l report -d 'counts of each input'
+complete -c fixed -n '__fish_seen_subcommand_from convert show bits' -s o -l output -r -d 'where the answers go'
+# The names in the header of the first file among the words.
+function __fixed_names
+    set -l words (commandline -opc)
+    set -l delimiter ','
+    if set -l at (contains -i -- -d $words; or contains -i -- --delimiter $words)
+        set -q words[(math $at + 1)]; and set delimiter $words[(math $at + 1)]
+    end
+    string match -qr '^(tab|\\\\t)$' -- $delimiter; and set delimiter \t
+    for word in $words[3..-1] (commandline -o)[3..-1]
+        if test -f "$word"
+            head -n 1 -- $word | string replace -ra '["\r]' '' | string split -- $delimiter
+            return
+        end
+    end
+end
+complete -c fixed -n '__fish_seen_subcommand_from column; and string match -qr -- "^(-H|--header)\$" (commandline -opc)' -f -a '(__fixed_names)' -d 'a column'
 complete -c fixed -n '__fish_seen_subcommand_from convert column show bits format pack unpack' -a 'I16F16 U16F16 I8F8 U8F8 I32F32 U32F32 I1F15 I1F31 I4F4 U0F8' -d 'a format'

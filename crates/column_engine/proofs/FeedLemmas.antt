@@ -121,32 +121,32 @@ module _ (A : List ℕ → AnswerText → Type 0) (keeps : Bool) (d : ℕ) (colu
   pub row_empty : (s : State) (row : Row) → row.body ≡ [] → AnswersRow A keeps d columns s row row.end s
   row_empty s row is = inl (record { empty = is; text_is = refl; after = refl })
 
-  pub row_header : (s : State) (row : Row) (found : List Range) → s.headed ≡ true → row.body ≢ [] → IsHeader d columns row.body found
+  pub row_header : (s : State) (row : Row) (found : List Range) → length row.body ≤ MAX_RECORD → s.headed ≡ true → row.body ≢ [] → IsHeader d columns row.body found
       → AnswersRow A keeps d columns s row (row_text row) (one_more (record s { headed = false; asked = found }) 0)
-  row_header s row found headed some is = inr (some, inl (record { next = headed; found = found; are_found = is.are_found; enough = is.enough; text_is = refl; after = refl }))
+  row_header s row found short headed some is = inr (some, inl (record { next = headed; short = short; found = found; are_found = is.are_found; enough = is.enough; text_is = refl; after = refl }))
 
-  pub row_fields : (s : State) (row : Row) (refused : ℕ) (held mid : List ℕ) (a b : Option (List ℕ)) → s.headed ≡ false → row.body ≢ [] → needed s.asked ≤ length (raw_fields d Start row.body)
+  pub row_fields : (s : State) (row : Row) (refused : ℕ) (held mid : List ℕ) (a b : Option (List ℕ)) → length row.body ≤ MAX_RECORD → s.headed ≡ false → row.body ≢ [] → needed s.asked ≤ length (raw_fields d Start row.body)
       → (fields : GathersFields A keeps d s.asked 0 (raw_fields d Start row.body) refused held mid a b)
       → AnswersRow A keeps d columns s row (answers_text d 0 fields.answers ++ row.end) (one_more s refused)
-  row_fields s row refused held mid a b known some enough fields =
-      inr (some, inr (record { known = known; enough = enough; answers = fields.answers; are = fields.are; text_is = refl; after = ap (one_more s) fields.refused_is }))
+  row_fields s row refused held mid a b short known some enough fields =
+      inr (some, inr (record { known = known; short = short; enough = enough; answers = fields.answers; are = fields.are; text_is = refl; after = ap (one_more s) fields.refused_is }))
 
-  pub passes_fields : (s : State) (row : Row) (refused : ℕ) (held mid new : List ℕ) (a b c : Option (List ℕ)) → s.headed ≡ false → row.body ≢ [] → needed s.asked ≤ length (raw_fields d Start row.body)
+  pub passes_fields : (s : State) (row : Row) (refused : ℕ) (held mid new : List ℕ) (a b c : Option (List ℕ)) → length row.body ≤ MAX_RECORD → s.headed ≡ false → row.body ≢ [] → needed s.asked ≤ length (raw_fields d Start row.body)
       → GathersFields A keeps d s.asked 0 (raw_fields d Start row.body) refused held mid a b → Flushes mid row.end new b c
       → PassesRow A keeps d columns row s (one_more s refused) held new a c
-  passes_fields s row refused held mid new a b c known some enough fields last = record {
+  passes_fields s row refused held mid new a b c short known some enough fields last = record {
     text = answers_text d 0 fields.answers ++ row.end;
-    answer = row_fields s row refused held mid a b known some enough fields;
+    answer = row_fields s row refused held mid a b short known some enough fields;
     gathered = flushes_both held (answers_text d 0 fields.answers) row.end mid new a b c fields.gathered last;
   }
 
   -- a write failed after the fields, or among them
-  pub fails_fields : (s : State) (row : Row) (refused : ℕ) (held mid : List ℕ) (a b c : Option (List ℕ)) → s.headed ≡ false → row.body ≢ [] → needed s.asked ≤ length (raw_fields d Start row.body)
+  pub fails_fields : (s : State) (row : Row) (refused : ℕ) (held mid : List ℕ) (a b c : Option (List ℕ)) → length row.body ≤ MAX_RECORD → s.headed ≡ false → row.body ≢ [] → needed s.asked ≤ length (raw_fields d Start row.body)
       → GathersFields A keeps d s.asked 0 (raw_fields d Start row.body) refused held mid a b → ((left : List ℕ) × Flushes mid row.end left b c)
       → FailsRow A keeps d columns row s held a c
-  fails_fields s row refused held mid a b c known some enough fields last = record {
+  fails_fields s row refused held mid a b c short known some enough fields last = record {
     text = answers_text d 0 fields.answers ++ row.end;
-    part = inl (one_more s refused, row_fields s row refused held mid a b known some enough fields);
+    part = inl (one_more s refused, row_fields s row refused held mid a b short known some enough fields);
     left = last.0;
     gathered = flushes_both held (answers_text d 0 fields.answers) row.end mid last.0 a b c fields.gathered last.1;
   }

@@ -65,27 +65,19 @@ put_rest held bytes a b c first part = (
   },
 )
 
-pub before_none : (d column : ℕ) → column ≡ 0 → before_field d column ≡ []
-before_none d column is = rw is refl
+-- the delimiter before a field but the first
+pub before_later : (d column : ℕ) → before_field d (column + 1) ≡ d ∷ []
+before_later d column =
+    let later : (column + 1 == 0) ≡ false = grind arith in
+    rw later refl
 
-pub before_some : (d column : ℕ) → (column == 0) ≡ false → before_field d column ≡ d ∷ []
-before_some d column is = rw is refl
+-- a piece that was held already
+pub flushes_held : (held part text new : List ℕ) (a b : Option (List ℕ)) → Flushes (held ++ part) text new a b → Flushes held (part ++ text) new a b
+flushes_held held part text new a b all = record { gone = all.gone; split = sym (append_assoc held part text) ∙ all.split; appends = all.appends }
 
--- a field after its delimiter
-pub field_none : (d column : ℕ) (held text left : List ℕ) (a b : Option (List ℕ)) → column ≡ 0 → Flushes held text left a b → Flushes held (before_field d column ++ text) left a b
-field_none d column held text left a b is one = rw (before_none d column is) one
-
-pub field_part : (d column : ℕ) (held text : List ℕ) (a b : Option (List ℕ)) → (column == 0) ≡ false → (left : List ℕ) × Flushes held (d ∷ []) left a b
-    → (left : List ℕ) × Flushes held (before_field d column ++ text) left a b
-field_part d column held text a b is part = rw (before_some d column is) (part.0 ++ text, flushes_more held (d ∷ []) part.0 text a b part.1)
-
-pub field_some : (d column : ℕ) (held mid text left : List ℕ) (a b c : Option (List ℕ)) → (column == 0) ≡ false → Flushes held (d ∷ []) mid a b → Flushes mid text left b c
-    → Flushes held (before_field d column ++ text) left a c
-field_some d column held mid text left a b c is first next = rw (before_some d column is) (flushes_both held (d ∷ []) text mid left a b c first next)
-
-pub field_rest : (d column : ℕ) (held mid text : List ℕ) (a b c : Option (List ℕ)) → (column == 0) ≡ false → Flushes held (d ∷ []) mid a b
-    → ((left : List ℕ) × Flushes mid text left b c) → (left : List ℕ) × Flushes held (before_field d column ++ text) left a c
-field_rest d column held mid text a b c is first next = (next.0, field_some d column held mid text next.0 a b c is first next.1)
+-- and one that is held from then on
+pub flushes_on : (held part text new : List ℕ) (a b : Option (List ℕ)) → Flushes held (part ++ text) new a b → Flushes (held ++ part) text new a b
+flushes_on held part text new a b all = record { gone = all.gone; split = append_assoc held part text ∙ all.split; appends = all.appends }
 
 pub on_err : {T E P : Type 0} (r : Result T E) → P → OnErr r P
 on_err (Ok x) p = tt
@@ -93,15 +85,6 @@ on_err (Err e) p = p
 
 -- ---- the answers to fields
 module _ (A : List ℕ → AnswerText → Type 0) (keeps : Bool) (d : ℕ) (asked : List Range) where
-  pub field_unasked : (asks : Bool) (column : ℕ) (raw held new : List ℕ) (a b : Option (List ℕ)) → asks ≡ false → Flushes held (before_field d column ++ raw) new a b
-      → GathersField A keeps d asks column raw false held new a b
-  field_unasked asks column raw held new a b is one = rw is (record { text = raw; answer = refl; gathered = one })
-
-  pub field_asked : (asks refused : Bool) (column : ℕ) (raw text held new : List ℕ) (a b : Option (List ℕ)) → asks ≡ true
-      → IsAnswer A keeps d true raw (record { text = text; refused = refused }) → Flushes held (before_field d column ++ text) new a b
-      → GathersField A keeps d asks column raw refused held new a b
-  field_asked asks refused column raw text held new a b is answer one = rw is (record { text = text; answer = answer; gathered = one })
-
   answers_more : (column : ℕ) (raws : List (List ℕ)) (answers : List FieldAnswer) (raw : List ℕ) (answer : FieldAnswer)
       → AreAnswers A keeps d asked column raws answers → IsAnswer A keeps d (is_asked asked (column + length raws)) raw answer
       → AreAnswers A keeps d asked column (raws ++ raw ∷ []) (answers ++ answer ∷ [])
@@ -132,7 +115,7 @@ module _ (A : List ℕ → AnswerText → Type 0) (keeps : Bool) (d : ℕ) (aske
 
   pub fields_one : (raws : List (List ℕ)) (raw : List ℕ) (column count : ℕ) (refused : Bool) (held mid new : List ℕ) (a b c : Option (List ℕ))
       → column ≡ length raws → GathersFields A keeps d asked 0 raws count held mid a b
-      → GathersField A keeps d (is_asked asked column) column raw refused mid new b c
+      → GathersField A keeps d (is_asked asked column) raw refused (mid ++ before_field d column) new b c
       → GathersFields A keeps d asked 0 (raws ++ raw ∷ []) (count + (if refused then 1 else 0)) held new a c
   fields_one raws raw column count refused held mid new a b c is before one =
       let answer : FieldAnswer = record { text = one.text; refused = refused } in
@@ -142,12 +125,13 @@ module _ (A : List ℕ → AnswerText → Type 0) (keeps : Bool) (d : ℕ) (aske
         are = answers_more 0 raws before.answers raw answer before.are (subst (λ k. IsAnswer A keeps d (is_asked asked k) raw answer) place one.answer);
         refused_is = rw (refused_more before.answers answer, before.refused_is) refl;
         gathered = rw (text_more 0 raws before.answers answer before.are, ← place)
-            (flushes_both held (answers_text d 0 before.answers) (before_field d column ++ one.text) mid new a b c before.gathered one.gathered);
+            (flushes_both held (answers_text d 0 before.answers) (before_field d column ++ one.text) mid new a b c before.gathered
+            (flushes_held mid (before_field d column) one.text new b c one.gathered));
       }
 
   pub part_one : (all some more : List (List ℕ)) (raw : List ℕ) (column count : ℕ) (held mid : List ℕ) (a b c : Option (List ℕ))
       → all ≡ (some ++ raw ∷ []) ++ more → column ≡ length some → GathersFields A keeps d asked 0 some count held mid a b
-      → ((refused : Bool) × (left : List ℕ) × GathersField A keeps d (is_asked asked column) column raw refused mid left b c)
+      → ((refused : Bool) × (left : List ℕ) × GathersField A keeps d (is_asked asked column) raw refused (mid ++ before_field d column) left b c)
       → GathersPart A keeps d asked all held a c
   part_one all some more raw column count held mid a b c cut is before one = record {
     some = some ++ raw ∷ [];
@@ -157,3 +141,19 @@ module _ (A : List ℕ → AnswerText → Type 0) (keeps : Bool) (d : ℕ) (aske
     left = one.1;
     fields = fields_one some raw column count one.0 held mid one.1 a b c is before one.2;
   }
+
+  -- what is ahead was gathered, or was to be
+  pub fields_on : (raws : List (List ℕ)) (count : ℕ) (held out part new : List ℕ) (a b c : Option (List ℕ))
+      → GathersFields A keeps d asked 0 raws count held (out ++ part) a b → Flushes out part new b c → GathersFields A keeps d asked 0 raws count held new a c
+  fields_on raws count held out part new a b c before last = record {
+    answers = before.answers;
+    are = before.are;
+    refused_is = before.refused_is;
+    gathered = subst (λ l. Flushes held l new a c) (append-nil (answers_text d 0 before.answers))
+        (flushes_both held (answers_text d 0 before.answers) [] (out ++ part) new a b c before.gathered
+        (flushes_on out part [] new b c (subst (λ l. Flushes out l new b c) (sym (append-nil part)) last)));
+  }
+
+  pub part_all : (raws : List (List ℕ)) (count : ℕ) (held left : List ℕ) (a c : Option (List ℕ))
+      → GathersFields A keeps d asked 0 raws count held left a c → GathersPart A keeps d asked raws held a c
+  part_all raws count held left a c fields = record { some = raws; more = []; cut = sym (append-nil raws); refused = count; left = left; fields = fields }

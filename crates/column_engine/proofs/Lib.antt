@@ -1,5 +1,11 @@
 mod RowLemmas
+mod PlaceLemmas
 mod GatherLemmas
+mod FieldsLemmas
 mod FeedLemmas
 mod HeaderLemmas
 mod RunLemmas
+mod RecordLemmas
+mod ReplaceLemmas
+mod UniqueLemmas
+mod EndLemmas

@@ -61,18 +61,18 @@ unfolding onto
 onto_one xs b [] = refl
 onto_one xs b (f ∷ fs) = ap (λ l. l ∷ fs) (sym (append_assoc xs (b ∷ []) f))
 
-pub fields_begin : (d : ℕ) (body : List ℕ) → raw_fields d Start body ≡ onto (take 0 body) (raw_fields d Start (drop 0 body))
-fields_begin d body = sym (onto_none (raw_fields d Start body))
+pub fields_from : (d : ℕ) (place : Place) (body : List ℕ) → raw_fields d place body ≡ onto (take 0 body) (raw_fields d place (drop 0 body))
+fields_from d place body = sym (onto_none (raw_fields d place body))
 
-raw_on : (d : ℕ) (place : Place) (b : ℕ) (rest : List ℕ) → ends_field d place b ≡ false → raw_fields d place (b ∷ rest) ≡ onto_first b (raw_fields d (within_after place b) rest)
+pub raw_on : (d : ℕ) (place : Place) (b : ℕ) (rest : List ℕ) → ends_field d place b ≡ false → raw_fields d place (b ∷ rest) ≡ onto_first b (raw_fields d (within_after place b) rest)
 unfolding raw_fields
 raw_on d place b rest nay = rw nay refl
 
-raw_end : (d : ℕ) (place : Place) (b : ℕ) (rest : List ℕ) → ends_field d place b ≡ true → raw_fields d place (b ∷ rest) ≡ [] ∷ raw_fields d Start rest
+pub raw_end : (d : ℕ) (place : Place) (b : ℕ) (rest : List ℕ) → ends_field d place b ≡ true → raw_fields d place (b ∷ rest) ≡ [] ∷ raw_fields d Start rest
 unfolding raw_fields
 raw_end d place b rest yea = rw yea refl
 
-raw_none : (d : ℕ) (place : Place) → raw_fields d place [] ≡ [] ∷ []
+pub raw_none : (d : ℕ) (place : Place) → raw_fields d place [] ≡ [] ∷ []
 unfolding raw_fields
 raw_none d place = refl
 
@@ -130,16 +130,27 @@ unfolding content
 content_one place b rest true yea = rw yea refl
 content_one place b rest false nay = rw nay refl
 
+content_none : (place : Place) → content place [] ≡ []
+unfolding content
+content_none place = refl
+
+kept_or_not : (drops : Bool) (place : Place) (b : ℕ) (rest : List ℕ) → length (content place rest) ≤ length rest
+    → length ((if drops then [] else b ∷ []) ++ content place rest) ≤ length (b ∷ rest)
+kept_or_not true place b rest short = omega (arith, short)
+kept_or_not false place b rest short = omega (arith, short)
+
+-- a text is no longer than the bytes that mean it
+pub content_short : (place : Place) (raw : List ℕ) → length (content place raw) ≤ length raw
+content_short place [] = rw (content_none place) (omega arith)
+content_short place (b ∷ rest) = rw (content_one place b rest (is_dropped place b) refl)
+    (kept_or_not (is_dropped place b) (within_after place b) b rest (content_short (within_after place b) rest))
+
 pub content_more : (place : Place) (raw text : List ℕ) (k : ℕ) → k < length raw → content Start raw ≡ text ++ content place (drop k raw)
     → content Start raw ≡ text ++ (if is_dropped place (get_or raw k 0) then [] else get_or raw k 0 ∷ []) ++ content (within_after place (get_or raw k 0)) (drop (k + 1) raw)
 content_more place raw text k low before =
     rw add-one (before ∙ ap (λ l. text ++ content place l) (drop-cons raw k 0 low)
     ∙ ap (λ l. text ++ l) (content_one place (get_or raw k 0) (drop (suc k) raw) (is_dropped place (get_or raw k 0)) refl)
     ∙ sym (append_assoc text _ _))
-
-content_none : (place : Place) → content place [] ≡ []
-unfolding content
-content_none place = refl
 
 pub content_last : (place : Place) (raw text : List ℕ) (k : ℕ) → length raw ≤ k → content Start raw ≡ text ++ content place (drop k raw) → text ≡ content Start raw
 content_last place raw text k high before =

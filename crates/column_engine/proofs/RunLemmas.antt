@@ -19,6 +19,7 @@ use Rattle.column_engine.specs.declared.end.Stop.{Stop}
 use Rattle.column_engine.specs.declared.end.Stop.TheVariants.{Done, NoColumn, NoMemory, NoName, ReadFault, TooLong, Unclosed, WriteFault}
 use Rattle.column_engine.specs.declared.place.Place.{Place}
 use Rattle.column_engine.specs.declared.place.Place.TheVariants.{AfterQuote, Inside, Quoted, Start}
+use Rattle.column_engine.specs.declared.record_buffer.TheConstants.{MAX_RECORD}
 use Rattle.column_engine.specs.declared.run.TheConstants.{MAX_TEXT}
 use Rattle.column_engine.specs.Begin.{IsPartOfMark}
 use Rattle.column_engine.proofs.FeedLemmas.{ended_append, feeds_both, feeds_none, rows_append}
@@ -324,21 +325,6 @@ module _ (A : List ℕ → AnswerText → Type 0) (keeps : Bool) (d : ℕ) (colu
     output = Appends-nil a;
   }
 
-  pub stops_unclosed : (kept : List ℕ) (place : Place) (s : State) (left a : Option (List ℕ)) → IsStanding d kept place → place ≡ Quoted → IsAtEnd left
-      → StopsText Unclosed A keeps d columns [] kept s s left a a
-  stops_unclosed kept place s left a standing quoted end = record {
-    rows = [];
-    rest = kept;
-    split = refl;
-    ended = tt;
-    text = [];
-    between = s;
-    answers = (refl, refl);
-    part = [];
-    ends = (end, standing.unended, sym standing.place_is ∙ quoted, refl, same_counts s);
-    output = Appends-nil a;
-  }
-
   pub is_last : (kept : List ℕ) (place : Place) → IsStanding d kept place → kept ≢ [] → place ≢ Quoted → IsLast d (record { body = kept; end = [] })
   is_last kept place standing some closed = record { unended = standing.unended; some = some; closed = λ quoted. closed (standing.place_is ∙ quoted); is_end = refl }
 
@@ -518,7 +504,7 @@ module _ (A : List ℕ → AnswerText → Type 0) (keeps : Bool) (d : ℕ) (colu
   ends_counts WriteFault s u v rest part left same (inr (row, next, inr (t, answer, counts))) = inr (row, next, inr (t, answer, counts_both t u v counts same))
   ends_counts NoMemory s u v rest part left same ends = absurd ends
   ends_counts TooLong s u v rest part left same ends = (ends.0, ends.1, counts_both s u v ends.2 same)
-  ends_counts Unclosed s u v rest part left same ends = (ends.0, ends.1, ends.2, ends.3, counts_both s u v ends.4 same)
+  ends_counts Unclosed s u v rest part left same ends = (ends.0, ends.1, ends.2, ends.3, ends.4, counts_both s u v ends.5 same)
   ends_counts (NoColumn count) s u v rest part left same ends = (ends.0, ends.1, ends.2, ends.3, counts_both s u v ends.4 same)
   ends_counts NoName s u v rest part left same ends = (ends.0, ends.1, ends.2, ends.3, counts_both s u v ends.4 same)
 

@@ -9,6 +9,7 @@ use Rattle.column_engine.specs.declared.columns.Column.{Column}
 use Rattle.column_engine.specs.declared.columns.Column.TheVariants.{At, Named}
 use Rattle.column_engine.specs.declared.columns.Range.{Range}
 use Rattle.column_engine.specs.declared.place.Place.TheVariants.{Start}
+use Rattle.column_engine.specs.declared.record_buffer.TheConstants.{MAX_RECORD}
 
 -- ---- which columns are asked for
 
@@ -84,14 +85,17 @@ pub record FieldAnswer : Type 0 where
   pub text : List ℕ
   pub refused : Bool
 
+-- whether a field stays as it was: by a reply without a byte, and where it is refused and refused fields are kept
+abbrev pub stays : Bool → AnswerText → Bool
+stays keeps reply = (keeps && reply.fault) || (length reply.text == 0)
+
 -- the bytes of a field that is not asked for stay; those of one that is are replaced by the reply to its text, by
--- this meaning of a
--- reply, or stay where it is refused and refused fields are kept
+-- this meaning of a reply, or stay
 abbrev pub IsAnswer : (List ℕ → AnswerText → Type 0) → Bool → ℕ → Bool → List ℕ → FieldAnswer → Type 0
 IsAnswer A keeps delimiter false raw answer = answer ≡ record { text = raw; refused = false }
 IsAnswer A keeps delimiter true raw answer = (reply : AnswerText) × A (content Start raw) reply
     × (answer ≡ record {
-      text = if keeps && reply.fault then raw else as_field delimiter reply.text;
+      text = if stays keeps reply then raw else as_field delimiter reply.text;
       refused =
           reply.fault;
     })
@@ -150,6 +154,7 @@ one_more s refused = record s {
 pub record PassesHeader (delimiter : ℕ) (columns : List Column) (s : State) (row : Row) (text : List ℕ) (t : State) :
     Type 0 where
   pub next : s.headed ≡ true
+  pub short : length row.body ≤ MAX_RECORD
   pub found : List Range
   pub are_found : AreFound (field_texts delimiter row.body) columns found
   pub enough : needed found ≤ length (raw_fields delimiter Start row.body)
@@ -160,6 +165,7 @@ pub record PassesHeader (delimiter : ℕ) (columns : List Column) (s : State) (r
 pub record AnswersFields (A : List ℕ → AnswerText → Type 0) (keeps : Bool) (delimiter : ℕ) (s : State) (row : Row)
     (text : List ℕ) (t : State) : Type 0 where
   pub known : s.headed ≡ false
+  pub short : length row.body ≤ MAX_RECORD
   pub enough : needed s.asked ≤ length (raw_fields delimiter Start row.body)
   pub answers : List FieldAnswer
   pub are : AreAnswers A keeps delimiter s.asked 0 (raw_fields delimiter Start row.body) answers

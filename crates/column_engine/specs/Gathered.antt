@@ -1,18 +1,30 @@
 -- What was gathered or written for a record so far.
-use Rattle.std.specs.Prelude.{◌≡◌, ◌++◌, ℕ, Bool, List}
+use Rattle.std.specs.Prelude.{◌≡◌, ◌-◌, ◌++◌, ℕ, Bool, List, true, drop, take}
 use Rattle.std.specs.declared.option.Option.{Option}
 use Rattle.line_engine.specs.AnswerText.{AnswerText}
 use Rattle.line_engine.specs.Inner.Progress.{Flushes}
-use Rattle.column_engine.specs.Answers.{AreAnswers, FieldAnswer, IsAnswer, answers_text, before_field, count_refused}
+use Rattle.column_engine.specs.Answers.{AreAnswers, FieldAnswer, IsAnswer, answers_text, count_refused}
 use Rattle.column_engine.specs.declared.columns.Range.{Range}
 
--- the answer to a field was gathered, after the delimiter before it
-pub record GathersField (A : List ℕ → AnswerText → Type 0) (keeps : Bool) (delimiter : ℕ) (asks : Bool) (column : ℕ)
+-- what was gathered, and after it the bytes of a record from one place to another, which are still to be
+abbrev pub ahead : List ℕ → List ℕ → ℕ → ℕ → List ℕ
+ahead held body from to = held ++ take (to - from) (drop from body)
+
+-- the answer to a field was gathered
+pub record GathersField (A : List ℕ → AnswerText → Type 0) (keeps : Bool) (delimiter : ℕ) (asks : Bool)
     (raw : List ℕ) (refused : Bool)
     (held held' : List ℕ) (written written' : Option (List ℕ)) : Type 0 where
   pub text : List ℕ
   pub answer : IsAnswer A keeps delimiter asks raw (record { text = text; refused = refused })
-  pub gathered : Flushes held (before_field delimiter column ++ text) held' written written'
+  pub gathered : Flushes held text held' written written'
+
+-- the answer to a field that is asked for was, after these bytes
+pub record GathersAnswer (A : List ℕ → AnswerText → Type 0) (keeps : Bool) (delimiter : ℕ) (before raw : List ℕ)
+    (refused : Bool)
+    (held held' : List ℕ) (written written' : Option (List ℕ)) : Type 0 where
+  pub text : List ℕ
+  pub answer : IsAnswer A keeps delimiter true raw (record { text = text; refused = refused })
+  pub gathered : Flushes held (before ++ text) held' written written'
 
 -- the answers to these fields were
 pub record GathersFields (A : List ℕ → AnswerText → Type 0) (keeps : Bool) (delimiter : ℕ) (asked : List Range)

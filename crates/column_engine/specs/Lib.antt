@@ -1,4 +1,5 @@
 pub mod Rows
+pub mod Places
 pub mod Answers
 pub mod Gathered
 pub mod Steps
@@ -6,3 +7,4 @@ pub mod Feeding
 pub mod Begin
 pub mod Run
 pub mod End
+pub mod Laws

@@ -19,6 +19,7 @@ use Rattle.column_engine.specs.declared.end.Stop.{Stop}
 use Rattle.column_engine.specs.declared.end.Stop.TheVariants.{Done, NoColumn, NoMemory, NoName, ReadFault, TooLong}
 use Rattle.column_engine.specs.declared.end.Stop.TheVariants.{Unclosed, WriteFault}
 use Rattle.column_engine.specs.declared.place.Place.TheVariants.{Quoted, Start}
+use Rattle.column_engine.specs.declared.record_buffer.TheConstants.{MAX_RECORD}
 use Rattle.column_engine.specs.declared.run.TheConstants.{MAX_TEXT}
 
 -- the columns that a word means without a header; for a name that is no number the first one, until a header is read
@@ -83,8 +84,8 @@ Ends WriteFault A keeps delimiter columns s rest left part u = WritesNext A keep
 Ends NoMemory A keeps delimiter columns s rest left part u = ⊥
 Ends TooLong A keeps delimiter columns s rest left part u = IsTooLong delimiter rest × (part ≡ []) × SameCounts s u
 Ends Unclosed A keeps delimiter columns s rest left part u =
-    IsAtEnd left × IsUnended delimiter Start rest × (places_after delimiter Start rest ≡ Quoted) × (part ≡ [])
-    × SameCounts s u
+    IsAtEnd left × IsUnended delimiter Start rest × (places_after delimiter Start rest ≡ Quoted)
+    × (length rest ≤ MAX_RECORD) × (part ≡ []) × SameCounts s u
 Ends (NoColumn count) A keeps delimiter columns s rest left part u = RefusesNext (NoColumn count) delimiter columns s
     rest left part u
 Ends NoName A keeps delimiter columns s rest left part u = RefusesNext NoName delimiter columns s rest left part u

@@ -14,6 +14,7 @@ use Rattle.column_engine.specs.declared.end.Stop.{Stop}
 use Rattle.column_engine.specs.declared.end.Stop.TheVariants.{Done, NoColumn, NoMemory, NoName, ReadFault, TooLong}
 use Rattle.column_engine.specs.declared.end.Stop.TheVariants.{Unclosed, WriteFault}
 use Rattle.column_engine.specs.declared.place.Place.TheVariants.{Start}
+use Rattle.column_engine.specs.declared.record_buffer.TheConstants.{MAX_RECORD}
 use Rattle.column_engine.specs.declared.row.Progress.{Progress}
 
 -- at a failed write the count of failures rose, and else it is as it was
@@ -43,13 +44,19 @@ pub record LacksColumn (delimiter : ℕ) (asked : List Range) (row : Row) (count
   pub count_is : count ≡ length (raw_fields delimiter Start row.body)
   pub few : count < needed asked
 
+-- no empty line, and at most as many bytes as a record has
+pub record IsRecord (row : Row) : Type 0 where
+  pub some : row.body ≢ []
+  pub short : length row.body ≤ MAX_RECORD
+
 -- why a record was not answered
 abbrev pub IsUnanswered : Stop → ℕ → List Column → State → Row → Type 0
 IsUnanswered (NoColumn count) delimiter columns s row =
-    ((s.headed ≡ false) × LacksColumn delimiter s.asked row count)
+    IsRecord row × (((s.headed ≡ false) × LacksColumn delimiter s.asked row count)
     ⊎ ((s.headed ≡ true) × ((found : List Range) × AreFound (field_texts delimiter row.body) columns found
-    × LacksColumn delimiter found row count))
-IsUnanswered NoName delimiter columns s row = (s.headed ≡ true) × AnyMissing (field_texts delimiter row.body) columns
+    × LacksColumn delimiter found row count)))
+IsUnanswered NoName delimiter columns s row = IsRecord row × (s.headed ≡ true)
+    × AnyMissing (field_texts delimiter row.body) columns
 IsUnanswered Done delimiter columns s row = ⊥
 IsUnanswered ReadFault delimiter columns s row = ⊥
 IsUnanswered WriteFault delimiter columns s row = ⊥

@@ -10,8 +10,9 @@ use crate::end::Stop;
 use crate::place::{Place, record_end};
 use crate::record_buffer::{MAX_RECORD, RecordBuffer};
 use crate::row::{Progress, answer_row};
+use crate::rule::FieldRule;
 use fixed_steps::Steps;
-use line_engine::{LineRule, Sink};
+use line_engine::Sink;
 use std::sync::ledger::Ledger;
 
 /// What is kept between two chunks of a text.
@@ -26,7 +27,7 @@ pub(crate) struct Cutter {
 }
 
 /// Answers the record at hand, which ends with this part and this byte.
-fn end_row<A: LineRule<L>, K: Sink, L: Ledger>(
+fn end_row<A: FieldRule<L>, K: Sink, L: Ledger>(
     task: &ColumnTask<'_, A>,
     cutter: &mut Cutter,
     part: &[u8],
@@ -71,7 +72,7 @@ fn end_row<A: LineRule<L>, K: Sink, L: Ledger>(
 }
 
 /// Answers the records that end in a chunk, and keeps what follows the last of them.
-pub(crate) fn feed<A: LineRule<L>, K: Sink, L: Ledger>(
+pub(crate) fn feed<A: FieldRule<L>, K: Sink, L: Ledger>(
     task: &ColumnTask<'_, A>,
     cutter: &mut Cutter,
     chunk: &[u8],

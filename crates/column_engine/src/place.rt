@@ -1,9 +1,12 @@
 //! Where a record of CSV ends, and where a field of it ends.
 
-ghost use Rattle.std.specs.Prelude.{◌≡◌, ◌≤◌, ◌<◌, ◌+◌, ◌++◌, [], ◌∷◌, true, MatchOption, drop, get_or, length, take};
-ghost use Rattle.std.specs.Prelude.{IfSome};
+ghost use Rattle.std.specs.Prelude.{◌≡◌, ◌≤◌, ◌<◌, ◌+◌, ◌++◌, [], ◌∷◌, ℕ, true, drop, get_or, length};
+ghost use Rattle.std.specs.Prelude.{IfSome, take};
+ghost use Rattle.column_engine.specs.Places.{HasNoBefore, IsPlainBefore, StaysFor, behind_plain};
 ghost use Rattle.column_engine.specs.Rows.{IsUnended, ends_field, ends_record, place_after, places_after, raw_fields};
 ghost use Rattle.column_engine.specs.Rows.{within_after};
+
+use memchr::{memchr, memchr3};
 
 /// A place in a record.
 #[derive(Clone, Copy, Debug, PartialEq, Eq)]
@@ -61,6 +64,61 @@ fn place_after(delimiter: u8, place: Place, byte: u8) -> Place
     }
 }
 
+/// How many bytes there are before the first one that is this one, or in all.
+fn before_byte(byte: u8, bytes: &[u8]) -> usize
+    ensures within { result ≤ length bytes.now }
+    ensures none { HasNoBefore byte bytes.now result }
+{
+    match memchr(byte, bytes) {
+        Some(count) => count,
+        None => bytes.len(),
+    }
+}
+
+/// How many bytes there are before the first quote or end of a line, or in all.
+fn before_mark(bytes: &[u8]) -> usize
+    ensures within { result ≤ length bytes.now }
+    ensures plain { IsPlainBefore bytes.now result }
+{
+    if !bytes.is_empty() && bytes[0] == b'"' {
+        return 0;
+    }
+    match memchr3(b'"', b'\n', b'\r', bytes) {
+        Some(count) => count,
+        None => bytes.len(),
+    }
+}
+
+/// The place after some bytes of a record that are no quotes and no ends of lines.
+fn behind_plain(delimiter: u8, place: Place, bytes: &[u8]) -> Place
+    ensures { result ≡ behind_plain delimiter place bytes.now }
+{
+    if bytes.is_empty() {
+        return place;
+    }
+    if bytes[bytes.len() - 1] == delimiter {
+        Place::Start
+    } else {
+        Place::Inside
+    }
+}
+
+/// Passes over bytes that neither end a record nor change what ends it. It says how many, and the place after them.
+fn pass_over(delimiter: u8, place: Place, bytes: &[u8]) -> (usize, Place)
+    ensures within { result.0 ≤ length bytes.now }
+    ensures unended { IsUnended delimiter place (take result.0 bytes.now) }
+    ensures after { result.1 ≡ places_after delimiter place (take result.0 bytes.now) }
+{
+    match place {
+        Place::Quoted => (before_byte(b'"', bytes), Place::Quoted),
+        Place::AfterQuote => (0, Place::AfterQuote),
+        _ => {
+            let count = before_mark(bytes);
+            (count, behind_plain(delimiter, place, &bytes[..count]))
+        }
+    }
+}
+
 /// Where the record ends that goes on with these bytes from a place, where it ends in them, and the place after those
 /// before.
 pub(crate) fn record_end(delimiter: u8, from: Place, bytes: &[u8]) -> (Option<usize>, Place)
@@ -71,13 +129,45 @@ pub(crate) fn record_end(delimiter: u8, from: Place, bytes: &[u8]) -> (Option<us
         bytes.now) }
 {
     let mut place = from;
-    'bytes: for at in 0..bytes.len() {
-        if ends_record(place, bytes[at]) {
-            return (Some(at), place);
+    let mut at = 0;
+    'bytes: loop {
+        let (count, next) = pass_over(delimiter, place, &bytes[at..]);
+        at += count;
+        if at == bytes.len() {
+            return (None, next);
         }
-        place = place_after(delimiter, place, bytes[at]);
+        if ends_record(next, bytes[at]) {
+            return (Some(at), next);
+        }
+        place = place_after(delimiter, next, bytes[at]);
+        at += 1;
     }
-    (None, place)
+}
+
+/// How many bytes of a field keep its place, up to the next that may change it or end the field.
+fn staying(delimiter: u8, place: Place, bytes: &[u8]) -> usize
+    ensures within { result ≤ length bytes.now }
+    ensures stays { StaysFor delimiter place bytes.now result }
+{
+    match place {
+        Place::Inside => before_byte(delimiter, bytes),
+        Place::Quoted => before_byte(b'"', bytes),
+        Place::Start | Place::AfterQuote => 0,
+    }
+}
+
+/// A place at which the first field of a record can be taken to begin: inside of one where it has no quote first.
+fn first_place(body: &[u8]) -> Place
+    ensures { (delimiter : ℕ) → raw_fields delimiter Place.Start body.now ≡ raw_fields delimiter result body.now }
+{
+    if body.is_empty() {
+        return Place::Inside;
+    }
+    if body[0] == b'"' {
+        Place::Start
+    } else {
+        Place::Inside
+    }
 }
 
 /// How many bytes the first field of a record has.
@@ -87,13 +177,19 @@ pub(crate) fn field_end(delimiter: u8, body: &[u8]) -> usize
     ensures more { result < length body.now
         → raw_fields delimiter Place.Start body.now ≡ take result body.now ∷ raw_fields delimiter Place.Start (drop
         (result + 1) body.now) }
+    ensures delimiter { result < length body.now → get_or body.now result 0 ≡ delimiter }
 {
-    let mut place = Place::Start;
-    'bytes: for at in 0..body.len() {
+    let mut place = first_place(body);
+    let mut at = 0;
+    'bytes: loop {
+        at += staying(delimiter, place, &body[at..]);
+        if at == body.len() {
+            return at;
+        }
         if ends_field(delimiter, place, body[at]) {
             return at;
         }
         place = within_after(place, body[at]);
+        at += 1;
     }
-    body.len()
 }

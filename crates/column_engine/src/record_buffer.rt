@@ -59,7 +59,8 @@ impl RecordBuffer {
 
     /// Whether there is no byte.
     pub fn is_empty(&self) -> bool
-        ensures { IsTrue result ↔ (self.now ≡ []) }
+        ensures none { IsTrue result ↔ (self.now ≡ []) }
+        ensures most { length self.now ≤ MAX_RECORD }
     {
         self.bytes.is_empty()
     }

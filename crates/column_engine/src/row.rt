@@ -10,15 +10,18 @@ ghost use Rattle.column_engine.specs.Steps.{IsHeader, IsNoHeader, PassesRow, Ris
 ghost use Rattle.column_engine.specs.Steps.{StopsRow, state_of};
 ghost use Rattle.column_engine.specs.declared.record_buffer.TheConstants.{MAX_RECORD};
 
-use crate::answer::{ColumnTask, Work, answer_fields};
+use crate::answer::{ColumnTask, Work};
 use crate::columns::{Column, Range, needed};
 use crate::end::Stop;
+use crate::fields::answer_fields;
 use crate::gather::put;
 use crate::header::found_column;
 use crate::place::{Place, field_end};
 use crate::record_buffer::RecordBuffer;
+use crate::rule::FieldRule;
+use crate::watch::ColumnWatch;
 use fixed_steps::Steps;
-use line_engine::{Failed, LineRule, Output, Sink};
+use line_engine::{Failed, Output, Sink};
 use std::sync::ledger::Ledger;
 
 /// How far a text was answered.
@@ -75,6 +78,7 @@ fn find_columns(
     columns: &[Column],
     asked: &mut [Range],
     text: &mut RecordBuffer,
+    watch: &ColumnWatch,
 ) -> bool
     requires short { length header.now ≤ MAX_RECORD }
     requires as_many { length asked.old ≡ length columns.now }
@@ -82,6 +86,7 @@ fn find_columns(
     ensures missing { result ≡ false → AnyMissing (field_texts delimiter header.now) columns.now }
 {
     'columns: for at in 0..columns.len() {
+        watch.look_for(at);
         match found_column(delimiter, header, &columns[at], text) {
             Some(range) => asked[at] = range,
             None => return false,
@@ -116,12 +121,14 @@ fn read_header<A>(
     ensures stops { IfErr result (λ stop. IsNoHeader stop task.now.delimiter task.now.columns.now body.now) }
     ensures same { SameButAsked progress.old progress.new }
 {
+    task.watch.keep_header(body);
     if !find_columns(
         task.delimiter,
         body,
         task.columns,
         &mut progress.asked,
         text,
+        task.watch,
     ) {
         return Err(Stop::NoName);
     }
@@ -132,7 +139,7 @@ fn read_header<A>(
 }
 
 /// Answers a record that is no header.
-fn answer_record<A: LineRule<L>, K: Sink, L: Ledger>(
+fn answer_record<A: FieldRule<L>, K: Sink, L: Ledger>(
     task: &ColumnTask<'_, A>,
     progress: &mut Progress,
     body: &[u8],
@@ -173,7 +180,7 @@ fn answer_record<A: LineRule<L>, K: Sink, L: Ledger>(
 }
 
 /// Answers a record, or passes over an empty line or the header.
-pub(crate) fn answer_row<A: LineRule<L>, K: Sink, L: Ledger>(
+pub(crate) fn answer_row<A: FieldRule<L>, K: Sink, L: Ledger>(
     task: &ColumnTask<'_, A>,
     progress: &mut Progress,
     body: &[u8],
@@ -195,6 +202,7 @@ pub(crate) fn answer_row<A: LineRule<L>, K: Sink, L: Ledger>(
     ensures as_many { length progress.new.asked.items ≡ length task.now.columns.now }
     ensures failures { RisesOnly (K.failures sink.old) (K.failures sink.new) result }
 {
+    task.watch.begin_row(body, end);
     if body.is_empty() {
         return match put(end, &mut work.out, sink) {
             Err(_) => Err(Stop::WriteFault),

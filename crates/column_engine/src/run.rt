@@ -20,8 +20,9 @@ use crate::gather::flush;
 use crate::place::Place;
 use crate::record_buffer::RecordBuffer;
 use crate::row::{Progress, answer_row};
+use crate::rule::FieldRule;
 use fixed_steps::Steps;
-use line_engine::{LineRule, Output, Sink, Source, write_whole};
+use line_engine::{Output, Sink, Source, write_whole};
 use std::alloc::{AllocError, Global};
 use std::sync::ledger::Ledger;
 
@@ -50,7 +51,7 @@ fn stop_after<K: Sink>(stop: Stop, out: &mut Output, sink: &mut K) -> Stop
 }
 
 /// Answers the records that end in a chunk, keeps what follows the last of them, and writes the answers.
-fn take_chunk<A: LineRule<L>, K: Sink, L: Ledger>(
+fn take_chunk<A: FieldRule<L>, K: Sink, L: Ledger>(
     task: &ColumnTask<'_, A>,
     cutter: &mut Cutter,
     chunk: &[u8],
@@ -85,7 +86,7 @@ fn take_chunk<A: LineRule<L>, K: Sink, L: Ledger>(
 }
 
 /// Answers the last record of a text, which has no end, where it is not empty, and says how the text ended.
-fn end_text<A: LineRule<L>, K: Sink, L: Ledger>(
+fn end_text<A: FieldRule<L>, K: Sink, L: Ledger>(
     task: &ColumnTask<'_, A>,
     cutter: &mut Cutter,
     work: &mut Work,
@@ -128,7 +129,7 @@ fn end_text<A: LineRule<L>, K: Sink, L: Ledger>(
 /// Reads the first bytes of a text, and writes a byte order mark that it begins with. Where the text ends with them,
 /// or a read or a
 /// write fails, it says how the text ended.
-fn begin_text<A: LineRule<L>, S: Source, K: Sink, L: Ledger>(
+fn begin_text<A: FieldRule<L>, S: Source, K: Sink, L: Ledger>(
     task: &ColumnTask<'_, A>,
     cutter: &mut Cutter,
     work: &mut Work,
@@ -175,7 +176,7 @@ fn begin_text<A: LineRule<L>, S: Source, K: Sink, L: Ledger>(
 }
 
 /// Reads a text to its end, and has its records answered.
-fn answer_text<A: LineRule<L>, S: Source, K: Sink, L: Ledger>(
+fn answer_text<A: FieldRule<L>, S: Source, K: Sink, L: Ledger>(
     task: &ColumnTask<'_, A>,
     cutter: &mut Cutter,
     work: &mut Work,
@@ -269,8 +270,10 @@ fn begin_work(alloc: Global) -> Result<Work, AllocError>
     ensures { IfOk result (λ work. work.out ≡ []) }
 {
     let text = RecordBuffer::new(alloc)?;
+    let scratch = RecordBuffer::new(alloc)?;
     Ok(Work {
         text,
+        scratch,
         reply: Output::new(),
         out: Output::new(),
     })
@@ -293,14 +296,14 @@ fn end_of(stop: Stop, progress: &Progress) -> ColumnEnd
 /// byte stays as it was:
 /// a byte order mark, quotes, blank lines, the ends of lines.
 ///
-/// It takes memory for two records of 1,048,576 bytes and for a range of columns for each word, and ends with
+/// It takes memory for three records of 1,048,576 bytes and for a range of columns for each word, and ends with
 /// `NoMemory` where that
 /// fails; afterwards it takes none. Each read asks for at most 16,384 bytes, and the answers to the records that
 /// ended in them are
 /// written before the next read.
 ///
 /// The delimiter is an ASCII character that is no quote and no end of a line.
-pub fn run_column<A: LineRule<L>, S: Source, K: Sink, L: Ledger>(
+pub fn run_column<A: FieldRule<L>, S: Source, K: Sink, L: Ledger>(
     alloc: Global,
     task: &ColumnTask<'_, A>,
     source: &mut S,

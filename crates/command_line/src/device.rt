@@ -1,8 +1,34 @@
-//! A writer that keeps why the device failed, in its own words for a report, and a reader that passes over a byte order
-//! mark.
+//! Where answers go; a writer that keeps why the device failed, in its own words for a report; and a reader that passes
+//! over a byte order mark.
 
 use std::cell::Cell;
-use std::io::{Error, Read, Result, Write};
+use std::fs::File;
+use std::io::{Error, Read, Result, Stdout, Write};
+
+/// Where answers go.
+#[derive(Drop)]
+pub enum Output {
+    /// To standard output.
+    Standard(Stdout),
+    /// To a file.
+    File(File),
+}
+
+impl Write for Output {
+    fn write(&mut self, buf: &[u8]) -> Result<usize> {
+        match self {
+            Output::Standard(out) => out.write(buf),
+            Output::File(out) => out.write(buf),
+        }
+    }
+
+    fn flush(&mut self) -> Result<()> {
+        match self {
+            Output::Standard(out) => out.flush(),
+            Output::File(out) => out.flush(),
+        }
+    }
+}
 
 /// Why a device failed, where one did.
 pub type Failure = Cell<Option<Error>>;

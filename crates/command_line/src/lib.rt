@@ -11,7 +11,7 @@ pub mod page;
 pub mod report;
 pub mod run;
 
-pub use device::{Failure, Unmarked, Writer};
+pub use device::{Failure, Output, Unmarked, Writer};
 pub use given::{Asked, Given, Refusal};
 pub use page::{FILES, Operand, Page, Row};
 pub use report::{Report, refuse, report_end, report_no_memory};

@@ -1,10 +1,11 @@
 //! What is done with each input, one after another.
 
 use crate::commands::{column, fit, pack, unpack};
-use command_line::device::{Failure, Unmarked, Writer};
+use command_line::device::{Failure, Output, Unmarked, Writer};
 use command_line::report::{Report, push_words, report_end};
 use fixed_command::{
-    ColumnConversion, RefusedLine, Task, Watch, convert_column, explanation, greater_end, run_task,
+    ColumnConversion, ConvertRule, MAX_TALLY, Place, RefusedLine, Tally, Task, Watch,
+    convert_column, explanation, greater_end, run_task, tally_text,
 };
 use fixed_fit::Question as FitQuestion;
 use fixed_io::{StdSink, StdSource};
@@ -56,14 +57,48 @@ fn report_refused<L: Ledger>(
     watch: &Watch,
     steps: &mut Steps<L>,
 ) {
-    if let Some(line) = watch.first() {
-        let mut report = refusal_report(file, watch.refused(), &line);
-        if let Task::Convert(rule) = task {
-            let more = explanation(rule, line.text.as_bytes(), line.cause.as_bytes(), steps);
-            report.bytes(more.as_bytes(), 640);
+    let refusals = watch.refusals();
+    if let Some(line) = &refusals.first {
+        let mut report = refusal_report(file, refusals.count, line);
+        match task {
+            Task::Convert(rule) => {
+                let numeral = line.text.as_bytes();
+                push_explanation(&mut report, rule, line, (numeral, 0), steps);
+            }
+            Task::LaidOut { laid, .. } => {
+                let text = line.text.as_bytes();
+                let numeral = laid.layout.numeral_of(text);
+                let blanks = laid.layout.blanks_before(text);
+                push_explanation(&mut report, &laid.rule, line, (numeral, blanks), steps);
+            }
+            _ => (),
         }
         report.send(rt);
     }
+}
+
+/// Appends what more there is to say of a line that a conversion refuses, by its numeral and how many bytes of the
+/// line come before it; nothing of a line that is not kept whole.
+fn push_explanation<L: Ledger>(
+    report: &mut Report,
+    rule: &ConvertRule,
+    line: &RefusedLine,
+    numeral: (&[u8], usize),
+    steps: &mut Steps<L>,
+) {
+    if line.is_cut() {
+        return;
+    }
+    let more = explanation(rule, numeral.0, numeral.1, line.cause.as_bytes(), steps);
+    report.bytes(more.as_bytes(), 640);
+}
+
+/// Says on standard error how the numerals of an input came through.
+pub fn report_tally(rt: &HostRuntime, file: Option<&str>, tally: &Tally, place: Place) {
+    let text = tally_text(tally, place);
+    let mut report = Report::of(file);
+    report.bytes(text.as_bytes(), MAX_TALLY);
+    report.send(rt);
 }
 
 /// Does a task with one input, and says on standard error why it did not end well.
@@ -72,17 +107,30 @@ fn run_task_on<R: Read + Drop, L: Ledger>(
     task: &Task<'_>,
     file: Option<&str>,
     reader: R,
+    output: &mut Output,
     steps: &mut Steps<L>,
 ) -> Status {
     let watch = Watch::new();
     let failure = Failure::new(None);
     let mut source = StdSource::new(Unmarked::new(reader));
     let mut sink = StdSink::new(Writer {
-        writer: rt.stdout(),
+        writer: output,
         failure: &failure,
     });
     let status = run_task(rt.alloc(), task, &watch, &mut source, &mut sink, steps);
-    report_refused(rt, task, file, &watch, steps);
+    // Where a write failed, not all answers that were counted were taken.
+    if !is_last(status) {
+        report_refused(rt, task, file, &watch, steps);
+        if matches!(
+            task,
+            Task::LaidOut {
+                has_report: true,
+                ..
+            }
+        ) {
+            report_tally(rt, file, &watch.tally(), Place::Line);
+        }
+    }
     report_end(rt, file, status, sink.lines(), &failure);
     status
 }
@@ -93,12 +141,13 @@ fn run_column_on<R: Read + Drop, L: Ledger>(
     conversion: &ColumnConversion,
     file: Option<&str>,
     reader: R,
+    output: &mut Output,
     steps: &mut Steps<L>,
 ) -> Status {
     let failure = Failure::new(None);
     let mut source = StdSource::new(reader);
     let mut sink = StdSink::new(Writer {
-        writer: rt.stdout(),
+        writer: output,
         failure: &failure,
     });
     let end = convert_column(rt.alloc(), conversion, &mut source, &mut sink, steps);
@@ -112,11 +161,12 @@ fn run_reader<R: Read + Drop, L: Ledger>(
     job: &Job<'_>,
     file: Option<&str>,
     reader: R,
+    output: &mut Output,
     steps: &mut Steps<L>,
 ) -> Status {
     match job {
-        Job::Task(task) => run_task_on(rt, task, file, reader, steps),
-        Job::Column(conversion) => run_column_on(rt, conversion, file, reader, steps),
+        Job::Task(task) => run_task_on(rt, task, file, reader, output, steps),
+        Job::Column(conversion) => run_column_on(rt, conversion, file, reader, output, steps),
         Job::Fit(question) => {
             let mut source = StdSource::new(Unmarked::new(reader));
             fit::run_on(rt, question, file, &mut source, steps)
@@ -139,13 +189,14 @@ fn run_file<L: Ledger>(
     rt: &HostRuntime,
     job: &Job<'_>,
     file: &str,
+    output: &mut Output,
     steps: &mut Steps<L>,
 ) -> Status {
     if file == "-" {
-        return run_reader(rt, job, None, rt.stdin(), steps);
+        return run_reader(rt, job, None, rt.stdin(), output, steps);
     }
     match File::open(rt, file) {
-        Ok(reader) => run_reader(rt, job, Some(file), reader, steps),
+        Ok(reader) => run_reader(rt, job, Some(file), reader, output, steps),
         Err(error) => refuse_file(rt, file, &error),
     }
 }
@@ -157,22 +208,33 @@ fn is_last(status: Status) -> bool {
 
 /// Does a job with each file in order, each an input of its own, and with standard input where there are none. It
 /// ends with the greatest code, and at once where a write failed or memory is wanting.
-pub fn run_inputs<L: Ledger>(
+pub fn run_inputs_to<L: Ledger>(
     rt: &HostRuntime,
     job: &Job<'_>,
     files: &[&str],
+    output: &mut Output,
     steps: &mut Steps<L>,
 ) -> Status {
     if files.is_empty() {
-        return run_file(rt, job, "-", steps);
+        return run_file(rt, job, "-", output, steps);
     }
     let mut end = Status::Done;
     for file in files {
-        let status = run_file(rt, job, file, steps);
+        let status = run_file(rt, job, file, output, steps);
         end = greater_end(end, status);
         if is_last(status) {
             return end;
         }
     }
     end
+}
+
+/// Does a job with each file, and writes to standard output.
+pub fn run_inputs<L: Ledger>(
+    rt: &HostRuntime,
+    job: &Job<'_>,
+    files: &[&str],
+    steps: &mut Steps<L>,
+) -> Status {
+    run_inputs_to(rt, job, files, &mut Output::Standard(rt.stdout()), steps)
 }

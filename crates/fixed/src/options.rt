@@ -66,6 +66,46 @@ pub const ENDIAN: Row = Row {
     help: "The order of a word's bytes: little (default), big",
 };
 
+pub const TRIM: Row = Row {
+    name: "trim",
+    letter: None,
+    value: "",
+    choices: &[],
+    help: "Blanks around a numeral are no part of it",
+};
+
+pub const SKIP_BLANK: Row = Row {
+    name: "skip-blank",
+    letter: None,
+    value: "",
+    choices: &[],
+    help: "A blank line is answered by an empty one",
+};
+
+pub const COMMENTS: Row = Row {
+    name: "comments",
+    letter: None,
+    value: "PREFIX",
+    choices: &[],
+    help: "So is a line that begins with PREFIX, after blanks",
+};
+
+pub const REPORT: Row = Row {
+    name: "report",
+    letter: None,
+    value: "",
+    choices: &[],
+    help: "Counts of each input, on standard error",
+};
+
+pub const OUTPUT: Row = Row {
+    name: "output",
+    letter: Some('o'),
+    value: "FILE",
+    choices: &[],
+    help: "Answers go to FILE, which is made anew",
+};
+
 pub const LIMIT: Row = Row {
     name: "limit",
     letter: None,

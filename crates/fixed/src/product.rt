@@ -176,7 +176,7 @@ pub fn run_product<L: Ledger>(
         failure: &failure,
     });
     let status = run_task(rt.alloc(), task, &watch, &mut source, &mut sink, steps);
-    if let Some(line) = watch.first() {
+    if let Some(line) = watch.refusals().first {
         report_line(rt, &all.ends, &line);
     }
     report_end(rt, None, status, sink.lines(), &failure);

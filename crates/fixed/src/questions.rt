@@ -1,11 +1,12 @@
 //! Questions about words: those of the command line, or the lines of an input.
 
 use crate::inputs::{refusal_report, refuse_file};
-use command_line::device::{Failure, Unmarked, Writer};
+use crate::output::open_output;
+use command_line::device::{Failure, Output, Unmarked, Writer};
 use command_line::given::{Asked, Given, Refusal};
 use command_line::page::Row;
 use command_line::report::{Report, report_end, report_no_memory};
-use fixed_command::{Question, RefusedLine, block_of, first_refused, greater_end, run_blocks};
+use fixed_command::{Question, Refusals, block_of, first_refused, greater_end, run_blocks};
 use fixed_io::StdSink;
 use fixed_steps::Steps;
 use line_engine::{MAX_LINE, Sink, Status, write_whole};
@@ -42,11 +43,12 @@ pub fn run_words<L: Ledger>(
     rt: &HostRuntime,
     question: &Question,
     words: &[&str],
+    output: &mut Output,
     steps: &mut Steps<L>,
 ) -> Status {
     let failure = Failure::new(None);
     let mut sink = StdSink::new(Writer {
-        writer: rt.stdout(),
+        writer: output,
         failure: &failure,
     });
     let status = run_blocks(question, words, &mut sink, steps);
@@ -62,8 +64,14 @@ pub fn run_words<L: Ledger>(
 struct Lines {
     line: Vec<u8>,
     number: u64,
-    refused: u64,
-    first: Option<RefusedLine>,
+    refusals: Refusals,
+}
+
+/// The answer in a block that reports a fault: what follows the line of the word, without its newline.
+fn answer_of(block: &[u8]) -> &[u8] {
+    let start = block.iter().position(|byte| *byte == b'\n').unwrap_or(0);
+    let answer = block.get(start.saturating_add(1)..).unwrap_or(&[]);
+    answer.strip_suffix(b"\n").unwrap_or(answer)
 }
 
 impl Lines {
@@ -79,15 +87,13 @@ impl Lines {
         let word = line.strip_suffix(b"\r").unwrap_or(line);
         let block = block_of(question, word, steps);
         if block.is_fault {
-            self.refused = self.refused.saturating_add(1);
-            if self.refused == 1 {
-                let text = block.text.as_bytes();
-                let cause = text.strip_prefix(b"error: ").unwrap_or(text);
-                let cause = cause.strip_suffix(b"\n").unwrap_or(cause);
-                self.first = Some(RefusedLine::new(self.number, word, cause));
-            }
+            let answer = answer_of(block.text.as_bytes());
+            self.refusals.note(self.number, word, answer);
         }
         self.line.clear();
+        if self.number > 1 && write_whole(sink, b"\n").is_err() {
+            return Status::WriteFault;
+        }
         match write_whole(sink, block.text.as_bytes()) {
             Err(_) => Status::WriteFault,
             Ok(()) if block.is_fault => Status::Faults,
@@ -131,25 +137,25 @@ fn run_reader<R: Read + Drop, L: Ledger>(
     question: &Question,
     file: Option<&str>,
     reader: R,
+    output: &mut Output,
     steps: &mut Steps<L>,
 ) -> Status {
     let failure = Failure::new(None);
     let mut sink = StdSink::new(Writer {
-        writer: rt.stdout(),
+        writer: output,
         failure: &failure,
     });
     let mut lines = Lines {
         line: Vec::new(rt.alloc()),
         number: 0,
-        refused: 0,
-        first: None,
+        refusals: Refusals::new(),
     };
     let end = match BufReader::new(rt.alloc(), Unmarked::new(reader)) {
         Ok(mut reader) => lines.ask_all(question, &mut reader, &mut sink, steps),
         Err(_) => return report_no_memory(rt),
     };
-    if let Some(line) = &lines.first {
-        refusal_report(file, lines.refused, line).send(rt);
+    if let Some(line) = &lines.refusals.first {
+        refusal_report(file, lines.refusals.count, line).send(rt);
     }
     match end {
         Ok(status) => {
@@ -166,20 +172,20 @@ fn run_file<L: Ledger>(
     rt: &HostRuntime,
     question: &Question,
     file: &str,
+    output: &mut Output,
     steps: &mut Steps<L>,
 ) -> Status {
     if file == "-" {
-        return run_reader(rt, question, None, rt.stdin(), steps);
+        return run_reader(rt, question, None, rt.stdin(), output, steps);
     }
     match File::open(rt, file) {
-        Ok(reader) => run_reader(rt, question, Some(file), reader, steps),
+        Ok(reader) => run_reader(rt, question, Some(file), reader, output, steps),
         Err(error) => refuse_file(rt, file, &error),
     }
 }
 
 /// Asks a question of each word from a place on; where there are none, of each line of the file that the option
-/// names, or
-/// of standard input.
+/// names, or of standard input.
 pub fn run_question<'a, L: Ledger>(
     rt: &HostRuntime,
     question: &Question,
@@ -188,10 +194,19 @@ pub fn run_question<'a, L: Ledger>(
     steps: &mut Steps<L>,
 ) -> Asked<'a, Status> {
     let words = given.from(place);
-    match given.value(&FILE) {
-        None if words.is_empty() => Ok(run_file(rt, question, "-", steps)),
-        None => Ok(run_words(rt, question, words, steps)),
-        Some(file) if words.is_empty() => Ok(run_file(rt, question, file, steps)),
-        Some(file) => Err(Refusal::Word(file, "is not read: there are words on the command line")),
+    let file = match given.value(&FILE) {
+        Some(file) if !words.is_empty() => {
+            return Err(Refusal::Word(file, "is not read: there are words on the command line"));
+        }
+        file => file.unwrap_or("-"),
+    };
+    let mut output = match open_output(rt, given, &[file])? {
+        Ok(output) => output,
+        Err(status) => return Ok(status),
+    };
+    if words.is_empty() {
+        Ok(run_file(rt, question, file, &mut output, steps))
+    } else {
+        Ok(run_words(rt, question, words, &mut output, steps))
     }
 }

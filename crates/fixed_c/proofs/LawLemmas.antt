@@ -224,11 +224,14 @@ module _ (f : FormatParts) (bits : ℤ) where
   pub print_none : (n : ℤ) (r : Refusal) → NamesFormat f → AreBitsOf f bits n → PrintIsRefused f bits r → ⊥
   print_none n r format are = unless_none (NamesFormat f) BadFormat PrintBits r format (unless_none (AreBits f bits) BadBits Never r (n, are) (λ x. x))
 
+pub printed_one : (f : FormatParts) (bits : ℤ) → FitsSigned w64 bits → (s t : List ℕ) → IsPrinted f bits s → IsPrinted f bits t → s ≡ t
+printed_one f bits fits s t p q =
+    shortest_text_unique p.number f.frac s t p.shortest (subst (λ (x : ℤ). IsShortestText x f.frac t) (bits_one f bits q.number p.number fits q.bits_are p.bits_are) q.shortest)
+
 pub print_ends_once : PrintEndsOnce
 print_ends_once f bits fits old a b len m n code other =
     text_one (IsPrinted f bits) (PrintIsRefused f bits) old a b len m n code other
-    (λ s t p q. shortest_text_unique p.number f.frac s t p.shortest (subst (λ (x : ℤ). IsShortestText x f.frac t) (bits_one f bits q.number p.number fits q.bits_are p.bits_are) q.shortest))
-    (λ t r p. print_none f bits p.number r p.format p.bits_are) (print_refusal f bits)
+    (printed_one f bits fits) (λ t r p. print_none f bits p.number r p.format p.bits_are) (print_refusal f bits)
 
 -- ---- two formats
 module _ (one : RespelledIsTheOne) (none : RefusalHasNone) (kinds : RefusalIsTheOne) (text : List ℕ) (radix : ℕ) (f g : FormatParts) (policy mode : ℕ) where

@@ -9,7 +9,7 @@ use Rattle.fixed_bits.specs.declared.mode.ReadMode.{ReadMode}
 use Rattle.fixed_numeral.specs.Numeral.{Parts}
 use Rattle.fixed_numeral.specs.declared.radix.Radix.{Radix}
 use Rattle.fixed_bits.specs.Numbers.{IsNumber}
-use Rattle.fixed_read.specs.Reading.{IsReading, IsReadNumber}
+use Rattle.fixed_read.specs.Reading.{IsReading, IsReadNumber, number_in}
 use Rattle.fixed_read.specs.declared.read_number.ReadNumber.{ReadNumber}
 use Rattle.fixed_c.specs.Arguments.{NamesFormat}
 use Rattle.fixed_c.specs.Numbers.{flag_of, has_bits}
@@ -17,7 +17,7 @@ use Rattle.fixed_c.specs.Read.{IsReadBy, OverflowsBy}
 
 -- what holds of each number that a reading may stand for
 abbrev OfNumber : ReadNumber → (FormatParts → ℤ → Type 0) → Type 0
-OfNumber found P = (v : ℤ) → IsNumber found.number v → P found.format v
+OfNumber found P = (v : ℤ) → IsNumber (number_in found) v → P found.format v
 
 module _ (Has : Parts → Type 0) (f : FormatParts) (r : Radix) (p : Policy) (m : ReadMode) (found : ReadNumber) (q : Parts) (has : Has q)
     (reading : (q : Parts) → Has q → IsReading m r q found) (format : found.format ≡ f) where

@@ -1,12 +1,12 @@
 -- Rows, one after another.
-use Rattle.std.proofs.Common.{◌≡◌, ◌≢◌, ◌∙◌, ◌+◌, ◌*◌, ◌<◌, ◌≤◌, ◌==◌, if◌then◌else◌, ℕ, suc, List, [], ◌∷◌, ◌++◌, length, take, drop, set, get_or, ◌-◌, ◌⊎◌, ⊎_elim, subst, refl, sym, ap, arith, add-one, add_assoc, below_more, get_or-set_other, get_or-set_same}
+use Rattle.std.proofs.Common.{Bool, true, false, ◌≡◌, ◌≢◌, ◌∙◌, ◌+◌, ◌*◌, ◌<◌, ◌≤◌, ◌==◌, if◌then◌else◌, ℕ, suc, List, [], ◌∷◌, ◌++◌, length, take, drop, set, get_or, ◌-◌, ◌⊎◌, ⊎_elim, subst, refl, sym, ap, arith, add-one, add_assoc, below_more, get_or-set_other, get_or-set_same}
 use borrow.Rule.Slice.PartMut.{put_mid}
 use Rattle.std.proofs.lemmas.Bool.{cases_lt}
-use Rattle.std.proofs.lemmas.List.{drop-take}
+use Rattle.std.proofs.lemmas.List.{drop-take, length-take, take-take}
 use Rattle.std.proofs.lemmas.Slice.{between-put_mid, drop-put_mid, take-put_mid_below}
 use Rattle.std.proofs.Math.Nat.{mul-le-mul_left}
 use Rattle.std.proofs.Math.Seq.{take-suc-set}
-use Rattle.fixed_c.specs.Rows.{refused_of, row_at}
+use Rattle.fixed_c.specs.Rows.{before_zero, refused_of, row_at}
 use Rattle.fixed_c.specs.declared.number.FixedNumber.{FixedNumber}
 
 -- ---- how many codes are not 0
@@ -61,3 +61,29 @@ row_other size i k xs ys h e ne =
     let most : i * size + size ≤ k * size = omega arith in
     ap (λ (t : List ℕ). take size t) (drop-put_mid (i * size) size xs ys (k * size) most within e))
     (cases_lt k i)
+
+-- ---- the bytes before the first zero byte
+short_if : (is_zero : Bool) (b : ℕ) (bs : List ℕ) → length (before_zero bs) ≤ length bs → length (if is_zero then [] else b ∷ before_zero bs) ≤ length (b ∷ bs)
+short_if true b bs h = omega arith
+short_if false b bs h = omega (arith, h)
+
+pub zero_short : (bs : List ℕ) → length (before_zero bs) ≤ length bs
+zero_short [] = omega arith
+zero_short (b ∷ bs) = short_if (b == 0) b bs (zero_short bs)
+
+taken_if : (is_zero : Bool) (b : ℕ) (bs : List ℕ) → take (length (before_zero bs)) bs ≡ before_zero bs
+    → take (length (if is_zero then [] else b ∷ before_zero bs)) (b ∷ bs) ≡ (if is_zero then [] else b ∷ before_zero bs)
+taken_if true b bs h = refl
+taken_if false b bs h = ap (λ (t : List ℕ). b ∷ t) h
+
+pub zero_taken : (bs : List ℕ) → take (length (before_zero bs)) bs ≡ before_zero bs
+zero_taken [] = refl
+zero_taken (b ∷ bs) = taken_if (b == 0) b bs (zero_taken bs)
+
+-- the text of a row where it is
+pub text_there : (rows : List ℕ) (start size : ℕ) → drop start (take (start + length (before_zero (take size (drop start rows)))) rows) ≡ before_zero (take size (drop start rows))
+text_there rows start size =
+    let row : List ℕ = take size (drop start rows) in
+    let n : ℕ = length (before_zero row) in
+    let few : n ≤ size = omega (arith, zero_short row, length-take size (drop start rows)) in
+    drop-take start n rows ∙ sym (take-take n size (drop start rows) few) ∙ zero_taken row

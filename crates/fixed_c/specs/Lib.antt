@@ -10,8 +10,10 @@ pub mod Outcome
 pub mod Read
 pub mod Respell
 pub mod Round
+pub mod RowLaws
 pub mod Rows
 pub mod Scan
 pub mod Style
 pub mod Texts
 pub mod Words
+pub mod Inner

@@ -16,6 +16,14 @@ ghost use Rattle.fixed_c.specs.Laws.{
   ScanEndsOnce,
   StyledEndsOnce,
 };
+ghost use Rattle.fixed_c.specs.RowLaws.{
+  ConvertRowsEndOnce,
+  FormatEndsOnce,
+  PrintRowsEndOnce,
+  PutsOnce,
+  ReadRowsEndOnce,
+  WordEndsOnce,
+};
 
 use fixed_convert::laws::moved_in_is_the_one;
 use fixed_enclose::laws::pair_is_the_one;
@@ -111,3 +119,33 @@ pub fn scan_ends_once()
 {
     leading_is_the_one();
 }
+
+/// A reading of rows has one end.
+pub fn read_rows_end_once()
+    ensures { ReadRowsEndOnce }
+{}
+
+/// A conversion of rows has one end.
+pub fn convert_rows_end_once()
+    ensures { ConvertRowsEndOnce }
+{}
+
+/// A call that prints rows has one end.
+pub fn print_rows_end_once()
+    ensures { PrintRowsEndOnce }
+{}
+
+/// A buffer takes a text in one way.
+pub fn puts_once()
+    ensures { PutsOnce }
+{}
+
+/// A call for the format of a word has one end.
+pub fn word_ends_once()
+    ensures { WordEndsOnce }
+{}
+
+/// A call for the word of a format has one end.
+pub fn format_ends_once()
+    ensures { FormatEndsOnce }
+{}

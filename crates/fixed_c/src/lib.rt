@@ -6,6 +6,7 @@
 #![tactic(auto)]
 
 mod arguments;
+mod asked;
 mod exports;
 pub mod laws;
 mod number;

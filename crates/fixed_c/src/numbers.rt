@@ -12,12 +12,13 @@ ghost use Rattle.fixed_c.specs.Respell.{IsReachedAs, RespellIsRefused};
 ghost use Rattle.fixed_respell.specs.Reached.{is_signed, number_of};
 
 use crate::arguments::{FixedFormat, format_of, mode_of, policy_of, radix_of};
+use crate::asked::{asked_of, read_from};
 use crate::number::{FixedEnclosure, FixedNumber, bits_for_c, flag, number_for_c, number_in};
 use crate::refusal::Refusal;
 use crate::uncounted::{enclose_uncounted, respell_uncounted};
 use fixed_convert::{compare, reformat, reformat_mode};
 use fixed_numeral::ParseErrorKind;
-use fixed_read::{read_literal, read_uncounted};
+use fixed_read::read_literal;
 use fixed_respell::Bits;
 use std::cmp::Ordering;
 
@@ -34,17 +35,9 @@ pub fn read(
         n.overflowed))
         (ReadIsRefused text.now radix (format_of format.is_signed format.width format.frac) policy mode) }
 {
-    let radix = radix_of(radix)?;
-    let format = format_of(format, Refusal::BadFormat)?;
-    let policy = policy_of(policy)?;
-    let mode = mode_of(mode)?;
-    let found = match read_uncounted(text, radix, format, mode) {
-        Ok(found) => found,
-        Err(error) => return Err(Refusal::Numeral(error.kind())),
-    };
-    match found.image(policy) {
-        Some(number) => Ok(number_for_c(format, number, found.is_out_of_range())),
-        None => Err(Refusal::Numeral(ParseErrorKind::Overflow)),
+    match asked_of(radix, format, policy, mode) {
+        Ok(asked) => read_from(text, 0, &asked),
+        Err(refusal) => Err(refusal),
     }
 }
 

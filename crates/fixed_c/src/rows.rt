@@ -4,12 +4,14 @@ ghost use Rattle.std.specs.Prelude.{◌≡◌, ◌≢◌, ℕ, ◌<◌, ◌≤�
 ghost use Rattle.std.specs.Prelude.{take, drop, IsTrue, ◌↔◌};
 ghost use Rattle.fixed_c.specs.Numbers.{format_of};
 ghost use Rattle.fixed_c.specs.Rows.{AreRows, ArePrinted, ConvertsRow, HaveBits, HaveRows, HaveTexts, PrintedEnd};
-ghost use Rattle.fixed_c.specs.Rows.{PrintsRow, PutsRow, ReadsRow, RowsEnd, before_zero, row_at, text_of_row};
+ghost use Rattle.fixed_c.specs.Inner.Asked.{ReadsAskedRow, RefusesRow};
+ghost use Rattle.fixed_c.specs.Rows.{PrintsRow, PutsRow, ReadsRow, RowsEnd, before_zero, row_at};
 
 use crate::arguments::FixedFormat;
-use crate::exports::{fixed_convert_bits_mode, fixed_read_text};
+use crate::asked::{Asked, asked_of, read_from};
+use crate::exports::fixed_convert_bits_mode;
 use crate::number::FixedNumber;
-use crate::refusal::{OK, Refusal};
+use crate::refusal::{OK, Refusal, hand_over};
 use crate::texts::shortest_of;
 
 /// What each number is before its row is read.
@@ -48,13 +50,14 @@ fn before_zero(row: &[u8]) -> &[u8]
     row
 }
 
-/// The text of a row.
-fn text_of_row(rows: &[u8], size: usize, i: usize) -> &[u8]
-    requires { i * size + size ≤ length rows.now }
-    ensures { result.now ≡ text_of_row rows.now size i }
+/// The place after the text of a row, which begins at `start`.
+fn end_of_text(rows: &[u8], start: usize, size: usize) -> usize
+    requires { start + size ≤ length rows.now }
+    ensures end { result ≡ start + length (before_zero (take size (drop start rows.now))) }
+    ensures within { result ≤ length rows.now }
+    ensures text { drop start (take result rows.now) ≡ before_zero (take size (drop start rows.now)) }
 {
-    let start = i * size;
-    before_zero(&rows[start..start + size])
+    start + before_zero(&rows[start..start + size]).len()
 }
 
 /// 1 for a code that is not 0.
@@ -65,21 +68,15 @@ fn tally(code: u32) -> usize
     if code == OK { 0 } else { 1 }
 }
 
-/// The single reading of a row.
-fn read_row(rows: &[u8], size: usize, i: usize, reading: Reading) -> (FixedNumber, u32)
+/// The single reading of a row, whose text is read where it is: most rows have 16 bytes before them.
+fn read_row(rows: &[u8], size: usize, i: usize, asked: &Asked) -> (FixedNumber, u32)
     requires { i * size + size ≤ length rows.now }
-    ensures { ReadsRow rows.now size reading.radix (format_of reading.format.is_signed reading.format.width
-        reading.format.frac) reading.policy reading.mode i result.0 result.1 }
+    ensures { ReadsAskedRow rows.now size asked.now i result.0 result.1 }
 {
+    let start = i * size;
+    let end = end_of_text(rows, start, size);
     let mut number = NO_NUMBER;
-    let code = fixed_read_text(
-        text_of_row(rows, size, i),
-        reading.radix,
-        reading.format,
-        reading.policy,
-        reading.mode,
-        &mut number,
-    );
+    let code = hand_over(read_from(&rows[..end], start, asked), &mut number);
     (number, code)
 }
 
@@ -125,7 +122,43 @@ fn have_bits(bits: &[i64], out: &[FixedNumber], codes: &[u32]) -> bool
     bits.len() == codes.len() && out.len() == codes.len()
 }
 
-/// Reads each row, and answers how many are refused.
+/// Reads each row as it is asked for, and answers how many are refused.
+fn read_asked(
+    rows: &[u8],
+    size: usize,
+    asked: &Asked,
+    out: &mut [FixedNumber],
+    codes: &mut [u32],
+) -> usize
+    requires { HaveRows rows.now size out.old codes.old }
+    ensures { AreRows (ReadsAskedRow rows.now size asked.now) out.new codes.new result }
+{
+    let mut refused = 0;
+    for i in 0..codes.len() {
+        let (number, code) = read_row(rows, size, i, asked);
+        out[i] = number;
+        codes[i] = code;
+        refused += tally(code);
+    }
+    refused
+}
+
+/// Refuses each row, and answers how many there are.
+fn refuse_each(refusal: Refusal, out: &mut [FixedNumber], codes: &mut [u32]) -> usize
+    requires { length out.old ≡ length codes.old }
+    ensures { AreRows (RefusesRow refusal) out.new codes.new result }
+{
+    let mut refused = 0;
+    for i in 0..codes.len() {
+        let code = refusal.code();
+        out[i] = NO_NUMBER;
+        codes[i] = code;
+        refused += tally(code);
+    }
+    refused
+}
+
+/// Reads each row, and answers how many are refused. What is asked is tested once.
 fn read_each(
     rows: &[u8],
     size: usize,
@@ -137,14 +170,10 @@ fn read_each(
     ensures { AreRows (ReadsRow rows.now size reading.radix (format_of reading.format.is_signed reading.format.width
         reading.format.frac) reading.policy reading.mode) out.new codes.new result }
 {
-    let mut refused = 0;
-    for i in 0..codes.len() {
-        let (number, code) = read_row(rows, size, i, reading);
-        out[i] = number;
-        codes[i] = code;
-        refused += tally(code);
+    match asked_of(reading.radix, reading.format, reading.policy, reading.mode) {
+        Ok(asked) => read_asked(rows, size, &asked, out, codes),
+        Err(refusal) => refuse_each(refusal, out, codes),
     }
-    refused
 }
 
 /// Converts the bits of each row, and answers how many are refused.

@@ -1,11 +1,13 @@
 //! The calls of the crates below that count their steps, each with a counter of its own.
 
-ghost use Rattle.std.specs.Prelude.{◌≡◌, ◌<◌, ◌≤◌, IfErr, IfOk, MatchResult};
+ghost use Rattle.std.specs.Prelude.{◌≡◌, ◌<◌, ◌≤◌, IfErr, IfOk, MatchResult, drop, length};
 ghost use Rattle.fixed_bits.specs.Ranges.{IsWide};
 ghost use Rattle.fixed_c.specs.Respell.{IsNotReached};
+ghost use Rattle.fixed_numeral.specs.Answer.{IsReadOrRefused};
 ghost use Rattle.fixed_numeral.specs.Cause.{HasCause};
 ghost use Rattle.fixed_numeral.specs.Leading.{HasNoLeading, IsLeadingNumeral};
 ghost use Rattle.fixed_enclose.specs.Enclosure.{IsEnclosed, IsRefusal};
+ghost use Rattle.fixed_read.specs.Reading.{IsReading};
 ghost use Rattle.fixed_respell.specs.Answer.{IsAnswer};
 ghost use Rattle.fixed_respell.specs.Reached.{IsRespelled, is_signed, number_of};
 ghost use Rattle.fixed_write.specs.Texts.{IsShortestText};
@@ -13,6 +15,7 @@ ghost use Rattle.fixed_write.specs.Texts.{IsShortestText};
 use fixed_bits::{Format, Policy, ReadMode};
 use fixed_enclose::{Enclosure, enclose};
 use fixed_numeral::{ParseFixedError, Radix, leading_numeral};
+use fixed_read::{ReadNumber, read_ending};
 use fixed_respell::{Answer, Respelled, answer, respell_mode};
 use fixed_steps::Steps;
 use fixed_write::{ShortText, shortest};
@@ -42,6 +45,40 @@ pub fn leading_uncounted(text: &[u8], radix: Radix) -> Result<usize, ParseFixedE
         (λ kind. HasNoLeading radix text.now × HasCause radix text.now kind) }
 {
     leading_over::<Brand>(text, radix, Blank::new(1))
+}
+
+/// `read_ending` over a ledger that no other counter uses.
+fn ending_over<L: Ledger>(
+    text: &[u8],
+    from: usize,
+    radix: Radix,
+    format: Format,
+    mode: ReadMode,
+    blank: Blank,
+) -> Result<ReadNumber, ParseFixedError>
+    requires name { blank.name ≡ L.name }
+    requires parts { blank.parts ≡ L.parts }
+    requires backed { 0 < blank.parts }
+    requires place { from ≤ length text.now }
+    ensures reading { IsReadOrRefused radix (drop from text.now) (IsReading mode radix) result }
+    ensures format { IfOk result (λ found. found.format ≡ format) }
+{
+    read_ending(text, from, radix, format, mode, &mut Steps::<L>::new(blank))
+}
+
+/// `read_ending`.
+pub fn ending_uncounted(
+    text: &[u8],
+    from: usize,
+    radix: Radix,
+    format: Format,
+    mode: ReadMode,
+) -> Result<ReadNumber, ParseFixedError>
+    requires place { from ≤ length text.now }
+    ensures reading { IsReadOrRefused radix (drop from text.now) (IsReading mode radix) result }
+    ensures format { IfOk result (λ found. found.format ≡ format) }
+{
+    ending_over::<Brand>(text, from, radix, format, mode, Blank::new(1))
 }
 
 /// `enclose` over a ledger that no other counter uses.

@@ -9,13 +9,13 @@ use Rattle.fixed_numeral.specs.Numeral.{Parts, HasNumeral}
 use Rattle.fixed_numeral.specs.declared.error.ParseErrorKind.TheVariants.{Overflow}
 use Rattle.fixed_numeral.specs.declared.radix.Radix.TheVariants.{Dec}
 use Rattle.fixed_bits.specs.Numbers.{IsNumber}
-use Rattle.fixed_read.specs.Reading.{IsReading, IsReadNumber}
+use Rattle.fixed_read.specs.Reading.{IsReading, IsReadNumber, number_in}
 use Rattle.fixed_read.specs.declared.read_number.ReadNumber.{ReadNumber}
 use Rattle.fixed_columns.specs.Rows.{IsNumeralOf, IsRefusedNumeral}
 
 -- a reading into the format whose number is in range
 pub numeral_in : (f : FormatParts) (bytes : List ℕ) (found : ReadNumber) (p : Parts) (bits : ℤ) → found.format ≡ f → HasNumeral Dec bytes p → IsReading NearestEven Dec p found
-    → ((v : ℤ) → IsNumber found.number v → IsImage Checked found.format.signed found.format.width v bits) → IsInRange found.format.signed found.format.width bits → IsNumeralOf f bytes bits
+    → ((v : ℤ) → IsNumber (number_in found) v → IsImage Checked found.format.signed found.format.width v bits) → IsInRange found.format.signed found.format.width bits → IsNumeralOf f bytes bits
 numeral_in f bytes found p bits is has reading image in_range =
     let at : bits ≡ reading.number = (image reading.number reading.holds).same in
     let R : FormatParts → Type 0 = λ g. IsInRange g.signed g.width bits in
@@ -25,7 +25,7 @@ numeral_in f bytes found p bits is has reading image in_range =
 
 -- and out of range
 pub numeral_out : (f : FormatParts) (bytes : List ℕ) (found : ReadNumber) (p : Parts) → found.format ≡ f → HasNumeral Dec bytes p → IsReading NearestEven Dec p found
-    → ((v : ℤ) → IsNumber found.number v → IsOutOfRange found.format.signed found.format.width v) → IsRefusedNumeral f bytes Overflow
+    → ((v : ℤ) → IsNumber (number_in found) v → IsOutOfRange found.format.signed found.format.width v) → IsRefusedNumeral f bytes Overflow
 numeral_out f bytes found p is has reading out =
     let O : FormatParts → Type 0 = λ g. IsOutOfRange g.signed g.width reading.number in
     let N : FormatParts → Type 0 = λ g. IsReadNumber NearestEven Dec p g.frac reading.number in

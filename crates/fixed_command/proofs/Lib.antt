@@ -3,5 +3,7 @@ pub mod Public
 -- What no other crate can name
 mod AskingLemmas
 mod BlockLemmas
+mod OutcomeLemmas
+mod OutcomeNumbers
 mod RefusedLemmas
 mod WordLemmas

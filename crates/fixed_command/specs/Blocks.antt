@@ -1,5 +1,5 @@
 -- What is written about words: a block of lines for each.
-use Rattle.std.specs.Prelude.{◌≡◌, ◌⊎◌, ℕ, List, ◌++◌, Bool, true, false, codes, flat_map}
+use Rattle.std.specs.Prelude.{◌≡◌, ◌⊎◌, ℕ, List, [], ◌∷◌, ◌++◌, Bool, true, false, codes, flat_map, take}
 use Rattle.std.specs.declared.option.Option.{Option}
 use Rattle.std.specs.Io.KnownBytes.{Appends}
 use Rattle.fixed_bits.specs.Formats.{FormatParts}
@@ -38,18 +38,35 @@ IsBlock (Show radix format policy mode) word block = IsShowBlock mode radix word
 IsBlock (Bits radix format) word block = IsBitsBlock radix format word block.fault block.text
 IsBlock Format word block = IsFormatAnswer word block
 
--- what is written for these blocks
-abbrev pub text_of : AnswerText → List ℕ
-text_of block = block.text
+-- ---- the line of the word above its block: the word as it was given, up to 1,024 bytes
+abbrev pub head_line : List ℕ → List ℕ
+head_line word = codes "given     " ++ (take 1024 word ++ 10 ∷ [])
+
+-- that line, and the block that answers a question about the word
+pub record IsHeaded (q : Question) (word : List ℕ) (block : AnswerText) : Type 0 where
+  pub body : List ℕ
+  pub is_body : IsBlock q word (record { text = body; fault = block.fault })
+  pub text_is : block.text ≡ head_line word ++ body
+
+-- ---- what is written for some blocks
+-- an empty line, where a block was written before
+abbrev pub lead : Bool → List ℕ
+lead true = 10 ∷ []
+lead false = []
+
+-- a block after another one
+abbrev pub next_text : AnswerText → List ℕ
+next_text block = 10 ∷ block.text
 
 abbrev pub blocks_text : List AnswerText → List ℕ
-blocks_text blocks = flat_map text_of blocks
+blocks_text [] = []
+blocks_text (block ∷ blocks) = block.text ++ flat_map next_text blocks
 
--- for each word, in order and nothing else, its block was written
+-- for each word, in order and nothing else, its block was written, with an empty line between two
 pub record WritesBlocks (q : Question) (words : List (List ℕ)) (written written' : Option (List ℕ))
     (fault : Bool) : Type 0 where
   pub blocks : List AnswerText
-  pub answers : AreAnswers (IsBlock q) words blocks
+  pub answers : AreAnswers (IsHeaded q) words blocks
   pub output : Appends written written' (blocks_text blocks)
   pub faulty : any_fault blocks ≡ fault
 
@@ -59,7 +76,7 @@ pub record BreaksBlocks (q : Question) (words : List (List ℕ)) (written writte
   pub more : List (List ℕ)
   pub cut : words ≡ some ++ more
   pub blocks : List AnswerText
-  pub answers : AreAnswers (IsBlock q) some blocks
+  pub answers : AreAnswers (IsHeaded q) some blocks
   pub output : AppendsPrefix written written' (blocks_text blocks)
 
 -- what a run over words that ended so has written, and whether a write failed

@@ -5,7 +5,11 @@ use Rattle.fixed_bits.specs.Ranges.{IsInRange}
 use Rattle.fixed_numeral.specs.declared.radix.Radix.{Radix}
 use Rattle.fixed_numeral.specs.declared.radix.Radix.TheVariants.{Dec, Hex as Sixteen}
 use Rattle.fixed_show.specs.WordText.{IsWord}
+use Rattle.fixed_command.specs.Convert.{AreFormats}
+use Rattle.fixed_command.specs.Outcome.{IsOutcome}
 use Rattle.fixed_command.specs.Printed.{printed}
+use Rattle.fixed_command.specs.declared.convert.Settings.{Settings}
+use Rattle.fixed_command.specs.declared.outcome.Outcome.{Outcome}
 use Rattle.fixed_command.specs.declared.print.Print.TheVariants.{Bits, Hex, Readmemh}
 
 -- what is printed of bits of a format is a word of the format, and those bits: in decimal without a radix, in
@@ -19,3 +23,8 @@ pub record PrintedIsWord (f : FormatParts) (bits : ℤ) (answer text : List ℕ)
 abbrev pub PrintedBitsAreWords : Type 0
 PrintedBitsAreWords = (f : FormatParts) (bits : ℤ) (answer text : List ℕ) → IsFormat f.width f.frac
     → IsInRange f.signed f.width bits → PrintedIsWord f bits answer text
+
+-- a numeral comes through in one way
+abbrev pub OutcomeIsTheOne : Type 0
+OutcomeIsTheOne = (s : Settings) (numeral : List ℕ) (a b : Outcome) → AreFormats s → IsOutcome a s numeral
+    → IsOutcome b s numeral → a ≡ b

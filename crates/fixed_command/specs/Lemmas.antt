@@ -1,4 +1,5 @@
 -- What the laws of a rule need; no contract cites it.
+pub mod LayoutLemmas
 pub mod MovedLemmas
 pub mod ProductLemmas
 pub mod ReplyLemmas

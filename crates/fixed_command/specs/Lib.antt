@@ -1,12 +1,16 @@
 pub mod Asked
 pub mod Blocks
 pub mod Convert
+pub mod Explained
 pub mod Hex
 pub mod Inner
 pub mod Laws
+pub mod Layout
 pub mod Lemmas
 pub mod Limits
+pub mod Outcome
 pub mod Printed
 pub mod Products
 pub mod Refused
 pub mod Runs
+pub mod Watched

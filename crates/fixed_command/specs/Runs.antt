@@ -16,10 +16,12 @@ use Rattle.line_engine.specs.WholeRun.{HasWholeRun, WritesAnswer}
 use Rattle.line_engine.specs.declared.status.Status.{Status}
 use Rattle.line_engine.specs.declared.status.Status.TheVariants.{NoMemory, TooLong, WriteFault}
 use Rattle.fixed_command.specs.Convert.{IsLineReply}
+use Rattle.fixed_command.specs.Layout.{IsLaidOut}
 use Rattle.fixed_command.specs.Limits.{max_limit}
 use Rattle.fixed_command.specs.Products.{IsProduct}
 use Rattle.fixed_command.specs.declared.task.Task.{Task}
-use Rattle.fixed_command.specs.declared.task.Task.TheVariants.{Columns, Constants, Convert, Enclose, Least, Lines}
+use Rattle.fixed_command.specs.declared.task.Task.TheVariants.{Columns, Constants, Convert, Enclose, LaidOut}
+use Rattle.fixed_command.specs.declared.task.Task.TheVariants.{Least, Lines}
 
 -- no read and no write failed
 abbrev pub Undisturbed : Outside → Outside → Type 0
@@ -71,6 +73,7 @@ pub record IsWholeRun (A : List ℕ → AnswerText → Type 0) (limit : ℕ) (be
 abbrev pub TaskRuns : Task → Outside → Outside → Status → Type 0
 TaskRuns (Lines limit) = HasLineRun respell.IsAnswer limit 8 624
 TaskRuns (Convert settings) = HasLineRun (IsLineReply settings) max_limit 8 624
+TaskRuns (LaidOut laid has_report) = HasLineRun (IsLaidOut laid.layout laid.rule) max_limit 24 1328
 TaskRuns Enclose = HasLineRun enclose.IsAnswer max_limit 16 1248
 TaskRuns (Least radix) = IsWholeRun (least.IsWholeAnswer radix) max_limit
 TaskRuns (Constants rule) = IsWholeRun (IsProduct (constants.IsFormAnswer rule.form rule.guard.now)) max_limit

@@ -1,8 +1,9 @@
 //! Questions about words, each answered with a block of lines.
 
-ghost use Rattle.std.specs.Prelude.{◌≡◌, ◌≤◌, ◌+◌, ◌||◌, List, ℕ, length, map, IfOk, OnErr};
+ghost use Rattle.std.specs.Prelude.{◌≡◌, ◌≤◌, ◌<◌, ◌+◌, ◌++◌, ◌||◌, List, ℕ, length, map, take, IfOk, OnErr};
 ghost use Rattle.std.specs.Io.KnownBytes.{Appends};
-ghost use Rattle.fixed_command.specs.Blocks.{BlocksRun, IsBlock, IsFormatAnswer};
+ghost use Rattle.fixed_command.specs.Blocks.{BlocksRun, IsBlock, IsFormatAnswer, IsHeaded, head_line};
+ghost use Rattle.fixed_command.specs.Blocks.{lead};
 ghost use Rattle.fixed_show.specs.Blocks as show_blocks;
 ghost use Rattle.line_engine.specs.AnswerText.{AnswerText};
 ghost use Rattle.line_engine.specs.Failures.{FailsOnlyCounted};
@@ -87,41 +88,97 @@ pub(crate) fn push_block<const N: usize, L: Ledger>(
     }
 }
 
+/// How many bytes of a word are shown above its block.
+const MAX_SHOWN: usize = 1024;
+
+/// How many bytes a block has at most, with the line of its word.
+pub const MAX_HEADED: usize = 3083;
+
+/// The first bytes, at most this many.
+#[tactic(auto, using(std::proofs::lemmas::List::take_min))]
+pub(crate) fn first_bytes(bytes: &[u8], most: usize) -> &[u8]
+    ensures value { result.now ≡ take most bytes.now }
+    ensures short { length result.now ≤ most }
+{
+    &bytes[..most.min(bytes.len())]
+}
+
+/// Appends the line of a word as it was given, of which the first bytes are shown.
+fn push_head<const N: usize>(out: &mut TextBuffer<N>, word: &[u8])
+    requires { length out.old + 1035 ≤ N }
+    ensures appended { out.new ≡ out.old ++ head_line word.now }
+    ensures short { length out.new ≤ length out.old + 1035 }
+{
+    out.push_bytes(b"given     ");
+    out.push_bytes(first_bytes(word, MAX_SHOWN));
+    out.push(b'\n');
+}
+
+/// Appends the block that answers a question about a word, after a line of the word, and answers whether it reports a
+/// fault.
+fn push_headed<const N: usize, L: Ledger>(
+    question: &Question,
+    word: &[u8],
+    out: &mut TextBuffer<N>,
+    steps: &mut Steps<L>,
+) -> bool
+    requires { length out.old + MAX_HEADED ≤ N }
+    ensures { show_blocks.Appends (λ text. IsHeaded question.now word.now (record { text = text; fault = result }))
+        MAX_HEADED out.old out.new }
+{
+    push_head(out, word);
+    push_block(question, word, out, steps)
+}
+
 /// The block that answers a question about a word.
 #[derive(Drop)]
 pub struct Block {
     /// Its text.
-    pub text: TextBuffer<MAX_BLOCK>,
+    pub text: TextBuffer<MAX_HEADED>,
     /// Whether it reports a fault.
     pub is_fault: bool,
 }
 
-/// The block that answers a question about a word.
+/// The block that answers a question about a word, after a line of the word.
 pub fn block_of<L: Ledger>(question: &Question, word: &[u8], steps: &mut Steps<L>) -> Block
-    ensures { IsBlock question.now word.now (record { text = result.text; fault = result.is_fault }) }
+    ensures { IsHeaded question.now word.now (record { text = result.text; fault = result.is_fault }) }
 {
-    let mut text: TextBuffer<MAX_BLOCK> = TextBuffer::new();
-    let is_fault = push_block(question, word, &mut text, steps);
+    let mut text: TextBuffer<MAX_HEADED> = TextBuffer::new();
+    let is_fault = push_headed(question, word, &mut text, steps);
     Block { text, is_fault }
 }
 
-/// Writes the block that answers a question about a word, and answers whether it reports a fault.
+/// Appends the empty line between two blocks, where a block was written before.
+fn push_lead<const N: usize>(out: &mut TextBuffer<N>, has_begun: bool)
+    requires { length out.old < N }
+    ensures appended { out.new ≡ out.old ++ lead has_begun }
+    ensures short { length out.new ≤ length out.old + 1 }
+{
+    if has_begun {
+        out.push(b'\n');
+    }
+}
+
+/// Writes the block that answers a question about a word, after an empty line where a block was written before, and
+/// answers whether it reports a fault.
 #[inline(never)]
 fn write_block<K: Sink, L: Ledger>(
     question: &Question,
     word: &[u8],
+    has_begun: bool,
     sink: &mut K,
     steps: &mut Steps<L>,
 ) -> Result<bool, Failed>
-    ensures ok { IfOk result (λ fault. (text : List ℕ) × IsBlock question.now word.now
+    ensures ok { IfOk result (λ fault. (text : List ℕ) × IsHeaded question.now word.now
         (record { text = text; fault = fault })
-        × Appends (K.written sink.old) (K.written sink.new) text) }
-    ensures err { OnErr result ((block : AnswerText) × IsBlock question.now word.now block
-        × AppendsPrefix (K.written sink.old) (K.written sink.new) block.text) }
+        × Appends (K.written sink.old) (K.written sink.new) (lead has_begun ++ text)) }
+    ensures err { OnErr result ((block : AnswerText) × IsHeaded question.now word.now block
+        × AppendsPrefix (K.written sink.old) (K.written sink.new) (lead has_begun ++ block.text)) }
     ensures failures { FailsOnlyCounted (K.failures sink.old) (K.failures sink.new) result }
 {
-    let mut out: TextBuffer<MAX_BLOCK> = TextBuffer::new();
-    let is_fault = push_block(question, word, &mut out, steps);
+    let mut out: TextBuffer<3084> = TextBuffer::new();
+    push_lead(&mut out, has_begun);
+    let is_fault = push_headed(question, word, &mut out, steps);
     write_whole(sink, out.as_bytes())?;
     Ok(is_fault)
 }
@@ -133,7 +190,7 @@ fn is_either(one: bool, other: bool) -> bool
     one || other
 }
 
-/// Writes a block about each word, in order. It takes no memory and reads nothing.
+/// Writes a block about each word, in order, with an empty line between two. It takes no memory and reads nothing.
 pub fn run_blocks<K: Sink, L: Ledger>(
     question: &Question,
     words: &[&str],
@@ -144,12 +201,14 @@ pub fn run_blocks<K: Sink, L: Ledger>(
         (K.failures sink.old) (K.failures sink.new) result }
 {
     let mut has_fault = false;
+    let mut has_begun = false;
     let mut rest = words;
     while !rest.is_empty() {
-        match write_block(question, rest[0].as_bytes(), sink, steps) {
+        match write_block(question, rest[0].as_bytes(), has_begun, sink, steps) {
             Err(_) => return Status::WriteFault,
             Ok(is_fault) => has_fault = is_either(has_fault, is_fault),
         }
+        has_begun = true;
         rest = &rest[1..];
     }
     if has_fault {

@@ -136,7 +136,7 @@ fn push_value<const N: usize>(out: &mut TextBuffer<N>, format: Format, bits: i12
 }
 
 /// A format's fraction length.
-fn frac_of(format: Format) -> u32
+pub(crate) fn frac_of(format: Format) -> u32
     ensures value { result ≡ format.frac }
     ensures most { result ≤ 64 }
 {
@@ -298,7 +298,7 @@ fn width_of(format: Format) -> u32
 ///
 /// The message says why it says none.
 #[inline]
-fn source_number<L: Ledger>(
+pub(crate) fn source_number<L: Ledger>(
     settings: &Settings,
     numeral: &[u8],
     steps: &mut Steps<L>,
@@ -383,7 +383,7 @@ fn push_image<const N: usize, L: Ledger>(
 }
 
 /// Whether one of two holds.
-fn is_either(one: bool, other: bool) -> bool
+pub(crate) fn is_either(one: bool, other: bool) -> bool
     ensures { result ≡ (one || other) }
 {
     one || other

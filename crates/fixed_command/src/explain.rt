@@ -1,14 +1,17 @@
 //! What more there is to say of a numeral that a conversion refuses: where it goes wrong, or what the formats hold.
 
-ghost use Rattle.std.specs.Prelude.{◌≡◌, ◌≤◌, ◌+◌, length};
-ghost use Rattle.fixed_bits.specs.Ranges.{IsWide};
+ghost use Rattle.std.specs.Prelude.{◌≡◌, ◌≤◌, ◌+◌, ◌++◌, [], ℕ, IfSome, List, codes, length};
+ghost use Rattle.fixed_bits.specs.Ranges.{IsWide, greatest, lowest};
+ghost use Rattle.fixed_command.specs.Explained.{ExplainsOverflow, holds_text};
 
+use crate::convert::{frac_of, source_number};
 use crate::{ConvertRule, Settings, Spelling};
-use fixed_bits::Format;
+use fixed_bits::{Format, Policy};
+use fixed_convert::reformat_mode;
 use fixed_numeral::ParseErrorKind;
 use fixed_read::read_format;
 use fixed_respell::format_name;
-use fixed_show::{WordFault, read_word};
+use fixed_show::{WordFault, read_shown, read_word};
 use fixed_steps::Steps;
 use fixed_write::{Base, push_exact};
 use itoa::Buffer;
@@ -43,87 +46,180 @@ fn refused_place<L: Ledger>(text: &[u8], settings: &Settings, steps: &mut Steps<
     0
 }
 
-/// Appends a number of a format exactly.
-fn push_number(out: &mut TextBuffer<MAX_EXPLANATION>, bits: i128, frac: u32)
-    requires wide { IsWide bits }
-    requires frac { frac ≤ 64 }
-{
-    if out.room() >= 130 {
-        push_exact(out, bits, frac, Base::Dec);
-    }
-}
-
-/// Appends bytes where there is room for them.
-fn push_text(out: &mut TextBuffer<MAX_EXPLANATION>, text: &[u8]) {
-    if out.room() >= text.len() {
-        out.push_bytes(text);
-    }
-}
-
 /// A format's ends, as numbers of its ulps.
 fn ends_of(format: Format) -> (i128, i128)
-    ensures low { IsWide result.0 }
-    ensures high { IsWide result.1 }
+    ensures low { result.0 ≡ lowest format.signed format.width }
+    ensures high { result.1 ≡ greatest format.signed format.width }
+    ensures low_wide { IsWide result.0 }
+    ensures high_wide { IsWide result.1 }
 {
     let _width = format.width();
     (format.lowest(), format.greatest())
 }
 
-/// A format's fraction length.
-fn frac_of(format: Format) -> u32
-    ensures { result ≤ 64 }
-{
-    format.frac()
-}
-
 /// Appends what a format holds.
-fn push_range(out: &mut TextBuffer<MAX_EXPLANATION>, format: Format) {
+fn push_range(out: &mut TextBuffer<MAX_EXPLANATION>, format: Format)
+    requires room { length out.old + 280 ≤ 640 }
+    ensures appended { out.new ≡ out.old ++ holds_text format }
+    ensures short { length out.new ≤ length out.old + 280 }
+{
+    let name = format_name(format);
     let (lowest, greatest) = ends_of(format);
-    push_text(out, format_name(format).as_bytes());
-    push_text(out, b" holds ");
-    push_number(out, lowest, frac_of(format));
-    push_text(out, b" to ");
-    push_number(out, greatest, frac_of(format));
+    out.push_bytes(name.as_bytes());
+    out.push_bytes(b" holds ");
+    push_exact(out, lowest, frac_of(format), Base::Dec);
+    out.push_bytes(b" to ");
+    push_exact(out, greatest, frac_of(format), Base::Dec);
 }
 
-/// What more there is to say of a numeral or a word that a rule refuses for this cause: the place from 1 of its first
-/// byte
-/// that is in none; what the formats hold, where it overflows; nothing of another cause.
+/// The number of ulps of 2^-`frac` that a numeral reads as, where it has at most 64 bits.
+fn read_wide<L: Ledger>(
+    settings: &Settings,
+    numeral: &[u8],
+    signed: bool,
+    steps: &mut Steps<L>,
+) -> Option<i128>
+    ensures { IfSome result IsWide }
+{
+    let s = settings;
+    let wide = Format::of(signed, 64, frac_of(s.source));
+    match read_shown(numeral, s.radix, wide, Policy::Checked, s.mode, steps) {
+        Ok(found) => Some(found.bits),
+        Err(_) => None,
+    }
+}
+
+/// A number of the source in ulps of the target, where it has at most 64 bits.
+fn moved_wide(settings: &Settings, number: i128) -> Option<i128>
+    requires { IsWide number }
+    ensures { IfSome result IsWide }
+{
+    let s = settings;
+    let wide = Format::of(number < 0, 64, frac_of(s.target));
+    match reformat_mode(
+        wide,
+        Policy::Checked,
+        s.target_mode,
+        number,
+        frac_of(s.source),
+    ) {
+        Some((moved, _)) => Some(moved),
+        None => None,
+    }
+}
+
+/// Appends a number of ulps of 2^-`frac` exactly, where it has at most 64 bits.
+fn push_number(out: &mut TextBuffer<MAX_EXPLANATION>, number: Option<i128>, frac: u32)
+    requires wide { IfSome number IsWide }
+    requires frac { frac ≤ 64 }
+    requires room { length out.old + 130 ≤ 640 }
+    ensures appended { (text : List ℕ) × (out.new ≡ out.old ++ text) }
+    ensures short { length out.new ≤ length out.old + 130 }
+{
+    match number {
+        Some(number) => push_exact(out, number, frac, Base::Dec),
+        None => out.push_bytes(b"a number of more than 64 bits"),
+    }
+}
+
+/// Appends the number of the source that a numeral reads as.
+fn push_read<L: Ledger>(
+    out: &mut TextBuffer<MAX_EXPLANATION>,
+    settings: &Settings,
+    numeral: &[u8],
+    steps: &mut Steps<L>,
+)
+    requires room { length out.old + 130 ≤ 640 }
+    ensures appended { (text : List ℕ) × (out.new ≡ out.old ++ text) }
+    ensures short { length out.new ≤ length out.old + 130 }
+{
+    let number = match read_wide(settings, numeral, true, steps) {
+        Some(number) => Some(number),
+        None => read_wide(settings, numeral, false, steps),
+    };
+    push_number(out, number, frac_of(settings.source));
+}
+
+/// Appends the number of the target that a number of the source is moved to. Where nothing is rounded on the way it is
+/// the number of the source.
+fn push_moved(out: &mut TextBuffer<MAX_EXPLANATION>, settings: &Settings, number: i128)
+    requires wide { IsWide number }
+    requires room { length out.old + 130 ≤ 640 }
+    ensures appended { (text : List ℕ) × (out.new ≡ out.old ++ text) }
+    ensures short { length out.new ≤ length out.old + 130 }
+{
+    let from = frac_of(settings.source);
+    let to = frac_of(settings.target);
+    if from <= to {
+        push_number(out, Some(number), from);
+    } else {
+        push_number(out, moved_wide(settings, number), to);
+    }
+}
+
+/// Appends the number that was reached, and what the format holds that it did not fit.
+fn push_overflow<L: Ledger>(
+    out: &mut TextBuffer<MAX_EXPLANATION>,
+    settings: &Settings,
+    numeral: &[u8],
+    steps: &mut Steps<L>,
+)
+    requires empty { out.old ≡ [] }
+    ensures { ExplainsOverflow settings.now numeral.now out.new }
+{
+    out.push_bytes(b", reached ");
+    match source_number(settings, numeral, steps) {
+        Ok(found) => {
+            push_moved(out, settings, found.bits);
+            out.push_bytes(b", ");
+            push_range(out, settings.target);
+        }
+        Err(_) => {
+            push_read(out, settings, numeral, steps);
+            out.push_bytes(b", ");
+            push_range(out, settings.source);
+        }
+    }
+}
+
+/// Appends the byte at a place of a text, from 1, and its place in a line with some bytes before the text.
+fn push_place(out: &mut TextBuffer<MAX_EXPLANATION>, text: &[u8], place: usize, before: usize)
+    requires empty { out.old ≡ [] }
+{
+    out.push_bytes(b", byte ");
+    out.push_bytes(
+        Buffer::new()
+            .format(place.saturating_add(before))
+            .as_bytes(),
+    );
+    out.push_bytes(b", '");
+    out.push(text.get(place.saturating_sub(1)).copied().unwrap_or(b'?'));
+    out.push(b'\'');
+}
+
+/// What more there is to say of a numeral or a word that a rule refuses for this cause, and before which there are some
+/// bytes in its line: of an overflow the number that was reached and what the format holds; of an invalid digit the
+/// place from 1 in the line of the first byte that is in no numeral, or no word, there; nothing of another cause.
 pub fn explanation<L: Ledger>(
     rule: &ConvertRule,
     text: &[u8],
+    before: usize,
     cause: &[u8],
     steps: &mut Steps<L>,
-) -> TextBuffer<MAX_EXPLANATION> {
+) -> TextBuffer<MAX_EXPLANATION>
+    ensures overflow { cause.now ≡ codes "overflow" → ExplainsOverflow rule.now text.now result }
+    ensures other { ¬ (cause.now ≡ codes "overflow") → ¬ (cause.now ≡ codes "invalid digit found in string")
+        → result ≡ [] }
+{
     let mut out = TextBuffer::new();
     let settings = rule.settings();
     if cause == b"overflow".as_slice() {
-        push_ranges(&mut out, settings);
-    }
-    if cause == b"invalid digit found in string".as_slice() {
+        push_overflow(&mut out, settings, text, steps);
+    } else if cause == b"invalid digit found in string".as_slice() {
         let place = refused_place(text, settings, steps);
         if place > 0 {
-            push_place(&mut out, text, place);
+            push_place(&mut out, text, place, before);
         }
     }
     out
-}
-
-/// Appends what the formats hold.
-fn push_ranges(out: &mut TextBuffer<MAX_EXPLANATION>, settings: &Settings) {
-    push_text(out, b", ");
-    push_range(out, settings.source);
-    if settings.target != settings.source {
-        push_text(out, b", ");
-        push_range(out, settings.target);
-    }
-}
-
-/// Appends the byte at a place of a text, from 1, and the place.
-fn push_place(out: &mut TextBuffer<MAX_EXPLANATION>, text: &[u8], place: usize) {
-    push_text(out, b", byte ");
-    push_text(out, Buffer::new().format(place).as_bytes());
-    push_text(out, b", '");
-    push_text(out, text.get(place.saturating_sub(1)..place).unwrap_or(&[]));
-    push_text(out, b"'");
 }

@@ -10,6 +10,8 @@ pub mod convert;
 pub mod explain;
 pub mod hex;
 pub mod laws;
+pub mod layout;
+pub mod outcome;
 pub mod print;
 pub mod refused;
 pub mod spelling;
@@ -22,11 +24,13 @@ pub use column::{ColumnConversion, convert_column};
 pub use convert::{ConvertRule, Settings, without_return};
 pub use explain::explanation;
 pub use hex::{push_hex, word_of};
+pub use layout::{LaidOutRule, Layout, MAX_PREFIX};
+pub use outcome::{MAX_TALLY, Outcome, Place, Tally, outcome_of, tally_text};
 pub use print::{Places, Print};
 pub use refused::{RefusedWord, first_refused};
 pub use spelling::Spelling;
 pub use task::{Limit, Task, greater_end, run_convert, run_task};
-pub use watch::{RefusedLine, Watch};
+pub use watch::{Refusals, RefusedLine, Watch};
 pub use words::{
     mode_named, policy_named, print_named, radix_named, spelling_named, target_mode_named,
 };

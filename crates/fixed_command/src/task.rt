@@ -9,14 +9,16 @@ ghost use Rattle.fixed_enclose.specs.Answer as enclose;
 ghost use Rattle.fixed_least.specs.Least as least;
 ghost use Rattle.fixed_respell.specs.Answer.{IsAnswer};
 ghost use Rattle.fixed_command.specs.Convert.{IsLineReply};
+ghost use Rattle.fixed_command.specs.Layout.{IsLaidOut};
 ghost use Rattle.fixed_command.specs.Limits.{max_limit};
 ghost use Rattle.fixed_command.specs.Products.{IsProduct};
 ghost use Rattle.fixed_command.specs.Runs.{HasLineRun, IsWholeRun, TaskRuns};
 ghost use Rattle.line_engine.specs.WholeRun.{EndsBeforeWriting};
 
 use crate::ConvertRule;
+use crate::layout::LaidOutRule;
 use crate::watch::{
-    Product, Watch, WatchedEnclosures, WatchedLines, WatchedNumerals, WatchedWhole,
+    Product, Watch, WatchedEnclosures, WatchedLaidOut, WatchedLines, WatchedNumerals, WatchedWhole,
 };
 use fixed_columns::ColumnsRule;
 use fixed_constants::FormRule;
@@ -36,6 +38,7 @@ pub struct Limit {
 
 impl Model for Limit {
     ghost use Rattle.std.specs.Prelude.{◌≤◌, ℕ};
+    ghost use Rattle.fixed_command.specs.Layout.{IsLaidOut};
     ghost use Rattle.fixed_command.specs.Limits.{max_limit};
 
     ghost Value = { ℕ };
@@ -74,6 +77,13 @@ pub enum Task<'a> {
     Lines(Limit),
     /// Each line is a numeral that is converted.
     Convert(ConvertRule),
+    /// The same of lines as people have them, and how each numeral comes through is kept where a report is asked for.
+    LaidOut {
+        /// How a line is answered.
+        laid: LaidOutRule,
+        /// Whether there is a report.
+        has_report: bool,
+    },
     /// Each line is answered with the enclosure of its numeral.
     Enclose,
     /// The lines are numerals of this radix; the answer is the least format that holds them.
@@ -200,6 +210,34 @@ pub fn run_convert<S: Source, K: Sink, L: Ledger>(
     status
 }
 
+/// Answers each line of an input of at most 4,294,967,296 bytes, as people have them, with the conversion of its
+/// numeral.
+fn run_laid_out<S: Source, K: Sink, L: Ledger>(
+    alloc: Global,
+    laid: &LaidOutRule,
+    has_report: bool,
+    watch: &Watch,
+    source: &mut S,
+    sink: &mut K,
+    steps: &mut Steps<L>,
+) -> Status
+    ensures run { HasLineRun (IsLaidOut laid.now.layout laid.now.rule) max_limit 24 1328
+        (outside (S.left source.old) (S.asked source.old) (S.failures source.old)
+        (K.written sink.old) (K.failures sink.old) steps.old)
+        (outside (S.left source.new) (S.asked source.new) (S.failures source.new)
+        (K.written sink.new) (K.failures sink.new) steps.new) result }
+    ensures memory { result ≡ Status.NoMemory → sink.new ≡ sink.old }
+{
+    let rule = WatchedLaidOut {
+        laid: laid.same(),
+        has_report,
+        watch: Watch::new(),
+    };
+    let status = run_rule(alloc, MAX_LIMIT, &rule, source, sink, steps);
+    watch.take(&rule.watch);
+    status
+}
+
 /// Answers a constants file of at most 4,294,967,296 bytes with its text in a form; of one with a fault nothing is
 /// written.
 fn run_constants<S: Source, K: Sink, L: Ledger>(
@@ -291,6 +329,9 @@ pub fn run_task<S: Source, K: Sink, L: Ledger>(
     match task {
         Task::Lines(limit) => run_words(alloc, limit, watch, source, sink, steps),
         Task::Convert(rule) => run_convert(alloc, rule, watch, source, sink, steps),
+        Task::LaidOut { laid, has_report } => {
+            run_laid_out(alloc, laid, *has_report, watch, source, sink, steps)
+        }
         Task::Enclose => run_enclosures(alloc, watch, source, sink, steps),
         Task::Least(radix) => run_least(alloc, *radix, watch, source, sink, steps),
         Task::Constants(rule) => run_constants(alloc, rule, watch, source, sink, steps),

@@ -1,10 +1,17 @@
 //! Rules that keep what there is to report of the lines that they refuse. What they answer is what the rules answer
-//! that they are made of. What a cell keeps no contract says: it is tested.
+//! that they are made of. What is kept of a line is said by contracts; that a cell keeps it no contract can say, and so
+//! it is tested.
 
-ghost use Rattle.std.specs.Prelude.{◌≡◌, ◌+◌, ◌≤◌, length};
+ghost use Rattle.std.specs.Prelude.{◌≡◌, ◌==◌, ◌+◌, ◌*◌, ◌≤◌, List, None, ℕ, length, take};
+ghost use Rattle.fixed_command.specs.Outcome.{one_more};
 ghost use Rattle.fixed_command.specs.Products.{IsProduct};
+ghost use Rattle.fixed_command.specs.Watched.{first_refused, kept_bytes};
+ghost use Rattle.fixed_respell.specs.Language.{fault_answer};
 
-use crate::ConvertRule;
+use crate::blocks::first_bytes;
+use crate::convert::{ConvertRule, without_return};
+use crate::layout::LaidOutRule;
+use crate::outcome::{Outcome, Tally, one_more, outcome_of};
 use fixed_enclose::EncloseRule;
 use fixed_respell::RespellRule;
 use fixed_steps::Steps;
@@ -30,28 +37,88 @@ pub struct RefusedLine {
 
 impl RefusedLine {
     /// The line of this number, whose text and cause are cut.
-    pub fn new(number: u64, text: &[u8], cause: &[u8]) -> RefusedLine {
+    pub fn new(number: u64, text: &[u8], cause: &[u8]) -> RefusedLine
+        ensures { result ≡ record {
+          number = number;
+          text = take kept_bytes text.now;
+          cause = take kept_bytes cause.now;
+        } }
+    {
         RefusedLine {
             number,
             text: kept(text),
             cause: kept(cause),
         }
     }
+
+    /// Whether the line may have more bytes than are kept.
+    pub fn is_cut(&self) -> bool
+        ensures { result ≡ (length self.now.text == kept_bytes) }
+    {
+        self.text.len() == KEPT
+    }
 }
 
 /// The bytes, cut where they are longer than what is kept.
-fn kept(bytes: &[u8]) -> TextBuffer<KEPT> {
+fn kept(bytes: &[u8]) -> TextBuffer<KEPT>
+    ensures { result ≡ take kept_bytes bytes.now }
+{
     let mut text = TextBuffer::new();
-    text.push_bytes(&bytes[..KEPT.min(bytes.len())]);
+    text.push_bytes(first_bytes(bytes, KEPT));
     text
 }
 
-/// What is known of the lines of an input: how many there were, how many were refused, and the first of these.
+/// What follows `error: ` in an answer; the whole of one that begins otherwise.
+fn cause_of(answer: &[u8]) -> &[u8]
+    ensures { (message : List ℕ) → answer.now ≡ (fault_answer message).text → result.now ≡ message }
+{
+    match answer.strip_prefix(b"error: ".as_slice()) {
+        Some(cause) => cause,
+        None => answer,
+    }
+}
+
+/// The lines of an input that are refused: how many, and the first.
+#[derive(Drop)]
+pub struct Refusals {
+    /// How many.
+    pub count: u64,
+    /// The first, where there is one.
+    pub first: Option<RefusedLine>,
+}
+
+impl Refusals {
+    /// No line is refused.
+    pub fn new() -> Refusals
+        ensures count { result.count ≡ 0 }
+        ensures first { result.first ≡ None }
+    {
+        Refusals {
+            count: 0,
+            first: None,
+        }
+    }
+
+    /// A line of this number is refused with this answer: the first is kept, and the cause that its answer names.
+    pub fn note(&mut self, number: u64, line: &[u8], answer: &[u8])
+        ensures count { self.new.count ≡ one_more self.old.count }
+        ensures first { (message : List ℕ) → answer.now ≡ (fault_answer message).text
+            → self.new.first ≡ first_refused self.old.first number line.now message }
+    {
+        self.count = one_more(self.count);
+        if self.first.is_none() {
+            self.first = Some(RefusedLine::new(number, line, cause_of(answer)));
+        }
+    }
+}
+
+/// What is known of the lines of an input: how many there were, which were refused, and how their numerals came
+/// through, where that is asked.
 #[derive(Drop)]
 pub struct Watch {
     lines: Cell<u64>,
-    refused: Cell<u64>,
-    first: Cell<Option<RefusedLine>>,
+    refusals: Cell<Refusals>,
+    tally: Cell<Tally>,
 }
 
 impl Watch {
@@ -59,26 +126,26 @@ impl Watch {
     pub fn new() -> Watch {
         Watch {
             lines: Cell::new(0),
-            refused: Cell::new(0),
-            first: Cell::new(None),
+            refusals: Cell::new(Refusals::new()),
+            tally: Cell::new(Tally::new()),
         }
     }
 
-    /// How many lines were refused.
-    pub fn refused(&self) -> u64 {
-        self.refused.get()
+    /// The lines that were refused.
+    pub fn refusals(&self) -> Refusals {
+        self.refusals.replace(Refusals::new())
     }
 
-    /// The first line that was refused.
-    pub fn first(&self) -> Option<RefusedLine> {
-        self.first.take()
+    /// How the numerals came through.
+    pub fn tally(&self) -> Tally {
+        self.tally.get()
     }
 
     /// What another watch knows, which it keeps no longer.
     pub fn take(&self, other: &Watch) {
         self.lines.set(other.lines.get());
-        self.refused.set(other.refused.get());
-        self.first.set(other.first.take());
+        self.refusals.set(other.refusals());
+        self.tally.set(other.tally());
     }
 
     /// A line is to be answered: where its answer begins.
@@ -96,16 +163,19 @@ impl Watch {
         }
     }
 
-    /// The last line that is counted is refused, for the cause that follows `error: ` in its answer.
+    /// The last line that is counted is refused with this answer.
     #[inline(never)]
     fn refuse(&self, line: &[u8], answer: &[u8]) {
-        let refused = self.refused.get();
-        self.refused.set(refused.saturating_add(1));
-        if refused == 0 {
-            let cause = answer.strip_prefix(b"error: ").unwrap_or(answer);
-            let number = self.lines.get();
-            self.first.set(Some(RefusedLine::new(number, line, cause)));
-        }
+        let mut refusals = self.refusals();
+        refusals.note(self.lines.get(), line, answer);
+        self.refusals.set(refusals);
+    }
+
+    /// The numeral of the last line that is counted came through so.
+    fn note(&self, outcome: Outcome) {
+        let mut tally = self.tally.get();
+        tally.note(self.lines.get(), outcome);
+        self.tally.set(tally);
     }
 
     /// An input is refused, for the line and the cause that its answer names: `error: line N: ` and the cause.
@@ -113,12 +183,14 @@ impl Watch {
         let (number, cause) = line_and_cause(
             answer.strip_prefix(b"error: line ").unwrap_or(answer),
         );
-        self.refused.set(1);
-        self.first.set(Some(RefusedLine {
-            number,
-            text: line_of(input, number),
-            cause,
-        }));
+        self.refusals.set(Refusals {
+            count: 1,
+            first: Some(RefusedLine {
+                number,
+                text: line_of(input, number),
+                cause,
+            }),
+        });
     }
 }
 
@@ -186,6 +258,34 @@ pub struct WatchedNumerals {
     pub watch: Watch,
 }
 
+/// The rule of a conversion of lines as people have them, whose refusals are watched, and with a report how each
+/// numeral comes through.
+#[derive(Drop)]
+pub struct WatchedLaidOut {
+    /// The rule.
+    pub laid: LaidOutRule,
+    /// Whether there is a report.
+    pub has_report: bool,
+    /// What is known of the lines.
+    pub watch: Watch,
+}
+
+impl WatchedLaidOut {
+    /// Notes how the numeral of a line came through that was answered, by a fault or not.
+    fn note<L: Ledger>(&self, line: &[u8], is_fault: bool, steps: &mut Steps<L>)
+        ensures cost { steps.new ≤ steps.old + 16 * length line.now + 704 }
+    {
+        let layout = &self.laid.layout;
+        if is_fault {
+            self.watch.note(Outcome::Refused);
+        } else if !layout.is_skipped(line) {
+            let numeral = layout.numeral_of(line);
+            self.watch
+                .note(outcome_of(self.laid.rule.settings(), numeral, steps));
+        }
+    }
+}
+
 impl<L: Ledger> LineRule<L> for WatchedLines {
     ghost use Rattle.std.proofs.Common.{lit<};
     ghost use Rattle.fixed_respell.specs.Answer.{IsAnswer};
@@ -241,7 +341,7 @@ impl<L: Ledger> LineRule<L> for WatchedNumerals {
     fn answer(&self, line: &[u8], out: &mut Output, steps: &mut Steps<L>) -> bool {
         let start = self.watch.begin(out);
         let is_fault = self.rule.answer(line, out, steps);
-        self.watch.end(line, out, start, is_fault);
+        self.watch.end(without_return(line), out, start, is_fault);
         is_fault
     }
 
@@ -250,6 +350,42 @@ impl<L: Ledger> LineRule<L> for WatchedNumerals {
     ghost one_law = { λ watched. line_reply_one watched.rule };
 
     ghost kept_law = { λ watched. long_by_its_prefix watched.rule };
+}
+
+impl<L: Ledger> LineRule<L> for WatchedLaidOut {
+    ghost use Rattle.std.proofs.Common.{lit<};
+    ghost use Rattle.fixed_command.specs.Layout.{IsLaidOut};
+    ghost use Rattle.fixed_command.specs.Lemmas.LayoutLemmas.{laid_out_one, long_by_its_prefix};
+
+    const PER_BYTE: u64 = 24;
+
+    const EXTRA: u64 = 1328;
+
+    const MAX_ANSWER: usize = MAX_ANSWER;
+
+    ghost PER_BYTE = { 24 };
+
+    ghost EXTRA = { 1328 };
+
+    ghost MAX_ANSWER = { 192 };
+
+    ghost Answers = { λ watched. IsLaidOut watched.laid.layout watched.laid.rule };
+
+    fn answer(&self, line: &[u8], out: &mut Output, steps: &mut Steps<L>) -> bool {
+        let start = self.watch.begin(out);
+        let is_fault = self.laid.answer(line, out, steps);
+        self.watch.end(without_return(line), out, start, is_fault);
+        if self.has_report {
+            self.note(line, is_fault, steps);
+        }
+        is_fault
+    }
+
+    ghost room_law = { lit< tt };
+
+    ghost one_law = { λ watched. laid_out_one watched.laid.layout watched.laid.rule };
+
+    ghost kept_law = { λ watched. long_by_its_prefix watched.laid.layout watched.laid.rule };
 }
 
 impl<L: Ledger> LineRule<L> for WatchedEnclosures {

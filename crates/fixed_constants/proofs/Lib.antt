@@ -7,4 +7,5 @@ mod LiteralLemmas
 mod EntryLemmas
 mod OwnAnswerLemmas
 mod FormLemmas
+mod NamedLawLemmas
 mod ProgramLemmas

@@ -185,11 +185,11 @@ positive_literal false g m body same h = let R : List ℕ → Type 0 = λ t. Has
 negative_literal : (g k : ℕ) (body : List ℕ) → after_underscores body ≡ body → ReadsMagnitude g (suc k) body → ReadsAs true g (45 ∷ 48 ∷ 120 ∷ body) (negsuc k)
 negative_literal g k body same h =
     let R : List ℕ → Type 0 = λ t. HasRest Hex t (record h.parts { sign = None }) in
-    let steps : pos (suc k) ≡ pos h.read.steps = h.read.value in
+    let ulps : pos (suc k) ≡ pos h.read.ulps = h.read.value in
     record {
       parts = record h.parts { sign = Some 45 };
       has = record { sign = refl; rest = subst R (sym same) h.rest };
-      read = record { steps = h.read.steps; rounded = h.read.rounded; value = ap neg_ℤ steps };
+      read = record { ulps = h.read.ulps; rounded = h.read.rounded; value = ap neg_ℤ ulps };
     }
 
 reads_as : ExactTextReadsBack → (s : Bool) (n g : ℕ) (c : ℤ) → IsInRange s n c → ReadsAs s g (literal_text c g) c

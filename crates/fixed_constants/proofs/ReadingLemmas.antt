@@ -11,13 +11,13 @@ use Rattle.fixed_numeral.specs.Literal.{HasLiteral, literal_radix}
 use Rattle.fixed_numeral.specs.Numeral.{Parts}
 use Rattle.fixed_numeral.specs.declared.error.ParseErrorKind.TheVariants.{Overflow}
 use Rattle.fixed_bits.specs.Numbers.{IsNumber}
-use Rattle.fixed_read.specs.Reading.{IsReading, IsReadNumber}
+use Rattle.fixed_read.specs.Reading.{IsReading, IsReadNumber, number_in}
 use Rattle.fixed_read.specs.declared.read_number.ReadNumber.{ReadNumber}
 use Rattle.fixed_constants.specs.Constants.{Fields, IsLiteralOf, IsPassedOver, IsRefusedLiteral}
 
 -- a reading into the format whose number is in range
 pub literal_in : (f : FormatParts) (bytes : List ℕ) (found : ReadNumber) (p : Parts) (bits : ℤ) → found.format ≡ f → HasLiteral f.signed bytes p → IsReading NearestEven (literal_radix f.signed bytes) p found
-    → ((v : ℤ) → IsNumber found.number v → IsImage Checked found.format.signed found.format.width v bits) → IsInRange found.format.signed found.format.width bits → IsLiteralOf f bytes bits
+    → ((v : ℤ) → IsNumber (number_in found) v → IsImage Checked found.format.signed found.format.width v bits) → IsInRange found.format.signed found.format.width bits → IsLiteralOf f bytes bits
 literal_in f bytes found p bits is has reading image in_range =
     let same = image reading.number reading.holds in
     let at : bits ≡ reading.number = same.same in
@@ -33,7 +33,7 @@ literal_in f bytes found p bits is has reading image in_range =
 
 -- and out of range
 pub literal_out : (f : FormatParts) (bytes : List ℕ) (found : ReadNumber) (p : Parts) → found.format ≡ f → HasLiteral f.signed bytes p → IsReading NearestEven (literal_radix f.signed bytes) p found
-    → ((v : ℤ) → IsNumber found.number v → IsOutOfRange found.format.signed found.format.width v) → IsRefusedLiteral f bytes Overflow
+    → ((v : ℤ) → IsNumber (number_in found) v → IsOutOfRange found.format.signed found.format.width v) → IsRefusedLiteral f bytes Overflow
 literal_out f bytes found p is has reading out =
     let O : FormatParts → Type 0 = λ g. IsOutOfRange g.signed g.width reading.number in
     let N : FormatParts → Type 0 = λ g. IsReadNumber NearestEven (literal_radix f.signed bytes) p g.frac reading.number in

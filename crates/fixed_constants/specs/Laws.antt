@@ -8,11 +8,14 @@ use Rattle.fixed_write.specs.Styled.{IsStyledText}
 use Rattle.line_engine.specs.AnswerText.{AnswerText}
 use Rattle.fixed_constants.specs.Answer.{IsWholeAnswer}
 use Rattle.fixed_constants.specs.Canonical.{canonical_text, literal_text}
-use Rattle.fixed_constants.specs.Constants.{ConstantParts, IsConstantsOf, IsFaultOf, IsLiteralOf}
+use Rattle.fixed_constants.specs.Constants.{ConstantParts, HasName, IsConstantsOf, IsErrorOf, IsFaultOf, IsFirstNamed}
+use Rattle.fixed_constants.specs.Constants.{IsLiteralOf}
 use Rattle.fixed_constants.specs.Entries.{AreEntries}
-use Rattle.fixed_constants.specs.Forms.{IsFormAnswer, IsFormFault}
+use Rattle.fixed_constants.specs.Forms.{IsFormAnswer, IsFormError, IsFormFault}
 use Rattle.fixed_constants.specs.Program.{NamesForm}
 use Rattle.fixed_constants.specs.declared.fault.ConstantFault.{ConstantFault}
+use Rattle.fixed_constants.specs.declared.fault.ConstantsError.{ConstantsError}
+use Rattle.fixed_constants.specs.declared.fault.ConstantsError.TheVariants.{NoMemory}
 use Rattle.fixed_constants.specs.declared.form.Form.{Form}
 use Rattle.fixed_bits.specs.Formats.{FormatParts}
 use Rattle.fixed_bits.specs.Ranges.{IsInRange}
@@ -46,10 +49,27 @@ abbrev pub FormFaultIsTheOne : Type 0
 FormFaultIsTheOne = (form : Form) (guard text : List ℕ) (p q : ℕ) (f g : ConstantFault)
     → IsFormFault form guard text p f → IsFormFault form guard text q g → (p ≡ q) × (f ≡ g)
 
+-- so it has at most one error, where memory was found
+abbrev pub ErrorIsTheOne : Type 0
+ErrorIsTheOne = (text : List ℕ) (a b : ConstantsError) → ¬ (a ≡ NoMemory) → ¬ (b ≡ NoMemory) → IsErrorOf text a
+    → IsErrorOf text b → a ≡ b
+
+-- and in a form
+abbrev pub FormErrorIsTheOne : Type 0
+FormErrorIsTheOne = (form : Form) (guard text : List ℕ) (a b : ConstantsError) → ¬ (a ≡ NoMemory) → ¬ (b ≡ NoMemory)
+    → IsFormError form guard text a → IsFormError form guard text b → a ≡ b
+
 -- arguments name one form and one guard
 abbrev pub NamedFormIsTheOne : Type 0
 NamedFormIsTheOne = (args : List (String Global)) (f g : Form) (a b : List ℕ) → NamesForm args f a → NamesForm args g b
     → (f ≡ g) × (a ≡ b)
+
+-- ---- names
+-- a list has one first constant of a name, which has the name, and is in the list
+abbrev pub FirstNamedIsTheOne : Type 0
+FirstNamedIsTheOne = (name : List ℕ) (constants : List ConstantParts) (c : ConstantParts)
+    → IsFirstNamed name constants c
+    → ((d : ConstantParts) → IsFirstNamed name constants d → c ≡ d) × (c.name ≡ name) × HasName name constants
 
 -- ---- literals
 -- a literal has one number of bits in a format

@@ -7,8 +7,11 @@ ghost use Rattle.fixed_constants.specs.Laws.{
   ConstantsAreEntries,
   ConstantsAreTheOnes,
   EntriesHaveOneAnswer,
+  ErrorIsTheOne,
   FaultIsTheOne,
+  FirstNamedIsTheOne,
   FormAnswerIsTheOne,
+  FormErrorIsTheOne,
   FormFaultIsTheOne,
   LiteralIsStyled,
   LiteralIsTheOne,
@@ -49,6 +52,17 @@ pub fn form_answer_is_the_one()
 /// A text has at most one first fault in a form, on one line.
 pub fn form_fault_is_the_one()
     ensures { FormFaultIsTheOne }
+{}
+
+/// A text has at most one error, in a form or without one, where memory was found.
+pub fn error_is_the_one()
+    ensures plain { ErrorIsTheOne }
+    ensures form { FormErrorIsTheOne }
+{}
+
+/// A list has at most one first constant of a name.
+pub fn first_named_is_the_one()
+    ensures { FirstNamedIsTheOne }
 {}
 
 /// Arguments name at most one form and one guard.

@@ -7,14 +7,14 @@ use Rattle.fixed_numeral.specs.Numeral.{Parts, HasNumeral}
 use Rattle.fixed_numeral.specs.Value.{magnitude}
 use Rattle.fixed_numeral.specs.declared.radix.Radix.{Radix}
 use Rattle.fixed_bits.specs.Numbers.{IsNumber}
-use Rattle.fixed_read.specs.Reading.{IsReading}
+use Rattle.fixed_read.specs.Reading.{IsReading, number_in}
 use Rattle.fixed_read.specs.declared.read_number.ReadNumber.{ReadNumber}
 use Rattle.fixed_enclose.specs.Enclosure.{Encloses, IsEnclosed, IsUnenclosed, in_ulps}
 use Rattle.fixed_enclose.specs.Lemmas.EnclosureLemmas.{upper, encloses_of}
 
 -- both ends are in range
 pub enclosed : (r : Radix) (bytes : List ℕ) (format : FormatParts) (p : Parts) (found : ReadNumber) (lo hi : ℤ) → HasNumeral r bytes p → IsReading Floor r p found → found.format ≡ format
-    → ((v : ℤ) → IsNumber found.number v → (lo ≡ v) × (hi ≡ upper found.exact v)) → IsInRange found.format.signed found.format.width lo → IsInRange found.format.signed found.format.width hi → IsEnclosed r bytes format lo hi
+    → ((v : ℤ) → IsNumber (number_in found) v → (lo ≡ v) × (hi ≡ upper found.exact v)) → IsInRange found.format.signed found.format.width lo → IsInRange found.format.signed found.format.width hi → IsEnclosed r bytes format lo hi
 enclosed r bytes format p found lo hi numeral reading same ends low high =
     let v = reading.number in
     let e = ends v reading.holds in
@@ -32,7 +32,7 @@ enclosed r bytes format p found lo hi numeral reading same ends low high =
 
 -- one end is out of range
 pub unenclosed : (r : Radix) (bytes : List ℕ) (format : FormatParts) (p : Parts) (found : ReadNumber) → HasNumeral r bytes p → IsReading Floor r p found → found.format ≡ format
-    → ((v : ℤ) → IsNumber found.number v → IsOutOfRange found.format.signed found.format.width v ⊎ IsOutOfRange found.format.signed found.format.width (upper found.exact v)) → IsUnenclosed r bytes format
+    → ((v : ℤ) → IsNumber (number_in found) v → IsOutOfRange found.format.signed found.format.width v ⊎ IsOutOfRange found.format.signed found.format.width (upper found.exact v)) → IsUnenclosed r bytes format
 unenclosed r bytes format p found numeral reading same out =
     let F : FormatParts → Type 0 = λ f. IsUnenclosed r bytes f in
     subst F same (record {

@@ -7,7 +7,7 @@ ghost use Rattle.fixed_bits.specs.Numbers.{IsNumber};
 ghost use Rattle.fixed_bits.specs.declared.format.Policy.TheVariants.{Checked};
 ghost use Rattle.fixed_bits.specs.declared.mode.ReadMode.TheVariants.{Floor};
 ghost use Rattle.fixed_numeral.specs.Answer.{IsReadOrRefused};
-ghost use Rattle.fixed_read.specs.Reading.{IsReading};
+ghost use Rattle.fixed_read.specs.Reading.{IsReading, number_in};
 ghost use Rattle.fixed_enclose.specs.Enclosure.{IsEnclosed, IsRefusal};
 ghost use Rattle.fixed_enclose.specs.Lemmas.EnclosureLemmas.{upper};
 
@@ -73,9 +73,9 @@ fn read_floor<L: Ledger>(
 
 /// The read number, which is the lower end of the enclosure. `None` where it is out of range.
 fn lower_end(found: &ReadNumber) -> Option<i128>
-    ensures image { (v : ℤ) → IsNumber found.now.number v
+    ensures image { (v : ℤ) → IsNumber (number_in found.now) v
         → IfSome result (λ c. IsImage Checked found.now.format.signed found.now.format.width v c) }
-    ensures none { (v : ℤ) → IsNumber found.now.number v
+    ensures none { (v : ℤ) → IsNumber (number_in found.now) v
         → IsNone result ↔ IsOutOfRange found.now.format.signed found.now.format.width v }
     ensures range { IfSome result (λ c. IsInRange found.now.format.signed found.now.format.width c) }
     ensures wide { IfSome result IsWide }
@@ -86,13 +86,13 @@ fn lower_end(found: &ReadNumber) -> Option<i128>
 /// The enclosure of a value that was read in mode `Floor`. The read number is the lower end; the upper end is the same
 /// where the value was a whole number of ulps, else the next. `None` where an end is out of range.
 fn ends_of(found: &ReadNumber) -> Option<Enclosure>
-    ensures ends { IfSome result (λ e. (v : ℤ) → IsNumber found.now.number v
+    ensures ends { IfSome result (λ e. (v : ℤ) → IsNumber (number_in found.now) v
         → (e.lo ≡ v) × (e.hi ≡ upper found.now.exact v)) }
     ensures low { IfSome result (λ e. IsInRange found.now.format.signed found.now.format.width e.lo) }
     ensures high { IfSome result (λ e. IsInRange found.now.format.signed found.now.format.width e.hi) }
     ensures low_wide { IfSome result (λ e. IsWide e.lo) }
     ensures high_wide { IfSome result (λ e. IsWide e.hi) }
-    ensures none { IfNone result ((v : ℤ) → IsNumber found.now.number v
+    ensures none { IfNone result ((v : ℤ) → IsNumber (number_in found.now) v
         → IsOutOfRange found.now.format.signed found.now.format.width v
         ⊎ IsOutOfRange found.now.format.signed found.now.format.width (upper found.now.exact v)) }
 {

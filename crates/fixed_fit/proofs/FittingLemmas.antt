@@ -13,7 +13,7 @@ use Rattle.fixed_numeral.specs.Numeral.{Parts, HasNumeral, IsNumeral, is_minus}
 use Rattle.fixed_numeral.specs.Value.{magnitude}
 use Rattle.fixed_numeral.specs.declared.radix.Radix.{Radix}
 use Rattle.fixed_numeral.proofs.Public.{magnitude_pos, parts_unique}
-use Rattle.fixed_read.specs.Reading.{IsReadNumber, IsReading}
+use Rattle.fixed_read.specs.Reading.{IsReadNumber, IsReading, number_in}
 use Rattle.fixed_read.specs.declared.read_number.ReadNumber.{ReadNumber}
 use Rattle.fixed_read.proofs.Public.{read_number_is_the_one, read_unique}
 use Rattle.fixed_fit.specs.Fitting.{AllFit, Exceeds, Fits, IsFinest, IsFirstExceeding, HasBelowZero, IsSignRule}
@@ -66,9 +66,9 @@ shorter : (r : Radix) (p : Parts) (s : Bool) (n f g : ℕ) (v w : ℤ) → g ≤
 shorter r p s n f g v w order x y h =
     let num : ℕ = (magnitude r p).num in
     let fewer : num * 2 ^ g ≤ num * 2 ^ f = mul-le-mul_left num (pow-le-pow_right (omega arith) order) in
-    let less : y.steps ≤ x.steps = nearest_grows (num * 2 ^ g) (num * 2 ^ f) (magnitude r p).den y.steps x.steps (magnitude_pos r p) fewer y.rounded x.rounded in
+    let less : y.ulps ≤ x.ulps = nearest_grows (num * 2 ^ g) (num * 2 ^ f) (magnitude r p).den y.ulps x.ulps (magnitude_pos r p) fewer y.rounded x.rounded in
     let P : ℤ → Type 0 = λ z. IsInRange s n z in
-    subst P (sym y.value) (range_shrinks s n (is_minus p.sign) y.steps x.steps less (subst P x.value h))
+    subst P (sym y.value) (range_shrinks s n (is_minus p.sign) y.ulps x.ulps less (subst P x.value h))
 
 pub fits_each_shorter : FitsEachShorter
 fits_each_shorter r s n f g line order h =
@@ -163,7 +163,7 @@ lengths_one_more r done line place old new at h low = subst P (sym low.kind) kno
 
 -- ---- by one reading
 pub fits_by : (r : Radix) (line : List ℕ) (k : FormatParts) (found : ReadNumber) (out : Bool) → IsNumeral r line → found.format ≡ k → ((p : Parts) → HasNumeral r line p → IsReading NearestEven r p found)
-    → ((v : ℤ) → IsNumber found.number v → IsTrue out ↔ IsOutOfRange found.format.signed found.format.width v) → not out ≡ true → Fits r k.signed k.width k.frac line
+    → ((v : ℤ) → IsNumber (number_in found) v → IsTrue out ↔ IsOutOfRange found.format.signed found.format.width v) → not out ≡ true → Fits r k.signed k.width k.frac line
 fits_by r line k found false numeral at reading range is = subst P at known
   where
     P : FormatParts → Type 0
@@ -177,7 +177,7 @@ fits_by r line k found false numeral at reading range is = subst P at known
 fits_by r line k found true numeral at reading range is = let no : false ≡ true = is in cc
 
 pub exceeds_by : (r : Radix) (line : List ℕ) (k : FormatParts) (found : ReadNumber) (out : Bool) → IsNumeral r line → found.format ≡ k → ((p : Parts) → HasNumeral r line p → IsReading NearestEven r p found)
-    → ((v : ℤ) → IsNumber found.number v → IsTrue out ↔ IsOutOfRange found.format.signed found.format.width v) → not out ≡ false → Exceeds r k.signed k.width k.frac line
+    → ((v : ℤ) → IsNumber (number_in found) v → IsTrue out ↔ IsOutOfRange found.format.signed found.format.width v) → not out ≡ false → Exceeds r k.signed k.width k.frac line
 exceeds_by r line k found true numeral at reading range is = subst P at known
   where
     P : FormatParts → Type 0

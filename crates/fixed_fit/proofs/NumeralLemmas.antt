@@ -43,16 +43,16 @@ not_high false high over none = refl
 not_high true high over none = absurd (let some : 0 < high = over.0 refl in omega (arith, some, none))
 
 -- the number of ulps that a reading holds
-steps_of : (r : Radix) (p : Parts) (found : ReadNumber) → (x : IsReading TowardsZero r p found) → x.read.steps ≡ x.holds.high * 2 ^ 64 + found.number.low
-steps_of r p found x =
-    let whole : ℕ = x.holds.high * 2 ^ 64 + found.number.low in
-    same_magnitude (is_minus p.sign) x.read.steps whole (sym x.read.value ∙ (x.holds.value ∙ ap (λ b. with_sign b whole) x.sign))
+ulps_of : (r : Radix) (p : Parts) (found : ReadNumber) → (x : IsReading TowardsZero r p found) → x.read.ulps ≡ x.holds.high * 2 ^ 64 + found.low
+ulps_of r p found x =
+    let whole : ℕ = x.holds.high * 2 ^ 64 + found.low in
+    same_magnitude (is_minus p.sign) x.read.ulps whole (sym x.read.value ∙ (x.holds.value ∙ ap (λ b. with_sign b whole) x.sign))
 
-zero_is : (r : Radix) (p : Parts) (found : ReadNumber) → found.format.frac ≡ 0 → IsReading TowardsZero r p found → found.exact ≡ true → found.number.low ≡ 0 → found.number.has_high_bits ≡ false → (magnitude r p).num ≡ 0
+zero_is : (r : Radix) (p : Parts) (found : ReadNumber) → found.format.frac ≡ 0 → IsReading TowardsZero r p found → found.exact ≡ true → found.low ≡ 0 → found.has_high_bits ≡ false → (magnitude r p).num ≡ 0
 zero_is r p found at x exact low high =
     let num : ℕ = (magnitude r p).num in
     let den : ℕ = (magnitude r p).den in
-    let none : x.read.steps ≡ 0 = steps_of r p found x ∙ omega (arith, low, no_high found.number.has_high_bits x.holds.high x.holds.over high) in
+    let none : x.read.ulps ≡ 0 = ulps_of r p found x ∙ omega (arith, low, no_high found.has_high_bits x.holds.high x.holds.over high) in
     let k = x.exact.0 exact in
     let P : ℕ → Type 0 = λ f. num * 2 ^ f ≡ num in
     let one : num * 2 ^ found.format.frac ≡ num = subst P (sym at) (omega arith) in
@@ -60,18 +60,18 @@ zero_is r p found at x exact low high =
     let less : num * 2 ^ found.format.frac < (0 + 1) * den = subst Q none x.read.rounded.next in
     few num den k.0 (sym one ∙ k.1) (omega (arith, less, one))
 
-is_zero : (r : Radix) (p : Parts) (found : ReadNumber) → IsReading TowardsZero r p found → (magnitude r p).num ≡ 0 → (found.exact ≡ true) × (found.number.low ≡ 0) × (found.number.has_high_bits ≡ false)
+is_zero : (r : Radix) (p : Parts) (found : ReadNumber) → IsReading TowardsZero r p found → (magnitude r p).num ≡ 0 → (found.exact ≡ true) × (found.low ≡ 0) × (found.has_high_bits ≡ false)
 is_zero r p found x none =
     let den : ℕ = (magnitude r p).den in
     let up : ℕ = 2 ^ found.format.frac in
     let same : (magnitude r p).num * up ≡ 0 * up = ap (λ m. m * up) none in
     let nothing : (magnitude r p).num * up ≡ 0 = omega (arith, same) in
-    let steps : x.read.steps ≡ 0 = none_of den x.read.steps (magnitude_pos r p) (omega (arith, x.read.rounded.at_most, nothing)) in
-    let whole : x.holds.high * 2 ^ 64 + found.number.low ≡ 0 = sym (steps_of r p found x) ∙ steps in
-    (x.exact.1 (0, omega (arith, nothing)), omega (arith, whole), not_high found.number.has_high_bits x.holds.high x.holds.over (omega (arith, whole)))
+    let ulps : x.read.ulps ≡ 0 = none_of den x.read.ulps (magnitude_pos r p) (omega (arith, x.read.rounded.at_most, nothing)) in
+    let whole : x.holds.high * 2 ^ 64 + found.low ≡ 0 = sym (ulps_of r p found x) ∙ ulps in
+    (x.exact.1 (0, omega (arith, nothing)), omega (arith, whole), not_high found.has_high_bits x.holds.high x.holds.over (omega (arith, whole)))
 
 pub below_zero_by : (r : Radix) (p : Parts) (found : ReadNumber) (result : Bool) → found.format.frac ≡ 0 → IsReading TowardsZero r p found
-    → (IsTrue result ↔ ((found.number.negative ≡ true) × ¬ ((found.exact ≡ true) × (found.number.low ≡ 0) × (found.number.has_high_bits ≡ false)))) → IsTrue result ↔ IsBelowZero r p
+    → (IsTrue result ↔ ((found.negative ≡ true) × ¬ ((found.exact ≡ true) × (found.low ≡ 0) × (found.has_high_bits ≡ false)))) → IsTrue result ↔ IsBelowZero r p
 below_zero_by r p found result at x is = (to, back)
   where
     to : IsTrue result → IsBelowZero r p

@@ -67,8 +67,8 @@ read_grows : (r : Radix) (p q : Parts) (f : ℕ) (v w : ℤ) → IsAtMost r p q 
 read_grows r p q f v w order x y =
     let a = magnitude r p in
     let b = magnitude r q in
-    let known : with_sign (is_minus p.sign) x.steps ≤ℤ with_sign (is_minus q.sign) y.steps = grows (is_minus p.sign) (is_minus q.sign) a.num a.den b.num b.den (2 ^ f) x.steps y.steps (magnitude_pos r p) (magnitude_pos r q) order x.rounded y.rounded in
-    let P : ℤ → Type 0 = λ z. z ≤ℤ with_sign (is_minus q.sign) y.steps in
+    let known : with_sign (is_minus p.sign) x.ulps ≤ℤ with_sign (is_minus q.sign) y.ulps = grows (is_minus p.sign) (is_minus q.sign) a.num a.den b.num b.den (2 ^ f) x.ulps y.ulps (magnitude_pos r p) (magnitude_pos r q) order x.rounded y.rounded in
+    let P : ℤ → Type 0 = λ z. z ≤ℤ with_sign (is_minus q.sign) y.ulps in
     let Q : ℤ → Type 0 = λ z. v ≤ℤ z in
     subst Q (sym y.value) (subst P (sym x.value) known)
 

@@ -13,16 +13,16 @@ use std::sync::ledger::Ledger;
 
 /// Whether a numeral that was read is zero: a whole number of ulps, and none of them.
 fn is_zero(found: &ReadNumber) -> bool
-    ensures { IsTrue result ↔ ((found.now.exact ≡ true) × (found.now.number.low ≡ 0)
-        × (found.now.number.has_high_bits ≡ false)) }
+    ensures { IsTrue result ↔ ((found.now.exact ≡ true) × (found.now.low ≡ 0)
+        × (found.now.has_high_bits ≡ false)) }
 {
     found.is_exact() && found.magnitude() == 0 && !found.has_high_bits()
 }
 
 /// Whether a numeral that was read is below zero.
 fn is_below(found: &ReadNumber) -> bool
-    ensures { IsTrue result ↔ ((found.now.number.negative ≡ true)
-        × ¬ ((found.now.exact ≡ true) × (found.now.number.low ≡ 0) × (found.now.number.has_high_bits ≡ false))) }
+    ensures { IsTrue result ↔ ((found.now.negative ≡ true)
+        × ¬ ((found.now.exact ≡ true) × (found.now.low ≡ 0) × (found.now.has_high_bits ≡ false))) }
 {
     found.is_negative() && !is_zero(found)
 }

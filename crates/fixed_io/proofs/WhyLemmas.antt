@@ -1,6 +1,5 @@
 -- An error has one reason why there are no arguments.
-use Rattle.std.proofs.Common.{◌≡◌, refl}
-use Rattle.line_engine.specs.declared.program.NoArgs.{NoArgs}
+use Rattle.std.proofs.Common.{refl}
 use Rattle.line_engine.specs.declared.program.NoArgs.TheVariants.{NoMemory, NotText}
 use Rattle.fixed_io.specs.Laws.{WhyIsTheOne}
 

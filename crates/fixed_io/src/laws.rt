@@ -1,8 +1,23 @@
-//! A law, the contract of a function that does nothing.
+//! Laws, each the contract of a function that does nothing.
 
-ghost use Rattle.fixed_io.specs.Laws.{WhyIsTheOne};
+ghost use Rattle.std.specs.Prelude.{List, String};
+ghost use Rattle.std.specs.declared.alloc.Global.{Global};
+ghost use Rattle.fixed_io.specs.Laws.{ReportIsTheOne, RunBetweenIsTheOne, WhyIsTheOne};
+
+use line_engine::Program;
+use std::sync::ledger::Ledger;
 
 /// An error has one reason why there are no arguments.
 pub fn why_is_the_one()
     ensures { WhyIsTheOne }
+{}
+
+/// One report is made of a run, if no write of it fails.
+pub fn report_is_the_one()
+    ensures { ReportIsTheOne }
+{}
+
+/// A process ends with one code, if what is outside says how a run of its program ends.
+pub fn run_between_is_the_one<P: Program<L>, L: Ledger>(_program: &P)
+    ensures { (args : List (String Global)) → RunBetweenIsTheOne (P.Runs _program.now args) }
 {}

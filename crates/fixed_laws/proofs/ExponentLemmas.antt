@@ -142,7 +142,7 @@ exponent_reads mark c g m z k e text ok h reads ee et = by_figures (whole_digits
       rw et (figures_numeral mark (is_negative c) d ds e ok h w.digits),
       (let shift : e -ℤ pos (length ds) ≡ pos z -ℤ pos k = omega (arith, ints, ee) in
           record {
-            steps = unsigned_abs c;
+            ulps = unsigned_abs c;
             rounded = rw (fraction_is ds, exponent_value mark e, w.value, shift) (read_power m z k (unsigned_abs c) g reads);
             value = with_sign c;
           }),

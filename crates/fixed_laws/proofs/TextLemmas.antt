@@ -207,7 +207,7 @@ exact_reads_back r u c g text h = (
   text_parts (base r) u (is_negative c) h.places h.number,
   rw h.text_is (text_is_numeral r u (is_negative c) h.places h.number),
   record {
-    steps = unsigned_abs c;
+    ulps = unsigned_abs c;
     rounded = rw (mantissa_value (base r) u h.places h.number (whole_digits (base r) u (h.number / base r ^ h.places)) (base_low r) (base_high r) (whole_text_is (base r) u (h.number / base r ^ h.places) (base_low r) (base_high r)).value, fraction_length (base r) u h.places h.number) (read_scaled (base r) h.number h.places (unsigned_abs c) g (base_low r) h.exact.same);
     value = with_sign c;
   },
@@ -233,7 +233,7 @@ default_reads_back c g text h = (
   text_parts 10 false (is_negative c) h.places h.number,
   rw (h.text_is ∙ decimal_places (is_negative c) h.number h.places) (text_is_numeral Dec false (is_negative c) h.places h.number),
   record {
-    steps = unsigned_abs c;
+    ulps = unsigned_abs c;
     rounded = rw (mantissa_value 10 false h.places h.number (whole_digits 10 false (h.number / 10 ^ h.places)) (omega arith) (omega arith) (whole_text_is 10 false (h.number / 10 ^ h.places) (omega arith) (omega arith)).value, fraction_length 10 false h.places h.number) (read_back h.number h.places (unsigned_abs c) g h.shortest.reads_back);
     value = with_sign c;
   },

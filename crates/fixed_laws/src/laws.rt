@@ -3,6 +3,13 @@
 ghost use Rattle.fixed_laws.specs.Laws.{DefaultTextReadsBack, ExactTextReadsBack, RoundedTextIsNumeral};
 ghost use Rattle.fixed_laws.specs.Padding.{PaddingIsTheToolchains};
 ghost use Rattle.fixed_laws.specs.Plain.{PlainTextReadsBack};
+ghost use Rattle.fixed_laws.specs.Readings.{
+  ImageReadIsTheOne,
+  OverflowingReadIsTheOne,
+  ReadAnswerIsTheOne,
+  ReadRangeIsDecided,
+  ReadingIsTheOne,
+};
 ghost use Rattle.fixed_laws.specs.Styling.{StyledTextExists, StyledTextIsTheOne};
 
 /// The default text of a value is a decimal numeral, and is read as the bits that it came from.
@@ -39,4 +46,29 @@ pub fn styled_text_exists()
 /// Each value has at most one text in a style.
 pub fn styled_text_is_the_one()
     ensures { StyledTextIsTheOne }
+{}
+
+/// A numeral is read into a format in one way: sign, magnitude and whether it was exact.
+pub fn reading_is_the_one()
+    ensures { ReadingIsTheOne }
+{}
+
+/// Bytes have one answer of a reader: the number, or the kind of their cause.
+pub fn read_answer_is_the_one()
+    ensures { ReadAnswerIsTheOne }
+{}
+
+/// A numeral has at most one image under a policy.
+pub fn image_read_is_the_one()
+    ensures { ImageReadIsTheOne }
+{}
+
+/// A numeral has one Wrapping image, and one verdict whether its number is out of range.
+pub fn overflowing_read_is_the_one()
+    ensures { OverflowingReadIsTheOne }
+{}
+
+/// No numeral is in a range and out of it.
+pub fn read_range_is_decided()
+    ensures { ReadRangeIsDecided }
 {}

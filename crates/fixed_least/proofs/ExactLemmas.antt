@@ -29,10 +29,10 @@ same_magnitude true m n e = omega (arith, ints, e)
 -- a reading towards zero at a fraction length f: the magnitude in ulps, rounded down
 record IsReadDown (r : Radix) (p : Parts) (f : ℕ) (found : ReadNumber) : Type 0 where
   high : ℕ
-  not_above : IsNotAbove ((magnitude r p).num * 2 ^ f) (magnitude r p).den (high * 2 ^ 64 + found.number.low)
-  over : IsTrue found.number.has_high_bits ↔ (0 < high)
+  not_above : IsNotAbove ((magnitude r p).num * 2 ^ f) (magnitude r p).den (high * 2 ^ 64 + found.low)
+  over : IsTrue found.has_high_bits ↔ (0 < high)
   exact : IsTrue found.exact ↔ IsWholeUlps r p f
-  sign : found.number.negative ≡ is_minus p.sign
+  sign : found.negative ≡ is_minus p.sign
 
 read_down : (r : Radix) (p : Parts) (f : ℕ) (found : ReadNumber) → found.format.frac ≡ f → IsReading TowardsZero r p found → IsReadDown r p f found
 read_down r p f found at x =
@@ -40,9 +40,9 @@ read_down r p f found at x =
     subst F at (record {
       high = x.holds.high;
       not_above =
-          let whole = x.holds.high * 2 ^ 64 + found.number.low in
+          let whole = x.holds.high * 2 ^ 64 + found.low in
           let number = sym x.read.value ∙ (x.holds.value ∙ ap (λ b. with_sign b whole) x.sign) in
-          let same : x.read.steps ≡ whole = same_magnitude (is_minus p.sign) x.read.steps whole number in
+          let same : x.read.ulps ≡ whole = same_magnitude (is_minus p.sign) x.read.ulps whole number in
           let P : ℕ → Type 0 = λ q. IsNotAbove ((magnitude r p).num * 2 ^ found.format.frac) (magnitude r p).den q in
           subst P same x.read.rounded;
       over = x.holds.over;
@@ -56,10 +56,10 @@ whole_is_rounded m den q k some h e =
     let itself : IsRounded TowardsZero false m den k = record { at_most = omega (arith, e); next = omega (arith, e, some) } in
     e ∙ ap (λ x. x * den) (rounded_unique TowardsZero false m den k q some itself h)
 
-exact_ulps : (r : Radix) (p : Parts) (fine : ReadNumber) → (h : IsReadDown r p 64 fine) → fine.exact ≡ true → (magnitude r p).num * 2 ^ 64 ≡ (h.high * 2 ^ 64 + fine.number.low) * (magnitude r p).den
+exact_ulps : (r : Radix) (p : Parts) (fine : ReadNumber) → (h : IsReadDown r p 64 fine) → fine.exact ≡ true → (magnitude r p).num * 2 ^ 64 ≡ (h.high * 2 ^ 64 + fine.low) * (magnitude r p).den
 exact_ulps r p fine h is =
     let k = h.exact.0 is in
-    whole_is_rounded ((magnitude r p).num * 2 ^ 64) (magnitude r p).den (h.high * 2 ^ 64 + fine.number.low) k.0 (magnitude_pos r p) h.not_above k.1
+    whole_is_rounded ((magnitude r p).num * 2 ^ 64) (magnitude r p).den (h.high * 2 ^ 64 + fine.low) k.0 (magnitude_pos r p) h.not_above k.1
 
 -- ---- no format holds a numeral with more fraction bits than 64
 held_is_whole : (r : Radix) (p : Parts) (f : FormatParts) → IsTypeFormat f.width f.frac → Holds r p f → IsWholeUlps r p 64
@@ -85,11 +85,11 @@ no_high b high over is =
     (λ (none : high ≤ 0). omega (arith, none))
     (cases_lt 0 high)
 
-pub short_value : (r : Radix) (p : Parts) (fine : ReadNumber) (e : Exact) → fine.format.frac ≡ 64 → IsReading TowardsZero r p fine → fine.exact ≡ true → fine.number.has_high_bits ≡ false → e.negative ≡ fine.number.negative → e.ulps ≡ fine.number.low → IsValueOf r p (Some e)
+pub short_value : (r : Radix) (p : Parts) (fine : ReadNumber) (e : Exact) → fine.format.frac ≡ 64 → IsReading TowardsZero r p fine → fine.exact ≡ true → fine.has_high_bits ≡ false → e.negative ≡ fine.negative → e.ulps ≡ fine.low → IsValueOf r p (Some e)
 short_value r p fine e at x is low sign ulps =
     let h = read_down r p 64 fine at x in
-    let none : h.high ≡ 0 = no_high fine.number.has_high_bits h.high h.over low in
-    let all : h.high * 2 ^ 64 + fine.number.low ≡ e.ulps = omega (arith, none, ulps) in
+    let none : h.high ≡ 0 = no_high fine.has_high_bits h.high h.over low in
+    let all : h.high * 2 ^ 64 + fine.low ≡ e.ulps = omega (arith, none, ulps) in
     record { sign = sign ∙ h.sign; exact = exact_ulps r p fine h is ∙ ap (λ n. n * (magnitude r p).den) all }
 
 -- ---- the whole part
@@ -112,11 +112,11 @@ whole_part num den q w low some e small h =
         omega (arith, grown, e, step, some)))
         (cases_lt num ((q + 1) * den))
 
-coarse_part : (r : Radix) (p : Parts) (fine coarse : ReadNumber) → (h : IsReadDown r p 64 fine) → (c : IsReadDown r p 0 coarse) → fine.exact ≡ true → fine.number.low < 2 ^ 64 → h.high ≡ c.high * 2 ^ 64 + coarse.number.low
+coarse_part : (r : Radix) (p : Parts) (fine coarse : ReadNumber) → (h : IsReadDown r p 64 fine) → (c : IsReadDown r p 0 coarse) → fine.exact ≡ true → fine.low < 2 ^ 64 → h.high ≡ c.high * 2 ^ 64 + coarse.low
 coarse_part r p fine coarse h c is small =
     let one : (magnitude r p).num * 2 ^ 0 ≡ (magnitude r p).num = omega arith in
-    let P : ℕ → Type 0 = λ n. IsNotAbove n (magnitude r p).den (c.high * 2 ^ 64 + coarse.number.low) in
-    whole_part (magnitude r p).num (magnitude r p).den h.high (c.high * 2 ^ 64 + coarse.number.low) fine.number.low (magnitude_pos r p) (exact_ulps r p fine h is) small (subst P one c.not_above)
+    let P : ℕ → Type 0 = λ n. IsNotAbove n (magnitude r p).den (c.high * 2 ^ 64 + coarse.low) in
+    whole_part (magnitude r p).num (magnitude r p).den h.high (c.high * 2 ^ 64 + coarse.low) fine.low (magnitude_pos r p) (exact_ulps r p fine h is) small (subst P one c.not_above)
 
 -- ---- no format holds a numeral with more whole bits than 64
 count_small : (s : Bool) (n k : ℕ) (minus : Bool) → n ≤ 64 → IsInRange s n (with_sign minus k) → k < 2 ^ 64
@@ -130,23 +130,23 @@ too_large num den up count some power e small large =
     let less : (count + 1) * den ≤ 2 ^ 64 * den = mul-le-mul_right den one_more in
     omega (arith, more, less, e, large, some)
 
-pub outside : (r : Radix) (p : Parts) (fine coarse : ReadNumber) → fine.format.frac ≡ 64 → IsReading TowardsZero r p fine → fine.exact ≡ true → fine.number.low < 2 ^ 64 → coarse.format.frac ≡ 0 → IsReading TowardsZero r p coarse → coarse.number.has_high_bits ≡ true → IsValueOf r p None
+pub outside : (r : Radix) (p : Parts) (fine coarse : ReadNumber) → fine.format.frac ≡ 64 → IsReading TowardsZero r p fine → fine.exact ≡ true → fine.low < 2 ^ 64 → coarse.format.frac ≡ 0 → IsReading TowardsZero r p coarse → coarse.has_high_bits ≡ true → IsValueOf r p None
 outside r p fine coarse at x is small at' y out =
     let h = read_down r p 64 fine at x in
     let c = read_down r p 0 coarse at' y in
     let high : 0 < c.high = c.over.0 out in
     let one : (magnitude r p).num * 2 ^ 0 ≡ (magnitude r p).num = omega arith in
     let large : 2 ^ 64 * (magnitude r p).den ≤ (magnitude r p).num =
-    (let grown : 2 ^ 64 * (magnitude r p).den ≤ (c.high * 2 ^ 64 + coarse.number.low) * (magnitude r p).den = mul-le-mul_right (magnitude r p).den (omega (arith, high)) in
+    (let grown : 2 ^ 64 * (magnitude r p).den ≤ (c.high * 2 ^ 64 + coarse.low) * (magnitude r p).den = mul-le-mul_right (magnitude r p).den (omega (arith, high)) in
     omega (arith, grown, c.not_above.at_most, one)) in
     (λ f format g. too_large (magnitude r p).num (magnitude r p).den (2 ^ f.frac) g.count (magnitude_pos r p) (pow_pos f.frac) g.exact (count_small f.signed f.width g.count (is_minus p.sign) (width_most f.width format.is_width) g.in_range) large)
 
-pub long_value : (r : Radix) (p : Parts) (fine coarse : ReadNumber) (e : Exact) → fine.format.frac ≡ 64 → IsReading TowardsZero r p fine → fine.exact ≡ true → fine.number.low < 2 ^ 64 → coarse.format.frac ≡ 0 → IsReading TowardsZero r p coarse → coarse.number.has_high_bits ≡ false → e.negative ≡ fine.number.negative → e.ulps ≡ coarse.number.low * 2 ^ 64 + fine.number.low → IsValueOf r p (Some e)
+pub long_value : (r : Radix) (p : Parts) (fine coarse : ReadNumber) (e : Exact) → fine.format.frac ≡ 64 → IsReading TowardsZero r p fine → fine.exact ≡ true → fine.low < 2 ^ 64 → coarse.format.frac ≡ 0 → IsReading TowardsZero r p coarse → coarse.has_high_bits ≡ false → e.negative ≡ fine.negative → e.ulps ≡ coarse.low * 2 ^ 64 + fine.low → IsValueOf r p (Some e)
 long_value r p fine coarse e at x is small at' y low sign ulps =
     let h = read_down r p 64 fine at x in
     let c = read_down r p 0 coarse at' y in
-    let none : c.high ≡ 0 = no_high coarse.number.has_high_bits c.high c.over low in
+    let none : c.high ≡ 0 = no_high coarse.has_high_bits c.high c.over low in
     let parts_are = coarse_part r p fine coarse h c is small in
-    let whole : h.high ≡ coarse.number.low = omega (arith, parts_are, none) in
-    let all : h.high * 2 ^ 64 + fine.number.low ≡ e.ulps = omega (arith, ap (λ n. n * 2 ^ 64) whole, ulps) in
+    let whole : h.high ≡ coarse.low = omega (arith, parts_are, none) in
+    let all : h.high * 2 ^ 64 + fine.low ≡ e.ulps = omega (arith, ap (λ n. n * 2 ^ 64) whole, ulps) in
     record { sign = sign ∙ h.sign; exact = exact_ulps r p fine h is ∙ ap (λ n. n * (magnitude r p).den) all }

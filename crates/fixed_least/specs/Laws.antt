@@ -6,8 +6,9 @@ use Rattle.fixed_bits.specs.Order.{IsBefore, rank}
 use Rattle.fixed_numeral.specs.declared.radix.Radix.{Radix}
 use Rattle.line_engine.specs.AnswerText.{AnswerText}
 use Rattle.fixed_least.specs.Holding.{AllHold, IsLeastFormat}
-use Rattle.fixed_least.specs.Least.{IsLeast, IsWholeAnswer}
+use Rattle.fixed_least.specs.Least.{IsLeast, IsLeastLine, IsNoNumeral, IsWholeAnswer}
 use Rattle.fixed_least.specs.Program.{NamesRadix}
+use Rattle.fixed_least.specs.declared.least.LeastFault.{LeastFault}
 
 -- the format whose rank is the count of places is the least one that holds each line, and there is no other
 abbrev pub LeastIsTheOne : Type 0
@@ -18,6 +19,16 @@ LeastIsTheOne = (r : Radix) (lines : List (List ℕ)) (places : List ℕ) → Is
 -- a list has one outcome: the places are determined
 abbrev pub PlacesAreTheOnes : Type 0
 PlacesAreTheOnes = (r : Radix) (lines : List (List ℕ)) (a b : List ℕ) → IsLeast r lines a → IsLeast r lines b → a ≡ b
+
+-- and a list that is none has one fault
+abbrev pub LeastFaultIsTheOne : Type 0
+LeastFaultIsTheOne = (r : Radix) (lines : List (List ℕ)) (a b : LeastFault) → IsNoNumeral r lines a
+    → IsNoNumeral r lines b → a ≡ b
+
+-- each line about an outcome is one
+abbrev pub LeastLineIsTheOne : Type 0
+LeastLineIsTheOne = (places : List ℕ) (i : ℕ) (a b : AnswerText) → IsLeastLine places i a → IsLeastLine places i b
+    → a ≡ b
 
 -- an input has one answer
 abbrev pub AnswerIsTheOne : Type 0

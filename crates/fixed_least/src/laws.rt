@@ -2,7 +2,9 @@
 
 ghost use Rattle.fixed_least.specs.Laws.{
   AnswerIsTheOne,
+  LeastFaultIsTheOne,
   LeastIsTheOne,
+  LeastLineIsTheOne,
   LongerHasNoLesser,
   NamedRadixIsTheOne,
   PlacesAreTheOnes,
@@ -31,4 +33,10 @@ pub fn named_radix_is_the_one()
 /// The least format of a longer list does not come before that of the shorter one.
 pub fn longer_has_no_lesser()
     ensures { LongerHasNoLesser }
+{}
+
+/// A list has at most one first line that is no numeral, with one cause; and each line about an outcome is one.
+pub fn least_line_is_the_one()
+    ensures fault { LeastFaultIsTheOne }
+    ensures line { LeastLineIsTheOne }
 {}

@@ -1,10 +1,10 @@
 -- Stretches of a text, and the numbers that their digits spell.
-use Rattle.std.proofs.Common.{◌≡◌, ℕ, zero, suc, ◌+◌, ◌-◌, ◌*◌, ◌^◌, ◌<◌, ◌≤◌, Bool, true, false, List, [], ◌∷◌, ◌++◌, length, take, drop, get_or, Option, Some, None, IfSome, option_to_list, ℤ, pos, neg_ℤ, cond, of_z, to_z, FitsSigned, w32, refl, sym, ap, ◌∙◌, arith, append_assoc, append-nil, subst, length-append, length-take, length-drop, take-append-drop, mul-le-mul_left, mul-le-mul_right}
+use Rattle.std.proofs.Common.{◌≡◌, ℕ, zero, suc, ◌+◌, ◌-◌, ◌*◌, ◌^◌, ◌<◌, ◌≤◌, Bool, true, false, List, [], ◌∷◌, ◌++◌, length, take, drop, get_or, Option, Some, None, IfSome, option_to_list, ℤ, pos, neg_ℤ, cond, of_z, to_z, w32, refl, sym, ap, ◌∙◌, arith, append_assoc, append-nil, subst, length-append, length-take, length-drop, take-append-drop, mul-le-mul_left, mul-le-mul_right}
 use Rattle.std.proofs.lemmas.List.{drop_more, drop-drop, drop-take, length_push, drop_all, take-take}
 use Rattle.std.proofs.lemmas.Bool.{eqb-true}
 use Rattle.std.specs.Prelude.{eqb}
 use mir.Val.{bool_byte}
-use Rattle.std.proofs.lemmas.Int.{ints, to_z-of_z}
+use Rattle.std.proofs.lemmas.Int.{to_z-of_z}
 use Rattle.std.proofs.lemmas.Nat.{pow-add}
 use Rattle.std.proofs.Math.Nat.{pow-zero, pow-suc, pow-le-pow_right}
 use Rattle.std.proofs.lemmas.Int.Digits.{digits_value_push, digits_push, digits_value-lt}
@@ -15,7 +15,7 @@ use Rattle.fixed_numeral.proofs.LaneLemmas.{eight_long, eight_below, small_base}
 use Rattle.std.specs.Str.Parse.{AllDigits, digits_value}
 use Rattle.fixed_numeral.specs.Inner.Segments.{IsSignAt, IsDigitRun, IsMantissaAt, IsExponentAt, IsShortAt}
 use Rattle.fixed_numeral.specs.declared.radix.Radix.{Radix}
-use Rattle.fixed_numeral.specs.Numeral.{Parts, Exponent, HasNumeral, IsExponentOf, base, is_separator, is_two_separator, fraction_text, fractional_digits}
+use Rattle.fixed_numeral.specs.Numeral.{Parts, Exponent, HasNumeral, base, is_separator, is_two_separator, fraction_text, exponent_text, fractional_digits}
 use Rattle.fixed_numeral.specs.PartNumbers.{exponent_value, IsShortNumeral, HasFewDigits}
 use Rattle.fixed_numeral.specs.Inner.Scan.{max_magnitude}
 use Rattle.fixed_numeral.proofs.NumeralLemmas.{parts, exponent, parts_unique}
@@ -110,6 +110,14 @@ mantissa_parted b bs from point to whole fraction places h l dot k p some = reco
 pub exponent_none : (r : Radix) (bs : List ℕ) (from : ℕ) → from ≡ length bs → IsExponentAt r bs from (pos 0) false
 exponent_none r bs from e = record { exponent = None; text = at_end bs from e; is_exponent = tt; some = tt; is_number = refl; is_by_two = refl }
 
+-- where the text ends there is none
+pub exponent_ended : (r : Radix) (bs : List ℕ) (from : ℕ) (x : ℤ) (two : Bool) → from ≡ length bs → IsExponentAt r bs from x two → x ≡ pos 0
+exponent_ended r bs from x two end h = by_cases h.exponent h.is_number (sym h.text ∙ at_end bs from end)
+  where
+    by_cases : (e : Option Exponent) → x ≡ exponent_value e → exponent_text e ≡ [] → x ≡ pos 0
+    by_cases None q t = q
+    by_cases (Some e) q t = absurd (omega (arith, ap length t))
+
 pub exponent_stands : (r : Radix) (bs : List ℕ) (from after first to number : ℕ) (minus : Bool) → from < length bs → is_separator r (get_or bs from 0) ≡ true → after ≡ from + 1 → IsSignAt bs after first minus → IsDigitRun 10 bs first to number → to ≡ length bs → first < to → number ≤ max_magnitude minus → IsExponentAt r bs from (cond minus (neg_ℤ (pos number)) (pos number)) (is_two_separator r (get_or bs from 0))
 exponent_stands r bs from after first to number minus l k a s d e some most = record {
   exponent = Some (exponent (get_or bs from 0) s.sign d.digits);
@@ -182,13 +190,6 @@ few_digits b bs from to whole fraction places least most place h late = by_cases
         (record { few = omega (arith, p, count, h.within, late, place); fits = rw p fits.0 }, fits.1)
 
 -- ---- as the code has them
-exponent_fits : (r : Radix) (bs : List ℕ) (from : ℕ) (x : ℤ) (two : Bool) → IsExponentAt r bs from x two → FitsSigned w32 x
-exponent_fits r bs from x two h = by_cases h.exponent h.is_exponent h.is_number
-  where
-    by_cases : (e : Option Exponent) → IfSome e (IsExponentOf r) → x ≡ exponent_value e → FitsSigned w32 x
-    by_cases None k q = rw q (omega (arith, ints))
-    by_cases (Some e) k q = rw q k.in_range
-
 pub exponent_at : (r : Radix) (bs : List ℕ) (from first to number : ℕ) (minus : Bool) (x : ℤ) (two : Bool) → from < length bs → is_separator r (get_or bs from 0) ≡ true → IsSignAt bs (from + 1) first minus → IsDigitRun 10 bs first to number → to ≡ length bs → (to ≡ first → ⊥) → number ≤ max_magnitude minus → x ≡ cond minus (neg_ℤ (pos number)) (pos number) → two ≡ is_two_separator r (get_or bs from 0) → IsExponentAt r bs from (to_z w32 (of_z w32 x)) two
 exponent_at r bs from first to number minus x two l k s d e ne most ex et =
     let h = exponent_stands r bs from (from + 1) first to number minus l k refl s d e (omega (arith, d.count, ne)) most in
@@ -348,12 +349,11 @@ exponent_dropped r bs k from x two l h = record {
 }
 
 -- ---- a numeral that a text ends with
-pub ending_short : (r : Radix) (bs : List ℕ) (from first mid whole fraction places : ℕ) (negative two : Bool) (x : ℤ) → from ≤ length bs → IsSignAt bs from first negative → IsMantissaAt (base r) bs first mid whole fraction places → IsExponentAt r bs mid x two → whole < base r ^ 16 → places ≤ 27 → IsShortAt r (drop from bs) negative whole fraction places (to_z w32 (of_z w32 x)) two
+pub ending_short : (r : Radix) (bs : List ℕ) (from first mid whole fraction places : ℕ) (negative two : Bool) (x : ℤ) → from ≤ length bs → IsSignAt bs from first negative → IsMantissaAt (base r) bs first mid whole fraction places → IsExponentAt r bs mid x two → whole < base r ^ 16 → places ≤ 27 → IsShortAt r (drop from bs) negative whole fraction places x two
 ending_short r bs from first mid whole fraction places negative two x l s m e fits few =
     let one = sign_place bs from first negative l s in
-    let two' = mantissa_place (base r) bs first mid whole fraction places s.within m in
-    let same : to_z w32 (of_z w32 x) ≡ x = to_z-of_z w32 x (exponent_fits r bs mid x two e) in
-    rw same (short_at r (drop from bs) (first - from) (mid - from) whole fraction places negative two x (sign_dropped bs from first negative one s) (mantissa_dropped (base r) bs from first mid whole fraction places one s.within m) (exponent_dropped r bs from mid x two (omega arith) e) fits few)
+    let past = mantissa_place (base r) bs first mid whole fraction places s.within m in
+    short_at r (drop from bs) (first - from) (mid - from) whole fraction places negative two x (sign_dropped bs from first negative one s) (mantissa_dropped (base r) bs from first mid whole fraction places one s.within m) (exponent_dropped r bs from mid x two (omega arith) e) fits few
 
 pub sign_short : (bs : List ℕ) (from to : ℕ) (negative : Bool) → from ≤ length bs → IsSignAt bs from to negative → to ≤ from + 1
 sign_short bs from to negative l h = omega (arith, ap length h.text, length-append (option_to_list h.sign) (drop to bs), length-drop from bs, length-drop to bs, h.within, at_most h.sign)

@@ -14,9 +14,9 @@ ghost use Rattle.fixed_numeral.specs.PartNumbers.{HasFewDigits};
 ghost use Rattle.fixed_numeral.specs.Inner.Scan.{max_magnitude};
 ghost use Rattle.fixed_numeral.specs.Inner.Segments.{IsExponentAt, IsMantissaAt, IsShortAt, HasMarks};
 
+use crate::exponent::{Power, power_at};
 use crate::radix::Radix;
-use crate::scanner::{is_separator, is_two_separator, max_magnitude};
-use crate::segment::{decimals_between, number_between, sign_at};
+use crate::segment::{number_between, sign_at};
 use crate::short::{LANES, ShortNumeral};
 use std::simd::prelude::*;
 
@@ -66,15 +66,15 @@ fn unmarked_end(text: &[u8], marks: u64, from: usize) -> usize
 
 /// The digits of a mantissa.
 #[derive(Clone, Copy)]
-struct Mantissa {
+pub(crate) struct Mantissa {
     /// The number that those before the point spell.
-    whole: u64,
+    pub whole: u64,
     /// The number that those after the point spell.
-    fraction: u64,
+    pub fraction: u128,
     /// How many there are after the point.
-    places: u32,
+    pub places: u32,
     /// The place after them.
-    end: usize,
+    pub end: usize,
 }
 
 /// The mantissa from a place on. `None` where it has no digit.
@@ -106,74 +106,29 @@ fn mantissa_at(text: &[u8], radix: Radix, from: usize) -> Option<Mantissa>
     }
     Some(Mantissa {
         whole,
-        fraction: number_between(text, base, point + 1, end),
+        fraction: u128::from(number_between(text, base, point + 1, end)),
         places: (end - point - 1) as u32,
         end,
     })
 }
 
-/// An exponent, and whether it counts powers of two.
-#[derive(Clone, Copy)]
-struct Power {
-    exponent: i32,
-    by_two: bool,
-}
-
-/// An exponent by its sign and its magnitude.
-fn signed_exponent(minus: bool, magnitude: u64) -> i32
-    requires { magnitude ≤ max_magnitude minus }
-    ensures { result ≡ (if minus then neg_ℤ (pos magnitude) else pos magnitude) }
-{
-    if minus {
-        (-(magnitude as i64)) as i32
-    } else {
-        magnitude as i32
-    }
-}
-
-/// The exponent from its separator on, up to the end of the text. `None` where it has no digit, its number is not an
-/// i32, or something else is there.
-fn exponent_at(text: &[u8], radix: Radix, from: usize) -> Option<Power>
-    requires least { LANES ≤ from }
-    requires late { length text.now ≤ from + LANES }
-    requires place { from < length text.now }
-    ensures { IfSome result (λ e. IsExponentAt radix text.now from e.exponent e.by_two) }
-{
-    let separator = text[from];
-    if !is_separator(radix, separator) {
-        return None;
-    }
-    let (negative, first) = sign_at(text, from + 1);
-    if first == text.len() {
-        return None;
-    }
-    let number = decimals_between(text, first, text.len())?;
-    if number > max_magnitude(negative) {
-        return None;
-    }
-    Some(Power {
-        exponent: signed_exponent(negative, number),
-        by_two: is_two_separator(radix, separator),
-    })
-}
-
-/// The exponent from a place on, up to the end of the text, or 0 where the text ends there. `None` as in `exponent_at`.
+/// The numbers of a numeral's sign, mantissa and exponent.
 #[inline(always)]
-fn power_at(text: &[u8], radix: Radix, from: usize) -> Option<Power>
-    requires least { LANES ≤ from }
-    requires late { length text.now ≤ from + LANES }
-    requires place { from ≤ length text.now }
-    ensures { IfSome result (λ e. IsExponentAt radix text.now from e.exponent e.by_two) }
+pub(crate) fn numeral_of(negative: bool, mantissa: Mantissa, power: Power) -> ShortNumeral
+    ensures negative { result.negative ≡ negative }
+    ensures whole { result.whole ≡ mantissa.whole }
+    ensures fraction { result.fraction ≡ mantissa.fraction }
+    ensures places { result.places ≡ mantissa.places }
+    ensures exponent { result.exponent ≡ power.exponent }
+    ensures by_two { result.scales_by_two ≡ power.by_two }
 {
-    if from == text.len() {
-        return Some(Power {
-            exponent: 0,
-            by_two: false,
-        });
-    }
-    match &exponent_at(text, radix, from) {
-        Some(power) => Some(*power),
-        None => None,
+    ShortNumeral {
+        negative,
+        whole: mantissa.whole,
+        fraction: mantissa.fraction,
+        places: mantissa.places,
+        exponent: power.exponent,
+        scales_by_two: power.by_two,
     }
 }
 
@@ -191,12 +146,5 @@ pub(crate) fn ending_numeral(text: &[u8], from: usize, radix: Radix) -> Option<S
     let (negative, first) = sign_at(text, from);
     let mantissa = mantissa_at(text, radix, first)?;
     let power = power_at(text, radix, mantissa.end)?;
-    Some(ShortNumeral {
-        negative,
-        whole: mantissa.whole,
-        fraction: u128::from(mantissa.fraction),
-        places: mantissa.places,
-        exponent: power.exponent,
-        scales_by_two: power.by_two,
-    })
+    Some(numeral_of(negative, mantissa, power))
 }

@@ -1,10 +1,12 @@
 //! Numerals in radix 2, 8, 10 and 16: parsing, value, and the reason for each rejection.
 #![tactic(auto)]
 
+mod decimal;
 mod digit_slice;
 mod digit_view;
 mod ending;
 mod error;
+mod exponent;
 pub mod laws;
 mod leading;
 mod literal;
@@ -15,7 +17,6 @@ mod scanner;
 mod segment;
 mod short;
 mod swar;
-mod wide;
 
 pub use digit_view::DigitView;
 pub use error::{ParseErrorKind, ParseFixedError};
@@ -25,4 +26,4 @@ pub use powers::power_of_ten;
 pub use radix::Radix;
 pub use scanned::Scanned;
 pub use scanner::scan;
-pub use short::{ShortNumeral, short_numeral};
+pub use short::{ShortNumeral, short_decimal, short_numeral};

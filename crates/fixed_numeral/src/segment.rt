@@ -108,3 +108,23 @@ pub(crate) fn number_between(bytes: &[u8], base: u64, from: usize, to: usize) ->
     let fourth = square * square;
     high * (fourth * fourth) + low
 }
+
+/// The number of the bytes between two places, at most 16, where they are decimal digits.
+#[inline(always)]
+pub(crate) fn decimals_to(bytes: &[u8], from: usize, to: usize) -> Option<u64>
+    requires place { from ≤ to }
+    requires within { to ≤ length bytes.now }
+    requires few { to ≤ from + 16 }
+    ensures { IfSome result (λ n. IsDigitRun 10 bytes.now from to n) }
+{
+    if to >= 8 {
+        let number = decimals_between(bytes, from, to)?;
+        return Some(number);
+    }
+    let run = decimals_at(bytes, from, to);
+    if run.end == to {
+        Some(run.number)
+    } else {
+        None
+    }
+}

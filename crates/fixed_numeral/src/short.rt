@@ -10,9 +10,9 @@ ghost use Rattle.fixed_numeral.specs.Numeral.{Parts, HasNumeral, IsNumeral, base
 ghost use Rattle.fixed_numeral.specs.PartNumbers.{IsShortNumeral, HasFewDigits};
 ghost use Rattle.fixed_numeral.specs.Inner.Segments.{IsShortAt};
 
+use crate::decimal::decimal_of;
 use crate::ending::ending_numeral;
 use crate::radix::Radix;
-use crate::wide::wide_decimal;
 use fixed_steps::Steps;
 use std::sync::ledger::Ledger;
 
@@ -39,6 +39,17 @@ pub(crate) const LANES: usize = 16;
 
 /// How many bytes a decimal has at most that is looked at for a point.
 const WIDE: usize = 44;
+
+/// How many bytes a short numeral has at most.
+#[inline(always)]
+fn most_bytes(radix: Radix) -> usize
+    ensures { (radix ≢ Dec) → result ≡ LANES }
+{
+    match radix {
+        Radix::Dec => WIDE,
+        _ => LANES,
+    }
+}
 
 /// The bytes of a text from a place on.
 #[inline(always)]
@@ -74,50 +85,36 @@ fn padded_numeral(s: &[u8], radix: Radix) -> Option<ShortNumeral>
     ending_numeral(&bytes[..LANES + s.len()], LANES, radix)
 }
 
-/// `padded_numeral` of the bytes from a place on. Its answer is matched by reference and copied here, and not where it
-/// is used: the answer of a call has room in memory, which is cleared where a function begins.
-#[inline(always)]
-fn numeral_from(text: &[u8], from: usize, radix: Radix) -> Option<ShortNumeral>
-    requires place { from ≤ length text.now }
-    requires few { length text.now ≤ from + LANES }
+/// The numbers of a short numeral without 16 bytes before it, or with more than 16 itself. Apart from where it is used,
+/// which is the colder way of two.
+#[inline(never)]
+fn numeral_alone(s: &[u8], radix: Radix) -> Option<ShortNumeral>
+    requires { (radix ≢ Dec) → length s.now ≤ LANES }
     ensures short { IfSome result
-        (λ n. IsShortAt radix (drop from text.now) n.negative n.whole n.fraction n.places n.exponent n.scales_by_two) }
-    ensures few { IfSome result (λ n. HasFewDigits (base radix) n.whole n.fraction n.places) }
+        (λ n. IsShortAt radix s.now n.negative n.whole n.fraction n.places n.exponent n.scales_by_two) }
+    ensures few { IfSome result (λ n. ((radix ≢ Dec) ⊎ (n.exponent ≢ pos 0))
+        → HasFewDigits (base radix) n.whole n.fraction n.places) }
 {
-    match &padded_numeral(bytes_from(text, from), radix) {
-        Some(found) => Some(*found),
-        None => None,
+    match radix {
+        Radix::Dec => decimal_of(s),
+        _ => padded_numeral(s, radix),
     }
 }
 
-/// `wide_decimal` of the bytes from a place on, copied as by `numeral_from`.
+/// What `numeral_alone` answers, matched by reference and copied here, and not where it is used: the answer of a call
+/// has room in memory, which is cleared where a function begins.
 #[inline(always)]
-fn wide_decimal_from(text: &[u8], from: usize) -> Option<ShortNumeral>
-    requires place { from ≤ length text.now }
-    requires long { from + LANES < length text.now }
+fn copy_alone(s: &[u8], radix: Radix) -> Option<ShortNumeral>
+    requires { (radix ≢ Dec) → length s.now ≤ LANES }
     ensures short { IfSome result
-        (λ n. IsShortAt Dec (drop from text.now) n.negative n.whole n.fraction n.places n.exponent n.scales_by_two) }
-    ensures plain { IfSome result (λ n. n.exponent ≡ pos 0) }
+        (λ n. IsShortAt radix s.now n.negative n.whole n.fraction n.places n.exponent n.scales_by_two) }
+    ensures few { IfSome result (λ n. ((radix ≢ Dec) ⊎ (n.exponent ≢ pos 0))
+        → HasFewDigits (base radix) n.whole n.fraction n.places) }
 {
-    match &wide_decimal(bytes_from(text, from)) {
+    match &numeral_alone(s, radix) {
         Some(found) => Some(*found),
         None => None,
     }
-}
-
-/// The numbers of a numeral of at most 16 bytes that a text ends with.
-#[inline(always)]
-fn few_bytes(text: &[u8], from: usize, radix: Radix) -> Option<ShortNumeral>
-    requires late { length text.now ≤ from + LANES }
-    requires place { from ≤ length text.now }
-    ensures short { IfSome result
-        (λ n. IsShortAt radix (drop from text.now) n.negative n.whole n.fraction n.places n.exponent n.scales_by_two) }
-    ensures few { IfSome result (λ n. HasFewDigits (base radix) n.whole n.fraction n.places) }
-{
-    if from < LANES {
-        return numeral_from(text, from, radix);
-    }
-    ending_numeral(text, from, radix)
 }
 
 /// The numbers of a numeral that a text ends with from a place on: of one with at most 16 bytes, or of a decimal with
@@ -144,15 +141,32 @@ pub fn short_numeral<L: Ledger>(
     ensures cost { steps.new ≤ steps.old + length (drop from text.now) }
 {
     let count = text.len() - from;
-    if count <= LANES {
-        steps.advance(count as u64);
-        return few_bytes(text, from, radix);
+    if count > most_bytes(radix) {
+        return None;
     }
-    match radix {
-        Radix::Dec if count <= WIDE => {
-            steps.advance(count as u64);
-            wide_decimal_from(text, from)
-        }
-        _ => None,
+    steps.advance(count as u64);
+    if count <= LANES && from >= LANES {
+        return ending_numeral(text, from, radix);
     }
+    copy_alone(bytes_from(text, from), radix)
+}
+
+/// `short_numeral` of a text that is a decimal, whose code is where it is used.
+#[inline(always)]
+pub fn short_decimal<L: Ledger>(s: &[u8], steps: &mut Steps<L>) -> Option<ShortNumeral>
+    ensures numeral { IfSome result (λ n. IsNumeral Dec s.now) }
+    ensures parts { IfSome result (λ n. (p : Parts) → HasNumeral Dec s.now p
+        → IsShortNumeral Dec p n.negative n.whole n.fraction n.places n.exponent n.scales_by_two) }
+    ensures fraction { IfSome result (λ n. n.fraction < 10 ^ n.places) }
+    ensures whole { IfSome result (λ n. n.whole < 10 ^ 16) }
+    ensures places { IfSome result (λ n. n.places ≤ 27) }
+    ensures few { IfSome result (λ n. (n.exponent ≢ pos 0) → HasFewDigits 10 n.whole n.fraction n.places) }
+    ensures counted { IfSome result (λ n. steps.new ≡ steps.old + length s.now) }
+    ensures cost { steps.new ≤ steps.old + length s.now }
+{
+    if s.len() > most_bytes(Radix::Dec) {
+        return None;
+    }
+    steps.advance(s.len() as u64);
+    decimal_of(s)
 }

@@ -1,21 +1,20 @@
 -- Numerals that are known where a call is written: what a caller of a strict reading call names in its `using`.
 -- They have an optional sign, digits, and optionally a point and digits, without an exponent.
-use Rattle.std.proofs.Common.{◌≡◌, ℕ, ◌+◌, ◌-◌, ◌*◌, ◌/◌, ◌%◌, ◌^◌, ◌<◌, ◌≤◌, ◌==◌, ◌&&◌, ◌++◌, Bool, true, false, IsTrue, List, [], ◌∷◌, length, ℤ, arith, refl, sym, ap, ◌∙◌, mod-lt, div-add-mod'}
-use Rattle.std.specs.Prelude.{if◌then◌else◌, nat_lt, nat_le, Option, Some, None, IfSome, option_to_list}
+use Rattle.std.proofs.Common.{◌≡◌, ℕ, ◌+◌, ◌*◌, ◌/◌, ◌%◌, ◌^◌, ◌<◌, ◌==◌, ◌&&◌, ◌++◌, Bool, true, false, IsTrue, List, [], ◌∷◌, length, ℤ, arith, refl, sym, ap, ◌∙◌, mod-lt, div-add-mod'}
+use Rattle.std.specs.Prelude.{if◌then◌else◌, nat_lt, Option, Some, None, IfSome, option_to_list}
 use Rattle.std.specs.Char.{digit_value}
-use Rattle.std.specs.Str.Parse.{AllDigits, digits_value}
+use Rattle.std.specs.Str.Parse.{AllDigits}
 use Rattle.std.proofs.lemmas.Bool.Decides.{nat_tests}
 use Rattle.std.proofs.lemmas.List.{append-nil}
 use Rattle.fixed_bits.specs.Ranges.{IsInRange}
-use Rattle.fixed_bits.specs.Nearest.{IsNearest, distance}
+use Rattle.fixed_bits.specs.Nearest.{IsNearest}
 use Rattle.fixed_bits.proofs.Public.{nearest_by_rest, nearest_by_rest_up}
 use Rattle.fixed_bits.specs.declared.mode.ReadMode.TheVariants.{NearestEven}
-use Rattle.fixed_numeral.specs.Numeral.{Parts, HasParts, HasNumeral, IsPartsOf, base, point, is_sign, is_minus, signed, fraction_text, text_of, fractional_digits, mantissa}
+use Rattle.fixed_numeral.specs.Numeral.{Parts, HasNumeral, base, point, is_sign, signed, fraction_text, text_of, fractional_digits, mantissa}
 use Rattle.fixed_numeral.specs.Value.{magnitude}
 use Rattle.fixed_numeral.proofs.Public.{magnitude_pos}
 use Rattle.fixed_numeral.specs.declared.radix.Radix.{Radix}
 use Rattle.fixed_read.specs.Reading.{IsReadNumber, IsReadInRange}
-use Rattle.fixed_read.proofs.Public.{read_unique}
 
 -- ---- the parts of a text
 abbrev pub sign_of : List ℕ → Option ℕ
@@ -126,7 +125,7 @@ nearest_is num den pos = nearest_by num den (nat_lt den (2 * (num % den))) (2 * 
 
 number_is : (r : Radix) (bs : List ℕ) (f : ℕ) → IsReadNumber NearestEven r (parts_of bs) f (number_of r bs f)
 number_is r bs f = record {
-  steps = nearest_of ((magnitude r (parts_of bs)).num * 2 ^ f) (magnitude r (parts_of bs)).den;
+  ulps = nearest_of ((magnitude r (parts_of bs)).num * 2 ^ f) (magnitude r (parts_of bs)).den;
   rounded = nearest_is ((magnitude r (parts_of bs)).num * 2 ^ f) (magnitude r (parts_of bs)).den (magnitude_pos r (parts_of bs));
   value = refl;
 }

@@ -1,6 +1,6 @@
 -- The candidate of a block of decimal digits, and the digits after it.
 use Rattle.std.proofs.Common.{⊎_elim, Bool, false, IsTrue, ◌⊎◌, ◌↔◌, ◌≡◌, ℕ, ◌+◌, ◌-◌, ◌*◌, ◌/◌, ◌^◌, ◌<◌, ◌≤◌, List, [], length, arith, refl, ap, ◌∙◌, mul-le-mul_right, mul-le-mul_left, mul-pos, pow_pos, div-add-mod', mod-lt}
-use Rattle.std.proofs.Math.Nat.{eq_of_mul-eq-mul_left, mul-div_cancel, one-le-pow, pow-le-pow_right, le_of_mul-le-mul_left}
+use Rattle.std.proofs.Math.Nat.{eq_of_mul-eq-mul_left, mul-div_cancel, one-le-pow, pow-le-pow_right}
 use Rattle.std.proofs.lemmas.Nat.{pow-add, mul-pow}
 use Rattle.std.proofs.lemmas.Int.Digits.{number_lt}
 use Rattle.std.specs.Int.Digits.{number_from_digits, AllBelowBase}

@@ -1,19 +1,18 @@
 -- The read number of a numeral, and whether it is in range.
-use Rattle.std.proofs.Common.{◌≡◌, ℕ, ◌+◌, ◌*◌, ◌^◌, ◌<◌, ◌⊎◌, ◌↔◌, Bool, List, length, refl, sym, ap, subst, ◌∙◌, arith, inr, ⊎_elim, ℤ, Result, Ok, Err, IsOk, IfOk, IfErr}
-use Rattle.std.proofs.Math.Nat.{one-le-pow}
+use Rattle.std.proofs.Common.{◌≡◌, ℕ, ◌+◌, ◌*◌, ◌^◌, ◌<◌, ◌⊎◌, ◌↔◌, Bool, List, refl, sym, ap, subst, ◌∙◌, arith, inr, ⊎_elim, ℤ, Result, Ok, Err, IsOk, IfOk, IfErr}
 use Rattle.fixed_bits.specs.Numbers.{IsNumber, with_sign}
 use Rattle.fixed_bits.specs.Rounded.{IsRounded}
 use Rattle.fixed_bits.specs.Ranges.{IsInRange}
 use Rattle.fixed_bits.specs.declared.mode.ReadMode.{ReadMode}
 use Rattle.fixed_numeral.specs.Numeral.{Parts, base, is_minus, signed}
 use Rattle.fixed_numeral.specs.Scanned.{IsScanned}
-use Rattle.fixed_numeral.specs.Spelled.{spelled, IsSameNumber}
+use Rattle.fixed_numeral.specs.Spelled.{IsSameNumber}
 use Rattle.fixed_numeral.specs.Value.{Fraction, magnitude}
 use Rattle.fixed_numeral.specs.declared.radix.Radix.{Radix}
 use Rattle.fixed_numeral.specs.declared.radix.Radix.TheVariants.{Bin, Oct, Dec, Hex}
 use Rattle.fixed_numeral.proofs.Public.{magnitude_pos}
 use Rattle.fixed_bits.proofs.Public.{rounded_unique, rounded_exists, range_decided}
-use Rattle.fixed_read.specs.Reading.{IsReadNumber, IsReading, IsReadInRange, IsReadOutOfRange}
+use Rattle.fixed_read.specs.Reading.{IsReadNumber, IsReading, IsReadInRange, IsReadOutOfRange, number_in}
 use Rattle.fixed_read.specs.declared.magnitude.Ulps.{Ulps}
 use Rattle.fixed_read.specs.declared.read_number.ReadNumber.{ReadNumber}
 use Rattle.fixed_read.specs.Laws.{ReadNumberIsTheOne}
@@ -24,12 +23,12 @@ use Rattle.fixed_read.proofs.DirectionLemmas.{to_rounded}
 
 -- ---- a numeral has one read number
 pub read_unique : (mode : ReadMode) (r : Radix) (p : Parts) (f : ℕ) (v w : ℤ) → IsReadNumber mode r p f v → IsReadNumber mode r p f w → v ≡ w
-read_unique mode r p f v w g h = g.value ∙ ap (signed p.sign) (rounded_unique mode (is_minus p.sign) ((magnitude r p).num * 2 ^ f) (magnitude r p).den g.steps h.steps (magnitude_pos r p) g.rounded h.rounded) ∙ sym h.value
+read_unique mode r p f v w g h = g.value ∙ ap (signed p.sign) (rounded_unique mode (is_minus p.sign) ((magnitude r p).num * 2 ^ f) (magnitude r p).den g.ulps h.ulps (magnitude_pos r p) g.rounded h.rounded) ∙ sym h.value
 
 pub read_number_is_the_one : ReadNumberIsTheOne
 read_number_is_the_one mode r p f =
     let found = rounded_exists mode (is_minus p.sign) ((magnitude r p).num * 2 ^ f) (magnitude r p).den (magnitude_pos r p) in
-    let read : IsReadNumber mode r p f (signed p.sign found.0) = record { steps = found.0; rounded = found.1; value = refl } in
+    let read : IsReadNumber mode r p f (signed p.sign found.0) = record { ulps = found.0; rounded = found.1; value = refl } in
     (signed p.sign found.0, read, λ w h. read_unique mode r p f w (signed p.sign found.0) h read)
 
 -- ---- a result's cases
@@ -51,19 +50,19 @@ module _ (mode : ReadMode) (r : Radix) (Has : Parts → Type 0) (f : ℕ) (sign 
   read_at : (p : Parts) (h : Has p) → IsReadNumber mode r p f (reading p h).number
   read_at p h = rw frac at (reading p h).read
 
-  pub range_iff : (ok : Type 0) → ((p : Parts) × Has p) → ((v : ℤ) → IsNumber found.number v → ok ↔ IsInRange sign n v) → ok ↔ IsReadInRange mode r Has f sign n
+  pub range_iff : (ok : Type 0) → ((p : Parts) × Has p) → ((v : ℤ) → IsNumber (number_in found) v → ok ↔ IsInRange sign n v) → ok ↔ IsReadInRange mode r Has f sign n
   range_iff ok (p, h) test = (
     λ t. record { parts = p; has = h; number = (reading p h).number; read = read_at p h; in_range = (test (reading p h).number (reading p h).holds).0 t },
     λ i. (test (reading i.parts i.has).number (reading i.parts i.has).holds).1 (rw (read_unique mode r i.parts f i.number (reading i.parts i.has).number i.read (read_at i.parts i.has)) at i.in_range),
   )
 
-  pub out_is : ((p : Parts) × Has p) → ((v : ℤ) → IsNumber found.number v → IsInRange sign n v → ⊥) → IsReadOutOfRange mode r Has f sign n
+  pub out_is : ((p : Parts) × Has p) → ((v : ℤ) → IsNumber (number_in found) v → IsInRange sign n v → ⊥) → IsReadOutOfRange mode r Has f sign n
   out_is (p, h) test = record { parts = p; has = h; number = (reading p h).number; read = read_at p h; out_of_range = ⊎_elim (λ i. absurd (test (reading p h).number (reading p h).holds i)) (λ o. o) (range_decided sign n (reading p h).number).0 }
 
-  pub not_out : ((v : ℤ) → IsNumber found.number v → IsInRange sign n v) → IsReadOutOfRange mode r Has f sign n → ⊥
+  pub not_out : ((v : ℤ) → IsNumber (number_in found) v → IsInRange sign n v) → IsReadOutOfRange mode r Has f sign n → ⊥
   not_out test o = (range_decided sign n o.number).1 o.out_of_range (rw (read_unique mode r o.parts f (reading o.parts o.has).number o.number (read_at o.parts o.has) o.read) at (test (reading o.parts o.has).number (reading o.parts o.has).holds))
 
-  pub number_is : (c : ℤ) → ((v : ℤ) → IsNumber found.number v → c ≡ v) → (p : Parts) → Has p → IsReadNumber mode r p f c
+  pub number_is : (c : ℤ) → ((v : ℤ) → IsNumber (number_in found) v → c ≡ v) → (p : Parts) → Has p → IsReadNumber mode r p f c
   number_is c same p h = rw (same (reading p h).number (reading p h).holds) (read_at p h)
 
 -- ---- of a numeral
@@ -74,13 +73,13 @@ base_some Dec = omega arith
 base_some Hex = omega arith
 
 -- the reading of a numeral whose magnitude is a number that was rounded
-pub reading_from : (mode : ReadMode) (r : Radix) (p : Parts) (number : Fraction) (ulps : Ulps) (found : ReadNumber) → found.number.negative ≡ is_minus p.sign → 0 < number.den → IsSameNumber number (magnitude r p) → IsMagnitude (direction mode found.number.negative) number found.format.frac ulps → found.number.low ≡ ulps.low → found.number.has_high_bits ≡ ulps.has_high_bits → found.exact ≡ ulps.is_exact → IsReading mode r p found
+pub reading_from : (mode : ReadMode) (r : Radix) (p : Parts) (number : Fraction) (ulps : Ulps) (found : ReadNumber) → found.negative ≡ is_minus p.sign → 0 < number.den → IsSameNumber number (magnitude r p) → IsMagnitude (direction mode found.negative) number found.format.frac ulps → found.low ≡ ulps.low → found.has_high_bits ≡ ulps.has_high_bits → found.exact ≡ ulps.is_exact → IsReading mode r p found
 reading_from mode r p number ulps found sign some same mag low high exact =
-    let own = magnitude_same (direction mode found.number.negative) number (magnitude r p) found.format.frac ulps some (magnitude_pos r p) same mag in
-    let rounded = to_rounded mode found.number.negative _ _ _ own.to in
+    let own = magnitude_same (direction mode found.negative) number (magnitude r p) found.format.frac ulps some (magnitude_pos r p) same mag in
+    let rounded = to_rounded mode found.negative _ _ _ own.to in
     record {
-      number = with_sign found.number.negative (own.high * 2 ^ 64 + ulps.low);
-      read = record { steps = own.high * 2 ^ 64 + ulps.low; rounded = subst (λ s. IsRounded mode s ((magnitude r p).num * 2 ^ found.format.frac) (magnitude r p).den (own.high * 2 ^ 64 + ulps.low)) sign rounded; value = ap (λ s. with_sign s (own.high * 2 ^ 64 + ulps.low)) sign };
+      number = with_sign found.negative (own.high * 2 ^ 64 + ulps.low);
+      read = record { ulps = own.high * 2 ^ 64 + ulps.low; rounded = subst (λ s. IsRounded mode s ((magnitude r p).num * 2 ^ found.format.frac) (magnitude r p).den (own.high * 2 ^ 64 + ulps.low)) sign rounded; value = ap (λ s. with_sign s (own.high * 2 ^ 64 + ulps.low)) sign };
       holds = record { high = own.high; value = rw low refl; over = rw high own.over };
       sign = sign;
       exact = rw exact own.exact;

@@ -3,10 +3,9 @@ use Rattle.std.proofs.Common.{◌≡◌, ◌↔◌, IsTrue, ℕ, ◌+◌, ◌-�
 use Rattle.std.proofs.lemmas.Nat.{pow-add}
 use Rattle.std.proofs.Math.Nat.{one-le-pow, pow-le-pow_right}
 use Rattle.fixed_read.specs.Inner.Directions.{IsRoundedTo}
-use Rattle.fixed_read.specs.Inner.Rounding.{IsShare, IsSplitUlps, IsMagnitude, IsLostFraction}
+use Rattle.fixed_read.specs.Inner.Rounding.{IsShare, IsMagnitude}
 use Rattle.fixed_read.specs.declared.magnitude.Ulps.{Ulps}
 use Rattle.fixed_read.specs.declared.direction.Direction.{Direction}
-use Rattle.fixed_read.specs.declared.lost_fraction.LostFraction.{LostFraction}
 use Rattle.fixed_read.proofs.DirectionLemmas.{to_same}
 use Rattle.fixed_read.proofs.MultipleLemmas.{cancel_eq, exact_rest}
 use Rattle.fixed_read.proofs.ShortNumeralLemmas.{ten_split}

@@ -5,6 +5,7 @@ use Rattle.fixed_bits.specs.Numbers.{IsNumber}
 use Rattle.fixed_bits.specs.Ranges.{IsInRange, IsOutOfRange}
 use Rattle.fixed_bits.specs.Rounded.{IsRounded}
 use Rattle.fixed_bits.specs.declared.format.Policy.{Policy}
+use Rattle.fixed_bits.specs.declared.number.Number.{Number}
 use Rattle.fixed_bits.specs.declared.mode.ReadMode.{ReadMode}
 use Rattle.fixed_numeral.specs.Numeral.{Parts, is_minus, signed}
 use Rattle.fixed_numeral.specs.Value.{magnitude}
@@ -13,9 +14,9 @@ use Rattle.fixed_read.specs.declared.read_number.ReadNumber.{ReadNumber}
 
 -- v is the read number of a numeral with these parts: its magnitude in ulps of 2^-f, rounded in the mode, with its sign
 pub record IsReadNumber (mode : ReadMode) (r : Radix) (p : Parts) (f : ℕ) (v : ℤ) : Type 0 where
-  pub steps : ℕ
-  pub rounded : IsRounded mode (is_minus p.sign) ((magnitude r p).num * 2 ^ f) (magnitude r p).den steps
-  pub value : v ≡ signed p.sign steps
+  pub ulps : ℕ
+  pub rounded : IsRounded mode (is_minus p.sign) ((magnitude r p).num * 2 ^ f) (magnitude r p).den ulps
+  pub value : v ≡ signed p.sign ulps
 
 -- m is a multiple of d
 abbrev pub IsMultipleOf : ℕ → ℕ → Type 0
@@ -25,13 +26,17 @@ IsMultipleOf d m = (k : ℕ) × (m ≡ k * d)
 abbrev pub IsWholeUlps : Radix → Parts → ℕ → Type 0
 IsWholeUlps r p f = IsMultipleOf (magnitude r p).den ((magnitude r p).num * 2 ^ f)
 
+-- the number that an answer holds
+abbrev pub number_in : ReadNumber → Number
+number_in found = record { low = found.low; negative = found.negative; has_high_bits = found.has_high_bits }
+
 -- the answer holds the read number of a numeral with these parts, and says whether the numeral was a whole number of
 -- ulps
 pub record IsReading (mode : ReadMode) (r : Radix) (p : Parts) (found : ReadNumber) : Type 0 where
   pub number : ℤ
   pub read : IsReadNumber mode r p found.format.frac number
-  pub holds : IsNumber found.number number
-  pub sign : found.number.negative ≡ is_minus p.sign
+  pub holds : IsNumber (number_in found) number
+  pub sign : found.negative ≡ is_minus p.sign
   pub exact : IsTrue found.exact ↔ IsWholeUlps r p found.format.frac
 
 -- bits is the Wrapping image of the read number, and overflowed says whether that is out of range

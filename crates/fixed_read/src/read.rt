@@ -10,7 +10,7 @@ ghost use Rattle.fixed_numeral.specs.Answer.{IsReadOrRefused};
 ghost use Rattle.fixed_numeral.specs.Cause.{HasCause};
 ghost use Rattle.fixed_numeral.specs.Numeral.{Parts, HasNumeral};
 ghost use Rattle.fixed_numeral.specs.declared.error.ParseErrorKind.TheVariants.{Overflow};
-ghost use Rattle.fixed_read.specs.Reading.{IsImageRead, IsOverflowingRead, IsReadInRange, IsReadNumber};
+ghost use Rattle.fixed_read.specs.Reading.{IsImageRead, IsOverflowingRead, IsReadInRange, IsReadNumber, number_in};
 ghost use Rattle.fixed_read.specs.Reading.{IsReadOutOfRange, IsReading};
 
 use crate::read_number::{ReadNumber, read_format};
@@ -32,7 +32,7 @@ pub fn format_of<I: Inner>(frac: u32) -> Format
 
 /// The Wrapping image of a read number.
 fn wrapped<I: Inner>(found: &ReadNumber) -> I
-    ensures { (v : ℤ) → IsNumber found.now.number v → IsWrapped I.SIGNED I.BITS v (I.number result) }
+    ensures { (v : ℤ) → IsNumber (number_in found.now) v → IsWrapped I.SIGNED I.BITS v (I.number result) }
 {
     let number = found.number();
     I::wrap(signed_number(number.negative, number.low))
@@ -42,7 +42,7 @@ fn wrapped<I: Inner>(found: &ReadNumber) -> I
 fn saturated<I: Inner>(found: &ReadNumber) -> I
     requires signed { found.now.format.signed ≡ I.SIGNED }
     requires width { found.now.format.width ≡ I.BITS }
-    ensures { (v : ℤ) → IsNumber found.now.number v → IsSaturated I.SIGNED I.BITS v (I.number result) }
+    ensures { (v : ℤ) → IsNumber (number_in found.now) v → IsSaturated I.SIGNED I.BITS v (I.number result) }
 {
     I::wrap(
         found
@@ -60,8 +60,8 @@ fn saturated<I: Inner>(found: &ReadNumber) -> I
 pub fn in_range<I: Inner>(found: &ReadNumber) -> Result<I, ParseFixedError>
     requires signed { found.now.format.signed ≡ I.SIGNED }
     requires width { found.now.format.width ≡ I.BITS }
-    ensures fits { (v : ℤ) → IsNumber found.now.number v → IsOk result ↔ IsInRange I.SIGNED I.BITS v }
-    ensures number { IfOk result (λ r. (v : ℤ) → IsNumber found.now.number v → I.number r ≡ v) }
+    ensures fits { (v : ℤ) → IsNumber (number_in found.now) v → IsOk result ↔ IsInRange I.SIGNED I.BITS v }
+    ensures number { IfOk result (λ r. (v : ℤ) → IsNumber (number_in found.now) v → I.number r ≡ v) }
     ensures overflow { IfErr result (λ kind. kind ≡ Overflow) }
 {
     if found.is_out_of_range() {

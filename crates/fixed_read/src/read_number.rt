@@ -21,14 +21,16 @@ ghost use Rattle.fixed_read.specs.Inner.Directions.{direction};
 ghost use Rattle.fixed_numeral.specs.PartNumbers.{IsShortNumeral, HasFewDigits};
 ghost use Rattle.fixed_numeral.specs.Scanned.{IsScanned};
 ghost use Rattle.fixed_numeral.specs.declared.radix.Radix.TheVariants.{Dec};
-ghost use Rattle.fixed_read.specs.Reading.{IsReading};
+ghost use Rattle.fixed_read.specs.Reading.{IsReading, number_in};
 ghost use Rattle.fixed_read.specs.Inner.Rounding.{IsMagnitude, IsSplitNumeral};
 
 use crate::direction::direction_of;
 use crate::magnitude::{Ulps, magnitude};
 use crate::short_numeral::short_ulps;
 use fixed_bits::{Format, Number, Policy, ReadMode};
-use fixed_numeral::{ParseFixedError, Radix, Scanned, ShortNumeral, scan, scan_lit, short_numeral};
+use fixed_numeral::{
+    ParseFixedError, Radix, Scanned, ShortNumeral, scan, scan_lit, short_decimal, short_numeral,
+};
 use fixed_steps::Steps;
 use std::sync::ledger::Ledger;
 
@@ -36,7 +38,9 @@ use std::sync::ledger::Ledger;
 /// the format's range.
 #[derive(Clone, Copy, Debug, PartialEq, Eq)]
 pub struct ReadNumber {
-    number: Number,
+    low: u64,
+    negative: bool,
+    has_high_bits: bool,
     format: Format,
     exact: bool,
 }
@@ -52,30 +56,34 @@ impl ReadNumber {
     /// The number, in ulps: negative where the numeral has a minus, also where it is 0.
     #[inline(always)]
     pub fn number(&self) -> Number
-        ensures { result ≡ self.now.number }
+        ensures { result ≡ number_in self.now }
     {
-        self.number
+        Number {
+            low: self.low,
+            negative: self.negative,
+            has_high_bits: self.has_high_bits,
+        }
     }
 
     /// Whether the numeral has a minus, also where the number is 0.
     pub fn is_negative(&self) -> bool
-        ensures { result ≡ self.now.number.negative }
+        ensures { result ≡ self.now.negative }
     {
-        self.number.negative
+        self.negative
     }
 
     /// The lowest 64 bits of the magnitude in ulps.
     pub fn magnitude(&self) -> u64
-        ensures { result ≡ self.now.number.low }
+        ensures { result ≡ self.now.low }
     {
-        self.number.low
+        self.low
     }
 
     /// Whether the magnitude has more than 64 bits.
     pub fn has_high_bits(&self) -> bool
-        ensures { result ≡ self.now.number.has_high_bits }
+        ensures { result ≡ self.now.has_high_bits }
     {
-        self.number.has_high_bits
+        self.has_high_bits
     }
 
     /// Whether the numeral was a whole number of ulps, so that nothing was rounded.
@@ -87,24 +95,24 @@ impl ReadNumber {
 
     /// Whether the number is out of the format's range.
     pub fn is_out_of_range(&self) -> bool
-        ensures range { (v : ℤ) → IsNumber self.now.number v → IsTrue result
+        ensures range { (v : ℤ) → IsNumber (number_in self.now) v → IsTrue result
             ↔ IsOutOfRange self.now.format.signed self.now.format.width v }
         ensures valid { IsFormat self.now.format.width self.now.format.frac }
     {
-        self.number.is_out_of_range(self.format)
+        self.number().is_out_of_range(self.format)
     }
 
     /// The image of the number in the format: the number itself where it is in range. `None` exactly where it is out of
     /// range and the policy is `Checked`.
     pub fn image(&self, policy: Policy) -> Option<i128>
-        ensures image { (v : ℤ) → IsNumber self.now.number v
+        ensures image { (v : ℤ) → IsNumber (number_in self.now) v
             → IfSome result (λ c. IsImage policy self.now.format.signed self.now.format.width v c) }
-        ensures none { (v : ℤ) → IsNumber self.now.number v → IsNone result
+        ensures none { (v : ℤ) → IsNumber (number_in self.now) v → IsNone result
             ↔ ((policy ≡ Policy.Checked) × IsOutOfRange self.now.format.signed self.now.format.width v) }
         ensures range { IfSome result (λ c. IsInRange self.now.format.signed self.now.format.width c) }
         ensures wide { IfSome result IsWide }
     {
-        self.number.image(self.format, policy).admitted(policy)
+        self.number().image(self.format, policy).admitted(policy)
     }
 }
 
@@ -143,12 +151,10 @@ fn number_from(format: Format, negative: bool, ulps: Ulps) -> ReadNumber
     ensures format { result.format ≡ format }
 {
     ReadNumber {
+        low: ulps.low,
+        negative,
+        has_high_bits: ulps.has_high_bits,
         format,
-        number: Number {
-            negative,
-            low: ulps.low,
-            has_high_bits: ulps.has_high_bits,
-        },
         exact: ulps.is_exact,
     }
 }
@@ -198,6 +204,29 @@ fn read_short<L: Ledger>(
     match short_numeral(text, from, radix, steps) {
         Some(found) => number_of_short(found, radix, format, mode),
         None => None,
+    }
+}
+
+/// Reads a text that is a short decimal. `None` only means: try the next way.
+#[inline(always)]
+fn read_decimal<L: Ledger>(
+    s: &[u8],
+    radix: Radix,
+    format: Format,
+    mode: ReadMode,
+    steps: &mut Steps<L>,
+) -> Option<ReadNumber>
+    ensures numeral { IfSome result (λ found. IsNumeral radix s.now) }
+    ensures reading { IfSome result (λ found. (p : Parts) → HasNumeral radix s.now p → IsReading mode radix p found) }
+    ensures format { IfSome result (λ found. found.format ≡ format) }
+    ensures cost { steps.new ≤ steps.old + length s.now }
+{
+    match radix {
+        Radix::Dec => {
+            let found = short_decimal(s, steps)?;
+            number_of_short(found, Radix::Dec, format, mode)
+        }
+        _ => None,
     }
 }
 
@@ -322,7 +351,10 @@ pub fn read_format<L: Ledger>(
     ensures format { IfOk result (λ found. found.format ≡ format) }
     ensures cost { steps.new ≤ steps.old + 8 * length s.now + 128 }
 {
-    read_ending(s, 0, radix, format, mode, steps)
+    if let Some(found) = read_decimal(s, radix, format, mode, steps) {
+        return Ok(found);
+    }
+    copy_apart(s, 0, radix, format, mode, steps)
 }
 
 /// `read_literal` with its steps on this counter.

@@ -7,6 +7,7 @@ mod MaskLemmas
 mod PlainLemmas
 mod CommandLemmas
 mod SelfLemmas
+mod SelfLawLemmas
 mod SelfExampleLemmas
 mod ExampleLemmas
 mod ReachedExampleLemmas

@@ -13,7 +13,7 @@ use Rattle.fixed_numeral.specs.Numeral.{Parts, HasNumeral}
 use Rattle.fixed_numeral.specs.declared.error.ParseErrorKind.{ParseErrorKind}
 use Rattle.fixed_numeral.specs.declared.error.ParseErrorKind.TheVariants.{Overflow}
 use Rattle.fixed_numeral.specs.declared.radix.Radix.{Radix}
-use Rattle.fixed_read.specs.Reading.{IsReadNumber, IsReading}
+use Rattle.fixed_read.specs.Reading.{IsReadNumber, IsReading, number_in}
 use Rattle.fixed_read.specs.declared.read_number.ReadNumber.{ReadNumber}
 use Rattle.fixed_respell.specs.Reached.{IsReached, IsOverflowed, IsRespelled, IsRefusal}
 
@@ -26,7 +26,7 @@ pub record IsRead (mode : ReadMode) (r : Radix) (bytes : List ℕ) (source : For
   pub numeral : HasNumeral r bytes parts
   pub number : ℤ
   pub read : IsReadNumber mode r parts source.frac number
-  pub holds : IsNumber found.number number
+  pub holds : IsNumber (number_in found) number
   pub format : found.format ≡ source
 
 pub read_of : (mode : ReadMode) (r : Radix) (bytes : List ℕ) (source : FormatParts) (found : ReadNumber) → ((p : Parts) × HasNumeral r bytes p) → ((p : Parts) → HasNumeral r bytes p → IsReading mode r p found) → found.format ≡ source → IsRead mode r bytes source found

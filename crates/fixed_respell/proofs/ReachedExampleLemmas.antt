@@ -256,7 +256,7 @@ respelled_2_99 = record {
     number = pos 48;
     in_source = pos 48;
     moved = pos 3;
-    read = record { steps = 48; rounded = record { near = omega arith; tie = λ _. refl }; value = refl };
+    read = record { ulps = 48; rounded = record { near = omega arith; tie = λ _. refl }; value = refl };
     source_image = record { in_range = byte 48 (omega arith); same = refl };
     down = record { at_most = omega (arith, ints); above = omega (arith, ints) };
     target_image = record { in_range = byte 3 (omega arith); same = refl };
@@ -272,7 +272,7 @@ respelled_minus_2_5 = record {
     number = negsuc 39;
     in_source = negsuc 39;
     moved = negsuc 2;
-    read = record { steps = 40; rounded = record { near = omega arith; tie = λ _. refl }; value = refl };
+    read = record { ulps = 40; rounded = record { near = omega arith; tie = λ _. refl }; value = refl };
     source_image = record { in_range = negative_byte 39 (omega arith); same = refl };
     down = record { at_most = omega (arith, ints); above = omega (arith, ints) };
     target_image = record { in_range = negative_byte 2 (omega arith); same = refl };
@@ -282,38 +282,38 @@ respelled_minus_2_5 = record {
 
 pub respelled_2_1 : IsRespelled Ceil Dec (codes "2.1") Checked (unsigned_format 8 0) (unsigned_format 8 0) (pos 3) false
 respelled_2_1 = held Ceil Dec (codes "2.1") (parts None (50 ∷ []) (Some (49 ∷ []))) (unsigned_format 8 0) (pos 3) numeral_2_1
-    (record { steps = 3; rounded = record { at_least = omega arith; before = omega arith }; value = refl })
+    (record { ulps = 3; rounded = record { at_least = omega arith; before = omega arith }; value = refl })
     (byte 3 (omega arith)) (record { at_most = omega (arith, ints); above = omega (arith, ints) })
 
 -- ties between two whole numbers
 pub nearest_2_5 : IsRespelled NearestEven Dec (codes "2.5") Checked (signed_format 8 0) (signed_format 8 0) (pos 2) false
 nearest_2_5 = held NearestEven Dec (codes "2.5") (two_and_a_half None) (signed_format 8 0) (pos 2) numeral_2_5
-    (record { steps = 2; rounded = record { near = omega arith; tie = λ _. refl }; value = refl })
+    (record { ulps = 2; rounded = record { near = omega arith; tie = λ _. refl }; value = refl })
     (signed_byte 2 (omega arith)) (record { at_most = omega (arith, ints); above = omega (arith, ints) })
 
 pub nearest_minus_2_5 : IsRespelled NearestEven Dec (codes "-2.5") Checked (signed_format 8 0) (signed_format 8 0) (negsuc 1) false
 nearest_minus_2_5 = held NearestEven Dec (codes "-2.5") (two_and_a_half (Some 45)) (signed_format 8 0) (negsuc 1) numeral_minus_2_5
-    (record { steps = 2; rounded = record { near = omega arith; tie = λ _. refl }; value = refl })
+    (record { ulps = 2; rounded = record { near = omega arith; tie = λ _. refl }; value = refl })
     (negative_byte 1 (omega arith)) (record { at_most = omega (arith, ints); above = omega (arith, ints) })
 
 pub floor_minus_2_5 : IsRespelled Floor Dec (codes "-2.5") Checked (signed_format 8 0) (signed_format 8 0) (negsuc 2) false
 floor_minus_2_5 = held Floor Dec (codes "-2.5") (two_and_a_half (Some 45)) (signed_format 8 0) (negsuc 2) numeral_minus_2_5
-    (record { steps = 3; rounded = record { at_least = omega arith; before = omega arith }; value = refl })
+    (record { ulps = 3; rounded = record { at_least = omega arith; before = omega arith }; value = refl })
     (negative_byte 2 (omega arith)) (record { at_most = omega (arith, ints); above = omega (arith, ints) })
 
 pub ceil_minus_2_5 : IsRespelled Ceil Dec (codes "-2.5") Checked (signed_format 8 0) (signed_format 8 0) (negsuc 1) false
 ceil_minus_2_5 = held Ceil Dec (codes "-2.5") (two_and_a_half (Some 45)) (signed_format 8 0) (negsuc 1) numeral_minus_2_5
-    (record { steps = 2; rounded = record { at_most = omega arith; next = omega arith }; value = refl })
+    (record { ulps = 2; rounded = record { at_most = omega arith; next = omega arith }; value = refl })
     (negative_byte 1 (omega arith)) (record { at_most = omega (arith, ints); above = omega (arith, ints) })
 
 pub zero_minus_2_5 : IsRespelled TowardsZero Dec (codes "-2.5") Checked (signed_format 8 0) (signed_format 8 0) (negsuc 1) false
 zero_minus_2_5 = held TowardsZero Dec (codes "-2.5") (two_and_a_half (Some 45)) (signed_format 8 0) (negsuc 1) numeral_minus_2_5
-    (record { steps = 2; rounded = record { at_most = omega arith; next = omega arith }; value = refl })
+    (record { ulps = 2; rounded = record { at_most = omega arith; next = omega arith }; value = refl })
     (negative_byte 1 (omega arith)) (record { at_most = omega (arith, ints); above = omega (arith, ints) })
 
 -- 300 is past 8 bits, and -300 as well
 read_300 : IsReadNumber NearestEven Dec (three_hundred None) 0 (pos 300)
-read_300 = record { steps = 300; rounded = record { near = omega arith; tie = λ _. refl }; value = refl }
+read_300 = record { ulps = 300; rounded = record { near = omega arith; tie = λ _. refl }; value = refl }
 
 pub wrapped_300 : IsRespelled NearestEven Dec (codes "300") Wrapping (unsigned_format 8 0) (unsigned_format 16 0) (pos 44) true
 wrapped_300 = record {
@@ -372,7 +372,7 @@ saturated_minus_300 = record {
     number = negsuc 299;
     in_source = negsuc 127;
     moved = negsuc 127;
-    read = record { steps = 300; rounded = record { near = omega arith; tie = λ _. refl }; value = refl };
+    read = record { ulps = 300; rounded = record { near = omega arith; tie = λ _. refl }; value = refl };
     source_image = record {
       same = λ (i : IsInRange true 8 (negsuc 299)). absurd (omega (arith, ints, i.low));
       below = λ _. refl;
@@ -396,7 +396,7 @@ wrapped_minus_1 = record {
     number = negsuc 0;
     in_source = pos 255;
     moved = pos 255;
-    read = record { steps = 1; rounded = record { near = omega arith; tie = λ e. absurd (omega (arith, e)) }; value = refl };
+    read = record { ulps = 1; rounded = record { near = omega arith; tie = λ e. absurd (omega (arith, e)) }; value = refl };
     source_image = record { in_range = byte 255 (omega arith); near = (0, 1, omega (arith, ints)) };
     down = record { at_most = omega (arith, ints); above = omega (arith, ints) };
     target_image = record { in_range = byte 255 (omega arith); near = (0, 0, refl) };
@@ -406,7 +406,7 @@ wrapped_minus_1 = record {
 
 -- 17 fits the source, and is 272 ulps of 1/16 in the target
 read_17 : IsReadNumber NearestEven Dec seventeen 0 (pos 17)
-read_17 = record { steps = 17; rounded = record { near = omega arith; tie = λ e. absurd (omega (arith, e)) }; value = refl }
+read_17 = record { ulps = 17; rounded = record { near = omega arith; tie = λ e. absurd (omega (arith, e)) }; value = refl }
 
 pub wrapped_17 : IsRespelled NearestEven Dec (codes "17") Wrapping (unsigned_format 8 0) (unsigned_format 4 4) (pos 16) true
 wrapped_17 = record {
@@ -456,23 +456,23 @@ overflow_17 = record {
 
 pub respelled_3_1875 : IsRespelled NearestEven Dec (codes "3.1875") Checked (signed_format 4 4) (signed_format 4 4) (pos 51) false
 respelled_3_1875 = held NearestEven Dec (codes "3.1875") (parts None (51 ∷ []) (Some (49 ∷ 56 ∷ 55 ∷ 53 ∷ []))) (signed_format 4 4) (pos 51) numeral_3_1875
-    (record { steps = 51; rounded = record { near = omega arith; tie = λ e. absurd (omega (arith, e)) }; value = refl })
+    (record { ulps = 51; rounded = record { near = omega arith; tie = λ e. absurd (omega (arith, e)) }; value = refl })
     (signed_byte 51 (omega arith)) (record { at_most = omega (arith, ints); above = omega (arith, ints) })
 
 pub respelled_0_25 : IsRespelled NearestEven Dec (codes "0.25") Checked (unsigned_format 6 2) (unsigned_format 6 2) (pos 1) false
 respelled_0_25 = held NearestEven Dec (codes "0.25") (parts None (48 ∷ []) (Some (50 ∷ 53 ∷ []))) (unsigned_format 6 2) (pos 1) numeral_0_25
-    (record { steps = 1; rounded = record { near = omega arith; tie = λ e. absurd (omega (arith, e)) }; value = refl })
+    (record { ulps = 1; rounded = record { near = omega arith; tie = λ e. absurd (omega (arith, e)) }; value = refl })
     (byte 1 (omega arith)) (record { at_most = omega (arith, ints); above = omega (arith, ints) })
 
 -- 0.1p1 in radix 8 is 1/4, and 1.1p3 in radix 2 is 12
 pub respelled_0_1p1 : IsRespelled NearestEven Oct (codes "0.1p1") Checked (unsigned_format 0 8) (unsigned_format 0 8) (pos 64) false
 respelled_0_1p1 = held NearestEven Oct (codes "0.1p1") octal_parts (unsigned_format 0 8) (pos 64) numeral_0_1p1
-    (record { steps = 64; rounded = record { near = omega arith; tie = λ _. refl }; value = refl })
+    (record { ulps = 64; rounded = record { near = omega arith; tie = λ _. refl }; value = refl })
     (byte 64 (omega arith)) (record { at_most = omega (arith, ints); above = omega (arith, ints) })
 
 pub respelled_1_1p3 : IsRespelled NearestEven Bin (codes "1.1p3") Checked (unsigned_format 8 0) (unsigned_format 8 0) (pos 12) false
 respelled_1_1p3 = held NearestEven Bin (codes "1.1p3") binary_parts (unsigned_format 8 0) (pos 12) numeral_1_1p3
-    (record { steps = 12; rounded = record { near = omega arith; tie = λ _. refl }; value = refl })
+    (record { ulps = 12; rounded = record { near = omega arith; tie = λ _. refl }; value = refl })
     (byte 12 (omega arith)) (record { at_most = omega (arith, ints); above = omega (arith, ints) })
 
 -- C0F.FE is 790,526 ulps of 1/256, and 12 * 65,536 more than 4,094
@@ -487,7 +487,7 @@ wrapped_C0F_FE = record {
     number = pos 790526;
     in_source = pos 4094;
     moved = pos 4094;
-    read = record { steps = 790526; rounded = record { near = omega arith; tie = λ _. refl }; value = refl };
+    read = record { ulps = 790526; rounded = record { near = omega arith; tie = λ _. refl }; value = refl };
     source_image = record { in_range = pair 4094 (omega arith); near = (12, 0, omega (arith, ints)) };
     down = record { at_most = omega (arith, ints); above = omega (arith, ints) };
     target_image = record { in_range = pair 4094 (omega arith); near = (0, 0, refl) };

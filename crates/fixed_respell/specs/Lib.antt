@@ -4,6 +4,7 @@ pub mod Language
 pub mod Words
 pub mod FormatNames
 pub mod SelfMode
+pub mod SelfLaws
 pub mod Reached
 pub mod Answer
 pub mod Laws

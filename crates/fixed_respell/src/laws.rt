@@ -26,6 +26,13 @@ ghost use Rattle.fixed_respell.specs.Laws.{
   RefusalHasNone,
   RefusalIsTheOne,
 };
+ghost use Rattle.fixed_respell.specs.SelfLaws.{
+  CommandIsTheOne,
+  PolicyWordIsTheOne,
+  SelfRunIsTheOne,
+  SplitIsTheOne,
+  SummaryIsTheOne,
+};
 
 /// From a numeral at most one pair of bits and a flag is reached.
 pub fn reached_is_the_one()
@@ -172,4 +179,29 @@ pub fn plain_line_asks_nearest()
 /// a line without a fourth word.
 pub fn plain_line_has_the_plain_answer()
     ensures { PlainLineHasThePlainAnswer }
+{}
+
+/// Bytes are split at the first byte of a kind in one way.
+pub fn split_is_the_one()
+    ensures { SplitIsTheOne }
+{}
+
+/// The generated lines have one summary.
+pub fn summary_is_the_one()
+    ensures { SummaryIsTheOne }
+{}
+
+/// The count of failed writes says how a self test ended, and where none failed it wrote one text.
+pub fn self_run_is_the_one()
+    ensures { SelfRunIsTheOne }
+{}
+
+/// A word names at most one policy and one mode.
+pub fn policy_word_is_the_one()
+    ensures { PolicyWordIsTheOne }
+{}
+
+/// Arguments ask for at most one command.
+pub fn command_is_the_one()
+    ensures { CommandIsTheOne }
 {}

@@ -10,4 +10,6 @@ pub mod DifferenceLemmas
 pub mod BoundLemmas
 pub mod BoundedLemmas
 pub mod WordLawLemmas
+pub mod ToolNameLemmas
+pub mod BlockLawLemmas
 pub mod Public

@@ -1,5 +1,9 @@
--- What the proofs of the crates above may cite: the laws of words.
+-- What the proofs of the crates above may cite: the laws of words and of blocks.
+use Rattle.fixed_show.specs.BlockLaws.{BitsBlockIsTheOne, ShowRefusalIsTheOne}
+use Rattle.fixed_show.specs.FormatBlock.{FormatBlockIsTheOne}
 use Rattle.fixed_show.specs.WordLaws.{WordFaultIsTheOne, WordHasNoFault, WordIsTheOne}
+use Rattle.fixed_show.proofs.BlockLawLemmas
+use Rattle.fixed_show.proofs.BoundedLemmas
 use Rattle.fixed_show.proofs.WordLawLemmas
 
 pub word_one : WordIsTheOne
@@ -10,3 +14,12 @@ word_fault_one = WordLawLemmas.fault_one
 
 pub word_has_no_fault : WordHasNoFault
 word_has_no_fault = WordLawLemmas.no_fault
+
+pub bits_block_one : BitsBlockIsTheOne
+bits_block_one = BlockLawLemmas.bits_block_one
+
+pub show_refusal_one : ShowRefusalIsTheOne
+show_refusal_one = BlockLawLemmas.show_refusal_one
+
+pub format_block_one : FormatBlockIsTheOne
+format_block_one = BoundedLemmas.format_block_one

@@ -13,15 +13,15 @@ use Rattle.fixed_numeral.specs.declared.error.ParseErrorKind.{ParseErrorKind}
 use Rattle.fixed_numeral.specs.declared.error.ParseErrorKind.TheVariants.{Overflow}
 use Rattle.fixed_numeral.specs.declared.radix.Radix.{Radix}
 use Rattle.fixed_bits.specs.Numbers.{IsNumber}
-use Rattle.fixed_read.specs.Reading.{IsReading, IsReadNumber}
+use Rattle.fixed_read.specs.Reading.{IsReading, IsReadNumber, number_in}
 use Rattle.fixed_read.specs.declared.read_number.ReadNumber.{ReadNumber}
 use Rattle.fixed_show.specs.Blocks.{line}
 use Rattle.fixed_show.specs.ShowBlock.{IsReadAs, IsUnread, neighbours_text}
 
 pub read_as : (mode : ReadMode) (r : Radix) (bytes : List ℕ) (f : FormatParts) (policy : Policy) (p : Parts) (found : ReadNumber) (bits : ℤ) (flag : Bool)
     → HasNumeral r bytes p → IsReading mode r p found → found.format ≡ f
-    → ((v : ℤ) → IsNumber found.number v → IsImage policy found.format.signed found.format.width v bits)
-    → ((v : ℤ) → IsNumber found.number v → IsTrue flag ↔ IsOutOfRange found.format.signed found.format.width v)
+    → ((v : ℤ) → IsNumber (number_in found) v → IsImage policy found.format.signed found.format.width v bits)
+    → ((v : ℤ) → IsNumber (number_in found) v → IsTrue flag ↔ IsOutOfRange found.format.signed found.format.width v)
     → IsReadAs mode r bytes f policy bits flag
 read_as mode r bytes f policy p found bits flag numeral reading e image out = record {
   parts = p;
@@ -34,7 +34,7 @@ read_as mode r bytes f policy p found bits flag numeral reading e image out = re
 
 pub unread : (mode : ReadMode) (r : Radix) (bytes : List ℕ) (f : FormatParts) (policy : Policy) (p : Parts) (found : ReadNumber) (kind : ParseErrorKind)
     → HasNumeral r bytes p → IsReading mode r p found → found.format ≡ f → kind ≡ Overflow
-    → ((v : ℤ) → IsNumber found.number v → (policy ≡ Checked) × IsOutOfRange found.format.signed found.format.width v)
+    → ((v : ℤ) → IsNumber (number_in found) v → (policy ≡ Checked) × IsOutOfRange found.format.signed found.format.width v)
     → IsUnread mode r bytes f policy kind
 unread mode r bytes f policy p found kind numeral reading e is out =
     let none = out reading.number reading.holds in

@@ -1,5 +1,5 @@
 -- A text is one word, or has one fault.
-use Rattle.std.proofs.Common.{◌≡◌, ◌∙◌, ◌<◌, ◌≤◌, ◌^◌, ℕ, ℤ, pos, List, [], ◌∷◌, Bool, true, false, length, refl, sym, ap, subst, arith, inl, inr, true≢false, if◌then◌else◌}
+use Rattle.std.proofs.Common.{◌≡◌, ◌∙◌, ℕ, ℤ, pos, List, [], ◌∷◌, Bool, true, false, length, refl, sym, ap, subst, arith, inl, inr, true≢false, if◌then◌else◌}
 use Rattle.std.specs.Str.Parse.{AllDigits}
 use Rattle.fixed_bits.proofs.Public.{image_one, range_decided}
 use Rattle.fixed_bits.specs.Formats.{FormatParts}
@@ -7,11 +7,9 @@ use Rattle.fixed_bits.specs.Images.{IsWrapped}
 use Rattle.fixed_bits.specs.Numbers.{with_sign}
 use Rattle.fixed_bits.specs.Ranges.{IsInRange}
 use Rattle.fixed_bits.specs.declared.format.Policy.TheVariants.{Wrapping}
-use Rattle.fixed_numeral.specs.Numeral.{base}
 use Rattle.fixed_numeral.specs.declared.radix.Radix.{Radix}
 use Rattle.fixed_show.specs.WordLaws.{WordFaultIsTheOne, WordHasNoFault, WordIsTheOne}
-use Rattle.fixed_show.specs.WordText.{HasWordFault, IsWord, IsWordText, has_minus, has_sign, without_sign, word_digits, word_radix}
-use Rattle.fixed_show.specs.declared.words.WordFault.{WordFault}
+use Rattle.fixed_show.specs.WordText.{HasWordFault, IsWord, IsWordText, has_minus, has_sign, without_sign}
 use Rattle.fixed_show.specs.declared.words.WordFault.TheVariants.{MisplacedUnderscore, InvalidDigit, NoDigits, TooWide, OutOfRange}
 
 pub unsigned_rest : (text : List ℕ) → has_sign text ≡ false → without_sign text ≡ text

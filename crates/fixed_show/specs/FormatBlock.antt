@@ -8,6 +8,7 @@ use Rattle.fixed_write.specs.Places.{IsExactText}
 use Rattle.fixed_write.specs.Shortest.{ReadsBack, IsShortest}
 use Rattle.fixed_write.specs.Texts.{IsShortestText}
 use Rattle.fixed_show.specs.Blocks.{line}
+use Rattle.fixed_show.specs.ToolNames.{name_lines}
 
 -- k is the greatest count of digits after the point with which decimals are at least an ulp of 2^-f apart
 pub record ArePlaces (f k : ℕ) : Type 0 where
@@ -33,7 +34,8 @@ abbrev pub digits_text : ℕ → ℕ → List ℕ
 digits_text whole places = signed_decimal (pos whole) ++ (codes " before the point, "
     ++ (signed_decimal (pos places) ++ codes " after it"))
 
--- block says the word, the ends and the ulp of a format, how many digits survive, and the shortest texts of the ends
+-- block says the word, the ends and the ulp of a format, how many digits survive, the shortest texts of the ends, and
+-- the names in other tools
 pub record IsFormatBlock (f : FormatParts) (block : List ℕ) : Type 0 where
   pub word : List ℕ
   pub is_word : word ≡ format_text f
@@ -56,7 +58,8 @@ pub record IsFormatBlock (f : FormatParts) (block : List ℕ) : Type 0 where
       ++ (line (codes "greatest  ") most
       ++ (line (codes "ulp       ") ulp
       ++ (line (codes "digits    ") (digits_text whole places)
-      ++ line (codes "shortest  ") (short_least ++ (codes " to " ++ short_most))))))
+      ++ (line (codes "shortest  ") (short_least ++ (codes " to " ++ short_most))
+      ++ name_lines f)))))
 
 -- it is but one
 abbrev pub FormatBlockIsTheOne : Type 0

@@ -1,8 +1,10 @@
 pub mod Blocks
+pub mod ToolNames
 pub mod FormatBlock
 pub mod WordText
 pub mod WordLaws
 pub mod BitsBlock
 pub mod ErrorText
 pub mod ShowBlock
+pub mod BlockLaws
 pub mod Inner

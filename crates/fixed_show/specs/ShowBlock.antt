@@ -35,6 +35,18 @@ abbrev pub IsUnread : ReadMode → Radix → List ℕ → FormatParts → Policy
 IsUnread mode r bytes f policy kind = HasCause r bytes kind
     ⊎ ((kind ≡ Overflow) × (policy ≡ Checked) × IsReadOutOfRange mode r (HasNumeral r bytes) f.frac f.signed f.width)
 
+-- there are no bits, for a kind of refusal
+abbrev pub HasNoBits : ReadMode → Radix → List ℕ → FormatParts → Policy → Type 0
+HasNoBits mode r bytes f policy = (kind : ParseErrorKind) × IsUnread mode r bytes f policy kind
+
+-- text is the error of the bits
+pub record IsShownError (mode : ReadMode) (r : Radix) (bytes : List ℕ) (f : FormatParts) (policy : Policy)
+    (text : List ℕ) : Type 0 where
+  pub bits : ℤ
+  pub overflowed : Bool
+  pub read : IsReadAs mode r bytes f policy bits overflowed
+  pub is_error : IsErrorText r read.parts f.frac bits overflowed text
+
 -- two texts, each with its bits
 abbrev pub neighbours_text : List ℕ → ℤ → List ℕ → ℤ → List ℕ
 neighbours_text low lo high hi = low ++ (codes " (" ++ (signed_decimal lo

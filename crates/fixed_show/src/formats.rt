@@ -7,6 +7,7 @@ ghost use Rattle.fixed_show.specs.Blocks.{Appends, line};
 ghost use Rattle.fixed_show.specs.FormatBlock.{ArePlaces, AreWholeDigits, IsFormatBlock, digits_text};
 
 use crate::lines::{MAX_BLOCK, frac_of, greatest_of, lowest_of, push_exact_line, push_line};
+use crate::tool_names::push_name_lines;
 use fixed_bits::Format;
 use fixed_respell::format_name;
 use fixed_steps::Steps;
@@ -93,8 +94,8 @@ fn push_shortest_ends<const N: usize, L: Ledger>(
 }
 
 /// Appends the block of a format: its word, its least and its greatest value and its ulp exactly, how many decimal
-/// digits always survive reading and printing, and the shortest texts of the two ends. There must be room for
-/// `MAX_BLOCK` bytes. It takes at most 96 steps.
+/// digits always survive reading and printing, the shortest texts of the two ends, and its names in other tools. There
+/// must be room for `MAX_BLOCK` bytes. It takes at most 96 steps.
 pub fn format_block<const N: usize, L: Ledger>(
     format: Format,
     out: &mut TextBuffer<N>,
@@ -113,4 +114,5 @@ pub fn format_block<const N: usize, L: Ledger>(
     push_exact_line(out, b"ulp       ", 1, frac);
     push_digits_line(out, whole_digits_of(high, frac), places_of(frac));
     push_shortest_ends(out, low, high, frac, steps);
+    push_name_lines(out, format);
 }

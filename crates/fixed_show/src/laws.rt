@@ -1,7 +1,9 @@
 //! Laws of what the blocks say, each the contract of a function that does nothing.
 
+ghost use Rattle.fixed_show.specs.BlockLaws.{BitsBlockIsTheOne, ShowRefusalIsTheOne};
 ghost use Rattle.fixed_show.specs.ErrorText.{BoundPowerIsTheOne};
 ghost use Rattle.fixed_show.specs.FormatBlock.{FormatBlockIsTheOne, PlacesSurvive};
+ghost use Rattle.fixed_show.specs.ToolNames.{ArmNameIsAName};
 ghost use Rattle.fixed_show.specs.WordLaws.{WordFaultIsTheOne, WordHasNoFault, WordIsTheOne};
 
 /// A decimal with no more digits after the point than the block of a format says survives reading and printing.
@@ -28,4 +30,19 @@ pub fn bound_power_is_the_one()
 /// A format has one block.
 pub fn format_block_is_the_one()
     ensures { FormatBlockIsTheOne }
+{}
+
+/// Where a format has a name in ARM's Q, the name is one of those that the format is known by.
+pub fn arm_name_is_a_name()
+    ensures { ArmNameIsAName }
+{}
+
+/// A word has one block: that of its number, or that of its fault.
+pub fn bits_block_is_the_one()
+    ensures { BitsBlockIsTheOne }
+{}
+
+/// A numeral that is refused has one block.
+pub fn show_refusal_is_the_one()
+    ensures { ShowRefusalIsTheOne }
 {}

@@ -12,11 +12,12 @@ pub mod laws;
 mod lines;
 mod natural;
 pub mod show;
+mod tool_names;
 pub mod words;
 
 pub use bits::bits_block;
 pub use formats::format_block;
 pub use hex::push_hex_digits;
 pub use lines::MAX_BLOCK;
-pub use show::{Shown, read_shown, show_block};
+pub use show::{Shown, push_error_of, read_shown, show_block};
 pub use words::{WordFault, read_word};

@@ -1,16 +1,17 @@
 //! What there is to know of a numeral in a format.
 
-ghost use Rattle.std.specs.Prelude.{◌≡◌, ◌+◌, ◌*◌, ◌≤◌, ◌++◌, length, codes, IfOk, IfErr, ℤ, Bool};
+ghost use Rattle.std.specs.Prelude.{◌≡◌, ◌+◌, ◌*◌, ◌≤◌, ◌++◌, length, codes, IfOk, IfErr, true, false};
 ghost use Rattle.std.specs.Fmt.{signed_decimal};
 ghost use Rattle.fixed_bits.specs.Ranges.{IsWide};
 ghost use Rattle.fixed_numeral.specs.Numeral.{IsNumeral};
 ghost use Rattle.fixed_write.specs.Texts.{IsShortestText, shortest_text};
 ghost use Rattle.fixed_show.specs.Blocks.{Appends, line};
-ghost use Rattle.fixed_show.specs.ShowBlock.{IsBetween, IsReadAs, IsShowBlock, IsUnread, neighbours_text, range_text};
+ghost use Rattle.fixed_show.specs.ShowBlock.{HasNoBits, IsBetween, IsReadAs, IsShowBlock, IsShownError, IsUnread};
+ghost use Rattle.fixed_show.specs.ShowBlock.{neighbours_text, range_text};
 ghost use Rattle.fixed_show.specs.Inner.Lines.{IsBetweenLine};
 
 use crate::bits::push_value_lines;
-use crate::errors::push_error_line;
+use crate::errors::{push_error_line, push_error_text};
 use crate::lines::{MAX_BLOCK, frac_of, push_line, push_refusal};
 use fixed_bits::{Format, Policy, ReadMode};
 use fixed_enclose::enclose;
@@ -138,6 +139,40 @@ fn push_range<const N: usize>(out: &mut TextBuffer<N>, overflowed: bool)
         push_line(out, b"range     ", b"overflowed");
     } else {
         push_line(out, b"range     ", b"fits");
+    }
+}
+
+/// Appends the text of the error of the bits that a numeral is read as, as the block of the numeral says it. Answers
+/// whether there are bits: where a numeral is refused, nothing is appended. There must be room for 1,380 bytes.
+pub fn push_error_of<const N: usize, L: Ledger>(
+    text: &[u8],
+    radix: Radix,
+    format: Format,
+    policy: Policy,
+    mode: ReadMode,
+    out: &mut TextBuffer<N>,
+    steps: &mut Steps<L>,
+) -> bool
+    requires room { length out.old + 1380 ≤ N }
+    ensures shown { result ≡ true
+        → Appends (IsShownError mode radix text.now format policy) 1380 out.old out.new }
+    ensures none { result ≡ false → HasNoBits mode radix text.now format policy × (out.new ≡ out.old) }
+    ensures cost { steps.new ≤ steps.old + 10 * length text.now + 1230 }
+{
+    match read_shown(text, radix, format, policy, mode, steps) {
+        Ok(shown) => {
+            push_error_text(
+                text,
+                radix,
+                frac_of(format),
+                shown.bits,
+                shown.overflowed,
+                out,
+                steps,
+            );
+            true
+        }
+        Err(_) => false,
     }
 }
 

@@ -1,10 +1,13 @@
 -- What the proofs of the crates above may cite.
-use Rattle.std.specs.Prelude.{◌≡◌, ℕ, ◌<◌, ◌||◌, true, eqb, List, [], ◌∷◌, ◌++◌, length, get_or}
+use Rattle.std.specs.Prelude.{◌≡◌, ℕ, ◌<◌, ◌-◌, ◌^◌, ◌||◌, true, eqb, List, [], ◌∷◌, ◌++◌, length, get_or}
 use Rattle.line_engine.specs.AnswerText.{AnswerText}
+use Rattle.line_engine.specs.Failures.{HasFailed}
 use Rattle.line_engine.specs.Lines.{ended_lines, unended}
 use Rattle.line_engine.specs.Output.{AreAnswers, any_fault, written_of}
+use Rattle.line_engine.specs.RunLaws.{OutputIsTheOne, WholeOutputIsTheOne}
 use Rattle.line_engine.proofs.AnsweredLemmas
 use Rattle.line_engine.proofs.LineLemmas
+use Rattle.line_engine.proofs.RunLawLemmas
 
 -- ---- answers to lines, and to the lines after them
 pub AreAnswers-append : (A : List ℕ → AnswerText → Type 0) (lines more : List (List ℕ)) (replies others : List AnswerText) → AreAnswers A lines replies → AreAnswers A more others → AreAnswers A (lines ++ more) (replies ++ others)
@@ -15,6 +18,21 @@ any_fault-append = AnsweredLemmas.any_fault-append
 
 pub written_of-append : (replies more : List AnswerText) → written_of (replies ++ more) ≡ written_of replies ++ written_of more
 written_of-append = AnsweredLemmas.written_of-append
+
+-- by a meaning with one answer to a line, lines have one list of answers
+pub answers_one : (A : List ℕ → AnswerText → Type 0) → ((line : List ℕ) (a b : AnswerText) → A line a → A line b → a ≡ b) → (ls : List (List ℕ)) (xs ys : List AnswerText) → AreAnswers A ls xs → AreAnswers A ls ys → xs ≡ ys
+answers_one = RunLawLemmas.answers_one
+
+-- and their inputs one output and one status
+pub output_one : (A : List ℕ → AnswerText → Type 0) → ((line : List ℕ) (a b : AnswerText) → A line a → A line b → a ≡ b) → OutputIsTheOne A
+output_one = RunLawLemmas.output_one
+
+pub whole_output_one : (A : List ℕ → AnswerText → Type 0) → ((input : List ℕ) (a b : AnswerText) → A input a → A input b → a ≡ b) → WholeOutputIsTheOne A
+whole_output_one = RunLawLemmas.whole_output_one
+
+-- a count that can rise and is as it was has not risen
+pub not_failed : (before now : ℕ) → before < 2 ^ 64 - 1 → now ≡ before → HasFailed before now → ⊥
+not_failed = RunLawLemmas.not_failed
 
 -- ---- lines
 -- no line ends where no byte is a newline

@@ -11,11 +11,10 @@ use Rattle.line_engine.specs.RunLaws.{FillIsTheOne, OutputIsTheOne, RunEndIsTheO
 use Rattle.line_engine.specs.WholeRun.{AnswersWhole, HasWholeRun, TakesPast}
 use Rattle.line_engine.specs.declared.status.Status.{Status}
 use Rattle.line_engine.specs.declared.status.Status.TheVariants.{Done, Faults, Usage, ReadFault, WriteFault, NoMemory, TooLong}
-use Rattle.line_engine.specs.declared.whole.Filled.{Filled}
 use Rattle.line_engine.specs.declared.whole.Filled.TheVariants.{End, TooLong as PastLimit, ReadFault as BadRead}
 
 -- a count that can rise and is as it was has not risen
-not_failed : (before now : ℕ) → before < 2 ^ 64 - 1 → now ≡ before → HasFailed before now → ⊥
+pub not_failed : (before now : ℕ) → before < 2 ^ 64 - 1 → now ≡ before → HasFailed before now → ⊥
 not_failed before now room same failed = absurd (omega arith)
 
 taken_one : (left left' a b : List ℕ) → left ≡ a ++ left' → left ≡ b ++ left' → a ≡ b
@@ -74,7 +73,7 @@ module _ (Answers : Bool → Type 0) (Past : Type 0) (not_both : Answers false �
   end_one TooLong TooLong no_s no_t x f y g = refl
 
 module _ (A : List ℕ → AnswerText → Type 0) (one : (input : List ℕ) (a b : AnswerText) → A input a → A input b → a ≡ b) where
-  answers_one : (ls : List (List ℕ)) (xs ys : List AnswerText) → AreAnswers A ls xs → AreAnswers A ls ys → xs ≡ ys
+  pub answers_one : (ls : List (List ℕ)) (xs ys : List AnswerText) → AreAnswers A ls xs → AreAnswers A ls ys → xs ≡ ys
   answers_one [] [] [] a b = refl
   answers_one [] [] (y ∷ ys) a b = absurd b
   answers_one [] (x ∷ xs) ys a b = absurd a

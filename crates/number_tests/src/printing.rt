@@ -4,7 +4,8 @@ use fixed_bits::Inner;
 use fixed_point::{
     Fixed, FixedI8, FixedI16, FixedI32, FixedI64, FixedU8, FixedU16, FixedU32, FixedU64,
 };
-use fixed_write::{Notation, Style};
+use fixed_write::{Align, Notation, Style};
+use std::alloc::Global;
 use std::process::Abort;
 use std::test::Fail;
 
@@ -83,11 +84,89 @@ fn a_base_shows_the_exact_value(rt: HostRuntime) -> Result<(), Fail> {
     Ok(())
 }
 
+/// Asserts what `to_text` answers for bits in a style.
+fn has_styles<I: Inner, const FRAC: u32>(
+    rt: &impl Abort,
+    alloc: Global,
+    rows: &[(I, Style, &str)],
+) -> Result<(), Fail> {
+    for (bits, style, text) in rows {
+        let shown = Fixed::<I, FRAC>::from_bits(*bits).to_text(alloc, style)?;
+        assert!(rt; shown.as_bytes() == text.as_bytes(), "{text}");
+    }
+    Ok(())
+}
+
+/// A style of a notation with a precision.
+fn places(notation: Notation, precision: u16) -> Style {
+    let mut style = Style::plain(notation);
+    style.precision = Some(precision);
+    style
+}
+
+/// A decimal style of a width, with a fill and an alignment.
+fn field(width: u16, fill: char, align: Align) -> Style {
+    let mut style = Style::plain(Notation::Dec);
+    style.width = width;
+    style.fill = fill;
+    style.align = align;
+    style
+}
+
+/// A style of base 16 with a prefix, and with zeros up to a width.
+fn hexadecimal(width: u16) -> Style {
+    let mut style = Style::plain(Notation::LowerHex);
+    style.prefix = true;
+    style.zero_pad = true;
+    style.width = width;
+    style
+}
+
 #[test]
 fn a_style_is_obeyed(rt: HostRuntime) -> Result<(), Fail> {
-    let mut style = Style::plain(Notation::Dec);
-    style.precision = Some(3);
-    let text = FixedU8::<8>::from_bits(25).to_text(rt.alloc(), &style)?;
-    assert!(rt; text.as_bytes() == b"0.098".as_slice());
-    Ok(())
+    let mut with_plus = Style::plain(Notation::Dec);
+    with_plus.plus = true;
+    has_styles::<u8, 8>(
+        &rt,
+        rt.alloc(),
+        &[
+            (25, places(Notation::Dec, 3), "0.098"),
+            (77, places(Notation::LowerExp, 0), "3e-1"),
+            (255, places(Notation::UpperHex, 1), "1.0"),
+            (25, Style::plain(Notation::LowerExp), "9.8e-2"),
+        ],
+    )?;
+    has_styles::<i8, 4>(
+        &rt,
+        rt.alloc(),
+        &[
+            (-4, places(Notation::Dec, 0), "-0"),
+            (51, Style::plain(Notation::Bin), "11.0011"),
+            (51, Style::plain(Notation::Oct), "3.14"),
+            (51, Style::plain(Notation::LowerHex), "3.3"),
+            (-51, hexadecimal(10), "-0x00003.3"),
+            (51, places(Notation::Bin, 2), "11.01"),
+            (40, places(Notation::Oct, 0), "2"),
+            (51, field(8, '*', Align::Center), "**3.2***"),
+            (51, field(8, '*', Align::Left), "3.2*****"),
+            (51, field(4, 'é', Align::Right), "é3.2"),
+            (51, with_plus, "+3.2"),
+        ],
+    )?;
+    has_styles::<u8, 0>(
+        &rt,
+        rt.alloc(),
+        &[(255, Style::plain(Notation::UpperHex), "FF")],
+    )?;
+    has_styles::<u16, 0>(
+        &rt,
+        rt.alloc(),
+        &[
+            (1200, Style::plain(Notation::LowerExp), "1.2e3"),
+            (1250, places(Notation::UpperExp, 1), "1.2E3"),
+            (999, places(Notation::LowerExp, 1), "1.0e3"),
+            (0, Style::plain(Notation::LowerExp), "0e0"),
+            (0, places(Notation::LowerExp, 2), "0.00e0"),
+        ],
+    )
 }

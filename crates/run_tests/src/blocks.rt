@@ -123,11 +123,57 @@ fn each_format_has_its_block(rt: HostRuntime) {
                 greatest  32767.9999847412109375\n\
                 ulp       0.0000152587890625\n\
                 digits    4 before the point, 4 after it\n\
-                shortest  -32768 to 32767.99998\n",
+                shortest  -32768 to 32767.99998\n\
+                ARM       Q16.16\n\
+                TI        Q15.16\n\
+                HLS       ap_fixed<32,16>\n\
+                VHDL      sfixed(15 downto -16)\n\
+                MATLAB    fi(_,1,32,16)\n",
         ),
         of_format(
             "I0F8",
-            "format    I0F8\nleast     -0.5\ngreatest  0.49609375\nulp       0.00390625\ndigits    0 before the point, 2 after it\nshortest  -0.5 to 0.496\n",
+            "\
+                format    I0F8\n\
+                least     -0.5\n\
+                greatest  0.49609375\n\
+                ulp       0.00390625\n\
+                digits    0 before the point, 2 after it\n\
+                shortest  -0.5 to 0.496\n\
+                ARM       none\n\
+                TI        none\n\
+                HLS       ap_fixed<8,0>\n\
+                VHDL      sfixed(-1 downto -8)\n\
+                MATLAB    fi(_,1,8,8)\n",
+        ),
+        of_format(
+            "U8F0",
+            "\
+                format    U8F0\n\
+                least     0\n\
+                greatest  255\n\
+                ulp       1\n\
+                digits    2 before the point, 0 after it\n\
+                shortest  0 to 255\n\
+                ARM       UQ8.0\n\
+                TI        UQ8.0\n\
+                HLS       ap_ufixed<8,8>\n\
+                VHDL      ufixed(7 downto 0)\n\
+                MATLAB    fi(_,0,8,0)\n",
+        ),
+        of_format(
+            "I1F15",
+            "\
+                format    I1F15\n\
+                least     -1\n\
+                greatest  0.999969482421875\n\
+                ulp       0.000030517578125\n\
+                digits    0 before the point, 4 after it\n\
+                shortest  -1 to 0.99997\n\
+                ARM       Q1.15\n\
+                TI        Q0.15\n\
+                HLS       ap_fixed<16,1>\n\
+                VHDL      sfixed(0 downto -15)\n\
+                MATLAB    fi(_,1,16,15)\n",
         ),
     ];
     expect_blocks(&rt, &cases);

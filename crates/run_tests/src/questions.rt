@@ -64,6 +64,7 @@ fn showing() -> Question {
 
 /// The block of 3.14159 in I16F16, and what is said of a word that is no numeral.
 const ROUNDED_AND_REFUSED: &str = "\
+    given     3.14159\n\
     text      3.14159\n\
     bits      205887\n\
     hex       0x0003243f\n\
@@ -71,16 +72,26 @@ const ROUNDED_AND_REFUSED: &str = "\
     error     -0.0000036962890625\n\
     between   3.14159 (205887) and 3.1416 (205888)\n\
     range     fits\n\
+    \n\
+    given     x\n\
     error: invalid digit found in string\n";
 
 /// The block of I0F8, and what is said of a word that is no format.
 const FORMAT_AND_REFUSED: &str = "\
+    given     I0F8\n\
     format    I0F8\n\
     least     -0.5\n\
     greatest  0.49609375\n\
     ulp       0.00390625\n\
     digits    0 before the point, 2 after it\n\
     shortest  -0.5 to 0.496\n\
+    ARM       none\n\
+    TI        none\n\
+    HLS       ap_fixed<8,0>\n\
+    VHDL      sfixed(-1 downto -8)\n\
+    MATLAB    fi(_,1,8,8)\n\
+    \n\
+    given     I65F0\n\
     error: bad format\n";
 
 /// The question about a word of a format, whose digits are decimal without a prefix.
@@ -105,14 +116,14 @@ fn each_word_has_its_block(rt: HostRuntime) -> Result<(), Fail> {
             question: bits(Format::of(true, 32, 16)),
             words: &["0xfffc0000"],
             failing_write: NEVER,
-            written: "text      -4\nbits      -262144\nhex       0xfffc0000\nvalue     -4\n",
+            written: "given     0xfffc0000\ntext      -4\nbits      -262144\nhex       0xfffc0000\nvalue     -4\n",
             status: Status::Done,
         },
         Asked {
             question: bits(Format::of(false, 8, 0)),
             words: &["256", "255"],
             failing_write: NEVER,
-            written: "error: word is wider than the format\ntext      255\nbits      255\nhex       0xff\nvalue     255\n",
+            written: "given     256\nerror: word is wider than the format\n\ngiven     255\ntext      255\nbits      255\nhex       0xff\nvalue     255\n",
             status: Status::Faults,
         },
         Asked {
@@ -133,7 +144,7 @@ fn a_failing_write_keeps_the_blocks_before_it(rt: HostRuntime) -> Result<(), Fai
         question: bits(Format::of(false, 8, 0)),
         words: &["256", "255"],
         failing_write: 1,
-        written: "error: word is wider than the format\n",
+        written: "given     256\nerror: word is wider than the format\n",
         status: Status::WriteFault,
     }];
     expect_blocks(&rt, rt.alloc(), &cases)?;

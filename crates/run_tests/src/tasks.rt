@@ -2,7 +2,8 @@
 
 use fixed_bits::{Format, Policy, ReadMode};
 use fixed_command::{
-    ConvertRule, Limit, Places, Print, Settings, Spelling, Task, Watch, greater_end, run_task,
+    ConvertRule, LaidOutRule, Layout, Limit, Place, Places, Print, Settings, Spelling, Task, Watch,
+    greater_end, run_task, tally_text,
 };
 use fixed_constants::{Form, FormRule};
 use fixed_numeral::Radix;
@@ -291,7 +292,7 @@ fn a_failing_read_and_a_failing_write_end_a_run(rt: HostRuntime) -> Result<(), F
 
 /// Stops where the first refused line of a run is not this one.
 fn expect_refused(rt: &impl Abort, case: &Case<'_>, number: u64, text: &str, cause: &str) {
-    match case.watch.first() {
+    match case.watch.refusals().first {
         None => assert!(rt; false, "no line was refused"),
         Some(line) => {
             assert_eq!(rt; line.number, number);
@@ -326,8 +327,7 @@ fn the_first_refused_line_is_kept(rt: HostRuntime) -> Result<(), Fail> {
         ),
     ];
     expect_runs(&rt, rt.alloc(), &cases)?;
-    assert_eq!(rt; cases[0].watch.refused(), 2);
-    expect_refused(&rt, &cases[0], 2, "abc\r", digit);
+    expect_refused(&rt, &cases[0], 2, "abc", digit);
     expect_refused(&rt, &cases[1], 2, "abc\r", digit);
     expect_refused(&rt, &cases[2], 2, "fn = 1 U8F0", "bad name");
     Ok(())
@@ -382,5 +382,44 @@ fn words_and_numerals_are_moved_in_the_target_mode(rt: HostRuntime) -> Result<()
         ),
     ];
     expect_runs(&rt, rt.alloc(), &cases)?;
+    Ok(())
+}
+
+/// Numerals read into `I8F0` and brought into its range, blanks around them, blank lines and comments skipped, with a
+/// report.
+fn laid_out() -> Task<'static> {
+    let format = Format::of(true, 8, 0);
+    let rule = ConvertRule::new(Settings {
+        spelling: Spelling::Numeral,
+        radix: Radix::Dec,
+        source: format,
+        target: format,
+        policy: Policy::Saturating,
+        mode: ReadMode::NearestEven,
+        target_mode: ReadMode::Floor,
+        print: Print::Text,
+    });
+    let layout = Layout::new(true, true, b"#").unwrap();
+    Task::LaidOut {
+        laid: LaidOutRule { rule, layout },
+        has_report: true,
+    }
+}
+
+#[test]
+fn a_report_counts_the_numerals_of_lines_as_people_have_them(rt: HostRuntime) -> Result<(), Fail> {
+    let cases = [unfailing(
+        laid_out(),
+        "# a comment\n 7\t\r\n\n  # one more\n300\n-300\nx 7\n2.5\n",
+        "\n7\n\n\n127\n-128\nerror: invalid digit found in string\n2\n",
+        Status::Faults,
+    )];
+    expect_runs(&rt, rt.alloc(), &cases)?;
+    let text = tally_text(&cases[0].watch.tally(), Place::Line);
+    assert_eq!(rt;
+        text.as_bytes(),
+        b"numerals: 5, exact: 1, rounded: 1, overflowed: 2 (the first in line 5), refused: 1 (the first in line 7)".as_slice()
+    );
+    expect_refused(&rt, &cases[0], 7, "x 7", "invalid digit found in string");
     Ok(())
 }

@@ -1,9 +1,9 @@
 //! Tests of the printed texts.
 
-ghost use Rattle.std.specs.Prelude.{◌≡◌, ◌<◌, ◌≤◌};
+ghost use Rattle.std.specs.Prelude.{◌≡◌, ◌<◌, ◌≤◌, ◌^◌, ◌≤ℤ◌, ◌<ℤ◌, neg_ℤ, pos};
 
 use fixed_steps::Steps;
-use fixed_write::{Align, NoMemory, Notation, ShortText, Style, shortest, to_text};
+use fixed_write::{Align, NoMemory, Notation, ShortText, Style, shortest, text_in_style, to_text};
 use std::alloc::{AllocError, Global};
 use std::marker::Brand;
 use std::string::String;
@@ -192,7 +192,23 @@ fn a_plain_search_finds_the_same(rt: HostRuntime) -> Result<(), Fail> {
     Ok(())
 }
 
-/// What a style shows of a value: true where it is `wanted`.
+/// Whether a style shows `wanted` of a value where the text is written without memory, and nothing after it.
+fn writes(bits: i128, frac: u32, style: &Style, wanted: &[u8]) -> bool
+    requires low { neg_ℤ (pos (2 ^ 63)) ≤ℤ bits }
+    requires high { bits <ℤ pos (2 ^ 64) }
+    requires frac { frac ≤ 64 }
+{
+    let text = text_in_style(bits, frac, style);
+    let mut room = [b'?'; 80];
+    let end = text.len();
+    if end >= 80 {
+        return false;
+    }
+    text.write_to(&mut room);
+    &room[..end] == wanted && room[end] == b'?'
+}
+
+/// What a style shows of a value: true where it is `wanted`, in memory and without it.
 fn shows(
     alloc: Global,
     bits: i128,
@@ -204,7 +220,9 @@ fn shows(
         return Ok(false);
     }
     match to_text(alloc, bits, frac, style) {
-        Ok(text) => Ok(text.as_bytes() == wanted.as_bytes()),
+        Ok(text) => Ok(
+            text.as_bytes() == wanted.as_bytes() && writes(bits, frac, style, wanted.as_bytes()),
+        ),
         Err(error) => Err(error),
     }
 }

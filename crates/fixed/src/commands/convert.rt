@@ -1,11 +1,15 @@
 //! `fixed convert`: each line is a numeral.
 
-use crate::inputs::{Job, run_inputs};
-use crate::options::{FROM, MODE, PLACES, POLICY, PRINT, RADIX, SOURCE, TARGET, TARGET_MODE};
+use crate::inputs::{Job, run_inputs_to};
+use crate::options::{
+    COMMENTS, FROM, MODE, OUTPUT, PLACES, POLICY, PRINT, RADIX, REPORT, SKIP_BLANK, SOURCE, TARGET,
+    TARGET_MODE, TRIM,
+};
+use crate::output::open_output;
 use crate::settings::conversion;
-use command_line::given::{Asked, Given};
+use command_line::given::{Asked, Given, Refusal};
 use command_line::page::Page;
-use fixed_command::Task;
+use fixed_command::{ConvertRule, LaidOutRule, Layout, Task};
 use fixed_steps::Steps;
 use line_engine::Status;
 use std::sync::ledger::Ledger;
@@ -18,7 +22,20 @@ pub fn page() -> Page {
         usage: "fixed convert [OPTIONS] SOURCE [TARGET] [FILE]...",
         operands: &[SOURCE, TARGET],
         has_numerals: false,
-        options: &[FROM, RADIX, POLICY, MODE, TARGET_MODE, PRINT, PLACES],
+        options: &[
+            FROM,
+            RADIX,
+            POLICY,
+            MODE,
+            TARGET_MODE,
+            PRINT,
+            PLACES,
+            TRIM,
+            SKIP_BLANK,
+            COMMENTS,
+            REPORT,
+            OUTPUT,
+        ],
         end: "A format is I (signed) or U (unsigned), its whole bits, F and its fraction bits,\n\
               as in I16F16, 1 to 64 bits in all; or as in Q15, Q8.8 and UQ8.8. A\n\
               number is rounded down from SOURCE to TARGET, or by --target-mode.\n\
@@ -30,13 +47,55 @@ pub fn page() -> Page {
     }
 }
 
+/// What the options say that a line may have beside its numeral.
+fn layout_of<'a>(given: &Given<'_, 'a>) -> Asked<'a, Layout> {
+    let prefix = match given.value(&COMMENTS) {
+        Some("") => return Err(Refusal::Word("", "is no beginning of a comment: it is empty")),
+        Some(prefix) if prefix.starts_with(' ') || prefix.starts_with('\t') => {
+            return Err(Refusal::Word(prefix, "begins with a blank, which no comment does"));
+        }
+        Some(prefix) => prefix,
+        None => "",
+    };
+    match Layout::new(given.has(&TRIM), given.has(&SKIP_BLANK), prefix.as_bytes()) {
+        Some(layout) => Ok(layout),
+        None => Err(Refusal::Word(
+            prefix,
+            "is longer than a comment's beginning may be: 64 bytes",
+        )),
+    }
+}
+
+/// What is done with each input: lines of numerals alone are converted at less cost.
+fn task_of<'a>(given: &Given<'_, 'a>, rule: ConvertRule) -> Asked<'a, Task<'a>> {
+    let has_report = given.has(&REPORT);
+    let has_layout = given.has(&TRIM) || given.has(&SKIP_BLANK) || given.value(&COMMENTS).is_some();
+    if !has_report && !has_layout {
+        return Ok(Task::Convert(rule));
+    }
+    match layout_of(given) {
+        Ok(layout) => Ok(Task::LaidOut {
+            laid: LaidOutRule { rule, layout },
+            has_report,
+        }),
+        Err(refusal) => Err(refusal),
+    }
+}
+
 /// Converts the numerals of each file.
 pub fn run<'a, L: Ledger>(
     rt: &HostRuntime,
     given: &Given<'_, 'a>,
     steps: &mut Steps<L>,
 ) -> Asked<'a, Status> {
-    let (rule, files) = conversion(given, 0)?;
-    let job = Job::Task(Task::Convert(rule));
-    Ok(run_inputs(rt, &job, given.from(files), steps))
+    let (rule, place) = conversion(given, 0)?;
+    let job = Job::Task(match task_of(given, rule) {
+        Ok(task) => task,
+        Err(refusal) => return Err(refusal),
+    });
+    let files = given.from(place);
+    match open_output(rt, given, files)? {
+        Ok(mut output) => Ok(run_inputs_to(rt, &job, files, &mut output, steps)),
+        Err(status) => Ok(status),
+    }
 }

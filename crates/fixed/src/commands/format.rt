@@ -2,6 +2,7 @@
 
 use crate::questions::run_words;
 use crate::settings::format_of;
+use command_line::device::Output;
 use command_line::given::{Asked, Given};
 use command_line::page::{Operand, Page};
 use fixed_command::Question;
@@ -42,5 +43,6 @@ pub fn run<'a, L: Ledger>(
             return Err(refusal);
         }
     }
-    Ok(run_words(rt, &Question::Format, given.from(0), steps))
+    let mut output = Output::Standard(rt.stdout());
+    Ok(run_words(rt, &Question::Format, given.from(0), &mut output, steps))
 }

@@ -32,7 +32,7 @@ use Rattle.fixed_command.specs.declared.convert.Settings.{Settings}
 use Rattle.fixed_command.specs.declared.spelling.Spelling.{Spelling}
 use Rattle.fixed_command.specs.declared.spelling.Spelling.TheVariants.{Numeral, Word}
 
-same_flag : (a b : Bool) (P : Type 0) → (IsTrue a ↔ P) → (IsTrue b ↔ P) → a ≡ b
+pub same_flag : (a b : Bool) (P : Type 0) → (IsTrue a ↔ P) → (IsTrue b ↔ P) → a ≡ b
 same_flag true true P f g = refl
 same_flag true false P f g = sym (g.1 (f.0 refl))
 same_flag false true P f g = f.1 (g.0 refl)
@@ -58,7 +58,7 @@ read_bits_one mode r bytes f policy v w o u width a b =
     image_one policy f.signed f.width b.number v w width (subst (λ x. IsImage policy f.signed f.width x v) n a.image)
     b.image
 
-source_by : (spelling : Spelling) (s : Settings) (line : List ℕ) (v w : ℤ) (o u : Bool) → AreFormats s
+pub source_by : (spelling : Spelling) (s : Settings) (line : List ℕ) (v w : ℤ) (o u : Bool) → AreFormats s
     → IsSource spelling s line v o → IsSource spelling s line w u → (v ≡ w) × (o ≡ u)
 source_by Numeral s line v w o u formats a b =
     let n : a.number ≡ b.number = read_as_one s.mode s.radix line s.source s.policy v w o u a b in (
@@ -97,7 +97,7 @@ no_source_by Numeral s line m n a b = a.2
 no_source_by Word s line m n a b = a.2 ∙ ap fault_message (word_fault_one s.radix s.source line a.0 b.0 a.1 b.1)
     ∙ sym b.2
 
-source_or_not : (spelling : Spelling) (s : Settings) (line m : List ℕ) (v : ℤ) (o : Bool)
+pub source_or_not : (spelling : Spelling) (s : Settings) (line m : List ℕ) (v : ℤ) (o : Bool)
     → IsSource spelling s line v o → IsNoSource spelling s line m → ⊥
 source_or_not Numeral s line m v o a b = read_or_not s.mode s.radix line s.source s.policy v o b.0 a b.1
 source_or_not Word s line m v o a b = word_has_no_fault s.radix s.source line b.0 v b.1 a.0
@@ -109,7 +109,7 @@ moved_same mode b f g v w x y =
     (pow_pos f) x.rounded y.rounded in
     x.value ∙ ap (with_sign (is_negative b)) same ∙ sym y.value
 
-reformatted_one : (mode : ReadMode) (policy : Policy) (target : FormatParts) (b : ℤ) (f : ℕ) (v w : ℤ) (o u : Bool)
+pub reformatted_one : (mode : ReadMode) (policy : Policy) (target : FormatParts) (b : ℤ) (f : ℕ) (v w : ℤ) (o u : Bool)
     → IsWidth target.width → IsReformatted mode policy target b f v o → IsReformatted mode policy target b f w u
     → (v ≡ w) × (o ≡ u)
 reformatted_one mode policy target b f v w o u is x y =
@@ -119,7 +119,7 @@ reformatted_one mode policy target b f v w o u is x y =
       same_flag o u _ (subst (λ z. IsTrue o ↔ IsOutOfRange target.signed target.width z) m x.verdict) y.verdict,
     )
 
-reformatted_or_not : (mode : ReadMode) (policy : Policy) (target : FormatParts) (b : ℤ) (f : ℕ) (v : ℤ) (o : Bool)
+pub reformatted_or_not : (mode : ReadMode) (policy : Policy) (target : FormatParts) (b : ℤ) (f : ℕ) (v : ℤ) (o : Bool)
     → IsReformatted mode policy target b f v o → IsNotReformatted mode policy target b f → ⊥
 reformatted_or_not mode policy target b f v o x y =
     let m : x.moved ≡ y.moved = moved_same mode b f target.frac x.moved y.moved x.is_moved y.is_moved in

@@ -34,7 +34,7 @@ read_one : (r : Radix) (p : Parts) (f : ℕ) (v w : ℤ) → IsReadNumber Neares
     → IsReadNumber NearestEven r p f w → v ≡ w
 read_one r p f v w a b =
     let one = rounded_one NearestEven (is_minus p.sign) _ _ (magnitude_pos r p) in
-    let same : a.steps ≡ b.steps = one.2 a.steps a.rounded ∙ sym (one.2 b.steps b.rounded) in
+    let same : a.ulps ≡ b.ulps = one.2 a.ulps a.rounded ∙ sym (one.2 b.ulps b.rounded) in
     a.value ∙ ap (signed p.sign) same ∙ sym b.value
 
 number_one : (s : Bool) (bytes : List ℕ) (p q : Parts) (f : ℕ) (v w : ℤ) → HasLiteral s bytes p → HasLiteral s bytes q

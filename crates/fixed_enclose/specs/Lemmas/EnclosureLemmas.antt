@@ -103,7 +103,7 @@ pub encloses_of : (r : Radix) (p : Parts) (f : ℕ) (lo : ℤ) (whole : Bool) �
 encloses_of r p f lo whole read is =
     let E : ℤ → Type 0 = λ v. Encloses (in_ulps r p f) (magnitude r p).den v (upper whole v) in
     subst E (sym read.value) (around (is_minus p.sign) ((magnitude r p).num * 2 ^ f)
-    (magnitude r p).den read.steps whole (magnitude_pos r p) read.rounded is)
+    (magnitude r p).den read.ulps whole (magnitude_pos r p) read.rounded is)
 
 pub parts_one : (r : Radix) (bytes : List ℕ) (p q : Parts) → HasNumeral r bytes p → HasNumeral r bytes q → p ≡ q
 parts_one r bytes p q a b = parts_unique r bytes p q a.beginning b.beginning

@@ -6,7 +6,6 @@ use Rattle.std.proofs.lemmas.Bool.{cases_lt}
 use Rattle.fixed_bits.specs.Formats.{FormatParts}
 use Rattle.fixed_numeral.specs.Cause.{HasCause}
 use Rattle.fixed_numeral.specs.Numeral.{Parts, IsNumeral}
-use Rattle.fixed_numeral.specs.Messages.{message_of}
 use Rattle.fixed_numeral.specs.declared.error.ParseErrorKind.{ParseErrorKind}
 use Rattle.fixed_numeral.proofs.Public.{one_cause, parts_unique}
 use Rattle.fixed_numeral.specs.declared.radix.Radix.{Radix}
@@ -17,11 +16,13 @@ use Rattle.fixed_respell.specs.Words.{format_text}
 use Rattle.fixed_least.specs.Holding.{AllHold, AllNumerals, Holds, HoldsLine, IsFirstRefused, IsLeastFormat}
 use Rattle.fixed_least.specs.Holding.{RefusesLine}
 use Rattle.fixed_bits.proofs.Public.{rank_below, rank_has_format, rank_order, rank_unique}
-use Rattle.fixed_least.specs.Laws.{AnswerIsTheOne, LeastIsTheOne, LongerHasNoLesser, PlacesAreTheOnes}
+use Rattle.fixed_least.specs.Laws.{AnswerIsTheOne, LeastFaultIsTheOne, LeastIsTheOne, LongerHasNoLesser}
+use Rattle.fixed_least.specs.Laws.{PlacesAreTheOnes}
 use Rattle.fixed_least.specs.Least.{AreLines, IsFaultAnswer, IsHeadText, IsLeast, IsLeastAnswer, IsLeastLine}
 use Rattle.fixed_least.specs.Least.{IsLeastText, IsNoNumeral, IsRefutedText, fault_line, kind_at, place_of}
 use Rattle.fixed_bits.specs.Order.{rank}
 use Rattle.fixed_least.specs.declared.least.LeastFault.{LeastFault}
+use Rattle.fixed_least.specs.declared.least.LeastFault.TheVariants.{NotNumeral}
 
 -- a format that does not hold a line does not hold each
 line_of : (r : Radix) (f : FormatParts) (before : List (List ℕ)) (line : List ℕ) (after : List (List ℕ))
@@ -148,7 +149,7 @@ refuted_one : (places s t : List ℕ) (k : ℕ) → IsRefutedText places k s →
 refuted_one places s t k a b = a.3 ∙ (ap (λ f. format_text f ++ (codes " line " ++ decimal (get_or places k 0)))
     (rank_unique a.0 b.0 a.1 b.1 (a.2 ∙ sym b.2)) ∙ sym b.3)
 
-line_one : (places : List ℕ) (i : ℕ) (a b : AnswerText) → IsLeastLine places i a → IsLeastLine places i b → a ≡ b
+pub line_one : (places : List ℕ) (i : ℕ) (a b : AnswerText) → IsLeastLine places i a → IsLeastLine places i b → a ≡ b
 line_one places zero a b x y = answer_text_is a b (head_one places a.text b.text (x.head refl) (y.head refl))
     (x.fault ∙ sym y.fault)
 line_one places (suc k) a b x y =
@@ -177,18 +178,30 @@ numeral_of r (first ∷ before) line after all = numeral_of r before line after 
 abbrev IsRefused : Radix → List ℕ → Type 0
 IsRefused r line = (kind : ParseErrorKind) × HasCause r line kind
 
-faults_one : (r : Radix) (lines : List (List ℕ)) (a b : LeastFault) → IsNoNumeral r lines a → IsNoNumeral r lines b
-    → fault_line a ≡ fault_line b
-faults_one r lines a b x y =
+-- a list has one first line that is no numeral, and it has one cause
+fault_parts_one : (r : Radix) (lines : List (List ℕ)) (a b : LeastFault) → IsNoNumeral r lines a
+    → IsNoNumeral r lines b → (place_of a ≡ place_of b) × (kind_at a ≡ kind_at b)
+fault_parts_one r lines a b x y =
     let same = same_split (IsNumeral r) (IsRefused r) (λ line h n. n.1.none h) (AllNumerals r)
     (λ l ls all. (all.0, all.1)) x.before y.before x.line y.line x.after y.after
     (sym x.split ∙ y.split) x.numerals y.numerals (kind_at a, x.cause) (kind_at b, y.cause) in
     let C : List ℕ → Type 0 = λ l. HasCause r l (kind_at a) in
     let kind : kind_at a ≡ kind_at b = one_cause r y.line (kind_at a) (kind_at b)
     (subst C same.line_is x.cause) y.cause in
-    let place : place_of a ≡ place_of b = x.place_is ∙ (ap (λ l. length l + 1) same.before_is ∙ sym y.place_is) in
-    ap (λ p. codes "error: line " ++ (decimal p ++ (codes ": " ++ (message_of (kind_at a) ++ 10 ∷ [])))) place
-    ∙ ap (λ k. codes "error: line " ++ (decimal (place_of b) ++ (codes ": " ++ (message_of k ++ 10 ∷ [])))) kind
+    (x.place_is ∙ (ap (λ l. length l + 1) same.before_is ∙ sym y.place_is), kind)
+
+fault_by_parts : (p q : ℕ) (k l : ParseErrorKind) → p ≡ q → k ≡ l → NotNumeral p k ≡ NotNumeral q l
+fault_by_parts p q k l same kind = ap (λ x. NotNumeral x k) same ∙ ap (λ x. NotNumeral q x) kind
+
+fault_by : (a b : LeastFault) → place_of a ≡ place_of b → kind_at a ≡ kind_at b → a ≡ b
+fault_by (NotNumeral p k) (NotNumeral q l) same kind = fault_by_parts p q k l same kind
+
+pub fault_one : LeastFaultIsTheOne
+fault_one r lines a b x y = let same = fault_parts_one r lines a b x y in fault_by a b same.0 same.1
+
+faults_one : (r : Radix) (lines : List (List ℕ)) (a b : LeastFault) → IsNoNumeral r lines a → IsNoNumeral r lines b
+    → fault_line a ≡ fault_line b
+faults_one r lines a b x y = ap fault_line (fault_one r lines a b x y)
 
 both_not : (r : Radix) (input : List ℕ) (a b : AnswerText) → IsLeastAnswer r input a → IsFaultAnswer r input b → ⊥
 both_not r input a b x y =

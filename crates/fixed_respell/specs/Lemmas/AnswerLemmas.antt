@@ -64,7 +64,7 @@ policy_back Checked = refl
 policy_back Saturating = refl
 policy_back Wrapping = refl
 
-policy_one : (p q : Policy) → policy_text p ≡ policy_text q → p ≡ q
+pub policy_one : (p q : Policy) → policy_text p ≡ policy_text q → p ≡ q
 policy_one p q e = sym (policy_back p) ∙ (ap policy_at e ∙ policy_back q)
 
 mode_at : List ℕ → ReadMode
@@ -78,10 +78,10 @@ mode_back Floor = refl
 mode_back Ceil = refl
 mode_back TowardsZero = refl
 
-mode_one : (m k : ReadMode) → mode_text m ≡ mode_text k → m ≡ k
+pub mode_one : (m k : ReadMode) → mode_text m ≡ mode_text k → m ≡ k
 mode_one m k e = sym (mode_back m) ∙ (ap mode_at e ∙ mode_back k)
 
-policy_word_one : (word : List ℕ) (p q : Policy) (m k : ReadMode) → IsPolicyWord word p m → IsPolicyWord word q k
+pub policy_word_one : (word : List ℕ) (p q : Policy) (m k : ReadMode) → IsPolicyWord word p m → IsPolicyWord word q k
     → (p ≡ q) × (m ≡ k)
 policy_word_one word p q m k (inl a) (inl b) = (policy_one p q (sym a.0 ∙ b.0), a.1 ∙ sym b.1)
 policy_word_one word p q m k (inl a) (inr b) = absurd (split_has_one slash word (policy_text q) (mode_text k) b

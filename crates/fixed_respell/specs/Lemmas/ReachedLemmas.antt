@@ -21,7 +21,7 @@ read_one : (mode : ReadMode) (r : Radix) (p : Parts) (f : ℕ) (v w : ℤ) → I
     → IsReadNumber mode r p f w → v ≡ w
 read_one mode r p f v w a b =
     let one = rounded_one mode (is_minus p.sign) _ _ (magnitude_pos r p) in
-    let same : a.steps ≡ b.steps = one.2 a.steps a.rounded ∙ sym (one.2 b.steps b.rounded) in
+    let same : a.ulps ≡ b.ulps = one.2 a.ulps a.rounded ∙ sym (one.2 b.ulps b.rounded) in
     a.value ∙ ap (signed p.sign) same ∙ sym b.value
 
 same_flag : (a b : Bool) (P : Type 0) → (IsTrue a ↔ P) → (IsTrue b ↔ P) → a ≡ b

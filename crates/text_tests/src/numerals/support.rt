@@ -3,7 +3,8 @@
 ghost use Rattle.std.specs.Prelude.{◌≡◌, ◌<◌, ◌≤◌, length};
 
 use fixed_numeral::{
-    DigitView, ParseErrorKind, Radix, Scanned, ShortNumeral, scan, scan_lit, short_numeral,
+    DigitView, ParseErrorKind, Radix, Scanned, ShortNumeral, leading_numeral, scan, scan_lit,
+    short_numeral,
 };
 use fixed_steps::Steps;
 use std::marker::Brand;
@@ -104,7 +105,7 @@ fn refused_over<L: Ledger>(radix: Radix, text: &[u8], blank: Blank) -> Option<Pa
     }
 }
 
-pub(super) fn refused_bytes(radix: Radix, text: &[u8]) -> Option<ParseErrorKind> {
+fn refused_bytes(radix: Radix, text: &[u8]) -> Option<ParseErrorKind> {
     refused_over::<Brand>(radix, text, Blank::new(1))
 }
 
@@ -257,4 +258,21 @@ pub(super) fn short_with(length: usize, place: usize, other: u8) -> Option<Short
         text[place] = other;
     }
     short_over::<Brand>(Radix::Dec, &text[..end], 0, Blank::new(1))
+}
+
+fn leading_over<L: Ledger>(radix: Radix, text: &[u8], blank: Blank) -> Result<usize, ParseErrorKind>
+    requires name { blank.name ≡ L.name }
+    requires parts { blank.parts ≡ L.parts }
+    requires backed { 0 < L.parts }
+{
+    let mut steps: Steps<L> = Steps::new(blank);
+    match leading_numeral(text, radix, &mut steps) {
+        Ok(count) => Ok(count),
+        Err(error) => Err(error.kind()),
+    }
+}
+
+/// How many bytes the numeral at the beginning of a text takes, or why the text is none.
+pub(super) fn leading(radix: Radix, text: &str) -> Result<usize, ParseErrorKind> {
+    leading_over::<Brand>(radix, text.as_bytes(), Blank::new(1))
 }

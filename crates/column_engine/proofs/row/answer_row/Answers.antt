@@ -6,7 +6,7 @@ use Rattle.column_engine.proofs.row.answer_row.Goals as goal
 
 pub returns-in-Err-clause-err : goal.returns-in-Err-clause-err
 returns-in-Err-clause-err g c =
-    let A = g.A.LineRule.Answers c.args.task.now.rule.now in
+    let A = g.A.FieldRule.Answers c.args.task.now.rule.now in
     let keeps = c.args.task.now.is_kept in
     let d = c.args.task.now.delimiter in
     let columns = c.args.task.now.columns.now in
@@ -16,7 +16,7 @@ returns-in-Err-clause-err g c =
 
 pub returns-in-Err-put_row-clause-err : goal.returns-in-Err-put_row-clause-err
 returns-in-Err-put_row-clause-err g c =
-    let A = g.A.LineRule.Answers c.args.task.now.rule.now in
+    let A = g.A.FieldRule.Answers c.args.task.now.rule.now in
     let keeps = c.args.task.now.is_kept in
     let d = c.args.task.now.delimiter in
     let columns = c.args.task.now.columns.now in
@@ -24,5 +24,5 @@ returns-in-Err-put_row-clause-err g c =
     let found = c.read_header.new.progress.asked.items in
     fails_whole A keeps d columns s (one_more (record s { headed = false; asked = found }) 0) (record { body = c.args.body.now; end = c.args.end.now }) (c.args.body.now ++ c.args.end.now) c.args.work.now.out
     (g.K.Sink.written c.args.sink.now) (g.K.Sink.written c.put_row.new.sink)
-    (row_header A keeps d columns s (record { body = c.args.body.now; end = c.args.end.now }) found c.if-not-progress.false (some_of c.args.body.now (sym c.is_empty.ensures ∙ c.if-is_empty.false)) c.in_ok-read_header.ensures.ok)
+    (row_header A keeps d columns s (record { body = c.args.body.now; end = c.args.end.now }) found c.requires.short c.if-not-progress.false (some_of c.args.body.now (sym c.is_empty.ensures ∙ c.if-is_empty.false)) c.in_ok-read_header.ensures.ok)
     c.in-Err-put_row.ensures.err

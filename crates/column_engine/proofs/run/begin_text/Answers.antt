@@ -16,7 +16,7 @@ returns-in-Ok-clause-standing g c = standing_start c.args.task.now.delimiter c.a
 
 pub returns-in-Err-clause-err : goal.returns-in-Err-clause-err
 returns-in-Err-clause-err g c =
-    let A = g.A.LineRule.Answers c.args.task.now.rule.now in
+    let A = g.A.FieldRule.Answers c.args.task.now.rule.now in
     let keeps = c.args.task.now.is_kept in
     let d = c.args.task.now.delimiter in
     let columns = c.args.task.now.columns.now in
@@ -30,7 +30,7 @@ returns-in-Err-clause-err g c =
 
 pub returns-in-Err-write_whole-clause-err : goal.returns-in-Err-write_whole-clause-err
 returns-in-Err-write_whole-clause-err g c =
-    let A = g.A.LineRule.Answers c.args.task.now.rule.now in
+    let A = g.A.FieldRule.Answers c.args.task.now.rule.now in
     let keeps = c.args.task.now.is_kept in
     let d = c.args.task.now.delimiter in
     let columns = c.args.task.now.columns.now in
@@ -44,7 +44,7 @@ returns-in-Err-write_whole-clause-err g c =
 
 pub returns-in-Ok-clause-ok : goal.returns-in-Ok-clause-ok
 returns-in-Ok-clause-ok g c =
-    let A = g.A.LineRule.Answers c.args.task.now.rule.now in
+    let A = g.A.FieldRule.Answers c.args.task.now.rule.now in
     let keeps = c.args.task.now.is_kept in
     let d = c.args.task.now.delimiter in
     let columns = c.args.task.now.columns.now in
@@ -58,7 +58,7 @@ returns-in-Ok-clause-ok g c =
 
 pub returns-in-Err-take_chunk-clause-err : goal.returns-in-Err-take_chunk-clause-err
 returns-in-Err-take_chunk-clause-err g c =
-    let A = g.A.LineRule.Answers c.args.task.now.rule.now in
+    let A = g.A.FieldRule.Answers c.args.task.now.rule.now in
     let keeps = c.args.task.now.is_kept in
     let d = c.args.task.now.delimiter in
     let columns = c.args.task.now.columns.now in
@@ -74,7 +74,7 @@ returns-in-Err-take_chunk-clause-err g c =
 
 pub returns-in-Ok-take_chunk-clause-ok : goal.returns-in-Ok-take_chunk-clause-ok
 returns-in-Ok-take_chunk-clause-ok g c =
-    let A = g.A.LineRule.Answers c.args.task.now.rule.now in
+    let A = g.A.FieldRule.Answers c.args.task.now.rule.now in
     let keeps = c.args.task.now.is_kept in
     let d = c.args.task.now.delimiter in
     let columns = c.args.task.now.columns.now in
@@ -90,7 +90,7 @@ returns-in-Ok-take_chunk-clause-ok g c =
 
 pub returns-in-Err-take_chunk-2-clause-err : goal.returns-in-Err-take_chunk-2-clause-err
 returns-in-Err-take_chunk-2-clause-err g c =
-    let A = g.A.LineRule.Answers c.args.task.now.rule.now in
+    let A = g.A.FieldRule.Answers c.args.task.now.rule.now in
     let keeps = c.args.task.now.is_kept in
     let d = c.args.task.now.delimiter in
     let columns = c.args.task.now.columns.now in
@@ -107,7 +107,7 @@ returns-in-Err-take_chunk-2-clause-err g c =
 
 pub returns-in-Ok-take_chunk-2-clause-err : goal.returns-in-Ok-take_chunk-2-clause-err
 returns-in-Ok-take_chunk-2-clause-err g c =
-    let A = g.A.LineRule.Answers c.args.task.now.rule.now in
+    let A = g.A.FieldRule.Answers c.args.task.now.rule.now in
     let keeps = c.args.task.now.is_kept in
     let d = c.args.task.now.delimiter in
     let columns = c.args.task.now.columns.now in

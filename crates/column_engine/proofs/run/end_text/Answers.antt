@@ -6,12 +6,12 @@ use Rattle.column_engine.proofs.run.end_text.Goals as goal
 
 pub returns-then-is_empty-clause-ends : goal.returns-then-is_empty-clause-ends
 returns-then-is_empty-clause-ends g c = λ left end.
-    stops_none (g.A.LineRule.Answers c.args.task.now.rule.now) c.args.task.now.is_kept c.args.task.now.delimiter c.args.task.now.columns.now
-    c.args.cutter.now.kept (state_of c.args.cutter.now.progress) left (g.K.Sink.written c.args.sink.now) (c.is_empty.ensures.0 c.if-is_empty.true) end
+    stops_none (g.A.FieldRule.Answers c.args.task.now.rule.now) c.args.task.now.is_kept c.args.task.now.delimiter c.args.task.now.columns.now
+    c.args.cutter.now.kept (state_of c.args.cutter.now.progress) left (g.K.Sink.written c.args.sink.now) (c.is_empty.ensures.none.0 c.if-is_empty.true) end
 
 pub returns-in-Err : goal.returns-in-Err
 returns-in-Err g c =
-    let A = g.A.LineRule.Answers c.args.task.now.rule.now in
+    let A = g.A.FieldRule.Answers c.args.task.now.rule.now in
     let keeps = c.args.task.now.is_kept in
     let d = c.args.task.now.delimiter in
     let columns = c.args.task.now.columns.now in
@@ -20,7 +20,7 @@ returns-in-Err g c =
     let held = c.answer_row.new.work.out in
     let a = g.K.Sink.written c.args.sink.now in
     let b = g.K.Sink.written c.answer_row.new.sink in
-    let last = is_last A keeps d columns kept c.args.cutter.now.place c.requires.standing (λ e. not_both c.is_empty.result c.if-is_empty.false (c.is_empty.ensures.1 e)) c.in_default.not-Quoted in
+    let last = is_last A keeps d columns kept c.args.cutter.now.place c.requires.standing (λ e. not_both c.is_empty.result c.if-is_empty.false (c.is_empty.ensures.none.1 e)) c.in_default.not-Quoted in
     record {
       ends = λ left end. stops_last A keeps d columns c.in-Err.stop kept held s (state_of c.answer_row.new.progress) left a b last end c.in-Err.ensures.counts
           (subst (λ l. StopsRow c.in-Err.stop A keeps d columns (record { body = l; end = [] }) s [] held a b) c.as_slice.ensures.bytes
@@ -31,7 +31,7 @@ returns-in-Err g c =
 
 pub returns-in-Err-flush : goal.returns-in-Err-flush
 returns-in-Err-flush g c =
-    let A = g.A.LineRule.Answers c.args.task.now.rule.now in
+    let A = g.A.FieldRule.Answers c.args.task.now.rule.now in
     let keeps = c.args.task.now.is_kept in
     let d = c.args.task.now.delimiter in
     let columns = c.args.task.now.columns.now in
@@ -41,7 +41,7 @@ returns-in-Err-flush g c =
     let held = c.answer_row.new.work.out in
     let a = g.K.Sink.written c.args.sink.now in
     let b = g.K.Sink.written c.answer_row.new.sink in
-    let last = is_last A keeps d columns kept c.args.cutter.now.place c.requires.standing (λ e. not_both c.is_empty.result c.if-is_empty.false (c.is_empty.ensures.1 e)) c.in_default.not-Quoted in
+    let last = is_last A keeps d columns kept c.args.cutter.now.place c.requires.standing (λ e. not_both c.is_empty.result c.if-is_empty.false (c.is_empty.ensures.none.1 e)) c.in_default.not-Quoted in
     record {
       ends = λ left end. stops_cut A keeps d columns kept held s u left a b (g.K.Sink.written c.flush.new.sink) last end
           (subst (λ l. PassesRow A keeps d columns (record { body = l; end = [] }) s u [] held a b) c.as_slice.ensures.bytes
@@ -52,7 +52,7 @@ returns-in-Err-flush g c =
 
 pub returns-in-Ok-flush : goal.returns-in-Ok-flush
 returns-in-Ok-flush g c =
-    let A = g.A.LineRule.Answers c.args.task.now.rule.now in
+    let A = g.A.FieldRule.Answers c.args.task.now.rule.now in
     let keeps = c.args.task.now.is_kept in
     let d = c.args.task.now.delimiter in
     let columns = c.args.task.now.columns.now in
@@ -62,7 +62,7 @@ returns-in-Ok-flush g c =
     let held = c.answer_row.new.work.out in
     let a = g.K.Sink.written c.args.sink.now in
     let b = g.K.Sink.written c.answer_row.new.sink in
-    let last = is_last A keeps d columns kept c.args.cutter.now.place c.requires.standing (λ e. not_both c.is_empty.result c.if-is_empty.false (c.is_empty.ensures.1 e)) c.in_default.not-Quoted in
+    let last = is_last A keeps d columns kept c.args.cutter.now.place c.requires.standing (λ e. not_both c.is_empty.result c.if-is_empty.false (c.is_empty.ensures.none.1 e)) c.in_default.not-Quoted in
     record {
       ends = λ left end. stops_done A keeps d columns kept held s u left a b (g.K.Sink.written c.flush.new.sink) last end
           (subst (λ l. PassesRow A keeps d columns (record { body = l; end = [] }) s u [] held a b) c.as_slice.ensures.bytes

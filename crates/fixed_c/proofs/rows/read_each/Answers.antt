@@ -1,32 +1,17 @@
-use Rattle.std.proofs.Common.{◌≡◌, ◌<◌, ◌≤◌, ◌+◌, ◌∙◌, sym, ap, length, take, arith}
-use Rattle.std.proofs.lemmas.List.{take_all}
 use Rattle.fixed_c.specs.Numbers.{format_of}
-use Rattle.fixed_c.specs.Rows.{ConvertsRow, ReadsRow, refused_of}
-use Rattle.fixed_c.proofs.RowLemmas.{refused_next, row_fits, row_more}
+use Rattle.fixed_c.specs.Inner.Asked.{ReadsAskedRow, RefusesRow}
+use Rattle.fixed_c.specs.Rows.{ReadsRow}
+use Rattle.fixed_c.proofs.AskedLemmas.{row_asked, row_refused, rows_as}
 use Rattle.fixed_c.proofs.rows.read_each.Goals as goal
 
-pub read_row-code-requires : goal.read_row-code-requires
-read_row-code-requires c =
-    let fits = row_fits c.loop-i.i c.args.size (length c.args.codes.now) c.loop-i-test.true in
-    let all = c.requires.bytes in
-    omega arith
+pub returns-in-Ok : goal.returns-in-Ok
+returns-in-Ok c =
+    let f = format_of c.args.reading.format.is_signed c.args.reading.format.width c.args.reading.format.frac in
+    rows_as (ReadsAskedRow c.args.rows.now c.args.size c.in-Ok.asked) (ReadsRow c.args.rows.now c.args.size c.args.reading.radix f c.args.reading.policy c.args.reading.mode) c.read_asked.new.out c.read_asked.new.codes c.read_asked.result
+    (row_asked c.args.rows.now c.args.size c.args.reading.radix f c.args.reading.policy c.args.reading.mode c.in-Ok.asked c.in-Ok.ensures) c.read_asked.ensures
 
-pub loop-i-preserved : goal.loop-i-preserved
-loop-i-preserved c =
-    let less : c.loop-i.i < length c.loop-i.codes = omega arith in
-    let same = c.requires.same in
-    let lt : c.loop-i.i < length c.loop-i.out = omega arith in
-    record {
-      each = row_more (ReadsRow c.args.rows.now c.args.size c.args.reading.radix (format_of c.args.reading.format.is_signed c.args.reading.format.width c.args.reading.format.frac) c.args.reading.policy c.args.reading.mode) c.loop-i.out c.loop-i.codes c.loop-i.i c.read_row-code.result.0 c.read_row-code.result.1 lt less c.loop-i.invariant.each c.read_row-code.ensures;
-      counted = ap (λ x. x + c.tally-refused.result) c.loop-i.invariant.counted ∙ ap (λ x. refused_of (take c.loop-i.i c.loop-i.codes) + x) c.tally-refused.ensures.value
-          ∙ sym (refused_next c.loop-i.codes c.loop-i.i c.read_row-code.result.1 less);
-      few = omega (arith, c.tally-refused.ensures.most, c.loop-i.invariant.few);
-    }
-
-pub returns : goal.returns
-returns c =
-    let all : length c.loop-i.codes ≤ c.loop-i.i = omega arith in
-    record {
-      each = λ d k h. let lt : k < c.loop-i.i = omega arith in c.loop-i.invariant.each d k lt;
-      counted = c.loop-i.invariant.counted ∙ ap refused_of (take_all c.loop-i.i c.loop-i.codes all);
-    }
+pub returns-in-Err : goal.returns-in-Err
+returns-in-Err c =
+    let f = format_of c.args.reading.format.is_signed c.args.reading.format.width c.args.reading.format.frac in
+    rows_as (RefusesRow c.in-Err.refusal) (ReadsRow c.args.rows.now c.args.size c.args.reading.radix f c.args.reading.policy c.args.reading.mode) c.refuse_each.new.out c.refuse_each.new.codes c.refuse_each.result
+    (row_refused c.args.rows.now c.args.size c.args.reading.radix f c.args.reading.policy c.args.reading.mode c.in-Err.refusal c.in-Err.ensures) c.refuse_each.ensures

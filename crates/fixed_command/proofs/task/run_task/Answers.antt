@@ -17,3 +17,6 @@ returns-in-Constants-clause-run g c = rw c.in-Constants.is c.run_constants.ensur
 
 pub returns-in-Columns-clause-run : goal.returns-in-Columns-clause-run
 returns-in-Columns-clause-run g c = rw c.in-Columns.is c.run_cells.ensures.run
+
+pub returns-in-LaidOut-clause-run : goal.returns-in-LaidOut-clause-run
+returns-in-LaidOut-clause-run g c = rw c.in-LaidOut.is c.run_laid_out.ensures.run

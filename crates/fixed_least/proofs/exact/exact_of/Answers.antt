@@ -16,11 +16,11 @@ returns-then-not-has_high_bits g c =
 
 pub returns-then-has_high_bits : goal.returns-then-has_high_bits
 returns-then-has_high_bits g c =
-    let small : c.in-Ok.fine.number.low < 2 ^ 64 = omega (arith, c.magnitude-fraction.type_inv, c.magnitude-fraction.ensures) in
+    let small : c.in-Ok.fine.low < 2 ^ 64 = omega (arith, c.magnitude-fraction.type_inv, c.magnitude-fraction.ensures) in
     record { exact = record { numeral = c.in-Ok.ensures.reading.numeral; read = λ p h. outside c.args.radix p c.in-Ok.fine c.in-Ok-read_format.coarse (ap frac_of (c.in-Ok.ensures.format ∙ c.long_format.ensures)) (c.in-Ok.ensures.reading.read p h) (sym c.is_exact.ensures ∙ c.if-not-is_exact.false) small (ap frac_of (c.in-Ok-read_format.ensures.format ∙ c.long_format-2.ensures)) (c.in-Ok-read_format.ensures.reading.read p h) (sym c.has_high_bits-2.ensures ∙ c.if-has_high_bits.true); cause = search rules } }
 
 pub returns : goal.returns
 returns g c =
-    let small : c.in-Ok.fine.number.low < 2 ^ 64 = omega (arith, c.magnitude-fraction.type_inv, c.magnitude-fraction.ensures) in
-    let ulps : c.ulps_of-ulps.result ≡ c.in-Ok-read_format.coarse.number.low * 2 ^ 64 + c.in-Ok.fine.number.low = rw (← c.magnitude.ensures, ← c.magnitude-fraction.ensures) c.ulps_of-ulps.ensures in
+    let small : c.in-Ok.fine.low < 2 ^ 64 = omega (arith, c.magnitude-fraction.type_inv, c.magnitude-fraction.ensures) in
+    let ulps : c.ulps_of-ulps.result ≡ c.in-Ok-read_format.coarse.low * 2 ^ 64 + c.in-Ok.fine.low = rw (← c.magnitude.ensures, ← c.magnitude-fraction.ensures) c.ulps_of-ulps.ensures in
     record { exact = record { numeral = c.in-Ok.ensures.reading.numeral; read = λ p h. long_value c.args.radix p c.in-Ok.fine c.in-Ok-read_format.coarse _ (ap frac_of (c.in-Ok.ensures.format ∙ c.long_format.ensures)) (c.in-Ok.ensures.reading.read p h) (sym c.is_exact.ensures ∙ c.if-not-is_exact.false) small (ap frac_of (c.in-Ok-read_format.ensures.format ∙ c.long_format-2.ensures)) (c.in-Ok-read_format.ensures.reading.read p h) (sym c.has_high_bits-2.ensures ∙ c.if-has_high_bits.false) c.is_negative-negative.ensures ulps; cause = search rules } }

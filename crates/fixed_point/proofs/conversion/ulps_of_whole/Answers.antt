@@ -1,4 +1,4 @@
-use Rattle.std.proofs.Common.{arith, ◌≡◌, ◌∙◌, sym, ◌^◌, ◌-◌, pos, ◌*ℤ◌}
+use Rattle.std.proofs.Common.{arith, ◌≡◌, ◌∙◌, sym, ◌-◌}
 use Rattle.std.specs.Int.{w128}
 use Rattle.std.proofs.lemmas.Int.{to_z-of_z}
 use Rattle.fixed_bits.proofs.Public.{grown}

@@ -1,4 +1,4 @@
-use Rattle.std.proofs.Common.{◌+◌, ◌*◌, ◌^◌, arith, refl}
+use Rattle.std.proofs.Common.{arith, refl}
 use Rattle.fixed_numeral.proofs.Public.{pow-mul}
 use Rattle.fixed_read.proofs.ShortNumeralLemmas.{word_room}
 use Rattle.fixed_read.proofs.short_numeral.binary_digits.Goals as goal

@@ -1,4 +1,4 @@
-use Rattle.std.proofs.Common.{arith, subst}
+use Rattle.std.proofs.Common.{arith}
 use Rattle.fixed_read.proofs.ShortNumeralLemmas.{far_below}
 use Rattle.fixed_read.proofs.short_numeral.lost_far_down.Goals as goal
 

@@ -1,4 +1,4 @@
-use Rattle.std.proofs.Common.{◌≡◌, ◌+◌, ◌*◌, ◌^◌, arith, pos, ◌-ℤ◌}
+use Rattle.std.proofs.Common.{◌+◌, ◌*◌, ◌^◌, arith, pos, ◌-ℤ◌}
 use Rattle.std.proofs.Math.Nat.{one-le-pow}
 use Rattle.fixed_numeral.specs.Value.{scaled}
 use Rattle.fixed_read.proofs.ShortNumeralLemmas.{magnitude_same, scaled_den}

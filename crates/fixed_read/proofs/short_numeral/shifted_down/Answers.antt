@@ -1,4 +1,4 @@
-use Rattle.std.proofs.Common.{◌≡◌, ◌^◌, arith, div-add-mod', mod-lt, pow_pos}
+use Rattle.std.proofs.Common.{◌^◌, arith, div-add-mod', mod-lt, pow_pos}
 use Rattle.fixed_read.proofs.ShortNumeralLemmas.{half_of}
 use Rattle.fixed_read.proofs.short_numeral.shifted_down.Goals as goal
 

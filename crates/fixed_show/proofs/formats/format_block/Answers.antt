@@ -5,8 +5,9 @@ use Rattle.fixed_bits.specs.Ranges.{lowest, greatest}
 use Rattle.fixed_write.specs.Places.{IsExactText, exact_text}
 use Rattle.fixed_write.specs.Texts.{IsShortestText, shortest_text}
 use Rattle.fixed_show.specs.Blocks.{line}
+use Rattle.fixed_show.specs.ToolNames.{name_lines}
 use Rattle.fixed_show.specs.FormatBlock.{ArePlaces, AreWholeDigits, digits_text}
-use Rattle.fixed_show.proofs.LineLemmas.{six_lines, text_short}
+use Rattle.fixed_show.proofs.LineLemmas.{seven_lines, text_short}
 use Rattle.fixed_show.proofs.formats.format_block.Goals as goal
 
 pub returns-clause-block : goal.returns-clause-block
@@ -36,10 +37,10 @@ returns-clause-block g c =
     let short_most : IsShortestText (greatest f.signed f.width) f.frac (shortest_text (greatest f.signed f.width) f.frac) = rw (to_z-of_z w128 h hfit, hv, frac) at c.push_shortest_ends.ensures.high in
     let whole : AreWholeDigits (greatest f.signed f.width) f.frac c.whole_digits_of.result = rw (to_z-of_z w128 h hfit, hv, frac) at c.whole_digits_of.ensures.whole in
     let places : ArePlaces f.frac c.places_of.result = rw frac at c.places_of.ensures.places in
-    let text : List ℕ = line (codes "format    ") word ++ (line (codes "least     ") least ++ (line (codes "greatest  ") most ++ (line (codes "ulp       ") ulp ++ (line (codes "digits    ") digits ++ line (codes "shortest  ") ends)))) in
-    let appended : c.push_shortest_ends.new.out ≡ c.args.out.now ++ text = six_lines c.args.out.now c.push_line.new.out c.push_exact_line.new.out c.push_exact_line-2.new.out c.push_exact_line-3.new.out c.push_digits_line.new.out c.push_shortest_ends.new.out
-    (line (codes "format    ") word) (line (codes "least     ") least) (line (codes "greatest  ") most) (line (codes "ulp       ") ulp) (line (codes "digits    ") digits) (line (codes "shortest  ") ends)
-    c.push_line.ensures.appended a b d c.push_digits_line.ensures.appended e in
+    let text : List ℕ = line (codes "format    ") word ++ (line (codes "least     ") least ++ (line (codes "greatest  ") most ++ (line (codes "ulp       ") ulp ++ (line (codes "digits    ") digits ++ (line (codes "shortest  ") ends ++ name_lines f))))) in
+    let appended : c.push_name_lines.new.out ≡ c.args.out.now ++ text = seven_lines c.args.out.now c.push_line.new.out c.push_exact_line.new.out c.push_exact_line-2.new.out c.push_exact_line-3.new.out c.push_digits_line.new.out c.push_shortest_ends.new.out c.push_name_lines.new.out
+    (line (codes "format    ") word) (line (codes "least     ") least) (line (codes "greatest  ") most) (line (codes "ulp       ") ulp) (line (codes "digits    ") digits) (line (codes "shortest  ") ends) (name_lines f)
+    c.push_line.ensures.appended a b d c.push_digits_line.ensures.appended e c.push_name_lines.ensures.appended in
     record {
       text = text;
       is_text = record {
@@ -62,5 +63,5 @@ returns-clause-block g c =
         block_is = refl;
       };
       appended = appended;
-      short = text_short c.args.out.now c.push_shortest_ends.new.out text 2048 appended (omega (arith, c.push_line.ensures.long, c.as_bytes.ensures.short, c.push_exact_line.ensures.short, c.push_exact_line-2.ensures.short, c.push_exact_line-3.ensures.short, c.push_digits_line.ensures.short, c.push_shortest_ends.ensures.short));
+      short = text_short c.args.out.now c.push_name_lines.new.out text 2048 appended (omega (arith, c.push_line.ensures.long, c.as_bytes.ensures.short, c.push_exact_line.ensures.short, c.push_exact_line-2.ensures.short, c.push_exact_line-3.ensures.short, c.push_digits_line.ensures.short, c.push_shortest_ends.ensures.short, c.push_name_lines.ensures.short));
     }

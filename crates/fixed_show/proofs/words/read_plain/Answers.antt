@@ -1,4 +1,4 @@
-use Rattle.std.proofs.Common.{◌<◌, ◌^◌, ℕ, ℤ, pos, FitsSigned, rules, arith}
+use Rattle.std.proofs.Common.{ℕ, ℤ, pos, FitsSigned, rules, arith}
 use Rattle.std.specs.Int.{w128}
 use Rattle.std.proofs.lemmas.Int.{to_z-of_z}
 use Rattle.fixed_bits.specs.Images.{IsWrapped}

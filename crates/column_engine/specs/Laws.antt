@@ -1,0 +1,111 @@
+-- Laws of the records of a text.
+use Rattle.std.specs.Prelude.{◌≡◌, ◌≢◌, ◌⊎◌, ◌==◌, ◌<◌, ◌+◌, ◌-◌, ◌^◌, ◌++◌, ⊤, ℕ, Bool, true, false, List, [], ◌∷◌, Some, if◌then◌else◌, length}
+use Rattle.csv.specs.Reading.{AreRecords, default_config}
+use Rattle.csv.specs.declared.parser.Config.{Config}
+use Rattle.csv.specs.declared.parser.State.TheVariants.{StartRecord}
+use Rattle.line_engine.specs.AnswerText.{AnswerText}
+use Rattle.column_engine.specs.Answers.{AnswersRow, AnswersRows, State, is_asked, stays}
+use Rattle.column_engine.specs.Rows.{AreEnded, IsEnded, IsLast, IsUnended, Row, field_texts, row_text, rows_text}
+use Rattle.column_engine.specs.Run.{HasFailures, HasRun}
+use Rattle.column_engine.specs.Steps.{SameCounts}
+use Rattle.column_engine.specs.declared.columns.Column.{Column}
+use Rattle.column_engine.specs.declared.columns.Range.{Range}
+use Rattle.column_engine.specs.declared.end.Stop.{Stop}
+use Rattle.column_engine.specs.declared.end.Stop.TheVariants.{Done, NoMemory}
+use Rattle.column_engine.specs.declared.place.Place.TheVariants.{Start}
+use Rattle.column_engine.specs.declared.run.TheConstants.{MAX_TEXT}
+
+-- a byte that is no quote and no end of a line
+pub record IsDelimiter (delimiter : ℕ) : Type 0 where
+  pub no_quote : delimiter ≢ 34
+  pub no_newline : delimiter ≢ 10
+  pub no_return : delimiter ≢ 13
+
+-- how the kit's reader of CSV reads with this byte between fields
+abbrev pub reads_with : ℕ → Config
+reads_with delimiter = record default_config { delimiter = delimiter }
+
+-- all of a text: records and empty lines that ended, and the last record may have no end
+abbrev pub AreRows : ℕ → List Row → Type 0
+AreRows delimiter [] = ⊤
+AreRows delimiter (row ∷ rows) = (IsEnded delimiter row × AreRows delimiter rows) ⊎ (IsLast delimiter row
+    × (rows ≡ []))
+
+-- the texts of the fields of each record; an empty line is none
+abbrev pub records_of : ℕ → List Row → List (List (List ℕ))
+records_of delimiter [] = []
+records_of delimiter (row ∷ rows) =
+    if length row.body == 0 then records_of delimiter rows else field_texts delimiter row.body ∷ records_of delimiter rows
+
+-- the records of a text, by their places in it, are those that the kit's reader of CSV reads
+abbrev pub RecordsAreTheKits : Type 0
+RecordsAreTheKits = (delimiter : ℕ) (rows : List Row) → IsDelimiter delimiter → AreRows delimiter rows
+    → AreRecords (reads_with delimiter) StartRecord (rows_text rows) (records_of delimiter rows)
+
+-- a reply without a byte leaves a field as it was, and so does a refusal where refused fields are kept; else the reply
+-- is the field's text
+abbrev pub IsReplaced : (List ℕ → AnswerText → Type 0) → Bool → Bool → List ℕ → List ℕ → Type 0
+IsReplaced A keeps false text new = new ≡ text
+IsReplaced A keeps true text new = (reply : AnswerText) × A text reply × (new ≡ (if stays keeps reply then text else reply.text))
+
+-- the texts of these fields, the first of which is in this column, are those of other fields but where they are asked
+-- for
+abbrev pub AreReplaced : (List ℕ → AnswerText → Type 0) → Bool → List Range → ℕ → List (List ℕ) → List (List ℕ) → Type 0
+AreReplaced A keeps asked column [] [] = ⊤
+AreReplaced A keeps asked column [] (new ∷ news) = ⊥
+AreReplaced A keeps asked column (text ∷ texts) [] = ⊥
+AreReplaced A keeps asked column (text ∷ texts) (new ∷ news) = IsReplaced A keeps (is_asked asked column) text new
+    × AreReplaced A keeps asked (column + 1) texts news
+
+-- a record that is no header has the replies in its fields; an empty line and the header stay
+abbrev pub IsReplacedRow : (List ℕ → AnswerText → Type 0) → Bool → ℕ → State → Row → Row → Type 0
+IsReplacedRow A keeps delimiter s row new = (new ≡ row)
+    ⊎ ((s.headed ≡ false) × (row.body ≢ []) × (new.end ≡ row.end)
+    × AreReplaced A keeps s.asked 0 (field_texts delimiter row.body) (field_texts delimiter new.body))
+
+abbrev pub AreReplacedRows : (List ℕ → AnswerText → Type 0) → Bool → ℕ → List Column → State → List Row → List Row → State
+    → Type 0
+AreReplacedRows A keeps delimiter columns s [] [] t = t ≡ s
+AreReplacedRows A keeps delimiter columns s [] (new ∷ news) t = ⊥
+AreReplacedRows A keeps delimiter columns s (row ∷ rows) [] t = ⊥
+AreReplacedRows A keeps delimiter columns s (row ∷ rows) (new ∷ news) t = (between : State)
+    × AnswersRow A keeps delimiter columns s row (row_text new) between × IsReplacedRow A keeps delimiter s row new
+    × AreReplacedRows A keeps delimiter columns between rows news t
+
+-- what is written for the records of a text has as many records, with the same fields but for the replies, and each
+-- keeps its end
+abbrev pub FieldsAreReplaced : (List ℕ → AnswerText → Type 0) → Type 0
+FieldsAreReplaced A = (keeps : Bool) (delimiter : ℕ) (columns : List Column) (s t : State) (rows : List Row)
+    (text : List ℕ) → IsDelimiter delimiter → AreRows delimiter rows → AnswersRows A keeps delimiter columns s rows text t
+    → (news : List Row) × (text ≡ rows_text news) × AreRows delimiter news × AreReplacedRows A keeps delimiter columns s rows news t
+
+-- by a rule of one reply, at most one text is written for records, and one state follows
+abbrev pub AnswersAreTheOne : (List ℕ → AnswerText → Type 0) → Type 0
+AnswersAreTheOne A = (keeps : Bool) (delimiter : ℕ) (columns : List Column) (s : State) (rows : List Row) (a b : List ℕ)
+    (t u : State) → AnswersRows A keeps delimiter columns s rows a t → AnswersRows A keeps delimiter columns s rows b u
+    → (a ≡ b) × (t ≡ u)
+
+-- the records that end in a text, and what follows the last of them, are the ones
+abbrev pub RowsAreTheOnes : Type 0
+RowsAreTheOnes = (delimiter : ℕ) (text rest rest' : List ℕ) (rows rows' : List Row) → AreEnded delimiter rows
+    → AreEnded delimiter rows' → IsUnended delimiter Start rest → IsUnended delimiter Start rest'
+    → text ≡ rows_text rows ++ rest → text ≡ rows_text rows' ++ rest' → (rows ≡ rows') × (rest ≡ rest')
+
+-- and a text has at most one output of a run to its end, with the counts
+abbrev pub OutputIsTheOne : (List ℕ → AnswerText → Type 0) → Type 0
+OutputIsTheOne A = (keeps : Bool) (delimiter : ℕ) (columns : List Column) (s t u : State)
+    (input left left' before a b : List ℕ)
+    → HasRun Done A keeps delimiter columns s t (Some input) (Some left) (Some before) (Some a)
+    → HasRun Done A keeps delimiter columns s u (Some input) (Some left') (Some before) (Some b)
+    → (a ≡ b) × SameCounts t u
+
+-- while the counts of failures can rise, they say with what was taken of a text how its run ended that found memory, for
+-- a text of fewer bytes than a run takes
+abbrev pub RunEndIsTheOne : (List ℕ → AnswerText → Type 0) → Type 0
+RunEndIsTheOne A = (keeps : Bool) (delimiter : ℕ) (columns : List Column) (s t u : State) (input left before a b : List ℕ)
+    (read read' write write' : ℕ) (stop other : Stop) → length input < MAX_TEXT → read < 2 ^ 64 - 1 → write < 2 ^ 64 - 1
+    → stop ≢ NoMemory → other ≢ NoMemory
+    → HasRun stop A keeps delimiter columns s t (Some input) (Some left) (Some before) (Some a)
+    → HasFailures read read' write write' stop
+    → HasRun other A keeps delimiter columns s u (Some input) (Some left) (Some before) (Some b)
+    → HasFailures read read' write write' other → stop ≡ other

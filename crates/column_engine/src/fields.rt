@@ -1,0 +1,163 @@
+//! The answers to the fields of a record, and what lies between them.
+
+ghost use Rattle.std.specs.Prelude.{◌≡◌, ◌≤◌, ◌<◌, ◌-◌, ◌^◌, List, ℕ, Bool, false, if◌then◌else◌, IfOk, OnErr, drop};
+ghost use Rattle.std.specs.Prelude.{length, take};
+ghost use Rattle.line_engine.specs.Failures.{FailsOnlyCounted};
+ghost use Rattle.column_engine.specs.Answers.{is_asked};
+ghost use Rattle.column_engine.specs.Gathered.{GathersAnswer, GathersField, GathersFields, GathersPart, ahead};
+ghost use Rattle.column_engine.specs.Rows.{raw_fields};
+ghost use Rattle.column_engine.specs.declared.record_buffer.TheConstants.{MAX_RECORD};
+
+use crate::answer::{ColumnTask, Work, answer_asked};
+use crate::columns::{Range, is_asked};
+use crate::gather::put;
+use crate::place::{Place, field_end};
+use crate::rule::FieldRule;
+use fixed_steps::Steps;
+use line_engine::{Failed, Sink};
+use std::sync::ledger::Ledger;
+
+/// A field by its place in a record.
+#[derive(Clone, Copy, Debug, Drop)]
+pub(crate) struct Field {
+    /// Its column, from 0.
+    pub column: usize,
+    /// Where its bytes begin.
+    pub start: usize,
+    /// The place after its last byte.
+    pub end: usize,
+}
+
+/// Gathers the answer to a field that is asked for, after the bytes before it. It says whether the field was refused.
+fn gather_answer<A: FieldRule<L>, K: Sink, L: Ledger>(
+    task: &ColumnTask<'_, A>,
+    column: usize,
+    before: &[u8],
+    raw: &[u8],
+    work: &mut Work,
+    sink: &mut K,
+    steps: &mut Steps<L>,
+) -> Result<bool, Failed>
+    requires { length raw.now ≤ MAX_RECORD }
+    ensures ok { IfOk result (λ refused. GathersAnswer (A.Answers task.now.rule.now) task.now.is_kept
+        task.now.delimiter before.now raw.now refused work.old.out work.new.out (K.written sink.old)
+        (K.written sink.new)) }
+    ensures err { OnErr result ((refused : Bool) × (left : List ℕ) × GathersAnswer (A.Answers task.now.rule.now)
+        task.now.is_kept task.now.delimiter before.now raw.now refused work.old.out left (K.written sink.old)
+        (K.written sink.new)) }
+    ensures failures { FailsOnlyCounted (K.failures sink.old) (K.failures sink.new) result }
+{
+    let is_refused = answer_asked(task, column, raw, work, steps);
+    put(before, &mut work.out, sink)?;
+    put(work.text.as_slice(), &mut work.out, sink)?;
+    Ok(is_refused)
+}
+
+/// Gathers the answer to a field with the bytes from a place on, or leaves both for later where the field isn't asked
+/// for. It says from where bytes are left, and how many fields were refused.
+fn pass_field<A: FieldRule<L>, K: Sink, L: Ledger>(
+    task: &ColumnTask<'_, A>,
+    asked: &[Range],
+    body: &[u8],
+    from: usize,
+    field: Field,
+    work: &mut Work,
+    sink: &mut K,
+    steps: &mut Steps<L>,
+) -> Result<(usize, u64), Failed>
+    requires short { length body.now ≤ MAX_RECORD }
+    requires before { from ≤ field.start }
+    requires ordered { field.start ≤ field.end }
+    requires within { field.end ≤ length body.now }
+    ensures from { IfOk result (λ r. r.0 ≤ field.end) }
+    ensures most { IfOk result (λ r. r.1 ≤ 1) }
+    ensures ok { IfOk result (λ r. (refused : Bool) × (r.1 ≡ (if refused then 1 else 0)) × GathersField
+        (A.Answers task.now.rule.now) task.now.is_kept task.now.delimiter (is_asked asked.now field.column)
+        (take (field.end - field.start) (drop field.start body.now)) refused (ahead work.old.out body.now from field.start)
+        (ahead work.new.out body.now r.0 field.end) (K.written sink.old) (K.written sink.new)) }
+    ensures err { OnErr result ((refused : Bool) × (left : List ℕ) × GathersField (A.Answers task.now.rule.now)
+        task.now.is_kept task.now.delimiter (is_asked asked.now field.column)
+        (take (field.end - field.start) (drop field.start body.now)) refused (ahead work.old.out body.now from field.start)
+        left (K.written sink.old) (K.written sink.new)) }
+    ensures failures { FailsOnlyCounted (K.failures sink.old) (K.failures sink.new) result }
+{
+    if !is_asked(asked, field.column) {
+        return Ok((from, 0));
+    }
+    let raw = &body[field.start..field.end];
+    let before = &body[from..field.start];
+    match gather_answer(task, field.column, before, raw, work, sink, steps) {
+        Err(_) => Err(Failed),
+        Ok(is_refused) => Ok((field.end, as_count(is_refused))),
+    }
+}
+
+/// One where a field was refused.
+fn as_count(is_refused: bool) -> u64
+    ensures value { result ≡ (if is_refused then 1 else 0) }
+    ensures most { result ≤ 1 }
+{
+    if is_refused { 1 } else { 0 }
+}
+
+/// The columns up to one that a range goes on to, or up to a greater one.
+fn past_range(past: usize, range: Range) -> usize
+    ensures { (k : ℕ) → result ≤ k → k < 2 ^ 64 - 1 → (past ≤ k) × (range.to < k) }
+{
+    if range.to < past {
+        past
+    } else {
+        range.to.saturating_add(1)
+    }
+}
+
+/// A column after all that are asked for, or the greatest number.
+fn past_asked(asked: &[Range]) -> usize
+    ensures { (k : ℕ) → result ≤ k → k < 2 ^ 64 - 1 → is_asked asked.now k ≡ false }
+{
+    let mut past = 0;
+    'spans: for at in 0..asked.len() {
+        past = past_range(past, asked[at]);
+    }
+    past
+}
+
+/// Gathers the answers to the fields of a record, and says how many were refused.
+pub(crate) fn answer_fields<A: FieldRule<L>, K: Sink, L: Ledger>(
+    task: &ColumnTask<'_, A>,
+    asked: &[Range],
+    body: &[u8],
+    work: &mut Work,
+    sink: &mut K,
+    steps: &mut Steps<L>,
+) -> Result<u64, Failed>
+    requires { length body.now ≤ MAX_RECORD }
+    ensures ok { IfOk result (λ refused. GathersFields (A.Answers task.now.rule.now) task.now.is_kept
+        task.now.delimiter asked.now 0 (raw_fields task.now.delimiter Place.Start body.now)
+        refused work.old.out work.new.out (K.written sink.old) (K.written sink.new)) }
+    ensures err { OnErr result (GathersPart (A.Answers task.now.rule.now) task.now.is_kept task.now.delimiter
+        asked.now (raw_fields task.now.delimiter Place.Start body.now)
+        work.old.out (K.written sink.old) (K.written sink.new)) }
+    ensures failures { FailsOnlyCounted (K.failures sink.old) (K.failures sink.new) result }
+{
+    let past = past_asked(asked);
+    let mut from = 0;
+    let mut start = 0;
+    let mut column = 0;
+    let mut refused = 0;
+    'fields: while column < past {
+        let end = start + field_end(task.delimiter, &body[start..]);
+        let field = Field { column, start, end };
+        let (next, count) = pass_field(task, asked, body, from, field, work, sink, steps)?;
+        from = next;
+        refused += count;
+        if end == body.len() {
+            put(&body[from..], &mut work.out, sink)?;
+            return Ok(refused);
+        }
+        start = end + 1;
+        column += 1;
+    }
+    put(&body[from..], &mut work.out, sink)?;
+    Ok(refused)
+}

@@ -1,0 +1,124 @@
+//! What there is to report of a run over columns: the header, and the first field that was refused. What a cell keeps
+//! no contract says: it is tested.
+
+use memchr::memchr;
+use std::cell::Cell;
+use text_buffer::TextBuffer;
+
+/// How many bytes of a field, and of the reply that refuses it, are kept.
+const KEPT: usize = 160;
+
+/// How many bytes of a header are kept.
+const KEPT_HEADER: usize = 4096;
+
+/// A field that was refused.
+#[derive(Drop)]
+pub struct RefusedField {
+    /// The number of the line that its record begins in, from 1.
+    pub line: u64,
+    /// Its place in the record, from 0.
+    pub column: usize,
+    /// The first bytes of its text.
+    pub text: TextBuffer<KEPT>,
+    /// The first bytes of the reply that refuses it.
+    pub reply: TextBuffer<KEPT>,
+}
+
+/// What is known of the records of a text: where the one at hand begins, the header, which of the words that ask for
+/// columns was looked for under it last, and the first field that was refused.
+#[derive(Drop)]
+pub struct ColumnWatch {
+    line: Cell<u64>,
+    next_line: Cell<u64>,
+    is_after_return: Cell<bool>,
+    header: Cell<Option<TextBuffer<KEPT_HEADER>>>,
+    word: Cell<usize>,
+    has_refused: Cell<bool>,
+    first: Cell<Option<RefusedField>>,
+}
+
+/// The bytes, cut where they are longer than what is kept.
+fn kept<const N: usize>(bytes: &[u8]) -> TextBuffer<N> {
+    let mut text = TextBuffer::new();
+    text.push_bytes(&bytes[..N.min(bytes.len())]);
+    text
+}
+
+/// How many of the bytes are newlines.
+fn newlines_in(bytes: &[u8]) -> u64 {
+    let mut rest = bytes;
+    let mut count = 0u64;
+    'newlines: while let Some(at) = memchr(b'\n', rest) {
+        count = count.saturating_add(1);
+        rest = &rest[at + 1..];
+    }
+    count
+}
+
+impl ColumnWatch {
+    /// No record was seen of a text whose first line has this number.
+    pub fn new(line: u64) -> ColumnWatch {
+        ColumnWatch {
+            line: Cell::new(line),
+            next_line: Cell::new(line),
+            is_after_return: Cell::new(false),
+            header: Cell::new(None),
+            word: Cell::new(0),
+            has_refused: Cell::new(false),
+            first: Cell::new(None),
+        }
+    }
+
+    /// The header, where there is one: its first bytes. It is kept no longer.
+    pub fn header(&self) -> Option<TextBuffer<KEPT_HEADER>> {
+        self.header.take()
+    }
+
+    /// The place of the word that was looked for last under the header.
+    pub fn word(&self) -> usize {
+        self.word.get()
+    }
+
+    /// The first field that was refused. It is kept no longer.
+    pub fn first(&self) -> Option<RefusedField> {
+        self.first.take()
+    }
+
+    /// A record, or an empty line, is to be answered. A newline after a carriage return ends no line of its own.
+    #[inline]
+    pub(crate) fn begin_row(&self, body: &[u8], end: &[u8]) {
+        let is_second = self.is_after_return.get() && body.is_empty() && end == b"\n".as_slice();
+        self.is_after_return.set(end == b"\r".as_slice());
+        let line = self.next_line.get();
+        self.line.set(line);
+        if !is_second {
+            self.next_line
+                .set(line.saturating_add(newlines_in(body)).saturating_add(1));
+        }
+    }
+
+    /// The record at hand is the header.
+    pub(crate) fn keep_header(&self, body: &[u8]) {
+        self.header.set(Some(kept(body)));
+    }
+
+    /// A word is looked for under the header.
+    pub(crate) fn look_for(&self, word: usize) {
+        self.word.set(word);
+    }
+
+    /// A field of the record at hand is refused.
+    #[inline(never)]
+    pub(crate) fn refuse(&self, column: usize, text: &[u8], reply: &[u8]) {
+        if self.has_refused.get() {
+            return;
+        }
+        self.has_refused.set(true);
+        self.first.set(Some(RefusedField {
+            line: self.line.get(),
+            column,
+            text: kept(text),
+            reply: kept(reply),
+        }));
+    }
+}

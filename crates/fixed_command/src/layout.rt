@@ -1,0 +1,182 @@
+//! Lines as people have them: blanks around a numeral, blank lines, and comments.
+
+ghost use Rattle.std.specs.Prelude.{◌≡◌, ◌≤◌, ◌+◌, ◌*◌, MatchOption, ◌<◌, length};
+ghost use Rattle.fixed_command.specs.Layout.{after_blanks, blanks_before, is_skipped, numeral_of};
+ghost use Rattle.fixed_command.specs.Layout.{trimmed};
+
+use crate::convert::{ConvertRule, without_return};
+use fixed_respell::{LineFault, push_fault};
+use fixed_steps::Steps;
+use line_engine::{LineRule, MAX_ANSWER, MAX_LINE, Output};
+use std::marker::Model;
+use std::sync::ledger::Ledger;
+use text_buffer::TextBuffer;
+
+/// How many bytes a comment's prefix has at most.
+pub const MAX_PREFIX: usize = 64;
+
+/// What a line may have beside its numeral.
+#[derive(Drop)]
+pub struct Layout {
+    is_trimmed: bool,
+    skips_blank: bool,
+    comments: TextBuffer<MAX_PREFIX>,
+}
+
+impl Model for Layout {
+    ghost use Rattle.fixed_command.specs.Layout.{LineLayout};
+
+    ghost Value = { LineLayout };
+
+    ghost view = { λ l. record {
+      is_trimmed = l.is_trimmed;
+      skips_blank = l.skips_blank;
+      comments = l.comments;
+    } };
+}
+
+/// Bytes without the blanks at the beginning.
+fn after_blanks(bytes: &[u8]) -> &[u8]
+    ensures value { result.now ≡ after_blanks bytes.now }
+    ensures short { length result.now ≤ length bytes.now }
+{
+    bytes.trim_ascii_start()
+}
+
+/// Bytes without the blanks at both ends.
+fn trimmed(bytes: &[u8]) -> &[u8]
+    ensures value { result.now ≡ trimmed bytes.now }
+    ensures short { length result.now ≤ length bytes.now }
+{
+    bytes.trim_ascii()
+}
+
+impl Layout {
+    /// What a line may have: with `is_trimmed` blanks around its numeral; with `skips_blank` none but blanks; and,
+    /// where `comments` is not empty, this prefix of a comment, after blanks. `None` where the prefix has more than
+    /// `MAX_PREFIX` bytes.
+    pub fn new(is_trimmed: bool, skips_blank: bool, comments: &[u8]) -> Option<Layout>
+        ensures { MatchOption result (64 < length comments.now) (λ l. l ≡ record {
+          is_trimmed = is_trimmed;
+          skips_blank = skips_blank;
+          comments = comments.now;
+        }) }
+    {
+        if comments.len() > MAX_PREFIX {
+            return None;
+        }
+        let mut prefix = TextBuffer::new();
+        prefix.push_bytes(comments);
+        Some(Layout {
+            is_trimmed,
+            skips_blank,
+            comments: prefix,
+        })
+    }
+
+    /// The same layout once more.
+    fn same(&self) -> Layout
+        ensures { result ≡ self.now }
+    {
+        let mut comments = TextBuffer::new();
+        comments.push_bytes(self.comments.as_bytes());
+        Layout {
+            is_trimmed: self.is_trimmed,
+            skips_blank: self.skips_blank,
+            comments,
+        }
+    }
+
+    /// The numeral of a line.
+    pub fn numeral_of<'l>(&self, line: &'l [u8]) -> &'l [u8]
+        ensures value { result.now ≡ numeral_of self.now line.now }
+        ensures short { length result.now ≤ length line.now }
+    {
+        let bytes = without_return(line);
+        if self.is_trimmed {
+            trimmed(bytes)
+        } else {
+            bytes
+        }
+    }
+
+    /// How many bytes of a line are blanks before its numeral.
+    pub fn blanks_before(&self, line: &[u8]) -> usize
+        ensures { result ≡ blanks_before self.now line.now }
+    {
+        if self.is_trimmed {
+            line.len() - after_blanks(line).len()
+        } else {
+            0
+        }
+    }
+
+    /// Whether a line is skipped: it is blank, or a comment.
+    pub fn is_skipped(&self, line: &[u8]) -> bool
+        ensures { result ≡ is_skipped self.now line.now }
+    {
+        let prefix = self.comments.as_bytes();
+        self.skips_blank && trimmed(line).is_empty()
+            || !prefix.is_empty() && after_blanks(line).starts_with(prefix)
+    }
+}
+
+/// The rule that answers a line with the conversion of its numeral, and a line that is skipped with an empty one.
+#[derive(Drop)]
+pub struct LaidOutRule {
+    /// How a numeral is converted.
+    pub rule: ConvertRule,
+    /// What a line has beside it.
+    pub layout: Layout,
+}
+
+impl LaidOutRule {
+    /// The same rule once more.
+    pub(crate) fn same(&self) -> LaidOutRule
+        ensures rule { result.rule ≡ self.now.rule }
+        ensures layout { result.layout ≡ self.now.layout }
+    {
+        LaidOutRule {
+            rule: ConvertRule::new(*self.rule.settings()),
+            layout: self.layout.same(),
+        }
+    }
+}
+
+impl<L: Ledger> LineRule<L> for LaidOutRule {
+    ghost use Rattle.std.proofs.Common.{lit<};
+    ghost use Rattle.fixed_command.specs.Layout.{IsLaidOut};
+    ghost use Rattle.fixed_command.specs.Lemmas.LayoutLemmas.{laid_out_one, long_by_its_prefix};
+
+    const PER_BYTE: u64 = 8;
+
+    const EXTRA: u64 = 624;
+
+    const MAX_ANSWER: usize = MAX_ANSWER;
+
+    ghost PER_BYTE = { 8 };
+
+    ghost EXTRA = { 624 };
+
+    ghost MAX_ANSWER = { 192 };
+
+    ghost Answers = { λ laid. IsLaidOut laid.layout laid.rule };
+
+    fn answer(&self, line: &[u8], out: &mut Output, steps: &mut Steps<L>) -> bool {
+        if line.len() > MAX_LINE {
+            push_fault(out, LineFault::LineTooLong.words());
+            return true;
+        }
+        if self.layout.is_skipped(line) {
+            return false;
+        }
+        self.rule
+            .push_reply(self.layout.numeral_of(line), out, steps)
+    }
+
+    ghost room_law = { lit< tt };
+
+    ghost one_law = { λ laid. laid_out_one laid.layout laid.rule };
+
+    ghost kept_law = { λ laid. long_by_its_prefix laid.layout laid.rule };
+}

@@ -1,0 +1,326 @@
+//! How numerals come through their conversion, and how many each way.
+
+ghost use Rattle.std.specs.Prelude.{◌≡◌, ◌↔◌, ◌<◌, ◌≤◌, ◌+◌, ◌*◌, ◌^◌, ◌++◌, ◌&&◌, [], IsTrue, length, unsigned_abs};
+ghost use Rattle.std.specs.Fmt.{decimal};
+ghost use Rattle.fixed_bits.specs.Ranges.{IsWide};
+ghost use Rattle.fixed_command.specs.Outcome.{IsOutcome, IsWholeMoved, IsWholeSource, first_of, first_text, noted};
+ghost use Rattle.fixed_command.specs.Outcome.{one_more, outcome_by, place_text, tally_text, total};
+ghost use Rattle.fixed_command.specs.Convert.{IsSource};
+ghost use Rattle.fixed_read.specs.Reading.{IsMultipleOf};
+
+use crate::convert::{Settings, frac_of, is_either, source_number};
+use crate::spelling::Spelling;
+use fixed_convert::reformat_mode;
+use fixed_read::read_format;
+use fixed_show::Shown;
+use fixed_steps::Steps;
+use itoa::Buffer;
+use std::sync::ledger::Ledger;
+use text_buffer::TextBuffer;
+
+/// How a numeral comes through its conversion.
+#[derive(Clone, Copy, Debug, PartialEq, Eq)]
+pub enum Outcome {
+    /// It is a number of the target.
+    Exact,
+    /// It was rounded.
+    Rounded,
+    /// It was out of the range of a format, and the policy brought it back.
+    Overflowed,
+    /// It has no number.
+    Refused,
+}
+
+/// Whether a number is a multiple of another.
+fn is_multiple(number: u128, of: u128) -> bool
+    requires { 0 < of }
+    ensures { IsTrue result ↔ IsMultipleOf of number }
+{
+    number % of == 0
+}
+
+/// A power of two.
+fn power(exponent: u32) -> u128
+    requires { exponent ≤ 64 }
+    ensures value { result ≡ 2 ^ exponent }
+    ensures some { 0 < result }
+    ensures most { result ≤ 2 ^ 64 }
+{
+    1 << exponent
+}
+
+/// The magnitude of a number of at most 64 bits.
+fn magnitude_of(number: i128) -> u64
+    requires { IsWide number }
+    ensures { result ≡ unsigned_abs number }
+{
+    number.unsigned_abs() as u64
+}
+
+/// A number of at most 64 bits times a power of two.
+fn scaled(number: u64, exponent: u32) -> u128
+    requires { exponent ≤ 64 }
+    ensures { result ≡ number * 2 ^ exponent }
+{
+    u128::from(number) * power(exponent)
+}
+
+/// Whether a number of ulps of 2^-`from` is one of ulps of 2^-`to`.
+fn is_whole_moved(number: i128, from: u32, to: u32) -> bool
+    requires wide { IsWide number }
+    requires from { from ≤ 64 }
+    requires to { to ≤ 64 }
+    ensures { IsTrue result ↔ IsWholeMoved number from to }
+{
+    is_multiple(scaled(magnitude_of(number), to), power(from))
+}
+
+/// Whether what a line spells is a whole number of ulps of the source.
+fn is_whole_source<L: Ledger>(settings: &Settings, numeral: &[u8], steps: &mut Steps<L>) -> bool
+    ensures whole { IsTrue result ↔ IsWholeSource settings.now.spelling settings.now numeral.now }
+    ensures cost { steps.new ≤ steps.old + 8 * length numeral.now + 128 }
+{
+    match settings.spelling {
+        Spelling::Numeral => is_whole_numeral(settings, numeral, steps),
+        Spelling::Word => true,
+    }
+}
+
+/// Whether a numeral is a whole number of ulps of the source.
+fn is_whole_numeral<L: Ledger>(settings: &Settings, numeral: &[u8], steps: &mut Steps<L>) -> bool
+    ensures whole { IsTrue result ↔ IsWholeSource Spelling.Numeral settings.now numeral.now }
+    ensures cost { steps.new ≤ steps.old + 8 * length numeral.now + 128 }
+{
+    match read_format(
+        numeral,
+        settings.radix,
+        settings.source,
+        settings.mode,
+        steps,
+    ) {
+        Ok(found) => found.is_exact(),
+        Err(_) => false,
+    }
+}
+
+/// Whether both hold.
+fn is_both(one: bool, other: bool) -> bool
+    ensures { result ≡ (one && other) }
+{
+    one && other
+}
+
+/// Whether nothing is rounded, neither into the source nor on the way to the target.
+fn is_exact(settings: &Settings, numeral: &[u8], number: i128, is_whole: bool) -> bool
+    requires wide { IsWide number }
+    requires whole { IsTrue is_whole ↔ IsWholeSource settings.now.spelling settings.now numeral.now }
+    ensures { IsTrue result ↔ (IsWholeSource settings.now.spelling settings.now numeral.now
+        × IsWholeMoved number settings.now.source.frac settings.now.target.frac) }
+{
+    let from = frac_of(settings.source);
+    let to = frac_of(settings.target);
+    is_both(is_whole, is_whole_moved(number, from, to))
+}
+
+/// Which outcome it is, by whether a number was out of its format, and whether nothing was rounded.
+fn outcome_by(is_overflowed: bool, is_exact: bool) -> Outcome
+    ensures { result ≡ outcome_by is_overflowed is_exact }
+{
+    if is_overflowed {
+        Outcome::Overflowed
+    } else if is_exact {
+        Outcome::Exact
+    } else {
+        Outcome::Rounded
+    }
+}
+
+/// How a number of the source comes to the target, where it is known whether it was rounded into the source.
+fn moved_outcome(settings: &Settings, numeral: &[u8], found: &Shown, is_whole: bool) -> Outcome
+    requires wide { IsWide found.now.bits }
+    requires source { IsSource settings.now.spelling settings.now numeral.now found.now.bits found.now.overflowed }
+    requires whole { IsTrue is_whole ↔ IsWholeSource settings.now.spelling settings.now numeral.now }
+    ensures { IsOutcome result settings.now numeral.now }
+{
+    let s = settings;
+    let from = frac_of(s.source);
+    match reformat_mode(s.target, s.policy, s.target_mode, found.bits, from) {
+        None => Outcome::Refused,
+        Some((_bits, target_overflowed)) => {
+            let is_overflowed = is_either(found.overflowed, target_overflowed);
+            outcome_by(is_overflowed, is_exact(s, numeral, found.bits, is_whole))
+        }
+    }
+}
+
+/// How a numeral, or a word, comes through its conversion.
+pub fn outcome_of<L: Ledger>(settings: &Settings, numeral: &[u8], steps: &mut Steps<L>) -> Outcome
+    ensures outcome { IsOutcome result settings.now numeral.now }
+    ensures cost { steps.new ≤ steps.old + 16 * length numeral.now + 704 }
+{
+    match source_number(settings, numeral, steps) {
+        Err(_) => Outcome::Refused,
+        Ok(found) => {
+            let is_whole = is_whole_source(settings, numeral, steps);
+            moved_outcome(settings, numeral, &found, is_whole)
+        }
+    }
+}
+
+/// How many numerals of an input came through, each way, and where the first was that overflowed, or was refused.
+#[derive(Clone, Copy, Debug, PartialEq, Eq)]
+pub struct Tally {
+    /// How many are numbers of the target.
+    pub exact: u64,
+    /// How many were rounded.
+    pub rounded: u64,
+    /// How many were out of range and brought back.
+    pub overflowed: u64,
+    /// How many have no number.
+    pub refused: u64,
+    /// The line, or record, of the first that overflowed, from 1; 0 where there is none.
+    pub first_overflowed: u64,
+    /// The line, or record, of the first that was refused, from 1; 0 where there is none.
+    pub first_refused: u64,
+}
+
+/// One more; the greatest count is not passed.
+pub(crate) fn one_more(count: u64) -> u64
+    ensures { result ≡ one_more count }
+{
+    if count == u64::MAX { count } else { count + 1 }
+}
+
+/// The place of the first: 0 where there is none.
+fn first_of(first: u64, place: u64) -> u64
+    ensures { result ≡ first_of first place }
+{
+    if first == 0 { place } else { first }
+}
+
+impl Tally {
+    /// No numeral came through.
+    pub fn new() -> Tally
+        ensures { result ≡ record {
+          exact = 0;
+          rounded = 0;
+          overflowed = 0;
+          refused = 0;
+          first_overflowed = 0;
+          first_refused = 0;
+        } }
+    {
+        Tally {
+            exact: 0,
+            rounded: 0,
+            overflowed: 0,
+            refused: 0,
+            first_overflowed: 0,
+            first_refused: 0,
+        }
+    }
+
+    /// Counts an outcome, in the line or record of this number.
+    pub fn note(&mut self, place: u64, outcome: Outcome)
+        ensures { self.new ≡ noted self.old place outcome }
+    {
+        match outcome {
+            Outcome::Exact => self.exact = one_more(self.exact),
+            Outcome::Rounded => self.rounded = one_more(self.rounded),
+            Outcome::Overflowed => {
+                self.overflowed = one_more(self.overflowed);
+                self.first_overflowed = first_of(self.first_overflowed, place);
+            }
+            Outcome::Refused => {
+                self.refused = one_more(self.refused);
+                self.first_refused = first_of(self.first_refused, place);
+            }
+        }
+    }
+}
+
+/// What a numeral is in: a line, or a record.
+#[derive(Clone, Copy, Debug, PartialEq, Eq)]
+pub enum Place {
+    /// A line.
+    Line,
+    /// A record of CSV.
+    Record,
+}
+
+/// The name of a place.
+fn place_name(place: Place) -> &'static str
+    ensures name { result.now ≡ place_text place }
+    ensures short { length result.now ≤ 6 }
+{
+    match place {
+        Place::Line => "line",
+        Place::Record => "record",
+    }
+}
+
+/// How many bytes the text of a tally has at most.
+pub const MAX_TALLY: usize = 320;
+
+/// Appends a count.
+fn push_count(out: &mut TextBuffer<MAX_TALLY>, count: u64)
+    requires { length out.old + 20 ≤ 320 }
+    ensures appended { out.new ≡ out.old ++ decimal count }
+    ensures short { length out.new ≤ length out.old + 20 }
+{
+    let mut digits = Buffer::new();
+    out.push_bytes(digits.format(count).as_bytes());
+}
+
+/// Appends where the first is: nothing where there is none.
+fn push_first(out: &mut TextBuffer<MAX_TALLY>, first: u64, place: Place)
+    requires room { length out.old + 45 ≤ 320 }
+    ensures appended { out.new ≡ out.old ++ first_text place first }
+    ensures short { length out.new ≤ length out.old + 45 }
+{
+    if first > 0 {
+        out.push_bytes(b" (the first in ");
+        out.push_bytes(place_name(place).as_bytes());
+        out.push(b' ');
+        push_count(out, first);
+        out.push(b')');
+    }
+}
+
+/// How many numerals there were; the greatest count is not passed.
+fn total_of(tally: &Tally) -> u64
+    ensures { result ≡ total tally.now }
+{
+    let through = tally.exact.saturating_add(tally.rounded);
+    through
+        .saturating_add(tally.overflowed)
+        .saturating_add(tally.refused)
+}
+
+/// What a tally says, of numerals in lines or in records.
+pub fn tally_text(tally: &Tally, place: Place) -> TextBuffer<MAX_TALLY>
+    ensures { result ≡ tally_text place tally.now }
+{
+    let mut text = TextBuffer::new();
+    push_tally(&mut text, tally, place);
+    text
+}
+
+/// Appends what a tally says.
+fn push_tally(out: &mut TextBuffer<MAX_TALLY>, tally: &Tally, place: Place)
+    requires empty { out.old ≡ [] }
+    ensures { out.new ≡ tally_text place tally.now }
+{
+    out.push_bytes(b"numerals: ");
+    push_count(out, total_of(tally));
+    out.push_bytes(b", exact: ");
+    push_count(out, tally.exact);
+    out.push_bytes(b", rounded: ");
+    push_count(out, tally.rounded);
+    out.push_bytes(b", overflowed: ");
+    push_count(out, tally.overflowed);
+    push_first(out, tally.first_overflowed, place);
+    out.push_bytes(b", refused: ");
+    push_count(out, tally.refused);
+    push_first(out, tally.first_refused, place);
+}

@@ -1,0 +1,4 @@
+mod SumLemmas
+mod GapLemmas
+mod GreatestLemmas
+mod BoundLemmas

@@ -1,0 +1,21 @@
+use Rattle.std.proofs.Common.{◌≡◌, ◌++◌, ◌∷◌, [], ◌∙◌, ap, subst, sym}
+use Rattle.fixed_error.specs.Greatest.{IsFirstGreatest}
+use Rattle.fixed_error.proofs.GreatestLemmas.{kept_new, kept_old}
+use Rattle.fixed_error.proofs.greatest.GreatestError.add.Goals as goal
+
+pub returns-in_ok-extend_from_slice-clause-one_more : goal.returns-in_ok-extend_from_slice-clause-one_more
+returns-in_ok-extend_from_slice-clause-one_more g c = λ entries h.
+    let old = c.args.self.now in
+    let items : c.extend_from_slice.new.self.items ≡ c.args.numeral.now = c.in_ok-extend_from_slice.ensures.items ∙ ap (λ l. l ++ c.args.numeral.now) c.clear.ensures.items in
+    record {
+      frac = h.frac;
+      kept = subst (λ l. IsFirstGreatest old.mode old.radix old.frac (entries ++ record { place = c.args.place; numeral = c.args.numeral.now } ∷ []) c.args.place l) (sym items) (kept_new old.mode old.radix old.frac entries old.is_some old.place old.numeral.items c.args.place c.args.numeral.now c.requires.within h.kept (c.is_greater.ensures.greater c.if-is_greater.true));
+    }
+
+pub returns-else-is_greater-clause-one_more : goal.returns-else-is_greater-clause-one_more
+returns-else-is_greater-clause-one_more g c = λ entries h.
+    let old = c.args.self.now in
+    record {
+      frac = h.frac;
+      kept = kept_old old.mode old.radix old.frac entries old.is_some old.place old.numeral.items c.args.place c.args.numeral.now (c.is_greater.ensures.some c.if-is_greater.false) h.kept (c.is_greater.ensures.not c.if-is_greater.false);
+    }

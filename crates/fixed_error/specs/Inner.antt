@@ -1,0 +1,4 @@
+-- Contracts of private functions. Nothing that is public cites them.
+pub mod Sums
+pub mod Gap
+pub mod Greatest

@@ -1,0 +1,3 @@
+pub mod ErrorSize
+pub mod Greatest
+pub mod Inner

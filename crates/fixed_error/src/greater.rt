@@ -1,0 +1,166 @@
+//! Which of two numerals has the greater error.
+
+ghost use Rattle.std.specs.Prelude.{◌≡◌, ◌<◌, ◌≤◌, ◌+◌, true, false, ◌^◌};
+ghost use Rattle.std.specs.Int.Digits.{AllBelowBase};
+ghost use Rattle.fixed_numeral.specs.Numeral.{IsNumeral, base};
+ghost use Rattle.fixed_numeral.specs.Scanned.{exponent_unit};
+ghost use Rattle.fixed_error.specs.ErrorSize.{HasErrorAbove, HasErrorWithin, HasGreaterError, HasNoGreaterError};
+ghost use Rattle.fixed_error.specs.ErrorSize.{IsReadWithin};
+ghost use Rattle.fixed_error.specs.Inner.Gap.{IsGap, greater_part, less_part, sum_of};
+
+use crate::gap::{Gap, gap_of, power_of_two};
+use crate::sums::{Sum, is_sum_greater};
+use fixed_bits::ReadMode;
+use fixed_numeral::{Radix, Scanned, scan};
+use fixed_steps::Steps;
+use std::sync::ledger::Ledger;
+
+/// A whole number, and a factor of digits.
+#[derive(Clone, Copy, Debug, PartialEq, Eq)]
+pub struct Part {
+    /// The whole number.
+    pub whole: u128,
+    /// The factor of the digits.
+    pub factor: u128,
+}
+
+/// The greater of the two that a gap lies between.
+fn greater_part(gap: Gap) -> Part
+    ensures { result ≡ greater_part gap }
+{
+    if gap.is_rounded_up {
+        Part {
+            whole: gap.whole,
+            factor: 0,
+        }
+    } else {
+        Part {
+            whole: 0,
+            factor: gap.unit,
+        }
+    }
+}
+
+/// The less of the two.
+fn less_part(gap: Gap) -> Part
+    ensures { result ≡ less_part gap }
+{
+    if gap.is_rounded_up {
+        Part {
+            whole: 0,
+            factor: gap.unit,
+        }
+    } else {
+        Part {
+            whole: gap.whole,
+            factor: 0,
+        }
+    }
+}
+
+/// A part of the one's digits and a part of the other's.
+fn sum_of(one: Part, other: Part) -> Sum
+    requires one { one.whole ≤ 2 ^ 67 }
+    requires other { other.whole ≤ 2 ^ 67 }
+    ensures { result ≡ sum_of one other }
+{
+    Sum {
+        whole: one.whole + other.whole,
+        one: one.factor,
+        other: other.factor,
+    }
+}
+
+/// Whether the error of a numeral, rounded in a mode to a whole number of ulps of 2^-`frac`, is greater in size than
+/// that of another. No length is too great, and no memory is taken.
+pub fn is_error_greater<L: Ledger>(
+    one: &[u8],
+    other: &[u8],
+    radix: Radix,
+    frac: u32,
+    mode: ReadMode,
+    steps: &mut Steps<L>,
+) -> bool
+    requires frac { frac ≤ 64 }
+    requires one { IsReadWithin mode radix frac one.now }
+    requires other { IsReadWithin mode radix frac other.now }
+    ensures greater { result ≡ true → HasGreaterError mode radix frac one.now other.now }
+    ensures not { result ≡ false → HasNoGreaterError mode radix frac one.now other.now }
+{
+    let one_scanned = scan(one, radix, steps);
+    let other_scanned = scan(other, radix, steps);
+    match (&one_scanned, &other_scanned) {
+        (Ok(left), Ok(right)) => {
+            let left_gap = gap_of(one, left, radix, frac, mode, steps);
+            let right_gap = gap_of(other, right, radix, frac, mode, steps);
+            is_sum_greater(
+                sum_of(greater_part(left_gap), less_part(right_gap)),
+                sum_of(less_part(left_gap), greater_part(right_gap)),
+                left.fraction_view(),
+                right.fraction_view(),
+                radix.base(),
+                steps,
+            )
+        }
+        _ => unreachable!(),
+    }
+}
+
+/// No whole number and no digits.
+fn nothing() -> Part
+    ensures { result ≡ record { whole = 0; factor = 0 } }
+{
+    Part {
+        whole: 0,
+        factor: 0,
+    }
+}
+
+/// A bound below 1 in ulps of 2^-`frac`: a factor of its digits after the point.
+fn bound_part<'a>(found: &Scanned<'a>, radix: Radix, frac: u32) -> Part
+    requires frac { frac ≤ 64 }
+    requires bits { found.now.bit_shift < exponent_unit radix }
+    ensures { result ≡ record { whole = 0; factor = 2 ^ (frac + found.now.bit_shift) } }
+{
+    Part {
+        whole: 0,
+        factor: power_of_two(frac + found.bit_shift()),
+    }
+}
+
+/// Whether the error of a numeral, rounded in a mode to a whole number of ulps of 2^-`frac`, is greater in size than a
+/// bound, which is the magnitude of another numeral.
+pub fn is_error_above<L: Ledger>(
+    text: &[u8],
+    bound: &[u8],
+    radix: Radix,
+    frac: u32,
+    mode: ReadMode,
+    steps: &mut Steps<L>,
+) -> bool
+    requires frac { frac ≤ 64 }
+    requires within { IsReadWithin mode radix frac text.now }
+    requires bound { IsNumeral radix bound.now }
+    ensures above { result ≡ true → HasErrorAbove mode radix frac text.now bound.now }
+    ensures not { result ≡ false → HasErrorWithin mode radix frac text.now bound.now }
+{
+    let text_scanned = scan(text, radix, steps);
+    let bound_scanned = scan(bound, radix, steps);
+    match (&text_scanned, &bound_scanned) {
+        (Ok(left), Ok(right)) => {
+            if !right.whole_view().is_empty() {
+                return false;
+            }
+            let gap = gap_of(text, left, radix, frac, mode, steps);
+            is_sum_greater(
+                sum_of(greater_part(gap), nothing()),
+                sum_of(less_part(gap), bound_part(right, radix, frac)),
+                left.fraction_view(),
+                right.fraction_view(),
+                radix.base(),
+                steps,
+            )
+        }
+        _ => unreachable!(),
+    }
+}

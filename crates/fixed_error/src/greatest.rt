@@ -1,0 +1,111 @@
+//! The greatest error of numerals that come one after another.
+
+ghost use Rattle.std.specs.Prelude.{◌≡◌, ◌≤◌, ◌++◌, ◌∷◌, [], List, OnOk};
+ghost use Rattle.fixed_error.specs.ErrorSize.{IsReadWithin};
+ghost use Rattle.fixed_error.specs.Greatest.{Entry, HasGreatest, HasSomeGreatest};
+ghost use Rattle.fixed_error.specs.Inner.Greatest.{IsGreatestSoFar};
+
+use crate::greater::is_error_greater;
+use fixed_bits::ReadMode;
+use fixed_numeral::Radix;
+use fixed_steps::Steps;
+use std::alloc::{AllocError, Global};
+use std::sync::ledger::Ledger;
+
+/// Of the numerals so far the first that has the greatest error, where they are rounded in a mode to whole numbers of
+/// ulps of 2^-`frac`.
+#[derive(Drop)]
+pub struct GreatestError {
+    radix: Radix,
+    frac: u32,
+    mode: ReadMode,
+    numeral: Vec<u8>,
+    place: u64,
+    is_some: bool,
+}
+
+impl GreatestError {
+    /// No numeral so far.
+    pub fn new(alloc: Global, radix: Radix, frac: u32, mode: ReadMode) -> GreatestError
+        requires { frac ≤ 64 }
+        ensures radix { result.radix ≡ radix }
+        ensures frac { result.frac ≡ frac }
+        ensures mode { result.mode ≡ mode }
+        ensures none { HasGreatest [] result }
+    {
+        GreatestError {
+            radix,
+            frac,
+            mode,
+            numeral: Vec::new(alloc),
+            place: 0,
+            is_some: false,
+        }
+    }
+
+    /// Whether there was a numeral.
+    pub fn is_some(&self) -> bool
+        ensures { result ≡ self.now.is_some }
+    {
+        self.is_some
+    }
+
+    /// The numeral with the greatest error.
+    pub fn numeral(&self) -> &[u8]
+        ensures { result.now ≡ self.now.numeral.items }
+    {
+        &self.numeral
+    }
+
+    /// The place that it came with.
+    pub fn place(&self) -> u64
+        ensures { result ≡ self.now.place }
+    {
+        self.place
+    }
+
+    /// Whether a numeral has a greater error than those so far.
+    fn is_greater<L: Ledger>(&self, numeral: &[u8], steps: &mut Steps<L>) -> bool
+        requires known { HasSomeGreatest self.now }
+        requires within { IsReadWithin self.now.mode self.now.radix self.now.frac numeral.now }
+        ensures { IsGreatestSoFar self.now numeral.now result }
+    {
+        !self.is_some
+            || is_error_greater(
+                numeral,
+                &self.numeral,
+                self.radix,
+                self.frac,
+                self.mode,
+                steps,
+            )
+    }
+
+    /// Takes one more numeral, which comes with a place. Memory is taken for the numeral with the greatest error alone.
+    ///
+    /// # Errors
+    ///
+    /// There is no memory for it.
+    pub fn add<L: Ledger>(
+        &mut self,
+        numeral: &[u8],
+        place: u64,
+        steps: &mut Steps<L>,
+    ) -> Result<(), AllocError>
+        requires known { HasSomeGreatest self.old }
+        requires within { IsReadWithin self.old.mode self.old.radix self.old.frac numeral.now }
+        ensures radix { self.new.radix ≡ self.old.radix }
+        ensures frac { self.new.frac ≡ self.old.frac }
+        ensures mode { self.new.mode ≡ self.old.mode }
+        ensures one_more { OnOk result ((entries : List Entry) → HasGreatest entries self.old
+            → HasGreatest (entries ++ record { place = place; numeral = numeral.now } ∷ []) self.new) }
+    {
+        if self.is_greater(numeral, steps) {
+            self.numeral.clear();
+            self.numeral.extend_from_slice(numeral)?;
+            self.place = place;
+            self.is_some = true;
+        }
+        Ok(())
+    }
+}

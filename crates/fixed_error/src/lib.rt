@@ -1,0 +1,11 @@
+//! The error of a rounded numeral: its size, compared exactly with that of another, whatever their lengths.
+#![tactic(auto)]
+
+pub mod gap;
+pub mod greater;
+pub mod greatest;
+mod sums;
+
+pub use gap::is_read_within;
+pub use greater::{is_error_above, is_error_greater};
+pub use greatest::GreatestError;

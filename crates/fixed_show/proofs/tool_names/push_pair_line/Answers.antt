@@ -1,0 +1,17 @@
+use Rattle.std.proofs.Common.{◌≡◌, ◌+◌, ◌≤◌, ◌++◌, length, ℤ, FitsSigned, rules, arith}
+use Rattle.std.specs.Int.{w128}
+use Rattle.std.proofs.lemmas.Int.{to_z-of_z}
+use Rattle.std.specs.Fmt.{signed_decimal}
+use Rattle.fixed_show.proofs.LineLemmas.{pair_pushed, pushed_length}
+use Rattle.fixed_show.proofs.tool_names.push_pair_line.Goals as goal
+
+pub returns-clause-appended : goal.returns-clause-appended
+returns-clause-appended g c =
+    let a : ℤ = c.args.first in
+    let b : ℤ = c.args.second in
+    let fit : FitsSigned w128 a = search rules in
+    let fits : FitsSigned w128 b = search rules in
+    let first : c.push_integer.new.out ≡ c.push_bytes-2.new.self ++ signed_decimal c.args.first = rw (to_z-of_z w128 a fit) at c.push_integer.ensures.appended in
+    let second : c.push_integer-2.new.out ≡ c.push_bytes-3.new.self ++ signed_decimal c.args.second = rw (to_z-of_z w128 b fits) at c.push_integer-2.ensures.appended in
+    pair_pushed c.args.out.now c.push_bytes.new.self c.push_bytes-2.new.self c.push_integer.new.out c.push_bytes-3.new.self c.push_integer-2.new.out c.push_bytes-4.new.self c.push.new.self c.args.label.now c.args.head.now c.args.first c.args.mark.now c.args.second c.args.tail.now
+    c.push_bytes.ensures c.push_bytes-2.ensures first c.push_bytes-3.ensures second c.push_bytes-4.ensures c.push.ensures

@@ -1,0 +1,20 @@
+-- A text is answered with one block.
+use Rattle.std.specs.Prelude.{◌≡◌, Bool, List, true, ℕ}
+use Rattle.fixed_bits.specs.Formats.{FormatParts}
+use Rattle.fixed_bits.specs.Ranges.{IsWidth}
+use Rattle.fixed_bits.specs.declared.format.Policy.{Policy}
+use Rattle.fixed_bits.specs.declared.mode.ReadMode.{ReadMode}
+use Rattle.fixed_numeral.specs.declared.radix.Radix.{Radix}
+use Rattle.fixed_show.specs.BitsBlock.{IsBitsBlock}
+use Rattle.fixed_show.specs.ShowBlock.{IsShowBlock}
+
+-- a word has one block
+abbrev pub BitsBlockIsTheOne : Type 0
+BitsBlockIsTheOne = (bare : Radix) (f : FormatParts) (text : List ℕ) (o p : Bool) (a b : List ℕ) → IsWidth f.width
+    → IsBitsBlock bare f text o a → IsBitsBlock bare f text p b → (o ≡ p) × (a ≡ b)
+
+-- a numeral that is refused has one block
+abbrev pub ShowRefusalIsTheOne : Type 0
+ShowRefusalIsTheOne = (mode : ReadMode) (r : Radix) (bytes : List ℕ) (f : FormatParts) (policy : Policy) (p : Bool)
+    (a b : List ℕ) → IsShowBlock mode r bytes f policy true a → IsShowBlock mode r bytes f policy p b
+    → (p ≡ true) × (a ≡ b)

@@ -1,0 +1,60 @@
+-- The names of a format in other tools.
+use Rattle.std.specs.Prelude.{◌≡◌, ℕ, zero, suc, ◌-◌, ◌<◌, List, ◌++◌, ℤ, pos, ◌-ℤ◌, neg_ℤ, Bool, true, false, codes}
+use Rattle.std.specs.Fmt.{signed_decimal}
+use Rattle.fixed_bits.specs.Formats.{FormatParts, IsFormat}
+use Rattle.fixed_respell.specs.FormatNames.{IsFormatName}
+use Rattle.fixed_show.specs.Blocks.{line}
+
+-- a name of two numbers, with a text before them, between them and after them
+unfoldable pub pair_text : List ℕ → ℤ → List ℕ → ℤ → List ℕ → List ℕ
+pair_text head first mark second tail = head ++ (signed_decimal first ++ (mark ++ (signed_decimal second ++ tail)))
+
+-- what a name begins with, of a signed format and of one that is not
+abbrev pub head_text : Bool → List ℕ → List ℕ → List ℕ
+head_text true with_sign without_sign = with_sign
+head_text false with_sign without_sign = without_sign
+
+-- Qm.n, UQm.n
+abbrev pub q_text : Bool → ℕ → ℕ → List ℕ
+q_text signed whole frac = pair_text (head_text signed (codes "Q") (codes "UQ")) (pos whole) (codes ".") (pos frac)
+    (codes "")
+
+-- ARM's Q: the sign bit is one of the whole bits, so a signed format without whole bits has no name
+abbrev pub arm_name : Bool → ℕ → ℕ → List ℕ
+arm_name true zero frac = codes "none"
+arm_name true (suc above) frac = q_text true (suc above) frac
+arm_name false whole frac = q_text false whole frac
+
+-- TI's Q: the sign bit is counted apart from the whole bits above the point
+abbrev pub ti_name : Bool → ℕ → ℕ → List ℕ
+ti_name true zero frac = codes "none"
+ti_name true (suc above) frac = q_text true above frac
+ti_name false whole frac = q_text false whole frac
+
+-- high-level synthesis in C++: the width, and the whole bits with the sign bit
+abbrev pub hls_name : Bool → ℕ → ℕ → List ℕ
+hls_name signed width whole = pair_text (head_text signed (codes "ap_fixed<") (codes "ap_ufixed<")) (pos width)
+    (codes ",") (pos whole) (codes ">")
+
+-- VHDL's fixed_pkg: the power of two of the highest and of the lowest bit
+abbrev pub vhdl_name : Bool → ℕ → ℕ → List ℕ
+vhdl_name signed whole frac = pair_text (head_text signed (codes "sfixed(") (codes "ufixed(")) (pos whole -ℤ pos 1)
+    (codes " downto ") (neg_ℤ (pos frac)) (codes ")")
+
+-- MATLAB's fi, of any value: the sign, the word length and the fraction length
+abbrev pub matlab_name : Bool → ℕ → ℕ → List ℕ
+matlab_name signed width frac = pair_text (head_text signed (codes "fi(_,1,") (codes "fi(_,0,")) (pos width)
+    (codes ",") (pos frac) (codes ")")
+
+-- the lines of the names
+unfoldable pub name_lines : FormatParts → List ℕ
+name_lines f = line (codes "ARM       ") (arm_name f.signed (f.width - f.frac) f.frac)
+    ++ (line (codes "TI        ") (ti_name f.signed (f.width - f.frac) f.frac)
+    ++ (line (codes "HLS       ") (hls_name f.signed f.width (f.width - f.frac))
+    ++ (line (codes "VHDL      ") (vhdl_name f.signed (f.width - f.frac) f.frac)
+    ++ line (codes "MATLAB    ") (matlab_name f.signed f.width f.frac))))
+
+-- where there is an ARM's name, the command `fixed` takes it for the format
+abbrev pub ArmNameIsAName : Type 0
+ArmNameIsAName = (f : FormatParts) → IsFormat f.width f.frac → (f.signed ≡ true → f.frac < f.width)
+    → IsFormatName (arm_name f.signed (f.width - f.frac) f.frac) f
