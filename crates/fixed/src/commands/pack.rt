@@ -84,7 +84,7 @@ fn push_line<L: Ledger>(
         target_mode: ReadMode::Floor,
         print: Print::Text,
     });
-    let more = explanation(&rule, line.text.as_bytes(), line.cause.as_bytes(), steps);
+    let more = explanation(&rule, line.text.as_bytes(), 0, line.cause.as_bytes(), steps);
     report.bytes(more.as_bytes(), 640);
 }
 
