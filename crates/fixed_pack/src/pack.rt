@@ -72,10 +72,10 @@ impl PackEnd {
 
 /// Packs the numerals of an input, one a line, into words, one after another, and says how that ended.
 ///
-/// A word is the bits of a numeral in two's complement, in the fewest bytes that have the format's width; the bits above
-/// the width are zeros. A carriage return at the end of a line is no part of the numeral. The first line that is
-/// refused ends the run. The words of the lines that end in a chunk of 4,096 bytes are written before the next is read;
-/// memory is taken for the longest line that does not lie within a chunk.
+/// A word is the bits of a numeral in two's complement, in the fewest bytes that have the format's width; the bits
+/// above the width are zeros. A carriage return at the end of a line is no part of the numeral. The first line that
+/// is refused ends the run. The words of the lines that end in a chunk of 4,096 bytes are written before the next
+/// is read; memory is taken for the longest line that does not lie within a chunk.
 pub fn run_pack<S: Source, K: Sink, L: Ledger>(
     alloc: Global,
     settings: &PackSettings,

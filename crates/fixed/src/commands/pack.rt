@@ -52,7 +52,8 @@ struct Counted<'c, W> {
 impl<'c, W: Write> Write for Counted<'c, W> {
     fn write(&mut self, buf: &[u8]) -> Result<usize> {
         let count = self.writer.write(buf)?;
-        self.taken.set(self.taken.get().saturating_add(count as u64));
+        self.taken
+            .set(self.taken.get().saturating_add(count as u64));
         Ok(count)
     }
 

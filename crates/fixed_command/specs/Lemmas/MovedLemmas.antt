@@ -71,8 +71,8 @@ source_by Word s line v w o u formats a b = (
 )
 
 -- ---- and why there is none
-pub unread_one : (mode : ReadMode) (r : Radix) (bytes : List ℕ) (f : FormatParts) (policy : Policy) (k l : ParseErrorKind)
-    → IsUnread mode r bytes f policy k → IsUnread mode r bytes f policy l → k ≡ l
+pub unread_one : (mode : ReadMode) (r : Radix) (bytes : List ℕ) (f : FormatParts) (policy : Policy)
+    (k l : ParseErrorKind) → IsUnread mode r bytes f policy k → IsUnread mode r bytes f policy l → k ≡ l
 unread_one mode r bytes f policy k l (inl a) (inl b) = one_cause r bytes k l a b
 unread_one mode r bytes f policy k l (inl a) (inr b) = absurd (a.none (b.2.parts, b.2.has))
 unread_one mode r bytes f policy k l (inr a) (inl b) = absurd (b.none (a.2.parts, a.2.has))

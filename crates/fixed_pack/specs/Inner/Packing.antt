@@ -100,7 +100,8 @@ pub record HasSent (s : PackSettings) (whole : List ℕ) (first written : Option
 -- how the packing of lines ended
 abbrev pub EndsAmong : PackSettings → List (List ℕ) → Option (List ℕ) → Option (List ℕ) → PackEnd → Type 0
 EndsAmong s all first written end.Done = Sends s all first written
-EndsAmong s all first written (end.Refused place kind line) = StopsAmong s all first written (end.Refused place kind line)
+EndsAmong s all first written (end.Refused place kind line) = StopsAmong s all first written
+    (end.Refused place kind line)
 EndsAmong s all first written end.ReadFault = ⊥
 EndsAmong s all first written end.WriteFault = StopsAmong s all first written end.WriteFault
 EndsAmong s all first written end.NoMemory = StopsAmong s all first written end.NoMemory
