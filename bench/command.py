@@ -1,4 +1,5 @@
 """The command `fixed`: its words beside fixed_tool and beside what is asked of them, and how long it takes to start and end."""
+import os
 import subprocess
 import time
 
@@ -23,6 +24,24 @@ def converting(programs, inputs, tries):
           ["the same numerals", "M lines/s", "of fixed_tool's"])
 
 
+def packing(programs, inputs, tries):
+    """Megabytes a second of numerals: those that `fixed pack` reads, and those that `fixed unpack` writes."""
+    fixed = programs.built("fixed")
+    rows = []
+    for word, kind in (("U16F16", "plain"), ("I1F15", "audio")):
+        given = inputs.path("plain", "--lines", str(LINES))
+        if kind == "audio":
+            given = inputs.of("audio", "".join(f"{(i * 40503 % 65536 - 32768) / 32768}\n" for i in range(LINES)))
+        words, texts = (os.path.join(inputs.folder, f"{kind}.{end}") for end in ("bin", "texts"))
+        for command, source, target in (("pack", given, words), ("unpack", words, texts)):
+            with open(source, "rb") as bytes_in, open(target, "wb") as bytes_out:
+                subprocess.run([fixed, command, word], stdin=bytes_in, stdout=bytes_out, check=True)
+        took = in_turn([([fixed, "pack", word], given), ([fixed, "unpack", word], words)], tries)
+        rows += [[f"fixed {command} {word}", f"{os.path.getsize(numerals) / seconds / 1e6:.0f}", f"{LINES / seconds / 1e6:.1f}"]
+                 for command, numerals, seconds in zip(("pack", "unpack"), (given, texts), took)]
+    table(rows, ["raw words", "MB/s of numerals", "M words/s"])
+
+
 def memory(programs, inputs):
     """Peak memory of each command that streams, over many short lines and over some that are as long as a line may be."""
     short = inputs.path("plain", "--lines", str(LINES))
@@ -36,6 +55,8 @@ def memory(programs, inputs):
                   inputs.of("long-lines", ("10 U16F16 U16F16 checked 0." + "1" * LONG_LINE + "\n") * LONG_LINES)),
         "enclose": ([], inputs.of("enclosed", "".join(f"10 U16F16 {it}\n" for it in numerals)),
                     inputs.of("long-enclosed", ("10 U16F16 0." + "1" * LONG_LINE + "\n") * LONG_LINES)),
+        "pack": (["U16F16"], short, long),
+        "unpack": (["U16F16"], short, long),
         "column": (["1", "U16F16"], inputs.of("cells.csv", "".join(f"{it},a\n" for it in numerals)),
                    inputs.of("long-cells.csv", ("0." + "1" * LONG_LINE + ",a\n") * LONG_LINES)),
     }
@@ -63,5 +84,6 @@ def measure(programs, inputs, tries):
     if not programs.built("fixed") or not programs.tool:
         return
     converting(programs, inputs, tries)
+    packing(programs, inputs, tries)
     memory(programs, inputs)
     starting(programs)

@@ -3,8 +3,8 @@
 _fixed_words() {
   local words='' formats='I16F16 U16F16 I8F8 U8F8 I32F32 U32F32 I1F15 I1F31 I4F4 U0F8'
   case $1:$COMP_CWORD in
-    convert:2 | convert:3 | column:3 | column:4 | show:2 | bits:2 | format:*) words=$formats ;;
-    help:2) words='convert column show bits format lines enclose least fit constants sort' ;;
+    convert:2 | convert:3 | column:3 | column:4 | show:2 | bits:2 | pack:2 | unpack:2 | unpack:3 | format:*) words=$formats ;;
+    help:2) words='convert column show bits format lines enclose least fit pack unpack constants sort' ;;
   esac
   if [ "$COMP_CWORD" -eq 2 ]; then
     case $1 in
@@ -56,7 +56,7 @@ _fixed_is_columns() {
 }
 _fixed() {
   local word=$2 previous=$3 command=${COMP_WORDS[1]}
-  local commands='convert column show bits format lines enclose least fit constants sort help' words=''
+  local commands='convert column show bits format lines enclose least fit pack unpack constants sort help' words=''
   if [ "$COMP_CWORD" -eq 1 ]; then
     mapfile -t COMPREPLY < <(compgen -W "$commands --help --version" -- "$word")
     return
@@ -73,6 +73,7 @@ _fixed() {
     --print) words='text bits hex readmemh value all' ;;
     --width | -w) words='8 16 32 64' ;;
     --empty) words='fault keep 0' ;;
+    --endian) words='little big' ;;
     --limit | --delimiter | -d | --places | --guard | --comments | --skip | --decimal | --thousands) return ;;
     *)
       case $command:$word in
@@ -82,6 +83,8 @@ _fixed() {
         bits:-*) words='--radix --file --output --help --version' ;;
         lines:-* | sort:-*) words='--limit --help --version' ;;
         fit:-*) words='--width --signed --why --range --radix --help --version' ;;
+        pack:-*) words='--endian --radix --policy --mode --help --version' ;;
+        unpack:-*) words='--endian --policy --target-mode --print --places --help --version' ;;
         constants:-*) words='--guard --help --version' ;;
         *:-*) words='--help --version' ;;
         column:*)

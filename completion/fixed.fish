@@ -1,4 +1,4 @@
-set -l commands convert column show bits format lines enclose least fit constants sort help
+set -l commands convert column show bits format lines enclose least fit pack unpack constants sort help
 complete -c fixed -n "not __fish_seen_subcommand_from $commands" -f
 complete -c fixed -n __fish_use_subcommand -a convert -d 'convert numerals, one a line'
 complete -c fixed -n __fish_use_subcommand -a column -d 'convert columns of CSV'
@@ -9,15 +9,17 @@ complete -c fixed -n __fish_use_subcommand -a lines -d 'answer lines of five wor
 complete -c fixed -n __fish_use_subcommand -a enclose -d 'answer with the two nearest values'
 complete -c fixed -n __fish_use_subcommand -a least -d 'find the least format'
 complete -c fixed -n __fish_use_subcommand -a fit -d 'find the finest format of a width'
+complete -c fixed -n __fish_use_subcommand -a pack -d 'pack numerals into raw words'
+complete -c fixed -n __fish_use_subcommand -a unpack -d 'write a line for each raw word'
 complete -c fixed -n __fish_use_subcommand -a constants -d 'write named literals in one form'
 complete -c fixed -n __fish_use_subcommand -a sort -d 'sort cells by value'
 complete -c fixed -n __fish_use_subcommand -a help -d 'show the help of a command'
-complete -c fixed -n '__fish_seen_subcommand_from convert column show bits fit' -s r -l radix -x -a '2 8 10 16' -d 'the radix of numerals and bare words'
-complete -c fixed -n '__fish_seen_subcommand_from convert column show' -s p -l policy -x -a 'checked saturating wrapping' -d 'what is done out of range'
-complete -c fixed -n '__fish_seen_subcommand_from convert column show' -s m -l mode -x -a 'nearest floor ceil zero' -d 'how a numeral is rounded'
+complete -c fixed -n '__fish_seen_subcommand_from convert column show bits fit pack' -s r -l radix -x -a '2 8 10 16' -d 'the radix of numerals and bare words'
+complete -c fixed -n '__fish_seen_subcommand_from convert column show pack unpack' -s p -l policy -x -a 'checked saturating wrapping' -d 'what is done out of range'
+complete -c fixed -n '__fish_seen_subcommand_from convert column show pack' -s m -l mode -x -a 'nearest floor ceil zero' -d 'how a numeral is rounded'
 complete -c fixed -n '__fish_seen_subcommand_from convert column' -l from -x -a 'text bits' -d 'what a line is'
-complete -c fixed -n '__fish_seen_subcommand_from convert column' -l target-mode -x -a 'nearest floor ceil zero' -d 'how a number is rounded to the target'
-complete -c fixed -n '__fish_seen_subcommand_from convert column' -l print -x -a 'text bits hex readmemh value all' -d 'what of an answer is written'
+complete -c fixed -n '__fish_seen_subcommand_from convert column unpack' -l target-mode -x -a 'nearest floor ceil zero' -d 'how a number is rounded to the target'
+complete -c fixed -n '__fish_seen_subcommand_from convert column unpack' -l print -x -a 'text bits hex readmemh value all' -d 'what of an answer is written'
 complete -c fixed -n '__fish_seen_subcommand_from show bits' -l file -r -d 'each line of the file is asked about'
 complete -c fixed -n '__fish_seen_subcommand_from lines sort' -l limit -x -d 'the most bytes of an input'
 complete -c fixed -n '__fish_seen_subcommand_from column' -s d -l delimiter -x -d 'the byte between fields'
@@ -34,9 +36,10 @@ complete -c fixed -n '__fish_seen_subcommand_from fit' -s w -l width -x -a '8 16
 complete -c fixed -n '__fish_seen_subcommand_from fit' -l signed -d 'only signed formats'
 complete -c fixed -n '__fish_seen_subcommand_from fit' -l why -d 'what rules out the next finer format'
 complete -c fixed -n '__fish_seen_subcommand_from fit' -l range -d 'two numerals in place of files'
+complete -c fixed -n '__fish_seen_subcommand_from pack unpack' -l endian -x -a 'little big' -d "the order of a word's bytes"
 complete -c fixed -n '__fish_seen_subcommand_from constants' -a 'c rust' -d 'what is written'
 complete -c fixed -n '__fish_seen_subcommand_from sort' -a limit -d 'the most bytes of an input'
-complete -c fixed -n '__fish_seen_subcommand_from convert column' -l places -x -d 'digits after the point'
+complete -c fixed -n '__fish_seen_subcommand_from convert column unpack' -l places -x -d 'digits after the point'
 complete -c fixed -n '__fish_seen_subcommand_from constants' -l guard -x -d 'the name that guards the header'
 complete -c fixed -n '__fish_seen_subcommand_from convert' -l trim -d 'blanks around a numeral are no part of it'
 complete -c fixed -n '__fish_seen_subcommand_from convert' -l skip-blank -d 'a blank line is answered by an empty one'
@@ -59,4 +62,4 @@ function __fixed_names
     end
 end
 complete -c fixed -n '__fish_seen_subcommand_from column; and string match -qr -- "^(-H|--header)\$" (commandline -opc)' -f -a '(__fixed_names)' -d 'a column'
-complete -c fixed -n '__fish_seen_subcommand_from convert column show bits format' -a 'I16F16 U16F16 I8F8 U8F8 I32F32 U32F32 I1F15 I1F31 I4F4 U0F8' -d 'a format'
+complete -c fixed -n '__fish_seen_subcommand_from convert column show bits format pack unpack' -a 'I16F16 U16F16 I8F8 U8F8 I32F32 U32F32 I1F15 I1F31 I4F4 U0F8' -d 'a format'

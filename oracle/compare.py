@@ -28,6 +28,7 @@ PAIRS = (
     ("show.py", "fixed", 100),
     ("convert.py", "fixed", 100),
     ("column.py", "fixed", 50),
+    ("pack.py", "fixed", 3),
 )
 
 

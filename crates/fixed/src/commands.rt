@@ -10,8 +10,10 @@ pub mod fit;
 pub mod format;
 pub mod least;
 pub mod lines;
+pub mod pack;
 pub mod show;
 pub mod sort;
+pub mod unpack;
 
 use command_line::given::{Asked, Given};
 use command_line::page::Page;
@@ -22,7 +24,7 @@ use std::sync::ledger::Ledger;
 
 /// The pages of the commands, in the order of the help. Each is made by a function of its own: as parts of one constant
 /// they are more than the prover reads at once.
-pub fn pages() -> [Page; 11] {
+pub fn pages() -> [Page; 13] {
     [
         convert::page(),
         column::page(),
@@ -33,6 +35,8 @@ pub fn pages() -> [Page; 11] {
         enclose::page(),
         least::page(),
         fit::page(),
+        pack::page(),
+        unpack::page(),
         constants::page(),
         sort::page(),
     ]
@@ -72,6 +76,8 @@ impl<L: Ledger> Commands<L> for AllCommands {
             "enclose" => enclose::run(rt, given, steps),
             "least" => least::run(rt, given, steps),
             "fit" => fit::run(rt, given, steps),
+            "pack" => pack::run(rt, given, steps),
+            "unpack" => unpack::run(rt, given, steps),
             "constants" => constants::run(rt, given, steps),
             _ => sort::run(rt, given, steps),
         }

@@ -1,6 +1,6 @@
 //! What is done with each input, one after another.
 
-use crate::commands::{column_report, fit};
+use crate::commands::{column_report, fit, pack, unpack};
 use column_engine::ColumnWatch;
 use command_line::device::{Failure, Output, Unmarked, Writer};
 use command_line::report::{Report, push_words, report_end};
@@ -10,6 +10,7 @@ use fixed_command::{
 };
 use fixed_fit::Question as FitQuestion;
 use fixed_io::{StdSink, StdSource};
+use fixed_pack::{PackSettings, UnpackRule};
 use fixed_steps::Steps;
 use line_engine::Status;
 use std::fs::File;
@@ -28,6 +29,10 @@ pub enum Job<'a> {
     Column(ColumnConversion<'a>),
     /// The finest format is found that its numerals fit.
     Fit(FitQuestion),
+    /// Its numerals are packed into words.
+    Pack(PackSettings),
+    /// Its words are unpacked into lines.
+    Unpack(UnpackRule),
 }
 
 /// A report of how many lines of an input were refused, and which was the first, with its text and the cause.
@@ -175,6 +180,8 @@ fn run_reader<R: Read + Drop, L: Ledger>(
             let mut source = StdSource::new(Unmarked::new(reader));
             fit::run_on(rt, question, file, &mut source, steps)
         }
+        Job::Pack(settings) => pack::run_on(rt, settings, file, reader, steps),
+        Job::Unpack(rule) => unpack::run_on(rt, rule, file, reader, steps),
     }
 }
 

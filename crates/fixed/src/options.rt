@@ -58,6 +58,14 @@ pub const PLACES: Row = Row {
     help: "The text with N digits after the point, 0 to 64",
 };
 
+pub const ENDIAN: Row = Row {
+    name: "endian",
+    letter: None,
+    value: "ORDER",
+    choices: &["little", "big"],
+    help: "The order of a word's bytes: little (default), big",
+};
+
 pub const TRIM: Row = Row {
     name: "trim",
     letter: None,

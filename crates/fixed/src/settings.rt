@@ -3,7 +3,7 @@
 ghost use Rattle.std.specs.Prelude.{◌≡◌, IfOk, Some};
 ghost use Rattle.fixed_respell.specs.FormatNames.{IsFormatName};
 
-use crate::options::{FROM, MODE, PLACES, POLICY, PRINT, RADIX, TARGET_MODE};
+use crate::options::{ENDIAN, FROM, MODE, PLACES, POLICY, PRINT, RADIX, TARGET_MODE};
 use command_line::given::{Asked, Given, Refusal};
 use command_line::page::Row;
 use fixed_bits::{Format, Policy, ReadMode};
@@ -12,6 +12,7 @@ use fixed_command::{
     radix_named, spelling_named, target_mode_named,
 };
 use fixed_numeral::Radix;
+use fixed_pack::Endian;
 use fixed_respell::format_named;
 
 /// The format that a word names.
@@ -140,6 +141,16 @@ fn target_of<'a>(
         },
         _ => Ok((source, place)),
     }
+}
+
+/// The order of a word's bytes that the option names. `little` is meant where the option is left out.
+pub fn endian_of<'a>(given: &Given<'_, 'a>) -> Asked<'a, Endian> {
+    let endian = match given.value(&ENDIAN) {
+        None | Some("little") => Some(Endian::Little),
+        Some("big") => Some(Endian::Big),
+        Some(_) => None,
+    };
+    known(endian, given, &ENDIAN)
 }
 
 /// The conversion that the words from a place on and the options name, and the place of the first file.

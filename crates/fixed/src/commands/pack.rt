@@ -1,0 +1,165 @@
+//! `fixed pack`: numerals, one a line, to raw words.
+
+use crate::inputs::{Job, run_inputs};
+use crate::options::{ENDIAN, MODE, POLICY, RADIX};
+use crate::settings::{endian_of, format_at, mode_of, policy_of, radix_of};
+use command_line::device::{Failure, Unmarked, Writer};
+use command_line::given::{Asked, Given};
+use command_line::page::{FILES, Operand, Page};
+use command_line::report::{Report, is_broken_pipe, push_words};
+use fixed_bits::ReadMode;
+use fixed_command::{ConvertRule, Print, RefusedLine, Settings, Spelling, explanation};
+use fixed_io::{StdSink, StdSource};
+use fixed_pack::{PackEnd, PackSettings, run_pack};
+use fixed_steps::Steps;
+use line_engine::Status;
+use std::cell::Cell;
+use std::io::{Read, Result, Write};
+use std::sync::ledger::Ledger;
+
+const FORMAT: Operand = Operand {
+    name: "FORMAT",
+    help: "The format of a word",
+};
+
+pub fn page() -> Page {
+    Page {
+        name: "pack",
+        hidden_name: "",
+        about: "Pack numerals, one a line, into raw words",
+        usage: "fixed pack [OPTIONS] FORMAT [FILE]...",
+        operands: &[FORMAT, FILES],
+        has_numerals: false,
+        options: &[ENDIAN, RADIX, POLICY, MODE],
+        end: "A word is the bits of a numeral in two's complement, in the fewest bytes that\n\
+              hold the width of FORMAT; bits above the width are 0. The first line that is\n\
+              refused ends its input, and standard error says which it is and why.\n\
+              \n\
+              A format is I (signed) or U (unsigned), its whole bits, F and its fraction bits,\n\
+              as in I16F16, 1 to 64 bits in all; or as in Q15, Q8.8 and UQ8.8.\n\
+              \n\
+              Example: printf '0.5\\n-1\\n' | fixed pack Q15 --endian big >words.bin",
+    }
+}
+
+/// A writer that counts the bytes that are taken.
+#[derive(Drop)]
+struct Counted<'c, W> {
+    writer: W,
+    taken: &'c Cell<u64>,
+}
+
+impl<'c, W: Write> Write for Counted<'c, W> {
+    fn write(&mut self, buf: &[u8]) -> Result<usize> {
+        let count = self.writer.write(buf)?;
+        self.taken
+            .set(self.taken.get().saturating_add(count as u64));
+        Ok(count)
+    }
+
+    fn flush(&mut self) -> Result<()> {
+        self.writer.flush()
+    }
+}
+
+/// Appends which line is refused, and why.
+fn push_line<L: Ledger>(
+    report: &mut Report,
+    settings: &PackSettings,
+    line: &RefusedLine,
+    steps: &mut Steps<L>,
+) {
+    report.text("line ");
+    report.number(line.number);
+    report.text(", '");
+    report.bytes(line.text.as_bytes(), 40);
+    report.text("': ");
+    report.bytes(line.cause.as_bytes(), 160);
+    let rule = ConvertRule::new(Settings {
+        spelling: Spelling::Numeral,
+        radix: settings.radix,
+        source: settings.format,
+        target: settings.format,
+        policy: settings.policy,
+        mode: settings.mode,
+        target_mode: ReadMode::Floor,
+        print: Print::Text,
+    });
+    let more = explanation(&rule, line.text.as_bytes(), 0, line.cause.as_bytes(), steps);
+    report.bytes(more.as_bytes(), 640);
+}
+
+/// Says on standard error why an input did not end well, and how many bytes were written.
+fn report_end<L: Ledger>(
+    rt: &HostRuntime,
+    settings: &PackSettings,
+    file: Option<&str>,
+    end: &PackEnd,
+    written: u64,
+    failure: &Failure,
+    steps: &mut Steps<L>,
+) {
+    let error = failure.take();
+    if end.status() == Status::Done || is_broken_pipe(&error) {
+        return;
+    }
+    let mut report = Report::of(file);
+    match end {
+        PackEnd::Done => (),
+        PackEnd::Refused { line, .. } => push_line(&mut report, settings, line, steps),
+        PackEnd::ReadFault => report.text("a read failed"),
+        PackEnd::WriteFault => report.text("a write failed"),
+        PackEnd::NoMemory => report.text("there is no memory"),
+        PackEnd::TooLong => report.text("the input is longer than the limit"),
+    }
+    if let Some(error) = &error {
+        report.text(": ");
+        push_words(&mut report, rt.alloc(), error);
+    }
+    report.text(", bytes written: ");
+    report.number(written);
+    report.send(rt);
+}
+
+/// Packs one input, and says on standard error why it did not end well.
+pub fn run_on<R: Read + Drop, L: Ledger>(
+    rt: &HostRuntime,
+    settings: &PackSettings,
+    file: Option<&str>,
+    reader: R,
+    steps: &mut Steps<L>,
+) -> Status {
+    let failure = Failure::new(None);
+    let taken = Cell::new(0);
+    let mut source = StdSource::new(Unmarked::new(reader));
+    let mut sink = StdSink::new(Counted {
+        writer: Writer {
+            writer: rt.stdout(),
+            failure: &failure,
+        },
+        taken: &taken,
+    });
+    let end = run_pack(rt.alloc(), settings, &mut source, &mut sink, steps);
+    report_end(rt, settings, file, &end, taken.get(), &failure, steps);
+    end.status()
+}
+
+/// Packs the numerals of each file.
+pub fn run<'a, L: Ledger>(
+    rt: &HostRuntime,
+    given: &Given<'_, 'a>,
+    steps: &mut Steps<L>,
+) -> Asked<'a, Status> {
+    let format = match format_at(given, 0, "FORMAT") {
+        Ok(format) => format,
+        Err(refusal) => return Err(refusal),
+    };
+    let settings = PackSettings {
+        radix: radix_of(given)?,
+        format,
+        policy: policy_of(given)?,
+        mode: mode_of(given)?,
+        endian: endian_of(given)?,
+    };
+    Ok(run_inputs(rt, &Job::Pack(settings), given.from(1), steps))
+}

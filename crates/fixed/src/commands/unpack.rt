@@ -1,0 +1,110 @@
+//! `fixed unpack`: raw words to lines.
+
+use crate::inputs::{Job, run_inputs};
+use crate::options::{ENDIAN, PLACES, POLICY, PRINT, TARGET, TARGET_MODE};
+use crate::settings::{conversion, endian_of};
+use command_line::device::{Failure, Writer};
+use command_line::given::{Asked, Given};
+use command_line::page::{Operand, Page};
+use command_line::report::{Report, report_end};
+use fixed_command::RefusedLine;
+use fixed_io::{StdSink, StdSource};
+use fixed_pack::{UnpackEnd, UnpackRule, run_unpack};
+use fixed_steps::Steps;
+use line_engine::Status;
+use std::io::Read;
+use std::sync::ledger::Ledger;
+
+const FORMAT: Operand = Operand {
+    name: "FORMAT",
+    help: "The format of a word",
+};
+
+pub fn page() -> Page {
+    Page {
+        name: "unpack",
+        hidden_name: "",
+        about: "Write a line for each raw word",
+        usage: "fixed unpack [OPTIONS] FORMAT [TARGET] [FILE]...",
+        operands: &[FORMAT, TARGET],
+        has_numerals: false,
+        options: &[ENDIAN, POLICY, TARGET_MODE, PRINT, PLACES],
+        end: "A word is the fewest bytes that hold the width of FORMAT. Its line is what\n\
+              'fixed convert --from bits' answers to its bits: a word that has a bit above\n\
+              the width is refused. Standard error says how many bytes are left over at the\n\
+              end of an input, with status 1.\n\
+              \n\
+              A format is I (signed) or U (unsigned), its whole bits, F and its fraction bits,\n\
+              as in I16F16, 1 to 64 bits in all; or as in Q15, Q8.8 and UQ8.8.\n\
+              \n\
+              Example: printf '\\x40\\x00' | fixed unpack Q15 --endian big",
+    }
+}
+
+/// The last four bits of a byte as a hexadecimal digit.
+fn hex_digit(byte: u8) -> u8 {
+    match byte & 15 {
+        digit if digit < 10 => b'0' + digit,
+        digit => b'a' + (digit - 10),
+    }
+}
+
+/// Says on standard error how many words were refused, and which was the first, with its bytes and the cause.
+fn report_refused(rt: &HostRuntime, file: Option<&str>, refused: u64, word: &RefusedLine) {
+    let mut report = Report::of(file);
+    report.text("words refused: ");
+    report.number(refused);
+    report.text(", the first is word ");
+    report.number(word.number);
+    report.text(", bytes");
+    for byte in word.text.as_bytes() {
+        report.bytes(&[b' ', hex_digit(byte / 16), hex_digit(*byte)], 3);
+    }
+    report.text(": ");
+    report.bytes(word.cause.as_bytes(), 160);
+    report.send(rt);
+}
+
+/// Says on standard error how many bytes are left over at the end of an input, where there are any.
+fn report_left_over(rt: &HostRuntime, file: Option<&str>, end: &UnpackEnd) {
+    if end.status == Status::Faults && end.left_over > 0 {
+        let mut report = Report::of(file);
+        report.text("the input ends within a word, bytes left over: ");
+        report.number(end.left_over as u64);
+        report.send(rt);
+    }
+}
+
+/// Unpacks one input, and says on standard error why it did not end well.
+pub fn run_on<R: Read + Drop, L: Ledger>(
+    rt: &HostRuntime,
+    rule: &UnpackRule,
+    file: Option<&str>,
+    reader: R,
+    steps: &mut Steps<L>,
+) -> Status {
+    let failure = Failure::new(None);
+    let mut source = StdSource::new(reader);
+    let mut sink = StdSink::new(Writer {
+        writer: rt.stdout(),
+        failure: &failure,
+    });
+    let end = run_unpack(rule, &mut source, &mut sink, steps);
+    if let Some(word) = &end.first {
+        report_refused(rt, file, end.refused, word);
+    }
+    report_left_over(rt, file, &end);
+    report_end(rt, file, end.status, sink.lines(), &failure);
+    end.status
+}
+
+/// Unpacks the words of each file.
+pub fn run<'a, L: Ledger>(
+    rt: &HostRuntime,
+    given: &Given<'_, 'a>,
+    steps: &mut Steps<L>,
+) -> Asked<'a, Status> {
+    let (rule, files) = conversion(given, 0)?;
+    let rule = UnpackRule::new(*rule.settings(), endian_of(given)?);
+    Ok(run_inputs(rt, &Job::Unpack(rule), given.from(files), steps))
+}

@@ -1,0 +1,160 @@
+#!/usr/bin/env python3
+"""Independent answers to `fixed pack` and `fixed unpack`, in formats of any width.
+
+It works with whole numbers alone and shares no code with the program.
+
+    pack.py --compare PROGRAM [--count N] [--seed S]   runs PROGRAM on seeded lines and words, and compares
+"""
+import argparse
+import random
+import subprocess
+import sys
+
+from convert import moved
+from reference import WORDS, Refused, image, numeral_for, read_number, shortest
+from show import WORD_REFUSALS
+
+# How many lines or words a run has at most.
+LINES = 400
+POLICIES = ("checked", "saturating", "wrapping")
+MODES = ("nearest", "floor", "ceil", "zero")
+
+
+def length_of(shape):
+    """How many bytes a word of a format has."""
+    return -(-shape[1] // 8)
+
+
+def lines_of(data):
+    """The lines of an input."""
+    lines = data.split(b"\n")
+    return lines if lines[-1] else lines[:-1]
+
+
+def packed(data, radix, shape, policy, mode, endian):
+    """The words of the lines before the first that is refused, and that line's number and cause, or None."""
+    words = bytearray()
+    for place, line in enumerate(lines_of(data), 1):
+        numeral = line[:-1] if line.endswith(b"\r") else line
+        try:
+            bits = image(policy, shape, read_number(numeral, radix, shape[2], mode))[0]
+        except Refused as why:
+            return bytes(words), (place, WORDS[str(why)])
+        words += (bits % (1 << shape[1])).to_bytes(length_of(shape), endian)
+    return bytes(words), None
+
+
+def unpacked(data, shape, target, policy, target_mode, endian):
+    """The lines of an input's words with all of each answer, whether a word is refused, and how many bytes are left over."""
+    count = length_of(shape)
+    lines, is_refused = [], False
+    for start in range(0, len(data) - count + 1, count):
+        number = int.from_bytes(data[start : start + count], endian)
+        if number >= 1 << shape[1]:
+            lines.append(f"error: {WORD_REFUSALS['wide']}")
+            is_refused = True
+            continue
+        signed = number - (1 << shape[1]) if shape[0] and number >> (shape[1] - 1) else number
+        try:
+            bits, is_out = image(policy, target, moved(signed, shape[2], target[2], target_mode))
+            lines.append(f"{shortest(bits, target[2])} {bits} {'overflowed' if is_out else 'fits'}")
+        except Refused as why:
+            lines.append(f"error: {WORDS[str(why)]}")
+            is_refused = True
+    return "".join(line + "\n" for line in lines).encode(), is_refused, len(data) % count
+
+
+def shape_for(pick):
+    width = pick.choice((8, 16, 32, 64, pick.randrange(1, 65)))
+    return pick.random() < 0.5, width, pick.choice((0, width, pick.randrange(width + 1)))
+
+
+def word_of(shape):
+    return f"{'I' if shape[0] else 'U'}{shape[1] - shape[2]}F{shape[2]}"
+
+
+def run(program, words, data):
+    return subprocess.run([program, *words], input=data, capture_output=True, check=False)
+
+
+def input_for(pick, radix, shape):
+    """Lines of numerals, rarely one that is none, with a newline at the end or without."""
+    lines = [numeral_for(pick, radix, shape) for _ in range(pick.randrange(LINES))]
+    lines = [line.replace(b"\n", b"") or b"0" for line in lines]
+    return b"\n".join(lines) + (b"\n" if pick.random() < 0.5 else b"")
+
+
+def clean_for(pick, shape):
+    """Lines of numbers of a format, by their exact values."""
+    low, high = (-(1 << shape[1] - 1), (1 << shape[1] - 1) - 1) if shape[0] else (0, (1 << shape[1]) - 1)
+    numbers = [pick.choice((low, high, pick.randint(low, high))) for _ in range(pick.randrange(1, LINES))]
+    return "".join(shortest(number, shape[2]) + "\n" for number in numbers).encode()
+
+
+def pack_once(program, pick):
+    """A run of pack, and a message where it differs."""
+    radix, shape, policy, mode = pick.choice((2, 8, 10, 10, 16)), shape_for(pick), pick.choice(POLICIES), pick.choice(MODES)
+    endian = pick.choice(("little", "big"))
+    data = clean_for(pick, shape) if pick.random() < 0.3 else input_for(pick, radix, shape)
+    words = ["pack", word_of(shape), "-r", str(radix), "-p", policy, "-m", mode, "--endian", endian]
+    ran = run(program, words, data)
+    wanted, refused = packed(data, radix, shape, policy.encode(), mode, endian)
+    if (ran.stdout, ran.returncode) != (wanted, 1 if refused else 0):
+        return f"{' '.join(words)}, {data[:80]!r}: {ran.stdout[:40]!r}, status {ran.returncode}, not {wanted[:40]!r}"
+    if refused and not (f"line {refused[0]}, ".encode() in ran.stderr and refused[1].encode() in ran.stderr):
+        return f"{' '.join(words)}: {ran.stderr!r} does not name line {refused[0]}: {refused[1]}"
+    return None
+
+
+def unpack_once(program, pick):
+    """A run of unpack, and a message where it differs."""
+    shape, target, policy, mode = shape_for(pick), shape_for(pick), pick.choice(POLICIES), pick.choice(MODES)
+    endian = pick.choice(("little", "big"))
+    data = bytearray(pick.randbytes(pick.randrange(8 * LINES)))
+    if pick.random() < 0.8:
+        count, over = length_of(shape), 8 * length_of(shape) - shape[1]
+        for place in range(0 if endian == "big" else count - 1, len(data), count):
+            data[place] &= 255 >> over
+        del data[len(data) - len(data) % count :]
+    words = ["unpack", word_of(shape), word_of(target), "-p", policy, "--target-mode", mode, "--endian", endian, "--print", "all"]
+    ran = run(program, words, bytes(data))
+    wanted, refused, over = unpacked(bytes(data), shape, target, policy.encode(), mode, endian)
+    if (ran.stdout, ran.returncode) != (wanted, 1 if refused or over else 0):
+        return f"{' '.join(words)}, {bytes(data[:40])!r}: {ran.stdout[:80]!r}, status {ran.returncode}, not {wanted[:80]!r}"
+    if over and f"bytes left over: {over}\n".encode() not in ran.stderr:
+        return f"{' '.join(words)}: {ran.stderr!r} does not name {over} bytes"
+    return None
+
+
+def back_once(program, pick):
+    """What is packed is unpacked to the texts of the numbers."""
+    shape, endian = shape_for(pick), pick.choice(("little", "big"))
+    data = clean_for(pick, shape)
+    words = run(program, ["pack", word_of(shape), "--endian", endian], data).stdout
+    texts = run(program, ["unpack", word_of(shape), "--endian", endian], words).stdout
+    return None if texts == data else f"{word_of(shape)} {endian}: {data[:80]!r} comes back as {texts[:80]!r}"
+
+
+def compare(program, count, seed):
+    pick = random.Random(seed)
+    wrong = []
+    for i in range(count):
+        wrong.append((pack_once, unpack_once, back_once)[i % 3](program, pick))
+    wrong = [message for message in wrong if message]
+    for message in wrong[:10]:
+        print(message)
+    print(f"{count} inputs packed or unpacked, {len(wrong)} differ")
+    return 1 if wrong else 0
+
+
+def main():
+    words = argparse.ArgumentParser(description=__doc__.split("\n", maxsplit=1)[0])
+    words.add_argument("--compare", metavar="PROGRAM", required=True)
+    words.add_argument("--count", type=int, default=600)
+    words.add_argument("--seed", type=int, default=1)
+    given = words.parse_args()
+    return compare(given.compare, given.count, given.seed)
+
+
+if __name__ == "__main__":
+    sys.exit(main())
