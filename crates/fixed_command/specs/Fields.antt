@@ -1,23 +1,13 @@
 -- What is written for a field that is converted, as people spell fields.
-use Rattle.std.specs.Prelude.{◌≡◌, ◌==◌, ◌-◌, ℕ, List, [], ◌∷◌, Bool, true, false, drop, flat_map, if◌then◌else◌}
-use Rattle.std.specs.Prelude.{length, take}
-use Rattle.std.specs.Char.{is_ascii_whitespace}
-use Rattle.std.specs.List.{list_any, prefix_len, suffix_len}
+use Rattle.std.specs.Prelude.{◌≡◌, ◌==◌, ℕ, List, [], ◌∷◌, Bool, true, false, flat_map, if◌then◌else◌, length}
+use Rattle.std.specs.List.{list_any}
 use Rattle.line_engine.specs.AnswerText.{AnswerText}
 use Rattle.fixed_command.specs.Convert.{IsLineReply}
+use Rattle.fixed_command.specs.Layout.{trimmed}
 use Rattle.fixed_command.specs.declared.convert.Settings.{Settings}
 use Rattle.fixed_command.specs.declared.field.Empty.{Empty}
 use Rattle.fixed_command.specs.declared.field.Empty.TheVariants.{Kept, Refused, Zero}
 use Rattle.fixed_command.specs.declared.field.FieldForm.{FieldForm}
-
--- the bytes after the blanks at the beginning: ASCII's white space
-abbrev pub after_blanks : List ℕ → List ℕ
-after_blanks bytes = drop (prefix_len is_ascii_whitespace bytes) bytes
-
--- without those at the end as well
-abbrev pub trimmed : List ℕ → List ℕ
-trimmed bytes = take (length (after_blanks bytes) - suffix_len is_ascii_whitespace (after_blanks bytes))
-    (after_blanks bytes)
 
 -- a field without the blanks around it, where they are passed over
 abbrev pub bare : FieldForm → List ℕ → List ℕ

@@ -1,6 +1,6 @@
 use Rattle.std.proofs.Common.{◌≡◌, refl, subst, sym, if◌then◌else◌}
 use Rattle.std.proofs.lemmas.Str.Ascii.{trim_ascii_is}
-use Rattle.fixed_command.specs.Fields.{after_blanks, trimmed}
+use Rattle.fixed_command.specs.Layout.{after_blanks, trimmed}
 use Rattle.fixed_command.proofs.field.bare.Goals as goal
 
 pub returns-then-form-clause-value : goal.returns-then-form-clause-value
