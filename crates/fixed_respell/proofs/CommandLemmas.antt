@@ -1,11 +1,10 @@
 -- What arguments ask for.
-use Rattle.std.proofs.Common.{◌≡◌, ℕ, ◌≤◌, List, [], ◌∷◌, sym, ◌∙◌, ap, arith}
+use Rattle.std.proofs.Common.{◌≡◌, ℕ, List, [], ◌∷◌, sym, ◌∙◌, ap, arith}
 use Rattle.std.specs.Prelude.{codes, String}
 use Rattle.std.specs.String.{string_bytes}
 use Rattle.std.specs.declared.alloc.Global.{Global}
 use Rattle.std.proofs.lemmas.Fmt.{decimal_injective}
-use Rattle.std.specs.Fmt.{decimal}
-use Rattle.fixed_respell.specs.Command.{IsCommand, IsNumbered, max_limit, max_self_lines}
+use Rattle.fixed_respell.specs.Command.{IsCommand, IsNumbered}
 use Rattle.fixed_respell.specs.declared.command.Command.{Command}
 use Rattle.fixed_respell.specs.declared.command.Command.TheVariants.{Read, SelfTest}
 

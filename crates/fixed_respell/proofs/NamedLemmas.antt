@@ -1,5 +1,5 @@
 -- Lines in which formats have any of their names.
-use Rattle.std.proofs.Common.{◌≡◌, ℕ, List, subst, inl, inr, ◌↔◌}
+use Rattle.std.proofs.Common.{◌≡◌, ℕ, List, subst, inl, inr}
 use Rattle.fixed_bits.specs.Formats.{FormatParts, IsFormat}
 use Rattle.fixed_respell.specs.Answer.{Asks, AsksBy, IsAnswer, IsNamedAnswer, IsTaskAnswered, Task}
 use Rattle.fixed_respell.specs.AnswerLaws.{NamedAnswerIsTheAnswer, NamedAnswerIsTheOne}
@@ -7,7 +7,6 @@ use Rattle.fixed_respell.specs.FormatNames.{IsFormatName}
 use Rattle.fixed_respell.specs.Words.{IsFormatWord, IsPolicyWord}
 use Rattle.fixed_respell.specs.Lemmas.AnswerLemmas.{answer_by, task_one}
 use Rattle.fixed_respell.specs.Lemmas.FaultLemmas.{no_fault}
-use Rattle.line_engine.specs.AnswerText.{AnswerText}
 use Rattle.fixed_respell.proofs.FormatNameLemmas.{name_one, word_names}
 
 name_valid : (word : List ℕ) (f : FormatParts) → IsFormatName word f → IsFormat f.width f.frac

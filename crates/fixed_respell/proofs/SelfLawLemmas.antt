@@ -1,6 +1,5 @@
 -- The self test ends in one way.
-use Rattle.std.proofs.Common.{◌≡◌, ℕ, ◌-◌, ◌^◌, ◌<◌, List, ◌++◌, Some, refl, sym, ap, ◌∙◌, arith}
-use Rattle.line_engine.specs.declared.status.Status.{Status}
+use Rattle.std.proofs.Common.{◌≡◌, ℕ, List, ◌++◌, Some, refl, sym, ap, ◌∙◌, arith}
 use Rattle.line_engine.specs.declared.status.Status.TheVariants.{Done, Faults, Usage, ReadFault, WriteFault, NoMemory, TooLong}
 use Rattle.line_engine.proofs.Public.{answers_one, not_failed}
 use Rattle.fixed_respell.specs.Answer.{IsAnswer}

@@ -12,7 +12,7 @@ use Rattle.fixed_bits.specs.declared.mode.ReadMode.TheVariants.{NearestEven, Flo
 use Rattle.fixed_numeral.specs.Messages.{message_of}
 use Rattle.fixed_numeral.specs.declared.radix.Radix.{Radix}
 use Rattle.fixed_numeral.specs.declared.radix.Radix.TheVariants.{Bin, Oct, Dec, Hex}
-use Rattle.fixed_respell.specs.Answer.{Task, task_of, Asks, AsksBy, IsAnswer, IsRefusalAnswer, IsRespelledAnswer}
+use Rattle.fixed_respell.specs.Answer.{Task, task_of, AsksBy, IsAnswer, IsRefusalAnswer, IsRespelledAnswer}
 use Rattle.fixed_respell.specs.Answer.{IsTaskAnswered, fault_message, respell_language, respelled_answer}
 use Rattle.fixed_respell.specs.AnswerLaws.{AnswerIsTheOne, LongIsAnsweredByPrefix, PlainWordNamesNearest}
 use Rattle.fixed_respell.specs.AnswerLaws.{PlainLineAsksNearest}

@@ -1,4 +1,3 @@
-use Rattle.std.proofs.Common.{◌∙◌, sym}
 use Rattle.fixed_respell.proofs.FormatNameLemmas.{split_counts}
 use Rattle.fixed_respell.proofs.format_names.counts_around.Goals as goal
 
