@@ -1,6 +1,5 @@
 -- Ulps in longer ulps.
-use Rattle.std.proofs.Common.{◌≡◌, ℕ, ◌-◌, ◌*◌, ◌/◌, ◌^◌, ◌<◌, ◌↔◌, Bool, IsTrue, sym, ap, ◌∙◌, subst, arith, pow_pos, div-add-mod'}
-use Rattle.std.proofs.Math.Nat.{mul-div_cancel}
+use Rattle.std.proofs.Common.{◌≡◌, ℕ, ◌-◌, ◌*◌, ◌/◌, ◌^◌, ◌<◌, ◌↔◌, Bool, IsTrue, sym, ◌∙◌, subst, arith, pow_pos, div-add-mod'}
 use Rattle.fixed_bits.specs.Formats.{FormatParts}
 use Rattle.fixed_bits.specs.Ranges.{IsInRange}
 use Rattle.fixed_bits.specs.Numbers.{with_sign}

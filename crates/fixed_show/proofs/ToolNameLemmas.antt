@@ -1,9 +1,8 @@
 -- The names of a format in other tools.
-use Rattle.std.proofs.Common.{◌≡◌, ◌∙◌, ◌⊎◌, inl, inr, refl, ℕ, zero, suc, ◌-◌, ◌<◌, ◌++◌, ◌∷◌, [], List, Bool, true, false, pos, codes, decimal, arith, ap}
+use Rattle.std.proofs.Common.{◌≡◌, ◌∙◌, inl, inr, refl, ℕ, zero, suc, ◌-◌, ◌<◌, ◌++◌, ◌∷◌, List, Bool, true, false, pos, codes, decimal, arith, ap}
 use Rattle.std.proofs.lemmas.List.{append-nil}
-use Rattle.std.specs.Fmt.{signed_decimal}
-use Rattle.fixed_bits.specs.Formats.{FormatParts, IsFormat}
-use Rattle.fixed_respell.specs.FormatNames.{IsFormatName, IsPointedName, counts_text, point}
+use Rattle.fixed_bits.specs.Formats.{IsFormat}
+use Rattle.fixed_respell.specs.FormatNames.{IsFormatName}
 use Rattle.fixed_show.specs.ToolNames.{ArmNameIsAName, arm_name, pair_text, q_text}
 
 -- two counts around a point, after Q

@@ -1,8 +1,8 @@
-use Rattle.std.proofs.Common.{◌≡◌, ◌+◌, ◌≤◌, ◌++◌, length, ℤ, FitsSigned, rules, arith}
+use Rattle.std.proofs.Common.{◌≡◌, ◌++◌, ℤ, FitsSigned, rules}
 use Rattle.std.specs.Int.{w128}
 use Rattle.std.proofs.lemmas.Int.{to_z-of_z}
 use Rattle.std.specs.Fmt.{signed_decimal}
-use Rattle.fixed_show.proofs.LineLemmas.{pair_pushed, pushed_length}
+use Rattle.fixed_show.proofs.LineLemmas.{pair_pushed}
 use Rattle.fixed_show.proofs.tool_names.push_pair_line.Goals as goal
 
 pub returns-clause-appended : goal.returns-clause-appended
