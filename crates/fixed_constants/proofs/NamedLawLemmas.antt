@@ -6,7 +6,6 @@ use Rattle.fixed_constants.specs.Laws.{ErrorIsTheOne, FirstNamedIsTheOne, FormEr
 use Rattle.fixed_constants.specs.Lemmas.ConstantsLemmas.{fail_one}
 use Rattle.fixed_constants.specs.Lemmas.FormLemmas.{form_fault_one}
 use Rattle.fixed_constants.specs.declared.fault.ConstantFault.{ConstantFault}
-use Rattle.fixed_constants.specs.declared.fault.ConstantsError.{ConstantsError}
 use Rattle.fixed_constants.specs.declared.fault.ConstantsError.TheVariants.{NoMemory, Refused}
 
 refused_alike : (p q : ℕ) (f g : ConstantFault) → p ≡ q → f ≡ g → Refused p f ≡ Refused q g
