@@ -22,7 +22,7 @@ use Rattle.fixed_write.specs.Texts.{IsShortestText, decimal_text, fraction_part,
 use Rattle.fixed_respell.specs.Answer.{AsksBy, respelled_answer, task_of, verdict}
 use Rattle.fixed_respell.specs.FormatNames.{IsFormatName}
 use Rattle.fixed_respell.specs.Language.{fault_answer}
-use Rattle.fixed_respell.specs.LineWords.{HasWords, longest_line, space}
+use Rattle.fixed_respell.specs.LineWords.{longest_line, space}
 use Rattle.fixed_respell.specs.Reached.{IsRefusal, IsRespelled}
 use Rattle.fixed_respell.specs.Split.{count_of}
 use Rattle.fixed_respell.specs.Words.{IsPolicyWord, format_text, mode_text, policy_text, radix_text, sign_letter, slash}
@@ -31,10 +31,9 @@ use Rattle.fixed_respell.specs.Lemmas.SplitLemmas.{count-append, count_cons}
 use Rattle.fixed_numeral.proofs.Public.{message_short}
 use Rattle.fixed_numeral.specs.declared.error.ParseErrorKind.TheVariants.{Overflow}
 use Rattle.fixed_respell.proofs.Public.{fault_appended}
-use Rattle.line_engine.specs.AnswerText.{AnswerText}
 use Rattle.line_engine.specs.Output.{AppendsAnswer}
 use Rattle.fixed_command.specs.Inner.Moved.{HasPushed}
-use Rattle.fixed_command.specs.Convert.{AreFormats, IsAnswerBy, IsMovedAnswer, IsNoSource, IsReply, IsSource, asking_line, asking_words, asks_a_line}
+use Rattle.fixed_command.specs.Convert.{AreFormats, IsAnswerBy, IsMovedAnswer, IsNoSource, IsReply, IsSource, asking_line, asks_a_line}
 use Rattle.fixed_command.specs.Printed.{printed}
 use Rattle.fixed_command.specs.declared.convert.Settings.{Settings}
 

@@ -4,7 +4,7 @@ use Rattle.std.specs.declared.option.Option.{Option}
 use Rattle.std.specs.Io.KnownBytes.{Appends}
 use Rattle.std.proofs.KnownBytes.{Appends-trans}
 use Rattle.line_engine.specs.AnswerText.{AnswerText}
-use Rattle.line_engine.specs.Output.{AppendsPrefix, AreAnswers, any_fault}
+use Rattle.line_engine.specs.Output.{AppendsPrefix, any_fault}
 use Rattle.line_engine.proofs.Public.{AreAnswers-append, any_fault-append}
 use Rattle.fixed_command.specs.Blocks.{BreaksBlocks, IsHeaded, WritesBlocks, blocks_text, lead, next_text}
 use Rattle.fixed_command.specs.declared.blocks.Question.{Question}

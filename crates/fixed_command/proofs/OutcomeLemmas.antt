@@ -1,5 +1,5 @@
 -- A numeral comes through in one way.
-use Rattle.std.proofs.Common.{◌≡◌, ◌∙◌, ◌↔◌, ◌||◌, ℕ, ℤ, List, Bool, IsTrue, sym, ap, subst, inl, inr}
+use Rattle.std.proofs.Common.{◌≡◌, ◌∙◌, ◌↔◌, ◌||◌, ℕ, List, IsTrue, sym, ap, subst, inl, inr}
 use Rattle.fixed_command.specs.Convert.{AreFormats}
 use Rattle.fixed_command.specs.Laws.{OutcomeIsTheOne}
 use Rattle.fixed_command.specs.Lemmas.MovedLemmas.{reformatted_one, reformatted_or_not, same_flag, source_by, source_or_not}

@@ -1,5 +1,5 @@
 -- A multiple of a number leaves nothing over.
-use Rattle.std.proofs.Common.{◌≡◌, ◌∙◌, ◌↔◌, ◌<◌, ◌+◌, ◌*◌, ◌/◌, ◌%◌, ◌==◌, ◌&&◌, ℕ, Bool, true, false, IsTrue, refl, sym, ap, arith, zero, true≢false}
+use Rattle.std.proofs.Common.{◌≡◌, ◌∙◌, ◌↔◌, ◌<◌, ◌/◌, ◌%◌, ◌==◌, ◌&&◌, ℕ, Bool, true, false, IsTrue, refl, sym, ap, arith, true≢false}
 use Rattle.std.proofs.Math.Nat.{mul-mod_left}
 use Rattle.std.proofs.lemmas.Bool.{eqb-true}
 use Rattle.fixed_read.specs.Reading.{IsMultipleOf}

@@ -1,5 +1,5 @@
 -- What is printed of bits is a word of the format.
-use Rattle.std.proofs.Common.{◌≡◌, ◌∙◌, ◌⊎◌, ◌==◌, ◌||◌, ◌+◌, ◌-◌, ◌*◌, ◌/◌, ◌%◌, ◌^◌, ◌<◌, ◌≤◌, ℕ, zero, suc, ℤ, pos, negsuc, ◌+ℤ◌, List, [], ◌∷◌, ◌++◌, Bool, true, false, if◌then◌else◌, Option, Some, None, is_some, drop, length, codes, refl, sym, ap, subst, arith, inl, inr, mod-eq_of_lt, mod-lt, pow-suc, pow_pos}
+use Rattle.std.proofs.Common.{◌≡◌, ◌∙◌, ◌==◌, ◌||◌, ◌+◌, ◌-◌, ◌*◌, ◌/◌, ◌%◌, ◌^◌, ◌<◌, ◌≤◌, ℕ, zero, suc, ℤ, pos, negsuc, List, [], ◌∷◌, ◌++◌, Bool, true, false, if◌then◌else◌, Option, Some, None, is_some, drop, length, codes, refl, sym, ap, subst, arith, inl, inr, mod-eq_of_lt, mod-lt, pow-suc, pow_pos}
 use Rattle.std.specs.Char.{digit_value}
 use Rattle.std.specs.Fmt.{decimal, digit_glyph, signed_decimal}
 use Rattle.std.specs.Str.Parse.{AllDigits, digits_value}
@@ -10,9 +10,9 @@ use Rattle.std.proofs.lemmas.Int.Digits.{digits_push, digits_value_push}
 use Rattle.std.proofs.Math.Arith.{mod-mul}
 use Rattle.std.proofs.Math.Nat.{one-le-pow, mod-one, pow-le-pow_right, pow-zero}
 use Rattle.fixed_bits.proofs.Public.{in_wide, width_most}
-use Rattle.fixed_bits.specs.Formats.{FormatParts, IsFormat}
-use Rattle.fixed_bits.specs.Images.{DiffersByMultiple, IsWrapped}
-use Rattle.fixed_bits.specs.Ranges.{IsInRange, IsWidth, greatest, lowest}
+use Rattle.fixed_bits.specs.Formats.{FormatParts}
+use Rattle.fixed_bits.specs.Images.{DiffersByMultiple}
+use Rattle.fixed_bits.specs.Ranges.{IsInRange, IsWidth}
 use Rattle.fixed_numeral.proofs.Public.{pow-mul}
 use Rattle.fixed_numeral.specs.Literal.{without_underscores}
 use Rattle.fixed_numeral.specs.Numeral.{base, is_sign}

@@ -37,7 +37,11 @@ fn is_invalid<L: Ledger>(text: &[u8], settings: &Settings, steps: &mut Steps<L>)
 }
 
 /// The place, from 1, of the first byte that is in no numeral, or in no word, there. 0 where there is none.
-pub(crate) fn refused_place<L: Ledger>(text: &[u8], settings: &Settings, steps: &mut Steps<L>) -> usize {
+pub(crate) fn refused_place<L: Ledger>(
+    text: &[u8],
+    settings: &Settings,
+    steps: &mut Steps<L>,
+) -> usize {
     for end in 1..=text.len() {
         if is_invalid(text.get(..end).unwrap_or(&[]), settings, steps) {
             return end;

@@ -1,5 +1,5 @@
 -- A field has one reply.
-use Rattle.std.proofs.Common.{◌≡◌, ◌∙◌, ◌==◌, ℕ, List, [], ◌∷◌, Bool, true, false, length, refl, sym}
+use Rattle.std.proofs.Common.{◌≡◌, ◌∙◌, ◌==◌, ℕ, List, [], ◌∷◌, Bool, true, false, length, sym}
 use Rattle.line_engine.specs.AnswerText.{AnswerText}
 use Rattle.fixed_command.specs.Fields.{IsEmptyReply, IsFieldReply, IsFieldReplyBy, bare, field_numeral}
 use Rattle.fixed_command.specs.Lemmas.ReplyLemmas.{line_reply_one}

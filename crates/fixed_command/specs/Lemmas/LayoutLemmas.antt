@@ -1,5 +1,5 @@
 -- A line has one reply, whatever it has beside its numeral.
-use Rattle.std.proofs.Common.{◌≡◌, ◌∙◌, ◌↔◌, ◌<◌, ℕ, List, [], Bool, true, false, length, take, nat_lt, refl, sym}
+use Rattle.std.proofs.Common.{◌≡◌, ◌∙◌, ◌↔◌, ◌<◌, ℕ, List, Bool, true, false, length, take, nat_lt, refl, sym}
 use Rattle.std.proofs.Common.{subst, arith}
 use Rattle.std.proofs.lemmas.Bool.{lt-ltb}
 use Rattle.fixed_respell.specs.Answer.{fault_message}

@@ -1,6 +1,6 @@
 -- A numeral or a word whose number is moved has one answer.
-use Rattle.std.proofs.Common.{◌≡◌, ◌∙◌, ◌↔◌, ◌⊎◌, ◌<◌, ◌≤◌, ◌^◌, ◌*◌, ◌||◌, ℕ, ℤ, List, Bool, true, false, IsTrue}
-use Rattle.std.proofs.Common.{length, refl, sym, ap, subst, arith, inl, inr, unsigned_abs}
+use Rattle.std.proofs.Common.{◌≡◌, ◌∙◌, ◌↔◌, ◌<◌, ◌≤◌, ◌^◌, ◌*◌, ◌||◌, ℕ, ℤ, List, Bool, true, false, IsTrue}
+use Rattle.std.proofs.Common.{refl, sym, ap, subst, arith, inl, inr, unsigned_abs}
 use Rattle.std.specs.Int.{is_negative}
 use Rattle.std.proofs.lemmas.Nat.{pow_pos}
 use Rattle.fixed_bits.proofs.Public.{has_none, image_one, rounded_unique}
@@ -27,8 +27,7 @@ use Rattle.fixed_show.specs.ShowBlock.{IsReadAs, IsUnread}
 use Rattle.fixed_write.proofs.Public.{shortest_text_unique}
 use Rattle.fixed_write.specs.Texts.{IsShortestText}
 use Rattle.line_engine.specs.AnswerText.{AnswerText}
-use Rattle.fixed_command.specs.Convert.{AreFormats, IsLong, IsMovedAnswer, IsMovedTo, IsNoSource, IsSource, IsUnmoved}
-use Rattle.fixed_command.specs.Convert.{IsUnsourced}
+use Rattle.fixed_command.specs.Convert.{AreFormats, IsMovedAnswer, IsMovedTo, IsNoSource, IsSource, IsUnmoved}
 use Rattle.fixed_command.specs.declared.convert.Settings.{Settings}
 use Rattle.fixed_command.specs.declared.spelling.Spelling.{Spelling}
 use Rattle.fixed_command.specs.declared.spelling.Spelling.TheVariants.{Numeral, Word}

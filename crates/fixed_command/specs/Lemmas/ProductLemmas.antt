@@ -1,7 +1,7 @@
 -- An input has one product.
-use Rattle.std.proofs.Common.{◌≡◌, ℕ, List, true, false, refl, sym, ap, ◌∙◌, inl, inr, true≢false}
+use Rattle.std.proofs.Common.{◌≡◌, ℕ, List, sym, ap, ◌∙◌, inl, inr, true≢false}
 use Rattle.line_engine.specs.AnswerText.{AnswerText}
-use Rattle.fixed_command.specs.Products.{IsProduct, IsRefusedProduct}
+use Rattle.fixed_command.specs.Products.{IsProduct}
 
 pub product_one : (A : List ℕ → AnswerText → Type 0)
     → ((input : List ℕ) (a b : AnswerText) → A input a → A input b → a ≡ b)

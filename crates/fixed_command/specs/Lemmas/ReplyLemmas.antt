@@ -1,5 +1,5 @@
 -- A numeral has one reply, and a line that is too long is replied to like its prefix.
-use Rattle.std.proofs.Common.{◌≡◌, ℕ, suc, zero, ◌+◌, ◌-◌, ◌^◌, ◌<◌, ◌≤◌, List, [], ◌∷◌, ◌++◌, Bool, true, false}
+use Rattle.std.proofs.Common.{◌≡◌, ℕ, suc, ◌+◌, ◌-◌, ◌^◌, ◌<◌, ◌≤◌, List, [], ◌∷◌, ◌++◌, Bool, true, false}
 use Rattle.std.proofs.Common.{length, take, get_or, ℤ, pos, negsuc, refl, sym, ap, ◌∙◌, subst, arith, inl, inr, ◌↔◌}
 use Rattle.std.proofs.Common.{length-append, length-take, if◌then◌else◌, ◌==◌, ◌⊎◌, true≢false}
 use Rattle.std.proofs.lemmas.Int.{ints}
@@ -22,10 +22,9 @@ use Rattle.line_engine.specs.AnswerText.{AnswerText}
 use Rattle.line_engine.specs.Lines.{kept_length}
 use Rattle.fixed_command.specs.Lemmas.MovedLemmas.{moved_one}
 use Rattle.fixed_command.specs.Convert.{IsAnswerBy, asks_a_line, IsLineReply, IsPart, IsReply, IsWholeFault}
-use Rattle.fixed_command.specs.Convert.{asking_line, asking_words, without_return}
+use Rattle.fixed_command.specs.Convert.{asking_line, without_return}
 use Rattle.fixed_command.specs.Printed.{printed}
 use Rattle.fixed_command.specs.declared.convert.Settings.{Settings}
-use Rattle.fixed_command.specs.declared.print.Print.{Print}
 
 -- ---- a number is written in one way
 short_pos : (n : ℕ) → IsWide (pos n) → n < 2 ^ 64

@@ -1,4 +1,4 @@
-use Rattle.std.proofs.Common.{◌≡◌, ◌<◌, ℕ, List, [], ◌∷◌, Bool, length, map, drop, get_or, Bor, refl, sym, ap, ◌∙◌, subst, arith, zero, suc, false, true, true≢false, ◌==◌}
+use Rattle.std.proofs.Common.{◌≡◌, ◌<◌, ℕ, List, [], ◌∷◌, length, map, drop, Bor, refl, sym, ap, ◌∙◌, subst, arith, zero, suc, false, true, true≢false, ◌==◌}
 use Rattle.std.proofs.KnownBytes.{Appends-nil}
 use Rattle.std.proofs.lemmas.List.{take_rest}
 use Rattle.line_engine.specs.AnswerText.{AnswerText}

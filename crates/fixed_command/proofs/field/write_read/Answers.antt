@@ -1,5 +1,4 @@
-use Rattle.std.proofs.Common.{arith, ap, sym, ◌∙◌, ◌++◌}
-use Rattle.fixed_command.specs.Fields.{read_for}
+use Rattle.std.proofs.Common.{arith, sym}
 use Rattle.fixed_command.proofs.FieldLemmas.{read_more}
 use Rattle.fixed_command.proofs.field.write_read.Goals as goal
 

@@ -1,19 +1,17 @@
-use Rattle.std.proofs.Common.{◌≡◌, ◌∙◌, ◌↔◌, ◌≤◌, ◌<◌, ◌++◌, Bool, IsTrue, sym, true≢false, List, ℕ, ℤ, FitsSigned, length, rules, arith, ap, subst, true, false, length-append}
+use Rattle.std.proofs.Common.{◌≡◌, ◌≤◌, ◌++◌, sym, List, ℕ, ℤ, FitsSigned, length, rules, arith, ap, subst, true, false, length-append}
 use Rattle.std.specs.Int.{w128}
 use Rattle.std.proofs.lemmas.Int.{to_z-of_z}
 use Rattle.fixed_bits.specs.Ranges.{IsInRange}
 use Rattle.fixed_numeral.specs.Messages.{message_of}
 use Rattle.fixed_numeral.proofs.Public.{message_short}
 use Rattle.fixed_respell.proofs.Public.{fault_appended}
-use Rattle.fixed_respell.specs.Answer.{fault_message, respelled_answer}
+use Rattle.fixed_respell.specs.Answer.{respelled_answer}
 use Rattle.fixed_respell.specs.LineWords.{longest_line}
 use Rattle.fixed_respell.specs.Reached.{number_of}
-use Rattle.fixed_respell.specs.declared.fault.LineFault.TheVariants.{LineTooLong}
 use Rattle.line_engine.specs.Output.{AppendsAnswer}
 use Rattle.fixed_command.specs.Convert.{IsReply, asking_line, asks_a_line}
 use Rattle.fixed_command.specs.Printed.{printed}
 use Rattle.fixed_command.specs.declared.convert.Settings.{Settings}
-use Rattle.fixed_command.specs.Lemmas.ReplyLemmas.{long_reply}
 use Rattle.fixed_command.proofs.AskingLemmas.{refused_reply, respelled_range, respelled_reply}
 use Rattle.fixed_command.proofs.convert.ConvertRule.push_answer.Goals as goal
 

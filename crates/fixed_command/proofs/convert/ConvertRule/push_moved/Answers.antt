@@ -1,4 +1,4 @@
-use Rattle.std.proofs.Common.{◌≡◌, ◌≤◌, Bool, List, ℕ, length, sym, subst, false, true}
+use Rattle.std.proofs.Common.{◌≡◌, ◌≤◌, List, ℕ, length, sym, subst, false, true}
 use Rattle.fixed_respell.specs.LineWords.{longest_line}
 use Rattle.line_engine.specs.Output.{AppendsAnswer}
 use Rattle.fixed_command.specs.Convert.{AreFormats, IsReply, asking_line, asks_a_line}
