@@ -1,12 +1,10 @@
 -- What a reading gives, by what it is asked for.
-use Rattle.std.proofs.Common.{◌≡◌, ◌∙◌, ◌⊎◌, inl, inr, refl, subst, sym, ℕ, List, Result, Ok, Err}
+use Rattle.std.proofs.Common.{inl, inr, subst, ℕ, List, Result, Ok, Err}
 use Rattle.std.specs.Prelude.{MatchResult}
 use Rattle.fixed_bits.specs.Formats.{FormatParts}
-use Rattle.fixed_numeral.specs.declared.error.ParseErrorKind.{ParseErrorKind}
-use Rattle.fixed_c.specs.Arguments.{Names, NamesFormat}
-use Rattle.fixed_c.specs.Outcome.{EndsWith}
+use Rattle.fixed_c.specs.Arguments.{Names}
 use Rattle.fixed_c.specs.Read.{IsNotRead, IsReadAs, ReadIsRefused}
-use Rattle.fixed_c.specs.Rows.{AreRows, ReadsRow, no_number, text_of_row}
+use Rattle.fixed_c.specs.Rows.{AreRows, ReadsRow, text_of_row}
 use Rattle.fixed_c.specs.Inner.Asked.{AreNamed, IsNotReadAsAsked, IsReadAsAsked, IsUnnamed, ReadsAskedRow, RefusesRow}
 use Rattle.fixed_c.specs.declared.asked.Asked.{Asked}
 use Rattle.fixed_c.specs.declared.number.FixedNumber.{FixedNumber}

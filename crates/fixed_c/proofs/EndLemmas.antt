@@ -1,5 +1,5 @@
 -- What makes the end of a call the one.
-use Rattle.std.proofs.Common.{◌≡◌, ◌⊎◌, ◌↔◌, ◌∙◌, ℕ, ℤ, Bool, true, false, IsTrue, pos, ◌+ℤ◌, ◌^◌, ◌+◌, ◌<◌, ◌≤◌, List, [], ◌∷◌, ◌++◌, length, take, drop, Result, Ok, Err, MatchResult, inl, inr, refl, sym, ap, subst, arith, FitsSigned}
+use Rattle.std.proofs.Common.{◌≡◌, ◌⊎◌, ◌↔◌, ◌∙◌, ℕ, ℤ, Bool, true, false, IsTrue, ◌+◌, ◌≤◌, List, [], ◌∷◌, ◌++◌, length, drop, Result, Ok, Err, MatchResult, inl, inr, refl, sym, ap, subst, arith, FitsSigned}
 use Rattle.std.specs.Int.{w64}
 use Rattle.std.proofs.lemmas.Int.{ints}
 use Rattle.std.proofs.lemmas.List.{take-append-drop}
@@ -16,8 +16,8 @@ use Rattle.fixed_numeral.specs.declared.error.ParseErrorKind.{ParseErrorKind}
 use Rattle.fixed_numeral.specs.declared.radix.Radix.{Radix}
 use Rattle.fixed_numeral.specs.declared.radix.Radix.TheVariants.{Bin, Oct, Dec, Hex}
 use Rattle.fixed_c.specs.Codes.{mode_code, policy_code, refusal_code}
-use Rattle.fixed_c.specs.Numbers.{AreBits, AreBitsOf, flag_of, has_bits, IsBrought, IsNotBrought}
-use Rattle.fixed_c.specs.Outcome.{EndsWith, ForKind, HandsOver, Never, Unless}
+use Rattle.fixed_c.specs.Numbers.{AreBitsOf, flag_of, has_bits, IsBrought, IsNotBrought}
+use Rattle.fixed_c.specs.Outcome.{EndsWith, ForKind, HandsOver, Unless}
 use Rattle.fixed_c.specs.Texts.{IsPlaced, PutsText, TextEnds}
 use Rattle.fixed_c.specs.declared.number.FixedNumber.{FixedNumber}
 use Rattle.fixed_c.specs.declared.refusal.Refusal.{Refusal}

@@ -1,5 +1,5 @@
 -- Each call has one end.
-use Rattle.std.proofs.Common.{◌≡◌, ◌⊎◌, ◌∙◌, ◌==◌, ◌<◌, if◌then◌else◌, nat_lt, ℕ, ℤ, Bool, true, List, codes, inl, inr, refl, sym, ap, subst, FitsSigned}
+use Rattle.std.proofs.Common.{◌≡◌, ◌∙◌, ◌==◌, if◌then◌else◌, nat_lt, ℕ, ℤ, true, List, codes, inl, inr, refl, sym, ap, subst, FitsSigned}
 use Rattle.std.specs.Int.{w64}
 use Rattle.std.proofs.lemmas.Bool.{lt-ltb}
 use Rattle.fixed_bits.specs.Down.{down}

@@ -1,5 +1,5 @@
 -- A call over rows, and a call for the word of a format, has one end.
-use Rattle.std.proofs.Common.{◌≡◌, ◌∙◌, ◌+◌, ◌-◌, ◌*◌, ◌/◌, ◌%◌, ◌<◌, ℕ, zero, suc, ℤ, pos, List, length, drop, get_or, slice_index, slice_index_or, inl, inr, sym, ap, subst, arith, FitsSigned, div-add-mod', mod-lt}
+use Rattle.std.proofs.Common.{◌≡◌, ◌∙◌, ◌+◌, ◌*◌, ◌/◌, ◌%◌, ◌<◌, ℕ, zero, suc, ℤ, pos, List, length, drop, get_or, slice_index, slice_index_or, inl, inr, sym, ap, subst, arith, FitsSigned, div-add-mod', mod-lt}
 use Rattle.std.proofs.Math.Nat.{div-lt_iff_lt-mul}
 use Rattle.std.specs.Int.{w64}
 use Rattle.std.proofs.lemmas.List.{ext_get_or, get_or-drop, get_or-take}

@@ -1,9 +1,7 @@
 -- A call that prints in a style has one end.
-use Rattle.std.proofs.Common.{◌≡◌, ◌∙◌, ◌<◌, ◌^◌, ◌==◌, ◌-◌, ℕ, ℤ, Bool, List, if◌then◌else◌, refl, sym, ap, subst, arith, FitsSigned}
+use Rattle.std.proofs.Common.{◌≡◌, ◌∙◌, ◌<◌, ◌^◌, ◌==◌, ℕ, ℤ, Bool, if◌then◌else◌, refl, sym, ap, subst, arith}
 use Rattle.std.specs.Prelude.{Option, Some, None}
 use Rattle.std.specs.Char.{IsScalar}
-use Rattle.std.specs.Int.{w64}
-use Rattle.fixed_bits.specs.Formats.{FormatParts}
 use Rattle.fixed_laws.specs.Styling.{StyledTextIsTheOne}
 use Rattle.fixed_write.specs.Styled.{IsStyledText}
 use Rattle.fixed_write.specs.declared.style.Align.{Align}
@@ -13,7 +11,7 @@ use Rattle.fixed_write.specs.declared.style.Notation.TheVariants.{Dec, LowerExp,
 use Rattle.fixed_write.specs.declared.style.Style.{Style}
 use Rattle.fixed_c.specs.Arguments.{NamesFormat}
 use Rattle.fixed_c.specs.Laws.{StyledEndsOnce}
-use Rattle.fixed_c.specs.Numbers.{AreBits, AreBitsOf}
+use Rattle.fixed_c.specs.Numbers.{AreBits}
 use Rattle.fixed_c.specs.Outcome.{Never, Unless}
 use Rattle.fixed_c.specs.Style.{IsPrecision, IsPrintedIn, NamesAlign, NamesNotation, NamesPrecision, NamesStyle, StyleIsRefused, StyledIsRefused, align_code, notation_code}
 use Rattle.fixed_c.specs.declared.refusal.Refusal.{Refusal}

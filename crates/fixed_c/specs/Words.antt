@@ -4,7 +4,7 @@ use Rattle.fixed_bits.specs.Formats.{FormatParts}
 use Rattle.fixed_respell.specs.FormatNames.{IsFormatName}
 use Rattle.fixed_respell.specs.Words.{format_text}
 use Rattle.fixed_c.specs.Arguments.{NamesFormat}
-use Rattle.fixed_c.specs.Numbers.{flag_of, format_of}
+use Rattle.fixed_c.specs.Numbers.{flag_of}
 use Rattle.fixed_c.specs.Outcome.{Never, Unless}
 use Rattle.fixed_c.specs.declared.arguments.FixedFormat.{FixedFormat}
 use Rattle.fixed_c.specs.declared.refusal.Refusal.{Refusal}

@@ -1,5 +1,5 @@
 -- What is tested once, before texts are read.
-use Rattle.std.specs.Prelude.{◌≡◌, ℕ, ℤ, List}
+use Rattle.std.specs.Prelude.{◌≡◌, ℕ, List}
 use Rattle.fixed_bits.specs.Formats.{FormatParts}
 use Rattle.fixed_numeral.specs.Numeral.{base}
 use Rattle.fixed_c.specs.Arguments.{NamesFormat, NamesMode, NamesPolicy, NamesRadix}

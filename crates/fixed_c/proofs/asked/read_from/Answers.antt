@@ -1,4 +1,4 @@
-use Rattle.std.proofs.Common.{rules, subst, sym, refl, inl, inr, FitsSigned, ◌≡◌, ℕ, List, drop}
+use Rattle.std.proofs.Common.{rules, subst, sym, refl, inl, inr, FitsSigned, ℕ, List, drop}
 use Rattle.std.specs.Int.{w128}
 use Rattle.std.proofs.lemmas.Int.{to_z-of_z}
 use Rattle.fixed_bits.specs.Formats.{FormatParts}

@@ -1,13 +1,6 @@
-use Rattle.std.proofs.Common.{rules, FitsSigned}
-use Rattle.std.specs.Int.{w64}
-use Rattle.std.proofs.lemmas.Int.{to_z-of_z}
 use Rattle.fixed_c.specs.Arguments.{Names}
-use Rattle.fixed_c.specs.Convert.{CompareIsRefused, ConvertIsRefused, IsCompared, IsConverted}
-use Rattle.fixed_c.specs.Enclose.{EncloseIsRefused, IsEnclosedBy}
 use Rattle.fixed_c.specs.Numbers.{format_of}
 use Rattle.fixed_c.specs.Read.{IsReadAs, ReadIsRefused}
-use Rattle.fixed_c.specs.Respell.{IsReachedAs, RespellIsRefused}
-use Rattle.fixed_c.specs.declared.number.FixedEnclosure.{FixedEnclosure}
 use Rattle.fixed_c.specs.declared.number.FixedNumber.{FixedNumber}
 use Rattle.fixed_c.proofs.EndLemmas.{handed}
 use Rattle.fixed_c.proofs.exports.fixed_read_text.Goals as goal

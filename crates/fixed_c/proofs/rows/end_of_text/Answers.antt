@@ -1,4 +1,4 @@
-use Rattle.std.proofs.Common.{◌≡◌, ◌≤◌, ◌+◌, ◌-◌, ℕ, List, length, take, drop, subst, ap, arith, length-drop}
+use Rattle.std.proofs.Common.{◌≡◌, ◌+◌, ◌-◌, ℕ, List, length, take, drop, subst, ap, arith, length-drop}
 use Rattle.std.proofs.lemmas.List.{length-take}
 use Rattle.fixed_c.specs.Rows.{before_zero}
 use Rattle.fixed_c.proofs.RowLemmas.{text_there, zero_short}

@@ -1,4 +1,4 @@
-use Rattle.std.proofs.Common.{◌≡◌, ◌<◌, ◌≤◌, ◌+◌, ◌∙◌, sym, ap, length, take, arith}
+use Rattle.std.proofs.Common.{◌<◌, ◌≤◌, ◌+◌, ◌∙◌, sym, ap, length, take, arith}
 use Rattle.std.proofs.lemmas.List.{take_all}
 use Rattle.fixed_c.specs.Inner.Asked.{ReadsAskedRow}
 use Rattle.fixed_c.specs.Rows.{refused_of}
