@@ -1,11 +1,11 @@
 -- Laws of words.
-use Rattle.std.proofs.Common.{◌≡◌, ◌∙◌, ◌⊎◌, ◌↔◌, ◌||◌, ◌+◌, ◌-◌, ◌*◌, ◌/◌, ◌^◌, ◌<◌, ◌≤◌, ℕ, zero, suc, ℤ, pos, Bool, true, false, IsTrue, unsigned_abs, List, [], ◌∷◌, ◌++◌, length, take, drop, codes, refl, sym, ap, subst, arith, inl, inr, append-nil, append_assoc, length-append}
+use Rattle.std.proofs.Common.{◌≡◌, ◌∙◌, ◌<◌, ℕ, List, [], ◌∷◌, ◌++◌, length, take, drop, refl, sym, ap, arith, append_assoc, length-append}
 use Rattle.fixed_bits.specs.Ranges.{IsWidth}
 use Rattle.fixed_command.specs.Convert.{without_return}
 use Rattle.fixed_command.specs.Lemmas.MovedLemmas.{read_bits_one, read_or_not, unread_one}
 use Rattle.fixed_pack.specs.Laws.{PackedIsTheOne, RefusalIsTheOne, WordsAreTheOnes}
-use Rattle.fixed_pack.specs.Pack.{ArePacked, IsPacked, IsRefused}
-use Rattle.fixed_pack.specs.Unpack.{AreWords, HaveLength}
+use Rattle.fixed_pack.specs.Pack.{ArePacked, IsPacked}
+use Rattle.fixed_pack.specs.Unpack.{HaveLength}
 use Rattle.fixed_pack.specs.Word.{joined, word_bytes}
 use Rattle.fixed_pack.specs.declared.pack.PackSettings.{PackSettings}
 

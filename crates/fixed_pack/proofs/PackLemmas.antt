@@ -1,5 +1,5 @@
 -- Lines that were packed, one after the other.
-use Rattle.std.proofs.Common.{◌≡◌, ◌∙◌, ◌⊎◌, ◌==◌, ◌+◌, ◌*◌, ◌<◌, ◌≤◌, ℕ, ℤ, Bool, List, [], ◌∷◌, ◌++◌, length, refl, sym, ap, subst, arith, append-nil, append_assoc, length-append, Option, inl, inr}
+use Rattle.std.proofs.Common.{◌≡◌, ◌∙◌, ◌+◌, ◌≤◌, ℕ, ℤ, Bool, List, [], ◌∷◌, ◌++◌, length, sym, ap, subst, arith, append-nil, append_assoc, length-append, Option}
 use Rattle.std.proofs.KnownBytes.{Appends-nil, Appends-trans}
 use Rattle.std.specs.Io.KnownBytes.{Appends}
 use Rattle.fixed_numeral.specs.declared.error.ParseErrorKind.{ParseErrorKind}
@@ -11,7 +11,6 @@ use Rattle.fixed_command.specs.Convert.{without_return}
 use Rattle.fixed_command.specs.Hex.{word_of}
 use Rattle.fixed_show.specs.ShowBlock.{IsReadAs, IsUnread}
 use Rattle.fixed_pack.specs.Word.{bytes_of, joined, word_length}
-use Rattle.fixed_pack.specs.declared.pack.PackEnd.{PackEnd}
 use Rattle.fixed_pack.specs.declared.pack.PackEnd.TheVariants as end
 use Rattle.fixed_pack.specs.declared.pack.PackSettings.{PackSettings}
 use Rattle.fixed_pack.specs.declared.packer.Packer.{Packer}

@@ -1,12 +1,11 @@
 -- Bytes that were taken, and how a run ends.
-use Rattle.std.proofs.Common.{◌≡◌, ◌∙◌, ◌+◌, ◌<◌, ◌≤◌, ℕ, List, [], ◌∷◌, ◌++◌, length, take, refl, sym, ap, subst, arith, append-nil, length-append, Option, Some, None, inl, inr, Bool, true, false}
+use Rattle.std.proofs.Common.{◌≡◌, ◌∙◌, ◌+◌, ◌≤◌, ℕ, List, [], ◌∷◌, ◌++◌, length, take, refl, sym, ap, subst, arith, append-nil, length-append, Option, Some, None, inl, inr, Bool, false}
 use Rattle.std.proofs.KnownBytes.{Consumes-trans}
 use Rattle.std.proofs.lemmas.List.{length-take}
 use Rattle.std.specs.Io.KnownBytes.{Consumes, IsAtEnd, Keeps}
 use Rattle.line_engine.specs.Lines.{ended_lines, lines}
 use Rattle.line_engine.specs.Run.{HasFailures}
 use Rattle.line_engine.specs.declared.status.Status.{Status}
-use Rattle.line_engine.specs.declared.status.Status.TheVariants as status
 use Rattle.fixed_pack.specs.Inner.Packing.{EndsAmong}
 use Rattle.fixed_pack.specs.Inner.Unpacking.{IsEnd}
 use Rattle.fixed_pack.specs.Pack.{HasPackRun, StopsAmong}

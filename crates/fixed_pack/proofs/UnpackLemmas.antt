@@ -1,5 +1,5 @@
 -- Words that were unpacked, one byte after the other.
-use Rattle.std.proofs.Common.{◌≡◌, ◌∙◌, ◌⊎◌, ◌||◌, ◌+◌, ◌*◌, ◌<◌, ◌≤◌, ℕ, Bool, true, false, List, [], ◌∷◌, ◌++◌, length, take, get_or, refl, sym, ap, subst, arith, append-nil, append_assoc, length-append, Option}
+use Rattle.std.proofs.Common.{◌≡◌, ◌∙◌, ◌||◌, ◌+◌, ◌<◌, ◌≤◌, ℕ, Bool, false, List, [], ◌∷◌, ◌++◌, length, take, get_or, refl, sym, ap, subst, arith, append-nil, append_assoc, length-append, Option}
 use Rattle.std.proofs.KnownBytes.{Appends-nil, Appends-trans}
 use Rattle.std.proofs.lemmas.Grind.{common_steps}
 use Rattle.std.proofs.lemmas.List.{take_all, take_more}
@@ -7,7 +7,7 @@ use Rattle.std.specs.Io.KnownBytes.{Appends}
 use Rattle.line_engine.proofs.Public.{AreAnswers-append, any_fault-append, written_of-append}
 use Rattle.line_engine.specs.AnswerText.{AnswerText}
 use Rattle.line_engine.specs.Appended.{AppendsPrefix}
-use Rattle.line_engine.specs.Output.{AppendsAnswer, AreAnswers, any_fault, written_of}
+use Rattle.line_engine.specs.Output.{AppendsAnswer, any_fault, written_of}
 use Rattle.fixed_command.specs.Convert.{IsReply}
 use Rattle.fixed_pack.specs.Inner.Unpacking.{HasUnpacked, HasWritten}
 use Rattle.fixed_pack.specs.Unpack.{AreWords, BreaksWords, HaveLength, IsWordReply, WritesWords, count_of, word_text}

@@ -1,10 +1,10 @@
 -- The bytes of words, and their number.
-use Rattle.std.proofs.Common.{◌≡◌, ◌∙◌, ◌+◌, ◌-◌, ◌*◌, ◌/◌, ◌%◌, ◌^◌, ◌<◌, ◌≤◌, ℕ, zero, suc, List, [], ◌∷◌, ◌++◌, length, take, drop, get_or, reverse, refl, sym, ap, arith, append-nil, append_assoc, length-append, pow-suc}
+use Rattle.std.proofs.Common.{◌≡◌, ◌∙◌, ◌+◌, ◌-◌, ◌*◌, ◌/◌, ◌%◌, ◌^◌, ◌<◌, ◌≤◌, ℕ, zero, suc, List, [], ◌∷◌, ◌++◌, length, take, drop, get_or, reverse, refl, sym, ap, arith, append-nil, append_assoc, pow-suc}
 use Rattle.std.proofs.Math.Nat.{pow-le-pow_right}
 use Rattle.std.proofs.lemmas.Grind.{reverse_onto}
 use Rattle.std.proofs.lemmas.List.{length-drop, length-reverse, reverse-append, reverse-reverse, take_all, take_more, take_rest}
 use Rattle.fixed_pack.specs.Laws.{WordReadsBack}
-use Rattle.fixed_pack.specs.Word.{bytes_of, low_bytes, low_number, number_of}
+use Rattle.fixed_pack.specs.Word.{bytes_of, low_bytes, low_number}
 use Rattle.fixed_pack.specs.declared.endian.Endian.{Endian}
 use Rattle.fixed_pack.specs.declared.endian.Endian.TheVariants.{Big, Little}
 

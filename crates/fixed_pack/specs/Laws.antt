@@ -1,5 +1,5 @@
 -- What the laws of this crate say.
-use Rattle.std.specs.Prelude.{◌≡◌, ◌^◌, ◌<◌, ℕ, ℤ, Bool, false, List, [], ◌∷◌}
+use Rattle.std.specs.Prelude.{◌≡◌, ◌^◌, ◌<◌, ℕ, ℤ, Bool, false, List, []}
 use Rattle.fixed_bits.specs.Formats.{IsFormat}
 use Rattle.fixed_command.specs.Convert.{without_return}
 use Rattle.fixed_command.specs.declared.print.Print.TheVariants.{Text}

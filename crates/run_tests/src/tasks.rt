@@ -418,7 +418,10 @@ fn a_report_counts_the_numerals_of_lines_as_people_have_them(rt: HostRuntime) ->
     let text = tally_text(&cases[0].watch.tally(), Place::Line);
     let counts = "numerals: 5, exact: 1, rounded: 1, overflowed: 2";
     let places = " (the first in line 5), refused: 1 (the first in line 7)";
-    assert_eq!(rt; text.as_bytes().strip_prefix(counts.as_bytes()), Some(places.as_bytes()));
+    assert_eq!(rt;
+        text.as_bytes().strip_prefix(counts.as_bytes()),
+        Some(places.as_bytes())
+    );
     expect_refused(&rt, &cases[0], 7, "x 7", "invalid digit found in string");
     Ok(())
 }

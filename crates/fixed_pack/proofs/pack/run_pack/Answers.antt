@@ -1,8 +1,7 @@
-use Rattle.std.proofs.Common.{◌≡◌, ◌∙◌, ◌+◌, ◌<◌, ◌≤◌, ◌++◌, [], ℕ, take, length, refl, sym, ap, subst, arith}
+use Rattle.std.proofs.Common.{◌≡◌, ◌∙◌, ◌++◌, [], take, refl, arith}
 use Rattle.std.proofs.KnownBytes.{Consumes-nil, Consumes-trans}
 use Rattle.std.proofs.lemmas.Grind.{common_steps}
 use Rattle.std.proofs.lemmas.List.{length-take}
-use Rattle.line_engine.specs.Lines.{lines}
 use Rattle.fixed_pack.specs.Pack.{status_of}
 use Rattle.fixed_pack.proofs.PackLemmas.{ended_sent, first_sent}
 use Rattle.fixed_pack.proofs.TakenLemmas.{counted_bytes, ended_run, moved_failures, stopped_run, taken_kept, taken_none}

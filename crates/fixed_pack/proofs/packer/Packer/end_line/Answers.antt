@@ -1,4 +1,4 @@
-use Rattle.std.proofs.Common.{◌≡◌, ◌∙◌, ◌++◌, ◌+◌, [], length, refl, sym, ap, subst, arith}
+use Rattle.std.proofs.Common.{◌≡◌, ◌∙◌, ◌+◌, [], refl, arith}
 use Rattle.std.proofs.lemmas.Grind.{common_steps}
 use Rattle.fixed_pack.proofs.PackLemmas.{refuses_long, refuses_memory, refuses_part, takes_long, takes_part}
 use Rattle.fixed_pack.proofs.TakenLemmas.{nil_of}

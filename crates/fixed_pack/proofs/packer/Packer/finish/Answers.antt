@@ -1,4 +1,4 @@
-use Rattle.std.proofs.Common.{◌≡◌, [], length, refl, arith}
+use Rattle.std.proofs.Common.{refl, arith}
 use Rattle.std.proofs.lemmas.Grind.{common_steps}
 use Rattle.line_engine.specs.Lines.{lines}
 use Rattle.fixed_pack.proofs.PackLemmas.{finish_breaks, finish_stopped, finished_line, finished_none}

@@ -1,4 +1,4 @@
-use Rattle.std.proofs.Common.{ℕ, List, refl, subst}
+use Rattle.std.proofs.Common.{refl, subst}
 use Rattle.fixed_pack.specs.Inner.Packing.{HasStopped}
 use Rattle.fixed_pack.proofs.PackLemmas.{breaks_off, refuses_one, stops_short}
 use Rattle.fixed_pack.proofs.packer.Packer.stop.Goals as goal

@@ -1,5 +1,4 @@
-use Rattle.std.proofs.Common.{◌≡◌, ◌∙◌, ◌<◌, ◌≤◌, ◌++◌, [], ◌∷◌, length, refl, ap, arith, length-append}
-use Rattle.fixed_pack.specs.Unpack.{count_of}
+use Rattle.std.proofs.Common.{◌∙◌, ◌++◌, [], ◌∷◌, length, refl, ap, arith, length-append}
 use Rattle.fixed_pack.proofs.UnpackLemmas.{taken_part, taken_word}
 use Rattle.fixed_pack.proofs.unpacker.Unpacker.push.Goals as goal
 

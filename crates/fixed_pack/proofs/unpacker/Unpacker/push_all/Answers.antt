@@ -1,4 +1,4 @@
-use Rattle.std.proofs.Common.{◌+◌, ◌++◌, take, length, ap, arith}
+use Rattle.std.proofs.Common.{◌++◌, take, length, ap, arith}
 use Rattle.fixed_pack.proofs.UnpackLemmas.{all_taken, nothing_taken, one_taken}
 use Rattle.fixed_pack.proofs.unpacker.Unpacker.push_all.Goals as goal
 
