@@ -71,6 +71,10 @@ fn are_as_wanted<L: Ledger>(cases: &[Case], blank: Blank) -> bool
     all
 }
 
+fn are_ordered(cases: &[Case]) -> bool {
+    are_as_wanted::<Brand>(cases, Blank::new(1))
+}
+
 #[test]
 fn the_greater_error_is_found_whatever_the_digits(rt: HostRuntime) {
     let (hex, dec) = (Radix::Hex, Radix::Dec);
@@ -104,7 +108,7 @@ fn the_greater_error_is_found_whatever_the_digits(rt: HostRuntime) {
         row(Radix::Oct, 10, "7p-12", "1p-12", false),
         row(Radix::Bin, 3, "0.00011", "0.0001", false),
     ];
-    assert!(rt; are_as_wanted::<Brand>(&cases, Blank::new(1)));
+    assert!(rt; are_ordered(&cases));
 }
 
 #[test]
@@ -115,7 +119,7 @@ fn the_mode_decides_which_error_is_the_greater(rt: HostRuntime) {
         moded(ReadMode::TowardsZero, "-0.1", "0.1", false),
         moded(ReadMode::Floor, "0.99", "-0.99", true),
     ];
-    assert!(rt; are_as_wanted::<Brand>(&cases, Blank::new(1)));
+    assert!(rt; are_ordered(&cases));
 }
 
 /// Whether the error of a numeral is above a bound, at each of some rows.
@@ -138,6 +142,10 @@ fn are_bounded<L: Ledger>(rows: &[(u32, &str, &str, bool)], blank: Blank) -> boo
     all
 }
 
+fn are_within_or_not(rows: &[(u32, &str, &str, bool)]) -> bool {
+    are_bounded::<Brand>(rows, Blank::new(1))
+}
+
 #[test]
 fn an_error_is_above_a_bound_or_not(rt: HostRuntime) {
     let rows = [
@@ -150,5 +158,5 @@ fn an_error_is_above_a_bound_or_not(rt: HostRuntime) {
         (64, "1e-300", "0", true),
         (64, "0", "0", false),
     ];
-    assert!(rt; are_bounded::<Brand>(&rows, Blank::new(1)));
+    assert!(rt; are_within_or_not(&rows));
 }
