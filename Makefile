@@ -8,7 +8,7 @@
 #   make check     every proof, test and program, without the wrong bodies
 #   make test      the gate: the same with the wrong bodies of must-fail/
 #   make wrong-bodies [CRATE=..]   the wrong bodies that the gate leaves out, of every crate or of these
-#   make install   puts the programs below PREFIX (and DESTDIR); make uninstall removes them
+#   make install   puts what make build and make library left below PREFIX (and DESTDIR); make uninstall removes it
 #   make library   the library for C, in build/lib; make check-library tries it; make deb makes packages, make dist an archive
 #   make bench     times, memory and instructions; make compare: seeded inputs against the reference in oracle/
 #
@@ -71,7 +71,9 @@ wrong-bodies:
 	@python3 .ci/edits.py
 	@python3 .ci/wrong_bodies.py try $(CRATE)
 
-install: build install-library
+# What was built: as root, nothing is proved or built anew.
+install: install-library
+	@for program in $(PROGRAMS); do test -f "build/$$program" || { echo "$$program is not built: make build" >&2; exit 1; }; done
 	install -d "$(DESTDIR)$(PREFIX)/bin"
 	for program in $(PROGRAMS); do install -m 755 "build/$$program" "$(DESTDIR)$(PREFIX)/bin/$$program" || exit 1; done
 

@@ -25,6 +25,8 @@ sys.path.insert(0, f"{TOP}/oracle")
 from compare import program  # noqa: E402
 from fit import answer as fit_answer  # noqa: E402
 
+with open(f"{TOP}/packaging/VERSION", "rb") as file:
+    VERSION = file.read().strip()
 USAGE = {
     "fixed_tool": b"usage: fixed_tool [limit N | self N]\n",
     "enclose_tool": b"usage: enclose_tool\n",
@@ -163,7 +165,7 @@ RUNS = {
         (["unpack", "U8F0"], b"\n" * 5_000, 0, b"10\n" * 5_000),
         (["unpack", "U64F0"], b"\xff" * 15, 1, b"18446744073709551615\n"),
         (["unpack", "U8F0"], b"", 0, b""),
-        (["--version"], b"", 0, b"fixed 1.31.0\n"),
+        (["--version"], b"", 0, b"fixed " + VERSION + b"\n"),
         (["help"], b"", 0, None),
         (["help", "convert"], b"", 0, None),
         (["convert", "--help"], b"", 0, None),

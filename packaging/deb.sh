@@ -1,14 +1,20 @@
 #!/usr/bin/env bash
 # deb.sh VERSION PROGRAM..: makes four packages below build/deb of what `make build` and `make library` left there: the programs, the
 # shared library, the package for Python, and the files that are needed to build against the library. What a package needs is taken from the symbols of its files, by
-# dpkg-shlibdeps. `lintian` reads the packages where it is installed, and chroot.sh installs them where there is debootstrap.
+# dpkg-shlibdeps. `lintian` reads the packages where it is installed, and chroot.sh installs them where there is debootstrap; with
+# PACKAGES_ONLY set, neither does.
 set -eu
 cd "$(dirname "$0")/.."
 version=$1
 shift
 architecture=$(dpkg --print-architecture)
 triple=$(dpkg-architecture -q DEB_HOST_MULTIARCH 2>/dev/null || gcc -dumpmachine)
-date=$(git log -1 --format=%cd --date=rfc2822 2>/dev/null || date -R)
+# The day of the version, which CHANGELOG's heading says, is the only time in a package, so that its bytes are the same each time.
+day=$(sed -n "s/^## $version, \([0-9-]*\)\$/\1/p" CHANGELOG.md)
+SOURCE_DATE_EPOCH=$(date -ud "${day:-1980-01-01}" +%s)
+export SOURCE_DATE_EPOCH DPKG_DEB_THREADS_MAX=1
+date=$(date -uRd "@$SOURCE_DATE_EPOCH")
+umask 022
 rm -rf build/deb
 mkdir -p build/deb
 
@@ -35,7 +41,7 @@ needed() {
 # finish NAME SECTION DEPENDS SHORT LONG: its control file, and the package.
 finish() {
   local size
-  size=$(du -sk --exclude=DEBIAN "$folder" | cut -f1)
+  size=$(find "$folder" -path "$folder/DEBIAN" -prune -o -type f -printf '%s\n' -o -printf '1024\n' | awk '{ kib += int(($1 + 1023) / 1024) } END { print kib }')
   cat >"$folder/DEBIAN/control" <<END
 Package: $1
 Source: lomdeqash
@@ -49,7 +55,7 @@ Installed-Size: $size
 Description: $4
 $(echo "$5" | fold -s -w 75 | sed 's/^/ /; s/ *$//')
 END
-  (cd "$folder" && find usr -type f -exec md5sum {} + >DEBIAN/md5sums)
+  (cd "$folder" && find usr -type f -print0 | sort -z | xargs -0 md5sum >DEBIAN/md5sums)
   chmod 644 "$folder/DEBIAN/control" "$folder/DEBIAN/md5sums"
   dpkg-deb --root-owner-group --build "$folder" "build/deb/${1}_${version}_$architecture.deb" >/dev/null
 }
@@ -97,6 +103,7 @@ finish libfixed-dev libdevel "libfixed1 (= $version)" 'fixed-point numbers as te
   'What is needed to build a program against libfixed: the header, the archive, the manual pages of the calls, and a file for pkg-config.'
 
 rm -rf build/deb/symbols
+[ -z "${PACKAGES_ONLY:-}" ] || exit 0
 for package in build/deb/*.deb; do
   echo "$package: $(stat -c %s "$package") bytes"
   if command -v lintian >/dev/null 2>&1; then lintian --allow-root --fail-on error --suppress-tags no-symbols-control-file "$package"; else echo "lintian is not on this machine"; fi

@@ -7,7 +7,7 @@ CC ?= cc
 
 .PHONY: library dist deb check-library install-library uninstall-library
 
-# Proves the library, and leaves it as an archive, as a shared library with the header's symbols alone, and with a file for pkg-config.
+# Proves the library, and leaves it as an archive and as a shared library with the header's symbols alone.
 library:
 	@$(PROVE) fixed_c
 	@mkdir -p build/lib
@@ -15,19 +15,20 @@ library:
 	$(CC) -shared -o build/lib/libfixed.so.1 -Wl,-soname,libfixed.so.1 -Wl,--version-script=packaging/fixed.map \
 	  -Wl,--gc-sections -Wl,-z,relro -Wl,-z,now $(CALLS:%=-Wl,-u,%) build/lib/libfixed.a -nostartfiles -lc
 	ln -sf libfixed.so.1 build/lib/libfixed.so
-	sed -e 's|@PREFIX@|$(PREFIX)|' -e 's|@VERSION@|$(VERSION)|' packaging/fixed.pc.in >build/lib/fixed.pc
 
 # Compiles the callers in examples/ with what compilers there are, and runs them against the library.
 check-library: library
 	python3 .ci/library.py --built build
 
-install-library: library
+install-library:
+	@test -f build/lib/libfixed.so.1 || { echo 'The library is not built: make library' >&2; exit 1; }
 	install -d "$(DESTDIR)$(PREFIX)/include" "$(DESTDIR)$(PREFIX)/lib/pkgconfig" "$(DESTDIR)$(PREFIX)/share/man/man1" "$(DESTDIR)$(PREFIX)/share/man/man3"
 	install -m 644 include/fixed.h "$(DESTDIR)$(PREFIX)/include/fixed.h"
 	install -m 644 build/lib/libfixed.a "$(DESTDIR)$(PREFIX)/lib/libfixed.a"
 	install -m 755 build/lib/libfixed.so.1 "$(DESTDIR)$(PREFIX)/lib/libfixed.so.1"
 	ln -sf libfixed.so.1 "$(DESTDIR)$(PREFIX)/lib/libfixed.so"
-	install -m 644 build/lib/fixed.pc "$(DESTDIR)$(PREFIX)/lib/pkgconfig/fixed.pc"
+	sed -e 's|@PREFIX@|$(PREFIX)|' -e 's|@VERSION@|$(VERSION)|' packaging/fixed.pc.in >"$(DESTDIR)$(PREFIX)/lib/pkgconfig/fixed.pc"
+	chmod 644 "$(DESTDIR)$(PREFIX)/lib/pkgconfig/fixed.pc"
 	for page in man/*.1; do install -m 644 "$$page" "$(DESTDIR)$(PREFIX)/share/man/man1/" || exit 1; done
 	install -m 644 man/fixed.3 "$(DESTDIR)$(PREFIX)/share/man/man3/fixed.3"
 	for call in $(CALLS); do echo '.so man3/fixed.3' >"$(DESTDIR)$(PREFIX)/share/man/man3/$$call.3" || exit 1; done

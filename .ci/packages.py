@@ -1,0 +1,135 @@
+#!/usr/bin/env python3
+"""Checks that the version is one, and that archives and packages made twice, in two folders, have the same bytes.
+
+    packages.py [--built build|out]
+
+With `--built out` it takes what the gate built, and with `--built build` what `make build` and `make library` left. What is
+not installed or not built is named and passed over.
+"""
+import argparse
+import filecmp
+import glob
+import os
+import re
+import shutil
+import subprocess
+import sys
+import tempfile
+
+TOP = os.path.dirname(os.path.dirname(os.path.abspath(__file__)))
+sys.path.insert(0, f"{TOP}/oracle")
+
+from compare import program  # noqa: E402
+from python import linked  # noqa: E402
+
+PROGRAMS = ("fixed_tool", "enclose_tool", "least_tool", "constants_tool", "columns_tool", "fixed")
+# What a package is made of beside what is built.
+SOURCES = ("packaging", "man", "completion", "include", "python", "CHANGELOG.md")
+
+
+class Failed(Exception):
+    """Something came out otherwise."""
+
+
+def text_of(path):
+    with open(f"{TOP}/{path}", encoding="utf-8") as file:
+        return file.read()
+
+
+def run(words, **how):
+    ran = subprocess.run(words, stdout=subprocess.PIPE, stderr=subprocess.STDOUT, check=False, **how)
+    if ran.returncode:
+        raise Failed(f"{' '.join(words)}: status {ran.returncode}\n{ran.stdout.decode(errors='replace')[-2000:]}")
+
+
+def other_versions(version):
+    """The places that say another version than packaging/VERSION."""
+    major, minor, patch = version.split(".")
+    number = f"{int(major)}{int(minor):02}{int(patch):02}"
+    header = text_of("include/fixed.h")
+    for name, value in (("MAJOR", major), ("MINOR", minor), ("PATCH", patch), ("STRING", f'"{version}"')):
+        if f"#define FIXED_VERSION_{name} {value}\n" not in header:
+            yield f"include/fixed.h: FIXED_VERSION_{name}"
+    exported = re.search(r"fn fixed_version\(\) -> u32\n +ensures \{ result ≡ (\d+) \}", text_of("crates/fixed_c/src/exports.rt"))
+    if not exported or exported.group(1) != number:
+        yield "fixed_version of fixed_c"
+    if f'version: "{version}",' not in text_of("crates/fixed/src/commands.rt"):
+        yield "fixed --version"
+
+
+def is_there(names, what):
+    """Whether programs are installed; where one is not, it says what was not checked."""
+    missing = [name for name in names if not shutil.which(name)]
+    if missing:
+        print(f"{missing[0]} is not installed, and so {what}")
+    return not missing
+
+
+def compared(what, first, second):
+    """Fails where two folders differ in the files that a pattern finds in both."""
+    names = [sorted(os.path.basename(path) for path in glob.glob(f"{folder}/{what}")) for folder in (first, second)]
+    if not names[0] or names[0] != names[1]:
+        raise Failed(f"{what}: {names[0]} and {names[1]}")
+    for name in names[0]:
+        if not filecmp.cmp(f"{first}/{os.path.dirname(what)}/{name}", f"{second}/{os.path.dirname(what)}/{name}", shallow=False):
+            raise Failed(f"{name} differs where it is made twice")
+    print(f"{', '.join(names[0])}: the same bytes twice", flush=True)
+
+
+def check_archive(folders):
+    """The archive of the sources, of two clones."""
+    if not os.path.exists(f"{TOP}/.git") or not is_there(("git", "make"), "no archive of the sources was made"):
+        return
+    for folder in folders:
+        run(["git", "clone", "-q", "--no-hardlinks", TOP, f"{folder}/clone"])
+        run(["make", "-s", "dist"], cwd=f"{folder}/clone")
+    compared("build/lomdeqash-*.tar.gz", *(f"{folder}/clone" for folder in folders))
+
+
+def check_packages(folders, version, built):
+    """Debian's packages, of two copies of what they are made of."""
+    programs = {name: program(name, built) for name in PROGRAMS}
+    archive = f"{TOP}/build/lib/libfixed.a" if built == "build" else f"{TOP}/crates/fixed_c/out/libfixed_c.a"
+    if not is_there(("dpkg-deb", "dpkg-shlibdeps", "strip"), "no packages were made"):
+        return
+    if None in programs.values() or not os.path.isfile(archive):
+        print("programs or library are not built, and so no packages were made")
+        return
+    library = f"{TOP}/build/lib" if built == "build" else os.path.dirname(linked(folders[0]))
+    for folder in folders:
+        for name in SOURCES:
+            copy = shutil.copytree if os.path.isdir(f"{TOP}/{name}") else shutil.copy2
+            copy(f"{TOP}/{name}", f"{folder}/{name}")
+        os.makedirs(f"{folder}/build/lib")
+        for name, path in programs.items():
+            shutil.copy(path, f"{folder}/build/{name}")
+        shutil.copy(f"{library}/libfixed.so.1", f"{folder}/build/lib/libfixed.so.1")
+        shutil.copy(archive, f"{folder}/build/lib/libfixed.a")
+        run([f"{folder}/packaging/deb.sh", version, *PROGRAMS], env=os.environ | {"PACKAGES_ONLY": "1"})
+    compared("build/deb/*.deb", *folders)
+
+
+def main():
+    words = argparse.ArgumentParser(description=__doc__.split("\n", maxsplit=1)[0])
+    words.add_argument("--built", choices=("build", "out"), default="build")
+    given = words.parse_args()
+    version = text_of("packaging/VERSION").strip()
+    try:
+        others = list(other_versions(version))
+        if others:
+            raise Failed(f"not the version {version}: {', '.join(others)}")
+        print(f"version {version}: everywhere the same", flush=True)
+        with tempfile.TemporaryDirectory() as room:
+            folders = [f"{room}/first", f"{room}/a folder with a longer name"]
+            for folder in folders:
+                os.makedirs(folder)
+            check_archive(folders)
+            check_packages(folders, version, given.built)
+    except Failed as why:
+        print(why)
+        return 1
+    return 0
+
+
+if __name__ == "__main__":
+    sys.exit(main())
