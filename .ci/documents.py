@@ -58,6 +58,20 @@ def readme_answers(built):
             yield f"{line!r} is answered {got!r}, not {answer!r}"
 
 
+def readme_commands(built):
+    """The commands of README, each in a block after a dollar, and what it shows that they write."""
+    path = program("fixed", built)
+    if path is None:
+        print("fixed is not built, and so README's commands were not run")
+        return
+    block = re.search(r"^ {4}\$ (?:.+\n {4})*.+$", text_of("README.md"), re.M)
+    for command, *shown in (re.sub(r"^ {4}", "", it, flags=re.M).strip().split("\n") for it in re.split(r"^ {4}\$ ", block.group() if block else "", flags=re.M)[1:]):
+        env = os.environ | {"PATH": f"{os.path.dirname(path)}:{os.environ['PATH']}"}
+        ran = subprocess.run(["sh", "-c", command], stdout=subprocess.PIPE, stderr=subprocess.DEVNULL, check=False, env=env)
+        if ran.stdout.decode().split("\n")[:-1] != shown:
+            yield f"README.md: {command!r} writes {ran.stdout.decode()!r}"
+
+
 def readme_shape():
     count = len(text_of("README.md").rstrip("\n").split("\n"))
     if count > LONGEST_README:
@@ -208,7 +222,7 @@ def main():
     words = argparse.ArgumentParser(description=__doc__.split("\n", maxsplit=1)[0])
     words.add_argument("--built", choices=("build", "out"), default="build")
     given = words.parse_args()
-    wrong = [*readme_answers(given.built), *readme_shape(), *crates_table(), *wrong_bodies(), *definitions(), *headline(), *paths()]
+    wrong = [*readme_answers(given.built), *readme_commands(given.built), *readme_shape(), *crates_table(), *wrong_bodies(), *definitions(), *headline(), *paths()]
     for it in wrong:
         print(it)
     print(f"documents: {len(wrong)} sentences that do not hold")
