@@ -55,6 +55,10 @@ def other_versions(version):
         yield "fixed_version of fixed_c"
     if f'version: "{version}",' not in text_of("crates/fixed/src/commands.rt"):
         yield "fixed --version"
+    yield from (page for page in sorted(glob.glob("man/*.[13]", root_dir=TOP)) if f".Os Lomdeqash {version}\n" not in text_of(page))
+    released = re.search(r"^## (\d\S*?),? ", text_of("CHANGELOG.md"), re.M)
+    if released and released.group(1) != version:
+        yield "CHANGELOG.md"
 
 
 def is_there(names, what):

@@ -30,9 +30,9 @@
 
 /* The version of the library that this file came with. */
 #define FIXED_VERSION_MAJOR 1
-#define FIXED_VERSION_MINOR 31
+#define FIXED_VERSION_MINOR 0
 #define FIXED_VERSION_PATCH 0
-#define FIXED_VERSION_STRING "1.31.0"
+#define FIXED_VERSION_STRING "1.0.0"
 #define FIXED_VERSION (FIXED_VERSION_MAJOR * 10000 + FIXED_VERSION_MINOR * 100 + FIXED_VERSION_PATCH)
 
 #ifdef __cplusplus

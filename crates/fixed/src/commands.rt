@@ -42,11 +42,11 @@ pub fn pages() -> [Page; 13] {
     ]
 }
 
-/// The command for people, with these pages. Its version is that of the Rust crate whose behaviour is ported.
+/// The command for people, with these pages.
 pub fn program(pages: &[Page]) -> Program<'_> {
     Program {
         name: "fixed",
-        version: "1.31.0",
+        version: "1.0.0",
         about: "Read, print and convert binary fixed-point numbers",
         usage: "fixed COMMAND [OPTIONS] [WORD]...",
         end: "Example: fixed convert U8F8 --print all <numerals.txt",

@@ -349,10 +349,10 @@ pub extern "C" fn fixed_abi() -> u32
     1
 }
 
-/// The version of the library, 1.31.0: `fixed_version` of the header.
+/// The version of the library, 1.0.0: `fixed_version` of the header.
 #[unsafe(no_mangle)]
 pub extern "C" fn fixed_version() -> u32
-    ensures { result ≡ 13100 }
+    ensures { result ≡ 10000 }
 {
-    13_100
+    10_000
 }
