@@ -22,8 +22,8 @@ sys.path.insert(0, f"{TOP}/oracle")
 from compare import program  # noqa: E402
 
 PAGES = sorted(glob.glob(f"{TOP}/man/*.[13]"))
-# A reference to another page is found only where that page is installed.
-IGNORED = re.compile(r"STYLE: referenced manual not found|outdated mandoc.db")
+# A reference to another page is found only where that page is installed; .Os says the version.
+IGNORED = re.compile(r"STYLE: referenced manual not found|outdated mandoc.db|STYLE: operating system explicitly specified")
 SHELLS = (("bash", "*.bash"), ("zsh", "_*"), ("fish", "*.fish"))
 WIDEST = 80
 
