@@ -18,7 +18,7 @@ size_unique mode r f bytes d e h k =
     let parts : h.parts ≡ k.parts = parts_unique r bytes h.parts k.parts h.numeral.beginning k.numeral.beginning in
     h.size_is ∙ (ap (λ p. error_size (magnitude r p) f h.read.ulps) parts ∙ (ap (λ n. error_size (magnitude r k.parts) f n) (sym same) ∙ sym k.size_is))
 
-den_some : (mode : ReadMode) (r : Radix) (f : ℕ) (bytes : List ℕ) (d : Fraction) → HasErrorSize mode r f bytes d → 0 < d.den
+pub den_some : (mode : ReadMode) (r : Radix) (f : ℕ) (bytes : List ℕ) (d : Fraction) → HasErrorSize mode r f bytes d → 0 < d.den
 den_some mode r f bytes d h = subst P (sym h.size_is) (both (2 ^ f) (magnitude r h.parts).den (pow_pos f) (magnitude_pos r h.parts))
   where
     P : Fraction → Type 0
@@ -46,7 +46,7 @@ joined mode r f new best low h k =
       greater = less_joined k.one_size.num k.one_size.den h.other_size.num h.other_size.den h.one_size.num h.one_size.den (den_some mode r f low k.one_size k.has_one) h.greater most;
     }
 
-turned : (mode : ReadMode) (r : Radix) (f : ℕ) (one other : List ℕ) → HasGreaterError mode r f one other → HasNoGreaterError mode r f other one
+pub turned : (mode : ReadMode) (r : Radix) (f : ℕ) (one other : List ℕ) → HasGreaterError mode r f one other → HasNoGreaterError mode r f other one
 turned mode r f one other h = record { one_size = h.other_size; has_one = h.has_other; other_size = h.one_size; has_other = h.has_one; at_most = let less = h.greater in omega (arith, less) }
 
 -- ---- lists
@@ -93,3 +93,14 @@ kept_old mode r f entries true place old at new some k not = record {
   above = k.above;
   not_below = not_below_more mode r f old k.after (record { place = at; numeral = new }) k.not_below not;
 }
+
+-- ---- what is kept and a numeral more
+pub self_not_greater : (mode : ReadMode) (r : Radix) (f : ℕ) (bytes : List ℕ) → IsReadWithin mode r f bytes → HasNoGreaterError mode r f bytes bytes
+self_not_greater mode r f bytes w =
+    let size : Fraction = error_size (magnitude r w.parts) f w.read.ulps in
+    let has : HasErrorSize mode r f bytes size = record { parts = w.parts; numeral = w.numeral; number = w.number; read = w.read; size_is = refl } in
+    record { one_size = size; has_one = has; other_size = size; has_other = has; at_most = omega arith }
+
+pub kept_within : (mode : ReadMode) (r : Radix) (f : ℕ) (entries : List Entry) (is : Bool) (place : ℕ) (numeral : List ℕ) → is ≡ true → IsKept mode r f entries is place numeral → IsReadWithin mode r f numeral
+kept_within mode r f entries false place numeral some k = let no : false ≡ true = some in cc
+kept_within mode r f entries true place numeral some k = k.within

@@ -2,3 +2,4 @@
 pub mod Sums
 pub mod Gap
 pub mod Greatest
+pub mod Rest

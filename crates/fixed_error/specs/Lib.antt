@@ -1,3 +1,5 @@
 pub mod ErrorSize
 pub mod Greatest
+pub mod Errors
+pub mod Laws
 pub mod Inner

@@ -1,7 +1,7 @@
 //! The greatest error of numerals that come one after another.
 
-ghost use Rattle.std.specs.Prelude.{◌≡◌, ◌≤◌, ◌++◌, ◌∷◌, [], List, OnOk};
-ghost use Rattle.fixed_error.specs.ErrorSize.{IsReadWithin};
+ghost use Rattle.std.specs.Prelude.{◌≡◌, ◌≤◌, ◌++◌, ◌∷◌, [], List, OnOk, true};
+ghost use Rattle.fixed_error.specs.ErrorSize.{HasNoGreaterError, IsReadWithin};
 ghost use Rattle.fixed_error.specs.Greatest.{Entry, HasGreatest, HasSomeGreatest};
 ghost use Rattle.fixed_error.specs.Inner.Greatest.{IsGreatestSoFar};
 
@@ -99,6 +99,11 @@ impl GreatestError {
         ensures mode { self.new.mode ≡ self.old.mode }
         ensures one_more { OnOk result ((entries : List Entry) → HasGreatest entries self.old
             → HasGreatest (entries ++ record { place = place; numeral = numeral.now } ∷ []) self.new) }
+        ensures some { OnOk result (self.new.is_some ≡ true) }
+        ensures not_below { OnOk result
+            (HasNoGreaterError self.old.mode self.old.radix self.old.frac numeral.now self.new.numeral.items) }
+        ensures not_less { OnOk result (self.old.is_some ≡ true → HasNoGreaterError self.old.mode self.old.radix
+            self.old.frac self.old.numeral.items self.new.numeral.items) }
     {
         if self.is_greater(numeral, steps) {
             self.numeral.clear();

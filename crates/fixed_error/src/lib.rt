@@ -1,11 +1,15 @@
 //! The error of a rounded numeral: its size, compared exactly with that of another, whatever their lengths.
 #![tactic(auto)]
 
+pub mod errors;
 pub mod gap;
 pub mod greater;
 pub mod greatest;
+pub mod laws;
+mod rest;
 mod sums;
 
+pub use errors::GreatestErrors;
 pub use gap::is_read_within;
 pub use greater::{is_error_above, is_error_greater};
 pub use greatest::GreatestError;

@@ -1,0 +1,61 @@
+-- The greatest errors of numerals at many fraction lengths, where they are rounded to nearest.
+use Rattle.std.specs.Prelude.{◌≡◌, ℕ, suc, ◌*◌, ◌^◌, ◌≤◌, true, false, List, [], ◌∷◌, length}
+use Rattle.fixed_bits.specs.declared.mode.ReadMode.TheVariants.{NearestEven}
+use Rattle.fixed_numeral.specs.Numeral.{base}
+use Rattle.fixed_numeral.specs.Value.{Fraction}
+use Rattle.fixed_numeral.specs.declared.radix.Radix.{Radix}
+use Rattle.fixed_numeral.specs.declared.radix.Radix.TheVariants.{Bin, Oct, Dec, Hex}
+use Rattle.fixed_error.specs.ErrorSize.{HasErrorSize, IsAtMost}
+use Rattle.fixed_error.specs.Greatest.{Entry, HasGreatest}
+use Rattle.fixed_error.specs.declared.errors.GreatestErrors.{GreatestErrors}
+use Rattle.fixed_error.specs.declared.errors.LengthError.{LengthError}
+use Rattle.fixed_error.specs.declared.greatest.GreatestError.{GreatestError}
+
+-- this is kept of numerals at a fraction length
+pub record IsGreatestAt (r : Radix) (f : ℕ) (entries : List Entry) (g : GreatestError) : Type 0 where
+  pub radix : g.radix ≡ r
+  pub frac : g.frac ≡ f
+  pub mode : g.mode ≡ NearestEven
+  pub greatest : HasGreatest entries g
+
+-- how many digits are taken at a time: those whose power fits 60 bits
+abbrev pub block : Radix → ℕ
+block Bin = 60
+block Oct = 20
+block Dec = 18
+block Hex = 15
+
+-- how many parts of an ulp are told apart: two blocks of digits
+unfoldable pub parts : Radix → ℕ
+parts r = base r ^ block r * base r ^ block r
+
+-- the error of a numeral is at least so many parts of an ulp of 2^-f
+pub record IsErrorAtLeast (r : Radix) (f : ℕ) (bytes : List ℕ) (least : ℕ) : Type 0 where
+  pub size : Fraction
+  pub has_size : HasErrorSize NearestEven r f bytes size
+  pub at_least : IsAtMost (record { num = least; den = 2 ^ f * parts r }) size
+
+-- the greatest error at a fraction length, and how great it is at least
+pub record IsLengthError (r : Radix) (f : ℕ) (entries : List Entry) (e : LengthError) : Type 0 where
+  pub is_greatest : IsGreatestAt r f entries e.greatest
+  pub none : e.greatest.is_some ≡ false → e.least ≡ 0
+  pub least : e.greatest.is_some ≡ true → IsErrorAtLeast r f e.greatest.numeral.items e.least
+
+abbrev pub HasSomeLengthError : LengthError → Type 0
+HasSomeLengthError e = (entries : List Entry) × IsLengthError e.greatest.radix e.greatest.frac entries e
+
+-- the greatest errors at the fraction lengths from f on
+abbrev pub AreLengthErrors : Radix → ℕ → List Entry → List LengthError → Type 0
+AreLengthErrors r f entries [] = Unit {0}
+AreLengthErrors r f entries (e ∷ errors) = IsLengthError r f entries e × AreLengthErrors r (suc f) entries errors
+
+-- the greatest errors at the fraction lengths below a count
+pub record HasGreatestErrors (r : Radix) (count : ℕ) (entries : List Entry) (g : GreatestErrors) : Type 0 where
+  pub radix : g.radix ≡ r
+  pub most : count ≤ 65
+  pub count_is : length g.errors.items ≡ count
+  pub errors : AreLengthErrors r 0 entries g.errors.items
+
+-- this is kept of some numerals
+abbrev pub HasSomeGreatestErrors : GreatestErrors → Type 0
+HasSomeGreatestErrors g = (r : Radix) × (count : ℕ) × (entries : List Entry) × HasGreatestErrors r count entries g

@@ -1,0 +1,26 @@
+-- How far a numeral is behind a whole number of ulps, to so many digits.
+use Rattle.std.specs.Prelude.{◌≡◌, ℕ, ◌+◌, ◌-◌, ◌*◌, ◌^◌, ◌<◌, ◌≤◌, List, length, take, min}
+use Rattle.std.specs.Int.Digits.{number_from_digits}
+use Rattle.fixed_numeral.specs.Numeral.{Parts, HasNumeral}
+use Rattle.fixed_numeral.specs.Value.{magnitude}
+use Rattle.fixed_numeral.specs.declared.radix.Radix.{Radix}
+use Rattle.fixed_error.specs.Errors.{parts}
+use Rattle.fixed_error.specs.declared.rest.Rest.{Rest}
+
+-- what the first n digits spell, with zeros where there are fewer
+unfoldable pub first_number : ℕ → ℕ → List ℕ → ℕ
+first_number b n digits = number_from_digits b (take n digits) * b ^ (n - min n (length digits))
+
+-- num / den is `rest` parts of `one` above a whole number, or up to `slack` parts more
+pub record IsBehind (num den one rest slack : ℕ) : Type 0 where
+  pub ulps : ℕ
+  pub at_least : (ulps * one + rest) * den ≤ num * one
+  pub at_most : num * one ≤ (ulps * one + rest + slack) * den
+
+-- a numeral in ulps of 2^-f is that far behind a whole number
+pub record IsRest (r : Radix) (f : ℕ) (bytes : List ℕ) (x : Rest) : Type 0 where
+  pub behind : (p : Parts) → HasNumeral r bytes p
+      → IsBehind ((magnitude r p).num * 2 ^ f) (magnitude r p).den (parts r) x.rest x.slack
+  pub one : x.one ≡ parts r
+  pub below : x.rest < x.one
+  pub few : x.slack ≤ 2 ^ (f + 3)

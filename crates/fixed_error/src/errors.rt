@@ -1,0 +1,155 @@
+//! The greatest error of numerals at each of many fraction lengths, where they are rounded to nearest.
+//!
+//! A numeral rarely has a greater error than those before it. So its error is first bounded by its first digits, at
+//! each length from that at the one before, and compared exactly only where the bound is above what is known.
+
+ghost use Rattle.std.specs.Prelude.{◌≡◌, ◌<◌, ◌≤◌, ◌+◌, ◌-◌, ◌^◌, ◌++◌, ◌∷◌, [], List, ℕ, OnOk, IfOk};
+ghost use Rattle.std.specs.Prelude.{length, true, min};
+ghost use Rattle.fixed_bits.specs.declared.mode.ReadMode.TheVariants.{NearestEven};
+ghost use Rattle.fixed_error.specs.ErrorSize.{IsReadWithin};
+ghost use Rattle.fixed_numeral.specs.Numeral.{IsNumeral};
+ghost use Rattle.fixed_error.specs.Errors.{HasGreatestErrors, HasSomeGreatestErrors, HasSomeLengthError};
+ghost use Rattle.fixed_error.specs.Errors.{IsGreatestAt, IsLengthError};
+ghost use Rattle.fixed_error.specs.Greatest.{Entry};
+ghost use Rattle.fixed_error.specs.Inner.Rest.{IsRest};
+
+use crate::greatest::GreatestError;
+use crate::rest::{Rest, halved, least_of, most_of, rest_of};
+use fixed_bits::ReadMode;
+use fixed_numeral::Radix;
+use fixed_steps::Steps;
+use std::alloc::{AllocError, Global};
+use std::sync::ledger::Ledger;
+
+/// The greatest error at one fraction length.
+#[derive(Drop)]
+pub struct LengthError {
+    /// The numeral that has it.
+    pub greatest: GreatestError,
+    /// How great it is at least, in parts of an ulp.
+    pub least: u128,
+}
+
+impl LengthError {
+    /// Whether a numeral has surely no greater error than one before it.
+    fn is_surely_within(&self, rest: Rest) -> bool
+        requires below { rest.rest < rest.one }
+        requires one { rest.one ≤ 2 ^ 120 }
+        requires slack { rest.slack ≤ 2 ^ 67 }
+        ensures some { result ≡ true → self.now.greatest.is_some ≡ true }
+        ensures within { result ≡ true → min rest.rest (rest.one - rest.rest) + rest.slack ≤ self.now.least }
+    {
+        self.greatest.is_some() && most_of(rest) <= self.least
+    }
+
+    /// Takes one more numeral, which is that far behind a whole number of ulps.
+    fn add<L: Ledger>(
+        &mut self,
+        numeral: &[u8],
+        place: u64,
+        rest: Rest,
+        steps: &mut Steps<L>,
+    ) -> Result<(), AllocError>
+        requires known { HasSomeLengthError self.old }
+        requires within { IsReadWithin NearestEven self.old.greatest.radix self.old.greatest.frac numeral.now }
+        requires rest { IsRest self.old.greatest.radix self.old.greatest.frac numeral.now rest }
+        ensures { OnOk result ((r : Radix) (f : ℕ) (entries : List Entry) → IsLengthError r f entries self.old
+            → IsLengthError r f (entries ++ record { place = place; numeral = numeral.now } ∷ []) self.new) }
+    {
+        if self.is_surely_within(rest) {
+            return Ok(());
+        }
+        self.greatest.add(numeral, place, steps)?;
+        self.least = self.least.max(least_of(rest));
+        Ok(())
+    }
+}
+
+/// Of the numerals so far, for each fraction length below a count, the first that has the greatest error where they are
+/// rounded to nearest.
+#[derive(Drop)]
+pub struct GreatestErrors {
+    radix: Radix,
+    errors: Vec<LengthError>,
+}
+
+/// No numeral so far, at a fraction length.
+fn no_error(alloc: Global, radix: Radix, frac: u32) -> LengthError
+    requires { frac ≤ 64 }
+    ensures { IsLengthError radix frac [] result }
+{
+    LengthError {
+        greatest: GreatestError::new(alloc, radix, frac, ReadMode::NearestEven),
+        least: 0,
+    }
+}
+
+impl GreatestErrors {
+    /// No numeral so far, for the fraction lengths below a count, of which there are at most 65.
+    ///
+    /// # Errors
+    ///
+    /// There is no memory for them.
+    pub fn new(alloc: Global, radix: Radix, count: u32) -> Result<GreatestErrors, AllocError>
+        requires { count ≤ 65 }
+        ensures { IfOk result (HasGreatestErrors radix count []) }
+    {
+        let mut errors = Vec::new(alloc);
+        for frac in 0..count {
+            errors.push(no_error(alloc, radix, frac))?;
+        }
+        Ok(GreatestErrors { radix, errors })
+    }
+
+    /// How many fraction lengths there are.
+    pub fn count(&self) -> usize
+        ensures { result ≡ length self.now.errors.items }
+    {
+        self.errors.len()
+    }
+
+    /// Leaves the fraction lengths below a count.
+    pub fn shorten(&mut self, count: u32)
+        ensures { (r : Radix) (old : ℕ) (entries : List Entry) → HasGreatestErrors r old entries self.old
+            → HasGreatestErrors r (min count old) entries self.new }
+    {
+        self.errors.truncate(count as usize);
+    }
+
+    /// Takes one more numeral, which comes with a place. Memory is taken for the numerals with the greatest errors
+    /// alone.
+    ///
+    /// # Errors
+    ///
+    /// There is no memory for it.
+    pub fn add<L: Ledger>(
+        &mut self,
+        numeral: &[u8],
+        place: u64,
+        steps: &mut Steps<L>,
+    ) -> Result<(), AllocError>
+        requires known { HasSomeGreatestErrors self.old }
+        requires within { (f : ℕ) → f < length self.old.errors.items
+            → IsReadWithin NearestEven self.old.radix f numeral.now }
+        requires numeral { IsNumeral self.old.radix numeral.now }
+        ensures { OnOk result ((r : Radix) (count : ℕ) (entries : List Entry)
+            → HasGreatestErrors r count entries self.old
+            → HasGreatestErrors r count (entries ++ record { place = place; numeral = numeral.now } ∷ []) self.new) }
+    {
+        let mut rest = rest_of(numeral, self.radix, steps);
+        for error in self.errors.iter_mut() {
+            error.add(numeral, place, rest, steps)?;
+            rest = halved(rest);
+        }
+        Ok(())
+    }
+
+    /// The greatest error at a fraction length.
+    pub fn at(&self, frac: u32) -> &GreatestError
+        requires { frac < length self.now.errors.items }
+        ensures { (r : Radix) (count : ℕ) (entries : List Entry) → HasGreatestErrors r count entries self.now
+            → IsGreatestAt r frac entries result.now }
+    {
+        &self.errors[frac as usize].greatest
+    }
+}

@@ -1,0 +1,158 @@
+//! How far a numeral is behind a whole number of ulps, to some 36 digits.
+
+ghost use Rattle.std.specs.Prelude.{◌≡◌, ◌⊎◌, ◌<◌, ◌≤◌, ◌+◌, ◌-◌, ◌*◌, ◌^◌, ◌%◌, drop, min, List, ℕ, if◌then◌else◌};
+ghost use Rattle.std.specs.Int.Digits.{AllBelowBase};
+ghost use Rattle.fixed_numeral.specs.Numeral.{HasNumeral, IsNumeral, Parts, base};
+ghost use Rattle.fixed_numeral.specs.Scanned.{IsScanned, exponent_unit};
+ghost use Rattle.fixed_error.specs.Errors.{block};
+ghost use Rattle.fixed_error.specs.Inner.Rest.{IsRest, first_number};
+
+use crate::gap::power_of_two;
+use fixed_numeral::{DigitView, Radix, Scanned, power_of_ten, scan};
+use fixed_steps::Steps;
+use std::sync::ledger::Ledger;
+
+/// How far a numeral is behind a whole number of ulps.
+#[derive(Clone, Copy, Debug, PartialEq, Eq)]
+pub struct Rest {
+    /// How many parts an ulp has.
+    pub one: u128,
+    /// How many parts the numeral is above a whole number, at least.
+    pub rest: u128,
+    /// How many parts more it is at most.
+    pub slack: u128,
+}
+
+/// How many digits are taken at a time.
+fn block_of(radix: Radix) -> u32
+    ensures { result ≡ block radix }
+{
+    match radix {
+        Radix::Bin => 60,
+        Radix::Oct => 20,
+        Radix::Dec => 18,
+        Radix::Hex => 15,
+    }
+}
+
+/// The radix to a power.
+fn power_of(radix: Radix, count: u32) -> u128
+    requires { count ≤ block radix }
+    ensures value { result ≡ base radix ^ count }
+    ensures small { result ≤ 2 ^ 60 }
+{
+    match radix {
+        Radix::Bin => power_of_two(count),
+        Radix::Oct => power_of_two(3 * count),
+        Radix::Dec => u128::from(power_of_ten(count)),
+        Radix::Hex => power_of_two(4 * count),
+    }
+}
+
+/// What the first digits spell, with zeros where there are fewer, and the other digits.
+fn take_block<'a, L: Ledger>(
+    digits: &DigitView<'a>,
+    radix: Radix,
+    steps: &mut Steps<L>,
+) -> (u128, DigitView<'a>)
+    requires { AllBelowBase (base radix) digits.now }
+    ensures number { result.0 ≡ first_number (base radix) (block radix) digits.now }
+    ensures small { result.0 ≤ 2 ^ 60 }
+    ensures rest { result.1 ≡ drop (block radix) digits.now }
+{
+    let block = block_of(radix);
+    let taken = u64::from(block).min(digits.len()) as u32;
+    let power = power_of(radix, block - taken);
+    let (number, rest) = digits.take_number(radix.base(), block, steps);
+    (u128::from(number) * power, rest)
+}
+
+/// How far a number of parts is behind a whole number of ulps, where `is_cut` says whether there is more than that.
+fn rest_by(number: u128, unit: u128, one: u128, is_cut: bool) -> Rest
+    requires number { number < 2 ^ 121 }
+    requires unit { unit ≤ 8 }
+    requires some { 0 < one }
+    ensures one { result.one ≡ one }
+    ensures rest { result.rest ≡ number * unit % one }
+    ensures slack { result.slack ≡ if is_cut then unit else 0 }
+{
+    Rest {
+        one,
+        rest: number * unit % one,
+        slack: if is_cut { unit } else { 0 },
+    }
+}
+
+/// How far a scanned numeral is behind a whole number.
+fn rest_of_scanned<'a, L: Ledger>(found: &Scanned<'a>, radix: Radix, steps: &mut Steps<L>) -> Rest
+    requires fraction { AllBelowBase (base radix) found.now.fraction }
+    requires bits { found.now.bit_shift < exponent_unit radix }
+    ensures { (text : List ℕ) → ((p : Parts) → HasNumeral radix text p → IsScanned radix p found.now.neg
+        found.now.whole found.now.fraction found.now.bit_shift) → IsRest radix 0 text result }
+{
+    let (high, later) = take_block(found.fraction_view(), radix, steps);
+    let (low, last) = take_block(&later, radix, steps);
+    let unit = power_of(radix, block_of(radix));
+    let shift = power_of_two(found.bit_shift());
+    rest_by(high * unit + low, shift, unit * unit, !last.is_empty())
+}
+
+/// How far a numeral is behind a whole number.
+pub fn rest_of<L: Ledger>(text: &[u8], radix: Radix, steps: &mut Steps<L>) -> Rest
+    requires { IsNumeral radix text.now }
+    ensures { IsRest radix 0 text.now result }
+{
+    let scanned = scan(text, radix, steps);
+    match &scanned {
+        Ok(found) => rest_of_scanned(found, radix, steps),
+        Err(_) => unreachable!(),
+    }
+}
+
+/// How far a numeral is behind a whole number of ulps half as great.
+pub fn halved(rest: Rest) -> Rest
+    requires below { rest.rest < rest.one }
+    requires one { rest.one ≤ 2 ^ 120 }
+    requires slack { rest.slack ≤ 2 ^ 67 }
+    ensures one { result.one ≡ rest.one }
+    ensures rest { result.rest ≡ 2 * rest.rest ⊎ (result.rest + rest.one ≡ 2 * rest.rest) }
+    ensures below { result.rest < rest.one }
+    ensures slack { result.slack ≡ 2 * rest.slack }
+{
+    let twice = 2 * rest.rest;
+    Rest {
+        one: rest.one,
+        rest: if twice < rest.one {
+            twice
+        } else {
+            twice - rest.one
+        },
+        slack: 2 * rest.slack,
+    }
+}
+
+/// How far a numeral is from the nearest whole number of ulps, in parts.
+fn near(rest: Rest) -> u128
+    requires { rest.rest ≤ rest.one }
+    ensures { result ≡ min rest.rest (rest.one - rest.rest) }
+{
+    rest.rest.min(rest.one - rest.rest)
+}
+
+/// How far a numeral is from the nearest whole number of ulps at most, in parts.
+pub fn most_of(rest: Rest) -> u128
+    requires below { rest.rest < rest.one }
+    requires one { rest.one ≤ 2 ^ 120 }
+    requires slack { rest.slack ≤ 2 ^ 67 }
+    ensures { result ≡ min rest.rest (rest.one - rest.rest) + rest.slack }
+{
+    near(rest) + rest.slack
+}
+
+/// How far a numeral is from the nearest whole number of ulps at least, in parts.
+pub fn least_of(rest: Rest) -> u128
+    requires { rest.rest < rest.one }
+    ensures { result ≡ min rest.rest (rest.one - rest.rest) - rest.slack }
+{
+    near(rest).saturating_sub(rest.slack)
+}
