@@ -10,7 +10,6 @@ mod SelfLemmas
 mod SelfLawLemmas
 mod SelfExampleLemmas
 mod ExampleLemmas
-mod ReachedExampleLemmas
 mod ReachLemmas
 mod TableLemmas
 mod KeyLemmas

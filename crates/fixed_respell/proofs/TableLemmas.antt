@@ -2,7 +2,7 @@
 use Rattle.std.proofs.Common.{◌≡◌, ℕ, zero, suc, ◌+◌, ◌*◌, ◌/◌, ◌%◌, ◌^◌, ◌<◌, ◌≤◌, ◌⊎◌, Bool, true, false, List, [], ◌∷◌, length, get_or, refl, sym, subst, arith, inl, inr, ⊎_elim}
 use Rattle.std.specs.Prelude.{◌&&◌, ◌||◌, eqb, leb}
 use Rattle.std.specs.Fmt.{digits}
-use Rattle.std.proofs.lemmas.Bool.{and_parts, eqb-true, leb-true, cases_lt}
+use Rattle.std.proofs.lemmas.Bool.{and_parts, or_cases, eqb-true, leb-true, cases_lt}
 use Rattle.std.specs.Int.Digits.{AllBelowBase}
 use Rattle.fixed_bits.specs.Formats.{IsTypeFormat}
 use Rattle.fixed_bits.specs.Ranges.{IsTypeWidth}
@@ -86,8 +86,11 @@ entry_of w f is = read_entry w f (counts_word w f) (by_width is.is_width)
     by_width (inr (inr (inr e))) = subst (λ n. has_entry n f (counts_word n f) ≡ true) (sym e) (up_to (λ i. has_entry 64 i (counts_word 64 i)) 64 f (rw e at is.within) entries_64)
 
 -- ---- each entry is that of a word
+abbrev pub is_type : ℕ → ℕ → Bool
+is_type w f = (eqb w 8 || (eqb w 16 || (eqb w 32 || eqb w 64))) && leb f w
+
 abbrev is_entry : ℕ → ℕ → ℕ → Bool
-is_entry w f key = (eqb w 8 || (eqb w 16 || (eqb w 32 || eqb w 64))) && (leb f w && eqb key (word_key (counts_word w f)))
+is_entry w f key = is_type w f && eqb key (word_key (counts_word w f))
 
 abbrev is_sound : ℕ → Bool
 is_sound e = eqb e 0 || is_entry (e / 2 ^ 56) (e / 2 ^ 48 % 256) (e % 2 ^ 48)
@@ -99,24 +102,20 @@ entries_sound = refl
 sound_at : (h : ℕ) → is_sound (get_or table h 0) ≡ true
 sound_at h = member is_sound table h refl entries_sound
 
-or_true : (a b : Bool) → (a || b) ≡ true → (a ≡ true) ⊎ (b ≡ true)
-or_true true b e = inl refl
-or_true false b e = inr e
-
 width_is : (w : ℕ) → (eqb w 8 || (eqb w 16 || (eqb w 32 || eqb w 64))) ≡ true → IsTypeWidth w
 width_is w e = ⊎_elim
     (λ a. inl (eqb-true w 8 a))
-    (λ a. ⊎_elim (λ b. inr (inl (eqb-true w 16 b))) (λ b. ⊎_elim (λ d. inr (inr (inl (eqb-true w 32 d)))) (λ d. inr (inr (inr (eqb-true w 64 d)))) (or_true (eqb w 32) (eqb w 64) b)) (or_true (eqb w 16) (eqb w 32 || eqb w 64) a))
-    (or_true (eqb w 8) (eqb w 16 || (eqb w 32 || eqb w 64)) e)
+    (λ a. ⊎_elim (λ b. inr (inl (eqb-true w 16 b))) (λ b. ⊎_elim (λ d. inr (inr (inl (eqb-true w 32 d)))) (λ d. inr (inr (inr (eqb-true w 64 d)))) (or_cases (eqb w 32) (eqb w 64) b)) (or_cases (eqb w 16) (eqb w 32 || eqb w 64) a))
+    (or_cases (eqb w 8) (eqb w 16 || (eqb w 32 || eqb w 64)) e)
+
+pub type_is : (w f : ℕ) → is_type w f ≡ true → IsTypeFormat w f
+type_is w f e = let h = and_parts (eqb w 8 || (eqb w 16 || (eqb w 32 || eqb w 64))) (leb f w) e in record { is_width = width_is w h.0; within = leb-true f w h.1 }
 
 entry_is : (e w f key : ℕ) → (eqb e 0 || is_entry w f key) ≡ true → 0 < e → IsTypeFormat w f × (key ≡ word_key (counts_word w f))
 entry_is e w f key sound some = ⊎_elim
     (λ z. let n = eqb-true e 0 z in absurd (omega (arith, n, some)))
-    (λ s.
-    let a = and_parts (eqb w 8 || (eqb w 16 || (eqb w 32 || eqb w 64))) (leb f w && eqb key (word_key (counts_word w f))) s in
-    let b = and_parts (leb f w) (eqb key (word_key (counts_word w f))) a.1 in
-    (record { is_width = width_is w a.0; within = leb-true f w b.0 }, eqb-true key (word_key (counts_word w f)) b.1))
-    (or_true (eqb e 0) (is_entry w f key) sound)
+    (λ s. let h = and_parts (is_type w f) (eqb key (word_key (counts_word w f))) s in (type_is w f h.0, eqb-true key (word_key (counts_word w f)) h.1))
+    (or_cases (eqb e 0) (is_entry w f key) sound)
 
 pub found_sound : (h : ℕ) → 0 < get_or table h 0 → IsEntry (get_or table h 0)
 found_sound h some =
