@@ -15,48 +15,6 @@ use Rattle.fixed_respell.specs.Words.{format_text, fraction_letter, sign_letter}
 use Rattle.fixed_respell.specs.Lemmas.FormatLemmas.{IsNoDigit, decimal_without, no_digit_is}
 use Rattle.fixed_respell.specs.Lemmas.SplitLemmas.{IsSameSplit, split_has_one, split_is_one}
 
--- ---- counts of at most two digits
-decimal_two : (n : ℕ) → 10 ≤ n → n < 100 → decimal n ≡ (48 + n / 10) ∷ (48 + n % 10) ∷ []
-decimal_two n some few =
-    let high : n / 10 < 10 = omega (arith, few) in
-    decimal_step n some (omega (arith, few)) ∙ ap (λ ds. ds ++ (48 + n % 10) ∷ []) (decimal_digit (n / 10) high)
-
--- a count is one digit, or two of which the first is not 0
-count_digits : (n : ℕ) → n < 100 → ((n < 10) × (decimal n ≡ (48 + n) ∷ [])) ⊎ ((10 ≤ n) × (decimal n ≡ (48 + n / 10) ∷ (48 + n % 10) ∷ []))
-count_digits n few = ⊎_elim
-    (λ (less : n < 10). inl (less, decimal_digit n less))
-    (λ (more : 10 ≤ n). inr (more, decimal_two n more few))
-    (cases_lt n 10)
-
-pub one_digit : (xs : List ℕ) (o : Option ℕ) → length xs ≡ 1 → MatchOption o ((n : ℕ) → n < 10 → ¬ (get_or xs 0 0 ≡ 48 + n)) (λ n. (n < 10) × (get_or xs 0 0 ≡ 48 + n)) → MatchOption o ((n : ℕ) → n < 100 → ¬ (xs ≡ decimal n)) (λ n. (n < 100) × (xs ≡ decimal n))
-one_digit [] o count found = absurd (omega (arith, count))
-one_digit (x ∷ y ∷ xs) o count found = absurd (omega (arith, count))
-one_digit (x ∷ []) None count none = λ n few is. ⊎_elim
-    (λ (w : (n < 10) × (decimal n ≡ (48 + n) ∷ [])). let e : x ∷ [] ≡ (48 + n) ∷ [] = is ∙ w.1 in let head : x ≡ 48 + n = cc in none n w.0 head)
-    (λ (w : (10 ≤ n) × (decimal n ≡ (48 + n / 10) ∷ (48 + n % 10) ∷ [])). absurd (omega (arith, ap length (is ∙ w.1))))
-    (count_digits n few)
-one_digit (x ∷ []) (Some n) count found = (omega (arith, found.0), ap (λ d. d ∷ []) found.1 ∙ sym (decimal_digit n found.0))
-
-pub two_digits : (xs : List ℕ) (o : Option ℕ) → length xs ≡ 2 → MatchOption o ((n : ℕ) → 10 ≤ n → n < 100 → ¬ ((get_or xs 0 0 ≡ 48 + n / 10) × (get_or xs 1 0 ≡ 48 + n % 10))) (λ n. (10 ≤ n) × (n < 100) × (get_or xs 0 0 ≡ 48 + n / 10) × (get_or xs 1 0 ≡ 48 + n % 10))
-    → MatchOption o ((n : ℕ) → n < 100 → ¬ (xs ≡ decimal n)) (λ n. (n < 100) × (xs ≡ decimal n))
-two_digits [] o count found = absurd (omega (arith, count))
-two_digits (x ∷ []) o count found = absurd (omega (arith, count))
-two_digits (x ∷ y ∷ z ∷ xs) o count found = absurd (omega (arith, count))
-two_digits (x ∷ y ∷ []) None count none = λ n few is. ⊎_elim
-    (λ (w : (n < 10) × (decimal n ≡ (48 + n) ∷ [])). absurd (omega (arith, ap length (is ∙ w.1))))
-    (λ (w : (10 ≤ n) × (decimal n ≡ (48 + n / 10) ∷ (48 + n % 10) ∷ [])).
-    let e : x ∷ y ∷ [] ≡ (48 + n / 10) ∷ (48 + n % 10) ∷ [] = is ∙ w.1 in
-    let head : x ≡ 48 + n / 10 = cc in
-    let next : y ≡ 48 + n % 10 = cc in
-    none n w.0 few (head, next))
-    (count_digits n few)
-two_digits (x ∷ y ∷ []) (Some n) count found =
-    let both : x ∷ y ∷ [] ≡ (48 + n / 10) ∷ (48 + n % 10) ∷ [] = ap (λ d. d ∷ y ∷ []) found.2 ∙ ap (λ d. (48 + n / 10) ∷ d ∷ []) found.3 in
-    (found.1, both ∙ sym (decimal_two n found.0 found.1))
-
-pub other_count : (xs : List ℕ) (n : ℕ) → (length xs ≡ 1 → ⊥) → (length xs ≡ 2 → ⊥) → n < 100 → xs ≡ decimal n → ⊥
-other_count xs n one two few is = ⊎_elim (λ w. one (ap length (is ∙ w.1))) (λ w. two (ap length (is ∙ w.1))) (count_digits n few)
-
 -- ---- two counts around a byte that is no digit
 abbrev IsSameCounts : ℕ → ℕ → List ℕ → List ℕ → List ℕ → List ℕ → Type 0
 IsSameCounts m n xs ys r s = (xs ≡ ys) × (m ≡ n) × (r ≡ s)
