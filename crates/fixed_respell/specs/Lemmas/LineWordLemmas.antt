@@ -36,15 +36,6 @@ pub enough_spaces : (line : List ℕ) (words : List (List ℕ)) (rest : List ℕ
     → length words ≤ count_of space line
 enough_spaces line words rest has = omega (arith, ap (count_of space) has.text, spaces words rest)
 
--- the rest is no longer than the line
-spaced_length : (words : List (List ℕ)) (rest : List ℕ) → length rest ≤ length (spaced words rest)
-spaced_length [] rest = omega arith
-spaced_length (word ∷ words) rest = omega (
-  arith,
-  length-append word (space ∷ spaced words rest),
-  spaced_length words rest,
-)
-
 -- a split takes one space
 pub one_fewer : (bytes before after : List ℕ) → IsSplit space bytes before after
     → count_of space bytes ≡ 1 + count_of space after
