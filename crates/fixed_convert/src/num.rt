@@ -8,20 +8,16 @@ use fixed_bits::Inner;
 
 /// A number with bits and a fraction length: its value is its bits over two to the power of the length.
 pub trait Num: Copy {
-    /// Whether the bits may be negative.
-    const SIGNED: bool;
-
-    /// How many bits there are: 1, 8, 16, 32 or 64.
-    const WIDTH: u32;
-
     /// The fraction length: how many bits are after the point.
     const FRAC: u32;
 
+    ghost FRAC: { ℕ };
+
+    /// Whether the bits may be negative.
     ghost SIGNED: { Bool };
 
+    /// How many bits there are: 1, 8, 16, 32 or 64.
     ghost WIDTH: { ℕ };
-
-    ghost FRAC: { ℕ };
 
     /// The bits of a value.
     ghost wide: { Self → ℤ };
