@@ -16,5 +16,4 @@ mod KeyLemmas
 mod NameLemmas
 mod FormatNameLemmas
 mod NamedLemmas
-mod FaultAnswerLemmas
 mod EndingLemmas

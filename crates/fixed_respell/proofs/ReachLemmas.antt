@@ -1,6 +1,6 @@
 -- From a reading through the source to the target.
 use Rattle.std.proofs.Common.{◌≡◌, ℕ, ◌⊎◌, ◌↔◌, Bool, true, false, IsTrue, List, refl, subst, ⊎_elim, inl, inr, ℤ}
-use Rattle.fixed_bits.specs.Down.{IsDown, down}
+use Rattle.fixed_bits.specs.Down.{down}
 use Rattle.fixed_bits.specs.Formats.{FormatParts}
 use Rattle.fixed_bits.specs.Images.{IsImage}
 use Rattle.fixed_bits.specs.Numbers.{IsNumber, IsRefused}

@@ -1,6 +1,6 @@
 -- A line has one answer.
 use Rattle.std.proofs.Common.{◌≡◌, ℕ, ◌-◌, ◌<◌, List, [], ◌∷◌, ◌++◌, Bool, length, get_or, refl, sym, ap, ◌∙◌, subst}
-use Rattle.std.proofs.Common.{arith, ℤ, inl, inr, if◌then◌else◌, ◌==◌}
+use Rattle.std.proofs.Common.{arith, inl, inr, if◌then◌else◌, ◌==◌}
 use Rattle.std.specs.Fmt.{decimal}
 use Rattle.std.proofs.lemmas.Fmt.{decimal_injective}
 use Rattle.fixed_bits.specs.Formats.{FormatParts, IsFormat}

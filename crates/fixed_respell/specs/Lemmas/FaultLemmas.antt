@@ -1,5 +1,5 @@
 -- The faults of a line, in the order in which they are looked for.
-use Rattle.std.proofs.Common.{◌≡◌, ℕ, ◌+◌, ◌<◌, ◌≤◌, List, [], ◌∷◌, length, refl, sym, ap, ◌∙◌, arith, if◌then◌else◌}
+use Rattle.std.proofs.Common.{◌≡◌, ℕ, ◌<◌, ◌≤◌, List, [], ◌∷◌, length, refl, sym, ap, ◌∙◌, arith, if◌then◌else◌}
 use Rattle.std.proofs.Common.{◌==◌, subst}
 use Rattle.fixed_bits.specs.Formats.{FormatParts}
 use Rattle.fixed_bits.specs.declared.format.Policy.{Policy}
@@ -13,7 +13,7 @@ use Rattle.fixed_respell.specs.Words.{radix_text, IsPolicyWord}
 use Rattle.fixed_respell.specs.declared.fault.LineFault.{LineFault}
 use Rattle.fixed_respell.specs.declared.fault.LineFault.TheVariants.{LineTooLong, MissingField, BadRadix, BadSource}
 use Rattle.fixed_respell.specs.declared.fault.LineFault.TheVariants.{BadTarget, BadPolicy}
-use Rattle.fixed_respell.specs.Lemmas.LineWordLemmas.{NoneBefore, RanksTellApart, first_is, none_at_first, none_next}
+use Rattle.fixed_respell.specs.Lemmas.LineWordLemmas.{RanksTellApart}
 use Rattle.fixed_respell.specs.Lemmas.LineWordLemmas.{not_bad, not_missing}
 
 -- the fault of a rank

@@ -1,6 +1,6 @@
 -- A line has its words in one way, and a first fault is the one first fault.
 use Rattle.std.proofs.Common.{◌≡◌, ℕ, ◌+◌, ◌<◌, ◌≤◌, List, [], ◌∷◌, length, get_or, refl, sym, ap, ◌∙◌, subst}
-use Rattle.std.proofs.Common.{arith, inl, inr, length-append}
+use Rattle.std.proofs.Common.{arith, inl, inr}
 use Rattle.std.proofs.lemmas.Bool.{cases_lt}
 use Rattle.fixed_respell.specs.LineWords.{HasWords, HaveNoSpace, HasBadWord, IsFirst, space, spaced}
 use Rattle.fixed_respell.specs.Split.{count_of, IsSplit}

@@ -1,22 +1,17 @@
 -- What is reached is the one.
-use Rattle.std.proofs.Common.{◌≡◌, ℕ, ◌↔◌, Bool, true, false, IsTrue, List, take, slice_get, refl, sym, ap, ◌∙◌, arith}
+use Rattle.std.proofs.Common.{◌≡◌, ℕ, List, sym, ◌∙◌}
 use Rattle.std.proofs.Common.{⊎_elim, ℤ, inl, inr}
 use Rattle.std.proofs.lemmas.Bool.Decides.{same_from_decides}
 use Rattle.fixed_bits.specs.Down.{IsDown}
 use Rattle.fixed_bits.specs.Images.{IsImage}
 use Rattle.fixed_bits.specs.declared.format.Policy.TheVariants.{Checked}
-use Rattle.fixed_bits.specs.declared.mode.ReadMode.{ReadMode}
-use Rattle.fixed_bits.proofs.Public.{rounded_one, image_one, has_none, down_one}
-use Rattle.fixed_numeral.specs.Cause.{HasCause, kind_of}
-use Rattle.fixed_numeral.specs.Numeral.{Parts, HasNumeral, is_minus, signed}
-use Rattle.fixed_numeral.specs.declared.error.ParseErrorKind.{ParseErrorKind}
-use Rattle.fixed_numeral.specs.declared.error.ParseErrorKind.TheVariants.{Overflow}
+use Rattle.fixed_bits.proofs.Public.{image_one, has_none, down_one}
+use Rattle.fixed_numeral.specs.Numeral.{Parts, HasNumeral}
 use Rattle.fixed_numeral.specs.declared.radix.Radix.{Radix}
 use Rattle.fixed_numeral.proofs.Public.{one_cause, parts_unique}
 use Rattle.fixed_read.proofs.Public.{read_unique}
 use Rattle.fixed_respell.specs.Laws.{ReachedIsTheOne, OverflowedHasNone, RespelledIsTheOne, RefusalHasNone}
 use Rattle.fixed_respell.specs.Laws.{RefusalIsTheOne}
-use Rattle.fixed_respell.specs.Reached.{OverflowsOn}
 
 down_same : (b : ℤ) (f g : ℕ) (d e : ℤ) → IsDown b f g d → IsDown b f g e → d ≡ e
 down_same b f g d e x y = (down_one b f g d).0 x ∙ sym ((down_one b f g e).0 y)
