@@ -1,7 +1,7 @@
 -- Numbers that represent others: the same images, the same side of every range.
 use Rattle.std.proofs.Common.{IsTrue, not, ◌≡◌, ℕ, suc, ◌+◌, ◌-◌, ◌*◌, ◌^◌, ◌≤◌, Bool, true, false, ℤ, pos, negsuc, neg_ℤ, arith, refl, sym, ap, inl, inr, ⊎_elim, ◌∙◌, mul-le-mul_right}
 use Rattle.std.specs.Prelude.{◌<ℤ◌, ◌↔◌}
-use Rattle.std.proofs.lemmas.Int.{ints, by_lt_z}
+use Rattle.std.proofs.lemmas.Int.{ints}
 use Rattle.std.proofs.lemmas.Nat.{pow-add}
 use Rattle.std.proofs.Math.Pow.{pow_mono}
 use Rattle.fixed_bits.specs.Ranges.{IsInRange, IsOutOfRange, IsWide, lowest, greatest}
@@ -28,20 +28,13 @@ side_above v w e (inl q) x h = rw q h
 side_above v w e (inr (inl q)) x h = let a = q.1 in let b = x.high in omega (arith, ints)
 side_above v w e (inr (inr q)) x h = absurd (let a = q.0 in let b = x.low in omega (arith, ints))
 
-pub side_in : (s : Bool) (n : ℕ) (v w : ℤ) → n ≤ 64 → OnSameSide v w → IsInRange s n v → IsInRange s n w
-side_in s n v w l o h = record {
-  low = by_lt_z w (lowest s n)
-      (λ x. absurd (let a = h.low in let b = side_below w v (lowest s n) (side_turned v w o) (ends_wide s n l).0 x in omega (arith, ints)))
-      (λ x. x);
-  high = by_lt_z (greatest s n) w
-      (λ x. absurd (let a = h.high in let b = side_above w v (greatest s n) (side_turned v w o) (ends_wide s n l).1 x in omega (arith, ints)))
-      (λ x. x);
-}
-
 pub side_same : (s : Bool) (n : ℕ) (v w : ℤ) → n ≤ 64 → OnSameSide v w → IsInRange s n v → w ≡ v
 side_same s n v w l (inl e) h = e
 side_same s n v w l (inr (inl q)) h = absurd (let a = q.0 in let b = h.high in let c = (ends_wide s n l).1.high in omega (arith, ints))
 side_same s n v w l (inr (inr q)) h = absurd (let a = q.0 in let b = h.low in let c = (ends_wide s n l).0.low in omega (arith, ints))
+
+pub side_in : (s : Bool) (n : ℕ) (v w : ℤ) → n ≤ 64 → OnSameSide v w → IsInRange s n v → IsInRange s n w
+side_in s n v w l o h = rw (side_same s n v w l o h) h
 
 -- ---- the same images
 pub near_less : (n : ℕ) (a b : ℤ) → n ≤ 64 → DiffersByMultiple (2 ^ 64) a b → DiffersByMultiple (2 ^ n) a b

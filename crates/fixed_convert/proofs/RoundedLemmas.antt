@@ -1,7 +1,7 @@
 -- Bits moved in a mode.
-use Rattle.std.proofs.Common.{◌≡◌, ◌∙◌, ◌↔◌, ℕ, ℤ, Bool, IsTrue, not, true, false, pos, negsuc, zero, suc, ◌+◌, ◌-◌, ◌*◌, ◌/◌, ◌^◌, ◌<◌, ◌≤◌, unsigned_abs, refl, sym, ap, subst, arith, div-add-mod', mul-le-mul_left, pow-suc}
+use Rattle.std.proofs.Common.{◌≡◌, ◌∙◌, ◌↔◌, ℕ, ℤ, Bool, IsTrue, true, false, pos, negsuc, zero, suc, ◌+◌, ◌-◌, ◌*◌, ◌/◌, ◌^◌, ◌<◌, ◌≤◌, unsigned_abs, refl, sym, ap, subst, arith, div-add-mod', mul-le-mul_left, pow-suc}
 use Rattle.std.specs.Int.{is_negative}
-use Rattle.std.proofs.lemmas.Bool.{le-ltb}
+use Rattle.std.proofs.lemmas.Bool.Decides.{same_from_decides}
 use Rattle.std.proofs.lemmas.Int.{ints}
 use Rattle.std.proofs.lemmas.Nat.{pow_pos, pow-add}
 use Rattle.fixed_bits.proofs.Integers.{plus_times}
@@ -13,12 +13,9 @@ use Rattle.fixed_bits.specs.Rounded.{IsRounded}
 use Rattle.fixed_bits.specs.declared.format.Policy.TheVariants.{Checked}
 use Rattle.fixed_bits.specs.declared.mode.ReadMode.{ReadMode}
 use Rattle.fixed_bits.specs.declared.mode.ReadMode.TheVariants.{NearestEven, Floor, Ceil, TowardsZero}
-use Rattle.fixed_bits.proofs.Public.{down_is, grown, has_none, image_one, nearest_by_rest, rounded_exists, rounded_same, rounded_unique}
+use Rattle.fixed_bits.proofs.Public.{down_is, grown, has_none, image_one, nearest_by_rest, not_negative, rounded_exists, rounded_same, rounded_unique}
 use Rattle.fixed_convert.specs.Moved.{shifted}
 use Rattle.fixed_convert.specs.Rounded.{FloorIsDown, IsMovedIn, MovedInIsTheOne, ReformattedIsTheOne}
-
-not_negative : (a : ℕ) → is_negative (pos a) ≡ false
-not_negative a = le-ltb a 0 (omega arith)
 
 moved_by : (mode : ReadMode) (b v : ℤ) (f g q : ℕ) (negative : Bool) → is_negative b ≡ negative → IsRounded mode negative (unsigned_abs b * 2 ^ g) (2 ^ f) q → v ≡ with_sign negative q → IsMovedIn mode b f g v
 moved_by mode b v f g q negative e rounded value = record {
@@ -86,11 +83,6 @@ half_at_most m (suc bits) some few =
     let double = ap (λ x. m / 2 ^ suc bits * x) (pow-suc 2 bits) in
     omega (arith, more, sum, double)
 
--- the contrary of "in range"
-pub not_inside : (t : Bool) (P : Type 0) → ((t ≡ false) ↔ P) → IsTrue (not t) ↔ P
-not_inside true P e = ((λ x. absurd (let y : false ≡ true = x in cc)), (λ p. absurd (let y : true ≡ false = e.1 p in cc)))
-not_inside false P e = ((λ x. e.0 refl), (λ p. refl))
-
 -- ---- laws
 moved_one : (mode : ReadMode) (b : ℤ) (f g : ℕ) (v w : ℤ) → IsMovedIn mode b f g v → IsMovedIn mode b f g w → v ≡ w
 moved_one mode b f g v w x y =
@@ -104,12 +96,6 @@ moved_in_is_the_one mode b f g =
     let is : IsMovedIn mode b f g v = record { ulps = some.0; rounded = some.1; value = refl } in
     (v, is, λ w h. moved_one mode b f g w v h is)
 
-same_flag : (a b : Bool) (P : Type 0) → (IsTrue a ↔ P) → (IsTrue b ↔ P) → a ≡ b
-same_flag true true P f g = refl
-same_flag true false P f g = sym (g.1 (f.0 refl))
-same_flag false true P f g = f.1 (g.0 refl)
-same_flag false false P f g = refl
-
 pub reformatted_is_the_one : ReformattedIsTheOne
 reformatted_is_the_one mode policy target b f c o format x = (
   λ d u y.
@@ -117,7 +103,7 @@ reformatted_is_the_one mode policy target b f c o format x = (
       let Image : ℤ → Type 0 = λ v. IsImage policy target.signed target.width v c in
       let Verdict : ℤ → Type 0 = λ v. IsTrue o ↔ IsOutOfRange target.signed target.width v in (
         image_one policy target.signed target.width y.moved c d format.is_width (subst Image m x.image_is) y.image_is,
-        same_flag o u (IsOutOfRange target.signed target.width y.moved) (subst Verdict m x.verdict) y.verdict,
+        same_from_decides o u (subst Verdict m x.verdict) y.verdict,
       ),
   λ none.
       let m : x.moved ≡ none.moved = moved_one mode b f target.frac x.moved none.moved x.is_moved none.is_moved in

@@ -5,26 +5,31 @@ ghost use Rattle.fixed_convert.specs.Laws.{FinerIsExact, ConversionIsUndone, Ord
 ghost use Rattle.fixed_convert.specs.Laws.{ExactIsEqual};
 
 /// Moving to a length that is no shorter loses nothing.
+#[tactic(auto, using(crate::proofs::MovedLemmas::finer))]
 pub fn finer_is_exact()
     ensures { FinerIsExact }
 {}
 
 /// A conversion that loses nothing, followed by the one back, is the identity.
+#[tactic(auto, using(crate::proofs::MovedLemmas::undone))]
 pub fn conversion_is_undone()
     ensures { ConversionIsUndone }
 {}
 
 /// The order is that of the values.
+#[tactic(auto, using(crate::proofs::OrderLemmas::of_values))]
 pub fn order_is_of_values()
     ensures { OrderIsOfValues }
 {}
 
 /// The order is total, transitive through a third format, and reversed when its sides are swapped.
+#[tactic(auto, using(crate::proofs::OrderLemmas::total))]
 pub fn order_is_total()
     ensures { OrderIsTotal }
 {}
 
 /// A number moved without loss is ordered as before.
+#[tactic(auto, using(crate::proofs::OrderLemmas::exact_alike))]
 pub fn exact_is_equal()
     ensures { ExactIsEqual }
 {}

@@ -26,50 +26,11 @@ pub fn reformat_mode(
     ensures wide { IfSome result (λ r. IsWide r.0) }
 {
     if from <= format.frac() {
-        reformat_exactly(format, policy, mode, b, from)
-    } else {
-        reformat_shorter(format, policy, mode, b, from)
+        return match reformat(format, policy, b, from) {
+            Some((image, overflowed)) => Some((image, overflowed)),
+            None => None,
+        };
     }
-}
-
-/// The same for a fraction length that is not shorter, where all modes agree.
-fn reformat_exactly(
-    format: Format,
-    policy: Policy,
-    mode: ReadMode,
-    b: i128,
-    from: u32,
-) -> Option<(i128, bool)>
-    requires wide { IsWide b }
-    requires from { from ≤ 64 }
-    requires longer { from ≤ format.frac }
-    ensures moved { MatchOption result (IsNotReformatted mode policy format b from)
-        (λ r. IsReformatted mode policy format b from r.0 r.1) }
-    ensures range { IfSome result (λ r. IsInRange format.signed format.width r.0) }
-    ensures wide { IfSome result (λ r. IsWide r.0) }
-{
-    match reformat(format, policy, b, from) {
-        Some((image, overflowed)) => Some((image, overflowed)),
-        None => None,
-    }
-}
-
-/// The same for a shorter fraction length.
-fn reformat_shorter(
-    format: Format,
-    policy: Policy,
-    mode: ReadMode,
-    b: i128,
-    from: u32,
-) -> Option<(i128, bool)>
-    requires wide { IsWide b }
-    requires from { from ≤ 64 }
-    requires shorter { format.frac < from }
-    ensures moved { MatchOption result (IsNotReformatted mode policy format b from)
-        (λ r. IsReformatted mode policy format b from r.0 r.1) }
-    ensures range { IfSome result (λ r. IsInRange format.signed format.width r.0) }
-    ensures wide { IfSome result (λ r. IsWide r.0) }
-{
     let moved = moved_back(b, from, format.frac(), mode);
     match policy.image(format, moved) {
         Some(image) => Some((image, !format.contains(moved))),

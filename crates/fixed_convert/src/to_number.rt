@@ -6,8 +6,8 @@ ghost use Rattle.fixed_bits.specs.Images.{IsImage};
 ghost use Rattle.fixed_bits.specs.Down.{down};
 ghost use Rattle.fixed_bits.specs.declared.format.Policy.TheVariants.{Saturating, Wrapping};
 
-use crate::floored::floor_into;
 use crate::num::NumTarget;
+use crate::to_bits::{checked_bits, overflowing_bits, plain_bits, saturating_bits, wrapping_bits};
 
 /// The moved number, which fits.
 pub(crate) fn plain_number<D: NumTarget>(b: i128, from: u32) -> D
@@ -17,7 +17,7 @@ pub(crate) fn plain_number<D: NumTarget>(b: i128, from: u32) -> D
     requires fits { IsInRange D.SIGNED D.WIDTH (down b from D.FRAC) }
     ensures { D.wide result ≡ down b from D.FRAC }
 {
-    D::clamp_wide(floor_into(b, from, D::FRAC))
+    D::from_holder(plain_bits(b, from, D::FRAC))
 }
 
 /// The moved number, where it fits.
@@ -28,11 +28,9 @@ pub(crate) fn checked_number<D: NumTarget>(b: i128, from: u32) -> Option<D>
     ensures exists { IsSome result ↔ IsInRange D.SIGNED D.WIDTH (down b from D.FRAC) }
     ensures same { IfSome result (λ x. D.wide x ≡ down b from D.FRAC) }
 {
-    let moved = floor_into(b, from, D::FRAC);
-    if D::fits_wide(moved) {
-        Some(D::clamp_wide(moved))
-    } else {
-        None
+    match checked_bits(b, from, D::FRAC) {
+        Some(bits) => Some(D::from_holder(bits)),
+        None => None,
     }
 }
 
@@ -43,7 +41,7 @@ pub(crate) fn saturating_number<D: NumTarget>(b: i128, from: u32) -> D
     requires to { D.FRAC ≤ 64 }
     ensures { IsImage Saturating D.SIGNED D.WIDTH (down b from D.FRAC) (D.wide result) }
 {
-    D::clamp_wide(floor_into(b, from, D::FRAC))
+    D::from_holder(saturating_bits(b, from, D::FRAC))
 }
 
 /// The Wrapping image of the moved number.
@@ -53,7 +51,7 @@ pub(crate) fn wrapping_number<D: NumTarget>(b: i128, from: u32) -> D
     requires to { D.FRAC ≤ 64 }
     ensures { IsImage Wrapping D.SIGNED D.WIDTH (down b from D.FRAC) (D.wide result) }
 {
-    D::wrap_wide(floor_into(b, from, D::FRAC))
+    D::from_holder(wrapping_bits(b, from, D::FRAC))
 }
 
 /// The Wrapping image of the moved number, and whether it does not fit.
@@ -64,6 +62,6 @@ pub(crate) fn overflowing_number<D: NumTarget>(b: i128, from: u32) -> (D, bool)
     ensures image { IsImage Wrapping D.SIGNED D.WIDTH (down b from D.FRAC) (D.wide result.0) }
     ensures verdict { IsTrue result.1 ↔ IsOutOfRange D.SIGNED D.WIDTH (down b from D.FRAC) }
 {
-    let moved = floor_into(b, from, D::FRAC);
-    (D::wrap_wide(moved), !D::fits_wide(moved))
+    let (bits, overflowed) = overflowing_bits(b, from, D::FRAC);
+    (D::from_holder(bits), overflowed)
 }

@@ -14,10 +14,6 @@ use fixed_bits::Inner;
 use fixed_convert::{Floored, FromFixed, Num, NumTarget, ToFixed, floor_into};
 
 impl<I: Inner, const FRAC: u32> Num for Fixed<I, FRAC> {
-    const SIGNED: bool = I::SIGNED;
-
-    const WIDTH: u32 = I::BITS;
-
     const FRAC: u32 = FRAC;
 
     ghost SIGNED = { I.SIGNED };

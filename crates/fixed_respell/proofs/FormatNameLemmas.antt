@@ -1,9 +1,8 @@
 -- The names of formats: how counts are read, what follows the letters, and that a word names one format.
-use Rattle.std.proofs.Common.{◌≡◌, ℕ, ◌+◌, ◌-◌, ◌/◌, ◌%◌, ◌<◌, ◌≤◌, ◌⊎◌, ◌↔◌, Bool, true, false, IsTrue, List, [], ◌∷◌, ◌++◌, length, get_or, Option, Some, None, IsSome, IfSome, MatchOption, refl, sym, ap, ◌∙◌, subst, arith, inl, inr, ⊎_elim}
+use Rattle.std.proofs.Common.{◌≡◌, ℕ, ◌+◌, ◌-◌, ◌<◌, ◌⊎◌, ◌↔◌, Bool, true, false, IsTrue, List, [], ◌∷◌, ◌++◌, length, length-append, Option, Some, None, IsSome, IfSome, MatchOption, refl, sym, ap, ◌∙◌, subst, arith, inl, inr}
 use Rattle.std.specs.Fmt.{decimal}
 use Rattle.std.specs.Str.Parse.{AllDigits}
-use Rattle.std.proofs.lemmas.Bool.{cases_lt}
-use Rattle.std.proofs.lemmas.Fmt.{decimal_digit, decimal_injective, decimal_is_IsNumeral, decimal_step}
+use Rattle.std.proofs.lemmas.Fmt.{decimal_injective, decimal_is_IsNumeral}
 use Rattle.std.proofs.lemmas.Str.Parse.{digit_from_value}
 use Rattle.fixed_bits.specs.Formats.{FormatParts, IsFormat}
 use Rattle.fixed_bits.proofs.Public.{type_format}
@@ -14,48 +13,6 @@ use Rattle.fixed_respell.specs.Split.{IsSplit, count_of}
 use Rattle.fixed_respell.specs.Words.{format_text, fraction_letter, sign_letter}
 use Rattle.fixed_respell.specs.Lemmas.FormatLemmas.{IsNoDigit, decimal_without, no_digit_is}
 use Rattle.fixed_respell.specs.Lemmas.SplitLemmas.{IsSameSplit, split_has_one, split_is_one}
-
--- ---- counts of at most two digits
-decimal_two : (n : ℕ) → 10 ≤ n → n < 100 → decimal n ≡ (48 + n / 10) ∷ (48 + n % 10) ∷ []
-decimal_two n some few =
-    let high : n / 10 < 10 = omega (arith, few) in
-    decimal_step n some (omega (arith, few)) ∙ ap (λ ds. ds ++ (48 + n % 10) ∷ []) (decimal_digit (n / 10) high)
-
--- a count is one digit, or two of which the first is not 0
-count_digits : (n : ℕ) → n < 100 → ((n < 10) × (decimal n ≡ (48 + n) ∷ [])) ⊎ ((10 ≤ n) × (decimal n ≡ (48 + n / 10) ∷ (48 + n % 10) ∷ []))
-count_digits n few = ⊎_elim
-    (λ (less : n < 10). inl (less, decimal_digit n less))
-    (λ (more : 10 ≤ n). inr (more, decimal_two n more few))
-    (cases_lt n 10)
-
-pub one_digit : (xs : List ℕ) (o : Option ℕ) → length xs ≡ 1 → MatchOption o ((n : ℕ) → n < 10 → ¬ (get_or xs 0 0 ≡ 48 + n)) (λ n. (n < 10) × (get_or xs 0 0 ≡ 48 + n)) → MatchOption o ((n : ℕ) → n < 100 → ¬ (xs ≡ decimal n)) (λ n. (n < 100) × (xs ≡ decimal n))
-one_digit [] o count found = absurd (omega (arith, count))
-one_digit (x ∷ y ∷ xs) o count found = absurd (omega (arith, count))
-one_digit (x ∷ []) None count none = λ n few is. ⊎_elim
-    (λ (w : (n < 10) × (decimal n ≡ (48 + n) ∷ [])). let e : x ∷ [] ≡ (48 + n) ∷ [] = is ∙ w.1 in let head : x ≡ 48 + n = cc in none n w.0 head)
-    (λ (w : (10 ≤ n) × (decimal n ≡ (48 + n / 10) ∷ (48 + n % 10) ∷ [])). absurd (omega (arith, ap length (is ∙ w.1))))
-    (count_digits n few)
-one_digit (x ∷ []) (Some n) count found = (omega (arith, found.0), ap (λ d. d ∷ []) found.1 ∙ sym (decimal_digit n found.0))
-
-pub two_digits : (xs : List ℕ) (o : Option ℕ) → length xs ≡ 2 → MatchOption o ((n : ℕ) → 10 ≤ n → n < 100 → ¬ ((get_or xs 0 0 ≡ 48 + n / 10) × (get_or xs 1 0 ≡ 48 + n % 10))) (λ n. (10 ≤ n) × (n < 100) × (get_or xs 0 0 ≡ 48 + n / 10) × (get_or xs 1 0 ≡ 48 + n % 10))
-    → MatchOption o ((n : ℕ) → n < 100 → ¬ (xs ≡ decimal n)) (λ n. (n < 100) × (xs ≡ decimal n))
-two_digits [] o count found = absurd (omega (arith, count))
-two_digits (x ∷ []) o count found = absurd (omega (arith, count))
-two_digits (x ∷ y ∷ z ∷ xs) o count found = absurd (omega (arith, count))
-two_digits (x ∷ y ∷ []) None count none = λ n few is. ⊎_elim
-    (λ (w : (n < 10) × (decimal n ≡ (48 + n) ∷ [])). absurd (omega (arith, ap length (is ∙ w.1))))
-    (λ (w : (10 ≤ n) × (decimal n ≡ (48 + n / 10) ∷ (48 + n % 10) ∷ [])).
-    let e : x ∷ y ∷ [] ≡ (48 + n / 10) ∷ (48 + n % 10) ∷ [] = is ∙ w.1 in
-    let head : x ≡ 48 + n / 10 = cc in
-    let next : y ≡ 48 + n % 10 = cc in
-    none n w.0 few (head, next))
-    (count_digits n few)
-two_digits (x ∷ y ∷ []) (Some n) count found =
-    let both : x ∷ y ∷ [] ≡ (48 + n / 10) ∷ (48 + n % 10) ∷ [] = ap (λ d. d ∷ y ∷ []) found.2 ∙ ap (λ d. (48 + n / 10) ∷ d ∷ []) found.3 in
-    (found.1, both ∙ sym (decimal_two n found.0 found.1))
-
-pub other_count : (xs : List ℕ) (n : ℕ) → (length xs ≡ 1 → ⊥) → (length xs ≡ 2 → ⊥) → n < 100 → xs ≡ decimal n → ⊥
-other_count xs n one two few is = ⊎_elim (λ w. one (ap length (is ∙ w.1))) (λ w. two (ap length (is ∙ w.1))) (count_digits n few)
 
 -- ---- two counts around a byte that is no digit
 abbrev IsSameCounts : ℕ → ℕ → List ℕ → List ℕ → List ℕ → List ℕ → Type 0
@@ -97,7 +54,7 @@ abbrev parts : Bool → ℕ → ℕ → FormatParts
 parts s w r = record { signed = s; width = w; frac = r }
 
 parts_are : (f : FormatParts) (s : Bool) (w r : ℕ) → f.signed ≡ s → f.width ≡ w → f.frac ≡ r → f ≡ parts s w r
-parts_are f s w r a b c = ap (λ x. parts x f.width f.frac) a ∙ (ap (λ x. parts s x f.frac) b ∙ ap (λ x. parts s w x) c)
+parts_are f s w r a b c = λ i. parts (a i) (b i) (c i)
 
 -- what is found of the only format that it can be
 found_by : (P : FormatParts → Type 0) (s : Bool) (w r : ℕ) (o : Option FormatParts) → (IsSome o ↔ IsFormat w r) → IfSome o (λ f. (f.signed ≡ s) × (f.width ≡ w) × (f.frac ≡ r)) → (IsFormat w r → P (parts s w r)) → ((f : FormatParts) → P f → IsFormat f.width f.frac × (f ≡ parts s w r))
@@ -208,175 +165,130 @@ counted_after_u rest o other found = carried (IsCounted false rest) (IsAfterU re
     back f (inl c) = c
     back f (inr p) = absurd (other p.q p.counts p.is_q p.head)
 
--- letters differ
-letters_apart : (a b c : ℕ) → IsLetter a c → IsLetter b c → a < b + 32 → b < a + 32 → (a ≡ b → ⊥) → ⊥
-letters_apart a b c (inl e) (inl h) l m other = other (sym e ∙ h)
-letters_apart a b c (inl e) (inr h) l m other = omega (arith, e, h, l, m)
-letters_apart a b c (inr e) (inl h) l m other = omega (arith, e, h, l, m)
-letters_apart a b c (inr e) (inr h) l m other = other (omega (arith, e, h))
+-- a letter has one capital
+apart : (a b c : ℕ) → a < b → b < a + 32 → IsLetter a c → IsLetter b c → ⊥
+apart a b c l m (inl e) (inl h) = omega (arith, e, h, l)
+apart a b c l m (inl e) (inr h) = omega (arith, e, h, l)
+apart a b c l m (inr e) (inl h) = omega (arith, e, h, m)
+apart a b c l m (inr e) (inr h) = omega (arith, e, h, l)
 
-not_q : (s : Bool) (c : ℕ) → IsLetter (sign_letter s) c → IsLetter q_letter c → ⊥
-not_q true c a b = letters_apart 73 81 c a b (omega arith) (omega arith) (λ e. omega (arith, e))
-not_q false c a b = letters_apart 85 81 c a b (omega arith) (omega arith) (λ e. omega (arith, e))
+i_or_q : (c : ℕ) → IsLetter 73 c → IsLetter q_letter c → ⊥
+i_or_q c = apart 73 81 c (omega arith) (omega arith)
 
-sign_is : (s t : Bool) (c : ℕ) → IsLetter (sign_letter s) c → IsLetter (sign_letter t) c → t ≡ s
-sign_is true true c a b = refl
-sign_is false false c a b = refl
-sign_is true false c a b = absurd (letters_apart 73 85 c a b (omega arith) (omega arith) (λ e. omega (arith, e)))
-sign_is false true c a b = absurd (letters_apart 85 73 c a b (omega arith) (omega arith) (λ e. omega (arith, e)))
+i_or_u : (c : ℕ) → IsLetter 73 c → IsLetter 85 c → ⊥
+i_or_u c = apart 73 85 c (omega arith) (omega arith)
 
-counted_name : (s : Bool) (word : List ℕ) (first : ℕ) (rest : List ℕ) → word ≡ first ∷ rest → IsLetter (sign_letter s) first → (f : FormatParts) → IsFormat f.width f.frac → IsCountedName word f → IsCounted s rest f
-counted_name s word first rest is letter f valid c =
-    let e : first ∷ rest ≡ c.sign ∷ counts_text c.mark f = sym is ∙ c.text in
-    let head : c.sign ≡ first = cc in
+q_or_u : (c : ℕ) → IsLetter q_letter c → IsLetter 85 c → ⊥
+q_or_u c = apart 81 85 c (omega arith) (omega arith)
+
+-- the first letter of a name, and what is left after it
+abbrev IsLetterAndRest : ℕ → List ℕ → FormatParts → Type 0
+IsLetterAndRest first rest f = (IsLetter 73 first × IsCounted true rest f) ⊎ (IsLetter q_letter first × IsAfterQ rest f) ⊎ (IsLetter 85 first × IsAfterU rest f)
+
+i_part : (first : ℕ) (rest : List ℕ) (f : FormatParts) → IsLetter 73 first → IsLetterAndRest first rest f → IsCounted true rest f
+i_part first rest f letter (inl (l, c)) = c
+i_part first rest f letter (inr (inl (l, c))) = absurd (i_or_q first letter l)
+i_part first rest f letter (inr (inr (l, c))) = absurd (i_or_u first letter l)
+
+q_part : (first : ℕ) (rest : List ℕ) (f : FormatParts) → IsLetter q_letter first → IsLetterAndRest first rest f → IsAfterQ rest f
+q_part first rest f letter (inl (l, c)) = absurd (i_or_q first l letter)
+q_part first rest f letter (inr (inl (l, c))) = c
+q_part first rest f letter (inr (inr (l, c))) = absurd (q_or_u first letter l)
+
+u_part : (first : ℕ) (rest : List ℕ) (f : FormatParts) → IsLetter 85 first → IsLetterAndRest first rest f → IsAfterU rest f
+u_part first rest f letter (inl (l, c)) = absurd (i_or_u first l letter)
+u_part first rest f letter (inr (inl (l, c))) = absurd (q_or_u first l letter)
+u_part first rest f letter (inr (inr (l, c))) = c
+
+counted_split : (s : Bool) (first : ℕ) (rest : List ℕ) (f : FormatParts) → IsLetter (sign_letter s) first → IsCounted s rest f → IsLetterAndRest first rest f
+counted_split true first rest f letter c = inl (letter, c)
+counted_split false first rest f letter c = inr (inr (letter, inl c))
+
+pointed_split : (s : Bool) (head : List ℕ) (first : ℕ) (rest : List ℕ) (f : FormatParts) → IsQ s head → first ∷ rest ≡ head ++ counts_text point f → IsFormat f.width f.frac → f.signed ≡ s → (f.signed ≡ true → f.frac < f.width) → IsLetterAndRest first rest f
+pointed_split true head first rest f (q, letter, is) e valid signed sign_bit =
+    let both : first ∷ rest ≡ q ∷ counts_text point f = e ∙ ap (λ h. h ++ counts_text point f) is in
+    let same : q ≡ first = cc in
+    let tail : rest ≡ counts_text point f = cc in
+    inr (inl (subst (IsLetter q_letter) same letter, inl (record { is = record { format = valid; signed_is = signed }; sign_bit = λ _. sign_bit signed; text = tail })))
+pointed_split false head first rest f (u, q, letter, is_q, is) e valid signed sign_bit =
+    let both : first ∷ rest ≡ u ∷ q ∷ counts_text point f = e ∙ ap (λ h. h ++ counts_text point f) is in
+    let same : u ≡ first = cc in
+    let tail : rest ≡ q ∷ counts_text point f = cc in
+    inr (inr (
+      subst (IsLetter 85) same letter,
+      inr (record {
+        q = q;
+        is_q = is_q;
+        counts = counts_text point f;
+        head = tail;
+        pointed = record { is = record { format = valid; signed_is = signed }; sign_bit = λ e. absurd (cc); text = refl };
+      }),
+    ))
+
+split_name : (word : List ℕ) (first : ℕ) (rest : List ℕ) (f : FormatParts) → word ≡ first ∷ rest → IsFormat f.width f.frac → IsCountedName word f ⊎ IsPointedName word f ⊎ IsFractionName word f → IsLetterAndRest first rest f
+split_name word first rest f is valid (inl c) =
+    let both : first ∷ rest ≡ c.sign ∷ counts_text c.mark f = sym is ∙ c.text in
+    let same : c.sign ≡ first = cc in
     let tail : rest ≡ counts_text c.mark f = cc in
-    let signed = sign_is s f.signed first letter (subst (IsLetter (sign_letter f.signed)) head c.is_sign) in
-    record { is = record { format = valid; signed_is = signed }; mark = c.mark; is_mark = c.is_mark; text = tail }
-
--- the head of a pointed name, by its sign rule
-abbrev IsHeadOf : Bool → List ℕ → List ℕ → Type 0
-IsHeadOf true counts word = (q : ℕ) × IsLetter q_letter q × (word ≡ q ∷ counts)
-IsHeadOf false counts word = (u : ℕ) × (q : ℕ) × IsLetter 85 u × IsLetter q_letter q × (word ≡ u ∷ q ∷ counts)
-
-head_of : (s : Bool) (head counts word : List ℕ) → IsQ s head → word ≡ head ++ counts → IsHeadOf s counts word
-head_of true head counts word (q, letter, is) e = (q, letter, e ∙ ap (λ h. h ++ counts) is)
-head_of false head counts word (u, q, l, letter, is) e = (u, q, l, letter, e ∙ ap (λ h. h ++ counts) is)
-
--- after I
-not_pointed_by_i : (s : Bool) (counts word : List ℕ) (first : ℕ) (rest : List ℕ) → word ≡ first ∷ rest → IsLetter 73 first → IsHeadOf s counts word → ⊥
-not_pointed_by_i true counts word first rest is letter (q, l, e) =
-    let both : first ∷ rest ≡ q ∷ counts = sym is ∙ e in
-    let head : q ≡ first = cc in
-    not_q true first letter (subst (IsLetter q_letter) head l)
-not_pointed_by_i false counts word first rest is letter (u, q, l, m, e) =
-    let both : first ∷ rest ≡ u ∷ q ∷ counts = sym is ∙ e in
-    let head : u ≡ first = cc in
-    letters_apart 73 85 first letter (subst (IsLetter 85) head l) (omega arith) (omega arith) (λ e. omega (arith, e))
-
-not_fraction : (s : Bool) (word : List ℕ) (first : ℕ) (rest : List ℕ) (f : FormatParts) → word ≡ first ∷ rest → IsLetter (sign_letter s) first → IsFractionName word f → ⊥
-not_fraction s word first rest f is letter n =
+    counted_split f.signed first rest f (subst (IsLetter (sign_letter f.signed)) same c.is_sign) (record { is = record { format = valid; signed_is = refl }; mark = c.mark; is_mark = c.is_mark; text = tail })
+split_name word first rest f is valid (inr (inl p)) = pointed_split f.signed p.head first rest f p.is_head (sym is ∙ p.text) valid refl p.sign_bit
+split_name word first rest f is valid (inr (inr n)) =
     let both : first ∷ rest ≡ n.q ∷ decimal f.frac = sym is ∙ n.text in
-    let head : n.q ≡ first = cc in
-    not_q s first letter (subst (IsLetter q_letter) head n.is_q)
+    let same : n.q ≡ first = cc in
+    let tail : rest ≡ decimal f.frac = cc in
+    inr (inl (subst (IsLetter q_letter) same n.is_q, inr (record { is = record { format = valid; signed_is = n.signed }; sign_bit = n.sign_bit; text = tail })))
 
-i_kind : (word : List ℕ) (first : ℕ) (rest : List ℕ) → word ≡ first ∷ rest → IsLetter 73 first → (f : FormatParts) → IsFormat f.width f.frac → IsCountedName word f ⊎ IsPointedName word f ⊎ IsFractionName word f → IsCounted true rest f
-i_kind word first rest is letter f valid (inl c) = counted_name true word first rest is letter f valid c
-i_kind word first rest is letter f valid (inr (inl p)) = absurd (not_pointed_by_i f.signed (counts_text point f) word first rest is letter (head_of f.signed p.head (counts_text point f) word p.is_head p.text))
-i_kind word first rest is letter f valid (inr (inr n)) = absurd (not_fraction true word first rest f is letter n)
+counted_name : (s : Bool) (first : ℕ) (rest : List ℕ) (f : FormatParts) → IsLetter (sign_letter s) first → IsCounted s rest f → IsFormatName (first ∷ rest) f
+counted_name s first rest f letter c = record {
+  format = c.is.format;
+  named = inl (record {
+    sign = first;
+    is_sign = subst (λ b. IsLetter (sign_letter b) first) (sym c.is.signed_is) letter;
+    mark = c.mark;
+    is_mark = c.is_mark;
+    text = ap (λ t. first ∷ t) c.text;
+  });
+}
 
-i_back : (word : List ℕ) (first : ℕ) (rest : List ℕ) → word ≡ first ∷ rest → IsLetter 73 first → (f : FormatParts) → IsFormatName word f → IsCounted true rest f
-i_back word first rest is letter f n = i_kind word first rest is letter f n.format n.named
+join_name : (first : ℕ) (rest : List ℕ) (f : FormatParts) → IsLetterAndRest first rest f → IsFormatName (first ∷ rest) f
+join_name first rest f (inl (letter, c)) = counted_name true first rest f letter c
+join_name first rest f (inr (inl (letter, inl p))) = record {
+  format = p.is.format;
+  named = inr (inl (record {
+    head = first ∷ [];
+    is_head = subst (λ b. IsQ b (first ∷ [])) (sym p.is.signed_is) (first, letter, refl);
+    sign_bit = λ _. p.sign_bit refl;
+    text = ap (λ t. first ∷ t) p.text;
+  }));
+}
+join_name first rest f (inr (inl (letter, inr n))) = record {
+  format = n.is.format;
+  named = inr (inr (record { q = first; is_q = letter; signed = n.is.signed_is; sign_bit = n.sign_bit; text = ap (λ t. first ∷ t) n.text }));
+}
+join_name first rest f (inr (inr (letter, inl c))) = counted_name false first rest f letter c
+join_name first rest f (inr (inr (letter, inr p))) = record {
+  format = p.pointed.is.format;
+  named = inr (inl (record {
+    head = first ∷ p.q ∷ [];
+    is_head = subst (λ b. IsQ b (first ∷ p.q ∷ [])) (sym p.pointed.is.signed_is) (first, p.q, letter, p.is_q, refl);
+    sign_bit = λ e. (let other : true ≡ false = sym e ∙ p.pointed.is.signed_is in absurd (cc));
+    text = ap (λ t. first ∷ t) (p.head ∙ ap (λ t. p.q ∷ t) p.pointed.text);
+  }));
+}
+
+-- what is found of what is left after a letter is found of the name
+name_found : (P : FormatParts → Type 0) (word : List ℕ) (first : ℕ) (rest : List ℕ) (o : Option FormatParts) → word ≡ first ∷ rest → ((f : FormatParts) → P f → IsLetterAndRest first rest f) → ((f : FormatParts) → IsLetterAndRest first rest f → P f) → MatchOption o ((f : FormatParts) → ¬ P f) (λ f. P f) → MatchOption o ((f : FormatParts) → ¬ IsFormatName word f) (λ f. IsFormatName word f)
+name_found P word first rest o is to back found =
+    carried P (IsFormatName word) o (λ f p. subst (λ w. IsFormatName w f) (sym is) (join_name first rest f (to f p))) (λ f n. back f (split_name word first rest f is n.format n.named)) found
 
 pub name_after_i : (word : List ℕ) (first : ℕ) (rest : List ℕ) (o : Option FormatParts) → word ≡ first ∷ rest → IsLetter 73 first → MatchOption o ((f : FormatParts) → ¬ IsCounted true rest f) (λ f. IsCounted true rest f) → MatchOption o ((f : FormatParts) → ¬ IsFormatName word f) (λ f. IsFormatName word f)
-name_after_i word first rest o is letter found = carried (IsCounted true rest) (IsFormatName word) o to (i_back word first rest is letter) found
-  where
-    to : (f : FormatParts) → IsCounted true rest f → IsFormatName word f
-    to f c = record {
-      format = c.is.format;
-      named = inl (record {
-        sign = first;
-        is_sign = subst (λ s. IsLetter (sign_letter s) first) (sym c.is.signed_is) letter;
-        mark = c.mark;
-        is_mark = c.is_mark;
-        text = is ∙ ap (λ t. first ∷ t) c.text;
-      });
-    }
-
--- after Q
-pointed_by_q : (s : Bool) (counts word : List ℕ) (first : ℕ) (rest : List ℕ) → word ≡ first ∷ rest → IsLetter q_letter first → IsHeadOf s counts word → (s ≡ true) × (rest ≡ counts)
-pointed_by_q true counts word first rest is letter (q, l, e) =
-    let both : first ∷ rest ≡ q ∷ counts = sym is ∙ e in
-    let tail : rest ≡ counts = cc in
-    (refl, tail)
-pointed_by_q false counts word first rest is letter (u, q, l, m, e) =
-    let both : first ∷ rest ≡ u ∷ q ∷ counts = sym is ∙ e in
-    let head : u ≡ first = cc in
-    absurd (not_q false first (subst (IsLetter 85) head l) letter)
-
-q_kind : (word : List ℕ) (first : ℕ) (rest : List ℕ) → word ≡ first ∷ rest → IsLetter q_letter first → (f : FormatParts) → IsFormat f.width f.frac → IsCountedName word f ⊎ IsPointedName word f ⊎ IsFractionName word f → IsAfterQ rest f
-q_kind word first rest is letter f valid (inl c) =
-    let both : first ∷ rest ≡ c.sign ∷ counts_text c.mark f = sym is ∙ c.text in
-    let head : c.sign ≡ first = cc in
-    absurd (not_q f.signed first (subst (IsLetter (sign_letter f.signed)) head c.is_sign) letter)
-q_kind word first rest is letter f valid (inr (inl p)) =
-    let q = pointed_by_q f.signed (counts_text point f) word first rest is letter (head_of f.signed p.head (counts_text point f) word p.is_head p.text) in
-    inl (record { is = record { format = valid; signed_is = q.0 }; sign_bit = λ _. p.sign_bit q.0; text = q.1 })
-q_kind word first rest is letter f valid (inr (inr n)) =
-    let both : first ∷ rest ≡ n.q ∷ decimal f.frac = sym is ∙ n.text in
-    let tail : rest ≡ decimal f.frac = cc in
-    inr (record { is = record { format = valid; signed_is = n.signed }; sign_bit = n.sign_bit; text = tail })
-
-q_back : (word : List ℕ) (first : ℕ) (rest : List ℕ) → word ≡ first ∷ rest → IsLetter q_letter first → (f : FormatParts) → IsFormatName word f → IsAfterQ rest f
-q_back word first rest is letter f n = q_kind word first rest is letter f n.format n.named
+name_after_i word first rest o is letter found = name_found (IsCounted true rest) word first rest o is (λ f c. inl (letter, c)) (λ f. i_part first rest f letter) found
 
 pub name_after_q : (word : List ℕ) (first : ℕ) (rest : List ℕ) (o : Option FormatParts) → word ≡ first ∷ rest → IsLetter q_letter first → MatchOption o ((f : FormatParts) → ¬ IsAfterQ rest f) (λ f. IsAfterQ rest f) → MatchOption o ((f : FormatParts) → ¬ IsFormatName word f) (λ f. IsFormatName word f)
-name_after_q word first rest o is letter found = carried (IsAfterQ rest) (IsFormatName word) o to (q_back word first rest is letter) found
-  where
-    pointed_name : (f : FormatParts) (s : Bool) → f.signed ≡ s → s ≡ true → IsPointed true rest f → IsPointedName word f
-    pointed_name f s e t p = record {
-      head = first ∷ [];
-      is_head = subst (λ b. IsQ b (first ∷ [])) (sym (e ∙ t)) (first, letter, refl);
-      sign_bit = λ _. p.sign_bit refl;
-      text = is ∙ ap (λ r. first ∷ r) p.text;
-    }
-
-    to : (f : FormatParts) → IsAfterQ rest f → IsFormatName word f
-    to f (inl p) = record { format = p.is.format; named = inr (inl (pointed_name f true p.is.signed_is refl p)) }
-    to f (inr n) = record {
-      format = n.is.format;
-      named = inr (inr (record { q = first; is_q = letter; signed = n.is.signed_is; sign_bit = n.sign_bit; text = is ∙ ap (λ r. first ∷ r) n.text }));
-    }
-
--- after U
-pointed_by_u : (s : Bool) (counts word : List ℕ) (first : ℕ) (rest : List ℕ) → word ≡ first ∷ rest → IsLetter 85 first → IsHeadOf s counts word → (s ≡ false) × ((q : ℕ) × IsLetter q_letter q × (rest ≡ q ∷ counts))
-pointed_by_u true counts word first rest is letter (q, l, e) =
-    let both : first ∷ rest ≡ q ∷ counts = sym is ∙ e in
-    let head : q ≡ first = cc in
-    absurd (not_q false first letter (subst (IsLetter q_letter) head l))
-pointed_by_u false counts word first rest is letter (u, q, l, m, e) =
-    let both : first ∷ rest ≡ u ∷ q ∷ counts = sym is ∙ e in
-    let tail : rest ≡ q ∷ counts = cc in
-    (refl, (q, m, tail))
-
-u_kind : (word : List ℕ) (first : ℕ) (rest : List ℕ) → word ≡ first ∷ rest → IsLetter 85 first → (f : FormatParts) → IsFormat f.width f.frac → IsCountedName word f ⊎ IsPointedName word f ⊎ IsFractionName word f → IsAfterU rest f
-u_kind word first rest is letter f valid (inl c) = inl (counted_name false word first rest is letter f valid c)
-u_kind word first rest is letter f valid (inr (inl p)) =
-    let u = pointed_by_u f.signed (counts_text point f) word first rest is letter (head_of f.signed p.head (counts_text point f) word p.is_head p.text) in
-    inr (record {
-      q = u.1.0;
-      is_q = u.1.1;
-      counts = counts_text point f;
-      head = u.1.2;
-      pointed = record { is = record { format = valid; signed_is = u.0 }; sign_bit = λ e. absurd (cc); text = refl };
-    })
-u_kind word first rest is letter f valid (inr (inr n)) = absurd (not_fraction false word first rest f is letter n)
-
-u_back : (word : List ℕ) (first : ℕ) (rest : List ℕ) → word ≡ first ∷ rest → IsLetter 85 first → (f : FormatParts) → IsFormatName word f → IsAfterU rest f
-u_back word first rest is letter f n = u_kind word first rest is letter f n.format n.named
+name_after_q word first rest o is letter found = name_found (IsAfterQ rest) word first rest o is (λ f c. inr (inl (letter, c))) (λ f. q_part first rest f letter) found
 
 pub name_after_u : (word : List ℕ) (first : ℕ) (rest : List ℕ) (o : Option FormatParts) → word ≡ first ∷ rest → IsLetter 85 first → MatchOption o ((f : FormatParts) → ¬ IsAfterU rest f) (λ f. IsAfterU rest f) → MatchOption o ((f : FormatParts) → ¬ IsFormatName word f) (λ f. IsFormatName word f)
-name_after_u word first rest o is letter found = carried (IsAfterU rest) (IsFormatName word) o to (u_back word first rest is letter) found
-  where
-    to : (f : FormatParts) → IsAfterU rest f → IsFormatName word f
-    to f (inl c) = record {
-      format = c.is.format;
-      named = inl (record {
-        sign = first;
-        is_sign = subst (λ s. IsLetter (sign_letter s) first) (sym c.is.signed_is) letter;
-        mark = c.mark;
-        is_mark = c.is_mark;
-        text = is ∙ ap (λ t. first ∷ t) c.text;
-      });
-    }
-    to f (inr p) = record {
-      format = p.pointed.is.format;
-      named = inr (inl (record {
-        head = first ∷ p.q ∷ [];
-        is_head = subst (λ b. IsQ b (first ∷ p.q ∷ [])) (sym p.pointed.is.signed_is) (first, p.q, letter, p.is_q, refl);
-        sign_bit = λ e. (let other : true ≡ false = sym e ∙ p.pointed.is.signed_is in absurd (cc));
-        text = is ∙ ap (λ r. first ∷ r) (p.head ∙ ap (λ r. p.q ∷ r) p.pointed.text);
-      }));
-    }
+name_after_u word first rest o is letter found = name_found (IsAfterU rest) word first rest o is (λ f c. inr (inr (letter, c))) (λ f. u_part first rest f letter) found
 
 -- where the first byte after U is no Q
 pub not_q_first : (rest : List ℕ) (first : ℕ) (counts : List ℕ) (is_q : Bool) → rest ≡ first ∷ counts → (IsTrue is_q ↔ IsLetter q_letter first) → is_q ≡ false → (q : ℕ) (more : List ℕ) → IsLetter q_letter q → rest ≡ q ∷ more → ⊥
@@ -429,24 +341,19 @@ after_u_same rest f g (inr a) (inr b) =
     let tail : a.counts ≡ b.counts = cc in
     pointed_same false b.counts f g (subst (λ t. IsPointed false t f) tail a.pointed) b.pointed
 
-by_sign : (word rest : List ℕ) (first : ℕ) (s : Bool) (f g : FormatParts) → word ≡ first ∷ rest → IsLetter (sign_letter s) first → IsFormatName word f → IsFormatName word g → f ≡ g
-by_sign word rest first true f g is letter a b = counted_same true rest f g (i_back word first rest is letter f a) (i_back word first rest is letter g b)
-by_sign word rest first false f g is letter a b = after_u_same rest f g (u_back word first rest is letter f a) (u_back word first rest is letter g b)
+same_rest : (first : ℕ) (rest : List ℕ) (f g : FormatParts) → IsLetterAndRest first rest f → IsLetterAndRest first rest g → f ≡ g
+same_rest first rest f g (inl (letter, a)) b = counted_same true rest f g a (i_part first rest g letter b)
+same_rest first rest f g (inr (inl (letter, a))) b = after_q_same rest f g a (q_part first rest g letter b)
+same_rest first rest f g (inr (inr (letter, a))) b = after_u_same rest f g a (u_part first rest g letter b)
 
-by_q : (word rest : List ℕ) (first : ℕ) (f g : FormatParts) → word ≡ first ∷ rest → IsLetter q_letter first → IsFormatName word f → IsFormatName word g → f ≡ g
-by_q word rest first f g is letter a b = after_q_same rest f g (q_back word first rest is letter f a) (q_back word first rest is letter g b)
-
-by_head : (word counts : List ℕ) (s : Bool) (f g : FormatParts) → IsHeadOf s counts word → IsFormatName word f → IsFormatName word g → f ≡ g
-by_head word counts true f g (q, letter, is) a b = by_q word counts q f g is letter a b
-by_head word counts false f g (u, q, letter, l, is) a b = by_sign word (q ∷ counts) u false f g is letter a b
-
-by_kind : (word : List ℕ) (f g : FormatParts) → IsCountedName word f ⊎ IsPointedName word f ⊎ IsFractionName word f → IsFormatName word f → IsFormatName word g → f ≡ g
-by_kind word f g (inl c) a b = by_sign word (counts_text c.mark f) c.sign f.signed f g c.text c.is_sign a b
-by_kind word f g (inr (inl p)) a b = by_head word (counts_text point f) f.signed f g (head_of f.signed p.head (counts_text point f) word p.is_head p.text) a b
-by_kind word f g (inr (inr n)) a b = by_q word (decimal f.frac) n.q f g n.text n.is_q a b
+not_empty : (f : FormatParts) → IsCountedName [] f ⊎ IsPointedName [] f ⊎ IsFractionName [] f → ⊥
+not_empty f (inl c) = let e : [] ≡ c.sign ∷ counts_text c.mark f = c.text in cc
+not_empty f (inr (inl p)) = omega (arith, ap length p.text, length-append p.head (counts_text point f), length-append (decimal (f.width - f.frac)) (point ∷ decimal f.frac))
+not_empty f (inr (inr n)) = let e : [] ≡ n.q ∷ decimal f.frac = n.text in cc
 
 pub name_one : FormatNameIsTheOne
-name_one word f g a b = by_kind word f g a.named a b
+name_one [] f g a b = absurd (not_empty f a.named)
+name_one (first ∷ rest) f g a b = same_rest first rest f g (split_name (first ∷ rest) first rest f refl a.format a.named) (split_name (first ∷ rest) first rest g refl b.format b.named)
 
 -- ---- the words of the programs are names
 pub text_names : (f : FormatParts) → IsFormat f.width f.frac → IsFormatName (format_text f) f

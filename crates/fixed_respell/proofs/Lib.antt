@@ -10,12 +10,10 @@ mod SelfLemmas
 mod SelfLawLemmas
 mod SelfExampleLemmas
 mod ExampleLemmas
-mod ReachedExampleLemmas
 mod ReachLemmas
 mod TableLemmas
 mod KeyLemmas
 mod NameLemmas
 mod FormatNameLemmas
 mod NamedLemmas
-mod FaultAnswerLemmas
 mod EndingLemmas

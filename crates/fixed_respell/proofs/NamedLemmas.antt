@@ -8,6 +8,7 @@ use Rattle.fixed_respell.specs.Words.{IsFormatWord, IsPolicyWord}
 use Rattle.fixed_respell.specs.Lemmas.AnswerLemmas.{answer_by, task_one}
 use Rattle.fixed_respell.specs.Lemmas.FaultLemmas.{no_fault}
 use Rattle.fixed_respell.proofs.FormatNameLemmas.{name_one, word_names}
+use Rattle.fixed_respell.proofs.PlainLemmas.{asks_by}
 
 name_valid : (word : List ℕ) (f : FormatParts) → IsFormatName word f → IsFormat f.width f.frac
 name_valid word f is = is.format
@@ -17,18 +18,7 @@ named_answer_one = answer_by IsFormatName name_one name_valid
 
 -- a line that asks by the words of the programs asks by names
 named_asks : (line : List ℕ) (t : Task) → Asks line t → AsksBy IsFormatName IsPolicyWord line t
-named_asks line t asks = record {
-  short = asks.short;
-  radix_word = asks.radix_word;
-  source_word = asks.source_word;
-  target_word = asks.target_word;
-  policy_word = asks.policy_word;
-  words = asks.words;
-  radix = asks.radix;
-  source = word_names asks.source_word t.source asks.source;
-  target = word_names asks.target_word t.target asks.target;
-  policy = asks.policy;
-}
+named_asks line t asks = asks_by IsFormatWord IsFormatName IsPolicyWord IsPolicyWord line t asks (word_names asks.source_word t.source asks.source) (word_names asks.target_word t.target asks.target) asks.policy
 
 pub named_answer : NamedAnswerIsTheAnswer
 named_answer line t reply asks = (to, back)

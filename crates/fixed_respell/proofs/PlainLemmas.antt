@@ -1,5 +1,6 @@
 -- Where two ways to name a policy and a mode agree on a line's fourth word, the line has the same answers by both.
 use Rattle.std.proofs.Common.{◌≡◌, ℕ, List, [], length, get_or, refl, inl, inr, ◌↔◌}
+use Rattle.fixed_bits.specs.Formats.{FormatParts}
 use Rattle.fixed_bits.specs.declared.format.Policy.{Policy}
 use Rattle.fixed_bits.specs.declared.mode.ReadMode.{ReadMode}
 use Rattle.fixed_respell.specs.Answer.{AsksBy, HasFaultBy, IsFirstFaultBy, Task, respell_language}
@@ -39,8 +40,9 @@ first_too M N line agree f is = record {
   first = λ other before has. is.first other before (fault_too N M line (flipped M N line agree) other has);
 }
 
-asks_too : (M N : List ℕ → Policy → ReadMode → Type 0) (line : List ℕ) → Agree M N line → (t : Task) → AsksBy IsFormatWord M line t → AsksBy IsFormatWord N line t
-asks_too M N line agree t asks = record {
+-- what a line asks for, where its words are named in another way
+pub asks_by : (F G : List ℕ → FormatParts → Type 0) (M N : List ℕ → Policy → ReadMode → Type 0) (line : List ℕ) (t : Task) (asks : AsksBy F M line t) → G asks.source_word t.source → G asks.target_word t.target → N asks.policy_word t.policy t.mode → AsksBy G N line t
+asks_by F G M N line t asks source target policy = record {
   short = asks.short;
   radix_word = asks.radix_word;
   source_word = asks.source_word;
@@ -48,14 +50,14 @@ asks_too M N line agree t asks = record {
   policy_word = asks.policy_word;
   words = asks.words;
   radix = asks.radix;
-  source = asks.source;
-  target = asks.target;
-  policy = (agree _ t.numeral asks.words refl t.policy t.mode).0 asks.policy;
+  source = source;
+  target = target;
+  policy = policy;
 }
 
 answer_too : (M N : List ℕ → Policy → ReadMode → Type 0) (line : List ℕ) (reply : AnswerText) → Agree M N line → IsAnswerIn (respell_language IsFormatWord M) line reply → IsAnswerIn (respell_language IsFormatWord N) line reply
 answer_too M N line reply agree (inl a) = inl (record { fault = a.fault; first = first_too M N line agree a.fault a.first; answer_is = a.answer_is })
-answer_too M N line reply agree (inr a) = inr (record { task = a.task; asks = asks_too M N line agree a.task a.asks; answered = a.answered })
+answer_too M N line reply agree (inr a) = inr (record { task = a.task; asks = asks_by IsFormatWord IsFormatWord M N line a.task a.asks a.asks.source a.asks.target ((agree _ a.task.numeral a.asks.words refl a.task.policy a.task.mode).0 a.asks.policy); answered = a.answered })
 
 -- without a slash the two languages agree
 plain_words : (line : List ℕ) → IsPlainLine line → Agree IsPolicyWord IsPlainWord line

@@ -1,5 +1,6 @@
 -- What the proofs of the crates above may cite.
-use Rattle.std.specs.Prelude.{◌≡◌, ◌≤◌, ◌++◌, true, List, ℕ, length}
+use Rattle.std.proofs.Common.{◌≡◌, ◌≤◌, ◌++◌, true, List, ℕ, length, length-append, arith}
+use Rattle.std.specs.Prelude.{codes}
 use Rattle.line_engine.specs.AnswerText.{AnswerText}
 use Rattle.line_engine.specs.Output.{AppendsAnswer}
 use Rattle.fixed_bits.specs.Formats.{FormatParts, IsFormat}
@@ -7,13 +8,17 @@ use Rattle.fixed_respell.specs.AnswerLaws.{FormatNameIsTheOne, NamedAnswerIsTheA
 use Rattle.fixed_respell.specs.FormatNames.{IsFormatName}
 use Rattle.fixed_respell.specs.Language.{fault_answer}
 use Rattle.fixed_respell.specs.Words.{format_text}
-use Rattle.fixed_respell.proofs.FaultAnswerLemmas
 use Rattle.fixed_respell.proofs.FormatNameLemmas
 use Rattle.fixed_respell.proofs.NamedLemmas
 
 -- a message of at most 64 bytes, reported as the answer to a line
 pub fault_appended : (A : List ℕ → AnswerText → Type 0) (line before after message : List ℕ) → length message ≤ 64 → A line (fault_answer message) → after ≡ before ++ (fault_answer message).text → AppendsAnswer A 192 line before after true
-fault_appended = FaultAnswerLemmas.fault_appended
+fault_appended A line before after message short answer appended = record {
+  text = (fault_answer message).text;
+  answer = answer;
+  appended = appended;
+  short = omega (arith, short, length-append (codes "error: ") message);
+}
 
 -- the word of a format is a name of it, and a name is that of one format
 pub text_names : (f : FormatParts) → IsFormat f.width f.frac → IsFormatName (format_text f) f

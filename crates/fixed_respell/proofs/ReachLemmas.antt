@@ -1,6 +1,6 @@
 -- From a reading through the source to the target.
 use Rattle.std.proofs.Common.{◌≡◌, ℕ, ◌⊎◌, ◌↔◌, Bool, true, false, IsTrue, List, refl, subst, ⊎_elim, inl, inr, ℤ}
-use Rattle.fixed_bits.specs.Down.{IsDown, down}
+use Rattle.fixed_bits.specs.Down.{down}
 use Rattle.fixed_bits.specs.Formats.{FormatParts}
 use Rattle.fixed_bits.specs.Images.{IsImage}
 use Rattle.fixed_bits.specs.Numbers.{IsNumber, IsRefused}
@@ -8,7 +8,7 @@ use Rattle.fixed_bits.specs.Ranges.{IsOutOfRange}
 use Rattle.fixed_bits.specs.declared.format.Policy.{Policy}
 use Rattle.fixed_bits.specs.declared.format.Policy.TheVariants.{Checked}
 use Rattle.fixed_bits.specs.declared.mode.ReadMode.{ReadMode}
-use Rattle.fixed_bits.proofs.Public.{down_one}
+use Rattle.fixed_bits.proofs.Public.{down_is}
 use Rattle.fixed_numeral.specs.Numeral.{Parts, HasNumeral}
 use Rattle.fixed_numeral.specs.declared.error.ParseErrorKind.{ParseErrorKind}
 use Rattle.fixed_numeral.specs.declared.error.ParseErrorKind.TheVariants.{Overflow}
@@ -16,9 +16,6 @@ use Rattle.fixed_numeral.specs.declared.radix.Radix.{Radix}
 use Rattle.fixed_read.specs.Reading.{IsReadNumber, IsReading, number_in}
 use Rattle.fixed_read.specs.declared.read_number.ReadNumber.{ReadNumber}
 use Rattle.fixed_respell.specs.Reached.{IsReached, IsOverflowed, IsRespelled, IsRefusal}
-
-down_is : (b : ℤ) (f g : ℕ) → IsDown b f g (down b f g)
-down_is b f g = (down_one b f g (down b f g)).1 refl
 
 -- what is said of a reading's number is said of the numeral's read number
 pub record IsRead (mode : ReadMode) (r : Radix) (bytes : List ℕ) (source : FormatParts) (found : ReadNumber) : Type 0 where
@@ -40,42 +37,29 @@ read_of mode r bytes source found (p, numeral) reading format = record {
 }
 
 -- nothing is reached
-out_of_source : (mode : ReadMode) (r : Radix) (bytes : List ℕ) (policy : Policy) (source target : FormatParts) (found : ReadNumber) (kind : ParseErrorKind) (is : IsRead mode r bytes source found) → kind ≡ Overflow
-    → (policy ≡ Checked) × IsOutOfRange source.signed source.width is.number → IsRefusal mode r bytes policy source target kind
-out_of_source mode r bytes policy source target found kind is overflow why =
-    let none : IsOverflowed mode r is.parts policy source target = record {
+none : (mode : ReadMode) (r : Radix) (bytes : List ℕ) (policy : Policy) (source target : FormatParts) (found : ReadNumber) (kind : ParseErrorKind) (is : IsRead mode r bytes source found) → kind ≡ Overflow → policy ≡ Checked
+    → IsOutOfRange source.signed source.width is.number ⊎ IsOutOfRange target.signed target.width (down is.number source.frac target.frac) → IsRefusal mode r bytes policy source target kind
+none mode r bytes policy source target found kind is overflow checked out =
+    let overflowed : IsOverflowed mode r is.parts policy source target = record {
       number = is.number;
       moved = down is.number source.frac target.frac;
-      checked = why.0;
+      checked = checked;
       read = is.read;
       down = down_is is.number source.frac target.frac;
-      out = inl why.1;
+      out = out;
     } in
-    inr (overflow, record { parts = is.parts; numeral = is.numeral; overflowed = none })
-
-out_of_target : (mode : ReadMode) (r : Radix) (bytes : List ℕ) (policy : Policy) (source target : FormatParts) (found : ReadNumber) (b : ℤ) (kind : ParseErrorKind) (is : IsRead mode r bytes source found) → kind ≡ Overflow
-    → IsImage policy source.signed source.width is.number b → (policy ≡ Checked) × IsOutOfRange target.signed target.width (down b source.frac target.frac) → IsRefusal mode r bytes policy source target kind
-out_of_target mode r bytes policy source target found b kind is overflow image why =
-    let exact : IsImage Checked source.signed source.width is.number b = rw why.0 at image in
-    let same : b ≡ is.number = exact.same in
-    let none : IsOverflowed mode r is.parts policy source target = record {
-      number = is.number;
-      moved = down is.number source.frac target.frac;
-      checked = why.0;
-      read = is.read;
-      down = down_is is.number source.frac target.frac;
-      out = inr (subst (λ c. IsOutOfRange target.signed target.width (down c source.frac target.frac)) same why.1);
-    } in
-    inr (overflow, record { parts = is.parts; numeral = is.numeral; overflowed = none })
+    inr (overflow, record { parts = is.parts; numeral = is.numeral; overflowed = overflowed })
 
 -- a number on the way is out of its format
 pub refused : (mode : ReadMode) (r : Radix) (bytes : List ℕ) (policy : Policy) (source target : FormatParts) (found : ReadNumber) (b : ℤ) (o u : Bool) (kind : ParseErrorKind) (is : IsRead mode r bytes source found) → kind ≡ Overflow
     → (¬ IsRefused policy o → IsImage policy source.signed source.width is.number b) → (IsTrue o ↔ IsOutOfRange source.signed source.width is.number)
     → (IsTrue u ↔ IsOutOfRange target.signed target.width (down b source.frac target.frac)) → (policy ≡ Checked) × (IsTrue o ⊎ IsTrue u) → IsRefusal mode r bytes policy source target kind
-refused mode r bytes policy source target found b true u kind is overflow image flag out why = out_of_source mode r bytes policy source target found kind is overflow (why.0, flag.0 refl)
+refused mode r bytes policy source target found b true u kind is overflow image flag out why = none mode r bytes policy source target found kind is overflow why.0 (inl (flag.0 refl))
 refused mode r bytes policy source target found b false u kind is overflow image flag out why =
     let image_is : IsImage policy source.signed source.width is.number b = image (λ w. let t : IsTrue false = w.1 in absurd (cc)) in
-    out_of_target mode r bytes policy source target found b kind is overflow image_is (why.0, out.0 (⊎_elim (λ (t : IsTrue false). absurd (cc)) (λ (t : IsTrue u). t) why.1))
+    let exact : IsImage Checked source.signed source.width is.number b = rw why.0 at image_is in
+    let past = out.0 (⊎_elim (λ (t : IsTrue false). absurd (cc)) (λ (t : IsTrue u). t) why.1) in
+    none mode r bytes policy source target found kind is overflow why.0 (inr (subst (λ c. IsOutOfRange target.signed target.width (down c source.frac target.frac)) exact.same past))
 
 -- what is reached
 either_out : (e o u A B : Type 0) → e ↔ (o ⊎ u) → o ↔ A → u ↔ B → e ↔ (A ⊎ B)

@@ -1,10 +1,10 @@
 //! What the arguments of the program ask for.
 
 ghost use Rattle.std.specs.Prelude.{◌≡◌, ◌≤◌, ◌<◌, ◌^◌, ℕ, length, MatchOption, IfSome, decimal};
-ghost use Rattle.std.specs.Str.Parse.{AllDigits, digits_value};
 ghost use Rattle.fixed_respell.specs.Command.{IsCommand, IsNumbered, IsUsageFault};
 ghost use Rattle.fixed_respell.specs.declared.command.Command.{Command};
 
+use crate::decimal::number_word;
 use line_engine::MAX_LIMIT;
 
 /// How many lines the self test generates at most.
@@ -17,40 +17,6 @@ pub(crate) enum Command {
     Read(u64),
     /// Answers this many generated lines, and sums their answers up.
     SelfTest(u64),
-}
-
-/// The number that the digits spell. None where a byte is no decimal digit.
-fn digits_number(digits: &[u8]) -> Option<u64>
-    requires { length digits.now ≤ 10 }
-    ensures { MatchOption result (¬ AllDigits 10 digits.now)
-        (λ n. AllDigits 10 digits.now × (n ≡ digits_value 10 digits.now)) }
-{
-    let mut number = 0;
-    for b in digits {
-        if !b.is_ascii_digit() {
-            return None;
-        }
-        number = number * 10 + u64::from(*b - b'0');
-    }
-    Some(number)
-}
-
-/// The number of at most `most` that the word is in decimal, without a leading zero. None where it is none.
-fn number_word(word: &[u8], most: u64) -> Option<u64>
-    requires { most < 10 ^ 10 }
-    ensures number { MatchOption result ((n : ℕ) → n ≤ most → ¬ (word.now ≡ decimal n)) (λ n. word.now ≡ decimal n) }
-    ensures most { IfSome result (λ n. n ≤ most) }
-{
-    if word.is_empty() || word.len() > 10 {
-        return None;
-    }
-    if word[0] == b'0' && word.len() > 1 {
-        return None;
-    }
-    match digits_number(word) {
-        Some(number) if number <= most => Some(number),
-        _ => None,
-    }
 }
 
 /// The number from 1 to `most` that the word is in decimal. None where it is none.

@@ -7,45 +7,19 @@ ghost use Rattle.fixed_respell.specs.FormatNames.{IsFormatName, IsLetter};
 ghost use Rattle.fixed_respell.specs.Inner.NameParts.{IsAfterQ, IsAfterU, IsCounted, IsFraction, IsPointed, two_counts};
 ghost use Rattle.fixed_respell.specs.Words.{fraction_letter};
 
+use crate::decimal::number_word;
 use crate::split::split_once;
 use fixed_bits::Format;
 
-/// The digit that a byte is.
-fn digit_of(byte: u8) -> Option<u32>
-    ensures { MatchOption result ((n : ℕ) → n < 10 → ¬ (byte ≡ 48 + n)) (λ n. (n < 10) × (byte ≡ 48 + n)) }
-{
-    if byte >= b'0' && byte <= b'9' {
-        Some(u32::from(byte - b'0'))
-    } else {
-        None
-    }
-}
-
-/// The number of two digits that bytes are, of which the first is not 0.
-fn number_of(high: u8, low: u8) -> Option<u32>
-    ensures { MatchOption result
-        ((n : ℕ) → 10 ≤ n → n < 100 → ¬ ((high ≡ 48 + n / 10) × (low ≡ 48 + n % 10)))
-        (λ n. (10 ≤ n) × (n < 100) × (high ≡ 48 + n / 10) × (low ≡ 48 + n % 10)) }
-{
-    if high > b'0' && high <= b'9' && low >= b'0' && low <= b'9' {
-        Some(u32::from(high - b'0') * 10 + u32::from(low - b'0'))
-    } else {
-        None
-    }
-}
-
-/// A count of bits in decimal: a digit, or two that do not begin with 0. None for other bytes.
+/// The count of bits below 100 that bytes are in decimal. None where they are none.
 fn count_of(digits: &[u8]) -> Option<u32>
     ensures { MatchOption result
         ((n : ℕ) → n < 100 → ¬ (digits.now ≡ decimal n))
         (λ n. (n < 100) × (digits.now ≡ decimal n)) }
 {
-    if digits.len() == 1 {
-        digit_of(digits[0])
-    } else if digits.len() == 2 {
-        number_of(digits[0], digits[1])
-    } else {
-        None
+    match number_word(digits, 99) {
+        Some(count) => Some(count as u32),
+        None => None,
     }
 }
 

@@ -128,6 +128,7 @@ pub fn worked_answers()
 {}
 
 /// A word is the word of one format at most. So `format_word` of what `format_name` answers is that very format.
+#[tactic(auto, using(crate::specs::Lemmas::AnswerLemmas::format_word_one))]
 pub fn format_word_is_the_one()
     ensures { FormatWordIsTheOne }
 {}
@@ -138,6 +139,7 @@ pub fn format_name_is_the_one()
 {}
 
 /// The word of a format, by which the programs of lines know it, is a name of it.
+#[tactic(auto, using(crate::proofs::FormatNameLemmas::word_names))]
 pub fn format_word_is_a_name()
     ensures { FormatWordIsAName }
 {}
@@ -164,12 +166,14 @@ pub fn long_is_answered_by_prefix()
 
 /// A word without a slash names a policy and a mode exactly where it is the policy's own word and the mode is
 /// NearestEven.
+#[tactic(auto, using(crate::specs::Lemmas::AnswerLemmas::plain_word))]
 pub fn plain_word_names_nearest()
     ensures { PlainWordNamesNearest }
 {}
 
 /// A line that asks for something by a fourth word without a slash asks for the policy of that very name, with the mode
 /// NearestEven.
+#[tactic(auto, using(crate::specs::Lemmas::AnswerLemmas::plain_line))]
 pub fn plain_line_asks_nearest()
     ensures { PlainLineAsksNearest }
 {}
@@ -192,16 +196,19 @@ pub fn summary_is_the_one()
 {}
 
 /// The count of failed writes says how a self test ended, and where none failed it wrote one text.
+#[tactic(auto, using(crate::proofs::SelfLawLemmas::self_run_one))]
 pub fn self_run_is_the_one()
     ensures { SelfRunIsTheOne }
 {}
 
 /// A word names at most one policy and one mode.
+#[tactic(auto, using(crate::specs::Lemmas::AnswerLemmas::policy_word_one))]
 pub fn policy_word_is_the_one()
     ensures { PolicyWordIsTheOne }
 {}
 
 /// Arguments ask for at most one command.
+#[tactic(auto, using(crate::proofs::CommandLemmas::command_one))]
 pub fn command_is_the_one()
     ensures { CommandIsTheOne }
 {}

@@ -4,6 +4,7 @@
 
 pub mod answering;
 mod command;
+mod decimal;
 pub mod fault;
 mod fields;
 mod format_names;

@@ -1,6 +1,6 @@
 -- A line has one answer.
 use Rattle.std.proofs.Common.{◌≡◌, ℕ, ◌-◌, ◌<◌, List, [], ◌∷◌, ◌++◌, Bool, length, get_or, refl, sym, ap, ◌∙◌, subst}
-use Rattle.std.proofs.Common.{arith, ℤ, inl, inr, if◌then◌else◌, ◌==◌}
+use Rattle.std.proofs.Common.{arith, inl, inr, if◌then◌else◌, ◌==◌}
 use Rattle.std.specs.Fmt.{decimal}
 use Rattle.std.proofs.lemmas.Fmt.{decimal_injective}
 use Rattle.fixed_bits.specs.Formats.{FormatParts, IsFormat}
@@ -98,8 +98,7 @@ abbrev parts : Bool → ℕ → ℕ → FormatParts
 parts s w r = record { signed = s; width = w; frac = r }
 
 parts_are : (f g : FormatParts) → f.signed ≡ g.signed → f.width ≡ g.width → f.frac ≡ g.frac → f ≡ g
-parts_are f g s w r = ap (λ x. parts x f.width f.frac) s ∙ (ap (λ x. parts g.signed x f.frac) w ∙ ap
-    (λ x. parts g.signed g.width x) r)
+parts_are f g s w r = λ i. parts (s i) (w i) (r i)
 
 pub format_text_one : (f g : FormatParts) → IsFormat f.width f.frac → IsFormat g.width g.frac
     → format_text f ≡ format_text g → f ≡ g
@@ -125,13 +124,7 @@ format_word_one word f g a b = format_text_one f g (type_format f.width f.frac a
 
 task_is : (t u : Task) → t.radix ≡ u.radix → t.source ≡ u.source → t.target ≡ u.target → t.policy ≡ u.policy
     → t.mode ≡ u.mode → t.numeral ≡ u.numeral → t ≡ u
-task_is t u r s g p m n =
-    ap (λ x. task_of x t.source t.target t.policy t.mode t.numeral) r
-    ∙ (ap (λ x. task_of u.radix x t.target t.policy t.mode t.numeral) s
-    ∙ (ap (λ x. task_of u.radix u.source x t.policy t.mode t.numeral) g
-    ∙ (ap (λ x. task_of u.radix u.source u.target x t.mode t.numeral) p
-    ∙ (ap (λ x. task_of u.radix u.source u.target u.policy x t.numeral) m
-    ∙ ap (λ x. task_of u.radix u.source u.target u.policy u.mode x) n))))
+task_is t u r s g p m n = λ i. task_of (r i) (s i) (g i) (p i) (m i) (n i)
 
 -- ---- a task has one answer
 refusals : (t : Task) (a b : AnswerText) → IsRefusalAnswer t a → IsRefusalAnswer t b → a ≡ b
@@ -171,12 +164,7 @@ module _ (Names : List ℕ → FormatParts → Type 0) (one_format : (word : Lis
       (valid asks.target_word t.target asks.target) x.respelled y.respelled in
       let text = shortest_text_unique y.bits t.target.frac x.text y.text
       (subst (λ c. IsShortestText c t.target.frac x.text) one.0 x.shortest) y.shortest in
-      x.answer_is ∙ (alike x.text y.text x.bits y.bits x.overflowed y.overflowed text one.0 one.1 ∙ sym y.answer_is)
-    where
-      alike : (s t : List ℕ) (b c : ℤ) (o u : Bool) → s ≡ t → b ≡ c → o ≡ u
-          → respelled_answer s b o ≡ respelled_answer t c u
-      alike s t b c o u e f g = ap (λ x. respelled_answer x b o) e ∙
-          (ap (λ x. respelled_answer t x o) f ∙ ap (λ x. respelled_answer t c x) g)
+      x.answer_is ∙ ((λ i. respelled_answer (text i) (one.0 i) (one.1 i)) ∙ sym y.answer_is)
 
   task_answer_one : (line : List ℕ) (t : Task) (a b : AnswerText) → AsksBy Names IsPolicyWord line t
       → IsTaskAnswered t a → IsTaskAnswered t b → a ≡ b

@@ -1,6 +1,6 @@
 -- The faults of a line, in the order in which they are looked for.
-use Rattle.std.proofs.Common.{◌≡◌, ℕ, ◌+◌, ◌<◌, ◌≤◌, List, [], ◌∷◌, length, refl, sym, ap, ◌∙◌, arith, if◌then◌else◌}
-use Rattle.std.proofs.Common.{◌==◌}
+use Rattle.std.proofs.Common.{◌≡◌, ℕ, ◌<◌, ◌≤◌, List, [], ◌∷◌, length, refl, sym, ap, ◌∙◌, arith, if◌then◌else◌}
+use Rattle.std.proofs.Common.{◌==◌, subst}
 use Rattle.fixed_bits.specs.Formats.{FormatParts}
 use Rattle.fixed_bits.specs.declared.format.Policy.{Policy}
 use Rattle.fixed_bits.specs.declared.mode.ReadMode.{ReadMode}
@@ -13,7 +13,7 @@ use Rattle.fixed_respell.specs.Words.{radix_text, IsPolicyWord}
 use Rattle.fixed_respell.specs.declared.fault.LineFault.{LineFault}
 use Rattle.fixed_respell.specs.declared.fault.LineFault.TheVariants.{LineTooLong, MissingField, BadRadix, BadSource}
 use Rattle.fixed_respell.specs.declared.fault.LineFault.TheVariants.{BadTarget, BadPolicy}
-use Rattle.fixed_respell.specs.Lemmas.LineWordLemmas.{NoneBefore, RanksTellApart, first_is, none_at_first, none_next}
+use Rattle.fixed_respell.specs.Lemmas.LineWordLemmas.{RanksTellApart}
 use Rattle.fixed_respell.specs.Lemmas.LineWordLemmas.{not_bad, not_missing}
 
 -- the fault of a rank
@@ -48,81 +48,69 @@ module _ (Names : List ℕ → FormatParts → Type 0) where
   no_fault line t BadPolicy asks bad = not_bad 4 3 (NamesSome IsPolicyWord) line _ t.numeral asks.words refl
       (t.policy, t.mode, asks.policy) bad
 
-  -- the line has no fault of a rank below n
-  abbrev NoFaultBefore : ℕ → List ℕ → Type 0
-  NoFaultBefore n line = NoneBefore LineFault fault_rank (λ f. HasFaultBy Names IsPolicyWord f line) n
-
-  after : (line : List ℕ) (f : LineFault) (n : ℕ) → fault_rank f ≡ n → (HasFaultBy Names IsPolicyWord f line → ⊥)
-      → NoFaultBefore n line → NoFaultBefore (n + 1) line
-  after line f n is none before = none_next LineFault fault_rank
-      (λ f. HasFaultBy Names IsPolicyWord f line) faults_apart f n is none before
-
-  first : (line : List ℕ) (f : LineFault) (n : ℕ) → fault_rank f ≡ n → HasFaultBy Names IsPolicyWord f line
-      → NoFaultBefore n line → IsFirstFaultBy Names IsPolicyWord f line
-  first line f n is has before = first_is LineFault fault_rank
-      (λ f. HasFaultBy Names IsPolicyWord f line) f n is has before
-
-  -- what a line has whose first words were read so far
-  short_line : (line : List ℕ) → length line ≤ longest_line → NoFaultBefore 1 line
-  short_line line short = after line LineTooLong 0 refl (λ long. omega (arith, short, long))
-      (none_at_first LineFault fault_rank (λ f. HasFaultBy Names IsPolicyWord f line))
-
-  worded : (line r s t p n : List ℕ) → length line ≤ longest_line → HasWords line (r ∷ s ∷ t ∷ p ∷ []) n
-      → NoFaultBefore 2 line
-  worded line r s t p n short has = after line MissingField 1 refl (λ few. not_missing 4 line _ n has refl few)
-      (short_line line short)
-
-  with_radix : (line r s t p n : List ℕ) (radix : Radix) → length line ≤ longest_line
-      → HasWords line (r ∷ s ∷ t ∷ p ∷ []) n → r ≡ radix_text radix → NoFaultBefore 3 line
-  with_radix line r s t p n radix short has is = after line BadRadix 2 refl
-      (λ bad. not_bad 4 0 NamesRadix line _ n has refl (radix, is) bad) (worded line r s t p n short has)
-
-  with_source : (line r s t p n : List ℕ) (radix : Radix) (source : FormatParts) → length line ≤ longest_line
-      → HasWords line (r ∷ s ∷ t ∷ p ∷ []) n → r ≡ radix_text radix → Names s source → NoFaultBefore 4 line
-  with_source line r s t p n radix source short has is is_source = after line BadSource 3 refl
-      (λ bad. not_bad 4 1 (NamesFormatBy Names) line _ n has refl (source, is_source) bad)
-      (with_radix line r s t p n radix short has is)
-
-  with_target : (line r s t p n : List ℕ) (radix : Radix) (source target : FormatParts) → length line ≤ longest_line
-      → HasWords line (r ∷ s ∷ t ∷ p ∷ []) n → r ≡ radix_text radix → Names s source → Names t target
-      → NoFaultBefore 5 line
-  with_target line r s t p n radix source target short has is is_source is_target = after line BadTarget 4 refl
-      (λ bad. not_bad 4 2 (NamesFormatBy Names) line _ n has refl (target, is_target) bad)
-      (with_source line r s t p n radix source short has is is_source)
+  -- a line whose first words were read so far has no fault of a lower rank
+  none_before : (line r s t p n : List ℕ) (k : ℕ) → length line ≤ longest_line → HasWords line (r ∷ s ∷ t ∷ p ∷ []) n
+      → k ≤ 5 → (2 < k → NamesRadix r) → (3 < k → NamesFormatBy Names s) → (4 < k → NamesFormatBy Names t)
+      → (f : LineFault) → fault_rank f < k → HasFaultBy Names IsPolicyWord f line → ⊥
+  none_before line r s t p n k short has most radix source target LineTooLong below long = omega (arith, short, long)
+  none_before line r s t p n k short has most radix source target MissingField below few = not_missing 4 line _ n has
+      refl few
+  none_before line r s t p n k short has most radix source target BadRadix below bad = not_bad 4 0 NamesRadix line _ n
+      has refl (radix below) bad
+  none_before line r s t p n k short has most radix source target BadSource below bad = not_bad 4 1
+      (NamesFormatBy Names) line _ n has refl (source below) bad
+  none_before line r s t p n k short has most radix source target BadTarget below bad = not_bad 4 2
+      (NamesFormatBy Names) line _ n has refl (target below) bad
+  none_before line r s t p n k short has most radix source target BadPolicy below bad = omega (arith, most, below)
 
   -- the first faults
   pub first_long : (line : List ℕ) → longest_line < length line → IsFirstFaultBy Names IsPolicyWord LineTooLong line
-  first_long line long = first line LineTooLong 0 refl long (none_at_first LineFault fault_rank
-      (λ f. HasFaultBy Names IsPolicyWord f line))
+  first_long line long = record { has = long; first = λ other below has. omega (arith, below) }
 
   pub first_missing : (line : List ℕ) → length line ≤ longest_line → count_of space line < 4
       → IsFirstFaultBy Names IsPolicyWord MissingField line
-  first_missing line short few = first line MissingField 1 refl few (short_line line short)
+  first_missing line short few = record {
+    has = few;
+    first = λ other below has. omega (
+      arith,
+      short,
+      subst (λ f. HasFaultBy Names IsPolicyWord f line)
+          (faults_apart other LineTooLong (omega (arith, below))) has,
+    );
+  }
 
   pub first_radix : (line r s t p n : List ℕ) → length line ≤ longest_line → HasWords line (r ∷ s ∷ t ∷ p ∷ []) n
       → ((radix : Radix) → r ≡ radix_text radix → ⊥) → IsFirstFaultBy Names IsPolicyWord BadRadix line
-  first_radix line r s t p n short has none = first line BadRadix 2 refl
-      (record { words = _; rest = n; has = has; count_is = refl; bad = λ (radix, is). none radix is })
-      (worded line r s t p n short has)
+  first_radix line r s t p n short has none = record {
+    has = record { words = _; rest = n; has = has; count_is = refl; bad = λ (radix, is). none radix is };
+    first = none_before line r s t p n 2 short has (omega arith) (λ l. absurd (omega (arith, l)))
+        (λ l. absurd (omega (arith, l))) (λ l. absurd (omega (arith, l)));
+  }
 
   pub first_source : (line r s t p n : List ℕ) (radix : Radix) → length line ≤ longest_line
       → HasWords line (r ∷ s ∷ t ∷ p ∷ []) n → r ≡ radix_text radix → ((source : FormatParts) → Names s source → ⊥)
       → IsFirstFaultBy Names IsPolicyWord BadSource line
-  first_source line r s t p n radix short has is none = first line BadSource 3 refl
-      (record { words = _; rest = n; has = has; count_is = refl; bad = λ (source, is). none source is })
-      (with_radix line r s t p n radix short has is)
+  first_source line r s t p n radix short has is none = record {
+    has = record { words = _; rest = n; has = has; count_is = refl; bad = λ (source, is). none source is };
+    first = none_before line r s t p n 3 short has (omega arith) (λ _. (radix, is)) (λ l. absurd (omega (arith, l)))
+        (λ l. absurd (omega (arith, l)));
+  }
 
   pub first_target : (line r s t p n : List ℕ) (radix : Radix) (source : FormatParts) → length line ≤ longest_line
       → HasWords line (r ∷ s ∷ t ∷ p ∷ []) n → r ≡ radix_text radix → Names s source
       → ((target : FormatParts) → Names t target → ⊥) → IsFirstFaultBy Names IsPolicyWord BadTarget line
-  first_target line r s t p n radix source short has is is_source none = first line BadTarget 4 refl
-      (record { words = _; rest = n; has = has; count_is = refl; bad = λ (target, is). none target is })
-      (with_source line r s t p n radix source short has is is_source)
+  first_target line r s t p n radix source short has is is_source none = record {
+    has = record { words = _; rest = n; has = has; count_is = refl; bad = λ (target, is). none target is };
+    first = none_before line r s t p n 4 short has (omega arith) (λ _. (radix, is)) (λ _. (source, is_source))
+        (λ l. absurd (omega (arith, l)));
+  }
 
   pub first_policy : (line r s t p n : List ℕ) (radix : Radix) (source target : FormatParts)
       → length line ≤ longest_line → HasWords line (r ∷ s ∷ t ∷ p ∷ []) n → r ≡ radix_text radix → Names s source
       → Names t target → ((policy : Policy) (mode : ReadMode) → IsPolicyWord p policy mode → ⊥)
       → IsFirstFaultBy Names IsPolicyWord BadPolicy line
-  first_policy line r s t p n radix source target short has is is_source is_target none = first line BadPolicy 5 refl
-      (record { words = _; rest = n; has = has; count_is = refl; bad = λ (policy, mode, is). none policy mode is })
-      (with_target line r s t p n radix source target short has is is_source is_target)
+  first_policy line r s t p n radix source target short has is is_source is_target none = record {
+    has = record { words = _; rest = n; has = has; count_is = refl; bad = λ (policy, mode, is). none policy mode is };
+    first = none_before line r s t p n 5 short has (omega arith) (λ _. (radix, is)) (λ _. (source, is_source))
+        (λ _. (target, is_target));
+  }

@@ -1,6 +1,6 @@
 -- A line has its words in one way, and a first fault is the one first fault.
 use Rattle.std.proofs.Common.{◌≡◌, ℕ, ◌+◌, ◌<◌, ◌≤◌, List, [], ◌∷◌, length, get_or, refl, sym, ap, ◌∙◌, subst}
-use Rattle.std.proofs.Common.{arith, inl, inr, length-append}
+use Rattle.std.proofs.Common.{arith, inl, inr}
 use Rattle.std.proofs.lemmas.Bool.{cases_lt}
 use Rattle.fixed_respell.specs.LineWords.{HasWords, HaveNoSpace, HasBadWord, IsFirst, space, spaced}
 use Rattle.fixed_respell.specs.Split.{count_of, IsSplit}
@@ -35,15 +35,6 @@ spaces (word ∷ words) rest = omega (arith, count_one space word (spaced words 
 pub enough_spaces : (line : List ℕ) (words : List (List ℕ)) (rest : List ℕ) → HasWords line words rest
     → length words ≤ count_of space line
 enough_spaces line words rest has = omega (arith, ap (count_of space) has.text, spaces words rest)
-
--- the rest is no longer than the line
-spaced_length : (words : List (List ℕ)) (rest : List ℕ) → length rest ≤ length (spaced words rest)
-spaced_length [] rest = omega arith
-spaced_length (word ∷ words) rest = omega (
-  arith,
-  length-append word (space ∷ spaced words rest),
-  spaced_length words rest,
-)
 
 -- a split takes one space
 pub one_fewer : (bytes before after : List ℕ) → IsSplit space bytes before after

@@ -5,7 +5,7 @@ use Rattle.fixed_numeral.specs.Messages.{message_of}
 use Rattle.fixed_numeral.proofs.Public.{message_short}
 use Rattle.fixed_respell.specs.Answer.{IsAnswer, respelled_answer, task_of}
 use Rattle.fixed_respell.specs.Language.{fault_answer}
-use Rattle.fixed_respell.proofs.FaultAnswerLemmas.{fault_appended}
+use Rattle.fixed_respell.proofs.Public.{fault_appended}
 use Rattle.fixed_respell.proofs.answering.append_answer.Goals as goal
 
 pub returns-in-Ok-reach-clause-answer : goal.returns-in-Ok-reach-clause-answer

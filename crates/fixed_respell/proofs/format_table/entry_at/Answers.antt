@@ -4,7 +4,7 @@ use Rattle.fixed_respell.proofs.format_table.entry_at.Goals as goal
 
 pub returns-clause-sound : goal.returns-clause-sound
 unfolding table
-returns-clause-sound c = found_sound (c.args.key * 5908600910794745115 % 2 ^ 64 / 2 ^ 55)
+returns-clause-sound c = found_sound (c.args.key * 9476561537795100451 % 2 ^ 64 / 2 ^ 56)
 
 pub returns-clause-whole : goal.returns-clause-whole
 unfolding table

@@ -1,45 +1,29 @@
-use Rattle.fixed_respell.proofs.ReachedExampleLemmas.{
-  ceil_minus_2_5,
-  floor_minus_2_5,
-  nearest_2_5,
-  nearest_minus_2_5,
-  overflow_17,
-  overflow_300,
-  respelled_0_1p1,
-  respelled_1_1p3,
-  respelled_2_1,
-  respelled_2_99,
-  respelled_minus_2_5,
-  saturated_17,
-  saturated_300,
-  saturated_minus_300,
-  wrapped_17,
-  wrapped_300,
-  wrapped_C0F_FE,
-  wrapped_minus_1,
-  zero_minus_2_5,
-}
+use Rattle.std.proofs.Common.{Some, None, refl}
+use Rattle.std.specs.Prelude.{codes}
+use Rattle.fixed_bits.specs.Down.{down}
+use Rattle.fixed_respell.proofs.ExampleLemmas.{by_two, overflows, plain, reached}
 use Rattle.fixed_respell.proofs.laws.worked_examples.Goals as goal
 
 pub returns : goal.returns
+unfolding down
 returns c = record {
-  to_the_source_step_first = respelled_2_99;
-  down_below_zero = respelled_minus_2_5;
-  source_wraps = wrapped_300;
-  source_saturates = saturated_300;
-  source_refuses = overflow_300;
-  target_wraps = wrapped_17;
-  target_saturates = saturated_17;
-  target_refuses = overflow_17;
-  in_the_mode = respelled_2_1;
-  tie_above_zero = nearest_2_5;
-  tie_below_zero = nearest_minus_2_5;
-  floor_below_zero = floor_minus_2_5;
-  ceil_below_zero = ceil_minus_2_5;
-  towards_zero_below_zero = zero_minus_2_5;
-  saturates_below = saturated_minus_300;
-  negative_wraps = wrapped_minus_1;
-  octal_exponent = respelled_0_1p1;
-  binary_exponent = respelled_1_1p3;
-  hexadecimal_wraps = wrapped_C0F_FE;
+  to_the_source_step_first = reached (plain None (codes "2") (Some (codes "99"))) 48 refl;
+  down_below_zero = reached (plain (Some 45) (codes "2") (Some (codes "5"))) 40 refl;
+  source_wraps = reached (plain None (codes "300") None) 300 refl;
+  source_saturates = reached (plain None (codes "300") None) 300 refl;
+  source_refuses = overflows (plain None (codes "300") None) 300 refl;
+  target_wraps = reached (plain None (codes "17") None) 17 refl;
+  target_saturates = reached (plain None (codes "17") None) 17 refl;
+  target_refuses = overflows (plain None (codes "17") None) 17 refl;
+  in_the_mode = reached (plain None (codes "2") (Some (codes "1"))) 3 refl;
+  tie_above_zero = reached (plain None (codes "2") (Some (codes "5"))) 2 refl;
+  tie_below_zero = reached (plain (Some 45) (codes "2") (Some (codes "5"))) 2 refl;
+  floor_below_zero = reached (plain (Some 45) (codes "2") (Some (codes "5"))) 3 refl;
+  ceil_below_zero = reached (plain (Some 45) (codes "2") (Some (codes "5"))) 2 refl;
+  towards_zero_below_zero = reached (plain (Some 45) (codes "2") (Some (codes "5"))) 2 refl;
+  saturates_below = reached (plain (Some 45) (codes "300") None) 300 refl;
+  negative_wraps = reached (plain (Some 45) (codes "1") None) 1 refl;
+  octal_exponent = reached (by_two (codes "0") (codes "1") 49) 64 refl;
+  binary_exponent = reached (by_two (codes "1") (codes "1") 51) 12 refl;
+  hexadecimal_wraps = reached (plain None (codes "C0F") (Some (codes "FE"))) 790526 refl;
 }

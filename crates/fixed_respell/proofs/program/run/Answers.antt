@@ -1,8 +1,4 @@
-use Rattle.std.proofs.Common.{◌≡◌, ℕ, arith, subst}
-use Rattle.fixed_respell.specs.Answer.{IsAnswer}
-use Rattle.line_engine.specs.Asked.{AskedWithin}
-use Rattle.line_engine.specs.Run.{HasRun, Spends}
-use Rattle.fixed_respell.specs.SelfMode.{HasSelfRun}
+use Rattle.std.proofs.Common.{◌≡◌, arith}
 use Rattle.fixed_respell.proofs.CommandLemmas.{limit_one, count_is_one}
 use Rattle.fixed_respell.proofs.program.run.Goals as goal
 
@@ -19,23 +15,19 @@ returns-in-Some-Read-clause-too_long g c limit is input whole long =
 pub returns-in-Some-Read-clause-run : goal.returns-in-Some-Read-clause-run
 returns-in-Some-Read-clause-run g c limit is =
     let same : c.in-Some-Read.limit ≡ limit = limit_one c.args.args.now c.in-Some-Read.limit limit (rw c.in-Some-Read.field-0-is at c.in-Some-Read.ensures) is in
-    let P : ℕ → Type 0 = λ l. HasRun IsAnswer l (g.S.Source.left c.args.source.now) (g.S.Source.left c.run_lines.new.source) (g.K.Sink.written c.args.sink.now) (g.K.Sink.written c.run_lines.new.sink) c.run_lines.result in
-    subst P same c.run_lines.ensures.run
+    rw same at c.run_lines.ensures.run
 
 pub returns-in-Some-Read-clause-cost : goal.returns-in-Some-Read-clause-cost
 returns-in-Some-Read-clause-cost g c limit is =
     let same : c.in-Some-Read.limit ≡ limit = limit_one c.args.args.now c.in-Some-Read.limit limit (rw c.in-Some-Read.field-0-is at c.in-Some-Read.ensures) is in
-    let P : ℕ → Type 0 = λ l. Spends l 8 624 (g.S.Source.left c.args.source.now) (g.S.Source.left c.run_lines.new.source) c.args.steps.now c.run_lines.new.steps in
-    subst P same c.run_lines.ensures.cost
+    rw same at c.run_lines.ensures.cost
 
 pub returns-in-Some-Read-clause-asked : goal.returns-in-Some-Read-clause-asked
 returns-in-Some-Read-clause-asked g c limit is =
     let same : c.in-Some-Read.limit ≡ limit = limit_one c.args.args.now c.in-Some-Read.limit limit (rw c.in-Some-Read.field-0-is at c.in-Some-Read.ensures) is in
-    let P : ℕ → Type 0 = λ l. AskedWithin l (g.S.Source.asked c.args.source.now) (g.S.Source.asked c.run_lines.new.source) in
-    subst P same c.run_lines.ensures.asked
+    rw same at c.run_lines.ensures.asked
 
 pub returns-in-Some-SelfTest-clause-self_test : goal.returns-in-Some-SelfTest-clause-self_test
 returns-in-Some-SelfTest-clause-self_test g c count is =
     let same : c.in-Some-SelfTest.count ≡ count = count_is_one c.args.args.now c.in-Some-SelfTest.count count (rw c.in-Some-SelfTest.field-0-is at c.in-Some-SelfTest.ensures) is in
-    let P : ℕ → Type 0 = λ n. HasSelfRun n (g.K.Sink.written c.args.sink.now) (g.K.Sink.written c.run_self.new.sink) (g.K.Sink.failures c.args.sink.now) (g.K.Sink.failures c.run_self.new.sink) c.run_self.result in
-    subst P same c.run_self.ensures.run
+    rw same at c.run_self.ensures.run

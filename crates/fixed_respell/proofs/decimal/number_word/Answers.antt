@@ -1,8 +1,8 @@
 use Rattle.std.proofs.Common.{◌≡◌, ◌<◌, arith, sym, ◌∙◌, ap, length, get_or}
 use Rattle.std.specs.Fmt.{decimal}
 use Rattle.fixed_respell.proofs.NumberLemmas.{plain, plain_is}
-use Rattle.fixed_respell.proofs.command.number_word.Goals as goal
-use Rattle.fixed_respell.proofs.command.number_word.Goals.{then-is_empty-via-then-is_empty, then-is_empty-via-else-is_empty+then-word-gt10, else-word-eq48-via-then-word-eq48+else-word-gt1, else-word-eq48-via-else-word-eq48}
+use Rattle.fixed_respell.proofs.decimal.number_word.Goals as goal
+use Rattle.fixed_respell.proofs.decimal.number_word.Goals.{then-is_empty-via-then-is_empty, then-is_empty-via-else-is_empty+then-word-gt10, else-word-eq48-via-then-word-eq48+else-word-gt1, else-word-eq48-via-else-word-eq48}
 
 pub returns-then-is_empty-clause-number : goal.returns-then-is_empty-clause-number
 returns-then-is_empty-clause-number c n most e =

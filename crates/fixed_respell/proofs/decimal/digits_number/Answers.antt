@@ -4,7 +4,7 @@ use Rattle.std.proofs.lemmas.Str.Parse.{digit_at}
 use Rattle.std.proofs.lemmas.Str.{digit_value_digit}
 use Rattle.std.proofs.lemmas.Int.Digits.{digits_value_more, digits_more}
 use Rattle.fixed_respell.proofs.NumberLemmas.{room}
-use Rattle.fixed_respell.proofs.command.digits_number.Goals as goal
+use Rattle.fixed_respell.proofs.decimal.digits_number.Goals as goal
 
 pub returns-then-not-is_ascii_digit : goal.returns-then-not-is_ascii_digit
 returns-then-not-is_ascii_digit c digits =

@@ -1,6 +1,6 @@
 use Rattle.std.proofs.Common.{◌≡◌, take}
 use Rattle.std.specs.Str.Parse.{AllDigits, digits_value}
-use Rattle.fixed_respell.proofs.command.digits_number.Given as goal
+use Rattle.fixed_respell.proofs.decimal.digits_number.Given as goal
 
 -- the bytes so far are digits, and write the number
 abbrev pub invariant-loop-b : goal.invariant-loop-b
