@@ -79,8 +79,7 @@ flag_one signed n v w false true e x y = absurd (false≢true (x.1 (subst (λ (u
 read_as_one : (mode : ReadMode) (r : Radix) (bytes : List ℕ) (f : FormatParts) (policy : Policy) (v w : ℤ) (o p : Bool) → IsWidth f.width → IsReadAs mode r bytes f policy v o → IsReadAs mode r bytes f policy w p → (v ≡ w) × (o ≡ p)
 read_as_one mode r bytes f policy v w o p width x y =
     let parts : x.parts ≡ y.parts = same_parts r bytes x.parts y.parts x.numeral y.numeral in
-    let number : x.number ≡ y.number = read_unique mode r y.parts f.frac x.number y.number (subst (λ (q : Parts). IsReadNumber mode r q f.frac x.number) parts x.read) y.read in
-    (
+    let number : x.number ≡ y.number = read_unique mode r y.parts f.frac x.number y.number (subst (λ (q : Parts). IsReadNumber mode r q f.frac x.number) parts x.read) y.read in (
       image_one policy f.signed f.width y.number v w width (subst (λ (u : ℤ). IsImage policy f.signed f.width u v) number x.image) y.image,
       flag_one f.signed f.width x.number y.number o p number x.flag y.flag,
     )
