@@ -1,8 +1,9 @@
 -- A line has one block.
-use Rattle.std.proofs.Common.{◌≡◌, ◌∙◌, ◌↔◌, ◌<◌, ◌≤◌, ℕ, List, [], ◌∷◌, ◌++◌, Bool, true, false, length, take, nat_lt, codes}
-use Rattle.std.proofs.Common.{refl, sym, ap, subst, arith, inl, inr, length-take, take-take}
-use Rattle.std.proofs.lemmas.Bool.{false≢true, lt-ltb}
-use Rattle.fixed_bits.specs.Formats.{FormatParts, IsFormat}
+use Rattle.std.proofs.Common.{◌≡◌, ◌∙◌, ◌↔◌, ◌<◌, ◌≤◌, ℕ, List, [], ◌∷◌, ◌++◌, Bool, true, false}
+use Rattle.std.proofs.Common.{codes, length, nat_lt, take}
+use Rattle.std.proofs.Common.{sym, ap, subst, arith, inl, inr, length-take, take-take}
+use Rattle.std.proofs.lemmas.Bool.{lt-ltb}
+use Rattle.fixed_bits.specs.Formats.{FormatParts}
 use Rattle.fixed_respell.proofs.Public.{name_one}
 use Rattle.fixed_respell.specs.LineWords.{longest_line}
 use Rattle.fixed_show.proofs.Public.{bits_block_one, format_block_one, show_block_one}
@@ -32,7 +33,8 @@ format_one word a b (inl x) (inr y) = absurd (y.none x.format x.word_is)
 format_one word a b (inr x) (inl y) = absurd (x.none y.format y.word_is)
 format_one word a b (inr x) (inr y) = x.block_is ∙ sym y.block_is
 
-block_one : (q : Question) (word : List ℕ) (a b : AnswerText) → HasFormat q → IsBlock q word a → IsBlock q word b → a ≡ b
+block_one : (q : Question) (word : List ℕ) (a b : AnswerText) → HasFormat q → IsBlock q word a → IsBlock q word b
+    → a ≡ b
 block_one (Show r f p m) word a b valid x y =
     let same = show_block_one m r word f p a.fault b.fault a.text b.text valid.is_width x y in
     alike a b same.0 same.1
@@ -77,7 +79,9 @@ by_prefix n q line block past longer =
     let prefix : longest_line < length (take n line) = omega (arith, length-take n line, past, longer) in
     let one = long_is q (take n line) block prefix in
     let all = long_is q line block whole in
-    let same : long_block (take n line) ≡ long_block line = ap (λ t. reply_of (t ++ codes "error: line too long\n") true) (same_head n line (omega (arith, past))) in (
+    let head = same_head n line (omega (arith, past)) in
+    let same : long_block (take n line) ≡ long_block line
+    = ap (λ t. reply_of (t ++ codes "error: line too long\n") true) head in (
       (λ h. all.1 (one.0 h ∙ same)),
       (λ h. one.1 (all.0 h ∙ sym same)),
     )
