@@ -132,13 +132,15 @@ RUNS = {
         (["bits", "I8F8"], b"-384\r\n0x100\n\n7x", 1,
          b"given     -384\ntext      -1.5\nbits      -384\nhex       0xfe80\nvalue     -1.5\n\n"
          b"given     0x100\ntext      1\nbits      256\nhex       0x0100\nvalue     1\n\n"
-         b"given     \nerror: string has no digits\n\ngiven     7x\nerror: invalid digit found in string\n"),
+         b"given     \nerror: string has no digits\n\ngiven     7x\nerror: invalid digit found in string\n\n"),
         (["bits", "I8F8"], b"", 0, b""),
-        (["bits", "U8F0", "--file", "-"], b"\xff\n", 1, b"given     \xff\nerror: invalid digit found in string\n"),
+        (["bits", "U8F0", "--file", "-"], b"\xff\n", 1, b"given     \xff\nerror: invalid digit found in string\n\n"),
         (["bits", "U8F0", "--file", "no file"], b"", 3, b""),
-        (["show", "U8F0"], b"300\n", 1, b"given     300\nerror: overflow\n"),
+        (["show", "U8F0"], b"300\n", 1, b"given     300\nerror: overflow\n\n"),
         (["show", "I8F8", "--mode", "floor"], b"\xef\xbb\xbf-.5\n", 0, None),
-        (["bits", "U8F0"], b"0" * 1_048_577, 6, b""),
+        (["bits", "U8F0"], b"0" * 1_048_577 + b"\n7\n", 1,
+         b"given     " + b"0" * 1_024 + b"\nerror: line too long\n\n"
+         b"given     7\ntext      7\nbits      7\nhex       0x07\nvalue     7\n\n"),
         (["bits", "U8F0", "256"], b"", 1, b"given     256\nerror: word is wider than the format\n"),
         (["format", "U8F0"], b"", 0, None),
         (["pack", "Q15"], b"0.5\n-1\n", 0, b"\x00\x40\x00\x80"),

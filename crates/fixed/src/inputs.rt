@@ -36,7 +36,7 @@ pub enum Job<'a> {
 }
 
 /// A report of how many lines of an input were refused, and which was the first, with its text and the cause.
-pub fn refusal_report(file: Option<&str>, count: u64, line: &RefusedLine) -> Report {
+fn refusal_report(file: Option<&str>, count: u64, line: &RefusedLine) -> Report {
     let mut report = Report::of(file);
     report.text("lines refused: ");
     report.number(count);

@@ -9,6 +9,7 @@ pub mod Laws
 pub mod Layout
 pub mod Lemmas
 pub mod Limits
+pub mod LineBlocks
 pub mod NameLaws
 pub mod Outcome
 pub mod Printed

@@ -18,9 +18,10 @@ use Rattle.line_engine.specs.declared.status.Status.TheVariants.{NoMemory, TooLo
 use Rattle.fixed_command.specs.Convert.{IsLineReply}
 use Rattle.fixed_command.specs.Layout.{IsLaidOut}
 use Rattle.fixed_command.specs.Limits.{max_limit}
+use Rattle.fixed_command.specs.LineBlocks.{IsLineBlock}
 use Rattle.fixed_command.specs.Products.{IsProduct}
 use Rattle.fixed_command.specs.declared.task.Task.{Task}
-use Rattle.fixed_command.specs.declared.task.Task.TheVariants.{Columns, Constants, Convert, Enclose, LaidOut}
+use Rattle.fixed_command.specs.declared.task.Task.TheVariants.{Ask, Columns, Constants, Convert, Enclose, LaidOut}
 use Rattle.fixed_command.specs.declared.task.Task.TheVariants.{Least, Lines}
 
 -- no read and no write failed
@@ -75,6 +76,7 @@ TaskRuns (Lines limit) = HasLineRun respell.IsAnswer limit 8 624
 TaskRuns (Convert settings) = HasLineRun (IsLineReply settings) max_limit 8 624
 TaskRuns (LaidOut laid has_report) = HasLineRun (IsLaidOut laid.layout laid.rule) max_limit 24 1328
 TaskRuns Enclose = HasLineRun enclose.IsAnswer max_limit 16 1248
+TaskRuns (Ask question) = HasLineRun (IsLineBlock question) max_limit 26 3307
 TaskRuns (Least radix) = IsWholeRun (least.IsWholeAnswer radix) max_limit
 TaskRuns (Constants rule) = IsWholeRun (IsProduct (constants.IsFormAnswer rule.form rule.guard.now)) max_limit
 TaskRuns (Columns limit) = IsWholeRun columns.IsWholeAnswer limit

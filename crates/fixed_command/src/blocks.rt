@@ -1,6 +1,6 @@
 //! Questions about words, each answered with a block of lines.
 
-ghost use Rattle.std.specs.Prelude.{◌≡◌, ◌≤◌, ◌<◌, ◌+◌, ◌++◌, ◌||◌, List, ℕ, length, map, take, IfOk, OnErr};
+ghost use Rattle.std.specs.Prelude.{◌≡◌, ◌≤◌, ◌<◌, ◌+◌, ◌*◌, ◌++◌, ◌||◌, List, ℕ, length, map, take, IfOk, OnErr};
 ghost use Rattle.std.specs.Io.KnownBytes.{Appends};
 ghost use Rattle.fixed_command.specs.Blocks.{BlocksRun, IsBlock, IsFormatAnswer, IsHeaded, head_line};
 ghost use Rattle.fixed_command.specs.Blocks.{lead};
@@ -50,8 +50,9 @@ fn push_format<const N: usize, L: Ledger>(
     steps: &mut Steps<L>,
 ) -> bool
     requires { length out.old + MAX_BLOCK ≤ N }
-    ensures { show_blocks.Appends (λ text. IsFormatAnswer word.now (record { text = text; fault = result })) MAX_BLOCK
-        out.old out.new }
+    ensures block { show_blocks.Appends (λ text. IsFormatAnswer word.now (record { text = text; fault = result }))
+        MAX_BLOCK out.old out.new }
+    ensures cost { steps.new ≤ steps.old + 96 }
 {
     match format_named(word) {
         Some(format) => {
@@ -73,8 +74,9 @@ pub(crate) fn push_block<const N: usize, L: Ledger>(
     steps: &mut Steps<L>,
 ) -> bool
     requires { length out.old + MAX_BLOCK ≤ N }
-    ensures { show_blocks.Appends (λ text. IsBlock question.now word.now (record { text = text; fault = result }))
+    ensures block { show_blocks.Appends (λ text. IsBlock question.now word.now (record { text = text; fault = result }))
         MAX_BLOCK out.old out.new }
+    ensures cost { steps.new ≤ steps.old + 26 * length word.now + 3307 }
 {
     match question {
         Question::Show {
@@ -104,7 +106,7 @@ pub(crate) fn first_bytes(bytes: &[u8], most: usize) -> &[u8]
 }
 
 /// Appends the line of a word as it was given, of which the first bytes are shown.
-fn push_head<const N: usize>(out: &mut TextBuffer<N>, word: &[u8])
+pub(crate) fn push_head<const N: usize>(out: &mut TextBuffer<N>, word: &[u8])
     requires { length out.old + 1035 ≤ N }
     ensures appended { out.new ≡ out.old ++ head_line word.now }
     ensures short { length out.new ≤ length out.old + 1035 }
@@ -116,36 +118,19 @@ fn push_head<const N: usize>(out: &mut TextBuffer<N>, word: &[u8])
 
 /// Appends the block that answers a question about a word, after a line of the word, and answers whether it reports a
 /// fault.
-fn push_headed<const N: usize, L: Ledger>(
+pub(crate) fn push_headed<const N: usize, L: Ledger>(
     question: &Question,
     word: &[u8],
     out: &mut TextBuffer<N>,
     steps: &mut Steps<L>,
 ) -> bool
     requires { length out.old + MAX_HEADED ≤ N }
-    ensures { show_blocks.Appends (λ text. IsHeaded question.now word.now (record { text = text; fault = result }))
-        MAX_HEADED out.old out.new }
+    ensures block { show_blocks.Appends (λ text. IsHeaded question.now word.now
+        (record { text = text; fault = result })) MAX_HEADED out.old out.new }
+    ensures cost { steps.new ≤ steps.old + 26 * length word.now + 3307 }
 {
     push_head(out, word);
     push_block(question, word, out, steps)
-}
-
-/// The block that answers a question about a word.
-#[derive(Drop)]
-pub struct Block {
-    /// Its text.
-    pub text: TextBuffer<MAX_HEADED>,
-    /// Whether it reports a fault.
-    pub is_fault: bool,
-}
-
-/// The block that answers a question about a word, after a line of the word.
-pub fn block_of<L: Ledger>(question: &Question, word: &[u8], steps: &mut Steps<L>) -> Block
-    ensures { IsHeaded question.now word.now (record { text = result.text; fault = result.is_fault }) }
-{
-    let mut text: TextBuffer<MAX_HEADED> = TextBuffer::new();
-    let is_fault = push_headed(question, word, &mut text, steps);
-    Block { text, is_fault }
 }
 
 /// Appends the empty line between two blocks, where a block was written before.

@@ -1,6 +1,7 @@
 //! Laws of the definitions, each the contract of a function that does nothing.
 
 ghost use Rattle.fixed_command.specs.Laws.{OutcomeIsTheOne, PrintedBitsAreWords};
+ghost use Rattle.fixed_command.specs.LineBlocks.{LineBlockIsTheOne};
 ghost use Rattle.fixed_command.specs.NameLaws.{NamesAreTheOnes};
 ghost use Rattle.fixed_command.specs.RunLaws.{
   BlocksEndIsTheOne,
@@ -28,6 +29,11 @@ pub fn reply_is_the_one()
 /// Of some words at most one is the first that is refused, and it is refused with one block.
 pub fn first_refused_is_the_one()
     ensures { FirstRefusedIsTheOne }
+{}
+
+/// A line of an input has one block.
+pub fn line_block_is_the_one()
+    ensures { LineBlockIsTheOne }
 {}
 
 /// The words and the count of failures say how a run over words ended.

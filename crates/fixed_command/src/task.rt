@@ -11,14 +11,18 @@ ghost use Rattle.fixed_respell.specs.Answer.{IsAnswer};
 ghost use Rattle.fixed_command.specs.Convert.{IsLineReply};
 ghost use Rattle.fixed_command.specs.Layout.{IsLaidOut};
 ghost use Rattle.fixed_command.specs.Limits.{max_limit};
+ghost use Rattle.fixed_command.specs.LineBlocks.{IsLineBlock};
 ghost use Rattle.fixed_command.specs.Products.{IsProduct};
 ghost use Rattle.fixed_command.specs.Runs.{HasLineRun, IsWholeRun, TaskRuns};
 ghost use Rattle.line_engine.specs.WholeRun.{EndsBeforeWriting};
 
 use crate::ConvertRule;
+use crate::blocks::Question;
 use crate::layout::LaidOutRule;
+use crate::line_blocks::BlockRule;
 use crate::watch::{
-    Product, Watch, WatchedEnclosures, WatchedLaidOut, WatchedLines, WatchedNumerals, WatchedWhole,
+    Product, Watch, WatchedBlocks, WatchedEnclosures, WatchedLaidOut, WatchedLines,
+    WatchedNumerals, WatchedWhole,
 };
 use fixed_columns::ColumnsRule;
 use fixed_constants::FormRule;
@@ -86,6 +90,8 @@ pub enum Task<'a> {
     },
     /// Each line is answered with the enclosure of its numeral.
     Enclose,
+    /// Each line is answered with the block of a question about it.
+    Ask(Question),
     /// The lines are numerals of this radix; the answer is the least format that holds them.
     Least(Radix),
     /// The input is a constants file; the answer is its text in this form.
@@ -176,6 +182,31 @@ fn run_enclosures<S: Source, K: Sink, L: Ledger>(
     ensures memory { result ≡ Status.NoMemory → sink.new ≡ sink.old }
 {
     let rule = WatchedEnclosures {
+        watch: Watch::new(),
+    };
+    let status = run_rule(alloc, MAX_LIMIT, &rule, source, sink, steps);
+    watch.take(&rule.watch);
+    status
+}
+
+/// Answers each line of an input of at most 4,294,967,296 bytes with the block of a question about it.
+fn run_questions<S: Source, K: Sink, L: Ledger>(
+    alloc: Global,
+    question: Question,
+    watch: &Watch,
+    source: &mut S,
+    sink: &mut K,
+    steps: &mut Steps<L>,
+) -> Status
+    ensures run { HasLineRun (IsLineBlock question) max_limit 26 3307
+        (outside (S.left source.old) (S.asked source.old) (S.failures source.old)
+        (K.written sink.old) (K.failures sink.old) steps.old)
+        (outside (S.left source.new) (S.asked source.new) (S.failures source.new)
+        (K.written sink.new) (K.failures sink.new) steps.new) result }
+    ensures memory { result ≡ Status.NoMemory → sink.new ≡ sink.old }
+{
+    let rule = WatchedBlocks {
+        rule: BlockRule { question },
         watch: Watch::new(),
     };
     let status = run_rule(alloc, MAX_LIMIT, &rule, source, sink, steps);
@@ -333,6 +364,7 @@ pub fn run_task<S: Source, K: Sink, L: Ledger>(
             run_laid_out(alloc, laid, *has_report, watch, source, sink, steps)
         }
         Task::Enclose => run_enclosures(alloc, watch, source, sink, steps),
+        Task::Ask(question) => run_questions(alloc, *question, watch, source, sink, steps),
         Task::Least(radix) => run_least(alloc, *radix, watch, source, sink, steps),
         Task::Constants(rule) => run_constants(alloc, rule, watch, source, sink, steps),
         Task::Columns(limit) => run_cells(alloc, limit, watch, source, sink, steps),

@@ -8,9 +8,10 @@ ghost use Rattle.fixed_command.specs.Products.{IsProduct};
 ghost use Rattle.fixed_command.specs.Watched.{first_refused, kept_bytes};
 ghost use Rattle.fixed_respell.specs.Language.{fault_answer};
 
-use crate::blocks::first_bytes;
+use crate::blocks::{MAX_HEADED, first_bytes};
 use crate::convert::{ConvertRule, without_return};
 use crate::layout::LaidOutRule;
+use crate::line_blocks::BlockRule;
 use crate::outcome::{Outcome, Tally, one_more, outcome_of};
 use fixed_enclose::EncloseRule;
 use fixed_respell::RespellRule;
@@ -284,6 +285,58 @@ impl WatchedLaidOut {
                 .note(outcome_of(self.laid.rule.settings(), numeral, steps));
         }
     }
+}
+
+/// The rule of questions about lines, whose refusals are watched.
+#[derive(Drop)]
+pub struct WatchedBlocks {
+    /// The rule.
+    pub rule: BlockRule,
+    /// What is known of the lines.
+    pub watch: Watch,
+}
+
+/// What follows the first line of a block, without the newline at its end.
+fn below_head(block: &[u8]) -> &[u8] {
+    let end = block.iter().position(|byte| *byte == b'\n').unwrap_or(0);
+    let rest = block.get(end.saturating_add(1)..).unwrap_or(&[]);
+    rest.strip_suffix(b"\n").unwrap_or(rest)
+}
+
+impl<L: Ledger> LineRule<L> for WatchedBlocks {
+    ghost use Rattle.std.proofs.Common.{lit<};
+    ghost use Rattle.fixed_command.specs.LineBlocks.{IsLineBlock};
+    ghost use Rattle.fixed_command.specs.Lemmas.BlockLemmas.{line_block_one, long_by_its_prefix};
+
+    const PER_BYTE: u64 = 26;
+
+    const EXTRA: u64 = 3307;
+
+    const MAX_ANSWER: usize = MAX_HEADED;
+
+    ghost PER_BYTE = { 26 };
+
+    ghost EXTRA = { 3307 };
+
+    ghost MAX_ANSWER = { 3083 };
+
+    ghost Answers = { λ watched. IsLineBlock watched.rule.question };
+
+    fn answer(&self, line: &[u8], out: &mut Output, steps: &mut Steps<L>) -> bool {
+        let start = self.watch.begin(out);
+        let is_fault = self.rule.answer(line, out, steps);
+        if is_fault {
+            let block = out.as_bytes().get(start..).unwrap_or(&[]);
+            self.watch.refuse(without_return(line), below_head(block));
+        }
+        is_fault
+    }
+
+    ghost room_law = { lit< tt };
+
+    ghost one_law = { λ watched. line_block_one watched.rule.question };
+
+    ghost kept_law = { λ watched. long_by_its_prefix watched.rule.question };
 }
 
 impl<L: Ledger> LineRule<L> for WatchedLines {

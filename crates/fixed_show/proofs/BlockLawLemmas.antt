@@ -1,25 +1,31 @@
 -- A text is answered with one block.
-use Rattle.std.proofs.Common.{◌≡◌, ◌∙◌, ℕ, ℤ, List, Bool, true, false, pos, ap, inl, inr, refl, sym, subst}
+use Rattle.std.proofs.Common.{◌≡◌, ◌∙◌, ◌↔◌, ℕ, ℤ, List, Bool, IsTrue, true, false, pos, ap, inl, inr, refl, sym, subst}
+use Rattle.std.proofs.lemmas.Bool.{false≢true}
 use Rattle.std.specs.Prelude.{unsigned_abs}
 use Rattle.fixed_bits.specs.Formats.{FormatParts}
 use Rattle.fixed_bits.specs.Images.{IsImage}
-use Rattle.fixed_bits.specs.Ranges.{IsWidth}
+use Rattle.fixed_bits.specs.Ranges.{IsOutOfRange, IsWidth}
 use Rattle.fixed_bits.specs.declared.format.Policy.{Policy}
 use Rattle.fixed_bits.specs.declared.format.Policy.TheVariants.{Checked, Wrapping}
 use Rattle.fixed_bits.specs.declared.mode.ReadMode.{ReadMode}
 use Rattle.fixed_bits.proofs.Public.{has_none, image_one}
 use Rattle.fixed_numeral.specs.Messages.{message_of}
-use Rattle.fixed_numeral.specs.Numeral.{Parts}
+use Rattle.fixed_enclose.specs.Lemmas.EnclosureLemmas.{enclosed_one, refusal_none}
+use Rattle.fixed_numeral.specs.Numeral.{HasNumeral, Parts}
 use Rattle.fixed_numeral.specs.declared.error.ParseErrorKind.{ParseErrorKind}
+use Rattle.fixed_numeral.specs.declared.error.ParseErrorKind.TheVariants.{Overflow}
 use Rattle.fixed_numeral.specs.declared.radix.Radix.{Radix}
 use Rattle.fixed_numeral.proofs.Public.{one_cause, parts_unique}
 use Rattle.fixed_read.specs.Reading.{IsReadNumber}
 use Rattle.fixed_read.proofs.Public.{read_unique}
 use Rattle.fixed_write.proofs.Public.{exact_text_unique, shortest_text_unique}
+use Rattle.fixed_write.specs.Texts.{IsShortestText}
+use Rattle.fixed_show.specs.ErrorText.{IsErrorText}
+use Rattle.fixed_show.proofs.BoundedLemmas.{error_text_one}
 use Rattle.fixed_show.specs.BitsBlock.{AreValueLines, fault_message}
-use Rattle.fixed_show.specs.BlockLaws.{BitsBlockIsTheOne, ShowRefusalIsTheOne}
+use Rattle.fixed_show.specs.BlockLaws.{BitsBlockIsTheOne, ShowBlockIsTheOne, ShowRefusalIsTheOne}
 use Rattle.fixed_show.specs.Blocks.{IsHexText, hex_text, refusal_block}
-use Rattle.fixed_show.specs.ShowBlock.{IsReadAs, IsUnread}
+use Rattle.fixed_show.specs.ShowBlock.{IsBetween, IsReadAs, IsShown, IsUnread, neighbours_text}
 use Rattle.fixed_show.proofs.WordLawLemmas.{fault_one, no_fault, word_one}
 
 -- ---- the lines of a value
@@ -60,7 +66,52 @@ read_or_not mode r bytes f policy v o k a (inr b) =
     let image : IsImage Checked f.signed f.width a.number v = subst (λ (q : Policy). IsImage q f.signed f.width a.number v) b.1 a.image in
     has_none f.signed f.width b.2.number v b.2.out_of_range (subst (λ (x : ℤ). IsImage Checked f.signed f.width x v) n image)
 
-pub show_refusal_one : ShowRefusalIsTheOne
-show_refusal_one mode r bytes f policy true a b x y =
-    (refl, x.block_is ∙ ap (λ k. refusal_block (message_of k)) (unread_one mode r bytes f policy x.kind y.kind x.unread y.unread) ∙ sym y.block_is)
-show_refusal_one mode r bytes f policy false a b x y = absurd (read_or_not mode r bytes f policy y.bits y.overflowed x.kind y.read x.unread)
+-- ---- a numeral that is shown
+same_parts : (r : Radix) (bytes : List ℕ) (p q : Parts) → HasNumeral r bytes p → HasNumeral r bytes q → p ≡ q
+same_parts r bytes p q a b = parts_unique r bytes p q a.beginning b.beginning
+
+flag_one : (signed : Bool) (n : ℕ) (v w : ℤ) (o p : Bool) → v ≡ w → (IsTrue o ↔ IsOutOfRange signed n v) → (IsTrue p ↔ IsOutOfRange signed n w) → o ≡ p
+flag_one signed n v w true true e x y = refl
+flag_one signed n v w false false e x y = refl
+flag_one signed n v w true false e x y = absurd (false≢true (y.1 (subst (λ (u : ℤ). IsOutOfRange signed n u) e (x.0 refl))))
+flag_one signed n v w false true e x y = absurd (false≢true (x.1 (subst (λ (u : ℤ). IsOutOfRange signed n u) (sym e) (y.0 refl))))
+
+read_as_one : (mode : ReadMode) (r : Radix) (bytes : List ℕ) (f : FormatParts) (policy : Policy) (v w : ℤ) (o p : Bool) → IsWidth f.width → IsReadAs mode r bytes f policy v o → IsReadAs mode r bytes f policy w p → (v ≡ w) × (o ≡ p)
+read_as_one mode r bytes f policy v w o p width x y =
+    let parts : x.parts ≡ y.parts = same_parts r bytes x.parts y.parts x.numeral y.numeral in
+    let number : x.number ≡ y.number = read_unique mode r y.parts f.frac x.number y.number (subst (λ (q : Parts). IsReadNumber mode r q f.frac x.number) parts x.read) y.read in (
+      image_one policy f.signed f.width y.number v w width (subst (λ (u : ℤ). IsImage policy f.signed f.width u v) number x.image) y.image,
+      flag_one f.signed f.width x.number y.number o p number x.flag y.flag,
+    )
+
+between_one : (r : Radix) (bytes : List ℕ) (f : FormatParts) (a b : List ℕ) → IsBetween r bytes f a → IsBetween r bytes f b → a ≡ b
+between_one r bytes f a b (inl x) (inl y) =
+    let ends = enclosed_one r bytes f x.lo x.hi y.lo y.hi x.enclosed y.enclosed in
+    let low : x.low ≡ y.low = shortest_text_unique y.lo f.frac x.low y.low (subst (λ c. IsShortestText c f.frac x.low) ends.0 x.is_low) y.is_low in
+    let high : x.high ≡ y.high = shortest_text_unique y.hi f.frac x.high y.high (subst (λ c. IsShortestText c f.frac x.high) ends.1 x.is_high) y.is_high in
+    x.text_is ∙ ap (λ t. neighbours_text t x.lo x.high x.hi) low ∙ ap (λ v. neighbours_text y.low v x.high x.hi) ends.0 ∙ ap (λ t. neighbours_text y.low y.lo t x.hi) high ∙ ap (λ v. neighbours_text y.low y.lo y.high v) ends.1 ∙ sym y.text_is
+between_one r bytes f a b (inl x) (inr y) = absurd (refusal_none r bytes f x.lo x.hi Overflow x.enclosed (inr (refl, y.0)))
+between_one r bytes f a b (inr x) (inl y) = absurd (refusal_none r bytes f y.lo y.hi Overflow y.enclosed (inr (refl, x.0)))
+between_one r bytes f a b (inr x) (inr y) = x.1 ∙ sym y.1
+
+shown_one : (mode : ReadMode) (r : Radix) (bytes : List ℕ) (f : FormatParts) (policy : Policy) (a b : List ℕ) → IsWidth f.width → IsShown mode r bytes f policy a → IsShown mode r bytes f policy b → a ≡ b
+shown_one mode r bytes f policy a b width x y =
+    let one = read_as_one mode r bytes f policy x.bits y.bits x.overflowed y.overflowed width x.read y.read in
+    let parts : x.read.parts ≡ y.read.parts = same_parts r bytes x.read.parts y.read.parts x.read.numeral y.read.numeral in
+    let values : x.values ≡ y.values = lines_one f y.bits x.values y.values width (subst (λ (v : ℤ). AreValueLines f v x.values) one.0 x.are_values) y.are_values in
+    let moved : IsErrorText r y.read.parts f.frac y.bits y.overflowed x.error
+    = subst (λ (o : Bool). IsErrorText r y.read.parts f.frac y.bits o x.error) one.1 (subst (λ (v : ℤ). IsErrorText r y.read.parts f.frac v x.overflowed x.error) one.0 (subst (λ (q : Parts). IsErrorText r q f.frac x.bits x.overflowed x.error) parts x.is_error)) in
+    let error : x.error ≡ y.error = error_text_one r y.read.parts f.frac y.bits y.overflowed x.error y.error moved y.is_error in
+    let between : x.between ≡ y.between = between_one r bytes f x.between y.between x.is_between y.is_between in
+    x.block_is ∙ (rw (values, error, between, one.1) (sym y.block_is))
+
+pub show_block_one : ShowBlockIsTheOne
+show_block_one mode r bytes f policy true true a b width x y = (refl, x.block_is ∙ ap (λ k. refusal_block (message_of k)) (unread_one mode r bytes f policy x.kind y.kind x.unread y.unread) ∙ sym y.block_is)
+show_block_one mode r bytes f policy true false a b width x y = absurd (read_or_not mode r bytes f policy y.bits y.overflowed x.kind y.read x.unread)
+show_block_one mode r bytes f policy false true a b width x y = absurd (read_or_not mode r bytes f policy x.bits x.overflowed y.kind x.read y.unread)
+show_block_one mode r bytes f policy false false a b width x y = (refl, shown_one mode r bytes f policy a b width x y)
+
+-- a refusal needs no width
+pub refusal_one : ShowRefusalIsTheOne
+refusal_one mode r bytes f policy true a b x y = (refl, x.block_is ∙ ap (λ k. refusal_block (message_of k)) (unread_one mode r bytes f policy x.kind y.kind x.unread y.unread) ∙ sym y.block_is)
+refusal_one mode r bytes f policy false a b x y = absurd (read_or_not mode r bytes f policy y.bits y.overflowed x.kind y.read x.unread)

@@ -8,6 +8,7 @@ pub mod DecimalLemmas
 pub mod ErrorLemmas
 pub mod DifferenceLemmas
 pub mod BoundLemmas
+pub mod BriefLemmas
 pub mod BoundedLemmas
 pub mod WordLawLemmas
 pub mod ToolNameLemmas

@@ -1,5 +1,5 @@
 -- What the proofs of the crates above may cite: the laws of words and of blocks.
-use Rattle.fixed_show.specs.BlockLaws.{BitsBlockIsTheOne, ShowRefusalIsTheOne}
+use Rattle.fixed_show.specs.BlockLaws.{BitsBlockIsTheOne, ShowBlockIsTheOne, ShowRefusalIsTheOne}
 use Rattle.fixed_show.specs.FormatBlock.{FormatBlockIsTheOne}
 use Rattle.fixed_show.specs.WordLaws.{WordFaultIsTheOne, WordHasNoFault, WordIsTheOne}
 use Rattle.fixed_show.proofs.BlockLawLemmas
@@ -18,8 +18,11 @@ word_has_no_fault = WordLawLemmas.no_fault
 pub bits_block_one : BitsBlockIsTheOne
 bits_block_one = BlockLawLemmas.bits_block_one
 
+pub show_block_one : ShowBlockIsTheOne
+show_block_one = BlockLawLemmas.show_block_one
+
 pub show_refusal_one : ShowRefusalIsTheOne
-show_refusal_one = BlockLawLemmas.show_refusal_one
+show_refusal_one = BlockLawLemmas.refusal_one
 
 pub format_block_one : FormatBlockIsTheOne
 format_block_one = BoundedLemmas.format_block_one

@@ -13,7 +13,13 @@ abbrev pub BitsBlockIsTheOne : Type 0
 BitsBlockIsTheOne = (bare : Radix) (f : FormatParts) (text : List ℕ) (o p : Bool) (a b : List ℕ) → IsWidth f.width
     → IsBitsBlock bare f text o a → IsBitsBlock bare f text p b → (o ≡ p) × (a ≡ b)
 
--- a numeral that is refused has one block
+-- a numeral has one block
+abbrev pub ShowBlockIsTheOne : Type 0
+ShowBlockIsTheOne = (mode : ReadMode) (r : Radix) (bytes : List ℕ) (f : FormatParts) (policy : Policy) (o p : Bool)
+    (a b : List ℕ) → IsWidth f.width → IsShowBlock mode r bytes f policy o a → IsShowBlock mode r bytes f policy p b
+    → (o ≡ p) × (a ≡ b)
+
+-- one that is refused has one whatever the width
 abbrev pub ShowRefusalIsTheOne : Type 0
 ShowRefusalIsTheOne = (mode : ReadMode) (r : Radix) (bytes : List ℕ) (f : FormatParts) (policy : Policy) (p : Bool)
     (a b : List ℕ) → IsShowBlock mode r bytes f policy true a → IsShowBlock mode r bytes f policy p b

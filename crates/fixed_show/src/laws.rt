@@ -1,7 +1,7 @@
 //! Laws of what the blocks say, each the contract of a function that does nothing.
 
-ghost use Rattle.fixed_show.specs.BlockLaws.{BitsBlockIsTheOne, ShowRefusalIsTheOne};
-ghost use Rattle.fixed_show.specs.ErrorText.{BoundPowerIsTheOne};
+ghost use Rattle.fixed_show.specs.BlockLaws.{BitsBlockIsTheOne, ShowBlockIsTheOne, ShowRefusalIsTheOne};
+ghost use Rattle.fixed_show.specs.ErrorText.{ErrorTextIsTheOne};
 ghost use Rattle.fixed_show.specs.FormatBlock.{FormatBlockIsTheOne, PlacesSurvive};
 ghost use Rattle.fixed_show.specs.ToolNames.{ArmNameIsAName};
 ghost use Rattle.fixed_show.specs.WordLaws.{WordFaultIsTheOne, WordHasNoFault, WordIsTheOne};
@@ -22,9 +22,9 @@ pub fn word_fault_is_the_one()
     ensures none { WordHasNoFault }
 {}
 
-/// The bound of an error that is too long to write is one power of ten.
-pub fn bound_power_is_the_one()
-    ensures { BoundPowerIsTheOne }
+/// The error of bits has one text.
+pub fn error_text_is_the_one()
+    ensures { ErrorTextIsTheOne }
 {}
 
 /// A format has one block.
@@ -42,7 +42,8 @@ pub fn bits_block_is_the_one()
     ensures { BitsBlockIsTheOne }
 {}
 
-/// A numeral that is refused has one block.
-pub fn show_refusal_is_the_one()
-    ensures { ShowRefusalIsTheOne }
+/// A numeral has one block: that of its bits, or that of its refusal.
+pub fn show_block_is_the_one()
+    ensures one { ShowBlockIsTheOne }
+    ensures refused { ShowRefusalIsTheOne }
 {}

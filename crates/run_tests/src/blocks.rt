@@ -249,7 +249,7 @@ const TOO_LOW: &str = "\
     bits      -128\n\
     hex       0x80\n\
     value     -8\n\
-    error     below 1e1202 in size: the numeral is too long to say more\n\
+    error     too long to write\n\
     between   no two values of the format\n\
     range     overflowed\n";
 

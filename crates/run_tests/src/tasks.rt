@@ -2,8 +2,8 @@
 
 use fixed_bits::{Format, Policy, ReadMode};
 use fixed_command::{
-    ConvertRule, LaidOutRule, Layout, Limit, Place, Places, Print, Settings, Spelling, Task, Watch,
-    greater_end, run_task, tally_text,
+    ConvertRule, LaidOutRule, Layout, Limit, Place, Places, Print, Question, Settings, Spelling,
+    Task, Watch, greater_end, run_task, tally_text,
 };
 use fixed_constants::{Form, FormRule};
 use fixed_numeral::Radix;
@@ -126,6 +126,22 @@ fn in_form(form: Form, guard: &[u8]) -> Task<'_> {
     Task::Constants(FormRule { form, guard })
 }
 
+/// The task of words of U8F0.
+fn asking() -> Task<'static> {
+    Task::Ask(Question::Bits {
+        radix: Radix::Dec,
+        format: Format::of(false, 8, 0),
+    })
+}
+
+/// What is written about a line that is the word 7.
+const SEVEN: &str = "given     7\ntext      7\nbits      7\nhex       0x07\nvalue     7\n\n";
+
+/// What is written about two lines, the words 0x07 and 7.
+const SEVENS: &str = "\
+    given     0x07\ntext      7\nbits      7\nhex       0x07\nvalue     7\n\n\
+    given     7\ntext      7\nbits      7\nhex       0x07\nvalue     7\n\n";
+
 #[test]
 fn each_part_of_an_answer_is_written(rt: HostRuntime) -> Result<(), Fail> {
     let Some(places) = Places::new(2) else {
@@ -210,6 +226,7 @@ fn each_line_is_answered_up_to_the_limit(rt: HostRuntime) -> Result<(), Fail> {
             "3.1 50 3.2 51 wide\n0.5 1 0.5 1 exact\n",
             Status::Done,
         ),
+        unfailing(asking(), "0x07\r\n7", SEVENS, Status::Done),
     ];
     expect_runs(&rt, rt.alloc(), &cases)?;
     Ok(())
@@ -283,6 +300,8 @@ fn a_failing_read_and_a_failing_write_end_a_run(rt: HostRuntime) -> Result<(), F
     let cases = [
         failing(checked(), "7\n8", 1, NEVER, "7\n", Status::ReadFault),
         failing(checked(), "7\n8\n", NEVER, 0, "", Status::WriteFault),
+        failing(asking(), "7\n8", 1, NEVER, SEVEN, Status::ReadFault),
+        failing(asking(), "7\n8\n", NEVER, 0, "", Status::WriteFault),
         failing(rust(), entry, 0, NEVER, "", Status::ReadFault),
         failing(rust(), entry, NEVER, 0, "", Status::WriteFault),
     ];
@@ -325,11 +344,18 @@ fn the_first_refused_line_is_kept(rt: HostRuntime) -> Result<(), Fail> {
             "",
             Status::Faults,
         ),
+        unfailing(
+            asking(),
+            "x\r\n",
+            "given     x\nerror: invalid digit found in string\n\n",
+            Status::Faults,
+        ),
     ];
     expect_runs(&rt, rt.alloc(), &cases)?;
     expect_refused(&rt, &cases[0], 2, "abc", digit);
     expect_refused(&rt, &cases[1], 2, "abc\r", digit);
     expect_refused(&rt, &cases[2], 2, "fn = 1 U8F0", "bad name");
+    expect_refused(&rt, &cases[3], 1, "x", digit);
     Ok(())
 }
 

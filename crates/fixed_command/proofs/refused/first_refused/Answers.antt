@@ -18,7 +18,7 @@ returns-then-push_block g c =
     let words : List (List ℕ) = map (λ w. w.now) c.args.words.now in
     let split : map (λ w. w.now) rest ≡ c.as_bytes.result.now ∷ left =
     first_and_rest (λ w. w.now) rest d (not_empty (length rest) c.loop-rest-test.ensures) ∙ ap (λ t. t ∷ left) (sym c.as_bytes.ensures.value) in
-    let appended = c.push_block.ensures in
+    let appended = c.push_block.ensures.block in
     let same : c.push_block.new.out ≡ appended.text = appended.appended ∙ ap (λ t. t ++ appended.text) c.new-block.ensures in
     stopped q words left c.as_bytes.result.now c.push_block.new.out c.loop-rest.place
     (subst (λ ws. HasPassed q words ws c.loop-rest.place) split c.loop-rest.invariant.passed)
@@ -33,7 +33,7 @@ loop-rest-preserved g c =
     let some : 0 < length rest = not_empty (length rest) c.loop-rest-test.ensures in
     let words : List (List ℕ) = map (λ w. w.now) c.args.words.now in
     let split : map (λ w. w.now) rest ≡ c.as_bytes.result.now ∷ left = first_and_rest (λ w. w.now) rest d some ∙ ap (λ t. t ∷ left) (sym c.as_bytes.ensures.value) in
-    let appended = c.push_block.ensures in
+    let appended = c.push_block.ensures.block in
     let clean : IsClean q c.as_bytes.result.now = (appended.text, as_block q c.as_bytes.result.now appended.text appended.text c.push_block.result false appended.is_text refl c.if-push_block.false) in
     let more : HasPassed q words left (c.loop-rest.place + 1) =
     one_passed q words left c.as_bytes.result.now c.loop-rest.place (subst (λ ws. HasPassed q words ws c.loop-rest.place) split c.loop-rest.invariant.passed) clean in

@@ -1,0 +1,93 @@
+//! Questions about the lines of an input, each answered with a block and an empty line after it.
+
+ghost use Rattle.std.specs.Prelude.{◌≡◌, ◌+◌, ◌*◌, ◌++◌, ◌≤◌, length};
+ghost use Rattle.line_engine.specs.Output.{AppendsAnswer};
+ghost use Rattle.fixed_command.specs.LineBlocks.{HasFormat, IsLineBlock, long_block};
+
+use crate::blocks::{MAX_HEADED, Question, push_head, push_headed};
+use crate::convert::without_return;
+use fixed_steps::Steps;
+use line_engine::{LineRule, MAX_LINE, Output};
+use std::sync::ledger::Ledger;
+use text_buffer::TextBuffer;
+
+/// The rule that answers a line with a block.
+#[derive(Drop)]
+pub struct BlockRule {
+    /// What is asked of a line.
+    pub question: Question,
+}
+
+/// The format of a question is one.
+fn check_format(question: Question)
+    ensures { HasFormat question }
+{
+    match question {
+        Question::Show { format, .. } => {
+            let _frac = format.frac();
+        }
+        Question::Bits { format, .. } => {
+            let _frac = format.frac();
+        }
+        Question::Format => (),
+    }
+}
+
+/// Appends the block of a line that is too long.
+fn push_long<const N: usize>(line: &[u8], out: &mut TextBuffer<N>)
+    requires { length out.old + MAX_HEADED ≤ N }
+    ensures appended { out.new ≡ out.old ++ (long_block line.now).text }
+    ensures short { length out.new ≤ length out.old + MAX_HEADED }
+{
+    push_head(out, line);
+    out.push_bytes(b"error: line too long\n");
+}
+
+/// Appends the block of a line: the answer to a question about the line without one carriage return at its end, or
+/// that a line of more than 1,048,576 bytes is too long. Answers whether it reports a fault.
+pub(crate) fn push_line_block<const N: usize, L: Ledger>(
+    question: &Question,
+    line: &[u8],
+    out: &mut TextBuffer<N>,
+    steps: &mut Steps<L>,
+) -> bool
+    requires { length out.old + MAX_HEADED ≤ N }
+    ensures block { AppendsAnswer (IsLineBlock question.now) MAX_HEADED line.now out.old out.new result }
+    ensures cost { steps.new ≤ steps.old + 26 * length line.now + 3307 }
+{
+    if line.len() > MAX_LINE {
+        push_long(line, out);
+        return true;
+    }
+    check_format(*question);
+    push_headed(question, without_return(line), out, steps)
+}
+
+impl<L: Ledger> LineRule<L> for BlockRule {
+    ghost use Rattle.std.proofs.Common.{lit<};
+    ghost use Rattle.fixed_command.specs.Lemmas.BlockLemmas.{line_block_one, long_by_its_prefix};
+
+    const PER_BYTE: u64 = 26;
+
+    const EXTRA: u64 = 3307;
+
+    const MAX_ANSWER: usize = MAX_HEADED;
+
+    ghost PER_BYTE = { 26 };
+
+    ghost EXTRA = { 3307 };
+
+    ghost MAX_ANSWER = { 3083 };
+
+    ghost Answers = { λ asked. IsLineBlock asked.question };
+
+    fn answer(&self, line: &[u8], out: &mut Output, steps: &mut Steps<L>) -> bool {
+        push_line_block(&self.question, line, out, steps)
+    }
+
+    ghost room_law = { lit< tt };
+
+    ghost one_law = { λ asked. line_block_one asked.question };
+
+    ghost kept_law = { λ asked. long_by_its_prefix asked.question };
+}

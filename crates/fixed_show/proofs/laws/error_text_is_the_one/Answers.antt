@@ -1,0 +1,5 @@
+use Rattle.fixed_show.proofs.BoundedLemmas.{error_text_one}
+use Rattle.fixed_show.proofs.laws.error_text_is_the_one.Goals as goal
+
+pub returns : goal.returns
+returns c = error_text_one
