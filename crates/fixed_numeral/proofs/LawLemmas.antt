@@ -45,7 +45,6 @@ missing_mantissa : (r : Radix) (bs : List ℕ) (p : Parts) → HasParts r bs p �
 missing_mantissa r bs p h e (q, g) =
     let same = parts_unique r bs q p g.beginning h in
     let some = nil_length (mantissa q) g.mantissa in
-    let off : is_nil (mantissa q) ≡ true = rw same e in
     cc
 
 missing_exponent : (r : Radix) (bs : List ℕ) (s : Option ℕ) (w : List ℕ) (f : Option (List ℕ)) (y : Exponent) → HasParts r bs (parts s w f (Some y)) → is_nil y.digits ≡ true → IsNumeral r bs → ⊥

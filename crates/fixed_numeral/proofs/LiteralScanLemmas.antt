@@ -30,7 +30,6 @@ push_cases [] (x ∷ xs) ys b c e = let k : [] ≡ xs ++ c ∷ ys = cc in absurd
 push_cases (a ∷ bs) [] ys b c e = let k : a ≡ c = cc in inr (bs, ap (λ x. x ∷ bs) k)
 push_cases (a ∷ bs) (x ∷ xs) ys b c e =
     let k : bs ++ b ∷ [] ≡ xs ++ c ∷ ys = cc in
-    let h : a ≡ x = cc in
     ⊎_elim (λ (t : (bs ≡ xs) × (b ≡ c)). let t0 = t.0 in let s : a ∷ bs ≡ x ∷ xs = cc in inl (s, t.1)) (λ (t : (zs : List ℕ) × (bs ≡ xs ++ c ∷ zs)). let t1 = t.1 in let s : a ∷ bs ≡ x ∷ (xs ++ c ∷ t.0) = cc in inr (t.0, s)) (push_cases bs xs ys b c k)
 
 cond_prefix : (c : Bool) (x : ℕ) (xs ys : List ℕ) → cond c xs (x ∷ xs) ++ ys ≡ cond c (xs ++ ys) (x ∷ (xs ++ ys))
@@ -135,17 +134,12 @@ prefix_stuck r bs n l refuses m h = ⊎_elim (λ more. absurd (refuses (
 -- nothing was read, or something was
 prefix_nil : (r : Radix) (ws : List ℕ) (st : State) (s : Option ℕ) (w : List ℕ) (f : Option (List ℕ)) (x : Option Exponent) → HasParts r ws (parts s w f x) → Agrees r st (parts s w f x) → st.sign_allowed ≡ true → st.has_separator ≡ false → ws ≡ []
 prefix_nil r ws st s w f (Some e) h a t k = let clash = a.separator in absurd (cc)
-prefix_nil r ws st (Some c) w f None h a t k = let clash = a.fresh in absurd (cc)
-prefix_nil r ws st None (y ∷ w) f None h a t k = let clash = a.fresh in absurd (cc)
-prefix_nil r ws st None [] (Some ds) None h a t k = let clash = a.fresh in absurd (cc)
 prefix_nil r ws st None [] None None h a t k = h.text
+prefix_nil r ws st s w f None h a t k = let clash = a.fresh in absurd (cc)
 
 rest_of_prefix : (r : Radix) (ws : List ℕ) (st : State) (s : Option ℕ) (w : List ℕ) (f : Option (List ℕ)) (x : Option Exponent) → HasParts r ws (parts s w f x) → Agrees r st (parts s w f x) → (st.sign_allowed ≡ false) ⊎ (st.has_separator ≡ true) → 0 < length ws
-rest_of_prefix r ws st (Some c) w f x h a k = omega (arith, ap length h.text)
-rest_of_prefix r ws st None (y ∷ w) f x h a k = omega (arith, ap length h.text)
-rest_of_prefix r ws st None [] (Some ds) x h a k = omega (arith, ap length h.text)
-rest_of_prefix r ws st None [] None (Some e) h a k = omega (arith, ap length h.text)
 rest_of_prefix r ws st None [] None None h a k = ⊎_elim (λ t. let clash = a.fresh in absurd (cc)) (λ t. let clash = a.separator in absurd (cc)) k
+rest_of_prefix r ws st x w f y h a k = omega (arith, ap length h.text)
 
 not_leading : (x y z : Bool) → (x && (y && not z)) ≡ false → (x ≡ false) ⊎ ((y ≡ false) ⊎ (z ≡ true))
 not_leading false y z e = inl refl
@@ -155,9 +149,7 @@ not_leading true true false e = absurd (cc)
 
 leading : (x y z : Bool) → (x && (y && not z)) ≡ true → (x ≡ true) × (y ≡ true) × (z ≡ false)
 leading true true false e = (refl, refl, refl)
-leading true true true e = absurd (cc)
-leading true false z e = absurd (cc)
-leading false y z e = absurd (cc)
+leading x y z e = absurd (cc)
 
 pub sign_in_prefix : (r : Radix) (bs : List ℕ) (p : Parts) (st : State) (b : ℕ) → HasLiteralParts r bs p → Agrees r st p → (b == underscore) ≡ false → (is_sign b && (st.sign_allowed && not st.has_separator)) ≡ true → LiteralCannotExtend r bs p b MisplacedSign
 sign_in_prefix r bs p st b h a e l =
@@ -238,8 +230,6 @@ has_rest r bs st a k = record { literal = a.beginning; numeral = has_numeral r (
 no_sign : (r : Radix) (ws : List ℕ) (s : Option ℕ) (w : List ℕ) (f : Option (List ℕ)) (x : Option Exponent) → HasParts r ws (parts s w f x) → begins_signed ws ≡ false → s ≡ None
 no_sign r ws None w f x h u = refl
 no_sign r ws (Some c) w f x h u =
-    let k : is_sign c ≡ false = rw h.text at u in
-    let t : is_sign c ≡ true = h.parts.sign in
     absurd (cc)
 
 pub unsigned_parts : (r : Radix) (bs : List ℕ) (st : State) (a : IsLiteralAfter r bs st) → a.parts.sign ≡ None

@@ -64,10 +64,8 @@ two_backward b j n m f s up down bits mag eb e z v =
 
 -- ---- by the exponent
 two_base : (r : Radix) (b : ℕ) → is_two_separator r b ≡ true → base r ≡ 2 ^ exponent_unit r
-two_base Bin b h = refl
-two_base Oct b h = refl
 two_base Dec b h = absurd (cc)
-two_base Hex b h = refl
+two_base x b h = refl
 
 -- the number by the kind of separator
 abbrev scaled_in : Bool → ℕ → ℕ → ℕ → ℤ → Fraction
@@ -83,9 +81,8 @@ same_scaled true true j b n m f s up down bits zero eb k l v =
     omega (arith, h)
 same_scaled true true j b n m f s up down bits (suc mag) eb k l v = two_backward b j n m f s up down bits (suc mag) (eb refl) k.0 k.1 v
 same_scaled false false j b n m f s up down zero mag eb k l v = radix_at b n m f s up down (pos mag -ℤ pos s) (omega (arith, ints, k.0, k.1)) v
-same_scaled false false j b n m f s up down (suc bits) mag eb k l v = absurd (omega arith)
 same_scaled false true j b n m f s up down zero mag eb k l v = radix_at b n m f s up down (neg_ℤ (pos mag) -ℤ pos s) (omega (arith, ints, k.0, k.1)) v
-same_scaled false true j b n m f s up down (suc bits) mag eb k l v = absurd (omega arith)
+same_scaled false x j b n m f s up down (suc bits) mag eb k l v = absurd (omega arith)
 
 by_exponent : (r : Radix) (two minus : Bool) (n m f s up down bits mag : ℕ) (x : Option Exponent) → AgreesWithExponent r two minus mag x → IsShift minus (unit_of r two) mag up down bits → bits < unit_of r two → Moves (base r) n m f s up down → n * 2 ^ bits * (scaled_by r m s x).den ≡ (scaled_by r m s x).num * f
 by_exponent r two minus n m f s up down bits mag None a k l v =
@@ -143,14 +140,11 @@ base_pos Dec = omega arith
 base_pos Hex = omega arith
 
 pub unit_small : (r : Radix) (two : Bool) (bits : ℕ) → bits < unit_of r two → bits < exponent_unit r
-unit_small Bin true bits l = l
-unit_small Oct true bits l = l
-unit_small Dec true bits l = l
-unit_small Hex true bits l = l
 unit_small Bin false bits l = omega arith
 unit_small Oct false bits l = omega arith
 unit_small Dec false bits l = omega arith
 unit_small Hex false bits l = omega arith
+unit_small x true bits l = l
 
 pub unit_pos : (r : Radix) (two : Bool) → 0 < unit_of r two
 unit_pos Bin true = omega arith

@@ -294,8 +294,7 @@ and_true false y h = absurd (cc)
 
 pub only_nothing : (r : Radix) (bs : List ℕ) (s : Option ℕ) (w : List ℕ) → (is_none s && is_nil w) ≡ true → HasParts r bs (parts s w None None) → bs ≡ []
 only_nothing r bs None [] t h = h.text
-only_nothing r bs None (x ∷ w) t h = absurd (cc)
-only_nothing r bs (Some b) w t h = absurd (cc)
+only_nothing r bs x w t h = absurd (cc)
 
 one_more_end : (r : Radix) (bs : List ℕ) (s : Option ℕ) (w : List ℕ) (f : Option (List ℕ)) (k : ℕ) (t : Option ℕ) (ds : List ℕ) (b : ℕ) (q : Parts) → HasParts r bs (parts s w f (Some (exponent k t ds))) → step_exponent s w f k t ds b ≡ Some q → HasParts r (bs ++ b ∷ []) q
 one_more_end r bs s w f k t ds b q h e = taken (is_digit Dec b) _ _ q e

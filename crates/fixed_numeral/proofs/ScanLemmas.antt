@@ -41,8 +41,7 @@ digits_append b (x ∷ xs) ys h k = (h.0, digits_append b xs ys h.1 k)
 
 pub nil_more : (w ds ys : List ℕ) → 0 < length ds → is_nil ((w ++ ds) ++ ys) ≡ false
 nil_more [] [] ys l = absurd (omega arith)
-nil_more [] (d ∷ ds) ys l = refl
-nil_more (x ∷ w) ds ys l = refl
+nil_more x ds ys l = refl
 
 whole_more : (r : Radix) (st : State) (n : ℕ) (bs ds : List ℕ) (s : Option ℕ) (w : List ℕ) (f : Option (List ℕ)) (x : Option Exponent) → HasParts r bs (parts s w f x) → Agrees r st (parts s w f x) → st.has_separator ≡ false → st.magnitude ≤ max_magnitude true → AllDigits (base r) ds → length ds ≡ n → 0 < n → st.has_point ≡ false → IsAfter r (bs ++ ds) (record st { whole_len = st.whole_len + n; sign_allowed = false })
 whole_more r st n bs ds s w f (Some e) h a ns m d l pos np = let clash = a.separator in absurd (cc)
@@ -154,9 +153,6 @@ not_point b d = at_bytes (λ (x : ℕ). (x == point) ≡ false) b 43 45 d refl r
 
 pub before_sign : (r : Radix) (st : State) (b : ℕ) (bs : List ℕ) (s : Option ℕ) (w : List ℕ) (f : Option (List ℕ)) (x : Option Exponent) → HasParts r bs (parts s w f x) → Agrees r st (parts s w f x) → st.has_separator ≡ false → st.magnitude ≤ max_magnitude true → is_sign b ≡ true → st.sign_allowed ≡ true → Extends r bs b (record st { negative = b == minus; sign_len = 1; sign_allowed = false })
 before_sign r st b bs s w f (Some e) h a ns m d fr = let clash = a.separator in absurd (cc)
-before_sign r st b bs (Some c) w f None h a ns m d fr = let clash = a.fresh in absurd (cc)
-before_sign r st b bs None (c ∷ w) f None h a ns m d fr = let clash = a.fresh in absurd (cc)
-before_sign r st b bs None [] (Some ds) None h a ns m d fr = let clash = a.fresh in absurd (cc)
 before_sign r st b bs None [] None None h a ns m d fr =
     let empty : bs ≡ [] = h.text in
     record {
@@ -165,6 +161,7 @@ before_sign r st b bs None [] None None h a ns m d fr =
       agrees = record { neg = refl; start = refl; whole = a.whole; point = a.point; fraction = a.fraction; separator = a.separator; fresh = refl; exponent = a.exponent; counted = tt };
       room = m;
     }
+before_sign r st b bs s w f None h a ns m d fr = let clash = a.fresh in absurd (cc)
 
 and_turned : (x y : Bool) → (x && (y && true)) ≡ (x && y)
 and_turned true true = refl
@@ -387,14 +384,12 @@ no_digits r bs st a ew ef =
     end_cause r bs a.parts NoDigits a.beginning (rw nil refl) (
     λ (q, h). let same = parts_unique r bs a.parts q a.beginning h.beginning in
     let some = nil_length (mantissa q) h.mantissa in
-    let nil' : is_nil (mantissa q) ≡ true = rw same at nil in
     cc)
 
 at_exponent : (r : Radix) (bs : List ℕ) (st : State) (s : Option ℕ) (w : List ℕ) (f : Option (List ℕ)) (x : Option Exponent) → HasParts r bs (parts s w f x) → Agrees r st (parts s w f x) → 0 < st.whole_len + st.fraction_len → st.has_separator ≡ true → st.has_exponent_digit ≡ false → HasCause r bs ExpNoDigits
 at_exponent r bs st s w f None h a m k e = let clash = a.separator in absurd (cc)
 at_exponent r bs st s w f (Some y) h a m k e =
     let some : is_nil (mantissa (parts s w f (Some y))) ≡ false = nil_length _ (omega (arith, mantissa_length (parts s w f (Some y)), a.whole, a.fraction)) in
-    let nil : is_nil y.digits ≡ true = not_both _ (sym e ∙ a.counted) in
     let none : HasNumeral r bs (parts s w f (Some y)) → ⊥ = λ g. let there = nil_length y.digits g.exponent in cc in
     end_cause r bs (parts s w f (Some y)) ExpNoDigits h (rw some refl) (λ (q, g). let same = parts_unique r bs (parts s w f (Some y)) q h g.beginning in none (rw same g))
 

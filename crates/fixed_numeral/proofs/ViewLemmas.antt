@@ -10,8 +10,7 @@ length_between b l r a = simp (length-append, length-replicate) (omega arith)
 pub between_none : (b : ℕ) (l r : List ℕ) (a : ℕ) → b ≤ 0 → l ≡ [] → r ≡ [] → a ≤ 0 → between_zeros b l r a ≡ []
 unfolding between_zeros
 between_none zero l r zero h e f g = rw (e, f) refl
-between_none (suc b) l r a h e f g = absurd (omega arith)
-between_none zero l r (suc a) h e f g = absurd (omega arith)
+between_none x l r a h e f g = absurd (omega arith)
 
 -- ---- the first digit, and the others
 pub take_before : (b : ℕ) (l r : List ℕ) (a : ℕ) → 0 < b → between_zeros b l r a ≡ 0 ∷ between_zeros (b - 1) l r a
@@ -31,9 +30,8 @@ take_right (suc b) l r t a d h n e = absurd (omega arith)
 
 pub take_after : (b : ℕ) (l r : List ℕ) (a : ℕ) → b ≤ 0 → l ≡ [] → r ≡ [] → 0 < a → between_zeros b l r a ≡ 0 ∷ between_zeros 0 [] [] (a - 1)
 unfolding between_zeros
-take_after zero l r zero h n m p = absurd (omega arith)
 take_after zero l r (suc a) h n m p = let e : suc a - 1 ≡ a = omega arith in rw (n, m, e) refl
-take_after (suc b) l r a h n m p = absurd (omega arith)
+take_after x l r a h n m p = absurd (omega arith)
 
 pub between_left : (l r : List ℕ) → r ≡ [] → between_zeros 0 l r 0 ≡ l
 unfolding between_zeros
@@ -118,5 +116,4 @@ left_back v lb l r i (suc b) a e z h f = absurd (omega arith)
 pub right_alone : (v l r : List ℕ) (b a : ℕ) → between_zeros b l r a ≡ v → b ≡ 0 → length l ≡ 0 → between_zeros 0 r [] a ≡ v
 unfolding between_zeros
 right_alone v [] r zero a e z h = e
-right_alone v (x ∷ l) r zero a e z h = absurd (omega arith)
-right_alone v l r (suc b) a e z h = absurd (omega arith)
+right_alone v l r x a e z h = absurd (omega arith)
