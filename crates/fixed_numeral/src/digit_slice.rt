@@ -6,7 +6,7 @@ ghost use Rattle.fixed_numeral.specs.Inner.MovedPoint.{IsWithoutLeading, IsWitho
 ghost use Rattle.std.specs.Char.{digit_value};
 ghost use Rattle.fixed_numeral.specs.Digits.{digits_in};
 
-use crate::swar::{long_decimal, long_number};
+use crate::swar::long_number;
 use std::marker::Model;
 
 /// The digits of a slice, whose other bytes are passed over, and their count.
@@ -83,9 +83,7 @@ fn whole_number(bytes: &[u8], base: u64) -> u64
     requires room { base ^ length (digits_in bytes.now) ≤ 2 ^ 64 }
     ensures { result ≡ number_from_digits base (digits_in bytes.now) }
 {
-    if bytes.len() >= 8 && base == 10 {
-        long_decimal(bytes)
-    } else if bytes.len() >= 8 {
+    if bytes.len() >= 8 {
         long_number(bytes, base)
     } else {
         plain_number(bytes, base, 0)

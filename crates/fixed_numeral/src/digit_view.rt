@@ -176,7 +176,8 @@ impl<'a> DigitView<'a> {
                 },
             );
         }
-        self.suffix_slow(number, taken)
+        // A copy, so that `self` can be kept in registers; and in `prefix_number`.
+        (number, self.same().suffix_by_split(taken))
     }
 
     /// The number that the first `count` digits spell in the base, or all where there are fewer, for a step a digit.
@@ -204,27 +205,7 @@ impl<'a> DigitView<'a> {
         if self.before == 0 && i <= self.left.len() {
             return self.left.prefix_number(base, i);
         }
-        self.prefix_number_slow(base, i)
-    }
-
-    /// Slow path of `prefix_number`. Works on a copy so that the compiler can keep `self` in registers.
-    #[inline(always)]
-    fn prefix_number_slow(&self, base: u64, i: u64) -> u64
-        requires { HasPrefixNumber base i self.now }
-        ensures { result ≡ number_from_digits base (take i self.now) }
-    {
         self.same().prefix_number_by_parts(base, i)
-    }
-
-    /// A number, and the digits after the first i: slow path of `take_number`. Works on a copy, as `prefix_number_slow`
-    /// does.
-    #[inline(always)]
-    fn suffix_slow(&self, number: u64, i: u64) -> (u64, DigitView<'a>)
-        requires { i ≤ length self.now }
-        ensures number { result.0 ≡ number }
-        ensures rest { result.1 ≡ drop i self.now }
-    {
-        (number, self.same().suffix_by_split(i))
     }
 
     /// The number that the first i digits spell, where all of them lie in the second slice, or in any other case.

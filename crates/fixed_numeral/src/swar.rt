@@ -202,7 +202,7 @@ fn number_by_eights(bytes: &[u8], base: u64) -> u64
     number
 }
 
-/// The number that eight digits or more spell in a base, where each byte is a digit.
+/// The number that eight digits or more spell in a base, where each byte is a digit. The powers of base 10 are constants.
 pub(crate) fn long_number(bytes: &[u8], base: u64) -> u64
     requires long { 8 ≤ length bytes.now }
     requires plain { length (digits_in bytes.now) ≡ length bytes.now }
@@ -212,16 +212,9 @@ pub(crate) fn long_number(bytes: &[u8], base: u64) -> u64
     requires room { base ^ length (digits_in bytes.now) ≤ 2 ^ 64 }
     ensures { result ≡ number_from_digits base (digits_in bytes.now) }
 {
-    number_by_eights(bytes, base)
-}
-
-/// What `long_number` answers in base 10, whose powers are then constants.
-pub(crate) fn long_decimal(bytes: &[u8]) -> u64
-    requires long { 8 ≤ length bytes.now }
-    requires plain { length (digits_in bytes.now) ≡ length bytes.now }
-    requires digits { AllBelowBase 10 (digits_in bytes.now) }
-    requires room { 10 ^ length (digits_in bytes.now) ≤ 2 ^ 64 }
-    ensures { result ≡ number_from_digits 10 (digits_in bytes.now) }
-{
-    number_by_eights(bytes, 10)
+    if base == 10 {
+        number_by_eights(bytes, 10)
+    } else {
+        number_by_eights(bytes, base)
+    }
 }

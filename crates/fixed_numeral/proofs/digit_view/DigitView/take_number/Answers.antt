@@ -11,4 +11,4 @@ returns-then-taken-len-clause-rest g c =
 pub returns-clause-rest : goal.returns-clause-rest
 returns-clause-rest g c =
     let n : c.min-taken.result ≡ min c.args.count (length c.args.self.now) = rw (c.from.ensures, c.len.ensures) at c.min-taken.ensures in
-    first_rest c.args.count c.min-taken.result c.args.self.now c.suffix_slow.result.1 n c.suffix_slow.ensures.rest
+    first_rest c.args.count c.min-taken.result c.args.self.now c.suffix_by_split.result n (rw c.same-2.ensures at c.suffix_by_split.ensures)
