@@ -4,6 +4,7 @@ use Rattle.fixed_bits.specs.Numbers.{IsNumber, with_sign}
 use Rattle.fixed_bits.specs.Rounded.{IsRounded}
 use Rattle.fixed_bits.specs.Ranges.{IsInRange}
 use Rattle.fixed_bits.specs.declared.mode.ReadMode.{ReadMode}
+use Rattle.fixed_numeral.specs.Answer.{IsReadOrRefused}
 use Rattle.fixed_numeral.specs.Numeral.{Parts, base, is_minus, signed}
 use Rattle.fixed_numeral.specs.Scanned.{IsScanned}
 use Rattle.fixed_numeral.specs.Spelled.{IsSameNumber}
@@ -43,6 +44,10 @@ overflow_if overflow Out (Err e) never h o = ap Err h
 pub cause_if : {T E : Type 0} (overflow : E) (Cause : E → Type 0) (Out : Type 0) (r : Result T E) → ((IsOk r → ⊥) → Out) → IfErr r (λ kind. kind ≡ overflow) → IfErr r (λ kind. Cause kind ⊎ ((kind ≡ overflow) × Out))
 cause_if overflow Cause Out (Ok x) f h = h
 cause_if overflow Cause Out (Err e) f h = inr (h, f (λ t. absurd (cc)))
+
+-- what is right for the answer of one reader is right for that of another
+pub read_as : {A B : Type 0} (r : Radix) (bs : List ℕ) (P : Parts → A → Type 0) (Q : Parts → B → Type 0) (x : A) (y : B) → IsReadOrRefused r bs P (Ok x) → ((p : Parts) → P p x → Q p y) → IsReadOrRefused r bs Q (Ok y)
+read_as r bs P Q x y h more = record { numeral = h.numeral; read = λ p g. more p (h.read p g); cause = h.cause }
 
 -- ---- a reader in range or out of it
 module _ (mode : ReadMode) (r : Radix) (Has : Parts → Type 0) (f : ℕ) (sign : Bool) (n : ℕ) (found : ReadNumber) (frac : found.format.frac ≡ f)

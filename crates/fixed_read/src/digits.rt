@@ -18,20 +18,13 @@ fn ten_to(n: u32) -> u64
     power_of_ten(n)
 }
 
-/// 8^n.
-fn eight_to(n: u32) -> u64
-    requires { 8 ^ n < 2 ^ 64 }
-    ensures { result ≡ 8 ^ n }
+/// base^n, where a digit of the base has so many bits.
+fn power_by_bits(base: u32, bits: u32, n: u32) -> u64
+    requires base { base ≡ 2 ^ bits }
+    requires room { base ^ n < 2 ^ 64 }
+    ensures { result ≡ base ^ n }
 {
-    power_of_two(3 * n)
-}
-
-/// 16^n.
-fn sixteen_to(n: u32) -> u64
-    requires { 16 ^ n < 2 ^ 64 }
-    ensures { result ≡ 16 ^ n }
-{
-    power_of_two(4 * n)
+    power_of_two(bits * n)
 }
 
 /// base^n: by a table or a shift where the base is that of a radix.
@@ -40,9 +33,9 @@ fn power_of(base: u32, n: u32) -> u64
     ensures { result ≡ base ^ n }
 {
     match base {
-        8 => eight_to(n),
+        8 => power_by_bits(base, 3, n),
         10 => ten_to(n),
-        16 => sixteen_to(n),
+        16 => power_by_bits(base, 4, n),
         _ => u64::from(base).pow(n),
     }
 }
@@ -138,13 +131,6 @@ pub fn leading_number_u128<'a, L: Ledger>(
     }
 }
 
-/// Whether a count is more than a width.
-fn has_more_than(count: u64, width: u64) -> bool
-    ensures { IsTrue result ↔ (width < count) }
-{
-    count > width
-}
-
 /// Whether a number had more bits before, or has them now.
 pub fn is_over(over: bool, high: u128) -> bool
     ensures { IsTrue result ↔ (IsTrue over ⊎ (0 < high)) }
@@ -191,7 +177,7 @@ fn number_mod_power_long<'a, L: Ledger>(
     ensures over { IsTrue result.1 ↔ (2 ^ width ≤ number_from_digits base view.now) }
     ensures cost { steps.new ≤ steps.old + width }
 {
-    let mut over = has_more_than(view.len(), u64::from(width));
+    let mut over = is_longer(view, width);
     let mut rest = view.last_n(u64::from(width));
     let mut low: u64 = 0;
     while !rest.is_empty() {
