@@ -27,9 +27,7 @@ low_halves (b ∷ bs) h =
     let low : ℕ = number_l 256 (replicate (length bs) 15) in
     let rest = low_halves bs h.1 in
     let order : b + 256 * n ≡ n * 2 ^ 8 + b = omega arith in
-    let first : bit_and (b + 256 * n) (15 + 256 * low) ≡ bit_and n low * 2 ^ 8 + bit_and b 15 = ap (λ x. bit_and x (15 + 256 * low)) order ∙ ap (λ y. bit_and (n * 2 ^ 8 + b) y) (omega arith) ∙ and_block 8 n low b 15 (omega (arith, small.0)) (omega arith) in
-    let kept : bit_and b 15 ≡ b % 16 = and_mask b 4 in
-    omega (arith, first, kept, small.1, rest)
+    omega (arith, (ap (λ x. bit_and x (15 + 256 * low)) order ∙ ap (λ y. bit_and (n * 2 ^ 8 + b) y) (omega arith) ∙ and_block 8 n low b 15 (omega (arith, small.0)) (omega arith)), and_mask b 4, small.1, rest)
 
 pub decimals_are : (word : ℕ) (bs : List ℕ) → length bs ≡ 8 → AllDigits 10 bs → word ≡ number_l 256 bs → bit_and word 0x0f0f_0f0f_0f0f_0f0f ≡ number_l 256 (map digit_value bs)
 decimals_are word bs l h e = rw e (rw l at (low_halves bs h))
@@ -118,6 +116,8 @@ unmarked_digits [] p q = tt
 unmarked_digits (x ∷ xs) p q =
     let low = no_marks (nat_lt x 48) (mask_l (map (λ y. nat_lt y 48) xs)) p in
     let high = no_marks (nat_lt 57 x) (mask_l (map (λ y. nat_lt 57 y) xs)) q in
-    let least : 48 ≤ x = ltb-false x 48 low.0 in
     let most : x ≤ 57 = ltb-false 57 x high.0 in
-    (near_zero x 10 (omega arith) least (omega arith), unmarked_digits xs low.1 high.1)
+    (near_zero x 10 (omega arith) (ltb-false x 48 low.0) (omega arith), unmarked_digits xs low.1 high.1)
+
+-- the last bytes of a word as digits
+pub ruleset last_digits = (last_count, below_bytes, zeros_before, digits_after)

@@ -90,16 +90,12 @@ raised k j m w n p some =
     let rest : n % w < w = omega arith in
     let whole : n * (m * w + 1) ≡ (n * m + n / w) * w + n % w = omega arith in
     let down : n * (m * w + 1) / w ≡ n * m + n / w = ap (λ x. x / w) whole ∙ digits_div (n * m + n / w) rest in
-    let cut : n * (m * w + 1) % 2 ^ (j + k) ≡ (n * (m * w + 1) / w % 2 ^ j) * w + n * (m * w + 1) % w = subst (λ x. n * (m * w + 1) % 2 ^ (j + k) ≡ (n * (m * w + 1) / x % 2 ^ j) * x + n * (m * w + 1) % x) (sym p) (mod-pow-add (n * (m * w + 1)) j k) in
-    let under : n * (m * w + 1) % w < w = omega arith in
-    ap (λ x. x / w) cut ∙ digits_div (n * (m * w + 1) / w % 2 ^ j) under ∙ ap (λ x. x % 2 ^ j) down
+    ap (λ x. x / w) (subst (λ x. n * (m * w + 1) % 2 ^ (j + k) ≡ (n * (m * w + 1) / x % 2 ^ j) * x + n * (m * w + 1) % x) (sym p) (mod-pow-add (n * (m * w + 1)) j k)) ∙ digits_div (n * (m * w + 1) / w % 2 ^ j) (omega arith) ∙ ap (λ x. x % 2 ^ j) down
 
 -- the mask needs no more of the number than it has bits itself
 cut_masked : (j n mask : ℕ) → mask < 2 ^ j → bit_and (n % 2 ^ j) mask ≡ bit_and n mask
 cut_masked j n mask s =
-    let same : mask % 2 ^ j ≡ mask = mod-eq_of_lt s in
-    let small : bit_and n mask % 2 ^ j ≡ bit_and n mask = mod-eq_of_lt (omega (arith, and_le_r n mask)) in
-    sym (sym small ∙ and_mod n mask j ∙ ap (λ x. bit_and (n % 2 ^ j) x) same)
+    sym (sym (mod-eq_of_lt (omega (arith, and_le_r n mask))) ∙ and_mod n mask j ∙ ap (λ x. bit_and (n % 2 ^ j) x) (mod-eq_of_lt s))
 
 paired_below : (m : ℕ) (ds : List ℕ) → AllBelowBase m ds → AllBelowBase (m * m) (paired m ds)
 paired_below m [] h = tt
@@ -164,16 +160,13 @@ upper_half : (b : ℕ) → bit_and b 240 ≡ b / 16 % 16 * 16
 upper_half b =
     let split : b ≡ b / 16 * 2 ^ 4 + b % 16 = omega arith in
     let block : bit_and (b / 16 * 2 ^ 4 + b % 16) (15 * 2 ^ 4 + 0) ≡ bit_and (b / 16) 15 * 2 ^ 4 + bit_and (b % 16) 0 = and_block 4 (b / 16) 15 (b % 16) 0 (omega arith) (omega arith) in
-    let halves : bit_and b (15 * 2 ^ 4 + 0) ≡ bit_and (b / 16) 15 * 2 ^ 4 + bit_and (b % 16) 0 = ap (λ x. bit_and x (15 * 2 ^ 4 + 0)) split ∙ block in
-    let kept : bit_and (b / 16) 15 ≡ b / 16 % 16 = and_mask (b / 16) 4 in
-    omega (arith, halves, kept, and_le_r (b % 16) 0)
+    omega (arith, ap (λ x. bit_and x (15 * 2 ^ 4 + 0)) split ∙ block, and_mask (b / 16) 4, and_le_r (b % 16) 0)
 
 -- the lowest byte under a mask, and those above it
 lowest : (n mask b : ℕ) → b < 256 → bit_and (n * 256 + b) (240 + 256 * mask) ≡ bit_and n mask * 256 + b / 16 * 16
 lowest n mask b s =
     let order : 240 + 256 * mask ≡ mask * 2 ^ 8 + 240 = omega arith in
-    let block : bit_and (n * 2 ^ 8 + b) (mask * 2 ^ 8 + 240) ≡ bit_and n mask * 2 ^ 8 + bit_and b 240 = and_block 8 n mask b 240 (omega (arith, s)) (omega arith) in
-    rw order (omega (arith, block, upper_half b, s))
+    rw order (omega (arith, (and_block 8 n mask b 240 (omega (arith, s)) (omega arith)), upper_half b, s))
 
 pub decimal_lanes : (bs : List ℕ) → AllBelowBase 256 bs → bit_and (number_l 256 bs) (number_l 256 (replicate (length bs) 240)) ≡ number_l 256 (replicate (length bs) 48) → bit_and (number_l 256 bs + number_l 256 (replicate (length bs) 6)) (number_l 256 (replicate (length bs) 240)) ≡ number_l 256 (replicate (length bs) 48) → AllDigits 10 bs
 decimal_lanes [] h p q = tt
@@ -199,9 +192,7 @@ sixes_fit word s h =
     let low : ℕ = word % 2 ^ 60 in
     let split : word ≡ high * 2 ^ 60 + low = omega arith in
     let block : bit_and (high * 2 ^ 60 + low) (15 * 2 ^ 60 + 0x00f0_f0f0_f0f0_f0f0) ≡ bit_and high 15 * 2 ^ 60 + bit_and low 0x00f0_f0f0_f0f0_f0f0 = and_block 60 high 15 low 0x00f0_f0f0_f0f0_f0f0 (omega arith) (omega arith) in
-    let whole : bit_and high 15 * 2 ^ 60 + bit_and low 0x00f0_f0f0_f0f0_f0f0 ≡ 0x3030_3030_3030_3030 = sym block ∙ ap (λ x. bit_and x 0xf0f0_f0f0_f0f0_f0f0) (sym split) ∙ h in
-    let kept : bit_and high 15 ≡ high % 16 = and_mask high 4 in
-    omega (arith, whole, kept, and_le_r low 0x00f0_f0f0_f0f0_f0f0, split, s)
+    omega (arith, sym block ∙ ap (λ x. bit_and x 0xf0f0_f0f0_f0f0_f0f0) (sym split) ∙ h, and_mask high 4, and_le_r low 0x00f0_f0f0_f0f0_f0f0, split, s)
 
 pub eight_decimal : (word : ℕ) (bs : List ℕ) → length bs ≡ 8 → AllBelowBase 256 bs → word ≡ number_l 256 bs → bit_and word 0xf0f0_f0f0_f0f0_f0f0 ≡ 0x3030_3030_3030_3030 → bit_and (word + 0x0606_0606_0606_0606) 0xf0f0_f0f0_f0f0_f0f0 ≡ 0x3030_3030_3030_3030 → AllDigits 10 bs
 eight_decimal word bs l h e p q = decimal_lanes bs h (rw l (rw e at p)) (rw l (rw e at q))

@@ -16,7 +16,7 @@ use Rattle.fixed_numeral.specs.Literal.{underscore, without_underscores, begins_
 use Rattle.fixed_numeral.specs.Digits.{digits_in}
 use Rattle.fixed_numeral.proofs.MagnitudeLemmas.{whole_count, after_count}
 use Rattle.fixed_numeral.proofs.LiteralLemmas.{literal_whole, literal_fraction}
-use Rattle.fixed_numeral.proofs.ScanLemmas.{whole_fits, has_numeral, slice_get_past, incomplete_cause, kind_at_end}
+use Rattle.fixed_numeral.proofs.ScanLemmas.{prefix_stuck, whole_fits, has_numeral, slice_get_past, incomplete_cause, kind_at_end}
 use Rattle.fixed_numeral.specs.Inner.LiteralScan.{LiteralExtends, LiteralCannotExtend, IsLiteralAfter}
 
 some_inside : (xs ys : List ℕ) (c : ℕ) → [] ≡ xs ++ c ∷ ys → ⊥
@@ -124,13 +124,6 @@ literal_prefix r xs ys (q, h) =
       },
     )
 
-prefix_stuck : (r : Radix) (bs : List ℕ) (n : ℕ) → n < length bs → (IsLiteralBeginning r (take n bs ++ get_or bs n 0 ∷ []) → ⊥) → (m : ℕ) → IsLiteralBeginning r (take m bs) → m ≤ n
-prefix_stuck r bs n l refuses m h = ⊎_elim (λ more. absurd (refuses (
-    let cut : take (n + 1) (take m bs) ++ drop (n + 1) (take m bs) ≡ take m bs = take-append-drop (n + 1) (take m bs) in
-    let first : take (n + 1) (take m bs) ≡ take (n + 1) bs = take-take (n + 1) m bs (omega arith) in
-    let initial : IsLiteralBeginning r (take (n + 1) (take m bs)) = literal_prefix r (take (n + 1) (take m bs)) (drop (n + 1) (take m bs)) (rw cut h) in
-    rw (first, take_more bs n 0 l) at initial))) (λ less. less) (cases_lt n m)
-
 -- nothing was read, or something was
 prefix_nil : (r : Radix) (ws : List ℕ) (st : State) (s : Option ℕ) (w : List ℕ) (f : Option (List ℕ)) (x : Option Exponent) → HasParts r ws (parts s w f x) → Agrees r st (parts s w f x) → st.sign_allowed ≡ true → st.has_separator ≡ false → ws ≡ []
 prefix_nil r ws st s w f (Some e) h a t k = let clash = a.separator in absurd (cc)
@@ -156,18 +149,15 @@ sign_in_prefix r bs p st b h a e l =
     let t = leading (is_sign b) st.sign_allowed st.has_separator l in
     let sign : is_sign b ≡ true = t.0 in
     let none : without_underscores bs ≡ [] = prefix_nil r (without_underscores bs) st p.sign p.whole p.fraction p.exponent h.beginning a t.1 t.2 in
-    let same : without_underscores (bs ++ b ∷ []) ≡ b ∷ [] = push_other bs b e ∙ ap (λ ws. ws ++ b ∷ []) none in
-    let off : is_some p.exponent ≡ false = sym a.separator ∙ t.2 in
     record {
-      none = λ (q, g). let u : is_sign b ≡ false = rw same at g.unsigned in cc;
-      is_kind = rw (e, off, sign) refl;
+      none = λ (q, g). let u : is_sign b ≡ false = rw (push_other bs b e ∙ ap (λ ws. ws ++ b ∷ []) none) at g.unsigned in cc;
+      is_kind = rw (e, sym a.separator ∙ t.2, sign) refl;
     }
 
 step_goes_on : (r : Radix) (bs : List ℕ) (p : Parts) (st next : State) (b : ℕ) → HasLiteralParts r bs p → Agrees r st p → (b ≡ underscore → ⊥) → (b == underscore) ≡ false → (is_sign b && (st.sign_allowed && not st.has_separator)) ≡ false → Extends r (without_underscores bs) b next → LiteralExtends r bs b next
 step_goes_on r bs p st next b h a ne e l g =
     let t = not_leading (is_sign b) st.sign_allowed st.has_separator l in
-    let k : (is_sign b ≡ false) ⊎ (0 < length (without_underscores bs)) = ⊎_elim (λ s. inl s) (λ s. inr (rest_of_prefix r (without_underscores bs) st p.sign p.whole p.fraction p.exponent h.beginning a s)) t in
-    other_goes_on r bs p b next h ne e k g
+    other_goes_on r bs p b next h ne e (⊎_elim (λ s. inl s) (λ s. inr (rest_of_prefix r (without_underscores bs) st p.sign p.whole p.fraction p.exponent h.beginning a s)) t) g
 
 -- ---- the whole rest
 pub literal_nothing : (r : Radix) (st : State) → ((r' : Radix) → IsAfter r' [] st) → IsLiteralAfter r [] st
@@ -176,7 +166,7 @@ literal_nothing r st start =
     record { parts = a.parts; beginning = record { beginning = a.beginning; unsigned = refl; underscores = λ xs ys e q g. absurd (some_inside xs ys underscore e) }; agrees = a.agrees; room = a.room }
 
 pub literal_more : (r : Radix) (bs : List ℕ) (i : ℕ) (st : State) → i < length bs → LiteralExtends r (take i bs) (get_or bs i 0) st → IsLiteralAfter r (take (i + 1) bs) st
-literal_more r bs i st l g = record { parts = g.parts; beginning = rw (take_more bs i 0 l) g.beginning; agrees = g.agrees; room = g.room }
+literal_more r bs i st l g = rw (take_more bs i 0 l) g
 
 pub literal_all : (r : Radix) (bs : List ℕ) (i : ℕ) (st : State) → length bs ≤ i → IsLiteralAfter r (take i bs) st → IsLiteralAfter r bs st
 literal_all r bs i st l a = rw (take_all i bs l) at a
@@ -201,11 +191,10 @@ literal_fits_at r bs i st l a = omega (arith, literal_fits r (take i bs) st a, l
 pub stuck_rest : (r : Radix) (bs : List ℕ) (n : ℕ) (p : Parts) (kind : ParseErrorKind) → n < length bs → HasLiteralParts r (take n bs) p → LiteralCannotExtend r (take n bs) p (get_or bs n 0) kind → HasRestCause r bs kind
 stuck_rest r bs n p kind l h g = record {
   none = λ q k.
-      let all : IsLiteralBeginning r (take (length bs) bs) = (q, rw (take_all (length bs) bs (omega arith)) k.literal) in
-      omega (arith, prefix_stuck r bs n l g.none (length bs) all);
+      omega (arith, prefix_stuck (IsLiteralBeginning r) (literal_prefix r) bs n l g.none (length bs) (q, rw (take_all (length bs) bs (omega arith)) k.literal));
   count = n;
   parts = p;
-  prefix = record { within = omega arith; beginning = h; longest = λ m ml b. prefix_stuck r bs n l g.none m b };
+  prefix = record { within = omega arith; beginning = h; longest = λ m ml b. prefix_stuck (IsLiteralBeginning r) (literal_prefix r) bs n l g.none m b };
   is_kind = rw (slice_get-get_or bs n 0 l) g.is_kind;
 }
 

@@ -109,6 +109,7 @@ fn mixed_number(bytes: &[u8], base: u64, start: u64) -> u64
 
 impl<'a> DigitSlice<'a> {
     /// No digits.
+    #[tactic(auto, using(crate::proofs::DigitLemmas::digits_in_none))]
     pub fn none() -> DigitSlice<'a>
         ensures { result ≡ [] }
     {
@@ -127,6 +128,7 @@ impl<'a> DigitSlice<'a> {
     }
 
     /// The first i digits of a slice, and the bytes after them.
+    #[tactic(auto, using(crate::proofs::DigitLemmas::back_is, crate::proofs::DigitLemmas::prefix_is))]
     pub fn split_at_digit(bytes: &'a [u8], i: u64) -> (DigitSlice<'a>, &'a [u8])
         requires { i ≤ length (digits_in bytes.now) }
         ensures prefix { result.0 ≡ take i (digits_in bytes.now) }
@@ -301,6 +303,7 @@ impl<'a> DigitSlice<'a> {
 }
 
 /// The place in the bytes, which hold this many digits, with i digits before it.
+#[tactic(auto, using(crate::proofs::DigitLemmas::all_counted))]
 #[inline(always)]
 fn byte_index(bytes: &[u8], count: u64, i: u64) -> usize
     requires count { count ≡ length (digits_in bytes.now) }
