@@ -55,10 +55,9 @@ module _ (q s den odd : ℕ) (pos : 0 < den) where
   up_some h l = record { at_least = omega arith; before = omega arith }
 
 pub tail_within : (t : LostFraction) (s den : ℕ) → 0 < den → IsLostFraction t s den → s < den
-tail_within Zero s den p h = omega arith
 tail_within LessThanHalf s den p h = omega (arith, h.1)
-tail_within Half s den p h = omega arith
 tail_within MoreThanHalf s den p h = h.1
+tail_within x s den p h = omega arith
 
 -- ---- the block's rest and what is after it
 module _ (rest half d y : ℕ) (low : y < d) where

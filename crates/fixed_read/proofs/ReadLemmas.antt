@@ -73,9 +73,7 @@ module _ (mode : ReadMode) (r : Radix) (Has : Parts → Type 0) (f : ℕ) (sign 
 -- ---- of a numeral
 pub base_some : (r : Radix) → 0 < base r
 base_some Bin = omega arith
-base_some Oct = omega arith
-base_some Dec = omega arith
-base_some Hex = omega arith
+base_some r = omega arith
 
 -- the reading of a numeral whose magnitude is a number that was rounded
 pub reading_from : (mode : ReadMode) (r : Radix) (p : Parts) (number : Fraction) (ulps : Ulps) (found : ReadNumber) → found.negative ≡ is_minus p.sign → 0 < number.den → IsSameNumber number (magnitude r p) → IsMagnitude (direction mode found.negative) number found.format.frac ulps → found.low ≡ ulps.low → found.has_high_bits ≡ ulps.has_high_bits → found.exact ≡ ulps.is_exact → IsReading mode r p found

@@ -7,9 +7,10 @@ saturated-requires g c = record { signed = ap (λ x. x.signed) c.in-Ok.ensures.f
 
 pub returns-in-Ok : goal.returns-in-Ok
 returns-in-Ok g c =
-    let frac : c.in-Ok.found.format.frac ≡ c.args.frac_nbits = ap (λ x. x.frac) c.in-Ok.ensures.format ∙ c.format_of.ensures.frac in
-    record { reading = read_as c.args.radix c.args.s.now _ _ c.in-Ok.found _ c.in-Ok.ensures.reading (λ p reading. record {
-      number = reading.number;
-      read = rw frac at reading.read;
-      image = c.saturated.ensures reading.number reading.holds;
-    }) }
+    record {
+      reading = read_as c.args.radix c.args.s.now _ _ c.in-Ok.found _ c.in-Ok.ensures.reading (λ p reading. record {
+        number = reading.number;
+        read = rw (ap (λ x. x.frac) c.in-Ok.ensures.format ∙ c.format_of.ensures.frac) at reading.read;
+        image = c.saturated.ensures reading.number reading.holds;
+      });
+    }
