@@ -4,7 +4,7 @@ use Rattle.std.proofs.lemmas.List.{take_at}
 use Rattle.fixed_numeral.specs.declared.radix.Radix.{Radix}
 use Rattle.fixed_numeral.specs.declared.error.ParseErrorKind.{ParseErrorKind}
 use Rattle.fixed_numeral.specs.declared.error.ParseErrorKind.TheVariants.{NoDigits, ExpNoDigits}
-use Rattle.fixed_numeral.specs.Numeral.{Parts, Exponent, HasParts, HasNumeral, IsNumeral, mantissa}
+use Rattle.fixed_numeral.specs.Numeral.{Parts, Exponent, HasParts, IsNumeral, mantissa}
 use Rattle.fixed_numeral.specs.Cause.{HasCause, is_nil, kind_of}
 use Rattle.fixed_numeral.specs.Literal.{HasLiteral, IsLiteral, HasLiteralCause, literal_radix, literal_rest, without_underscores}
 use Rattle.fixed_numeral.specs.Inner.Scan.{CannotExtend}

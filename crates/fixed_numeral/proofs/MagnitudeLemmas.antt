@@ -9,7 +9,7 @@ use Rattle.std.specs.Int.Digits.{number_from_digits, AllBelowBase}
 use Rattle.std.specs.Str.Parse.{digits_value, AllDigits}
 use Rattle.std.specs.Char.{digit_value}
 use Rattle.fixed_numeral.specs.declared.radix.Radix.{Radix}
-use Rattle.fixed_numeral.specs.declared.radix.Radix.TheVariants.{Bin, Oct, Dec, Hex}
+use Rattle.fixed_numeral.specs.declared.radix.Radix.TheVariants.{Bin, Dec}
 use Rattle.fixed_numeral.specs.Numeral.{Parts, Exponent, IsPartsOf, base, is_minus, is_two_separator, mantissa, fractional_digits}
 use Rattle.fixed_numeral.specs.Value.{Fraction, magnitude, scaled, scaled_by}
 use Rattle.fixed_numeral.specs.Spelled.{spelled, IsSameNumber}

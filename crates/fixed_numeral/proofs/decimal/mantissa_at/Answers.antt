@@ -1,4 +1,4 @@
-use Rattle.std.proofs.Common.{◌≤◌, length, arith}
+use Rattle.std.proofs.Common.{arith}
 use Rattle.fixed_numeral.proofs.SegmentLemmas.{mantissa_parted, sixteen_fits}
 use Rattle.fixed_numeral.proofs.decimal.mantissa_at.Goals as goal
 

@@ -1,6 +1,5 @@
 use Rattle.std.proofs.Common.{◌≡◌, ap, ◌∙◌, arith, take, drop, length, length-take}
 use Rattle.fixed_numeral.specs.Digits.{digits_in}
-use Rattle.fixed_numeral.specs.Scanned.{IsScanned}
 use Rattle.fixed_numeral.proofs.LiteralScanLemmas.{literal_fits, prefix_whole, prefix_fraction, prefix_fits, back_fits, parts_of_rest, signed_parts}
 use Rattle.fixed_numeral.proofs.literal.rest_views.Goals as goal
 
