@@ -9,7 +9,7 @@ use Rattle.fixed_bits.proofs.Public.{rounded_same}
 use Rattle.fixed_read.specs.declared.direction.Direction.{Direction}
 use Rattle.fixed_read.specs.declared.direction.Direction.TheVariants.{Nearest, Down, Up}
 use Rattle.fixed_read.specs.declared.lost_fraction.LostFraction.{LostFraction}
-use Rattle.fixed_read.specs.declared.lost_fraction.LostFraction.TheVariants.{Zero, LessThanHalf, Half, MoreThanHalf}
+use Rattle.fixed_read.specs.declared.lost_fraction.LostFraction.TheVariants.{LessThanHalf, MoreThanHalf}
 use Rattle.fixed_read.specs.Inner.Directions.{IsRoundedTo, direction}
 use Rattle.fixed_read.specs.Inner.Rounding.{IsLostFraction}
 

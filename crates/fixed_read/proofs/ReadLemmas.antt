@@ -10,7 +10,7 @@ use Rattle.fixed_numeral.specs.Scanned.{IsScanned}
 use Rattle.fixed_numeral.specs.Spelled.{IsSameNumber}
 use Rattle.fixed_numeral.specs.Value.{Fraction, magnitude}
 use Rattle.fixed_numeral.specs.declared.radix.Radix.{Radix}
-use Rattle.fixed_numeral.specs.declared.radix.Radix.TheVariants.{Bin, Oct, Dec, Hex}
+use Rattle.fixed_numeral.specs.declared.radix.Radix.TheVariants.{Bin}
 use Rattle.fixed_numeral.proofs.Public.{magnitude_pos}
 use Rattle.fixed_bits.proofs.Public.{rounded_unique, rounded_exists, range_decided}
 use Rattle.fixed_read.specs.Reading.{IsReadNumber, IsReading, IsReadInRange, IsReadOutOfRange, number_in}

@@ -1,4 +1,4 @@
-use Rattle.std.proofs.Common.{◌≡◌, ◌-◌, ◌^◌, ◌<◌, ◌↔◌, IsTrue, drop, length, arith, refl, pow_pos}
+use Rattle.std.proofs.Common.{◌≡◌, ◌-◌, ◌^◌, ◌<◌, drop, length, arith, refl, pow_pos}
 use Rattle.fixed_read.proofs.NumberLemmas.{chunk_room, trailing_none, trailing_more, trailing_all}
 use Rattle.fixed_numeral.proofs.Public.{below_split}
 use Rattle.fixed_read.proofs.digits.number_mod_power_long.Goals as goal

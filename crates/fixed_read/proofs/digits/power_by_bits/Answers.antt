@@ -1,4 +1,4 @@
-use Rattle.std.proofs.Common.{◌≡◌, ◌*◌, ◌^◌, ◌<◌, ◌∙◌, sym, ap, arith}
+use Rattle.std.proofs.Common.{◌*◌, ◌^◌, ◌∙◌, sym, ap, arith}
 use Rattle.fixed_numeral.proofs.Public.{pow-mul}
 use Rattle.fixed_read.proofs.NumberLemmas.{two_exponent}
 use Rattle.fixed_read.proofs.digits.power_by_bits.Goals as goal

@@ -1,4 +1,4 @@
-use Rattle.std.proofs.Common.{◌≡◌, ◌∙◌, ap}
+use Rattle.std.proofs.Common.{◌∙◌, ap}
 use Rattle.fixed_read.proofs.ReadLemmas.{read_as}
 use Rattle.fixed_read.proofs.read.wrapping_from_str_radix_mode.Goals as goal
 
