@@ -27,9 +27,7 @@ low_halves (b ∷ bs) h =
     let low : ℕ = number_l 256 (replicate (length bs) 15) in
     let rest = low_halves bs h.1 in
     let order : b + 256 * n ≡ n * 2 ^ 8 + b = omega arith in
-    let first : bit_and (b + 256 * n) (15 + 256 * low) ≡ bit_and n low * 2 ^ 8 + bit_and b 15 = ap (λ x. bit_and x (15 + 256 * low)) order ∙ ap (λ y. bit_and (n * 2 ^ 8 + b) y) (omega arith) ∙ and_block 8 n low b 15 (omega (arith, small.0)) (omega arith) in
-    let kept : bit_and b 15 ≡ b % 16 = and_mask b 4 in
-    omega (arith, first, kept, small.1, rest)
+    omega (arith, (ap (λ x. bit_and x (15 + 256 * low)) order ∙ ap (λ y. bit_and (n * 2 ^ 8 + b) y) (omega arith) ∙ and_block 8 n low b 15 (omega (arith, small.0)) (omega arith)), and_mask b 4, small.1, rest)
 
 pub decimals_are : (word : ℕ) (bs : List ℕ) → length bs ≡ 8 → AllDigits 10 bs → word ≡ number_l 256 bs → bit_and word 0x0f0f_0f0f_0f0f_0f0f ≡ number_l 256 (map digit_value bs)
 decimals_are word bs l h e = rw e (rw l at (low_halves bs h))
@@ -42,28 +40,12 @@ abbrev pub zeros_before_bytes : List ℕ
 zeros_before_bytes = 0x3030_3030_3030_3030 ∷ 0x0030_3030_3030_3030 ∷ 0x3030_3030_3030 ∷ 0x0030_3030_3030 ∷ 0x3030_3030 ∷ 0x0030_3030 ∷ 0x3030 ∷ 0x0030 ∷ 0 ∷ []
 
 few_last : (r a b c d f g i j : ℕ) → r ≤ 8 → AllBelowBase 256 (a ∷ b ∷ c ∷ d ∷ f ∷ g ∷ i ∷ j ∷ []) → number_l 256 (a ∷ b ∷ c ∷ d ∷ f ∷ g ∷ i ∷ j ∷ []) / 2 ^ (64 - 8 * r) * 2 ^ (64 - 8 * r) + get_or zeros_before_bytes r 0 ≡ number_l 256 (replicate (8 - r) 48 ++ drop (8 - r) (a ∷ b ∷ c ∷ d ∷ f ∷ g ∷ i ∷ j ∷ []))
-few_last zero a b c d f g i j s h = omega arith
-few_last (suc zero) a b c d f g i j s h = omega arith
-few_last (suc (suc zero)) a b c d f g i j s h = omega arith
-few_last (suc (suc (suc zero))) a b c d f g i j s h = omega arith
-few_last (suc (suc (suc (suc zero)))) a b c d f g i j s h = omega arith
-few_last (suc (suc (suc (suc (suc zero))))) a b c d f g i j s h = omega arith
-few_last (suc (suc (suc (suc (suc (suc zero)))))) a b c d f g i j s h = omega arith
-few_last (suc (suc (suc (suc (suc (suc (suc zero))))))) a b c d f g i j s h = omega arith
-few_last (suc (suc (suc (suc (suc (suc (suc (suc zero)))))))) a b c d f g i j s h = omega arith
 few_last (suc (suc (suc (suc (suc (suc (suc (suc (suc r))))))))) a b c d f g i j s h = absurd (omega arith)
+few_last x a b c d f g i j s h = omega arith
 
 last_lanes : (r : ℕ) (ds : List ℕ) → r ≤ 8 → length ds ≡ 8 → AllBelowBase 256 ds → number_l 256 ds / 2 ^ (64 - 8 * r) * 2 ^ (64 - 8 * r) + get_or zeros_before_bytes r 0 ≡ number_l 256 (replicate (8 - r) 48 ++ drop (8 - r) ds)
-last_lanes r [] s l h = absurd (omega arith)
-last_lanes r (a ∷ []) s l h = absurd (omega arith)
-last_lanes r (a ∷ b ∷ []) s l h = absurd (omega arith)
-last_lanes r (a ∷ b ∷ c ∷ []) s l h = absurd (omega arith)
-last_lanes r (a ∷ b ∷ c ∷ d ∷ []) s l h = absurd (omega arith)
-last_lanes r (a ∷ b ∷ c ∷ d ∷ f ∷ []) s l h = absurd (omega arith)
-last_lanes r (a ∷ b ∷ c ∷ d ∷ f ∷ g ∷ []) s l h = absurd (omega arith)
-last_lanes r (a ∷ b ∷ c ∷ d ∷ f ∷ g ∷ i ∷ []) s l h = absurd (omega arith)
-last_lanes r (a ∷ b ∷ c ∷ d ∷ f ∷ g ∷ i ∷ j ∷ k ∷ ds) s l h = absurd (omega arith)
 last_lanes r (a ∷ b ∷ c ∷ d ∷ f ∷ g ∷ i ∷ j ∷ []) s l h = few_last r a b c d f g i j s h
+last_lanes r x s l h = absurd (omega arith)
 
 pub below_bytes : (n : ℕ) (k : ℕ) (ds : List ℕ) → AllBelowBase 256 ds → AllBelowBase 256 (replicate n 48 ++ drop k ds)
 below_bytes zero zero ds h = h
@@ -101,48 +83,25 @@ padded_is r word bs s w l h e = ap (λ i. i + get_or zeros_before_bytes r 0) (ke
 -- ---- the first few of eight bytes, after zeros
 few_first : (r a b c d f g i j : ℕ) → 0 < r → r ≤ 8 → AllBelowBase 256 (a ∷ b ∷ c ∷ d ∷ f ∷ g ∷ i ∷ j ∷ []) → number_l 256 (a ∷ b ∷ c ∷ d ∷ f ∷ g ∷ i ∷ j ∷ []) * 2 ^ (64 - 8 * r) % 2 ^ 64 + 0x0030_3030_3030_3030 / 2 ^ (8 * r - 8) ≡ number_l 256 (replicate (8 - r) 48 ++ take r (a ∷ b ∷ c ∷ d ∷ f ∷ g ∷ i ∷ j ∷ []))
 few_first zero a b c d f g i j p s h = absurd (omega arith)
-few_first (suc zero) a b c d f g i j p s h = omega arith
-few_first (suc (suc zero)) a b c d f g i j p s h = omega arith
-few_first (suc (suc (suc zero))) a b c d f g i j p s h = omega arith
-few_first (suc (suc (suc (suc zero)))) a b c d f g i j p s h = omega arith
-few_first (suc (suc (suc (suc (suc zero))))) a b c d f g i j p s h = omega arith
-few_first (suc (suc (suc (suc (suc (suc zero)))))) a b c d f g i j p s h = omega arith
-few_first (suc (suc (suc (suc (suc (suc (suc zero))))))) a b c d f g i j p s h = omega arith
-few_first (suc (suc (suc (suc (suc (suc (suc (suc zero)))))))) a b c d f g i j p s h = omega arith
 few_first (suc (suc (suc (suc (suc (suc (suc (suc (suc r))))))))) a b c d f g i j p s h = absurd (omega arith)
+few_first x a b c d f g i j p s h = omega arith
 
 first_lanes : (r : ℕ) (ds : List ℕ) → 0 < r → r ≤ 8 → length ds ≡ 8 → AllBelowBase 256 ds → number_l 256 ds * 2 ^ (64 - 8 * r) % 2 ^ 64 + 0x0030_3030_3030_3030 / 2 ^ (8 * r - 8) ≡ number_l 256 (replicate (8 - r) 48 ++ take r ds)
-first_lanes r [] p s l h = absurd (omega arith)
-first_lanes r (a ∷ []) p s l h = absurd (omega arith)
-first_lanes r (a ∷ b ∷ []) p s l h = absurd (omega arith)
-first_lanes r (a ∷ b ∷ c ∷ []) p s l h = absurd (omega arith)
-first_lanes r (a ∷ b ∷ c ∷ d ∷ []) p s l h = absurd (omega arith)
-first_lanes r (a ∷ b ∷ c ∷ d ∷ f ∷ []) p s l h = absurd (omega arith)
-first_lanes r (a ∷ b ∷ c ∷ d ∷ f ∷ g ∷ []) p s l h = absurd (omega arith)
-first_lanes r (a ∷ b ∷ c ∷ d ∷ f ∷ g ∷ i ∷ []) p s l h = absurd (omega arith)
-first_lanes r (a ∷ b ∷ c ∷ d ∷ f ∷ g ∷ i ∷ j ∷ k ∷ ds) p s l h = absurd (omega arith)
 first_lanes r (a ∷ b ∷ c ∷ d ∷ f ∷ g ∷ i ∷ j ∷ []) p s l h = few_first r a b c d f g i j p s h
+first_lanes r x p s l h = absurd (omega arith)
 
 pub first_padded : (r word : ℕ) (bs : List ℕ) → 0 < r → r ≤ 8 → length bs ≡ 8 → AllBelowBase 256 bs → word ≡ number_l 256 bs → word * 2 ^ (64 - 8 * r) % 2 ^ 64 + 0x0030_3030_3030_3030 / 2 ^ (8 * r - 8) ≡ number_l 256 (replicate (8 - r) 48 ++ take r bs)
 first_padded r word bs p s l h e = rw e (first_lanes r bs p s l h)
 
 pub first_pad_fits : (r word : ℕ) → 0 < r → r ≤ 8 → word < 2 ^ 64 → word * 2 ^ (64 - 8 * r) % 2 ^ 64 + 0x0030_3030_3030_3030 / 2 ^ (8 * r - 8) < 2 ^ 64
 first_pad_fits zero word p s h = absurd (omega arith)
-first_pad_fits (suc zero) word p s h = omega arith
-first_pad_fits (suc (suc zero)) word p s h = omega arith
-first_pad_fits (suc (suc (suc zero))) word p s h = omega arith
-first_pad_fits (suc (suc (suc (suc zero)))) word p s h = omega arith
-first_pad_fits (suc (suc (suc (suc (suc zero))))) word p s h = omega arith
-first_pad_fits (suc (suc (suc (suc (suc (suc zero)))))) word p s h = omega arith
-first_pad_fits (suc (suc (suc (suc (suc (suc (suc zero))))))) word p s h = omega arith
-first_pad_fits (suc (suc (suc (suc (suc (suc (suc (suc zero)))))))) word p s h = omega arith
 first_pad_fits (suc (suc (suc (suc (suc (suc (suc (suc (suc r))))))))) word p s h = absurd (omega arith)
+first_pad_fits x word p s h = omega arith
 
 pub below_first : (n k : ℕ) (ds : List ℕ) → AllBelowBase 256 ds → AllBelowBase 256 (replicate n 48 ++ take k ds)
-below_first zero zero ds h = tt
-below_first zero (suc k) [] h = tt
 below_first zero (suc k) (d ∷ ds) h = (h.0, below_first zero k ds h.1)
 below_first (suc n) k ds h = (omega arith, below_first n k ds h)
+below_first zero k ds h = tt
 
 pub first_count : (r : ℕ) (ds : List ℕ) → r ≤ 8 → length ds ≡ 8 → length (replicate (8 - r) 48 ++ take r ds) ≡ 8
 first_count r ds s l = omega (arith, length-append (replicate (8 - r) 48) (take r ds), length-replicate {A = ℕ} (8 - r) 48, length-take r ds)
@@ -157,6 +116,8 @@ unmarked_digits [] p q = tt
 unmarked_digits (x ∷ xs) p q =
     let low = no_marks (nat_lt x 48) (mask_l (map (λ y. nat_lt y 48) xs)) p in
     let high = no_marks (nat_lt 57 x) (mask_l (map (λ y. nat_lt 57 y) xs)) q in
-    let least : 48 ≤ x = ltb-false x 48 low.0 in
     let most : x ≤ 57 = ltb-false 57 x high.0 in
-    (near_zero x 10 (omega arith) least (omega arith), unmarked_digits xs low.1 high.1)
+    (near_zero x 10 (omega arith) (ltb-false x 48 low.0) (omega arith), unmarked_digits xs low.1 high.1)
+
+-- the last bytes of a word as digits
+pub ruleset last_digits = (last_count, below_bytes, zeros_before, digits_after)

@@ -28,8 +28,7 @@ digit_before b d bs e h =
 pub other_before : (b : ℕ) (bs : List ℕ) → 16 ≤ digit_value b → digits_in (b ∷ bs) ≡ digits_in bs
 unfolding digits_in
 other_before b bs h =
-    let t : nat_lt (digit_value b) 16 ≡ false = le-ltb _ _ h in
-    rw t refl
+    rw (le-ltb _ _ h) refl
 
 -- at a place
 pub cut : (bs : List ℕ) (i : ℕ) → i < length bs → digits_in bs ≡ digits_in (take i bs) ++ digits_in (get_or bs i 0 ∷ drop (i + 1) bs)

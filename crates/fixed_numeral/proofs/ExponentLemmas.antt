@@ -51,8 +51,7 @@ exponent_digits r st bs ds m a k d some e l = opened r st bs ds m a.parts.sign a
 
 pub eight_more : (r : Radix) (st : State) (bs ds : List ℕ) (m : ℕ) → IsAfter r bs st → st.has_separator ≡ true → AllDigits 10 ds → length ds ≡ 8 → m ≡ st.magnitude * 100000000 + digits_value 10 ds → m ≤ max_magnitude st.exponent_negative → IsAfter r (bs ++ ds) (record st { sign_allowed = false; magnitude = m; has_exponent_digit = true })
 eight_more r st bs ds m a k d eight e l =
-    let scale : 10 ^ length ds ≡ 100000000 = ap (λ i. 10 ^ i) eight in
-    exponent_digits r st bs ds m a k d (omega arith) (rw scale e) l
+    exponent_digits r st bs ds m a k d (omega arith) (rw (ap (λ i. 10 ^ i) eight) e) l
 
 pub max_most : (c : Bool) (m : ℕ) → m ≤ max_magnitude c → m ≤ max_magnitude true
 max_most c m h = omega (arith, most_at_most c)

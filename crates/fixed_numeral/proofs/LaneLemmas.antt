@@ -69,9 +69,6 @@ masked : (k m w v pairs : ℕ) (ds : List ℕ) → w ≡ 2 ^ k → v ≡ 2 ^ (k 
 masked k m w v zero [] p q e s l h =
     let nothing : 0 * m + 0 / w ≡ 0 = omega (arith, zero-div w) in
     rw nothing refl
-masked k m w v zero (a ∷ ds) p q e s l h = absurd (omega arith)
-masked k m w v (suc n) [] p q e s l h = absurd (omega arith)
-masked k m w v (suc n) (a ∷ []) p q e s l h = absurd (omega arith)
 masked k m w v (suc n) (a ∷ b ∷ ds) p q e s l h =
     let t = spread_is m w v a b (number_l w ds) e s h.0 h.1.0 (lead m w a ds h.0 (base_le m w a s h.0) h.1.1) in
     let rest = masked k m w v n ds p q e s (omega arith) h.1.1 in
@@ -85,24 +82,20 @@ masked k m w v (suc n) (a ∷ b ∷ ds) p q e s l h =
     let kept : bit_and low (w - 1) ≡ a * m + b = subst (λ x. bit_and low (x - 1) ≡ low % x) (sym p) (and_mask low k) ∙ t.first in
     let order : (w - 1) + v * mask ≡ mask * v + (w - 1) = omega arith in
     ap (λ x. bit_and x ((w - 1) + v * mask)) t.split ∙ ap (λ y. bit_and (above * v + low) y) order ∙ here ∙ omega (arith, kept, ap (λ x. x * v) rest)
+masked k m w v x y p q e s l h = absurd (omega arith)
 
 -- one multiplication gives the digits times the base and the next place, one place higher
 raised : (k j m w n : ℕ) → w ≡ 2 ^ k → 0 < w → n * (m * w + 1) % 2 ^ (j + k) / w ≡ spread m w n % 2 ^ j
 raised k j m w n p some =
     let rest : n % w < w = omega arith in
-    let parts : n ≡ n / w * w + n % w = omega arith in
     let whole : n * (m * w + 1) ≡ (n * m + n / w) * w + n % w = omega arith in
     let down : n * (m * w + 1) / w ≡ n * m + n / w = ap (λ x. x / w) whole ∙ digits_div (n * m + n / w) rest in
-    let cut : n * (m * w + 1) % 2 ^ (j + k) ≡ (n * (m * w + 1) / w % 2 ^ j) * w + n * (m * w + 1) % w = subst (λ x. n * (m * w + 1) % 2 ^ (j + k) ≡ (n * (m * w + 1) / x % 2 ^ j) * x + n * (m * w + 1) % x) (sym p) (mod-pow-add (n * (m * w + 1)) j k) in
-    let under : n * (m * w + 1) % w < w = omega arith in
-    ap (λ x. x / w) cut ∙ digits_div (n * (m * w + 1) / w % 2 ^ j) under ∙ ap (λ x. x % 2 ^ j) down
+    ap (λ x. x / w) (subst (λ x. n * (m * w + 1) % 2 ^ (j + k) ≡ (n * (m * w + 1) / x % 2 ^ j) * x + n * (m * w + 1) % x) (sym p) (mod-pow-add (n * (m * w + 1)) j k)) ∙ digits_div (n * (m * w + 1) / w % 2 ^ j) (omega arith) ∙ ap (λ x. x % 2 ^ j) down
 
 -- the mask needs no more of the number than it has bits itself
 cut_masked : (j n mask : ℕ) → mask < 2 ^ j → bit_and (n % 2 ^ j) mask ≡ bit_and n mask
 cut_masked j n mask s =
-    let same : mask % 2 ^ j ≡ mask = mod-eq_of_lt s in
-    let small : bit_and n mask % 2 ^ j ≡ bit_and n mask = mod-eq_of_lt (omega (arith, and_le_r n mask)) in
-    sym (sym small ∙ and_mod n mask j ∙ ap (λ x. bit_and (n % 2 ^ j) x) same)
+    sym (sym (mod-eq_of_lt (omega (arith, and_le_r n mask))) ∙ and_mod n mask j ∙ ap (λ x. bit_and (n % 2 ^ j) x) (mod-eq_of_lt s))
 
 paired_below : (m : ℕ) (ds : List ℕ) → AllBelowBase m ds → AllBelowBase (m * m) (paired m ds)
 paired_below m [] h = tt
@@ -124,16 +117,8 @@ small_base m h =
     record { two = omega arith; four = omega arith; eight = omega arith }
 
 eight_paired : (m : ℕ) (ds : List ℕ) → length ds ≡ 8 → (length (paired m ds) ≡ 4) × (length (paired (m * m) (paired m ds)) ≡ 2) × (number_l (2 ^ 64) (paired (m * m * (m * m)) (paired (m * m) (paired m ds))) ≡ number_from_digits m ds)
-eight_paired m [] l = absurd (omega arith)
-eight_paired m (a ∷ []) l = absurd (omega arith)
-eight_paired m (a ∷ b ∷ []) l = absurd (omega arith)
-eight_paired m (a ∷ b ∷ c ∷ []) l = absurd (omega arith)
-eight_paired m (a ∷ b ∷ c ∷ d ∷ []) l = absurd (omega arith)
-eight_paired m (a ∷ b ∷ c ∷ d ∷ f ∷ []) l = absurd (omega arith)
-eight_paired m (a ∷ b ∷ c ∷ d ∷ f ∷ g ∷ []) l = absurd (omega arith)
-eight_paired m (a ∷ b ∷ c ∷ d ∷ f ∷ g ∷ i ∷ []) l = absurd (omega arith)
-eight_paired m (a ∷ b ∷ c ∷ d ∷ f ∷ g ∷ i ∷ j ∷ k ∷ ds) l = absurd (omega arith)
 eight_paired m (a ∷ b ∷ c ∷ d ∷ f ∷ g ∷ i ∷ j ∷ []) l = (refl, refl, omega arith)
+eight_paired m x l = absurd (omega arith)
 
 pub eight_is : (m word : ℕ) (ds : List ℕ) → m ≤ 16 → length ds ≡ 8 → AllBelowBase m ds → word ≡ number_l 256 ds → bit_and (bit_and (word * (m * 256 + 1) % 2 ^ 64 / 256) 0x00ff_00ff_00ff_00ff * (m * m * 65536 + 1) % 2 ^ 64 / 65536) 0x0000_ffff_0000_ffff * (m * m * (m * m) * 2 ^ 32 + 1) % 2 ^ 64 / 2 ^ 32 ≡ number_from_digits m ds
 eight_is m word ds s l h e =
@@ -165,8 +150,7 @@ values_are (b ∷ bs) plain =
     let second : bit_and ((b + 256 * n) / 2 ^ 6) (1 + 256 * high) ≡ bit_and (n / 2 ^ 6) high * 2 ^ 8 + bit_and (n % 64 * 4 + b / 64) 1 = ap (λ x. bit_and x (1 + 256 * high)) down ∙ ap (λ y. bit_and (n / 2 ^ 6 * 2 ^ 8 + (n % 64 * 4 + b / 64)) y) (omega arith) ∙ and_block 8 (n / 2 ^ 6) high (n % 64 * 4 + b / 64) 1 (omega (arith, letter.0)) (omega arith) in
     let kept : bit_and b 15 ≡ b % 16 = and_mask b 4 in
     let one : bit_and (n % 64 * 4 + b / 64) 1 ≡ (n % 64 * 4 + b / 64) % 2 = and_mask (n % 64 * 4 + b / 64) 1 in
-    let odd : (n % 64 * 4 + b / 64) % 2 ≡ b / 64 = omega (arith, letter.0) in
-    rw digits (omega (arith, first, second, kept, one, odd, letter.1, rest))
+    rw digits (omega (arith, first, second, kept, one, letter.1, rest))
   where
     first_plain : (b : ℕ) (bs : List ℕ) → length (digits_in (b ∷ bs)) ≡ length (b ∷ bs) → digit_value b < 16
     first_plain b bs plain = ⊎_elim (λ s. s) (λ (big : 16 ≤ digit_value b). absurd (omega (arith, plain, ap length (other_before b bs big), digits_le bs))) (cases_lt (digit_value b) 16)
@@ -176,16 +160,13 @@ upper_half : (b : ℕ) → bit_and b 240 ≡ b / 16 % 16 * 16
 upper_half b =
     let split : b ≡ b / 16 * 2 ^ 4 + b % 16 = omega arith in
     let block : bit_and (b / 16 * 2 ^ 4 + b % 16) (15 * 2 ^ 4 + 0) ≡ bit_and (b / 16) 15 * 2 ^ 4 + bit_and (b % 16) 0 = and_block 4 (b / 16) 15 (b % 16) 0 (omega arith) (omega arith) in
-    let halves : bit_and b (15 * 2 ^ 4 + 0) ≡ bit_and (b / 16) 15 * 2 ^ 4 + bit_and (b % 16) 0 = ap (λ x. bit_and x (15 * 2 ^ 4 + 0)) split ∙ block in
-    let kept : bit_and (b / 16) 15 ≡ b / 16 % 16 = and_mask (b / 16) 4 in
-    omega (arith, halves, kept, and_le_r (b % 16) 0)
+    omega (arith, ap (λ x. bit_and x (15 * 2 ^ 4 + 0)) split ∙ block, and_mask (b / 16) 4, and_le_r (b % 16) 0)
 
 -- the lowest byte under a mask, and those above it
 lowest : (n mask b : ℕ) → b < 256 → bit_and (n * 256 + b) (240 + 256 * mask) ≡ bit_and n mask * 256 + b / 16 * 16
 lowest n mask b s =
     let order : 240 + 256 * mask ≡ mask * 2 ^ 8 + 240 = omega arith in
-    let block : bit_and (n * 2 ^ 8 + b) (mask * 2 ^ 8 + 240) ≡ bit_and n mask * 2 ^ 8 + bit_and b 240 = and_block 8 n mask b 240 (omega (arith, s)) (omega arith) in
-    rw order (omega (arith, block, upper_half b, s))
+    rw order (omega (arith, (and_block 8 n mask b 240 (omega (arith, s)) (omega arith)), upper_half b, s))
 
 pub decimal_lanes : (bs : List ℕ) → AllBelowBase 256 bs → bit_and (number_l 256 bs) (number_l 256 (replicate (length bs) 240)) ≡ number_l 256 (replicate (length bs) 48) → bit_and (number_l 256 bs + number_l 256 (replicate (length bs) 6)) (number_l 256 (replicate (length bs) 240)) ≡ number_l 256 (replicate (length bs) 48) → AllDigits 10 bs
 decimal_lanes [] h p q = tt
@@ -197,14 +178,12 @@ decimal_lanes (b ∷ bs) h p q =
     let first : bit_and (n * 256 + b) (240 + 256 * mask) ≡ bit_and n mask * 256 + b / 16 * 16 = lowest n mask b h.0 in
     let order : b + 256 * n ≡ n * 256 + b = omega arith in
     let plain : bit_and n mask * 256 + b / 16 * 16 ≡ 48 + 256 * wanted = sym first ∙ ap (λ x. bit_and x (240 + 256 * mask)) (sym order) ∙ p in
-    let half : b / 16 ≡ 3 = omega (arith, plain, h.0) in
-    let rest : bit_and n mask ≡ wanted = omega (arith, plain, half) in
-    let second : bit_and ((n + more) * 256 + (b + 6)) (240 + 256 * mask) ≡ bit_and (n + more) mask * 256 + (b + 6) / 16 * 16 = lowest (n + more) mask (b + 6) (omega (arith, half)) in
+    let rest : bit_and n mask ≡ wanted = omega (arith, plain) in
+    let second : bit_and ((n + more) * 256 + (b + 6)) (240 + 256 * mask) ≡ bit_and (n + more) mask * 256 + (b + 6) / 16 * 16 = lowest (n + more) mask (b + 6) (omega arith) in
     let sum : b + 256 * n + (6 + 256 * more) ≡ (n + more) * 256 + (b + 6) = omega arith in
     let raised : bit_and (n + more) mask * 256 + (b + 6) / 16 * 16 ≡ 48 + 256 * wanted = sym second ∙ ap (λ x. bit_and x (240 + 256 * mask)) (sym sum) ∙ q in
-    let half_more : (b + 6) / 16 ≡ 3 = omega (arith, raised, half) in
-    let rest_more : bit_and (n + more) mask ≡ wanted = omega (arith, raised, half_more) in
-    (near_zero b 10 (omega arith) (omega (arith, half)) (omega (arith, half_more)), decimal_lanes bs h.1 rest rest_more)
+    let rest_more : bit_and (n + more) mask ≡ wanted = omega (arith, raised) in
+    (near_zero b 10 (omega arith) (omega arith) (omega arith), decimal_lanes bs h.1 rest rest_more)
 
 -- the sum of the second test fits, where the first holds
 pub sixes_fit : (word : ℕ) → word < 2 ^ 64 → bit_and word 0xf0f0_f0f0_f0f0_f0f0 ≡ 0x3030_3030_3030_3030 → word + 0x0606_0606_0606_0606 < 2 ^ 64
@@ -213,9 +192,7 @@ sixes_fit word s h =
     let low : ℕ = word % 2 ^ 60 in
     let split : word ≡ high * 2 ^ 60 + low = omega arith in
     let block : bit_and (high * 2 ^ 60 + low) (15 * 2 ^ 60 + 0x00f0_f0f0_f0f0_f0f0) ≡ bit_and high 15 * 2 ^ 60 + bit_and low 0x00f0_f0f0_f0f0_f0f0 = and_block 60 high 15 low 0x00f0_f0f0_f0f0_f0f0 (omega arith) (omega arith) in
-    let whole : bit_and high 15 * 2 ^ 60 + bit_and low 0x00f0_f0f0_f0f0_f0f0 ≡ 0x3030_3030_3030_3030 = sym block ∙ ap (λ x. bit_and x 0xf0f0_f0f0_f0f0_f0f0) (sym split) ∙ h in
-    let kept : bit_and high 15 ≡ high % 16 = and_mask high 4 in
-    omega (arith, whole, kept, and_le_r low 0x00f0_f0f0_f0f0_f0f0, split, s)
+    omega (arith, sym block ∙ ap (λ x. bit_and x 0xf0f0_f0f0_f0f0_f0f0) (sym split) ∙ h, and_mask high 4, and_le_r low 0x00f0_f0f0_f0f0_f0f0, split, s)
 
 pub eight_decimal : (word : ℕ) (bs : List ℕ) → length bs ≡ 8 → AllBelowBase 256 bs → word ≡ number_l 256 bs → bit_and word 0xf0f0_f0f0_f0f0_f0f0 ≡ 0x3030_3030_3030_3030 → bit_and (word + 0x0606_0606_0606_0606) 0xf0f0_f0f0_f0f0_f0f0 ≡ 0x3030_3030_3030_3030 → AllDigits 10 bs
 eight_decimal word bs l h e p q = decimal_lanes bs h (rw l (rw e at p)) (rw l (rw e at q))
@@ -236,40 +213,18 @@ eight_long bs i l = omega (arith, length-take 8 (drop i bs), length-drop i bs)
 
 -- ---- eight digits after others
 pub after_eight : (m n : ℕ) (ds : List ℕ) → length ds ≡ 8 → number_from_digits_after m n ds ≡ n * (m * m * (m * m) * (m * m * (m * m))) + number_from_digits m ds
-after_eight m n [] l = absurd (omega arith)
-after_eight m n (a ∷ []) l = absurd (omega arith)
-after_eight m n (a ∷ b ∷ []) l = absurd (omega arith)
-after_eight m n (a ∷ b ∷ c ∷ []) l = absurd (omega arith)
-after_eight m n (a ∷ b ∷ c ∷ d ∷ []) l = absurd (omega arith)
-after_eight m n (a ∷ b ∷ c ∷ d ∷ f ∷ []) l = absurd (omega arith)
-after_eight m n (a ∷ b ∷ c ∷ d ∷ f ∷ g ∷ []) l = absurd (omega arith)
-after_eight m n (a ∷ b ∷ c ∷ d ∷ f ∷ g ∷ i ∷ []) l = absurd (omega arith)
-after_eight m n (a ∷ b ∷ c ∷ d ∷ f ∷ g ∷ i ∷ j ∷ k ∷ ds) l = absurd (omega arith)
 after_eight m n (a ∷ b ∷ c ∷ d ∷ f ∷ g ∷ i ∷ j ∷ []) l = omega arith
+after_eight m n x l = absurd (omega arith)
 
 -- ---- the first few of eight digits, after zeros
 few : (r a b c d f g i j : ℕ) → 0 < r → r < 8 → AllBelowBase 256 (a ∷ b ∷ c ∷ d ∷ f ∷ g ∷ i ∷ j ∷ []) → number_l 256 (a ∷ b ∷ c ∷ d ∷ f ∷ g ∷ i ∷ j ∷ []) * 2 ^ (64 - 8 * r) % 2 ^ 64 ≡ number_l 256 (zeros (8 - r) ++ take r (a ∷ b ∷ c ∷ d ∷ f ∷ g ∷ i ∷ j ∷ []))
 few zero a b c d f g i j p s h = absurd (omega arith)
-few (suc zero) a b c d f g i j p s h = omega arith
-few (suc (suc zero)) a b c d f g i j p s h = omega arith
-few (suc (suc (suc zero))) a b c d f g i j p s h = omega arith
-few (suc (suc (suc (suc zero)))) a b c d f g i j p s h = omega arith
-few (suc (suc (suc (suc (suc zero))))) a b c d f g i j p s h = omega arith
-few (suc (suc (suc (suc (suc (suc zero)))))) a b c d f g i j p s h = omega arith
-few (suc (suc (suc (suc (suc (suc (suc zero))))))) a b c d f g i j p s h = omega arith
 few (suc (suc (suc (suc (suc (suc (suc (suc r)))))))) a b c d f g i j p s h = absurd (omega arith)
+few x a b c d f g i j p s h = omega arith
 
 pub few_lanes : (r : ℕ) (ds : List ℕ) → 0 < r → r < 8 → length ds ≡ 8 → AllBelowBase 256 ds → number_l 256 ds * 2 ^ (64 - 8 * r) % 2 ^ 64 ≡ number_l 256 (zeros (8 - r) ++ take r ds)
-few_lanes r [] p s l h = absurd (omega arith)
-few_lanes r (a ∷ []) p s l h = absurd (omega arith)
-few_lanes r (a ∷ b ∷ []) p s l h = absurd (omega arith)
-few_lanes r (a ∷ b ∷ c ∷ []) p s l h = absurd (omega arith)
-few_lanes r (a ∷ b ∷ c ∷ d ∷ []) p s l h = absurd (omega arith)
-few_lanes r (a ∷ b ∷ c ∷ d ∷ f ∷ []) p s l h = absurd (omega arith)
-few_lanes r (a ∷ b ∷ c ∷ d ∷ f ∷ g ∷ []) p s l h = absurd (omega arith)
-few_lanes r (a ∷ b ∷ c ∷ d ∷ f ∷ g ∷ i ∷ []) p s l h = absurd (omega arith)
-few_lanes r (a ∷ b ∷ c ∷ d ∷ f ∷ g ∷ i ∷ j ∷ k ∷ ds) p s l h = absurd (omega arith)
 few_lanes r (a ∷ b ∷ c ∷ d ∷ f ∷ g ∷ i ∷ j ∷ []) p s l h = few r a b c d f g i j p s h
+few_lanes r x p s l h = absurd (omega arith)
 
 pub wider : (m n : ℕ) (ds : List ℕ) → m ≤ n → AllBelowBase m ds → AllBelowBase n ds
 wider m n [] s h = tt

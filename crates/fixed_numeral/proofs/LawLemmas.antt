@@ -4,31 +4,25 @@ use Rattle.std.proofs.lemmas.List.{take_at}
 use Rattle.fixed_numeral.specs.declared.radix.Radix.{Radix}
 use Rattle.fixed_numeral.specs.declared.error.ParseErrorKind.{ParseErrorKind}
 use Rattle.fixed_numeral.specs.declared.error.ParseErrorKind.TheVariants.{NoDigits, ExpNoDigits}
-use Rattle.fixed_numeral.specs.Numeral.{Parts, Exponent, HasParts, HasNumeral, IsNumeral, mantissa}
-use Rattle.fixed_numeral.specs.Cause.{IsLongestBeginning, HasCause, is_nil, kind_of}
-use Rattle.fixed_numeral.specs.Literal.{IsLongestLiteral, HasLiteral, IsLiteral, HasLiteralCause, literal_radix, literal_rest, without_underscores}
+use Rattle.fixed_numeral.specs.Numeral.{Parts, Exponent, HasParts, IsNumeral, mantissa}
+use Rattle.fixed_numeral.specs.Cause.{HasCause, is_nil, kind_of}
+use Rattle.fixed_numeral.specs.Literal.{HasLiteral, IsLiteral, HasLiteralCause, literal_radix, literal_rest, without_underscores}
 use Rattle.fixed_numeral.specs.Inner.Scan.{CannotExtend}
 use Rattle.fixed_numeral.proofs.NumeralLemmas.{parts, nothing, step, one_more, parts_unique}
 use Rattle.fixed_numeral.proofs.ScanLemmas.{stuck, stuck_cause, end_cause, nil_length, length_nil}
 use Rattle.fixed_numeral.proofs.LiteralScanLemmas.{no_literal}
 
 -- ---- at most one
-pub one_longest : (r : Radix) (bs : List ℕ) (m n : ℕ) (p q : Parts) → IsLongestBeginning r bs m p → IsLongestBeginning r bs n q → m ≡ n
-one_longest r bs m n p q g h = omega (arith, g.longest n h.within (q, h.beginning), h.longest m g.within (p, g.beginning))
-
 pub one_cause : (r : Radix) (bs : List ℕ) (kind other : ParseErrorKind) → HasCause r bs kind → HasCause r bs other → kind ≡ other
 one_cause r bs kind other g h =
-    let count : g.count ≡ h.count = one_longest r bs g.count h.count g.parts h.parts g.prefix h.prefix in
+    let count : g.count ≡ h.count = omega (arith, g.prefix.longest h.count h.prefix.within (h.parts, h.prefix.beginning), h.prefix.longest g.count g.prefix.within (g.parts, g.prefix.beginning)) in
     let same : g.parts ≡ h.parts = parts_unique r (take h.count bs) g.parts h.parts (rw count at g.prefix.beginning) h.prefix.beginning in
     g.is_kind ∙ rw (count, same) (sym h.is_kind)
-
-one_longest_literal : (r : Radix) (bs : List ℕ) (m n : ℕ) (p q : Parts) → IsLongestLiteral r bs m p → IsLongestLiteral r bs n q → m ≡ n
-one_longest_literal r bs m n p q g h = omega (arith, g.longest n h.within (q, h.beginning), h.longest m g.within (p, g.beginning))
 
 pub one_literal_cause : (s : Bool) (bs : List ℕ) (kind other : ParseErrorKind) → HasLiteralCause s bs kind → (HasLiteralCause s bs other → kind ≡ other) × (IsLiteral s bs → ⊥)
 one_literal_cause s bs kind other g = (
   λ h.
-      let count : g.count ≡ h.count = one_longest_literal (literal_radix s bs) (literal_rest s bs) g.count h.count g.parts h.parts g.prefix h.prefix in
+      let count : g.count ≡ h.count = omega (arith, g.prefix.longest h.count h.prefix.within (h.parts, h.prefix.beginning), h.prefix.longest g.count g.prefix.within (g.parts, g.prefix.beginning)) in
       let same : g.parts ≡ h.parts = parts_unique (literal_radix s bs) (without_underscores (take h.count (literal_rest s bs))) g.parts h.parts (rw count at g.prefix.beginning.beginning) h.prefix.beginning.beginning in
       g.is_kind ∙ rw (count, same) (sym h.is_kind),
   no_literal s bs kind g,
@@ -45,14 +39,12 @@ missing_mantissa : (r : Radix) (bs : List ℕ) (p : Parts) → HasParts r bs p �
 missing_mantissa r bs p h e (q, g) =
     let same = parts_unique r bs q p g.beginning h in
     let some = nil_length (mantissa q) g.mantissa in
-    let off : is_nil (mantissa q) ≡ true = rw same e in
     cc
 
 missing_exponent : (r : Radix) (bs : List ℕ) (s : Option ℕ) (w : List ℕ) (f : Option (List ℕ)) (y : Exponent) → HasParts r bs (parts s w f (Some y)) → is_nil y.digits ≡ true → IsNumeral r bs → ⊥
 missing_exponent r bs s w f y h e (q, g) =
     let same = parts_unique r bs q (parts s w f (Some y)) g.beginning h in
-    let here : HasNumeral r bs (parts s w f (Some y)) = rw same at g in
-    let some = nil_length y.digits here.exponent in
+    let some = nil_length y.digits (rw same at g).exponent in
     cc
 
 by_exponent : (r : Radix) (bs : List ℕ) (s : Option ℕ) (w : List ℕ) (f : Option (List ℕ)) (x : Option Exponent) → HasParts r bs (parts s w f x) → is_nil (mantissa (parts s w f x)) ≡ false → IsNumeral r bs ⊎ ((kind : ParseErrorKind) × HasCause r bs kind)
@@ -74,10 +66,8 @@ at_byte : (r : Radix) (xs : List ℕ) (y : ℕ) (ys : List ℕ) (p : Parts) → 
 at_byte r xs y ys p h e =
     let initial : take (length xs) (xs ++ y ∷ ys) ≡ xs = take_at xs (y ∷ ys) (length xs) refl in
     let there : get_or (xs ++ y ∷ ys) (length xs) 0 ≡ y = byte_at xs in
-    let h' : HasParts r (take (length xs) (xs ++ y ∷ ys)) p = rw initial h in
     let none : CannotExtend r xs p y (kind_of r p (Some y)) = record { none = stuck r xs p y h e; is_kind = refl } in
-    let none' : CannotExtend r (take (length xs) (xs ++ y ∷ ys)) p (get_or (xs ++ y ∷ ys) (length xs) 0) (kind_of r p (Some y)) = rw (initial, there) none in
-    stuck_cause r (xs ++ y ∷ ys) (length xs) p (kind_of r p (Some y)) (omega (arith, length-append xs (y ∷ ys))) h' none'
+    stuck_cause r (xs ++ y ∷ ys) (length xs) p (kind_of r p (Some y)) (omega (arith, length-append xs (y ∷ ys))) (rw initial h) (rw (initial, there) none)
   where
     byte_at : (xs : List ℕ) → get_or (xs ++ y ∷ ys) (length xs) 0 ≡ y
     byte_at [] = refl

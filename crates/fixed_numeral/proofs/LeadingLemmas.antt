@@ -23,9 +23,6 @@ pub record IsWalked (r : Radix) (bs : List ℕ) (at last : ℕ) (st : State) (ol
   pub read : IsRead r bs at st old new
   pub is_last : IsLast r bs at last
 
-pub nothing_passed : (r : Radix) (bs : List ℕ) → IsLast r bs 0 0
-nothing_passed r bs = record { within = omega arith; some = λ l. absurd (omega arith); longest = λ m l h. l }
-
 complete : (r : Radix) (bs : List ℕ) (st : State) → IsAfter r bs st → IsComplete st → IsNumeral r bs
 complete r bs st a c = (a.parts, has_numeral r bs st a c.digits c.exponent)
 
@@ -55,8 +52,7 @@ pub stuck_past : (r : Radix) (bs : List ℕ) (n : ℕ) (p : Parts) (kind : Parse
 stuck_past r bs n p kind l g m lm h = ⊎_elim (λ (k : n < m). absurd (
     let same : take n (take m bs) ≡ take n bs = take-take n m bs (omega arith) in
     let byte : get_or (take m bs) n 0 ≡ get_or bs n 0 = get_or-take m bs n 0 k in
-    let g' : CannotExtend r (take n (take m bs)) p (get_or (take m bs) n 0) kind = rw (same, byte) g in
-    stuck_no_numeral r (take m bs) n p kind (omega (arith, length-take m bs)) g' h)) (λ (k : m ≤ n). k) (cases_lt n m)
+    stuck_no_numeral r (take m bs) n p kind (omega (arith, length-take m bs)) (rw (same, byte) g) h)) (λ (k : m ≤ n). k) (cases_lt n m)
 
 -- the end of a walk at which something is missing or a byte offends
 pub ended : (r : Radix) (bs : List ℕ) (at last : ℕ) (kind : ParseErrorKind) (result : Result ℕ ParseErrorKind) → IsLast r bs at last → at ≤ length bs
@@ -72,10 +68,6 @@ ended r bs at last kind (Err k) g l past why (z, e) = (
   λ m lm h. none_at_zero r bs m (omega (arith, g.longest m (past m lm h) h, z)) h,
   rw e why,
 )
-
--- the end of a text at which nothing is missing
-pub all_leading : (r : Radix) (bs : List ℕ) (at : ℕ) (st : State) → at ≡ length bs → IsAfter r (take at bs) st → IsComplete st → IsLeadingNumeral r bs at
-all_leading r bs at st e a c = record { within = omega arith; numeral = complete r (take at bs) st a c; longest = λ m l h. omega arith }
 
 -- why a text to whose end something is missing is no numeral
 pub missing_cause : (r : Radix) (bs : List ℕ) (at : ℕ) (st : State) (kind : ParseErrorKind) → at ≡ length bs → IsAfter r (take at bs) st → IsIncomplete st kind → HasCause r bs kind

@@ -17,9 +17,7 @@ without_same (b ∷ bs) = by_test (b == underscore) refl (without_same bs)
   where
     by_test : (c : Bool) → (b == underscore) ≡ c → digits_in (without_underscores bs) ≡ digits_in bs → digits_in (cond c (without_underscores bs) (b ∷ without_underscores bs)) ≡ digits_in (b ∷ bs)
     by_test true e h =
-        let is : b ≡ 95 = eqb-true b 95 e in
-        let passed : digits_in (95 ∷ bs) ≡ digits_in bs = other_before 95 bs (omega arith) in
-        h ∙ sym passed ∙ ap (λ x. digits_in (x ∷ bs)) (sym is)
+        h ∙ sym (other_before 95 bs (omega arith)) ∙ ap (λ x. digits_in (x ∷ bs)) (sym (eqb-true b 95 e))
     by_test false e h = same_prefix b (without_underscores bs) bs h
 
 point_passed : (f : Option (List ℕ)) → digits_in (fraction_text f) ≡ digits_in (fractional_digits f)

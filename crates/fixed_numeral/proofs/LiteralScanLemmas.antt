@@ -1,8 +1,7 @@
 -- One byte more of a literal.
-use Rattle.std.proofs.Common.{◌≡◌, ℕ, ◌+◌, ◌<◌, ◌≤◌, ◌⊎◌, Bool, true, false, cond, not, ◌&&◌, ◌==◌, List, [], ◌∷◌, ◌++◌, length, take, drop, get_or, Option, Some, None, IfSome, IsTrue, is_some, refl, sym, ap, subst, ◌∙◌, inl, inr, ⊎_elim, arith, append-nil, take-append-drop, length-take}
-use Rattle.std.proofs.lemmas.List.{take_more, take-take, take_all}
+use Rattle.std.proofs.Common.{◌≡◌, ℕ, ◌+◌, ◌<◌, ◌≤◌, ◌⊎◌, Bool, true, false, cond, not, ◌&&◌, ◌==◌, List, [], ◌∷◌, ◌++◌, length, take, drop, get_or, Option, Some, None, IfSome, IsTrue, refl, sym, ap, subst, ◌∙◌, inl, inr, ⊎_elim, arith, append-nil, length-take}
+use Rattle.std.proofs.lemmas.List.{take_more, take_all}
 use Rattle.std.specs.Prelude.{Result, Ok, Err, MatchResult}
-use Rattle.std.proofs.lemmas.Bool.{cases_lt}
 use Rattle.std.proofs.lemmas.Option.{slice_get-get_or}
 use Rattle.fixed_numeral.specs.declared.radix.Radix.{Radix}
 use Rattle.fixed_numeral.specs.declared.error.ParseErrorKind.{ParseErrorKind}
@@ -16,7 +15,7 @@ use Rattle.fixed_numeral.specs.Literal.{underscore, without_underscores, begins_
 use Rattle.fixed_numeral.specs.Digits.{digits_in}
 use Rattle.fixed_numeral.proofs.MagnitudeLemmas.{whole_count, after_count}
 use Rattle.fixed_numeral.proofs.LiteralLemmas.{literal_whole, literal_fraction}
-use Rattle.fixed_numeral.proofs.ScanLemmas.{whole_fits, has_numeral, slice_get_past, incomplete_cause, kind_at_end}
+use Rattle.fixed_numeral.proofs.ScanLemmas.{prefix_stuck, whole_fits, has_numeral, slice_get_past, incomplete_cause, kind_at_end}
 use Rattle.fixed_numeral.specs.Inner.LiteralScan.{LiteralExtends, LiteralCannotExtend, IsLiteralAfter}
 
 some_inside : (xs ys : List ℕ) (c : ℕ) → [] ≡ xs ++ c ∷ ys → ⊥
@@ -30,7 +29,6 @@ push_cases [] (x ∷ xs) ys b c e = let k : [] ≡ xs ++ c ∷ ys = cc in absurd
 push_cases (a ∷ bs) [] ys b c e = let k : a ≡ c = cc in inr (bs, ap (λ x. x ∷ bs) k)
 push_cases (a ∷ bs) (x ∷ xs) ys b c e =
     let k : bs ++ b ∷ [] ≡ xs ++ c ∷ ys = cc in
-    let h : a ≡ x = cc in
     ⊎_elim (λ (t : (bs ≡ xs) × (b ≡ c)). let t0 = t.0 in let s : a ∷ bs ≡ x ∷ xs = cc in inl (s, t.1)) (λ (t : (zs : List ℕ) × (bs ≡ xs ++ c ∷ zs)). let t1 = t.1 in let s : a ∷ bs ≡ x ∷ (xs ++ c ∷ t.0) = cc in inr (t.0, s)) (push_cases bs xs ys b c k)
 
 cond_prefix : (c : Bool) (x : ℕ) (xs ys : List ℕ) → cond c xs (x ∷ xs) ++ ys ≡ cond c (xs ++ ys) (x ∷ (xs ++ ys))
@@ -125,27 +123,15 @@ literal_prefix r xs ys (q, h) =
       },
     )
 
-prefix_stuck : (r : Radix) (bs : List ℕ) (n : ℕ) → n < length bs → (IsLiteralBeginning r (take n bs ++ get_or bs n 0 ∷ []) → ⊥) → (m : ℕ) → IsLiteralBeginning r (take m bs) → m ≤ n
-prefix_stuck r bs n l refuses m h = ⊎_elim (λ more. absurd (refuses (
-    let cut : take (n + 1) (take m bs) ++ drop (n + 1) (take m bs) ≡ take m bs = take-append-drop (n + 1) (take m bs) in
-    let first : take (n + 1) (take m bs) ≡ take (n + 1) bs = take-take (n + 1) m bs (omega arith) in
-    let initial : IsLiteralBeginning r (take (n + 1) (take m bs)) = literal_prefix r (take (n + 1) (take m bs)) (drop (n + 1) (take m bs)) (rw cut h) in
-    rw (first, take_more bs n 0 l) at initial))) (λ less. less) (cases_lt n m)
-
 -- nothing was read, or something was
 prefix_nil : (r : Radix) (ws : List ℕ) (st : State) (s : Option ℕ) (w : List ℕ) (f : Option (List ℕ)) (x : Option Exponent) → HasParts r ws (parts s w f x) → Agrees r st (parts s w f x) → st.sign_allowed ≡ true → st.has_separator ≡ false → ws ≡ []
 prefix_nil r ws st s w f (Some e) h a t k = let clash = a.separator in absurd (cc)
-prefix_nil r ws st (Some c) w f None h a t k = let clash = a.fresh in absurd (cc)
-prefix_nil r ws st None (y ∷ w) f None h a t k = let clash = a.fresh in absurd (cc)
-prefix_nil r ws st None [] (Some ds) None h a t k = let clash = a.fresh in absurd (cc)
 prefix_nil r ws st None [] None None h a t k = h.text
+prefix_nil r ws st s w f None h a t k = let clash = a.fresh in absurd (cc)
 
 rest_of_prefix : (r : Radix) (ws : List ℕ) (st : State) (s : Option ℕ) (w : List ℕ) (f : Option (List ℕ)) (x : Option Exponent) → HasParts r ws (parts s w f x) → Agrees r st (parts s w f x) → (st.sign_allowed ≡ false) ⊎ (st.has_separator ≡ true) → 0 < length ws
-rest_of_prefix r ws st (Some c) w f x h a k = omega (arith, ap length h.text)
-rest_of_prefix r ws st None (y ∷ w) f x h a k = omega (arith, ap length h.text)
-rest_of_prefix r ws st None [] (Some ds) x h a k = omega (arith, ap length h.text)
-rest_of_prefix r ws st None [] None (Some e) h a k = omega (arith, ap length h.text)
 rest_of_prefix r ws st None [] None None h a k = ⊎_elim (λ t. let clash = a.fresh in absurd (cc)) (λ t. let clash = a.separator in absurd (cc)) k
+rest_of_prefix r ws st x w f y h a k = omega (arith, ap length h.text)
 
 not_leading : (x y z : Bool) → (x && (y && not z)) ≡ false → (x ≡ false) ⊎ ((y ≡ false) ⊎ (z ≡ true))
 not_leading false y z e = inl refl
@@ -155,27 +141,22 @@ not_leading true true false e = absurd (cc)
 
 leading : (x y z : Bool) → (x && (y && not z)) ≡ true → (x ≡ true) × (y ≡ true) × (z ≡ false)
 leading true true false e = (refl, refl, refl)
-leading true true true e = absurd (cc)
-leading true false z e = absurd (cc)
-leading false y z e = absurd (cc)
+leading x y z e = absurd (cc)
 
 pub sign_in_prefix : (r : Radix) (bs : List ℕ) (p : Parts) (st : State) (b : ℕ) → HasLiteralParts r bs p → Agrees r st p → (b == underscore) ≡ false → (is_sign b && (st.sign_allowed && not st.has_separator)) ≡ true → LiteralCannotExtend r bs p b MisplacedSign
 sign_in_prefix r bs p st b h a e l =
     let t = leading (is_sign b) st.sign_allowed st.has_separator l in
     let sign : is_sign b ≡ true = t.0 in
     let none : without_underscores bs ≡ [] = prefix_nil r (without_underscores bs) st p.sign p.whole p.fraction p.exponent h.beginning a t.1 t.2 in
-    let same : without_underscores (bs ++ b ∷ []) ≡ b ∷ [] = push_other bs b e ∙ ap (λ ws. ws ++ b ∷ []) none in
-    let off : is_some p.exponent ≡ false = sym a.separator ∙ t.2 in
     record {
-      none = λ (q, g). let u : is_sign b ≡ false = rw same at g.unsigned in cc;
-      is_kind = rw (e, off, sign) refl;
+      none = λ (q, g). let u : is_sign b ≡ false = rw (push_other bs b e ∙ ap (λ ws. ws ++ b ∷ []) none) at g.unsigned in cc;
+      is_kind = rw (e, sym a.separator ∙ t.2, sign) refl;
     }
 
 step_goes_on : (r : Radix) (bs : List ℕ) (p : Parts) (st next : State) (b : ℕ) → HasLiteralParts r bs p → Agrees r st p → (b ≡ underscore → ⊥) → (b == underscore) ≡ false → (is_sign b && (st.sign_allowed && not st.has_separator)) ≡ false → Extends r (without_underscores bs) b next → LiteralExtends r bs b next
 step_goes_on r bs p st next b h a ne e l g =
     let t = not_leading (is_sign b) st.sign_allowed st.has_separator l in
-    let k : (is_sign b ≡ false) ⊎ (0 < length (without_underscores bs)) = ⊎_elim (λ s. inl s) (λ s. inr (rest_of_prefix r (without_underscores bs) st p.sign p.whole p.fraction p.exponent h.beginning a s)) t in
-    other_goes_on r bs p b next h ne e k g
+    other_goes_on r bs p b next h ne e (⊎_elim (λ s. inl s) (λ s. inr (rest_of_prefix r (without_underscores bs) st p.sign p.whole p.fraction p.exponent h.beginning a s)) t) g
 
 -- ---- the whole rest
 pub literal_nothing : (r : Radix) (st : State) → ((r' : Radix) → IsAfter r' [] st) → IsLiteralAfter r [] st
@@ -184,7 +165,7 @@ literal_nothing r st start =
     record { parts = a.parts; beginning = record { beginning = a.beginning; unsigned = refl; underscores = λ xs ys e q g. absurd (some_inside xs ys underscore e) }; agrees = a.agrees; room = a.room }
 
 pub literal_more : (r : Radix) (bs : List ℕ) (i : ℕ) (st : State) → i < length bs → LiteralExtends r (take i bs) (get_or bs i 0) st → IsLiteralAfter r (take (i + 1) bs) st
-literal_more r bs i st l g = record { parts = g.parts; beginning = rw (take_more bs i 0 l) g.beginning; agrees = g.agrees; room = g.room }
+literal_more r bs i st l g = rw (take_more bs i 0 l) g
 
 pub literal_all : (r : Radix) (bs : List ℕ) (i : ℕ) (st : State) → length bs ≤ i → IsLiteralAfter r (take i bs) st → IsLiteralAfter r bs st
 literal_all r bs i st l a = rw (take_all i bs l) at a
@@ -209,11 +190,10 @@ literal_fits_at r bs i st l a = omega (arith, literal_fits r (take i bs) st a, l
 pub stuck_rest : (r : Radix) (bs : List ℕ) (n : ℕ) (p : Parts) (kind : ParseErrorKind) → n < length bs → HasLiteralParts r (take n bs) p → LiteralCannotExtend r (take n bs) p (get_or bs n 0) kind → HasRestCause r bs kind
 stuck_rest r bs n p kind l h g = record {
   none = λ q k.
-      let all : IsLiteralBeginning r (take (length bs) bs) = (q, rw (take_all (length bs) bs (omega arith)) k.literal) in
-      omega (arith, prefix_stuck r bs n l g.none (length bs) all);
+      omega (arith, prefix_stuck (IsLiteralBeginning r) (literal_prefix r) bs n l g.none (length bs) (q, rw (take_all (length bs) bs (omega arith)) k.literal));
   count = n;
   parts = p;
-  prefix = record { within = omega arith; beginning = h; longest = λ m ml b. prefix_stuck r bs n l g.none m b };
+  prefix = record { within = omega arith; beginning = h; longest = λ m ml b. prefix_stuck (IsLiteralBeginning r) (literal_prefix r) bs n l g.none m b };
   is_kind = rw (slice_get-get_or bs n 0 l) g.is_kind;
 }
 
@@ -238,8 +218,6 @@ has_rest r bs st a k = record { literal = a.beginning; numeral = has_numeral r (
 no_sign : (r : Radix) (ws : List ℕ) (s : Option ℕ) (w : List ℕ) (f : Option (List ℕ)) (x : Option Exponent) → HasParts r ws (parts s w f x) → begins_signed ws ≡ false → s ≡ None
 no_sign r ws None w f x h u = refl
 no_sign r ws (Some c) w f x h u =
-    let k : is_sign c ≡ false = rw h.text at u in
-    let t : is_sign c ≡ true = h.parts.sign in
     absurd (cc)
 
 pub unsigned_parts : (r : Radix) (bs : List ℕ) (st : State) (a : IsLiteralAfter r bs st) → a.parts.sign ≡ None

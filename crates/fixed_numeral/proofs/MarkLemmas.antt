@@ -80,6 +80,5 @@ clear_digits b marks from n bs h f l late within few =
     let small : marks / 2 ^ place < 2 ^ 64 = omega (arith, f, div-le_self marks (2 ^ place)) in
     digits_by_place b (drop from bs) n (omega (arith, length-drop from bs))
     (λ k m. let clear : bit_at marks (place + k) ≡ 0 = sym (moved marks place k) ∙ clear_below (marks / 2 ^ place) small k (omega (arith, m, few)) in
-    let there : length bs - 16 + (place + k) ≡ from + k = omega (arith, l, late) in
     let digit = h.digit (place + k) (omega (arith, m, within, l, late)) clear in
-    rw (get_or-drop from bs k 0) (subst (λ i. digit_value (get_or bs i 0) < b) there digit))
+    rw (get_or-drop from bs k 0) (subst (λ i. digit_value (get_or bs i 0) < b) (omega (arith, l, late)) digit))

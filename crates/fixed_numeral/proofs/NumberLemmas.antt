@@ -19,17 +19,15 @@ power_more n b i p e = let s : b ^ (i + 1) ≡ b ^ i * b = rw add-one (pow-suc b
 
 pub power_fits : (n b i count p : ℕ) → p ≡ n * b ^ i → 2 ≤ b → i < count → (n + 1) * b ^ count ≤ 2 ^ 64 → p * b < 2 ^ 64
 power_fits n b i count p e two l room =
-    let le : b ^ (i + 1) ≤ b ^ count = pow-le-pow_right (omega arith) (omega arith) in
     let one : b ^ 0 ≤ b ^ count = pow-le-pow_right (omega arith) (omega arith) in
-    let product : b ^ (i + 1) * n ≤ b ^ count * n = mul-le-mul_right n le in
+    let product : b ^ (i + 1) * n ≤ b ^ count * n = mul-le-mul_right n (pow-le-pow_right (omega arith) (omega arith)) in
     omega (arith, power_more n b i p e, pow-zero b)
 
 -- ---- two pieces, and the zeros after them
 view_below : (b before : ℕ) (l r : List ℕ) (after : ℕ) → AllBelowBase b (between_zeros before l r after) → AllBelowBase b l × AllBelowBase b r
 unfolding between_zeros
 view_below b before l r after h =
-    let inner = (below_parts b (zeros before) (l ++ (r ++ zeros after)) h).1 in
-    let two = below_parts b l (r ++ zeros after) inner in
+    let two = below_parts b l (r ++ zeros after) ((below_parts b (zeros before) (l ++ (r ++ zeros after)) h).1) in
     (two.0, (below_parts b r (zeros after) two.1).0)
 
 left_room : (b before : ℕ) (l r : List ℕ) (after : ℕ) → 2 ≤ b → b ^ length (between_zeros before l r after) ≤ 2 ^ 64 → (0 + 1) * b ^ length l ≤ 2 ^ 64
@@ -60,8 +58,7 @@ view_number : (b before : ℕ) (l r : List ℕ) (after : ℕ) → number_from_di
 unfolding between_zeros
 view_number b before l r after =
     let prefix : number_from_digits b (zeros before ++ (l ++ (r ++ zeros after))) ≡ number_from_digits b (l ++ (r ++ zeros after)) = number_append b (zeros before) (l ++ (r ++ zeros after)) ∙ omega (arith, ap (λ i. i * b ^ length (l ++ (r ++ zeros after))) (number_zeros b before)) in
-    let end : number_from_digits b ((l ++ r) ++ zeros after) ≡ number_from_digits b (l ++ r) * b ^ after = number_append b (l ++ r) (zeros after) ∙ omega (arith, number_zeros b after, ap (λ i. number_from_digits b (l ++ r) * b ^ i) (length-replicate {A = ℕ} after 0)) in
-    rw (both b l r) (sym (prefix ∙ ap (number_from_digits b) (sym (append_assoc l r (zeros after))) ∙ end))
+    rw (both b l r) (sym (prefix ∙ ap (number_from_digits b) (sym (append_assoc l r (zeros after))) ∙ (number_append b (l ++ r) (zeros after) ∙ omega (arith, number_zeros b after, ap (λ i. number_from_digits b (l ++ r) * b ^ i) (length-replicate {A = ℕ} after 0)))))
 
 -- ---- the first digits of a view
 pub first_room : (b count n : ℕ) (ds prefix : List ℕ) → 2 ≤ b → b ^ count ≤ 2 ^ 64 → n ≡ min count (length ds) → prefix ≡ take n ds → b ^ length prefix ≤ 2 ^ 64
@@ -71,8 +68,7 @@ first_room b count n ds prefix two room e f =
 
 pub first_below : (b count n : ℕ) (ds prefix : List ℕ) (number : ℕ) → 2 ≤ b → AllBelowBase b ds → n ≡ min count (length ds) → prefix ≡ take n ds → number ≡ number_from_digits b prefix → number < b ^ count
 first_below b count n ds prefix number two below e f g =
-    let here : AllBelowBase b prefix = rw f (below_split b ds n below).0 in
-    let small : number < b ^ length prefix = rw g (number_lt b prefix here) in
+    let small : number < b ^ length prefix = rw g (number_lt b prefix (rw f (below_split b ds n below).0)) in
     let le : b ^ length prefix ≤ b ^ count = pow-le-pow_right (omega arith) (omega (arith, ap length f, length-take n ds)) in
     omega arith
 
@@ -100,3 +96,6 @@ after_fits b before l r after v n m e two h room g k = rw (k, g) (after_room b b
 
 pub number_is : (b before : ℕ) (l r : List ℕ) (after : ℕ) (v : List ℕ) (n m p : ℕ) → between_zeros before l r after ≡ v → n ≡ number_from_digits b l → m ≡ number_from_digits_after b n r → p ≡ m * b ^ after → p ≡ number_from_digits b v
 number_is b before l r after v n m p e g k q = rw (q, k, g) (view_number b before l r after ∙ ap (number_from_digits b) e)
+
+-- a power, factor by factor
+pub ruleset powers = (power_none, power_more, power_fits)

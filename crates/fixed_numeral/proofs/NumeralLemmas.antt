@@ -91,15 +91,11 @@ record IsPlainSign (r : Radix) (b : ℕ) : Type 0 where
 
 plain_sign : (r : Radix) (b : ℕ) → IsTrue (is_sign b) → IsPlainSign r b
 plain_sign Bin b h = at_bytes (IsPlainSign Bin) b 43 45 h (record { no_digit = refl; no_separator = refl; no_point = refl }) (record { no_digit = refl; no_separator = refl; no_point = refl })
-plain_sign Oct b h = at_bytes (IsPlainSign Oct) b 43 45 h (record { no_digit = refl; no_separator = refl; no_point = refl }) (record { no_digit = refl; no_separator = refl; no_point = refl })
-plain_sign Dec b h = at_bytes (IsPlainSign Dec) b 43 45 h (record { no_digit = refl; no_separator = refl; no_point = refl }) (record { no_digit = refl; no_separator = refl; no_point = refl })
-plain_sign Hex b h = at_bytes (IsPlainSign Hex) b 43 45 h (record { no_digit = refl; no_separator = refl; no_point = refl }) (record { no_digit = refl; no_separator = refl; no_point = refl })
+plain_sign r b h = at_bytes (IsPlainSign r) b 43 45 h (record { no_digit = refl; no_separator = refl; no_point = refl }) (record { no_digit = refl; no_separator = refl; no_point = refl })
 
 point_is_none : (r : Radix) → (is_digit r point ≡ false) × (is_separator r point ≡ false)
 point_is_none Bin = (refl, refl)
-point_is_none Oct = (refl, refl)
-point_is_none Dec = (refl, refl)
-point_is_none Hex = (refl, refl)
+point_is_none r = (refl, refl)
 
 digit_true : (r : Radix) (d : ℕ) → digit_value d < base r → is_digit r d ≡ true
 digit_true r d h = lt-ltb _ _ h
@@ -152,8 +148,7 @@ in_range_from_fits t n h = by_sign (is_minus t) h
 run_opened : (r : Radix) (s : Option ℕ) (w : List ℕ) (f : Option (List ℕ)) (k : ℕ) (t : Option ℕ) (ds : List ℕ) → IfSome t (λ b. IsTrue (is_sign b)) → AllDigits 10 ds → is_in_range t (digits_value 10 ds) ≡ true → run r (parts s w f (Some (exponent k None []))) (option_to_list t ++ ds) ≡ Some (parts s w f (Some (exponent k t ds)))
 run_opened r s w f k None ds z h i = run_exponent r s w f k None [] ds h i
 run_opened r s w f k (Some b) ds z h i =
-    let plain = (plain_sign Dec b z).no_digit in
-    rw (plain, z) (run_exponent r s w f k (Some b) [] ds h i)
+    rw ((plain_sign Dec b z).no_digit, z) (run_exponent r s w f k (Some b) [] ds h i)
 
 run_end : (r : Radix) (s : Option ℕ) (w : List ℕ) (f : Option (List ℕ)) (x : Option Exponent) → IfSome x (IsExponentOf r) → run r (parts s w f None) (exponent_text x) ≡ Some (parts s w f x)
 run_end r s w f None h = refl
@@ -197,9 +192,7 @@ pub step_from_longer : (r : Radix) (bs : List ℕ) (b : ℕ) (p q : Parts) → H
 step_from_longer r bs b p q g h =
     let a : run r nothing bs ≡ Some p = rw g.text (run_text r p g.parts) in
     let c : run r nothing (bs ++ b ∷ []) ≡ Some q = rw h.text (run_text r q h.parts) in
-    let e = run_append r nothing bs (b ∷ []) in
-    let f : option_and_then (λ q'. run r q' (b ∷ [])) (run r nothing bs) ≡ step r p b = rw a (and_then_some (step r p b)) in
-    sym f ∙ sym e ∙ c
+    sym (rw a (and_then_some (step r p b))) ∙ sym (run_append r nothing bs (b ∷ [])) ∙ c
 
 -- ---- one byte more
 
@@ -220,10 +213,9 @@ more_fraction r bs s w f b d h = record {
 
 pub more_point : (r : Radix) (bs : List ℕ) (s : Option ℕ) (w : List ℕ) (b : ℕ) → (b == point) ≡ true → HasParts r bs (parts s w None None) → HasParts r (bs ++ b ∷ []) (parts s w (Some []) None)
 more_point r bs s w b d h =
-    let e = eqb-true b point d in
     record {
       parts = record { sign = h.parts.sign; whole = h.parts.whole; fraction = tt; exponent = tt };
-      text = rw (h.text, e) (simp (append_assoc, append-nil));
+      text = rw (h.text, (eqb-true b point d)) (simp (append_assoc, append-nil));
     }
 
 pub more_separator : (r : Radix) (bs : List ℕ) (s : Option ℕ) (w : List ℕ) (f : Option (List ℕ)) (b : ℕ) → is_separator r b ≡ true → HasParts r bs (parts s w f None) → HasParts r (bs ++ b ∷ []) (parts s w f (Some (exponent b None [])))
@@ -294,8 +286,7 @@ and_true false y h = absurd (cc)
 
 pub only_nothing : (r : Radix) (bs : List ℕ) (s : Option ℕ) (w : List ℕ) → (is_none s && is_nil w) ≡ true → HasParts r bs (parts s w None None) → bs ≡ []
 only_nothing r bs None [] t h = h.text
-only_nothing r bs None (x ∷ w) t h = absurd (cc)
-only_nothing r bs (Some b) w t h = absurd (cc)
+only_nothing r bs x w t h = absurd (cc)
 
 one_more_end : (r : Radix) (bs : List ℕ) (s : Option ℕ) (w : List ℕ) (f : Option (List ℕ)) (k : ℕ) (t : Option ℕ) (ds : List ℕ) (b : ℕ) (q : Parts) → HasParts r bs (parts s w f (Some (exponent k t ds))) → step_exponent s w f k t ds b ≡ Some q → HasParts r (bs ++ b ∷ []) q
 one_more_end r bs s w f k t ds b q h e = taken (is_digit Dec b) _ _ q e
@@ -343,14 +334,12 @@ run_sound : (r : Radix) (bs ys : List ℕ) (p q : Parts) → HasParts r bs p →
 run_sound r bs [] p q h e = rw (append-nil bs) (same_parts r bs p q e h)
 run_sound r bs (y ∷ ys) p q h e =
     let (m, s, e') = more_taken r p y ys q e in
-    let next = run_sound r (bs ++ y ∷ []) ys m q (one_more r bs y p m h s) e' in
-    rw (append_assoc bs (y ∷ []) ys) at next
+    rw (append_assoc bs (y ∷ []) ys) at (run_sound r (bs ++ y ∷ []) ys m q (one_more r bs y p m h s) e')
 
 -- each prefix of a beginning is a beginning
 pub beginning_prefix : (r : Radix) (xs ys : List ℕ) → IsBeginning r (xs ++ ys) → IsBeginning r xs
 beginning_prefix r xs ys (q, h) =
-    let c : run r nothing (xs ++ ys) ≡ Some q = rw h.text (run_text r q h.parts) in
-    by_run (run r nothing xs) refl (sym (run_append r nothing xs ys) ∙ c)
+    by_run (run r nothing xs) refl (sym (run_append r nothing xs ys) ∙ (rw h.text (run_text r q h.parts)))
   where
     by_run : (o : Option Parts) → run r nothing xs ≡ o → option_and_then (λ m. run r m ys) o ≡ Some q → IsBeginning r xs
     by_run None s e = none_taken q e

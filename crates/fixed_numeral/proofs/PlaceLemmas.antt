@@ -67,8 +67,7 @@ pub trailing_zeros_before : (core : List ℕ) (k : ℕ) → 0 < length core → 
 trailing_zeros_before core k l n =
     let p = pushed core l in
     λ xs e. let same : (zeros k ++ p.prefix) ++ p.last ∷ [] ≡ xs ++ 0 ∷ [] = append_assoc (zeros k) p.prefix (p.last ∷ []) ∙ sym (ap (λ ys. zeros k ++ ys) p.is) ∙ e in
-    let z = (same_from_push (zeros k ++ p.prefix) xs p.last 0 same).1 in
-    n p.prefix (p.is ∙ ap (λ d. p.prefix ++ d ∷ []) z)
+    n p.prefix (p.is ∙ ap (λ d. p.prefix ++ d ∷ []) ((same_from_push (zeros k ++ p.prefix) xs p.last 0 same).1))
 
 -- ---- numbers
 pub zeros_prefix : (b k : ℕ) (ds : List ℕ) → number_from_digits b (zeros k ++ ds) ≡ number_from_digits b ds
@@ -89,8 +88,7 @@ trimmed_length ds core k j t = ap length t.split ∙ simp (length-append, length
 
 same_moved : (b n m s d u f e j : ℕ) → m ≡ n * b ^ j → s ≡ n * b ^ e → d + e ≡ j + u + f → s * 2 ^ 0 * b ^ d ≡ m * b ^ u * b ^ f
 same_moved b n m s d u f e j hm hs h =
-    let p : b ^ d * b ^ e ≡ b ^ j * b ^ u * b ^ f = sym (pow-add b d e) ∙ ap (λ i. b ^ i) h ∙ pow-add b (j + u) f ∙ ap (λ x. x * b ^ f) (pow-add b j u) in
-    rw (hm, hs) (omega (arith, ap (λ x. n * x) p))
+    rw (hm, hs) (omega (arith, ap (λ x. n * x) (sym (pow-add b d e) ∙ ap (λ i. b ^ i) h ∙ pow-add b (j + u) f ∙ ap (λ x. x * b ^ f) (pow-add b j u))))
 
 -- the three ways to place the point
 pub placed_before : (b : ℕ) (w r core : List ℕ) (k j up down u d z : ℕ) → IsTrimmed (w ++ r) core k j → z + (length w + up) ≡ k + down → u + (length r + down) ≡ d + up → IsSameNumber (spelled b [] (zeros z ++ core) 0) (moved b w r u d)
@@ -162,13 +160,11 @@ below_zeros b (suc k) h = (h, below_zeros b k h)
 pub below_core : (b : ℕ) (w r core : List ℕ) (k : ℕ) → Cored w r core k → AllBelowBase b w → AllBelowBase b r → AllBelowBase b core
 below_core b w r core k t hw hr =
     let all = below_append b w r hw hr in
-    let inner = (below_parts b (zeros k) (core ++ zeros t.count) (rw t.trimmed.split at all)).1 in
-    (below_parts b core (zeros t.count) inner).0
+    (below_parts b core (zeros t.count) ((below_parts b (zeros k) (core ++ zeros t.count) (rw t.trimmed.split at all)).1)).0
 
 pub below_split : (b : ℕ) (core : List ℕ) (q : ℕ) → AllBelowBase b core → AllBelowBase b (take q core) × AllBelowBase b (drop q core)
 below_split b core q h =
-    let h' : AllBelowBase b (take q core ++ drop q core) = rw (take-append-drop q core) h in
-    below_parts b (take q core) (drop q core) h'
+    below_parts b (take q core) (drop q core) (rw (take-append-drop q core) h)
 
 -- ---- the ways to place the point
 pub nothing_placed : (w r core W F : List ℕ) (k up down : ℕ) → Cored w r core k → length core ≡ 0 → W ≡ [] → F ≡ [] → IsPlaced w r W F up down
@@ -232,8 +228,7 @@ trailed_fraction w r g a l =
       split = ap (λ xs. w ++ xs) a.split ∙ sym (append_assoc w g (zeros a.count));
       none = λ xs e.
           let same : (w ++ p.prefix) ++ p.last ∷ [] ≡ xs ++ 0 ∷ [] = append_assoc w p.prefix (p.last ∷ []) ∙ sym (ap (λ ys. w ++ ys) p.is) ∙ e in
-          let z = (same_from_push (w ++ p.prefix) xs p.last 0 same).1 in
-          a.none p.prefix (p.is ∙ ap (λ d. p.prefix ++ d ∷ []) z);
+          a.none p.prefix (p.is ∙ ap (λ d. p.prefix ++ d ∷ []) ((same_from_push (w ++ p.prefix) xs p.last 0 same).1));
     }
 
 pub trailed_both : (w f r g : List ℕ) → IsWithoutTrailing w f → length g ≤ 0 → IsWithoutTrailing r g → IsWithoutTrailing (w ++ r) (f ++ g)
@@ -248,8 +243,7 @@ zero_product (suc x) y p e = absurd (omega arith)
 number_zero : (b : ℕ) (ds : List ℕ) → 0 < b → number_from_digits b ds ≡ 0 → ds ≡ zeros (length ds)
 number_zero b [] p e = refl
 number_zero b (zero ∷ ds) p e =
-    let z : 0 ≡ 0 * b + 0 = omega arith in
-    ap (λ xs. 0 ∷ xs) (number_zero b ds p (ap (λ n. number_from_digits_after b n ds) z ∙ e))
+    ap (λ xs. 0 ∷ xs) (number_zero b ds p (ap (λ n. number_from_digits_after b n ds) (omega arith) ∙ e))
 number_zero b (suc d ∷ ds) p e = absurd (omega (arith, number_after_ge b (0 * b + suc d) ds p))
 
 pub no_digits_leading : (b : ℕ) (ds : List ℕ) → 0 < b → NoLeadingZero ds → number_from_digits b ds ≡ 0 → ds ≡ []
@@ -265,8 +259,7 @@ zero_views b shift w f p nl nt e =
     let all : number_from_digits b (w ++ f) ≡ 0 = zero_product _ (2 ^ shift) (pow_pos shift) e in
     let parts = number_append b w f in
     let initial : number_from_digits b w ≡ 0 = zero_product _ (b ^ length f) (one-le-pow (length f) b p) (omega arith) in
-    let back : number_from_digits b f ≡ 0 = omega arith in
-    (no_digits_leading b w p nl initial, no_digits_trailing b f p nt back)
+    (no_digits_leading b w p nl initial, no_digits_trailing b f p nt (omega arith))
 
 pub led_shorter : (w r f g : List ℕ) → IsWithoutLeading (w ++ r) (f ++ g) → length f + length g ≤ length w + length r
 led_shorter w r f g a = omega (arith, ap length a.split, length-append w r, length-append f g, length-append (zeros a.count) (f ++ g))
@@ -280,5 +273,10 @@ core_length l r core e = ap length e ∙ length_between 0 l r 0 ∙ omega arith
 
 pub core_is : (w r f g l m core : List ℕ) (k : ℕ) → IsWithoutLeading (w ++ r) (f ++ g) → IsWithoutTrailing (f ++ g) (l ++ m) → k + (length f + length g) ≡ length w + length r → core ≡ between_zeros 0 l m 0 → Cored w r core k
 core_is w r f g l m core k a b n e =
-    let same : core ≡ l ++ m = e ∙ between_alone l m in
-    cored w r (f ++ g) core k a (rw same b) (omega (arith, length-append f g))
+    cored w r (f ++ g) core k a (rw (e ∙ between_alone l m) b) (omega (arith, length-append f g))
+
+-- without trailing zeros
+pub ruleset trailed = (trailed_fraction, trailed_both, trailed_shorter)
+
+-- without leading zeros
+pub ruleset led = (led_whole, led_both, led_shorter)

@@ -41,8 +41,7 @@ digits_append b (x ∷ xs) ys h k = (h.0, digits_append b xs ys h.1 k)
 
 pub nil_more : (w ds ys : List ℕ) → 0 < length ds → is_nil ((w ++ ds) ++ ys) ≡ false
 nil_more [] [] ys l = absurd (omega arith)
-nil_more [] (d ∷ ds) ys l = refl
-nil_more (x ∷ w) ds ys l = refl
+nil_more x ds ys l = refl
 
 whole_more : (r : Radix) (st : State) (n : ℕ) (bs ds : List ℕ) (s : Option ℕ) (w : List ℕ) (f : Option (List ℕ)) (x : Option Exponent) → HasParts r bs (parts s w f x) → Agrees r st (parts s w f x) → st.has_separator ≡ false → st.magnitude ≤ max_magnitude true → AllDigits (base r) ds → length ds ≡ n → 0 < n → st.has_point ≡ false → IsAfter r (bs ++ ds) (record st { whole_len = st.whole_len + n; sign_allowed = false })
 whole_more r st n bs ds s w f (Some e) h a ns m d l pos np = let clash = a.separator in absurd (cc)
@@ -100,13 +99,10 @@ pub passed_none : (r : Radix) (st : State) (n : ℕ) (bs ds : List ℕ) → IsAf
 passed_none r st n bs [] a l z = rw (append-nil bs) a
 passed_none r st n bs (d ∷ ds) a l z = absurd (omega arith)
 
-goes_on : (r : Radix) (bs : List ℕ) (b : ℕ) (st : State) → IsAfter r (bs ++ b ∷ []) st → Extends r bs b st
-goes_on r bs b st a = record { parts = a.parts; beginning = a.beginning; agrees = a.agrees; room = a.room }
-
 -- ---- before any separator
 
 pub before_digit : (r : Radix) (st next : State) (b : ℕ) (bs : List ℕ) (p : Parts) → HasParts r bs p → Agrees r st p → st.magnitude ≤ max_magnitude true → is_digit r b ≡ true → ((r : Radix) (bs ds : List ℕ) → IsAfter r bs st → AllDigits (base r) ds → length ds ≡ 1 → IsAfter r (bs ++ ds) next) → Extends r bs b next
-before_digit r st next b bs p h a m d more = goes_on r bs b next (more r bs (b ∷ []) (record { parts = p; beginning = h; agrees = a; room = m }) (ltb-true _ _ d, tt) refl)
+before_digit r st next b bs p h a m d more = more r bs (b ∷ []) (record { parts = p; beginning = h; agrees = a; room = m }) (ltb-true _ _ d, tt) refl
 
 pub before_separator : (r : Radix) (st : State) (b : ℕ) (bs : List ℕ) (s : Option ℕ) (w : List ℕ) (f : Option (List ℕ)) (x : Option Exponent) → HasParts r bs (parts s w f x) → Agrees r st (parts s w f x) → st.has_separator ≡ false → is_separator r b ≡ true → (t : Bool) → t ≡ is_two_separator r b → Extends r bs b (record st { has_separator = true; scales_by_two = t; sign_allowed = true; exponent_negative = false; magnitude = 0; has_exponent_digit = false })
 before_separator r st b bs s w f (Some e) h a ns d t et = let clash = a.separator in absurd (cc)
@@ -135,9 +131,7 @@ record IsPointAlone (r : Radix) (b : ℕ) : Type 0 where
 
 point_alone : (r : Radix) (b : ℕ) → b ≡ 46 → IsPointAlone r b
 point_alone Bin b e = rw e (record { no_digit = refl; no_separator = refl; no_sign = refl; is_point = refl })
-point_alone Oct b e = rw e (record { no_digit = refl; no_separator = refl; no_sign = refl; is_point = refl })
-point_alone Dec b e = rw e (record { no_digit = refl; no_separator = refl; no_sign = refl; is_point = refl })
-point_alone Hex b e = rw e (record { no_digit = refl; no_separator = refl; no_sign = refl; is_point = refl })
+point_alone r b e = rw e (record { no_digit = refl; no_separator = refl; no_sign = refl; is_point = refl })
 
 pub second_point : (r : Radix) (st : State) (b : ℕ) (bs : List ℕ) (s : Option ℕ) (w : List ℕ) (f : Option (List ℕ)) (x : Option Exponent) → HasParts r bs (parts s w f x) → Agrees r st (parts s w f x) → st.has_separator ≡ false → b ≡ 46 → st.has_point ≡ true → CannotExtend r bs (parts s w f x) b TooManyPoints
 second_point r st b bs s w f (Some e) h a ns d yp = let clash = a.separator in absurd (cc)
@@ -154,9 +148,6 @@ not_point b d = at_bytes (λ (x : ℕ). (x == point) ≡ false) b 43 45 d refl r
 
 pub before_sign : (r : Radix) (st : State) (b : ℕ) (bs : List ℕ) (s : Option ℕ) (w : List ℕ) (f : Option (List ℕ)) (x : Option Exponent) → HasParts r bs (parts s w f x) → Agrees r st (parts s w f x) → st.has_separator ≡ false → st.magnitude ≤ max_magnitude true → is_sign b ≡ true → st.sign_allowed ≡ true → Extends r bs b (record st { negative = b == minus; sign_len = 1; sign_allowed = false })
 before_sign r st b bs s w f (Some e) h a ns m d fr = let clash = a.separator in absurd (cc)
-before_sign r st b bs (Some c) w f None h a ns m d fr = let clash = a.fresh in absurd (cc)
-before_sign r st b bs None (c ∷ w) f None h a ns m d fr = let clash = a.fresh in absurd (cc)
-before_sign r st b bs None [] (Some ds) None h a ns m d fr = let clash = a.fresh in absurd (cc)
 before_sign r st b bs None [] None None h a ns m d fr =
     let empty : bs ≡ [] = h.text in
     record {
@@ -165,6 +156,7 @@ before_sign r st b bs None [] None None h a ns m d fr =
       agrees = record { neg = refl; start = refl; whole = a.whole; point = a.point; fraction = a.fraction; separator = a.separator; fresh = refl; exponent = a.exponent; counted = tt };
       room = m;
     }
+before_sign r st b bs s w f None h a ns m d fr = let clash = a.fresh in absurd (cc)
 
 and_turned : (x y : Bool) → (x && (y && true)) ≡ (x && y)
 and_turned true true = refl
@@ -178,10 +170,8 @@ second_sign r st b bs s w (Some ds) None h a ns nd nk d nf = record {
   is_kind = rw d refl;
 }
 second_sign r st b bs s w None None h a ns nd nk d nf =
-    let np = not_point b d in
-    let off : (is_none s && is_nil w) ≡ false = sym (and_turned (is_none s) (is_nil w)) ∙ sym a.fresh ∙ nf in
     record {
-      none = stuck r bs _ b h (rw (nd, nk, np, d, off) refl);
+      none = stuck r bs _ b h (rw (nd, nk, not_point b d, d, sym (and_turned (is_none s) (is_nil w)) ∙ sym a.fresh ∙ nf) refl);
       is_kind = rw d refl;
     }
 
@@ -319,27 +309,25 @@ after_nothing r = record {
 }
 
 pub after_more : (r : Radix) (bs : List ℕ) (i : ℕ) (st : State) → i < length bs → Extends r (take i bs) (get_or bs i 0) st → IsAfter r (take (i + 1) bs) st
-after_more r bs i st l g = record { parts = g.parts; beginning = rw (take_more bs i 0 l) g.beginning; agrees = g.agrees; room = g.room }
+after_more r bs i st l g = rw (take_more bs i 0 l) g
 
-prefix_stuck : (r : Radix) (bs : List ℕ) (n : ℕ) (p : Parts) → n < length bs → (IsBeginning r (take n bs ++ get_or bs n 0 ∷ []) → ⊥) → (m : ℕ) → IsBeginning r (take m bs) → m ≤ n
-prefix_stuck r bs n p l refuses m h = ⊎_elim (λ more. absurd (refuses (
+pub prefix_stuck : (Begins : List ℕ → Type 0) → ((xs ys : List ℕ) → Begins (xs ++ ys) → Begins xs) → (bs : List ℕ) (n : ℕ) → n < length bs → (Begins (take n bs ++ get_or bs n 0 ∷ []) → ⊥) → (m : ℕ) → Begins (take m bs) → m ≤ n
+prefix_stuck Begins shorter bs n l refuses m h = ⊎_elim (λ more. absurd (refuses (
     let cut : take (n + 1) (take m bs) ++ drop (n + 1) (take m bs) ≡ take m bs = take-append-drop (n + 1) (take m bs) in
     let first : take (n + 1) (take m bs) ≡ take (n + 1) bs = take-take (n + 1) m bs (omega arith) in
-    let initial : IsBeginning r (take (n + 1) (take m bs)) = beginning_prefix r (take (n + 1) (take m bs)) (drop (n + 1) (take m bs)) (rw cut h) in
+    let initial : Begins (take (n + 1) (take m bs)) = shorter (take (n + 1) (take m bs)) (drop (n + 1) (take m bs)) (rw cut h) in
     rw (first, take_more bs n 0 l) at initial))) (λ less. less) (cases_lt n m)
 
 pub stuck_no_numeral : (r : Radix) (bs : List ℕ) (n : ℕ) (p : Parts) (kind : ParseErrorKind) → n < length bs → CannotExtend r (take n bs) p (get_or bs n 0) kind → IsNumeral r bs → ⊥
 stuck_no_numeral r bs n p kind l g (q, h) =
-    let whole : take (length bs) bs ≡ bs = take_all (length bs) bs (omega arith) in
-    let all : IsBeginning r (take (length bs) bs) = (q, rw whole h.beginning) in
-    omega (arith, prefix_stuck r bs n p l g.none (length bs) all)
+    omega (arith, prefix_stuck (IsBeginning r) (beginning_prefix r) bs n l g.none (length bs) (q, rw (take_all (length bs) bs (omega arith)) h.beginning))
 
 pub stuck_cause : (r : Radix) (bs : List ℕ) (n : ℕ) (p : Parts) (kind : ParseErrorKind) → n < length bs → HasParts r (take n bs) p → CannotExtend r (take n bs) p (get_or bs n 0) kind → HasCause r bs kind
 stuck_cause r bs n p kind l h g = record {
   none = stuck_no_numeral r bs n p kind l g;
   count = n;
   parts = p;
-  prefix = record { within = omega arith; beginning = h; longest = λ m ml b. prefix_stuck r bs n p l g.none m b };
+  prefix = record { within = omega arith; beginning = h; longest = λ m ml b. prefix_stuck (IsBeginning r) (beginning_prefix r) bs n l g.none m b };
   is_kind = rw (slice_get-get_or bs n 0 l) g.is_kind;
 }
 
@@ -387,14 +375,12 @@ no_digits r bs st a ew ef =
     end_cause r bs a.parts NoDigits a.beginning (rw nil refl) (
     λ (q, h). let same = parts_unique r bs a.parts q a.beginning h.beginning in
     let some = nil_length (mantissa q) h.mantissa in
-    let nil' : is_nil (mantissa q) ≡ true = rw same at nil in
     cc)
 
 at_exponent : (r : Radix) (bs : List ℕ) (st : State) (s : Option ℕ) (w : List ℕ) (f : Option (List ℕ)) (x : Option Exponent) → HasParts r bs (parts s w f x) → Agrees r st (parts s w f x) → 0 < st.whole_len + st.fraction_len → st.has_separator ≡ true → st.has_exponent_digit ≡ false → HasCause r bs ExpNoDigits
 at_exponent r bs st s w f None h a m k e = let clash = a.separator in absurd (cc)
 at_exponent r bs st s w f (Some y) h a m k e =
     let some : is_nil (mantissa (parts s w f (Some y))) ≡ false = nil_length _ (omega (arith, mantissa_length (parts s w f (Some y)), a.whole, a.fraction)) in
-    let nil : is_nil y.digits ≡ true = not_both _ (sym e ∙ a.counted) in
     let none : HasNumeral r bs (parts s w f (Some y)) → ⊥ = λ g. let there = nil_length y.digits g.exponent in cc in
     end_cause r bs (parts s w f (Some y)) ExpNoDigits h (rw some refl) (λ (q, g). let same = parts_unique r bs (parts s w f (Some y)) q h g.beginning in none (rw same g))
 
@@ -521,3 +507,6 @@ kind_at_end r bs st kind a i = ⊎_elim
     let some : is_nil (mantissa a.parts) ≡ false = nil_length _ (omega (arith, mantissa_length a.parts, a.agrees.whole, a.agrees.fraction, t.0)) in
     rw (t.3, some) refl)
     i
+
+-- after some digits more
+pub ruleset passed = (passed_none, passed_whole, passed_fraction)

@@ -78,20 +78,6 @@ sign_by_sums bs from m p l em ep = by_cases (eqb (get_or bs from 0) 45) (eqb (ge
 at_end : (bs : List ℕ) (n : ℕ) → n ≡ length bs → drop n bs ≡ []
 at_end bs n e = drop_all n bs (omega arith)
 
-pub mantissa_whole : (b : ℕ) (bs : List ℕ) (from to number : ℕ) → IsDigitRun b bs from to number → from < to → IsMantissaAt b bs from to number 0 0
-mantissa_whole b bs from to number h some = record {
-  whole = h.digits;
-  fraction = None;
-  text = h.text;
-  within = h.within;
-  whole_digits = h.are_digits;
-  fraction_digits = tt;
-  whole_spelled = h.spelled;
-  fraction_spelled = refl;
-  places_are = refl;
-  some = rw (append-nil h.digits) (omega (arith, h.count));
-}
-
 pub mantissa_parted : (b : ℕ) (bs : List ℕ) (from point to whole fraction places : ℕ) → IsDigitRun b bs from point whole → point < length bs → get_or bs point 0 ≡ 46 → IsDigitRun b bs (point + 1) to fraction → places + (point + 1) ≡ to → from + 1 < to → IsMantissaAt b bs from to whole fraction places
 mantissa_parted b bs from point to whole fraction places h l dot k p some = record {
   whole = h.digits;
@@ -107,9 +93,6 @@ mantissa_parted b bs from point to whole fraction places h l dot k p some = reco
 }
 
 -- ---- exponents
-pub exponent_none : (r : Radix) (bs : List ℕ) (from : ℕ) → from ≡ length bs → IsExponentAt r bs from (pos 0) false
-exponent_none r bs from e = record { exponent = None; text = at_end bs from e; is_exponent = tt; some = tt; is_number = refl; is_by_two = refl }
-
 -- where the text ends there is no exponent
 pub exponent_ended : (r : Radix) (bs : List ℕ) (from : ℕ) (x : ℤ) (two : Bool) → from ≡ length bs → IsExponentAt r bs from x two → x ≡ pos 0
 exponent_ended r bs from x two end h = by_cases h.exponent h.is_number (sym h.text ∙ at_end bs from end)
@@ -155,8 +138,7 @@ short_at r bs first mid whole fraction places negative two x s m e fits few = re
 
 pub short_parts : (r : Radix) (bs : List ℕ) (negative : Bool) (whole fraction places : ℕ) (x : ℤ) (two : Bool) (p : Parts) → IsShortAt r bs negative whole fraction places x two → HasNumeral r bs p → IsShortNumeral r p negative whole fraction places x two
 short_parts r bs negative whole fraction places x two p h n =
-    let same = parts_unique r bs p h.parts n.beginning h.numeral.beginning in
-    rw same h.numbers
+    rw (parts_unique r bs p h.parts n.beginning h.numeral.beginning) h.numbers
 
 pub if_some : {T : Type 0} (P Q : T → Type 0) (o : Option T) → ((x : T) → P x → Q x) → IfSome o P → IfSome o Q
 if_some P Q None f h = h
@@ -170,8 +152,7 @@ few_digits b bs from to whole fraction places least most place h late = by_cases
     spelled_fits n m few w f =
         let product : (whole + 1) * b ^ m ≤ b ^ n * b ^ m = mul-le-mul_right (b ^ m) (omega arith) in
         let all : b ^ (n + m) ≤ b ^ 16 = pow-le-pow_right (omega arith) few in
-        let room : n ≤ 16 = omega arith in
-        let alone : b ^ n ≤ b ^ 16 = pow-le-pow_right (omega arith) room in
+        let alone : b ^ n ≤ b ^ 16 = pow-le-pow_right (omega arith) (omega arith) in
         (omega (arith, product, pow-add b n m, all), omega arith)
 
     whole_below : whole < b ^ length h.whole
@@ -199,11 +180,10 @@ exponent_at r bs from first to number minus x two l k s d e ne most ex et =
 -- ---- digits that were looked at as words
 pub run_in : (b : ℕ) (bs : List ℕ) (from k to n : ℕ) → from + k ≡ to → to ≤ length bs → AllDigits b (take k (drop from bs)) → n ≡ digits_value b (take k (drop from bs)) → IsDigitRun b bs from to n
 run_in b bs from k to n e l h v =
-    let there : drop k (drop from bs) ≡ drop to bs = drop-drop k from bs ∙ ap (λ i. drop i bs) e in
     let count : length (take k (drop from bs)) ≡ k = length-take k (drop from bs) ∙ omega (arith, length-drop from bs) in
     record {
       digits = take k (drop from bs);
-      text = sym (take-append-drop k (drop from bs)) ∙ ap (λ ys. take k (drop from bs) ++ ys) there;
+      text = sym (take-append-drop k (drop from bs)) ∙ ap (λ ys. take k (drop from bs) ++ ys) (drop-drop k from bs ∙ ap (λ i. drop i bs) e);
       count = omega (arith, count);
       within = l;
       are_digits = h;
@@ -243,8 +223,7 @@ IsNumberOf b word count n = (xs : List ℕ) → length xs ≡ 8 → AllBelowBase
 pub run_at_end : (b : ℕ) (bs : List ℕ) (from count to n word : ℕ) → 8 ≤ to → to ≤ length bs → ((k : ℕ) → get_or bs k 0 < 256) → count ≤ 8 → from + count ≡ to → word ≡ number_l 256 (take 8 (drop (to - 8) bs)) → IsNumberOf b word count n → AllDigits b (take count (drop from bs)) → IsDigitRun b bs from to n
 run_at_end b bs from count to n word l within t few e w h digits =
     let rest : drop (8 - count) (take 8 (drop (to - 8) bs)) ≡ take count (drop from bs) = last_of_word bs from count to l few e in
-    let found : n ≡ digits_value b (drop (8 - count) (take 8 (drop (to - 8) bs))) = h (take 8 (drop (to - 8) bs)) (eight_long bs (to - 8) (omega arith)) (eight_below bs (to - 8) (omega arith) t) w (subst (AllDigits b) (sym rest) digits) in
-    run_in b bs from count to n e within digits (found ∙ ap (digits_value b) rest)
+    run_in b bs from count to n e within digits ((h (take 8 (drop (to - 8) bs)) (eight_long bs (to - 8) (omega arith)) (eight_below bs (to - 8) (omega arith) t) w (subst (AllDigits b) (sym rest) digits)) ∙ ap (digits_value b) rest)
 
 digits_cut : (b k j n : ℕ) (xs : List ℕ) → k + j ≡ n → AllDigits b (take n xs) → AllDigits b (take k xs) × AllDigits b (take j (drop k xs))
 digits_cut b zero j n xs e h = let same : n ≡ j = omega arith in (tt, subst (λ i. AllDigits b (take i xs)) same h)
@@ -280,13 +259,11 @@ two_fit b n m s l k =
 
 pub run_of_both : (bs : List ℕ) (from mid to n m : ℕ) → IsDigitRun 10 bs from mid n → IsDigitRun 10 bs mid to m → to - mid ≡ 8 → IsDigitRun 10 bs from to (n * 100000000 + m)
 run_of_both bs from mid to n m p q e =
-    let eight : 10 ^ (to - mid) ≡ 100000000 = ap (λ i. 10 ^ i) e in
-    subst (λ i. IsDigitRun 10 bs from to (n * i + m)) eight (run_joined 10 bs from mid to n m p q)
+    subst (λ i. IsDigitRun 10 bs from to (n * i + m)) (ap (λ i. 10 ^ i) e) (run_joined 10 bs from mid to n m p q)
 
 pub run_of_sixteen : (bs : List ℕ) (from mid to n m : ℕ) → IsDigitRun 10 bs from mid n → IsDigitRun 10 bs mid to m → to - mid ≡ 16 → IsDigitRun 10 bs from to (n * 10000000000000000 + m)
 run_of_sixteen bs from mid to n m p q e =
-    let sixteen : 10 ^ (to - mid) ≡ 10000000000000000 = ap (λ i. 10 ^ i) e in
-    subst (λ i. IsDigitRun 10 bs from to (n * i + m)) sixteen (run_joined 10 bs from mid to n m p q)
+    subst (λ i. IsDigitRun 10 bs from to (n * i + m)) (ap (λ i. 10 ^ i) e) (run_joined 10 bs from mid to n m p q)
 
 pub high_fits : (bs : List ℕ) (from mid n m : ℕ) → IsDigitRun 10 bs from mid n → mid - from ≤ 8 → m < 10 ^ 8 → (n * 100000000 < 2 ^ 64) × (n * 100000000 + m < 2 ^ 64)
 high_fits bs from mid n m h few l =

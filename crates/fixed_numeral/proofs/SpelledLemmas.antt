@@ -24,5 +24,4 @@ number_zeros b (suc k) = number_after_is b (0 * b + 0) (replicate k 0) ∙ omega
 pub pow-mul : (b k j : ℕ) → (b ^ k) ^ j ≡ b ^ (k * j)
 pow-mul b k zero = omega (arith, pow-zero (b ^ k), ap (λ i. b ^ i) (let z : k * 0 ≡ 0 = omega arith in z), pow-zero b)
 pow-mul b k (suc j) =
-    let more : k * suc j ≡ k * j + k = omega arith in
-    pow-suc (b ^ k) j ∙ ap (λ i. i * b ^ k) (pow-mul b k j) ∙ sym (pow-add b (k * j) k) ∙ ap (λ i. b ^ i) (sym more)
+    pow-suc (b ^ k) j ∙ ap (λ i. i * b ^ k) (pow-mul b k j) ∙ sym (pow-add b (k * j) k) ∙ ap (λ i. b ^ i) (sym (omega arith))

@@ -54,10 +54,9 @@ pub record IsStripped (ds rest : List ℕ) (z : ℕ) : Type 0 where
 
 pub led_found : (bs ds : List ℕ) (i z : ℕ) → digits_in bs ≡ ds → IsLed bs i z → i < length bs → (get_or bs i 0 ≡ 48 → ⊥) → nat_lt (digit_value (get_or bs i 0)) 16 ≡ true → IsStripped ds (digits_in (take (length bs - i) (drop i bs))) z
 led_found bs ds i z same h l ne d =
-    let rest : digits_in (take (length bs - i) (drop i bs)) ≡ digits_in (drop i bs) = ap digits_in (take_rest bs i) in
     let first : digits_in (drop i bs) ≡ digit_value (get_or bs i 0) ∷ digits_in (drop (i + 1) bs) = ap digits_in (drop_more bs i 0 l) ∙ digit_before (get_or bs i 0) (digit_value (get_or bs i 0)) (drop (i + 1) bs) refl (ltb-true _ _ d) in
     let split : ds ≡ zeros z ++ digits_in (drop i bs) = sym same ∙ whole_split bs i ∙ ap (λ xs. xs ++ digits_in (drop i bs)) h.digits in
-    rw rest (record {
+    rw (ap digits_in (take_rest bs i)) (record {
       leading = record { count = z; split = split; none = no_leading _ _ _ first (λ e. ne (value_zero _ e)) };
       count = sym (ap length split ∙ length-append (zeros z) (digits_in (drop i bs)) ∙ ap (λ n. n + length (digits_in (drop i bs))) (length-replicate {A = ℕ} z 0));
     })
@@ -81,14 +80,12 @@ trailed_none bs = record { digits = ap digits_in (drop_all (length bs) bs (omega
 
 back_one : (bs : List ℕ) (end : ℕ) → 0 < end → end ≤ length bs → drop (end - 1) bs ≡ get_or bs (end - 1) 0 ∷ drop end bs
 back_one bs end p l =
-    let e : end - 1 + 1 ≡ end = omega arith in
-    drop_more bs (end - 1) 0 (omega arith) ∙ ap (λ n. get_or bs (end - 1) 0 ∷ drop n bs) e
+    drop_more bs (end - 1) 0 (omega arith) ∙ ap (λ n. get_or bs (end - 1) 0 ∷ drop n bs) (omega arith)
 
 pub trailed_zero : (bs : List ℕ) (end z : ℕ) → IsTrailed bs end z → 0 < end → get_or bs (end - 1) 0 ≡ 48 → IsTrailed bs (end - 1) (z + 1)
 trailed_zero bs end z h p e =
-    let more : zeros (z + 1) ≡ 0 ∷ zeros z = rw add-one refl in
     record {
-      digits = ap digits_in (back_one bs end p h.within) ∙ zero_byte _ (drop end bs) e ∙ ap (λ xs. 0 ∷ xs) h.digits ∙ sym more;
+      digits = ap digits_in (back_one bs end p h.within) ∙ zero_byte _ (drop end bs) e ∙ ap (λ xs. 0 ∷ xs) h.digits ∙ sym (rw add-one refl);
       within = omega (arith, h.within);
       few = omega (arith, h.few);
     }
@@ -107,10 +104,9 @@ pub record IsCut (ds rest : List ℕ) (z : ℕ) : Type 0 where
 pub trailed_found : (bs ds : List ℕ) (end z : ℕ) → digits_in bs ≡ ds → IsTrailed bs end z → 0 < end → (get_or bs (end - 1) 0 ≡ 48 → ⊥) → nat_lt (digit_value (get_or bs (end - 1) 0)) 16 ≡ true → IsCut ds (digits_in (take end bs)) z
 trailed_found bs ds end z same h p ne d =
     let e : end - 1 + 1 ≡ end = omega arith in
-    let last : digits_in (take end bs) ≡ digits_in (take (end - 1) bs) ++ digit_value (get_or bs (end - 1) 0) ∷ [] = ap (λ n. digits_in (take n bs)) (sym e) ∙ digits_push bs (end - 1) (omega (arith, h.within)) ∙ ap (λ xs. digits_in (take (end - 1) bs) ++ xs) (digit_before (get_or bs (end - 1) 0) (digit_value (get_or bs (end - 1) 0)) [] refl (ltb-true _ _ d) ∙ ap (λ xs. digit_value (get_or bs (end - 1) 0) ∷ xs) digits_in_none) in
     let split : ds ≡ digits_in (take end bs) ++ zeros z = sym same ∙ whole_split bs end ∙ ap (λ xs. digits_in (take end bs) ++ xs) h.digits in
     record {
-      trailing = record { count = z; split = split; none = no_trailing _ _ _ last (λ e. ne (value_zero _ e)) };
+      trailing = record { count = z; split = split; none = no_trailing _ _ _ (ap (λ n. digits_in (take n bs)) (sym e) ∙ digits_push bs (end - 1) (omega (arith, h.within)) ∙ ap (λ xs. digits_in (take (end - 1) bs) ++ xs) (digit_before (get_or bs (end - 1) 0) (digit_value (get_or bs (end - 1) 0)) [] refl (ltb-true _ _ d) ∙ ap (λ xs. digit_value (get_or bs (end - 1) 0) ∷ xs) digits_in_none)) (λ e. ne (value_zero _ e)) };
       count = omega (arith, ap length split, length-append (digits_in (take end bs)) (zeros z), length-replicate {A = ℕ} z 0);
     }
 

@@ -10,8 +10,7 @@ length_between b l r a = simp (length-append, length-replicate) (omega arith)
 pub between_none : (b : ℕ) (l r : List ℕ) (a : ℕ) → b ≤ 0 → l ≡ [] → r ≡ [] → a ≤ 0 → between_zeros b l r a ≡ []
 unfolding between_zeros
 between_none zero l r zero h e f g = rw (e, f) refl
-between_none (suc b) l r a h e f g = absurd (omega arith)
-between_none zero l r (suc a) h e f g = absurd (omega arith)
+between_none x l r a h e f g = absurd (omega arith)
 
 -- ---- the first digit, and the others
 pub take_before : (b : ℕ) (l r : List ℕ) (a : ℕ) → 0 < b → between_zeros b l r a ≡ 0 ∷ between_zeros (b - 1) l r a
@@ -31,9 +30,8 @@ take_right (suc b) l r t a d h n e = absurd (omega arith)
 
 pub take_after : (b : ℕ) (l r : List ℕ) (a : ℕ) → b ≤ 0 → l ≡ [] → r ≡ [] → 0 < a → between_zeros b l r a ≡ 0 ∷ between_zeros 0 [] [] (a - 1)
 unfolding between_zeros
-take_after zero l r zero h n m p = absurd (omega arith)
 take_after zero l r (suc a) h n m p = let e : suc a - 1 ≡ a = omega arith in rw (n, m, e) refl
-take_after (suc b) l r a h n m p = absurd (omega arith)
+take_after x l r a h n m p = absurd (omega arith)
 
 pub between_left : (l r : List ℕ) → r ≡ [] → between_zeros 0 l r 0 ≡ l
 unfolding between_zeros
@@ -68,12 +66,11 @@ pub record SplitAt (i b l r a b' l' r' a' : ℕ) : Type 0 where
 pub split_prefix : (i b : ℕ) (l r : List ℕ) (a b' l' r' a' : ℕ) → SplitAt i b (length l) (length r) a b' l' r' a' → between_zeros b' (take l' l) (take r' r) a' ≡ take i (between_zeros b l r a)
 unfolding between_zeros
 split_prefix i b l r a b' l' r' a' s =
-    let el : l' ≡ min (i - b) (length l) = omega (arith, s.before, s.left) in
     let er : r' ≡ min (i - b - length l) (length r) = omega (arith, s.before, s.left, s.right) in
     let ea : i - b - length l - length r ≡ a' = omega (arith, s.before, s.left, s.right, s.after) in
     let la : a' ≤ a = omega (arith, s.before, s.left, s.right, s.after, s.within) in
     let first : take i (zeros b) ≡ zeros b' = first_zeros i b b' s.before in
-    let left : take l' l ≡ take (i - b) l = ap (λ n. take n l) el ∙ take_min (i - b) l in
+    let left : take l' l ≡ take (i - b) l = ap (λ n. take n l) (omega (arith, s.before, s.left)) ∙ take_min (i - b) l in
     let right : take r' r ≡ take (i - b - length l) r = ap (λ n. take n r) er ∙ take_min (i - b - length l) r in
     let last : take (i - b - length l - length r) (zeros a) ≡ zeros a' = ap (λ n. take n (zeros a)) ea ∙ take-replicate a' a 0 la in
     sym (take_over i (zeros b) (l ++ (r ++ zeros a)) ∙ rw (length-replicate {A = ℕ} b 0, take_over (i - b) l (r ++ zeros a), take_over (i - b - length l) r (zeros a), first, left, right, last) refl)
@@ -81,12 +78,10 @@ split_prefix i b l r a b' l' r' a' s =
 pub split_back : (i b : ℕ) (l r : List ℕ) (a b' l' r' a' : ℕ) → SplitAt i b (length l) (length r) a b' l' r' a' → between_zeros (b - b') (drop l' l) (drop r' r) (a - a') ≡ drop i (between_zeros b l r a)
 unfolding between_zeros
 split_back i b l r a b' l' r' a' s =
-    let el : l' ≡ min (i - b) (length l) = omega (arith, s.before, s.left) in
     let er : r' ≡ min (i - b - length l) (length r) = omega (arith, s.before, s.left, s.right) in
     let ea : i - b - length l - length r ≡ a' = omega (arith, s.before, s.left, s.right, s.after) in
-    let eb : b - i ≡ b - b' = omega (arith, s.before) in
-    let first : drop i (zeros b) ≡ zeros (b - b') = drop-replicate i b 0 ∙ ap zeros eb in
-    let left : drop l' l ≡ drop (i - b) l = ap (λ n. drop n l) el ∙ drop_min (i - b) l in
+    let first : drop i (zeros b) ≡ zeros (b - b') = drop-replicate i b 0 ∙ ap zeros (omega (arith, s.before)) in
+    let left : drop l' l ≡ drop (i - b) l = ap (λ n. drop n l) (omega (arith, s.before, s.left)) ∙ drop_min (i - b) l in
     let right : drop r' r ≡ drop (i - b - length l) r = ap (λ n. drop n r) er ∙ drop_min (i - b - length l) r in
     let last : drop (i - b - length l - length r) (zeros a) ≡ zeros (a - a') = ap (λ n. drop n (zeros a)) ea ∙ drop-replicate a' a 0 in
     sym (drop_over i (zeros b) (l ++ (r ++ zeros a)) ∙ rw (length-replicate {A = ℕ} b 0, drop_over (i - b) l (r ++ zeros a), drop_over (i - b - length l) r (zeros a), first, left, right, last) refl)
@@ -103,20 +98,17 @@ pub left_prefix : (v lf l r : List ℕ) (i b a : ℕ) → between_zeros b l r a 
 unfolding between_zeros
 left_prefix v lf l r i zero a e z h f =
     let none : i - length l ≡ 0 = omega arith in
-    let over : take i (l ++ (r ++ zeros a)) ≡ take i l = take_over i l (r ++ zeros a) ∙ rw none (append-nil (take i l)) in
-    f ∙ sym over ∙ ap (take i) e
+    f ∙ sym (take_over i l (r ++ zeros a) ∙ rw none (append-nil (take i l))) ∙ ap (take i) e
 left_prefix v lf l r i (suc b) a e z h f = absurd (omega arith)
 
 pub left_back : (v lb l r : List ℕ) (i b a : ℕ) → between_zeros b l r a ≡ v → b ≡ 0 → i ≤ length l → lb ≡ drop i l → between_zeros 0 lb r a ≡ drop i v
 unfolding between_zeros
 left_back v lb l r i zero a e z h f =
     let none : i - length l ≡ 0 = omega arith in
-    let over : drop i (l ++ (r ++ zeros a)) ≡ drop i l ++ (r ++ zeros a) = drop_over i l (r ++ zeros a) ∙ rw none refl in
-    rw f (sym over ∙ ap (drop i) e)
+    rw f (sym (drop_over i l (r ++ zeros a) ∙ rw none refl) ∙ ap (drop i) e)
 left_back v lb l r i (suc b) a e z h f = absurd (omega arith)
 
 pub right_alone : (v l r : List ℕ) (b a : ℕ) → between_zeros b l r a ≡ v → b ≡ 0 → length l ≡ 0 → between_zeros 0 r [] a ≡ v
 unfolding between_zeros
 right_alone v [] r zero a e z h = e
-right_alone v (x ∷ l) r zero a e z h = absurd (omega arith)
-right_alone v l r (suc b) a e z h = absurd (omega arith)
+right_alone v l r x a e z h = absurd (omega arith)

@@ -26,6 +26,7 @@ struct Fraction {
 }
 
 /// The digits after a point, 17 to 27, where they end with the text.
+#[tactic(auto, using(crate::proofs::SegmentLemmas::run_of_sixteen))]
 fn wide_fraction_at(bytes: &[u8], from: usize) -> Option<Fraction>
     requires { from + 16 < length bytes.now }
     ensures run { IfSome result (λ f. IsDigitRun 10 bytes.now from f.end f.number) }

@@ -6,7 +6,7 @@ ghost use Rattle.fixed_numeral.specs.Inner.MovedPoint.{IsWithoutLeading, IsWitho
 ghost use Rattle.std.specs.Char.{digit_value};
 ghost use Rattle.fixed_numeral.specs.Digits.{digits_in};
 
-use crate::swar::{long_decimal, long_number};
+use crate::swar::long_number;
 use std::marker::Model;
 
 /// The digits of a slice, whose other bytes are passed over, and their count.
@@ -83,9 +83,7 @@ fn whole_number(bytes: &[u8], base: u64) -> u64
     requires room { base ^ length (digits_in bytes.now) ≤ 2 ^ 64 }
     ensures { result ≡ number_from_digits base (digits_in bytes.now) }
 {
-    if bytes.len() >= 8 && base == 10 {
-        long_decimal(bytes)
-    } else if bytes.len() >= 8 {
+    if bytes.len() >= 8 {
         long_number(bytes, base)
     } else {
         plain_number(bytes, base, 0)
@@ -111,6 +109,7 @@ fn mixed_number(bytes: &[u8], base: u64, start: u64) -> u64
 
 impl<'a> DigitSlice<'a> {
     /// No digits.
+    #[tactic(auto, using(crate::proofs::DigitLemmas::digits_in_none))]
     pub fn none() -> DigitSlice<'a>
         ensures { result ≡ [] }
     {
@@ -129,6 +128,7 @@ impl<'a> DigitSlice<'a> {
     }
 
     /// The first i digits of a slice, and the bytes after them.
+    #[tactic(auto, using(crate::proofs::DigitLemmas::back_is, crate::proofs::DigitLemmas::prefix_is))]
     pub fn split_at_digit(bytes: &'a [u8], i: u64) -> (DigitSlice<'a>, &'a [u8])
         requires { i ≤ length (digits_in bytes.now) }
         ensures prefix { result.0 ≡ take i (digits_in bytes.now) }
@@ -303,6 +303,7 @@ impl<'a> DigitSlice<'a> {
 }
 
 /// The place in the bytes, which hold this many digits, with i digits before it.
+#[tactic(auto, using(crate::proofs::DigitLemmas::all_counted))]
 #[inline(always)]
 fn byte_index(bytes: &[u8], count: u64, i: u64) -> usize
     requires count { count ≡ length (digits_in bytes.now) }

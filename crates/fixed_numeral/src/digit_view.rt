@@ -146,6 +146,7 @@ impl<'a> DigitView<'a> {
 
     /// The number that the first `count` digits spell in the base, or all where there are fewer, and the digits
     /// after them, for a step a digit.
+    #[tactic(auto, using(crate::proofs::ViewLemmas::left_back, crate::proofs::NumberLemmas::first_rest))]
     #[inline(always)]
     pub fn take_number<L: Ledger>(
         &self,
@@ -176,7 +177,8 @@ impl<'a> DigitView<'a> {
                 },
             );
         }
-        self.suffix_slow(number, taken)
+        // A copy, so that `self` can be kept in registers; and in `prefix_number`.
+        (number, self.same().suffix_by_split(taken))
     }
 
     /// The number that the first `count` digits spell in the base, or all where there are fewer, for a step a digit.
@@ -204,27 +206,7 @@ impl<'a> DigitView<'a> {
         if self.before == 0 && i <= self.left.len() {
             return self.left.prefix_number(base, i);
         }
-        self.prefix_number_slow(base, i)
-    }
-
-    /// Slow path of `prefix_number`. Works on a copy so that the compiler can keep `self` in registers.
-    #[inline(always)]
-    fn prefix_number_slow(&self, base: u64, i: u64) -> u64
-        requires { HasPrefixNumber base i self.now }
-        ensures { result ≡ number_from_digits base (take i self.now) }
-    {
         self.same().prefix_number_by_parts(base, i)
-    }
-
-    /// A number, and the digits after the first i: slow path of `take_number`. Works on a copy, as `prefix_number_slow`
-    /// does.
-    #[inline(always)]
-    fn suffix_slow(&self, number: u64, i: u64) -> (u64, DigitView<'a>)
-        requires { i ≤ length self.now }
-        ensures number { result.0 ≡ number }
-        ensures rest { result.1 ≡ drop i self.now }
-    {
-        (number, self.same().suffix_by_split(i))
     }
 
     /// The number that the first i digits spell, where all of them lie in the second slice, or in any other case.
@@ -243,6 +225,7 @@ impl<'a> DigitView<'a> {
     }
 
     /// The number that the first i digits spell, by splitting the view after them.
+    #[tactic(auto, using(crate::proofs::PlaceLemmas::below_split, crate::proofs::NumberLemmas::first_room))]
     #[inline(never)]
     fn prefix_number_by_split(&self, base: u64, i: u64) -> u64
         requires { HasPrefixNumber base i self.now }
@@ -313,6 +296,7 @@ impl<'a> DigitView<'a> {
     }
 
     /// This many zeros, and these digits.
+    #[tactic(auto, using(crate::proofs::ViewLemmas::length_between, crate::proofs::PlaceLemmas::view_before))]
     fn with_zeros_before(&self, n: u64) -> DigitView<'a>
         requires { n + length self.now < 2 ^ 64 }
         ensures { result ≡ zeros n ++ self.now }
@@ -326,6 +310,7 @@ impl<'a> DigitView<'a> {
     }
 
     /// These digits, and this many zeros.
+    #[tactic(auto, using(crate::proofs::ViewLemmas::length_between, crate::proofs::PlaceLemmas::view_after))]
     fn with_zeros_after(&self, n: u64) -> DigitView<'a>
         requires { n + length self.now < 2 ^ 64 }
         ensures { result ≡ self.now ++ zeros n }
@@ -340,6 +325,7 @@ impl<'a> DigitView<'a> {
 }
 
 /// A number times a power of a base.
+#[tactic(auto, using(crate::proofs::NumberLemmas::powers))]
 fn times_power(number: u64, base: u64, count: u64) -> u64
     requires least { 2 ≤ base }
     requires room { (number + 1) * base ^ count ≤ 2 ^ 64 }
@@ -353,6 +339,7 @@ fn times_power(number: u64, base: u64, count: u64) -> u64
 }
 
 /// The digits of two slices without leading zeros.
+#[tactic(auto, using(crate::proofs::PlaceLemmas::led))]
 fn without_leading<'a>(
     whole: &DigitSlice<'a>,
     fraction: &DigitSlice<'a>,
@@ -369,6 +356,7 @@ fn without_leading<'a>(
 }
 
 /// The digits of two slices without trailing zeros.
+#[tactic(auto, using(crate::proofs::PlaceLemmas::trailed))]
 fn without_trailing<'a>(
     whole: &DigitSlice<'a>,
     fraction: &DigitSlice<'a>,

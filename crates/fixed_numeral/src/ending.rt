@@ -50,6 +50,7 @@ fn other_marks(text: &[u8], radix: Radix) -> u64
 }
 
 /// The end of the bytes without a mark from a place on.
+#[tactic(auto, using(crate::proofs::MarkLemmas::clear_digits))]
 #[inline(always)]
 fn unmarked_end(text: &[u8], marks: u64, from: usize) -> usize
     requires long { LANES ≤ length text.now }

@@ -33,11 +33,13 @@ pub fn one_cause()
 {}
 
 /// The denominator of a magnitude is at least 1.
+#[tactic(auto, using(crate::proofs::ValueLemmas::magnitude_pos))]
 pub fn denominator_is_positive()
     ensures { DenominatorIsPositive }
 {}
 
 /// The parts of a literal are determined by its bytes.
+#[tactic(auto, using(crate::proofs::LawLemmas::one_literal))]
 pub fn literal_is_determined()
     ensures { LiteralIsDetermined }
 {}
@@ -48,6 +50,7 @@ pub fn one_literal_cause()
 {}
 
 /// The message of an error has at most 64 bytes.
+#[tactic(auto, using(crate::proofs::MessageLemmas::message_short))]
 pub fn message_is_short()
     ensures { MessageIsShort }
 {}

@@ -54,6 +54,7 @@ pub struct State {
 
 impl State {
     /// Nothing was read yet.
+    #[tactic(auto, using(crate::proofs::ScanLemmas::after_nothing))]
     pub fn start() -> State
         ensures { (radix : TheRadix) → IsAfter radix [] result }
     {
@@ -321,6 +322,7 @@ fn mantissa_digits(state: State, bytes: &[u8], radix: Radix, from: usize) -> usi
 }
 
 /// The state after this many mantissa digits more.
+#[tactic(auto, using(crate::proofs::ScanLemmas::passed))]
 fn after_digits(state: State, count: u64) -> State
     requires separator { 0 < count → state.has_separator ≡ false }
     requires counts { state.whole_len + state.fraction_len + count < 2 ^ 64 }
@@ -345,6 +347,7 @@ fn after_digits(state: State, count: u64) -> State
 }
 
 /// The state after eight exponent digits more. `None` where they are not all digits, or the exponent leaves its range.
+#[tactic(auto, using(crate::proofs::ExponentLemmas::eight_more, crate::proofs::ExponentLemmas::max_most))]
 #[inline(always)]
 fn after_eight_exponent_digits(state: State, word: u64) -> Option<State>
     requires room { state.magnitude ≤ max_magnitude true }

@@ -17,6 +17,7 @@ pub(crate) struct Few {
 }
 
 /// Whether the sign at a place is a minus, and the place after the sign.
+#[tactic(auto, using(crate::proofs::SegmentLemmas::sign_by_sums))]
 #[inline(always)]
 pub(crate) fn sign_at(bytes: &[u8], from: usize) -> (bool, usize)
     requires { from ≤ length bytes.now }

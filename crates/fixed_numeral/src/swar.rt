@@ -8,6 +8,7 @@ ghost use Rattle.std.specs.Str.Parse.{AllDigits, digits_value};
 ghost use Rattle.fixed_numeral.specs.Digits.{digits_in};
 
 /// Eight bytes from a place on, the first of them in the lowest byte.
+#[tactic(auto, using(crate::proofs::LaneLemmas::eight_bytes))]
 #[inline(always)]
 pub(crate) fn word_at(bytes: &[u8], at: usize) -> u64
     requires { at + 8 ≤ length bytes.now }
@@ -27,6 +28,7 @@ pub(crate) fn word_at(bytes: &[u8], at: usize) -> u64
 
 /// Whether each of the eight bytes of a word is a decimal digit. The upper half of each is 3 from '0' on to the
 /// sixth byte after '9', and with 6 added it is still 3 for the digits alone.
+#[tactic(auto, using(crate::proofs::LaneLemmas::sixes_fit, crate::proofs::LaneLemmas::eight_decimal))]
 #[inline(always)]
 pub(crate) fn are_decimal(word: u64) -> bool
     ensures { (bs : List ℕ) → length bs ≡ 8 → AllBelowBase 256 bs → word ≡ number_l 256 bs → IsTrue result
@@ -48,6 +50,7 @@ fn digit_values(word: u64) -> u64
 
 /// The number that eight digits, each in a byte, spell in a base. Neighbours are joined to pairs, pairs to fours, and
 /// the two fours to the number, each with one multiplication for all.
+#[tactic(auto, using(crate::proofs::LaneLemmas::eight_is))]
 #[inline(always)]
 fn number_of_eight(digits: u64, base: u64) -> u64
     requires { base ≤ 16 }
@@ -117,6 +120,7 @@ const ZEROS_BEFORE: [u64; 9] = [
 ];
 
 /// The last bytes of a word after zeros. Tables, so that no byte at all is no case of its own.
+#[tactic(auto, using(crate::proofs::DecimalLemmas::padded_is))]
 #[inline(always)]
 fn after_zeros(word: u64, count: usize) -> u64
     requires few { count ≤ 8 }
@@ -128,6 +132,7 @@ fn after_zeros(word: u64, count: usize) -> u64
 
 /// The number that the last bytes of a word spell, at most eight, where they are decimal digits. The bytes before them
 /// are made zeros.
+#[tactic(auto, using(crate::proofs::DecimalLemmas::last_digits))]
 #[inline(always)]
 pub(crate) fn last_decimals(word: u64, count: usize) -> Option<u64>
     requires few { count ≤ 8 }
@@ -202,7 +207,7 @@ fn number_by_eights(bytes: &[u8], base: u64) -> u64
     number
 }
 
-/// The number that eight digits or more spell in a base, where each byte is a digit.
+/// What `number_by_eights` answers. The powers of base 10 are constants.
 pub(crate) fn long_number(bytes: &[u8], base: u64) -> u64
     requires long { 8 ≤ length bytes.now }
     requires plain { length (digits_in bytes.now) ≡ length bytes.now }
@@ -212,16 +217,9 @@ pub(crate) fn long_number(bytes: &[u8], base: u64) -> u64
     requires room { base ^ length (digits_in bytes.now) ≤ 2 ^ 64 }
     ensures { result ≡ number_from_digits base (digits_in bytes.now) }
 {
-    number_by_eights(bytes, base)
-}
-
-/// What `long_number` answers in base 10, whose powers are then constants.
-pub(crate) fn long_decimal(bytes: &[u8]) -> u64
-    requires long { 8 ≤ length bytes.now }
-    requires plain { length (digits_in bytes.now) ≡ length bytes.now }
-    requires digits { AllBelowBase 10 (digits_in bytes.now) }
-    requires room { 10 ^ length (digits_in bytes.now) ≤ 2 ^ 64 }
-    ensures { result ≡ number_from_digits 10 (digits_in bytes.now) }
-{
-    number_by_eights(bytes, 10)
+    if base == 10 {
+        number_by_eights(bytes, 10)
+    } else {
+        number_by_eights(bytes, base)
+    }
 }

@@ -42,8 +42,7 @@ block_room block count bits most s l =
 -- an ulp is at least twice what the digits after the block can make
 scale_up : (count frac fives : ℕ) → fives ≡ 5 ^ count → count ≤ frac → fives * 2 ^ frac ≡ 2 ^ (frac - count) * 10 ^ count
 scale_up count frac fives e l =
-    let two : 2 ^ frac ≡ 2 ^ (frac - count) * 2 ^ count = ap (λ i. 2 ^ i) (let z : frac ≡ (frac - count) + count = omega arith in z) ∙ pow-add 2 (frac - count) count in
-    rw (two, e, ten_is count) (omega arith)
+    rw ((ap (λ i. 2 ^ i) (let z : frac ≡ (frac - count) + count = omega arith in z) ∙ pow-add 2 (frac - count) count), e, ten_is count) (omega arith)
 
 pub candidate_by : (block count frac fives q rest : ℕ) → fives ≡ 5 ^ count → fives < 2 ^ 63 → count ≤ frac → q * fives + rest ≡ block * 2 ^ (frac - count) → rest < fives → IsCandidate block count frac q rest fives (frac - count)
 candidate_by block count frac fives q rest e most l split small = record { split = split; small = small; scale = scale_up count frac fives e l; most = most }
@@ -106,12 +105,9 @@ block_order r ds rest block start mark bits longer below led em el m =
     (λ h. block_more block (10 ^ length rest) (number_from_digits 10 rest) (number_from_digits 10 ds) (10 ^ length ds) (2 ^ bits) (5 ^ bits) start led_at five_some t_some l_some w_small (past h))
     m
   where
-    further : (x : ℕ) → x < block → x * 10 ^ length rest < block * 10 ^ length rest + number_from_digits 10 rest
-    further x k = omega (arith, mul-le-mul_right (10 ^ length rest) k, ten_pos (length rest))
-
     past : (mark < block) ⊎ ((block ≡ mark) × IsTrue longer) → start * 5 ^ bits * 10 ^ length rest < block * 10 ^ length rest + number_from_digits 10 rest
     past h = ⊎_elim
-        (λ (k : mark < block). further (start * 5 ^ bits) (rw em at k))
+        (λ (k : mark < block). (omega (arith, mul-le-mul_right (10 ^ length rest) (rw em at k), ten_pos (length rest))))
         (λ (k : (block ≡ mark) × IsTrue longer). let same : block ≡ start * 5 ^ bits = k.0 ∙ em in let more = (some_digits 10 rest (omega arith) led.trailing).0 (el.0 k.1) in omega (arith, ap (λ x. x * 10 ^ length rest) same, more))
         h
 
@@ -232,8 +228,7 @@ next_room q s den n h l = cancel_lt den (q + 1) n (omega (arith, h, l))
 
 pub settled_over : (q s den : ℕ) → den < s → 2 * s < 3 * den → IsSettled (q * den + s) den (q + 1) LessThanHalf
 settled_over q s den l near =
-    let over : s ≡ den + (s - den) = omega arith in
-    record { rest = s - den; split = omega (arith, over); left = (omega arith, omega (arith, over)) }
+    record { rest = s - den; split = omega arith; left = (omega arith, omega arith) }
 
 pub settled_tail : (q s den : ℕ) (lost : LostFraction) → IsLostFraction lost s den → IsSettled (q * den + s) den q lost
 settled_tail q s den lost h = record { rest = s; split = refl; left = h }
@@ -244,3 +239,6 @@ settled_share rest q left unit bits lost e h =
     let one : left * 10 ^ 0 + 0 * 2 ^ bits ≡ left = omega arith in
     let all : unit * 10 ^ 0 ≡ unit = omega arith in
     rw e (record { rest = left * 10 ^ 0 + 0 * 2 ^ bits; split = refl; left = rw (one, all) h })
+
+-- past the candidate's next ulp
+pub ruleset past_ulp = (next_room, part_near, room_of)

@@ -58,10 +58,7 @@ led_short b ds number count l e =
     let all : number ≡ number_from_digits b ds = e ∙ ap (number_from_digits b) (take_all count ds l) in
     let power : b ^ count ≡ b ^ (count - length ds) * b ^ length ds = ap (λ i. b ^ i) (let z : count ≡ (count - length ds) + length ds = omega arith in z) ∙ pow-add b (count - length ds) (length ds) in
     let same : count + 0 ≡ count = omega arith in
-    rw (drop_all count ds l, all, same, power) (plain (number_from_digits b ds) (b ^ (count - length ds)) (b ^ length ds))
-  where
-    plain : (n p x : ℕ) → (n * p * b ^ 0 + 0) * x ≡ n * (p * x)
-    plain n p x = rw (pow-zero b) (omega arith)
+    rw (drop_all count ds l, all, same, power) (rw (pow-zero b) (omega arith))
 
 short_small : (b : ℕ) (ds : List ℕ) (number count : ℕ) → 0 < b → AllBelowBase b ds → length ds ≤ count → number ≡ number_from_digits b (take count ds) → number * b ^ (count - length ds) < b ^ count
 short_small b ds number count p below l e =
@@ -93,13 +90,10 @@ led_join b ds middle rest b1 b2 i j p h k =
     let g : b ^ (i + j + length rest) ≡ b ^ i * b ^ j * b ^ length rest = pow-add b (i + j) (length rest) ∙ ap (λ x. x * b ^ length rest) (pow-add b i j) in
     record {
       same = rw g (plain_join b1 b2 (b ^ length middle) (b ^ length rest) (number_from_digits b middle) (number_from_digits b rest) (number_from_digits b ds) (b ^ length ds) (b ^ i) (b ^ j) (one-le-pow (length middle) b p) (rw e at h.same) (rw f at k.same));
-      small = rw (pow-add b i j) (below (b ^ i) (b ^ j) h.small k.small);
+      small = rw (pow-add b i j) (omega (arith, mul-le-mul_right (b ^ j) h.small));
       digits = k.digits;
       trailing = k.trailing;
     }
-  where
-    below : (x y : ℕ) → b1 < x → b2 < y → b1 * y + b2 < x * y
-    below x y l m = omega (arith, mul-le-mul_right y l)
 
 -- zeros after all digits
 zeros_same : (block n x i z t : ℕ) → (block * z + 0) * x ≡ n * i → (block * t * z + 0) * x ≡ n * (i * t)
@@ -123,8 +117,7 @@ led_zeros b ds rest block i j p h e =
 
 pub led_nothing : (b : ℕ) (ds : List ℕ) (count : ℕ) → 0 < b → AllBelowBase b ds → NoTrailingZero ds → ds ≡ [] → IsBlockOf b ds (drop count ds) 0 count
 led_nothing b ds count p below trailing e =
-    let none : drop count ds ≡ [] = drop_all count ds (rw e (omega arith)) in
-    rw none (record {
+    rw (drop_all count ds (rw e (omega arith))) (record {
       same = rw e (omega arith);
       small = one-le-pow count b p;
       digits = rw e at below;

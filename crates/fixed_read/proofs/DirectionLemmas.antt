@@ -9,7 +9,7 @@ use Rattle.fixed_bits.proofs.Public.{rounded_same}
 use Rattle.fixed_read.specs.declared.direction.Direction.{Direction}
 use Rattle.fixed_read.specs.declared.direction.Direction.TheVariants.{Nearest, Down, Up}
 use Rattle.fixed_read.specs.declared.lost_fraction.LostFraction.{LostFraction}
-use Rattle.fixed_read.specs.declared.lost_fraction.LostFraction.TheVariants.{Zero, LessThanHalf, Half, MoreThanHalf}
+use Rattle.fixed_read.specs.declared.lost_fraction.LostFraction.TheVariants.{LessThanHalf, MoreThanHalf}
 use Rattle.fixed_read.specs.Inner.Directions.{IsRoundedTo, direction}
 use Rattle.fixed_read.specs.Inner.Rounding.{IsLostFraction}
 
@@ -55,10 +55,9 @@ module _ (q s den odd : ℕ) (pos : 0 < den) where
   up_some h l = record { at_least = omega arith; before = omega arith }
 
 pub tail_within : (t : LostFraction) (s den : ℕ) → 0 < den → IsLostFraction t s den → s < den
-tail_within Zero s den p h = omega arith
 tail_within LessThanHalf s den p h = omega (arith, h.1)
-tail_within Half s den p h = omega arith
 tail_within MoreThanHalf s den p h = h.1
+tail_within x s den p h = omega arith
 
 -- ---- the block's rest and what is after it
 module _ (rest half d y : ℕ) (low : y < d) where

@@ -34,13 +34,10 @@ trailing_none b m last long over s p below h = record {
 
 over_more : (m n b v d : ℕ) (long : Type 0) (over next : Bool) → 0 < b → v ≡ n % m → (IsTrue over ↔ (long ⊎ (m ≤ n))) → (IsTrue next ↔ (IsTrue over ⊎ (m ≤ v * b + d))) → IsTrue next ↔ (long ⊎ (m ≤ n * b + d))
 over_more m n b v d long over next pos e h k = (
-  λ t. ⊎_elim (λ o. ⊎_elim (λ l. inl l) (λ (l : m ≤ n). inr (more l)) (h.0 o)) (λ (l : m ≤ v * b + d). inr (whole l)) (k.0 t),
+  λ t. ⊎_elim (λ o. ⊎_elim (λ l. inl l) (λ (l : m ≤ n). inr (omega (arith, mul-le-mul_left n pos))) (h.0 o)) (λ (l : m ≤ v * b + d). inr (whole l)) (k.0 t),
   λ t. k.1 (⊎_elim (λ l. inl (h.1 (inl l))) (λ (l : m ≤ n * b + d). ⊎_elim (λ (s : n < m). inr (kept s l)) (λ (g : m ≤ n). inl (h.1 (inr g))) (cases_lt n m)) t),
 )
   where
-    more : m ≤ n → m ≤ n * b + d
-    more l = omega (arith, mul-le-mul_left n pos)
-
     at_most : v ≤ n
     at_most = omega (arith, div-add-mod' n m)
 
@@ -103,7 +100,6 @@ pub record Ends (b w : ℕ) (ds : List ℕ) (value : ℕ) (over : Bool) : Type 0
 pub trailing_all : (b w : ℕ) (ds last rest : List ℕ) (value : ℕ) (over : Bool) (before now : ℕ) → 2 ≤ b → b % 2 ≡ 0 → NoLeadingZero ds → last ≡ drop (length ds - w) ds → rest ≡ [] → Trailing b (2 ^ w) last rest value (w < length ds) over before now → Ends b w ds value over
 trailing_all b w ds last rest value over before now two even none el er h =
     let whole : last ≡ h.taken = h.split ∙ ap (λ xs. h.taken ++ xs) er ∙ append-nil h.taken in
-    let prefix : List ℕ = take (length ds - w) ds in
     let back : h.taken ≡ drop (length ds - w) ds = sym whole ∙ el in
     let cut : take (length ds - w) ds ++ drop (length ds - w) ds ≡ ds = take-append-drop (length ds - w) ds in
     let n : number_from_digits b ds ≡ number_from_digits b (take (length ds - w) ds) * b ^ length (drop (length ds - w) ds) + number_from_digits b (drop (length ds - w) ds) = ap (number_from_digits b) (sym cut) ∙ number_append b (take (length ds - w) ds) (drop (length ds - w) ds) in

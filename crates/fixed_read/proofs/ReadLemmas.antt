@@ -4,12 +4,13 @@ use Rattle.fixed_bits.specs.Numbers.{IsNumber, with_sign}
 use Rattle.fixed_bits.specs.Rounded.{IsRounded}
 use Rattle.fixed_bits.specs.Ranges.{IsInRange}
 use Rattle.fixed_bits.specs.declared.mode.ReadMode.{ReadMode}
+use Rattle.fixed_numeral.specs.Answer.{IsReadOrRefused}
 use Rattle.fixed_numeral.specs.Numeral.{Parts, base, is_minus, signed}
 use Rattle.fixed_numeral.specs.Scanned.{IsScanned}
 use Rattle.fixed_numeral.specs.Spelled.{IsSameNumber}
 use Rattle.fixed_numeral.specs.Value.{Fraction, magnitude}
 use Rattle.fixed_numeral.specs.declared.radix.Radix.{Radix}
-use Rattle.fixed_numeral.specs.declared.radix.Radix.TheVariants.{Bin, Oct, Dec, Hex}
+use Rattle.fixed_numeral.specs.declared.radix.Radix.TheVariants.{Bin}
 use Rattle.fixed_numeral.proofs.Public.{magnitude_pos}
 use Rattle.fixed_bits.proofs.Public.{rounded_unique, rounded_exists, range_decided}
 use Rattle.fixed_read.specs.Reading.{IsReadNumber, IsReading, IsReadInRange, IsReadOutOfRange, number_in}
@@ -44,6 +45,10 @@ pub cause_if : {T E : Type 0} (overflow : E) (Cause : E → Type 0) (Out : Type 
 cause_if overflow Cause Out (Ok x) f h = h
 cause_if overflow Cause Out (Err e) f h = inr (h, f (λ t. absurd (cc)))
 
+-- what is right for the answer of one reader is right for that of another
+pub read_as : {A B : Type 0} (r : Radix) (bs : List ℕ) (P : Parts → A → Type 0) (Q : Parts → B → Type 0) (x : A) (y : B) → IsReadOrRefused r bs P (Ok x) → ((p : Parts) → P p x → Q p y) → IsReadOrRefused r bs Q (Ok y)
+read_as r bs P Q x y h more = record { numeral = h.numeral; read = λ p g. more p (h.read p g); cause = h.cause }
+
 -- ---- a reader in range or out of it
 module _ (mode : ReadMode) (r : Radix) (Has : Parts → Type 0) (f : ℕ) (sign : Bool) (n : ℕ) (found : ReadNumber) (frac : found.format.frac ≡ f)
     (reading : (p : Parts) → Has p → IsReading mode r p found) where
@@ -68,9 +73,7 @@ module _ (mode : ReadMode) (r : Radix) (Has : Parts → Type 0) (f : ℕ) (sign 
 -- ---- of a numeral
 pub base_some : (r : Radix) → 0 < base r
 base_some Bin = omega arith
-base_some Oct = omega arith
-base_some Dec = omega arith
-base_some Hex = omega arith
+base_some r = omega arith
 
 -- the reading of a numeral whose magnitude is a number that was rounded
 pub reading_from : (mode : ReadMode) (r : Radix) (p : Parts) (number : Fraction) (ulps : Ulps) (found : ReadNumber) → found.negative ≡ is_minus p.sign → 0 < number.den → IsSameNumber number (magnitude r p) → IsMagnitude (direction mode found.negative) number found.format.frac ulps → found.low ≡ ulps.low → found.has_high_bits ≡ ulps.has_high_bits → found.exact ≡ ulps.is_exact → IsReading mode r p found

@@ -8,7 +8,7 @@ use Rattle.fixed_read.specs.declared.magnitude.Ulps.{Ulps}
 use Rattle.fixed_read.specs.declared.direction.Direction.{Direction}
 use Rattle.fixed_read.proofs.DirectionLemmas.{to_same}
 use Rattle.fixed_read.proofs.MultipleLemmas.{cancel_eq, exact_rest}
-use Rattle.fixed_read.proofs.ShortNumeralLemmas.{ten_split}
+use Rattle.fixed_read.proofs.ShortNumeralLemmas.{ten_split, split_whole, thirteen_below}
 
 pub few_bits : (n : ℕ) → n ≤ 32 → 2 ^ n ≤ 2 ^ 32
 few_bits n l = pow-le-pow_right {n = 2} (omega arith) l
@@ -49,11 +49,8 @@ rest_below low left q l k = omega (arith, l, k)
 pub share : (block frac ulps low left fine p q : ℕ) → fine * 1220703125 + left ≡ block * 2 ^ 19 * p → fine ≡ ulps * q + low → 2 ^ frac * q ≡ 2 ^ 32 * p → low < q → left < 1220703125 → IsShare block (10 ^ 13) frac ulps (low * 1220703125 + left) (1220703125 * q)
 share block frac ulps low left fine p q sum whole scale l k = record {
   small = rest_below low left q l k;
-  split = plain (2 ^ frac) scale;
+  split = omega (arith, ap (λ x. block * x) scale, sum, whole);
 }
-  where
-    plain : (t : ℕ) → t * q ≡ 2 ^ 32 * p → block * t * (1220703125 * q) ≡ (ulps * (1220703125 * q) + (low * 1220703125 + left)) * 10 ^ 13
-    plain t s = omega (arith, ap (λ x. block * x) s, sum, whole)
 
 -- a share of a block that zeros fill up
 pub padded_share : (f p n frac q rest unit : ℕ) → p ≤ n → IsShare (f * 10 ^ (n - p)) (10 ^ n) frac q rest unit → IsShare f (10 ^ p) frac q rest unit
@@ -68,10 +65,7 @@ padded_share f p n frac q rest unit l h = record {
 -- what is lost, where a share is left
 -- a share after a whole number
 pub share_whole : (w num den frac q count rest unit : ℕ) → count ≡ w * 2 ^ frac + q → IsShare num den frac q rest unit → IsShare (w * den + num) den frac count rest unit
-share_whole w num den frac q count rest unit e h = record { small = h.small; split = rw e (plain (2 ^ frac) h.split) }
-  where
-    plain : (p : ℕ) → num * p * unit ≡ (q * unit + rest) * den → (w * den + num) * p * unit ≡ ((w * p + q) * unit + rest) * den
-    plain p k = omega (arith, k)
+share_whole w num den frac q count rest unit e h = record { small = h.small; split = rw e (omega (arith, h.split)) }
 
 -- a share rounded
 pub magnitude_of_share : (direction : Direction) (num den frac q rest unit more high : ℕ) (ulps : Ulps) → 0 < den → IsShare num den frac q rest unit → IsRoundedTo direction (q * unit + rest) unit (q + more) → (IsTrue ulps.is_exact ↔ (rest ≡ 0)) → q + more ≡ high * 2 ^ 64 + ulps.low → (IsTrue ulps.has_high_bits ↔ (0 < high)) → IsMagnitude direction (record { num = num; den = den }) frac ulps
@@ -84,3 +78,6 @@ magnitude_of_share direction num den frac q rest unit more high ulps some h to n
       over = over;
       exact = (λ t. test.0 (none.0 t), λ m. none.1 (test.1 m));
     }
+
+-- a whole number before a fraction
+pub ruleset with_whole = (share_whole, split_whole, thirteen_below)

@@ -34,48 +34,36 @@ candidate_split block count frac q rest unit bits lost c left = record {
   rest = rest;
   unit = unit;
   some = omega (arith, c.small);
-  split = plain (2 ^ frac) (2 ^ bits) (10 ^ count) c.split c.scale;
+  split = omega (arith, ap (λ x. x * (10 ^ count)) c.split, ap (λ x. block * x) c.scale);
   left = left;
 }
-  where
-    plain : (p a ten : ℕ) → q * unit + rest ≡ block * a → unit * p ≡ a * ten → block * p * unit ≡ (q * unit + rest) * ten
-    plain p a ten e f = omega (arith, ap (λ x. x * ten) e, ap (λ x. block * x) f)
 
 pub split_narrower : (num x den frac q : ℕ) (lost : LostFraction) → 0 < x → IsSplitUlps (num * x) (den * x) frac q lost → IsSplitUlps num den frac q lost
 split_narrower num x den frac q lost some h = record {
   rest = h.rest;
   unit = h.unit;
   some = h.some;
-  split = cancel_eq (num * 2 ^ frac * h.unit) ((q * h.unit + h.rest) * den) x some (plain (2 ^ frac) h.unit h.rest h.split);
+  split = cancel_eq (num * 2 ^ frac * h.unit) ((q * h.unit + h.rest) * den) x some (omega (arith, h.split));
   left = h.left;
 }
-  where
-    plain : (p u r : ℕ) → num * x * p * u ≡ (q * u + r) * (den * x) → num * p * u * x ≡ (q * u + r) * den * x
-    plain p u r e = omega (arith, e)
 
 pub split_whole : (w num den frac q count : ℕ) (lost : LostFraction) → count ≡ w * 2 ^ frac + q → IsSplitUlps num den frac q lost → IsSplitUlps (w * den + num) den frac count lost
 split_whole w num den frac q count lost e h = record {
   rest = h.rest;
   unit = h.unit;
   some = h.some;
-  split = rw e (plain (2 ^ frac) h.unit h.rest h.split);
+  split = rw e (omega (arith, h.split));
   left = h.left;
 }
-  where
-    plain : (p u r : ℕ) → num * p * u ≡ (q * u + r) * den → (w * den + num) * p * u ≡ ((w * p + q) * u + r) * den
-    plain p u r e = omega (arith, e)
 
 pub split_coarser : (num den frac bits ulps w low half : ℕ) (lost coarse : LostFraction) → 2 ^ bits ≡ 2 * half → ulps ≡ w * 2 ^ bits + low → IsSplitUlps num den (frac + bits) ulps lost → ((d y : ℕ) → y < d → 0 < d → IsLostFraction lost y d → IsLostFraction coarse (low * d + y) (2 * half * d)) → IsSplitUlps num den frac w coarse
 split_coarser num den frac bits ulps w low half lost coarse two e h left = record {
   rest = low * h.unit + h.rest;
   unit = 2 * half * h.unit;
   some = mul-pos (rw two at (pow_pos bits)) h.some;
-  split = plain (2 ^ frac) (2 * half) h.unit h.rest (rw (pow-add 2 frac bits, two) at h.split) (rw two at e);
+  split = omega (arith, (rw (pow-add 2 frac bits, two) at h.split), ap (λ x. x * h.unit * den) (rw two at e));
   left = left h.unit h.rest (tail_within lost h.rest h.unit h.some h.left) h.some h.left;
 }
-  where
-    plain : (p t u r : ℕ) → num * (p * t) * u ≡ (ulps * u + r) * den → ulps ≡ w * t + low → num * p * (t * u) ≡ (w * (t * u) + (low * u + r)) * den
-    plain p t u r f g = omega (arith, f, ap (λ x. x * u * den) g)
 
 -- ---- a fraction with zeros at its end
 pub ten_split : (p n : ℕ) → p ≤ n → 10 ^ n ≡ 10 ^ p * 10 ^ (n - p)
@@ -95,10 +83,7 @@ pub half_of : (bits : ℕ) → 0 < bits → 2 ^ bits ≡ 2 * 2 ^ (bits - 1)
 half_of bits some = ap (λ i. 2 ^ i) (let z : bits ≡ (bits - 1) + 1 = omega arith in z) ∙ pow-add 2 (bits - 1) 1 ∙ omega arith
 
 pub coarser_small : (ulps w frac bits : ℕ) → w ≡ ulps / 2 ^ bits → ulps < 2 ^ (frac + bits) → w < 2 ^ frac
-coarser_small ulps w frac bits e l = cancel (2 ^ bits) (2 ^ frac) (ulps % 2 ^ bits) (rw (pow-add 2 frac bits) at l) (rw (← e) at (div-add-mod' ulps (2 ^ bits)))
-  where
-    cancel : (b f r : ℕ) → ulps < f * b → w * b + r ≡ ulps → w < f
-    cancel b f r k d = grind (arith, k, d)
+coarser_small ulps w frac bits e l = grind (arith, (rw (pow-add 2 frac bits) at l), (rw (← e) at (div-add-mod' ulps (2 ^ bits))))
 
 -- ---- rounding
 pub magnitude_is_rounded : (direction : Direction) (num den frac q more high : ℕ) (lost : LostFraction) (ulps : Ulps) → 0 < den → (h : IsSplitUlps num den frac q lost) → IsRoundedTo direction (q * h.unit + h.rest) h.unit (q + more) → ((y d : ℕ) → 0 < d → IsLostFraction lost y d → IsTrue ulps.is_exact ↔ (y ≡ 0)) → q + more ≡ high * 2 ^ 64 + ulps.low → (IsTrue ulps.has_high_bits ↔ (0 < high)) → IsMagnitude direction (record { num = num; den = den }) frac ulps
@@ -151,10 +136,7 @@ thirteen_below f p l b = let most : 10 ^ p ≤ 10 ^ 13 = pow-le-pow_right (omega
 pub fraction_same : (w f p digits : ℕ) (z : ℤ) → (pos 0 <ℤ z → ⊥) → w * 10 ^ down_of z + f ≡ digits → p ≡ down_of z → IsSameNumber (record { num = w * 10 ^ p + f; den = 10 ^ p }) (scaled digits 1 10 z)
 fraction_same w f p digits (pos zero) l e ep = rw ep (omega (arith, e))
 fraction_same w f p digits (pos (suc x)) l e ep = absurd (l (omega (arith, ints)))
-fraction_same w f p digits (negsuc x) l e ep = rw ep (plain (10 ^ suc x) e)
-  where
-    plain : (t : ℕ) → w * t + f ≡ digits → (w * t + f) * (1 * t) ≡ digits * t
-    plain t k = omega (arith, ap (λ y. y * t) k)
+fraction_same w f p digits (negsuc x) l e ep = rw ep (omega (arith, ap (λ y. y * (10 ^ suc x)) e))
 
 -- ---- powers of two
 pub whole_to : (direction : Direction) (q : ℕ) → IsRoundedTo direction (q * 1 + 0) 1 (q + 0)
@@ -163,18 +145,12 @@ whole_to Down q = down_any q 0 1 0 (omega arith) (omega arith)
 whole_to Up q = up_nothing q 0 1 0 (omega arith) refl
 
 pub raised : (direction : Direction) (num den frac q high : ℕ) (ulps : Ulps) → 0 < den → q * den ≡ num * 2 ^ frac → ulps.is_exact ≡ true → q ≡ high * 2 ^ 64 + ulps.low → (IsTrue ulps.has_high_bits ↔ (0 < high)) → IsMagnitude direction (record { num = num; den = den }) frac ulps
-raised direction num den frac q high ulps some e exact split over = magnitude_is_rounded direction num den frac q 0 high Zero ulps some (record { rest = 0; unit = 1; some = omega arith; split = plain (2 ^ frac) e; left = refl }) (whole_to direction q) (λ y d p left. (λ t. left, λ z. exact)) (let z : q + 0 ≡ q = omega arith in z ∙ split) over
-  where
-    plain : (p : ℕ) → q * den ≡ num * p → num * p * 1 ≡ (q * 1 + 0) * den
-    plain p k = omega (arith, k)
+raised direction num den frac q high ulps some e exact split over = magnitude_is_rounded direction num den frac q 0 high Zero ulps some (record { rest = 0; unit = 1; some = omega arith; split = omega (arith, e); left = refl }) (whole_to direction q) (λ y d p left. (λ t. left, λ z. exact)) (let z : q + 0 ≡ q = omega arith in z ∙ split) over
 
 pub far_up : (digits by : ℕ) → 64 ≤ by → digits * 2 ^ by ≡ digits * 2 ^ (by - 64) * 2 ^ 64 + 0
 far_up digits by l =
     let p : 2 ^ by ≡ 2 ^ (by - 64) * 2 ^ 64 = ap (λ i. 2 ^ i) (let z : by ≡ (by - 64) + 64 = omega arith in z) ∙ pow-add 2 (by - 64) 64 in
-    plain (2 ^ (by - 64)) (2 ^ 64) (2 ^ by) p
-  where
-    plain : (a m t : ℕ) → t ≡ a * m → digits * t ≡ digits * a * m + 0
-    plain a m t e = omega (arith, ap (λ x. digits * x) e)
+    omega (arith, ap (λ x. digits * x) p)
 
 pub far_some : (digits by : ℕ) (b : Bool) → (IsTrue b ↔ (0 < digits)) → IsTrue b ↔ (0 < digits * 2 ^ (by - 64))
 far_some digits by b e = (λ t. mul-pos (e.0 t) (pow_pos (by - 64)), λ l. e.1 (some digits (2 ^ (by - 64)) l))
@@ -198,27 +174,18 @@ lowered_split num den frac digits by count rest lost e left same = record {
 pub cross_up : (digits up down num den frac : ℕ) → down ≤ up → digits * 2 ^ up * den ≡ num * 2 ^ frac * 2 ^ down → digits * 2 ^ (up - down) * den ≡ num * 2 ^ frac
 cross_up digits up down num den frac l e =
     let p : 2 ^ up ≡ 2 ^ (up - down) * 2 ^ down = ap (λ i. 2 ^ i) (let z : up ≡ (up - down) + down = omega arith in z) ∙ pow-add 2 (up - down) down in
-    cancel_eq (digits * 2 ^ (up - down) * den) (num * 2 ^ frac) (2 ^ down) (pow_pos down) (plain (2 ^ (up - down)) (2 ^ down) ∙ (rw p at e))
-  where
-    plain : (a d : ℕ) → digits * a * den * d ≡ digits * (a * d) * den
-    plain a d = omega arith
+    cancel_eq (digits * 2 ^ (up - down) * den) (num * 2 ^ frac) (2 ^ down) (pow_pos down) ((omega arith) ∙ (rw p at e))
 
 pub cross_down : (digits up down num den frac : ℕ) → up ≤ down → digits * 2 ^ up * den ≡ num * 2 ^ frac * 2 ^ down → digits * den ≡ num * 2 ^ frac * 2 ^ (down - up)
 cross_down digits up down num den frac l e =
     let p : 2 ^ down ≡ 2 ^ (down - up) * 2 ^ up = ap (λ i. 2 ^ i) (let z : down ≡ (down - up) + up = omega arith in z) ∙ pow-add 2 (down - up) up in
-    cancel_eq (digits * den) (num * 2 ^ frac * 2 ^ (down - up)) (2 ^ up) (pow_pos up) (one (2 ^ up) ∙ (rw p at e) ∙ two (num * 2 ^ frac) (2 ^ (down - up)) (2 ^ up))
+    cancel_eq (digits * den) (num * 2 ^ frac * 2 ^ (down - up)) (2 ^ up) (pow_pos up) ((omega arith) ∙ (rw p at e) ∙ two (num * 2 ^ frac) (2 ^ (down - up)) (2 ^ up))
   where
-    one : (u : ℕ) → digits * den * u ≡ digits * u * den
-    one u = omega arith
-
     two : (n a u : ℕ) → n * (a * u) ≡ n * a * u
     two n a u = omega arith
 
 pub cross_frac : (digits up down num den frac : ℕ) → digits * 2 ^ up * den ≡ num * 2 ^ down → digits * 2 ^ (up + frac) * den ≡ num * 2 ^ frac * 2 ^ down
-cross_frac digits up down num den frac e = rw (pow-add 2 up frac) (plain (2 ^ up) (2 ^ frac) (2 ^ down) e)
-  where
-    plain : (u f d : ℕ) → digits * u * den ≡ num * d → digits * (u * f) * den ≡ num * f * d
-    plain u f d k = omega (arith, ap (λ x. x * f) k)
+cross_frac digits up down num den frac e = rw (pow-add 2 up frac) (omega (arith, ap (λ x. x * (2 ^ frac)) e))
 
 -- up and down as one number
 pub net_up : (digits up down num den frac by : ℕ) → digits * 2 ^ up * den ≡ num * 2 ^ down → by + down ≡ up + frac → digits * 2 ^ by * den ≡ num * 2 ^ frac
@@ -237,40 +204,26 @@ parts_of (pos x) = omega (arith, ints)
 parts_of (negsuc x) = omega (arith, ints)
 
 net_by_two : (bits places u d : ℕ) (x : ℤ) → bits ≤ 4 → x ≡ pos u -ℤ pos d → (pos 1 *ℤ x) -ℤ (pos bits *ℤ pos places) ≡ pos u -ℤ pos (bits * places + d)
-net_by_two zero places u d x l e = omega (arith, ints)
-net_by_two (suc zero) places u d x l e = omega (arith, ints)
-net_by_two (suc (suc zero)) places u d x l e = omega (arith, ints)
-net_by_two (suc (suc (suc zero))) places u d x l e = omega (arith, ints)
-net_by_two (suc (suc (suc (suc zero)))) places u d x l e = omega (arith, ints)
 net_by_two (suc (suc (suc (suc (suc bits))))) places u d x l e = absurd (omega arith)
+net_by_two y places u d x l e = omega (arith, ints)
 
 net_by_base : (bits places u d : ℕ) (x : ℤ) → bits ≤ 4 → x -ℤ pos places ≡ pos u -ℤ pos d → (pos bits *ℤ x) -ℤ (pos bits *ℤ pos places) ≡ pos (bits * u) -ℤ pos (bits * d)
-net_by_base zero places u d x l e = omega (arith, ints)
-net_by_base (suc zero) places u d x l e = omega (arith, ints)
-net_by_base (suc (suc zero)) places u d x l e = omega (arith, ints)
-net_by_base (suc (suc (suc zero))) places u d x l e = omega (arith, ints)
-net_by_base (suc (suc (suc (suc zero)))) places u d x l e = omega (arith, ints)
 net_by_base (suc (suc (suc (suc (suc bits))))) places u d x l e = absurd (omega arith)
+net_by_base y places u d x l e = omega (arith, ints)
 
 pub net_is : (bits places unit : ℕ) (x : ℤ) (two : Bool) → bits ≤ 4 → unit ≡ cond two 1 bits → (pos unit *ℤ x) -ℤ (pos bits *ℤ pos places) ≡ pos (ups bits places x two) -ℤ pos (downs bits places x two)
 net_is bits places unit x true l e = rw e (net_by_two bits places (up_of x) (down_of x) x l (parts_of x))
 net_is bits places unit x false l e = rw e (net_by_base bits places (up_of (x -ℤ pos places)) (down_of (x -ℤ pos places)) x l (parts_of (x -ℤ pos places)))
 
 scaled_two : (digits bits b : ℕ) (z : ℤ) → b ≡ 2 ^ bits → digits * 2 ^ (bits * up_of z) * (scaled digits 1 b z).den ≡ (scaled digits 1 b z).num * 2 ^ (bits * down_of z)
-scaled_two digits bits b (pos x) e = rw (e, pow-mul 2 bits x) (plain (2 ^ (bits * x)) (2 ^ (bits * 0)) (ap (λ i. 2 ^ i) (let z : bits * 0 ≡ 0 = omega arith in z)))
-  where
-    plain : (t u : ℕ) → u ≡ 2 ^ 0 → digits * t * 1 ≡ digits * t * u
-    plain t u k = rw k (omega arith)
+scaled_two digits bits b (pos x) e = rw (e, pow-mul 2 bits x) (rw (ap (λ i. 2 ^ i) (let z : bits * 0 ≡ 0 = omega arith in z)) (omega arith))
 scaled_two digits bits b (negsuc x) e = rw (e, pow-mul 2 bits (suc x)) (plain (2 ^ (bits * suc x)) (2 ^ (bits * 0)) (ap (λ i. 2 ^ i) (let z : bits * 0 ≡ 0 = omega arith in z)))
   where
     plain : (t u : ℕ) → u ≡ 2 ^ 0 → digits * u * (1 * t) ≡ digits * t
     plain t u k = rw k (omega arith)
 
 placed_two : (digits bits b places : ℕ) (z : ℤ) → b ≡ 2 ^ bits → digits * 2 ^ up_of z * (scaled digits (b ^ places) 2 z).den ≡ (scaled digits (b ^ places) 2 z).num * 2 ^ (bits * places + down_of z)
-placed_two digits bits b places (pos x) e = rw (e, pow-mul 2 bits places, pow-add 2 (bits * places) 0) (plain (2 ^ x) (2 ^ (bits * places)))
-  where
-    plain : (t u : ℕ) → digits * t * u ≡ digits * t * (u * 2 ^ 0)
-    plain t u = omega arith
+placed_two digits bits b places (pos x) e = rw (e, pow-mul 2 bits places, pow-add 2 (bits * places) 0) (omega arith)
 placed_two digits bits b places (negsuc x) e = rw (e, pow-mul 2 bits places, pow-add 2 (bits * places) (suc x)) (plain (2 ^ suc x) (2 ^ (bits * places)))
   where
     plain : (t u : ℕ) → digits * 2 ^ 0 * (u * t) ≡ digits * (u * t)

@@ -40,16 +40,13 @@ cut w m t n more over beyond e o f =
     let total : w % 2 ^ m * 2 ^ t + more ≡ (w % 2 ^ m * 2 ^ t + more) / 2 ^ n * 2 ^ n + (w % 2 ^ m * 2 ^ t + more) % 2 ^ n = sym (div-add-mod' (w % 2 ^ m * 2 ^ t + more) (2 ^ n)) in
     record {
       high = w / 2 ^ m * 2 ^ (m + t - n) + (w % 2 ^ m * 2 ^ t + more) / 2 ^ n;
-      split = joined w (w / 2 ^ m) (w % 2 ^ m) (2 ^ m) (2 ^ t) (2 ^ (m + t - n)) (2 ^ n) ((w % 2 ^ m * 2 ^ t + more) / 2 ^ n) ((w % 2 ^ m * 2 ^ t + more) % 2 ^ n) whole moved total;
+      split = omega (arith, ap (λ x. x * (2 ^ t)) whole, ap (λ x. (w / 2 ^ m) * x) moved, total);
       flag = (
         λ b. ⊎_elim (λ v. some_left (w / 2 ^ m) (2 ^ (m + t - n)) _ (large w (2 ^ m) (pow_pos m) (o.0 v)) (pow_pos (m + t - n))) (λ v. some_right _ _ v) (f.0 b),
         λ p. f.1 (⊎_elim (λ (l : 0 < w / 2 ^ m). inl (o.1 (least w (2 ^ m) l))) (λ (l : w / 2 ^ m ≤ 0). inr (right_some (w / 2 ^ m) (2 ^ (m + t - n)) _ l p)) (cases_lt 0 (w / 2 ^ m))),
       );
     }
   where
-    joined : (w a l p q k n h r : ℕ) → a * p + l ≡ w → p * q ≡ k * n → l * q + more ≡ h * n + r → w * q + more ≡ (a * k + h) * n + r
-    joined w a l p q k n h r e1 e2 e3 = omega (arith, ap (λ x. x * q) e1, ap (λ x. a * x) e2, e3)
-
     large : (x d : ℕ) → 0 < d → d ≤ x → 0 < x / d
     large x d pos l = ⊎_elim (λ (k : 0 < x / d). k) (λ (k : x / d ≤ 0). let z : x / d ≡ 0 = omega arith in absurd (omega (arith, div-add-mod' x d, mod-lt x pos, ap (λ i. i * d) z))) (cases_lt 0 (x / d))
 
@@ -115,10 +112,9 @@ magnitude_is r b m n s frac t low moved p more high w f lost over ulps pos en et
     let together : moved + p + more ≡ number_from_digits b w % 2 ^ m * 2 ^ t + (p + more) = omega (arith, low_is) in
     let parts = cut (number_from_digits b w) m t n (p + more) over ulps.has_high_bits em eo (rw (eh, together) at eb) in
     let all : number_from_digits b w * 2 ^ t + p + more ≡ number_from_digits b w * 2 ^ t + (p + more) = omega arith in
-    let number : number_from_digits b w * 2 ^ t + p + more ≡ parts.high * 2 ^ 64 + ulps.low = all ∙ parts.split ∙ ap (λ x. parts.high * 2 ^ n + x) (ap (λ x. x % 2 ^ n) (sym together) ∙ sym ebits) ∙ ap (λ i. parts.high * 2 ^ i + ulps.low) en in
     record {
       high = parts.high;
-      to = rw number at steps.to;
+      to = rw (all ∙ parts.split ∙ ap (λ x. parts.high * 2 ^ n + x) (ap (λ x. x % 2 ^ n) (sym together) ∙ sym ebits) ∙ ap (λ i. parts.high * 2 ^ i + ulps.low) en) at steps.to;
       over = parts.flag;
       exact = steps.exact;
     }

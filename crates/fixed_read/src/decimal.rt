@@ -39,6 +39,7 @@ use std::cmp::Ordering;
 use std::sync::ledger::Ledger;
 
 /// 5^n.
+#[tactic(auto, using(crate::proofs::DecimalLemmas::five_is))]
 fn power_of_five(n: u32) -> u64
     requires { n < 20 }
     ensures { result ≡ 5 ^ n }
@@ -136,6 +137,7 @@ fn order_to_share<'a, L: Ledger>(
 }
 
 /// What less than half of an ulp is: zero where the block leaves nothing and no digit comes after it.
+#[tactic(auto, using(crate::proofs::DecimalLemmas::part_some, crate::proofs::DecimalLemmas::part_beyond))]
 fn less_than_half(view: &DigitView, rest: u64) -> LostFraction
     ensures { (bits unit : ℕ) → 0 < unit → AllBelowBase 10 view.now → NoTrailingZero view.now
         → 2 ^ 1 * scaled_rest rest bits view.now < scaled_unit unit view.now
@@ -158,6 +160,7 @@ fn past_next_ulp(ulps: u64) -> (u64, LostFraction)
 }
 
 /// The whole ulps of a candidate and the digits after its block, and what is lost, by comparing these digits.
+#[tactic(auto, using(crate::proofs::DecimalLemmas::past_ulp))]
 fn settle_exactly<'a, L: Ledger>(
     view: &DigitView<'a>,
     found: Candidate,
@@ -245,6 +248,7 @@ fn fine_decimal_ulps<'a, L: Ledger>(
 }
 
 /// The ulps of 2^-frac in 0.DIGITS, and what is lost.
+#[tactic(auto, using(crate::proofs::ShortNumeralLemmas::coarser_small))]
 pub fn decimal_ulps<'a, L: Ledger>(
     view: &DigitView<'a>,
     frac: u32,

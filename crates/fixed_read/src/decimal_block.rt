@@ -153,6 +153,7 @@ fn fine_block_of_27(block: u128, frac: u32) -> (u64, LostFraction)
 }
 
 /// The ulps of 2^-frac in a block of 27 digits, and what is lost.
+#[tactic(auto, using(crate::proofs::ShortNumeralLemmas::coarser_small))]
 #[inline]
 fn block_of_27(block: u128, frac: u32) -> (u64, LostFraction)
     requires block { block < 10 ^ 27 }
@@ -168,6 +169,7 @@ fn block_of_27(block: u128, frac: u32) -> (u64, LostFraction)
 }
 
 /// The ulps of 2^-frac in fraction / 10^places, and what is left, for at most 13 places.
+#[tactic(auto, using(crate::proofs::ShortNumeralLemmas::padded_room, crate::proofs::ShareLemmas::padded_share))]
 #[inline(always)]
 pub fn ulps_of_few_places(fraction: u64, places: u32, frac: u32) -> SharedUlps
     requires fraction { fraction < 10 ^ places }
@@ -181,6 +183,7 @@ pub fn ulps_of_few_places(fraction: u64, places: u32, frac: u32) -> SharedUlps
 }
 
 /// The ulps of 2^-frac in fraction / 10^places, and what is lost.
+#[tactic(auto, using(crate::proofs::ShortNumeralLemmas::padded_room, crate::proofs::ShortNumeralLemmas::padded_split))]
 #[inline]
 pub fn ulps_of_many_places(fraction: u128, places: u32, frac: u32) -> (u64, LostFraction)
     requires fraction { fraction < 10 ^ places }

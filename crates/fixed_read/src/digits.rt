@@ -10,39 +10,25 @@ use fixed_numeral::{DigitView, power_of_ten};
 use fixed_steps::Steps;
 use std::sync::ledger::Ledger;
 
-/// 10^n, for what is known to fit 64 bits.
-fn ten_to(n: u32) -> u64
-    requires { 10 ^ n < 2 ^ 64 }
-    ensures { result ≡ 10 ^ n }
+/// base^n, where a digit of the base has so many bits.
+fn power_by_bits(base: u32, bits: u32, n: u32) -> u64
+    requires base { base ≡ 2 ^ bits }
+    requires room { base ^ n < 2 ^ 64 }
+    ensures { result ≡ base ^ n }
 {
-    power_of_ten(n)
-}
-
-/// 8^n.
-fn eight_to(n: u32) -> u64
-    requires { 8 ^ n < 2 ^ 64 }
-    ensures { result ≡ 8 ^ n }
-{
-    power_of_two(3 * n)
-}
-
-/// 16^n.
-fn sixteen_to(n: u32) -> u64
-    requires { 16 ^ n < 2 ^ 64 }
-    ensures { result ≡ 16 ^ n }
-{
-    power_of_two(4 * n)
+    power_of_two(bits * n)
 }
 
 /// base^n: by a table or a shift where the base is that of a radix.
+#[tactic(auto, using(crate::proofs::NumberLemmas::ten_exponent))]
 fn power_of(base: u32, n: u32) -> u64
     requires { base ^ n < 2 ^ 64 }
     ensures { result ≡ base ^ n }
 {
     match base {
-        8 => eight_to(n),
-        10 => ten_to(n),
-        16 => sixteen_to(n),
+        8 => power_by_bits(base, 3, n),
+        10 => power_of_ten(n),
+        16 => power_by_bits(base, 4, n),
         _ => u64::from(base).pow(n),
     }
 }
@@ -138,13 +124,6 @@ pub fn leading_number_u128<'a, L: Ledger>(
     }
 }
 
-/// Whether a count is more than a width.
-fn has_more_than(count: u64, width: u64) -> bool
-    ensures { IsTrue result ↔ (width < count) }
-{
-    count > width
-}
-
 /// Whether a number had more bits before, or has them now.
 pub fn is_over(over: bool, high: u128) -> bool
     ensures { IsTrue result ↔ (IsTrue over ⊎ (0 < high)) }
@@ -162,6 +141,7 @@ fn next_count(view: &DigitView) -> u32
 }
 
 /// low * base^count + number.
+#[tactic(auto, using(crate::proofs::NumberLemmas::chunk_room))]
 fn with_digits(low: u64, base: u32, count: u32, number: u64) -> u128
     requires least { 2 ≤ base }
     requires most { base ≤ 16 }
@@ -191,7 +171,7 @@ fn number_mod_power_long<'a, L: Ledger>(
     ensures over { IsTrue result.1 ↔ (2 ^ width ≤ number_from_digits base view.now) }
     ensures cost { steps.new ≤ steps.old + width }
 {
-    let mut over = has_more_than(view.len(), u64::from(width));
+    let mut over = is_longer(view, width);
     let mut rest = view.last_n(u64::from(width));
     let mut low: u64 = 0;
     while !rest.is_empty() {
@@ -219,6 +199,7 @@ pub fn low_bits_and_rest(value: u64, width: u32) -> (u64, bool)
 }
 
 /// The number that at most 15 digits spell modulo 2^width, and whether it is 2^width or more.
+#[tactic(auto, using(crate::proofs::NumberLemmas::chunk_room))]
 fn number_mod_power_short<'a, L: Ledger>(
     view: &DigitView<'a>,
     base: u32,
@@ -238,6 +219,7 @@ fn number_mod_power_short<'a, L: Ledger>(
 }
 
 /// The number that the digits spell modulo 2^width, and whether it is 2^width or more.
+#[tactic(auto, using(crate::proofs::NumberLemmas::nothing_low, crate::proofs::NumberLemmas::nothing_over))]
 pub fn number_mod_power<'a, L: Ledger>(
     view: &DigitView<'a>,
     base: u32,

@@ -44,6 +44,7 @@ pub fn is_above_zero(lost: LostFraction) -> bool
 }
 
 /// What is lost where `rest` of two halves are left, and where `more`, a positive part of one of these as well.
+#[tactic(auto, using(crate::proofs::DirectionLemmas::tail_above))]
 pub fn lost_fraction_of(rest: u64, half: u64, more: bool) -> LostFraction
     requires { rest < 2 * half }
     ensures { (d y : ℕ) → y < d → (IsTrue more ↔ (0 < y)) → IsLostFraction result (rest * d + y) (2 * half * d) }

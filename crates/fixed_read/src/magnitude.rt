@@ -99,6 +99,7 @@ fn rounded_magnitude<'a, L: Ledger>(
 }
 
 /// The ulps of 2^-(frac + bit_shift) in 0.DIGITS, and what is lost.
+#[tactic(auto, using(crate::proofs::PartLemmas::part_none))]
 fn fraction_ulps<'a, L: Ledger>(
     view: &DigitView<'a>,
     radix: Radix,

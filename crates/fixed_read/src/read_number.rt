@@ -187,6 +187,7 @@ fn number_of_short(
 }
 
 /// Reads a short numeral that a text ends with. `None` only means: try the next way.
+#[tactic(auto, using(crate::proofs::ShortNumeralLemmas::if_some))]
 #[inline(always)]
 fn read_short<L: Ledger>(
     text: &[u8],
@@ -233,6 +234,7 @@ fn read_decimal<L: Ledger>(
 }
 
 /// Reads any numeral, by its digits.
+#[tactic(auto, using(crate::proofs::ReadLemmas::split_numeral))]
 fn read_scanned<L: Ledger>(
     s: &[u8],
     radix: Radix,
@@ -250,15 +252,6 @@ fn read_scanned<L: Ledger>(
         Ok(found) => Ok(number_of(found, radix, format, mode, steps)),
         Err(error) => Err(*error),
     }
-}
-
-/// The bytes of a text from a place on.
-#[inline(always)]
-fn bytes_from(text: &[u8], from: usize) -> &[u8]
-    requires { from ≤ length text.now }
-    ensures { result.now ≡ drop from text.now }
-{
-    &text[from..]
 }
 
 /// Reads a numeral that a text ends with: a short one in radix 2, 8 or 16, else by its digits. Apart, so that a short
@@ -282,7 +275,7 @@ fn read_apart<L: Ledger>(
             return Ok(found);
         }
     }
-    read_scanned(bytes_from(text, from), radix, format, mode, steps)
+    read_scanned(&text[from..], radix, format, mode, steps)
 }
 
 /// What `read_apart` answers, matched by reference and copied here, and not where it is used: the answer of a call has
@@ -360,6 +353,7 @@ pub fn read_format<L: Ledger>(
 }
 
 /// `read_literal` with its steps on this counter.
+#[tactic(auto, using(crate::proofs::ReadLemmas::split_numeral))]
 pub fn read_literal_counted<L: Ledger>(
     s: &[u8],
     format: Format,

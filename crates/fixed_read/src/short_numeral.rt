@@ -32,6 +32,7 @@ pub struct Decimal {
 }
 
 /// The magnitude of a decimal in ulps of 2^-frac. Up to 13 places all but the sum fits a word.
+#[tactic(auto, using(crate::proofs::ShareLemmas::with_whole))]
 #[inline(always)]
 fn ulps_of_decimal(decimal: Decimal, frac: u32, direction: Direction) -> Ulps
     requires { frac ≤ 64 }
@@ -233,6 +234,7 @@ fn shifted_down(digits: u64, by: u64) -> (u64, LostFraction)
 }
 
 /// The magnitude of digits / 2^by ulps.
+#[tactic(auto, using(crate::proofs::ShortNumeralLemmas::lowered_split))]
 #[inline(always)]
 fn lowered_ulps(digits: u64, by: u64, direction: Direction) -> Ulps
     requires { 0 < by }

@@ -7,13 +7,6 @@ use Rattle.fixed_numeral.specs.Numeral.{Parts}
 use Rattle.fixed_numeral.specs.Literal.{HasLiteralParts, IsLiteralBeginning, literal_kind}
 use Rattle.fixed_numeral.specs.Inner.Scan.{Agrees, max_magnitude}
 
--- the byte goes on, and next is what is known then
-pub record LiteralExtends (r : Radix) (bs : List ℕ) (b : ℕ) (next : State) : Type 0 where
-  pub parts : Parts
-  pub beginning : HasLiteralParts r (bs ++ b ∷ []) parts
-  pub agrees : Agrees r next parts
-  pub room : next.magnitude ≤ max_magnitude true
-
 -- the byte offends, with this kind
 pub record LiteralCannotExtend (r : Radix) (bs : List ℕ) (p : Parts) (b : ℕ) (kind : ParseErrorKind) : Type 0 where
   pub none : IsLiteralBeginning r (bs ++ b ∷ []) → ⊥
@@ -25,3 +18,7 @@ pub record IsLiteralAfter (r : Radix) (bs : List ℕ) (s : State) : Type 0 where
   pub beginning : HasLiteralParts r bs parts
   pub agrees : Agrees r s parts
   pub room : s.magnitude ≤ max_magnitude true
+
+-- the byte goes on, and next is what is known then
+abbrev pub LiteralExtends : Radix → List ℕ → ℕ → State → Type 0
+LiteralExtends r bs b next = IsLiteralAfter r (bs ++ b ∷ []) next

@@ -29,13 +29,6 @@ pub record Agrees (r : Radix) (s : State) (p : Parts) : Type 0 where
   pub exponent : AgreesWithExponent r s.scales_by_two s.exponent_negative s.magnitude p.exponent
   pub counted : IfSome p.exponent (λ e. s.has_exponent_digit ≡ not (is_nil e.digits))
 
--- the byte goes on, and next is what is known then
-pub record Extends (r : Radix) (bs : List ℕ) (b : ℕ) (next : State) : Type 0 where
-  pub parts : Parts
-  pub beginning : HasParts r (bs ++ b ∷ []) parts
-  pub agrees : Agrees r next parts
-  pub room : next.magnitude ≤ max_magnitude true
-
 -- the byte offends, with this kind
 pub record CannotExtend (r : Radix) (bs : List ℕ) (p : Parts) (b : ℕ) (kind : ParseErrorKind) : Type 0 where
   pub none : IsBeginning r (bs ++ b ∷ []) → ⊥
@@ -47,6 +40,10 @@ pub record IsAfter (r : Radix) (bs : List ℕ) (s : State) : Type 0 where
   pub beginning : HasParts r bs parts
   pub agrees : Agrees r s parts
   pub room : s.magnitude ≤ max_magnitude true
+
+-- the byte goes on, and next is what is known then
+abbrev pub Extends : Radix → List ℕ → ℕ → State → Type 0
+Extends r bs b next = IsAfter r (bs ++ b ∷ []) next
 
 -- at the end of the text nothing is missing
 pub record IsComplete (s : State) : Type 0 where

@@ -8,14 +8,12 @@ after_digits-state-requires-clause-counts g c = omega (arith, room_after c.args.
 
 pub after_exponent_digits-place-requires-clause-room : goal.after_exponent_digits-place-requires-clause-room
 after_exponent_digits-place-requires-clause-room g c =
-    let digits = read_digits c.args.radix c.args.bytes.now c.loop-at.at c.mantissa_digits-count.result c.loop-at.state c.after_digits-state.result c.args.steps.now c.loop-at.steps c.advance.new.self c.loop-at.invariant c.mantissa_digits-count.ensures.within c.mantissa_digits-count.ensures.digits c.advance.ensures c.after_digits-state.ensures in
-    digits.after.room
+    (read_digits c.args.radix c.args.bytes.now c.loop-at.at c.mantissa_digits-count.result c.loop-at.state c.after_digits-state.result c.args.steps.now c.loop-at.steps c.advance.new.self c.loop-at.invariant c.mantissa_digits-count.ensures.within c.mantissa_digits-count.ensures.digits c.advance.ensures c.after_digits-state.ensures).after.room
 
 pub transition-requires-clause-room : goal.transition-requires-clause-room
 transition-requires-clause-room g c =
     let digits = read_digits c.args.radix c.args.bytes.now c.loop-at.at c.mantissa_digits-count.result c.loop-at.state c.after_digits-state.result c.args.steps.now c.loop-at.steps c.advance.new.self c.loop-at.invariant c.mantissa_digits-count.ensures.within c.mantissa_digits-count.ensures.digits c.advance.ensures c.after_digits-state.ensures in
-    let here = read_taken c.args.radix c.args.bytes.now (c.loop-at.at + c.mantissa_digits-count.result) c.after_exponent_digits-place.result.1 c.after_digits-state.result c.after_exponent_digits-place.result.0 c.args.steps.now c.advance.new.self c.advance-in-loop-at.new.self digits c.after_exponent_digits-place.ensures.place c.after_exponent_digits-place.ensures.within c.after_exponent_digits-place.ensures.after c.advance-in-loop-at.ensures in
-    here.after.room
+    (read_taken c.args.radix c.args.bytes.now (c.loop-at.at + c.mantissa_digits-count.result) c.after_exponent_digits-place.result.1 c.after_digits-state.result c.after_exponent_digits-place.result.0 c.args.steps.now c.advance.new.self c.advance-in-loop-at.new.self digits c.after_exponent_digits-place.ensures.place c.after_exponent_digits-place.ensures.within c.after_exponent_digits-place.ensures.after c.advance-in-loop-at.ensures).after.room
 
 pub transition-requires-clause-counts : goal.transition-requires-clause-counts
 transition-requires-clause-counts g c =

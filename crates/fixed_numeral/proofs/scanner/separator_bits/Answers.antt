@@ -12,10 +12,9 @@ same true b = b
 same false b = not b
 
 same_is : (a b : Bool) → same a b ≡ true → a ≡ b
-same_is true true e = refl
 same_is true false e = absurd (cc)
 same_is false true e = absurd (cc)
-same_is false false e = refl
+same_is x y e = refl
 
 abbrev is_bit : Radix → ℕ → ℕ → Bool
 is_bit r n k = same (bit_at n k == 1) (is_separator r (64 + k))

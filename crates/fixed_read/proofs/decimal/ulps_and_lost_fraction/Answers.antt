@@ -9,16 +9,14 @@ some_after ds count l e = absurd (omega (arith, l, length-drop count ds, ap leng
 
 pub settle_exactly-requires-clause-digits : goal.settle_exactly-requires-clause-digits
 settle_exactly-requires-clause-digits g c =
-    let rest : c.split_at-prefix.result.1 ≡ drop 27 c.args.view.now = c.split_at-prefix.ensures.back in
-    rw rest ((below_split 10 c.args.view.now 27 c.requires.digits).1)
+    rw c.split_at-prefix.ensures.back ((below_split 10 c.args.view.now 27 c.requires.digits).1)
 
 pub returns-then-len-le27-clause-settled : goal.returns-then-len-le27-clause-settled
 returns-then-len-le27-clause-settled g c = settled_share (drop 27 c.args.view.now) c.args.found.ulps c.args.found.rest 7450580596923828125 c.args.found.bits c.lost_fraction_of_share.result (drop_all 27 c.args.view.now (omega (arith, c.if-len-le27.true, c.len.ensures))) c.lost_fraction_of_share.ensures
 
 pub settle_exactly-requires-clause-trailing : goal.settle_exactly-requires-clause-trailing
 settle_exactly-requires-clause-trailing g c =
-    let rest : c.split_at-prefix.result.1 ≡ drop 27 c.args.view.now = c.split_at-prefix.ensures.back in
-    rw rest (trailing_back c.args.view.now 27 c.requires.trailing)
+    rw c.split_at-prefix.ensures.back (trailing_back c.args.view.now 27 c.requires.trailing)
 
 pub returns-in-Some-clause-settled : goal.returns-in-Some-clause-settled
 returns-in-Some-clause-settled g c =

@@ -5,8 +5,7 @@ use Rattle.fixed_read.proofs.decimal_block.coarser_ulps.Goals as goal
 pub lost_fraction_of-requires : goal.lost_fraction_of-requires
 lost_fraction_of-requires c =
     let two = half_of c.args.bits c.requires.some in
-    let low = mod-lt c.from.result (pow_pos c.args.bits) in
-    rw (c.split_bits-whole.ensures.low, c.power_of_two.ensures, ← two) low
+    rw (c.split_bits-whole.ensures.low, c.power_of_two.ensures, ← two) (mod-lt c.from.result (pow_pos c.args.bits))
 
 pub returns-clause-split : goal.returns-clause-split
 returns-clause-split c num den frac h =

@@ -6,13 +6,11 @@ use Rattle.fixed_read.proofs.power_of_two_radix.leading_block.Goals as goal
 -- ---- in a word
 pub leading_number-requires-clause-least : goal.leading_number-requires-clause-least
 leading_number-requires-clause-least g c =
-    let same : c.base_of_bits.result ≡ 2 ^ c.args.bits = c.base_of_bits.ensures in
-    rw same (base_least c.args.bits c.requires.some)
+    rw c.base_of_bits.ensures (base_least c.args.bits c.requires.some)
 
 pub leading_number-requires-clause-most : goal.leading_number-requires-clause-most
 leading_number-requires-clause-most g c =
-    let same : c.base_of_bits.result ≡ 2 ^ c.args.bits = c.base_of_bits.ensures in
-    rw same (base_most c.args.bits c.requires.few)
+    rw c.base_of_bits.ensures (base_most c.args.bits c.requires.few)
 
 pub leading_number-requires-clause-room : goal.leading_number-requires-clause-room
 leading_number-requires-clause-room g c =

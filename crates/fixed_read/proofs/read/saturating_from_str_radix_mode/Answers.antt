@@ -1,23 +1,16 @@
-use Rattle.std.proofs.Common.{◌≡◌, ◌∙◌, ap, rules}
+use Rattle.std.proofs.Common.{◌∙◌, ap}
+use Rattle.fixed_read.proofs.ReadLemmas.{read_as}
 use Rattle.fixed_read.proofs.read.saturating_from_str_radix_mode.Goals as goal
 
-pub saturated-requires-clause-signed : goal.saturated-requires-clause-signed
-saturated-requires-clause-signed g c = ap (λ x. x.signed) c.in-Ok.ensures.format ∙ c.format_of.ensures.signed
-
-pub saturated-requires-clause-width : goal.saturated-requires-clause-width
-saturated-requires-clause-width g c = ap (λ x. x.width) c.in-Ok.ensures.format ∙ c.format_of.ensures.width
+pub saturated-requires : goal.saturated-requires
+saturated-requires g c = record { signed = ap (λ x. x.signed) c.in-Ok.ensures.format ∙ c.format_of.ensures.signed; width = ap (λ x. x.width) c.in-Ok.ensures.format ∙ c.format_of.ensures.width }
 
 pub returns-in-Ok : goal.returns-in-Ok
 returns-in-Ok g c =
-    let frac : c.in-Ok.found.format.frac ≡ c.args.frac_nbits = ap (λ x. x.frac) c.in-Ok.ensures.format ∙ c.format_of.ensures.frac in
     record {
-      reading = record {
-        numeral = c.in-Ok.ensures.reading.numeral;
-        read = λ p h. let reading = c.in-Ok.ensures.reading.read p h in record {
-          number = reading.number;
-          read = rw frac at reading.read;
-          image = c.saturated.ensures reading.number reading.holds;
-        };
-        cause = search rules;
-      };
+      reading = read_as c.args.radix c.args.s.now _ _ c.in-Ok.found _ c.in-Ok.ensures.reading (λ p reading. record {
+        number = reading.number;
+        read = rw (ap (λ x. x.frac) c.in-Ok.ensures.format ∙ c.format_of.ensures.frac) at reading.read;
+        image = c.saturated.ensures reading.number reading.holds;
+      });
     }

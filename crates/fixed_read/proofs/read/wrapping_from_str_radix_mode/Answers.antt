@@ -1,17 +1,13 @@
-use Rattle.std.proofs.Common.{◌≡◌, ◌∙◌, ap, rules}
+use Rattle.std.proofs.Common.{◌∙◌, ap}
+use Rattle.fixed_read.proofs.ReadLemmas.{read_as}
 use Rattle.fixed_read.proofs.read.wrapping_from_str_radix_mode.Goals as goal
 
 pub returns-in-Ok : goal.returns-in-Ok
 returns-in-Ok g c =
-    let frac : c.in-Ok.found.format.frac ≡ c.args.frac_nbits = ap (λ x. x.frac) c.in-Ok.ensures.format ∙ c.format_of.ensures.frac in
     record {
-      reading = record {
-        numeral = c.in-Ok.ensures.reading.numeral;
-        read = λ p h. let reading = c.in-Ok.ensures.reading.read p h in record {
-          number = reading.number;
-          read = rw frac at reading.read;
-          image = c.wrapped.ensures reading.number reading.holds;
-        };
-        cause = search rules;
-      };
+      reading = read_as c.args.radix c.args.s.now _ _ c.in-Ok.found _ c.in-Ok.ensures.reading (λ p reading. record {
+        number = reading.number;
+        read = rw (ap (λ x. x.frac) c.in-Ok.ensures.format ∙ c.format_of.ensures.frac) at reading.read;
+        image = c.wrapped.ensures reading.number reading.holds;
+      });
     }

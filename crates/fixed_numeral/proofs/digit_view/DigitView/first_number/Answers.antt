@@ -5,7 +5,6 @@ use Rattle.fixed_numeral.proofs.digit_view.DigitView.first_number.Goals as goal
 
 pub prefix_number-requires : goal.prefix_number-requires
 prefix_number-requires g c =
-    let n : c.min-wanted.result ≡ min c.args.count (length c.args.self.now) = rw (c.from.ensures, c.len.ensures) at c.min-wanted.ensures in
     let le : c.args.base ^ c.min-wanted.result ≤ c.args.base ^ c.args.count = pow-le-pow_right (omega (arith, c.requires.least)) (omega arith) in
     rw c.from-2.ensures (record { within = omega arith; digits = c.requires.digits; least = c.requires.least; most = c.requires.most; room = omega (arith, le, c.requires.room) })
 
