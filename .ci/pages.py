@@ -4,7 +4,7 @@
     pages.py [--built build|out]
 
 Pages: mandoc and groff find nothing to warn of, and each example answers as the page says. Completions: each shell takes its
-own, and they name the commands and options that `fixed --help` names. Help: at most 80 columns, with an example for each
+own, and they name the commands and options that `fixed --help` names, and the names in a header. Help: at most 80 columns, with an example for each
 command. What is not installed or not built is named and passed over.
 """
 import argparse
@@ -91,6 +91,30 @@ def taken_by_shells():
                 yield from output_of([shell, "-n", path]).splitlines()
 
 
+def offered(shell, folder, word):
+    """The names that a shell offers for the columns of a file with a header, where this word was begun."""
+    completion = f"{TOP}/completion/fixed.{shell}"
+    script = {
+        "bash": f"source {completion}; COMP_WORDS=(fixed column -H '{word}' I8F8 t.csv); COMP_CWORD=3; _fixed fixed '{word}' -H; "
+                "printf '%s\\n' \"${COMPREPLY[@]}\"",
+        "fish": f"source {completion}; complete -C 'fixed column -H t.csv {word}' | string match -e 'a column' | string replace -r '\\t.*' ''",
+    }[shell]
+    return sorted(output_of([shell, "-c", script], cwd=folder).splitlines())
+
+
+def headers():
+    """What bash and fish offer of a header's names that they should not, or the other way round."""
+    with tempfile.TemporaryDirectory() as folder:
+        with open(f"{folder}/t.csv", "wb") as file:
+            file.write(b'day,"unit price",n\r\n1,2,3\r\n')
+        for shell in ("bash", "fish"):
+            if is_there(shell, f"the names of a header were not completed by {shell}"):
+                for word, wanted in (("", ["day", "n", "unit price"]), ("day,", ["day,day", "day,n", "day,unit price"]), ("day,u", ["day,unit price"])):
+                    names = offered(shell, folder, word)
+                    if names != wanted:
+                        yield f"{shell} completes {word!r} by {names}, not {wanted}"
+
+
 def helps_of(path):
     """The help of `fixed` and of each of its commands, by name."""
     whole = output_of([path, "--help"])
@@ -129,7 +153,7 @@ def main():
     words = argparse.ArgumentParser(description=__doc__.split("\n", maxsplit=1)[0])
     words.add_argument("--built", choices=("build", "out"), default="build")
     given = words.parse_args()
-    wrong = [*linted(), *examples(given.built), *taken_by_shells(), *helps(given.built)]
+    wrong = [*linted(), *examples(given.built), *taken_by_shells(), *headers(), *helps(given.built)]
     for it in wrong:
         print(it)
     print(f"manual pages, completions and help: {len(wrong)} faults")

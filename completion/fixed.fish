@@ -56,7 +56,10 @@ function __fixed_names
     string match -qr '^(tab|\\\\t)$' -- $delimiter; and set delimiter \t
     for word in $words[3..-1] (commandline -o)[3..-1]
         if test -f "$word"
-            head -n 1 -- $word | string replace -ra '["\r]' '' | string split -- $delimiter
+            set -l before (string match -r '^.*,' -- (commandline -ct))
+            for name in (head -n 1 -- $word | string replace -ra '["\r]' '' | string split -- $delimiter)
+                echo "$before$name"
+            end
             return
         end
     end

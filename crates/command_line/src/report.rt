@@ -118,10 +118,18 @@ fn cause_of(status: Status) -> &'static str {
     }
 }
 
+/// The words of a device's error without the system's number for it at their end.
+fn without_number(words: &str) -> &str {
+    match words.split_once(" (os error ") {
+        Some((bare, _number)) => bare,
+        None => words,
+    }
+}
+
 /// Appends the device's own words.
 pub fn push_words(report: &mut Report, alloc: Global, error: &Error) {
     if let Ok(words) = error.to_string(alloc) {
-        report.text(&words);
+        report.text(without_number(&words));
     }
 }
 

@@ -1,0 +1,65 @@
+-- A text is cut into words in one way, and one text is made of it.
+use Rattle.std.proofs.Common.{◌≡◌, ◌∙◌, ◌||◌, ℕ, Bool, true, false, List, [], ◌∷◌, ◌++◌, refl, sym, ap, subst, append_assoc, true≢false}
+use Rattle.line_engine.specs.AnswerText.{AnswerText}
+use Rattle.fixed_command.specs.Lemmas.ReplyLemmas.{reply_one}
+use Rattle.fixed_command.specs.declared.convert.Settings.{Settings}
+use Rattle.fixed_words.specs.Laws.{WordedIsTheOne}
+use Rattle.fixed_words.specs.Words.{AreEnded, Ended, HasNoSeparator, IsWordReply, IsWorded, any_refused, bytes_of, is_separator, written_of}
+
+word_reply_one : (s : Settings) (word : List ℕ) (a b : AnswerText) → IsWordReply s word a → IsWordReply s word b → a ≡ b
+word_reply_one s [] a b x y = x ∙ sym y
+word_reply_one s (c ∷ cs) a b x y = reply_one s (c ∷ cs) a b x y
+
+broken : (b c : ℕ) → b ≡ c → is_separator b ≡ true → is_separator c ≡ false → ⊥
+broken b c same one none = true≢false (sym one ∙ (ap (λ n. is_separator n) same ∙ none))
+
+-- a word without a separator has none
+none_within : (word : List ℕ) (b : ℕ) (rest : List ℕ) → HasNoSeparator (word ++ b ∷ rest) → is_separator b ≡ true → ⊥
+none_within [] b rest h one = broken b b refl one h.0
+none_within (c ∷ cs) b rest h one = none_within cs b rest h.1 one
+
+-- the first word of a text, its separator, and what follows
+pub record AreSame (w v : List ℕ) (a b : ℕ) (t u : List ℕ) : Type 0 where
+  pub word : w ≡ v
+  pub separator : a ≡ b
+  pub rest : t ≡ u
+
+first_one : (w v : List ℕ) (a b : ℕ) (t u : List ℕ) → HasNoSeparator w → HasNoSeparator v → is_separator a ≡ true → is_separator b ≡ true → w ++ a ∷ t ≡ v ++ b ∷ u → AreSame w v a b t u
+first_one [] [] a b t u h k x y e = record { word = refl; separator = let same : a ≡ b = cc in same; rest = let same : t ≡ u = cc in same }
+first_one [] (d ∷ ds) a b t u h k x y e = let same : a ≡ d = cc in absurd (broken a d same x k.0)
+first_one (c ∷ cs) [] a b t u h k x y e = let same : b ≡ c = cc in absurd (broken b c same y h.0)
+first_one (c ∷ cs) (d ∷ ds) a b t u h k x y e =
+    let head : c ≡ d = cc in
+    let tail : cs ++ a ∷ t ≡ ds ++ b ∷ u = cc in
+    let r = first_one cs ds a b t u h.1 k.1 x y tail in
+    record { word = ap (λ n. n ∷ cs) head ∙ ap (λ l. d ∷ l) r.word; separator = r.separator; rest = r.rest }
+
+pub record AreParts (es fs : List Ended) (x y : List ℕ) : Type 0 where
+  pub words : es ≡ fs
+  pub rest : x ≡ y
+
+parts_one : (s : Settings) (es fs : List Ended) (x y : List ℕ) → AreEnded s es → AreEnded s fs → HasNoSeparator x → HasNoSeparator y → bytes_of es ++ x ≡ bytes_of fs ++ y → AreParts es fs x y
+parts_one s [] [] x y h k p q e = record { words = refl; rest = e }
+parts_one s [] (f ∷ fs) x y h k p q e =
+    let whole : HasNoSeparator (f.word ++ (f.separator ∷ (bytes_of fs ++ y))) = subst (λ l. HasNoSeparator l) (e ∙ append_assoc f.word (f.separator ∷ bytes_of fs) y) p in
+    absurd (none_within f.word f.separator (bytes_of fs ++ y) whole k.0.separates)
+parts_one s (d ∷ ds) [] x y h k p q e =
+    let whole : HasNoSeparator (d.word ++ (d.separator ∷ (bytes_of ds ++ x))) = subst (λ l. HasNoSeparator l) (sym e ∙ append_assoc d.word (d.separator ∷ bytes_of ds) x) q in
+    absurd (none_within d.word d.separator (bytes_of ds ++ x) whole h.0.separates)
+parts_one s (d ∷ ds) (f ∷ fs) x y h k p q e =
+    let first = first_one d.word f.word d.separator f.separator (bytes_of ds ++ x) (bytes_of fs ++ y) h.0.unbroken k.0.unbroken h.0.separates k.0.separates
+    (sym (append_assoc d.word (d.separator ∷ bytes_of ds) x) ∙ (e ∙ append_assoc f.word (f.separator ∷ bytes_of fs) y)) in
+    let others = parts_one s ds fs x y h.1 k.1 p q first.rest in
+    let reply : d.reply ≡ f.reply = word_reply_one s f.word d.reply f.reply (subst (λ w. IsWordReply s w d.reply) first.word h.0.replied) k.0.replied in
+    let made : List ℕ → ℕ → AnswerText → Ended = λ w n r. record { word = w; separator = n; reply = r } in
+    let same : d ≡ f = ap (λ w. made w d.separator d.reply) first.word ∙ (ap (λ n. made f.word n d.reply) first.separator ∙ ap (λ r. made f.word f.separator r) reply) in
+    record { words = ap (λ c. c ∷ ds) same ∙ ap (λ l. f ∷ l) others.words; rest = others.rest }
+
+pub worded_one : WordedIsTheOne
+worded_one s bytes a b x y =
+    let parts = parts_one s x.words y.words x.rest y.rest x.are y.are x.unbroken y.unbroken (sym x.cut ∙ y.cut) in
+    let last : x.last ≡ y.last = word_reply_one s y.rest x.last y.last (subst (λ w. IsWordReply s w x.last) parts.rest x.replied) y.replied in
+    let text : a.text ≡ b.text = x.text_is ∙ (ap (λ es. written_of es ++ x.last.text) parts.words ∙ (ap (λ r. written_of y.words ++ r.text) last ∙ sym y.text_is)) in
+    let fault : a.fault ≡ b.fault = x.fault_is ∙ (ap (λ es. any_refused es || x.last.fault) parts.words ∙ (ap (λ r. any_refused y.words || r.fault) last ∙ sym y.fault_is)) in
+    let made : List ℕ → Bool → AnswerText = λ t f. record { text = t; fault = f } in
+    ap (λ t. made t a.fault) text ∙ ap (λ f. made b.text f) fault

@@ -1,0 +1,3 @@
+mod EndLemmas
+mod LawLemmas
+mod WordLemmas

@@ -1,0 +1,5 @@
+use Rattle.fixed_words.proofs.LawLemmas.{worded_one}
+use Rattle.fixed_words.proofs.laws.worded_is_the_one.Goals as goal
+
+pub returns : goal.returns
+returns c = worded_one

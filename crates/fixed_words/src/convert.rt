@@ -1,0 +1,140 @@
+//! The words of an input converted, over any source and any sink.
+
+ghost use Rattle.std.specs.Prelude.{◌≡◌, []};
+ghost use Rattle.line_engine.specs.Run.{HasFailures};
+ghost use Rattle.fixed_command.specs.declared.convert.Settings.{Settings};
+ghost use Rattle.fixed_words.specs.Run.{HasWordsRun};
+ghost use Rattle.fixed_words.specs.Inner.Progress.{EndsWords, HasEndFailures, HasWorded, IsEnd};
+
+use crate::chunk::{MOST_BYTES, read_chunk};
+use crate::splitter::{CHUNK, WordRefusal, Words};
+use column_engine::RecordBuffer;
+use fixed_command::{ConvertRule, Tally};
+use fixed_steps::Steps;
+use line_engine::{Sink, Source, Status};
+use std::alloc::Global;
+use std::sync::ledger::Ledger;
+
+/// How the conversion of the words of an input ended.
+#[derive(Drop)]
+pub struct WordsEnd {
+    /// Its status: `Faults` where a word was refused.
+    pub status: Status,
+    /// How many words were refused.
+    pub refused: u64,
+    /// The first of those.
+    pub first: Option<WordRefusal>,
+    /// How the words came through, where that was asked.
+    pub tally: Tally,
+}
+
+impl WordsEnd {
+    /// The end of a run with this status.
+    fn of(words: Words, status: Status) -> WordsEnd
+        ensures { result.status ≡ status }
+    {
+        WordsEnd {
+            status,
+            refused: words.refused,
+            first: words.first,
+            tally: words.tally,
+        }
+    }
+}
+
+/// The status at the end of an input, by whether a word was refused.
+fn status_of(has_fault: bool) -> Status
+    ensures { IsEnd has_fault result }
+{
+    if has_fault {
+        Status::Faults
+    } else {
+        Status::Done
+    }
+}
+
+/// Answers the last word of an input, and says how the run ended.
+fn end_words<K: Sink, L: Ledger>(
+    rule: &ConvertRule,
+    words: Words,
+    sink: &mut K,
+    steps: &mut Steps<L>,
+) -> WordsEnd
+    requires none { words.out ≡ [] }
+    ensures ends { EndsWords rule.now words (K.written sink.old) (K.written sink.new) result.status }
+    ensures failures { HasEndFailures (K.failures sink.old) (K.failures sink.new) result.status }
+{
+    let mut words = words;
+    match words.finish(rule, sink, steps) {
+        Ok(()) => {
+            let status = status_of(words.has_fault);
+            WordsEnd::of(words, status)
+        }
+        Err(_) => WordsEnd::of(words, Status::WriteFault),
+    }
+}
+
+/// Reads an input, and has the words of each chunk answered.
+fn convert_all<S: Source, K: Sink, L: Ledger>(
+    rule: &ConvertRule,
+    words: Words,
+    source: &mut S,
+    sink: &mut K,
+    steps: &mut Steps<L>,
+) -> WordsEnd
+    requires none { words.out ≡ [] }
+    requires begun { (s : Settings) → HasWorded s [] [] words }
+    ensures run { HasWordsRun rule.now (S.left source.old) (S.left source.new) (K.written sink.old)
+        (K.written sink.new) result.status }
+    ensures failures { HasFailures (S.failures source.old) (S.failures source.new) (K.failures sink.old)
+        (K.failures sink.new) result.status }
+{
+    let mut chunk = [0u8; CHUNK];
+    let mut words = words;
+    let mut taken = 0u64;
+    while taken < MOST_BYTES {
+        match read_chunk(source, &mut chunk) {
+            Err(_) => return WordsEnd::of(words, Status::ReadFault),
+            Ok(0) => return end_words(rule, words, sink, steps),
+            Ok(count) => match words.feed(rule, &chunk[..count], sink, steps) {
+                Err(_) => return WordsEnd::of(words, Status::WriteFault),
+                Ok(()) => taken += count as u64,
+            },
+        }
+    }
+    WordsEnd::of(words, Status::TooLong)
+}
+
+/// Converts the words of an input where they stand, and says how that ended.
+///
+/// A word is a stretch of bytes between separators, which are ASCII's white space and the comma; it is a numeral, or a
+/// word of bits, and the reply to it is what a line of it alone is answered with. Each separator is written as it is,
+/// and no other byte. With `has_report` it is kept how the words came through. What was answered of a chunk of 1,024
+/// bytes is written before the next is read. It takes memory for one word of 1,048,576 bytes before the first read, and
+/// answers `NoMemory` where that fails.
+pub fn convert_words<S: Source, K: Sink, L: Ledger>(
+    alloc: Global,
+    rule: &ConvertRule,
+    has_report: bool,
+    source: &mut S,
+    sink: &mut K,
+    steps: &mut Steps<L>,
+) -> WordsEnd
+    // What was taken and what was written, by status.
+    ensures run { HasWordsRun rule.now (S.left source.old) (S.left source.new) (K.written sink.old)
+        (K.written sink.new) result.status }
+
+    // Which count of failures rose, by status.
+    ensures failures { HasFailures (S.failures source.old) (S.failures source.new) (K.failures sink.old)
+        (K.failures sink.new) result.status }
+{
+    match RecordBuffer::new(alloc) {
+        Err(_) => WordsEnd {
+            status: Status::NoMemory,
+            refused: 0,
+            first: None,
+            tally: Tally::new(),
+        },
+        Ok(word) => convert_all(rule, Words::new(word, has_report), source, sink, steps),
+    }
+}

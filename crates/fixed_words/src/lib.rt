@@ -1,0 +1,13 @@
+//! Words of a text, each a numeral or a word of bits, that are converted where they stand: every other byte stays.
+//!
+//! `splitter` takes the bytes of a text and answers the words that end in them, and `convert` runs it over a source and
+//! a sink.
+#![tactic(auto)]
+
+mod chunk;
+pub mod convert;
+pub mod laws;
+pub mod splitter;
+
+pub use convert::{WordsEnd, convert_words};
+pub use splitter::WordRefusal;
