@@ -167,6 +167,34 @@ RUNS = (
     (["1", "U8F0", "--skip", "18446744073709551615"], b"7.4\n8.4\n", 0, b"7.4\n8.4\n", b""),
     (["1", "U8F0", "--skip", "1"], MARK + b"a\n" + MARK + b"7.4\n", 0, MARK + b"a\n" + MARK + b"7\n", b""),
     (["1", "U8F0", "--skip", "1"], b"x" * 3_000_000 + b"\n7.4\n", 0, b"x" * 3_000_000 + b"\n7\n", b""),
+    # Into a new column, the last; what would stay is in it too.
+    (["2", "U8F0", "--into", "n"], b"a,7.4\n\n\"b\",8.4,c\r\nd,9", 0, b"a,7.4,7\n\n\"b\",8.4,c,8\r\nd,9,9", b""),
+    (["v", "U8F0", "--header", "--into", "n"], MARK + b"v,w\r\n7.4,\"x\ny\"\r\n", 0, MARK + b"v,w,n\r\n7.4,\"x\ny\",7\r\n", b""),
+    (["v", "U8F0", "--header", "--into", 'a "b", c'], b"v\n7.4\n", 0, b'v,"a ""b"", c"\n7.4,7\n', b""),
+    (["1", "U8F0", "--header", "--into", ""], b"v\n7.4\n", 0, b'v,""\n7.4,7\n', b""),
+    (["1", "U8F0", "--into", "n", "--delimiter", "tab"], b"7.4\tx\n", 0, b"7.4\tx\t7\n", b""),
+    (["2", "U8F0", "--into", "n"], b"a,x,b\n", 1, b"a,x,b," + DIGIT + b"\n", refused(1, 1, 1, 2, "x")),
+    (["2", "U8F0", "--into", "n", "--keep"], b'a,"x, y",b\n', 1, b'a,"x, y",b,"x, y"\n', refused(1, 1, 1, 2, "x, y")),
+    (["2", "U8F0", "--into", "n", "--empty", "keep"], b'a,,b\na,"",b\n', 0, b'a,,b,\na,"",b,""\n', b""),
+    (["2", "U8F0", "--into", "n"], b"a,7.4\nb\n", 3, b"a,7.4,7\n", stopped(2, "has no such column, its fields: 1")),
+    (["x", "U8F0", "--header", "--into", "n"], b"v\n7.4\n", 3, b"", b"fixed: the header has no column 'x', records answered: 0; it has 'v'\n"),
+    (["1", "U8F0", "--into", "n", "--skip", "1"], b"sep=,\n7.4\n", 0, b"sep=,\n7.4,7\n", b""),
+    (["1", "U8F0", "--into", "n" * 1024, "--header"], b"v\n7.4\n", 0, b"v," + b"n" * 1024 + b"\n7.4,7\n", b""),
+    # How the fields came through.
+    (["1", "U8F0", "--report"], b"7,a\n\n7.4,b\n", 0, b"7,a\n\n7,b\n", b"fixed: numerals: 2, exact: 1, rounded: 1, overflowed: 0, refused: 0\n"),
+    (["v,w", "U8F0", "--header", "--report", "--policy", "saturating", "--keep"], b'"a\nb",v,w\n\n1,2,300\n4,x,y\n', 1, b'"a\nb",v,w\n\n1,2,255\n4,x,y\n',
+     refused(2, 3, 5, "'v'", "x")
+     + b"fixed: numerals: 4, exact: 1, rounded: 0, overflowed: 1 (the first in record 2), refused: 2 (the first in record 3); "
+     + b"the first overflowed in line 4, column 'w'; the first refused in line 5, column 'v'\n"),
+    (["2", "U8F0", "--report", "--empty", "keep"], b"a,\na,1.5\n", 0, b"a,\na,2\n", b"fixed: numerals: 1, exact: 0, rounded: 1, overflowed: 0, refused: 0\n"),
+    (["2", "U8F0", "--report", "--empty", "0", "--trim"], b"a, \n", 0, b"a,0\n", b"fixed: numerals: 1, exact: 1, rounded: 0, overflowed: 0, refused: 0\n"),
+    (["1", "U16F1", "--report", "--decimal", ",", "--thousands", "."], b'"1.234,5"\n"1,25\r"\n', 0, b"1234.5\n1\n",
+     b"fixed: numerals: 2, exact: 1, rounded: 1, overflowed: 0, refused: 0\n"),
+    (["1", "I8F8", "I8F0", "--report", "--from", "bits"], b"256,a\n128,a\n", 0, b"1,a\n0,a\n", b"fixed: numerals: 2, exact: 1, rounded: 1, overflowed: 0, refused: 0\n"),
+    (["1", "U8F0", "--report"], b"7\n\"8", 3, b"7\n",
+     b"fixed: numerals: 1, exact: 1, rounded: 0, overflowed: 0, refused: 0\n" + stopped(2, UNCLOSED)),
+    (["1", "U8F0", "--report", "--into", "n"], b"7\n", 0, b"7,7\n", b"fixed: numerals: 1, exact: 1, rounded: 0, overflowed: 0, refused: 0\n"),
+    (["1", "U8F0", "--report"], b"", 0, b"", b"fixed: numerals: 0, exact: 0, rounded: 0, overflowed: 0, refused: 0\n"),
     # Words of registers, every part, every rounding.
     (["1", "I8F8", "--from", "bits"], b"0x0180,a\n-256,b\n0b1,c\n", 0, b"1.5,a\n-1,b\n0.004,c\n", b""),
     (["1-2", "I4F4", "--from", "bits", "--radix", "16"], b"ff,7f\n8_0,zz\n", 1, b"-0.06,7.94\n-8," + DIGIT + b"\n", refused(1, 2, 2, 2, "zz")),
@@ -200,7 +228,9 @@ BAD_WORDS = (
     (["1", "U8F0", "--skip", "-1"], b"-1"), (["1", "U8F0", "--skip", "18446744073709551616"], b"is not a count"),
     (["1", "U8F0", "--keep", "--keep"], b"--keep"), (["1", "U8F0", "--print", "text", "--print", "bits"], b"--print"),
     (["1", "U8F0", "--policy", "saturating", "--policy", "wrapping"], b"--policy"), (["1", "U8F0", "--radix", "7"], b"7"),
-    (["1", "U8F0", "--name"], b"--name"),
+    (["1", "U8F0", "--name"], b"--name"), (["1,2", "U8F0", "--into", "n"], b"'1,2' is not one column"), (["1-2", "U8F0", "--into", "n"], b"'1-2' is not one column"),
+    (["a,b", "U8F0", "--header", "--into", "n"], b"'a,b' is not one column"), (["U8F0", "--all", "--into", "n"], b"'n' is one new column"),
+    (["1", "U8F0", "--into", "n" * 1025], b"is not the name of a column"), (["1", "U8F0", "--into"], b"--into"),
 )
 # Texts that would take much memory where a program kept them: long fields, long lines, many fields, records without an end.
 LARGE = (

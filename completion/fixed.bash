@@ -78,7 +78,7 @@ _fixed() {
     *)
       case $command:$word in
         convert:-*) words='--from --radix --policy --mode --target-mode --print --places --trim --skip-blank --comments --report --output --help --version' ;;
-        column:-*) words='--from --radix --policy --mode --target-mode --print --places --delimiter --all --header --skip --trim --decimal --thousands --empty --keep --help --version' ;;
+        column:-*) words='--from --radix --policy --mode --target-mode --print --places --delimiter --all --header --skip --trim --decimal --thousands --empty --into --keep --report --help --version' ;;
         show:-*) words='--radix --policy --mode --file --output --help --version' ;;
         bits:-*) words='--radix --file --output --help --version' ;;
         lines:-* | sort:-*) words='--limit --help --version' ;;

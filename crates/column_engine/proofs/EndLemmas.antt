@@ -5,7 +5,7 @@ use Rattle.std.specs.Prelude.{◌≢◌, ⊤, Option, Some, string_bytes}
 use Rattle.csv.specs.Reading.{strip_bom}
 use Rattle.line_engine.specs.AnswerText.{AnswerText}
 use Rattle.line_engine.specs.Failures.{HasFailed}
-use Rattle.column_engine.specs.Answers.{AnswersFields, AnswersRow, AnswersRows, AnyMissing, AreFound, IsFound, IsMissing, PassesHeader, State, needed}
+use Rattle.column_engine.specs.Answers.{AnswersFields, AnswersRow, AnswersRows, AnyMissing, AppendsField, AreFound, IsFound, IsMissing, PassesHeader, State, needed}
 use Rattle.column_engine.specs.Feeding.{IsTooLong}
 use Rattle.column_engine.specs.Rows.{AreEnded, IsEnded, IsUnended, Row, ends_record, field_texts, place_after, places_after, raw_fields, row_text, rows_text}
 use Rattle.column_engine.specs.Run.{AnswersLast, Ends, HasFailures, HasRun, IsEndless, IsNext, RefusesNext, RunsText}
@@ -93,30 +93,41 @@ any_found names (column ∷ columns) (r ∷ rs) are (inl missing) = missing_foun
 any_found names (column ∷ columns) (r ∷ rs) are (inr missing) = any_found names columns rs are.1 missing
 
 module _ (A : List ℕ → AnswerText → Type 0) (one : (field : List ℕ) (a b : AnswerText) → A field a → A field b → a ≡ b) (keeps : Bool) (d : ℕ) (columns : List Column) where
+  some_short : (s t : State) (row : Row) (text : List ℕ)
+      → PassesHeader d columns s row text t ⊎ (AnswersFields A keeps d s row text t ⊎ AppendsField A keeps d s row text t) → length row.body ≤ MAX_RECORD
+  some_short s t row text (inl header) = header.short
+  some_short s t row text (inr (inl fields)) = fields.short
+  some_short s t row text (inr (inr one)) = one.short
+
   row_short : (s t : State) (row : Row) (text : List ℕ) → AnswersRow A keeps d columns s row text t → length row.body ≤ MAX_RECORD
   row_short s t row text (inl empty) = omega (arith, ap length empty.empty)
-  row_short s t row text (inr some) = ⊎_elim (λ (header : PassesHeader d columns s row text t). header.short) (λ (fields : AnswersFields A keeps d s row text t). fields.short) some.1
+  row_short s t row text (inr some) = some_short s t row text some.1
 
   lacks_some : (s t : State) (row : Row) (text : List ℕ) (count : ℕ)
       → ((s.headed ≡ false) × LacksColumn d s.asked row count) ⊎ ((s.headed ≡ true) × ((found : List Range) × AreFound (field_texts d row.body) columns found × LacksColumn d found row count))
-      → PassesHeader d columns s row text t ⊎ AnswersFields A keeps d s row text t → ⊥
+      → PassesHeader d columns s row text t ⊎ (AnswersFields A keeps d s row text t ⊎ AppendsField A keeps d s row text t) → ⊥
   lacks_some s t row text count (inl lacks) (inl header) = false≢true (sym lacks.0 ∙ header.next)
-  lacks_some s t row text count (inl lacks) (inr fields) = absurd (omega (arith, lacks.1.few, lacks.1.count_is, fields.enough))
+  lacks_some s t row text count (inl lacks) (inr (inl fields)) = absurd (omega (arith, lacks.1.few, lacks.1.count_is, fields.enough))
+  lacks_some s t row text count (inl lacks) (inr (inr one)) = absurd (omega (arith, lacks.1.few, lacks.1.count_is, one.enough))
   lacks_some s t row text count (inr lacks) (inl header) =
       let same = all_found_one (field_texts d row.body) columns lacks.1.0 header.found lacks.1.1 header.are_found in
       absurd (omega (arith, lacks.1.2.few, lacks.1.2.count_is, header.enough, ap needed same))
-  lacks_some s t row text count (inr lacks) (inr fields) = false≢true (sym fields.known ∙ lacks.0)
+  lacks_some s t row text count (inr lacks) (inr (inl fields)) = false≢true (sym fields.known ∙ lacks.0)
+  lacks_some s t row text count (inr lacks) (inr (inr one)) = false≢true (sym one.known ∙ lacks.0)
 
   lacks_answered : (s t : State) (row : Row) (text : List ℕ) (count : ℕ) → IsUnanswered (NoColumn count) d columns s row → AnswersRow A keeps d columns s row text t → ⊥
   lacks_answered s t row text count lacks (inl empty) = lacks.0.some empty.empty
   lacks_answered s t row text count lacks (inr some) = lacks_some s t row text count lacks.1 some.1
 
+  missing_some : (s t : State) (row : Row) (text : List ℕ) → s.headed ≡ true → AnyMissing (field_texts d row.body) columns
+      → PassesHeader d columns s row text t ⊎ (AnswersFields A keeps d s row text t ⊎ AppendsField A keeps d s row text t) → ⊥
+  missing_some s t row text headed missing (inl header) = any_found (field_texts d row.body) columns header.found header.are_found missing
+  missing_some s t row text headed missing (inr (inl fields)) = false≢true (sym fields.known ∙ headed)
+  missing_some s t row text headed missing (inr (inr one)) = false≢true (sym one.known ∙ headed)
+
   missing_answered : (s t : State) (row : Row) (text : List ℕ) → IsUnanswered NoName d columns s row → AnswersRow A keeps d columns s row text t → ⊥
   missing_answered s t row text missing (inl empty) = missing.0.some empty.empty
-  missing_answered s t row text missing (inr some) = ⊎_elim
-      (λ (header : PassesHeader d columns s row text t). any_found (field_texts d row.body) columns header.found header.are_found missing.2)
-      (λ (fields : AnswersFields A keeps d s row text t). false≢true (sym fields.known ∙ missing.1))
-      some.1
+  missing_answered s t row text missing (inr some) = missing_some s t row text missing.1 missing.2 some.1
 
   -- the next record is the one
   next_unended : (s : State) (row row' : Row) (rest more : List ℕ) (left : Option (List ℕ)) → IsNext d row' rest left → IsEnded d row → rest ≡ row_text row ++ more → row' ≡ row

@@ -1,14 +1,14 @@
 -- Records that were answered, one after another.
 use lib.Seq.{take-nil}
 use Rattle.std.proofs.Common.{◌≡◌, ◌<◌, ◌≤◌, ◌+◌, ◌-◌, drop, get_or, drop-cons, add-one, List, ℕ, suc, [], ◌∷◌, ◌++◌, Bool, true, false, refl, sym, ap, ◌∙◌, append_assoc, append-nil, length, take, arith, subst, Option, length-append, take-append-drop, zero, inl, inr}
-use Rattle.std.specs.Prelude.{◌==◌}
+use Rattle.std.specs.Prelude.{◌==◌, if◌then◌else◌}
 use Rattle.std.proofs.lemmas.Bool.{eqb-true}
 use Rattle.std.proofs.lemmas.Grind.{flat_map-append}
 use Rattle.std.proofs.lemmas.List.{take-append-le, length-take}
 use Rattle.line_engine.specs.AnswerText.{AnswerText}
 use Rattle.line_engine.specs.Inner.Progress.{Flushes}
-use Rattle.column_engine.specs.Answers.{AnswersRow, AnswersRows, State, answers_text, needed, one_more}
-use Rattle.column_engine.specs.Gathered.{GathersFields, GathersPart}
+use Rattle.column_engine.specs.Answers.{AnswersRow, AnswersRows, State, answers_text, needed, new_name, one_more}
+use Rattle.column_engine.specs.Gathered.{GathersFields, GathersLonger, GathersPart}
 use Rattle.column_engine.specs.Feeding.{BeginsWith, FailsFeed, FeedsRows, IsLeft, IsStanding, StopsAt}
 use Rattle.column_engine.specs.Rows.{AreEnded, IsEnded, IsUnended, Row, ends_record, place_after, places_after, raw_fields, row_text, rows_text}
 use Rattle.column_engine.specs.Steps.{FailsRow, IsHeader, PassesRow, SameCounts, StopsRow}
@@ -122,42 +122,81 @@ module _ (A : List ℕ → AnswerText → Type 0) (keeps : Bool) (d : ℕ) (colu
   row_empty s row is = inl (record { empty = is; text_is = refl; after = refl })
 
   pub row_header : (s : State) (row : Row) (found : List Range) → length row.body ≤ MAX_RECORD → s.headed ≡ true → row.body ≢ [] → IsHeader d columns row.body found
-      → AnswersRow A keeps d columns s row (row_text row) (one_more (record s { headed = false; asked = found }) 0)
+      → AnswersRow A keeps d columns s row (row.body ++ new_name d s.into ++ row.end) (one_more (record s { headed = false; asked = found }) 0)
   row_header s row found short headed some is = inr (some, inl (record { next = headed; short = short; found = found; are_found = is.are_found; enough = is.enough; text_is = refl; after = refl }))
 
-  pub row_fields : (s : State) (row : Row) (refused : ℕ) (held mid : List ℕ) (a b : Option (List ℕ)) → length row.body ≤ MAX_RECORD → s.headed ≡ false → row.body ≢ [] → needed s.asked ≤ length (raw_fields d Start row.body)
+  pub row_fields : (s : State) (row : Row) (refused : ℕ) (held mid : List ℕ) (a b : Option (List ℕ)) → length row.body ≤ MAX_RECORD → s.headed ≡ false → s.into ≡ None → row.body ≢ [] → needed s.asked ≤ length (raw_fields d Start row.body)
       → (fields : GathersFields A keeps d s.asked 0 (raw_fields d Start row.body) refused held mid a b)
       → AnswersRow A keeps d columns s row (answers_text d 0 fields.answers ++ row.end) (one_more s refused)
-  row_fields s row refused held mid a b short known some enough fields =
-      inr (some, inr (record { known = known; short = short; enough = enough; answers = fields.answers; are = fields.are; text_is = refl; after = ap (one_more s) fields.refused_is }))
+  row_fields s row refused held mid a b short known in_place some enough fields =
+      inr (some, inr (inl (record { known = known; in_place = in_place; short = short; enough = enough; answers = fields.answers; are = fields.are; text_is = refl; after = ap (one_more s) fields.refused_is })))
 
-  pub passes_fields : (s : State) (row : Row) (refused : ℕ) (held mid new : List ℕ) (a b c : Option (List ℕ)) → length row.body ≤ MAX_RECORD → s.headed ≡ false → row.body ≢ [] → needed s.asked ≤ length (raw_fields d Start row.body)
+  pub passes_fields : (s : State) (row : Row) (refused : ℕ) (held mid new : List ℕ) (a b c : Option (List ℕ)) → length row.body ≤ MAX_RECORD → s.headed ≡ false → s.into ≡ None → row.body ≢ [] → needed s.asked ≤ length (raw_fields d Start row.body)
       → GathersFields A keeps d s.asked 0 (raw_fields d Start row.body) refused held mid a b → Flushes mid row.end new b c
       → PassesRow A keeps d columns row s (one_more s refused) held new a c
-  passes_fields s row refused held mid new a b c short known some enough fields last = record {
+  passes_fields s row refused held mid new a b c short known in_place some enough fields last = record {
     text = answers_text d 0 fields.answers ++ row.end;
-    answer = row_fields s row refused held mid a b short known some enough fields;
+    answer = row_fields s row refused held mid a b short known in_place some enough fields;
     gathered = flushes_both held (answers_text d 0 fields.answers) row.end mid new a b c fields.gathered last;
   }
 
   -- a write failed after the fields, or among them
-  pub fails_fields : (s : State) (row : Row) (refused : ℕ) (held mid : List ℕ) (a b c : Option (List ℕ)) → length row.body ≤ MAX_RECORD → s.headed ≡ false → row.body ≢ [] → needed s.asked ≤ length (raw_fields d Start row.body)
+  pub fails_fields : (s : State) (row : Row) (refused : ℕ) (held mid : List ℕ) (a b c : Option (List ℕ)) → length row.body ≤ MAX_RECORD → s.headed ≡ false → s.into ≡ None → row.body ≢ [] → needed s.asked ≤ length (raw_fields d Start row.body)
       → GathersFields A keeps d s.asked 0 (raw_fields d Start row.body) refused held mid a b → ((left : List ℕ) × Flushes mid row.end left b c)
       → FailsRow A keeps d columns row s held a c
-  fails_fields s row refused held mid a b c short known some enough fields last = record {
+  fails_fields s row refused held mid a b c short known in_place some enough fields last = record {
     text = answers_text d 0 fields.answers ++ row.end;
-    part = inl (one_more s refused, row_fields s row refused held mid a b short known some enough fields);
+    part = inl (one_more s refused, row_fields s row refused held mid a b short known in_place some enough fields);
     left = last.0;
     gathered = flushes_both held (answers_text d 0 fields.answers) row.end mid last.0 a b c fields.gathered last.1;
   }
 
-  pub fails_part : (s : State) (row : Row) (held : List ℕ) (a b : Option (List ℕ)) → s.headed ≡ false → row.body ≢ []
+  pub fails_part : (s : State) (row : Row) (held : List ℕ) (a b : Option (List ℕ)) → s.headed ≡ false → s.into ≡ None → row.body ≢ []
       → GathersPart A keeps d s.asked (raw_fields d Start row.body) held a b → FailsRow A keeps d columns row s held a b
-  fails_part s row held a b known some part = record {
+  fails_part s row held a b known in_place some part = record {
     text = answers_text d 0 part.fields.answers;
-    part = inr (known, some, record { some = part.some; more = part.more; cut = part.cut; answers = part.fields.answers; are = part.fields.are; text_is = refl });
+    part = inr (known, in_place, some, record { some = part.some; more = part.more; cut = part.cut; answers = part.fields.answers; are = part.fields.are; text_is = refl });
     left = part.left;
     gathered = part.fields.gathered;
+  }
+
+  -- a record with a new column
+  pub row_longer : (s : State) (name : List ℕ) (row : Row) (refused : Bool) (held new : List ℕ) (a b : Option (List ℕ)) → length row.body ≤ MAX_RECORD → s.headed ≡ false → s.into ≡ Some name
+      → row.body ≢ [] → needed s.asked ≤ length (raw_fields d Start row.body) → (one : GathersLonger A keeps d s.asked row refused held new a b)
+      → AnswersRow A keeps d columns s row (row.body ++ d ∷ one.text ++ row.end) (one_more s (if refused then 1 else 0))
+  row_longer s name row refused held new a b short known into some enough one = inr (
+    some,
+    inr (inr (record {
+      known = known;
+      name = name;
+      into = into;
+      short = short;
+      enough = enough;
+      answer = record { text = one.text; refused = refused };
+      is = one.answer;
+      text_is = refl;
+      after = refl;
+    })),
+  )
+
+  pub passes_longer : (s : State) (name : List ℕ) (row : Row) (count : ℕ) (held new : List ℕ) (a b : Option (List ℕ)) → length row.body ≤ MAX_RECORD → s.headed ≡ false → s.into ≡ Some name
+      → row.body ≢ [] → needed s.asked ≤ length (raw_fields d Start row.body)
+      → ((refused : Bool) × (count ≡ (if refused then 1 else 0)) × GathersLonger A keeps d s.asked row refused held new a b)
+      → PassesRow A keeps d columns row s (one_more s count) held new a b
+  passes_longer s name row count held new a b short known into some enough one = rw one.1 (record {
+    text = row.body ++ d ∷ one.2.text ++ row.end;
+    answer = row_longer s name row one.0 held new a b short known into some enough one.2;
+    gathered = one.2.gathered;
+  })
+
+  pub fails_longer : (s : State) (name : List ℕ) (row : Row) (held : List ℕ) (a b : Option (List ℕ)) → length row.body ≤ MAX_RECORD → s.headed ≡ false → s.into ≡ Some name
+      → row.body ≢ [] → needed s.asked ≤ length (raw_fields d Start row.body)
+      → ((refused : Bool) × (left : List ℕ) × GathersLonger A keeps d s.asked row refused held left a b) → FailsRow A keeps d columns row s held a b
+  fails_longer s name row held a b short known into some enough one = record {
+    text = row.body ++ d ∷ one.2.text ++ row.end;
+    part = inl (one_more s (if one.0 then 1 else 0), row_longer s name row one.0 held one.1 a b short known into some enough one.2);
+    left = one.1;
+    gathered = one.2.gathered;
   }
 
   pub fails_whole : (s t : State) (row : Row) (text held : List ℕ) (a b : Option (List ℕ)) → AnswersRow A keeps d columns s row text t → ((left : List ℕ) × Flushes held text left a b)

@@ -1,18 +1,20 @@
 -- The fields of a record that are passed over at once.
-use Rattle.std.proofs.Common.{◌≡◌, ◌==◌, ◌<◌, ◌≤◌, ◌+◌, ◌-◌, ℕ, suc, List, [], ◌∷◌, ◌++◌, Bool, true, false, length, take, drop, refl, sym, ap, ◌∙◌, append_assoc, append-nil, arith, if◌then◌else◌, subst, map, get_or, drop-cons, ◌^◌}
-use Rattle.std.proofs.lemmas.List.{drop-drop, get_or-drop, length-drop, take_all, take_rest}
+use Rattle.std.proofs.Common.{◌≡◌, ◌==◌, ◌<◌, ◌≤◌, ◌+◌, ◌-◌, ℕ, suc, List, [], ◌∷◌, ◌++◌, Bool, true, false, length, take, drop, refl, sym, ap, ◌∙◌, append_assoc, append-nil, arith, if◌then◌else◌, subst, map, get_or, drop-cons, ◌^◌, zero, ⊎_elim, length-append}
+use Rattle.std.proofs.lemmas.Bool.{cases_lt}
+use Rattle.std.proofs.lemmas.Bool.Decides.{nat_tests}
+use Rattle.std.proofs.lemmas.List.{drop-drop, get_or-drop, drop_all, length-drop, take_all, take_rest}
 use Rattle.std.proofs.Math.Seq.{take-add}
 use Rattle.std.specs.Prelude.{Option}
 use Rattle.line_engine.specs.AnswerText.{AnswerText}
 use Rattle.line_engine.specs.Inner.Progress.{Flushes}
 use Rattle.line_engine.specs.Lines.{onto_first}
-use Rattle.column_engine.specs.Answers.{AreAnswers, FieldAnswer, answers_text, before_field, count_refused, is_asked}
-use Rattle.column_engine.specs.Gathered.{GathersAnswer, GathersField, GathersFields, GathersPart, ahead}
+use Rattle.column_engine.specs.Answers.{AreAnswers, FieldAnswer, IsAnswer, answers_text, before_field, count_refused, is_asked}
+use Rattle.column_engine.specs.Gathered.{GathersAnswer, GathersField, GathersFields, GathersPart, IsFieldAt, ahead, only, unanswered}
 use Rattle.column_engine.specs.Rows.{ends_field, raw_fields, within_after}
 use Rattle.column_engine.specs.declared.columns.Range.{Range}
 use Rattle.column_engine.specs.declared.place.Place.{Place}
 use Rattle.column_engine.specs.declared.place.Place.TheVariants.{Start}
-use Rattle.column_engine.proofs.GatherLemmas.{fields_one, flushes_both, flushes_on, flushes_push, part_one}
+use Rattle.column_engine.proofs.GatherLemmas.{before_later, fields_one, flushes_both, flushes_more, flushes_on, flushes_push, part_all, part_one}
 use Rattle.column_engine.proofs.PlaceLemmas.{ends_is}
 use Rattle.column_engine.proofs.RowLemmas.{first_field, raw_end, raw_none, raw_on}
 
@@ -78,9 +80,6 @@ unfoldable pub joined : ℕ → List (List ℕ) → List ℕ
 joined d [] = []
 joined d (raw ∷ raws) = raw ++ joined_more d raws
 
-kept : List ℕ → FieldAnswer
-kept raw = record { text = raw; refused = false }
-
 pub IsSome : List (List ℕ) → Type 0
 IsSome raws = (first : List ℕ) × (rest : List (List ℕ)) × (raws ≡ first ∷ rest)
 
@@ -141,27 +140,25 @@ pub fields_few : (d : ℕ) (place : Place) (body : List ℕ) → length (raw_fie
 fields_few d place [] = omega (arith, ap length (raw_none d place))
 fields_few d place (b ∷ rest) = few_one d place b rest (ends_field d place b) refl (fields_few d Start rest) (fields_few d (within_after place b) rest)
 
-texts_more : (d column : ℕ) (raws : List (List ℕ)) → answers_text d (column + 1) (map kept raws) ≡ joined_more d raws
-unfolding joined_more kept
+texts_more : (d column : ℕ) (raws : List (List ℕ)) → answers_text d (column + 1) (map unanswered raws) ≡ joined_more d raws
+unfolding joined_more
 texts_more d column [] = refl
 texts_more d column (raw ∷ raws) =
     let later : (column + 1 == 0) ≡ false = grind arith in
     ap (λ l. (before_field d (column + 1) ++ raw) ++ l) (texts_more d (column + 1) raws) ∙ rw later refl
 
-texts_kept : (d column : ℕ) (raws : List (List ℕ)) → IsSome raws → answers_text d column (map kept raws) ≡ before_field d column ++ joined d raws
-unfolding IsSome joined kept
+texts_kept : (d column : ℕ) (raws : List (List ℕ)) → IsSome raws → answers_text d column (map unanswered raws) ≡ before_field d column ++ joined d raws
+unfolding IsSome joined
 texts_kept d column raws some = rw some.2
     (ap (λ l. (before_field d column ++ some.0) ++ l) (texts_more d column some.1) ∙ append_assoc (before_field d column) some.0 (joined_more d some.1))
 
-none_refused : (raws : List (List ℕ)) → count_refused (map kept raws) ≡ 0
-unfolding kept
+none_refused : (raws : List (List ℕ)) → count_refused (map unanswered raws) ≡ 0
 none_refused [] = refl
 none_refused (raw ∷ raws) = omega (arith, none_refused raws)
 
 module _ (A : List ℕ → AnswerText → Type 0) (keeps : Bool) (d : ℕ) (asked : List Range) where
   answers_kept : (column : ℕ) (raws : List (List ℕ)) → ((k : ℕ) → column ≤ k → k < column + length raws → is_asked asked k ≡ false)
-      → AreAnswers A keeps d asked column raws (map kept raws)
-  unfolding kept
+      → AreAnswers A keeps d asked column raws (map unanswered raws)
   answers_kept column [] none = tt
   answers_kept column (raw ∷ raws) none = (
     rw (none column (omega arith) (omega arith)) refl,
@@ -190,7 +187,7 @@ module _ (A : List ℕ → AnswerText → Type 0) (keeps : Bool) (d : ℕ) (aske
       (texts_append (column + 1) raws answers later first.1 ∙ ap (λ c. answers_text d (column + 1) answers ++ answers_text d c later) same)
       ∙ sym (append_assoc (before_field d column ++ a.text) (answers_text d (column + 1) answers) (answers_text d (column + suc (length raws)) later))
 
-  refused_append : (answers : List FieldAnswer) (raws : List (List ℕ)) → count_refused (answers ++ map kept raws) ≡ count_refused answers
+  refused_append : (answers : List FieldAnswer) (raws : List (List ℕ)) → count_refused (answers ++ map unanswered raws) ≡ count_refused answers
   refused_append [] raws = none_refused raws
   refused_append (a ∷ answers) raws = ap (λ n. (if a.refused then 1 else 0) + n) (refused_append answers raws)
 
@@ -202,15 +199,15 @@ module _ (A : List ℕ → AnswerText → Type 0) (keeps : Bool) (d : ℕ) (aske
   fields_rest column count some rest held before new a b c is none fields last =
       let raws = raw_fields d Start rest in
       let place : column ≡ 0 + length some = omega (arith, is) in
-      let text : answers_text d column (map kept raws) ≡ before_field d column ++ rest =
+      let text : answers_text d column (map unanswered raws) ≡ before_field d column ++ rest =
       texts_kept d column raws (raw_some d Start rest) ∙ ap (λ l. before_field d column ++ l) (joined_is d Start rest) in
       record {
-        answers = fields.answers ++ map kept raws;
-        are = answers_append 0 some raws fields.answers (map kept raws) fields.are
-            (subst (λ k. AreAnswers A keeps d asked k raws (map kept raws)) place (answers_kept column raws none));
+        answers = fields.answers ++ map unanswered raws;
+        are = answers_append 0 some raws fields.answers (map unanswered raws) fields.are
+            (subst (λ k. AreAnswers A keeps d asked k raws (map unanswered raws)) place (answers_kept column raws none));
         refused_is = fields.refused_is ∙ sym (refused_append fields.answers raws);
         gathered = subst (λ l. Flushes held l new a c)
-            (sym (texts_append 0 some fields.answers (map kept raws) fields.are ∙ ap (λ k. answers_text d 0 fields.answers ++ answers_text d k (map kept raws)) (sym place)
+            (sym (texts_append 0 some fields.answers (map unanswered raws) fields.are ∙ ap (λ k. answers_text d 0 fields.answers ++ answers_text d k (map unanswered raws)) (sym place)
             ∙ ap (λ l. answers_text d 0 fields.answers ++ l) text))
             (flushes_both held (answers_text d 0 fields.answers) (before_field d column ++ rest) before new a b c fields.gathered last);
       }
@@ -276,3 +273,152 @@ module _ (A : List ℕ → AnswerText → Type 0) (keeps : Bool) (d : ℕ) (aske
   part_next all some more raw column count held before from_here a b c cut is fields ahead_is one =
       part_one A keeps d asked all some more raw column count held before a b c cut is fields
       (one.0, one.1, subst (λ l. GathersField A keeps d (is_asked asked column) raw one.0 l one.1 b c) (sym ahead_is) one.2)
+
+-- ---- one field, by its place
+texts_end : (d column : ℕ) (some : List (List ℕ)) (raw : List ℕ)
+    → answers_text d column (map unanswered (some ++ raw ∷ [])) ≡ answers_text d column (map unanswered some) ++ (before_field d (column + length some) ++ raw)
+texts_end d column [] raw =
+    let same : column ≡ column + 0 = omega arith in
+    append-nil (before_field d column ++ raw) ∙ ap (λ c. before_field d c ++ raw) same
+texts_end d column (first ∷ some) raw =
+    let same : column + 1 + length some ≡ column + suc (length some) = omega arith in
+    ap (λ l. (before_field d column ++ first) ++ l)
+    (texts_end d (column + 1) some raw ∙ ap (λ c. answers_text d (column + 1) (map unanswered some) ++ (before_field d c ++ raw)) same)
+    ∙ sym (append_assoc (before_field d column ++ first) (answers_text d (column + 1) (map unanswered some)) (before_field d (column + suc (length some)) ++ raw))
+
+-- the bytes before the next field
+pub before_next : (d : ℕ) (body : List ℕ) (start end column : ℕ) (some : List (List ℕ)) → start ≤ end → column ≡ length some → take 1 (drop end body) ≡ d ∷ []
+    → take start body ≡ answers_text d 0 (map unanswered some) ++ before_field d column
+    → take (end + 1) body ≡ answers_text d 0 (map unanswered (some ++ take (end - start) (drop start body) ∷ [])) ++ before_field d (column + 1)
+before_next d body start end column some ordered is one before =
+    let raw = take (end - start) (drop start body) in
+    let texts = answers_text d 0 (map unanswered some) in
+    let whole : end + 1 ≡ start + (end - start + 1) = omega (arith, ordered) in
+    let there : start + (end - start) ≡ end = omega (arith, ordered) in
+    let place : 0 + length some ≡ column = omega (arith, is) in
+    ap (λ n. take n body) whole ∙ take-add start (end - start + 1) body
+    ∙ ap (λ l. take start body ++ l) (take-add (end - start) 1 (drop start body) ∙ ap (λ l. raw ++ take 1 l) (drop-drop (end - start) start body ∙ ap (λ n. drop n body) there) ∙ ap (λ l. raw ++ l) one)
+    ∙ ap (λ l. l ++ (raw ++ d ∷ [])) before ∙ append_assoc texts (before_field d column) (raw ++ d ∷ [])
+    ∙ ap (λ l. texts ++ l) (sym (append_assoc (before_field d column) raw (d ∷ []))) ∙ sym (append_assoc texts (before_field d column ++ raw) (d ∷ []))
+    ∙ ap (λ l. l ++ d ∷ []) (sym (texts_end d 0 some raw ∙ ap (λ c. texts ++ (before_field d c ++ raw)) place))
+    ∙ ap (λ l. answers_text d 0 (map unanswered (some ++ raw ∷ [])) ++ l) (sym (before_later d column))
+
+-- the bytes behind a field
+behind_it : (d : ℕ) (body : List ℕ) (end column : ℕ) → end < length body → take 1 (drop end body) ≡ d ∷ []
+    → drop end body ≡ answers_text d (column + 1) (map unanswered (raw_fields d Start (drop (end + 1) body)))
+behind_it d body end column low one =
+    let rest = drop (end + 1) body in
+    let raws = raw_fields d Start rest in
+    let parts = drop-cons body end 0 low in
+    let byte : get_or body end 0 ≡ d = ap (λ l. get_or l 0 0) (sym (ap (take 1) parts) ∙ one) in
+    let next : suc end ≡ end + 1 = omega arith in
+    parts ∙ ap (λ b. b ∷ drop (suc end) body) byte ∙ ap (λ n. d ∷ drop n body) next
+    ∙ sym (texts_more d column raws ∙ more_is d raws (raw_some d Start rest) ∙ ap (λ l. d ∷ l) (joined_is d Start rest))
+
+pub field_here : (d : ℕ) (body : List ℕ) (start end column : ℕ) (some : List (List ℕ)) → start ≤ end → FieldAt d body start end
+    → raw_fields d Start body ≡ some ++ raw_fields d Start (drop start body) → column ≡ length some
+    → take start body ≡ answers_text d 0 (map unanswered some) ++ before_field d column → IsFieldAt d body column start end
+field_here d body start end column some ordered found cut is before = ⊎_elim
+    (λ (low : end < length body). record {
+      ordered = ordered;
+      within = found.within;
+      some = some;
+      more = raw_fields d Start (drop (end + 1) body);
+      cut = cut ∙ ap (λ l. some ++ l) (found.more low);
+      column_is = is;
+      before = before;
+      after = behind_it d body end column low (found.delimiter low);
+    })
+    (λ (high : length body ≤ end). record {
+      ordered = ordered;
+      within = found.within;
+      some = some;
+      more = [];
+      cut = cut ∙ ap (λ l. some ++ l) (found.last (omega (arith, high, found.within)));
+      column_is = is;
+      before = before;
+      after = drop_all end body high;
+    })
+    (cases_lt end (length body))
+
+pub last_count : (all some : List (List ℕ)) (raw : List ℕ) (count : ℕ) → all ≡ some ++ raw ∷ [] → count ≡ length some → count + 1 ≡ length all
+last_count all some raw count cut is = omega (arith, ap length cut, length-append some (raw ∷ []), is)
+
+-- no other field is asked for
+only_it : (column : ℕ) → is_asked (only column) column ≡ true
+only_it column = grind (arith, nat_tests)
+
+only_below : (column k : ℕ) → k < column → is_asked (only column) k ≡ false
+only_below column k low = grind (arith, nat_tests)
+
+only_above : (column k : ℕ) → column < k → is_asked (only column) k ≡ false
+only_above column k high = grind (arith, nat_tests)
+
+refused_around : (some more : List (List ℕ)) (answer : FieldAnswer)
+    → count_refused (map unanswered some ++ answer ∷ map unanswered more) ≡ (if answer.refused then 1 else 0)
+refused_around [] more answer = omega (arith, none_refused more)
+refused_around (raw ∷ some) more answer = omega (arith, refused_around some more answer)
+
+module _ (A : List ℕ → AnswerText → Type 0) (keeps : Bool) (d : ℕ) where
+  -- one field answered, and the bytes around it
+  pub field_around : (body : List ℕ) (column start end : ℕ) (text : List ℕ) (refused : Bool) (held new : List ℕ) (a b : Option (List ℕ)) → IsFieldAt d body column start end
+      → IsAnswer A keeps d true (take (end - start) (drop start body)) (record { text = text; refused = refused })
+      → Flushes held ((take start body ++ text) ++ drop end body) new a b
+      → GathersFields A keeps d (only column) 0 (raw_fields d Start body) (if refused then 1 else 0) held new a b
+  field_around body column start end text refused held new a b at one gathered =
+      let raw = take (end - start) (drop start body) in
+      let answer : FieldAnswer = record { text = text; refused = refused } in
+      let before = map unanswered at.some in
+      let behind = map unanswered at.more in
+      let place : 0 + length at.some ≡ column = omega (arith, at.column_is) in
+      let low = answers_kept A keeps d (only column) 0 at.some (λ k from to. only_below column k (omega (arith, to, at.column_is))) in
+      let high = answers_kept A keeps d (only column) (column + 1) at.more (λ k from to. only_above column k (omega (arith, from))) in
+      let here : IsAnswer A keeps d (is_asked (only column) column) raw answer = rw (only_it column) one in
+      let later : AreAnswers A keeps d (only column) column (raw ∷ at.more) (answer ∷ behind) = (here, high) in
+      let are = answers_append A keeps d (only column) 0 at.some (raw ∷ at.more) before (answer ∷ behind) low
+      (subst (λ k. AreAnswers A keeps d (only column) k (raw ∷ at.more) (answer ∷ behind)) (sym place) later) in
+      let text_is : answers_text d 0 (before ++ answer ∷ behind) ≡ (take start body ++ text) ++ drop end body =
+      texts_append A keeps d (only column) 0 at.some before (answer ∷ behind) low
+      ∙ ap (λ k. answers_text d 0 before ++ answers_text d k (answer ∷ behind)) place
+      ∙ sym (append_assoc (answers_text d 0 before) (before_field d column ++ text) (answers_text d (column + 1) behind))
+      ∙ ap (λ l. l ++ answers_text d (column + 1) behind) (sym (append_assoc (answers_text d 0 before) (before_field d column) text))
+      ∙ ap (λ l. (l ++ text) ++ answers_text d (column + 1) behind) (sym at.before)
+      ∙ ap (λ l. (take start body ++ text) ++ l) (sym at.after) in
+      record {
+        answers = before ++ answer ∷ behind;
+        are = subst (λ l. AreAnswers A keeps d (only column) 0 l (before ++ answer ∷ behind)) (sym at.cut) are;
+        refused_is = sym (refused_around at.some at.more answer);
+        gathered = subst (λ l. Flushes held l new a b) (sym text_is) gathered;
+      }
+
+  pub field_filled : (body before after : List ℕ) (column start end count : ℕ) (refused : Bool) (held mid new : List ℕ) (a b c : Option (List ℕ)) → IsFieldAt d body column start end
+      → count ≡ (if refused then 1 else 0) → before ≡ take start body → after ≡ drop end body
+      → GathersAnswer A keeps d before (take (end - start) (drop start body)) refused held mid a b → Flushes mid after new b c
+      → GathersFields A keeps d (only column) 0 (raw_fields d Start body) count held new a c
+  field_filled body before after column start end count refused held mid new a b c at count_is before_is after_is one last =
+      let both = flushes_both held (before ++ one.text) after mid new a b c one.gathered last in
+      rw count_is (field_around body column start end one.text refused held new a c at one.answer
+      (subst (λ l. Flushes held ((take start body ++ one.text) ++ l) new a c) after_is (subst (λ l. Flushes held ((l ++ one.text) ++ after) new a c) before_is both)))
+
+  pub field_cut : (body before : List ℕ) (column start end : ℕ) (refused : Bool) (held left : List ℕ) (a b : Option (List ℕ)) → IsFieldAt d body column start end
+      → before ≡ take start body → GathersAnswer A keeps d before (take (end - start) (drop start body)) refused held left a b
+      → GathersPart A keeps d (only column) (raw_fields d Start body) held a b
+  field_cut body before column start end refused held left a b at before_is one =
+      let more = flushes_more held (before ++ one.text) left (drop end body) a b one.gathered in
+      part_all A keeps d (only column) (raw_fields d Start body) (if refused then 1 else 0) held (left ++ drop end body) a b
+      (field_around body column start end one.text refused held (left ++ drop end body) a b at one.answer
+      (subst (λ l. Flushes held ((l ++ one.text) ++ drop end body) (left ++ drop end body) a b) before_is more))
+
+-- the field in a column
+got_at : (some more : List (List ℕ)) (raw : List ℕ) → get_or (some ++ raw ∷ more) (length some) [] ≡ raw
+got_at [] more raw = refl
+got_at (x ∷ some) more raw = got_at some more raw
+
+pub field_got : (all some more : List (List ℕ)) (raw : List ℕ) (column : ℕ) → all ≡ some ++ raw ∷ more → column ≡ length some → raw ≡ get_or all column []
+field_got all some more raw column cut is =
+    sym (ap (λ l. get_or l column []) cut ∙ ap (λ k. get_or (some ++ raw ∷ more) k []) is ∙ got_at some more raw)
+
+pub none_got : (all : List (List ℕ)) (column : ℕ) → length all ≤ column → get_or all column [] ≡ []
+none_got [] column few = refl
+none_got (x ∷ xs) zero few = absurd (omega (arith, few))
+none_got (x ∷ xs) (suc k) few = none_got xs k (omega (arith, few))

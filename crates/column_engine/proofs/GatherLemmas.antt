@@ -1,7 +1,7 @@
 -- What was gathered, one piece after another.
 use Rattle.std.proofs.Common.{◌≡◌, ◌+◌, ◌==◌, List, ℕ, suc, [], ◌∷◌, ◌++◌, Bool, false, refl, sym, ap, ◌∙◌, append_assoc, append-nil, length, arith, if◌then◌else◌, subst}
 use Rattle.std.proofs.KnownBytes.{Appends-trans, Appends-nil}
-use Rattle.std.specs.Prelude.{Option, Result, Ok, Err, OnErr}
+use Rattle.std.specs.Prelude.{Option, Result, Ok, Err, IfOk, OnErr}
 use Rattle.std.specs.Io.KnownBytes.{Appends}
 use Rattle.line_engine.specs.AnswerText.{AnswerText}
 use Rattle.line_engine.specs.Inner.Progress.{Flushes}
@@ -82,6 +82,10 @@ flushes_on held part text new a b all = record { gone = all.gone; split = append
 pub on_err : {T E P : Type 0} (r : Result T E) → P → OnErr r P
 on_err (Ok x) p = tt
 on_err (Err e) p = p
+
+pub if_ok : {T E : Type 0} (r : Result T E) (P Q : T → Type 0) → ((x : T) → P x → Q x) → IfOk r P → IfOk r Q
+if_ok (Ok x) P Q f p = f x p
+if_ok (Err e) P Q f p = tt
 
 -- ---- the answers to fields
 module _ (A : List ℕ → AnswerText → Type 0) (keeps : Bool) (d : ℕ) (asked : List Range) where

@@ -1,19 +1,19 @@
 -- What is written for a record has its fields, with the replies in place of those that are asked for.
-use Rattle.std.proofs.Common.{◌≡◌, ◌==◌, ◌||◌, ◌+◌, ℕ, List, [], ◌∷◌, ◌++◌, Bool, true, false, refl, sym, ap, ◌∙◌, subst, append-nil, arith, if◌then◌else◌, map, length, inl, inr, ⊎_elim, length-append}
+use Rattle.std.proofs.Common.{◌≡◌, ◌==◌, ◌||◌, ◌+◌, ℕ, List, [], ◌∷◌, ◌++◌, Bool, true, false, refl, sym, ap, ◌∙◌, subst, append-nil, arith, if◌then◌else◌, map, length, inl, inr, ◌⊎◌, length-append, get_or, zero, suc, append_assoc}
 use Rattle.std.proofs.lemmas.Bool.{eq-eqb, eqb-true, false≢true}
-use Rattle.std.specs.Prelude.{◌≢◌, ⊤}
+use Rattle.std.specs.Prelude.{◌≢◌, ⊤, None, Option, Some}
 use Rattle.csv.specs.Writing.{default_writer, escaped, needs_byte, needs_quotes, quoted}
 use Rattle.line_engine.specs.AnswerText.{AnswerText}
 use Rattle.line_engine.specs.Lines.{onto_first}
-use Rattle.column_engine.specs.Answers.{AnswersFields, AnswersRow, AnswersRows, AreAnswers, FieldAnswer, IsAnswer, PassesHeader, State, answers_text, as_field, before_field, calls_for_quotes, is_asked, stays}
-use Rattle.column_engine.specs.Laws.{AreReplaced, AreReplacedRows, AreRows, FieldsAreReplaced, IsDelimiter, IsReplaced, IsReplacedRow}
+use Rattle.column_engine.specs.Answers.{AnswersFields, AnswersRow, AnswersRows, AppendsField, AreAnswers, FieldAnswer, IsAnswer, PassesHeader, State, answers_text, as_field, before_field, calls_for_quotes, first_asked, is_asked, stays}
+use Rattle.column_engine.specs.Laws.{AreReplaced, AreReplacedRows, AreRows, FieldsAreReplaced, IsDelimiter, IsRecordOf, IsReplaced, IsReplacedRow}
 use Rattle.column_engine.specs.Rows.{IsEnded, IsLast, IsUnended, Row, content, ends_field, ends_record, field_texts, place_after, places_after, raw_fields, row_text, rows_text, within_after}
 use Rattle.column_engine.specs.declared.columns.Column.{Column}
 use Rattle.column_engine.specs.declared.columns.Range.{Range}
 use Rattle.column_engine.specs.declared.place.Place.{Place}
 use Rattle.column_engine.specs.declared.place.Place.TheVariants.{AfterQuote, Inside, Quoted, Start}
 use Rattle.column_engine.proofs.FieldsLemmas.{joined, joined_is, joined_more}
-use Rattle.column_engine.proofs.RowLemmas.{from_never, places_append, plain_first, raw_end, raw_none, raw_on, unended_append}
+use Rattle.column_engine.proofs.RowLemmas.{from_never, places_append, plain_first, plain_none, raw_end, raw_none, raw_on, unended_append}
 
 -- ---- the bytes of one field
 -- these bytes go on with a field from a place, and end neither it nor its record
@@ -446,6 +446,86 @@ module _ (A : List ℕ → AnswerText → Type 0) (keeps : Bool) (d : ℕ) where
             (subst (λ l. AreReplaced A keeps asked 0 (map (content Start) raws) (map (content Start) l)) (sym (ap (raw_fields d Start) text ∙ joins.fields)) all.replaced);
       }
 
+-- ---- a record with one field more
+raw_append : (d : ℕ) (p : Place) (raws : List (List ℕ)) (field : List ℕ) → AreRaw d p raws → last_place d p raws ≢ Quoted → IsRaw d Start field → AreRaw d p (raws ++ field ∷ [])
+unfolding AreRaw last_place
+raw_append d p [] field are closed one = absurd are
+raw_append d p (raw ∷ []) field are closed one = (are, closed, one)
+raw_append d p (raw ∷ next ∷ raws) field are closed one = (are.0, are.1, raw_append d Start (next ∷ raws) field are.2 closed one)
+
+last_append : (d : ℕ) (p : Place) (raws : List (List ℕ)) (field : List ℕ) → AreRaw d p raws → last_place d p (raws ++ field ∷ []) ≡ places_after d Start field
+unfolding AreRaw last_place
+last_append d p [] field are = absurd are
+last_append d p (raw ∷ []) field are = refl
+last_append d p (raw ∷ next ∷ raws) field are = last_append d Start (next ∷ raws) field are.2
+
+joined_more_append : (d : ℕ) (raws : List (List ℕ)) (field : List ℕ) → joined_more d (raws ++ field ∷ []) ≡ joined_more d raws ++ d ∷ field
+unfolding joined_more
+joined_more_append d [] field = ap (λ l. d ∷ l) (append-nil field)
+joined_more_append d (raw ∷ raws) field =
+    ap (λ l. (d ∷ raw) ++ l) (joined_more_append d raws field) ∙ sym (append_assoc (d ∷ raw) (joined_more d raws) (d ∷ field))
+
+joined_append : (d : ℕ) (first : List ℕ) (rest : List (List ℕ)) (field : List ℕ) → joined d ((first ∷ rest) ++ field ∷ []) ≡ joined d (first ∷ rest) ++ d ∷ field
+unfolding joined
+joined_append d first rest field = ap (λ l. first ++ l) (joined_more_append d rest field) ∙ sym (append_assoc first (joined_more d rest) (d ∷ field))
+
+pub record Longer (d : ℕ) (body field : List ℕ) : Type 0 where
+  pub unended : IsUnended d Start (body ++ d ∷ field)
+  pub fields : raw_fields d Start (body ++ d ∷ field) ≡ raw_fields d Start body ++ field ∷ []
+  pub closed : places_after d Start (body ++ d ∷ field) ≢ Quoted
+
+longer_of : (d : ℕ) (body field : List ℕ) → IsDelimiter d → IsUnended d Start body → places_after d Start body ≢ Quoted → IsRaw d Start field → places_after d Start field ≢ Quoted
+    → Longer d body field
+longer_of d body field is unended closed raw_is field_closed =
+    let cut = cut_of d Start body unended in
+    let raws = cut.first ∷ cut.rest in
+    let are = raw_append d Start raws field cut.raw (λ e. closed (sym cut.last ∙ e)) raw_is in
+    let all = joins d Start (raws ++ field ∷ []) is are in
+    let whole : joined d (raws ++ field ∷ []) ≡ body ++ d ∷ field =
+    joined_append d cut.first cut.rest field ∙ ap (λ l. l ++ d ∷ field) (ap (joined d) (sym cut.are) ∙ joined_is d Start body) in
+    record {
+      unended = subst (IsUnended d Start) whole all.unended;
+      fields = ap (raw_fields d Start) (sym whole) ∙ all.fields ∙ ap (λ l. l ++ field ∷ []) (sym cut.are);
+      closed = λ e. field_closed (sym (last_append d Start raws field cut.raw) ∙ sym all.place ∙ ap (places_after d Start) whole ∙ e);
+    }
+
+map_append : (xs ys : List (List ℕ)) → map (content Start) (xs ++ ys) ≡ map (content Start) xs ++ map (content Start) ys
+map_append [] ys = refl
+map_append (x ∷ xs) ys = ap (λ l. content Start x ∷ l) (map_append xs ys)
+
+longer_texts : (d : ℕ) (body field text : List ℕ) → Longer d body field → content Start field ≡ text → field_texts d (body ++ d ∷ field) ≡ field_texts d body ++ text ∷ []
+longer_texts d body field text longer is =
+    ap (map (content Start)) longer.fields ∙ map_append (raw_fields d Start body) (field ∷ []) ∙ ap (λ l. field_texts d body ++ l ∷ []) is
+
+content_at : (raws : List (List ℕ)) (k : ℕ) → content Start (get_or raws k []) ≡ get_or (map (content Start) raws) k []
+content_at [] k = plain_none
+content_at (raw ∷ raws) zero = refl
+content_at (raw ∷ raws) (suc k) = content_at raws k
+
+start_open : Start ≢ Quoted
+start_open = λ e. cc e
+
+no_field : (d : ℕ) → IsRaw d Start [] × (places_after d Start [] ≢ Quoted)
+unfolding IsRaw places_after
+no_field d = (tt, start_open)
+
+raw_at : (d : ℕ) (p : Place) (raws : List (List ℕ)) (k : ℕ) → p ≡ Start → AreRaw d p raws → last_place d p raws ≢ Quoted
+    → IsRaw d Start (get_or raws k []) × (places_after d Start (get_or raws k []) ≢ Quoted)
+unfolding AreRaw last_place
+raw_at d p [] k start are closed = absurd are
+raw_at d p (raw ∷ []) zero start are closed = (subst (λ q. IsRaw d q raw) start are, subst (λ q. places_after d q raw ≢ Quoted) start closed)
+raw_at d p (raw ∷ []) (suc k) start are closed = no_field d
+raw_at d p (raw ∷ next ∷ raws) zero start are closed = (subst (λ q. IsRaw d q raw) start are.0, subst (λ q. places_after d q raw ≢ Quoted) start are.1)
+raw_at d p (raw ∷ next ∷ raws) (suc k) start are closed = raw_at d Start (next ∷ raws) k refl are.2 closed
+
+-- each field of a record that ends outside of quotes does
+field_raw : (d : ℕ) (body : List ℕ) (k : ℕ) → IsUnended d Start body → places_after d Start body ≢ Quoted
+    → IsRaw d Start (get_or (raw_fields d Start body) k []) × (places_after d Start (get_or (raw_fields d Start body) k []) ≢ Quoted)
+field_raw d body k unended closed =
+    let cut = cut_of d Start body unended in
+    let at = raw_at d Start (cut.first ∷ cut.rest) k refl cut.raw (λ e. closed (sym cut.last ∙ e)) in
+    subst (λ l. IsRaw d Start (get_or l k []) × (places_after d Start (get_or l k []) ≢ Quoted)) (sym cut.are) at
+
 line_of : (p : Place) (byte : ℕ) → ends_record p byte ≡ true → ((byte == 10) || (byte == 13)) ≡ true
 line_of Start byte is = is
 line_of Inside byte is = is
@@ -473,8 +553,48 @@ module _ (A : List ℕ → AnswerText → Type 0) (keeps : Bool) (d : ℕ) (colu
     pub ended : IsEnded d row → IsEnded d new
     pub last : IsLast d row → IsLast d new
 
-  stays_row : (s : State) (row : Row) (text : List ℕ) → text ≡ row_text row → NewRow s row text
-  stays_row s row text is = record { new = row; text_is = is; replaced = inl refl; ended = λ x. x; last = λ x. x }
+  stays_row : (s : State) (row : Row) (text : List ℕ) → IsReplacedRow A keeps d s row row → text ≡ row_text row → NewRow s row text
+  stays_row s row text replaced is = record { new = row; text_is = is; replaced = replaced; ended = λ x. x; last = λ x. x }
+
+  -- a record with one field more
+  longer_row : (s : State) (row : Row) (field text : List ℕ) → row.body ≢ [] → Longer d row.body field
+      → IsRecordOf A keeps d s.asked s.headed s.into row (record { body = row.body ++ d ∷ field; end = row.end }) → text ≡ row.body ++ d ∷ field ++ row.end → NewRow s row text
+  longer_row s row field text some longer is text_is = record {
+    new = record { body = row.body ++ d ∷ field; end = row.end };
+    text_is = text_is;
+    replaced = inr (some, is);
+    ended = λ old. record {
+      unended = longer.unended;
+      byte = old.byte;
+      ends = line_to (places_after d Start (row.body ++ d ∷ field)) old.byte longer.closed (line_of (places_after d Start row.body) old.byte old.ends);
+      is_end = old.is_end;
+    };
+    last = λ old. record { unended = longer.unended; some = λ e. absurd (omega (arith, ap length e, length-append row.body (d ∷ field))); closed = longer.closed; is_end = old.is_end };
+  }
+
+  header_row : (s t : State) (row : Row) (text : List ℕ) (into : Option (List ℕ)) → IsDelimiter d → IsUnended d Start row.body → places_after d Start row.body ≢ Quoted → row.body ≢ []
+      → s.into ≡ into → PassesHeader d columns s row text t → NewRow s row text
+  header_row s t row text None is unended closed some into header =
+      stays_row s row text (inr (some, rw (header.next, into) refl)) (header.text_is ∙ rw into (ap (λ l. l ++ row.end) (append-nil row.body)))
+  header_row s t row text (Some name) is unended closed some into header =
+      let means = field_means d name (calls_for_quotes d name) is refl in
+      let longer = longer_of d row.body (as_field d name) is unended closed means.raw_is means.closed in
+      longer_row s row (as_field d name) text some longer
+      (rw (header.next, into) (record { end = refl; texts = longer_texts d row.body (as_field d name) name longer means.text_is }))
+      (header.text_is ∙ rw into refl)
+
+  appended_row : (s t : State) (row : Row) (text : List ℕ) → IsDelimiter d → IsUnended d Start row.body → places_after d Start row.body ≢ Quoted → row.body ≢ []
+      → AppendsField A keeps d s row text t → NewRow s row text
+  appended_row s t row text is unended closed some one =
+      let k = first_asked s.asked in
+      let raw = get_or (raw_fields d Start row.body) k [] in
+      let at = field_raw d row.body k unended closed in
+      let new = answered A keeps d true raw one.answer is at.0 one.is in
+      let longer = longer_of d row.body one.answer.text is unended closed new.raw_is (new.closed at.1) in
+      let replaced = subst (λ l. IsReplaced A keeps true l (content Start one.answer.text)) (content_at (raw_fields d Start row.body) k) new.replaced in
+      longer_row s row one.answer.text text some longer
+      (rw (one.known, one.into) (content Start one.answer.text, replaced, record { end = refl; texts = longer_texts d row.body one.answer.text (content Start one.answer.text) longer refl }))
+      one.text_is
 
   fields_row : (s t : State) (row : Row) (text : List ℕ) → IsDelimiter d → IsUnended d Start row.body → row.body ≢ [] → AnswersFields A keeps d s row text t → NewRow s row text
   fields_row s t row text is unended some one =
@@ -483,7 +603,7 @@ module _ (A : List ℕ → AnswerText → Type 0) (keeps : Bool) (d : ℕ) (colu
       record {
         new = record { body = body; end = row.end };
         text_is = one.text_is;
-        replaced = inr (one.known, some, refl, new.replaced);
+        replaced = inr (some, rw (one.known, one.in_place) (refl, new.replaced));
         ended = λ old. record {
           unended = new.unended;
           byte = old.byte;
@@ -494,12 +614,16 @@ module _ (A : List ℕ → AnswerText → Type 0) (keeps : Bool) (d : ℕ) (colu
         last = λ old. record { unended = new.unended; some = new.some; closed = new.closed old.closed; is_end = old.is_end };
       }
 
-  new_row : (s t : State) (row : Row) (text : List ℕ) → IsDelimiter d → IsUnended d Start row.body → AnswersRow A keeps d columns s row text t → NewRow s row text
-  new_row s t row text is unended (inl empty) = stays_row s row text (empty.text_is ∙ ap (λ l. l ++ row.end) (sym empty.empty))
-  new_row s t row text is unended (inr some) = ⊎_elim
-      (λ (header : PassesHeader d columns s row text t). stays_row s row text header.text_is)
-      (λ (fields : AnswersFields A keeps d s row text t). fields_row s t row text is unended some.0 fields)
-      some.1
+  some_row : (s t : State) (row : Row) (text : List ℕ) → IsDelimiter d → IsUnended d Start row.body → places_after d Start row.body ≢ Quoted → row.body ≢ []
+      → PassesHeader d columns s row text t ⊎ (AnswersFields A keeps d s row text t ⊎ AppendsField A keeps d s row text t) → NewRow s row text
+  some_row s t row text is unended closed some (inl header) = header_row s t row text s.into is unended closed some refl header
+  some_row s t row text is unended closed some (inr (inl fields)) = fields_row s t row text is unended some fields
+  some_row s t row text is unended closed some (inr (inr one)) = appended_row s t row text is unended closed some one
+
+  new_row : (s t : State) (row : Row) (text : List ℕ) → IsDelimiter d → IsUnended d Start row.body → places_after d Start row.body ≢ Quoted → AnswersRow A keeps d columns s row text t
+      → NewRow s row text
+  new_row s t row text is unended closed (inl empty) = stays_row s row text (inl (empty.empty, refl)) (empty.text_is ∙ ap (λ l. l ++ row.end) (sym empty.empty))
+  new_row s t row text is unended closed (inr some) = some_row s t row text is unended closed some.0 some.1
 
   no_news : (s t : State) (rows news : List Row) → rows ≡ [] → AreReplacedRows A keeps d columns s rows news t → news ≡ []
   no_news s t rows [] none are = refl
@@ -509,7 +633,7 @@ module _ (A : List ℕ → AnswerText → Type 0) (keeps : Bool) (d : ℕ) (colu
       → (news : List Row) × (text ≡ rows_text news) × AreRows d news × AreReplacedRows A keeps d columns s rows news t
   news_of s t [] text is rows_are answers = ([], answers.0, tt, answers.1)
   news_of s t (row ∷ rows) text is (inl ended) answers =
-      let one = new_row s answers.2 row answers.0 is ended.0.unended answers.3 in
+      let one = new_row s answers.2 row answers.0 is ended.0.unended (line_outside (places_after d Start row.body) ended.0.byte ended.0.ends) answers.3 in
       let others = news_of answers.2 t rows answers.1 is ended.1 answers.4 in (
         one.new ∷ others.0,
         answers.5 ∙ ap (λ l. l ++ answers.1) one.text_is ∙ ap (λ l. row_text one.new ++ l) others.1,
@@ -517,7 +641,7 @@ module _ (A : List ℕ → AnswerText → Type 0) (keeps : Bool) (d : ℕ) (colu
         (answers.2, subst (λ l. AnswersRow A keeps d columns s row l answers.2) one.text_is answers.3, one.replaced, others.3),
       )
   news_of s t (row ∷ rows) text is (inr last) answers =
-      let one = new_row s answers.2 row answers.0 is last.0.unended answers.3 in
+      let one = new_row s answers.2 row answers.0 is last.0.unended last.0.closed answers.3 in
       let none : AreRows d rows = subst (AreRows d) (sym last.1) tt in
       let others = news_of answers.2 t rows answers.1 is none answers.4 in (
         one.new ∷ others.0,

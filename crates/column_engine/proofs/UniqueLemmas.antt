@@ -3,7 +3,7 @@ use Rattle.std.proofs.Common.{◌≡◌, ◌<◌, ◌≤◌, ◌+◌, ℕ, List,
 use Rattle.std.proofs.lemmas.Bool.{cases_lt, false≢true}
 use Rattle.std.specs.Prelude.{Option, Some, None, string_bytes}
 use Rattle.line_engine.specs.AnswerText.{AnswerText}
-use Rattle.column_engine.specs.Answers.{AnswersFields, AnswersRow, AnswersRows, AreAnswers, AreFound, FieldAnswer, HasNoNamed, IsAnswer, IsFirstNamed, IsFound, PassesHeader, State, answers_text, as_field, count_refused, is_asked, one_more, stays}
+use Rattle.column_engine.specs.Answers.{AnswersFields, AnswersRow, AnswersRows, AppendsField, AreAnswers, AreFound, FieldAnswer, HasNoNamed, IsAnswer, IsFirstNamed, IsFound, PassesHeader, State, answers_text, as_field, count_refused, first_asked, is_asked, one_more, stays}
 use Rattle.column_engine.specs.Laws.{AnswersAreTheOne, RowsAreTheOnes}
 use Rattle.csv.specs.Reading.{strip_bom}
 use Rattle.column_engine.specs.Run.{AnswersLast, HasRun, RunsText, StopsText}
@@ -84,12 +84,34 @@ module _ (A : List ℕ → AnswerText → Type 0) (one : (field : List ℕ) (a b
       let same = all_found_one _ columns first.found next.found first.are_found next.are_found in
       (first.text_is ∙ sym next.text_is, first.after ∙ ap (λ l. one_more (record s { headed = false; asked = l }) 0) same ∙ sym next.after)
 
-  some_one : (columns : List Column) (s t u : State) (row : Row) (a b : List ℕ) → PassesHeader d columns s row a t ⊎ AnswersFields A keeps d s row a t
-      → PassesHeader d columns s row b u ⊎ AnswersFields A keeps d s row b u → (a ≡ b) × (t ≡ u)
+  longer_one_text : (s t u : State) (row : Row) (a b : List ℕ) → AppendsField A keeps d s row a t → AppendsField A keeps d s row b u → (a ≡ b) × (t ≡ u)
+  longer_one_text s t u row a b first next =
+      let same = answer_one true (get_or (raw_fields d Start row.body) (first_asked s.asked) []) first.answer next.answer first.is next.is in (
+        first.text_is ∙ ap (λ (x : FieldAnswer). row.body ++ d ∷ x.text ++ row.end) same ∙ sym next.text_is,
+        first.after ∙ ap (λ (x : FieldAnswer). one_more s (if x.refused then 1 else 0)) same ∙ sym next.after,
+      )
+
+  not_both_ways : (s t u : State) (row : Row) (a b : List ℕ) → AnswersFields A keeps d s row a t → AppendsField A keeps d s row b u → ⊥
+  not_both_ways s t u row a b first next = let two : None ≡ Some next.name = sym first.in_place ∙ next.into in cc
+
+  record_one : (s t u : State) (row : Row) (a b : List ℕ) → AnswersFields A keeps d s row a t ⊎ AppendsField A keeps d s row a t
+      → AnswersFields A keeps d s row b u ⊎ AppendsField A keeps d s row b u → (a ≡ b) × (t ≡ u)
+  record_one s t u row a b (inl first) (inl next) = fields_one_text s t u row a b first next
+  record_one s t u row a b (inl first) (inr next) = absurd (not_both_ways s t u row a b first next)
+  record_one s t u row a b (inr first) (inl next) = absurd (not_both_ways s u t row b a next first)
+  record_one s t u row a b (inr first) (inr next) = longer_one_text s t u row a b first next
+
+  record_known : (s t : State) (row : Row) (text : List ℕ) → AnswersFields A keeps d s row text t ⊎ AppendsField A keeps d s row text t → s.headed ≡ false
+  record_known s t row text (inl fields) = fields.known
+  record_known s t row text (inr one) = one.known
+
+  some_one : (columns : List Column) (s t u : State) (row : Row) (a b : List ℕ)
+      → PassesHeader d columns s row a t ⊎ (AnswersFields A keeps d s row a t ⊎ AppendsField A keeps d s row a t)
+      → PassesHeader d columns s row b u ⊎ (AnswersFields A keeps d s row b u ⊎ AppendsField A keeps d s row b u) → (a ≡ b) × (t ≡ u)
   some_one columns s t u row a b (inl first) (inl next) = header_one columns s t u row a b first next
-  some_one columns s t u row a b (inl first) (inr next) = absurd (false≢true (sym next.known ∙ first.next))
-  some_one columns s t u row a b (inr first) (inl next) = absurd (false≢true (sym first.known ∙ next.next))
-  some_one columns s t u row a b (inr first) (inr next) = fields_one_text s t u row a b first next
+  some_one columns s t u row a b (inl first) (inr next) = absurd (false≢true (sym (record_known s u row b next) ∙ first.next))
+  some_one columns s t u row a b (inr first) (inl next) = absurd (false≢true (sym (record_known s t row a first) ∙ next.next))
+  some_one columns s t u row a b (inr first) (inr next) = record_one s t u row a b first next
 
   pub row_one : (columns : List Column) (s t u : State) (row : Row) (a b : List ℕ) → AnswersRow A keeps d columns s row a t → AnswersRow A keeps d columns s row b u → (a ≡ b) × (t ≡ u)
   row_one columns s t u row a b (inl first) (inl next) = (first.text_is ∙ sym next.text_is, first.after ∙ sym next.after)

@@ -1,12 +1,14 @@
 -- What is written for the records of a text, some of whose columns are answered by a rule.
 use Rattle.std.specs.Prelude.{◌==◌, ◌&&◌, ◌||◌, ◌≡◌, ◌≢◌, ◌⊎◌, ◌<◌, ◌≤◌, ◌+◌, ◌-◌, ◌^◌, ◌++◌, ⊤, ℕ, List}
-use Rattle.std.specs.Prelude.{[], ◌∷◌, Bool, true, false, not, Some, None, get_or, if◌then◌else◌, length, max}
+use Rattle.std.specs.Prelude.{[], ◌∷◌, Bool, true, false, not, Option, Some, None, get_or, if◌then◌else◌, length, max}
 use Rattle.std.specs.Prelude.{min, nat_le, string_bytes}
 use Rattle.csv.specs.Writing.{default_writer, needs_quotes, quoted}
 use Rattle.line_engine.specs.AnswerText.{AnswerText}
 use Rattle.column_engine.specs.Rows.{Row, content, field_texts, raw_fields, row_text}
 use Rattle.column_engine.specs.declared.columns.Column.{Column}
 use Rattle.column_engine.specs.declared.columns.Column.TheVariants.{At, Named}
+use Rattle.column_engine.specs.declared.columns.Destination.{Destination}
+use Rattle.column_engine.specs.declared.columns.Destination.TheVariants.{InPlace, NewColumn}
 use Rattle.column_engine.specs.declared.columns.Range.{Range}
 use Rattle.column_engine.specs.declared.place.Place.TheVariants.{Start}
 use Rattle.column_engine.specs.declared.record_buffer.TheConstants.{MAX_RECORD}
@@ -30,6 +32,16 @@ needed_for range = if range.to == 2 ^ 64 - 1 then 0 else range.to + 1
 abbrev pub needed : List Range → ℕ
 needed [] = 0
 needed (range ∷ ranges) = max (needed_for range) (needed ranges)
+
+-- the first column that is asked for
+abbrev pub first_asked : List Range → ℕ
+first_asked [] = 0
+first_asked (range ∷ ranges) = range.from
+
+-- the name of the new column that the answers go to, where they do not go to the place of their fields
+abbrev pub name_of : Destination → Option (List ℕ)
+name_of InPlace = None
+name_of (NewColumn name) = Some name
 
 -- the first of these names that is this one
 pub record IsFirstNamed (name : List ℕ) (names : List (List ℕ)) (place : ℕ) : Type 0 where
@@ -127,13 +139,13 @@ count_refused (answer ∷ answers) = (if answer.refused then 1 else 0) + count_r
 
 -- ---- the answers to the records of a text
 
--- between two records: whether the next one is the header, and else the columns that are asked for; how many records
--- were answered,
--- a header too, and how many fields refused; and the number of the first record one of whose fields was, 0 where
--- there is none
+-- between two records: whether the next one is the header, and else the columns that are asked for; the name of the new
+-- column, where the answers go to one; how many records were answered, a header too, and how many fields refused; and
+-- the number of the first record one of whose fields was, 0 where there is none
 pub record State : Type 0 where
   pub headed : Bool
   pub asked : List Range
+  pub into : Option (List ℕ)
   pub answered : ℕ
   pub refused : ℕ
   pub first : ℕ
@@ -150,7 +162,12 @@ one_more s refused = record s {
   first = if (s.first == 0) && not (refused == 0) then counted s.answered 1 else s.first;
 }
 
--- the header: it is written as it is, and says which columns are asked for
+-- what follows the bytes of a header: the name of the new column, where there is one
+abbrev pub new_name : ℕ → Option (List ℕ) → List ℕ
+new_name delimiter None = []
+new_name delimiter (Some name) = delimiter ∷ as_field delimiter name
+
+-- the header: it says which columns are asked for, and is written as it is, but for the name of a new column
 pub record PassesHeader (delimiter : ℕ) (columns : List Column) (s : State) (row : Row) (text : List ℕ) (t : State) :
     Type 0 where
   pub next : s.headed ≡ true
@@ -158,19 +175,34 @@ pub record PassesHeader (delimiter : ℕ) (columns : List Column) (s : State) (r
   pub found : List Range
   pub are_found : AreFound (field_texts delimiter row.body) columns found
   pub enough : needed found ≤ length (raw_fields delimiter Start row.body)
-  pub text_is : text ≡ row_text row
+  pub text_is : text ≡ row.body ++ new_name delimiter s.into ++ row.end
   pub after : t ≡ one_more (record s { headed = false; asked = found }) 0
 
 -- a record: the answers to its fields, and the byte that ends it
 pub record AnswersFields (A : List ℕ → AnswerText → Type 0) (keeps : Bool) (delimiter : ℕ) (s : State) (row : Row)
     (text : List ℕ) (t : State) : Type 0 where
   pub known : s.headed ≡ false
+  pub in_place : s.into ≡ None
   pub short : length row.body ≤ MAX_RECORD
   pub enough : needed s.asked ≤ length (raw_fields delimiter Start row.body)
   pub answers : List FieldAnswer
   pub are : AreAnswers A keeps delimiter s.asked 0 (raw_fields delimiter Start row.body) answers
   pub text_is : text ≡ answers_text delimiter 0 answers ++ row.end
   pub after : t ≡ one_more s (count_refused answers)
+
+-- a record with a new column: its bytes, the answer to the first column that is asked for, and the byte that ends it
+pub record AppendsField (A : List ℕ → AnswerText → Type 0) (keeps : Bool) (delimiter : ℕ) (s : State) (row : Row)
+    (text : List ℕ) (t : State) : Type 0 where
+  pub known : s.headed ≡ false
+  pub name : List ℕ
+  pub into : s.into ≡ Some name
+  pub short : length row.body ≤ MAX_RECORD
+  pub enough : needed s.asked ≤ length (raw_fields delimiter Start row.body)
+  pub answer : FieldAnswer
+  pub is : IsAnswer A keeps delimiter true (get_or (raw_fields delimiter Start row.body) (first_asked s.asked) [])
+      answer
+  pub text_is : text ≡ row.body ++ delimiter ∷ answer.text ++ row.end
+  pub after : t ≡ one_more s (if answer.refused then 1 else 0)
 
 -- an empty line stays
 pub record PassesEmpty (s : State) (row : Row) (text : List ℕ) (t : State) : Type 0 where
@@ -181,7 +213,7 @@ pub record PassesEmpty (s : State) (row : Row) (text : List ℕ) (t : State) : T
 abbrev pub AnswersRow : (List ℕ → AnswerText → Type 0) → Bool → ℕ → List Column → State → Row → List ℕ → State → Type 0
 AnswersRow A keeps delimiter columns s row text t =
     PassesEmpty s row text t ⊎ ((row.body ≢ []) × (PassesHeader delimiter columns s row text t
-    ⊎ AnswersFields A keeps delimiter s row text t))
+    ⊎ (AnswersFields A keeps delimiter s row text t ⊎ AppendsField A keeps delimiter s row text t)))
 
 -- this text is written for these records
 abbrev pub AnswersRows : (List ℕ → AnswerText → Type 0) → Bool → ℕ → List Column → State → List Row → List ℕ → State

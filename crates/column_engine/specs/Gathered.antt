@@ -1,10 +1,34 @@
 -- What was gathered or written for a record so far.
-use Rattle.std.specs.Prelude.{◌≡◌, ◌-◌, ◌++◌, ℕ, Bool, List, true, drop, take}
+use Rattle.std.specs.Prelude.{◌≡◌, ◌≤◌, ◌+◌, ◌-◌, ◌++◌, ℕ, Bool, List, [], ◌∷◌, true, false, drop, get_or, length}
+use Rattle.std.specs.Prelude.{map, take}
 use Rattle.std.specs.declared.option.Option.{Option}
 use Rattle.line_engine.specs.AnswerText.{AnswerText}
 use Rattle.line_engine.specs.Inner.Progress.{Flushes}
-use Rattle.column_engine.specs.Answers.{AreAnswers, FieldAnswer, IsAnswer, answers_text, count_refused}
+use Rattle.column_engine.specs.Answers.{AreAnswers, FieldAnswer, IsAnswer, answers_text, before_field, count_refused}
+use Rattle.column_engine.specs.Answers.{first_asked}
+use Rattle.column_engine.specs.Rows.{Row, raw_fields}
 use Rattle.column_engine.specs.declared.columns.Range.{Range}
+use Rattle.column_engine.specs.declared.place.Place.TheVariants.{Start}
+
+-- what is written for a field that is not asked for
+abbrev pub unanswered : List ℕ → FieldAnswer
+unanswered raw = record { text = raw; refused = false }
+
+-- this column and no other
+abbrev pub only : ℕ → List Range
+only column = record { from = column; to = column } ∷ []
+
+-- the field in this column lies between these places of a record, after the bytes of those before it and before the
+-- bytes of those behind it
+pub record IsFieldAt (delimiter : ℕ) (body : List ℕ) (column start end : ℕ) : Type 0 where
+  pub ordered : start ≤ end
+  pub within : end ≤ length body
+  pub some : List (List ℕ)
+  pub more : List (List ℕ)
+  pub cut : raw_fields delimiter Start body ≡ some ++ take (end - start) (drop start body) ∷ more
+  pub column_is : column ≡ length some
+  pub before : take start body ≡ answers_text delimiter 0 (map unanswered some) ++ before_field delimiter column
+  pub after : drop end body ≡ answers_text delimiter (column + 1) (map unanswered more)
 
 -- what was gathered, and after it the bytes of a record from one place to another, which are still to be
 abbrev pub ahead : List ℕ → List ℕ → ℕ → ℕ → List ℕ
@@ -45,3 +69,11 @@ pub record GathersPart (A : List ℕ → AnswerText → Type 0) (keeps : Bool) (
   pub refused : ℕ
   pub left : List ℕ
   pub fields : GathersFields A keeps delimiter asked 0 some refused held left written written'
+
+-- a record with a new column was gathered
+pub record GathersLonger (A : List ℕ → AnswerText → Type 0) (keeps : Bool) (delimiter : ℕ) (asked : List Range)
+    (row : Row) (refused : Bool) (held held' : List ℕ) (written written' : Option (List ℕ)) : Type 0 where
+  pub text : List ℕ
+  pub answer : IsAnswer A keeps delimiter true (get_or (raw_fields delimiter Start row.body) (first_asked asked) [])
+      (record { text = text; refused = refused })
+  pub gathered : Flushes held (row.body ++ delimiter ∷ text ++ row.end) held' written written'

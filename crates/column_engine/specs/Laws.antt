@@ -1,11 +1,11 @@
 -- Laws of the records of a text.
 use Rattle.std.specs.Prelude.{◌≡◌, ◌≢◌, ◌⊎◌, ◌==◌, ◌<◌, ◌+◌, ◌-◌, ◌^◌, ◌++◌, ⊤, ℕ, Bool, true, false, List, []}
-use Rattle.std.specs.Prelude.{◌∷◌, Some, if◌then◌else◌, length}
+use Rattle.std.specs.Prelude.{◌∷◌, None, Option, Some, get_or, if◌then◌else◌, length}
 use Rattle.csv.specs.Reading.{AreRecords, default_config}
 use Rattle.csv.specs.declared.parser.Config.{Config}
 use Rattle.csv.specs.declared.parser.State.TheVariants.{StartRecord}
 use Rattle.line_engine.specs.AnswerText.{AnswerText}
-use Rattle.column_engine.specs.Answers.{AnswersRow, AnswersRows, State, is_asked, stays}
+use Rattle.column_engine.specs.Answers.{AnswersRow, AnswersRows, State, first_asked, is_asked, stays}
 use Rattle.column_engine.specs.Rows.{AreEnded, IsEnded, IsLast, IsUnended, Row, field_texts, row_text, rows_text}
 use Rattle.column_engine.specs.Run.{HasFailures}
 use Rattle.column_engine.specs.Skip.{AreFirst, HasRunAfter}
@@ -61,11 +61,28 @@ AreReplaced A keeps asked column (text ∷ texts) [] = ⊥
 AreReplaced A keeps asked column (text ∷ texts) (new ∷ news) = IsReplaced A keeps (is_asked asked column) text new
     × AreReplaced A keeps asked (column + 1) texts news
 
--- a record that is no header has the replies in its fields; an empty line and the header stay
+-- a record with one field more, whose text is this
+pub record IsLonger (delimiter : ℕ) (row new : Row) (text : List ℕ) : Type 0 where
+  pub end : new.end ≡ row.end
+  pub texts : field_texts delimiter new.body ≡ field_texts delimiter row.body ++ text ∷ []
+
+-- what becomes of a record, by whether it is the header, and by the name of the new column where there is one: the
+-- header stays, or has the name as one field more; another record has the replies in its fields, or the reply to one as
+-- one field more
+abbrev pub IsRecordOf : (List ℕ → AnswerText → Type 0) → Bool → ℕ → List Range → Bool → Option (List ℕ) → Row → Row
+    → Type 0
+IsRecordOf A keeps delimiter asked true None row new = new ≡ row
+IsRecordOf A keeps delimiter asked true (Some name) row new = IsLonger delimiter row new name
+IsRecordOf A keeps delimiter asked false None row new = (new.end ≡ row.end)
+    × AreReplaced A keeps asked 0 (field_texts delimiter row.body) (field_texts delimiter new.body)
+IsRecordOf A keeps delimiter asked false (Some name) row new = (text : List ℕ)
+    × IsReplaced A keeps true (get_or (field_texts delimiter row.body) (first_asked asked) []) text
+    × IsLonger delimiter row new text
+
+-- an empty line stays
 abbrev pub IsReplacedRow : (List ℕ → AnswerText → Type 0) → Bool → ℕ → State → Row → Row → Type 0
-IsReplacedRow A keeps delimiter s row new = (new ≡ row)
-    ⊎ ((s.headed ≡ false) × (row.body ≢ []) × (new.end ≡ row.end)
-    × AreReplaced A keeps s.asked 0 (field_texts delimiter row.body) (field_texts delimiter new.body))
+IsReplacedRow A keeps delimiter s row new = ((row.body ≡ []) × (new ≡ row))
+    ⊎ ((row.body ≢ []) × IsRecordOf A keeps delimiter s.asked s.headed s.into row new)
 
 abbrev pub AreReplacedRows : (List ℕ → AnswerText → Type 0) → Bool → ℕ → List Column → State → List Row → List Row
     → State → Type 0
@@ -76,8 +93,8 @@ AreReplacedRows A keeps delimiter columns s (row ∷ rows) (new ∷ news) t = (b
     × AnswersRow A keeps delimiter columns s row (row_text new) between × IsReplacedRow A keeps delimiter s row new
     × AreReplacedRows A keeps delimiter columns between rows news t
 
--- what is written for the records of a text has as many records, with the same fields but for the replies, and each
--- keeps its end
+-- what is written for the records of a text has as many records, with the same fields but for the replies, which are in
+-- place of fields or one field more, and each keeps its end
 abbrev pub FieldsAreReplaced : (List ℕ → AnswerText → Type 0) → Type 0
 FieldsAreReplaced A = (keeps : Bool) (delimiter : ℕ) (columns : List Column) (s t : State) (rows : List Row)
     (text : List ℕ) → IsDelimiter delimiter → AreRows delimiter rows

@@ -6,7 +6,7 @@ use Rattle.csv.specs.Reading.{strip_bom}
 use Rattle.line_engine.specs.AnswerText.{AnswerText}
 use Rattle.line_engine.specs.Appended.{AppendsPrefix}
 use Rattle.line_engine.specs.Failures.{HasFailed}
-use Rattle.column_engine.specs.Answers.{AnswersRow, AnswersRows, State}
+use Rattle.column_engine.specs.Answers.{AnswersRow, AnswersRows, State, name_of}
 use Rattle.column_engine.specs.Feeding.{FeedsRows, IsTooLong}
 use Rattle.column_engine.specs.Rows.{AreEnded, IsEnded, IsLast, IsUnended, Row, places_after}
 use Rattle.column_engine.specs.Rows.{row_text, rows_text}
@@ -14,6 +14,7 @@ use Rattle.column_engine.specs.Steps.{IsRowPart, IsUnanswered, SameCounts}
 use Rattle.column_engine.specs.declared.columns.Column.{Column}
 use Rattle.column_engine.specs.declared.columns.Column.TheVariants.{At, Named}
 use Rattle.column_engine.specs.declared.columns.Range.{Range}
+use Rattle.column_engine.specs.declared.columns.Destination.{Destination}
 use Rattle.column_engine.specs.declared.end.ColumnEnd.{ColumnEnd}
 use Rattle.column_engine.specs.declared.end.Stop.{Stop}
 use Rattle.column_engine.specs.declared.end.Stop.TheVariants.{Done, NoColumn, NoMemory, NoName, ReadFault, TooLong}
@@ -29,10 +30,11 @@ first_range (Named name (Some range)) = range
 first_range (Named name None) = record { from = 0; to = 0 }
 
 -- before the first record
-abbrev pub first_state : Bool → List Column → State
-first_state headed columns = record {
+abbrev pub first_state : Bool → Destination → List Column → State
+first_state headed destination columns = record {
   headed = headed;
   asked = map first_range columns;
+  into = name_of destination;
   answered = 0;
   refused = 0;
   first = 0;
@@ -40,7 +42,14 @@ first_state headed columns = record {
 
 -- what is counted at the end of a run
 abbrev pub counts_of : ColumnEnd → State
-counts_of end = record { headed = false; asked = []; answered = end.answered; refused = end.refused; first = end.first }
+counts_of end = record {
+  headed = false;
+  asked = [];
+  into = None;
+  answered = end.answered;
+  refused = end.refused;
+  first = end.first;
+}
 
 -- the next record of these bytes, which are the rest of those that were taken: one that ended, or at the end of the
 -- input the last one

@@ -1,12 +1,12 @@
 -- How far a text was answered, and why no further.
 use Rattle.std.specs.Prelude.{◌≡◌, ◌≢◌, ◌⊎◌, ◌<◌, ◌≤◌, ◌++◌, ℕ, Bool, true, false, List, [], length}
-use Rattle.std.specs.Prelude.{Result, OnOk, IfErr}
+use Rattle.std.specs.Prelude.{None, Result, OnOk, IfErr}
 use Rattle.std.specs.declared.option.Option.{Option}
 use Rattle.line_engine.specs.AnswerText.{AnswerText}
 use Rattle.line_engine.specs.Failures.{HasFailed}
 use Rattle.line_engine.specs.Inner.Progress.{Flushes}
 use Rattle.column_engine.specs.Answers.{AnswersRow, AnyMissing, AreAnswers, AreFound, FieldAnswer, State}
-use Rattle.column_engine.specs.Answers.{answers_text, needed}
+use Rattle.column_engine.specs.Answers.{answers_text, name_of, needed}
 use Rattle.column_engine.specs.Rows.{Row, field_texts, raw_fields}
 use Rattle.column_engine.specs.declared.columns.Column.{Column}
 use Rattle.column_engine.specs.declared.columns.Range.{Range}
@@ -33,6 +33,7 @@ abbrev pub state_of : Progress → State
 state_of p = record {
   headed = p.is_headed;
   asked = p.asked.items;
+  into = name_of p.destination.now;
   answered = p.answered;
   refused = p.refused;
   first =
@@ -91,6 +92,7 @@ pub record SameButAsked (old new : Progress) : Type 0 where
   pub refused : new.refused ≡ old.refused
   pub first : new.first ≡ old.first
   pub as_many : length new.asked.items ≡ length old.asked.items
+  pub destination : new.destination.now ≡ old.destination.now
 
 -- the counts are as they were
 pub record SameCounts (old new : State) : Type 0 where
@@ -117,8 +119,8 @@ pub record IsPartOfFields (A : List ℕ → AnswerText → Type 0) (keeps : Bool
 abbrev pub IsRowPart : (List ℕ → AnswerText → Type 0) → Bool → ℕ → List Column → State → Row → List ℕ → Type 0
 IsRowPart A keeps delimiter columns s row text =
     ((t : State) × AnswersRow A keeps delimiter columns s row text t)
-    ⊎ ((s.headed ≡ false) × (row.body ≢ []) × IsPartOfFields A keeps delimiter s.asked (raw_fields delimiter Start
-    row.body) text)
+    ⊎ ((s.headed ≡ false) × (s.into ≡ None) × (row.body ≢ []) × IsPartOfFields A keeps delimiter s.asked (raw_fields
+    delimiter Start row.body) text)
 
 -- a record was answered
 pub record PassesRow (A : List ℕ → AnswerText → Type 0) (keeps : Bool) (delimiter : ℕ) (columns : List Column) (row :

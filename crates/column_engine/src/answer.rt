@@ -5,7 +5,7 @@ ghost use Rattle.column_engine.specs.Answers.{IsAnswer, stays};
 ghost use Rattle.column_engine.specs.Rows.{content};
 ghost use Rattle.column_engine.specs.declared.record_buffer.TheConstants.{MAX_RECORD};
 
-use crate::columns::Column;
+use crate::columns::{Column, Destination};
 use crate::field::{plain_content, write_as_field, write_content};
 use crate::place::Place;
 use crate::record_buffer::RecordBuffer;
@@ -24,6 +24,8 @@ pub struct ColumnTask<'a, A> {
     pub skipped: u64,
     /// Which columns are asked for.
     pub columns: &'a [Column],
+    /// Where the answers go.
+    pub destination: &'a Destination,
     /// Whether the first record is a header, which is passed through.
     pub has_header: bool,
     /// Whether a field that is refused stays as it was.
@@ -106,6 +108,7 @@ pub(crate) fn answer_asked<A: FieldRule<L>, L: Ledger>(
     }) }
     ensures out { work.new.out ≡ work.old.out }
 {
+    task.watch.begin_field(column);
     let is_refused = reply_to(task.rule, raw, work, steps);
     if is_refused {
         watch_refusal(task.watch, column, raw, work);

@@ -1,7 +1,13 @@
 //! Which columns of a text are answered.
 
-ghost use Rattle.std.specs.Prelude.{◌≡◌, max};
-ghost use Rattle.column_engine.specs.Answers.{is_asked, is_within, needed, needed_for};
+ghost use Rattle.std.specs.Prelude.{◌≡◌, ◌-◌, ◌<◌, ◌^◌, IfSome, max};
+ghost use Rattle.column_engine.specs.Answers.{first_asked, is_asked, is_within, needed, needed_for};
+ghost use Rattle.column_engine.specs.Gathered.{only};
+
+use text_buffer::TextBuffer;
+
+/// How many bytes the name of a new column has at most.
+pub const MAX_NAME: usize = 1024;
 
 /// Some columns that are side by side, by their places, from 0.
 #[derive(Clone, Copy, Debug, Drop, PartialEq, Eq)]
@@ -19,6 +25,15 @@ pub enum Column {
     At(Range),
     /// Under a header the first column with this name, and else the ones that the name is read as.
     Named(String, Option<Range>),
+}
+
+/// Where the answers to fields go.
+#[derive(Drop)]
+pub enum Destination {
+    /// To the place of the fields.
+    InPlace,
+    /// Into a new column with this name, after the last: the answers to the first column that is asked for.
+    NewColumn(TextBuffer<MAX_NAME>),
 }
 
 /// Whether a range has a column.
@@ -67,4 +82,25 @@ pub(crate) fn needed(asked: &[Range]) -> usize
         most = greater(most, needed_for(asked[at]));
     }
     most
+}
+
+/// The first column that is asked for.
+pub(crate) fn first_asked(asked: &[Range]) -> usize
+    ensures { result ≡ first_asked asked.now }
+{
+    match asked {
+        [range, ..] => range.from,
+        _ => 0,
+    }
+}
+
+/// The column that is asked for, where it is known that there is no other.
+pub(crate) fn only_asked(asked: &[Range]) -> Option<usize>
+    ensures one { IfSome result (λ column. asked.now ≡ only column) }
+    ensures most { IfSome result (λ column. column < 2 ^ 64 - 1) }
+{
+    match asked {
+        [range] if range.from == range.to && range.to < usize::MAX => Some(range.from),
+        _ => None,
+    }
 }

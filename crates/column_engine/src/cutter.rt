@@ -17,9 +17,9 @@ use std::sync::ledger::Ledger;
 
 /// What is kept between two chunks of a text.
 #[derive(Drop)]
-pub(crate) struct Cutter {
+pub(crate) struct Cutter<'a> {
     /// How far the text was answered.
-    pub progress: Progress,
+    pub progress: Progress<'a>,
     /// The bytes of the record at hand that earlier chunks had.
     pub kept: RecordBuffer,
     /// The place after them.
@@ -29,7 +29,7 @@ pub(crate) struct Cutter {
 /// Answers the record at hand, which ends with this part and this byte.
 fn end_row<A: FieldRule<L>, K: Sink, L: Ledger>(
     task: &ColumnTask<'_, A>,
-    cutter: &mut Cutter,
+    cutter: &mut Cutter<'_>,
     part: &[u8],
     end: &[u8],
     work: &mut Work,
@@ -74,7 +74,7 @@ fn end_row<A: FieldRule<L>, K: Sink, L: Ledger>(
 /// Answers the records that end in a chunk, and keeps what follows the last of them.
 pub(crate) fn feed<A: FieldRule<L>, K: Sink, L: Ledger>(
     task: &ColumnTask<'_, A>,
-    cutter: &mut Cutter,
+    cutter: &mut Cutter<'_>,
     chunk: &[u8],
     work: &mut Work,
     sink: &mut K,

@@ -1,10 +1,11 @@
 //! The answers to the fields of a record, and what lies between them.
 
 ghost use Rattle.std.specs.Prelude.{◌≡◌, ◌≤◌, ◌<◌, ◌-◌, ◌^◌, List, ℕ, Bool, false, if◌then◌else◌, IfOk, OnErr, drop};
-ghost use Rattle.std.specs.Prelude.{length, take};
+ghost use Rattle.std.specs.Prelude.{IfErr, length, take};
 ghost use Rattle.line_engine.specs.Failures.{FailsOnlyCounted};
 ghost use Rattle.column_engine.specs.Answers.{is_asked};
-ghost use Rattle.column_engine.specs.Gathered.{GathersAnswer, GathersField, GathersFields, GathersPart, ahead};
+ghost use Rattle.column_engine.specs.Gathered.{GathersAnswer, GathersField, GathersFields, GathersPart, IsFieldAt};
+ghost use Rattle.column_engine.specs.Gathered.{ahead, only};
 ghost use Rattle.column_engine.specs.Rows.{raw_fields};
 ghost use Rattle.column_engine.specs.declared.record_buffer.TheConstants.{MAX_RECORD};
 
@@ -95,7 +96,7 @@ fn pass_field<A: FieldRule<L>, K: Sink, L: Ledger>(
 }
 
 /// One where a field was refused.
-fn as_count(is_refused: bool) -> u64
+pub(crate) fn as_count(is_refused: bool) -> u64
     ensures value { result ≡ (if is_refused then 1 else 0) }
     ensures most { result ≤ 1 }
 {
@@ -122,6 +123,60 @@ fn past_asked(asked: &[Range]) -> usize
         past = past_range(past, asked[at]);
     }
     past
+}
+
+/// A field of a record by its column, or how many fields the record has where it has too few.
+pub(crate) fn find_field(delimiter: u8, body: &[u8], column: usize) -> Result<Field, usize>
+    requires { length body.now ≤ MAX_RECORD }
+    ensures ok { IfOk result (λ field. (field.column ≡ column)
+        × IsFieldAt delimiter body.now field.column field.start field.end) }
+    ensures err { IfErr result (λ count. (count ≡ length (raw_fields delimiter Place.Start body.now))
+        × (count ≤ column)) }
+{
+    let mut start = 0;
+    let mut count = 0;
+    'fields: loop {
+        let end = start + field_end(delimiter, &body[start..]);
+        if count == column {
+            return Ok(Field { column, start, end });
+        }
+        count += 1;
+        if end == body.len() {
+            return Err(count);
+        }
+        start = end + 1;
+    }
+}
+
+/// Gathers the answer to the one field of a record that is asked for, with the bytes around it, and says how many were
+/// refused.
+pub(crate) fn answer_field<A: FieldRule<L>, K: Sink, L: Ledger>(
+    task: &ColumnTask<'_, A>,
+    field: Field,
+    body: &[u8],
+    work: &mut Work,
+    sink: &mut K,
+    steps: &mut Steps<L>,
+) -> Result<u64, Failed>
+    requires short { length body.now ≤ MAX_RECORD }
+    requires field { IsFieldAt task.now.delimiter body.now field.column field.start field.end }
+    ensures ok { IfOk result (λ refused. GathersFields (A.Answers task.now.rule.now) task.now.is_kept
+        task.now.delimiter (only field.column) 0 (raw_fields task.now.delimiter Place.Start body.now)
+        refused work.old.out work.new.out (K.written sink.old) (K.written sink.new)) }
+    ensures err { OnErr result (GathersPart (A.Answers task.now.rule.now) task.now.is_kept task.now.delimiter
+        (only field.column) (raw_fields task.now.delimiter Place.Start body.now)
+        work.old.out (K.written sink.old) (K.written sink.new)) }
+    ensures failures { FailsOnlyCounted (K.failures sink.old) (K.failures sink.new) result }
+{
+    let raw = &body[field.start..field.end];
+    let before = &body[..field.start];
+    match gather_answer(task, field.column, before, raw, work, sink, steps) {
+        Err(_) => Err(Failed),
+        Ok(is_refused) => match put(&body[field.end..], &mut work.out, sink) {
+            Err(_) => Err(Failed),
+            Ok(()) => Ok(as_count(is_refused)),
+        },
+    }
 }
 
 /// Gathers the answers to the fields of a record, and says how many were refused.

@@ -4,29 +4,32 @@ ghost use Rattle.std.specs.Prelude.{◌≡◌, ◌≢◌, ◌≤◌, ◌<◌, �
 ghost use Rattle.std.specs.Prelude.{OnOk, OnErr, length};
 ghost use Rattle.line_engine.specs.Failures.{FailsOnlyCounted};
 ghost use Rattle.line_engine.specs.Inner.Progress.{Flushes};
-ghost use Rattle.column_engine.specs.Answers.{AnyMissing, AreFound, counted, needed, one_more};
+ghost use Rattle.column_engine.specs.Answers.{AnyMissing, AreFound, name_of, new_name, one_more};
 ghost use Rattle.column_engine.specs.Rows.{field_texts, raw_fields};
 ghost use Rattle.column_engine.specs.Steps.{IsHeader, IsNoHeader, PassesRow, RisesOnly, SameButAsked, SameCounts};
 ghost use Rattle.column_engine.specs.Steps.{StopsRow, state_of};
 ghost use Rattle.column_engine.specs.declared.record_buffer.TheConstants.{MAX_RECORD};
 
 use crate::answer::{ColumnTask, Work};
-use crate::columns::{Column, Range, needed};
+use crate::columns::{Column, Destination, Range, needed};
 use crate::end::Stop;
-use crate::fields::answer_fields;
+use crate::field::write_as_field;
 use crate::gather::put;
 use crate::header::found_column;
 use crate::place::{Place, field_end};
+use crate::record::{answer_record, put_longer, put_row};
 use crate::record_buffer::RecordBuffer;
 use crate::rule::FieldRule;
 use crate::watch::ColumnWatch;
 use fixed_steps::Steps;
-use line_engine::{Failed, Output, Sink};
+use line_engine::{Failed, Sink};
 use std::sync::ledger::Ledger;
 
 /// How far a text was answered.
 #[derive(Drop)]
-pub struct Progress {
+pub struct Progress<'a> {
+    /// Where the answers go.
+    pub destination: &'a Destination,
     /// Whether the next record is the header.
     pub is_headed: bool,
     /// The columns that are asked for, where they are known.
@@ -40,7 +43,7 @@ pub struct Progress {
 }
 
 /// Counts a record, this many of whose fields were refused.
-fn count_record(progress: &mut Progress, refused: u64)
+pub(crate) fn count_record(progress: &mut Progress<'_>, refused: u64)
     ensures { state_of progress.new ≡ one_more (state_of progress.old) refused }
 {
     progress.answered = progress.answered.saturating_add(1);
@@ -51,7 +54,7 @@ fn count_record(progress: &mut Progress, refused: u64)
 }
 
 /// How many fields a record has, where it has too few.
-fn lacking(delimiter: u8, body: &[u8], needed: usize) -> Option<usize>
+pub(crate) fn lacking(delimiter: u8, body: &[u8], needed: usize) -> Option<usize>
     requires { length body.now ≤ MAX_RECORD }
     ensures { MatchOption result (needed ≤ length (raw_fields delimiter Place.Start body.now))
         (λ count. (count ≡ length (raw_fields delimiter Place.Start body.now)) × (count < needed)) }
@@ -95,23 +98,10 @@ fn find_columns(
     true
 }
 
-/// Gathers the bytes of a record and the byte that ends it.
-fn put_row<K: Sink>(body: &[u8], end: &[u8], out: &mut Output, sink: &mut K) -> Result<(), Failed>
-    ensures ok { OnOk result (Flushes out.old (body.now ++ end.now) out.new (K.written sink.old) (K.written sink.new)) }
-    ensures err { OnErr result ((left : List ℕ) × Flushes out.old (body.now ++ end.now) left (K.written sink.old)
-        (K.written sink.new)) }
-    ensures failures { FailsOnlyCounted (K.failures sink.old) (K.failures sink.new) result }
-{
-    match put(body, out, sink) {
-        Err(_) => Err(Failed),
-        Ok(()) => put(end, out, sink),
-    }
-}
-
 /// Finds in a header the columns that are asked for.
 fn read_header<A>(
     task: &ColumnTask<'_, A>,
-    progress: &mut Progress,
+    progress: &mut Progress<'_>,
     body: &[u8],
     text: &mut RecordBuffer,
 ) -> Result<(), Stop>
@@ -138,43 +128,34 @@ fn read_header<A>(
     }
 }
 
-/// Answers a record that is no header.
-fn answer_record<A: FieldRule<L>, K: Sink, L: Ledger>(
-    task: &ColumnTask<'_, A>,
-    progress: &mut Progress,
+/// Gathers the bytes of a header, the name of a new column where there is one, and the byte that ends it.
+fn put_header<K: Sink>(
+    delimiter: u8,
+    destination: &Destination,
     body: &[u8],
     end: &[u8],
     work: &mut Work,
     sink: &mut K,
-    steps: &mut Steps<L>,
-) -> Result<(), Stop>
-    requires short { length body.now ≤ MAX_RECORD }
-    requires some { body.now ≢ [] }
-    requires known { progress.old.is_headed ≡ false }
-    requires as_many { length progress.old.asked.items ≡ length task.now.columns.now }
-    ensures ok { OnOk result (PassesRow (A.Answers task.now.rule.now) task.now.is_kept task.now.delimiter
-        task.now.columns.now (record { body = body.now; end = end.now })
-        (state_of progress.old) (state_of progress.new) work.old.out work.new.out (K.written sink.old) (K.written
-        sink.new)) }
-    ensures err { IfErr result (λ stop. StopsRow stop (A.Answers task.now.rule.now) task.now.is_kept
-        task.now.delimiter task.now.columns.now (record { body = body.now; end = end.now })
-        (state_of progress.old) work.old.out work.new.out (K.written sink.old) (K.written sink.new)) }
-    ensures counts { IfErr result (λ stop. SameCounts (state_of progress.old) (state_of progress.new)) }
-    ensures as_many { length progress.new.asked.items ≡ length task.now.columns.now }
-    ensures failures { RisesOnly (K.failures sink.old) (K.failures sink.new) result }
+) -> Result<(), Failed>
+    ensures ok { OnOk result (Flushes work.old.out (body.now ++ new_name delimiter (name_of destination.now) ++ end.now)
+        work.new.out (K.written sink.old) (K.written sink.new)) }
+    ensures err { OnErr result ((left : List ℕ) × Flushes work.old.out
+        (body.now ++ new_name delimiter (name_of destination.now) ++ end.now) left (K.written sink.old)
+        (K.written sink.new)) }
+    ensures failures { FailsOnlyCounted (K.failures sink.old) (K.failures sink.new) result }
 {
-    if let Some(count) = lacking(task.delimiter, body, needed(&progress.asked)) {
-        return Err(Stop::NoColumn(count));
-    }
-    let refused = match answer_fields(task, &progress.asked, body, work, sink, steps) {
-        Err(_) => return Err(Stop::WriteFault),
-        Ok(refused) => refused,
-    };
-    match put(end, &mut work.out, sink) {
-        Err(_) => Err(Stop::WriteFault),
-        Ok(()) => {
-            count_record(progress, refused);
-            Ok(())
+    match destination {
+        Destination::InPlace => put_row(body, end, &mut work.out, sink),
+        Destination::NewColumn(name) => {
+            write_as_field(delimiter, name.as_bytes(), &mut work.text);
+            put_longer(
+                delimiter,
+                body,
+                work.text.as_slice(),
+                end,
+                &mut work.out,
+                sink,
+            )
         }
     }
 }
@@ -182,7 +163,7 @@ fn answer_record<A: FieldRule<L>, K: Sink, L: Ledger>(
 /// Answers a record, or passes over an empty line or the header.
 pub(crate) fn answer_row<A: FieldRule<L>, K: Sink, L: Ledger>(
     task: &ColumnTask<'_, A>,
-    progress: &mut Progress,
+    progress: &mut Progress<'_>,
     body: &[u8],
     end: &[u8],
     work: &mut Work,
@@ -213,7 +194,7 @@ pub(crate) fn answer_row<A: FieldRule<L>, K: Sink, L: Ledger>(
         return answer_record(task, progress, body, end, work, sink, steps);
     }
     read_header(task, progress, body, &mut work.text)?;
-    match put_row(body, end, &mut work.out, sink) {
+    match put_header(task.delimiter, progress.destination, body, end, work, sink) {
         Err(_) => Err(Stop::WriteFault),
         Ok(()) => {
             progress.is_headed = false;

@@ -55,7 +55,7 @@ fn stop_after<K: Sink>(stop: Stop, out: &mut Output, sink: &mut K) -> Stop
 /// Answers the records that end in a chunk, keeps what follows the last of them, and writes the answers.
 fn take_chunk<A: FieldRule<L>, K: Sink, L: Ledger>(
     task: &ColumnTask<'_, A>,
-    cutter: &mut Cutter,
+    cutter: &mut Cutter<'_>,
     chunk: &[u8],
     work: &mut Work,
     sink: &mut K,
@@ -90,7 +90,7 @@ fn take_chunk<A: FieldRule<L>, K: Sink, L: Ledger>(
 /// Answers the last record of a text, which has no end, where it is not empty, and says how the text ended.
 fn end_text<A: FieldRule<L>, K: Sink, L: Ledger>(
     task: &ColumnTask<'_, A>,
-    cutter: &mut Cutter,
+    cutter: &mut Cutter<'_>,
     work: &mut Work,
     sink: &mut K,
     steps: &mut Steps<L>,
@@ -133,7 +133,7 @@ fn end_text<A: FieldRule<L>, K: Sink, L: Ledger>(
 /// write fails, it says how the text ended.
 fn begin_text<A: FieldRule<L>, S: Source, K: Sink, L: Ledger>(
     task: &ColumnTask<'_, A>,
-    cutter: &mut Cutter,
+    cutter: &mut Cutter<'_>,
     work: &mut Work,
     source: &mut S,
     sink: &mut K,
@@ -180,7 +180,7 @@ fn begin_text<A: FieldRule<L>, S: Source, K: Sink, L: Ledger>(
 /// Reads a text to its end, and has its records answered.
 fn answer_text<A: FieldRule<L>, S: Source, K: Sink, L: Ledger>(
     task: &ColumnTask<'_, A>,
-    cutter: &mut Cutter,
+    cutter: &mut Cutter<'_>,
     work: &mut Work,
     source: &mut S,
     sink: &mut K,
@@ -217,7 +217,7 @@ fn answer_text<A: FieldRule<L>, S: Source, K: Sink, L: Ledger>(
 /// Passes the lines before the records through, and then reads the text to its end and has its records answered.
 fn answer_after_lines<A: FieldRule<L>, S: Source, K: Sink, L: Ledger>(
     task: &ColumnTask<'_, A>,
-    cutter: &mut Cutter,
+    cutter: &mut Cutter<'_>,
     work: &mut Work,
     source: &mut S,
     sink: &mut K,
@@ -263,11 +263,16 @@ fn first_ranges(alloc: Global, columns: &[Column]) -> Result<Vec<Range>, AllocEr
 }
 
 /// Before the first record.
-fn first_progress<A>(alloc: Global, task: &ColumnTask<'_, A>) -> Result<Progress, AllocError>
-    ensures { IfOk result (λ progress. state_of progress ≡ first_state task.now.has_header task.now.columns.now) }
+fn first_progress<'a, A>(
+    alloc: Global,
+    task: &ColumnTask<'a, A>,
+) -> Result<Progress<'a>, AllocError>
+    ensures { IfOk result (λ progress. state_of progress ≡ first_state task.now.has_header task.now.destination.now
+        task.now.columns.now) }
 {
     let asked = first_ranges(alloc, task.columns)?;
     Ok(Progress {
+        destination: task.destination,
         is_headed: task.has_header,
         asked,
         answered: 0,
@@ -277,9 +282,9 @@ fn first_progress<A>(alloc: Global, task: &ColumnTask<'_, A>) -> Result<Progress
 }
 
 /// Room for the run.
-fn begin_cutter<A>(alloc: Global, task: &ColumnTask<'_, A>) -> Result<Cutter, AllocError>
+fn begin_cutter<'a, A>(alloc: Global, task: &ColumnTask<'a, A>) -> Result<Cutter<'a>, AllocError>
     ensures progress { IfOk result (λ cutter. state_of cutter.progress ≡ first_state task.now.has_header
-        task.now.columns.now) }
+        task.now.destination.now task.now.columns.now) }
     ensures kept { IfOk result (λ cutter. cutter.kept ≡ []) }
     ensures place { IfOk result (λ cutter. cutter.place ≡ Place.Start) }
 {
@@ -307,7 +312,7 @@ fn begin_work(alloc: Global) -> Result<Work, AllocError>
 }
 
 /// How the records of a text ended.
-fn end_of(stop: Stop, progress: &Progress) -> ColumnEnd
+fn end_of(stop: Stop, progress: &Progress<'_>) -> ColumnEnd
     ensures stop { result.stop ≡ stop }
     ensures counts { SameCounts (state_of progress.now) (counts_of result) }
 {
@@ -340,8 +345,8 @@ pub fn run_column<A: FieldRule<L>, S: Source, K: Sink, L: Ledger>(
     // What was taken and what was written, by how the run ended.
     ensures run { (result.stop ≡ Stop.NoMemory) ⊎ HasRunAfter task.now.skipped result.stop (A.Answers task.now.rule.now)
         task.now.is_kept task.now.delimiter task.now.columns.now
-        (first_state task.now.has_header task.now.columns.now) (counts_of result) (S.left source.old) (S.left
-        source.new) (K.written sink.old) (K.written sink.new) }
+        (first_state task.now.has_header task.now.destination.now task.now.columns.now) (counts_of result)
+        (S.left source.old) (S.left source.new) (K.written sink.old) (K.written sink.new) }
 
     // Which count of failures rose.
     ensures failures { HasFailures (S.failures source.old) (S.failures source.new) (K.failures sink.old) (K.failures

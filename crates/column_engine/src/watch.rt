@@ -24,12 +24,25 @@ pub struct RefusedField {
     pub reply: TextBuffer<KEPT>,
 }
 
-/// What is known of the records of a text: where the one at hand begins, the header, which of the words that ask for
-/// columns was looked for under it last, and the first field that was refused.
+/// Where a field is.
+#[derive(Clone, Copy, Debug, PartialEq, Eq)]
+pub struct FieldPlace {
+    /// The number of its record, a header too, from 1.
+    pub record: u64,
+    /// The number of the line that its record begins in, from 1.
+    pub line: u64,
+    /// Its place in the record, from 0.
+    pub column: usize,
+}
+
+/// What is known of the records of a text: where the one at hand begins, the field that is answered, the header, which
+/// of the words that ask for columns was looked for under it last, and the first field that was refused.
 #[derive(Drop)]
 pub struct ColumnWatch {
     line: Cell<u64>,
     next_line: Cell<u64>,
+    record: Cell<u64>,
+    column: Cell<usize>,
     is_after_return: Cell<bool>,
     header: Cell<Option<TextBuffer<KEPT_HEADER>>>,
     word: Cell<usize>,
@@ -61,6 +74,8 @@ impl ColumnWatch {
         ColumnWatch {
             line: Cell::new(line),
             next_line: Cell::new(line),
+            record: Cell::new(0),
+            column: Cell::new(0),
             is_after_return: Cell::new(false),
             header: Cell::new(None),
             word: Cell::new(0),
@@ -72,6 +87,15 @@ impl ColumnWatch {
     /// The header, where there is one: its first bytes. It is kept no longer.
     pub fn header(&self) -> Option<TextBuffer<KEPT_HEADER>> {
         self.header.take()
+    }
+
+    /// Where the field is that is answered.
+    pub fn place(&self) -> FieldPlace {
+        FieldPlace {
+            record: self.record.get(),
+            line: self.line.get(),
+            column: self.column.get(),
+        }
     }
 
     /// The place of the word that was looked for last under the header.
@@ -91,6 +115,9 @@ impl ColumnWatch {
         self.is_after_return.set(end == b"\r".as_slice());
         let line = self.next_line.get();
         self.line.set(line);
+        if !body.is_empty() {
+            self.record.set(self.record.get().wrapping_add(1));
+        }
         if !is_second {
             self.next_line
                 .set(line.saturating_add(newlines_in(body)).saturating_add(1));
@@ -105,6 +132,12 @@ impl ColumnWatch {
     /// A word is looked for under the header.
     pub(crate) fn look_for(&self, word: usize) {
         self.word.set(word);
+    }
+
+    /// A field of the record at hand is to be answered.
+    #[inline]
+    pub(crate) fn begin_field(&self, column: usize) {
+        self.column.set(column);
     }
 
     /// A field of the record at hand is refused.

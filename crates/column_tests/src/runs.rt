@@ -3,7 +3,8 @@
 ghost use Rattle.std.specs.Prelude.{◌≡◌, ◌==◌, ◌<◌, ◌≤◌, get_or};
 
 use column_engine::{
-    Column, ColumnEnd, ColumnTask, ColumnWatch, FieldRule, Range, RecordBuffer, Stop, run_column,
+    Column, ColumnEnd, ColumnTask, ColumnWatch, Destination, FieldRule, Range, RecordBuffer, Stop,
+    run_column,
 };
 use fixed_steps::Steps;
 use line_engine::{MemorySink, MemorySource, NEVER, Output};
@@ -12,6 +13,7 @@ use std::marker::Brand;
 use std::process::Abort;
 use std::sync::ledger::{Blank, Ledger};
 use std::test::Fail;
+use text_buffer::TextBuffer;
 
 /// Refuses a field that begins with an x, and leaves one that begins with an = as it is.
 #[derive(Drop)]
@@ -52,13 +54,14 @@ impl<L: Ledger> FieldRule<L> for NoX {
     ghost one_law = { λ rule field a b is same. is ∙ sym same };
 }
 
-/// A run: how many lines are passed over, the columns, under a header or not, what is read, which read and which write
-/// fails, what is written and how it ends.
+/// A run: how many lines are passed over, the columns, the name of a new one for the answers, under a header or not,
+/// what is read, which read and which write fails, what is written and how it ends.
 #[derive(Drop)]
 struct Case {
     skipped: u64,
     name: Option<&'static str>,
     range: Option<Range>,
+    into: Option<&'static [u8]>,
     has_header: bool,
     is_kept: bool,
     delimiter: u8,
@@ -79,6 +82,18 @@ fn columns_of(alloc: Global, case: &Case) -> Result<Vec<Column>, AllocError> {
     Ok(columns)
 }
 
+/// Where the answers of a case go.
+fn destination_of(case: &Case) -> Destination {
+    match case.into {
+        Some(name) => {
+            let mut text = TextBuffer::new();
+            text.push_bytes(&name[..name.len().min(100)]);
+            Destination::NewColumn(text)
+        }
+        None => Destination::InPlace,
+    }
+}
+
 /// How a run of these bytes ends, and what it writes. The case's own input is left out.
 fn run_case<L: Ledger>(
     alloc: Global,
@@ -93,10 +108,12 @@ fn run_case<L: Ledger>(
 {
     let mut steps = Steps::<L>::new(blank);
     let columns = columns_of(alloc, case)?;
+    let destination = destination_of(case);
     let task = ColumnTask {
         rule: &NoX,
         skipped: case.skipped,
         columns: &columns,
+        destination: &destination,
         has_header: case.has_header,
         is_kept: case.is_kept,
         delimiter: case.delimiter,
@@ -156,6 +173,7 @@ fn second(input: &'static [u8], written: &'static [u8], answered: u64) -> Case {
         skipped: 0,
         name: None,
         range: one(1),
+        into: None,
         has_header: false,
         is_kept: false,
         delimiter: b',',
@@ -341,6 +359,50 @@ fn refused_fields_are_counted_and_kept_where_that_is_asked(rt: HostRuntime) -> R
     Ok(())
 }
 
+/// A run whose answers go into a new column with this name.
+fn appending(name: &'static [u8], case: Case) -> Case {
+    Case {
+        into: Some(name),
+        ..case
+    }
+}
+
+#[test]
+fn a_new_column_has_the_answers(rt: HostRuntime) -> Result<(), Fail> {
+    let input = b"k,n\r\n1,\"x\"\r\n\r\n\"2\",=3\r\n4,5,6";
+    let written = b"k,n,\"m, \"\"n\"\"\"\r\n1,\"x\",\"not, so\"\r\n\r\n\"2\",=3,=3\r\n4,5,6,yes";
+    let kept = b"k,n,m\r\n1,\"x\",\"x\"\r\n\r\n\"2\",=3,=3\r\n4,5,6,yes";
+    let cases = [
+        appending(b"m", second(b"a,b\nc,\n", b"a,b,yes\nc,,yes\n", 2)),
+        appending(b"m", second(b"\n\r\n", b"\n\r\n", 0)),
+        appending(b"m", named("n", None, b"k,n\n", b"k,n,m\n", 1)),
+        appending(b"", named("n", None, b"n\n1\n", b"n,\"\"\n1,yes\n", 2)),
+        refusing(
+            appending(b"m, \"n\"", named("n", None, input, written, 4)),
+            1,
+            2,
+        ),
+        Case {
+            is_kept: true,
+            ..refusing(appending(b"m", named("n", None, input, kept, 4)), 1, 2)
+        },
+        stopped(
+            appending(b"m", second(b"a,1\nb\nc,2\n", b"a,1,yes\n", 1)),
+            Stop::NoColumn(1),
+        ),
+        stopped(
+            appending(b"m", named("c", None, b"a,b\n1,2\n", b"", 0)),
+            Stop::NoName,
+        ),
+        stopped(
+            appending(b"m", second(b"a,1\nb,\"2\n", b"a,1,yes\n", 1)),
+            Stop::Unclosed,
+        ),
+    ];
+    assert_runs(&rt, rt.alloc(), &cases)?;
+    Ok(())
+}
+
 #[test]
 fn a_record_or_a_header_without_the_column_ends_the_run(rt: HostRuntime) -> Result<(), Fail> {
     let cases = [
@@ -398,18 +460,32 @@ fn each_read_fails_in_turn(rt: HostRuntime) -> Result<(), Fail> {
     Ok(())
 }
 
+/// What is written for it with a new column.
+const LONGER_OUTPUT: &[u8] = b"\xef\xbb\xbfa,1,yes\nb,\"2\",yes\n";
+
+/// The case with a new column or without, the write call that fails, and what is written without a failure.
+fn failing_write(call: usize) -> (Case, usize, &'static [u8]) {
+    if call < OUTPUT.len() {
+        return (second(INPUT, b"", 0), call, OUTPUT);
+    }
+    let longer = appending(b"m", second(INPUT, b"", 0));
+    (longer, call - OUTPUT.len(), LONGER_OUTPUT)
+}
+
 /// Write call k is to write byte k of the output: those before it are written.
 #[test]
 fn each_write_fails_in_turn(rt: HostRuntime) -> Result<(), Fail> {
-    for call in 0..15usize {
+    for at in 0..36usize {
+        let (plain, call, output) = failing_write(at);
         let case = Case {
             failing_write: call as u64,
-            ..second(INPUT, b"", 0)
+            ..plain
         };
         let input = INPUT.to_vec(rt.alloc())?;
         let (end, written) = run_case::<Brand>(rt.alloc(), &case, input, 1, Blank::new(1))?;
-        assert_eq!(rt; end.stop, Stop::WriteFault, "at {call}");
-        assert_eq!(rt; written.as_slice(), &OUTPUT[..call], "at {call}");
+        assert_eq!(rt; end.stop, Stop::WriteFault, "at {at}");
+        let wanted = output.get(..call).unwrap_or(&[]);
+        assert_eq!(rt; written.as_slice(), wanted, "at {at}");
     }
     Ok(())
 }

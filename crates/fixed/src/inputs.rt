@@ -1,11 +1,12 @@
 //! What is done with each input, one after another.
 
-use crate::commands::{column_report, fit, pack, unpack};
+use crate::commands::column_report::{self, Known};
+use crate::commands::{fit, pack, unpack};
 use column_engine::ColumnWatch;
 use command_line::device::{Failure, Output, Unmarked, Writer};
 use command_line::report::{Report, push_words, report_end};
 use fixed_command::{
-    ColumnConversion, ConvertRule, MAX_TALLY, Place, RefusedLine, Tally, Task, Watch,
+    ColumnConversion, ConvertRule, FieldReport, MAX_TALLY, Place, RefusedLine, Tally, Task, Watch,
     convert_column, explanation, greater_end, run_task, tally_text,
 };
 use fixed_fit::Question as FitQuestion;
@@ -26,7 +27,12 @@ pub enum Job<'a> {
     /// It is answered.
     Task(Task<'a>),
     /// Columns of it are converted.
-    Column(ColumnConversion<'a>),
+    Column {
+        /// How.
+        conversion: ColumnConversion<'a>,
+        /// Whether there is a report.
+        has_report: bool,
+    },
     /// The finest format is found that its numerals fit.
     Fit(FitQuestion),
     /// Its numerals are packed into words.
@@ -136,31 +142,47 @@ fn run_task_on<R: Read + Drop, L: Ledger>(
     status
 }
 
+/// A report, where it is asked for.
+fn asked_report<'r>(report: &'r FieldReport<'r>, has_report: bool) -> Option<&'r FieldReport<'r>> {
+    if has_report { Some(report) } else { None }
+}
+
 /// Converts columns of one input, and says on standard error why it did not end well.
 fn run_column_on<R: Read + Drop, L: Ledger>(
     rt: &HostRuntime,
     conversion: &ColumnConversion<'_>,
+    has_report: bool,
     file: Option<&str>,
     reader: R,
     output: &mut Output,
     steps: &mut Steps<L>,
 ) -> Status {
+    let watch = ColumnWatch::new(conversion.skipped.saturating_add(1));
+    let fields = FieldReport::new(&watch);
+    let report = asked_report(&fields, has_report);
     let failure = Failure::new(None);
     let mut source = StdSource::new(reader);
+    let writer = &mut *output;
     let mut sink = StdSink::new(Writer {
-        writer: output,
+        writer,
         failure: &failure,
     });
-    let watch = ColumnWatch::new(conversion.skipped.saturating_add(1));
     let end = convert_column(
         rt.alloc(),
         conversion,
         &watch,
+        report,
         &mut source,
         &mut sink,
         steps,
     );
-    column_report::report_end(rt, file, conversion, &watch, &end, &failure, steps);
+    let known = Known {
+        conversion,
+        watch: &watch,
+        report,
+        end: &end,
+    };
+    column_report::report_end(rt, file, &known, &failure, steps);
     end.status()
 }
 
@@ -175,7 +197,10 @@ fn run_reader<R: Read + Drop, L: Ledger>(
 ) -> Status {
     match job {
         Job::Task(task) => run_task_on(rt, task, file, reader, output, steps),
-        Job::Column(conversion) => run_column_on(rt, conversion, file, reader, output, steps),
+        Job::Column {
+            conversion,
+            has_report,
+        } => run_column_on(rt, conversion, *has_report, file, reader, output, steps),
         Job::Fit(question) => {
             let mut source = StdSource::new(Unmarked::new(reader));
             fit::run_on(rt, question, file, &mut source, steps)

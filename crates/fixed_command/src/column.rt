@@ -8,7 +8,10 @@ ghost use Rattle.fixed_command.specs.Fields.{IsFieldReply};
 
 use crate::ConvertRule;
 use crate::field::{FieldForm, FieldNumerals};
-use column_engine::{Column, ColumnEnd, ColumnTask, ColumnWatch, Stop, run_column};
+use crate::field_report::{FieldReport, ReportedNumerals};
+use column_engine::{
+    Column, ColumnEnd, ColumnTask, ColumnWatch, Destination, FieldRule, Stop, run_column,
+};
 use fixed_steps::Steps;
 use line_engine::{Sink, Source};
 use std::alloc::Global;
@@ -25,6 +28,8 @@ pub struct ColumnConversion<'a> {
     pub skipped: u64,
     /// Which fields of a record.
     pub columns: Vec<Column>,
+    /// Where the answers go.
+    pub destination: Destination,
     /// Whether the first record is a header, which is passed through.
     pub has_header: bool,
     /// Whether a field that is refused stays as it was.
@@ -33,13 +38,46 @@ pub struct ColumnConversion<'a> {
     pub delimiter: u8,
 }
 
+/// Converts columns of the records of a text by a rule.
+fn convert_by<A: FieldRule<L>, S: Source, K: Sink, L: Ledger>(
+    alloc: Global,
+    conversion: &ColumnConversion<'_>,
+    rule: &A,
+    watch: &ColumnWatch,
+    source: &mut S,
+    sink: &mut K,
+    steps: &mut Steps<L>,
+) -> ColumnEnd
+    ensures run { (result.stop ≡ Stop.NoMemory)
+        ⊎ HasRunAfter conversion.now.skipped result.stop (A.Answers rule.now)
+        conversion.now.is_kept conversion.now.delimiter conversion.now.columns.items
+        (first_state conversion.now.has_header conversion.now.destination conversion.now.columns.items)
+        (counts_of result) (S.left source.old) (S.left source.new) (K.written sink.old) (K.written sink.new) }
+    ensures failures { HasFailures (S.failures source.old) (S.failures source.new) (K.failures sink.old)
+        (K.failures sink.new) result.stop }
+    ensures memory { result.stop ≡ Stop.NoMemory → (source.new ≡ source.old) × (sink.new ≡ sink.old) }
+{
+    let task = ColumnTask {
+        rule,
+        skipped: conversion.skipped,
+        columns: &conversion.columns,
+        destination: &conversion.destination,
+        has_header: conversion.has_header,
+        is_kept: conversion.is_kept,
+        delimiter: conversion.delimiter,
+        watch,
+    };
+    run_column(alloc, &task, source, sink, steps)
+}
+
 /// Converts columns of the records of a text, and says how they ended. A field is answered as `run_convert` answers the
 /// line that its numeral is, and every other byte of the text is written as it was. What there is to report of the
-/// fields that are refused is kept in the watch.
+/// fields that are refused is kept in the watch, and how they come through in the report where one is asked for.
 pub fn convert_column<S: Source, K: Sink, L: Ledger>(
     alloc: Global,
     conversion: &ColumnConversion<'_>,
     watch: &ColumnWatch,
+    report: Option<&FieldReport<'_>>,
     source: &mut S,
     sink: &mut K,
     steps: &mut Steps<L>,
@@ -48,7 +86,8 @@ pub fn convert_column<S: Source, K: Sink, L: Ledger>(
     ensures run { (result.stop ≡ Stop.NoMemory)
         ⊎ HasRunAfter conversion.now.skipped result.stop (IsFieldReply conversion.now.form conversion.now.rule)
         conversion.now.is_kept conversion.now.delimiter conversion.now.columns.items
-        (first_state conversion.now.has_header conversion.now.columns.items) (counts_of result)
+        (first_state conversion.now.has_header conversion.now.destination conversion.now.columns.items)
+        (counts_of result)
         (S.left source.old) (S.left source.new) (K.written sink.old) (K.written sink.new) }
 
     // Which count of failures rose.
@@ -58,18 +97,15 @@ pub fn convert_column<S: Source, K: Sink, L: Ledger>(
     // Where there was no memory, nothing was read or written.
     ensures memory { result.stop ≡ Stop.NoMemory → (source.new ≡ source.old) × (sink.new ≡ sink.old) }
 {
-    let rule = FieldNumerals {
+    let numerals = FieldNumerals {
         rule: &conversion.rule,
         form: &conversion.form,
     };
-    let task = ColumnTask {
-        rule: &rule,
-        skipped: conversion.skipped,
-        columns: &conversion.columns,
-        has_header: conversion.has_header,
-        is_kept: conversion.is_kept,
-        delimiter: conversion.delimiter,
-        watch,
-    };
-    run_column(alloc, &task, source, sink, steps)
+    match report {
+        None => convert_by(alloc, conversion, &numerals, watch, source, sink, steps),
+        Some(report) => {
+            let rule = ReportedNumerals { numerals, report };
+            convert_by(alloc, conversion, &rule, watch, source, sink, steps)
+        }
+    }
 }

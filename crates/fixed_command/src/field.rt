@@ -73,7 +73,7 @@ fn push_read(form: &FieldForm<'_>, byte: u8, numeral: &mut RecordBuffer)
 }
 
 /// Writes out what is read for bytes.
-fn write_read(form: &FieldForm<'_>, bytes: &[u8], numeral: &mut RecordBuffer)
+pub(crate) fn write_read(form: &FieldForm<'_>, bytes: &[u8], numeral: &mut RecordBuffer)
     requires { length bytes.now ≤ MAX_RECORD }
     ensures { numeral.new ≡ flat_map (read_for form.now.thousands.now form.now.decimal) bytes.now }
 {

@@ -1,9 +1,11 @@
 //! `fixed column`: columns of CSV are converted.
 
 use crate::inputs::{Job, run_inputs};
-use crate::options::{FROM, MODE, PLACES, POLICY, PRINT, RADIX, SOURCE, TARGET, TARGET_MODE};
+use crate::options::{
+    FROM, MODE, PLACES, POLICY, PRINT, RADIX, REPORT, SOURCE, TARGET, TARGET_MODE,
+};
 use crate::settings::conversion;
-use column_engine::{Column, Range};
+use column_engine::{Column, Destination, MAX_NAME, Range};
 use command_line::given::{Asked, Given, Refusal};
 use command_line::page::{Operand, Page, Row};
 use fixed_command::{ColumnConversion, Empty, FieldForm};
@@ -11,6 +13,7 @@ use fixed_steps::Steps;
 use line_engine::Status;
 use std::alloc::{AllocError, Global};
 use std::sync::ledger::Ledger;
+use text_buffer::TextBuffer;
 
 const COLUMN: Operand = Operand {
     name: "COLUMNS",
@@ -47,6 +50,14 @@ const KEEP: Row = Row {
     value: "",
     choices: &[],
     help: "A field that is refused stays as it was",
+};
+
+const INTO: Row = Row {
+    name: "into",
+    letter: None,
+    value: "NAME",
+    choices: &[],
+    help: "One column's answers go into a new one, the last",
 };
 
 const SKIP: Row = Row {
@@ -113,7 +124,9 @@ pub fn page() -> Page {
             DECIMAL,
             THOUSANDS,
             EMPTY,
+            INTO,
             KEEP,
+            REPORT,
         ],
         end: "A format is I (signed) or U (unsigned), its whole bits, F and its fraction bits,\n\
               as in I16F16, 1 to 64 bits in all; or as in Q15, Q8.8 and UQ8.8. A\n\
@@ -225,6 +238,47 @@ fn range_numbered(word: &str) -> Option<Range> {
     }
 }
 
+/// Where the answers go: into a new column where the option names one.
+fn destination_of<'a>(given: &Given<'_, 'a>) -> Asked<'a, Destination> {
+    let name = match given.value(&INTO) {
+        Some(name) => name,
+        None => return Ok(Destination::InPlace),
+    };
+    if name.len() > MAX_NAME {
+        return Err(Refusal::Word(
+            name,
+            "is not the name of a column: it has more than 1024 bytes",
+        ));
+    }
+    if given.has(&ALL) {
+        return Err(Refusal::Word(name, "is one new column, and --all are many"));
+    }
+    let mut text = TextBuffer::new();
+    text.push_bytes(name.as_bytes());
+    Ok(Destination::NewColumn(text))
+}
+
+/// The one column that a word numbers, where it does.
+fn one_numbered(word: &str) -> Option<Range> {
+    let at = place_numbered(word)?;
+    Some(Range { from: at, to: at })
+}
+
+/// The one column whose answers go into a new one.
+fn source_of<'a>(alloc: Global, word: &'a str, has_header: bool) -> Asked<'a, Column> {
+    match one_numbered(word) {
+        range if has_header && !word.contains(',') => Ok(Column::Named(
+            String::from_str(alloc, word)?,
+            range,
+        )),
+        Some(range) => Ok(Column::At(range)),
+        None => Err(Refusal::Word(
+            word,
+            "is not one column: it is a number from 1, or with --header a name",
+        )),
+    }
+}
+
 /// The columns that one word of a list names.
 fn column_of<'a>(alloc: Global, word: &'a str, has_header: bool) -> Asked<'a, Column> {
     match range_numbered(word) {
@@ -259,6 +313,10 @@ fn columns_of<'a>(alloc: Global, given: &Given<'_, 'a>) -> Asked<'a, (Vec<Column
         return Ok((columns, 0));
     }
     let words = given.needed(0, "COLUMNS")?;
+    if given.has(&INTO) {
+        push(&mut columns, source_of(alloc, words, given.has(&HEADER))?)?;
+        return Ok((columns, 1));
+    }
     for word in words.split(',') {
         push(&mut columns, column_of(alloc, word, given.has(&HEADER))?)?;
     }
@@ -277,14 +335,19 @@ pub fn run<'a, L: Ledger>(
         Ok(form) => form,
         Err(refusal) => return Err(refusal),
     };
-    let job = Job::Column(ColumnConversion {
+    let conversion = ColumnConversion {
         rule,
         form,
         skipped: skipped_of(given)?,
         columns,
+        destination: destination_of(given)?,
         has_header: given.has(&HEADER),
         is_kept: given.has(&KEEP),
         delimiter: delimiter_of(given)?,
-    });
+    };
+    let job = Job::Column {
+        conversion,
+        has_report: given.has(&REPORT),
+    };
     Ok(run_inputs(rt, &job, given.from(files), steps))
 }

@@ -1,10 +1,12 @@
 //! What `fixed column` says on standard error of an input.
 
 use column_engine::place::field_end;
-use column_engine::{Column, ColumnEnd, ColumnWatch, RefusedField, Stop};
+use column_engine::{Column, ColumnEnd, ColumnWatch, FieldPlace, RefusedField, Stop};
 use command_line::device::Failure;
 use command_line::report::{Report, is_broken_pipe, push_words};
-use fixed_command::{ColumnConversion, field_explanation};
+use fixed_command::{
+    ColumnConversion, FieldReport, MAX_TALLY, Place, field_explanation, tally_text,
+};
 use fixed_steps::Steps;
 use std::sync::ledger::Ledger;
 
@@ -174,12 +176,11 @@ fn push_record_fault(report: &mut Report, end: &ColumnEnd) {
 fn report_refused<L: Ledger>(
     rt: &HostRuntime,
     file: Option<&str>,
-    conversion: &ColumnConversion<'_>,
-    watch: &ColumnWatch,
+    known: &Known<'_>,
     header: Option<&[u8]>,
-    end: &ColumnEnd,
     steps: &mut Steps<L>,
 ) {
+    let end = known.end;
     if end.refused == 0 || end.stop == Stop::WriteFault {
         return;
     }
@@ -188,35 +189,93 @@ fn report_refused<L: Ledger>(
     report.number(end.refused);
     report.text(", the first in record ");
     report.number(end.first);
-    if let Some(field) = watch.first() {
-        push_first(&mut report, conversion, &field, header, steps);
+    if let Some(field) = known.watch.first() {
+        push_first(&mut report, known.conversion, &field, header, steps);
     }
     report.send(rt);
 }
 
-/// Says on standard error how many fields of a file were refused, which was the first, and why its records ended before
-/// its end.
+/// Appends the line and the column of a first field, where there is one.
+fn push_place(
+    report: &mut Report,
+    what: &str,
+    place: Option<FieldPlace>,
+    known: &Known<'_>,
+    header: Option<&[u8]>,
+) {
+    if let Some(place) = place {
+        report.text(what);
+        report.number(place.line);
+        report.text(", column ");
+        push_column(report, place.column, known.conversion.delimiter, header);
+    }
+}
+
+/// Says on standard error how the fields of a file came through, where that is asked. Where a write failed it says
+/// nothing, since not all that was answered was written.
+fn report_fields(rt: &HostRuntime, file: Option<&str>, known: &Known<'_>, header: Option<&[u8]>) {
+    let fields = match known.report {
+        Some(fields) if !matches!(known.end.stop, Stop::WriteFault | Stop::NoMemory) => fields,
+        _ => return,
+    };
+    let mut report = Report::of(file);
+    let text = tally_text(&fields.tally(), Place::Record);
+    report.bytes(text.as_bytes(), MAX_TALLY);
+    let overflowed = fields.first_overflowed();
+    push_place(
+        &mut report,
+        "; the first overflowed in line ",
+        overflowed,
+        known,
+        header,
+    );
+    let refused = fields.first_refused();
+    push_place(
+        &mut report,
+        "; the first refused in line ",
+        refused,
+        known,
+        header,
+    );
+    report.send(rt);
+}
+
+/// What is known of a file whose columns were converted.
+#[derive(Drop)]
+pub struct Known<'a> {
+    /// How they were.
+    pub conversion: &'a ColumnConversion<'a>,
+    /// What there is to report of its records.
+    pub watch: &'a ColumnWatch,
+    /// How its fields came through, where that is asked.
+    pub report: Option<&'a FieldReport<'a>>,
+    /// How its records ended.
+    pub end: &'a ColumnEnd,
+}
+
+/// Says on standard error how many fields of a file were refused, and which was the first; how they came through, where
+/// that is asked; and why its records ended before its end.
 pub fn report_end<L: Ledger>(
     rt: &HostRuntime,
     file: Option<&str>,
-    conversion: &ColumnConversion<'_>,
-    watch: &ColumnWatch,
-    end: &ColumnEnd,
+    known: &Known<'_>,
     failure: &Failure,
     steps: &mut Steps<L>,
 ) {
     let error = failure.take();
-    let kept = watch.header();
+    let kept = known.watch.header();
     let header = match &kept {
         Some(header) => Some(header.as_bytes()),
         None => None,
     };
-    report_refused(rt, file, conversion, watch, header, end, steps);
+    report_refused(rt, file, known, header, steps);
+    report_fields(rt, file, known, header);
+    let end = known.end;
     if end.stop == Stop::Done || is_broken_pipe(&error) {
         return;
     }
     let mut report = Report::of(file);
-    push_stop(&mut report, &conversion.columns, watch, end);
+    push_stop(&mut report, &known.conversion.columns, known.watch, end);
     if let Some(error) = &error {
         report.text(": ");
         push_words(&mut report, rt.alloc(), error);
@@ -224,7 +283,7 @@ pub fn report_end<L: Ledger>(
     report.text(", records answered: ");
     report.number(end.answered);
     if let (Stop::NoName, Some(header)) = (end.stop, header) {
-        push_names(&mut report, conversion.delimiter, header);
+        push_names(&mut report, known.conversion.delimiter, header);
     }
     report.send(rt);
 }

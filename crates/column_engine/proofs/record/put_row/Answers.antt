@@ -2,7 +2,7 @@ use Rattle.std.proofs.Common.{◌++◌, List, ℕ}
 use Rattle.std.proofs.lemmas.Result.{on_ok_weaker, on_err_weaker}
 use Rattle.line_engine.specs.Inner.Progress.{Flushes}
 use Rattle.column_engine.proofs.GatherLemmas.{flushes_both, flushes_more}
-use Rattle.column_engine.proofs.row.put_row.Goals as goal
+use Rattle.column_engine.proofs.record.put_row.Goals as goal
 
 pub returns-in-Err-clause-err : goal.returns-in-Err-clause-err
 returns-in-Err-clause-err g c =

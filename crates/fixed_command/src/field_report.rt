@@ -1,0 +1,152 @@
+//! How the numerals of fields come through their conversion. What is said of a field is the contract of a function;
+//! that a cell keeps it no contract can say, and so it is tested.
+
+ghost use Rattle.std.specs.Prelude.{◌≡◌, ◌≤◌, length};
+ghost use Rattle.column_engine.specs.declared.record_buffer.TheConstants.{MAX_RECORD};
+ghost use Rattle.fixed_command.specs.Fields.{IsEmptyOutcome, IsFieldOutcome, IsReadOutcome};
+
+use crate::ConvertRule;
+use crate::convert::without_return;
+use crate::field::{Empty, FieldForm, FieldNumerals, bare, write_read};
+use crate::outcome::{Outcome, Tally, outcome_of};
+use column_engine::{ColumnWatch, FieldPlace, FieldRule, RecordBuffer};
+use fixed_steps::Steps;
+use line_engine::Output;
+use std::cell::Cell;
+use std::sync::ledger::Ledger;
+
+/// How a line comes through its conversion.
+fn outcome_of_line<L: Ledger>(
+    rule: &ConvertRule,
+    line: &[u8],
+    steps: &mut Steps<L>,
+) -> Option<Outcome>
+    ensures { IsReadOutcome rule.now line.now result }
+{
+    Some(outcome_of(rule.settings(), without_return(line), steps))
+}
+
+/// How a field without a byte comes through: not at all where it stays.
+fn outcome_of_empty<L: Ledger>(
+    empty: Empty,
+    rule: &ConvertRule,
+    steps: &mut Steps<L>,
+) -> Option<Outcome>
+    ensures { IsEmptyOutcome empty rule.now result }
+{
+    match empty {
+        Empty::Kept => None,
+        Empty::Refused => outcome_of_line(rule, b"", steps),
+        Empty::Zero => outcome_of_line(rule, b"0", steps),
+    }
+}
+
+/// How the numeral of a field comes through. The scratch is room for it.
+pub fn field_outcome<L: Ledger>(
+    form: &FieldForm<'_>,
+    rule: &ConvertRule,
+    field: &[u8],
+    scratch: &mut RecordBuffer,
+    steps: &mut Steps<L>,
+) -> Option<Outcome>
+    requires { length field.now ≤ MAX_RECORD }
+    ensures { IsFieldOutcome form.now rule.now field.now result }
+{
+    let bytes = bare(form, field);
+    if bytes.is_empty() {
+        return outcome_of_empty(form.empty, rule, steps);
+    }
+    write_read(form, bytes, scratch);
+    outcome_of_line(rule, scratch.as_slice(), steps)
+}
+
+/// How many fields of a text came through, each way, and where the first was that overflowed, or was refused.
+#[derive(Drop)]
+pub struct FieldReport<'w> {
+    watch: &'w ColumnWatch,
+    tally: Cell<Tally>,
+    overflowed: Cell<Option<FieldPlace>>,
+    refused: Cell<Option<FieldPlace>>,
+}
+
+impl<'w> FieldReport<'w> {
+    /// No field came through. The watch knows where a field is.
+    pub fn new(watch: &'w ColumnWatch) -> FieldReport<'w> {
+        FieldReport {
+            watch,
+            tally: Cell::new(Tally::new()),
+            overflowed: Cell::new(None),
+            refused: Cell::new(None),
+        }
+    }
+
+    /// How many fields came through, each way.
+    pub fn tally(&self) -> Tally {
+        self.tally.get()
+    }
+
+    /// Where the first field is that overflowed.
+    pub fn first_overflowed(&self) -> Option<FieldPlace> {
+        self.overflowed.get()
+    }
+
+    /// Where the first field is that was refused.
+    pub fn first_refused(&self) -> Option<FieldPlace> {
+        self.refused.get()
+    }
+
+    /// The field that is answered came through so.
+    fn note(&self, outcome: Outcome) {
+        let place = self.watch.place();
+        let mut tally = self.tally.get();
+        if outcome == Outcome::Overflowed && tally.first_overflowed == 0 {
+            self.overflowed.set(Some(place));
+        }
+        if outcome == Outcome::Refused && tally.first_refused == 0 {
+            self.refused.set(Some(place));
+        }
+        tally.note(place.record, outcome);
+        self.tally.set(tally);
+    }
+}
+
+/// The rule of a conversion of fields that keeps how they come through.
+#[derive(Clone, Copy)]
+pub struct ReportedNumerals<'a> {
+    /// The rule.
+    pub numerals: FieldNumerals<'a>,
+    /// Where it is kept.
+    pub report: &'a FieldReport<'a>,
+}
+
+impl<'a, L: Ledger> FieldRule<L> for ReportedNumerals<'a> {
+    ghost use Rattle.fixed_command.specs.Fields.{IsFieldReply};
+    ghost use Rattle.fixed_command.specs.Lemmas.FieldLemmas.{field_reply_one};
+
+    ghost Answers = { λ reported. IsFieldReply reported.numerals.form.now reported.numerals.rule.now };
+
+    fn answer(
+        &self,
+        field: &[u8],
+        scratch: &mut RecordBuffer,
+        out: &mut Output,
+        steps: &mut Steps<L>,
+    ) -> bool {
+        let numerals = &self.numerals;
+        let is_refused = numerals.answer(field, scratch, out, steps);
+        if is_refused {
+            self.report.note(Outcome::Refused);
+        } else if let Some(outcome) = field_outcome(
+            numerals.form,
+            numerals.rule,
+            field,
+            scratch,
+            steps,
+        ) {
+            self.report.note(outcome);
+        }
+        is_refused
+    }
+
+    ghost one_law = { λ reported. field_reply_one reported.numerals.form.now reported.numerals.rule.now };
+}
