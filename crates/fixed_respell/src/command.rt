@@ -12,7 +12,7 @@ const MAX_SELF_LINES: u64 = 1_000_000;
 
 /// What a run does.
 #[derive(Clone, Copy, Debug, PartialEq, Eq)]
-pub(crate) enum Command {
+pub enum Command {
     /// Answers the lines of an input of at most this many bytes.
     Read(u64),
     /// Answers this many generated lines, and sums their answers up.

@@ -18,6 +18,7 @@ pub mod split;
 pub mod words;
 
 pub use answering::{answer, push_fault, push_respelled, push_verdict};
+pub use command::Command;
 pub use fault::LineFault;
 pub use format_names::format_named;
 pub use line_engine::{

@@ -1,0 +1,5 @@
+use Rattle.program_laws.proofs.ProgramLemmas.{form_runs_one}
+use Rattle.program_laws.proofs.laws.form_runs_are_the_ones.Goals as goal
+
+pub returns : goal.returns
+returns c = form_runs_one c.report_is_the_one.ensures
