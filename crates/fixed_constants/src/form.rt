@@ -61,7 +61,7 @@ fn words_of(form: Form) -> &'static [u8]
 }
 
 /// Whether words hold this one between two spaces.
-fn is_among(words: &[u8], word: &[u8]) -> bool
+pub fn is_among(words: &[u8], word: &[u8]) -> bool
     requires { length word.now ≤ 64 }
     ensures { IsTrue result ↔ IsAmong words.now word.now }
 {

@@ -39,7 +39,7 @@ use std::sync::ledger::Ledger;
 use text_buffer::TextBuffer;
 
 /// Appends a number in hexadecimal, with the prefix `0x` after the sign.
-fn push_hexadecimal(text: &mut Vec<u8>, value: i128) -> Result<(), AllocError>
+pub fn push_hexadecimal(text: &mut Vec<u8>, value: i128) -> Result<(), AllocError>
     requires { IsWide value }
     ensures { OnOk result (text.new.items ≡ text.old.items ++ literal_text value 0) }
 {
@@ -126,7 +126,7 @@ fn word_of(bits: i128) -> u64
 }
 
 /// Appends bits as an expression of C.
-fn push_c_number(text: &mut Vec<u8>, format: Format, bits: i128) -> Result<(), AllocError>
+pub fn push_c_number(text: &mut Vec<u8>, format: Format, bits: i128) -> Result<(), AllocError>
     requires { IsWide bits }
     ensures { OnOk result (text.new.items ≡ text.old.items ++ c_number format bits) }
 {

@@ -1,0 +1,3 @@
+mod ElementLemmas
+mod NameLemmas
+mod SlotLemmas

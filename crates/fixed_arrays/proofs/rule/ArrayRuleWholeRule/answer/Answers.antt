@@ -1,0 +1,18 @@
+use Rattle.std.proofs.Common.{◌≡◌, ◌∙◌, length, arith, inl}
+use Rattle.line_engine.specs.Lines.{lines}
+use Rattle.fixed_arrays.proofs.ElementLemmas.{same_count, whole_text}
+use Rattle.fixed_arrays.proofs.rule.ArrayRuleWholeRule.answer.Goals as goal
+
+pub returns-in-Ok-array_text : goal.returns-in-Ok-array_text
+returns-in-Ok-array_text g c =
+    let r = c.args.self.now in
+    let h = c.in-Ok.ensures.ok in
+    let same : c.in-Ok.elements.count ≡ length h.numbers = omega (arith, h.count, same_count r.numerals (lines c.args.input.now) h.numbers h.elements) in
+    inl (record {
+      some = c.in-Ok.ensures.some;
+      format = c.in-Ok.ensures.format;
+      numbers = h.numbers;
+      elements = h.elements;
+      text = c.new.ensures.text ∙ whole_text r h.numbers c.in-Ok.elements.count c.in-Ok.elements.text.items c.in-Ok-array_text.text.items same h.text c.in-Ok-array_text.ensures;
+      fault = c.new.ensures.fault;
+    })

@@ -1,0 +1,3 @@
+-- Proofs that a trait needs; no contract cites them.
+pub mod AnswerLemmas
+pub mod ReadingLemmas

@@ -1,0 +1,44 @@
+-- Which names a list of numbers may have.
+use Rattle.std.specs.Prelude.{◌≡◌, ℕ, List, [], ◌∷◌, ◌++◌, codes, map}
+use Rattle.std.specs.Char.{to_ascii_lowercase}
+use Rattle.memchr.specs.Find.{OccursAt}
+use Rattle.fixed_constants.specs.Constants.{IsName}
+use Rattle.fixed_constants.specs.Forms.{IsAmong, IsReserved}
+use Rattle.fixed_constants.specs.declared.form.Form.TheVariants as language
+use Rattle.fixed_arrays.specs.declared.form.ArrayForm.{ArrayForm}
+use Rattle.fixed_arrays.specs.declared.form.ArrayForm.TheVariants.{C, GuardedC, Rust, Vhdl, Readmemh, Coe, Mif}
+
+-- the keywords of VHDL, and the names that a list's package stands on; each between two spaces
+unfoldable pub vhdl_words : List ℕ
+vhdl_words =
+    codes " abs access after alias all and architecture array assert assume assume_guarantee attribute begin" ++
+    (codes " block body buffer bus case component configuration constant context cover default disconnect" ++
+    (codes " downto else elsif end entity exit fairness file for force function generate generic group guarded" ++
+    (codes " if impure in inertial inout is label library linkage literal loop map mod nand new next nor not" ++
+    (codes " null of on open or others out package parameter port postponed private procedure process property" ++
+    (codes " protected pure range record register reject release rem report restrict restrict_guarantee return" ++
+    (codes " rol ror select sequence severity shared signal sla sll sra srl strong subtype then to transport type" ++
+    (codes " unaffected units until use variable vmode vpkg vprop vunit wait when while with xnor xor view" ++
+    (codes " ieee numeric_std signed standard std std_logic_1164 unsigned work "))))))))
+
+-- two underscores side by side
+abbrev pub two_underscores : List ℕ
+two_underscores = 95 ∷ 95 ∷ []
+
+abbrev pub AreApart : List ℕ → Type 0
+AreApart name = (place : ℕ) → ¬ OccursAt (95 ∷ (name ++ 95 ∷ [])) two_underscores place
+
+-- a name of VHDL: no two of its underscores are side by side, none is at its beginning or its end, and the language
+-- does not reserve it, in either case of letters
+abbrev pub IsVhdlName : List ℕ → Type 0
+IsVhdlName name = IsName name × (AreApart name × (¬ IsAmong vhdl_words (map to_ascii_lowercase name)))
+
+-- a list may have the name in a form, in a header with this guard; the files of a memory have no name
+abbrev pub IsArrayName : ArrayForm → List ℕ → List ℕ → Type 0
+IsArrayName C guard name = IsName name × (¬ IsReserved language.C guard name)
+IsArrayName GuardedC guard name = IsName name × (¬ IsReserved language.C guard name)
+IsArrayName Rust guard name = IsName name × (¬ IsReserved language.Rust guard name)
+IsArrayName Vhdl guard name = IsVhdlName name
+IsArrayName Readmemh guard name = name ≡ []
+IsArrayName Coe guard name = name ≡ []
+IsArrayName Mif guard name = name ≡ []

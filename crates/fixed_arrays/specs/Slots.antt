@@ -1,0 +1,113 @@
+-- Templates: texts with slots that stand for a list, its format and one of its numbers.
+use Rattle.std.specs.Prelude.{◌-◌, ◌+◌, ◌/◌, ◌^◌, ◌==◌, ℕ, suc, ℤ, pos, negsuc, Bool, true, false}
+use Rattle.std.specs.Prelude.{List, [], ◌∷◌, ◌++◌, codes}
+use Rattle.std.specs.Prelude.{if◌then◌else◌, nat_lt}
+use Rattle.std.specs.Fmt.{decimal}
+use Rattle.fixed_bits.specs.Formats.{FormatParts}
+use Rattle.fixed_constants.specs.Canonical.{literal_text}
+use Rattle.fixed_constants.specs.Forms.{c_number}
+use Rattle.fixed_respell.specs.Words.{format_text}
+use Rattle.fixed_write.specs.Texts.{last_digits, shortest_text}
+use Rattle.fixed_arrays.specs.declared.slots.Filling.{Filling}
+
+-- how many bits the integer type of an element has: the fewest of 8, 16, 32 and 64 that hold a format's width
+unfoldable pub element_width : ℕ → ℕ
+element_width width =
+    if nat_lt 32 width then 64 else (if nat_lt 16 width then 32 else (if nat_lt 8 width then 16 else 8))
+
+-- the format with as many bits
+abbrev pub element_format : FormatParts → FormatParts
+element_format f = record { signed = f.signed; width = element_width f.width; frac = f.frac }
+
+-- what slots stand for
+pub record FillingParts : Type 0 where
+  pub name : List ℕ
+  pub guard : List ℕ
+  pub format : FormatParts
+  -- how many numbers the list has
+  pub count : ℕ
+  -- the place of a number in it, from 0, and its bits
+  pub index : ℕ
+  pub bits : ℤ
+
+abbrev pub parts_of : Filling → FillingParts
+parts_of v = record {
+  name = v.name.now;
+  guard = v.guard.now;
+  format = v.format;
+  count = v.count;
+  index = v.index;
+  bits = v.bits;
+}
+
+-- ---- what a slot stands for
+-- before the names of unsigned types of C, of integer types of Rust, and of `signed` of VHDL
+abbrev pub c_sign : Bool → List ℕ
+c_sign true = []
+c_sign false = codes "u"
+
+abbrev pub rust_sign : Bool → List ℕ
+rust_sign true = codes "i"
+rust_sign false = codes "u"
+
+abbrev pub vhdl_sign : Bool → List ℕ
+vhdl_sign true = []
+vhdl_sign false = codes "un"
+
+-- between two numbers
+abbrev pub separator : ℕ → List ℕ
+separator index = if index == 0 then [] else codes ",\n"
+
+-- the bits as an unsigned number of this width: two's complement
+abbrev pub word_of : ℕ → ℤ → ℕ
+word_of width (pos n) = n
+word_of width (negsuc n) = 2 ^ width - suc n
+
+-- its digits: in hexadecimal one for every four bits, in binary one for each
+abbrev pub hex_digits : ℕ → ℤ → List ℕ
+hex_digits width bits = last_digits 16 false ((width + 3) / 4) (word_of width bits)
+
+abbrev pub binary_digits : ℕ → ℤ → List ℕ
+binary_digits width bits = last_digits 2 false width (word_of width bits)
+
+-- d: the number in C; x: in Rust; h: its bits in hexadecimal; z: in binary; all others: its value
+unfoldable pub number_slot : FillingParts → ℕ → List ℕ
+number_slot v key =
+    if key == 100 then c_number (element_format v.format) v.bits else
+    (if key == 120 then literal_text v.bits 0 else
+    (if key == 104 then hex_digits v.format.width v.bits else
+    (if key == 122 then binary_digits v.format.width v.bits else shortest_text v.bits v.format.frac)))
+
+-- c: how many numbers there are; l: the last of their places; i: the place of this one; w: the bits of an element's
+-- type; b: those of the format; m: the place of the highest of these
+unfoldable pub count_slot : FillingParts → ℕ → List ℕ
+count_slot v key =
+    if key == 99 then decimal v.count else
+    (if key == 108 then decimal (v.count - 1) else
+    (if key == 105 then decimal v.index else
+    (if key == 119 then decimal (element_width v.format.width) else
+    (if key == 98 then decimal v.format.width else
+    (if key == 109 then decimal (v.format.width - 1) else number_slot v key)))))
+
+-- n: the list's name; g: the header's guard; f: the format; u, r, q: the signs of C, Rust and VHDL; a comma: what is
+-- between two numbers
+unfoldable pub slot : FillingParts → ℕ → List ℕ
+slot v key =
+    if key == 110 then v.name else
+    (if key == 103 then v.guard else
+    (if key == 102 then format_text v.format else
+    (if key == 117 then c_sign v.format.signed else
+    (if key == 114 then rust_sign v.format.signed else
+    (if key == 113 then vhdl_sign v.format.signed else
+    (if key == 44 then separator v.index else count_slot v key))))))
+
+-- ---- a template
+-- a byte after '@' is a slot; where is_slot, the first byte is one
+unfoldable pub fill_from : Bool → FillingParts → List ℕ → List ℕ
+fill_from is_slot v [] = []
+fill_from true v (key ∷ more) = slot v key ++ fill_from false v more
+fill_from false v (byte ∷ more) =
+    elim (byte == 64) as (λ t. List ℕ) [ true ↦ fill_from true v more | false ↦ byte ∷ fill_from false v more ]
+
+abbrev pub fill : FillingParts → List ℕ → List ℕ
+fill v template = fill_from false v template

@@ -1,0 +1,119 @@
+//! What a list of numbers is written as, and which names it may have.
+
+ghost use Rattle.std.specs.Prelude.{◌≡◌, ◌↔◌, ◌≤◌, IsTrue, length, map};
+ghost use Rattle.std.specs.Char.{to_ascii_lowercase};
+ghost use Rattle.fixed_constants.specs.Constants.{IsName};
+ghost use Rattle.fixed_constants.specs.Forms.{IsAmong, IsReserved};
+ghost use Rattle.fixed_arrays.specs.Names.{AreApart, IsArrayName, IsVhdlName, vhdl_words};
+
+use fixed_constants::{Form, is_among, is_name, is_reserved};
+use memchr::memmem;
+use text_buffer::TextBuffer;
+
+/// What a list of numbers is written as.
+#[derive(Clone, Copy, Debug, PartialEq, Eq)]
+pub enum ArrayForm {
+    /// An array in a C header.
+    C,
+    /// The same with a guard.
+    GuardedC,
+    /// An array of Rust.
+    Rust,
+    /// An array in a package of VHDL.
+    Vhdl,
+    /// A file that Verilog's `$readmemh` reads.
+    Readmemh,
+    /// A coefficient file, for memories of Xilinx's tools.
+    Coe,
+    /// A memory initialization file, for those of Intel's.
+    Mif,
+}
+
+/// The keywords of VHDL, and the names that a list's package stands on; each between two spaces.
+const VHDL_WORDS: &[u8] = b" \
+    abs access after alias all and architecture array assert assume assume_guarantee attribute begin \
+    block body buffer bus case component configuration constant context cover default disconnect \
+    downto else elsif end entity exit fairness file for force function generate generic group guarded \
+    if impure in inertial inout is label library linkage literal loop map mod nand new next nor not \
+    null of on open or others out package parameter port postponed private procedure process property \
+    protected pure range record register reject release rem report restrict restrict_guarantee return \
+    rol ror select sequence severity shared signal sla sll sra srl strong subtype then to transport type \
+    unaffected units until use variable vmode vpkg vprop vunit wait when while with xnor xor view \
+    ieee numeric_std signed standard std std_logic_1164 unsigned work ";
+
+/// The words that VHDL reserves.
+fn vhdl_words() -> &'static [u8]
+    ensures { result.now ≡ vhdl_words }
+{
+    VHDL_WORDS
+}
+
+/// Whether no two underscores of a name are side by side, and none is at its beginning or its end.
+fn are_apart(name: &[u8]) -> bool
+    requires { length name.now ≤ 64 }
+    ensures { IsTrue result ↔ AreApart name.now }
+{
+    let mut between: TextBuffer<66> = TextBuffer::new();
+    between.push(b'_');
+    between.push_bytes(name);
+    between.push(b'_');
+    memmem::find(between.as_bytes(), b"__").is_none()
+}
+
+/// The name in small letters.
+fn small(name: &[u8]) -> TextBuffer<64>
+    requires { length name.now ≤ 64 }
+    ensures letters { result ≡ map to_ascii_lowercase name.now }
+    ensures short { length result ≤ 64 }
+{
+    let mut letters = TextBuffer::new();
+    for byte in name {
+        letters.push(byte.to_ascii_lowercase());
+    }
+    letters
+}
+
+/// Whether VHDL reserves a name, in either case of letters.
+fn is_vhdl_word(name: &[u8]) -> bool
+    requires { length name.now ≤ 64 }
+    ensures { IsTrue result ↔ IsAmong vhdl_words (map to_ascii_lowercase name.now) }
+{
+    is_among(vhdl_words(), small(name).as_bytes())
+}
+
+/// Whether a name is one that VHDL has and does not reserve.
+fn has_vhdl_form(name: &[u8]) -> bool
+    requires { length name.now ≤ 64 }
+    ensures { IsTrue result ↔ (AreApart name.now × (¬ IsAmong vhdl_words (map to_ascii_lowercase name.now))) }
+{
+    are_apart(name) && !is_vhdl_word(name)
+}
+
+/// Whether a list may have a name in VHDL.
+fn is_vhdl_name(name: &[u8]) -> bool
+    ensures { IsTrue result ↔ IsVhdlName name.now }
+{
+    is_name(name) && has_vhdl_form(name)
+}
+
+/// Whether a list may have a name in a language, in a header with this guard.
+fn is_free_name(language: Form, guard: &[u8], name: &[u8]) -> bool
+    ensures { IsTrue result ↔ (IsName name.now × (¬ IsReserved language guard.now name.now)) }
+{
+    is_name(name) && !is_reserved(language, guard, name)
+}
+
+/// Whether a list of a form may have a name, in a header with this guard. The files of a memory have none.
+pub fn is_array_name(form: ArrayForm, guard: &[u8], name: &[u8]) -> bool
+    ensures { IsTrue result ↔ IsArrayName form guard.now name.now }
+{
+    match form {
+        ArrayForm::C => is_free_name(Form::C, guard, name),
+        ArrayForm::GuardedC => is_free_name(Form::C, guard, name),
+        ArrayForm::Rust => is_free_name(Form::Rust, guard, name),
+        ArrayForm::Vhdl => is_vhdl_name(name),
+        ArrayForm::Readmemh => name.is_empty(),
+        ArrayForm::Coe => name.is_empty(),
+        ArrayForm::Mif => name.is_empty(),
+    }
+}

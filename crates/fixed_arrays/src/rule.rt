@@ -1,0 +1,75 @@
+//! The rule that answers a list of numerals with an array.
+
+ghost use Rattle.std.specs.Prelude.{◌≡◌, IfOk, true};
+ghost use Rattle.fixed_arrays.specs.Answer.{IsArrayAnswer, fault_line};
+ghost use Rattle.fixed_arrays.specs.Lemmas.AnswerLemmas.{array_answer_one};
+
+use crate::elements::read_elements;
+use crate::fault::ArrayFault;
+use crate::form::ArrayForm;
+use crate::text::{array_text, fault_text};
+use fixed_bits::{Format, Policy, ReadMode};
+use fixed_numeral::Radix;
+use fixed_steps::Steps;
+use line_engine::{NoMemory, WholeAnswer, WholeRule};
+use std::alloc::Global;
+use std::sync::ledger::Ledger;
+
+/// How the numerals of a list are read.
+#[derive(Clone, Copy, Debug, PartialEq, Eq)]
+pub struct Numerals {
+    /// Their radix.
+    pub radix: Radix,
+    /// The format that they are read into.
+    pub format: Format,
+    /// What is done with a number that is out of range.
+    pub policy: Policy,
+    /// How a numeral is rounded.
+    pub mode: ReadMode,
+}
+
+/// The rule that answers a list of numerals, one a line, with the array of its numbers.
+#[derive(Clone, Copy, Debug, PartialEq, Eq)]
+pub struct ArrayRule<'a> {
+    /// What the array is written as.
+    pub form: ArrayForm,
+    /// How the numerals are read.
+    pub numerals: Numerals,
+    /// The name of the array.
+    pub name: &'a [u8],
+    /// The name that guards a C header; empty where there is none.
+    pub guard: &'a [u8],
+}
+
+/// The answer that names a fault.
+fn refusal(alloc: Global, fault: ArrayFault) -> Result<WholeAnswer, NoMemory>
+    ensures text { IfOk result (λ answer. answer.text ≡ fault_line fault) }
+    ensures fault { IfOk result (λ answer. answer.fault ≡ true) }
+{
+    match fault_text(alloc, fault) {
+        Ok(text) => Ok(WholeAnswer::new(text, true)),
+        Err(_) => Err(NoMemory),
+    }
+}
+
+impl<'a, L: Ledger> WholeRule<L> for ArrayRule<'a> {
+    ghost Answers = { λ rule. IsArrayAnswer rule };
+
+    fn answer(
+        &self,
+        alloc: Global,
+        input: &[u8],
+        steps: &mut Steps<L>,
+    ) -> Result<WholeAnswer, NoMemory> {
+        match read_elements(alloc, self, input, steps) {
+            Ok(elements) => match array_text(alloc, self, &elements, steps) {
+                Ok(text) => Ok(WholeAnswer::new(text, false)),
+                Err(_) => Err(NoMemory),
+            },
+            Err(ArrayFault::NoMemory) => Err(NoMemory),
+            Err(fault) => refusal(alloc, fault),
+        }
+    }
+
+    ghost one_law = { λ rule. array_answer_one rule };
+}

@@ -1,0 +1,69 @@
+//! How a list of numbers is written: in each form an opening, the line of an element, and a closing.
+
+ghost use Rattle.std.specs.Prelude.{◌≡◌};
+ghost use Rattle.fixed_arrays.specs.Table.{closing, element, opening};
+
+use crate::form::ArrayForm;
+
+const C_OPENING: &[u8] = b"#include <stdint.h>\n\n/* @f */\nstatic const @uint@w_t @n[@c] = {\n";
+
+const GUARDED_OPENING: &[u8] =
+    b"#ifndef @g\n#define @g\n\n#include <stdint.h>\n\n/* @f */\nstatic const @uint@w_t @n[@c] = {\n";
+
+const VHDL_OPENING: &[u8] = b"\
+    library ieee;\nuse ieee.std_logic_1164.all;\nuse ieee.numeric_std.all;\n\n-- @f\n\
+    package @n_package is\n    type @n_array is array (0 to @l) of @qsigned(@m downto 0);\n    \
+    constant @n : @n_array := (\n";
+
+const COE_OPENING: &[u8] =
+    b"; @f\nmemory_initialization_radix=16;\nmemory_initialization_vector=\n";
+
+const MIF_OPENING: &[u8] =
+    b"-- @f\nDEPTH = @c;\nWIDTH = @b;\nADDRESS_RADIX = UNS;\nDATA_RADIX = HEX;\nCONTENT\nBEGIN\n";
+
+const VHDL_CLOSING: &[u8] = b"        others => (others => '0')\n    );\nend package @n_package;\n";
+
+/// What comes before the numbers: a template.
+pub fn opening_of(form: ArrayForm) -> &'static [u8]
+    ensures { result.now ≡ opening form }
+{
+    match form {
+        ArrayForm::C => C_OPENING,
+        ArrayForm::GuardedC => GUARDED_OPENING,
+        ArrayForm::Rust => b"// @f\npub static @n: [@r@w; @c] = [\n",
+        ArrayForm::Vhdl => VHDL_OPENING,
+        ArrayForm::Readmemh => b"// @f\n",
+        ArrayForm::Coe => COE_OPENING,
+        ArrayForm::Mif => MIF_OPENING,
+    }
+}
+
+/// The line of a number: a template.
+pub fn element_of(form: ArrayForm) -> &'static [u8]
+    ensures { result.now ≡ element form }
+{
+    match form {
+        ArrayForm::C => b"    @d, /* @v */\n",
+        ArrayForm::GuardedC => b"    @d, /* @v */\n",
+        ArrayForm::Rust => b"    @x, // @v\n",
+        ArrayForm::Vhdl => b"        @i => \"@z\", -- @v\n",
+        ArrayForm::Readmemh => b"@h // @v\n",
+        ArrayForm::Coe => b"@,@h",
+        ArrayForm::Mif => b"    @i : @h; -- @v\n",
+    }
+}
+
+/// What comes after the numbers: a template.
+pub fn closing_of(form: ArrayForm) -> &'static [u8]
+    ensures { result.now ≡ closing form }
+{
+    match form {
+        ArrayForm::C => b"};\n",
+        ArrayForm::GuardedC => b"};\n\n#endif\n",
+        ArrayForm::Rust => b"];\n",
+        ArrayForm::Vhdl => VHDL_CLOSING,
+        ArrayForm::Readmemh => b"",
+        ArrayForm::Coe => b";\n",
+        ArrayForm::Mif => b"END;\n",
+    }
+}
