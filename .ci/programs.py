@@ -108,6 +108,12 @@ RUNS = {
         (["convert", "U8F0", "--comments", "//"], b"7\n// seven\n \t//\n/ 8\n", 1, b"7\n\n\nerror: invalid digit found in string\n"),
         (["convert", "U8F0", "--trim", "--skip-blank", "--comments=#", "--from", "bits"], b"# words\n\n 0x10 \n", 0, b"\n\n16\n"),
         (["convert", "U8F0", "--skip-blank"], b" " * 1_048_577 + b"\n7\n", 1, b"error: line too long\n7\n"),
+        (["convert", "I8F8", "--words"], b" 1,2.5\t-3\r\n\n,,0.1", 0, b" 1,2.5\t-3\r\n\n,,0.1"),
+        (["convert", "Q15", "--words", "--print", "hex"], b"0.5, x 1\n-1\n", 1, b"0x4000, error: invalid digit found in string error: overflow\n0x8000\n"),
+        (["convert", "U8F0", "--words", "--from", "bits"], b"0x10;7", 1, b"error: invalid digit found in string"),
+        (["convert", "U8F0", "--words"], b"", 0, b""),
+        (["convert", "U8F0", "--words"], b"0" * 1_048_577 + b",7", 1, b"error: line too long,7"),
+        (["convert", "U8F0", "--words"], b"1," * 600_000 + b"\n" + b"0" * 900_000 + b"7", 0, b"1," * 600_000 + b"\n7"),
         (["convert", "U8F0", "-o", "/dev/null"], b"7\n", 0, b""),
         (["convert", "U8F0", "-o", "-"], b"7\n", 0, b"7\n"),
         (["convert", "U8F0", "-o", "no/such/folder"], b"7\n", 4, b""),
@@ -232,7 +238,7 @@ BAD_WORDS = {
         [b"convert", b"U8F0", b"--places", b"65"], [b"convert", b"U8F0", b"--places", b"01"],
         [b"convert", b"U8F0", b"--places", b"2", b"--print", b"bits"], [b"convert", b"--"],
         [b"convert", b"U8F0", b"--comments", b""], [b"convert", b"U8F0", b"--comments", b" #"], [b"convert", b"U8F0", b"--comments", b"#" * 65],
-        [b"convert", b"U8F0", b"--trim=yes"], [b"convert", b"U8F0", b"-o"], [b"convert", b"U8F0", b"--report", b"--report"],
+        [b"convert", b"U8F0", b"--trim=yes"], [b"convert", b"U8F0", b"--words", b"--comments", b"#"], [b"convert", b"U8F0", b"-o"], [b"convert", b"U8F0", b"--report", b"--report"],
         [b"convert", b"U8F0", b"--from", b"hex"], [b"convert", b"U8F0", b"--target-mode", b"up"], [b"convert", b"U8F0", b"--from"],
         [b"bits", b"U8F0", b"--radix", b"7", b"1"],
         [b"pack"], [b"pack", b"U8F0", b"--endian", b"middle"], [b"pack", b"U8F0", b"--print", b"bits"], [b"pack", b"U60F5"],
@@ -463,6 +469,11 @@ class Runs:
             (["convert", "I8F0", *kept[1], "--skip-blank"], b"1\n\n300\nx\n0.5\n-300\n",
              b"fixed: lines refused: 1, the first in line 4, 'x': invalid digit found in string, byte 1, 'x'\n"
              b"fixed: numerals: 5, exact: 1, rounded: 1, overflowed: 2 (the first in line 3), refused: 1 (the first in line 4)\n"),
+            (["convert", "I8F0", "--words", *kept[0]], b"1, 2.5\n300\t-1x\n 300 \n",
+             b"fixed: words refused: 3, the first in line 2, byte 1, '300': overflow, reached 300, I8F0 holds -128 to 127\n"
+             b"fixed: numerals: 5, exact: 1, rounded: 1, overflowed: 0, refused: 3 (the first in line 2)\n"),
+            (["convert", "I8F0", "--words"], b"1\n2,\t7y,x", b"fixed: words refused: 2, the first in line 2, byte 4, '7y': invalid digit found in string, byte 5, 'y'\n"),
+            (["convert", "I8F0", "--words"], b"1\n", b""),
             (["convert", "I8F8", "--report"], b"", b"fixed: numerals: 0, exact: 0, rounded: 0, overflowed: 0, refused: 0\n"),
         )
         for words, given, wanted in asked:

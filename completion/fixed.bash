@@ -77,7 +77,7 @@ _fixed() {
     --limit | --delimiter | -d | --places | --guard | --comments | --skip | --decimal | --thousands) return ;;
     *)
       case $command:$word in
-        convert:-*) words='--from --radix --policy --mode --target-mode --print --places --trim --skip-blank --comments --report --output --help --version' ;;
+        convert:-*) words='--from --radix --policy --mode --target-mode --print --places --trim --skip-blank --comments --words --report --output --help --version' ;;
         column:-*) words='--from --radix --policy --mode --target-mode --print --places --delimiter --all --header --skip --trim --decimal --thousands --empty --into --keep --report --help --version' ;;
         show:-*) words='--radix --policy --mode --file --output --help --version' ;;
         bits:-*) words='--radix --file --output --help --version' ;;

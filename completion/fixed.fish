@@ -46,6 +46,7 @@ complete -c fixed -n '__fish_seen_subcommand_from constants' -l guard -x -d 'the
 complete -c fixed -n '__fish_seen_subcommand_from convert' -l trim -d 'blanks around a numeral are no part of it'
 complete -c fixed -n '__fish_seen_subcommand_from convert' -l skip-blank -d 'a blank line is answered by an empty one'
 complete -c fixed -n '__fish_seen_subcommand_from convert' -l comments -x -d 'so is a line that begins so'
+complete -c fixed -n '__fish_seen_subcommand_from convert' -l words -d 'each word of a line, and separators stay'
 complete -c fixed -n '__fish_seen_subcommand_from convert' -l report -d 'counts of each input'
 complete -c fixed -n '__fish_seen_subcommand_from convert show bits' -s o -l output -r -d 'where the answers go'
 # The names in the header of the first file among the words.

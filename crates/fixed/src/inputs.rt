@@ -13,6 +13,7 @@ use fixed_fit::Question as FitQuestion;
 use fixed_io::{StdSink, StdSource};
 use fixed_pack::{PackSettings, UnpackRule};
 use fixed_steps::Steps;
+use fixed_words::{WordRefusal, convert_words};
 use line_engine::Status;
 use std::fs::File;
 use std::io::{Error, Read};
@@ -26,6 +27,13 @@ const MAX_TEXT: usize = 40;
 pub enum Job<'a> {
     /// It is answered.
     Task(Task<'a>),
+    /// Each of its words is converted where it stands.
+    Words {
+        /// How a word is converted.
+        rule: ConvertRule,
+        /// Whether there is a report.
+        has_report: bool,
+    },
     /// Columns of it are converted.
     Column {
         /// How.
@@ -186,6 +194,60 @@ fn run_column_on<R: Read + Drop, L: Ledger>(
     end.status()
 }
 
+/// A report of how many words of an input were refused, and which was the first, with its text and the cause.
+fn word_report(file: Option<&str>, count: u64, word: &WordRefusal) -> Report {
+    let mut report = Report::of(file);
+    report.text("words refused: ");
+    report.number(count);
+    report.text(", the first in line ");
+    report.number(word.line.number);
+    report.text(", byte ");
+    report.number(word.byte);
+    report.text(", '");
+    report.bytes(word.line.text.as_bytes(), MAX_TEXT);
+    report.text("': ");
+    report.bytes(word.line.cause.as_bytes(), 160);
+    report
+}
+
+/// Converts the words of one input, and says on standard error why it did not end well.
+fn run_words_on<R: Read + Drop, L: Ledger>(
+    rt: &HostRuntime,
+    rule: &ConvertRule,
+    has_report: bool,
+    file: Option<&str>,
+    reader: R,
+    output: &mut Output,
+    steps: &mut Steps<L>,
+) -> Status {
+    let failure = Failure::new(None);
+    let mut source = StdSource::new(Unmarked::new(reader));
+    let mut sink = StdSink::new(Writer {
+        writer: output,
+        failure: &failure,
+    });
+    let end = convert_words(rt.alloc(), rule, has_report, &mut source, &mut sink, steps);
+    if !is_last(end.status) {
+        if let Some(word) = &end.first {
+            let mut report = word_report(file, end.refused, word);
+            let before = word.byte.saturating_sub(1) as usize;
+            push_explanation(
+                &mut report,
+                rule,
+                &word.line,
+                (word.line.text.as_bytes(), before),
+                steps,
+            );
+            report.send(rt);
+        }
+        if has_report {
+            report_tally(rt, file, &end.tally, Place::Line);
+        }
+    }
+    report_end(rt, file, end.status, sink.lines(), &failure);
+    end.status
+}
+
 /// Does a job with one input.
 fn run_reader<R: Read + Drop, L: Ledger>(
     rt: &HostRuntime,
@@ -197,6 +259,9 @@ fn run_reader<R: Read + Drop, L: Ledger>(
 ) -> Status {
     match job {
         Job::Task(task) => run_task_on(rt, task, file, reader, output, steps),
+        Job::Words { rule, has_report } => {
+            run_words_on(rt, rule, *has_report, file, reader, output, steps)
+        }
         Job::Column {
             conversion,
             has_report,

@@ -90,6 +90,14 @@ pub const COMMENTS: Row = Row {
     help: "So is a line that begins with PREFIX, after blanks",
 };
 
+pub const WORDS: Row = Row {
+    name: "words",
+    letter: None,
+    value: "",
+    choices: &[],
+    help: "Each word of a line; blanks and commas stay",
+};
+
 pub const REPORT: Row = Row {
     name: "report",
     letter: None,

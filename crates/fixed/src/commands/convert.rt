@@ -3,7 +3,7 @@
 use crate::inputs::{Job, run_inputs_to};
 use crate::options::{
     COMMENTS, FROM, MODE, OUTPUT, PLACES, POLICY, PRINT, RADIX, REPORT, SKIP_BLANK, SOURCE, TARGET,
-    TARGET_MODE, TRIM,
+    TARGET_MODE, TRIM, WORDS,
 };
 use crate::output::open_output;
 use crate::settings::conversion;
@@ -33,6 +33,7 @@ pub fn page() -> Page {
             TRIM,
             SKIP_BLANK,
             COMMENTS,
+            WORDS,
             REPORT,
             OUTPUT,
         ],
@@ -82,6 +83,28 @@ fn task_of<'a>(given: &Given<'_, 'a>, rule: ConvertRule) -> Asked<'a, Task<'a>> 
     }
 }
 
+/// What is done with each input, line by line or word by word.
+fn job_of<'a>(given: &Given<'_, 'a>, rule: ConvertRule) -> Asked<'a, Job<'a>> {
+    if given.has(&WORDS) {
+        return words_of(given, rule);
+    }
+    match task_of(given, rule) {
+        Ok(task) => Ok(Job::Task(task)),
+        Err(refusal) => Err(refusal),
+    }
+}
+
+/// Words are converted where they stand, and separators stay: there are no comments among them.
+fn words_of<'a>(given: &Given<'_, 'a>, rule: ConvertRule) -> Asked<'a, Job<'a>> {
+    match given.value(&COMMENTS) {
+        Some(_) => Err(Refusal::Word("--comments", "does not go with '--words'")),
+        None => Ok(Job::Words {
+            rule,
+            has_report: given.has(&REPORT),
+        }),
+    }
+}
+
 /// Converts the numerals of each file.
 pub fn run<'a, L: Ledger>(
     rt: &HostRuntime,
@@ -89,10 +112,10 @@ pub fn run<'a, L: Ledger>(
     steps: &mut Steps<L>,
 ) -> Asked<'a, Status> {
     let (rule, place) = conversion(given, 0)?;
-    let job = Job::Task(match task_of(given, rule) {
-        Ok(task) => task,
+    let job = match job_of(given, rule) {
+        Ok(job) => job,
         Err(refusal) => return Err(refusal),
-    });
+    };
     let files = given.from(place);
     match open_output(rt, given, files)? {
         Ok(mut output) => Ok(run_inputs_to(rt, &job, files, &mut output, steps)),
