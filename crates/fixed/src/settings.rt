@@ -1,7 +1,14 @@
 //! What the formats and the options of a conversion name.
 
-ghost use Rattle.std.specs.Prelude.{◌≡◌, IfOk, Some};
+ghost use Rattle.std.specs.Prelude.{◌≡◌, IfOk, Some, codes};
+ghost use Rattle.clap.specs.Words.{first_value, found_of};
+ghost use Rattle.fixed_bits.specs.declared.format.Policy.{Policy};
+ghost use Rattle.fixed_bits.specs.declared.mode.ReadMode.{ReadMode};
+ghost use Rattle.fixed_command.specs.Asked.{IsNamed, spelling_text};
+ghost use Rattle.fixed_command.specs.declared.spelling.Spelling.{Spelling};
+ghost use Rattle.fixed_numeral.specs.declared.radix.Radix.{Radix};
 ghost use Rattle.fixed_respell.specs.FormatNames.{IsFormatName};
+ghost use Rattle.fixed_respell.specs.Words.{mode_text, policy_text, radix_text};
 
 use crate::options::{ENDIAN, FROM, MODE, PLACES, POLICY, PRINT, RADIX, TARGET_MODE};
 use command_line::given::{Asked, Given, Refusal};
@@ -61,22 +68,34 @@ fn known<'a, T>(found: Option<T>, given: &Given<'_, 'a>, row: &Row) -> Asked<'a,
 }
 
 /// The radix that the option names.
-pub fn radix_of<'a>(given: &Given<'_, 'a>) -> Asked<'a, Radix> {
+pub fn radix_of<'a>(given: &Given<'_, 'a>) -> Asked<'a, Radix>
+    ensures { IfOk result (λ a. IsNamed Radix radix_text Radix.Dec
+        (first_value (found_of given.now.matches.now) (codes "radix")) a) }
+{
     known(radix_named(given.value(&RADIX)), given, &RADIX)
 }
 
 /// The policy that the option names.
-pub fn policy_of<'a>(given: &Given<'_, 'a>) -> Asked<'a, Policy> {
+pub fn policy_of<'a>(given: &Given<'_, 'a>) -> Asked<'a, Policy>
+    ensures { IfOk result (λ a. IsNamed Policy policy_text Policy.Checked
+        (first_value (found_of given.now.matches.now) (codes "policy")) a) }
+{
     known(policy_named(given.value(&POLICY)), given, &POLICY)
 }
 
 /// The mode that the option names.
-pub fn mode_of<'a>(given: &Given<'_, 'a>) -> Asked<'a, ReadMode> {
+pub fn mode_of<'a>(given: &Given<'_, 'a>) -> Asked<'a, ReadMode>
+    ensures { IfOk result (λ a. IsNamed ReadMode mode_text ReadMode.NearestEven
+        (first_value (found_of given.now.matches.now) (codes "mode")) a) }
+{
     known(mode_named(given.value(&MODE)), given, &MODE)
 }
 
 /// The mode that the option names for the way to the target.
-fn target_mode_of<'a>(given: &Given<'_, 'a>) -> Asked<'a, ReadMode> {
+fn target_mode_of<'a>(given: &Given<'_, 'a>) -> Asked<'a, ReadMode>
+    ensures { IfOk result (λ a. IsNamed ReadMode mode_text ReadMode.Floor
+        (first_value (found_of given.now.matches.now) (codes "target-mode")) a) }
+{
     known(
         target_mode_named(given.value(&TARGET_MODE)),
         given,
@@ -85,7 +104,10 @@ fn target_mode_of<'a>(given: &Given<'_, 'a>) -> Asked<'a, ReadMode> {
 }
 
 /// How a line spells a number, as the option says.
-fn spelling_of<'a>(given: &Given<'_, 'a>) -> Asked<'a, Spelling> {
+fn spelling_of<'a>(given: &Given<'_, 'a>) -> Asked<'a, Spelling>
+    ensures { IfOk result (λ a. IsNamed Spelling spelling_text Spelling.Numeral
+        (first_value (found_of given.now.matches.now) (codes "from")) a) }
+{
     known(spelling_named(given.value(&FROM)), given, &FROM)
 }
 
@@ -154,7 +176,18 @@ pub fn endian_of<'a>(given: &Given<'_, 'a>) -> Asked<'a, Endian> {
 }
 
 /// The conversion that the words from a place on and the options name, and the place of the first file.
-pub fn conversion<'a>(given: &Given<'_, 'a>, place: usize) -> Asked<'a, (ConvertRule, usize)> {
+pub fn conversion<'a>(given: &Given<'_, 'a>, place: usize) -> Asked<'a, (ConvertRule, usize)>
+    ensures spelling { IfOk result (λ found. IsNamed Spelling spelling_text Spelling.Numeral
+        (first_value (found_of given.now.matches.now) (codes "from")) found.0.spelling) }
+    ensures radix { IfOk result (λ found. IsNamed Radix radix_text Radix.Dec
+        (first_value (found_of given.now.matches.now) (codes "radix")) found.0.radix) }
+    ensures policy { IfOk result (λ found. IsNamed Policy policy_text Policy.Checked
+        (first_value (found_of given.now.matches.now) (codes "policy")) found.0.policy) }
+    ensures mode { IfOk result (λ found. IsNamed ReadMode mode_text ReadMode.NearestEven
+        (first_value (found_of given.now.matches.now) (codes "mode")) found.0.mode) }
+    ensures target_mode { IfOk result (λ found. IsNamed ReadMode mode_text ReadMode.Floor
+        (first_value (found_of given.now.matches.now) (codes "target-mode")) found.0.target_mode) }
+{
     let source = match format_at(given, place, "SOURCE") {
         Ok(source) => source,
         Err(refusal) => return Err(refusal),
