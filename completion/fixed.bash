@@ -9,7 +9,7 @@ _fixed_words() {
   if [ "$COMP_CWORD" -eq 2 ]; then
     case $1 in
       least) words='2 8 10 16' ;;
-      constants) words='c rust' ;;
+      constants) words='c rust array-c array-rust vhdl readmemh coe mif' ;;
       sort) words='limit' ;;
     esac
   fi
@@ -74,7 +74,8 @@ _fixed() {
     --width | -w) words='8 16 32 64' ;;
     --empty) words='fault keep 0' ;;
     --endian) words='little big' ;;
-    --limit | --delimiter | -d | --places | --guard | --comments | --skip | --decimal | --thousands) return ;;
+    --numerals) words='I16F16 U16F16 I8F8 U8F8 I32F32 U32F32 I1F15 I1F31 I4F4 U0F8' ;;
+    --limit | --delimiter | -d | --places | --guard | --name | --comments | --skip | --decimal | --thousands) return ;;
     *)
       case $command:$word in
         convert:-*) words='--from --radix --policy --mode --target-mode --print --places --trim --skip-blank --comments --words --report --output --help --version' ;;
@@ -85,7 +86,7 @@ _fixed() {
         fit:-*) words='--width --signed --why --range --radix --help --version' ;;
         pack:-*) words='--endian --radix --policy --mode --help --version' ;;
         unpack:-*) words='--endian --policy --target-mode --print --places --help --version' ;;
-        constants:-*) words='--guard --help --version' ;;
+        constants:-*) words='--guard --numerals --name --radix --policy --mode --help --version' ;;
         *:-*) words='--help --version' ;;
         column:*)
           if _fixed_is_columns; then

@@ -29,6 +29,7 @@ PAIRS = (
     ("convert.py", "fixed", 100),
     ("column.py", "fixed", 50),
     ("pack.py", "fixed", 3),
+    ("arrays.py", "fixed", 3),
 )
 
 

@@ -3,14 +3,26 @@
 use crate::inputs::refuse_file;
 use command_line::device::{Failure, Unmarked, Writer};
 use command_line::report::{Report, report_end, report_no_memory};
+use fixed_arrays::ArrayRule;
+use fixed_command::watch::{Product as Whole, WatchedWhole};
 use fixed_command::{RefusedLine, Task, Watch, run_task};
+use fixed_constants::FormRule;
 use fixed_io::StdSink;
 use fixed_steps::Steps;
-use line_engine::{MemorySource, Status};
+use line_engine::{MAX_LIMIT, MemorySource, Sink, Source, Status, run_whole};
 use std::fs::File;
 use std::io;
 use std::io::{ErrorKind, Read};
 use std::sync::ledger::Ledger;
+
+/// What is written of all files.
+#[derive(Clone, Copy)]
+pub enum Product<'a> {
+    /// Named literals in a form.
+    Constants(FormRule<'a>),
+    /// A list of numerals in a form.
+    List(ArrayRule<'a>),
+}
 
 /// The bytes of all files, each with a newline at its end, and after how many lines each ends.
 #[derive(Drop)]
@@ -151,11 +163,39 @@ fn gather_file<'a>(rt: &HostRuntime, name: &'a str, all: &mut Gathered<'a>) -> S
     }
 }
 
-/// Does a task with all files as one input, or with standard input where there are none. Where one of them cannot be
-/// read nothing is written.
+/// Writes the product of an input; of one that is refused nothing is written.
+fn run_on<S: Source, K: Sink, L: Ledger>(
+    rt: &HostRuntime,
+    product: &Product<'_>,
+    watch: &Watch,
+    source: &mut S,
+    sink: &mut K,
+    steps: &mut Steps<L>,
+) -> Status {
+    match product {
+        Product::Constants(rule) => {
+            run_task(
+                rt.alloc(),
+                &Task::Constants(*rule),
+                watch,
+                source,
+                sink,
+                steps,
+            )
+        }
+        Product::List(rule) => {
+            let watched = WatchedWhole { rule, watch };
+            let whole = Whole { rule: &watched };
+            run_whole(rt.alloc(), MAX_LIMIT, &whole, source, sink, steps)
+        }
+    }
+}
+
+/// Writes the product of all files as one input, or of standard input where there are none. Where one of them cannot
+/// be read nothing is written.
 pub fn run_product<L: Ledger>(
     rt: &HostRuntime,
-    task: &Task<'_>,
+    product: &Product<'_>,
     files: &[&str],
     steps: &mut Steps<L>,
 ) -> Status {
@@ -175,7 +215,7 @@ pub fn run_product<L: Ledger>(
         writer: rt.stdout(),
         failure: &failure,
     });
-    let status = run_task(rt.alloc(), task, &watch, &mut source, &mut sink, steps);
+    let status = run_on(rt, product, &watch, &mut source, &mut sink, steps);
     if let Some(line) = watch.refusals().first {
         report_line(rt, &all.ends, &line);
     }

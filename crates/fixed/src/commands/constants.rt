@@ -1,9 +1,11 @@
-//! `fixed constants`: named literals in one form.
+//! `fixed constants`: named literals in one form, or a list of numerals as an array or as the file of a memory.
 
-use crate::product::run_product;
+use crate::options::{MODE, POLICY, RADIX};
+use crate::product::{Product, run_product};
+use crate::settings::{format_of, mode_of, policy_of, radix_of};
 use command_line::given::{Asked, Given, Refusal};
 use command_line::page::{Operand, Page, Row};
-use fixed_command::Task;
+use fixed_arrays::{ArrayForm, ArrayRule, Numerals, is_array_name};
 use fixed_constants::{Form, FormRule, is_guard};
 use fixed_steps::Steps;
 use line_engine::Status;
@@ -11,7 +13,7 @@ use std::sync::ledger::Ledger;
 
 const WORDS: Operand = Operand {
     name: "FORM",
-    help: "c or rust, and files",
+    help: "c, rust, array-c, array-rust, vhdl, readmemh, coe, mif; files",
 };
 
 const GUARD: Row = Row {
@@ -22,16 +24,40 @@ const GUARD: Row = Row {
     help: "The name that guards the C header",
 };
 
+const NUMERALS: Row = Row {
+    name: "numerals",
+    letter: None,
+    value: "FORMAT",
+    choices: &[],
+    help: "Each line is a numeral, read into this format",
+};
+
+const NAME: Row = Row {
+    name: "name",
+    letter: None,
+    value: "NAME",
+    choices: &[],
+    help: "The name of the array",
+};
+
 pub fn page() -> Page {
     Page {
         name: "constants",
         hidden_name: "",
-        about: "Write named literals in one form, as a C header or as Rust",
-        usage: "fixed constants [c | rust] [--guard NAME] [FILE]...",
+        about: "Write named literals, or a list of numerals, as source code or as a memory's file",
+        usage: "fixed constants [c | rust] [--guard NAME] [FILE]...\n       \
+                fixed constants FORM --numerals FORMAT [--name NAME] [FILE]...",
         operands: &[WORDS],
         has_numerals: false,
-        options: &[GUARD],
-        end: "Example: echo 'A = 0b_111e-2 I4F4' | fixed constants c --guard A_H",
+        options: &[GUARD, NUMERALS, NAME, RADIX, POLICY, MODE],
+        end: "With --numerals each line is a numeral, and FORM is array-c, array-rust or\n\
+              vhdl, an array with a name, or readmemh, coe or mif, a file that a memory starts\n\
+              from. The numbers of an array are integers of 8, 16, 32 or 64 bits, in VHDL and\n\
+              in a memory words of the format's width; beside each is its value. Nothing is\n\
+              written where a line is refused.\n\
+              \n\
+              Example: echo 'A = 0b_111e-2 I4F4' | fixed constants c --guard A_H\n\
+              Example: seq 0 .25 1 | fixed constants array-c --numerals I4F4 --name h",
     }
 }
 
@@ -45,13 +71,13 @@ fn form_and_files(given: &Given<'_, '_>) -> (Form, usize) {
     }
 }
 
-/// The guard that the option names in a form: the empty text where it is left out.
-fn guard_of<'a>(given: &Given<'_, 'a>, form: Form) -> Asked<'a, &'a str> {
+/// The guard that the option names: the empty text where it is left out.
+fn guard_of<'a>(given: &Given<'_, 'a>, is_header: bool) -> Asked<'a, &'a str> {
     match given.value(&GUARD) {
         None => Ok(""),
-        Some(guard) if form != Form::C => Err(Refusal::Word(
+        Some(guard) if !is_header => Err(Refusal::Word(
             guard,
-            "guards nothing: only the form c has a guard",
+            "guards nothing: only a C header has a guard",
         )),
         Some(guard) if is_guard(guard.as_bytes()) => Ok(guard),
         Some(guard) => Err(Refusal::Word(
@@ -61,16 +87,102 @@ fn guard_of<'a>(given: &Given<'_, 'a>, form: Form) -> Asked<'a, &'a str> {
     }
 }
 
-/// Writes the constants of all files as one product.
+/// What the first word has a list of numbers written as, without a guard.
+fn array_form(given: &Given<'_, '_>) -> Option<ArrayForm> {
+    match given.keyword(0)? {
+        "array-c" => Some(ArrayForm::C),
+        "array-rust" => Some(ArrayForm::Rust),
+        "vhdl" => Some(ArrayForm::Vhdl),
+        "readmemh" => Some(ArrayForm::Readmemh),
+        "coe" => Some(ArrayForm::Coe),
+        "mif" => Some(ArrayForm::Mif),
+        _ => None,
+    }
+}
+
+/// The name of a list: the empty text for the file of a memory.
+fn name_of<'a>(given: &Given<'_, 'a>, form: ArrayForm, guard: &str) -> Asked<'a, &'a str> {
+    let is_file = matches!(form, ArrayForm::Readmemh | ArrayForm::Coe | ArrayForm::Mif);
+    match given.value(&NAME) {
+        None if is_file => Ok(""),
+        None => Err(Refusal::Missing("--name NAME")),
+        Some(name) if is_file => Err(Refusal::Word(
+            name,
+            "names nothing: a memory's file has no name",
+        )),
+        Some(name) if is_array_name(form, guard.as_bytes(), name.as_bytes()) => Ok(name),
+        Some(name) => Err(Refusal::Word(
+            name,
+            "can name no array: it is not a name, or the language reserves it, or it is the guard",
+        )),
+    }
+}
+
+/// How the numerals of a list are read.
+fn numerals_of<'a>(given: &Given<'_, 'a>) -> Asked<'a, Numerals> {
+    let format = match given.value(&NUMERALS) {
+        None => return Err(Refusal::Missing("--numerals FORMAT")),
+        Some(word) => match format_of(word) {
+            Ok(format) => format,
+            Err(refusal) => return Err(refusal),
+        },
+    };
+    Ok(Numerals {
+        radix: radix_of(given)?,
+        format,
+        policy: policy_of(given)?,
+        mode: mode_of(given)?,
+    })
+}
+
+/// Writes the list of the numerals of all files as one product.
+fn run_list<'a, L: Ledger>(
+    rt: &HostRuntime,
+    given: &Given<'_, 'a>,
+    form: ArrayForm,
+    steps: &mut Steps<L>,
+) -> Asked<'a, Status> {
+    let guard = guard_of(given, form == ArrayForm::C)?;
+    let rule = ArrayRule {
+        form: if guard.is_empty() {
+            form
+        } else {
+            ArrayForm::GuardedC
+        },
+        numerals: numerals_of(given)?,
+        name: name_of(given, form, guard)?.as_bytes(),
+        guard: guard.as_bytes(),
+    };
+    Ok(run_product(rt, &Product::List(rule), given.from(1), steps))
+}
+
+/// Refuses an option that only a list of numerals has.
+fn refuse_option<'a>(given: &Given<'_, 'a>, row: &Row) -> Asked<'a, ()> {
+    match given.value(row) {
+        None => Ok(()),
+        Some(word) => Err(Refusal::Word(
+            word,
+            "is for a list of numerals: array-c, array-rust, vhdl, readmemh, coe or mif",
+        )),
+    }
+}
+
+/// Writes the constants of all files, or the list of their numerals, as one product.
 pub fn run<'a, L: Ledger>(
     rt: &HostRuntime,
     given: &Given<'_, 'a>,
     steps: &mut Steps<L>,
 ) -> Asked<'a, Status> {
+    if let Some(form) = array_form(given) {
+        return run_list(rt, given, form, steps);
+    }
+    for row in [&NUMERALS, &NAME, &RADIX, &POLICY, &MODE] {
+        refuse_option(given, row)?;
+    }
     let (form, files) = form_and_files(given);
     let rule = FormRule {
         form,
-        guard: guard_of(given, form)?.as_bytes(),
+        guard: guard_of(given, form == Form::C)?.as_bytes(),
     };
-    Ok(run_product(rt, &Task::Constants(rule), given.from(files), steps))
+    Ok(run_product(rt, &Product::Constants(rule), given.from(files), steps))
 }

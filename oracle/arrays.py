@@ -1,0 +1,265 @@
+#!/usr/bin/env python3
+"""An independent writer of the lists of `fixed constants --numerals`, worked out with whole numbers alone.
+
+    arrays.py --compare PROGRAM [--count N] [--seed S]   runs PROGRAM constants on seeded lists, compares what it writes byte
+                                                         for byte, and has compilers and simulators read some of it back
+"""
+import argparse
+import random
+import re
+import shutil
+import subprocess
+import sys
+import tempfile
+
+from constants import RESERVED
+from pack import MODES, POLICIES, clean_for, input_for, lines_of, run, shape_for, word_of
+from reference import WORDS, Refused, image, read_number, shortest
+
+FORMS = ("array-c", "array-rust", "vhdl", "readmemh", "coe", "mif")
+NAMED = FORMS[:3]
+NAMES = ("h", "TAPS", "_", "a" * 64, "a" * 65, "9", "int", "fn", "uint8_t", "x-y", "", "A_H", "signal", "Signal", "a__b", "a_", "_a", "a_b")
+# The keywords of VHDL in its editions up to 2019, and what a package of a list stands on.
+VHDL = set(
+    """abs access after alias all and architecture array assert assume assume_guarantee attribute begin block body buffer bus case
+    component configuration constant context cover default disconnect downto else elsif end entity exit fairness file for force
+    function generate generic group guarded if impure in inertial inout is label library linkage literal loop map mod nand new next
+    nor not null of on open or others out package parameter port postponed private procedure process property protected pure range
+    record register reject release rem report restrict restrict_guarantee return rol ror select sequence severity shared signal sla
+    sll sra srl strong subtype then to transport type unaffected units until use variable view vmode vpkg vprop vunit wait when while
+    with xnor xor ieee numeric_std signed standard std std_logic_1164 unsigned work""".split()
+)
+
+
+def element_width(shape):
+    """How many bits the integer type of an element has."""
+    return next(width for width in (8, 16, 32, 64) if shape[1] <= width)
+
+
+def numbers_of(data, radix, shape, policy, mode):
+    """The bits of an input's numerals; Refused with the line's number and the cause where one is refused, or there is none."""
+    numbers = []
+    for place, line in enumerate(lines_of(data), 1):
+        try:
+            numbers.append(image(policy, shape, read_number(line[:-1] if line.endswith(b"\r") else line, radix, shape[2], mode))[0])
+        except Refused as why:
+            raise Refused(f"line {place}", WORDS[str(why)]) from why
+    if not numbers:
+        raise Refused("line 1", "no numeral")
+    return numbers
+
+
+def c_number(bits, shape):
+    """A number as the macro of <stdint.h> for its type."""
+    width = element_width(shape)
+    macro = f"{'' if shape[0] else 'U'}INT{width}_C"
+    if bits >= 0:
+        return f"{macro}({hex(bits)})"
+    if bits == -(1 << width - 1):
+        return f"(-{macro}({hex(-bits - 1)}) - 1)"
+    return f"(-{macro}({hex(-bits)}))"
+
+
+def digits(bits, shape, base):
+    """Bits in two's complement: in hexadecimal a digit for every four, in binary one for each."""
+    number = bits % (1 << shape[1])
+    return f"{number:0{-(-shape[1] // 4)}x}" if base == 16 else f"{number:0{shape[1]}b}"
+
+
+def array(form, numbers, shape, name, guard):
+    """The text of a list."""
+    width, word, count = element_width(shape), word_of(shape), len(numbers)
+    rows = [(index, bits, shortest(bits, shape[2])) for index, bits in enumerate(numbers)]
+    if form == "array-c":
+        lines = "".join(f"    {c_number(bits, shape)}, /* {value} */\n" for _, bits, value in rows)
+        before, after = (f"#ifndef {guard}\n#define {guard}\n\n", "\n#endif\n") if guard else ("", "")
+        kind = f"{'' if shape[0] else 'u'}int{width}_t"
+        return f"{before}#include <stdint.h>\n\n/* {word} */\nstatic const {kind} {name}[{count}] = {{\n{lines}}};\n{after}"
+    if form == "array-rust":
+        lines = "".join(f"    {hex(bits)}, // {value}\n" for _, bits, value in rows)
+        return f"// {word}\npub static {name}: [{'i' if shape[0] else 'u'}{width}; {count}] = [\n{lines}];\n"
+    if form == "vhdl":
+        lines = "".join(f'        {index} => "{digits(bits, shape, 2)}", -- {value}\n' for index, bits, value in rows)
+        return (
+            f"library ieee;\nuse ieee.std_logic_1164.all;\nuse ieee.numeric_std.all;\n\n-- {word}\npackage {name}_package is\n"
+            f"    type {name}_array is array (0 to {count - 1}) of {'' if shape[0] else 'un'}signed({shape[1] - 1} downto 0);\n"
+            f"    constant {name} : {name}_array := (\n{lines}        others => (others => '0')\n    );\nend package {name}_package;\n"
+        )
+    if form == "readmemh":
+        return f"// {word}\n" + "".join(f"{digits(bits, shape, 16)} // {value}\n" for _, bits, value in rows)
+    if form == "coe":
+        lines = ",\n".join(digits(bits, shape, 16) for bits in numbers)
+        return f"; {word}\nmemory_initialization_radix=16;\nmemory_initialization_vector=\n{lines};\n"
+    lines = "".join(f"    {index} : {digits(bits, shape, 16)}; -- {value}\n" for index, bits, value in rows)
+    head = f"-- {word}\nDEPTH = {count};\nWIDTH = {shape[1]};\nADDRESS_RADIX = UNS;\nDATA_RADIX = HEX;\nCONTENT\nBEGIN\n"
+    return f"{head}{lines}END;\n"
+
+
+def from_word(number, shape):
+    return number - (1 << shape[1]) if shape[0] and number >> (shape[1] - 1) else number
+
+
+def built(folder, commands):
+    """The lines that the last of some commands prints; Refused with what one of them says."""
+    for command in commands:
+        ran = subprocess.run(command, capture_output=True, check=False, cwd=folder)
+        if ran.returncode:
+            raise Refused(f"{command[0]}: {(ran.stderr + ran.stdout).decode()[:400]}")
+    return ran.stdout.decode().split()
+
+
+def write(folder, name, text):
+    with open(f"{folder}/{name}", "w", encoding="ascii") as file:
+        file.write(text)
+
+
+def by_gcc(folder, text, shape, name, count):
+    kind, form = ("int64_t", "PRId64") if shape[0] else ("uint64_t", "PRIu64")
+    text += f"#include <inttypes.h>\n#include <stdio.h>\nint main(void) {{\n    for (unsigned i = 0; i < {count}; i++)\n"
+    write(folder, "a.c", text + f'        printf("%" {form} "\\n", ({kind}) {name}[i]);\n    return 0;\n}}\n')
+    return map(int, built(folder, [["gcc", "-std=c11", "-pedantic-errors", "-Wall", "-Wextra", "-Werror", "-o", "a", "a.c"], ["./a"]]))
+
+
+def by_rustc(folder, text, _shape, name, _count):
+    write(folder, "a.rs", text + f'fn main() {{\n    for n in {name} {{\n        println!("{{n}}");\n    }}\n}}\n')
+    return map(int, built(folder, [["rustc", "-A", "non_upper_case_globals", "-D", "warnings", "-o", "a", "a.rs"], ["./a"]]))
+
+
+def by_ghdl(folder, text, shape, name, count):
+    write(folder, "a.vhd", text)
+    write(folder, "t.vhd", f"""use std.textio.all;
+library ieee;
+use ieee.std_logic_1164.all;
+use work.{name}_package.all;
+entity t is end;
+architecture a of t is begin
+  process
+    variable l : line;
+  begin
+    for i in 0 to {count - 1} loop
+      for j in {shape[1] - 1} downto 0 loop
+        write(l, std_logic'image({name}(i)(j))(2));
+      end loop;
+      writeline(output, l);
+    end loop;
+    wait;
+  end process;
+end;
+""")
+    lines = [built(folder, [["ghdl", "-a", f"--std={std}", "a.vhd", "t.vhd"], ["ghdl", "-e", f"--std={std}", "t"],
+                            ["ghdl", "-r", f"--std={std}", "t"]]) for std in ("93", "08")]
+    if lines[0] != lines[1]:
+        raise Refused("ghdl reads it otherwise by another standard")
+    return (from_word(int(line, 2), shape) for line in lines[0])
+
+
+def by_iverilog(folder, text, shape, _name, count):
+    write(folder, "a.hex", text)
+    write(folder, "a.v", f"""module t;
+  reg [{shape[1] - 1}:0] m [0:{count - 1}];
+  integer i;
+  initial begin
+    $readmemh("a.hex", m);
+    for (i = 0; i < {count}; i = i + 1) $display("%b", m[i]);
+  end
+endmodule
+""")
+    return (from_word(int(line, 2), shape) for line in built(folder, [["iverilog", "-Wall", "-o", "a", "a.v"], ["vvp", "-n", "a"]]))
+
+
+def by_coe(_folder, text, shape, _name, _count):
+    """What the keywords of a coefficient file say, by the rules of Xilinx's tools."""
+    body = "".join(line for line in text.splitlines(True) if not line.startswith(";"))
+    found = re.fullmatch(r"memory_initialization_radix\s*=\s*(\d+)\s*;\s*memory_initialization_vector\s*=([^;]*);\s*", body)
+    return (from_word(int(word, int(found[1])), shape) for word in re.split(r"[\s,]+", found[2].strip()))
+
+
+def by_mif(_folder, text, shape, _name, count):
+    """What a memory initialization file says, by the rules of Intel's tools."""
+    body = re.sub(r"--[^\n]*", "", text)
+    keys = dict(re.findall(r"(\w+)\s*=\s*(\w+)\s*;", body))
+    rows = re.findall(r"(\d+)\s*:\s*([0-9a-f]+)\s*;", re.search(r"CONTENT\s+BEGIN(.*)END\s*;\s*\Z", body, re.S)[1])
+    if keys != {"DEPTH": str(count), "WIDTH": str(shape[1]), "ADDRESS_RADIX": "UNS", "DATA_RADIX": "HEX"}:
+        raise Refused(f"keywords {keys}")
+    if [int(place) for place, _ in rows] != list(range(count)):
+        raise Refused("the places are not all, in order")
+    return (from_word(int(word, 16), shape) for _, word in rows)
+
+
+READERS = {"array-c": ("gcc", by_gcc), "array-rust": ("rustc", by_rustc), "vhdl": ("ghdl", by_ghdl),
+           "readmemh": ("iverilog", by_iverilog), "coe": (None, by_coe), "mif": (None, by_mif)}
+
+
+def read_back(form, text, shape, name, count):
+    """The numbers that another program reads; None where it is not here, and its words where it refuses."""
+    tool, reader = READERS[form]
+    if tool and shutil.which(tool) is None:
+        return None
+    with tempfile.TemporaryDirectory() as folder:
+        try:
+            return list(reader(folder, text, shape, name, count))
+        except Refused as why:
+            return str(why)
+
+
+def is_name(form, name, guard):
+    if form not in NAMED:
+        return name is None
+    if name is None or not re.fullmatch(r"[A-Za-z_][A-Za-z0-9_]{0,63}", name):
+        return False
+    if form == "vhdl":
+        return "__" not in f"_{name}_" and name.lower() not in VHDL
+    return name not in RESERVED[form[6:]] and name != guard
+
+
+def once(program, pick, is_read):
+    """A run of constants, and a message where it differs."""
+    form, radix, shape = pick.choice(FORMS), pick.choice((2, 8, 10, 10, 16)), shape_for(pick)
+    policy, mode = pick.choice(POLICIES), pick.choice(MODES)
+    name = pick.choice((*NAMES, None)) if pick.random() < 0.3 else "h" if form in NAMED else None
+    guard = "A_H" if form == "array-c" and pick.random() < 0.3 else ""
+    is_clean = is_read or pick.random() < 0.5
+    data = clean_for(pick, shape) if is_clean else input_for(pick, radix, shape)
+    radix = 10 if is_clean else radix
+    words = ["constants", form, "--numerals", word_of(shape), "-r", str(radix), "-p", policy, "-m", mode]
+    words += [] if name is None else [f"--name={name}"]
+    ran = run(program, [*words, *(["--guard", guard] if guard else [])], data)
+    shown = f"{' '.join(words)} {guard}, {data[:60]!r}: status {ran.returncode}, {ran.stdout[:60]!r}"
+    if not is_name(form, name, guard):
+        return None if (ran.returncode, ran.stdout) == (2, b"") else f"{shown}, not status 2"
+    try:
+        numbers = numbers_of(data, radix, shape, policy.encode(), mode)
+    except Refused as why:
+        place, cause = why.args
+        is_told = f"{place}, ".encode() in ran.stderr and cause.encode() in ran.stderr
+        return None if (ran.returncode, ran.stdout) == (1, b"") and is_told else f"{shown}, {ran.stderr!r}, not {place}: {cause}"
+    wanted = array(form, numbers, shape, name, guard)
+    if (ran.returncode, ran.stdout) != (0, wanted.encode()):
+        return f"{shown}, not {wanted[:200]!r}"
+    back = read_back(form, wanted, shape, name, len(numbers)) if is_read else None
+    return None if back is None or back == numbers else f"{shown}: {READERS[form][0]} reads {str(back)[:400]}"
+
+
+def compare(program, count, seed):
+    pick = random.Random(seed)
+    for tool, _ in READERS.values():
+        if tool and shutil.which(tool) is None:
+            print(f"{tool} is not here, and so it read no list")
+    wrong = [message for i in range(count) if (message := once(program, pick, i % 10 == 0))]
+    for message in wrong[:10]:
+        print(message)
+    print(f"{count} lists, {len(wrong)} differ")
+    return 1 if wrong else 0
+
+
+def main():
+    words = argparse.ArgumentParser(description=__doc__.split("\n", maxsplit=1)[0])
+    words.add_argument("--compare", metavar="PROGRAM", required=True)
+    words.add_argument("--count", type=int, default=400)
+    words.add_argument("--seed", type=int, default=1)
+    given = words.parse_args()
+    return compare(given.compare, given.count, given.seed)
+
+
+if __name__ == "__main__":
+    sys.exit(main())
