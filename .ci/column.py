@@ -230,7 +230,7 @@ BAD_WORDS = (
     (["1", "U8F0", "--policy", "saturating", "--policy", "wrapping"], b"--policy"), (["1", "U8F0", "--radix", "7"], b"7"),
     (["1", "U8F0", "--name"], b"--name"), (["1,2", "U8F0", "--into", "n"], b"'1,2' is not one column"), (["1-2", "U8F0", "--into", "n"], b"'1-2' is not one column"),
     (["a,b", "U8F0", "--header", "--into", "n"], b"'a,b' is not one column"), (["U8F0", "--all", "--into", "n"], b"'n' is one new column"),
-    (["1", "U8F0", "--into", "n" * 1025], b"is not the name of a column"), (["1", "U8F0", "--into"], b"--into"),
+    (["1", "U8F0", "--into", "n" * 1025], b"'--into' takes a name of at most 1024 bytes"), (["1", "U8F0", "--into"], b"--into"),
 )
 # Texts that would take much memory where a program kept them: long fields, long lines, many fields, records without an end.
 LARGE = (

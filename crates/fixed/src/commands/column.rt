@@ -245,10 +245,7 @@ fn destination_of<'a>(given: &Given<'_, 'a>) -> Asked<'a, Destination> {
         None => return Ok(Destination::InPlace),
     };
     if name.len() > MAX_NAME {
-        return Err(Refusal::Word(
-            name,
-            "is not the name of a column: it has more than 1024 bytes",
-        ));
+        return Err(Refusal::Word("--into", "takes a name of at most 1024 bytes"));
     }
     if given.has(&ALL) {
         return Err(Refusal::Word(name, "is one new column, and --all are many"));
@@ -313,7 +310,7 @@ fn columns_of<'a>(alloc: Global, given: &Given<'_, 'a>) -> Asked<'a, (Vec<Column
         return Ok((columns, 0));
     }
     let words = given.needed(0, "COLUMNS")?;
-    if given.has(&INTO) {
+    if given.value(&INTO).is_some() {
         push(&mut columns, source_of(alloc, words, given.has(&HEADER))?)?;
         return Ok((columns, 1));
     }
