@@ -44,7 +44,7 @@ pub fn page() -> Page {
     Page {
         name: "constants",
         hidden_name: "",
-        about: "Write named literals, or a list of numerals, as source code or as a memory's file",
+        about: "Write named literals or a list of numerals as source code",
         usage: "fixed constants [c | rust] [--guard NAME] [FILE]...\n       \
                 fixed constants FORM --numerals FORMAT [--name NAME] [FILE]...",
         operands: &[WORDS],
