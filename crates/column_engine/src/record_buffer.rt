@@ -10,6 +10,9 @@ use std::marker::Model;
 /// How many bytes a record has at most, with its quotes and without the byte that ends it.
 pub const MAX_RECORD: usize = 1_048_576;
 
+// Clauses cite the constant: this is what they promise.
+const _: () = prove!(MAX_RECORD == 1_048_576);
+
 /// At most as many bytes as a record has.
 #[derive(Drop)]
 pub struct RecordBuffer {
