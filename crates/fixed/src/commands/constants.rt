@@ -143,13 +143,17 @@ fn run_list<'a, L: Ledger>(
     steps: &mut Steps<L>,
 ) -> Asked<'a, Status> {
     let guard = guard_of(given, form == ArrayForm::C)?;
+    let numerals = match numerals_of(given) {
+        Ok(numerals) => numerals,
+        Err(refusal) => return Err(refusal),
+    };
     let rule = ArrayRule {
         form: if guard.is_empty() {
             form
         } else {
             ArrayForm::GuardedC
         },
-        numerals: numerals_of(given)?,
+        numerals,
         name: name_of(given, form, guard)?.as_bytes(),
         guard: guard.as_bytes(),
     };
