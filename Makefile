@@ -12,7 +12,7 @@
 #   make library   the library for C, in build/lib; make check-library tries it; make deb makes packages, make dist an archive
 #   make bench     times, memory and instructions; make compare: seeded inputs against the reference in oracle/
 #
-# JOBS=N: how many processes prove at a time. If it is not given, processors and memory decide.
+# JOBS=N: how many processes share a proof. If it is not given, processors and memory decide.
 
 PREFIX ?= /usr/local
 DESTDIR ?=

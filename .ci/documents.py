@@ -3,25 +3,34 @@
 
     documents.py [--built build|out]
 
-README's answers against the program, the crates' table against crates.txt, the wrong bodies that docs/WRONG_BODIES.md names against
-must-fail/ and wrong-bodies/, definitions that docs/RULES.md names against specs/, and every path that a document names.
+README's answers, and the commands of every document, against the programs; the crates' table against crates.txt, the
+wrong bodies that docs/WRONG_BODIES.md names against must-fail/ and wrong-bodies/, definitions that docs/RULES.md and
+docs/PROVED.md name against specs/, and every path and target of make that a document names. A block of commands is
+run, or the words before it say that it is not run. What is not built or not installed is named and passed over.
 """
 import argparse
 import glob
 import os
 import re
+import shutil
 import subprocess
 import sys
+import tempfile
 
 TOP = os.path.dirname(os.path.dirname(os.path.abspath(__file__)))
 sys.path.insert(0, f"{TOP}/oracle")
 
 from compare import program  # noqa: E402
+from pages import PAGES, examples_of  # noqa: E402
+from python import found_with, linked  # noqa: E402
 
-DOCUMENTS = ("README.md", "CONTRIBUTING.md", "CHANGELOG.md", *sorted(f"docs/{os.path.basename(it)}" for it in glob.glob(f"{TOP}/docs/*.md")))
+DOCUMENTS = ("README.md", "CONTRIBUTING.md", "CHANGELOG.md", "SECURITY.md",
+             *sorted(f"docs/{os.path.basename(it)}" for it in glob.glob(f"{TOP}/docs/*.md")))
+PROGRAMS = ("fixed", "fixed_tool", "enclose_tool", "least_tool", "constants_tool", "columns_tool")
 LONGEST_README = 150
 # What is made by building, and so is named and not there.
 MADE = ("build/", "crates/*/out", "crates/NAME", "DIR/")
+FOLDERS = r"crates|docs|bench|oracle|scale|examples|include|man|packaging|completion|python|\.ci"
 
 
 def text_of(path):
@@ -45,7 +54,8 @@ def readme_answers(built):
     said = re.findall(r"^ {4}(\S.*?) {2}-> {2}(.*)$", readme, re.M)
     said += re.findall(r"`(\d+ \S+ \S+ \S+ [^`]+)` with `([^`]+)`", readme)
     rules = text_of("docs/RULES.md")
-    said += [(line, f"error: {message}") for message, line in re.findall(r"^\|.*\| `([a-z ]*)` \|.*\| `([0-9]+ [^`]*)` \|$", rules, re.M)]
+    said += [(line, f"error: {message}") for message, line in
+             re.findall(r"^\|.*\| `([a-z ]*)` \|.*\| `([0-9]+ [^`]*)` \|$", rules, re.M)]
     said += [(f"10 U8F0 U8F0 checked {numeral}", f"error: {message}") for message, numeral in
              re.findall(r"^\|.*\| `([a-z ]*)` \| `([^` ]+)` \|$", rules, re.M)]
     said += [(f"10 U8F0 U16F0 {policy} 300", answer) for policy, answer in
@@ -58,18 +68,212 @@ def readme_answers(built):
             yield f"{line!r} is answered {got!r}, not {answer!r}"
 
 
-def readme_commands(built):
-    """The commands of README, each in a block after a dollar, and what it shows that they write."""
-    path = program("fixed", built)
-    if path is None:
-        print("fixed is not built, and so README's commands were not run")
+def blocks(document):
+    """The indented blocks of a document, each after the words since the one before it. Rust's is in a fence."""
+    text = re.sub(r"^```.*?^```", "", text_of(document), flags=re.M | re.S)
+    at = 0
+    for found in re.finditer(r"(?<=\n\n)(?: {4}.*\n| *\n(?= {4}))+", text):
+        yield text[at:found.start()], re.sub(r"^ {4}", "", found.group(), flags=re.M).rstrip("\n") + "\n"
+        at = found.end()
+
+
+class Room:
+    """A folder in which commands are run: the programs that are built are on the path, and the files that documents
+    name are there: tariff.csv, numerals.txt, and meter.csv whose third column makes the lines of `lines`."""
+
+    def __init__(self, folder, built):
+        self.folder, self.missing = folder, set()
+        for name in PROGRAMS:
+            path = program(name, built)
+            if path is None:
+                self.missing.add(name)
+            else:
+                os.makedirs(f"{folder}/bin", exist_ok=True)
+                os.symlink(path, f"{folder}/bin/{name}")
+        os.symlink(f"{TOP}/scale", f"{folder}/scale")
+        shutil.copy(f"{TOP}/examples/tariff.csv", folder)
+        numerals = [it for day in range(20)
+                    for it in (f"{day}.14159", f"{day * 31}", f"1.{day}.5", f"-{day}", f"{day}e-3")]
+        with open(f"{folder}/meter.csv", "w", encoding="ascii") as file:
+            file.writelines(f"{hour},a,{numeral}\n" for hour, numeral in enumerate(numerals))
+        self.lines = "".join(f"10 U16F16 I8F8 saturating {numeral}\n" for numeral in numerals)
+        for name, text in (("lines", self.lines), ("numerals.txt", "0.5\n3.14159\n")):
+            with open(f"{folder}/{name}", "w", encoding="ascii") as file:
+                file.write(text)
+
+    def lacks(self, commands, where):
+        """Whether a program or tool that these commands name is not there, which is said."""
+        words = set(re.findall(r"[\w-]+", commands))
+        lacking = sorted(self.missing & words)
+        lacking += [it for it in ("parallel", "jq", "xxd") if it in words and not shutil.which(it)]
+        if lacking:
+            print(f"{lacking[0]} is not there, and so a block of {where} was not run")
+        return bool(lacking)
+
+    def run(self, commands):
+        env = os.environ | {"PATH": f"{self.folder}/bin:{os.environ['PATH']}"}
+        return subprocess.run(["bash", "-c", commands], stdin=subprocess.DEVNULL, stdout=subprocess.PIPE,
+                              stderr=subprocess.DEVNULL, check=False, env=env, cwd=self.folder, timeout=120)
+
+
+def console(room, document, block):
+    """The commands of a block, each after a dollar, that write something else than it shows."""
+    for part in re.split(r"^\$ ", block, flags=re.M)[1:]:
+        command, _, shown = part.partition("\n")
+        if not shown:
+            yield f"{document}: {command!r} shows no output"
+        elif not room.lacks(command, document):
+            got = room.run(command).stdout.decode(errors="replace")
+            if got.rstrip("\n") != shown.rstrip("\n"):
+                yield f"{document}: {command!r} writes {got!r}"
+
+
+def recipe(room, document, block):
+    """A block of commands leaves the answers to the lines."""
+    if room.lacks(block, document):
         return
-    block = re.search(r"^ {4}\$ (?:.+\n {4})*.+$", text_of("README.md"), re.M)
-    for command, *shown in (re.sub(r"^ {4}", "", it, flags=re.M).strip().split("\n") for it in re.split(r"^ {4}\$ ", block.group() if block else "", flags=re.M)[1:]):
-        env = os.environ | {"PATH": f"{os.path.dirname(path)}:{os.environ['PATH']}"}
-        ran = subprocess.run(["sh", "-c", command], stdout=subprocess.PIPE, stderr=subprocess.DEVNULL, check=False, env=env)
-        if ran.stdout.decode().split("\n")[:-1] != shown:
-            yield f"README.md: {command!r} writes {ran.stdout.decode()!r}"
+    answers = f"{room.folder}/answers"
+    if os.path.exists(answers):
+        os.remove(answers)
+    room.run(block)
+    got = None
+    if os.path.exists(answers):
+        with open(answers, encoding="ascii") as file:
+            got = file.read()
+    wanted = subprocess.run([sys.executable, f"{TOP}/oracle/reference.py"], input=room.lines, text=True,
+                            stdout=subprocess.PIPE, check=False).stdout
+    if got != wanted:
+        yield f"{document}: the block {block.splitlines()[0]!r} leaves other answers"
+
+
+def copied(document, block):
+    """The block that copies crates into another repository leaves all that they use, and a line for each."""
+    with tempfile.TemporaryDirectory() as folder:
+        for name in ("crates.txt", *(os.path.relpath(it, TOP) for it in glob.glob(f"{TOP}/crates/*/src"))):
+            target = f"{folder}/lomdeqash/{name}"
+            os.makedirs(os.path.dirname(target), exist_ok=True)
+            (shutil.copytree if os.path.isdir(f"{TOP}/{name}") else shutil.copy)(f"{TOP}/{name}", target)
+        os.makedirs(f"{folder}/other/crates")
+        subprocess.run(["bash", "-c", block], cwd=f"{folder}/other", check=False)
+        there = set(os.listdir(f"{folder}/other/crates"))
+        with open(f"{folder}/other/crates.txt", encoding="utf-8") as file:
+            lines = {head.split()[0]: deps.split() for head, _, deps in (line.partition(":") for line in file)}
+    every = crates_of()
+    named_ones = {*lines, *sum(lines.values(), [])} & every.keys()
+    yield from (f"{document}: {name} is not copied" for name in sorted(named_ones - there))
+    yield from (f"{document}: {name} has no line" for name in sorted(there - lines.keys()))
+
+
+def readme_python(built, block):
+    """README's lines of Python, where the library is built and numpy is there."""
+    python = found_with("numpy")
+    if not python:
+        print("numpy is not on this machine, and so README's lines of Python were not run")
+        return
+    with tempfile.TemporaryDirectory() as folder:
+        library = f"{TOP}/build/lib/libfixed.so.1" if built == "build" else linked(folder)
+        if not library or not os.path.isfile(library):
+            print("the library for C is not built, and so README's lines of Python were not run")
+            return
+        with open(f"{folder}/lines.txt", "w", encoding="utf-8") as file:
+            file.write(f">>> import lomdeqash\n>>> import numpy as np\n{block}")
+        env = os.environ | {"PYTHONPATH": f"{TOP}/python", "LIBFIXED": library, "PYTHONDONTWRITEBYTECODE": "1"}
+        words = [python, "-m", "doctest", f"{folder}/lines.txt"]
+        ran = subprocess.run(words, stdout=subprocess.PIPE, check=False, env=env)
+        if ran.returncode:
+            yield f"README.md: {ran.stdout.decode(errors='replace')}"
+
+
+def commands(built):
+    """The blocks of the documents, which are run, or which the words before them say are not run."""
+    with tempfile.TemporaryDirectory() as folder:
+        room = Room(folder, built)
+        for document in DOCUMENTS:
+            for before, block in blocks(document):
+                if block.startswith("$ "):
+                    yield from console(room, document, block)
+                elif block.startswith(">>> "):
+                    yield from readme_python(built, block) if document == "README.md" else ()
+                elif ">answers" in block and not is_marked(before):
+                    yield from recipe(room, document, block)
+                elif "../lomdeqash/" in block:
+                    yield from copied(document, block)
+                elif not is_marked(before):
+                    yield f"{document}: the block {block.splitlines()[0]!r} is neither run nor said not to be"
+        yield from helped(room)
+        yield from demos(room)
+
+
+def is_marked(before):
+    """Whether the last words before a block say that it is not run."""
+    return re.search(r"\bnot run\b", before.rstrip().rpartition("\n\n")[2].replace("\n", " "), re.I) is not None
+
+
+def compiled(built):
+    """The example in C of man/fixed.3, where the library is built: it prints the number that its comment says."""
+    archive = f"{TOP}/build/lib/libfixed.a" if built == "build" else f"{TOP}/crates/fixed_c/out/libfixed_c.a"
+    shown = re.search(r"^\.Bd -literal.*?\n(.*?)^\.Ed", text_of("man/fixed.3"), re.M | re.S)
+    example = shown.group(1).replace("\\e", "\\")
+    if not os.path.isfile(archive) or not shutil.which("cc"):
+        print("the library for C is not built, and so the example of man/fixed.3 was not run")
+        return
+    with tempfile.TemporaryDirectory() as folder:
+        with open(f"{folder}/example.c", "w", encoding="ascii") as file:
+            file.write(f"#include <fixed.h>\n#include <stdio.h>\nint main(void) {{\n{example}return 0;\n}}\n")
+        words = ["cc", f"-I{TOP}/include", f"{folder}/example.c", archive, "-o", f"{folder}/example"]
+        made = subprocess.run(words, stderr=subprocess.DEVNULL, check=False).returncode == 0
+        got = made and subprocess.run([f"{folder}/example"], stdout=subprocess.PIPE, check=False).stdout.decode()
+        if got != re.search(r"/\* (\d+) \*/", example).group(1) + "\n":
+            yield f"man/fixed.3: its example writes {got!r}"
+
+
+def helped(room):
+    """The examples in the help of `fixed` end well."""
+    if room.lacks("fixed", "the help of fixed"):
+        return
+    names = re.findall(r"^  (\w+)", room.run("fixed --help").stdout.decode().partition("Commands:\n")[2], re.M)
+    for name in ("", *names):
+        for command in re.findall(r"^Example: (.*)$", room.run(f"fixed {name} --help").stdout.decode(), re.M):
+            if room.run(command).returncode:
+                yield f"the help of fixed {name}: {command!r} fails"
+
+
+def demos(room):
+    """What make demo and make demo-command show: the answers are the reference's, and no command fails."""
+    if not room.lacks("fixed_tool", "examples/demo.txt"):
+        with open(f"{TOP}/examples/demo.txt", "rb") as file:
+            lines = file.read()
+        reference = [sys.executable, f"{TOP}/oracle/reference.py"]
+        wanted = subprocess.run(reference, input=lines, stdout=subprocess.PIPE, check=False)
+        if room.run(f"fixed_tool <'{TOP}/examples/demo.txt'").stdout != wanted.stdout:
+            yield "examples/demo.txt: other answers than the reference's"
+    if not room.lacks("fixed", "examples/demo.sh") and room.run(f"sh '{TOP}/examples/demo.sh'").returncode:
+        yield "examples/demo.sh fails"
+
+
+def unshown():
+    """The examples of the manual pages that show no output: .ci/pages.py runs the others."""
+    for page in PAGES:
+        yield from (f"man/{os.path.basename(page)}: {command!r} shows no output"
+                    for command, shown in examples_of(page) if not shown)
+
+
+def toolchain():
+    """Says where README names another toolchain than this one, which is no fault."""
+    if shutil.which("rt"):
+        said = subprocess.run(["rt", "version"], stdout=subprocess.PIPE, check=False).stdout.decode().strip()
+        if said not in text_of("README.md"):
+            print(f"README.md does not name this toolchain: {said}")
+
+
+def targets():
+    """Targets of make that a document names and there are none of."""
+    made = "".join(text_of(path) for path in ("Makefile", "packaging/library.mk", "packaging/python.mk"))
+    known = {name for names in re.findall(r"^([\w./ -]+):(?!=)", made, re.M) for name in names.split()}
+    for document in DOCUMENTS:
+        for name in re.findall(r"`(?:[A-Z]+=\S+ )*make ([a-z][\w-]*)", text_of(document)):
+            if name not in known:
+                yield f"{document}: no make {name}"
 
 
 def readme_shape():
@@ -128,25 +332,50 @@ def wrong_bodies():
             yield f"README.md says {count} wrong bodies, and the gate tries {in_gate}"
 
 
+def named(text):
+    """Definitions that a text names as in `crate`: `File` (`name`, ..), by crate, file and names, in its order."""
+    listed = r"[Ii]n `(\w+)`: ((?:`\w+`(?: \((?:`[\w'-]+`(?:, )?|[^`()]*)*\))?(?:, | and )?)+)"
+    for crate, rest in re.findall(listed, " ".join(text.split())):
+        for file, names in re.findall(r"`(\w+)`(?: \(([^)]*)\))?", rest):
+            yield crate, file, re.findall(r"`([\w'-]+)`", names)
+
+
 def definitions():
-    """Definitions that docs/RULES.md and docs/PROVED.md name as `crate`: `File` (`name`, ..)."""
+    """Definitions that docs/RULES.md and docs/PROVED.md name."""
     for document in ("docs/RULES.md", "docs/PROVED.md"):
-        for crate, rest in re.findall(r"[Ii]n `(\w+)`: ((?:`\w+`(?: \((?:`[\w-]+`(?:, )?|[^`()]*)*\))?(?:, | and )?)+)", text_of(document)):
-            for file, names in re.findall(r"`(\w+)`(?: \(([^)]*)\))?", rest):
-                paths = glob.glob(f"{TOP}/crates/{crate}/specs/**/{file}.antt", recursive=True)
-                if not paths:
-                    yield f"{document}: no specs/{file}.antt in {crate}"
-                    continue
-                with open(paths[0], encoding="utf-8") as spec:
-                    stated = spec.read()
-                for name in re.findall(r"`([\w-]+)`", names):
-                    if not re.search(rf"\b{re.escape(name)}\b", stated):
-                        yield f"{document}: no {name} in {crate}/specs/{file}.antt"
+        for crate, file, names in named(text_of(document)):
+            paths = glob.glob(f"{TOP}/crates/{crate}/specs/**/{file}.antt", recursive=True)
+            if not paths:
+                yield f"{document}: no specs/{file}.antt in {crate}"
+                continue
+            with open(paths[0], encoding="utf-8") as spec:
+                stated = spec.read()
+            for name in names:
+                if not re.search(rf"\b{re.escape(name)}\b", stated):
+                    yield f"{document}: no {name} in {crate}/specs/{file}.antt"
+
+
+# Names that are not of the crates: of the csv of the toolchain, of any program, of the references and of the Makefile.
+OTHERS = ("next_record", "run_NAME", "WIDTHS", "PROGRAMS")
+
+
+def unknown_names():
+    """Names in what speaks of the code that no code and no definition has."""
+    known = set()
+    files = [it for kind in ("src/**/*.rt", "specs/**/*.antt", "proofs/ProgramLemmas.antt")
+             for it in glob.glob(f"{TOP}/crates/*/{kind}", recursive=True)]
+    for path in files:
+        known |= set(re.findall(r"\w+", text_of(os.path.relpath(path, TOP))))
+    known |= crates_of().keys() | {it for deps in crates_of().values() for it in deps}
+    for document in ("docs/PROVED.md", "docs/ARCHITECTURE.md", "docs/EXTENDING.md"):
+        for name in sorted(set(re.findall(r"`(?:\w+::)?(\w+)`", text_of(document))) - known):
+            if name not in OTHERS and not any(name in it for it in known):
+                yield f"{document}: no {name} in the crates"
 
 
 # What the headline's clause cites: crate, file and definition.
-ROOTS = (("line_engine", "Output", "WritesOutput"), ("line_engine", "Failures", "HasFailed"), ("fixed_respell", "Answer", "IsAnswer"),
-         ("fixed_respell", "Command", "IsCommand"))
+ROOTS = (("line_engine", "Output", "WritesOutput"), ("line_engine", "Failures", "HasFailed"),
+         ("fixed_respell", "Answer", "IsAnswer"), ("fixed_respell", "Command", "IsCommand"))
 
 
 def specs():
@@ -156,8 +385,9 @@ def specs():
         parts = os.path.relpath(path, f"{TOP}/crates")[:-5].split("/")
         crate, file, name = parts[0], ".".join(parts[2:]), None
         text = text_of(os.path.relpath(path, TOP))
-        imported[crate, file] = {name.strip().split(" as ")[-1]: home for home, names in re.findall(r"^(?:pub )?use Rattle\.([^{]+)\.\{([^}]*)\}", text, re.M)
-                                 for name in names.split(",")}
+        uses = re.findall(r"^(?:pub )?use Rattle\.([^{]+)\.\{([^}]*)\}", text, re.M)
+        imported[crate, file] = {name.strip().split(" as ")[-1]: home
+                                 for home, names in uses for name in names.split(",")}
         for line in text.split("\n"):
             head = re.match(r"(?:(?:abbrev|unfoldable) (?:pub )?|pub (?:record )?|record )([\w']+)", line)
             name = head.group(1) if head else name
@@ -167,14 +397,15 @@ def specs():
 
 
 def needed():
-    """The definitions that the headline needs, by file, and the words of std."""
+    """The definitions that the headline needs, by crate and file; which files use which; and the words of std."""
     stated, imported = specs()
-    found, std, open_ones = set(), set(), list(ROOTS)
+    found, std, used, open_ones = set(), set(), set(), list(ROOTS)
     while open_ones:
         crate, file, name = key = open_ones.pop()
         home = imported.get((crate, file), {}).get(name, "").split(".")
         if key not in stated and len(home) > 2 and home[0] != "std":
             open_ones.append((home[0], ".".join(home[2:]), name))
+            used.add(((crate, file), (home[0], ".".join(home[2:]))))
         if key in found or key not in stated:
             continue
         found.add(key)
@@ -186,43 +417,53 @@ def needed():
                 std.add(word)
             elif "declared" not in home and len(home) > 2:
                 open_ones.append((home[0], ".".join(home[2:]), word))
+                used.add(((crate, file), open_ones[-1][:2]))
     files = {}
     for crate, file, name in found:
-        files.setdefault(f"crates/{crate}/specs/{file.replace('.', '/')}.antt", set()).add(name)
-    return files, std
+        files.setdefault((crate, file), set()).add(name)
+    return files, used, std
 
 
 def headline():
-    """The headline's reading order has just the definitions that its clause needs, and the words of std in them."""
-    files, std = needed()
-    text = text_of("docs/PROVED.md")
-    rows = {path: set(re.findall(r"`([\w']+)`", names)) for path, names in re.findall(r"^\| `(crates/[\w/]+/specs/[\w/]+\.antt)` \| (.*?) \|", text, re.M)}
-    for path in sorted({*files, *rows}):
-        names, wanted = rows.get(path, set()), files.get(path, set())
-        yield from (f"docs/PROVED.md: the headline needs {name} of {path}" for name in sorted(wanted - names))
-        yield from (f"docs/PROVED.md: the headline does not need {name} of {path}" for name in sorted(names - wanted))
-    table = re.search(r"^\| Word of std \|.*?\n\n", text + "\n\n", re.M | re.S)
-    words = set(re.findall(r"`([\wℕℤ]+)`", "\n".join(row.split("|")[1] for row in table.group().split("\n")[2:] if row))) if table else set()
+    """The headline's reading order has just the definitions that its clause needs, each file only those above it, and
+    the words of std in them."""
+    files, used, std = needed()
+    text = text_of("docs/PROVED.md").partition("## The headline")[2].partition("\n### ")[0]
+    listed = {(crate, file): set(names) for crate, file, names in named(text)}
+    for crate, file in sorted({*files, *listed}):
+        names, wanted = listed.get((crate, file), set()), files.get((crate, file), set())
+        said = f"of {file} in {crate}"
+        yield from (f"docs/PROVED.md: the headline needs {name} {said}" for name in sorted(wanted - names))
+        yield from (f"docs/PROVED.md: the headline does not need {name} {said}" for name in sorted(names - wanted))
+    order = list(listed)
+    yield from (f"docs/PROVED.md: {above[1]} of {above[0]} uses {below[1]} of {below[0]}, which is listed after it"
+                for above, below in sorted(used)
+                if above in listed and below in listed and order.index(above) < order.index(below))
+    rows = re.findall(r"^- ((?:`[\wℕℤ]+`[,;:] ?)+)", text.partition("The words of std")[2], re.M)
+    words = set(re.findall(r"`([\wℕℤ]+)`", "".join(rows)))
     yield from (f"docs/PROVED.md: the headline needs the word {word} of std" for word in sorted(std - words))
     yield from (f"docs/PROVED.md: the headline does not need the word {word} of std" for word in sorted(words - std))
 
 
 def paths():
-    """Files and folders that a document names in back quotes."""
+    """Files and folders that a document names in back quotes, by themselves or in a command."""
     for document in DOCUMENTS:
         if not os.path.isfile(f"{TOP}/{document}"):
             yield f"no {document}"
             continue
-        for name in re.findall(r"`((?:crates|docs|bench|oracle|scale|examples|include|man|packaging|completion|\.ci)/[\w./*-]*)`", text_of(document)):
-            if not name.startswith(MADE) and not glob.glob(f"{TOP}/{name}"):
-                yield f"{document}: no {name}"
+        for quoted in re.findall(r"`([^`\n]+)`", text_of(document)):
+            for name in re.findall(rf"(?<![\w./-])((?:{FOLDERS})/[\w./*-]*)", quoted):
+                if not name.startswith(MADE) and not glob.glob(f"{TOP}/{name}"):
+                    yield f"{document}: no {name}"
 
 
 def main():
     words = argparse.ArgumentParser(description=__doc__.split("\n", maxsplit=1)[0])
     words.add_argument("--built", choices=("build", "out"), default="build")
     given = words.parse_args()
-    wrong = [*readme_answers(given.built), *readme_commands(given.built), *readme_shape(), *crates_table(), *wrong_bodies(), *definitions(), *headline(), *paths()]
+    toolchain()
+    wrong = [*readme_answers(given.built), *commands(given.built), *compiled(given.built), *unshown(), *readme_shape(),
+             *crates_table(), *wrong_bodies(), *definitions(), *unknown_names(), *headline(), *paths(), *targets()]
     for it in wrong:
         print(it)
     print(f"documents: {len(wrong)} sentences that do not hold")

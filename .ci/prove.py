@@ -1,11 +1,11 @@
 #!/usr/bin/env python3
-"""Proves crates and builds programs, each after the crates that it uses, as many at a time as processors and memory allow.
+"""Proves crates and builds programs, each after the crates that it uses and by as many processes as processors and memory allow.
 
     prove.py [--jobs N] [--cpu CPU] [--into FOLDER] NAME..   these crates and those below them; what is compiled comes to build/ or FOLDER
     prove.py [--jobs N] [--cpu CPU] --above NAME..   these crates and those above them, and what is not proved of those below
 
 `rt lib` proves and builds a library, and `rt run` a program, which it runs once over no input. What neither the crate nor those below it
-changed since is passed over. A check takes up to about 3 GB; N is how many processes work at a time. CPU is the processor that
+changed since is passed over. A check takes up to about 3 GB; N is how many processes share a check. CPU is the processor that
 programs and the library for C are compiled for.
 """
 import argparse
@@ -37,25 +37,22 @@ class Crate:
         self.made = name if self.is_program else f"lib{name}.a" if name in COMPILED else None
         self.stamp = f"{into}/{self.made}" if self.made else f"{BUILD}/proved/{name}"
         self.log = f"{BUILD}/logs/{name}"
-        self.changed, self.lines = 0.0, 0
+        self.changed = 0.0
         for at, folders, files in os.walk(self.folder):
             folders[:] = [it for it in folders if it not in UNREAD]
-            for path in (f"{at}/{it}" for it in files):
-                self.changed = max(self.changed, os.path.getmtime(path))
-                if path.endswith((".rt", ".antt")):
-                    with open(path, "rb") as file:
-                        self.lines += file.read().count(b"\n")
+            self.changed = max(self.changed, *(os.path.getmtime(f"{at}/{it}") for it in files), 0.0)
 
     def is_fresh(self):
         """Whether it is proved as its files are now, those of the crates below it apart."""
         newest = max(self.changed, os.path.getmtime(f"{TOP}/HANDLES"))
         return os.path.isfile(self.stamp) and os.path.getmtime(self.stamp) > newest
 
-    def begin(self, jobs, cpu):
+    def prove(self, jobs, cpu):
+        """Proves it by so many processes, and compiles what is compiled; whether it is proved."""
         compiled = ["--cpu", cpu] if self.made else []
         words = ["rt", "run" if self.is_program else "lib", "--jobs", str(jobs), *compiled, *WORDS.get(self.name, [])]
         with open(self.log, "wb") as log:
-            return subprocess.Popen(words, cwd=self.folder, stdin=subprocess.DEVNULL, stdout=log, stderr=subprocess.STDOUT)
+            return not subprocess.call(words, cwd=self.folder, stdin=subprocess.DEVNULL, stdout=log, stderr=subprocess.STDOUT)
 
     def keep(self, began):
         """Notes that it is proved as its files were when its check began; what is compiled is copied."""
@@ -105,18 +102,6 @@ def stale(crates, names):
     return {it for it in names if not is_fresh(it)}
 
 
-def chains(crates, names):
-    """For each, the lines of the longest chain of crates that begins with it and goes up."""
-    found = {}
-
-    def chain(name):
-        if name not in found:
-            found[name] = crates[name].lines + max((chain(it) for it in names if name in crates[it].uses), default=0)
-        return found[name]
-
-    return {it: chain(it) for it in names}
-
-
 def processes():
     """How many processes may work at a time, by processors and the memory that is there."""
     processors = len(os.sched_getaffinity(0))
@@ -125,33 +110,18 @@ def processes():
     return max(1, min(processors, free // MEMORY_OF_A_CHECK))
 
 
-def prove(crates, names, lanes, cpu):
-    """Proves these crates and returns whether all are proved. The one with the longest chain above it comes first, with what the
-    others that could begin leave idle."""
-    chain, done, running, is_well = chains(crates, names), 0, {}, True
-    left = sorted(names, key=lambda it: -chain[it])
-    while running or left and is_well:
-        waits = {*left, *running}
-        ready = [it for it in left if is_well and not waits & set(crates[it].uses)]
-        idle = lanes - sum(jobs for _, jobs, _ in running.values())
-        while ready and idle > 0:
-            name, jobs = ready.pop(0), max(1, idle - len(ready))
-            left.remove(name)
-            running[name] = crates[name].begin(jobs, cpu), jobs, time.time()
-            idle -= jobs
-        time.sleep(0.2)
-        for name in [it for it, (process, _, _) in running.items() if process.poll() is not None]:
-            process, _, began = running.pop(name)
-            done += 1
-            if process.returncode:
-                is_well = False
-                with open(crates[name].log, encoding="utf-8", errors="replace") as log:
-                    print(f"{log.read()}{name} is not proved", flush=True)
-            else:
-                crates[name].keep(began)
-                print(f"{done} of {len(names)}: {name} is proved{' and built' if crates[name].is_program else ''}"
-                      f" ({time.time() - began:.0f} s)", flush=True)
-    return is_well
+def prove(crates, names, jobs, cpu):
+    """Proves these crates, lowest first, and returns whether all are proved. They are proved one after another, each by so many processes:
+    an `rt` keeps every other out of the crates that it reads."""
+    for done, name in enumerate(sorted(names, key=lambda it: len(below(crates, [it]))), 1):
+        crate, began = crates[name], time.time()
+        if not crate.prove(jobs, cpu):
+            with open(crate.log, encoding="utf-8", errors="replace") as log:
+                print(f"{log.read()}{name} is not proved", flush=True)
+            return False
+        crate.keep(began)
+        print(f"{done} of {len(names)}: {name} is proved{' and built' if crate.is_program else ''} ({time.time() - began:.0f} s)", flush=True)
+    return True
 
 
 def main():
@@ -172,10 +142,10 @@ def main():
     os.makedirs(given.into, exist_ok=True)
     names = above(crates, given.names) if given.above else given.names
     wanted = stale(crates, below(crates, names))
-    lanes = given.jobs or processes()
+    jobs = given.jobs or processes()
     if wanted:
-        print(f"{len(wanted)} crates are to be proved, by {lanes} processes", flush=True)
-    is_well = prove(crates, wanted, lanes, given.cpu)
+        print(f"{len(wanted)} crates are to be proved, each by {jobs} processes", flush=True)
+    is_well = prove(crates, wanted, jobs, given.cpu)
     if is_well and given.above:
         others = len(crates) - len(below(crates, names))
         print(f"Left: the tests (rt test in a crate's folder) and the wrong bodies (rt must-fail NAME) of {' '.join(sorted(names))},"

@@ -75,13 +75,13 @@ _fixed() {
     --empty) words='fault keep 0' ;;
     --endian) words='little big' ;;
     --numerals) words='I16F16 U16F16 I8F8 U8F8 I32F32 U32F32 I1F15 I1F31 I4F4 U0F8' ;;
-    --limit | --delimiter | -d | --places | --guard | --name | --comments | --skip | --decimal | --thousands) return ;;
+    --limit | --field | --delimiter | -d | --places | --guard | --name | --comments | --skip | --decimal | --thousands) return ;;
     *)
       case $command:$word in
         convert:-*) words='--from --radix --policy --mode --target-mode --print --places --trim --skip-blank --comments --words --report --output --help --version' ;;
         column:-*) words='--from --radix --policy --mode --target-mode --print --places --delimiter --all --header --skip --trim --decimal --thousands --empty --into --keep --report --help --version' ;;
         show:-*) words='--radix --policy --mode --file --output --help --version' ;;
-        bits:-*) words='--radix --file --output --help --version' ;;
+        bits:-*) words='--radix --field --swap --file --output --help --version' ;;
         lines:-* | sort:-*) words='--limit --help --version' ;;
         fit:-*) words='--width --signed --why --range --radix --help --version' ;;
         pack:-*) words='--endian --radix --policy --mode --help --version' ;;

@@ -54,11 +54,13 @@ for form in (Format("Q15"), Format("Q7")):
     )
 
 # %% The picture
-if len(sys.argv) > 1:
+def draw(path):
+    """Writes the responses, and what quantizing adds to them, into a PNG, where matplotlib is found."""
     try:
         import matplotlib
     except ImportError:
-        sys.exit("no picture: matplotlib is not on this machine")
+        print("no picture: matplotlib is not on this machine")
+        return
     matplotlib.use("Agg")
     from matplotlib import pyplot
 
@@ -80,4 +82,8 @@ if len(sys.argv) > 1:
         axes.grid(alpha=0.3)
     above.legend(loc="lower left")
     below.legend(loc="upper right", ncols=2)
-    figure.savefig(sys.argv[1], dpi=100, metadata={"Software": None})
+    figure.savefig(path, dpi=100, metadata={"Software": None})
+
+
+if len(sys.argv) > 1:
+    draw(sys.argv[1])

@@ -1,5 +1,5 @@
 -- Bytes of a record that are passed over at once.
-use Rattle.std.proofs.Common.{◌≡◌, ◌==◌, ◌≤◌, ◌+◌, ◌-◌, ℕ, zero, suc, List, [], ◌∷◌, ◌++◌, Bool, true, false, length, take, drop, get_or, refl, sym, ap, ◌∙◌, arith, if◌then◌else◌, subst}
+use Rattle.std.proofs.Common.{◌≡◌, ◌==◌, ◌<◌, ◌≤◌, ◌+◌, ◌-◌, ℕ, zero, suc, List, [], ◌∷◌, ◌++◌, Bool, true, false, length, take, drop, get_or, refl, sym, ap, ◌∙◌, arith, if◌then◌else◌, subst}
 use Rattle.std.specs.Prelude.{⊤, ◌≢◌}
 use Rattle.std.proofs.lemmas.Bool.{eqb-true, false≢true}
 use Rattle.std.proofs.lemmas.List.{get_or-drop, take_all}
@@ -8,7 +8,7 @@ use Rattle.column_engine.specs.Places.{HasNoBefore, IsPlainBefore, StaysFor, beh
 use Rattle.column_engine.specs.Rows.{IsUnended, ends_field, ends_record, place_after, places_after, raw_fields, within_after}
 use Rattle.column_engine.specs.declared.place.Place.{Place}
 use Rattle.column_engine.specs.declared.place.Place.TheVariants.{AfterQuote, Inside, Quoted, Start}
-use Rattle.column_engine.proofs.RowLemmas.{fields_more, onto, places_append, unended_append}
+use Rattle.column_engine.proofs.RowLemmas.{fields_from, fields_more, onto, places_append, unended_append}
 
 -- between quotes
 pub quoted_over : (d : ℕ) (bytes : List ℕ) (k : ℕ) → HasNoBefore 34 bytes k → IsUnended d Quoted (take k bytes) × (Quoted ≡ places_after d Quoted (take k bytes))
@@ -135,3 +135,44 @@ first_inside d (b ∷ rest) other = rw other refl
 pub first_nothing : (d : ℕ) (body : List ℕ) → (length body == 0) ≡ true → raw_fields d Start body ≡ raw_fields d Inside body
 first_nothing d [] none = first_inside d [] refl
 first_nothing d (b ∷ rest) none = absurd (omega (arith, eqb-true (length (b ∷ rest)) 0 none))
+
+-- a field without a quote first, up to a byte
+pub plain_field : (d : ℕ) (body : List ℕ) (k : ℕ) → k ≤ length body → HasNoBefore d body k → raw_fields d Start body ≡ raw_fields d Inside body
+    → raw_fields d Start body ≡ onto (take k body) (raw_fields d Inside (drop k body))
+plain_field d body k fits none same =
+    let from : 0 + k ≡ k = omega arith in
+    subst (λ n. raw_fields d Start body ≡ onto (take n body) (raw_fields d Inside (drop n body))) from
+    (stay_more d Inside body 0 k (omega arith) (record { inside = none; keeps = λ j low. refl }) (same ∙ fields_from d Inside body))
+
+quoted_stays : (d : ℕ) (bytes : List ℕ) (k : ℕ) → HasNoBefore 34 bytes k → StaysFor d Quoted bytes k
+quoted_stays d bytes k none = record {
+  inside = λ j low. refl;
+  keeps = λ j low. (let other : (get_or bytes j 0 == 34) ≡ false = none j low in rw other refl);
+}
+
+-- a field in quotes, up to the byte behind the second of them
+pub quoted_field : (d : ℕ) (body : List ℕ) (k : ℕ) → 0 < length body → get_or body 0 0 ≡ 34 → (34 == d) ≡ false
+    → 1 + k < length body → HasNoBefore 34 (drop 1 body) k → get_or body (1 + k) 0 ≡ 34
+    → raw_fields d Start body ≡ onto (take (1 + k + 1) body) (raw_fields d AfterQuote (drop (1 + k + 1) body))
+quoted_field d body k some quote other fits none close =
+    let outside : ends_field d Start (get_or body 0 0) ≡ false = ap (λ b. b == d) quote ∙ other in
+    let first = fields_more d Start body 0 some outside (fields_from d Start body) in
+    let opened : within_after Start (get_or body 0 0) ≡ Quoted = rw quote refl in
+    let within = subst (λ p. raw_fields d Start body ≡ onto (take 1 body) (raw_fields d p (drop 1 body))) opened first in
+    let held = stay_more d Quoted body 1 k (omega (arith, fits)) (quoted_stays d (drop 1 body) k none) within in
+    let closed : within_after Quoted (get_or body (1 + k) 0) ≡ AfterQuote = rw close refl in
+    subst (λ p. raw_fields d Start body ≡ onto (take (1 + k + 1) body) (raw_fields d p (drop (1 + k + 1) body))) closed
+    (fields_more d Quoted body (1 + k) fits refl held)
+
+-- the quote that opens a field, and bytes between quotes
+pub opened_over : (d : ℕ) (bytes : List ℕ) (k : ℕ) → 0 < length bytes → get_or bytes 0 0 ≡ 34 → (34 == d) ≡ false → HasNoBefore 34 (drop 1 bytes) k
+    → IsUnended d Start (take (1 + k) bytes) × (Quoted ≡ places_after d Start (take (1 + k) bytes))
+unfolding IsUnended places_after
+opened_over d [] k some quote other none = absurd (omega (arith, some))
+opened_over d (x ∷ xs) k some quote other none =
+    let rest = quoted_over d xs k none in
+    let outside : (x == d) ≡ false = ap (λ b. b == d) quote ∙ other in
+    let keeps : place_after d Start x ≡ Quoted = rw (outside, quote) refl in
+    let nay : ends_record Start x ≡ false = rw quote refl in
+    let count : 1 + k ≡ suc k = omega arith in
+    rw count ((nay, subst (λ p. IsUnended d p (take k xs)) (sym keeps) rest.0), subst (λ p. Quoted ≡ places_after d p (take k xs)) (sym keeps) rest.1)

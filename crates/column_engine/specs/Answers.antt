@@ -4,7 +4,7 @@ use Rattle.std.specs.Prelude.{[], ◌∷◌, Bool, true, false, not, Option, Som
 use Rattle.std.specs.Prelude.{min, nat_le, string_bytes}
 use Rattle.csv.specs.Writing.{default_writer, needs_quotes, quoted}
 use Rattle.line_engine.specs.AnswerText.{AnswerText}
-use Rattle.column_engine.specs.Rows.{Row, content, field_texts, raw_fields, row_text}
+use Rattle.column_engine.specs.Rows.{Row, content, field_texts, raw_fields}
 use Rattle.column_engine.specs.declared.columns.Column.{Column}
 use Rattle.column_engine.specs.declared.columns.Column.TheVariants.{At, Named}
 use Rattle.column_engine.specs.declared.columns.Destination.{Destination}

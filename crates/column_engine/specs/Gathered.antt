@@ -7,6 +7,8 @@ use Rattle.line_engine.specs.Inner.Progress.{Flushes}
 use Rattle.column_engine.specs.Answers.{AreAnswers, FieldAnswer, IsAnswer, answers_text, before_field, count_refused}
 use Rattle.column_engine.specs.Answers.{first_asked}
 use Rattle.column_engine.specs.Rows.{Row, raw_fields}
+use Rattle.column_engine.specs.declared.answer.Shown.{Shown}
+use Rattle.column_engine.specs.declared.answer.Shown.TheVariants.{Raw, Reply, Text}
 use Rattle.column_engine.specs.declared.columns.Range.{Range}
 use Rattle.column_engine.specs.declared.place.Place.TheVariants.{Start}
 
@@ -33,6 +35,12 @@ pub record IsFieldAt (delimiter : ℕ) (body : List ℕ) (column start end : ℕ
 -- what was gathered, and after it the bytes of a record from one place to another, which are still to be
 abbrev pub ahead : List ℕ → List ℕ → ℕ → ℕ → List ℕ
 ahead held body from to = held ++ take (to - from) (drop from body)
+
+-- the bytes that are written for a field, by where they lie: its own, those of the reply, or those written out
+abbrev pub shown_bytes : Shown → List ℕ → List ℕ → List ℕ → List ℕ
+shown_bytes Raw raw reply text = raw
+shown_bytes Reply raw reply text = reply
+shown_bytes Text raw reply text = text
 
 -- the answer to a field was gathered
 pub record GathersField (A : List ℕ → AnswerText → Type 0) (keeps : Bool) (delimiter : ℕ) (asks : Bool)

@@ -1,12 +1,13 @@
 //! The answer to a field.
 
-ghost use Rattle.std.specs.Prelude.{◌≡◌, ◌≤◌, true, length};
-ghost use Rattle.column_engine.specs.Answers.{IsAnswer, stays};
+ghost use Rattle.std.specs.Prelude.{◌≡◌, ◌≤◌, List, ℕ, if◌then◌else◌, true, length};
+ghost use Rattle.column_engine.specs.Answers.{IsAnswer, as_field, stays};
+ghost use Rattle.column_engine.specs.Gathered.{shown_bytes};
 ghost use Rattle.column_engine.specs.Rows.{content};
 ghost use Rattle.column_engine.specs.declared.record_buffer.TheConstants.{MAX_RECORD};
 
 use crate::columns::{Column, Destination};
-use crate::field::{plain_content, write_as_field, write_content};
+use crate::field::{calls_for_quotes, plain_content, write_as_field, write_content};
 use crate::place::Place;
 use crate::record_buffer::RecordBuffer;
 use crate::rule::FieldRule;
@@ -93,18 +94,69 @@ fn stays(is_kept: bool, is_refused: bool, reply: &[u8]) -> bool
     is_kept && is_refused || reply.is_empty()
 }
 
-/// Writes out the answer to a field that is asked for. It says whether the field was refused.
+/// Where the bytes lie that are written for a field.
+#[derive(Clone, Copy, Debug, PartialEq, Eq)]
+pub(crate) enum Shown {
+    /// They are the field's.
+    Raw,
+    /// They are the reply's.
+    Reply,
+    /// They were written out.
+    Text,
+}
+
+/// What is written for a field, and whether it was refused.
+#[derive(Clone, Copy, Debug)]
+pub(crate) struct Answered {
+    /// Where the bytes lie.
+    pub shown: Shown,
+    /// Whether it was refused.
+    pub is_refused: bool,
+}
+
+impl Answered {
+    /// The bytes that are written.
+    pub fn bytes<'b>(self, raw: &'b [u8], reply: &'b Output, text: &'b RecordBuffer) -> &'b [u8]
+        ensures { result.now ≡ shown_bytes self.shown raw.now reply.now text.now }
+    {
+        match self.shown {
+            Shown::Raw => raw,
+            Shown::Reply => reply.as_bytes(),
+            Shown::Text => text.as_slice(),
+        }
+    }
+}
+
+/// Where the bytes lie that are written for a field with this reply, by whether it stays as it was. They are written
+/// out where they take quotes.
+fn show(delimiter: u8, is_same: bool, reply: &Output, text: &mut RecordBuffer) -> Shown
+    ensures { (raw : List ℕ) → shown_bytes result raw reply.now text.new ≡ (if is_same then raw else as_field delimiter
+        reply.now) }
+{
+    let bytes = reply.as_bytes();
+    if is_same {
+        return Shown::Raw;
+    }
+    if calls_for_quotes(delimiter, bytes) {
+        write_as_field(delimiter, bytes, text);
+        return Shown::Text;
+    }
+    Shown::Reply
+}
+
+/// Has a field that is asked for answered.
+#[inline(always)]
 pub(crate) fn answer_asked<A: FieldRule<L>, L: Ledger>(
     task: &ColumnTask<'_, A>,
     column: usize,
     raw: &[u8],
     work: &mut Work,
     steps: &mut Steps<L>,
-) -> bool
+) -> Answered
     requires { length raw.now ≤ MAX_RECORD }
     ensures answer { IsAnswer (A.Answers task.now.rule.now) task.now.is_kept task.now.delimiter true raw.now (record {
-      text = work.new.text;
-      refused = result;
+      text = shown_bytes result.shown raw.now work.new.reply work.new.text;
+      refused = result.is_refused;
     }) }
     ensures out { work.new.out ≡ work.old.out }
 {
@@ -113,11 +165,7 @@ pub(crate) fn answer_asked<A: FieldRule<L>, L: Ledger>(
     if is_refused {
         watch_refusal(task.watch, column, raw, work);
     }
-    if stays(task.is_kept, is_refused, work.reply.as_bytes()) {
-        work.text.clear();
-        work.text.append(raw);
-    } else {
-        write_as_field(task.delimiter, work.reply.as_bytes(), &mut work.text);
-    }
-    is_refused
+    let is_same = stays(task.is_kept, is_refused, work.reply.as_bytes());
+    let shown = show(task.delimiter, is_same, &work.reply, &mut work.text);
+    Answered { shown, is_refused }
 }

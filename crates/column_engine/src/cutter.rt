@@ -26,10 +26,11 @@ pub(crate) struct Cutter<'a> {
     pub place: Place,
 }
 
-/// Answers the record at hand, which ends with this part and this byte.
+/// Answers the record at hand, which ends with this part and this byte. A plain part has no newline.
 fn end_row<A: FieldRule<L>, K: Sink, L: Ledger>(
     task: &ColumnTask<'_, A>,
     cutter: &mut Cutter<'_>,
+    is_plain: bool,
     part: &[u8],
     end: &[u8],
     work: &mut Work,
@@ -55,9 +56,11 @@ fn end_row<A: FieldRule<L>, K: Sink, L: Ledger>(
 {
     cutter.place = Place::Start;
     if cutter.kept.is_empty() {
+        task.watch.begin_row(part, end, is_plain);
         return answer_row(task, &mut cutter.progress, part, end, work, sink, steps);
     }
     cutter.kept.append(part);
+    task.watch.begin_kept(&cutter.kept, end);
     answer_row(
         task,
         &mut cutter.progress,
@@ -96,7 +99,7 @@ pub(crate) fn feed<A: FieldRule<L>, K: Sink, L: Ledger>(
 {
     let mut rest = chunk;
     'rows: loop {
-        let (end, place) = record_end(task.delimiter, cutter.place, rest);
+        let (end, place, is_plain) = record_end(task.delimiter, cutter.place, rest);
         let room = MAX_RECORD - cutter.kept.len();
         match end {
             None => {
@@ -114,6 +117,7 @@ pub(crate) fn feed<A: FieldRule<L>, K: Sink, L: Ledger>(
                 match end_row(
                     task,
                     cutter,
+                    is_plain,
                     &rest[..end],
                     &rest[end..end + 1],
                     work,

@@ -30,6 +30,7 @@ pub(crate) struct Field {
 }
 
 /// Gathers the answer to a field that is asked for, after the bytes before it. It says whether the field was refused.
+#[inline(always)]
 fn gather_answer<A: FieldRule<L>, K: Sink, L: Ledger>(
     task: &ColumnTask<'_, A>,
     column: usize,
@@ -48,10 +49,11 @@ fn gather_answer<A: FieldRule<L>, K: Sink, L: Ledger>(
         (K.written sink.new)) }
     ensures failures { FailsOnlyCounted (K.failures sink.old) (K.failures sink.new) result }
 {
-    let is_refused = answer_asked(task, column, raw, work, steps);
+    let answered = answer_asked(task, column, raw, work, steps);
     put(before, &mut work.out, sink)?;
-    put(work.text.as_slice(), &mut work.out, sink)?;
-    Ok(is_refused)
+    let shown = answered.bytes(raw, &work.reply, &work.text);
+    put(shown, &mut work.out, sink)?;
+    Ok(answered.is_refused)
 }
 
 /// Gathers the answer to a field with the bytes from a place on, or leaves both for later where the field isn't asked
@@ -126,6 +128,7 @@ fn past_asked(asked: &[Range]) -> usize
 }
 
 /// A field of a record by its column, or how many fields the record has where it has too few.
+#[inline(always)]
 pub(crate) fn find_field(delimiter: u8, body: &[u8], column: usize) -> Result<Field, usize>
     requires { length body.now ≤ MAX_RECORD }
     ensures ok { IfOk result (λ field. (field.column ≡ column)
@@ -150,6 +153,7 @@ pub(crate) fn find_field(delimiter: u8, body: &[u8], column: usize) -> Result<Fi
 
 /// Gathers the answer to the one field of a record that is asked for, with the bytes around it, and says how many were
 /// refused.
+#[inline(always)]
 pub(crate) fn answer_field<A: FieldRule<L>, K: Sink, L: Ledger>(
     task: &ColumnTask<'_, A>,
     field: Field,

@@ -20,10 +20,26 @@ pub(crate) fn flush<K: Sink>(out: &mut Output, sink: &mut K) -> Result<(), Faile
     Ok(())
 }
 
+/// Writes what was gathered, and gathers bytes, or writes them at once where they are many. Where a write failed, a
+/// prefix of all of it was written.
+#[inline(never)]
+fn put_behind<K: Sink>(bytes: &[u8], out: &mut Output, sink: &mut K) -> Result<(), Failed>
+    ensures ok { OnOk result (Flushes out.old bytes.now out.new (K.written sink.old) (K.written sink.new)) }
+    ensures err { OnErr result ((left : List ℕ) × Flushes out.old bytes.now left (K.written sink.old) (K.written
+        sink.new)) }
+    ensures failures { FailsOnlyCounted (K.failures sink.old) (K.failures sink.new) result }
+{
+    flush(out, sink)?;
+    if bytes.len() <= OUTPUT_BUFFER {
+        out.push_bytes(bytes);
+        return Ok(());
+    }
+    write_whole(sink, bytes)
+}
+
 /// Gathers bytes. Where there is no room for them, what was gathered is written first, and they are written at once
-/// where they are
-/// many. Where a write failed, a prefix of all of it was written.
-#[inline]
+/// where they are many. Where a write failed, a prefix of all of it was written.
+#[inline(always)]
 pub(crate) fn put<K: Sink>(bytes: &[u8], out: &mut Output, sink: &mut K) -> Result<(), Failed>
     ensures ok { OnOk result (Flushes out.old bytes.now out.new (K.written sink.old) (K.written sink.new)) }
     ensures err { OnErr result ((left : List ℕ) × Flushes out.old bytes.now left (K.written sink.old) (K.written
@@ -34,10 +50,22 @@ pub(crate) fn put<K: Sink>(bytes: &[u8], out: &mut Output, sink: &mut K) -> Resu
         out.push_bytes(bytes);
         return Ok(());
     }
-    flush(out, sink)?;
-    if bytes.len() <= OUTPUT_BUFFER {
-        out.push_bytes(bytes);
-        return Ok(());
+    put_behind(bytes, out, sink)
+}
+
+/// Gathers the byte that ends a record, where there is one.
+#[inline(always)]
+pub(crate) fn put_end<K: Sink>(end: &[u8], out: &mut Output, sink: &mut K) -> Result<(), Failed>
+    ensures ok { OnOk result (Flushes out.old end.now out.new (K.written sink.old) (K.written sink.new)) }
+    ensures err { OnErr result ((left : List ℕ) × Flushes out.old end.now left (K.written sink.old) (K.written
+        sink.new)) }
+    ensures failures { FailsOnlyCounted (K.failures sink.old) (K.failures sink.new) result }
+{
+    match end {
+        [byte] if 0 < out.room() => {
+            out.push(*byte);
+            Ok(())
+        }
+        _ => put(end, out, sink),
     }
-    write_whole(sink, bytes)
 }

@@ -14,7 +14,7 @@ use crate::answer::{ColumnTask, Work, answer_asked};
 use crate::columns::{Destination, Range, first_asked, needed, only_asked};
 use crate::end::Stop;
 use crate::fields::{Field, answer_field, answer_fields, as_count, find_field};
-use crate::gather::put;
+use crate::gather::{put, put_end};
 use crate::place::Place;
 use crate::row::{Progress, count_record, lacking};
 use crate::rule::FieldRule;
@@ -97,17 +97,11 @@ fn lengthen_record<A: FieldRule<L>, K: Sink, L: Ledger>(
 {
     let column = first_asked(asked);
     let raw = field_in(task.delimiter, body, column);
-    let is_refused = answer_asked(task, column, raw, work, steps);
-    match put_longer(
-        task.delimiter,
-        body,
-        work.text.as_slice(),
-        end,
-        &mut work.out,
-        sink,
-    ) {
+    let answered = answer_asked(task, column, raw, work, steps);
+    let shown = answered.bytes(raw, &work.reply, &work.text);
+    match put_longer(task.delimiter, body, shown, end, &mut work.out, sink) {
         Err(_) => Err(Failed),
-        Ok(()) => Ok(as_count(is_refused)),
+        Ok(()) => Ok(as_count(answered.is_refused)),
     }
 }
 
@@ -199,7 +193,7 @@ fn gather_record<A: FieldRule<L>, K: Sink, L: Ledger>(
         Destination::InPlace => {
             match fill_record(task, &progress.asked, found, body, work, sink, steps) {
                 Err(_) => Err(Failed),
-                Ok(refused) => match put(end, &mut work.out, sink) {
+                Ok(refused) => match put_end(end, &mut work.out, sink) {
                     Err(_) => Err(Failed),
                     Ok(()) => Ok(refused),
                 },

@@ -183,7 +183,6 @@ pub(crate) fn answer_row<A: FieldRule<L>, K: Sink, L: Ledger>(
     ensures as_many { length progress.new.asked.items ≡ length task.now.columns.now }
     ensures failures { RisesOnly (K.failures sink.old) (K.failures sink.new) result }
 {
-    task.watch.begin_row(body, end);
     if body.is_empty() {
         return match put(end, &mut work.out, sink) {
             Err(_) => Err(Stop::WriteFault),

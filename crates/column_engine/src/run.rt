@@ -111,6 +111,7 @@ fn end_text<A: FieldRule<L>, K: Sink, L: Ledger>(
     if let Place::Quoted = cutter.place {
         return Stop::Unclosed;
     }
+    task.watch.begin_kept(&cutter.kept, &[]);
     match answer_row(
         task,
         &mut cutter.progress,

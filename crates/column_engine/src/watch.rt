@@ -1,6 +1,7 @@
 //! What there is to report of a run over columns: the header, and the first field that was refused. What a cell keeps
 //! no contract says: it is tested.
 
+use crate::record_buffer::RecordBuffer;
 use memchr::memchr;
 use std::cell::Cell;
 use text_buffer::TextBuffer;
@@ -108,9 +109,10 @@ impl ColumnWatch {
         self.first.take()
     }
 
-    /// A record, or an empty line, is to be answered. A newline after a carriage return ends no line of its own.
+    /// A record, or an empty line, is to be answered. A newline after a carriage return ends no line of its own. A
+    /// plain record has no newline.
     #[inline]
-    pub(crate) fn begin_row(&self, body: &[u8], end: &[u8]) {
+    pub(crate) fn begin_row(&self, body: &[u8], end: &[u8], is_plain: bool) {
         let is_second = self.is_after_return.get() && body.is_empty() && end == b"\n".as_slice();
         self.is_after_return.set(end == b"\r".as_slice());
         let line = self.next_line.get();
@@ -119,9 +121,15 @@ impl ColumnWatch {
             self.record.set(self.record.get().wrapping_add(1));
         }
         if !is_second {
+            let within = if is_plain { 0 } else { newlines_in(body) };
             self.next_line
-                .set(line.saturating_add(newlines_in(body)).saturating_add(1));
+                .set(line.saturating_add(within).saturating_add(1));
         }
+    }
+
+    /// A record is to be answered that was read in parts.
+    pub(crate) fn begin_kept(&self, kept: &RecordBuffer, end: &[u8]) {
+        self.begin_row(kept.as_slice(), end, false);
     }
 
     /// The record at hand is the header.

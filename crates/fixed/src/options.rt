@@ -10,6 +10,22 @@ pub const RADIX: Row = Row {
     help: "Of numerals and bare words: 2, 8, 10 (default), 16",
 };
 
+pub const FIELD: Row = Row {
+    name: "field",
+    letter: None,
+    value: "HI:LO",
+    choices: &[],
+    help: "Bits HI to LO of a longer word, as many as FORMAT's",
+};
+
+pub const SWAP: Row = Row {
+    name: "swap",
+    letter: None,
+    value: "",
+    choices: &[],
+    help: "Bytes in reverse, of words with all hex digits",
+};
+
 pub const POLICY: Row = Row {
     name: "policy",
     letter: Some('p'),

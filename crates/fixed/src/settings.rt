@@ -1,30 +1,37 @@
 //! What the formats and the options of a conversion name.
 
-ghost use Rattle.std.specs.Prelude.{◌≡◌, IfOk, Some, codes};
+ghost use Rattle.std.specs.Prelude.{◌≡◌, ◌≤◌, ℕ, IfErr, IfOk, MatchOption, None, Some, codes, decimal};
 ghost use Rattle.clap.specs.Words.{first_value, found_of};
+ghost use Rattle.fixed.specs.Settings.{IsPlacesWord, IsPrintAsked, endian_text};
+ghost use Rattle.fixed_bits.specs.Formats.{FormatParts};
 ghost use Rattle.fixed_bits.specs.declared.format.Policy.{Policy};
 ghost use Rattle.fixed_bits.specs.declared.mode.ReadMode.{ReadMode};
 ghost use Rattle.fixed_command.specs.Asked.{IsNamed, spelling_text};
+ghost use Rattle.fixed_command.specs.Limits.{max_limit};
+ghost use Rattle.fixed_command.specs.declared.print.Print.{Print};
 ghost use Rattle.fixed_command.specs.declared.spelling.Spelling.{Spelling};
 ghost use Rattle.fixed_numeral.specs.declared.radix.Radix.{Radix};
+ghost use Rattle.fixed_pack.specs.declared.endian.Endian.{Endian};
 ghost use Rattle.fixed_respell.specs.FormatNames.{IsFormatName};
 ghost use Rattle.fixed_respell.specs.Words.{mode_text, policy_text, radix_text};
 
-use crate::options::{ENDIAN, FROM, MODE, PLACES, POLICY, PRINT, RADIX, TARGET_MODE};
+use crate::options::{ENDIAN, FIELD, FROM, MODE, PLACES, POLICY, PRINT, RADIX, SWAP, TARGET_MODE};
 use command_line::given::{Asked, Given, Refusal};
 use command_line::page::Row;
 use fixed_bits::{Format, Policy, ReadMode};
 use fixed_command::{
-    ConvertRule, Limit, Places, Print, Settings, Spelling, mode_named, policy_named, print_named,
-    radix_named, spelling_named, target_mode_named,
+    ConvertRule, Limit, Part, Places, Print, Settings, Spelling, field_named, mode_named,
+    policy_named, print_named, radix_named, spelling_named, target_mode_named,
 };
 use fixed_numeral::Radix;
 use fixed_pack::Endian;
-use fixed_respell::format_named;
+use fixed_respell::{format_named, number_word};
+use line_engine::MAX_LIMIT;
 
 /// The format that a word names.
 pub fn format_of<'a>(word: &'a str) -> Asked<'a, Format>
-    ensures { IfOk result (λ f. IsFormatName word.now f) }
+    ensures value { IfOk result (λ f. IsFormatName word.now f) }
+    ensures refused { IfErr result (λ _. (f : FormatParts) → ¬ IsFormatName word.now f) }
 {
     match format_named(word.as_bytes()) {
         Some(format) => Ok(format),
@@ -56,7 +63,8 @@ fn is_like_format(word: &str) -> bool {
 
 /// What an option's value names, or a refusal of the value.
 fn known<'a, T>(found: Option<T>, given: &Given<'_, 'a>, row: &Row) -> Asked<'a, T>
-    ensures { IfOk result (λ a. found ≡ Some a) }
+    ensures value { IfOk result (λ a. found ≡ Some a) }
+    ensures refused { IfErr result (λ _. found ≡ None) }
 {
     match found {
         Some(found) => Ok(found),
@@ -69,7 +77,9 @@ fn known<'a, T>(found: Option<T>, given: &Given<'_, 'a>, row: &Row) -> Asked<'a,
 
 /// The radix that the option names.
 pub fn radix_of<'a>(given: &Given<'_, 'a>) -> Asked<'a, Radix>
-    ensures { IfOk result (λ a. IsNamed Radix radix_text Radix.Dec
+    ensures value { IfOk result (λ a. IsNamed Radix radix_text Radix.Dec
+        (first_value (found_of given.now.matches.now) (codes "radix")) a) }
+    ensures refused { IfErr result (λ _. (a : Radix) → ¬ IsNamed Radix radix_text Radix.Dec
         (first_value (found_of given.now.matches.now) (codes "radix")) a) }
 {
     known(radix_named(given.value(&RADIX)), given, &RADIX)
@@ -77,7 +87,9 @@ pub fn radix_of<'a>(given: &Given<'_, 'a>) -> Asked<'a, Radix>
 
 /// The policy that the option names.
 pub fn policy_of<'a>(given: &Given<'_, 'a>) -> Asked<'a, Policy>
-    ensures { IfOk result (λ a. IsNamed Policy policy_text Policy.Checked
+    ensures value { IfOk result (λ a. IsNamed Policy policy_text Policy.Checked
+        (first_value (found_of given.now.matches.now) (codes "policy")) a) }
+    ensures refused { IfErr result (λ _. (a : Policy) → ¬ IsNamed Policy policy_text Policy.Checked
         (first_value (found_of given.now.matches.now) (codes "policy")) a) }
 {
     known(policy_named(given.value(&POLICY)), given, &POLICY)
@@ -85,7 +97,9 @@ pub fn policy_of<'a>(given: &Given<'_, 'a>) -> Asked<'a, Policy>
 
 /// The mode that the option names.
 pub fn mode_of<'a>(given: &Given<'_, 'a>) -> Asked<'a, ReadMode>
-    ensures { IfOk result (λ a. IsNamed ReadMode mode_text ReadMode.NearestEven
+    ensures value { IfOk result (λ a. IsNamed ReadMode mode_text ReadMode.NearestEven
+        (first_value (found_of given.now.matches.now) (codes "mode")) a) }
+    ensures refused { IfErr result (λ _. (a : ReadMode) → ¬ IsNamed ReadMode mode_text ReadMode.NearestEven
         (first_value (found_of given.now.matches.now) (codes "mode")) a) }
 {
     known(mode_named(given.value(&MODE)), given, &MODE)
@@ -93,7 +107,9 @@ pub fn mode_of<'a>(given: &Given<'_, 'a>) -> Asked<'a, ReadMode>
 
 /// The mode that the option names for the way to the target.
 fn target_mode_of<'a>(given: &Given<'_, 'a>) -> Asked<'a, ReadMode>
-    ensures { IfOk result (λ a. IsNamed ReadMode mode_text ReadMode.Floor
+    ensures value { IfOk result (λ a. IsNamed ReadMode mode_text ReadMode.Floor
+        (first_value (found_of given.now.matches.now) (codes "target-mode")) a) }
+    ensures refused { IfErr result (λ _. (a : ReadMode) → ¬ IsNamed ReadMode mode_text ReadMode.Floor
         (first_value (found_of given.now.matches.now) (codes "target-mode")) a) }
 {
     known(
@@ -105,40 +121,59 @@ fn target_mode_of<'a>(given: &Given<'_, 'a>) -> Asked<'a, ReadMode>
 
 /// How a line spells a number, as the option says.
 fn spelling_of<'a>(given: &Given<'_, 'a>) -> Asked<'a, Spelling>
-    ensures { IfOk result (λ a. IsNamed Spelling spelling_text Spelling.Numeral
+    ensures value { IfOk result (λ a. IsNamed Spelling spelling_text Spelling.Numeral
+        (first_value (found_of given.now.matches.now) (codes "from")) a) }
+    ensures refused { IfErr result (λ _. (a : Spelling) → ¬ IsNamed Spelling spelling_text Spelling.Numeral
         (first_value (found_of given.now.matches.now) (codes "from")) a) }
 {
     known(spelling_named(given.value(&FROM)), given, &FROM)
 }
 
 /// What the options say of an answer is written.
-fn print_of<'a>(given: &Given<'_, 'a>) -> Asked<'a, Print> {
+fn print_of<'a>(given: &Given<'_, 'a>) -> Asked<'a, Print>
+    ensures value { IfOk result (λ a. IsPrintAsked (first_value (found_of given.now.matches.now) (codes "print"))
+        (first_value (found_of given.now.matches.now) (codes "places")) a) }
+    ensures refused { IfErr result (λ _. (a : Print)
+        → ¬ IsPrintAsked (first_value (found_of given.now.matches.now) (codes "print"))
+        (first_value (found_of given.now.matches.now) (codes "places")) a) }
+{
     let print = match known(print_named(given.value(&PRINT)), given, &PRINT) {
         Ok(print) => print,
         Err(refusal) => return Err(refusal),
     };
     match given.value(&PLACES) {
         None => Ok(print),
-        Some(word) if print != Print::Text => Err(Refusal::Word(
-            word,
-            "rounds nothing: '--places' goes with '--print text' alone",
-        )),
-        Some(word) => match places_of(word) {
-            Some(places) => Ok(Print::Places(places)),
-            None => Err(Refusal::Word(
+        Some(word) => match print {
+            Print::Text => text_of_places(word),
+            _ => Err(Refusal::Word(
                 word,
-                "is not a count of places: it is a number from 0 to 64",
+                "rounds nothing: '--places' goes with '--print text' alone",
             )),
         },
     }
 }
 
+/// The text with the places that a word counts.
+fn text_of_places<'a>(word: &'a str) -> Asked<'a, Print>
+    ensures value { IfOk result (λ a. (n : ℕ) × IsPlacesWord word.now n × (a ≡ Print.Places n)) }
+    ensures refused { IfErr result (λ _. (n : ℕ) → ¬ IsPlacesWord word.now n) }
+{
+    match places_of(word) {
+        Some(places) => Ok(Print::Places(places)),
+        None => Err(Refusal::Word(
+            word,
+            "is not a count of places: it is a number from 0 to 64",
+        )),
+    }
+}
+
 /// The places that a word counts.
-fn places_of(word: &str) -> Option<Places> {
-    let is_plain = word == "0" || !word.starts_with('0') && !word.starts_with('+');
-    match word.parse::<u32>() {
-        Ok(count) if is_plain => Places::new(count),
-        _ => None,
+fn places_of(word: &str) -> Option<Places>
+    ensures { MatchOption result ((n : ℕ) → ¬ IsPlacesWord word.now n) (λ n. IsPlacesWord word.now n) }
+{
+    match number_word(word.as_bytes(), 64) {
+        Some(count) => Places::new(count as u32),
+        None => None,
     }
 }
 
@@ -165,14 +200,50 @@ fn target_of<'a>(
     }
 }
 
+/// The order of bytes that a word names.
+fn endian_named(word: &str) -> Option<Endian>
+    ensures { MatchOption result ((a : Endian) → ¬ (word.now ≡ endian_text a)) (λ a. word.now ≡ endian_text a) }
+{
+    match word {
+        "little" => Some(Endian::Little),
+        "big" => Some(Endian::Big),
+        _ => None,
+    }
+}
+
 /// The order of a word's bytes that the option names. `little` is meant where the option is left out.
-pub fn endian_of<'a>(given: &Given<'_, 'a>) -> Asked<'a, Endian> {
-    let endian = match given.value(&ENDIAN) {
-        None | Some("little") => Some(Endian::Little),
-        Some("big") => Some(Endian::Big),
-        Some(_) => None,
+pub fn endian_of<'a>(given: &Given<'_, 'a>) -> Asked<'a, Endian>
+    ensures value { IfOk result (λ a. IsNamed Endian endian_text Endian.Little
+        (first_value (found_of given.now.matches.now) (codes "endian")) a) }
+    ensures refused { IfErr result (λ _. (a : Endian) → ¬ IsNamed Endian endian_text Endian.Little
+        (first_value (found_of given.now.matches.now) (codes "endian")) a) }
+{
+    match given.value(&ENDIAN) {
+        None => Ok(Endian::Little),
+        Some(word) => known(endian_named(word), given, &ENDIAN),
+    }
+}
+
+/// The part of a word that the options name. None where they take the whole word as it is.
+pub fn part_of<'a>(given: &Given<'_, 'a>, format: Format) -> Asked<'a, Option<Part>> {
+    let is_reversed = given.has(&SWAP);
+    let low = match given.value(&FIELD) {
+        None => None,
+        Some(word) => match field_named(word, format) {
+            Some(low) => Some(low),
+            None => {
+                return Err(Refusal::Word(
+                    word,
+                    "is not a field of the format: it is HI:LO, of as many bits as the format, HI at most 63",
+                ));
+            }
+        },
     };
-    known(endian, given, &ENDIAN)
+    Ok(if is_reversed || low.is_some() {
+        Some(Part { low, is_reversed })
+    } else {
+        None
+    })
 }
 
 /// The conversion that the words from a place on and the options name, and the place of the first file.
@@ -187,6 +258,8 @@ pub fn conversion<'a>(given: &Given<'_, 'a>, place: usize) -> Asked<'a, (Convert
         (first_value (found_of given.now.matches.now) (codes "mode")) found.0.mode) }
     ensures target_mode { IfOk result (λ found. IsNamed ReadMode mode_text ReadMode.Floor
         (first_value (found_of given.now.matches.now) (codes "target-mode")) found.0.target_mode) }
+    ensures print { IfOk result (λ found. IsPrintAsked (first_value (found_of given.now.matches.now) (codes "print"))
+        (first_value (found_of given.now.matches.now) (codes "places")) found.0.print) }
 {
     let source = match format_at(given, place, "SOURCE") {
         Ok(source) => source,
@@ -213,14 +286,26 @@ pub fn conversion<'a>(given: &Given<'_, 'a>, place: usize) -> Asked<'a, (Convert
     Ok((ConvertRule::new(settings), files))
 }
 
-/// The limit of a word: a number in decimal, without a sign or a leading zero.
-pub fn limit_of<'a>(word: &'a str) -> Asked<'a, Limit> {
-    let is_plain = !word.starts_with('0') && !word.starts_with('+');
-    let limit = match word.parse::<u64>() {
-        Ok(bytes) if is_plain => Limit::new(bytes),
-        _ => None,
-    };
-    match limit {
+/// The limit that a word names: a number in decimal, without a sign or a leading zero.
+fn limit_named(word: &str) -> Option<Limit>
+    ensures { MatchOption result ((n : ℕ) → 1 ≤ n → n ≤ max_limit → ¬ (word.now ≡ decimal n))
+        (λ n. word.now ≡ decimal n) }
+{
+    match number_word(word.as_bytes(), MAX_LIMIT) {
+        Some(bytes) => match Limit::new(bytes) {
+            Some(limit) => Some(limit),
+            None => None,
+        },
+        None => None,
+    }
+}
+
+/// The limit that a word names.
+pub fn limit_of<'a>(word: &'a str) -> Asked<'a, Limit>
+    ensures value { IfOk result (λ n. word.now ≡ decimal n) }
+    ensures refused { IfErr result (λ _. (n : ℕ) → 1 ≤ n → n ≤ max_limit → ¬ (word.now ≡ decimal n)) }
+{
+    match limit_named(word) {
         Some(limit) => Ok(limit),
         None => Err(Refusal::Word(word, "is not a limit: it is a number from 1 to 4294967296")),
     }

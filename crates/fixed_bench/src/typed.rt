@@ -1,4 +1,5 @@
-//! The number type: reading, printing, rounding, conversion and order.
+//! The number type: reading, printing, rounding, conversion and order. What is counted in a loop of a few instructions
+//! would depend on the code around it, so such a loop is a function of its own.
 
 ghost use Rattle.std.specs.Prelude.{◌≤◌};
 
@@ -90,6 +91,7 @@ fn work_all<I: Inner, const FRAC: u32>(work: Work, numbers: &[Fixed<I, FRAC>], t
 }
 
 /// The sum of the nearest whole numbers' bits.
+#[inline(never)]
 fn round_all<I: Inner, const FRAC: u32>(numbers: &[Fixed<I, FRAC>], times: u32) -> i128
     requires { FRAC ≤ I.BITS }
 {
@@ -104,6 +106,7 @@ fn round_all<I: Inner, const FRAC: u32>(numbers: &[Fixed<I, FRAC>], times: u32) 
 }
 
 /// The sum of the bits that the numbers have in I16F16.
+#[inline(never)]
 fn convert_all<I: Inner, const FRAC: u32>(numbers: &[Fixed<I, FRAC>], times: u32) -> i128
     requires { FRAC ≤ I.BITS }
 {
@@ -118,6 +121,7 @@ fn convert_all<I: Inner, const FRAC: u32>(numbers: &[Fixed<I, FRAC>], times: u32
 }
 
 /// The count of numbers that are greater than one of U8F8.
+#[inline(never)]
 fn compare_all<I: Inner, const FRAC: u32>(numbers: &[Fixed<I, FRAC>], times: u32) -> i128 {
     let limit = FixedU16::<8>::from_bits(3200);
     let mut sum: i128 = 0;

@@ -9,14 +9,15 @@ use Rattle.line_engine.specs.WholeRun.{WritesAnswer}
 use Rattle.line_engine.specs.declared.status.Status.{Status}
 use Rattle.line_engine.specs.declared.status.Status.TheVariants.{Done, Faults, Usage, ReadFault, WriteFault, NoMemory, TooLong}
 use Rattle.line_engine.proofs.Public.{not_failed, output_one, whole_output_one}
-use Rattle.fixed_show.proofs.Public.{show_refusal_one, word_fault_one, word_has_no_fault}
+use Rattle.fixed_show.proofs.Public.{part_fault_one, part_has_no_fault, show_refusal_one, word_fault_one, word_has_no_fault}
 use Rattle.fixed_show.specs.BitsBlock.{fault_message}
 use Rattle.fixed_show.specs.Blocks.{refusal_block}
+use Rattle.fixed_show.specs.PartText.{part_message}
 use Rattle.fixed_command.specs.Blocks.{IsBlock, IsHeaded, WritesBlocks}
 use Rattle.fixed_command.specs.Refused.{IsClean}
 use Rattle.fixed_command.specs.RunLaws.{BlocksEndIsTheOne, FirstRefusedIsTheOne, LineRunIsTheOne, WholeRunIsTheOne}
 use Rattle.fixed_command.specs.declared.blocks.Question.{Question}
-use Rattle.fixed_command.specs.declared.blocks.Question.TheVariants.{Bits, Format, Show}
+use Rattle.fixed_command.specs.declared.blocks.Question.TheVariants.{Bits, Format, Part, Show}
 
 abbrev refused : List ℕ → AnswerText
 refused text = record { text = text; fault = true }
@@ -29,6 +30,8 @@ refusal_one : (q : Question) (word a b : List ℕ) → IsBlock q word (refused a
 refusal_one (Show r f p m) word a b x y = (show_refusal_one m r word f p true a b x y).1
 refusal_one (Bits r f) word a b x y =
     x.block_is ∙ ap (λ w. refusal_block (fault_message w)) (word_fault_one r f word x.fault y.fault x.is_fault y.is_fault) ∙ sym y.block_is
+refusal_one (Part r part f) word a b x y =
+    x.block_is ∙ ap (λ w. refusal_block (part_message w)) (part_fault_one r part f word x.fault y.fault x.is_fault y.is_fault) ∙ sym y.block_is
 refusal_one Format word a b (inl x) y = absurd (false≢true (sym x.clean))
 refusal_one Format word a b (inr x) (inl y) = absurd (false≢true (sym y.clean))
 refusal_one Format word a b (inr x) (inr y) = ap (λ t. t.text) (x.block_is ∙ sym y.block_is)
@@ -36,6 +39,7 @@ refusal_one Format word a b (inr x) (inr y) = ap (λ t. t.text) (x.block_is ∙ 
 not_both : (q : Question) (word a b : List ℕ) → IsBlock q word (refused a) → IsBlock q word (clean b) → ⊥
 not_both (Show r f p m) word a b x y = false≢true (show_refusal_one m r word f p false a b x y).0
 not_both (Bits r f) word a b x y = word_has_no_fault r f word x.fault y.bits x.is_fault y.is_word
+not_both (Part r part f) word a b x y = part_has_no_fault r part f word x.fault y.bits x.is_fault y.is_part
 not_both Format word a b (inl x) y = false≢true (sym x.clean)
 not_both Format word a b (inr x) (inl y) = x.none y.format y.word_is
 not_both Format word a b (inr x) (inr y) = false≢true (ap (λ t. t.fault) y.block_is)

@@ -6,6 +6,7 @@ use Rattle.fixed_bits.specs.Formats.{FormatParts}
 use Rattle.fixed_respell.specs.FormatNames.{IsFormatName}
 use Rattle.fixed_show.specs.BitsBlock.{IsBitsBlock}
 use Rattle.fixed_show.specs.FormatBlock.{IsFormatBlock}
+use Rattle.fixed_show.specs.PartText.{IsPartBlock}
 use Rattle.fixed_show.specs.ShowBlock.{IsShowBlock}
 use Rattle.line_engine.specs.AnswerText.{AnswerText}
 use Rattle.line_engine.specs.Failures.{HasFailed}
@@ -14,7 +15,7 @@ use Rattle.line_engine.specs.declared.status.Status.{Status}
 use Rattle.line_engine.specs.declared.status.Status.TheVariants.{Done, Faults, Usage, ReadFault, WriteFault, NoMemory}
 use Rattle.line_engine.specs.declared.status.Status.TheVariants.{TooLong}
 use Rattle.fixed_command.specs.declared.blocks.Question.{Question}
-use Rattle.fixed_command.specs.declared.blocks.Question.TheVariants.{Bits, Format, Show}
+use Rattle.fixed_command.specs.declared.blocks.Question.TheVariants.{Bits, Format, Part, Show}
 
 -- the block of the format that a word names
 pub record IsNamedFormat (word : List ℕ) (block : AnswerText) : Type 0 where
@@ -36,6 +37,7 @@ IsFormatAnswer word block = IsNamedFormat word block ⊎ IsNoFormat word block
 abbrev pub IsBlock : Question → List ℕ → AnswerText → Type 0
 IsBlock (Show radix format policy mode) word block = IsShowBlock mode radix word format policy block.fault block.text
 IsBlock (Bits radix format) word block = IsBitsBlock radix format word block.fault block.text
+IsBlock (Part radix part format) word block = IsPartBlock radix part format word block.fault block.text
 IsBlock Format word block = IsFormatAnswer word block
 
 -- ---- the line of the word above its block: the word as it was given, up to 1,024 bytes

@@ -6,12 +6,13 @@ use Rattle.line_engine.specs.AnswerText.{AnswerText}
 use Rattle.fixed_command.specs.Blocks.{IsHeaded, head_line}
 use Rattle.fixed_command.specs.Convert.{without_return}
 use Rattle.fixed_command.specs.declared.blocks.Question.{Question}
-use Rattle.fixed_command.specs.declared.blocks.Question.TheVariants.{Bits, Format, Show}
+use Rattle.fixed_command.specs.declared.blocks.Question.TheVariants.{Bits, Format, Part, Show}
 
 -- the format of a question is one
 abbrev pub HasFormat : Question → Type 0
 HasFormat (Show radix format policy mode) = IsFormat format.width format.frac
 HasFormat (Bits radix format) = IsFormat format.width format.frac
+HasFormat (Part radix part format) = IsFormat format.width format.frac
 HasFormat Format = Unit {0}
 
 -- the block of a line that is too long

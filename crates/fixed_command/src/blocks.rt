@@ -12,7 +12,7 @@ ghost use Rattle.line_engine.specs.Output.{AppendsPrefix};
 use fixed_bits::{Policy, ReadMode};
 use fixed_numeral::Radix;
 use fixed_respell::format_named;
-use fixed_show::{MAX_BLOCK, bits_block, format_block, show_block};
+use fixed_show::{MAX_BLOCK, Part, bits_block, format_block, part_block, show_block};
 use fixed_steps::Steps;
 use line_engine::{Failed, Sink, Status, write_whole};
 use std::sync::ledger::Ledger;
@@ -36,6 +36,15 @@ pub enum Question {
     Bits {
         /// The radix of a word without a prefix.
         radix: Radix,
+        /// The format.
+        format: fixed_bits::Format,
+    },
+    /// What number a part of a word of a register is in a format.
+    Part {
+        /// The radix of a word without a prefix.
+        radix: Radix,
+        /// What is taken of the word.
+        part: Part,
         /// The format.
         format: fixed_bits::Format,
     },
@@ -86,6 +95,11 @@ pub(crate) fn push_block<const N: usize, L: Ledger>(
             mode,
         } => show_block(word, *radix, *format, *policy, *mode, out, steps),
         Question::Bits { radix, format } => bits_block(word, *radix, *format, out, steps),
+        Question::Part {
+            radix,
+            part,
+            format,
+        } => part_block(word, *radix, *part, *format, out, steps),
         Question::Format => push_format(word, out, steps),
     }
 }

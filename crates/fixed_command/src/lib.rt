@@ -4,6 +4,7 @@
 //! what its answers are made of.
 #![tactic(auto)]
 
+pub mod bit_field;
 pub mod blocks;
 pub mod column;
 pub mod convert;
@@ -23,6 +24,7 @@ pub mod task;
 pub mod watch;
 pub mod words;
 
+pub use bit_field::field_named;
 pub use blocks::{Question, run_blocks};
 pub use column::{ColumnConversion, convert_column};
 pub use convert::{ConvertRule, Settings, without_return};
@@ -30,6 +32,7 @@ pub use explain::explanation;
 pub use explain_field::field_explanation;
 pub use field::{Empty, FieldForm, FieldNumerals};
 pub use field_report::{FieldReport, ReportedNumerals, field_outcome};
+pub use fixed_show::Part;
 pub use hex::{push_hex, word_of};
 pub use layout::{LaidOutRule, Layout, MAX_PREFIX};
 pub use line_blocks::BlockRule;

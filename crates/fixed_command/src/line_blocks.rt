@@ -29,6 +29,9 @@ fn check_format(question: Question)
         Question::Bits { format, .. } => {
             let _frac = format.frac();
         }
+        Question::Part { format, .. } => {
+            let _frac = format.frac();
+        }
         Question::Format => (),
     }
 }

@@ -7,3 +7,4 @@ mod NearLemmas
 mod ErrorsLemmas
 mod UniqueLemmas
 mod GrowthLemmas
+pub mod Public

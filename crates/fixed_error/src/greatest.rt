@@ -1,6 +1,6 @@
 //! The greatest error of numerals that come one after another.
 
-ghost use Rattle.std.specs.Prelude.{◌≡◌, ◌≤◌, ◌++◌, ◌∷◌, [], List, OnOk, true};
+ghost use Rattle.std.specs.Prelude.{◌≡◌, ◌≤◌, ◌++◌, ◌∷◌, [], List, OnErr, OnOk, true};
 ghost use Rattle.fixed_error.specs.ErrorSize.{HasNoGreaterError, IsReadWithin};
 ghost use Rattle.fixed_error.specs.Greatest.{Entry, HasGreatest, HasSomeGreatest};
 ghost use Rattle.fixed_error.specs.Inner.Greatest.{IsGreatestSoFar};
@@ -104,6 +104,8 @@ impl GreatestError {
             (HasNoGreaterError self.old.mode self.old.radix self.old.frac numeral.now self.new.numeral.items) }
         ensures not_less { OnOk result (self.old.is_some ≡ true → HasNoGreaterError self.old.mode self.old.radix
             self.old.frac self.old.numeral.items self.new.numeral.items) }
+        ensures same_place { OnErr result (self.new.place ≡ self.old.place) }
+        ensures same_some { OnErr result (self.new.is_some ≡ self.old.is_some) }
     {
         if self.is_greater(numeral, steps) {
             self.numeral.clear();

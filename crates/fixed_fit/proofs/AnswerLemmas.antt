@@ -1,5 +1,5 @@
 -- What is written is the answer to the list, by what is known of it.
-use Rattle.std.proofs.Common.{◌≡◌, ℕ, zero, suc, ◌+◌, ◌<◌, ◌≤◌, ◌⊎◌, ◌↔◌, ◌||◌, ◌&&◌, Bool, true, false, IsTrue, nat_lt, List, [], ◌∷◌, ◌++◌, length, Option, Some, None, refl, sym, ap, ◌∙◌, subst, arith, inl, inr}
+use Rattle.std.proofs.Common.{◌≡◌, ℕ, zero, suc, ◌+◌, ◌≤◌, ◌⊎◌, ◌||◌, Bool, true, false, IsTrue, nat_lt, max, List, [], Option, Some, None, refl, sym, ◌∙◌, subst, arith, inl, inr}
 use Rattle.std.proofs.lemmas.Bool.{lt-ltb, le-ltb}
 use Rattle.fixed_bits.specs.Formats.{FormatParts}
 use Rattle.fixed_least.specs.Holding.{AllNumerals}
@@ -9,8 +9,12 @@ use Rattle.fixed_numeral.specs.declared.radix.Radix.{Radix}
 use Rattle.line_engine.specs.AnswerText.{AnswerText}
 use Rattle.line_engine.specs.Lines.{lines}
 use Rattle.fixed_fit.specs.Answer.{IsFoundAnswer, IsNoneAnswer, IsReason}
-use Rattle.fixed_fit.specs.Fitting.{AllFit, HasBelowZero, IsFinest, IsFirstExceeding, IsSignRule}
+use Rattle.fixed_fit.specs.Fitting.{HasBelowZero, IsFinest, IsFirstExceeding, IsSignRule}
 use Rattle.fixed_fit.specs.Inner.Lengths.{AreLengths, IsLengthsAnswer, reason_of}
+use Rattle.fixed_error.specs.Errors.{HasGreatestErrors}
+use Rattle.fixed_fit.specs.ErrorWord.{entries_from}
+use Rattle.fixed_fit.specs.Inner.Reading.{HasLines}
+use Rattle.fixed_fit.specs.declared.reader.Reader.{Reader}
 use Rattle.fixed_fit.specs.Inner.Progress.{AreFitted, HasProgress, IsKnown}
 use Rattle.fixed_fit.specs.declared.lengths.Lengths.{Lengths}
 use Rattle.fixed_fit.specs.declared.progress.Progress.{Progress}
@@ -42,7 +46,7 @@ reason_by q s list f place first = record {
 
 answer_by : (q : Question) (s : Bool) (list : List (List ℕ)) (count place : ℕ) (answer : AnswerText) → AllNumerals q.radix list → IsSignRule q.radix q.kind.signed list s
     → AreLengths q.radix list (record { kind = record { signed = s; width = q.kind.width; frac = 0 }; count = count; place = place })
-    → IsLengthsAnswer q.is_reason_asked (record { kind = record { signed = s; width = q.kind.width; frac = 0 }; count = count; place = place }) answer → IsFoundAnswer q list answer ⊎ IsNoneAnswer q list answer
+    → IsLengthsAnswer q list (record { kind = record { signed = s; width = q.kind.width; frac = 0 }; count = count; place = place }) answer → IsFoundAnswer q list answer ⊎ IsNoneAnswer q list answer
 answer_by q s list zero place answer numerals sign h a = inr (record {
   numerals = numerals;
   signed = s;
@@ -54,29 +58,32 @@ answer_by q s list zero place answer numerals sign h a = inr (record {
 })
 answer_by q s list (suc f) place answer numerals sign h a =
     let one : suc f ≡ f + 1 = omega arith in
+    let said = a.some f one in
     inl (record {
       numerals = numerals;
       signed = s;
       sign = sign;
       frac = f;
       finest = finest_by q.radix list s q.kind.width f place h;
+      error = said.error;
+      is_error = said.is_error;
       reason = reason_of q.is_reason_asked s q.kind.width f place;
       is_reason = reason_by q s list f place h.first;
-      text = a.some_text f one;
-      fault = a.some_fault f one;
+      text = said.text;
+      fault = said.fault;
     })
 
 lengths_answered : (q : Question) (s : Bool) (list : List (List ℕ)) (l : Lengths) (answer : AnswerText) → AllNumerals q.radix list → IsSignRule q.radix q.kind.signed list s → l.kind ≡ record { signed = s; width = q.kind.width; frac = 0 }
-    → AreLengths q.radix list l → IsLengthsAnswer q.is_reason_asked l answer → IsFoundAnswer q list answer ⊎ IsNoneAnswer q list answer
+    → AreLengths q.radix list l → IsLengthsAnswer q list l answer → IsFoundAnswer q list answer ⊎ IsNoneAnswer q list answer
 lengths_answered q s list l answer numerals sign kind h a =
     let P : FormatParts → Type 0 = λ k. AreLengths q.radix list (record { kind = k; count = l.count; place = l.place }) in
-    let Q : FormatParts → Type 0 = λ k. IsLengthsAnswer q.is_reason_asked (record { kind = k; count = l.count; place = l.place }) answer in
+    let Q : FormatParts → Type 0 = λ k. IsLengthsAnswer q list (record { kind = k; count = l.count; place = l.place }) answer in
     answer_by q s list l.count l.place answer numerals sign (subst P kind h) (subst Q kind a)
 
 fitted : (q : Question) (list : List (List ℕ)) (p : Progress) → HasProgress q.kind.width list p → p.radix ≡ q.radix → p.fault ≡ None → AreFitted q.kind.width list p
 fitted q list p h same none = let P : Option LeastFault → Type 0 = λ f. IsKnown q.kind.width list p f in subst P none h.known
 
-pub signed_answer : (q : Question) (list : List (List ℕ)) (p : Progress) (answer : AnswerText) → HasProgress q.kind.width list p → p.radix ≡ q.radix → p.fault ≡ None → (q.kind.signed || p.is_below) ≡ true → IsLengthsAnswer q.is_reason_asked p.signed answer → IsFoundAnswer q list answer ⊎ IsNoneAnswer q list answer
+pub signed_answer : (q : Question) (list : List (List ℕ)) (p : Progress) (answer : AnswerText) → HasProgress q.kind.width list p → p.radix ≡ q.radix → p.fault ≡ None → (q.kind.signed || p.is_below) ≡ true → IsLengthsAnswer q list p.signed answer → IsFoundAnswer q list answer ⊎ IsNoneAnswer q list answer
 signed_answer q list p answer h same none either a =
     let known : AreFitted q.kind.width list p = fitted q list p h same none in
     let N : Radix → Type 0 = λ r. AllNumerals r list in
@@ -88,7 +95,7 @@ signed_answer q list p answer h same none either a =
     rule true below e found = inl refl
     rule false below e found = inr (found e)
 
-pub plain_answer : (q : Question) (list : List (List ℕ)) (p : Progress) (answer : AnswerText) → HasProgress q.kind.width list p → p.radix ≡ q.radix → p.fault ≡ None → (q.kind.signed || p.is_below) ≡ false → IsLengthsAnswer q.is_reason_asked p.plain answer → IsFoundAnswer q list answer ⊎ IsNoneAnswer q list answer
+pub plain_answer : (q : Question) (list : List (List ℕ)) (p : Progress) (answer : AnswerText) → HasProgress q.kind.width list p → p.radix ≡ q.radix → p.fault ≡ None → (q.kind.signed || p.is_below) ≡ false → IsLengthsAnswer q list p.plain answer → IsFoundAnswer q list answer ⊎ IsNoneAnswer q list answer
 plain_answer q list p answer h same none neither a =
     let known : AreFitted q.kind.width list p = fitted q list p h same none in
     let N : Radix → Type 0 = λ r. AllNumerals r list in
@@ -105,3 +112,18 @@ fault_is_answer q input p fault answer h same is text flag =
     let P : Option LeastFault → Type 0 = λ f. IsKnown q.kind.width (lines input) p f in
     let N : Radix → Type 0 = λ r. IsNoNumeral r (lines input) fault in
     record { why = fault; is_none = subst N same (subst P is h.known); text = text; fault = flag }
+
+-- what is kept where no line is a fault
+pub plain_known : (q : Question) (list : List (List ℕ)) (reader : Reader) → HasLines q.radix q.kind.width list reader → reader.progress.fault ≡ None
+    → (count : ℕ) × (l : List (List ℕ)) × HasGreatestErrors q.radix count (entries_from 1 l) reader.errors × AreLengths q.radix l reader.progress.plain × (reader.progress.plain.count ≤ count)
+plain_known q list reader h none =
+    let known : AreFitted q.kind.width list reader.progress = fitted q list reader.progress h.progress h.radix none in
+    let p = reader.progress in
+    (max p.plain.count p.signed.count, list, h.errors none, subst (λ (r : Radix). AreLengths r list p.plain) h.radix known.plain, omega arith)
+
+pub signed_known : (q : Question) (list : List (List ℕ)) (reader : Reader) → HasLines q.radix q.kind.width list reader → reader.progress.fault ≡ None
+    → (count : ℕ) × (l : List (List ℕ)) × HasGreatestErrors q.radix count (entries_from 1 l) reader.errors × AreLengths q.radix l reader.progress.signed × (reader.progress.signed.count ≤ count)
+signed_known q list reader h none =
+    let known : AreFitted q.kind.width list reader.progress = fitted q list reader.progress h.progress h.radix none in
+    let p = reader.progress in
+    (max p.plain.count p.signed.count, list, h.errors none, subst (λ (r : Radix). AreLengths r list p.signed) h.radix known.signed, omega arith)

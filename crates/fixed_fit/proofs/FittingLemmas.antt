@@ -1,12 +1,12 @@
 -- A numeral that fits a fraction length fits each shorter one.
-use Rattle.std.proofs.Common.{◌≡◌, ℕ, ◌+◌, ◌-◌, ◌*◌, ◌^◌, ◌%◌, ◌<◌, ◌≤◌, ◌⊎◌, ◌↔◌, Bool, true, false, not, IsTrue, List, [], ◌∷◌, ◌++◌, length, refl, sym, ap, ◌∙◌, subst, arith, inl, inr, ⊎_elim, mul-le-mul_right, mul-le-mul_left, pow_pos, lit<, zero, suc, append_assoc, ℤ, pos}
+use Rattle.std.proofs.Common.{◌≡◌, ℕ, ◌+◌, ◌-◌, ◌*◌, ◌^◌, ◌%◌, ◌<◌, ◌≤◌, ◌↔◌, Bool, true, false, not, IsTrue, List, [], ◌∷◌, ◌++◌, length, refl, sym, ap, ◌∙◌, subst, arith, inl, inr, ⊎_elim, mul-le-mul_right, mul-le-mul_left, pow_pos, zero, suc, append_assoc, ℤ}
 use Rattle.std.proofs.Math.Nat.{pow-le-pow_right}
 use Rattle.std.proofs.lemmas.Bool.{cases_lt}
 use Rattle.std.proofs.lemmas.Int.{ints}
-use Rattle.fixed_bits.specs.Nearest.{IsNearest, IsEven, distance}
+use Rattle.fixed_bits.specs.Nearest.{IsNearest, distance}
 use Rattle.fixed_bits.specs.Formats.{FormatParts}
 use Rattle.fixed_bits.specs.Numbers.{IsNumber, with_sign}
-use Rattle.fixed_bits.specs.Ranges.{IsInRange, IsOutOfRange, lowest, greatest}
+use Rattle.fixed_bits.specs.Ranges.{IsInRange, IsOutOfRange}
 use Rattle.fixed_bits.specs.declared.mode.ReadMode.TheVariants.{NearestEven}
 use Rattle.fixed_bits.proofs.Public.{inside, range_decided}
 use Rattle.fixed_numeral.specs.Numeral.{Parts, HasNumeral, IsNumeral, is_minus}
@@ -16,7 +16,7 @@ use Rattle.fixed_numeral.proofs.Public.{magnitude_pos, parts_unique}
 use Rattle.fixed_read.specs.Reading.{IsReadNumber, IsReading, number_in}
 use Rattle.fixed_read.specs.declared.read_number.ReadNumber.{ReadNumber}
 use Rattle.fixed_read.proofs.Public.{read_number_is_the_one, read_unique}
-use Rattle.fixed_fit.specs.Fitting.{AllFit, Exceeds, Fits, IsFinest, IsFirstExceeding, HasBelowZero, IsSignRule}
+use Rattle.fixed_fit.specs.Fitting.{AllFit, Exceeds, Fits, IsFirstExceeding}
 use Rattle.fixed_fit.specs.Inner.Lengths.{AreLengths, AreLowered}
 use Rattle.fixed_fit.specs.declared.lengths.Lengths.{Lengths}
 use Rattle.fixed_fit.specs.Laws.{FitsEachShorter, AllFitEachShorter, FinestIsTheOne, SignRuleIsTheOne}

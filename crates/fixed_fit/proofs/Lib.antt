@@ -6,3 +6,6 @@ mod ProgressLemmas
 mod RangeLemmas
 mod ReadingLemmas
 mod UniqueLemmas
+mod ErrorWordLemmas
+mod HalfLemmas
+mod LineLemmas

@@ -1,9 +1,8 @@
 -- A numeral is zero exactly where it is a whole number of ulps, and none of them.
-use Rattle.std.proofs.Common.{◌≡◌, ℕ, ◌+◌, ◌*◌, ◌^◌, ◌<◌, ◌≤◌, ◌↔◌, ◌⊎◌, Bool, true, false, not, ◌&&◌, IsTrue, refl, sym, ap, ◌∙◌, subst, arith, ⊎_elim, mul-le-mul_right}
+use Rattle.std.proofs.Common.{◌≡◌, ℕ, ◌+◌, ◌*◌, ◌^◌, ◌<◌, ◌≤◌, ◌↔◌, Bool, true, false, IsTrue, refl, sym, ap, ◌∙◌, subst, arith, ⊎_elim, mul-le-mul_right}
 use Rattle.std.proofs.lemmas.Bool.{cases_lt, false≢true}
 use Rattle.std.proofs.lemmas.Int.{ints}
 use Rattle.fixed_bits.specs.Numbers.{with_sign}
-use Rattle.fixed_bits.specs.Rounded.{IsNotAbove}
 use Rattle.fixed_bits.specs.declared.mode.ReadMode.TheVariants.{TowardsZero}
 use Rattle.fixed_numeral.specs.Numeral.{Parts, is_minus}
 use Rattle.fixed_numeral.specs.Value.{magnitude}

@@ -1,5 +1,5 @@
 -- Rounding keeps the order of numbers, so the ends of a range decide for every number between them.
-use Rattle.std.proofs.Common.{◌≡◌, ℕ, ◌+◌, ◌*◌, ◌^◌, ◌<◌, ◌≤◌, ◌↔◌, ◌⊎◌, Bool, true, false, refl, sym, ap, ◌∙◌, subst, arith, ⊎_elim, mul-le-mul_right, ℤ, pos, ◌≤ℤ◌}
+use Rattle.std.proofs.Common.{◌≡◌, ℕ, ◌*◌, ◌^◌, ◌<◌, ◌≤◌, Bool, true, false, sym, ap, subst, arith, ⊎_elim, mul-le-mul_right, ℤ, ◌≤ℤ◌}
 use Rattle.std.proofs.lemmas.Bool.{cases_lt}
 use Rattle.std.proofs.lemmas.Int.{ints}
 use Rattle.fixed_bits.specs.Nearest.{IsNearest}
@@ -13,7 +13,7 @@ use Rattle.fixed_numeral.specs.declared.radix.Radix.{Radix}
 use Rattle.fixed_numeral.proofs.Public.{magnitude_pos}
 use Rattle.fixed_read.specs.Reading.{IsReadNumber}
 use Rattle.fixed_read.proofs.Public.{read_number_is_the_one}
-use Rattle.fixed_fit.specs.Range.{EndsDecide, IsAtMost, IsFitting}
+use Rattle.fixed_fit.specs.Range.{EndsDecide, IsAtMost}
 use Rattle.fixed_fit.proofs.FittingLemmas.{nearest_grows}
 
 -- of two fractions, the nearest numbers of ulps

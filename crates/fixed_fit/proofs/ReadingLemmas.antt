@@ -3,10 +3,10 @@ use Rattle.std.proofs.Common.{◌≡◌, ℕ, ◌+◌, ◌<◌, ◌≤◌, Bool,
 use Rattle.std.proofs.KnownBytes.{Consumes-trans}
 use Rattle.std.proofs.lemmas.List.{length-take, take_all, take_more}
 use Rattle.std.specs.Io.KnownBytes.{Consumes, Keeps}
-use Rattle.line_engine.specs.Lines.{ended_lines, lines, unended}
+use Rattle.line_engine.specs.Lines.{ended_lines, lines}
+use Rattle.fixed_error.specs.declared.errors.GreatestErrors.{GreatestErrors}
 use Rattle.fixed_numeral.specs.declared.radix.Radix.{Radix}
-use Rattle.fixed_fit.specs.Inner.Progress.{HasProgress}
-use Rattle.fixed_fit.specs.Inner.Reading.{HasRead}
+use Rattle.fixed_fit.specs.Inner.Reading.{HasLines, HasRead}
 use Rattle.fixed_fit.specs.declared.progress.Progress.{Progress}
 use Rattle.fixed_fit.specs.declared.reader.Reader.{Reader}
 use Rattle.fixed_fit.proofs.ByteLemmas.{ended_by_newline, ended_by_other, no_last_line, one_last_line, rest_by_newline, rest_by_other}
@@ -18,43 +18,43 @@ not_newline b other = by (eqb b 10) refl
     by true is = absurd (other (eqb-true b 10 is))
     by false is = is
 
-pub newline_read : (r : Radix) (n : ℕ) (whole : List ℕ) (byte : ℕ) (old new : Reader) (line : List ℕ) → byte ≡ 10 → new.line.items ≡ [] → line ≡ old.line.items
-    → ((m : ℕ) (done : List (List ℕ)) → HasProgress m done old.progress → HasProgress m (done ++ line ∷ []) new.progress) → new.progress.radix ≡ old.progress.radix → HasRead r n whole old → HasRead r n (whole ++ byte ∷ []) new
-newline_read r n whole byte old new line is clear same more radix h =
+pub newline_read : (r : Radix) (n : ℕ) (whole : List ℕ) (byte : ℕ) (old new : Reader) → byte ≡ 10 → new.line.items ≡ []
+    → ((m : ℕ) (done : List (List ℕ)) → HasLines r m done old → HasLines r m (done ++ old.line.items ∷ []) new) → HasRead r n whole old → HasRead r n (whole ++ byte ∷ []) new
+newline_read r n whole byte old new is clear more h =
     let P : ℕ → Type 0 = λ b. HasRead r n (whole ++ b ∷ []) new in
-    let N : List (List ℕ) → Type 0 = λ l. HasProgress n l new.progress in
-    let grown : ended_lines whole ++ line ∷ [] ≡ ended_lines (whole ++ 10 ∷ []) = ap (λ l. ended_lines whole ++ l ∷ []) (same ∙ h.line) ∙ sym (ended_by_newline whole) in
+    let N : List (List ℕ) → Type 0 = λ l. HasLines r n l new in
+    let grown : ended_lines whole ++ old.line.items ∷ [] ≡ ended_lines (whole ++ 10 ∷ []) = ap (λ l. ended_lines whole ++ l ∷ []) h.line ∙ sym (ended_by_newline whole) in
     subst P (sym is) (record {
       line = clear ∙ sym (rest_by_newline whole);
-      progress = subst N grown (more n (ended_lines whole) h.progress);
-      radix = radix ∙ h.radix;
+      lines = subst N grown (more n (ended_lines whole) h.lines);
     })
 
-pub other_read : (r : Radix) (n : ℕ) (whole : List ℕ) (byte : ℕ) (old new : Reader) → eqb byte 10 ≡ false → new.line.items ≡ old.line.items ++ byte ∷ [] → new.progress ≡ old.progress → HasRead r n whole old → HasRead r n (whole ++ byte ∷ []) new
-other_read r n whole byte old new other grown same h =
-    let N : List (List ℕ) → Type 0 = λ l. HasProgress n l new.progress in
-    let M : Progress → Type 0 = λ p. HasProgress n (ended_lines whole) p in
+-- the lines are kept where the line whose end has not come is another
+pub same_lines : (r : Radix) (n : ℕ) (list : List (List ℕ)) (old new : Reader) → new.progress ≡ old.progress → new.errors ≡ old.errors → HasLines r n list old → HasLines r n list new
+same_lines r n list old new same same' h =
+    let P : Progress → GreatestErrors → Type 0 = λ p e. HasLines r n list (record { line = new.line; progress = p; errors = e }) in
+    subst (λ p. P p new.errors) (sym same) (subst (λ e. P old.progress e) (sym same') (record { width = h.width; progress = h.progress; radix = h.radix; errors = h.errors }))
+
+pub other_read : (r : Radix) (n : ℕ) (whole : List ℕ) (byte : ℕ) (old new : Reader) → eqb byte 10 ≡ false → new.line.items ≡ old.line.items ++ byte ∷ [] → new.progress ≡ old.progress → new.errors ≡ old.errors → HasRead r n whole old → HasRead r n (whole ++ byte ∷ []) new
+other_read r n whole byte old new other grown same same' h =
+    let N : List (List ℕ) → Type 0 = λ l. HasLines r n l new in
     record {
       line = grown ∙ (ap (λ l. l ++ byte ∷ []) h.line ∙ sym (rest_by_other byte whole other));
-      progress = subst N (sym (ended_by_other byte whole other)) (subst M (sym same) h.progress);
-      radix = ap radix_of same ∙ h.radix;
+      lines = subst N (sym (ended_by_other byte whole other)) (same_lines r n (ended_lines whole) old new same same' h.lines);
     }
-  where
-    radix_of : Progress → Radix
-    radix_of p = p.radix
 
 -- at the end of an input
-pub ends_empty : (r : Radix) (n : ℕ) (whole : List ℕ) (reader : Reader) → reader.line.items ≡ [] → HasRead r n whole reader → HasProgress n (lines whole) reader.progress × (reader.progress.radix ≡ r)
+pub ends_empty : (r : Radix) (n : ℕ) (whole : List ℕ) (reader : Reader) → reader.line.items ≡ [] → HasRead r n whole reader → HasLines r n (lines whole) reader
 ends_empty r n whole reader none h =
-    let N : List (List ℕ) → Type 0 = λ l. HasProgress n l reader.progress in
-    (subst N (sym (no_last_line whole (sym h.line ∙ none))) h.progress, h.radix)
+    let N : List (List ℕ) → Type 0 = λ l. HasLines r n l reader in
+    subst N (sym (no_last_line whole (sym h.line ∙ none))) h.lines
 
-pub ends_line : (r : Radix) (n : ℕ) (whole : List ℕ) (reader : Reader) (line : List ℕ) (after : Progress) → (reader.line.items ≡ [] → ⊥) → line ≡ reader.line.items
-    → ((m : ℕ) (done : List (List ℕ)) → HasProgress m done reader.progress → HasProgress m (done ++ line ∷ []) after) → after.radix ≡ reader.progress.radix → HasRead r n whole reader → HasProgress n (lines whole) after × (after.radix ≡ r)
-ends_line r n whole reader line after some same more radix h =
-    let N : List (List ℕ) → Type 0 = λ l. HasProgress n l after in
-    let grown : ended_lines whole ++ line ∷ [] ≡ lines whole = ap (λ l. ended_lines whole ++ l ∷ []) (same ∙ h.line) ∙ sym (one_last_line whole (λ e. some (h.line ∙ e))) in
-    (subst N grown (more n (ended_lines whole) h.progress), radix ∙ h.radix)
+pub ends_line : (r : Radix) (n : ℕ) (whole : List ℕ) (reader after : Reader) → (reader.line.items ≡ [] → ⊥)
+    → ((m : ℕ) (done : List (List ℕ)) → HasLines r m done reader → HasLines r m (done ++ reader.line.items ∷ []) after) → HasRead r n whole reader → HasLines r n (lines whole) after
+ends_line r n whole reader after some more h =
+    let N : List (List ℕ) → Type 0 = λ l. HasLines r n l after in
+    let grown : ended_lines whole ++ reader.line.items ∷ [] ≡ lines whole = ap (λ l. ended_lines whole ++ l ∷ []) h.line ∙ sym (one_last_line whole (λ e. some (h.line ∙ e))) in
+    subst N grown (more n (ended_lines whole) h.lines)
 
 pub nil_of : (xs : List ℕ) → length xs ≡ 0 → xs ≡ []
 nil_of [] e = refl

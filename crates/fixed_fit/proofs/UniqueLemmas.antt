@@ -3,17 +3,18 @@ use Rattle.std.proofs.Common.{◌≡◌, ℕ, ◌+◌, ◌<◌, ◌≤◌, ◌�
 use Rattle.std.specs.Prelude.{codes, decimal}
 use Rattle.std.proofs.lemmas.Bool.{cases_lt}
 use Rattle.fixed_least.specs.Holding.{AllNumerals}
-use Rattle.fixed_least.specs.Least.{IsFaultAnswer, IsNoNumeral}
+use Rattle.fixed_least.specs.Least.{IsFaultAnswer}
 use Rattle.fixed_least.specs.Lemmas.LeastLemmas.{answer_one}
-use Rattle.fixed_least.specs.declared.least.LeastFault.{LeastFault}
 use Rattle.fixed_numeral.specs.Numeral.{IsNumeral}
 use Rattle.fixed_numeral.specs.declared.radix.Radix.{Radix}
 use Rattle.line_engine.specs.AnswerText.{AnswerText}
 use Rattle.line_engine.specs.Lines.{lines}
-use Rattle.fixed_fit.specs.Answer.{IsAnswer, IsFoundAnswer, IsNoneAnswer, IsReason, name_of, ruled_out_line}
+use Rattle.fixed_fit.specs.Answer.{IsFoundAnswer, IsNoneAnswer, IsReason, format_of, name_of, ruled_out_line}
+use Rattle.fixed_fit.specs.ErrorWord.{IsErrorWord}
 use Rattle.fixed_fit.specs.Fitting.{AllFit, Exceeds, Fits, IsFinest, IsFirstExceeding}
 use Rattle.fixed_fit.specs.Laws.{AnswerIsTheOne}
 use Rattle.fixed_fit.specs.declared.question.Question.{Question}
+use Rattle.fixed_fit.proofs.ErrorWordLemmas.{word_one}
 use Rattle.fixed_fit.proofs.FittingLemmas.{all_fit_each_shorter, exceeding_not, finest_is_the_one, not_both, sign_rule_is_the_one}
 
 -- the first line that is out of range is at one place
@@ -58,10 +59,16 @@ found_one q list a b x y =
     let f : x.frac ≡ y.frac = finest_is_the_one q.radix y.signed n x.frac y.frac list (subst F s x.finest) y.finest in
     let R : Bool → Type 0 = λ t. IsReason q t list x.frac x.reason in
     let G : ℕ → Type 0 = λ g. IsReason q y.signed list g x.reason in
+    let W : Bool → Type 0 = λ t. IsErrorWord q.is_range q.radix (format_of t n x.frac) list x.error in
+    let V : ℕ → Type 0 = λ g. IsErrorWord q.is_range q.radix (format_of y.signed n g) list x.error in
+    let w : x.error ≡ y.error = word_one q.is_range q.radix (format_of y.signed n y.frac) list x.error y.error (subst V f (subst W s x.is_error)) y.is_error in
     let t : x.reason ≡ y.reason = reason_one q y.signed list y.frac x.reason y.reason (subst G f (subst R s x.is_reason)) y.is_reason in
     answer_is a b
-    (x.text ∙ (ap (λ u. name_of u n x.frac ++ 10 ∷ x.reason) s ∙ (ap (λ g. name_of y.signed n g ++ 10 ∷ x.reason) f ∙ (ap (λ z. name_of y.signed n y.frac ++ 10 ∷ z) t ∙ sym y.text))))
+    (x.text ∙ (ap (λ u. named u x.frac x.error x.reason) s ∙ (ap (λ g. named y.signed g x.error x.reason) f ∙ (ap (λ e. named y.signed y.frac e x.reason) w ∙ (ap (λ z. named y.signed y.frac y.error z) t ∙ sym y.text)))))
     (x.fault ∙ sym y.fault)
+  where
+    named : Bool → ℕ → List ℕ → List ℕ → List ℕ
+    named s f error reason = name_of s q.kind.width f ++ (codes " error " ++ (error ++ 10 ∷ reason))
 
 none_one : (q : Question) (list : List (List ℕ)) (a b : AnswerText) → IsNoneAnswer q list a → IsNoneAnswer q list b → a ≡ b
 none_one q list a b x y =

@@ -1,5 +1,5 @@
 -- What is written about a list, and what a run leaves.
-use Rattle.std.specs.Prelude.{◌≡◌, ◌⊎◌, ◌+◌, ◌*◌, ◌^◌, ◌<◌, ◌≤◌, ℕ, Bool}
+use Rattle.std.specs.Prelude.{◌≡◌, ◌⊎◌, ◌+◌, ◌^◌, ◌<◌, ◌≤◌, ℕ, Bool}
 use Rattle.std.specs.Prelude.{true, false, List, [], ◌∷◌, ◌++◌, length, codes, decimal}
 use Rattle.std.specs.declared.option.Option.{Option}
 use Rattle.std.specs.Io.KnownBytes.{Appends, Consumes, IsAtEnd}
@@ -13,12 +13,16 @@ use Rattle.line_engine.specs.Lines.{lines}
 use Rattle.line_engine.specs.declared.status.Status.{Status}
 use Rattle.line_engine.specs.declared.status.Status.TheVariants.{Done, Faults, Usage}
 use Rattle.line_engine.specs.declared.status.Status.TheVariants.{ReadFault, WriteFault, NoMemory, TooLong}
+use Rattle.fixed_fit.specs.ErrorWord.{IsErrorWord}
 use Rattle.fixed_fit.specs.Fitting.{IsFinest, IsFirstExceeding, IsSignRule}
 use Rattle.fixed_fit.specs.declared.question.Question.{Question}
 
--- a format's name
+-- a format and its name
+abbrev pub format_of : Bool → ℕ → ℕ → FormatParts
+format_of s n f = record { signed = s; width = n; frac = f }
+
 abbrev pub name_of : Bool → ℕ → ℕ → List ℕ
-name_of s n f = format_text (record { signed = s; width = n; frac = f })
+name_of s n f = format_text (format_of s n f)
 
 -- the line that says which line rules out a fraction length
 abbrev pub ruled_out_line : Bool → ℕ → ℕ → ℕ → List ℕ
@@ -33,16 +37,18 @@ pub record IsReason (q : Question) (s : Bool) (list : List (List ℕ)) (f : ℕ)
       → (place : ℕ) × IsFirstExceeding q.radix s q.kind.width (f + 1) list place
       × (text ≡ ruled_out_line s q.kind.width (f + 1) place)
 
--- the finest format is named
+-- the finest format is named, and the greatest error in it
 pub record IsFoundAnswer (q : Question) (list : List (List ℕ)) (answer : AnswerText) : Type 0 where
   pub numerals : AllNumerals q.radix list
   pub signed : Bool
   pub sign : IsSignRule q.radix q.kind.signed list signed
   pub frac : ℕ
   pub finest : IsFinest q.radix signed q.kind.width list frac
+  pub error : List ℕ
+  pub is_error : IsErrorWord q.is_range q.radix (format_of signed q.kind.width frac) list error
   pub reason : List ℕ
   pub is_reason : IsReason q signed list frac reason
-  pub text : answer.text ≡ name_of signed q.kind.width frac ++ 10 ∷ reason
+  pub text : answer.text ≡ name_of signed q.kind.width frac ++ (codes " error " ++ (error ++ 10 ∷ reason))
   pub fault : answer.fault ≡ false
 
 -- no fraction length is left, and the first line that rules out the last of them is named

@@ -1,4 +1,5 @@
 pub mod Fitting
+pub mod ErrorWord
 pub mod Answer
 pub mod Range
 pub mod Laws

@@ -1,5 +1,5 @@
 -- Every value between two numerals.
-use Rattle.std.specs.Prelude.{◌≡◌, ◌*◌, ℕ, Bool, ℤ, ◌≤ℤ◌}
+use Rattle.std.specs.Prelude.{◌*◌, ℕ, Bool, ℤ, ◌≤ℤ◌}
 use Rattle.fixed_bits.specs.Ranges.{IsInRange}
 use Rattle.fixed_bits.specs.declared.mode.ReadMode.TheVariants.{NearestEven}
 use Rattle.fixed_numeral.specs.Numeral.{Parts, signed}

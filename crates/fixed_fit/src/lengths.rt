@@ -39,7 +39,7 @@ fn is_in_range<L: Ledger>(line: &[u8], radix: Radix, format: Format, steps: &mut
 }
 
 /// A format of the same sign rule and width.
-fn with_frac(kind: Format, frac: u32) -> Format
+pub fn with_frac(kind: Format, frac: u32) -> Format
     requires { frac ≤ kind.width }
     ensures { result ≡ record { signed = kind.signed; width = kind.width; frac = frac } }
 {

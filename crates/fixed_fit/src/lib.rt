@@ -2,6 +2,7 @@
 #![tactic(auto)]
 
 mod answer;
+mod error_word;
 pub mod laws;
 mod lengths;
 mod numeral;

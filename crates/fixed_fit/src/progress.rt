@@ -1,6 +1,6 @@
 //! What is kept of the lines so far.
 
-ghost use Rattle.std.specs.Prelude.{◌≡◌, ◌<◌, ◌||◌, ◌+◌, ◌^◌, ◌∷◌, ◌++◌, [], List, ℕ, None, false, true};
+ghost use Rattle.std.specs.Prelude.{◌≡◌, ◌<◌, ◌≤◌, ◌||◌, ◌+◌, ◌^◌, ◌∷◌, ◌++◌, [], List, ℕ, None, false, true, max};
 ghost use Rattle.fixed_bits.specs.Ranges.{IsWidth};
 ghost use Rattle.fixed_fit.specs.Inner.Progress.{HasProgress, HasSomeProgress};
 
@@ -74,6 +74,13 @@ impl Progress {
         }
     }
 
+    /// How many fraction lengths are left, of the sign rule that leaves the more.
+    pub fn count(&self) -> u32
+        ensures { result ≡ max self.now.plain.count self.now.signed.count }
+    {
+        self.plain.count.max(self.signed.count)
+    }
+
     /// What is kept after one more line.
     pub fn after<L: Ledger>(&self, line: &[u8], steps: &mut Steps<L>) -> Progress
         requires room { self.now.lines < 2 ^ 63 }
@@ -82,6 +89,9 @@ impl Progress {
         ensures lines { result.lines ≡ self.now.lines + 1 }
         ensures one_more { (n : ℕ) (lines : List (List ℕ)) → HasProgress n lines self.now
             → HasProgress n (lines ++ line.now ∷ []) result }
+        ensures plain { result.plain.count ≤ self.now.plain.count }
+        ensures signed { result.signed.count ≤ self.now.signed.count }
+        ensures sound { result.fault ≡ None → self.now.fault ≡ None }
     {
         let place = self.lines + 1;
         if self.fault.is_some() {

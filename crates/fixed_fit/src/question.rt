@@ -12,4 +12,6 @@ pub struct Question {
     pub kind: Format,
     /// Whether it is asked which line rules out the next finer format.
     pub is_reason_asked: bool,
+    /// Whether the list is the two ends of a range, of which every value is meant.
+    pub is_range: bool,
 }

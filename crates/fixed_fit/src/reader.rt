@@ -6,14 +6,14 @@ ghost use Rattle.std.specs.Io.KnownBytes.{Consumes, IsAtEnd, Keeps};
 ghost use Rattle.line_engine.specs.Failures.{FailsOnlyCounted};
 ghost use Rattle.fixed_bits.specs.Ranges.{IsWidth};
 ghost use Rattle.line_engine.specs.Lines.{lines};
-ghost use Rattle.fixed_fit.specs.Inner.Progress.{HasProgress};
-ghost use Rattle.fixed_fit.specs.Inner.Reading.{HasRead, HasSomeRead, ReadsAll, StopsReading};
+ghost use Rattle.fixed_fit.specs.Inner.Reading.{HasLines, HasRead, HasSomeRead, ReadsAll, StopsReading};
 
 use crate::progress::Progress;
+use fixed_error::GreatestErrors;
 use fixed_numeral::Radix;
 use fixed_steps::Steps;
 use line_engine::{Failed, NoMemory, Source, Status};
-use std::alloc::Global;
+use std::alloc::{AllocError, Global};
 use std::sync::ledger::Ledger;
 
 /// How many bytes are read at a time at most.
@@ -29,6 +29,8 @@ pub struct Reader {
     pub line: Vec<u8>,
     /// What is kept of the lines before it.
     pub progress: Progress,
+    /// Their greatest errors, where each is a numeral, at the fraction lengths that are left.
+    pub errors: GreatestErrors,
 }
 
 impl Reader {
@@ -46,9 +48,33 @@ impl Reader {
                 Err(_) => Err(NoMemory),
             };
         }
+        match self.end_line(steps) {
+            Ok(()) => {
+                self.line.clear();
+                Ok(())
+            }
+            Err(error) => Err(error),
+        }
+    }
+
+    /// Ends the line.
+    fn end_line<L: Ledger>(&mut self, steps: &mut Steps<L>) -> Result<(), NoMemory>
+        requires room { self.old.progress.lines < 2 ^ 63 }
+        requires known { HasSomeRead self.old }
+        ensures line { self.new.line ≡ self.old.line }
+        ensures ended { OnOk result ((r : Radix) (n : ℕ) (done : List (List ℕ)) → HasLines r n done self.old
+            → HasLines r n (done ++ self.old.line.items ∷ []) self.new) }
+        ensures lines { OnOk result (self.new.progress.lines ≡ self.old.progress.lines + 1) }
+    {
         self.progress = self.progress.after(&self.line, steps);
-        self.line.clear();
-        Ok(())
+        if self.progress.fault.is_some() {
+            return Ok(());
+        }
+        self.errors.shorten(self.progress.count());
+        match self.errors.add(&self.line, self.progress.lines, steps) {
+            Ok(()) => Ok(()),
+            Err(_) => Err(NoMemory),
+        }
     }
 
     /// Takes the next bytes.
@@ -65,17 +91,20 @@ impl Reader {
         Ok(())
     }
 
-    /// What is known at the end of an input.
-    fn finish<L: Ledger>(&self, steps: &mut Steps<L>) -> Progress
-        requires room { self.now.progress.lines < 2 ^ 63 }
-        requires known { HasSomeRead self.now }
-        ensures { (r : Radix) (n : ℕ) (whole : List ℕ) → HasRead r n whole self.now
-            → HasProgress n (lines whole) result × (result.radix ≡ r) }
+    /// Takes the end of an input.
+    fn finish<L: Ledger>(&mut self, steps: &mut Steps<L>) -> Result<(), NoMemory>
+        requires room { self.old.progress.lines < 2 ^ 63 }
+        requires known { HasSomeRead self.old }
+        ensures { OnOk result ((r : Radix) (n : ℕ) (whole : List ℕ) → HasRead r n whole self.old
+            → HasLines r n (lines whole) self.new) }
     {
         if self.line.is_empty() {
-            return self.progress;
+            return Ok(());
         }
-        self.progress.after(&self.line, steps)
+        match self.end_line(steps) {
+            Ok(()) => Ok(()),
+            Err(error) => Err(error),
+        }
     }
 }
 
@@ -91,18 +120,33 @@ fn read_chunk<S: Source>(source: &mut S, chunk: &mut [u8]) -> Result<usize, Fail
     source.read(chunk)
 }
 
+/// No byte so far.
+fn new_reader(alloc: Global, radix: Radix, width: u32) -> Result<Reader, AllocError>
+    requires { IsWidth width }
+    ensures read { IfOk result (HasRead radix width []) }
+    ensures lines { IfOk result (λ reader. reader.progress.lines ≡ 0) }
+{
+    let progress = Progress::new(radix, width);
+    let errors = GreatestErrors::new(alloc, radix, progress.count())?;
+    Ok(Reader {
+        line: Vec::new(alloc),
+        progress,
+        errors,
+    })
+}
+
 /// Reads an input to its end, and tells what is known of its lines.
 ///
 /// # Errors
 ///
-/// The status says whether a read failed, there was no memory for a line, or there were 2^62 bytes or more.
+/// The status says whether a read failed, there was no memory, or there were 2^62 bytes or more.
 pub fn read_lines<S: Source, L: Ledger>(
     alloc: Global,
     radix: Radix,
     width: u32,
     source: &mut S,
     steps: &mut Steps<L>,
-) -> Result<Progress, Status>
+) -> Result<Reader, Status>
     requires { IsWidth width }
     ensures ok { IfOk result (ReadsAll radix width (S.left source.old) (S.left source.new) (S.failures source.old)
         (S.failures source.new)) }
@@ -110,15 +154,20 @@ pub fn read_lines<S: Source, L: Ledger>(
         (S.failures source.new)) }
 {
     let mut chunk = [0u8; CHUNK];
-    let mut reader = Reader {
-        line: Vec::new(alloc),
-        progress: Progress::new(radix, width),
+    let mut reader = match new_reader(alloc, radix, width) {
+        Ok(reader) => reader,
+        Err(_) => return Err(Status::NoMemory),
     };
     let mut taken = 0u64;
     while taken < MOST_BYTES {
         match read_chunk(source, &mut chunk) {
             Err(_) => return Err(Status::ReadFault),
-            Ok(0) => return Ok(reader.finish(steps)),
+            Ok(0) => {
+                return match reader.finish(steps) {
+                    Ok(()) => Ok(reader),
+                    Err(_) => Err(Status::NoMemory),
+                };
+            }
             Ok(count) => match reader.push_all(&chunk[..count], steps) {
                 Err(_) => return Err(Status::NoMemory),
                 Ok(()) => taken += count as u64,

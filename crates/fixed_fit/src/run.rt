@@ -5,16 +5,16 @@ ghost use Rattle.line_engine.specs.Output.{status_of};
 ghost use Rattle.line_engine.specs.Run.{HasFailures, WritesText};
 ghost use Rattle.fixed_fit.specs.Answer.{HasFitRun, IsAnswer};
 
-use crate::answer::answer_of;
+use crate::answer::{FitAnswer, answer_of};
 use crate::question::Question;
 use crate::reader::read_lines;
 use fixed_steps::Steps;
-use line_engine::{Answer, Sink, Source, Status, write_text};
+use line_engine::{Sink, Source, Status, write_text};
 use std::alloc::Global;
 use std::sync::ledger::Ledger;
 
 /// Writes an answer, and says how the run ended.
-fn write_answer<K: Sink>(answer: &Answer, sink: &mut K) -> Status
+fn write_answer<K: Sink>(answer: &FitAnswer, sink: &mut K) -> Status
     ensures { WritesText answer.now.text (status_of answer.now.fault) (K.written sink.old) (K.written sink.new)
         (K.failures sink.old) (K.failures sink.new) result }
 {
@@ -26,10 +26,11 @@ fn write_answer<K: Sink>(answer: &Answer, sink: &mut K) -> Status
 }
 
 /// Answers an input, which is a list of numerals, one a line, with the format of the width and the sign rule that has
-/// the greatest fraction length of those in which every numeral is in range after rounding to nearest.
+/// the greatest fraction length of those in which every numeral is in range after rounding to nearest, and with the
+/// greatest error of the list in it.
 ///
-/// Each line is read as it comes, and none is kept: memory is taken for the longest line alone. Nothing is written
-/// before the end of the input.
+/// Each line is read as it comes. Of those before it are kept the ones with the greatest error, one for each fraction
+/// length that is left. Nothing is written before the end of the input.
 pub fn run_fit<S: Source, K: Sink, L: Ledger>(
     alloc: Global,
     question: &Question,
@@ -46,7 +47,7 @@ pub fn run_fit<S: Source, K: Sink, L: Ledger>(
         (K.failures sink.new) result }
 {
     match read_lines(alloc, question.radix, question.kind.width(), source, steps) {
-        Ok(progress) => write_answer(&answer_of(&progress, question), sink),
+        Ok(reader) => write_answer(&answer_of(&reader, question, steps), sink),
         Err(status) => status,
     }
 }

@@ -1,6 +1,7 @@
 mod LawLemmas
 mod LineLemmas
 mod PackLemmas
+mod ReplyLemmas
 mod TakenLemmas
 mod UnpackLawLemmas
 mod UnpackLemmas

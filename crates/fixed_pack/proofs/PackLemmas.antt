@@ -5,10 +5,11 @@ use Rattle.std.specs.Io.KnownBytes.{Appends}
 use Rattle.fixed_numeral.specs.declared.error.ParseErrorKind.{ParseErrorKind}
 use Rattle.line_engine.specs.Appended.{AppendsPrefix}
 use Rattle.line_engine.specs.Lines.{ended_lines, last_line, lines}
-use Rattle.fixed_pack.specs.Inner.Packing.{HasNoMemory, HasPacked, HasRefused, HasSent, HasStopped, IsQuiet, PushesWord, RefusesLine, RefusesWord, TakesLine, ended_text}
-use Rattle.fixed_pack.specs.Pack.{ArePacked, IsPacked, IsRefused, RefusesOne, Sends, SendsInPart, StopsAmong, StopsShort}
+use Rattle.fixed_pack.specs.Inner.Packing.{HasNoMemory, HasPacked, HasRefused, HasSent, HasStopped, IsQuiet, PushesWord, RefusesLine, TakesLine, ended_text}
+use Rattle.fixed_pack.specs.Pack.{ArePacked, IsPacked, IsRefused, RefusesOne, Sends, SendsInPart, StopsAmong, StopsShort, refused_line}
 use Rattle.fixed_command.specs.Convert.{without_return}
 use Rattle.fixed_command.specs.Hex.{word_of}
+use Rattle.fixed_command.specs.declared.watch.RefusedLine.{RefusedLine}
 use Rattle.fixed_show.specs.ShowBlock.{IsReadAs, IsUnread}
 use Rattle.fixed_pack.specs.Word.{bytes_of, joined, word_length}
 use Rattle.fixed_pack.specs.declared.pack.PackEnd.TheVariants as end
@@ -90,8 +91,8 @@ lines_are s whole sent p h = ap lines h.cut ∙ all_lines h.done p.line.items h.
 
 -- a line was refused, or there was no memory for it
 pub stopped_at : (s : PackSettings) (whole sent part : List ℕ) (all more : List (List ℕ)) (old new : Packer) (stop : Stop) (h : HasPacked s whole sent old) → all ≡ h.done ++ (old.line.items ++ part) ∷ more
-    → RefusesLine part old new stop → HasStopped s all sent new.out stop
-stopped_at s whole sent part all more old new (Refused place kind line) h cut refused = record {
+    → RefusesLine part old new stop → HasStopped s all sent new stop
+stopped_at s whole sent part all more old new (Refused kind) h cut refused = record {
   some = h.done;
   line = old.line.items ++ part;
   more = more;
@@ -100,7 +101,7 @@ stopped_at s whole sent part all more old new (Refused place kind line) h cut re
   packed = h.packed;
   held = h.held ∙ ap (λ l. sent ++ l) (sym refused.2);
   refused = subst (λ u. IsRefused u (old.line.items ++ part) kind) h.settings refused.0;
-  place_is = refused.1 ∙ ap (λ n. n + 1) h.count;
+  kept_is = refused.1 ∙ ap (λ n. refused_line (n + 1) (old.line.items ++ part) kind) h.count;
 }
 stopped_at s whole sent part all more old new NoMemory h cut refused = record {
   some = h.done;
@@ -112,11 +113,11 @@ stopped_at s whole sent part all more old new NoMemory h cut refused = record {
 }
 
 -- there was no memory for the beginning of a line
-pub stopped_within : (s : PackSettings) (whole sent part out : List ℕ) (old : Packer) (stop : Stop) → stop ≡ NoMemory → IsQuiet part → out ≡ old.out → HasPacked s whole sent old → HasStopped s (ended_lines (whole ++ part)) sent out stop
-stopped_within s whole sent part out old stop is quiet same h =
+pub stopped_within : (s : PackSettings) (whole sent part : List ℕ) (old new : Packer) (stop : Stop) → stop ≡ NoMemory → IsQuiet part → new.out ≡ old.out → HasPacked s whole sent old → HasStopped s (ended_lines (whole ++ part)) sent new stop
+stopped_within s whole sent part old new stop is quiet same h =
     let grown : List ℕ = old.line.items ++ part in
     let cut : whole ++ part ≡ ended_text h.done ++ grown = ap (λ w. w ++ part) h.cut ∙ append_assoc (ended_text h.done) old.line.items part in
-    let all : HasNoMemory s (ended_lines (whole ++ part)) sent out = record {
+    let all : HasNoMemory s (ended_lines (whole ++ part)) sent new.out = record {
       some = h.done;
       more = [];
       cut = ap ended_lines cut ∙ (ended_without h.done grown h.quiet (quiet_both old.line.items part h.rest quiet) ∙ sym (append-nil h.done));
@@ -124,7 +125,7 @@ stopped_within s whole sent part out old stop is quiet same h =
       packed = h.packed;
       held = h.held ∙ ap (λ l. sent ++ l) (sym same);
     } in
-    subst (λ t. HasStopped s (ended_lines (whole ++ part)) sent out t) (sym is) all
+    subst (λ t. HasStopped s (ended_lines (whole ++ part)) sent new t) (sym is) all
 
 -- ---- what was held was written
 pub sent_all : (s : PackSettings) (some words : List (List ℕ)) (sent out : List ℕ) (a b c : Option (List ℕ)) → ArePacked s some words → joined words ≡ sent ++ out → Appends a b sent → Appends b c out → Sends s some a c
@@ -147,15 +148,15 @@ sent_part s some words sent out a b c packed held first last = record {
 }
 
 -- the words before the line at which packing stopped were written
-pub refuses_one : (s : PackSettings) (all : List (List ℕ)) (sent out : List ℕ) (a b c : Option (List ℕ)) (place : ℕ) (kind : ParseErrorKind) → HasRefused s all sent out place kind → Appends a b sent → Appends b c out → RefusesOne s all a c place kind
-refuses_one s all sent out a b c place kind h first last = record {
+pub refuses_one : (s : PackSettings) (all : List (List ℕ)) (sent out : List ℕ) (a b c : Option (List ℕ)) (kept : RefusedLine) (kind : ParseErrorKind) → HasRefused s all sent out kept kind → Appends a b sent → Appends b c out → RefusesOne s all a c kind kept
+refuses_one s all sent out a b c kept kind h first last = record {
   some = h.some;
   line = h.line;
   more = h.more;
   cut = h.cut;
   sent = sent_all s h.some h.words sent out a b c h.packed h.held first last;
   refused = h.refused;
-  place_is = h.place_is;
+  kept_is = h.kept_is;
 }
 
 pub stops_short : (s : PackSettings) (all : List (List ℕ)) (sent out : List ℕ) (a b c : Option (List ℕ)) → HasNoMemory s all sent out → Appends a b sent → Appends b c out → StopsShort s all a c
@@ -167,18 +168,18 @@ stops_short s all sent out a b c h first last = record {
 }
 
 -- or writing them failed
-pub breaks_off : (s : PackSettings) (all : List (List ℕ)) (sent out : List ℕ) (a b c : Option (List ℕ)) (stop : Stop) → HasStopped s all sent out stop → Appends a b sent → AppendsPrefix b c out → StopsAmong s all a c end.WriteFault
-breaks_off s all sent out a b c (Refused place kind line) h first last = record {
+pub breaks_off : (s : PackSettings) (all : List (List ℕ)) (sent : List ℕ) (a b c : Option (List ℕ)) (p : Packer) (stop : Stop) → HasStopped s all sent p stop → Appends a b sent → AppendsPrefix b c p.out → StopsAmong s all a c end.WriteFault
+breaks_off s all sent a b c p (Refused kind) h first last = record {
   some = h.some;
   more = h.line ∷ h.more;
   cut = h.cut;
-  sent = sent_part s h.some h.words sent out a b c h.packed h.held first last;
+  sent = sent_part s h.some h.words sent p.out a b c h.packed h.held first last;
 }
-breaks_off s all sent out a b c NoMemory h first last = record {
+breaks_off s all sent a b c p NoMemory h first last = record {
   some = h.some;
   more = h.more;
   cut = h.cut;
-  sent = sent_part s h.some h.words sent out a b c h.packed h.held first last;
+  sent = sent_part s h.some h.words sent p.out a b c h.packed h.held first last;
 }
 
 -- ---- nothing is held
@@ -263,7 +264,7 @@ finish_breaks s whole a b c old new some h t last =
     }
 
 -- the last line was not packed
-pub finish_stopped : (s : PackSettings) (whole sent : List ℕ) (old new : Packer) (stop : Stop) → (old.line.items ≡ [] → ⊥) → HasPacked s whole sent old → RefusesLine [] old new stop → HasStopped s (lines whole) sent new.out stop
+pub finish_stopped : (s : PackSettings) (whole sent : List ℕ) (old new : Packer) (stop : Stop) → (old.line.items ≡ [] → ⊥) → HasPacked s whole sent old → RefusesLine [] old new stop → HasStopped s (lines whole) sent new stop
 finish_stopped s whole sent old new stop some h refused = stopped_at s whole sent [] (lines whole) [] old new stop h (last_is s whole sent old h some) refused
 
 -- ---- one line
@@ -289,12 +290,10 @@ takes_long part whole old new grown p line lines settings = record {
   settings = settings;
 }
 
-pub refuses_long : (part whole : List ℕ) (old new : Packer) (stop : Stop) → whole ≡ old.line.items ++ part → RefusesWord old.settings (old.lines + 1) whole old.out new.out stop → RefusesLine part old new stop
-refuses_long part whole old new (Refused place kind line) grown r = (subst (λ l. IsRefused old.settings l kind) grown r.0, r.1, r.2)
-refuses_long part whole old new NoMemory grown r = absurd r
-
-pub refuses_part : (part : List ℕ) (old new : Packer) (stop : Stop) → old.line.items ≡ [] → RefusesWord old.settings (old.lines + 1) part old.out new.out stop → RefusesLine part old new stop
-refuses_part part old new stop empty r = refuses_long part part old new stop (ap (λ l. l ++ part) (sym empty)) r
+pub refuses_line : (part whole : List ℕ) (old new : Packer) (kind : ParseErrorKind) → whole ≡ old.line.items ++ part → IsRefused old.settings whole kind → new.refused ≡ refused_line (old.lines + 1) whole kind → new.out ≡ old.out
+    → RefusesLine part old new (Refused kind)
+refuses_line part whole old new kind grown refused kept same =
+    (subst (λ l. IsRefused old.settings l kind) grown refused, kept ∙ ap (λ l. refused_line (old.lines + 1) l kind) grown, same)
 
 pub refuses_memory : (part : List ℕ) (old new : Packer) (stop : Stop) → stop ≡ NoMemory → new.out ≡ old.out → RefusesLine part old new stop
 refuses_memory part old new stop is same = subst (λ t. RefusesLine part old new t) (sym is) same
@@ -302,7 +301,7 @@ refuses_memory part old new stop is same = subst (λ t. RefusesLine part old new
 -- ---- the lines of a chunk
 -- the line that a part of the chunk ends was not packed
 pub stopped_in : (s : PackSettings) (whole sent bytes prefix rest part more : List ℕ) (old new : Packer) (stop : Stop) → bytes ≡ prefix ++ rest → rest ≡ part ++ 10 ∷ more → IsQuiet part → HasPacked s (whole ++ prefix) sent old
-    → RefusesLine part old new stop → HasStopped s (ended_lines (whole ++ bytes)) sent new.out stop
+    → RefusesLine part old new stop → HasStopped s (ended_lines (whole ++ bytes)) sent new stop
 stopped_in s whole sent bytes prefix rest part more old new stop split cut quiet h refused =
     let flat : whole ++ bytes ≡ (whole ++ prefix) ++ (part ++ 10 ∷ more) = ap (λ b. whole ++ b) (split ∙ ap (λ r. prefix ++ r) cut) ∙ sym (append_assoc whole prefix (part ++ 10 ∷ more)) in
     stopped_at s (whole ++ prefix) sent part (ended_lines (whole ++ bytes)) (ended_lines more) old new stop h (ap ended_lines flat ∙ ended_more s (whole ++ prefix) sent part more old h quiet) refused
@@ -323,10 +322,10 @@ rest_packed s whole sent bytes prefix rest old new split quiet h line settings l
     let flat : (whole ++ prefix) ++ rest ≡ whole ++ bytes = append_assoc whole prefix rest ∙ ap (λ b. whole ++ b) (sym split) in
     subst P flat (packed_part s (whole ++ prefix) sent rest old new quiet h line settings lines out)
 
-pub rest_stopped : (s : PackSettings) (whole sent bytes prefix rest out : List ℕ) (old : Packer) (stop : Stop) → bytes ≡ prefix ++ rest → IsQuiet rest → HasPacked s (whole ++ prefix) sent old → stop ≡ NoMemory → out ≡ old.out → HasStopped s (ended_lines (whole ++ bytes)) sent out stop
-rest_stopped s whole sent bytes prefix rest out old stop split quiet h is same =
+pub rest_stopped : (s : PackSettings) (whole sent bytes prefix rest : List ℕ) (old new : Packer) (stop : Stop) → bytes ≡ prefix ++ rest → IsQuiet rest → HasPacked s (whole ++ prefix) sent old → stop ≡ NoMemory → new.out ≡ old.out → HasStopped s (ended_lines (whole ++ bytes)) sent new stop
+rest_stopped s whole sent bytes prefix rest old new stop split quiet h is same =
     let flat : (whole ++ prefix) ++ rest ≡ whole ++ bytes = append_assoc whole prefix rest ∙ ap (λ b. whole ++ b) (sym split) in
-    subst (λ l. HasStopped s (ended_lines l) sent out stop) flat (stopped_within s (whole ++ prefix) sent rest out old stop is quiet same h)
+    subst (λ l. HasStopped s (ended_lines l) sent new stop) flat (stopped_within s (whole ++ prefix) sent rest old new stop is quiet same h)
 
 -- ---- the word of a line
 pub pushed_word : (s : PackSettings) (line numeral old new : List ℕ) (bits : ℤ) (overflowed : Bool) (count word : ℕ) → numeral ≡ without_return line → IsReadAs s.mode s.radix numeral s.format s.policy bits overflowed

@@ -1,10 +1,7 @@
 -- What was packed is unpacked to the texts of the numbers.
-use Rattle.std.proofs.Common.{◌≡◌, ◌∙◌, ◌||◌, ◌-◌, ◌*◌, ◌^◌, ◌<◌, ◌≤◌, ℕ, ℤ, Bool, true, false, unsigned_abs, List, [], ◌∷◌, ◌++◌, length, codes, refl, sym, ap, subst, arith, inl, inr, append-nil, length-append}
+use Rattle.std.proofs.Common.{◌≡◌, ◌∙◌, ◌||◌, ◌*◌, ◌^◌, ◌<◌, ◌≤◌, ℕ, ℤ, Bool, true, false, unsigned_abs, List, [], ◌∷◌, ◌++◌, length, codes, refl, sym, ap, subst, arith, inl, inr, append-nil}
 use Rattle.std.specs.Int.{is_negative}
-use Rattle.std.proofs.Math.Nat.{pow-le-pow_right}
 use Rattle.std.proofs.lemmas.Nat.{pow_pos}
-use Rattle.std.specs.Prelude.{decimal}
-use Rattle.std.proofs.lemmas.Fmt.{length-decimal-le_succ}
 use Rattle.fixed_bits.proofs.Public.{image_within, images_agree, in_wide, nearest_by_rest, range_decided, rounded_unique, sign_and_magnitude, width_most}
 use Rattle.fixed_bits.specs.Formats.{FormatParts, IsFormat}
 use Rattle.fixed_bits.specs.Images.{IsImage}
@@ -12,16 +9,11 @@ use Rattle.fixed_bits.specs.Numbers.{with_sign}
 use Rattle.fixed_bits.specs.Ranges.{IsInRange, IsOutOfRange, IsWide, IsWidth}
 use Rattle.fixed_bits.specs.Rounded.{IsNotAbove, IsNotBelow, IsRounded}
 use Rattle.fixed_bits.specs.declared.format.Policy.{Policy}
-use Rattle.fixed_bits.specs.declared.format.Policy.TheVariants.{Checked, Saturating, Wrapping}
 use Rattle.fixed_bits.specs.declared.mode.ReadMode.{ReadMode}
 use Rattle.fixed_bits.specs.declared.mode.ReadMode.TheVariants.{Ceil, Floor, NearestEven, TowardsZero}
 use Rattle.fixed_convert.specs.Rounded.{IsMovedIn, IsNotReformatted, IsReformatted}
-use Rattle.fixed_numeral.proofs.Public.{pow-mul}
 use Rattle.fixed_numeral.specs.declared.radix.Radix.{Radix}
-use Rattle.fixed_numeral.specs.declared.radix.Radix.TheVariants.{Bin, Dec, Hex, Oct}
 use Rattle.fixed_respell.specs.Answer.{respelled_answer}
-use Rattle.fixed_respell.specs.LineWords.{longest_line}
-use Rattle.fixed_respell.specs.Words.{format_text, fraction_letter, mode_text, policy_text, radix_text, slash}
 use Rattle.fixed_show.proofs.Public.{word_has_no_fault, word_one}
 use Rattle.fixed_show.specs.WordText.{IsWord}
 use Rattle.fixed_write.proofs.Public.{last_digits_length}
@@ -29,9 +21,9 @@ use Rattle.fixed_write.specs.Texts.{IsShortestText, last_digits}
 use Rattle.line_engine.specs.AnswerText.{AnswerText}
 use Rattle.line_engine.specs.Output.{AreAnswers}
 use Rattle.fixed_command.proofs.Public.{moved_reply, spelled_word, word_fits}
-use Rattle.fixed_command.specs.Convert.{IsAnswerBy, IsMovedAnswer, IsNoSource, IsReply, IsSource, asking_line, asks_a_line}
+use Rattle.fixed_command.specs.Convert.{IsAnswerBy, IsMovedAnswer, IsNoSource, IsReply, IsSource, asks_a_line}
 use Rattle.fixed_command.specs.Hex.{word_of}
-use Rattle.fixed_command.specs.Lemmas.ReplyLemmas.{reply_one, spaced_sum}
+use Rattle.fixed_command.specs.Lemmas.ReplyLemmas.{reply_one}
 use Rattle.fixed_command.specs.Printed.{printed}
 use Rattle.fixed_command.specs.declared.convert.Settings.{Settings}
 use Rattle.fixed_command.specs.declared.print.Print.TheVariants.{Text}
@@ -43,6 +35,7 @@ use Rattle.fixed_pack.specs.Word.{joined, number_of, word_bytes, word_length}
 use Rattle.fixed_pack.specs.declared.endian.Endian.{Endian}
 use Rattle.fixed_pack.specs.declared.pack.PackSettings.{PackSettings}
 use Rattle.fixed_pack.specs.declared.unpack.UnpackRule.{UnpackRule}
+use Rattle.fixed_pack.proofs.ReplyLemmas.{has_digits, line_short}
 use Rattle.fixed_pack.proofs.WordLemmas.{bytes_length, word_back}
 
 -- ---- a number that keeps its fraction length stays the same in every mode
@@ -81,23 +74,6 @@ not_lost m policy f b range h =
     (range_decided f.signed f.width b).1 out range
 
 -- ---- the text of a word
--- the digits of a word have room for its bits
-pub record HasDigits (n : ℕ) : Type 0 where
-  pub bytes : 2 ^ n ≤ 256 ^ word_length n
-  pub digits : 2 ^ n ≤ 16 ^ (2 * word_length n)
-  pub some : 0 < 2 * word_length n
-
-has_digits : (n : ℕ) → IsWidth n → HasDigits n
-has_digits n width =
-    let c : ℕ = word_length n in
-    let some : 0 < n = width.some in
-    let enough : n ≤ 8 * c = omega arith in
-    let power : 2 ^ n ≤ 2 ^ (8 * c) = pow-le-pow_right {n = 2} (omega arith) enough in
-    let eight : 256 ^ c ≡ 2 ^ (8 * c) = pow-mul 2 8 c in
-    let four : 16 ^ (2 * c) ≡ 2 ^ (4 * (2 * c)) = pow-mul 2 4 (2 * c) in
-    let same : 2 ^ (4 * (2 * c)) ≡ 2 ^ (8 * c) = ap (λ k. 2 ^ k) (omega arith) in
-    record { bytes = omega (arith, power, eight); digits = omega (arith, power, four, same); some = omega (arith, some) }
-
 -- the text of the word of bits is a word of the format, and those bits
 word_is : (endian : Endian) (f : FormatParts) (bare : Radix) (v : ℤ) → IsWidth f.width → IsInRange f.signed f.width v → IsWord bare f (word_text endian (word_length f.width) (word_bytes endian f v)) v
 word_is endian f bare v width range =
@@ -106,47 +82,6 @@ word_is endian f bare v width range =
     let fits : word_of f.width v < 256 ^ c = omega (arith, word_fits f v width range, room.bytes) in
     let back : number_of endian (word_bytes endian f v) ≡ word_of f.width v = word_back endian c (word_of f.width v) fits in
     subst (λ n. IsWord bare f (codes "0x" ++ last_digits 16 false (2 * c) n) v) (sym back) (spelled_word f bare (2 * c) v width range room.some room.digits)
-
--- ---- the line that asks for the conversion of the text is no longer than a line may be
-radix_length : (r : Radix) → length (radix_text r) ≤ 2
-radix_length Bin = omega arith
-radix_length Oct = omega arith
-radix_length Dec = omega arith
-radix_length Hex = omega arith
-
-policy_length : (p : Policy) → length (policy_text p) ≤ 10
-policy_length Checked = omega arith
-policy_length Saturating = omega arith
-policy_length Wrapping = omega arith
-
-mode_length : (m : ReadMode) → length (mode_text m) ≤ 7
-mode_length NearestEven = omega arith
-mode_length TowardsZero = omega arith
-mode_length Floor = omega arith
-mode_length Ceil = omega arith
-
-format_length : (f : FormatParts) → IsFormat f.width f.frac → length (format_text f) ≤ 132
-format_length f format =
-    let most : f.width ≤ 64 = width_most f.width format.is_width in
-    let whole = length-decimal-le_succ (f.width - f.frac) (omega (arith, most)) in
-    let frac = length-decimal-le_succ f.frac (omega (arith, most, format.within)) in
-    omega (arith, most, format.within, whole, frac, length-append (decimal (f.width - f.frac)) (fraction_letter ∷ decimal f.frac))
-
-line_short : (s : Settings) (text : List ℕ) → IsFormat s.source.width s.source.frac → s.target ≡ s.source → length text ≤ 1000 → length (asking_line s text) ≤ longest_line
-line_short s text format target short =
-    let source = format_length s.source format in
-    let same : length (format_text s.target) ≡ length (format_text s.source) = ap (λ f. length (format_text f)) target in
-    omega (
-      arith,
-      short,
-      source,
-      same,
-      radix_length s.radix,
-      policy_length s.policy,
-      mode_length s.mode,
-      length-append (policy_text s.policy) (slash ∷ mode_text s.mode),
-      spaced_sum (radix_text s.radix) (format_text s.source) (format_text s.target) (policy_text s.policy ++ slash ∷ mode_text s.mode) text,
-    )
 
 -- ---- the reply to a word of bits that stay in their format is their text
 abbrev pub IsTextOf : ℤ → ℕ → AnswerText → Type 0
@@ -177,7 +112,7 @@ reply_is s text v reply k h = by (subst (λ b. IsAnswerBy b s text h.answer) ask
     width = k.format.is_width
 
     by : IsMovedAnswer s text h.answer → IsTextOf v s.source.frac reply
-    by (inl long) = absurd (omega (arith, long.long, line_short s text k.format k.target k.short))
+    by (inl long) = absurd (omega (arith, long.long, line_short s text k.format (subst (λ f. IsFormat f.width f.frac) (sym k.target) k.format) k.short))
     by (inr (inl none)) =
         let source : IsNoSource Word s text none.message = subst (λ p. IsNoSource p s text none.message) k.spelling none.none in
         absurd (word_has_no_fault s.radix s.source text source.0 v source.1 k.word)

@@ -1,8 +1,11 @@
 -- What is written for numerals that are packed into words, and what a run leaves.
-use Rattle.std.specs.Prelude.{◌≡◌, ◌⊎◌, ◌+◌, ◌^◌, ◌≤◌, ℕ, ℤ, Bool, List, [], ◌∷◌, ◌++◌, length}
+use Rattle.std.specs.Prelude.{◌≡◌, ◌⊎◌, ◌+◌, ◌^◌, ◌≤◌, ℕ, ℤ, Bool, List, [], ◌∷◌, ◌++◌, length, take}
 use Rattle.std.specs.declared.option.Option.{Option}
 use Rattle.std.specs.Io.KnownBytes.{Appends, Consumes, IsAtEnd}
 use Rattle.fixed_command.specs.Convert.{without_return}
+use Rattle.fixed_command.specs.Watched.{kept_bytes}
+use Rattle.fixed_command.specs.declared.watch.RefusedLine.{RefusedLine}
+use Rattle.fixed_numeral.specs.Messages.{message_of}
 use Rattle.fixed_numeral.specs.declared.error.ParseErrorKind.{ParseErrorKind}
 use Rattle.fixed_show.specs.ShowBlock.{IsReadAs, IsUnread}
 use Rattle.line_engine.specs.Appended.{AppendsPrefix}
@@ -26,6 +29,14 @@ pub record IsPacked (s : PackSettings) (line word : List ℕ) : Type 0 where
 abbrev pub IsRefused : PackSettings → List ℕ → ParseErrorKind → Type 0
 IsRefused s line kind = IsUnread s.mode s.radix (without_return line) s.format s.policy kind
 
+-- what is kept of the line of this number, which is refused: its first bytes, and why in words
+abbrev pub refused_line : ℕ → List ℕ → ParseErrorKind → RefusedLine
+refused_line number line kind = record {
+  number = number;
+  text = take kept_bytes line;
+  cause = take kept_bytes (message_of kind);
+}
+
 -- these are the words of these lines, one each and in order
 abbrev pub ArePacked : PackSettings → List (List ℕ) → List (List ℕ) → Type 0
 ArePacked s [] [] = Unit {0}
@@ -47,16 +58,16 @@ pub record SendsInPart (s : PackSettings) (some : List (List ℕ)) (written writ
   pub output : AppendsPrefix written written' (joined words)
 
 -- ---- what ended the packing of lines before the last of them was packed
--- a line was refused, at this place among them; the words of those before it were written
-pub record RefusesOne (s : PackSettings) (all : List (List ℕ)) (written written' : Option (List ℕ)) (place : ℕ)
-    (kind : ParseErrorKind) : Type 0 where
+-- a line was refused, and this is kept of it; the words of those before it were written
+pub record RefusesOne (s : PackSettings) (all : List (List ℕ)) (written written' : Option (List ℕ))
+    (kind : ParseErrorKind) (kept : RefusedLine) : Type 0 where
   pub some : List (List ℕ)
   pub line : List ℕ
   pub more : List (List ℕ)
   pub cut : all ≡ some ++ line ∷ more
   pub sent : Sends s some written written'
   pub refused : IsRefused s line kind
-  pub place_is : place ≡ length some + 1
+  pub kept_is : kept ≡ refused_line (length some + 1) line kind
 
 -- a write failed, among the words of the first of them
 pub record BreaksOff (s : PackSettings) (all : List (List ℕ)) (written written' : Option (List ℕ)) : Type 0 where
@@ -75,7 +86,7 @@ pub record StopsShort (s : PackSettings) (all : List (List ℕ)) (written writte
 -- one of the three
 abbrev pub StopsAmong : PackSettings → List (List ℕ) → Option (List ℕ) → Option (List ℕ) → PackEnd → Type 0
 StopsAmong s all written written' Done = ⊥
-StopsAmong s all written written' (Refused place kind line) = RefusesOne s all written written' place kind
+StopsAmong s all written written' (Refused kind kept) = RefusesOne s all written written' kind kept
 StopsAmong s all written written' ReadFault = ⊥
 StopsAmong s all written written' WriteFault = BreaksOff s all written written'
 StopsAmong s all written written' NoMemory = StopsShort s all written written'
@@ -111,8 +122,8 @@ most_bytes = 2 ^ 62
 abbrev pub HasPackRun : PackSettings → Option (List ℕ) → Option (List ℕ) → Option (List ℕ) → Option (List ℕ) → PackEnd
     → Type 0
 HasPackRun s left left' written written' Done = PacksAll s left left' written written'
-HasPackRun s left left' written written' (Refused place kind line) = Stops s left left' written written'
-    (Refused place kind line)
+HasPackRun s left left' written written' (Refused kind kept) = Stops s left left' written written'
+    (Refused kind kept)
 HasPackRun s left left' written written' ReadFault = PacksEnded s 0 left left' written written'
 HasPackRun s left left' written written' WriteFault = Stops s left left' written written' WriteFault
 HasPackRun s left left' written written' NoMemory = Stops s left left' written written' NoMemory
@@ -121,7 +132,7 @@ HasPackRun s left left' written written' TooLong = PacksEnded s most_bytes left 
 -- the status of a run that ended so
 abbrev pub status_of : PackEnd → Status
 status_of Done = status.Done
-status_of (Refused place kind line) = status.Faults
+status_of (Refused kind kept) = status.Faults
 status_of ReadFault = status.ReadFault
 status_of WriteFault = status.WriteFault
 status_of NoMemory = status.NoMemory

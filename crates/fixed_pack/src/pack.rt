@@ -37,11 +37,9 @@ pub enum PackEnd {
     Done,
     /// A line was refused. The words of the lines before it were written.
     Refused {
-        /// Its number, from 1.
-        place: u64,
         /// Why it was refused.
         error: ParseFixedError,
-        /// Its beginning, and why in words.
+        /// Its number, its beginning, and why in words.
         line: RefusedLine,
     },
     /// A read failed.

@@ -5,9 +5,9 @@ ghost use Rattle.std.specs.Prelude.{List, ℕ, Option, OnOk, OnErr, IfOk, IfErr,
 ghost use Rattle.std.specs.Io.KnownBytes.{Appends};
 ghost use Rattle.line_engine.specs.Lines.{ended_lines, lines};
 ghost use Rattle.line_engine.specs.Run.{HasFailures};
-ghost use Rattle.fixed_pack.specs.Pack.{IsRefused, Sends, StopsAmong, status_of};
+ghost use Rattle.fixed_pack.specs.Pack.{IsRefused, Sends, StopsAmong, refused_line, status_of};
 ghost use Rattle.fixed_pack.specs.Inner.Packing.{HasPacked, HasSent, HasStopped, RefusesLine, TakesLine};
-ghost use Rattle.fixed_pack.specs.Inner.Packing.{EndsAmong, PushesWord, RefusesWord};
+ghost use Rattle.fixed_pack.specs.Inner.Packing.{EndsAmong, PushesWord};
 
 use crate::chunk::send;
 use crate::pack::{PackEnd, PackSettings};
@@ -19,6 +19,7 @@ use fixed_steps::Steps;
 use line_engine::Sink;
 use memchr::memchr;
 use std::alloc::Global;
+use std::mem;
 use std::sync::ledger::Ledger;
 use text_buffer::TextBuffer;
 
@@ -32,17 +33,10 @@ const HELD: usize = 32_768;
 type Held = TextBuffer<HELD>;
 
 /// Why a line has no word.
-#[derive(Drop)]
+#[derive(Clone, Copy, Debug, PartialEq, Eq)]
 pub enum Stop {
     /// It is refused.
-    Refused {
-        /// Its number in the input, from 1.
-        place: u64,
-        /// Why.
-        error: ParseFixedError,
-        /// Its beginning, and why in words.
-        line: RefusedLine,
-    },
+    Refused(ParseFixedError),
     /// There was no memory for it.
     NoMemory,
 }
@@ -58,6 +52,8 @@ pub struct Packer {
     pub lines: u64,
     /// Their words that are to be written.
     pub out: Held,
+    /// The line that was refused, where one was.
+    pub refused: RefusedLine,
 }
 
 /// Appends the word of a line.
@@ -98,26 +94,12 @@ fn push_line<L: Ledger>(
     }
 }
 
-/// Appends the word of the line with this number.
-fn pack_line<L: Ledger>(
-    settings: &PackSettings,
-    place: u64,
-    line: &[u8],
-    out: &mut Held,
-    steps: &mut Steps<L>,
-) -> Result<(), Stop>
-    requires { length out.old + 8 ≤ HELD }
-    ensures ok { OnOk result (PushesWord settings.now line.now out.old out.new) }
-    ensures err { IfErr result (RefusesWord settings.now place line.now out.old out.new) }
+/// The line of this number that is refused: its beginning, and why in words.
+#[cold]
+fn refused_line(number: u64, line: &[u8], error: ParseFixedError) -> RefusedLine
+    ensures { result ≡ refused_line number line.now error }
 {
-    match push_line(settings, line, out, steps) {
-        Ok(()) => Ok(()),
-        Err(error) => Err(Stop::Refused {
-            place,
-            error,
-            line: RefusedLine::new(place, line, error.message().as_bytes()),
-        }),
-    }
+    RefusedLine::new(number, line, error.message().as_bytes())
 }
 
 /// Appends bytes to a line.
@@ -143,6 +125,7 @@ impl Packer {
             line: Vec::new(alloc),
             lines: 0,
             out: TextBuffer::new(),
+            refused: RefusedLine::new(0, &[], &[]),
         }
     }
 
@@ -153,26 +136,42 @@ impl Packer {
         ensures ok { OnOk result (TakesLine part.now self.old self.new) }
         ensures err { IfErr result (RefusesLine part.now self.old self.new) }
     {
-        let place = self.lines + 1;
         if self.line.is_empty() {
-            return match pack_line(&self.settings, place, part, &mut self.out, steps) {
-                Err(stop) => Err(stop),
+            return match push_line(&self.settings, part, &mut self.out, steps) {
                 Ok(()) => {
-                    self.lines = place;
+                    self.lines += 1;
                     Ok(())
+                }
+                Err(error) => {
+                    self.refused = refused_line(self.lines + 1, part, error);
+                    Err(Stop::Refused(error))
                 }
             };
         }
+        self.end_long_line(part, steps)
+    }
+
+    /// Packs the line that began before this part, with which it ends, and begins a new one.
+    #[cold]
+    fn end_long_line<L: Ledger>(&mut self, part: &[u8], steps: &mut Steps<L>) -> Result<(), Stop>
+        requires lines { self.old.lines < 2 ^ 63 }
+        requires room { length self.old.out + 8 ≤ HELD }
+        ensures ok { OnOk result (TakesLine part.now self.old self.new) }
+        ensures err { IfErr result (RefusesLine part.now self.old self.new) }
+    {
         match extend(&mut self.line, part) {
             Err(stop) => return Err(stop),
             Ok(()) => {}
         }
-        match pack_line(&self.settings, place, &self.line, &mut self.out, steps) {
-            Err(stop) => Err(stop),
+        match push_line(&self.settings, &self.line, &mut self.out, steps) {
             Ok(()) => {
                 self.line.clear();
-                self.lines = place;
+                self.lines += 1;
                 Ok(())
+            }
+            Err(error) => {
+                self.refused = refused_line(self.lines + 1, &self.line, error);
+                Err(Stop::Refused(error))
             }
         }
     }
@@ -186,7 +185,7 @@ impl Packer {
             → HasPacked s (whole ++ bytes.now) sent self.new) }
         ensures lines { OnOk result (self.new.lines ≤ self.old.lines + length bytes.now) }
         ensures err { IfErr result (λ stop. (s : PackSettings) (whole sent : List ℕ) → HasPacked s whole sent self.old
-            → HasStopped s (ended_lines (whole ++ bytes.now)) sent self.new.out stop) }
+            → HasStopped s (ended_lines (whole ++ bytes.now)) sent self.new stop) }
     {
         let mut rest = bytes;
         while let Some(end) = memchr(b'\n', rest) {
@@ -204,7 +203,7 @@ impl Packer {
     /// Writes the words of the lines before the one at which packing stopped.
     fn stop<K: Sink>(&mut self, stop: Stop, sink: &mut K) -> PackEnd
         ensures stops { (s : PackSettings) (all : List (List ℕ)) (first : Option (List ℕ)) (sent : List ℕ)
-            → Appends first (K.written sink.old) sent → HasStopped s all sent self.old.out stop
+            → Appends first (K.written sink.old) sent → HasStopped s all sent self.old stop
             → StopsAmong s all first (K.written sink.new) result }
         ensures failures { (read : ℕ) → HasFailures read read (K.failures sink.old) (K.failures sink.new)
             (status_of result) }
@@ -212,7 +211,10 @@ impl Packer {
         match send(&mut self.out, sink) {
             Err(_) => PackEnd::WriteFault,
             Ok(()) => match stop {
-                Stop::Refused { place, error, line } => PackEnd::Refused { place, error, line },
+                Stop::Refused(error) => {
+                    let line = mem::replace(&mut self.refused, RefusedLine::new(0, &[], &[]));
+                    PackEnd::Refused { error, line }
+                }
                 Stop::NoMemory => PackEnd::NoMemory,
             },
         }

@@ -64,12 +64,14 @@ impl UnpackEnd {
     fn of(unpacker: Unpacker, status: Status) -> UnpackEnd
         ensures status { result.status ≡ status }
         ensures over { result.left_over ≡ length unpacker.part }
+        ensures refused { result.refused ≡ unpacker.answered.refused }
+        ensures first { result.first ≡ unpacker.answered.first }
     {
         UnpackEnd {
             status,
             left_over: unpacker.part.len(),
-            refused: unpacker.refused,
-            first: unpacker.first,
+            refused: unpacker.answered.refused,
+            first: unpacker.answered.first,
         }
     }
 }
@@ -86,9 +88,9 @@ pub fn run_unpack<S: Source, K: Sink, L: Ledger>(
     sink: &mut K,
     steps: &mut Steps<L>,
 ) -> UnpackEnd
-    // What was taken and what was written, by status.
+    // What was taken and what was written, and what is known of the words that were refused, by status.
     ensures run { HasUnpackRun rule.now (S.left source.old) (S.left source.new) (K.written sink.old)
-        (K.written sink.new) result.left_over result.status }
+        (K.written sink.new) result.left_over result.refused result.first result.status }
 
     // Which count of failures rose, by status.
     ensures failures { HasFailures (S.failures source.old) (S.failures source.new) (K.failures sink.old)

@@ -1,7 +1,7 @@
 //! The bytes of a word.
 
-ghost use Rattle.std.specs.Prelude.{◌≡◌, ◌+◌, ◌^◌, ◌<◌, ◌≤◌, ◌++◌, length, reverse};
-ghost use Rattle.fixed_pack.specs.Word.{bytes_of, low_bytes, low_number, number_of, word_length};
+ghost use Rattle.std.specs.Prelude.{◌≡◌, ◌+◌, ◌^◌, ◌<◌, ◌≤◌, ◌++◌, MatchOption, length, reverse};
+ghost use Rattle.fixed_pack.specs.Word.{IsBitsOf, bytes_of, low_bytes, low_number, number_of, word_length};
 
 use crate::Endian;
 use fixed_bits::Format;
@@ -14,6 +14,21 @@ pub fn word_length(format: Format) -> usize
     ensures most { result ≤ 8 }
 {
     ((format.width() + 7) / 8) as usize
+}
+
+/// The bits of a format whose word is this number. `None` where it has a bit above the format's width.
+pub fn word_bits(format: Format, number: u64) -> Option<i128>
+    ensures { MatchOption result (2 ^ format.width ≤ number) (IsBitsOf format number) }
+{
+    let turn: u128 = 1 << format.width();
+    let word = u128::from(number);
+    if word >= turn {
+        None
+    } else if format.signed() && 2 * word >= turn {
+        Some(-((turn - word) as i128))
+    } else {
+        Some(word as i128)
+    }
 }
 
 /// Appends the last bytes of a number, the least significant first.

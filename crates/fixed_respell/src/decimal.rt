@@ -20,7 +20,7 @@ fn digits_number(digits: &[u8]) -> Option<u64>
 }
 
 /// The number of at most `most` that the word is in decimal, without a leading zero. None where it is none.
-pub(crate) fn number_word(word: &[u8], most: u64) -> Option<u64>
+pub fn number_word(word: &[u8], most: u64) -> Option<u64>
     requires { most < 10 ^ 10 }
     ensures number { MatchOption result ((n : ℕ) → n ≤ most → ¬ (word.now ≡ decimal n)) (λ n. word.now ≡ decimal n) }
     ensures most { IfSome result (λ n. n ≤ most) }

@@ -19,6 +19,7 @@ pub mod words;
 
 pub use answering::{answer, push_fault, push_respelled, push_verdict};
 pub use command::Command;
+pub use decimal::number_word;
 pub use fault::LineFault;
 pub use format_names::format_named;
 pub use line_engine::{

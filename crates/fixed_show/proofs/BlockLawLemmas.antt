@@ -34,7 +34,7 @@ hex_one n v a b width x y =
     let word : pos x.word ≡ pos y.word = image_one Wrapping false n v (pos x.word) (pos y.word) width x.is_word y.is_word in
     x.text_is ∙ ap (λ w. hex_text n (unsigned_abs w)) word ∙ sym y.text_is
 
-lines_one : (f : FormatParts) (bits : ℤ) (a b : List ℕ) → IsWidth f.width → AreValueLines f bits a → AreValueLines f bits b → a ≡ b
+pub lines_one : (f : FormatParts) (bits : ℤ) (a b : List ℕ) → IsWidth f.width → AreValueLines f bits a → AreValueLines f bits b → a ≡ b
 lines_one f bits a b width x y =
     let value : x.value ≡ y.value = exact_text_unique 10 false bits f.frac x.value y.value x.is_value y.is_value in
     let shortest : x.shortest ≡ y.shortest = shortest_text_unique bits f.frac x.shortest y.shortest x.is_shortest y.is_shortest in

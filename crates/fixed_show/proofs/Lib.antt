@@ -9,8 +9,12 @@ pub mod ErrorLemmas
 pub mod DifferenceLemmas
 pub mod BoundLemmas
 pub mod BriefLemmas
+pub mod SizeLemmas
+pub mod PowerLemmas
+pub mod TallLemmas
 pub mod BoundedLemmas
 pub mod WordLawLemmas
 pub mod ToolNameLemmas
 pub mod BlockLawLemmas
+pub mod PartLemmas
 pub mod Public

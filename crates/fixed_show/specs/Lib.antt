@@ -4,6 +4,8 @@ pub mod FormatBlock
 pub mod WordText
 pub mod WordLaws
 pub mod BitsBlock
+pub mod PartText
+pub mod PartLaws
 pub mod ErrorText
 pub mod ShowBlock
 pub mod BlockLaws

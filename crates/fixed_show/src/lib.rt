@@ -11,7 +11,10 @@ pub mod hex;
 pub mod laws;
 mod lines;
 mod natural;
+pub mod part_laws;
+pub mod parts;
 pub mod show;
+mod sizes;
 mod tool_names;
 pub mod words;
 
@@ -19,5 +22,6 @@ pub use bits::bits_block;
 pub use formats::format_block;
 pub use hex::push_hex_digits;
 pub use lines::MAX_BLOCK;
+pub use parts::{Part, PartFault, part_block, read_part};
 pub use show::{Shown, push_error_of, read_shown, show_block};
 pub use words::{WordFault, read_word};

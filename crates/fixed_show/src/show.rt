@@ -157,7 +157,7 @@ pub fn push_error_of<const N: usize, L: Ledger>(
     ensures shown { result ≡ true
         → Appends (IsShownError mode radix text.now format policy) 1380 out.old out.new }
     ensures none { result ≡ false → HasNoBits mode radix text.now format policy × (out.new ≡ out.old) }
-    ensures cost { steps.new ≤ steps.old + 10 * length text.now + 1563 }
+    ensures cost { steps.new ≤ steps.old + 10 * length text.now + 1565 }
 {
     match read_shown(text, radix, format, policy, mode, steps) {
         Ok(shown) => {
@@ -180,7 +180,7 @@ pub fn push_error_of<const N: usize, L: Ledger>(
 /// and in hexadecimal, their exact value, the exact error, which is that value less the numeral's, the two values of
 /// the format that enclose the numeral, and whether the read number was in range. The error is written in full where
 /// the numeral, in decimal and without an exponent, has at most 100 digits before the point and 1,100 after it; of a
-/// longer one in range the line says a power of ten below which the error is. A numeral that is refused is answered by
+/// longer one the line says a power of ten below which the error is. A numeral that is refused is answered by
 /// one line `error: ` and why. Answers whether it was. There must be room for `MAX_BLOCK` bytes. It takes at most 26
 /// steps for each byte, and 3,307, but for the arithmetic of the error, which takes at most some 2,500 passes over a
 /// number of 144 limbs.

@@ -62,7 +62,7 @@ fn letter_radix(letter: u8, bare: Radix) -> Option<Radix>
 }
 
 /// The radix of a word's digits, and the bytes after its prefix.
-fn split_prefix(text: &[u8], bare: Radix) -> (Radix, &[u8])
+pub(crate) fn split_prefix(text: &[u8], bare: Radix) -> (Radix, &[u8])
     ensures radix { result.0 ≡ word_radix bare text.now }
     ensures rest { result.1.now ≡ after_prefix bare text.now }
 {
@@ -93,7 +93,7 @@ fn digit_of(byte: u8, radix: Radix) -> Option<u8>
 }
 
 /// More than every word.
-const LIMIT: u128 = 1 << 64;
+pub(crate) const LIMIT: u128 = 1 << 64;
 
 /// A number that is cut off at `LIMIT`, with one more digit.
 fn with_digit(number: u128, base: u32, digit: u8) -> u128
@@ -136,7 +136,7 @@ fn has_digit(bytes: &[u8]) -> bool
 }
 
 /// What a text without a sign spells, cut off at `LIMIT`.
-fn spelled_number(text: &[u8], bare: Radix) -> Result<u128, WordFault>
+pub(crate) fn spelled_number(text: &[u8], bare: Radix) -> Result<u128, WordFault>
     ensures { MatchResult result (IsCutOff bare text.now) (IsUnspelled bare text.now) }
 {
     if text.len() > 0 && text[0] == b'_' {
@@ -167,7 +167,7 @@ fn read_plain(text: &[u8], bare: Radix, format: Format) -> Result<i128, WordFaul
 }
 
 /// How many words a format has.
-fn words_of(format: Format) -> u128
+pub(crate) fn words_of(format: Format) -> u128
     ensures count { result ≡ 2 ^ format.width }
     ensures most { result ≤ LIMIT }
     ensures width { format.width ≤ 64 }
@@ -176,7 +176,7 @@ fn words_of(format: Format) -> u128
 }
 
 /// The bits of a format that a word is in two's complement.
-fn bits_of(word: u64, format: Format) -> i128
+pub(crate) fn bits_of(word: u64, format: Format) -> i128
     ensures image { IsWrapped format.signed format.width (pos word) result }
     ensures wide { IsWide result }
 {
@@ -212,7 +212,7 @@ fn signed(negative: bool, size: u128) -> i128
 }
 
 /// Whether a text begins with a sign.
-fn has_sign(text: &[u8]) -> bool
+pub(crate) fn has_sign(text: &[u8]) -> bool
     ensures { result ≡ has_sign text.now }
 {
     text.len() > 0 && (text[0] == b'+' || text[0] == b'-')

@@ -5,7 +5,7 @@ ghost use Rattle.std.specs.Prelude.{◌≡◌, ◌<◌};
 use fixed_bits::{Policy, ReadMode};
 use fixed_numeral::Radix;
 use fixed_respell::format_word;
-use fixed_show::{MAX_BLOCK, bits_block, format_block, show_block};
+use fixed_show::{MAX_BLOCK, Part, bits_block, format_block, part_block, show_block};
 use fixed_steps::Steps;
 use std::marker::Brand;
 use std::process::Abort;
@@ -239,7 +239,7 @@ const TOO_SMALL: &str = "\
     bits      0\n\
     hex       0x00\n\
     value     0\n\
-    error     below 1e-1 in size: the numeral is too long to say more\n\
+    error     below 1e-1100 in size: the numeral is too long to say more\n\
     between   0 (0) and 0.06 (1)\n\
     range     fits\n";
 
@@ -249,7 +249,17 @@ const TOO_LOW: &str = "\
     bits      -128\n\
     hex       0x80\n\
     value     -8\n\
-    error     too long to write\n\
+    error     below 1e1201 in size: the numeral is too long to say more\n\
+    between   no two values of the format\n\
+    range     overflowed\n";
+
+/// The block of a power of ten above I8F8, of which the error is below that power.
+const TOO_HIGH: &str = "\
+    text      127.996\n\
+    bits      32767\n\
+    hex       0x7fff\n\
+    value     127.99609375\n\
+    error     below 1e300 in size: the numeral is too long to say more\n\
     between   no two values of the format\n\
     range     overflowed\n";
 
@@ -266,6 +276,147 @@ fn each_numeral_has_its_block(rt: HostRuntime) {
         of_numeral("U8F0", Policy::Checked, "300", "error: overflow\n"),
         of_numeral("I4F4", Policy::Checked, "1e-2000000000", TOO_SMALL),
         of_numeral("I4F4", Policy::Saturating, "-1e1200", TOO_LOW),
+        of_numeral("I8F8", Policy::Saturating, "1e300", TOO_HIGH),
     ];
     expect_blocks(&rt, &cases);
+}
+
+/// A word, what is taken of it, and the block that says what that is.
+#[derive(Drop)]
+struct PartCase {
+    format: &'static str,
+    radix: Radix,
+    low: Option<u32>,
+    is_reversed: bool,
+    word: &'static str,
+    block: &'static str,
+}
+
+fn part_over<L: Ledger>(case: &PartCase, blank: Blank) -> TextBuffer<MAX_BLOCK>
+    requires name { blank.name ≡ L.name }
+    requires parts { blank.parts ≡ L.parts }
+    requires some { 0 < blank.parts }
+{
+    let mut steps = Steps::<L>::new(blank);
+    let mut out: TextBuffer<MAX_BLOCK> = TextBuffer::new();
+    let part = Part {
+        low: case.low,
+        is_reversed: case.is_reversed,
+    };
+    if let Some(format) = format_word(case.format.as_bytes()) {
+        let word = case.word.as_bytes();
+        let _refused = part_block(word, case.radix, part, format, &mut out, &mut steps);
+    }
+    out
+}
+
+/// A part of a word in hexadecimal.
+fn of_part(
+    format: &'static str,
+    low: Option<u32>,
+    is_reversed: bool,
+    word: &'static str,
+    block: &'static str,
+) -> PartCase {
+    PartCase {
+        format,
+        radix: Radix::Hex,
+        low,
+        is_reversed,
+        word,
+        block,
+    }
+}
+
+/// What is said of a word whose bytes are not all there.
+const NOT_BYTES: &str = "error: digits are not those of whole bytes, 1 to 8, that hold the field\n";
+
+/// The number zero in I8F8.
+const ZERO: &str = "text      0\nbits      0\nhex       0x0000\nvalue     0\n";
+
+/// The bytes 0x34 and 0x12 in I8F8.
+const LATER: &str = "text      52.07\nbits      13330\nhex       0x3412\nvalue     52.0703125\n";
+
+/// The number -1.5 in I8F8.
+const MINUS: &str = "text      -1.5\nbits      -384\nhex       0xfe80\nvalue     -1.5\n";
+
+#[test]
+fn each_part_has_its_block(rt: HostRuntime) {
+    let cases = [
+        of_part("I8F8", Some(0), false, "fe80", MINUS),
+        of_part("I8F8", Some(8), false, "0x12_fe80_34", MINUS),
+        of_part("I8F8", Some(48), false, "fe80000000000000", MINUS),
+        of_part("I8F8", Some(16), false, "fe80", ZERO),
+        of_part("I8F8", None, true, "80fe", MINUS),
+        of_part("I8F8", None, true, "0b0", NOT_BYTES),
+        of_part("I8F8", Some(0), true, "80fe0000", MINUS),
+        of_part("I8F8", Some(16), true, "1234_80fe", MINUS),
+        of_part("I8F8", Some(0), true, "1234_80fe", LATER),
+        of_part("I8F8", Some(0), true, "0000_80fe", ZERO),
+        of_part("I8F8", Some(16), true, "80fe", NOT_BYTES),
+        of_part("I8F8", None, true, "80f", NOT_BYTES),
+        of_part("I8F8", None, true, "0o1", NOT_BYTES),
+        of_part(
+            "I8F8",
+            None,
+            true,
+            "0080fe",
+            "error: word is wider than the format\n",
+        ),
+        of_part("I8F8", None, true, "00000000000000000000", NOT_BYTES),
+        of_part("I8F8", Some(0), false, "-1", "error: word has a sign\n"),
+        of_part(
+            "I8F8",
+            Some(0),
+            false,
+            "_1",
+            "error: misplaced underscore found in string\n",
+        ),
+        of_part(
+            "I8F8",
+            Some(0),
+            false,
+            "1g",
+            "error: invalid digit found in string\n",
+        ),
+        of_part(
+            "I8F8",
+            Some(0),
+            false,
+            "0x",
+            "error: string has no digits\n",
+        ),
+        of_part(
+            "I8F8",
+            Some(0),
+            false,
+            "10000000000000000",
+            "error: word is wider than 64 bits\n",
+        ),
+        of_part(
+            "I8F8",
+            None,
+            false,
+            "10000",
+            "error: word is wider than the format\n",
+        ),
+    ];
+    for case in &cases {
+        let out = part_over::<Brand>(case, Blank::new(1));
+        assert_eq!(rt; out.as_bytes(), case.block.as_bytes(), "{}", case.word);
+    }
+}
+
+#[test]
+fn binary_digits_are_eight_to_a_byte(rt: HostRuntime) {
+    let case = PartCase {
+        format: "U4F4",
+        radix: Radix::Dec,
+        low: Some(0),
+        is_reversed: true,
+        word: "0b0011_0011_0000_0000",
+        block: "text      3.2\nbits      51\nhex       0x33\nvalue     3.1875\n",
+    };
+    let out = part_over::<Brand>(&case, Blank::new(1));
+    assert_eq!(rt; out.as_bytes(), case.block.as_bytes());
 }

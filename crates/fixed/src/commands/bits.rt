@@ -1,8 +1,8 @@
 //! `fixed bits`: what number the word of a register is.
 
-use crate::options::{OUTPUT, RADIX};
+use crate::options::{FIELD, OUTPUT, RADIX, SWAP};
 use crate::questions::{FILE, run_question};
-use crate::settings::{format_at, radix_of};
+use crate::settings::{format_at, part_of, radix_of};
 use command_line::given::{Asked, Given};
 use command_line::page::{Operand, Page};
 use fixed_command::Question;
@@ -28,7 +28,7 @@ pub fn page() -> Page {
         usage: "fixed bits [OPTIONS] FORMAT [WORD]...",
         operands: &[FORMAT, WORDS],
         has_numerals: true,
-        options: &[RADIX, FILE, OUTPUT],
+        options: &[RADIX, FIELD, SWAP, FILE, OUTPUT],
         end: "A format is I (signed) or U (unsigned), its whole bits, F and its fraction bits,\n\
               as in I16F16, 1 to 64 bits in all; or as in Q15, Q8.8 and UQ8.8.\n\
               \n\
@@ -46,9 +46,14 @@ pub fn run<'a, L: Ledger>(
         Ok(format) => format,
         Err(refusal) => return Err(refusal),
     };
-    let question = Question::Bits {
-        radix: radix_of(given)?,
-        format,
+    let radix = radix_of(given)?;
+    let question = match part_of(given, format)? {
+        Some(part) => Question::Part {
+            radix,
+            part,
+            format,
+        },
+        None => Question::Bits { radix, format },
     };
     run_question(rt, &question, given, 1, steps)
 }

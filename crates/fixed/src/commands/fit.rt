@@ -1,4 +1,4 @@
-//! `fixed fit`: the finest format of a width that each numeral of an input fits.
+//! `fixed fit`: the finest format of a width that each numeral of an input fits, and the greatest error in it.
 
 use crate::inputs::{Job, run_inputs};
 use crate::options::RADIX;
@@ -16,7 +16,7 @@ use std::alloc::{AllocError, Global};
 use std::sync::ledger::Ledger;
 
 /// How many bytes an answer has at most.
-const ANSWER: usize = 128;
+const ANSWER: usize = 1536;
 
 const WIDTH: Row = Row {
     name: "width",
@@ -61,8 +61,10 @@ pub fn page() -> Page {
         options: &[WIDTH, SIGNED, WHY, RANGE, RADIX],
         end: "A numeral fits a format where it is in range after rounding to nearest, ties to\n\
               even. The finest format has the greatest fraction length. It is signed exactly\n\
-              where a numeral is below zero, or where --signed asks for it. Of a range LO is\n\
-              line 1 and HI line 2; where LO begins with a minus, -- comes before it.\n\
+              where a numeral is below zero, or where --signed asks for it. After its name\n\
+              stands the greatest error of a numeral in it; of a range half an ulp. Of a\n\
+              range LO is line 1 and HI line 2; where LO begins with a minus, -- comes\n\
+              before it.\n\
               \n\
               Example: printf '0.5\\n-3.2\\n' | fixed fit --width 16 --why",
     }
@@ -179,6 +181,7 @@ pub fn run<'a, L: Ledger>(
         radix: radix_of(given)?,
         kind,
         is_reason_asked: given.has(&WHY),
+        is_range: given.has(&RANGE),
     };
     if given.has(&RANGE) {
         return run_range(rt, &question, given.from(0), steps);

@@ -6,7 +6,7 @@ use Rattle.std.proofs.lemmas.Bool.{lt-ltb}
 use Rattle.fixed_bits.specs.Formats.{FormatParts}
 use Rattle.fixed_respell.proofs.Public.{name_one}
 use Rattle.fixed_respell.specs.LineWords.{longest_line}
-use Rattle.fixed_show.proofs.Public.{bits_block_one, format_block_one, show_block_one}
+use Rattle.fixed_show.proofs.Public.{bits_block_one, format_block_one, part_block_one, show_block_one}
 use Rattle.fixed_show.specs.FormatBlock.{IsFormatBlock}
 use Rattle.line_engine.specs.AnswerText.{AnswerText}
 use Rattle.line_engine.specs.Lines.{kept_length}
@@ -14,7 +14,7 @@ use Rattle.fixed_command.specs.Blocks.{IsBlock, IsFormatAnswer, IsHeaded, head_l
 use Rattle.fixed_command.specs.Convert.{without_return}
 use Rattle.fixed_command.specs.LineBlocks.{HasFormat, IsBlockOf, IsLineBlock, LineBlockIsTheOne, long_block}
 use Rattle.fixed_command.specs.declared.blocks.Question.{Question}
-use Rattle.fixed_command.specs.declared.blocks.Question.TheVariants.{Bits, Format, Show}
+use Rattle.fixed_command.specs.declared.blocks.Question.TheVariants.{Bits, Format, Part, Show}
 
 abbrev reply_of : List ℕ → Bool → AnswerText
 reply_of t o = record { text = t; fault = o }
@@ -40,6 +40,9 @@ block_one (Show r f p m) word a b valid x y =
     alike a b same.0 same.1
 block_one (Bits r f) word a b valid x y =
     let same = bits_block_one r f word a.fault b.fault a.text b.text valid.is_width x y in
+    alike a b same.0 same.1
+block_one (Part r part f) word a b valid x y =
+    let same = part_block_one r part f word a.fault b.fault a.text b.text valid.is_width x y in
     alike a b same.0 same.1
 block_one Format word a b valid x y = format_one word a b x y
 

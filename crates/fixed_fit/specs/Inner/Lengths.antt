@@ -2,7 +2,10 @@
 use Rattle.std.specs.Prelude.{◌≡◌, ◌+◌, ◌<◌, ◌≤◌, ◌&&◌, ℕ, Bool, true}
 use Rattle.std.specs.Prelude.{false, List, [], ◌∷◌, ◌++◌, if◌then◌else◌, nat_lt, codes, decimal}
 use Rattle.line_engine.specs.AnswerText.{AnswerText}
-use Rattle.fixed_fit.specs.Answer.{name_of, ruled_out_line}
+use Rattle.fixed_bits.specs.Formats.{FormatParts}
+use Rattle.fixed_fit.specs.Answer.{format_of, name_of, ruled_out_line}
+use Rattle.fixed_fit.specs.ErrorWord.{IsErrorWord}
+use Rattle.fixed_fit.specs.declared.question.Question.{Question}
 use Rattle.fixed_numeral.specs.declared.radix.Radix.{Radix}
 use Rattle.fixed_fit.specs.Fitting.{AllFit, Exceeds, Fits, IsFirstExceeding}
 use Rattle.fixed_fit.specs.declared.lengths.Lengths.{Lengths}
@@ -27,10 +30,17 @@ pub record AreLowered (r : Radix) (line : List ℕ) (place : ℕ) (old new : Len
 abbrev pub reason_of : Bool → Bool → ℕ → ℕ → ℕ → List ℕ
 reason_of asked s n f place = if asked && nat_lt f n then ruled_out_line s n (f + 1) place else []
 
+-- what is written where a format is named by its kind and its fraction length
+pub record IsSomeAnswer (q : Question) (list : List (List ℕ)) (kind : FormatParts) (f place : ℕ)
+    (answer : AnswerText) : Type 0 where
+  pub error : List ℕ
+  pub is_error : IsErrorWord q.is_range q.radix (format_of kind.signed kind.width f) list error
+  pub text : answer.text ≡ name_of kind.signed kind.width f
+      ++ (codes " error " ++ (error ++ 10 ∷ reason_of q.is_reason_asked kind.signed kind.width f place))
+  pub fault : answer.fault ≡ false
+
 -- what is written where these lengths are left
-pub record IsLengthsAnswer (asked : Bool) (l : Lengths) (answer : AnswerText) : Type 0 where
+pub record IsLengthsAnswer (q : Question) (list : List (List ℕ)) (l : Lengths) (answer : AnswerText) : Type 0 where
   pub none_text : l.count ≡ 0 → answer.text ≡ codes "none line " ++ (decimal l.place ++ 10 ∷ [])
   pub none_fault : l.count ≡ 0 → answer.fault ≡ true
-  pub some_text : (f : ℕ) → l.count ≡ f + 1
-      → answer.text ≡ name_of l.kind.signed l.kind.width f ++ 10 ∷ reason_of asked l.kind.signed l.kind.width f l.place
-  pub some_fault : (f : ℕ) → l.count ≡ f + 1 → answer.fault ≡ false
+  pub some : (f : ℕ) → l.count ≡ f + 1 → IsSomeAnswer q list l.kind f l.place answer

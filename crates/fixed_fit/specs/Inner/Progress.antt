@@ -1,13 +1,11 @@
 -- What is known of the lines so far.
-use Rattle.std.specs.Prelude.{◌≡◌, ◌↔◌, ◌+◌, ◌≤◌, ℕ, Bool, true, false, IsTrue, List, length, Option, Some, None}
+use Rattle.std.specs.Prelude.{◌≡◌, ◌↔◌, ◌+◌, ◌≤◌, ℕ, true, false, IsTrue, List, length, Option, Some, None}
 use Rattle.fixed_least.specs.Holding.{AllNumerals}
 use Rattle.fixed_least.specs.Least.{IsNoNumeral}
 use Rattle.fixed_least.specs.declared.least.LeastFault.{LeastFault}
-use Rattle.fixed_numeral.specs.declared.radix.Radix.{Radix}
 use Rattle.fixed_fit.specs.Fitting.{HasBelowZero}
 use Rattle.fixed_fit.specs.Inner.Lengths.{AreLengths}
 use Rattle.fixed_fit.specs.declared.progress.Progress.{Progress}
-use Rattle.line_engine.specs.Lines.{ended_lines, unended}
 
 -- of lines that are numerals: the lengths that are left of both sign rules, and whether one is below zero
 pub record AreFitted (n : ℕ) (lines : List (List ℕ)) (p : Progress) : Type 0 where

@@ -1,6 +1,8 @@
 -- What is known while an input is read.
-use Rattle.std.specs.Prelude.{◌≡◌, ◌≤◌, ℕ, List, length, Option}
+use Rattle.std.specs.Prelude.{◌≡◌, ℕ, List, max, Option, None}
 use Rattle.std.specs.Io.KnownBytes.{Consumes, IsAtEnd}
+use Rattle.fixed_bits.specs.Ranges.{IsWidth}
+use Rattle.fixed_error.specs.Errors.{HasGreatestErrors}
 use Rattle.fixed_numeral.specs.declared.radix.Radix.{Radix}
 use Rattle.line_engine.specs.Failures.{HasFailed}
 use Rattle.line_engine.specs.Lines.{ended_lines, lines, unended}
@@ -8,15 +10,22 @@ use Rattle.line_engine.specs.declared.status.Status.{Status}
 use Rattle.line_engine.specs.declared.status.Status.TheVariants.{Done, Faults, Usage}
 use Rattle.line_engine.specs.declared.status.Status.TheVariants.{ReadFault, WriteFault, NoMemory, TooLong}
 use Rattle.fixed_fit.specs.Answer.{TakesBytes, most_bytes}
+use Rattle.fixed_fit.specs.ErrorWord.{entries_from}
 use Rattle.fixed_fit.specs.Inner.Progress.{HasProgress}
-use Rattle.fixed_fit.specs.declared.progress.Progress.{Progress}
 use Rattle.fixed_fit.specs.declared.reader.Reader.{Reader}
+
+-- what is kept of these lines
+pub record HasLines (r : Radix) (n : ℕ) (list : List (List ℕ)) (reader : Reader) : Type 0 where
+  pub width : IsWidth n
+  pub progress : HasProgress n list reader.progress
+  pub radix : reader.progress.radix ≡ r
+  pub errors : reader.progress.fault ≡ None → HasGreatestErrors r
+      (max reader.progress.plain.count reader.progress.signed.count) (entries_from 1 list) reader.errors
 
 -- what is kept of these bytes
 pub record HasRead (r : Radix) (n : ℕ) (whole : List ℕ) (reader : Reader) : Type 0 where
   pub line : reader.line.items ≡ unended whole
-  pub progress : HasProgress n (ended_lines whole) reader.progress
-  pub radix : reader.progress.radix ≡ r
+  pub lines : HasLines r n (ended_lines whole) reader
 
 -- this is kept of some bytes
 abbrev pub HasSomeRead : Reader → Type 0
@@ -24,12 +33,11 @@ HasSomeRead reader = (r : Radix) × (n : ℕ) × (whole : List ℕ) × HasRead r
 
 -- an input was read to its end, and this is known of its lines
 pub record ReadsAll (r : Radix) (n : ℕ) (left left' : Option (List ℕ)) (failures failures' : ℕ)
-    (progress : Progress) : Type 0 where
+    (reader : Reader) : Type 0 where
   pub input : List ℕ
   pub taken : Consumes left left' input
   pub at_end : IsAtEnd left'
-  pub known : HasProgress n (lines input) progress
-  pub radix : progress.radix ≡ r
+  pub known : HasLines r n (lines input) reader
   pub same : failures' ≡ failures
 
 -- reading stopped before the end

@@ -2,7 +2,8 @@
 use Rattle.std.specs.Prelude.{◌≡◌, ◌==◌, ◌+◌, ◌≤◌, ℕ, false, List, [], ◌∷◌, ◌++◌, length, Option}
 use Rattle.std.specs.Io.KnownBytes.{Appends}
 use Rattle.fixed_numeral.specs.declared.error.ParseErrorKind.{ParseErrorKind}
-use Rattle.fixed_pack.specs.Pack.{ArePacked, IsPacked, IsRefused, Sends, StopsAmong}
+use Rattle.fixed_command.specs.declared.watch.RefusedLine.{RefusedLine}
+use Rattle.fixed_pack.specs.Pack.{ArePacked, IsPacked, IsRefused, Sends, StopsAmong, refused_line}
 use Rattle.fixed_pack.specs.Word.{joined}
 use Rattle.fixed_pack.specs.declared.pack.PackEnd.{PackEnd}
 use Rattle.fixed_pack.specs.declared.pack.PackEnd.TheVariants as end
@@ -54,19 +55,14 @@ pub record PushesWord (s : PackSettings) (line old new : List ℕ) : Type 0 wher
   pub out : new ≡ old ++ word
   pub short : length word ≤ 8
 
--- or the line, which has this number, was refused
-abbrev pub RefusesWord : PackSettings → ℕ → List ℕ → List ℕ → List ℕ → Stop → Type 0
-RefusesWord s number line old new (Refused place kind refused) = IsRefused s line kind × (place ≡ number) × (new ≡ old)
-RefusesWord s number line old new NoMemory = ⊥
-
--- or it was not
+-- or it was not; what is kept of a line that is refused
 abbrev pub RefusesLine : List ℕ → Packer → Packer → Stop → Type 0
-RefusesLine part old new (Refused place kind line) = IsRefused old.settings (old.line.items ++ part) kind
-    × (place ≡ old.lines + 1) × (new.out ≡ old.out)
+RefusesLine part old new (Refused kind) = IsRefused old.settings (old.line.items ++ part) kind
+    × (new.refused ≡ refused_line (old.lines + 1) (old.line.items ++ part) kind) × (new.out ≡ old.out)
 RefusesLine part old new NoMemory = new.out ≡ old.out
 
 -- of these lines the first were packed, into the bytes sent and those that are still held; the next was not
-pub record HasRefused (s : PackSettings) (all : List (List ℕ)) (sent out : List ℕ) (place : ℕ)
+pub record HasRefused (s : PackSettings) (all : List (List ℕ)) (sent out : List ℕ) (kept : RefusedLine)
     (kind : ParseErrorKind) : Type 0 where
   pub some : List (List ℕ)
   pub line : List ℕ
@@ -76,7 +72,7 @@ pub record HasRefused (s : PackSettings) (all : List (List ℕ)) (sent out : Lis
   pub packed : ArePacked s some words
   pub held : joined words ≡ sent ++ out
   pub refused : IsRefused s line kind
-  pub place_is : place ≡ length some + 1
+  pub kept_is : kept ≡ refused_line (length some + 1) line kind
 
 pub record HasNoMemory (s : PackSettings) (all : List (List ℕ)) (sent out : List ℕ) : Type 0 where
   pub some : List (List ℕ)
@@ -86,9 +82,9 @@ pub record HasNoMemory (s : PackSettings) (all : List (List ℕ)) (sent out : Li
   pub packed : ArePacked s some words
   pub held : joined words ≡ sent ++ out
 
-abbrev pub HasStopped : PackSettings → List (List ℕ) → List ℕ → List ℕ → Stop → Type 0
-HasStopped s all sent out (Refused place kind line) = HasRefused s all sent out place kind
-HasStopped s all sent out NoMemory = HasNoMemory s all sent out
+abbrev pub HasStopped : PackSettings → List (List ℕ) → List ℕ → Packer → Stop → Type 0
+HasStopped s all sent p (Refused kind) = HasRefused s all sent p.out p.refused kind
+HasStopped s all sent p NoMemory = HasNoMemory s all sent p.out
 
 -- nothing is held: all that was packed was written
 pub record HasSent (s : PackSettings) (whole : List ℕ) (first written : Option (List ℕ)) (p : Packer) : Type 0 where
@@ -100,8 +96,7 @@ pub record HasSent (s : PackSettings) (whole : List ℕ) (first written : Option
 -- how the packing of lines ended
 abbrev pub EndsAmong : PackSettings → List (List ℕ) → Option (List ℕ) → Option (List ℕ) → PackEnd → Type 0
 EndsAmong s all first written end.Done = Sends s all first written
-EndsAmong s all first written (end.Refused place kind line) = StopsAmong s all first written
-    (end.Refused place kind line)
+EndsAmong s all first written (end.Refused kind kept) = StopsAmong s all first written (end.Refused kind kept)
 EndsAmong s all first written end.ReadFault = ⊥
 EndsAmong s all first written end.WriteFault = StopsAmong s all first written end.WriteFault
 EndsAmong s all first written end.NoMemory = StopsAmong s all first written end.NoMemory

@@ -1,4 +1,4 @@
-use Rattle.std.proofs.Common.{◌≡◌, ◌-◌, take, drop, ap, arith, refl, if◌then◌else◌}
+use Rattle.std.proofs.Common.{refl, if◌then◌else◌}
 use Rattle.std.proofs.lemmas.List.{take_rest}
 use Rattle.column_engine.specs.Gathered.{only}
 use Rattle.column_engine.specs.Rows.{raw_fields}

@@ -1,4 +1,4 @@
-use Rattle.std.proofs.Common.{◌≡◌, ◌<◌, ◌+◌, ◌-◌, ◌++◌, [], ◌∷◌, refl, ap, ◌∙◌, length, arith, length-append, sym, subst, take, drop}
+use Rattle.std.proofs.Common.{◌≡◌, ◌<◌, ◌+◌, ◌-◌, ◌++◌, [], ◌∷◌, refl, ap, ◌∙◌, length, arith, length-append, subst, take, drop}
 use Rattle.std.proofs.lemmas.List.{take_rest}
 use Rattle.column_engine.specs.Gathered.{IsFieldAt}
 use Rattle.column_engine.specs.Rows.{raw_fields}

@@ -1,45 +1,21 @@
-use Rattle.std.proofs.Common.{◌<◌, ◌+◌, length, sym, ◌∙◌, arith, subst}
-use Rattle.std.proofs.lemmas.List.{take_rest}
-use Rattle.column_engine.specs.Places.{StaysFor}
-use Rattle.column_engine.proofs.PlaceLemmas.{ends_is, stay_more}
-use Rattle.column_engine.proofs.RowLemmas.{fields_end, fields_from, fields_last, fields_more}
+use Rattle.std.proofs.Common.{arith}
+use Rattle.std.proofs.lemmas.Bool.{eq-eqb}
+use Rattle.column_engine.specs.declared.place.Place.TheVariants.{Inside}
+use Rattle.column_engine.proofs.PlaceLemmas.{plain_field}
+use Rattle.column_engine.proofs.RowLemmas.{fields_end, fields_last}
 use Rattle.column_engine.proofs.place.field_end.Goals as goal
 
-pub bytes-init : goal.bytes-init
-bytes-init c = record {
-  within = omega arith;
-  fields = c.first_place-place.ensures c.args.delimiter ∙ fields_from c.args.delimiter c.first_place-place.result c.args.body.now;
-}
-
-pub returns-then-at-body-clause-last : goal.returns-then-at-body-clause-last
-returns-then-at-body-clause-last c =
+pub returns-in-Inside-clause-last : goal.returns-in-Inside-clause-last
+returns-in-Inside-clause-last c =
     let d = c.args.delimiter in
     let body = c.args.body.now in
-    let count = c.staying-at.result in
-    let stays = subst (λ l. StaysFor d c.bytes.place l count) (take_rest body c.bytes.at) c.staying-at.ensures.stays in
-    λ e. fields_last d c.bytes.place body (c.bytes.at + count) (omega (arith, e)) (stay_more d c.bytes.place body c.bytes.at count (omega (arith, e)) stays c.bytes.invariant.fields)
+    let k = c.before_byte.result in
+    λ e. fields_last d Inside body k (omega (arith, e)) (plain_field d body k c.before_byte.ensures.within c.before_byte.ensures.none (c.in-Inside.ensures d))
 
-pub returns-then-ends_field-clause-more : goal.returns-then-ends_field-clause-more
-returns-then-ends_field-clause-more c =
+pub returns-in-Inside-clause-more : goal.returns-in-Inside-clause-more
+returns-in-Inside-clause-more c =
     let d = c.args.delimiter in
     let body = c.args.body.now in
-    let count = c.staying-at.result in
-    let stays = subst (λ l. StaysFor d c.bytes.place l count) (take_rest body c.bytes.at) c.staying-at.ensures.stays in
-    λ low. fields_end d c.bytes.place body (c.bytes.at + count) low (sym c.ends_field.ensures ∙ c.if-ends_field.true)
-    (stay_more d c.bytes.place body c.bytes.at count (omega (arith, low)) stays c.bytes.invariant.fields)
-
-pub returns-then-ends_field-clause-delimiter : goal.returns-then-ends_field-clause-delimiter
-returns-then-ends_field-clause-delimiter c = λ low. ends_is c.args.delimiter c.bytes.place _ (sym c.ends_field.ensures ∙ c.if-ends_field.true)
-
-pub bytes-preserved : goal.bytes-preserved
-bytes-preserved c =
-    let d = c.args.delimiter in
-    let body = c.args.body.now in
-    let count = c.staying-at.result in
-    let stays = subst (λ l. StaysFor d c.bytes.place l count) (take_rest body c.bytes.at) c.staying-at.ensures.stays in
-    let low : c.bytes.at + count < length body = omega (arith, c.if-at-body.false, c.staying-at.ensures.within) in
-    let before = stay_more d c.bytes.place body c.bytes.at count (omega (arith, low)) stays c.bytes.invariant.fields in
-    record {
-      within = omega (arith, low);
-      fields = rw c.within_after-place.ensures (fields_more d c.bytes.place body (c.bytes.at + count) low (sym c.ends_field.ensures ∙ c.if-ends_field.false) before);
-    }
+    let k = c.before_byte.result in
+    λ low. fields_end d Inside body k low (eq-eqb _ d (c.before_byte.ensures.found low))
+    (plain_field d body k c.before_byte.ensures.within c.before_byte.ensures.none (c.in-Inside.ensures d))

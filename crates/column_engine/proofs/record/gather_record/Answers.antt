@@ -45,8 +45,8 @@ returns-in-NewColumn-clause-err g c =
     (one.0, one.1, subst (λ l. GathersLonger A keeps d l (record { body = c.args.body.now; end = c.args.end.now }) one.0 held one.1 a b) c.deref.ensures.value one.2))
     c.lengthen_record.ensures.err
 
-pub returns-in-Err-put-clause-err : goal.returns-in-Err-put-clause-err
-returns-in-Err-put-clause-err g c =
+pub returns-in-Err-put_end-clause-err : goal.returns-in-Err-put_end-clause-err
+returns-in-Err-put_end-clause-err g c =
     let A = g.A.FieldRule.Answers c.args.task.now.rule.now in
     let keeps = c.args.task.now.is_kept in
     let d = c.args.task.now.delimiter in
@@ -56,11 +56,11 @@ returns-in-Err-put-clause-err g c =
     let a = g.K.Sink.written c.args.sink.now in
     let b = g.K.Sink.written c.fill_record.new.sink in
     fails_fields A keeps d c.args.task.now.columns.now (state_of c.args.progress.now) (record { body = c.args.body.now; end = c.args.end.now }) c.in-Ok.refused held mid
-    a b (g.K.Sink.written c.put.new.sink) c.requires.short c.requires.known (ap name_of c.in-InPlace.is) c.requires.some c.requires.enough
-    (subst (λ l. GathersFields A keeps d l 0 raws c.in-Ok.refused held mid a b) c.deref-in-InPlace.ensures.value c.in-Ok.ensures.ok) c.in-Err-put.ensures.err
+    a b (g.K.Sink.written c.put_end.new.sink) c.requires.short c.requires.known (ap name_of c.in-InPlace.is) c.requires.some c.requires.enough
+    (subst (λ l. GathersFields A keeps d l 0 raws c.in-Ok.refused held mid a b) c.deref-in-InPlace.ensures.value c.in-Ok.ensures.ok) c.in-Err-put_end.ensures.err
 
-pub returns-in-Ok-put-clause-ok : goal.returns-in-Ok-put-clause-ok
-returns-in-Ok-put-clause-ok g c =
+pub returns-in-Ok-put_end-clause-ok : goal.returns-in-Ok-put_end-clause-ok
+returns-in-Ok-put_end-clause-ok g c =
     let A = g.A.FieldRule.Answers c.args.task.now.rule.now in
     let keeps = c.args.task.now.is_kept in
     let d = c.args.task.now.delimiter in
@@ -69,6 +69,6 @@ returns-in-Ok-put-clause-ok g c =
     let mid = c.fill_record.new.work.out in
     let a = g.K.Sink.written c.args.sink.now in
     let b = g.K.Sink.written c.fill_record.new.sink in
-    passes_fields A keeps d c.args.task.now.columns.now (state_of c.args.progress.now) (record { body = c.args.body.now; end = c.args.end.now }) c.in-Ok.refused held mid c.put.new.out
-    a b (g.K.Sink.written c.put.new.sink) c.requires.short c.requires.known (ap name_of c.in-InPlace.is) c.requires.some c.requires.enough
-    (subst (λ l. GathersFields A keeps d l 0 raws c.in-Ok.refused held mid a b) c.deref-in-InPlace.ensures.value c.in-Ok.ensures.ok) c.in-Ok-put.ensures.ok
+    passes_fields A keeps d c.args.task.now.columns.now (state_of c.args.progress.now) (record { body = c.args.body.now; end = c.args.end.now }) c.in-Ok.refused held mid c.put_end.new.out
+    a b (g.K.Sink.written c.put_end.new.sink) c.requires.short c.requires.known (ap name_of c.in-InPlace.is) c.requires.some c.requires.enough
+    (subst (λ l. GathersFields A keeps d l 0 raws c.in-Ok.refused held mid a b) c.deref-in-InPlace.ensures.value c.in-Ok.ensures.ok) c.in-Ok-put_end.ensures.ok

@@ -1,4 +1,4 @@
-use Rattle.std.proofs.Common.{◌≤◌, ◌<◌, ℕ}
+use Rattle.std.proofs.Common.{◌≤◌, ◌<◌}
 use Rattle.fixed_fit.specs.Fitting.{Exceeds}
 use Rattle.fixed_fit.proofs.lengths.count_left.Given as goal
 

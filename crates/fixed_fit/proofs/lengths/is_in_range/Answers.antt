@@ -1,4 +1,3 @@
-use Rattle.std.proofs.Common.{◌≡◌, ℕ, Bool, true, false, ap, subst, sym, ◌∙◌}
 use Rattle.fixed_fit.proofs.FittingLemmas.{exceeds_by, fits_by}
 use Rattle.fixed_fit.proofs.lengths.is_in_range.Goals as goal
 

@@ -1,4 +1,4 @@
-use Rattle.std.proofs.Common.{◌≡◌, ◌+◌, ◌<◌, ◌≤◌, ℕ, refl, sym, arith, ◌∙◌, ap}
+use Rattle.std.proofs.Common.{◌≡◌, arith}
 use Rattle.std.proofs.lemmas.Grind.{common_steps}
 use Rattle.fixed_fit.proofs.FittingLemmas.{not_lowered, some_lowered}
 use Rattle.fixed_fit.proofs.lengths.lowered.Goals as goal

@@ -1,4 +1,4 @@
-use Rattle.std.proofs.Common.{◌≡◌, ◌∙◌, ℕ, ap, rules}
+use Rattle.std.proofs.Common.{◌∙◌, ℕ, ap, rules}
 use Rattle.fixed_bits.specs.Formats.{FormatParts}
 use Rattle.fixed_fit.proofs.NumeralLemmas.{below_zero_by}
 use Rattle.fixed_fit.proofs.numeral.is_below_zero.Goals as goal

@@ -1,4 +1,4 @@
-use Rattle.std.proofs.Common.{◌-◌, ◌≡◌, ◌≤◌, ◌+◌, List, ℕ, length}
+use Rattle.std.proofs.Common.{◌-◌, ◌≡◌, ◌≤◌, List, ℕ, length}
 use Rattle.std.specs.Io.KnownBytes.{Consumes}
 use Rattle.fixed_fit.specs.Inner.Reading.{HasRead}
 use Rattle.fixed_fit.proofs.reader.read_lines.Given as goal

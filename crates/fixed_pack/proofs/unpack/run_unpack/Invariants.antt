@@ -11,7 +11,9 @@ invariant-loop-taken g l = record {
   bytes : List ℕ;
   consumed : Consumes (g.S.Source.left l.initial.source) (g.S.Source.left l.source) bytes;
   written : HasWritten l.rule bytes (g.K.Sink.written l.initial.sink) (g.K.Sink.written l.sink) l.unpacker;
-  none : l.unpacker.out ≡ [];
+  none : l.unpacker.answered.out ≡ [];
+  words : l.unpacker.answered.words ≤ l.taken;
+  few_refused : l.unpacker.answered.refused ≤ l.unpacker.answered.words;
   part : length l.unpacker.part < count_of l.rule;
   count : l.taken ≡ length bytes;
   most : l.taken ≤ 4611686018427392000;

@@ -1,4 +1,4 @@
-use Rattle.std.proofs.Common.{◌≡◌, Bool, ◌+◌, ◌∷◌, ◌++◌, [], List, ℕ, None, Some, Option, refl, sym, subst, arith}
+use Rattle.std.proofs.Common.{◌≡◌, Bool, ◌+◌, ◌∷◌, ◌++◌, [], None, refl, sym, subst, arith}
 use Rattle.std.proofs.lemmas.Grind.{common_steps}
 use Rattle.fixed_least.specs.declared.least.LeastFault.{LeastFault}
 use Rattle.fixed_least.specs.declared.least.LeastFault.TheVariants.{NotNumeral}

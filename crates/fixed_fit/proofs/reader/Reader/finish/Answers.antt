@@ -1,4 +1,4 @@
-use Rattle.std.proofs.Common.{◌≡◌, [], ℕ, length, arith}
+use Rattle.std.proofs.Common.{arith}
 use Rattle.std.proofs.lemmas.Grind.{common_steps}
 use Rattle.fixed_fit.proofs.ReadingLemmas.{ends_empty, ends_line, nil_of}
 use Rattle.fixed_fit.proofs.reader.Reader.finish.Goals as goal
@@ -6,5 +6,5 @@ use Rattle.fixed_fit.proofs.reader.Reader.finish.Goals as goal
 pub returns-then-is_empty : goal.returns-then-is_empty
 returns-then-is_empty g c = λ r n whole h. ends_empty r n whole c.args.self.now (nil_of c.args.self.now.line.items (grind (arith, common_steps, c.is_empty.ensures, c.if-is_empty.true))) h
 
-pub returns : goal.returns
-returns g c = λ r n whole h. ends_line r n whole c.args.self.now c.deref.result.now c.after.result (grind (arith, common_steps, c.is_empty.ensures, c.if-is_empty.false)) c.deref.ensures.value c.after.ensures.one_more c.after.ensures.radix h
+pub returns-in-Ok : goal.returns-in-Ok
+returns-in-Ok g c = λ r n whole h. ends_line r n whole c.args.self.now c.end_line.new.self (grind (arith, common_steps, c.is_empty.ensures, c.if-is_empty.false)) (λ m done k. c.in-Ok.ensures.ended r m done k) h

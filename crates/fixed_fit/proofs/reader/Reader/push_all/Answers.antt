@@ -1,5 +1,4 @@
-use Rattle.std.proofs.Common.{◌≡◌, ◌+◌, ◌<◌, ◌∷◌, ◌++◌, [], ℕ, take, get_or, length, arith}
-use Rattle.std.proofs.lemmas.Grind.{common_steps}
+use Rattle.std.proofs.Common.{◌∷◌, ◌++◌, [], take, get_or, arith}
 use Rattle.fixed_fit.proofs.ReadingLemmas.{all_of_them, nothing_read, one_more}
 use Rattle.fixed_fit.proofs.reader.Reader.push_all.Goals as goal
 

@@ -11,7 +11,7 @@ pub returns-in-Ok-clause-ok : goal.returns-in-Ok-clause-ok
 returns-in-Ok-clause-ok g c = λ s whole first h.
     let mid = c.push_all.new.self in
     sent_on s (whole ++ c.args.bytes.now) h.sent first (g.K.Sink.written c.args.sink.now) (g.K.Sink.written c.send.new.sink) mid
-    (record { settings = mid.settings; line = mid.line; lines = mid.lines; out = c.send.new.out })
+    (record { settings = mid.settings; line = mid.line; lines = mid.lines; out = c.send.new.out; refused = mid.refused })
     (c.in_default.ensures.ok s whole h.sent h.packed) h.output c.in-Ok.ensures.ok c.in-Ok.ensures.none refl refl refl
 
 pub returns-in-Err-send-clause-err : goal.returns-in-Err-send-clause-err

@@ -47,13 +47,15 @@ loop-end-preserved g c =
 pub returns-in-Err-extend-clause-err : goal.returns-in-Err-extend-clause-err
 returns-in-Err-extend-clause-err g c =
     let inv = c.loop-end.invariant in
+    let old = c.loop-end.self in
     λ s whole sent h.
-    rest_stopped s whole sent c.args.bytes.now inv.prefix c.loop-end.rest.now c.loop-end.self.out c.loop-end.self c.in-Err-extend.stop inv.split (ends_nowhere c.loop-end.rest.now c.in_default.ensures) (inv.packed s whole sent h) c.in-Err-extend.ensures.err refl
+    rest_stopped s whole sent c.args.bytes.now inv.prefix c.loop-end.rest.now old (record { settings = old.settings; line = c.extend.new.line; lines = old.lines; out = old.out; refused = old.refused }) c.in-Err-extend.stop inv.split
+    (ends_nowhere c.loop-end.rest.now c.in_default.ensures) (inv.packed s whole sent h) c.in-Err-extend.ensures.err refl
 
 pub returns-in-Ok-extend-clause-ok : goal.returns-in-Ok-extend-clause-ok
 returns-in-Ok-extend-clause-ok g c =
     let inv = c.loop-end.invariant in
     let old = c.loop-end.self in
     λ s whole sent h.
-    rest_packed s whole sent c.args.bytes.now inv.prefix c.loop-end.rest.now old (record { settings = old.settings; line = c.extend.new.line; lines = old.lines; out = old.out }) inv.split
+    rest_packed s whole sent c.args.bytes.now inv.prefix c.loop-end.rest.now old (record { settings = old.settings; line = c.extend.new.line; lines = old.lines; out = old.out; refused = old.refused }) inv.split
     (ends_nowhere c.loop-end.rest.now c.in_default.ensures) (inv.packed s whole sent h) c.in-Ok-extend.ensures.ok refl refl refl

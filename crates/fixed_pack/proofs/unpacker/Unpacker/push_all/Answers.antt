@@ -1,24 +1,58 @@
-use Rattle.std.proofs.Common.{◌++◌, take, length, ap, arith}
-use Rattle.fixed_pack.proofs.UnpackLemmas.{all_taken, nothing_taken, one_taken}
+use Rattle.std.proofs.Common.{◌≡◌, ◌∙◌, ◌-◌, ◌<◌, ◌++◌, [], List, ℕ, take, drop, length, refl, sym, ap, arith, append_assoc}
+use Rattle.std.proofs.lemmas.List.{length-drop, length-take, take-append-drop, take_rest}
+use Rattle.fixed_pack.specs.Unpack.{count_of}
+use Rattle.fixed_pack.proofs.TakenLemmas.{nil_of}
+use Rattle.fixed_pack.proofs.UnpackLemmas.{HasGone, all_taken, more_taken, nothing_taken, piece_gone}
 use Rattle.fixed_pack.proofs.unpacker.Unpacker.push_all.Goals as goal
 
-pub loop-byte-init : goal.loop-byte-init
-loop-byte-init g c = record {
+pub loop-rest-init : goal.loop-rest-init
+loop-rest-init g c = record {
+  prefix = [];
+  split = refl;
   taken = λ whole sent h. nothing_taken c.args.rule.now whole sent c.args.self.now h;
   part = c.requires.part;
-  room = omega (arith, ap length c.requires.none);
+  words = omega arith;
+  few_refused = c.requires.few_refused;
+  room = omega (arith, ap length c.requires.none, c.requires.chunk);
 }
 
-pub loop-byte-preserved : goal.loop-byte-preserved
-loop-byte-preserved g c =
-    let inv = c.loop-byte.invariant in
-    let k = c.loop-byte.byte-index in
-    let bytes = c.args.bytes.now in
+pub push-requires-clause-piece : goal.push-requires-clause-piece
+push-requires-clause-piece g c =
+    omega (arith, c.lacks.ensures, c.lesser-size.ensures.first, length-take c.lesser-size.result c.loop-rest.rest.now)
+
+pub push-requires-clause-words : goal.push-requires-clause-words
+push-requires-clause-words g c = omega (arith, c.loop-rest.invariant.words, c.requires.words, c.loop-rest-test.true)
+
+pub push-requires-clause-room : goal.push-requires-clause-room
+push-requires-clause-room g c = omega (arith, c.loop-rest.invariant.room, c.loop-rest-test.true)
+
+pub loop-rest-preserved : goal.loop-rest-preserved
+loop-rest-preserved g c =
+    let inv = c.loop-rest.invariant in
+    let r = c.args.rule.now in
+    let rest = c.loop-rest.rest.now in
+    let n : ℕ = c.lesser-size.result in
+    let piece : List ℕ = take n rest in
+    let more : List ℕ = take (length rest - n) (drop n rest) in
+    let some : 0 < count_of r = omega (arith, inv.part) in
+    let lacks : 0 < c.lacks.result = omega (arith, inv.part, c.lacks.ensures) in
+    let moves : 0 < n = c.lesser-size.ensures.some lacks (omega (arith, c.loop-rest-test.true)) in
+    let within = c.lesser-size.ensures.second in
+    let gone : HasGone r c.loop-rest.self c.push.new.self = piece_gone r piece c.loop-rest.self c.push.new.self some c.push.ensures in
+    let left : more ≡ drop n rest = take_rest rest n in
+    let size : length more ≡ length rest - n = ap length left ∙ length-drop n rest in
     record {
-      taken = λ whole sent h. one_taken c.args.rule.now whole sent bytes k c.push.new.self c.loop-byte-test.true (c.push.ensures.taken (whole ++ take k bytes) sent (inv.taken whole sent h));
-      part = c.push.ensures.part;
-      room = omega (arith, inv.room, c.push.ensures.room);
+      prefix = inv.prefix ++ piece;
+      split = inv.split ∙ (ap (λ l. inv.prefix ++ l) (sym (take-append-drop n rest) ∙ ap (λ l. piece ++ l) (sym left)) ∙ sym (append_assoc inv.prefix piece more));
+      taken = λ whole sent h. more_taken r whole sent inv.prefix piece c.loop-rest.self c.push.new.self some (inv.taken whole sent h) c.push.ensures;
+      part = gone.part;
+      words = omega (arith, gone.words, inv.words, size, moves, within);
+      few_refused = gone.refused inv.few_refused;
+      room = omega (arith, gone.room, inv.room, size, moves, within);
     }
 
 pub returns-clause-taken : goal.returns-clause-taken
-returns-clause-taken g c = λ whole sent h. all_taken c.args.rule.now whole sent c.args.bytes.now c.loop-byte.byte-index c.loop-byte.self c.loop-byte-test.false (c.loop-byte.invariant.taken whole sent h)
+returns-clause-taken g c =
+    let inv = c.loop-rest.invariant in
+    λ whole sent h.
+    all_taken c.args.rule.now whole sent c.args.bytes.now inv.prefix c.loop-rest.rest.now c.loop-rest.self inv.split (nil_of c.loop-rest.rest.now (omega (arith, c.loop-rest-test.false))) (inv.taken whole sent h)

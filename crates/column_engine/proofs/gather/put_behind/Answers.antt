@@ -2,7 +2,7 @@ use Rattle.std.proofs.lemmas.Result.{on_ok_weaker, on_err_weaker}
 use Rattle.std.specs.Io.KnownBytes.{Appends}
 use Rattle.line_engine.specs.Output.{AppendsPrefix}
 use Rattle.column_engine.proofs.GatherLemmas.{on_err, put_part, put_rest, put_whole}
-use Rattle.column_engine.proofs.gather.put.Goals as goal
+use Rattle.column_engine.proofs.gather.put_behind.Goals as goal
 
 pub returns-in_err-flush-clause-err : goal.returns-in_err-flush-clause-err
 returns-in_err-flush-clause-err g c =

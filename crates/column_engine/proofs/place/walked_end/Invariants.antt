@@ -2,7 +2,7 @@ use Rattle.std.proofs.Common.{◌≡◌, ◌≤◌, ◌-◌, length, take, drop}
 use Rattle.column_engine.specs.Rows.{raw_fields}
 use Rattle.column_engine.specs.declared.place.Place.TheVariants.{Start}
 use Rattle.column_engine.proofs.RowLemmas.{onto}
-use Rattle.column_engine.proofs.place.field_end.Given as goal
+use Rattle.column_engine.proofs.place.walked_end.Given as goal
 
 abbrev pub invariant-bytes : goal.invariant-bytes
 invariant-bytes l = record {

@@ -1,0 +1,45 @@
+//! The word of a field of bits.
+
+ghost use Rattle.std.specs.Prelude.{◌≡◌, ◌≤◌, ◌+◌, ◌<◌, ◌↔◌, ℕ, MatchOption, true};
+ghost use Rattle.fixed_command.specs.Asked.{field_text};
+
+use fixed_bits::Format;
+use fixed_write::push_integer;
+use text_buffer::TextBuffer;
+
+/// The word of the field of `width` bits from bit `low` on.
+fn field_word(width: u32, low: u32) -> TextBuffer<64>
+    requires some { 0 < width }
+    requires within { low + width ≤ 64 }
+    ensures { result ≡ field_text width low }
+{
+    let mut text: TextBuffer<64> = TextBuffer::new();
+    push_integer(&mut text, i128::from(low + width - 1));
+    text.push(b':');
+    push_integer(&mut text, i128::from(low));
+    text
+}
+
+/// Whether a word is that of the field of `width` bits from bit `low` on.
+fn is_field(word: &str, width: u32, low: u32) -> bool
+    requires some { 0 < width }
+    requires within { low + width ≤ 64 }
+    ensures { (result ≡ true) ↔ (word.now ≡ field_text width low) }
+{
+    word.as_bytes() == field_word(width, low).as_bytes()
+}
+
+/// The lowest bit of the field that a word `HI:LO` names: the bits of a word of 64 from `LO` up to `HI`, as many as
+/// the format has. `None` where it names none such.
+pub fn field_named(word: &str, format: Format) -> Option<u32>
+    ensures { MatchOption result ((low : ℕ) → low + format.width ≤ 64 → ¬ (word.now ≡ field_text format.width low))
+        (λ low. (low + format.width ≤ 64) × (word.now ≡ field_text format.width low)) }
+{
+    let width = format.width();
+    'lows: for low in 0..65 - width {
+        if is_field(word, width, low) {
+            return Some(low);
+        }
+    }
+    None
+}

@@ -1,0 +1,38 @@
+-- What the laws of parts of words say.
+use Rattle.std.specs.Prelude.{◌≡◌, ◌↔◌, ℕ, ◌^◌, ◌<◌, Bool, false, List, None, Some, ℤ}
+use Rattle.fixed_bits.specs.Formats.{FormatParts}
+use Rattle.fixed_bits.specs.Ranges.{IsWidth}
+use Rattle.fixed_numeral.specs.declared.radix.Radix.{Radix}
+use Rattle.fixed_show.specs.PartText.{HasPartFault, IsPart, IsPartBlock, reversed_bytes}
+use Rattle.fixed_show.specs.WordText.{IsPlainWord}
+use Rattle.fixed_show.specs.declared.parts.Part.{Part}
+use Rattle.fixed_show.specs.declared.parts.PartFault.{PartFault}
+
+-- a word has one fault at most
+abbrev pub PartFaultIsTheOne : Type 0
+PartFaultIsTheOne = (bare : Radix) (part : Part) (f : FormatParts) (text : List ℕ) (a b : PartFault)
+    → HasPartFault bare part f text a → HasPartFault bare part f text b → a ≡ b
+
+-- and none if it has the part
+abbrev pub PartHasNoFault : Type 0
+PartHasNoFault = (bare : Radix) (part : Part) (f : FormatParts) (text : List ℕ) (fault : PartFault) (v : ℤ)
+    → HasPartFault bare part f text fault → ¬ IsPart bare part f text v
+
+-- a word has one block for a part of it
+abbrev pub PartBlockIsTheOne : Type 0
+PartBlockIsTheOne = (bare : Radix) (part : Part) (f : FormatParts) (text : List ℕ) (o p : Bool) (a b : List ℕ)
+    → IsWidth f.width → IsPartBlock bare part f text o a → IsPartBlock bare part f text p b → (o ≡ p) × (a ≡ b)
+
+-- with neither a field nor its bytes in reverse a word without a sign is what it is as a word of the format
+abbrev pub WholeIsTheWord : Type 0
+WholeIsTheWord = (bare : Radix) (f : FormatParts) (text : List ℕ) (v : ℤ) → IsWidth f.width
+    → IsPart bare (record { low = None; is_reversed = false }) f text v ↔ IsPlainWord bare f text v
+
+-- and so is the field of all its bits
+abbrev pub WholeFieldIsTheWord : Type 0
+WholeFieldIsTheWord = (bare : Radix) (f : FormatParts) (text : List ℕ) (v : ℤ) → IsWidth f.width
+    → IsPlainWord bare f text v → IsPart bare (record { low = Some 0; is_reversed = false }) f text v
+
+-- bytes that are put in reverse twice are as they were
+abbrev pub ReversedTwice : Type 0
+ReversedTwice = (count n : ℕ) → n < 256 ^ count → reversed_bytes count (reversed_bytes count n) ≡ n

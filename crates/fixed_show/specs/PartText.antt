@@ -1,0 +1,133 @@
+-- A part of a word: some of its bits, perhaps after its bytes are put in reverse.
+use Rattle.std.specs.Prelude.{◌≡◌, ℕ, zero, suc, ◌+◌, ◌*◌, ◌/◌, ◌%◌, ◌^◌, ◌<◌, ◌≤◌, Bool, true, false, List, length}
+use Rattle.std.specs.Prelude.{Option, Some, None, ℤ, pos, codes}
+use Rattle.fixed_bits.specs.Formats.{FormatParts}
+use Rattle.fixed_bits.specs.Images.{IsWrapped}
+use Rattle.fixed_numeral.specs.declared.radix.Radix.{Radix}
+use Rattle.fixed_numeral.specs.declared.radix.Radix.TheVariants.{Bin, Oct, Dec, Hex}
+use Rattle.fixed_show.specs.BitsBlock.{AreValueLines, fault_message}
+use Rattle.fixed_show.specs.Blocks.{refusal_block}
+use Rattle.fixed_show.specs.WordText.{HasWordFault, IsWordText, has_sign, word_digits, word_radix}
+use Rattle.fixed_show.specs.declared.parts.Part.{Part}
+use Rattle.fixed_show.specs.declared.parts.PartFault.{PartFault}
+use Rattle.fixed_show.specs.declared.parts.PartFault.TheVariants.{Signed, NoWord, NotBytes, TooWide}
+use Rattle.fixed_show.specs.declared.words.WordFault.{WordFault}
+use Rattle.fixed_show.specs.declared.words.WordFault.TheVariants.{MisplacedUnderscore, InvalidDigit, NoDigits}
+use Rattle.fixed_show.specs.declared.words.WordFault.TheVariants.{TooWide as WideWord, OutOfRange}
+
+-- ---- the whole word
+-- it has up to 64 bits
+abbrev pub longest : FormatParts
+longest = record { signed = false; width = 64; frac = 0 }
+
+-- text has no sign, and spells the number n of at most 64 bits
+pub record IsLongWord (bare : Radix) (text : List ℕ) (n : ℕ) : Type 0 where
+  pub plain : has_sign text ≡ false
+  pub spells : IsWordText bare text n
+  pub fits : n < 2 ^ 64
+
+-- ---- its bytes in reverse
+-- the number of the `count` lowest bytes of n in reverse
+unfoldable pub reversed_bytes : ℕ → ℕ → ℕ
+reversed_bytes zero n = 0
+reversed_bytes (suc count) n = n % 256 * 256 ^ count + reversed_bytes count (n / 256)
+
+-- so many digits of a radix are all digits of `count` bytes: two to a byte in radix 16, and eight in radix 2
+abbrev pub WritesBytes : Radix → ℕ → ℕ → Type 0
+WritesBytes Bin digits count = digits ≡ 8 * count
+WritesBytes Oct digits count = ⊥
+WritesBytes Dec digits count = ⊥
+WritesBytes Hex digits count = digits ≡ 2 * count
+
+-- the word is written as whole bytes, 1 to 8, which have the lowest `reach` bits, and m is n with them in reverse
+pub record IsReversed (bare : Radix) (text : List ℕ) (reach n m : ℕ) : Type 0 where
+  pub count : ℕ
+  pub bytes : WritesBytes (word_radix bare text) (length (word_digits bare text)) count
+  pub most : count ≤ 8
+  pub reaches : reach ≤ 8 * count
+  pub number : m ≡ reversed_bytes count n
+
+-- m is the word n, in reverse where that is asked for
+abbrev pub IsOrdered : Bool → Radix → List ℕ → ℕ → ℕ → ℕ → Type 0
+IsOrdered false bare text reach n m = m ≡ n
+IsOrdered true bare text reach n m = IsReversed bare text reach n m
+
+-- ---- the bits that are taken
+-- the lowest bit of them
+abbrev pub lowest_bit : Option ℕ → ℕ
+lowest_bit None = 0
+lowest_bit (Some low) = low
+
+-- how many bits of the word they reach up to
+abbrev pub reach_of : Part → FormatParts → ℕ
+reach_of part f = lowest_bit part.low + f.width
+
+-- p is n, of at most `width` bits, or the `width` bits of n from bit `low` on
+abbrev pub AreBits : Option ℕ → ℕ → ℕ → ℕ → Type 0
+AreBits None width n p = (p ≡ n) × (n < 2 ^ width)
+AreBits (Some low) width n p = p ≡ n / 2 ^ low % 2 ^ width
+
+-- ---- parts of words
+-- the part of the word that text is are bits of the format, and in two's complement these are v
+pub record IsPart (bare : Radix) (part : Part) (f : FormatParts) (text : List ℕ) (v : ℤ) : Type 0 where
+  pub word : ℕ
+  pub is_word : IsLongWord bare text word
+  pub ordered : ℕ
+  pub is_ordered : IsOrdered part.is_reversed bare text (reach_of part f) word ordered
+  pub bits : ℕ
+  pub are_bits : AreBits part.low f.width ordered bits
+  pub is : IsWrapped f.signed f.width (pos bits) v
+
+-- text is a word whose bytes cannot be put in reverse
+pub record IsUnordered (bare : Radix) (part : Part) (f : FormatParts) (text : List ℕ) : Type 0 where
+  pub word : ℕ
+  pub is_word : IsLongWord bare text word
+  pub none : (m : ℕ) → ¬ IsOrdered part.is_reversed bare text (reach_of part f) word m
+
+-- no field is asked for, and the word has more bits than the format
+pub record IsOverlong (bare : Radix) (part : Part) (f : FormatParts) (text : List ℕ) : Type 0 where
+  pub word : ℕ
+  pub is_word : IsLongWord bare text word
+  pub ordered : ℕ
+  pub is_ordered : IsOrdered part.is_reversed bare text (reach_of part f) word ordered
+  pub none : (p : ℕ) → ¬ AreBits part.low f.width ordered p
+
+-- fault says why text has no such part: the first of these that is so
+abbrev pub HasPartFault : Radix → Part → FormatParts → List ℕ → PartFault → Type 0
+HasPartFault bare part f text Signed = has_sign text ≡ true
+HasPartFault bare part f text (NoWord fault) = (has_sign text ≡ false) × HasWordFault bare longest text fault
+HasPartFault bare part f text NotBytes = IsUnordered bare part f text
+HasPartFault bare part f text TooWide = IsOverlong bare part f text
+
+-- ---- blocks
+-- why a text is no word of 64 bits
+abbrev pub long_message : WordFault → List ℕ
+long_message MisplacedUnderscore = fault_message MisplacedUnderscore
+long_message InvalidDigit = fault_message InvalidDigit
+long_message NoDigits = fault_message NoDigits
+long_message WideWord = codes "word is wider than 64 bits"
+long_message OutOfRange = fault_message OutOfRange
+
+-- the message of a fault
+abbrev pub part_message : PartFault → List ℕ
+part_message Signed = codes "word has a sign"
+part_message (NoWord fault) = long_message fault
+part_message NotBytes = codes "digits are not those of whole bytes, 1 to 8, that hold the field"
+part_message TooWide = codes "word is wider than the format"
+
+-- the part of the word is the number `bits`, and the lines say so
+pub record IsShownPart (bare : Radix) (part : Part) (f : FormatParts) (text block : List ℕ) : Type 0 where
+  pub bits : ℤ
+  pub is_part : IsPart bare part f text bits
+  pub lines : AreValueLines f bits block
+
+-- there is none
+pub record IsRefusedPart (bare : Radix) (part : Part) (f : FormatParts) (text block : List ℕ) : Type 0 where
+  pub fault : PartFault
+  pub is_fault : HasPartFault bare part f text fault
+  pub block_is : block ≡ refusal_block (part_message fault)
+
+-- block is the answer to a word of which a part is asked for, and `refused` says which of the two
+abbrev pub IsPartBlock : Radix → Part → FormatParts → List ℕ → Bool → List ℕ → Type 0
+IsPartBlock bare part f text true block = IsRefusedPart bare part f text block
+IsPartBlock bare part f text false block = IsShownPart bare part f text block

@@ -1,0 +1,26 @@
+//! Laws of parts of words, each the contract of a function that does nothing.
+
+ghost use Rattle.fixed_show.specs.PartLaws.{PartBlockIsTheOne, PartFaultIsTheOne, PartHasNoFault, ReversedTwice};
+ghost use Rattle.fixed_show.specs.PartLaws.{WholeFieldIsTheWord, WholeIsTheWord};
+
+/// A word is refused for one fault at most where a part of it is asked for, and never where it has the part.
+pub fn part_fault_is_the_one()
+    ensures one { PartFaultIsTheOne }
+    ensures none { PartHasNoFault }
+{}
+
+/// A word has one block for a part of it: that of the part's number, or that of its fault.
+pub fn part_block_is_the_one()
+    ensures { PartBlockIsTheOne }
+{}
+
+/// The part that is the whole word is what the word is, and so is the field of all bits of a format.
+pub fn whole_is_the_word()
+    ensures whole { WholeIsTheWord }
+    ensures field { WholeFieldIsTheWord }
+{}
+
+/// Bytes that are put in reverse twice are as they were.
+pub fn reversed_twice()
+    ensures { ReversedTwice }
+{}
