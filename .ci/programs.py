@@ -149,6 +149,14 @@ RUNS = {
         (["show", "--mode=ceil", "I8F8", "-5.818915989413629393e-04"], b"", 0, None),
         (["show", "--", "I8F8", "-r"], b"", 1, b"given     -r\nerror: invalid digit found in string\n"),
         (["show", "U8F0", "300"], b"", 1, b"given     300\nerror: overflow\n"),
+        (["show", "U8F0", "-p", "wrapping", "-1"], b"", 0,
+         b"given     -1\ntext      255\nbits      255\nhex       0xff\nvalue     255\nerror     256\nulps      256\n"
+         b"between   no two values of the format\nrange     overflowed\n"),
+        (["show", "I8F8", "-p", "saturating", "1e300"], b"", 0,
+         b"given     1e300\ntext      127.996\nbits      32767\nhex       0x7fff\nvalue     127.99609375\n"
+         b"error     below 1e300 in size: the numeral is too long to say more\n"
+         b"ulps      below 1e303 in size: the numeral is too long to say more\n"
+         b"between   no two values of the format\nrange     overflowed\n"),
         (["show", "U8F0", "a\nb\x7f"], b"", 1, b"given     a\nb\x7f\nerror: invalid digit found in string\n"),
         (["show", "U8F0", "0" * 1_030], b"", 0, None),
         (["bits", "I16F16", "0xfffc0000", "7x"], b"", 1,

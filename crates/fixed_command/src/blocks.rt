@@ -108,7 +108,7 @@ pub(crate) fn push_block<const N: usize, L: Ledger>(
 const MAX_SHOWN: usize = 1024;
 
 /// How many bytes a block has at most, with the line of its word.
-pub const MAX_HEADED: usize = 3083;
+pub const MAX_HEADED: usize = 4363;
 
 /// The first bytes, at most this many.
 #[tactic(auto, using(std::proofs::lemmas::List::take_min))]
@@ -175,7 +175,7 @@ fn write_block<K: Sink, L: Ledger>(
         × AppendsPrefix (K.written sink.old) (K.written sink.new) (lead has_begun ++ block.text)) }
     ensures failures { FailsOnlyCounted (K.failures sink.old) (K.failures sink.new) result }
 {
-    let mut out: TextBuffer<3084> = TextBuffer::new();
+    let mut out: TextBuffer<4364> = TextBuffer::new();
     push_lead(&mut out, has_begun);
     let is_fault = push_headed(question, word, &mut out, steps);
     write_whole(sink, out.as_bytes())?;

@@ -80,7 +80,7 @@ impl<L: Ledger> LineRule<L> for BlockRule {
 
     ghost EXTRA = { 3307 };
 
-    ghost MAX_ANSWER = { 3083 };
+    ghost MAX_ANSWER = { 4363 };
 
     ghost Answers = { λ asked. IsLineBlock asked.question };
 

@@ -318,7 +318,7 @@ impl<L: Ledger> LineRule<L> for WatchedBlocks {
 
     ghost EXTRA = { 3307 };
 
-    ghost MAX_ANSWER = { 3083 };
+    ghost MAX_ANSWER = { 4363 };
 
     ghost Answers = { λ watched. IsLineBlock watched.rule.question };
 

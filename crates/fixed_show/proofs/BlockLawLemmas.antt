@@ -21,7 +21,9 @@ use Rattle.fixed_read.proofs.Public.{read_unique}
 use Rattle.fixed_write.proofs.Public.{exact_text_unique, shortest_text_unique}
 use Rattle.fixed_write.specs.Texts.{IsShortestText}
 use Rattle.fixed_show.specs.ErrorText.{IsErrorText}
+use Rattle.fixed_show.specs.UlpsText.{IsUlpsText}
 use Rattle.fixed_show.proofs.BoundedLemmas.{error_text_one}
+use Rattle.fixed_show.proofs.UlpsLemmas.{ulps_text_one}
 use Rattle.fixed_show.specs.BitsBlock.{AreValueLines, fault_message}
 use Rattle.fixed_show.specs.BlockLaws.{BitsBlockIsTheOne, ShowBlockIsTheOne, ShowRefusalIsTheOne}
 use Rattle.fixed_show.specs.Blocks.{IsHexText, hex_text, refusal_block}
@@ -102,8 +104,11 @@ shown_one mode r bytes f policy a b width x y =
     let moved : IsErrorText r y.read.parts f.frac y.bits y.overflowed x.error
     = subst (λ (o : Bool). IsErrorText r y.read.parts f.frac y.bits o x.error) one.1 (subst (λ (v : ℤ). IsErrorText r y.read.parts f.frac v x.overflowed x.error) one.0 (subst (λ (q : Parts). IsErrorText r q f.frac x.bits x.overflowed x.error) parts x.is_error)) in
     let error : x.error ≡ y.error = error_text_one r y.read.parts f.frac y.bits y.overflowed x.error y.error moved y.is_error in
+    let counted : IsUlpsText r y.read.parts f.frac y.bits y.overflowed x.ulps
+    = subst (λ (o : Bool). IsUlpsText r y.read.parts f.frac y.bits o x.ulps) one.1 (subst (λ (v : ℤ). IsUlpsText r y.read.parts f.frac v x.overflowed x.ulps) one.0 (subst (λ (q : Parts). IsUlpsText r q f.frac x.bits x.overflowed x.ulps) parts x.are_ulps)) in
+    let ulps : x.ulps ≡ y.ulps = ulps_text_one r y.read.parts f.frac y.bits y.overflowed x.ulps y.ulps counted y.are_ulps in
     let between : x.between ≡ y.between = between_one r bytes f x.between y.between x.is_between y.is_between in
-    x.block_is ∙ (rw (values, error, between, one.1) (sym y.block_is))
+    x.block_is ∙ (rw (values, error, ulps, between, one.1) (sym y.block_is))
 
 pub show_block_one : ShowBlockIsTheOne
 show_block_one mode r bytes f policy true true a b width x y = (refl, x.block_is ∙ ap (λ k. refusal_block (message_of k)) (unread_one mode r bytes f policy x.kind y.kind x.unread y.unread) ∙ sym y.block_is)

@@ -13,6 +13,7 @@ pub mod SizeLemmas
 pub mod PowerLemmas
 pub mod TallLemmas
 pub mod BoundedLemmas
+pub mod UlpsLemmas
 pub mod WordLawLemmas
 pub mod ToolNameLemmas
 pub mod BlockLawLemmas

@@ -1,5 +1,5 @@
 -- A numeral that was read into a format.
-use Rattle.std.proofs.Common.{◌≡◌, inl, inr, ◌↔◌, ℕ, List, [], ◌∷◌, ◌++◌, Bool, IsTrue, ℤ, subst, ◌∙◌, append_assoc, codes}
+use Rattle.std.proofs.Common.{◌≡◌, inl, inr, ◌↔◌, ℕ, List, [], ◌∷◌, ◌++◌, Bool, IsTrue, ℤ, subst, ap, ◌∙◌, append_assoc, codes}
 use Rattle.std.specs.Fmt.{signed_decimal}
 use Rattle.fixed_bits.specs.Formats.{FormatParts}
 use Rattle.fixed_bits.specs.Images.{IsImage}
@@ -16,6 +16,7 @@ use Rattle.fixed_bits.specs.Numbers.{IsNumber}
 use Rattle.fixed_read.specs.Reading.{IsReading, IsReadNumber, number_in}
 use Rattle.fixed_read.specs.declared.read_number.ReadNumber.{ReadNumber}
 use Rattle.fixed_show.specs.Blocks.{line}
+use Rattle.fixed_show.specs.Inner.Errors.{error_lines}
 use Rattle.fixed_show.specs.ShowBlock.{IsReadAs, IsUnread, neighbours_text}
 
 pub read_as : (mode : ReadMode) (r : Radix) (bytes : List ℕ) (f : FormatParts) (policy : Policy) (p : Parts) (found : ReadNumber) (bits : ℤ) (flag : Bool)
@@ -65,3 +66,9 @@ pub four_blocks : (old o1 o2 o3 o4 a b c d : List ℕ) → o1 ≡ old ++ a → o
 four_blocks old o1 o2 o3 o4 a b c d p q r s =
     let e : o4 ≡ (((old ++ a) ++ b) ++ c) ++ d = cc in
     e ∙ simp append_assoc
+
+pub shown_lines : (values errors error ulps between lies range : List ℕ) → errors ≡ error_lines error ulps → between ≡ line (codes "between   ") lies
+    → values ++ (errors ++ (between ++ range)) ≡ values ++ (line (codes "error     ") error ++ (line (codes "ulps      ") ulps ++ (line (codes "between   ") lies ++ range)))
+shown_lines values errors error ulps between lies range a b =
+    ap (λ t. values ++ (t ++ (between ++ range))) a ∙ ap (λ t. values ++ (error_lines error ulps ++ (t ++ range))) b
+    ∙ ap (λ t. values ++ t) (append_assoc (line (codes "error     ") error) (line (codes "ulps      ") ulps) (line (codes "between   ") lies ++ range))

@@ -7,6 +7,7 @@ pub mod BitsBlock
 pub mod PartText
 pub mod PartLaws
 pub mod ErrorText
+pub mod UlpsText
 pub mod ShowBlock
 pub mod BlockLaws
 pub mod Inner

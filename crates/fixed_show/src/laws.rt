@@ -4,6 +4,7 @@ ghost use Rattle.fixed_show.specs.BlockLaws.{BitsBlockIsTheOne, ShowBlockIsTheOn
 ghost use Rattle.fixed_show.specs.ErrorText.{ErrorTextIsTheOne};
 ghost use Rattle.fixed_show.specs.FormatBlock.{FormatBlockIsTheOne, PlacesSurvive};
 ghost use Rattle.fixed_show.specs.ToolNames.{ArmNameIsAName};
+ghost use Rattle.fixed_show.specs.UlpsText.{UlpsTextIsTheOne};
 ghost use Rattle.fixed_show.specs.WordLaws.{WordFaultIsTheOne, WordHasNoFault, WordIsTheOne};
 
 /// A decimal with no more digits after the point than the block of a format says survives reading and printing.
@@ -25,6 +26,11 @@ pub fn word_fault_is_the_one()
 /// The error of bits has one text.
 pub fn error_text_is_the_one()
     ensures { ErrorTextIsTheOne }
+{}
+
+/// The error of bits in ulps has one text.
+pub fn ulps_text_is_the_one()
+    ensures { UlpsTextIsTheOne }
 {}
 
 /// A format has one block.

@@ -16,6 +16,7 @@ pub mod parts;
 pub mod show;
 mod sizes;
 mod tool_names;
+mod ulps;
 pub mod words;
 
 pub use bits::bits_block;

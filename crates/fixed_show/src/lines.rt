@@ -15,7 +15,7 @@ use std::sync::ledger::Ledger;
 use text_buffer::TextBuffer;
 
 /// The length of the longest block, in bytes.
-pub const MAX_BLOCK: usize = 2048;
+pub const MAX_BLOCK: usize = 3328;
 
 /// A format's fraction length.
 pub(crate) fn frac_of(format: Format) -> u32

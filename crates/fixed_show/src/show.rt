@@ -11,8 +11,9 @@ ghost use Rattle.fixed_show.specs.ShowBlock.{neighbours_text, range_text};
 ghost use Rattle.fixed_show.specs.Inner.Lines.{IsBetweenLine};
 
 use crate::bits::push_value_lines;
-use crate::errors::{push_error_line, push_error_text};
+use crate::errors::push_error_text;
 use crate::lines::{MAX_BLOCK, frac_of, push_line, push_refusal};
+use crate::ulps::push_error_lines;
 use fixed_bits::{Format, Policy, ReadMode};
 use fixed_enclose::enclose;
 use fixed_numeral::{ParseErrorKind, ParseFixedError, Radix};
@@ -177,13 +178,13 @@ pub fn push_error_of<const N: usize, L: Ledger>(
 }
 
 /// Appends the block of a numeral in a format: the shortest text of the bits that it is read as, the bits in decimal
-/// and in hexadecimal, their exact value, the exact error, which is that value less the numeral's, the two values of
-/// the format that enclose the numeral, and whether the read number was in range. The error is written in full where
-/// the numeral, in decimal and without an exponent, has at most 100 digits before the point and 1,100 after it; of a
-/// longer one the line says a power of ten below which the error is. A numeral that is refused is answered by
-/// one line `error: ` and why. Answers whether it was. There must be room for `MAX_BLOCK` bytes. It takes at most 26
-/// steps for each byte, and 3,307, but for the arithmetic of the error, which takes at most some 2,500 passes over a
-/// number of 144 limbs.
+/// and in hexadecimal, their exact value, the exact error, which is that value less the numeral's, the error in ulps,
+/// the two values of the format that enclose the numeral, and whether the read number was in range. The errors are
+/// written in full where the numeral, in decimal and without an exponent, has at most 100 digits before the point and
+/// 1,100 after it; of a longer one the lines say powers of ten below which they are. A numeral that is refused is
+/// answered by one line `error: ` and why. Answers whether it was. There must be room for `MAX_BLOCK` bytes. It takes
+/// at most 26 steps for each byte, and 3,307, but for the arithmetic of the errors, which takes at most some 5,000
+/// passes over a number of 144 limbs.
 pub fn show_block<const N: usize, L: Ledger>(
     text: &[u8],
     radix: Radix,
@@ -200,7 +201,7 @@ pub fn show_block<const N: usize, L: Ledger>(
     match read_shown(text, radix, format, policy, mode, steps) {
         Ok(shown) => {
             push_value_lines(out, shown.bits, format, steps);
-            push_error_line(
+            push_error_lines(
                 text,
                 radix,
                 frac_of(format),

@@ -230,6 +230,7 @@ const ROUNDED: &str = "\
     hex       0x0003243f\n\
     value     3.1415863037109375\n\
     error     -0.0000036962890625\n\
+    ulps      -0.24224\n\
     between   3.14159 (205887) and 3.1416 (205888)\n\
     range     fits\n";
 
@@ -240,6 +241,7 @@ const TOO_SMALL: &str = "\
     hex       0x00\n\
     value     0\n\
     error     below 1e-1100 in size: the numeral is too long to say more\n\
+    ulps      below 1e-1098 in size: the numeral is too long to say more\n\
     between   0 (0) and 0.06 (1)\n\
     range     fits\n";
 
@@ -250,6 +252,7 @@ const TOO_LOW: &str = "\
     hex       0x80\n\
     value     -8\n\
     error     below 1e1201 in size: the numeral is too long to say more\n\
+    ulps      below 1e1203 in size: the numeral is too long to say more\n\
     between   no two values of the format\n\
     range     overflowed\n";
 
@@ -260,6 +263,7 @@ const TOO_HIGH: &str = "\
     hex       0x7fff\n\
     value     127.99609375\n\
     error     below 1e300 in size: the numeral is too long to say more\n\
+    ulps      below 1e303 in size: the numeral is too long to say more\n\
     between   no two values of the format\n\
     range     overflowed\n";
 
@@ -271,7 +275,7 @@ fn each_numeral_has_its_block(rt: HostRuntime) {
             "U8F0",
             Policy::Wrapping,
             "-1",
-            "text      255\nbits      255\nhex       0xff\nvalue     255\nerror     256\nbetween   no two values of the format\nrange     overflowed\n",
+            "text      255\nbits      255\nhex       0xff\nvalue     255\nerror     256\nulps      256\nbetween   no two values of the format\nrange     overflowed\n",
         ),
         of_numeral("U8F0", Policy::Checked, "300", "error: overflow\n"),
         of_numeral("I4F4", Policy::Checked, "1e-2000000000", TOO_SMALL),

@@ -70,6 +70,7 @@ const ROUNDED_AND_REFUSED: &str = "\
     hex       0x0003243f\n\
     value     3.1415863037109375\n\
     error     -0.0000036962890625\n\
+    ulps      -0.24224\n\
     between   3.14159 (205887) and 3.1416 (205888)\n\
     range     fits\n\
     \n\

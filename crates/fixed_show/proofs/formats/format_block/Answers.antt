@@ -63,5 +63,5 @@ returns-clause-block g c =
         block_is = refl;
       };
       appended = appended;
-      short = text_short c.args.out.now c.push_name_lines.new.out text 2048 appended (omega (arith, c.push_line.ensures.long, c.as_bytes.ensures.short, c.push_exact_line.ensures.short, c.push_exact_line-2.ensures.short, c.push_exact_line-3.ensures.short, c.push_digits_line.ensures.short, c.push_shortest_ends.ensures.short, c.push_name_lines.ensures.short));
+      short = text_short c.args.out.now c.push_name_lines.new.out text 3328 appended (omega (arith, c.push_line.ensures.long, c.as_bytes.ensures.short, c.push_exact_line.ensures.short, c.push_exact_line-2.ensures.short, c.push_exact_line-3.ensures.short, c.push_digits_line.ensures.short, c.push_shortest_ends.ensures.short, c.push_name_lines.ensures.short));
     }

@@ -1,0 +1,192 @@
+//! The error in ulps, and the lines of a block that say an error.
+//!
+//! The error in ulps is the error times 2^f: the bits less the numeral times 2^f.
+
+ghost use Rattle.std.specs.Prelude.{◌≡◌, ◌+◌, ◌*◌, ◌^◌, ◌<◌, ◌≤◌, length, IsTrue, false, ℕ, List};
+ghost use Rattle.std.specs.Int.Digits.{AllBelowBase};
+ghost use Rattle.fixed_bits.specs.Numbers.{with_sign};
+ghost use Rattle.fixed_bits.specs.Ranges.{IsWide};
+ghost use Rattle.fixed_numeral.specs.Numeral.{HasNumeral, IsNumeral, Parts, base};
+ghost use Rattle.fixed_numeral.specs.Scanned.{IsScanned, exponent_unit};
+ghost use Rattle.fixed_numeral.specs.Spelled.{IsSameNumber, spelled};
+ghost use Rattle.fixed_numeral.specs.Value.{magnitude};
+ghost use Rattle.fixed_numeral.specs.declared.radix.Radix.{Radix as RadixOf};
+ghost use Rattle.fixed_show.specs.Blocks.{Appends};
+ghost use Rattle.fixed_show.specs.ErrorText.{IsExactDecimal, error_num};
+ghost use Rattle.fixed_show.specs.Inner.Errors.{AreBoundLines, AreErrorLines, AreExactLines, IsLessThanUlp};
+ghost use Rattle.fixed_show.specs.UlpsText.{ulps_power};
+
+use crate::decimals::push_trimmed;
+use crate::errors::{
+    Decimal, Power, bound_power, brief_of, is_less_than_zero, magnitude_of, natural_of, push_bound,
+    push_exact_error, scale, signed_difference, wide_natural_of,
+};
+use crate::natural::Natural;
+use crate::sizes::ten_power;
+use fixed_numeral::{Radix, Scanned, scan};
+use fixed_steps::Steps;
+use std::sync::ledger::Ledger;
+use text_buffer::TextBuffer;
+
+/// Appends `bits` less a decimal times 2^`frac`, exactly. The decimal is negative where `is_negative`.
+fn push_exact_ulps<const N: usize>(
+    out: &mut TextBuffer<N>,
+    bits: i128,
+    frac: u32,
+    numeral: &Decimal,
+    is_negative: bool,
+)
+    requires wide { IsWide bits }
+    requires frac { frac ≤ 64 }
+    requires small { numeral.now.number < 10 ^ 1208 }
+    requires places { numeral.now.places ≤ 1104 }
+    requires room { length out.old + 1298 ≤ N }
+    ensures ulps { (r : RadixOf) (p : Parts) (whole fraction : List ℕ) (shift : ℕ)
+        → IsScanned r p is_negative whole fraction shift
+        → IsSameNumber (spelled (base r) whole fraction shift)
+        (record { num = numeral.now.number; den = 10 ^ numeral.now.places })
+        → Appends (IsExactDecimal (error_num r p frac bits) (magnitude r p).den) 1298 out.old out.new }
+    ensures short { length out.new ≤ length out.old + 1298 }
+{
+    let mut value = natural_of(magnitude_of(bits));
+    scale(&mut value, 10, numeral.places);
+    let mut other = numeral.number.same();
+    scale(&mut other, 2, frac);
+    let is_below = is_less_than_zero(bits);
+    let (difference, is_negative) = signed_difference(&value, is_below, &other, is_negative);
+    push_trimmed(out, is_negative, &difference, numeral.places);
+}
+
+/// The power of ten of ulps of 2^-`frac` that is named for an error below a power of ten.
+fn ulps_power(power: &Power, frac: u32, is_overflowed: bool) -> Power
+    requires frac { frac ≤ 64 }
+    requires small { power.now.exponent < 2 ^ 69 }
+    ensures value { with_sign result.is_negative result.exponent
+        ≡ ulps_power frac is_overflowed (with_sign power.now.is_negative power.now.exponent) }
+    ensures sign { IsTrue result.is_negative → 0 < result.exponent }
+{
+    let more = wide_natural_of(ten_power(Radix::Bin, u128::from(frac)));
+    let (exponent, is_negative) = signed_difference(&power.exponent, power.is_negative, &more, true);
+    if is_overflowed || is_negative {
+        Power {
+            exponent,
+            is_negative,
+        }
+    } else {
+        Power {
+            exponent: Natural::zero(),
+            is_negative: false,
+        }
+    }
+}
+
+/// Appends the lines of the error of `bits` ulps of 2^-`frac` less a decimal, both exactly.
+fn push_exact_lines<const N: usize>(
+    out: &mut TextBuffer<N>,
+    bits: i128,
+    frac: u32,
+    numeral: &Decimal,
+    is_negative: bool,
+)
+    requires wide { IsWide bits }
+    requires frac { frac ≤ 64 }
+    requires small { numeral.now.number < 10 ^ 1208 }
+    requires places { numeral.now.places ≤ 1104 }
+    requires room { length out.old + 2782 ≤ N }
+    ensures lines { (r : RadixOf) (p : Parts) (whole fraction : List ℕ) (shift : ℕ)
+        → IsScanned r p is_negative whole fraction shift
+        → IsSameNumber (spelled (base r) whole fraction shift)
+        (record { num = numeral.now.number; den = 10 ^ numeral.now.places })
+        → Appends (AreExactLines r p frac bits) 2782 out.old out.new }
+    ensures short { length out.new ≤ length out.old + 2782 }
+{
+    out.push_bytes(b"error     ");
+    push_exact_error(out, bits, frac, numeral, is_negative);
+    out.push(b'\n');
+    out.push_bytes(b"ulps      ");
+    push_exact_ulps(out, bits, frac, numeral, is_negative);
+    out.push(b'\n');
+}
+
+/// Appends the lines of an error below a power of ten, for ulps of 2^-`frac`.
+fn push_bound_lines<const N: usize>(
+    out: &mut TextBuffer<N>,
+    power: &Power,
+    frac: u32,
+    is_overflowed: bool,
+)
+    requires frac { frac ≤ 64 }
+    requires sign { IsTrue power.now.is_negative → 0 < power.now.exponent }
+    requires small { power.now.exponent < 2 ^ 69 }
+    requires room { length out.old + 2782 ≤ N }
+    ensures lines { Appends (AreBoundLines (with_sign power.now.is_negative power.now.exponent)
+        (ulps_power frac is_overflowed (with_sign power.now.is_negative power.now.exponent))) 2782 out.old out.new }
+    ensures short { length out.new ≤ length out.old + 2782 }
+{
+    let ulps = ulps_power(power, frac, is_overflowed);
+    out.push_bytes(b"error     ");
+    push_bound(out, &power.exponent, power.is_negative);
+    out.push(b'\n');
+    out.push_bytes(b"ulps      ");
+    push_bound(out, &ulps.exponent, ulps.is_negative);
+    out.push(b'\n');
+}
+
+/// Appends the lines of the error of `bits` ulps of 2^-`frac`, as which a scanned numeral was read.
+fn push_lines_of<'a, const N: usize, L: Ledger>(
+    out: &mut TextBuffer<N>,
+    bits: i128,
+    frac: u32,
+    is_overflowed: bool,
+    found: &Scanned<'a>,
+    radix: Radix,
+    steps: &mut Steps<L>,
+)
+    requires wide { IsWide bits }
+    requires frac { frac ≤ 64 }
+    requires whole { AllBelowBase (base radix) found.now.whole }
+    requires fraction { AllBelowBase (base radix) found.now.fraction }
+    requires bits { found.now.bit_shift < exponent_unit radix }
+    requires room { length out.old + 2782 ≤ N }
+    ensures lines { (p : Parts) → IsScanned radix p found.now.neg found.now.whole found.now.fraction found.now.bit_shift
+        → (is_overflowed ≡ false → IsLessThanUlp radix p frac bits)
+        → Appends (AreErrorLines radix p frac bits is_overflowed) 2782 out.old out.new }
+    ensures short { length out.new ≤ length out.old + 2782 }
+    ensures cost { steps.new ≤ steps.old + 1435 }
+{
+    match brief_of(found, radix, steps) {
+        Some(numeral) => push_exact_lines(out, bits, frac, &numeral, found.neg()),
+        None => {
+            let power = bound_power(bits, frac, is_overflowed, found, radix, steps);
+            push_bound_lines(out, &power, frac, is_overflowed);
+        }
+    }
+}
+
+/// Appends the lines of the error of `bits` ulps of 2^-`frac`, as which a numeral was read: the error, and the error in
+/// ulps.
+pub(crate) fn push_error_lines<const N: usize, L: Ledger>(
+    text: &[u8],
+    radix: Radix,
+    frac: u32,
+    bits: i128,
+    is_overflowed: bool,
+    out: &mut TextBuffer<N>,
+    steps: &mut Steps<L>,
+)
+    requires numeral { IsNumeral radix text.now }
+    requires wide { IsWide bits }
+    requires frac { frac ≤ 64 }
+    requires room { length out.old + 2782 ≤ N }
+    ensures lines { (p : Parts) → HasNumeral radix text.now p
+        → (is_overflowed ≡ false → IsLessThanUlp radix p frac bits)
+        → Appends (AreErrorLines radix p frac bits is_overflowed) 2782 out.old out.new }
+    ensures short { length out.new ≤ length out.old + 2782 }
+    ensures cost { steps.new ≤ steps.old + 2 * length text.now + 1437 }
+{
+    let scanned = scan(text, radix, steps);
+    match &scanned {
+        Ok(found) => push_lines_of(out, bits, frac, is_overflowed, found, radix, steps),
+        Err(_) => (),
+    }
+}
