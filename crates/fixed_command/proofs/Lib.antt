@@ -3,6 +3,7 @@ pub mod Public
 -- What no other crate can name
 mod AskingLemmas
 mod BlockLemmas
+mod ColonLemmas
 mod FieldLemmas
 mod OutcomeLemmas
 mod OutcomeNumbers

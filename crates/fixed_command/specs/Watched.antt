@@ -1,7 +1,9 @@
 -- What is kept of the lines that are refused.
-use Rattle.std.specs.Prelude.{ℕ, List, take}
+use Rattle.std.specs.Prelude.{ℕ, List, [], ◌∷◌, ◌++◌, ◌-◌, codes, get_or, take}
+use Rattle.std.specs.Fmt.{decimal}
 use Rattle.std.specs.declared.option.Option.{Option}
 use Rattle.std.specs.declared.option.Option.TheVariants.{None, Some}
+use Rattle.line_engine.specs.Lines.{lines}
 use Rattle.fixed_command.specs.declared.watch.RefusedLine.{RefusedLine}
 
 -- how many bytes of a line, and of the cause of its refusal, are kept
@@ -16,3 +18,11 @@ first_refused None number line message = Some (record {
   cause = take kept_bytes message;
 })
 first_refused (Some first) number line message = Some first
+
+-- what an input is answered that is refused for the line of this number, from 1
+abbrev pub refusal_text : ℕ → List ℕ → List ℕ
+refusal_text number message = codes "error: line " ++ (decimal number ++ (codes ": " ++ (message ++ 10 ∷ [])))
+
+-- the line of this number, from 1; no bytes where there is none
+abbrev pub line_at : ℕ → List ℕ → List ℕ
+line_at number input = get_or (lines input) (number - 1) []

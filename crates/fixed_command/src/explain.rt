@@ -1,17 +1,16 @@
 //! What more there is to say of a numeral that a conversion refuses: where it goes wrong, or what the formats hold.
 
-ghost use Rattle.std.specs.Prelude.{◌≡◌, ◌≤◌, ◌+◌, ◌++◌, [], ℕ, IfSome, List, codes, length};
+ghost use Rattle.std.specs.Prelude.{◌≡◌, ◌≤◌, ◌+◌, ◌++◌, [], ℕ, IfSome, List, codes, false, length, true};
 ghost use Rattle.fixed_bits.specs.Ranges.{IsWide, greatest, lowest};
-ghost use Rattle.fixed_command.specs.Explained.{ExplainsOverflow, holds_text};
+ghost use Rattle.fixed_command.specs.Explained.{ExplainsDigit, ExplainsOverflow, HasInvalidDigit, IsPlaceOrZero};
+ghost use Rattle.fixed_command.specs.Explained.{digit_message, holds_text, place_text};
 
 use crate::convert::{frac_of, source_number};
-use crate::{ConvertRule, Settings, Spelling};
+use crate::{ConvertRule, Settings};
 use fixed_bits::{Format, Policy};
 use fixed_convert::reformat_mode;
-use fixed_numeral::ParseErrorKind;
-use fixed_read::read_format;
 use fixed_respell::format_name;
-use fixed_show::{WordFault, read_shown, read_word};
+use fixed_show::read_shown;
 use fixed_steps::Steps;
 use fixed_write::{Base, push_exact};
 use itoa::Buffer;
@@ -21,30 +20,29 @@ use text_buffer::TextBuffer;
 /// How many bytes an explanation has at most.
 pub const MAX_EXPLANATION: usize = 640;
 
-/// Whether a text has a byte that is in no numeral, or in no word, there.
-fn is_invalid<L: Ledger>(text: &[u8], settings: &Settings, steps: &mut Steps<L>) -> bool {
-    let s = settings;
-    match s.spelling {
-        Spelling::Numeral => match read_format(text, s.radix, s.source, s.mode, steps) {
-            Ok(_) => false,
-            Err(error) => error.kind() == ParseErrorKind::InvalidDigit,
-        },
-        Spelling::Word => match read_word(text, s.radix, s.source) {
-            Ok(_) => false,
-            Err(fault) => fault == WordFault::InvalidDigit,
-        },
+/// Whether a text says no number of the source, for an invalid digit.
+fn is_invalid<L: Ledger>(text: &[u8], settings: &Settings, steps: &mut Steps<L>) -> bool
+    ensures invalid { result ≡ true → HasInvalidDigit settings.now text.now }
+    ensures not { result ≡ false → ¬ HasInvalidDigit settings.now text.now }
+{
+    match source_number(settings, text, steps) {
+        Ok(_) => false,
+        Err(message) => message.as_bytes() == b"invalid digit found in string".as_slice(),
     }
 }
 
-/// The place, from 1, of the first byte that is in no numeral, or in no word, there. 0 where there is none.
+/// The place, from 1, of the first byte with which a text says no number of the source, for an invalid digit. 0 where
+/// there is none.
 pub(crate) fn refused_place<L: Ledger>(
     text: &[u8],
     settings: &Settings,
     steps: &mut Steps<L>,
-) -> usize {
-    for end in 1..=text.len() {
-        if is_invalid(text.get(..end).unwrap_or(&[]), settings, steps) {
-            return end;
+) -> usize
+    ensures { IsPlaceOrZero settings.now text.now result }
+{
+    for end in 0..text.len() {
+        if is_invalid(&text[..end + 1], settings, steps) {
+            return end + 1;
         }
     }
     0
@@ -189,16 +187,33 @@ fn push_overflow<L: Ledger>(
 /// Appends the byte at a place of a text, from 1, and its place in a line with some bytes before the text.
 fn push_place(out: &mut TextBuffer<MAX_EXPLANATION>, text: &[u8], place: usize, before: usize)
     requires empty { out.old ≡ [] }
+    requires some { 1 ≤ place }
+    requires within { place ≤ length text.now }
+    ensures { out.new ≡ place_text text.now place before }
 {
     out.push_bytes(b", byte ");
-    out.push_bytes(
-        Buffer::new()
-            .format(place.saturating_add(before))
-            .as_bytes(),
-    );
+    let mut digits = Buffer::new();
+    out.push_bytes(digits.format(place.saturating_add(before)).as_bytes());
     out.push_bytes(b", '");
-    out.push(text.get(place.saturating_sub(1)).copied().unwrap_or(b'?'));
+    out.push(text[place - 1]);
     out.push(b'\'');
+}
+
+/// Appends which byte of a numeral or a word is the first that makes it none, where there is one.
+fn push_digit<L: Ledger>(
+    out: &mut TextBuffer<MAX_EXPLANATION>,
+    text: &[u8],
+    before: usize,
+    settings: &Settings,
+    steps: &mut Steps<L>,
+)
+    requires empty { out.old ≡ [] }
+    ensures { ExplainsDigit settings.now text.now before out.new }
+{
+    let place = refused_place(text, settings, steps);
+    if place > 0 {
+        push_place(out, text, place, before);
+    }
 }
 
 /// What more there is to say of a numeral or a word that a rule refuses for this cause, and before which there are some
@@ -212,7 +227,8 @@ pub fn explanation<L: Ledger>(
     steps: &mut Steps<L>,
 ) -> TextBuffer<MAX_EXPLANATION>
     ensures overflow { cause.now ≡ codes "overflow" → ExplainsOverflow rule.now text.now result }
-    ensures other { ¬ (cause.now ≡ codes "overflow") → ¬ (cause.now ≡ codes "invalid digit found in string")
+    ensures digit { cause.now ≡ digit_message → ExplainsDigit rule.now text.now before result }
+    ensures other { ¬ (cause.now ≡ codes "overflow") → ¬ (cause.now ≡ digit_message)
         → result ≡ [] }
 {
     let mut out = TextBuffer::new();
@@ -220,10 +236,7 @@ pub fn explanation<L: Ledger>(
     if cause == b"overflow".as_slice() {
         push_overflow(&mut out, settings, text, steps);
     } else if cause == b"invalid digit found in string".as_slice() {
-        let place = refused_place(text, settings, steps);
-        if place > 0 {
-            push_place(&mut out, text, place, before);
-        }
+        push_digit(&mut out, text, before, settings, steps);
     }
     out
 }

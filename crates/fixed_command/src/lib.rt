@@ -16,6 +16,7 @@ pub mod hex;
 pub mod laws;
 pub mod layout;
 pub mod line_blocks;
+mod named_line;
 pub mod outcome;
 pub mod print;
 pub mod refused;

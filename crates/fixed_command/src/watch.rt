@@ -2,16 +2,17 @@
 //! that they are made of. What is kept of a line is said by contracts; that a cell keeps it no contract can say, and so
 //! it is tested.
 
-ghost use Rattle.std.specs.Prelude.{◌≡◌, ◌==◌, ◌+◌, ◌*◌, ◌≤◌, List, None, ℕ, length, take};
+ghost use Rattle.std.specs.Prelude.{◌≡◌, ◌==◌, ◌+◌, ◌*◌, ◌^◌, ◌<◌, ◌≤◌, List, None, ℕ, length, take};
 ghost use Rattle.fixed_command.specs.Outcome.{one_more};
 ghost use Rattle.fixed_command.specs.Products.{IsProduct};
-ghost use Rattle.fixed_command.specs.Watched.{first_refused, kept_bytes};
+ghost use Rattle.fixed_command.specs.Watched.{first_refused, kept_bytes, line_at, refusal_text};
 ghost use Rattle.fixed_respell.specs.Language.{fault_answer};
 
 use crate::blocks::{MAX_HEADED, first_bytes};
 use crate::convert::{ConvertRule, without_return};
 use crate::layout::LaidOutRule;
 use crate::line_blocks::BlockRule;
+use crate::named_line::{line_and_message, line_at};
 use crate::outcome::{Outcome, Tally, one_more, outcome_of};
 use fixed_enclose::EncloseRule;
 use fixed_respell::RespellRule;
@@ -100,6 +101,19 @@ impl Refusals {
         }
     }
 
+    /// An input is refused with this answer, for the line and the cause that it names.
+    pub fn of_input(input: &[u8], answer: &[u8]) -> Refusals
+        ensures count { result.count ≡ 1 }
+        ensures first { (number : ℕ) (message : List ℕ) → number < 2 ^ 64 → answer.now ≡ refusal_text number message
+            → result.first ≡ first_refused None number (line_at number input.now) message }
+    {
+        let (number, message) = line_and_message(answer);
+        Refusals {
+            count: 1,
+            first: Some(RefusedLine::new(number, line_at(number, input), message)),
+        }
+    }
+
     /// A line of this number is refused with this answer: the first is kept, and the cause that its answer names.
     pub fn note(&mut self, number: u64, line: &[u8], answer: &[u8])
         ensures count { self.new.count ≡ one_more self.old.count }
@@ -179,61 +193,10 @@ impl Watch {
         self.tally.set(tally);
     }
 
-    /// An input is refused, for the line and the cause that its answer names: `error: line N: ` and the cause.
+    /// An input is refused with this answer.
     fn refuse_input(&self, input: &[u8], answer: &[u8]) {
-        let (number, cause) = line_and_cause(
-            answer.strip_prefix(b"error: line ").unwrap_or(answer),
-        );
-        self.refusals.set(Refusals {
-            count: 1,
-            first: Some(RefusedLine {
-                number,
-                text: line_of(input, number),
-                cause,
-            }),
-        });
+        self.refusals.set(Refusals::of_input(input, answer));
     }
-}
-
-/// The number that comes first, and what follows its `: ` up to the end of the line.
-fn line_and_cause(text: &[u8]) -> (u64, TextBuffer<KEPT>) {
-    let mut number = 0u64;
-    let mut cause = TextBuffer::new();
-    let mut has_ended = false;
-    for byte in text {
-        if *byte == b'\n' {
-            return (number, cause);
-        }
-        if has_ended {
-            if cause.room() > 0 && !(cause.is_empty() && *byte == b' ') {
-                cause.push(*byte);
-            }
-        } else if byte.is_ascii_digit() {
-            number = number
-                .saturating_mul(10)
-                .saturating_add(u64::from(byte & 15));
-        } else {
-            has_ended = true;
-        }
-    }
-    (number, cause)
-}
-
-/// The beginning of a line of an input, by its number from 1.
-fn line_of(input: &[u8], number: u64) -> TextBuffer<KEPT> {
-    let mut text = TextBuffer::new();
-    let mut at = 1u64;
-    for byte in input {
-        if at > number {
-            return text;
-        }
-        if *byte == b'\n' {
-            at = at.saturating_add(1);
-        } else if at == number && text.room() > 0 {
-            text.push(*byte);
-        }
-    }
-    text
 }
 
 /// The rule of lines, whose refusals are watched.

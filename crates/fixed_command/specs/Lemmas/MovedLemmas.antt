@@ -90,7 +90,7 @@ read_or_not mode r bytes f policy v o k a (inr b) =
     b.1 a.image in
     has_none f.signed f.width b.2.number v b.2.out_of_range (subst (λ x. IsImage Checked f.signed f.width x v) n image)
 
-no_source_by : (spelling : Spelling) (s : Settings) (line m n : List ℕ) → IsNoSource spelling s line m
+pub no_source_by : (spelling : Spelling) (s : Settings) (line m n : List ℕ) → IsNoSource spelling s line m
     → IsNoSource spelling s line n → m ≡ n
 no_source_by Numeral s line m n a b = a.2
     ∙ ap message_of (unread_one s.mode s.radix line s.source s.policy a.0 b.0 a.1 b.1) ∙ sym b.2
