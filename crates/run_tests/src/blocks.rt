@@ -112,69 +112,69 @@ fn expect_blocks(rt: &impl Abort, cases: &[Case]) {
     }
 }
 
+/// The block of I16F16.
+const OF_I16F16: &str = "\
+    format    I16F16\n\
+    least     -32768\n\
+    greatest  32767.9999847412109375\n\
+    ulp       0.0000152587890625\n\
+    digits    4 before the point, 4 after it\n\
+    shortest  -32768 to 32767.99998\n\
+    ARM       Q16.16\n\
+    TI        Q15.16\n\
+    HLS       ap_fixed<32,16>\n\
+    VHDL      sfixed(15 downto -16)\n\
+    MATLAB    fi(_,1,32,16)\n";
+
+/// The block of I0F8.
+const OF_I0F8: &str = "\
+    format    I0F8\n\
+    least     -0.5\n\
+    greatest  0.49609375\n\
+    ulp       0.00390625\n\
+    digits    0 before the point, 2 after it\n\
+    shortest  -0.5 to 0.496\n\
+    ARM       none\n\
+    TI        none\n\
+    HLS       ap_fixed<8,0>\n\
+    VHDL      sfixed(-1 downto -8)\n\
+    MATLAB    fi(_,1,8,8)\n";
+
+/// The block of U8F0.
+const OF_U8F0: &str = "\
+    format    U8F0\n\
+    least     0\n\
+    greatest  255\n\
+    ulp       1\n\
+    digits    2 before the point, 0 after it\n\
+    shortest  0 to 255\n\
+    ARM       UQ8.0\n\
+    TI        UQ8.0\n\
+    HLS       ap_ufixed<8,8>\n\
+    VHDL      ufixed(7 downto 0)\n\
+    MATLAB    fi(_,0,8,0)\n";
+
+/// The block of I1F15.
+const OF_I1F15: &str = "\
+    format    I1F15\n\
+    least     -1\n\
+    greatest  0.999969482421875\n\
+    ulp       0.000030517578125\n\
+    digits    0 before the point, 4 after it\n\
+    shortest  -1 to 0.99997\n\
+    ARM       Q1.15\n\
+    TI        Q0.15\n\
+    HLS       ap_fixed<16,1>\n\
+    VHDL      sfixed(0 downto -15)\n\
+    MATLAB    fi(_,1,16,15)\n";
+
 #[test]
 fn each_format_has_its_block(rt: HostRuntime) {
     let cases = [
-        of_format(
-            "I16F16",
-            "\
-                format    I16F16\n\
-                least     -32768\n\
-                greatest  32767.9999847412109375\n\
-                ulp       0.0000152587890625\n\
-                digits    4 before the point, 4 after it\n\
-                shortest  -32768 to 32767.99998\n\
-                ARM       Q16.16\n\
-                TI        Q15.16\n\
-                HLS       ap_fixed<32,16>\n\
-                VHDL      sfixed(15 downto -16)\n\
-                MATLAB    fi(_,1,32,16)\n",
-        ),
-        of_format(
-            "I0F8",
-            "\
-                format    I0F8\n\
-                least     -0.5\n\
-                greatest  0.49609375\n\
-                ulp       0.00390625\n\
-                digits    0 before the point, 2 after it\n\
-                shortest  -0.5 to 0.496\n\
-                ARM       none\n\
-                TI        none\n\
-                HLS       ap_fixed<8,0>\n\
-                VHDL      sfixed(-1 downto -8)\n\
-                MATLAB    fi(_,1,8,8)\n",
-        ),
-        of_format(
-            "U8F0",
-            "\
-                format    U8F0\n\
-                least     0\n\
-                greatest  255\n\
-                ulp       1\n\
-                digits    2 before the point, 0 after it\n\
-                shortest  0 to 255\n\
-                ARM       UQ8.0\n\
-                TI        UQ8.0\n\
-                HLS       ap_ufixed<8,8>\n\
-                VHDL      ufixed(7 downto 0)\n\
-                MATLAB    fi(_,0,8,0)\n",
-        ),
-        of_format(
-            "I1F15",
-            "\
-                format    I1F15\n\
-                least     -1\n\
-                greatest  0.999969482421875\n\
-                ulp       0.000030517578125\n\
-                digits    0 before the point, 4 after it\n\
-                shortest  -1 to 0.99997\n\
-                ARM       Q1.15\n\
-                TI        Q0.15\n\
-                HLS       ap_fixed<16,1>\n\
-                VHDL      sfixed(0 downto -15)\n\
-                MATLAB    fi(_,1,16,15)\n",
-        ),
+        of_format("I16F16", OF_I16F16),
+        of_format("I0F8", OF_I0F8),
+        of_format("U8F0", OF_U8F0),
+        of_format("I1F15", OF_I1F15),
     ];
     expect_blocks(&rt, &cases);
 }
@@ -344,6 +344,14 @@ const LATER: &str = "text      52.07\nbits      13330\nhex       0x3412\nvalue  
 /// The number -1.5 in I8F8.
 const MINUS: &str = "text      -1.5\nbits      -384\nhex       0xfe80\nvalue     -1.5\n";
 
+/// Stops at the first part of a word that is answered otherwise.
+fn expect_parts(rt: &impl Abort, cases: &[PartCase]) {
+    for case in cases {
+        let out = part_over::<Brand>(case, Blank::new(1));
+        assert_eq!(rt; out.as_bytes(), case.block.as_bytes(), "{}", case.word);
+    }
+}
+
 #[test]
 fn each_part_has_its_block(rt: HostRuntime) {
     let cases = [
@@ -352,51 +360,25 @@ fn each_part_has_its_block(rt: HostRuntime) {
         of_part("I8F8", Some(48), false, "fe80000000000000", MINUS),
         of_part("I8F8", Some(16), false, "fe80", ZERO),
         of_part("I8F8", None, true, "80fe", MINUS),
-        of_part("I8F8", None, true, "0b0", NOT_BYTES),
         of_part("I8F8", Some(0), true, "80fe0000", MINUS),
         of_part("I8F8", Some(16), true, "1234_80fe", MINUS),
         of_part("I8F8", Some(0), true, "1234_80fe", LATER),
         of_part("I8F8", Some(0), true, "0000_80fe", ZERO),
+    ];
+    expect_parts(&rt, &cases);
+}
+
+#[test]
+fn a_part_that_is_none_is_refused(rt: HostRuntime) {
+    let taken = |word, why| of_part("I8F8", Some(0), false, word, why);
+    let reversed = |word, why| of_part("I8F8", None, true, word, why);
+    let cases = [
+        reversed("0b0", NOT_BYTES),
+        reversed("80f", NOT_BYTES),
+        reversed("0o1", NOT_BYTES),
+        reversed("00000000000000000000", NOT_BYTES),
         of_part("I8F8", Some(16), true, "80fe", NOT_BYTES),
-        of_part("I8F8", None, true, "80f", NOT_BYTES),
-        of_part("I8F8", None, true, "0o1", NOT_BYTES),
-        of_part(
-            "I8F8",
-            None,
-            true,
-            "0080fe",
-            "error: word is wider than the format\n",
-        ),
-        of_part("I8F8", None, true, "00000000000000000000", NOT_BYTES),
-        of_part("I8F8", Some(0), false, "-1", "error: word has a sign\n"),
-        of_part(
-            "I8F8",
-            Some(0),
-            false,
-            "_1",
-            "error: misplaced underscore found in string\n",
-        ),
-        of_part(
-            "I8F8",
-            Some(0),
-            false,
-            "1g",
-            "error: invalid digit found in string\n",
-        ),
-        of_part(
-            "I8F8",
-            Some(0),
-            false,
-            "0x",
-            "error: string has no digits\n",
-        ),
-        of_part(
-            "I8F8",
-            Some(0),
-            false,
-            "10000000000000000",
-            "error: word is wider than 64 bits\n",
-        ),
+        reversed("0080fe", "error: word is wider than the format\n"),
         of_part(
             "I8F8",
             None,
@@ -404,11 +386,13 @@ fn each_part_has_its_block(rt: HostRuntime) {
             "10000",
             "error: word is wider than the format\n",
         ),
+        taken("-1", "error: word has a sign\n"),
+        taken("_1", "error: misplaced underscore found in string\n"),
+        taken("1g", "error: invalid digit found in string\n"),
+        taken("0x", "error: string has no digits\n"),
+        taken("10000000000000000", "error: word is wider than 64 bits\n"),
     ];
-    for case in &cases {
-        let out = part_over::<Brand>(case, Blank::new(1));
-        assert_eq!(rt; out.as_bytes(), case.block.as_bytes(), "{}", case.word);
-    }
+    expect_parts(&rt, &cases);
 }
 
 #[test]

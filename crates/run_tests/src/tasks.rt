@@ -147,46 +147,27 @@ fn each_part_of_an_answer_is_written(rt: HostRuntime) -> Result<(), Fail> {
     let Some(places) = Places::new(2) else {
         return Ok(());
     };
-    let checked = |print| converting(Policy::Checked, ReadMode::NearestEven, print);
+    let done = |print, written| {
+        let checked = converting(Policy::Checked, ReadMode::NearestEven, print);
+        unfailing(checked, "3.14159\n-2.5\r\n", written, Status::Done)
+    };
+    let cases = [
+        done(Print::Text, "3.14\n-2.5\n"),
+        done(Print::Bits, "804\n-640\n"),
+        done(Print::Hex, "0x0324\n0xfd80\n"),
+        done(Print::Readmemh, "0324\nfd80\n"),
+        done(Print::Value, "3.140625\n-2.5\n"),
+        done(Print::Places(places), "3.14\n-2.50\n"),
+    ];
+    expect_runs(&rt, rt.alloc(), &cases)?;
+    Ok(())
+}
+
+#[test]
+fn a_whole_answer_is_written(rt: HostRuntime) -> Result<(), Fail> {
     let cases = [
         unfailing(
-            checked(Print::Text),
-            "3.14159\n-2.5\r\n",
-            "3.14\n-2.5\n",
-            Status::Done,
-        ),
-        unfailing(
-            checked(Print::Bits),
-            "3.14159\r\n-2.5",
-            "804\n-640\n",
-            Status::Done,
-        ),
-        unfailing(
-            checked(Print::Hex),
-            "3.14159\n-2.5\n",
-            "0x0324\n0xfd80\n",
-            Status::Done,
-        ),
-        unfailing(
-            checked(Print::Readmemh),
-            "3.14159\n-2.5\n",
-            "0324\nfd80\n",
-            Status::Done,
-        ),
-        unfailing(
-            checked(Print::Value),
-            "3.14159\n-2.5\n",
-            "3.140625\n-2.5\n",
-            Status::Done,
-        ),
-        unfailing(
-            checked(Print::Places(places)),
-            "3.14159\n-2.5\n",
-            "3.14\n-2.50\n",
-            Status::Done,
-        ),
-        unfailing(
-            checked(Print::All),
+            converting(Policy::Checked, ReadMode::NearestEven, Print::All),
             "3.14159\n200\n\r\n-2.5\r\r\n",
             "3.14 804 fits\nerror: overflow\nerror: string has no digits\nerror: invalid digit found in string\n",
             Status::Faults,
