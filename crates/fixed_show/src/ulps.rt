@@ -66,7 +66,12 @@ fn ulps_power(power: &Power, frac: u32, is_overflowed: bool) -> Power
     ensures sign { IsTrue result.is_negative → 0 < result.exponent }
 {
     let more = wide_natural_of(ten_power(Radix::Bin, u128::from(frac)));
-    let (exponent, is_negative) = signed_difference(&power.exponent, power.is_negative, &more, true);
+    let (exponent, is_negative) = signed_difference(
+        &power.exponent,
+        power.is_negative,
+        &more,
+        true,
+    );
     if is_overflowed || is_negative {
         Power {
             exponent,

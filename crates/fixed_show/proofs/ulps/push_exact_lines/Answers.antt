@@ -1,11 +1,11 @@
-use Rattle.std.proofs.Common.{◌≡◌, ℕ, ℤ, List, ◌++◌, FitsSigned, arith, codes, refl, rules, ap, length, ◌+◌, ◌≤◌}
+use Rattle.std.proofs.Common.{◌≡◌, ℕ, ℤ, List, ◌++◌, FitsSigned, arith, refl, rules}
 use Rattle.std.specs.Int.{w128}
 use Rattle.std.proofs.lemmas.Int.{to_z-of_z}
 use Rattle.fixed_numeral.specs.Value.{magnitude}
 use Rattle.fixed_show.specs.Blocks.{Appends}
 use Rattle.fixed_show.specs.ErrorText.{IsExactDecimal, error_den, error_num}
 use Rattle.fixed_show.specs.Inner.Errors.{error_lines}
-use Rattle.fixed_show.proofs.LineLemmas.{pushed_length, text_short}
+use Rattle.fixed_show.proofs.LineLemmas.{text_short}
 use Rattle.fixed_show.proofs.UlpsLemmas.{lines_pushed, lines_short}
 use Rattle.fixed_show.proofs.ulps.push_exact_lines.Goals as goal
 
