@@ -157,6 +157,15 @@ RUNS = {
          b"error     below 1e300 in size: the numeral is too long to say more\n"
          b"ulps      below 1e303 in size: the numeral is too long to say more\n"
          b"between   no two values of the format\nrange     overflowed\n"),
+        (["show", "I16F16", "1e-300"], b"", 0,
+         b"given     1e-300\ntext      0\nbits      0\nhex       0x00000000\nvalue     0\n"
+         b"error     below 1e-299 in size: it has more than 60 places\n"
+         b"ulps      below 1e-295 in size: it has more than 60 places\n"
+         b"between   0 (0) and 0.00002 (1)\nrange     fits\n"),
+        (["show", "I16F16", "5e-61"], b"", 0,
+         b"given     5e-61\ntext      0\nbits      0\nhex       0x00000000\nvalue     0\n"
+         b"error     below 1e-60 in size: it has more than 60 places\n"
+         b"ulps      -0." + b"0" * 55 + b"32768\nbetween   0 (0) and 0.00002 (1)\nrange     fits\n"),
         (["show", "U8F0", "a\nb\x7f"], b"", 1, b"given     a\nb\x7f\nerror: invalid digit found in string\n"),
         (["show", "U8F0", "0" * 1_030], b"", 0, None),
         (["bits", "I16F16", "0xfffc0000", "7x"], b"", 1,

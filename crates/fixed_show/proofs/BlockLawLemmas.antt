@@ -20,10 +20,8 @@ use Rattle.fixed_read.specs.Reading.{IsReadNumber}
 use Rattle.fixed_read.proofs.Public.{read_unique}
 use Rattle.fixed_write.proofs.Public.{exact_text_unique, shortest_text_unique}
 use Rattle.fixed_write.specs.Texts.{IsShortestText}
-use Rattle.fixed_show.specs.ErrorText.{IsErrorText}
-use Rattle.fixed_show.specs.UlpsText.{IsUlpsText}
-use Rattle.fixed_show.proofs.BoundedLemmas.{error_text_one}
-use Rattle.fixed_show.proofs.UlpsLemmas.{ulps_text_one}
+use Rattle.fixed_show.specs.ShortError.{AreBlockUlps, IsBlockError}
+use Rattle.fixed_show.proofs.ShortLemmas.{block_error_one, block_ulps_one}
 use Rattle.fixed_show.specs.BitsBlock.{AreValueLines, fault_message}
 use Rattle.fixed_show.specs.BlockLaws.{BitsBlockIsTheOne, ShowBlockIsTheOne, ShowRefusalIsTheOne}
 use Rattle.fixed_show.specs.Blocks.{IsHexText, hex_text, refusal_block}
@@ -101,12 +99,12 @@ shown_one mode r bytes f policy a b width x y =
     let one = read_as_one mode r bytes f policy x.bits y.bits x.overflowed y.overflowed width x.read y.read in
     let parts : x.read.parts ≡ y.read.parts = same_parts r bytes x.read.parts y.read.parts x.read.numeral y.read.numeral in
     let values : x.values ≡ y.values = lines_one f y.bits x.values y.values width (subst (λ (v : ℤ). AreValueLines f v x.values) one.0 x.are_values) y.are_values in
-    let moved : IsErrorText r y.read.parts f.frac y.bits y.overflowed x.error
-    = subst (λ (o : Bool). IsErrorText r y.read.parts f.frac y.bits o x.error) one.1 (subst (λ (v : ℤ). IsErrorText r y.read.parts f.frac v x.overflowed x.error) one.0 (subst (λ (q : Parts). IsErrorText r q f.frac x.bits x.overflowed x.error) parts x.is_error)) in
-    let error : x.error ≡ y.error = error_text_one r y.read.parts f.frac y.bits y.overflowed x.error y.error moved y.is_error in
-    let counted : IsUlpsText r y.read.parts f.frac y.bits y.overflowed x.ulps
-    = subst (λ (o : Bool). IsUlpsText r y.read.parts f.frac y.bits o x.ulps) one.1 (subst (λ (v : ℤ). IsUlpsText r y.read.parts f.frac v x.overflowed x.ulps) one.0 (subst (λ (q : Parts). IsUlpsText r q f.frac x.bits x.overflowed x.ulps) parts x.are_ulps)) in
-    let ulps : x.ulps ≡ y.ulps = ulps_text_one r y.read.parts f.frac y.bits y.overflowed x.ulps y.ulps counted y.are_ulps in
+    let moved : IsBlockError r y.read.parts f.frac y.bits y.overflowed x.error
+    = subst (λ (o : Bool). IsBlockError r y.read.parts f.frac y.bits o x.error) one.1 (subst (λ (v : ℤ). IsBlockError r y.read.parts f.frac v x.overflowed x.error) one.0 (subst (λ (q : Parts). IsBlockError r q f.frac x.bits x.overflowed x.error) parts x.is_error)) in
+    let error : x.error ≡ y.error = block_error_one r y.read.parts f.frac y.bits y.overflowed x.error y.error moved y.is_error in
+    let counted : AreBlockUlps r y.read.parts f.frac y.bits y.overflowed x.ulps
+    = subst (λ (o : Bool). AreBlockUlps r y.read.parts f.frac y.bits o x.ulps) one.1 (subst (λ (v : ℤ). AreBlockUlps r y.read.parts f.frac v x.overflowed x.ulps) one.0 (subst (λ (q : Parts). AreBlockUlps r q f.frac x.bits x.overflowed x.ulps) parts x.are_ulps)) in
+    let ulps : x.ulps ≡ y.ulps = block_ulps_one r y.read.parts f.frac y.bits y.overflowed x.ulps y.ulps counted y.are_ulps in
     let between : x.between ≡ y.between = between_one r bytes f x.between y.between x.is_between y.is_between in
     x.block_is ∙ (rw (values, error, ulps, between, one.1) (sym y.block_is))
 

@@ -14,6 +14,7 @@ pub mod PowerLemmas
 pub mod TallLemmas
 pub mod BoundedLemmas
 pub mod UlpsLemmas
+pub mod ShortLemmas
 pub mod WordLawLemmas
 pub mod ToolNameLemmas
 pub mod BlockLawLemmas

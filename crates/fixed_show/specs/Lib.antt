@@ -8,6 +8,7 @@ pub mod PartText
 pub mod PartLaws
 pub mod ErrorText
 pub mod UlpsText
+pub mod ShortError
 pub mod ShowBlock
 pub mod BlockLaws
 pub mod Inner

@@ -19,7 +19,7 @@ use Rattle.fixed_write.specs.Texts.{IsShortestText}
 use Rattle.fixed_show.specs.Blocks.{line, refusal_block}
 use Rattle.fixed_show.specs.BitsBlock.{AreValueLines}
 use Rattle.fixed_show.specs.ErrorText.{IsErrorText}
-use Rattle.fixed_show.specs.UlpsText.{IsUlpsText}
+use Rattle.fixed_show.specs.ShortError.{AreBlockUlps, IsBlockError}
 
 -- bytes are a numeral, bits are the image of its read number, and overflowed says whether that is out of range
 pub record IsReadAs (mode : ReadMode) (r : Radix) (bytes : List ℕ) (f : FormatParts) (policy : Policy) (bits : ℤ)
@@ -85,9 +85,9 @@ pub record IsShown (mode : ReadMode) (r : Radix) (bytes : List ℕ) (f : FormatP
   pub values : List ℕ
   pub are_values : AreValueLines f bits values
   pub error : List ℕ
-  pub is_error : IsErrorText r read.parts f.frac bits overflowed error
+  pub is_error : IsBlockError r read.parts f.frac bits overflowed error
   pub ulps : List ℕ
-  pub are_ulps : IsUlpsText r read.parts f.frac bits overflowed ulps
+  pub are_ulps : AreBlockUlps r read.parts f.frac bits overflowed ulps
   pub between : List ℕ
   pub is_between : IsBetween r bytes f between
   pub block_is : block ≡ values

@@ -3,6 +3,7 @@
 ghost use Rattle.fixed_show.specs.BlockLaws.{BitsBlockIsTheOne, ShowBlockIsTheOne, ShowRefusalIsTheOne};
 ghost use Rattle.fixed_show.specs.ErrorText.{ErrorTextIsTheOne};
 ghost use Rattle.fixed_show.specs.FormatBlock.{FormatBlockIsTheOne, PlacesSurvive};
+ghost use Rattle.fixed_show.specs.ShortError.{BlockErrorIsTheOne, BlockUlpsAreTheOne};
 ghost use Rattle.fixed_show.specs.ToolNames.{ArmNameIsAName};
 ghost use Rattle.fixed_show.specs.UlpsText.{UlpsTextIsTheOne};
 ghost use Rattle.fixed_show.specs.WordLaws.{WordFaultIsTheOne, WordHasNoFault, WordIsTheOne};
@@ -31,6 +32,12 @@ pub fn error_text_is_the_one()
 /// The error of bits in ulps has one text.
 pub fn ulps_text_is_the_one()
     ensures { UlpsTextIsTheOne }
+{}
+
+/// The error of bits has one text in a block, and one in ulps.
+pub fn block_error_is_the_one()
+    ensures error { BlockErrorIsTheOne }
+    ensures ulps { BlockUlpsAreTheOne }
 {}
 
 /// A format has one block.

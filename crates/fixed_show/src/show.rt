@@ -143,7 +143,7 @@ fn push_range<const N: usize>(out: &mut TextBuffer<N>, overflowed: bool)
     }
 }
 
-/// Appends the text of the error of the bits that a numeral is read as, as the block of the numeral says it. Answers
+/// Appends the text of the error of the bits that a numeral is read as, in full where it is known exactly. Answers
 /// whether there are bits: where a numeral is refused, nothing is appended. There must be room for 1,380 bytes.
 pub fn push_error_of<const N: usize, L: Ledger>(
     text: &[u8],
@@ -180,11 +180,11 @@ pub fn push_error_of<const N: usize, L: Ledger>(
 /// Appends the block of a numeral in a format: the shortest text of the bits that it is read as, the bits in decimal
 /// and in hexadecimal, their exact value, the exact error, which is that value less the numeral's, the error in ulps,
 /// the two values of the format that enclose the numeral, and whether the read number was in range. The errors are
-/// written in full where the numeral, in decimal and without an exponent, has at most 100 digits before the point and
-/// 1,100 after it; of a longer one the lines say powers of ten below which they are. A numeral that is refused is
-/// answered by one line `error: ` and why. Answers whether it was. There must be room for `MAX_BLOCK` bytes. It takes
-/// at most 26 steps for each byte, and 3,307, but for the arithmetic of the errors, which takes at most some 5,000
-/// passes over a number of 144 limbs.
+/// known exactly where the numeral, in decimal and without an exponent, has at most 100 digits before the point and
+/// 1,100 after it. One that is, and has at most 60 digits after the point, is written in full; of another the line says
+/// a power of ten that it is below. A numeral that is refused is answered by one line `error: ` and why. Answers
+/// whether it was. There must be room for `MAX_BLOCK` bytes. It takes at most 26 steps for each byte, and 3,307, but
+/// for the arithmetic of the errors, which takes at most some 5,000 passes over a number of 144 limbs.
 pub fn show_block<const N: usize, L: Ledger>(
     text: &[u8],
     radix: Radix,

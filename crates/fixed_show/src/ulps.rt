@@ -12,14 +12,14 @@ ghost use Rattle.fixed_numeral.specs.Spelled.{IsSameNumber, spelled};
 ghost use Rattle.fixed_numeral.specs.Value.{magnitude};
 ghost use Rattle.fixed_numeral.specs.declared.radix.Radix.{Radix as RadixOf};
 ghost use Rattle.fixed_show.specs.Blocks.{Appends};
-ghost use Rattle.fixed_show.specs.ErrorText.{IsExactDecimal, error_num};
-ghost use Rattle.fixed_show.specs.Inner.Errors.{AreBoundLines, AreErrorLines, AreExactLines, IsLessThanUlp};
+ghost use Rattle.fixed_show.specs.ErrorText.{error_num};
+ghost use Rattle.fixed_show.specs.Inner.Errors.{AreBoundLines, AreErrorLines, AreExactLines, IsDecimalOf};
+ghost use Rattle.fixed_show.specs.Inner.Errors.{IsLessThanUlp};
 ghost use Rattle.fixed_show.specs.UlpsText.{ulps_power};
 
-use crate::decimals::push_trimmed;
 use crate::errors::{
-    Decimal, Power, bound_power, brief_of, is_less_than_zero, magnitude_of, natural_of, push_bound,
-    push_exact_error, scale, signed_difference, wide_natural_of,
+    Decimal, Power, SignedDecimal, bound_power, brief_of, exact_error, is_less_than_zero,
+    magnitude_of, natural_of, push_bound, push_short, scale, signed_difference, wide_natural_of,
 };
 use crate::natural::Natural;
 use crate::sizes::ten_power;
@@ -28,33 +28,30 @@ use fixed_steps::Steps;
 use std::sync::ledger::Ledger;
 use text_buffer::TextBuffer;
 
-/// Appends `bits` less a decimal times 2^`frac`, exactly. The decimal is negative where `is_negative`.
-fn push_exact_ulps<const N: usize>(
-    out: &mut TextBuffer<N>,
-    bits: i128,
-    frac: u32,
-    numeral: &Decimal,
-    is_negative: bool,
-)
+/// `bits` less a decimal times 2^`frac`, exactly. The decimal is negative where `is_negative`.
+fn exact_ulps(bits: i128, frac: u32, numeral: &Decimal, is_negative: bool) -> SignedDecimal
     requires wide { IsWide bits }
     requires frac { frac ≤ 64 }
     requires small { numeral.now.number < 10 ^ 1208 }
     requires places { numeral.now.places ≤ 1104 }
-    requires room { length out.old + 1298 ≤ N }
     ensures ulps { (r : RadixOf) (p : Parts) (whole fraction : List ℕ) (shift : ℕ)
         → IsScanned r p is_negative whole fraction shift
         → IsSameNumber (spelled (base r) whole fraction shift)
         (record { num = numeral.now.number; den = 10 ^ numeral.now.places })
-        → Appends (IsExactDecimal (error_num r p frac bits) (magnitude r p).den) 1298 out.old out.new }
-    ensures short { length out.new ≤ length out.old + 1298 }
+        → IsDecimalOf (error_num r p frac bits) (magnitude r p).den result.is_negative result.number result.places }
+    ensures places { result.places ≤ 1104 }
 {
     let mut value = natural_of(magnitude_of(bits));
     scale(&mut value, 10, numeral.places);
     let mut other = numeral.number.same();
     scale(&mut other, 2, frac);
     let is_below = is_less_than_zero(bits);
-    let (difference, is_negative) = signed_difference(&value, is_below, &other, is_negative);
-    push_trimmed(out, is_negative, &difference, numeral.places);
+    let (number, is_negative) = signed_difference(&value, is_below, &other, is_negative);
+    SignedDecimal {
+        number,
+        places: numeral.places,
+        is_negative,
+    }
 }
 
 /// The power of ten of ulps of 2^-`frac` that is named for an error below a power of ten.
@@ -66,7 +63,12 @@ fn ulps_power(power: &Power, frac: u32, is_overflowed: bool) -> Power
     ensures sign { IsTrue result.is_negative → 0 < result.exponent }
 {
     let more = wide_natural_of(ten_power(Radix::Bin, u128::from(frac)));
-    let (exponent, is_negative) = signed_difference(&power.exponent, power.is_negative, &more, true);
+    let (exponent, is_negative) = signed_difference(
+        &power.exponent,
+        power.is_negative,
+        &more,
+        true,
+    );
     if is_overflowed || is_negative {
         Power {
             exponent,
@@ -80,7 +82,7 @@ fn ulps_power(power: &Power, frac: u32, is_overflowed: bool) -> Power
     }
 }
 
-/// Appends the lines of the error of `bits` ulps of 2^-`frac` less a decimal, both exactly.
+/// Appends the lines of the error of `bits` ulps of 2^-`frac` less a decimal, each exactly where it is short.
 fn push_exact_lines<const N: usize>(
     out: &mut TextBuffer<N>,
     bits: i128,
@@ -101,10 +103,10 @@ fn push_exact_lines<const N: usize>(
     ensures short { length out.new ≤ length out.old + 2782 }
 {
     out.push_bytes(b"error     ");
-    push_exact_error(out, bits, frac, numeral, is_negative);
+    push_short(out, &exact_error(bits, frac, numeral, is_negative));
     out.push(b'\n');
     out.push_bytes(b"ulps      ");
-    push_exact_ulps(out, bits, frac, numeral, is_negative);
+    push_short(out, &exact_ulps(bits, frac, numeral, is_negative));
     out.push(b'\n');
 }
 

@@ -234,6 +234,39 @@ const ROUNDED: &str = "\
     between   3.14159 (205887) and 3.1416 (205888)\n\
     range     fits\n";
 
+/// The block of 1e-300 in I16F16, of which the error has 300 digits after the point.
+const MANY_PLACES: &str = "\
+    text      0\n\
+    bits      0\n\
+    hex       0x00000000\n\
+    value     0\n\
+    error     below 1e-299 in size: it has more than 60 places\n\
+    ulps      below 1e-295 in size: it has more than 60 places\n\
+    between   0 (0) and 0.00002 (1)\n\
+    range     fits\n";
+
+/// The block of 1e-60 in I16F16, of which both errors have 60 digits after the point.
+const SIXTY_PLACES: &str = "\
+    text      0\n\
+    bits      0\n\
+    hex       0x00000000\n\
+    value     0\n\
+    error     -0.000000000000000000000000000000000000000000000000000000000001\n\
+    ulps      -0.000000000000000000000000000000000000000000000000000000065536\n\
+    between   0 (0) and 0.00002 (1)\n\
+    range     fits\n";
+
+/// The block of 5e-61 in I16F16, of which the error has 61 digits after the point, and the error in ulps 60.
+const SIXTY_IN_ULPS: &str = "\
+    text      0\n\
+    bits      0\n\
+    hex       0x00000000\n\
+    value     0\n\
+    error     below 1e-60 in size: it has more than 60 places\n\
+    ulps      -0.000000000000000000000000000000000000000000000000000000032768\n\
+    between   0 (0) and 0.00002 (1)\n\
+    range     fits\n";
+
 /// The block of a numeral far below the ulp of I4F4, and too long to write out.
 const TOO_SMALL: &str = "\
     text      0\n\
@@ -278,6 +311,9 @@ fn each_numeral_has_its_block(rt: HostRuntime) {
             "text      255\nbits      255\nhex       0xff\nvalue     255\nerror     256\nulps      256\nbetween   no two values of the format\nrange     overflowed\n",
         ),
         of_numeral("U8F0", Policy::Checked, "300", "error: overflow\n"),
+        of_numeral("I16F16", Policy::Checked, "1e-300", MANY_PLACES),
+        of_numeral("I16F16", Policy::Checked, "1e-60", SIXTY_PLACES),
+        of_numeral("I16F16", Policy::Checked, "5e-61", SIXTY_IN_ULPS),
         of_numeral("I4F4", Policy::Checked, "1e-2000000000", TOO_SMALL),
         of_numeral("I4F4", Policy::Saturating, "-1e1200", TOO_LOW),
         of_numeral("I8F8", Policy::Saturating, "1e300", TOO_HIGH),
