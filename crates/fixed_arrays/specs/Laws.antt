@@ -19,4 +19,5 @@ LiteralArrayAnswerIsTheOne = (r : LiteralArrayRule) (text : List ℕ) (a b : Ans
 
 -- and at most one first fault
 abbrev pub LiteralsFaultIsTheOne : Type 0
-LiteralsFaultIsTheOne = (text : List ℕ) (a b : LiteralsFault) → HasLiteralsFault text a → HasLiteralsFault text b → a ≡ b
+LiteralsFaultIsTheOne = (text : List ℕ) (a b : LiteralsFault) → HasLiteralsFault text a → HasLiteralsFault text b
+    → a ≡ b

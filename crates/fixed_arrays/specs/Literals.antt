@@ -44,8 +44,8 @@ AreOf f [] = Unit {0}
 AreOf f (c ∷ constants) = (c.format ≡ f) × AreOf f constants
 
 -- ---- the answer
--- why a text is no array: it has no literal; or its first fault, or the first literal of another format, whichever is on
--- the earlier line; on one line the fault
+-- why a text is no array: it has no literal; or its first fault, or the first line of another format, whichever is the
+-- earlier line; on one line the fault
 abbrev pub HasLiteralsFault : List ℕ → LiteralsFault → Type 0
 HasLiteralsFault text Empty = IsConstantsOf text []
 HasLiteralsFault text (Refused p fault) = IsFaultOf text p fault

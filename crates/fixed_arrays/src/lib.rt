@@ -1,7 +1,8 @@
 //! Lists of numerals, and files of named literals, as arrays of C, Rust and VHDL, and as files of a memory.
 //!
 //! `rule` answers an input, one numeral a line, with the list of its numbers in a form, and `literal_rule` one with a
-//! named literal a line; `form` says which names a list may have. A form is a row of `table`: three templates, which `slots` fills.
+//! named literal a line; `form` says which names a list may have. A form is a row of `table`: three templates, which
+//! `slots` fills.
 #![tactic(auto)]
 
 mod elements;

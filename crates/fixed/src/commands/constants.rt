@@ -1,4 +1,4 @@
-//! `fixed constants`: named literals in one form, or a list of them or of numerals as an array or as the file of a memory.
+//! `fixed constants`: named literals in one form, or a list of them or of numerals as an array or as a memory's file.
 
 use crate::options::{MODE, POLICY, RADIX};
 use crate::product::{Product, run_product};

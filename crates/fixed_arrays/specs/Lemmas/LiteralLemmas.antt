@@ -64,7 +64,8 @@ pub first_declared : (before all : List (List ℕ)) (c : ConstantParts) (rest : 
     → Declare before all (c ∷ rest) → HasFirstFormat all f → c.format ≡ f
 first_declared before [] c rest f d x = absurd x
 first_declared before (line ∷ more) c rest f (inl d) (inl x) = absurd (x.fields.spoken d.0)
-first_declared before (line ∷ more) c rest f (inl d) (inr x) = first_declared (before ++ line ∷ []) more c rest f d.1 x.1
+first_declared before (line ∷ more) c rest f (inl d) (inr x) =
+    first_declared (before ++ line ∷ []) more c rest f d.1 x.1
 first_declared before (line ∷ more) c rest f (inr d) (inl x) =
     let same : c ≡ d.0 = cc in
     ap (λ e. e.format) same ∙ format_one line d.0.format f (spelled_format line d.0 d.2.0) x
