@@ -1,5 +1,5 @@
 #!/usr/bin/env python3
-"""An independent writer of the lists of `fixed constants --numerals`, worked out with whole numbers alone.
+"""An independent writer of the lists of `fixed constants`, of numerals and of named literals, worked out with whole numbers alone.
 
     arrays.py --compare PROGRAM [--count N] [--seed S]   runs PROGRAM constants on seeded lists, compares what it writes byte
                                                          for byte, and has compilers and simulators read some of it back
@@ -12,7 +12,7 @@ import subprocess
 import sys
 import tempfile
 
-from constants import RESERVED
+from constants import RESERVED, entry_of, line_for, type_shape
 from pack import MODES, POLICIES, clean_for, input_for, lines_of, run, shape_for, word_of
 from reference import WORDS, Refused, image, read_number, shortest
 
@@ -49,6 +49,26 @@ def numbers_of(data, radix, shape, policy, mode):
     return numbers
 
 
+def literals_of(data):
+    """The entries of an input's named literals, in order; Refused with the line's number and the cause where one is refused, or
+    has another format than the first, or there is none."""
+    entries, seen = [], {}
+    for place, line in enumerate(lines_of(data), 1):
+        if not line or line[:1] == b"#":
+            continue
+        try:
+            entry = entry_of(line, seen, ())
+        except Refused as why:
+            raise Refused(f"line {place}", str(why)) from why
+        if entries and entry[2] != entries[0][2]:
+            raise Refused(f"line {place}", f"another format than {entries[0][1]}")
+        seen[entry[0].encode()] = place
+        entries.append(entry)
+    if not entries:
+        raise Refused("line 1", "no literal")
+    return entries
+
+
 def c_number(bits, shape):
     """A number as the macro of <stdint.h> for its type."""
     width = element_width(shape)
@@ -66,10 +86,10 @@ def digits(bits, shape, base):
     return f"{number:0{-(-shape[1] // 4)}x}" if base == 16 else f"{number:0{shape[1]}b}"
 
 
-def array(form, numbers, shape, name, guard):
-    """The text of a list."""
+def array(form, numbers, shape, name, guard, labels=()):
+    """The text of a list, of which each number has a label or none has one."""
     width, word, count = element_width(shape), word_of(shape), len(numbers)
-    rows = [(index, bits, shortest(bits, shape[2])) for index, bits in enumerate(numbers)]
+    rows = [(index, bits, (f"{labels[index]}, " if labels else "") + shortest(bits, shape[2])) for index, bits in enumerate(numbers)]
     if form == "array-c":
         lines = "".join(f"    {c_number(bits, shape)}, /* {value} */\n" for _, bits, value in rows)
         before, after = (f"#ifndef {guard}\n#define {guard}\n\n", "\n#endif\n") if guard else ("", "")
@@ -212,8 +232,58 @@ def is_name(form, name, guard):
     return name not in RESERVED[form[6:]] and name != guard
 
 
+def literals_for(pick, is_clean):
+    """Named literals, mostly of one format; where they are clean, each is in order."""
+    shape = type_shape(pick)
+    names = [f"{pick.choice('ABCxyz_')}{pick.randrange(10**6)}_{at}".encode() for at in range(60)] + [b"int", b"fn", b"signal"]
+    if is_clean:
+        low, high = (-(1 << shape[1] - 1), (1 << shape[1] - 1) - 1) if shape[0] else (0, (1 << shape[1]) - 1)
+        numbers = [pick.choice((low, high, pick.randint(low, high))) for _ in range(pick.randrange(1, 60))]
+        rows = [f"{names.pop().decode()} = {shortest(number, shape[2])} {word_of(shape)}" for number in numbers]
+        return "".join(f"# a comment\n\n{row}\n" for row in rows).encode()
+    lines = [line_for(pick, names, shape if pick.randrange(12) else None) for _ in range(pick.randrange(0, 12))]
+    if lines and pick.randrange(8) == 0:
+        lines.append(pick.choice(lines))
+    return b"\n".join(lines) + (b"\n" if pick.randrange(2) else b"")
+
+
+def literals_once(program, pick, is_read):
+    """A run of constants over named literals, and a message where it differs."""
+    form = pick.choice(FORMS)
+    name = pick.choice((*NAMES, None)) if pick.random() < 0.2 else "h" if form in NAMED else None
+    guard = "A_H" if form == "array-c" and pick.random() < 0.3 else ""
+    data = literals_for(pick, is_read or pick.random() < 0.3)
+    words = ["constants", form, *([] if name is None else [f"--name={name}"]), *(["--guard", guard] if guard else [])]
+    ran = run(program, words, data)
+    shown = f"{' '.join(words)}, {data[:300]!r}: status {ran.returncode}, {ran.stdout[:60]!r}"
+    if not is_name(form, name, guard):
+        return None if (ran.returncode, ran.stdout) == (2, b"") else f"{shown}, not status 2"
+    try:
+        entries = literals_of(data)
+    except Refused as why:
+        return refusal_of(ran, shown, why)
+    labels, numbers, shape = [entry[0] for entry in entries], [entry[3] for entry in entries], entries[0][2]
+    return difference(ran, shown, form, array(form, numbers, shape, name, guard, labels), (shape, name, numbers), is_read)
+
+
+def refusal_of(ran, shown, why):
+    """A message where a run does not refuse the line for the cause."""
+    place, cause = why.args
+    is_told = f"{place}, ".encode() in ran.stderr and cause.encode() in ran.stderr
+    return None if (ran.returncode, ran.stdout) == (1, b"") and is_told else f"{shown}, {ran.stderr!r}, not {place}: {cause}"
+
+
+def difference(ran, shown, form, wanted, read, is_read):
+    """A message where a run writes another text, or another program reads other numbers."""
+    if (ran.returncode, ran.stdout) != (0, wanted.encode()):
+        return f"{shown}, not {wanted[:200]!r}"
+    shape, name, numbers = read
+    back = read_back(form, wanted, shape, name, len(numbers)) if is_read else None
+    return None if back is None or back == numbers else f"{shown}: {READERS[form][0]} reads {str(back)[:400]}"
+
+
 def once(program, pick, is_read):
-    """A run of constants, and a message where it differs."""
+    """A run of constants over numerals, and a message where it differs."""
     form, radix, shape = pick.choice(FORMS), pick.choice((2, 8, 10, 10, 16)), shape_for(pick)
     policy, mode = pick.choice(POLICIES), pick.choice(MODES)
     name = pick.choice((*NAMES, None)) if pick.random() < 0.3 else "h" if form in NAMED else None
@@ -230,14 +300,8 @@ def once(program, pick, is_read):
     try:
         numbers = numbers_of(data, radix, shape, policy.encode(), mode)
     except Refused as why:
-        place, cause = why.args
-        is_told = f"{place}, ".encode() in ran.stderr and cause.encode() in ran.stderr
-        return None if (ran.returncode, ran.stdout) == (1, b"") and is_told else f"{shown}, {ran.stderr!r}, not {place}: {cause}"
-    wanted = array(form, numbers, shape, name, guard)
-    if (ran.returncode, ran.stdout) != (0, wanted.encode()):
-        return f"{shown}, not {wanted[:200]!r}"
-    back = read_back(form, wanted, shape, name, len(numbers)) if is_read else None
-    return None if back is None or back == numbers else f"{shown}: {READERS[form][0]} reads {str(back)[:400]}"
+        return refusal_of(ran, shown, why)
+    return difference(ran, shown, form, array(form, numbers, shape, name, guard), (shape, name, numbers), is_read)
 
 
 def compare(program, count, seed):
@@ -245,7 +309,8 @@ def compare(program, count, seed):
     for tool, _ in READERS.values():
         if tool and shutil.which(tool) is None:
             print(f"{tool} is not here, and so it read no list")
-    wrong = [message for i in range(count) if (message := once(program, pick, i % 10 == 0))]
+    tries = [(once, literals_once)[i % 2] for i in range(count)]
+    wrong = [message for i, each in enumerate(tries) if (message := each(program, pick, i % 20 < 2))]
     for message in wrong[:10]:
         print(message)
     print(f"{count} lists, {len(wrong)} differ")

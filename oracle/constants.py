@@ -237,12 +237,19 @@ def literal_for(pick, shape):
     return sign + prefix + text
 
 
-def line_for(pick, names):
+def type_shape(pick):
+    """A format of as many bits as an integer type has."""
+    width = pick.choice(WIDTHS)
+    return pick.random() < 0.5, width, pick.choice((0, width, pick.randrange(width + 1)))
+
+
+def line_for(pick, names, shape=None):
+    """A line, mostly a literal of a format, of any where none is given."""
     kind = pick.randrange(30)
     if kind < 2:
         return pick.choice((b"", b"# ", b"#", b"# A = 1 U8F0"))
-    width = pick.choice(WIDTHS)
-    shape = pick.random() < 0.5, width, pick.choice((0, width, pick.randrange(width + 1)))
+    shape = shape or type_shape(pick)
+    width = shape[1]
     word = f"{'I' if shape[0] else 'U'}{width - shape[2]}F{shape[2]}".encode()
     fields = [names.pop(), b"=", literal_for(pick, shape), word]
     if pick.randrange(60) == 0:

@@ -3,7 +3,7 @@
 use crate::inputs::refuse_file;
 use command_line::device::{Failure, Unmarked, Writer};
 use command_line::report::{Report, report_end, report_no_memory};
-use fixed_arrays::ArrayRule;
+use fixed_arrays::{ArrayRule, LiteralArrayRule};
 use fixed_command::watch::{Product as Whole, WatchedWhole};
 use fixed_command::{RefusedLine, Task, Watch, run_task};
 use fixed_constants::FormRule;
@@ -22,6 +22,8 @@ pub enum Product<'a> {
     Constants(FormRule<'a>),
     /// A list of numerals in a form.
     List(ArrayRule<'a>),
+    /// A list of named literals in a form.
+    Literals(LiteralArrayRule<'a>),
 }
 
 /// The bytes of all files, each with a newline at its end, and after how many lines each ends.
@@ -184,6 +186,11 @@ fn run_on<S: Source, K: Sink, L: Ledger>(
             )
         }
         Product::List(rule) => {
+            let watched = WatchedWhole { rule, watch };
+            let whole = Whole { rule: &watched };
+            run_whole(rt.alloc(), MAX_LIMIT, &whole, source, sink, steps)
+        }
+        Product::Literals(rule) => {
             let watched = WatchedWhole { rule, watch };
             let whole = Whole { rule: &watched };
             run_whole(rt.alloc(), MAX_LIMIT, &whole, source, sink, steps)

@@ -2,7 +2,7 @@
 use Rattle.std.proofs.Common.{◌≡◌, ◌∙◌, ◌+◌, ◌<◌, ◌≤◌, ℕ, zero, suc, ℤ, List, [], ◌∷◌, ◌++◌, length, refl, sym, ap, subst, arith, append-nil, append_assoc, length-append, inl, inr}
 use Rattle.fixed_numeral.specs.declared.error.ParseErrorKind.{ParseErrorKind}
 use Rattle.line_engine.specs.Lines.{lines}
-use Rattle.fixed_arrays.specs.Answer.{AreElements, IsElement, IsRefusedElement, RefusedFrom}
+use Rattle.fixed_arrays.specs.Answer.{AreElements, IsElement, IsRefusedElement, RefusedFrom, frame_of}
 use Rattle.fixed_arrays.specs.Table.{array_text, element_line, element_lines, head, tail}
 use Rattle.fixed_arrays.specs.Inner.Elements.{HasElements, HasError, HasReadTo, PushesElement, RefusesElement}
 use Rattle.fixed_arrays.specs.declared.elements.Elements.{Elements}
@@ -10,6 +10,7 @@ use Rattle.fixed_arrays.specs.declared.fault.ArrayFault.{ArrayFault}
 use Rattle.fixed_arrays.specs.declared.fault.ArrayFault.TheVariants.{Empty, NoMemory, Refused}
 use Rattle.fixed_arrays.specs.declared.rule.ArrayRule.{ArrayRule}
 use Rattle.fixed_arrays.specs.declared.rule.Numerals.{Numerals}
+use Rattle.fixed_arrays.specs.declared.text.Frame.{Frame}
 
 elements_more : (n : Numerals) (some : List (List ℕ)) (numbers : List ℤ) (line : List ℕ) (bits : ℤ) → AreElements n some numbers → IsElement n line bits → AreElements n (some ++ line ∷ []) (numbers ++ bits ∷ [])
 elements_more n [] [] line bits are one = (one, tt)
@@ -17,13 +18,13 @@ elements_more n [] (b ∷ bs) line bits are one = absurd are
 elements_more n (l ∷ ls) [] line bits are one = absurd are
 elements_more n (l ∷ ls) (b ∷ bs) line bits are one = (are.0, elements_more n ls bs line bits are.1 one)
 
-text_more : (r : ArrayRule) (k : ℕ) (numbers : List ℤ) (bits : ℤ) → element_lines r k (numbers ++ bits ∷ []) ≡ element_lines r k numbers ++ element_line r (k + length numbers) bits
+text_more : (r : Frame) (k : ℕ) (numbers : List ℤ) (bits : ℤ) → element_lines r k (numbers ++ bits ∷ []) ≡ element_lines r k numbers ++ element_line r (k + length numbers) [] bits
 text_more r k [] bits =
     let at : k ≡ k + length {A = ℤ} [] = omega arith in
-    append-nil (element_line r k bits) ∙ ap (λ i. element_line r i bits) at
+    append-nil (element_line r k [] bits) ∙ ap (λ i. element_line r i [] bits) at
 text_more r k (b ∷ bs) bits =
     let at : k + 1 + length bs ≡ k + length (b ∷ bs) = omega arith in
-    ap (λ l. element_line r k b ++ l) (text_more r (k + 1) bs bits) ∙ (sym (append_assoc (element_line r k b) (element_lines r (k + 1) bs) (element_line r (k + 1 + length bs) bits)) ∙ ap (λ i. (element_line r k b ++ element_lines r (k + 1) bs) ++ element_line r i bits) at)
+    ap (λ l. element_line r k [] b ++ l) (text_more r (k + 1) bs bits) ∙ (sym (append_assoc (element_line r k [] b) (element_lines r (k + 1) bs) (element_line r (k + 1 + length bs) [] bits)) ∙ ap (λ i. (element_line r k [] b ++ element_lines r (k + 1) bs) ++ element_line r i [] bits) at)
 
 pub same_count : (n : Numerals) (some : List (List ℕ)) (numbers : List ℤ) → AreElements n some numbers → length numbers ≡ length some
 same_count n [] [] are = refl
@@ -45,6 +46,7 @@ read_none r input e text count = record { some = []; cut = refl; has = record { 
 
 pub read_more : (r : ArrayRule) (input rest after line : List ℕ) (old new : Elements) → lines rest ≡ line ∷ lines after → HasReadTo r input rest old → PushesElement r line old new → HasReadTo r input after new
 read_more r input rest after line old new first h p =
+    let f : Frame = frame_of r in
     let one : List (List ℕ) = line ∷ [] in
     let place : old.count ≡ 0 + length h.has.numbers = omega (arith, h.has.count, same_count r.numerals h.some h.has.numbers h.has.elements) in
     record {
@@ -53,7 +55,7 @@ read_more r input rest after line old new first h p =
       has = record {
         numbers = h.has.numbers ++ p.bits ∷ [];
         elements = elements_more r.numerals h.some h.has.numbers line p.bits h.has.elements p.element;
-        text = p.text ∙ (ap (λ l. l ++ element_line r old.count p.bits) h.has.text ∙ (ap (λ i. element_lines r 0 h.has.numbers ++ element_line r i p.bits) place ∙ sym (text_more r 0 h.has.numbers p.bits)));
+        text = p.text ∙ (ap (λ l. l ++ element_line f old.count [] p.bits) h.has.text ∙ (ap (λ i. element_lines f 0 h.has.numbers ++ element_line f i [] p.bits) place ∙ sym (text_more f 0 h.has.numbers p.bits)));
         count = p.count ∙ omega (arith, h.has.count, length-append h.some one);
       };
     }
@@ -82,6 +84,6 @@ is_started (suc n) i r some none started = omega arith
 pub some_lines : (r : ArrayRule) (input : List ℕ) (e : Elements) → HasElements r (lines input) e → 0 < e.count → lines input ≡ [] → ⊥
 some_lines r input e h some none = omega (arith, some, h.count, ap length none)
 
-pub whole_text : (r : ArrayRule) (numbers : List ℤ) (count : ℕ) (elements text : List ℕ) → count ≡ length numbers → elements ≡ element_lines r 0 numbers → text ≡ head r count ++ (elements ++ tail r count) → text ≡ array_text r numbers
+pub whole_text : (r : Frame) (numbers : List ℤ) (count : ℕ) (elements text : List ℕ) → count ≡ length numbers → elements ≡ element_lines r 0 numbers → text ≡ head r count ++ (elements ++ tail r count) → text ≡ array_text r numbers
 whole_text r numbers count elements text same e t =
     t ∙ (ap (λ k. head r k ++ (elements ++ tail r k)) same ∙ ap (λ x. head r (length numbers) ++ (x ++ tail r (length numbers))) e)

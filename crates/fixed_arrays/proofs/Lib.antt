@@ -1,3 +1,4 @@
 mod ElementLemmas
+mod LiteralLemmas
 mod NameLemmas
 mod SlotLemmas

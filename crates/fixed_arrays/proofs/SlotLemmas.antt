@@ -8,7 +8,7 @@ use Rattle.fixed_respell.specs.Words.{format_text}
 use Rattle.fixed_write.specs.Texts.{last_digits, shortest_text}
 use Rattle.fixed_write.proofs.Public.{last_digits_more, last_digits_none}
 use Rattle.fixed_arrays.specs.Slots.{FillingParts, binary_digits, c_sign, count_slot, element_format, element_width, fill_from}
-use Rattle.fixed_arrays.specs.Slots.{hex_digits, number_slot, rust_sign, separator, slot, vhdl_sign}
+use Rattle.fixed_arrays.specs.Slots.{hex_digits, label_text, number_slot, rust_sign, separator, slot, vhdl_sign}
 
 -- ---- digits
 pub digits_more : (base : ℕ) (old mid new : List ℕ) (k w : ℕ) → 0 < k → mid ≡ old ++ last_digits base false (k - 1) (w / base) → new ≡ mid ++ digit_glyph false (w % base) ∷ [] → new ≡ old ++ last_digits base false k w
@@ -170,6 +170,19 @@ pub is_separator : (v : FillingParts) (key : ℕ) → key ≡ 44 → slot v key 
 unfolding slot
 is_separator v key e = let P : ℕ → Type 0 = λ k. slot v k ≡ separator v.index in let at : P 44 = refl in subst P (sym e) at
 
-pub is_counted : (v : FillingParts) (key : ℕ) → (key ≡ 110 → ⊥) → (key ≡ 103 → ⊥) → (key ≡ 102 → ⊥) → (key ≡ 117 → ⊥) → (key ≡ 114 → ⊥) → (key ≡ 113 → ⊥) → (key ≡ 44 → ⊥) → slot v key ≡ count_slot v key
+pub is_label : (v : FillingParts) (key : ℕ) → key ≡ 107 → slot v key ≡ label_text v.label
 unfolding slot
-is_counted v key n0 n1 n2 n3 n4 n5 n6 = rw (not_equal key 110 n0, not_equal key 103 n1, not_equal key 102 n2, not_equal key 117 n3, not_equal key 114 n4, not_equal key 113 n5, not_equal key 44 n6) refl
+is_label v key e = let P : ℕ → Type 0 = λ k. slot v k ≡ label_text v.label in let at : P 107 = refl in subst P (sym e) at
+
+pub is_counted : (v : FillingParts) (key : ℕ) → (key ≡ 110 → ⊥) → (key ≡ 103 → ⊥) → (key ≡ 102 → ⊥) → (key ≡ 117 → ⊥) → (key ≡ 114 → ⊥) → (key ≡ 113 → ⊥) → (key ≡ 44 → ⊥) → (key ≡ 107 → ⊥) → slot v key ≡ count_slot v key
+unfolding slot
+is_counted v key n0 n1 n2 n3 n4 n5 n6 n7 = rw (not_equal key 110 n0, not_equal key 103 n1, not_equal key 102 n2, not_equal key 117 n3, not_equal key 114 n4, not_equal key 113 n5, not_equal key 44 n6, not_equal key 107 n7) refl
+
+-- ---- the name of a number
+pub label_none : (label : List ℕ) → length label ≡ 0 → [] ≡ label_text label
+label_none [] e = refl
+label_none (b ∷ bs) e = absurd (omega (arith, e))
+
+pub label_some : (label : List ℕ) → 0 < length label → label ++ (44 ∷ 32 ∷ []) ≡ label_text label
+label_some [] h = absurd (omega (arith, h))
+label_some (b ∷ bs) h = refl

@@ -8,6 +8,7 @@ use Rattle.fixed_show.specs.ShowBlock.{IsReadAs, IsUnread}
 use Rattle.line_engine.specs.AnswerText.{AnswerText}
 use Rattle.line_engine.specs.Lines.{lines}
 use Rattle.fixed_arrays.specs.Table.{array_text}
+use Rattle.fixed_arrays.specs.declared.text.Frame.{Frame}
 use Rattle.fixed_arrays.specs.declared.fault.ArrayFault.{ArrayFault}
 use Rattle.fixed_arrays.specs.declared.fault.ArrayFault.TheVariants.{Empty, NoMemory, Refused}
 use Rattle.fixed_arrays.specs.declared.rule.ArrayRule.{ArrayRule}
@@ -52,13 +53,17 @@ fault_line (Refused place kind) = codes "error: line "
     ++ (decimal place ++ (codes ": " ++ (message_of kind ++ 10 ∷ [])))
 fault_line NoMemory = []
 
+-- what a rule has a list written as
+abbrev pub frame_of : ArrayRule → Frame
+frame_of r = record { form = r.form; name = r.name; guard = r.guard; format = r.numerals.format }
+
 -- the answer is the array of the input's numbers
 pub record IsArray (r : ArrayRule) (input : List ℕ) (answer : AnswerText) : Type 0 where
   pub some : ¬ (lines input ≡ [])
   pub format : IsFormat r.numerals.format.width r.numerals.format.frac
   pub numbers : List ℤ
   pub elements : AreElements r.numerals (lines input) numbers
-  pub text : answer.text ≡ array_text r numbers
+  pub text : answer.text ≡ array_text (frame_of r) numbers
   pub fault : answer.fault ≡ false
 
 -- the answer is the line of the input's first fault

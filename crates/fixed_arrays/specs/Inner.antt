@@ -1,2 +1,3 @@
 -- Contracts of private functions.
 pub mod Elements
+pub mod Literals

@@ -26,7 +26,8 @@ pub record FillingParts : Type 0 where
   pub format : FormatParts
   -- how many numbers the list has
   pub count : ℕ
-  -- the place of a number in it, from 0, and its bits
+  -- the name of a number, empty where it has none; its place in the list, from 0; and its bits
+  pub label : List ℕ
   pub index : ℕ
   pub bits : ℤ
 
@@ -36,6 +37,7 @@ parts_of v = record {
   guard = v.guard.now;
   format = v.format;
   count = v.count;
+  label = v.label.now;
   index = v.index;
   bits = v.bits;
 }
@@ -57,6 +59,11 @@ vhdl_sign false = codes "un"
 -- between two numbers
 abbrev pub separator : ℕ → List ℕ
 separator index = if index == 0 then [] else codes ",\n"
+
+-- before the value of a number that has a name
+abbrev pub label_text : List ℕ → List ℕ
+label_text [] = []
+label_text (b ∷ bs) = (b ∷ bs) ++ codes ", "
 
 -- the bits as an unsigned number of this width: two's complement
 abbrev pub word_of : ℕ → ℤ → ℕ
@@ -90,7 +97,7 @@ count_slot v key =
     (if key == 109 then decimal (v.format.width - 1) else number_slot v key)))))
 
 -- n: the list's name; g: the header's guard; f: the format; u, r, q: the signs of C, Rust and VHDL; a comma: what is
--- between two numbers
+-- between two numbers; k: the name of this number
 unfoldable pub slot : FillingParts → ℕ → List ℕ
 slot v key =
     if key == 110 then v.name else
@@ -99,7 +106,8 @@ slot v key =
     (if key == 117 then c_sign v.format.signed else
     (if key == 114 then rust_sign v.format.signed else
     (if key == 113 then vhdl_sign v.format.signed else
-    (if key == 44 then separator v.index else count_slot v key))))))
+    (if key == 44 then separator v.index else
+    (if key == 107 then label_text v.label else count_slot v key)))))))
 
 -- ---- a template
 -- a byte after '@' is a slot; where is_slot, the first byte is one

@@ -1,9 +1,10 @@
 -- How a list of numbers is written: in each form an opening, the line of an element, and a closing.
 use Rattle.std.specs.Prelude.{◌+◌, ℕ, ℤ, pos, List, [], ◌∷◌, ◌++◌, codes, length}
+use Rattle.fixed_constants.specs.Constants.{ConstantParts}
 use Rattle.fixed_arrays.specs.Slots.{FillingParts, fill}
 use Rattle.fixed_arrays.specs.declared.form.ArrayForm.{ArrayForm}
 use Rattle.fixed_arrays.specs.declared.form.ArrayForm.TheVariants.{C, GuardedC, Rust, Vhdl, Readmemh, Coe, Mif}
-use Rattle.fixed_arrays.specs.declared.rule.ArrayRule.{ArrayRule}
+use Rattle.fixed_arrays.specs.declared.text.Frame.{Frame}
 
 -- ---- the table
 abbrev pub c_opening : List ℕ
@@ -21,13 +22,13 @@ opening Coe = codes "; @f\nmemory_initialization_radix=16;\nmemory_initializatio
 opening Mif = codes "-- @f\nDEPTH = @c;\nWIDTH = @b;\nADDRESS_RADIX = UNS;\nDATA_RADIX = HEX;\nCONTENT\nBEGIN\n"
 
 unfoldable pub element : ArrayForm → List ℕ
-element C = codes "    @d, /* @v */\n"
-element GuardedC = codes "    @d, /* @v */\n"
-element Rust = codes "    @x, // @v\n"
-element Vhdl = codes "        @i => \"@z\", -- @v\n"
-element Readmemh = codes "@h // @v\n"
+element C = codes "    @d, /* @k@v */\n"
+element GuardedC = codes "    @d, /* @k@v */\n"
+element Rust = codes "    @x, // @k@v\n"
+element Vhdl = codes "        @i => \"@z\", -- @k@v\n"
+element Readmemh = codes "@h // @k@v\n"
 element Coe = codes "@,@h"
-element Mif = codes "    @i : @h; -- @v\n"
+element Mif = codes "    @i : @h; -- @k@v\n"
 
 unfoldable pub closing : ArrayForm → List ℕ
 closing C = codes "};\n"
@@ -40,39 +41,50 @@ closing Mif = codes "END;\n"
 
 -- ---- a list
 -- what slots stand for at a number, where no slot is for how many there are; and around the numbers
-abbrev pub at_number : ArrayRule → ℕ → ℤ → FillingParts
-at_number r index bits = record {
+abbrev pub at_number : Frame → ℕ → List ℕ → ℤ → FillingParts
+at_number r index label bits = record {
   name = r.name.now;
   guard = r.guard.now;
-  format = r.numerals.format;
+  format = r.format;
   count = 0;
+  label = label;
   index = index;
   bits = bits;
 }
 
-abbrev pub around : ArrayRule → ℕ → FillingParts
+abbrev pub around : Frame → ℕ → FillingParts
 around r count = record {
   name = r.name.now;
   guard = r.guard.now;
-  format = r.numerals.format;
+  format = r.format;
   count = count;
+  label = [];
   index = 0;
   bits = pos 0;
 }
 
--- the line of a number, and those of numbers from a place on
-abbrev pub element_line : ArrayRule → ℕ → ℤ → List ℕ
-element_line r index bits = fill (at_number r index bits) (element r.form)
+-- the line of a number that has this name
+abbrev pub element_line : Frame → ℕ → List ℕ → ℤ → List ℕ
+element_line r index label bits = fill (at_number r index label bits) (element r.form)
 
-abbrev pub element_lines : ArrayRule → ℕ → List ℤ → List ℕ
+-- the lines of numbers without names, and of named literals, from a place on
+abbrev pub element_lines : Frame → ℕ → List ℤ → List ℕ
 element_lines r index [] = []
-element_lines r index (bits ∷ more) = element_line r index bits ++ element_lines r (index + 1) more
+element_lines r index (bits ∷ more) = element_line r index [] bits ++ element_lines r (index + 1) more
 
-abbrev pub head : ArrayRule → ℕ → List ℕ
+abbrev pub literal_lines : Frame → ℕ → List ConstantParts → List ℕ
+literal_lines r index [] = []
+literal_lines r index (c ∷ more) = element_line r index c.name c.bits ++ literal_lines r (index + 1) more
+
+abbrev pub head : Frame → ℕ → List ℕ
 head r count = fill (around r count) (opening r.form)
 
-abbrev pub tail : ArrayRule → ℕ → List ℕ
+abbrev pub tail : Frame → ℕ → List ℕ
 tail r count = fill (around r count) (closing r.form)
 
-abbrev pub array_text : ArrayRule → List ℤ → List ℕ
+-- the lists whole
+abbrev pub array_text : Frame → List ℤ → List ℕ
 array_text r numbers = head r (length numbers) ++ (element_lines r 0 numbers ++ tail r (length numbers))
+
+abbrev pub literals_text : Frame → List ConstantParts → List ℕ
+literals_text r constants = head r (length constants) ++ (literal_lines r 0 constants ++ tail r (length constants))

@@ -9,7 +9,7 @@ ghost use Rattle.fixed_arrays.specs.Inner.Elements.{HasElements, HasError, Pushe
 
 use crate::fault::ArrayFault;
 use crate::rule::{ArrayRule, Numerals};
-use crate::text::push_element;
+use crate::text::{frame_of, push_element};
 use fixed_numeral::ParseFixedError;
 use fixed_show::read_shown;
 use fixed_steps::Steps;
@@ -80,7 +80,9 @@ impl Elements {
         let place = self.count + 1;
         match element_of(&rule.numerals, line, steps) {
             Ok(bits) => {
-                if push_element(&mut self.text, rule, self.count, bits, steps).is_err() {
+                let frame = frame_of(rule);
+                let text = &mut self.text;
+                if push_element(text, &frame, self.count, b"", bits, steps).is_err() {
                     return Err(ArrayFault::NoMemory);
                 }
             }

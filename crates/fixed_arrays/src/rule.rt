@@ -7,7 +7,7 @@ ghost use Rattle.fixed_arrays.specs.Lemmas.AnswerLemmas.{array_answer_one};
 use crate::elements::read_elements;
 use crate::fault::ArrayFault;
 use crate::form::ArrayForm;
-use crate::text::{array_text, fault_text};
+use crate::text::{array_text, fault_text, frame_of};
 use fixed_bits::{Format, Policy, ReadMode};
 use fixed_numeral::Radix;
 use fixed_steps::Steps;
@@ -62,7 +62,7 @@ impl<'a, L: Ledger> WholeRule<L> for ArrayRule<'a> {
         steps: &mut Steps<L>,
     ) -> Result<WholeAnswer, NoMemory> {
         match read_elements(alloc, self, input, steps) {
-            Ok(elements) => match array_text(alloc, self, &elements, steps) {
+            Ok(elements) => match array_text(alloc, &frame_of(self), &elements, steps) {
                 Ok(text) => Ok(WholeAnswer::new(text, false)),
                 Err(_) => Err(NoMemory),
             },

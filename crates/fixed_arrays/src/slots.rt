@@ -5,7 +5,8 @@ ghost use Rattle.std.specs.Fmt.{decimal, digit_glyph};
 ghost use Rattle.fixed_bits.specs.Ranges.{IsInRange, IsWide};
 ghost use Rattle.fixed_write.specs.Texts.{last_digits, shortest_text};
 ghost use Rattle.fixed_arrays.specs.Slots.{binary_digits, c_sign, count_slot, element_format, element_width, fill};
-ghost use Rattle.fixed_arrays.specs.Slots.{fill_from, hex_digits, number_slot, parts_of, rust_sign, separator, slot};
+ghost use Rattle.fixed_arrays.specs.Slots.{fill_from, hex_digits, label_text, number_slot, parts_of, rust_sign};
+ghost use Rattle.fixed_arrays.specs.Slots.{separator, slot};
 ghost use Rattle.fixed_arrays.specs.Slots.{vhdl_sign, word_of};
 
 use fixed_bits::Format;
@@ -32,7 +33,9 @@ pub struct Filling<'a> {
     pub format: Format,
     /// How many numbers there are.
     pub count: u64,
-    /// The place of a number, from 0.
+    /// The name of a number; empty where it has none.
+    pub label: &'a [u8],
+    /// Its place, from 0.
     pub index: u64,
     /// Its bits.
     pub bits: i128,
@@ -99,6 +102,18 @@ fn push_bytes(text: &mut Vec<u8>, bytes: &[u8]) -> Result<(), AllocError>
     ensures { OnOk result (text.new.items ≡ text.old.items ++ bytes.now) }
 {
     text.extend_from_slice(bytes)?;
+    Ok(())
+}
+
+/// Appends the name of a number, where it has one, and what is between it and the number's value.
+fn push_label(text: &mut Vec<u8>, label: &[u8]) -> Result<(), AllocError>
+    ensures { OnOk result (text.new.items ≡ text.old.items ++ label_text label.now) }
+{
+    if label.is_empty() {
+        return Ok(());
+    }
+    text.extend_from_slice(label)?;
+    text.extend_from_slice(b", ")?;
     Ok(())
 }
 
@@ -266,6 +281,7 @@ fn push_slot<L: Ledger>(
         b'r' => push_bytes(text, rust_sign(signed)),
         b'q' => push_bytes(text, vhdl_sign(signed)),
         b',' => push_bytes(text, separator(filling.index)),
+        b'k' => push_label(text, filling.label),
         _ => push_count_slot(text, filling, key, steps),
     }
 }

@@ -43,13 +43,13 @@ pub fn element_of(form: ArrayForm) -> &'static [u8]
     ensures { result.now ≡ element form }
 {
     match form {
-        ArrayForm::C => b"    @d, /* @v */\n",
-        ArrayForm::GuardedC => b"    @d, /* @v */\n",
-        ArrayForm::Rust => b"    @x, // @v\n",
-        ArrayForm::Vhdl => b"        @i => \"@z\", -- @v\n",
-        ArrayForm::Readmemh => b"@h // @v\n",
+        ArrayForm::C => b"    @d, /* @k@v */\n",
+        ArrayForm::GuardedC => b"    @d, /* @k@v */\n",
+        ArrayForm::Rust => b"    @x, // @k@v\n",
+        ArrayForm::Vhdl => b"        @i => \"@z\", -- @k@v\n",
+        ArrayForm::Readmemh => b"@h // @k@v\n",
         ArrayForm::Coe => b"@,@h",
-        ArrayForm::Mif => b"    @i : @h; -- @v\n",
+        ArrayForm::Mif => b"    @i : @h; -- @k@v\n",
     }
 }
 

@@ -2,52 +2,82 @@
 
 ghost use Rattle.std.specs.Prelude.{◌≡◌, ◌++◌, IfOk, OnOk, pos};
 ghost use Rattle.fixed_bits.specs.Ranges.{IsInRange, IsWide};
-ghost use Rattle.fixed_arrays.specs.Answer.{fault_line};
+ghost use Rattle.fixed_arrays.specs.Answer.{fault_line, frame_of};
 ghost use Rattle.fixed_arrays.specs.Table.{around, element_line, head, tail};
 ghost use Rattle.fixed_arrays.specs.Slots.{parts_of};
 
 use crate::elements::Elements;
 use crate::fault::ArrayFault;
+use crate::form::ArrayForm;
 use crate::rule::ArrayRule;
 use crate::slots::{Filling, push_filled, push_number};
 use crate::table::{closing_of, element_of, opening_of};
+use fixed_bits::Format;
 use fixed_steps::Steps;
 use std::alloc::{AllocError, Global};
 use std::sync::ledger::Ledger;
 
-/// Appends the line of a number, at this place in its list.
+/// What a list is written as, and what its numbers have in common.
+#[derive(Clone, Copy)]
+pub struct Frame<'a> {
+    /// What it is written as.
+    pub form: ArrayForm,
+    /// Its name.
+    pub name: &'a [u8],
+    /// The name that guards a C header.
+    pub guard: &'a [u8],
+    /// The format of its numbers.
+    pub format: Format,
+}
+
+/// What a rule has a list written as.
+pub fn frame_of<'a>(rule: &ArrayRule<'a>) -> Frame<'a>
+    ensures { result ≡ frame_of rule.now }
+{
+    Frame {
+        form: rule.form,
+        name: rule.name,
+        guard: rule.guard,
+        format: rule.numerals.format,
+    }
+}
+
+/// Appends the line of a number, at this place in its list; its name is empty where it has none.
 pub fn push_element<L: Ledger>(
     text: &mut Vec<u8>,
-    rule: &ArrayRule<'_>,
+    frame: &Frame<'_>,
     index: u64,
+    label: &[u8],
     bits: i128,
     steps: &mut Steps<L>,
 ) -> Result<(), AllocError>
-    requires range { IsInRange rule.now.numerals.format.signed rule.now.numerals.format.width bits }
+    requires range { IsInRange frame.now.format.signed frame.now.format.width bits }
     requires wide { IsWide bits }
-    ensures { OnOk result (text.new.items ≡ text.old.items ++ element_line rule.now index bits) }
+    ensures { OnOk result (text.new.items ≡ text.old.items ++ element_line frame.now index label.now bits) }
 {
     let filling = Filling {
-        name: rule.name,
-        guard: rule.guard,
-        format: rule.numerals.format,
+        name: frame.name,
+        guard: frame.guard,
+        format: frame.format,
         count: 0,
+        label,
         index,
         bits,
     };
-    push_filled(text, &filling, element_of(rule.form), steps)
+    push_filled(text, &filling, element_of(frame.form), steps)
 }
 
 /// What slots stand for around so many numbers.
-fn around<'a>(rule: &ArrayRule<'a>, count: u64) -> Filling<'a>
-    ensures parts { parts_of result ≡ around rule.now count }
+fn around<'a>(frame: &Frame<'a>, count: u64) -> Filling<'a>
+    ensures parts { parts_of result ≡ around frame.now count }
     ensures bits { result.bits ≡ pos 0 }
 {
     Filling {
-        name: rule.name,
-        guard: rule.guard,
-        format: rule.numerals.format,
+        name: frame.name,
+        guard: frame.guard,
+        format: frame.format,
         count,
+        label: b"",
         index: 0,
         bits: 0,
     }
@@ -56,18 +86,18 @@ fn around<'a>(rule: &ArrayRule<'a>, count: u64) -> Filling<'a>
 /// The list of these elements.
 pub fn array_text<L: Ledger>(
     alloc: Global,
-    rule: &ArrayRule<'_>,
+    frame: &Frame<'_>,
     elements: &Elements,
     steps: &mut Steps<L>,
 ) -> Result<Vec<u8>, AllocError>
-    ensures { IfOk result (λ text. text.items ≡ head rule.now elements.now.count
-        ++ (elements.now.text.items ++ tail rule.now elements.now.count)) }
+    ensures { IfOk result (λ text. text.items ≡ head frame.now elements.now.count
+        ++ (elements.now.text.items ++ tail frame.now elements.now.count)) }
 {
-    let filling = around(rule, elements.count);
+    let filling = around(frame, elements.count);
     let mut text = Vec::new(alloc);
-    push_filled(&mut text, &filling, opening_of(rule.form), steps)?;
+    push_filled(&mut text, &filling, opening_of(frame.form), steps)?;
     text.extend_from_slice(&elements.text)?;
-    push_filled(&mut text, &filling, closing_of(rule.form), steps)?;
+    push_filled(&mut text, &filling, closing_of(frame.form), steps)?;
     Ok(text)
 }
 

@@ -38,11 +38,7 @@ fn push_message(text: &mut Vec<u8>, fault: ConstantFault) -> Result<(), AllocErr
 }
 
 /// What is written for a line with a fault.
-pub(crate) fn fault_text(
-    alloc: Global,
-    line: u64,
-    fault: ConstantFault,
-) -> Result<Vec<u8>, AllocError>
+pub fn fault_text(alloc: Global, line: u64, fault: ConstantFault) -> Result<Vec<u8>, AllocError>
     ensures { IfOk result (λ text. text.items ≡ fault_line line fault) }
 {
     let mut digits = Buffer::new();

@@ -1,11 +1,11 @@
-//! `fixed constants`: named literals in one form, or a list of numerals as an array or as the file of a memory.
+//! `fixed constants`: named literals in one form, or a list of them or of numerals as an array or as a memory's file.
 
 use crate::options::{MODE, POLICY, RADIX};
 use crate::product::{Product, run_product};
 use crate::settings::{format_of, mode_of, policy_of, radix_of};
 use command_line::given::{Asked, Given, Refusal};
 use command_line::page::{Operand, Page, Row};
-use fixed_arrays::{ArrayForm, ArrayRule, Numerals, is_array_name};
+use fixed_arrays::{ArrayForm, ArrayRule, LiteralArrayRule, Numerals, is_array_name};
 use fixed_constants::{Form, FormRule, is_guard};
 use fixed_steps::Steps;
 use line_engine::Status;
@@ -40,23 +40,28 @@ const NAME: Row = Row {
     help: "The name of the array",
 };
 
+/// Why an option has no meaning without a list.
+const FOR_LISTS: &str = "is for a list: array-c, array-rust, vhdl, readmemh, coe or mif";
+
 pub fn page() -> Page {
     Page {
         name: "constants",
         hidden_name: "",
         about: "Write named literals or a list of numerals as source code",
         usage: "fixed constants [c | rust] [--guard NAME] [FILE]...\n       \
-                fixed constants FORM --numerals FORMAT [--name NAME] [FILE]...",
+                fixed constants FORM [--numerals FORMAT] [--name NAME] [FILE]...",
         operands: &[WORDS],
         has_numerals: false,
         options: &[GUARD, NUMERALS, NAME, RADIX, POLICY, MODE],
-        end: "With --numerals each line is a numeral, and FORM is array-c, array-rust or\n\
-              vhdl, an array with a name, or readmemh, coe or mif, a file that a memory starts\n\
-              from. The numbers of an array are integers of 8, 16, 32 or 64 bits, in VHDL and\n\
-              in a memory words of the format's width; beside each is its value. Nothing is\n\
-              written where a line is refused.\n\
+        end: "FORM is array-c, array-rust or vhdl, an array with a name, or readmemh, coe or\n\
+              mif, a file that a memory starts from: of the numbers of named literals, which\n\
+              have one format, or with --numerals of numerals, one a line. The numbers of an\n\
+              array are integers of 8, 16, 32 or 64 bits, in VHDL and in a memory words of the\n\
+              format's width; beside each is its value. Nothing is written where a line is\n\
+              refused.\n\
               \n\
               Example: echo 'A = 0b_111e-2 I4F4' | fixed constants c --guard A_H\n\
+              Example: echo 'A = 0b_111e-2 I4F4' | fixed constants array-c --name h\n\
               Example: seq 0 .25 1 | fixed constants array-c --numerals I4F4 --name h",
     }
 }
@@ -118,14 +123,11 @@ fn name_of<'a>(given: &Given<'_, 'a>, form: ArrayForm, guard: &str) -> Asked<'a,
     }
 }
 
-/// How the numerals of a list are read.
-fn numerals_of<'a>(given: &Given<'_, 'a>) -> Asked<'a, Numerals> {
-    let format = match given.value(&NUMERALS) {
-        None => return Err(Refusal::Missing("--numerals FORMAT")),
-        Some(word) => match format_of(word) {
-            Ok(format) => format,
-            Err(refusal) => return Err(refusal),
-        },
+/// How the numerals of a list are read, into the format that a word names.
+fn numerals_of<'a>(given: &Given<'_, 'a>, word: &'a str) -> Asked<'a, Numerals> {
+    let format = match format_of(word) {
+        Ok(format) => format,
+        Err(refusal) => return Err(refusal),
     };
     Ok(Numerals {
         radix: radix_of(given)?,
@@ -135,43 +137,61 @@ fn numerals_of<'a>(given: &Given<'_, 'a>) -> Asked<'a, Numerals> {
     })
 }
 
-/// Writes the list of the numerals of all files as one product.
+/// Refuses an option that has no meaning here, and says why.
+fn refuse_option<'a>(given: &Given<'_, 'a>, row: &Row, cause: &'static str) -> Asked<'a, ()> {
+    match given.value(row) {
+        None => Ok(()),
+        Some(word) => Err(Refusal::Word(word, cause)),
+    }
+}
+
+/// The list of the numerals of all files, or, where none are asked for, of their named literals.
+fn list_of<'a>(given: &Given<'_, 'a>, form: ArrayForm) -> Asked<'a, Product<'a>> {
+    let guard = guard_of(given, form == ArrayForm::C)?;
+    let name = name_of(given, form, guard)?.as_bytes();
+    let form = if guard.is_empty() {
+        form
+    } else {
+        ArrayForm::GuardedC
+    };
+    let guard = guard.as_bytes();
+    match given.value(&NUMERALS) {
+        Some(word) => match numerals_of(given, word) {
+            Ok(numerals) => Ok(Product::List(ArrayRule {
+                form,
+                numerals,
+                name,
+                guard,
+            })),
+            Err(refusal) => Err(refusal),
+        },
+        None => {
+            for row in [&RADIX, &POLICY, &MODE] {
+                refuse_option(
+                    given,
+                    row,
+                    "is for numerals, which --numerals FORMAT asks for",
+                )?;
+            }
+            Ok(Product::Literals(LiteralArrayRule { form, name, guard }))
+        }
+    }
+}
+
+/// Writes the list of all files as one product.
 fn run_list<'a, L: Ledger>(
     rt: &HostRuntime,
     given: &Given<'_, 'a>,
     form: ArrayForm,
     steps: &mut Steps<L>,
 ) -> Asked<'a, Status> {
-    let guard = guard_of(given, form == ArrayForm::C)?;
-    let numerals = match numerals_of(given) {
-        Ok(numerals) => numerals,
-        Err(refusal) => return Err(refusal),
-    };
-    let rule = ArrayRule {
-        form: if guard.is_empty() {
-            form
-        } else {
-            ArrayForm::GuardedC
-        },
-        numerals,
-        name: name_of(given, form, guard)?.as_bytes(),
-        guard: guard.as_bytes(),
-    };
-    Ok(run_product(rt, &Product::List(rule), given.from(1), steps))
-}
-
-/// Refuses an option that only a list of numerals has.
-fn refuse_option<'a>(given: &Given<'_, 'a>, row: &Row) -> Asked<'a, ()> {
-    match given.value(row) {
-        None => Ok(()),
-        Some(word) => Err(Refusal::Word(
-            word,
-            "is for a list of numerals: array-c, array-rust, vhdl, readmemh, coe or mif",
-        )),
+    match list_of(given, form) {
+        Ok(product) => Ok(run_product(rt, &product, given.from(1), steps)),
+        Err(refusal) => Err(refusal),
     }
 }
 
-/// Writes the constants of all files, or the list of their numerals, as one product.
+/// Writes the constants of all files, or the list of their numbers, as one product.
 pub fn run<'a, L: Ledger>(
     rt: &HostRuntime,
     given: &Given<'_, 'a>,
@@ -181,7 +201,7 @@ pub fn run<'a, L: Ledger>(
         return run_list(rt, given, form, steps);
     }
     for row in [&NUMERALS, &NAME, &RADIX, &POLICY, &MODE] {
-        refuse_option(given, row)?;
+        refuse_option(given, row, FOR_LISTS)?;
     }
     let (form, files) = form_and_files(given);
     let rule = FormRule {

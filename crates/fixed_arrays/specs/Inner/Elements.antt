@@ -1,7 +1,7 @@
 -- What is known while a list is read.
-use Rattle.std.specs.Prelude.{◌≡◌, ◌+◌, ℕ, ℤ, List, ◌++◌, length}
+use Rattle.std.specs.Prelude.{◌≡◌, ◌+◌, ℕ, ℤ, List, [], ◌++◌, length}
 use Rattle.line_engine.specs.Lines.{lines}
-use Rattle.fixed_arrays.specs.Answer.{AreElements, HasFault, IsElement, IsRefusedElement}
+use Rattle.fixed_arrays.specs.Answer.{AreElements, HasFault, IsElement, IsRefusedElement, frame_of}
 use Rattle.fixed_arrays.specs.Table.{element_line, element_lines}
 use Rattle.fixed_arrays.specs.declared.elements.Elements.{Elements}
 use Rattle.fixed_arrays.specs.declared.fault.ArrayFault.{ArrayFault}
@@ -13,7 +13,7 @@ use Rattle.fixed_arrays.specs.declared.rule.Numerals.{Numerals}
 pub record HasElements (r : ArrayRule) (some : List (List ℕ)) (e : Elements) : Type 0 where
   pub numbers : List ℤ
   pub elements : AreElements r.numerals some numbers
-  pub text : e.text.items ≡ element_lines r 0 numbers
+  pub text : e.text.items ≡ element_lines (frame_of r) 0 numbers
   pub count : e.count ≡ length some
 
 -- the lines of an input that were read, before those that are left
@@ -32,7 +32,7 @@ HasError n all NoMemory = Unit {0}
 pub record PushesElement (r : ArrayRule) (line : List ℕ) (old new : Elements) : Type 0 where
   pub bits : ℤ
   pub element : IsElement r.numerals line bits
-  pub text : new.text.items ≡ old.text.items ++ element_line r old.count bits
+  pub text : new.text.items ≡ old.text.items ++ element_line (frame_of r) old.count [] bits
   pub count : new.count ≡ old.count + 1
 
 -- or the line, which has this number, was refused, or there was no memory

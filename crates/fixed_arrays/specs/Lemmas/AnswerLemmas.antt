@@ -8,7 +8,7 @@ use Rattle.line_engine.specs.AnswerText.{AnswerText}
 use Rattle.line_engine.specs.Lines.{lines}
 use Rattle.fixed_arrays.specs.Answer.{AreElements, HasFault, IsArrayAnswer, IsElement, IsRefusedElement, RefusedFrom}
 use Rattle.fixed_arrays.specs.Answer.{without_return}
-use Rattle.fixed_arrays.specs.Answer.{fault_line}
+use Rattle.fixed_arrays.specs.Answer.{fault_line, frame_of}
 use Rattle.fixed_arrays.specs.Table.{array_text}
 use Rattle.fixed_arrays.specs.declared.fault.ArrayFault.{ArrayFault}
 use Rattle.fixed_arrays.specs.declared.fault.ArrayFault.TheVariants.{Empty, NoMemory, Refused}
@@ -88,7 +88,7 @@ pub array_answer_one : (r : ArrayRule) (input : List ℕ) (a b : AnswerText) →
     → IsArrayAnswer r input b → a ≡ b
 array_answer_one r input a b (inl x) (inl y) =
     let same = elements_one r.numerals (lines input) x.numbers y.numbers x.format.is_width x.elements y.elements in
-    answer_text_is a b (x.text ∙ (ap (array_text r) same ∙ sym y.text))
+    answer_text_is a b (x.text ∙ (ap (array_text (frame_of r)) same ∙ sym y.text))
     (x.fault ∙ sym y.fault)
 array_answer_one r input a b (inl x) (inr y) = absurd (never_both r.numerals (lines input) x.numbers y.why x.some
     x.elements y.is)

@@ -1,6 +1,6 @@
 use Rattle.std.proofs.Common.{rules, ◌≡◌, arith}
 use Rattle.fixed_arrays.specs.Slots.{parts_of}
-use Rattle.fixed_arrays.proofs.SlotLemmas.{is_name, is_guard, is_format, is_c_sign, is_rust_sign, is_vhdl_sign, is_separator, is_counted}
+use Rattle.fixed_arrays.proofs.SlotLemmas.{is_name, is_guard, is_format, is_c_sign, is_rust_sign, is_vhdl_sign, is_separator, is_label, is_counted}
 use Rattle.fixed_arrays.proofs.slots.push_slot.Goals as goal
 
 pub returns-in-110 : goal.returns-in-110
@@ -24,6 +24,9 @@ returns-in-113 g c = let key : c.args.key ≡ 113 = omega arith in rw (is_vhdl_s
 pub returns-in-44 : goal.returns-in-44
 returns-in-44 g c = let key : c.args.key ≡ 44 = omega arith in rw (is_separator (parts_of c.args.filling.now) c.args.key key) (search rules)
 
+pub returns-in-107 : goal.returns-in-107
+returns-in-107 g c = let key : c.args.key ≡ 107 = omega arith in rw (is_label (parts_of c.args.filling.now) c.args.key key) (search rules)
+
 pub returns-in_default : goal.returns-in_default
 returns-in_default g c =
     let n0 : c.args.key ≡ 110 → ⊥ = λ e. omega (arith, e) in
@@ -33,4 +36,5 @@ returns-in_default g c =
     let n4 : c.args.key ≡ 114 → ⊥ = λ e. omega (arith, e) in
     let n5 : c.args.key ≡ 113 → ⊥ = λ e. omega (arith, e) in
     let n6 : c.args.key ≡ 44 → ⊥ = λ e. omega (arith, e) in
-    rw (is_counted (parts_of c.args.filling.now) c.args.key n0 n1 n2 n3 n4 n5 n6) (search rules)
+    let n7 : c.args.key ≡ 107 → ⊥ = λ e. omega (arith, e) in
+    rw (is_counted (parts_of c.args.filling.now) c.args.key n0 n1 n2 n3 n4 n5 n6 n7) (search rules)

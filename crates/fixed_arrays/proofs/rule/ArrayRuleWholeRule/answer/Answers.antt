@@ -1,5 +1,6 @@
 use Rattle.std.proofs.Common.{◌≡◌, ◌∙◌, length, arith, inl}
 use Rattle.line_engine.specs.Lines.{lines}
+use Rattle.fixed_arrays.specs.Answer.{frame_of}
 use Rattle.fixed_arrays.proofs.ElementLemmas.{same_count, whole_text}
 use Rattle.fixed_arrays.proofs.rule.ArrayRuleWholeRule.answer.Goals as goal
 
@@ -13,6 +14,6 @@ returns-in-Ok-array_text g c =
       format = c.in-Ok.ensures.format;
       numbers = h.numbers;
       elements = h.elements;
-      text = c.new.ensures.text ∙ whole_text r h.numbers c.in-Ok.elements.count c.in-Ok.elements.text.items c.in-Ok-array_text.text.items same h.text c.in-Ok-array_text.ensures;
+      text = c.new.ensures.text ∙ whole_text (frame_of r) h.numbers c.in-Ok.elements.count c.in-Ok.elements.text.items c.in-Ok-array_text.text.items same h.text (rw c.frame_of.ensures at c.in-Ok-array_text.ensures);
       fault = c.new.ensures.fault;
     })

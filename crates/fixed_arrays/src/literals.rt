@@ -1,0 +1,200 @@
+//! The constants of a file of named literals that have one format, and the text of their array.
+
+ghost use Rattle.std.specs.Prelude.{◌≡◌, ◌↔◌, ◌++◌, ℕ, IfErr, IfOk, OnOk, IsTrue, MatchOption, length};
+ghost use Rattle.fixed_bits.specs.Formats.{FormatParts};
+ghost use Rattle.fixed_bits.specs.Ranges.{IsInRange};
+ghost use Rattle.line_engine.specs.Lines.{lines};
+ghost use Rattle.fixed_arrays.specs.Literals.{HasFirstFormat, HasFormat, HasOther, OtherFrom};
+ghost use Rattle.fixed_arrays.specs.Literals.{literals_fault_line, other_format_line};
+ghost use Rattle.fixed_arrays.specs.Inner.Literals.{AreInRange, AreLiterals, HasLiteralsError};
+ghost use Rattle.fixed_arrays.specs.Table.{element_line, literal_lines};
+
+use crate::elements::Elements;
+use crate::fault::LiteralsFault;
+use crate::slots::push_number;
+use crate::text::{Frame, push_element};
+use fixed_bits::Format;
+use fixed_constants::{
+    Constant, Constants, ConstantsError, fault_text, is_passed_over, read_constants, split_line,
+};
+use fixed_respell::{format_name, format_word};
+use fixed_steps::Steps;
+use line_engine::first_line;
+use std::alloc::{AllocError, Global};
+use std::sync::ledger::Ledger;
+
+/// The format that a line's format word names. None for a line that is passed over or has no such word.
+fn format_of(line: &[u8]) -> Option<Format>
+    ensures { MatchOption result ((f : FormatParts) → ¬ HasFormat line.now f) (λ f. HasFormat line.now f) }
+{
+    if is_passed_over(line) {
+        return None;
+    }
+    let fields = split_line(line)?;
+    format_word(fields.format)
+}
+
+/// The format of the first line of a text that has one.
+pub fn first_format(text: &[u8]) -> Option<Format>
+    ensures { MatchOption result ((f : FormatParts) → ¬ HasFirstFormat (lines text.now) f)
+        (λ f. HasFirstFormat (lines text.now) f) }
+{
+    let mut rest = text;
+    while !rest.is_empty() {
+        let (line, after) = first_line(rest);
+        if let Some(format) = format_of(line) {
+            return Some(format);
+        }
+        rest = after;
+    }
+    None
+}
+
+/// Whether a line has a format, and another than this.
+fn has_other(line: &[u8], format: Format) -> bool
+    ensures { IsTrue result ↔ HasOther format line.now }
+{
+    match format_of(line) {
+        Some(other) => other != format,
+        None => false,
+    }
+}
+
+/// The number, from 1, of the first line of a text that has another format than this.
+fn first_other(text: &[u8], format: Format) -> Option<u64>
+    ensures { MatchOption result ((p : ℕ) → ¬ OtherFrom 1 format (lines text.now) p)
+        (λ p. OtherFrom 1 format (lines text.now) p) }
+{
+    let mut number = 0u64;
+    let mut rest = text;
+    while !rest.is_empty() {
+        let (line, after) = first_line(rest);
+        number += 1;
+        if has_other(line, format) {
+            return Some(number);
+        }
+        rest = after;
+    }
+    None
+}
+
+/// Why a text is no array of which no line has a format.
+pub fn fault_without_format(alloc: Global, text: &[u8]) -> LiteralsFault
+    requires { (f : FormatParts) → ¬ HasFirstFormat (lines text.now) f }
+    ensures { HasLiteralsError text.now result }
+{
+    match read_constants(alloc, text) {
+        Ok(_constants) => LiteralsFault::Empty,
+        Err(ConstantsError::Refused { line, fault }) => LiteralsFault::Refused { line, fault },
+        Err(ConstantsError::NoMemory) => LiteralsFault::NoMemory,
+    }
+}
+
+/// The constants of a text, which all have the format of its first line that has one.
+///
+/// # Errors
+///
+/// The first line with a fault, or of another format, whichever is earlier; on one line the fault. It may find no
+/// memory.
+pub fn read_of_format(alloc: Global, text: &[u8], first: Format) -> Result<Constants, LiteralsFault>
+    requires { HasFirstFormat (lines text.now) first }
+    ensures ok { IfOk result (λ constants. AreLiterals text.now first constants) }
+    ensures err { IfErr result (HasLiteralsError text.now) }
+{
+    let other = first_other(text, first);
+    match read_constants(alloc, text) {
+        Ok(constants) => match other {
+            None => Ok(constants),
+            Some(line) => Err(LiteralsFault::OtherFormat { line, first }),
+        },
+        Err(ConstantsError::Refused { line, fault }) => match other {
+            None => Err(LiteralsFault::Refused { line, fault }),
+            Some(place) => {
+                if place < line {
+                    Err(LiteralsFault::OtherFormat { line: place, first })
+                } else {
+                    Err(LiteralsFault::Refused { line, fault })
+                }
+            }
+        },
+        Err(ConstantsError::NoMemory) => Err(LiteralsFault::NoMemory),
+    }
+}
+
+/// Appends the line of a named literal, at this place in its list.
+fn push_literal<L: Ledger>(
+    text: &mut Vec<u8>,
+    frame: &Frame<'_>,
+    index: u64,
+    constant: &Constant,
+    steps: &mut Steps<L>,
+) -> Result<(), AllocError>
+    requires { IsInRange frame.now.format.signed frame.now.format.width constant.now.bits }
+    ensures { OnOk result (text.new.items ≡ text.old.items
+        ++ element_line frame.now index constant.now.name constant.now.bits) }
+{
+    push_element(text, frame, index, constant.name(), constant.bits(), steps)
+}
+
+/// Appends the lines of named literals.
+fn push_literals<L: Ledger>(
+    text: &mut Vec<u8>,
+    frame: &Frame<'_>,
+    constants: &Constants,
+    steps: &mut Steps<L>,
+) -> Result<(), AllocError>
+    requires { AreInRange frame.now.format constants.now }
+    ensures { OnOk result (text.new.items ≡ text.old.items ++ literal_lines frame.now 0 constants.now) }
+{
+    for i in 0..constants.len() {
+        let Some(constant) = constants.get(i) else {
+            return Ok(());
+        };
+        push_literal(text, frame, i as u64, constant, steps)?;
+    }
+    Ok(())
+}
+
+/// The elements of named literals.
+pub fn literal_elements<L: Ledger>(
+    alloc: Global,
+    frame: &Frame<'_>,
+    constants: &Constants,
+    steps: &mut Steps<L>,
+) -> Result<Elements, AllocError>
+    requires { AreInRange frame.now.format constants.now }
+    ensures text { IfOk result (λ e. e.text.items ≡ literal_lines frame.now 0 constants.now) }
+    ensures count { IfOk result (λ e. e.count ≡ length constants.now) }
+{
+    let mut text = Vec::new(alloc);
+    push_literals(&mut text, frame, constants, steps)?;
+    Ok(Elements {
+        text,
+        count: constants.len() as u64,
+    })
+}
+
+/// What is written where a literal has another format than the first.
+fn other_format_text(alloc: Global, line: u64, first: Format) -> Result<Vec<u8>, AllocError>
+    ensures { IfOk result (λ text. text.items ≡ other_format_line line first) }
+{
+    let mut text = Vec::new(alloc);
+    text.extend_from_slice(b"error: line ")?;
+    push_number(&mut text, line)?;
+    text.extend_from_slice(b": another format than ")?;
+    text.extend_from_slice(format_name(first).as_bytes())?;
+    text.push(b'\n')?;
+    Ok(text)
+}
+
+/// What is written for a fault.
+pub fn literals_fault_text(alloc: Global, fault: LiteralsFault) -> Result<Vec<u8>, AllocError>
+    ensures { IfOk result (λ text. text.items ≡ literals_fault_line fault) }
+{
+    match fault {
+        LiteralsFault::Empty => b"error: line 1: no literal\n".to_vec(alloc),
+        LiteralsFault::Refused { line, fault } => fault_text(alloc, line, fault),
+        LiteralsFault::OtherFormat { line, first } => other_format_text(alloc, line, first),
+        LiteralsFault::NoMemory => Ok(Vec::new(alloc)),
+    }
+}
