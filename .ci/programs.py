@@ -535,6 +535,9 @@ class Runs:
              b"fixed: lines refused: 1, the first in line 1, '1e30': overflow, reached a number of more than 64 bits, U8F0 holds 0 to 255\n"),
             (["convert", "U8F0", "--trim"], b"\t 1x2\r\n",
              b"fixed: lines refused: 1, the first in line 1, '? 1x2': invalid digit found in string, byte 4, 'x'\n"),
+            (["least"], b"1.5\n2\nx\n", b"fixed: lines refused: 1, the first in line 3, 'x': invalid digit found in string\n"),
+            (["constants", "c"], b"A = 1 U8F0\n#\n9A = 1: U8F0\n", b"fixed: line 3, '9A = 1: U8F0': bad name\n"),
+            (["sort"], b"1 U8F0\nx y", b"fixed: lines refused: 1, the first in line 2, 'x y': bad format\n"),
             (["convert", "I8F0", *kept[0]], b"1\n2.5\n300\n-1\n",
              b"fixed: lines refused: 1, the first in line 3, '300': overflow, reached 300, I8F0 holds -128 to 127\n"
              b"fixed: numerals: 4, exact: 2, rounded: 1, overflowed: 0, refused: 1 (the first in line 3)\n"),

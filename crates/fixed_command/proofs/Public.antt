@@ -10,7 +10,9 @@ use Rattle.fixed_command.specs.Hex.{word_of}
 use Rattle.fixed_command.specs.Convert.{IsMovedAnswer, IsReply, asks_a_line}
 use Rattle.fixed_command.specs.Printed.{printed}
 use Rattle.fixed_command.specs.declared.convert.Settings.{Settings}
+use Rattle.fixed_command.specs.Laws.{OutcomeIsTheOne}
 use Rattle.fixed_command.proofs.AskingLemmas
+use Rattle.fixed_command.proofs.OutcomeLemmas
 use Rattle.fixed_command.proofs.WordLemmas
 
 -- ---- words of bits
@@ -26,3 +28,8 @@ word_fits = WordLemmas.word_fits
 pub moved_reply : (s : Settings) (numeral text : List ℕ) (bits : ℤ) (o : Bool) → asks_a_line s.spelling s.target_mode ≡ false → IsMovedAnswer s numeral (respelled_answer text bits o) → IsShortestText bits s.target.frac text → IsWide bits
     → IsReply s numeral (record { text = printed s.print s.target (respelled_answer text bits o).text text bits; fault = false })
 moved_reply = AskingLemmas.moved_reply
+
+-- ---- outcomes
+-- a numeral comes through in one way
+pub outcome_one : OutcomeIsTheOne
+outcome_one = OutcomeLemmas.outcome_one
