@@ -9,3 +9,4 @@ mod UniqueLemmas
 mod ErrorWordLemmas
 mod HalfLemmas
 mod LineLemmas
+mod RangeErrorLemmas

@@ -1,8 +1,11 @@
 -- What the laws of this crate say.
-use Rattle.std.specs.Prelude.{◌≡◌, ◌≤◌, ℕ, Bool, List}
+use Rattle.std.specs.Prelude.{◌≡◌, ◌+◌, ◌^◌, ◌≤◌, ℕ, Bool, true, List, pos}
+use Rattle.fixed_bits.specs.Formats.{FormatParts}
 use Rattle.fixed_numeral.specs.declared.radix.Radix.{Radix}
+use Rattle.fixed_show.specs.ErrorText.{IsExactDecimal}
 use Rattle.line_engine.specs.AnswerText.{AnswerText}
 use Rattle.fixed_fit.specs.Answer.{IsAnswer}
+use Rattle.fixed_fit.specs.ErrorWord.{IsErrorWord}
 use Rattle.fixed_fit.specs.Fitting.{AllFit, Fits, IsFinest, IsSignRule}
 use Rattle.fixed_fit.specs.declared.question.Question.{Question}
 
@@ -28,3 +31,8 @@ SignRuleIsTheOne = (r : Radix) (asked s t : Bool) (lines : List (List ℕ)) → 
 -- an input has one answer
 abbrev pub AnswerIsTheOne : Type 0
 AnswerIsTheOne = (q : Question) (input : List ℕ) (a b : AnswerText) → IsAnswer q input a → IsAnswer q input b → a ≡ b
+
+-- the error of a range is 1 / 2^(f + 1), half an ulp, exactly in decimal
+abbrev pub RangeErrorIsHalfAnUlp : Type 0
+RangeErrorIsHalfAnUlp = (r : Radix) (f : FormatParts) (lines : List (List ℕ)) (text : List ℕ) → f.frac ≤ 64
+    → IsErrorWord true r f lines text → IsExactDecimal (pos 1) (2 ^ (f.frac + 1)) text

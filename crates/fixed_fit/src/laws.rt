@@ -2,7 +2,7 @@
 
 ghost use Rattle.fixed_fit.specs.Range.{EndsDecide};
 ghost use Rattle.fixed_fit.specs.Laws.{AllFitEachShorter, AnswerIsTheOne};
-ghost use Rattle.fixed_fit.specs.Laws.{FinestIsTheOne, FitsEachShorter, SignRuleIsTheOne};
+ghost use Rattle.fixed_fit.specs.Laws.{FinestIsTheOne, FitsEachShorter, RangeErrorIsHalfAnUlp, SignRuleIsTheOne};
 
 /// A numeral that is in range with a fraction length is in range with each shorter one.
 pub fn fits_each_shorter()
@@ -33,4 +33,9 @@ pub fn answer_is_the_one()
 /// its two ends.
 pub fn ends_decide()
     ensures { EndsDecide }
+{}
+
+/// The error that is written of a range is half an ulp of the format, 1 / 2^(f + 1), exactly in decimal.
+pub fn range_error_is_half_an_ulp()
+    ensures { RangeErrorIsHalfAnUlp }
 {}
