@@ -10,3 +10,7 @@ mod ErrorWordLemmas
 mod HalfLemmas
 mod LineLemmas
 mod RangeErrorLemmas
+mod WithinLemmas
+mod ServingLemmas
+mod BoundedLemmas
+mod BoundedUniqueLemmas
