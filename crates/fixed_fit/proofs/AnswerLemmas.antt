@@ -14,6 +14,7 @@ use Rattle.fixed_fit.specs.Inner.Lengths.{AreLengths, IsLengthsAnswer, reason_of
 use Rattle.fixed_error.specs.Errors.{HasGreatestErrors}
 use Rattle.fixed_fit.specs.ErrorWord.{entries_from}
 use Rattle.fixed_fit.specs.Inner.Reading.{HasLines}
+use Rattle.fixed_fit.specs.Inner.Serving.{unbounded}
 use Rattle.fixed_fit.specs.declared.reader.Reader.{Reader}
 use Rattle.fixed_fit.specs.Inner.Progress.{AreFitted, HasProgress, IsKnown}
 use Rattle.fixed_fit.specs.declared.lengths.Lengths.{Lengths}
@@ -29,7 +30,7 @@ finest_by r list s n f place h = record {
   greatest = λ g more within all. exceeding_not r s n (suc f) list place (h.first (omega (arith, more, within))) (all_fit_each_shorter r s n g (suc f) list (omega (arith, more)) all);
 }
 
-reason_by : (q : Question) (s : Bool) (list : List (List ℕ)) (f place : ℕ) → (suc f ≤ q.kind.width → IsFirstExceeding q.radix s q.kind.width (suc f) list place) → IsReason q s list f (reason_of q.is_reason_asked s q.kind.width f place)
+pub reason_by : (q : Question) (s : Bool) (list : List (List ℕ)) (f place : ℕ) → (suc f ≤ q.kind.width → IsFirstExceeding q.radix s q.kind.width (suc f) list place) → IsReason q s list f (reason_of q.is_reason_asked s q.kind.width f place)
 reason_by q s list f place first = record {
   unasked = λ e. rw e refl;
   no_next = λ past. none q.is_reason_asked (le-ltb f q.kind.width past);
@@ -114,14 +115,14 @@ fault_is_answer q input p fault answer h same is text flag =
     record { why = fault; is_none = subst N same (subst P is h.known); text = text; fault = flag }
 
 -- what is kept where no line is a fault
-pub plain_known : (q : Question) (list : List (List ℕ)) (reader : Reader) → HasLines q.radix q.kind.width list reader → reader.progress.fault ≡ None
+pub plain_known : (q : Question) (list : List (List ℕ)) (reader : Reader) → HasLines q.radix (unbounded q.kind.width) list reader → reader.progress.fault ≡ None
     → (count : ℕ) × (l : List (List ℕ)) × HasGreatestErrors q.radix count (entries_from 1 l) reader.errors × AreLengths q.radix l reader.progress.plain × (reader.progress.plain.count ≤ count)
 plain_known q list reader h none =
     let known : AreFitted q.kind.width list reader.progress = fitted q list reader.progress h.progress h.radix none in
     let p = reader.progress in
     (max p.plain.count p.signed.count, list, h.errors none, subst (λ (r : Radix). AreLengths r list p.plain) h.radix known.plain, omega arith)
 
-pub signed_known : (q : Question) (list : List (List ℕ)) (reader : Reader) → HasLines q.radix q.kind.width list reader → reader.progress.fault ≡ None
+pub signed_known : (q : Question) (list : List (List ℕ)) (reader : Reader) → HasLines q.radix (unbounded q.kind.width) list reader → reader.progress.fault ≡ None
     → (count : ℕ) × (l : List (List ℕ)) × HasGreatestErrors q.radix count (entries_from 1 l) reader.errors × AreLengths q.radix l reader.progress.signed × (reader.progress.signed.count ≤ count)
 signed_known q list reader h none =
     let known : AreFitted q.kind.width list reader.progress = fitted q list reader.progress h.progress h.radix none in

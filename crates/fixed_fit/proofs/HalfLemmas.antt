@@ -14,10 +14,10 @@ use Rattle.fixed_fit.specs.ErrorWord.{half_ulp}
 use Rattle.fixed_fit.specs.Fitting.{Fits}
 
 -- zeros, and the digits after the point
-abbrev zeros : ℕ → List ℕ
+abbrev pub zeros : ℕ → List ℕ
 zeros k = replicate k 48
 
-abbrev digits : ℕ → List ℕ
+abbrev pub digits : ℕ → List ℕ
 digits k = zeros k ++ 49 ∷ []
 
 are_digits : (k : ℕ) → AllDigits 2 (digits k)
@@ -32,14 +32,14 @@ count : (k : ℕ) → length (digits k) ≡ suc k
 count zero = refl
 count (suc k) = ap suc (count k)
 
-abbrev parts : ℕ → Parts
+abbrev pub parts : ℕ → Parts
 parts k = record { sign = None; whole = 48 ∷ []; fraction = Some (digits k); exponent = None }
 
 half_text : (k : ℕ) → half_ulp k ≡ text_of (parts k)
 unfolding half_ulp
 half_text k = ap (λ (l : List ℕ). 48 ∷ 46 ∷ l) (sym (append-nil (digits k)))
 
-has_parts : (k : ℕ) → HasNumeral Bin (half_ulp k) (parts k)
+pub has_parts : (k : ℕ) → HasNumeral Bin (half_ulp k) (parts k)
 has_parts k = record {
   beginning = record { parts = record { sign = tt; whole = (omega arith, tt); fraction = are_digits k; exponent = tt }; text = half_text k };
   mantissa = omega arith;
@@ -49,13 +49,13 @@ has_parts k = record {
 below_zero : (k : ℕ) → pos 0 -ℤ pos (suc k) ≡ negsuc k
 below_zero k = omega (arith, ints)
 
-half : (k : ℕ) → magnitude Bin (parts k) ≡ record { num = 1; den = 1 * 2 ^ suc k }
+pub half : (k : ℕ) → magnitude Bin (parts k) ≡ record { num = 1; den = 1 * 2 ^ suc k }
 half k = rw (value k, count k, below_zero k) refl
 
 nearest : (k : ℕ) → IsNearest (1 * 2 ^ k) (1 * 2 ^ suc k) 0
 nearest k = record { near = omega arith; tie = λ _. refl }
 
-read_zero : (k : ℕ) → IsReadNumber NearestEven Bin (parts k) k (pos 0)
+pub read_zero : (k : ℕ) → IsReadNumber NearestEven Bin (parts k) k (pos 0)
 read_zero k = record {
   ulps = 0;
   rounded = subst (λ (m : Fraction). IsNearest (m.num * 2 ^ k) m.den 0) (sym (half k)) (nearest k);

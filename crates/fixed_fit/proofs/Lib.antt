@@ -9,3 +9,8 @@ mod UniqueLemmas
 mod ErrorWordLemmas
 mod HalfLemmas
 mod LineLemmas
+mod RangeErrorLemmas
+mod WithinLemmas
+mod ServingLemmas
+mod BoundedLemmas
+mod BoundedUniqueLemmas

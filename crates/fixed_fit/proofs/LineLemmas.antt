@@ -20,6 +20,7 @@ use Rattle.fixed_fit.specs.Fitting.{AllFit, Fits}
 use Rattle.fixed_fit.specs.Inner.Lengths.{AreLengths}
 use Rattle.fixed_fit.specs.Inner.Progress.{AreFitted, HasProgress, IsKnown}
 use Rattle.fixed_fit.specs.Inner.Reading.{HasLines}
+use Rattle.fixed_fit.specs.Inner.Serving.{AreServed, Asked}
 use Rattle.fixed_fit.specs.declared.lengths.Lengths.{Lengths}
 use Rattle.fixed_fit.specs.declared.progress.Progress.{Progress}
 use Rattle.fixed_fit.specs.declared.reader.Reader.{Reader}
@@ -30,7 +31,7 @@ few_ulps : (minus : Bool) (ulps : ℕ) → IsWide (with_sign minus ulps) → ulp
 few_ulps true ulps h = omega (arith, ints, h.low)
 few_ulps false ulps h = omega (arith, ints, h.high)
 
-fits_within : (r : Radix) (s : Bool) (n f : ℕ) (line : List ℕ) → n ≤ 64 → Fits r s n f line → IsReadWithin NearestEven r f line
+pub fits_within : (r : Radix) (s : Bool) (n f : ℕ) (line : List ℕ) → n ≤ 64 → Fits r s n f line → IsReadWithin NearestEven r f line
 fits_within r s n f line most h = record {
   parts = h.parts;
   numeral = h.has;
@@ -51,7 +52,7 @@ by_lengths : (r : Radix) (s : Bool) (n f : ℕ) (done : List (List ℕ)) (line :
 by_lengths r s n f done line l most kind h less =
     fits_within r s n f line most (last_fits r s n f done line (subst (λ (k : FormatParts). AllFit r k.signed k.width f (done ++ line ∷ [])) kind (h.fit f less)))
 
-fitted : (n : ℕ) (list : List (List ℕ)) (p : Progress) → HasProgress n list p → p.fault ≡ None → AreFitted n list p
+pub fitted : (n : ℕ) (list : List (List ℕ)) (p : Progress) → HasProgress n list p → p.fault ≡ None → AreFitted n list p
 fitted n list p h none = subst (λ (f : Option LeastFault). IsKnown n list p f) none h.known
 
 pub line_within : (r : Radix) (n f : ℕ) (done : List (List ℕ)) (line : List ℕ) (p : Progress) → IsWidth n → HasProgress n (done ++ line ∷ []) p → p.radix ≡ r → p.fault ≡ None → f < max p.plain.count p.signed.count → IsReadWithin NearestEven r f line
@@ -77,13 +78,18 @@ errors_longer r done line place count old plain signed errors at few few' is h =
     ap (λ (k : ℕ). entries_from 1 done ++ record { place = k; numeral = line } ∷ []) at ∙ sym (entries_longer 1 done line) in
     subst (λ (l : List Entry). HasGreatestErrors r (max plain signed) l errors) here (subst (λ (c : ℕ). HasGreatestErrors r c (entries_from 1 done ++ record { place = place; numeral = line } ∷ []) errors) one h)
 
-pub ended : (r : Radix) (n : ℕ) (done : List (List ℕ)) (old new : Reader) (line : List ℕ) → line ≡ old.line.items → ((m : ℕ) (lines : List (List ℕ)) → HasProgress m lines old.progress → HasProgress m (lines ++ line ∷ []) new.progress)
+pub ended : (r : Radix) (a : Asked) (done : List (List ℕ)) (old new : Reader) (line : List ℕ) → line ≡ old.line.items → ((m : ℕ) (lines : List (List ℕ)) → HasProgress m lines old.progress → HasProgress m (lines ++ line ∷ []) new.progress)
     → new.progress.radix ≡ old.progress.radix → (new.progress.fault ≡ None → HasGreatestErrors r (max new.progress.plain.count new.progress.signed.count) (entries_from 1 (done ++ line ∷ [])) new.errors)
-    → HasLines r n done old → HasLines r n (done ++ old.line.items ∷ []) new
-ended r n done old new line same more radix errors h =
-    subst (λ (l : List ℕ). HasLines r n (done ++ l ∷ []) new) same (record { width = h.width; progress = more n done h.progress; radix = radix ∙ h.radix; errors = errors })
+    → new.within.is_bounded ≡ old.within.is_bounded → (a.is_bounded ≡ true → new.progress.fault ≡ None → AreServed r a (done ++ line ∷ []) new.within)
+    → HasLines r a done old → HasLines r a (done ++ old.line.items ∷ []) new
+ended r a done old new line same more radix errors is_bounded within h =
+    subst (λ (l : List ℕ). HasLines r a (done ++ l ∷ []) new) same (record { width = h.width; progress = more a.width done h.progress; radix = radix ∙ h.radix; errors = errors; is_bounded = is_bounded ∙ h.is_bounded; within = within })
 
 -- what `add` asks for
-pub some_errors : (r : Radix) (n : ℕ) (whole : List (List ℕ)) (count : ℕ) (old : Reader) (errors : GreatestErrors) → HasLines r n whole old → old.progress.fault ≡ None
+pub some_errors : (r : Radix) (n : Asked) (whole : List (List ℕ)) (count : ℕ) (old : Reader) (errors : GreatestErrors) → HasLines r n whole old → old.progress.fault ≡ None
     → ((x : Radix) (c : ℕ) (entries : List Entry) → HasGreatestErrors x c entries old.errors → HasGreatestErrors x (min count c) entries errors) → HasGreatestErrors r (min count (max old.progress.plain.count old.progress.signed.count)) (entries_from 1 whole) errors
 some_errors r n whole count old errors h none shorter = shorter r (max old.progress.plain.count old.progress.signed.count) (entries_from 1 whole) (h.errors none)
+
+-- what is kept within the bound is known of some lines
+pub some_served : (r : Radix) (a : Asked) (done : List (List ℕ)) (old : Reader) (bounded : old.within.is_bounded ≡ true) → old.progress.fault ≡ None → HasLines r a done old → AreServed r a done old.within
+some_served r a done old bounded none h = h.within (sym h.is_bounded ∙ bounded) none

@@ -32,7 +32,7 @@ place_one r s n f list p q a b =
     let same : length a.before ≡ length b.before = first_one r s n f a.before b.before a.line b.line a.after b.after (sym a.split ∙ b.split) a.fit b.fit a.exceeds b.exceeds in
     omega (arith, a.place_is, b.place_is, same)
 
-reason_one : (q : Question) (s : Bool) (list : List (List ℕ)) (f : ℕ) (t u : List ℕ) → IsReason q s list f t → IsReason q s list f u → t ≡ u
+pub reason_one : (q : Question) (s : Bool) (list : List (List ℕ)) (f : ℕ) (t u : List ℕ) → IsReason q s list f t → IsReason q s list f u → t ≡ u
 reason_one q s list f t u x y = by q.is_reason_asked refl
   where
     by : (asked : Bool) → q.is_reason_asked ≡ asked → t ≡ u
@@ -46,7 +46,7 @@ reason_one q s list f t u x y = by q.is_reason_asked refl
         (λ (past : q.kind.width ≤ f). x.no_next past ∙ sym (y.no_next past))
         (cases_lt f q.kind.width)
 
-answer_is : (a b : AnswerText) → a.text ≡ b.text → a.fault ≡ b.fault → a ≡ b
+pub answer_is : (a b : AnswerText) → a.text ≡ b.text → a.fault ≡ b.fault → a ≡ b
 answer_is a b t f =
     let R : List ℕ → Bool → AnswerText = λ x y. record { text = x; fault = y } in
     ap (λ x. R x a.fault) t ∙ ap (λ y. R b.text y) f
@@ -88,7 +88,7 @@ numeral_at : (r : Radix) (before : List (List ℕ)) (line : List ℕ) (after : L
 numeral_at r [] line after all = all.0
 numeral_at r (first ∷ before) line after all = numeral_at r before line after all.1
 
-not_fault : (r : Radix) (input : List ℕ) (a : AnswerText) → AllNumerals r (lines input) → IsFaultAnswer r input a → ⊥
+pub not_fault : (r : Radix) (input : List ℕ) (a : AnswerText) → AllNumerals r (lines input) → IsFaultAnswer r input a → ⊥
 not_fault r input a all h =
     let P : List (List ℕ) → Type 0 = λ l. AllNumerals r l in
     h.is_none.cause.none (numeral_at r h.is_none.before h.is_none.line h.is_none.after (subst P h.is_none.split all))

@@ -1,10 +1,16 @@
 -- What the laws of this crate say.
-use Rattle.std.specs.Prelude.{◌≡◌, ◌≤◌, ℕ, Bool, List}
+use Rattle.std.specs.Prelude.{◌≡◌, ◌+◌, ◌^◌, ◌≤◌, ℕ, Bool, true, List, pos}
+use Rattle.fixed_bits.specs.Formats.{FormatParts}
 use Rattle.fixed_numeral.specs.declared.radix.Radix.{Radix}
+use Rattle.fixed_show.specs.ErrorText.{IsExactDecimal}
 use Rattle.line_engine.specs.AnswerText.{AnswerText}
 use Rattle.fixed_fit.specs.Answer.{IsAnswer}
+use Rattle.fixed_fit.specs.Bounded.{IsBoundedAnswer}
+use Rattle.fixed_fit.specs.ErrorWord.{IsErrorWord}
 use Rattle.fixed_fit.specs.Fitting.{AllFit, Fits, IsFinest, IsSignRule}
+use Rattle.fixed_fit.specs.Within.{IsFirstUnserved, IsLeastWithin}
 use Rattle.fixed_fit.specs.declared.question.Question.{Question}
+use Rattle.fixed_fit.specs.declared.question.Widths.{Widths}
 
 -- a numeral that fits a fraction length fits each shorter one
 abbrev pub FitsEachShorter : Type 0
@@ -28,3 +34,24 @@ SignRuleIsTheOne = (r : Radix) (asked s t : Bool) (lines : List (List ℕ)) → 
 -- an input has one answer
 abbrev pub AnswerIsTheOne : Type 0
 AnswerIsTheOne = (q : Question) (input : List ℕ) (a b : AnswerText) → IsAnswer q input a → IsAnswer q input b → a ≡ b
+
+-- the error of a range is 1 / 2^(f + 1), half an ulp, exactly in decimal
+abbrev pub RangeErrorIsHalfAnUlp : Type 0
+RangeErrorIsHalfAnUlp = (r : Radix) (f : FormatParts) (lines : List (List ℕ)) (text : List ℕ) → f.frac ≤ 64
+    → IsErrorWord true r f lines text → IsExactDecimal (pos 1) (2 ^ (f.frac + 1)) text
+
+-- a list has at most one least format within a bound
+abbrev pub LeastWithinIsTheOne : Type 0
+LeastWithinIsTheOne = (r : Radix) (s : Bool) (bound : List ℕ) (widths : Widths) (one : ℕ) (lines : List (List ℕ))
+    (n m f g : ℕ) → IsLeastWithin r s bound widths one lines n f → IsLeastWithin r s bound widths one lines m g
+    → (n ≡ m) × (f ≡ g)
+
+-- and one first line with which no format serves any more
+abbrev pub FirstUnservedIsTheOne : Type 0
+FirstUnservedIsTheOne = (r : Radix) (s : Bool) (bound : List ℕ) (widths : Widths) (one : ℕ) (lines : List (List ℕ))
+    (p q : ℕ) → IsFirstUnserved r s bound widths one lines p → IsFirstUnserved r s bound widths one lines q → p ≡ q
+
+-- and so an input has one answer within a bound
+abbrev pub BoundedAnswerIsTheOne : Type 0
+BoundedAnswerIsTheOne = (q : Question) (widths : Widths) (bound input : List ℕ) (a b : AnswerText)
+    → IsBoundedAnswer q widths bound input a → IsBoundedAnswer q widths bound input b → a ≡ b

@@ -10,6 +10,7 @@ ghost use Rattle.fixed_fit.specs.ErrorWord.{IsErrorWord, entries_from};
 ghost use Rattle.fixed_fit.specs.Fitting.{AllFit};
 ghost use Rattle.fixed_fit.specs.Inner.Lengths.{AreLengths, IsLengthsAnswer, IsSomeAnswer, reason_of};
 ghost use Rattle.fixed_fit.specs.Inner.Reading.{HasLines};
+ghost use Rattle.fixed_fit.specs.Inner.Serving.{unbounded};
 
 use crate::error_word::{push_half, push_size};
 use crate::lengths::{Lengths, with_frac};
@@ -95,7 +96,7 @@ fn push_reason(out: &mut TextBuffer<MOST>, kind: Format, frac: u32, place: u64, 
 }
 
 /// The answer where a line is not a numeral.
-fn fault_answer(fault: LeastFault) -> FitAnswer
+pub fn fault_answer(fault: LeastFault) -> FitAnswer
     ensures text { result.text ≡ fault_line fault }
     ensures fault { result.fault ≡ true }
 {
@@ -114,7 +115,7 @@ fn fault_answer(fault: LeastFault) -> FitAnswer
 }
 
 /// The answer where no fraction length is left.
-fn none_answer(place: u64) -> FitAnswer
+pub fn none_answer(place: u64) -> FitAnswer
     ensures text { result.text ≡ codes "none line " ++ (decimal place ++ 10 ∷ []) }
     ensures fault { result.fault ≡ true }
 {
@@ -160,7 +161,7 @@ fn push_error<L: Ledger>(
 }
 
 /// The answer that names a format by its kind and its fraction length.
-fn found_answer<L: Ledger>(
+pub fn found_answer<L: Ledger>(
     errors: &GreatestErrors,
     kind: Format,
     frac: u32,
@@ -213,8 +214,8 @@ fn lengths_answer<L: Ledger>(
 
 /// The answer to an input, by what is known of its lines.
 pub fn answer_of<L: Ledger>(reader: &Reader, question: &Question, steps: &mut Steps<L>) -> FitAnswer
-    requires { (list : List (List ℕ)) × HasLines question.now.radix question.now.kind.width list reader.now }
-    ensures { (input : List ℕ) → HasLines question.now.radix question.now.kind.width (lines input) reader.now
+    requires { (list : List (List ℕ)) × HasLines question.now.radix (unbounded question.now.kind.width) list reader.now }
+    ensures { (input : List ℕ) → HasLines question.now.radix (unbounded question.now.kind.width) (lines input) reader.now
         → IsAnswer question.now input result }
 {
     let known = reader.progress;

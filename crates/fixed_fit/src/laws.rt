@@ -1,8 +1,9 @@
 //! Laws of the finest format, each the contract of a function that does nothing.
 
 ghost use Rattle.fixed_fit.specs.Range.{EndsDecide};
+ghost use Rattle.fixed_fit.specs.Laws.{BoundedAnswerIsTheOne, FirstUnservedIsTheOne, LeastWithinIsTheOne};
 ghost use Rattle.fixed_fit.specs.Laws.{AllFitEachShorter, AnswerIsTheOne};
-ghost use Rattle.fixed_fit.specs.Laws.{FinestIsTheOne, FitsEachShorter, SignRuleIsTheOne};
+ghost use Rattle.fixed_fit.specs.Laws.{FinestIsTheOne, FitsEachShorter, RangeErrorIsHalfAnUlp, SignRuleIsTheOne};
 
 /// A numeral that is in range with a fraction length is in range with each shorter one.
 pub fn fits_each_shorter()
@@ -33,4 +34,24 @@ pub fn answer_is_the_one()
 /// its two ends.
 pub fn ends_decide()
     ensures { EndsDecide }
+{}
+
+/// The error that is written of a range is half an ulp of the format, 1 / 2^(f + 1), exactly in decimal.
+pub fn range_error_is_half_an_ulp()
+    ensures { RangeErrorIsHalfAnUlp }
+{}
+
+/// A list has at most one least format within a bound.
+pub fn least_within_is_the_one()
+    ensures { LeastWithinIsTheOne }
+{}
+
+/// A list has at most one first line with which no format serves any more.
+pub fn first_unserved_is_the_one()
+    ensures { FirstUnservedIsTheOne }
+{}
+
+/// An input has at most one answer within a bound.
+pub fn bounded_answer_is_the_one()
+    ensures { BoundedAnswerIsTheOne }
 {}

@@ -2,6 +2,7 @@
 #![tactic(auto)]
 
 mod answer;
+mod bounded;
 mod error_word;
 pub mod laws;
 mod lengths;
@@ -10,6 +11,7 @@ mod progress;
 pub mod question;
 mod reader;
 pub mod run;
+mod serving;
 
-pub use question::Question;
-pub use run::run_fit;
+pub use question::{Question, Widths};
+pub use run::{run_bounded, run_fit};

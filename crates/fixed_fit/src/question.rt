@@ -15,3 +15,14 @@ pub struct Question {
     /// Whether the list is the two ends of a range, of which every value is meant.
     pub is_range: bool,
 }
+
+/// Of which widths a format within an error is asked for.
+#[derive(Clone, Copy, Debug, PartialEq, Eq)]
+pub enum Widths {
+    /// The width of the question.
+    One,
+    /// 8, 16, 32 and 64.
+    Types,
+    /// Each from 1 to 64.
+    Any,
+}

@@ -1,14 +1,20 @@
 //! The bytes of an input, one after another: the line whose end has not come, and what is kept of those before it.
 
 ghost use Rattle.std.specs.Prelude.{◌≡◌, ◌≤◌, ◌<◌, ◌+◌, ◌^◌, ◌++◌, ◌∷◌, []};
-ghost use Rattle.std.specs.Prelude.{List, ℕ, OnOk, OnErr, IfOk, IfErr, length, take};
+ghost use Rattle.std.specs.Prelude.{List, ℕ, Bool, true, OnOk, OnErr, IfOk, IfErr, length, take};
 ghost use Rattle.std.specs.Io.KnownBytes.{Consumes, IsAtEnd, Keeps};
 ghost use Rattle.line_engine.specs.Failures.{FailsOnlyCounted};
 ghost use Rattle.fixed_bits.specs.Ranges.{IsWidth};
+ghost use Rattle.fixed_numeral.specs.Numeral.{IsNumeral};
 ghost use Rattle.line_engine.specs.Lines.{lines};
+ghost use Rattle.fixed_fit.specs.Inner.Serving.{AreServed, Asked, asked_of, bounded, unbounded};
+ghost use Rattle.fixed_fit.specs.Within.{most_width};
+ghost use Rattle.fixed_fit.specs.declared.question.Widths.{Widths};
 ghost use Rattle.fixed_fit.specs.Inner.Reading.{HasLines, HasRead, HasSomeRead, ReadsAll, StopsReading};
 
 use crate::progress::Progress;
+use crate::question::{Question, Widths};
+use crate::serving::Within;
 use fixed_error::GreatestErrors;
 use fixed_numeral::Radix;
 use fixed_steps::Steps;
@@ -31,6 +37,8 @@ pub struct Reader {
     pub progress: Progress,
     /// Their greatest errors, where each is a numeral, at the fraction lengths that are left.
     pub errors: GreatestErrors,
+    /// The formats that they fit within a bound, where each is a numeral.
+    pub within: Within,
 }
 
 impl Reader {
@@ -38,8 +46,8 @@ impl Reader {
     fn push<L: Ledger>(&mut self, byte: u8, steps: &mut Steps<L>) -> Result<(), NoMemory>
         requires room { self.old.progress.lines < 2 ^ 63 }
         requires known { HasSomeRead self.old }
-        ensures read { OnOk result ((r : Radix) (n : ℕ) (whole : List ℕ) → HasRead r n whole self.old
-            → HasRead r n (whole ++ byte ∷ []) self.new) }
+        ensures read { OnOk result ((r : Radix) (a : Asked) (whole : List ℕ) → HasRead r a whole self.old
+            → HasRead r a (whole ++ byte ∷ []) self.new) }
         ensures lines { OnOk result (self.new.progress.lines ≤ self.old.progress.lines + 1) }
     {
         if byte != b'\n' {
@@ -62,8 +70,8 @@ impl Reader {
         requires room { self.old.progress.lines < 2 ^ 63 }
         requires known { HasSomeRead self.old }
         ensures line { self.new.line ≡ self.old.line }
-        ensures ended { OnOk result ((r : Radix) (n : ℕ) (done : List (List ℕ)) → HasLines r n done self.old
-            → HasLines r n (done ++ self.old.line.items ∷ []) self.new) }
+        ensures ended { OnOk result ((r : Radix) (a : Asked) (done : List (List ℕ)) → HasLines r a done self.old
+            → HasLines r a (done ++ self.old.line.items ∷ []) self.new) }
         ensures lines { OnOk result (self.new.progress.lines ≡ self.old.progress.lines + 1) }
     {
         self.progress = self.progress.after(&self.line, steps);
@@ -72,7 +80,12 @@ impl Reader {
         }
         self.errors.shorten(self.progress.count());
         match self.errors.add(&self.line, self.progress.lines, steps) {
-            Ok(()) => Ok(()),
+            Ok(()) => {
+                let place = self.progress.lines;
+                self.within
+                    .add(&self.line, self.progress.radix, place, steps);
+                Ok(())
+            }
             Err(_) => Err(NoMemory),
         }
     }
@@ -81,8 +94,8 @@ impl Reader {
     fn push_all<L: Ledger>(&mut self, bytes: &[u8], steps: &mut Steps<L>) -> Result<(), NoMemory>
         requires room { self.old.progress.lines + length bytes.now < 2 ^ 63 }
         requires known { HasSomeRead self.old }
-        ensures read { OnOk result ((r : Radix) (n : ℕ) (whole : List ℕ) → HasRead r n whole self.old
-            → HasRead r n (whole ++ bytes.now) self.new) }
+        ensures read { OnOk result ((r : Radix) (a : Asked) (whole : List ℕ) → HasRead r a whole self.old
+            → HasRead r a (whole ++ bytes.now) self.new) }
         ensures lines { OnOk result (self.new.progress.lines ≤ self.old.progress.lines + length bytes.now) }
     {
         for byte in bytes {
@@ -95,8 +108,8 @@ impl Reader {
     fn finish<L: Ledger>(&mut self, steps: &mut Steps<L>) -> Result<(), NoMemory>
         requires room { self.old.progress.lines < 2 ^ 63 }
         requires known { HasSomeRead self.old }
-        ensures { OnOk result ((r : Radix) (n : ℕ) (whole : List ℕ) → HasRead r n whole self.old
-            → HasLines r n (lines whole) self.new) }
+        ensures { OnOk result ((r : Radix) (a : Asked) (whole : List ℕ) → HasRead r a whole self.old
+            → HasLines r a (lines whole) self.new) }
     {
         if self.line.is_empty() {
             return Ok(());
@@ -120,10 +133,12 @@ fn read_chunk<S: Source>(source: &mut S, chunk: &mut [u8]) -> Result<usize, Fail
     source.read(chunk)
 }
 
-/// No byte so far.
-fn new_reader(alloc: Global, radix: Radix, width: u32) -> Result<Reader, AllocError>
+/// No byte so far, of a list whose formats within a bound are kept so.
+fn new_reader(alloc: Global, radix: Radix, width: u32, within: Within) -> Result<Reader, AllocError>
     requires { IsWidth width }
-    ensures read { IfOk result (HasRead radix width []) }
+    ensures read { IfOk result (λ reader. (is : Bool) (bound : List ℕ) (widths : Widths) (one : ℕ)
+        → within.is_bounded ≡ is → (is ≡ true → AreServed radix (asked_of width is bound widths one) [] within)
+        → HasRead radix (asked_of width is bound widths one) [] reader) }
     ensures lines { IfOk result (λ reader. reader.progress.lines ≡ 0) }
 {
     let progress = Progress::new(radix, width);
@@ -132,7 +147,89 @@ fn new_reader(alloc: Global, radix: Radix, width: u32) -> Result<Reader, AllocEr
         line: Vec::new(alloc),
         progress,
         errors,
+        within,
     })
+}
+
+/// No byte so far, where no bound is asked for.
+fn plain_reader(alloc: Global, radix: Radix, width: u32) -> Result<Reader, AllocError>
+    requires { IsWidth width }
+    ensures read { IfOk result (HasRead radix (unbounded width) []) }
+    ensures lines { IfOk result (λ reader. reader.progress.lines ≡ 0) }
+{
+    match new_reader(alloc, radix, width, Within::none(alloc)) {
+        Ok(reader) => Ok(reader),
+        Err(error) => Err(error),
+    }
+}
+
+/// The greatest width that is tried.
+fn most_width(widths: Widths, one: u32) -> u32
+    requires { IsWidth one }
+    ensures width { IsWidth result }
+    ensures most { result ≡ most_width widths one }
+{
+    match widths {
+        Widths::One => one,
+        _ => 64,
+    }
+}
+
+/// No byte so far, where a bound is asked for.
+fn bounded_reader(
+    alloc: Global,
+    radix: Radix,
+    bound: &[u8],
+    widths: Widths,
+    one: u32,
+) -> Result<Reader, AllocError>
+    requires width { IsWidth one }
+    requires bound { IsNumeral radix bound.now }
+    ensures read { IfOk result (HasRead radix (bounded (most_width widths one) bound.now widths one) []) }
+    ensures lines { IfOk result (λ reader. reader.progress.lines ≡ 0) }
+{
+    let within = Within::new(alloc, bound, widths, one)?;
+    match new_reader(alloc, radix, most_width(widths, one), within) {
+        Ok(reader) => Ok(reader),
+        Err(error) => Err(error),
+    }
+}
+
+/// Reads an input to its end.
+///
+/// # Errors
+///
+/// The status says whether a read failed, there was no memory, or there were 2^62 bytes or more.
+fn read_all<S: Source, L: Ledger>(
+    reader: &mut Reader,
+    source: &mut S,
+    steps: &mut Steps<L>,
+) -> Result<(), Status>
+    requires known { HasSomeRead reader.old }
+    requires none { reader.old.progress.lines ≡ 0 }
+    ensures ok { OnOk result ((r : Radix) (a : Asked) → HasRead r a [] reader.old → ReadsAll r a (S.left source.old)
+        (S.left source.new) (S.failures source.old) (S.failures source.new) reader.new) }
+    ensures err { IfErr result (StopsReading (S.left source.old) (S.left source.new) (S.failures source.old)
+        (S.failures source.new)) }
+{
+    let mut chunk = [0u8; CHUNK];
+    let mut taken = 0u64;
+    while taken < MOST_BYTES {
+        match read_chunk(source, &mut chunk) {
+            Err(_) => return Err(Status::ReadFault),
+            Ok(0) => {
+                return match reader.finish(steps) {
+                    Ok(()) => Ok(()),
+                    Err(_) => Err(Status::NoMemory),
+                };
+            }
+            Ok(count) => match reader.push_all(&chunk[..count], steps) {
+                Err(_) => return Err(Status::NoMemory),
+                Ok(()) => taken += count as u64,
+            },
+        }
+    }
+    Err(Status::TooLong)
 }
 
 /// Reads an input to its end, and tells what is known of its lines.
@@ -148,31 +245,48 @@ pub fn read_lines<S: Source, L: Ledger>(
     steps: &mut Steps<L>,
 ) -> Result<Reader, Status>
     requires { IsWidth width }
-    ensures ok { IfOk result (ReadsAll radix width (S.left source.old) (S.left source.new) (S.failures source.old)
+    ensures ok { IfOk result (ReadsAll radix (unbounded width) (S.left source.old) (S.left source.new)
+        (S.failures source.old) (S.failures source.new)) }
+    ensures err { IfErr result (StopsReading (S.left source.old) (S.left source.new) (S.failures source.old)
+        (S.failures source.new)) }
+{
+    let mut reader = match plain_reader(alloc, radix, width) {
+        Ok(reader) => reader,
+        Err(_) => return Err(Status::NoMemory),
+    };
+    match read_all(&mut reader, source, steps) {
+        Ok(()) => Ok(reader),
+        Err(status) => Err(status),
+    }
+}
+
+/// Reads an input to its end, and tells what is known of its lines and of the formats that they fit within a bound.
+///
+/// # Errors
+///
+/// The status says whether a read failed, there was no memory, or there were 2^62 bytes or more.
+pub fn read_bounded<S: Source, L: Ledger>(
+    alloc: Global,
+    question: &Question,
+    bound: &[u8],
+    widths: Widths,
+    source: &mut S,
+    steps: &mut Steps<L>,
+) -> Result<Reader, Status>
+    requires { IsNumeral question.now.radix bound.now }
+    ensures ok { IfOk result (ReadsAll question.now.radix (bounded (most_width widths question.now.kind.width) bound.now
+        widths question.now.kind.width) (S.left source.old) (S.left source.new) (S.failures source.old)
         (S.failures source.new)) }
     ensures err { IfErr result (StopsReading (S.left source.old) (S.left source.new) (S.failures source.old)
         (S.failures source.new)) }
 {
-    let mut chunk = [0u8; CHUNK];
-    let mut reader = match new_reader(alloc, radix, width) {
+    let one = question.kind.width();
+    let mut reader = match bounded_reader(alloc, question.radix, bound, widths, one) {
         Ok(reader) => reader,
         Err(_) => return Err(Status::NoMemory),
     };
-    let mut taken = 0u64;
-    while taken < MOST_BYTES {
-        match read_chunk(source, &mut chunk) {
-            Err(_) => return Err(Status::ReadFault),
-            Ok(0) => {
-                return match reader.finish(steps) {
-                    Ok(()) => Ok(reader),
-                    Err(_) => Err(Status::NoMemory),
-                };
-            }
-            Ok(count) => match reader.push_all(&chunk[..count], steps) {
-                Err(_) => return Err(Status::NoMemory),
-                Ok(()) => taken += count as u64,
-            },
-        }
+    match read_all(&mut reader, source, steps) {
+        Ok(()) => Ok(reader),
+        Err(status) => Err(status),
     }
-    Err(Status::TooLong)
 }

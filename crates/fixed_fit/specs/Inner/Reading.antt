@@ -1,5 +1,5 @@
 -- What is known while an input is read.
-use Rattle.std.specs.Prelude.{◌≡◌, ℕ, List, max, Option, None}
+use Rattle.std.specs.Prelude.{◌≡◌, ℕ, List, max, true, Option, None}
 use Rattle.std.specs.Io.KnownBytes.{Consumes, IsAtEnd}
 use Rattle.fixed_bits.specs.Ranges.{IsWidth}
 use Rattle.fixed_error.specs.Errors.{HasGreatestErrors}
@@ -12,32 +12,35 @@ use Rattle.line_engine.specs.declared.status.Status.TheVariants.{ReadFault, Writ
 use Rattle.fixed_fit.specs.Answer.{TakesBytes, most_bytes}
 use Rattle.fixed_fit.specs.ErrorWord.{entries_from}
 use Rattle.fixed_fit.specs.Inner.Progress.{HasProgress}
+use Rattle.fixed_fit.specs.Inner.Serving.{AreServed, Asked}
 use Rattle.fixed_fit.specs.declared.reader.Reader.{Reader}
 
 -- what is kept of these lines
-pub record HasLines (r : Radix) (n : ℕ) (list : List (List ℕ)) (reader : Reader) : Type 0 where
-  pub width : IsWidth n
-  pub progress : HasProgress n list reader.progress
+pub record HasLines (r : Radix) (a : Asked) (list : List (List ℕ)) (reader : Reader) : Type 0 where
+  pub width : IsWidth a.width
+  pub progress : HasProgress a.width list reader.progress
   pub radix : reader.progress.radix ≡ r
   pub errors : reader.progress.fault ≡ None → HasGreatestErrors r
       (max reader.progress.plain.count reader.progress.signed.count) (entries_from 1 list) reader.errors
+  pub is_bounded : reader.within.is_bounded ≡ a.is_bounded
+  pub within : a.is_bounded ≡ true → reader.progress.fault ≡ None → AreServed r a list reader.within
 
 -- what is kept of these bytes
-pub record HasRead (r : Radix) (n : ℕ) (whole : List ℕ) (reader : Reader) : Type 0 where
+pub record HasRead (r : Radix) (a : Asked) (whole : List ℕ) (reader : Reader) : Type 0 where
   pub line : reader.line.items ≡ unended whole
-  pub lines : HasLines r n (ended_lines whole) reader
+  pub lines : HasLines r a (ended_lines whole) reader
 
 -- this is kept of some bytes
 abbrev pub HasSomeRead : Reader → Type 0
-HasSomeRead reader = (r : Radix) × (n : ℕ) × (whole : List ℕ) × HasRead r n whole reader
+HasSomeRead reader = (r : Radix) × (a : Asked) × (whole : List ℕ) × HasRead r a whole reader
 
 -- an input was read to its end, and this is known of its lines
-pub record ReadsAll (r : Radix) (n : ℕ) (left left' : Option (List ℕ)) (failures failures' : ℕ)
+pub record ReadsAll (r : Radix) (a : Asked) (left left' : Option (List ℕ)) (failures failures' : ℕ)
     (reader : Reader) : Type 0 where
   pub input : List ℕ
   pub taken : Consumes left left' input
   pub at_end : IsAtEnd left'
-  pub known : HasLines r n (lines input) reader
+  pub known : HasLines r a (lines input) reader
   pub same : failures' ≡ failures
 
 -- reading stopped before the end

@@ -1,0 +1,418 @@
+-- What one more line makes of the formats that serve.
+use Rattle.std.proofs.Common.{◌≡◌, ℕ, zero, suc, ◌+◌, ◌<◌, ◌≤◌, ◌⊎◌, Bool, List, [], ◌∷◌, ◌++◌, length, take, drop, get_or, max, refl, sym, ap, ◌∙◌, subst, arith, inl, inr, ⊎_elim}
+use Rattle.std.proofs.lemmas.Bool.{cases_lt}
+use Rattle.std.proofs.lemmas.List.{take_all, take_more}
+use Rattle.fixed_bits.specs.Formats.{FormatParts}
+use Rattle.fixed_bits.specs.Ranges.{IsWidth}
+use Rattle.fixed_bits.specs.declared.mode.ReadMode.TheVariants.{NearestEven}
+use Rattle.fixed_error.specs.ErrorSize.{HasErrorAbove, HasErrorWithin, IsReadWithin}
+use Rattle.fixed_error.proofs.Public.{above_not_within}
+use Rattle.fixed_numeral.specs.Numeral.{IsNumeral}
+use Rattle.fixed_numeral.specs.declared.radix.Radix.{Radix}
+use Rattle.fixed_fit.specs.Fitting.{AllFit, IsFirstExceeding}
+use Rattle.fixed_fit.specs.Inner.Lengths.{AreLowered}
+use Rattle.fixed_fit.specs.Inner.Serving.{AreAllLeft, AreAllLowered, AreFew, AreTried, HasServing, HasWidth, IsBestOf, IsIn, IsLeftOf, IsServing, most_left}
+use Rattle.fixed_fit.specs.Within.{AllWithin, IsFirstUnserved, IsLeastWithin, IsServed, IsTried, Serves}
+use Rattle.fixed_fit.specs.declared.lengths.Lengths.{Lengths}
+use Rattle.fixed_fit.specs.declared.question.Widths.{Widths}
+use Rattle.fixed_fit.specs.declared.question.Widths.TheVariants.{One, Types, Any}
+use Rattle.fixed_fit.specs.declared.serving.Serving.{Serving}
+use Rattle.fixed_fit.proofs.FittingLemmas.{all_fit_each_shorter, exceeding_not, lengths_one_more}
+use Rattle.fixed_fit.proofs.LineLemmas.{fits_within}
+use Rattle.fixed_fit.proofs.ProgressLemmas.{all_are_left}
+use Rattle.fixed_fit.proofs.WithinLemmas.{all_within_longer, unserved_longer, within_before, within_last, within_one_more}
+
+-- ---- the lengths of some widths
+pub few_of : (r : Radix) (s : Bool) (lines : List (List ℕ)) (ls : List Lengths) → AreAllLeft r s lines ls → AreFew ls
+few_of r s lines [] all = tt
+few_of r s lines (l ∷ ls) all = (all.0.lengths.most, few_of r s lines ls all.1)
+
+pub in_most : (l : Lengths) (ls : List Lengths) → IsIn l ls → l.count ≤ most_left ls
+in_most l [] h = absurd h
+in_most l (x ∷ xs) (inl same) = let e : x.count ≡ l.count = ap (λ (k : Lengths). k.count) same in omega (arith, e)
+in_most l (x ∷ xs) (inr later) = let h = in_most l xs later in omega (arith, h)
+
+pub longer_in : (low : ℕ) (ls : List Lengths) → low < most_left ls → (l : Lengths) × IsIn l ls × (low < l.count)
+longer_in low [] h = absurd (omega (arith, h))
+longer_in low (l ∷ ls) h =
+    ⊎_elim
+    (λ (less : low < l.count). (l, inl refl, less))
+    (λ (past : l.count ≤ low). let t = longer_in low ls (omega (arith, h, past)) in (t.0, inr t.1, t.2))
+    (cases_lt low l.count)
+
+pub left_in : (r : Radix) (s : Bool) (lines : List (List ℕ)) (l : Lengths) (ls : List Lengths) → IsIn l ls → AreAllLeft r s lines ls → IsLeftOf r s lines l
+left_in r s lines l [] h all = absurd h
+left_in r s lines l (x ∷ xs) (inl same) all = subst (λ (k : Lengths). IsLeftOf r s lines k) same all.0
+left_in r s lines l (x ∷ xs) (inr later) all = left_in r s lines l xs later all.1
+
+pub width_in : (l : Lengths) (ls : List Lengths) → IsIn l ls → HasWidth l.kind.width ls
+width_in l [] h = absurd h
+width_in l (x ∷ xs) (inl same) = inl (ap (λ (k : Lengths). k.kind.width) same)
+width_in l (x ∷ xs) (inr later) = inr (width_in l xs later)
+
+pub in_width : (n : ℕ) (ls : List Lengths) → HasWidth n ls → (l : Lengths) × IsIn l ls × (l.kind.width ≡ n)
+in_width n [] h = absurd h
+in_width n (x ∷ xs) (inl same) = (x, inl refl, same)
+in_width n (x ∷ xs) (inr later) = let t = in_width n xs later in (t.0, inr t.1, t.2)
+
+-- ---- what a line leaves of them
+pub all_one_more : (r : Radix) (s : Bool) (done : List (List ℕ)) (line : List ℕ) (place : ℕ) (olds news : List Lengths) → place ≡ length done + 1 → AreAllLowered r line place olds news → AreAllLeft r s done olds → AreAllLeft r s (done ++ line ∷ []) news
+all_one_more r s done line place [] [] at low all = tt
+all_one_more r s done line place [] (new ∷ news) at low all = absurd low
+all_one_more r s done line place (old ∷ olds) [] at low all = absurd low
+all_one_more r s done line place (old ∷ olds) (new ∷ news) at low all = (
+  record {
+    signed = ap (λ (k : FormatParts). k.signed) low.0.kind ∙ all.0.signed;
+    width = subst (λ (k : FormatParts). IsWidth k.width) (sym low.0.kind) all.0.width;
+    lengths = lengths_one_more r done line place old new at all.0.lengths low.0;
+  },
+  all_one_more r s done line place olds news at low.1 all.1,
+)
+
+widths_after : (r : Radix) (line : List ℕ) (place n : ℕ) (olds news : List Lengths) → AreAllLowered r line place olds news → HasWidth n olds → HasWidth n news
+widths_after r line place n [] [] low h = absurd h
+widths_after r line place n [] (new ∷ news) low h = absurd low
+widths_after r line place n (old ∷ olds) [] low h = absurd low
+widths_after r line place n (old ∷ olds) (new ∷ news) low (inl same) = inl (ap (λ (k : FormatParts). k.width) low.0.kind ∙ same)
+widths_after r line place n (old ∷ olds) (new ∷ news) low (inr later) = inr (widths_after r line place n olds news low.1 later)
+
+widths_back : (r : Radix) (line : List ℕ) (place n : ℕ) (olds news : List Lengths) → AreAllLowered r line place olds news → HasWidth n news → HasWidth n olds
+widths_back r line place n [] [] low h = absurd h
+widths_back r line place n [] (new ∷ news) low h = absurd low
+widths_back r line place n (old ∷ olds) [] low h = absurd low
+widths_back r line place n (old ∷ olds) (new ∷ news) low (inl same) = inl (sym (ap (λ (k : FormatParts). k.width) low.0.kind) ∙ same)
+widths_back r line place n (old ∷ olds) (new ∷ news) low (inr later) = inr (widths_back r line place n olds news low.1 later)
+
+tried_after : (r : Radix) (line : List ℕ) (place : ℕ) (widths : Widths) (one : ℕ) (olds news : List Lengths) → AreAllLowered r line place olds news → AreTried widths one olds → AreTried widths one news
+tried_after r line place widths one olds news low h = record {
+  all = λ n t. widths_after r line place n olds news low (h.all n t);
+  only = λ n w. h.only n (widths_back r line place n olds news low w);
+}
+
+-- with a length that is left of some width the line is read within 64 bits
+pub lowered_within : (r : Radix) (s : Bool) (done : List (List ℕ)) (line : List ℕ) (place f : ℕ) (olds news : List Lengths) → AreAllLowered r line place olds news → AreAllLeft r s done olds → f < most_left news → IsReadWithin NearestEven r f line
+lowered_within r s done line place f [] [] low all less = absurd (omega (arith, less))
+lowered_within r s done line place f [] (new ∷ news) low all less = absurd low
+lowered_within r s done line place f (old ∷ olds) [] low all less = absurd low
+lowered_within r s done line place f (old ∷ olds) (new ∷ news) low all less =
+    ⊎_elim
+    (λ (here : f < new.count). fits_within r old.kind.signed old.kind.width f line all.0.width.most (low.0.fit f here))
+    (λ (past : new.count ≤ f). lowered_within r s done line place f olds news low.1 all.1 (omega (arith, less, past)))
+    (cases_lt f new.count)
+
+pub lowered_few : (r : Radix) (s : Bool) (done : List (List ℕ)) (line : List ℕ) (place : ℕ) (olds news : List Lengths) → AreAllLowered r line place olds news → AreAllLeft r s done olds → most_left news ≤ 65
+lowered_few r s done line place [] [] low all = omega arith
+lowered_few r s done line place [] (new ∷ news) low all = absurd low
+lowered_few r s done line place (old ∷ olds) [] low all = absurd low
+lowered_few r s done line place (old ∷ olds) (new ∷ news) low all =
+    let rest = lowered_few r s done line place olds news low.1 all.1 in
+    omega (arith, rest, low.0.fewer, all.0.lengths.most, all.0.width.most)
+
+-- ---- a format serves exactly where more lengths are left than are not within the bound
+serves_by : (r : Radix) (s : Bool) (bound : List ℕ) (lines : List (List ℕ)) (l : Lengths) (f : ℕ) → IsLeftOf r s lines l → f < l.count → AllWithin r f bound lines → Serves r s bound lines l.kind.width f
+serves_by r s bound lines l f h less within = record {
+  within_width = omega (arith, less, h.lengths.most);
+  fit = subst (λ t. AllFit r t l.kind.width f lines) h.signed (h.lengths.fit f less);
+  within = within;
+}
+
+serves_not : (r : Radix) (s : Bool) (bound : List ℕ) (lines : List (List ℕ)) (l : Lengths) (g : ℕ) → IsLeftOf r s lines l → l.count ≤ g → Serves r s bound lines l.kind.width g → ⊥
+serves_not r s bound lines l g h past serves =
+    let first : IsFirstExceeding r l.kind.signed l.kind.width l.count lines l.place = h.lengths.first (omega (arith, past, serves.within_width)) in
+    let fit : AllFit r l.kind.signed l.kind.width g lines = subst (λ t. AllFit r t l.kind.width g lines) (sym h.signed) serves.fit in
+    exceeding_not r l.kind.signed l.kind.width l.count lines l.place first (all_fit_each_shorter r l.kind.signed l.kind.width g l.count lines past fit)
+
+served_by : (r : Radix) (s : Bool) (widths : Widths) (one : ℕ) (lines : List (List ℕ)) (v : Serving) → AreTried widths one v.lengths.items → IsServing r s lines v → IsServed r s v.bound.items widths one lines
+served_by r s widths one lines v tried h =
+    let l = longer_in v.low v.lengths.items h.served in
+    record {
+      width = l.0.kind.width;
+      tried = tried.only l.0.kind.width (width_in l.0 v.lengths.items l.1);
+      frac = v.low;
+      serves = serves_by r s v.bound.items lines l.0 v.low (left_in r s lines l.0 v.lengths.items l.1 h.lengths) l.2 h.within;
+    }
+
+unserved_by : (r : Radix) (s : Bool) (bound : List ℕ) (widths : Widths) (one low : ℕ) (lines : List (List ℕ)) (ls : List Lengths) → AreTried widths one ls → AreAllLeft r s lines ls → ((f : ℕ) → f < low → ¬ AllWithin r f bound lines) → most_left ls ≤ low → ¬ IsServed r s bound widths one lines
+unserved_by r s bound widths one low lines ls tried all least past h =
+    let l = in_width h.width ls (tried.all h.width h.tried) in
+    let serves : Serves r s bound lines l.0.kind.width h.frac = subst (λ n. Serves r s bound lines n h.frac) (sym l.2) h.serves in
+    ⊎_elim
+    (λ (less : h.frac < low). least h.frac less h.serves.within)
+    (λ (more : low ≤ h.frac).
+    let most = in_most l.0 ls l.1 in
+    serves_not r s bound lines l.0 h.frac (left_in r s lines l.0 ls l.1 all) (omega (arith, most, past, more)) serves)
+    (cases_lt h.frac low)
+
+-- ---- one line more
+pub frozen : (r : Radix) (s : Bool) (widths : Widths) (one : ℕ) (done : List (List ℕ)) (line : List ℕ) (v : Serving) → (v.place ≡ 0 → ⊥) → HasServing r s widths one done v → HasServing r s widths one (done ++ line ∷ []) v
+frozen r s widths one done line v some h = record {
+  numeral = h.numeral;
+  tried = h.tried;
+  serving = λ none. absurd (some none);
+  unserved = λ more. unserved_longer r s v.bound.items widths one done line v.place (h.unserved more);
+}
+
+not_shorter : (r : Radix) (bound : List ℕ) (done : List (List ℕ)) (line : List ℕ) (old new : ℕ) → ((f : ℕ) → f < old → ¬ AllWithin r f bound done) → ((f : ℕ) → old ≤ f → f < new → HasErrorAbove NearestEven r f line bound) → (f : ℕ) → f < new → ¬ AllWithin r f bound (done ++ line ∷ [])
+not_shorter r bound done line old new least above f less all =
+    ⊎_elim
+    (λ (before : f < old). least f before (within_before r f bound done (line ∷ []) all))
+    (λ (from : old ≤ f). above_not_within NearestEven r f line bound (above f from less) (within_last r f bound done line all))
+    (cases_lt f old)
+
+pub goes_on : (r : Radix) (s : Bool) (widths : Widths) (one : ℕ) (done : List (List ℕ)) (line : List ℕ) (place : ℕ) (old new : Serving) → new.bound.items ≡ old.bound.items → new.place ≡ old.place → (old.place ≡ 0) → AreAllLowered r line place old.lengths.items new.lengths.items → old.low ≤ new.low
+    → ((f : ℕ) → old.low ≤ f → f < new.low → HasErrorAbove NearestEven r f line old.bound.items) → HasErrorWithin NearestEven r new.low line old.bound.items → new.low < most_left new.lengths.items → place ≡ length done + 1
+    → HasServing r s widths one done old → HasServing r s widths one (done ++ line ∷ []) new
+goes_on r s widths one done line place old new bound same none low order above within served at h =
+    let was = h.serving none in
+    let B : List ℕ → Type 0 = λ b. AllWithin r new.low b (done ++ line ∷ []) in
+    let L : List ℕ → Type 0 = λ b. (f : ℕ) → f < new.low → ¬ AllWithin r f b (done ++ line ∷ []) in
+    record {
+      numeral = subst (λ b. IsNumeral r b) (sym bound) h.numeral;
+      tried = tried_after r line place widths one old.lengths.items new.lengths.items low h.tried;
+      serving = λ _. record {
+        lengths = all_one_more r s done line place old.lengths.items new.lengths.items at low was.lengths;
+        within = subst B (sym bound) (within_one_more r new.low old.bound.items done line (all_within_longer r old.low new.low old.bound.items done order was.within) within);
+        least = subst L (sym bound) (not_shorter r old.bound.items done line old.low new.low was.least above);
+        served = served;
+      };
+      unserved = λ more. absurd (omega (arith, more, same, none));
+    }
+
+pub ends : (r : Radix) (s : Bool) (widths : Widths) (one : ℕ) (done : List (List ℕ)) (line : List ℕ) (place : ℕ) (old new : Serving) → new.bound.items ≡ old.bound.items → new.place ≡ place → (old.place ≡ 0) → AreAllLowered r line place old.lengths.items new.lengths.items
+    → ((f : ℕ) → old.low ≤ f → f < new.low → HasErrorAbove NearestEven r f line old.bound.items) → most_left new.lengths.items ≤ new.low → place ≡ length done + 1
+    → HasServing r s widths one done old → HasServing r s widths one (done ++ line ∷ []) new
+ends r s widths one done line place old new bound same none low above past at h =
+    let was = h.serving none in
+    let tried = tried_after r line place widths one old.lengths.items new.lengths.items low h.tried in
+    let left = all_one_more r s done line place old.lengths.items new.lengths.items at low was.lengths in
+    let F : List ℕ → Type 0 = λ b. IsFirstUnserved r s b widths one (done ++ line ∷ []) new.place in
+    record {
+      numeral = subst (λ b. IsNumeral r b) (sym bound) h.numeral;
+      tried = tried;
+      serving = λ none'. absurd (omega (arith, none', same, at));
+      unserved = λ _. subst F (sym bound) (record {
+        before = done;
+        line = line;
+        after = [];
+        split = refl;
+        served = served_by r s widths one done old h.tried was;
+        unserved = unserved_by r s old.bound.items widths one new.low (done ++ line ∷ []) new.lengths.items tried left (not_shorter r old.bound.items done line old.low new.low was.least above) past;
+        place_is = same ∙ at;
+      });
+    }
+
+-- ---- the least
+pub least_by : (r : Radix) (s : Bool) (widths : Widths) (one : ℕ) (lines : List (List ℕ)) (v : Serving) (best : Lengths) (f : ℕ) → suc f ≡ best.count → AreTried widths one v.lengths.items → IsServing r s lines v → IsBestOf v.low v.lengths.items best
+    → IsLeastWithin r s v.bound.items widths one lines best.kind.width f
+least_by r s widths one lines v best f last tried h b =
+    let left = left_in r s lines best v.lengths.items b.among h.lengths in
+    let bound : List ℕ = v.bound.items in
+    let longer = b.longer in
+    record {
+      tried = tried.only best.kind.width (width_in best v.lengths.items b.among);
+      serves = serves_by r s bound lines best f left (omega (arith, last)) (all_within_longer r v.low f bound lines (omega (arith, last, longer)) h.within);
+      greatest = λ g more serves. serves_not r s bound lines best g left (omega (arith, last, more)) serves;
+      least = λ m g less is serves.
+          let l = in_width m v.lengths.items (tried.all m is) in
+          let here : Serves r s bound lines l.0.kind.width g = subst (λ n. Serves r s bound lines n g) (sym l.2) serves in
+          ⊎_elim
+          (λ (short : g < v.low). h.least g short serves.within)
+          (λ (from : v.low ≤ g). ⊎_elim
+          (λ (within : g < l.0.count). let order = b.least l.0 l.1 (omega (arith, from, within)) in omega (arith, order, l.2, less))
+          (λ (past : l.0.count ≤ g). serves_not r s bound lines l.0 g (left_in r s lines l.0 v.lengths.items l.1 h.lengths) past here)
+          (cases_lt g l.0.count))
+          (cases_lt g v.low);
+    }
+
+-- ---- before the first line
+pub record IsFresh (s : Bool) (l : Lengths) : Type 0 where
+  pub signed : l.kind.signed ≡ s
+  pub width : IsWidth l.kind.width
+  pub all : l.count ≡ l.kind.width + 1
+
+abbrev pub AreFresh : Bool → List Lengths → Type 0
+AreFresh s [] = Unit {0}
+AreFresh s (l ∷ ls) = IsFresh s l × AreFresh s ls
+
+pub fresh_more : (s : Bool) (ls : List Lengths) (l : Lengths) → AreFresh s ls → IsFresh s l → AreFresh s (ls ++ l ∷ [])
+fresh_more s [] l all here = (here, tt)
+fresh_more s (x ∷ xs) l all here = (all.0, fresh_more s xs l all.1 here)
+
+pub width_more : (n : ℕ) (ls : List Lengths) (l : Lengths) → HasWidth n ls ⊎ (l.kind.width ≡ n) → HasWidth n (ls ++ l ∷ [])
+width_more n [] l (inl none) = absurd none
+width_more n [] l (inr here) = inl here
+width_more n (x ∷ xs) l (inl (inl same)) = inl same
+width_more n (x ∷ xs) l (inl (inr later)) = inr (width_more n xs l (inl later))
+width_more n (x ∷ xs) l (inr here) = inr (width_more n xs l (inr here))
+
+pub width_less : (n : ℕ) (ls : List Lengths) (l : Lengths) → HasWidth n (ls ++ l ∷ []) → HasWidth n ls ⊎ (l.kind.width ≡ n)
+width_less n [] l (inl here) = inr here
+width_less n [] l (inr none) = absurd none
+width_less n (x ∷ xs) l (inl same) = inl (inl same)
+width_less n (x ∷ xs) l (inr later) = by (width_less n xs l later)
+  where
+    by : HasWidth n xs ⊎ (l.kind.width ≡ n) → HasWidth n (x ∷ xs) ⊎ (l.kind.width ≡ n)
+    by (inl more) = inl (inr more)
+    by (inr here) = inr here
+
+pub tried_width : (widths : Widths) (one n : ℕ) → IsWidth one → IsTried widths one n → IsWidth n
+tried_width One one n h same = subst IsWidth (sym same) h
+tried_width Types one n h (inl a) = record { some = omega (arith, a); most = omega (arith, a) }
+tried_width Types one n h (inr (inl a)) = record { some = omega (arith, a); most = omega (arith, a) }
+tried_width Types one n h (inr (inr (inl a))) = record { some = omega (arith, a); most = omega (arith, a) }
+tried_width Types one n h (inr (inr (inr a))) = record { some = omega (arith, a); most = omega (arith, a) }
+tried_width Any one n h is = is
+
+some_tried : (widths : Widths) (one : ℕ) → (n : ℕ) × IsTried widths one n
+some_tried One one = (one, refl)
+some_tried Types one = (8, inl refl)
+some_tried Any one = (1, record { some = omega arith; most = omega arith })
+
+fresh_left : (r : Radix) (s : Bool) (ls : List Lengths) → AreFresh s ls → AreAllLeft r s [] ls
+fresh_left r s [] all = tt
+fresh_left r s (l ∷ ls) all = (record { signed = all.0.signed; width = all.0.width; lengths = all_are_left r l.kind.width l refl all.0.all }, fresh_left r s ls all.1)
+
+fresh_in : (s : Bool) (l : Lengths) (ls : List Lengths) → IsIn l ls → AreFresh s ls → IsFresh s l
+fresh_in s l [] h all = absurd h
+fresh_in s l (x ∷ xs) (inl same) all = subst (λ (k : Lengths). IsFresh s k) same all.0
+fresh_in s l (x ∷ xs) (inr later) all = fresh_in s l xs later all.1
+
+pub starts : (r : Radix) (s : Bool) (widths : Widths) (one : ℕ) (v : Serving) → v.low ≡ 0 → v.place ≡ 0 → IsNumeral r v.bound.items → AreTried widths one v.lengths.items → AreFresh s v.lengths.items → HasServing r s widths one [] v
+starts r s widths one v low place numeral tried fresh =
+    let t = some_tried widths one in
+    let l = in_width t.0 v.lengths.items (tried.all t.0 t.1) in
+    let most = in_most l.0 v.lengths.items l.1 in
+    let all = (fresh_in s l.0 v.lengths.items l.1 fresh).all in
+    record {
+      numeral = numeral;
+      tried = tried;
+      serving = λ _. record {
+        lengths = fresh_left r s v.lengths.items fresh;
+        within = tt;
+        least = λ f less. absurd (omega (arith, less, low));
+        served = omega (arith, low, most, all);
+      };
+      unserved = λ more. absurd (omega (arith, more, place));
+    }
+
+-- ---- loops over them
+get_dropped : (xs : List Lengths) (k : ℕ) (d : Lengths) → get_or xs k d ≡ get_or (drop k xs) 0 d
+get_dropped xs zero d = refl
+get_dropped [] (suc k) d = refl
+get_dropped (x ∷ xs) (suc k) d = get_dropped xs k d
+
+drop_one : (xs : List Lengths) (k : ℕ) → drop (suc k) xs ≡ drop 1 (drop k xs)
+drop_one xs zero = refl
+drop_one [] (suc k) = refl
+drop_one (x ∷ xs) (suc k) = drop_one xs k
+
+pub left_one_less : (xs ys : List Lengths) (k : ℕ) → drop k xs ≡ drop k ys → drop (k + 1) xs ≡ drop (k + 1) ys
+left_one_less xs ys k left =
+    let e : k + 1 ≡ suc k = omega arith in
+    ap (λ n. drop n xs) e ∙ (drop_one xs k ∙ (ap (λ l. drop 1 l) left ∙ (sym (drop_one ys k) ∙ ap (λ n. drop n ys) (sym e))))
+
+pub same_element : (items initial : List Lengths) (k : ℕ) (d : Lengths) → drop k items ≡ drop k initial → get_or items k d ≡ get_or initial k d
+same_element items initial k d left = get_dropped items k d ∙ (ap (λ l. get_or l 0 d) left ∙ sym (get_dropped initial k d))
+
+pub few_at : (ls : List Lengths) (k : ℕ) (d : Lengths) → k < length ls → AreFew ls → (get_or ls k d).count ≤ (get_or ls k d).kind.width + 1
+few_at [] k d less all = absurd (omega (arith, less))
+few_at (l ∷ ls) zero d less all = all.0
+few_at (l ∷ ls) (suc k) d less all = few_at ls k d (omega (arith, less)) all.1
+
+pub lowered_more : (r : Radix) (line : List ℕ) (place : ℕ) (olds news : List Lengths) (old new : Lengths) → AreAllLowered r line place olds news → AreLowered r line place old new → AreAllLowered r line place (olds ++ old ∷ []) (news ++ new ∷ [])
+lowered_more r line place [] [] old new all here = (here, tt)
+lowered_more r line place [] (y ∷ ys) old new all here = absurd all
+lowered_more r line place (x ∷ xs) [] old new all here = absurd all
+lowered_more r line place (x ∷ xs) (y ∷ ys) old new all here = (all.0, lowered_more r line place xs ys old new all.1 here)
+
+pub most_more : (ls : List Lengths) (l : Lengths) → most_left (ls ++ l ∷ []) ≡ max (most_left ls) l.count
+most_more [] l = omega arith
+most_more (x ∷ xs) l = let h = most_more xs l in omega (arith, h)
+
+pub some_items : (low : ℕ) (ls : List Lengths) → low < most_left ls → 0 < length ls
+some_items low [] h = absurd (omega (arith, h))
+some_items low (l ∷ ls) h = omega arith
+
+pub in_get : (ls : List Lengths) (k : ℕ) (d : Lengths) → k < length ls → IsIn (get_or ls k d) ls
+in_get [] k d less = absurd (omega (arith, less))
+in_get (l ∷ ls) zero d less = inl refl
+in_get (l ∷ ls) (suc k) d less = inr (in_get ls k d (omega (arith, less)))
+
+pub in_more : (x l : Lengths) (ls : List Lengths) → IsIn x (ls ++ l ∷ []) → IsIn x ls ⊎ (l ≡ x)
+in_more x l [] (inl here) = inr here
+in_more x l [] (inr none) = absurd none
+in_more x l (y ∷ ys) (inl same) = inl (inl same)
+in_more x l (y ∷ ys) (inr later) = by (in_more x l ys later)
+  where
+    by : IsIn x ys ⊎ (l ≡ x) → IsIn x (y ∷ ys) ⊎ (l ≡ x)
+    by (inl more) = inl (inr more)
+    by (inr here) = inr here
+
+pub best_more : (low : ℕ) (items : List Lengths) (k : ℕ) (d best new : Lengths) → k < length items → (new ≡ best) ⊎ (new ≡ get_or items k d)
+    → (low < (get_or items k d).count → (low < new.count) × (new.kind.width ≤ (get_or items k d).kind.width)) → (low < best.count → (low < new.count) × (new.kind.width ≤ best.kind.width))
+    → IsIn best items → ((x : Lengths) → IsIn x (take k items) → low < x.count → (low < best.count) × (best.kind.width ≤ x.kind.width))
+    → IsIn new items × ((x : Lengths) → IsIn x (take (k + 1) items) → low < x.count → (low < new.count) × (new.kind.width ≤ x.kind.width))
+best_more low items k d best new less one left kept among least = (inside one, λ x is longer. by x (in_more x (get_or items k d) (take k items) (subst (λ (l : List Lengths). IsIn x l) (take_more items k d less) is)) longer)
+  where
+    inside : (new ≡ best) ⊎ (new ≡ get_or items k d) → IsIn new items
+    inside (inl e) = subst (λ (l : Lengths). IsIn l items) (sym e) among
+    inside (inr e) = subst (λ (l : Lengths). IsIn l items) (sym e) (in_get items k d less)
+
+    by : (x : Lengths) → IsIn x (take k items) ⊎ (get_or items k d ≡ x) → low < x.count → (low < new.count) × (new.kind.width ≤ x.kind.width)
+    by x (inl before) longer =
+        let b = least x before longer in
+        let e = kept b.0 in
+        let order : new.kind.width ≤ x.kind.width = omega (arith, e.1, b.1) in
+        (e.0, order)
+    by x (inr same) longer = subst (λ (l : Lengths). (low < new.count) × (new.kind.width ≤ l.kind.width)) same (left (subst (λ (l : Lengths). low < l.count) (sym same) longer))
+
+pub best_all : (low : ℕ) (items : List Lengths) (k : ℕ) (best : Lengths) → length items ≤ k → low < most_left items → IsIn best items
+    → ((x : Lengths) → IsIn x (take k items) → low < x.count → (low < best.count) × (best.kind.width ≤ x.kind.width)) → IsBestOf low items best
+best_all low items k best past some among least =
+    let t = longer_in low items some in
+    let back : (x : Lengths) → IsIn x items → IsIn x (take k items) = λ x is. subst (λ (l : List Lengths). IsIn x l) (sym (take_all k items past)) is in
+    record {
+      among = among;
+      longer = (least t.0 (back t.0 t.1) t.2).0;
+      least = λ x is longer. (least x (back x is) longer).1;
+    }
+
+-- the widths below one
+pub record IsCovered (s : Bool) (widths : Widths) (one width : ℕ) (items : List Lengths) : Type 0 where
+  pub fresh : AreFresh s items
+  pub all : (n : ℕ) → 0 < n → n < width → IsTried widths one n → HasWidth n items
+  pub only : (n : ℕ) → HasWidth n items → IsTried widths one n
+
+pub none_covered : (s : Bool) (widths : Widths) (one : ℕ) → IsCovered s widths one 1 []
+none_covered s widths one = record { fresh = tt; all = λ n some less t. absurd (omega (arith, some, less)); only = λ n h. absurd h }
+
+pub covered_more : (s : Bool) (widths : Widths) (one width : ℕ) (items after : List Lengths) (l : Lengths) → after ≡ items ++ l ∷ [] → IsWidth width → IsTried widths one width → l.kind.signed ≡ s → l.kind.width ≡ width → l.count ≡ l.kind.width + 1
+    → IsCovered s widths one width items → IsCovered s widths one (width + 1) after
+covered_more s widths one width items after l is at tried signed same count h = subst (λ (x : List Lengths). IsCovered s widths one (width + 1) x) (sym is) (record {
+  fresh = fresh_more s items l h.fresh (record { signed = signed; width = subst IsWidth (sym same) at; all = count });
+  all = λ n some less t. width_more n items l (⊎_elim
+      (λ (before : n < width). inl (h.all n some before t))
+      (λ (past : width ≤ n). let e : width ≡ n = omega (arith, past, less) in inr (same ∙ e))
+      (cases_lt n width));
+  only = λ n has. by n (width_less n items l has);
+})
+  where
+    by : (n : ℕ) → HasWidth n items ⊎ (l.kind.width ≡ n) → IsTried widths one n
+    by n (inl before) = h.only n before
+    by n (inr here) = subst (λ (m : ℕ). IsTried widths one m) (sym same ∙ here) tried
+
+pub covered_past : (s : Bool) (widths : Widths) (one width : ℕ) (items : List Lengths) → ¬ IsTried widths one width → IsCovered s widths one width items → IsCovered s widths one (width + 1) items
+covered_past s widths one width items not h = record {
+  fresh = h.fresh;
+  all = λ n some less t. ⊎_elim
+      (λ (before : n < width). h.all n some before t)
+      (λ (past : width ≤ n). let e : n ≡ width = omega (arith, past, less) in absurd (not (subst (λ (m : ℕ). IsTried widths one m) e t)))
+      (cases_lt n width);
+  only = h.only;
+}
+
+pub covered_all : (s : Bool) (widths : Widths) (one width : ℕ) (items : List Lengths) → IsWidth one → 65 ≤ width → IsCovered s widths one width items → AreTried widths one items
+covered_all s widths one width items at past h = record {
+  all = λ n t. let w = tried_width widths one n at t in h.all n w.some (let most = w.most in omega (arith, most, past)) t;
+  only = h.only;
+}

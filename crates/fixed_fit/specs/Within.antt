@@ -1,0 +1,59 @@
+-- Which formats the numerals of a list fit within an error, and which of them is the least.
+use Rattle.std.specs.Prelude.{◌≡◌, ◌+◌, ◌<◌, ◌≤◌, ℕ, Bool, List, [], ◌∷◌, ◌++◌, length}
+use Rattle.fixed_bits.specs.Ranges.{IsTypeWidth, IsWidth}
+use Rattle.fixed_bits.specs.declared.mode.ReadMode.TheVariants.{NearestEven}
+use Rattle.fixed_error.specs.ErrorSize.{HasErrorWithin}
+use Rattle.fixed_numeral.specs.declared.radix.Radix.{Radix}
+use Rattle.fixed_fit.specs.Fitting.{AllFit}
+use Rattle.fixed_fit.specs.declared.question.Widths.{Widths}
+use Rattle.fixed_fit.specs.declared.question.Widths.TheVariants.{One, Types, Any}
+
+-- each line is a numeral whose error at this fraction length is at most the bound
+abbrev pub AllWithin : Radix → ℕ → List ℕ → List (List ℕ) → Type 0
+AllWithin r f bound [] = Unit {0}
+AllWithin r f bound (line ∷ lines) = HasErrorWithin NearestEven r f line bound × AllWithin r f bound lines
+
+-- a width that is tried: the one, 8, 16, 32 or 64, or each from 1 to 64
+abbrev pub IsTried : Widths → ℕ → ℕ → Type 0
+IsTried One one n = n ≡ one
+IsTried Types one n = IsTypeWidth n
+IsTried Any one n = IsWidth n
+
+-- the greatest of them
+abbrev pub most_width : Widths → ℕ → ℕ
+most_width One one = one
+most_width Types one = 64
+most_width Any one = 64
+
+-- each line fits the format of this width and fraction length, and within the bound
+pub record Serves (r : Radix) (s : Bool) (bound : List ℕ) (lines : List (List ℕ)) (n f : ℕ) : Type 0 where
+  pub within_width : f ≤ n
+  pub fit : AllFit r s n f lines
+  pub within : AllWithin r f bound lines
+
+-- a format of one of the widths serves
+pub record IsServed (r : Radix) (s : Bool) (bound : List ℕ) (widths : Widths) (one : ℕ)
+    (lines : List (List ℕ)) : Type 0 where
+  pub width : ℕ
+  pub tried : IsTried widths one width
+  pub frac : ℕ
+  pub serves : Serves r s bound lines width frac
+
+-- n is the least of the widths at which a format serves, and f the greatest fraction length of those that do
+pub record IsLeastWithin (r : Radix) (s : Bool) (bound : List ℕ) (widths : Widths) (one : ℕ)
+    (lines : List (List ℕ)) (n f : ℕ) : Type 0 where
+  pub tried : IsTried widths one n
+  pub serves : Serves r s bound lines n f
+  pub greatest : (g : ℕ) → f < g → ¬ Serves r s bound lines n g
+  pub least : (m g : ℕ) → m < n → IsTried widths one m → ¬ Serves r s bound lines m g
+
+-- the first line with which no format serves any more is at this place, from 1
+pub record IsFirstUnserved (r : Radix) (s : Bool) (bound : List ℕ) (widths : Widths) (one : ℕ)
+    (lines : List (List ℕ)) (place : ℕ) : Type 0 where
+  pub before : List (List ℕ)
+  pub line : List ℕ
+  pub after : List (List ℕ)
+  pub split : lines ≡ before ++ line ∷ after
+  pub served : IsServed r s bound widths one before
+  pub unserved : ¬ IsServed r s bound widths one (before ++ line ∷ [])
+  pub place_is : place ≡ length before + 1
