@@ -1,4 +1,4 @@
-use Rattle.std.proofs.Common.{◌≡◌, ◌∙◌, ℕ, List, ap, length, take, sym}
+use Rattle.std.proofs.Common.{◌≡◌, ◌∙◌, ℕ, List, ap, take}
 use Rattle.std.specs.declared.option.Option.TheVariants.{Some}
 use Rattle.fixed_command.specs.Watched.{kept_bytes, line_at}
 use Rattle.fixed_command.specs.declared.watch.RefusedLine.{RefusedLine}
