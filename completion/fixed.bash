@@ -83,7 +83,7 @@ _fixed() {
         show:-*) words='--radix --policy --mode --file --output --help --version' ;;
         bits:-*) words='--radix --field --swap --file --output --help --version' ;;
         lines:-* | sort:-*) words='--limit --help --version' ;;
-        fit:-*) words='--width --signed --why --range --radix --help --version' ;;
+        fit:-*) words='--width --error --any --signed --why --range --radix --help --version' ;;
         pack:-*) words='--endian --radix --policy --mode --help --version' ;;
         unpack:-*) words='--endian --policy --target-mode --print --places --help --version' ;;
         constants:-*) words='--guard --numerals --name --radix --policy --mode --help --version' ;;

@@ -37,6 +37,8 @@ complete -c fixed -n '__fish_seen_subcommand_from column' -l keep -d 'a refused 
 complete -c fixed -n '__fish_seen_subcommand_from column' -l report -d 'counts on standard error'
 complete -c fixed -n '__fish_seen_subcommand_from least' -a '2 8 10 16' -d 'the radix of the numerals'
 complete -c fixed -n '__fish_seen_subcommand_from fit' -s w -l width -x -a '8 16 32 64' -d 'the width in bits'
+complete -c fixed -n '__fish_seen_subcommand_from fit' -s e -l error -x -d 'the greatest error'
+complete -c fixed -n '__fish_seen_subcommand_from fit' -l any -d 'of any width'
 complete -c fixed -n '__fish_seen_subcommand_from fit' -l signed -d 'only signed formats'
 complete -c fixed -n '__fish_seen_subcommand_from fit' -l why -d 'what rules out the next finer format'
 complete -c fixed -n '__fish_seen_subcommand_from fit' -l range -d 'two numerals in place of files'

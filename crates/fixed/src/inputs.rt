@@ -9,7 +9,6 @@ use fixed_command::{
     ColumnConversion, ConvertRule, FieldReport, MAX_TALLY, Place, RefusedLine, Tally, Task, Watch,
     convert_column, explanation, greater_end, run_task, tally_text,
 };
-use fixed_fit::Question as FitQuestion;
 use fixed_io::{StdSink, StdSource};
 use fixed_pack::{PackSettings, UnpackRule};
 use fixed_steps::Steps;
@@ -41,8 +40,8 @@ pub enum Job<'a> {
         /// Whether there is a report.
         has_report: bool,
     },
-    /// The finest format is found that its numerals fit.
-    Fit(FitQuestion),
+    /// A format is found that its numerals fit.
+    Fit(fit::FitTask),
     /// Its numerals are packed into words.
     Pack(PackSettings),
     /// Its words are unpacked into lines.
@@ -266,9 +265,9 @@ fn run_reader<R: Read + Drop, L: Ledger>(
             conversion,
             has_report,
         } => run_column_on(rt, conversion, *has_report, file, reader, output, steps),
-        Job::Fit(question) => {
+        Job::Fit(task) => {
             let mut source = StdSource::new(Unmarked::new(reader));
-            fit::run_on(rt, question, file, &mut source, steps)
+            fit::run_on(rt, task, file, &mut source, steps)
         }
         Job::Pack(settings) => pack::run_on(rt, settings, file, reader, steps),
         Job::Unpack(rule) => unpack::run_on(rt, rule, file, reader, steps),

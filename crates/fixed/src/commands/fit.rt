@@ -1,4 +1,5 @@
-//! `fixed fit`: the finest format of a width that each numeral of an input fits, and the greatest error in it.
+//! `fixed fit`: the finest format of a width that each numeral of an input fits, or the least within an error, and the
+//! greatest error in it.
 
 use crate::inputs::{Job, run_inputs};
 use crate::options::RADIX;
@@ -8,8 +9,9 @@ use command_line::given::{Asked, Given, Refusal};
 use command_line::page::{FILES, Page, Row};
 use command_line::report::{Report, report_end, report_no_memory};
 use fixed_bits::Format;
-use fixed_fit::{Question, run_fit};
+use fixed_fit::{Question, Widths, run_bounded, run_fit};
 use fixed_io::StdSink;
+use fixed_numeral::{Radix, scan};
 use fixed_steps::Steps;
 use line_engine::{MemorySink, MemorySource, Source, Status, write_text};
 use std::alloc::{AllocError, Global};
@@ -17,6 +19,19 @@ use std::sync::ledger::Ledger;
 
 /// How many bytes an answer has at most.
 const ANSWER: usize = 1536;
+
+/// The greatest K of an error 2^-K.
+const MOST_POWER: u32 = 1000;
+
+/// What is asked of a list.
+#[derive(Drop)]
+pub struct FitTask {
+    question: Question,
+    /// The greatest error that a numeral may have, where it is asked for: a numeral.
+    error: Option<Vec<u8>>,
+    /// Of which widths a format within it is asked for.
+    widths: Widths,
+}
 
 const WIDTH: Row = Row {
     name: "width",
@@ -50,15 +65,32 @@ const RANGE: Row = Row {
     help: "Every value from LO to HI, in place of files",
 };
 
+const ERROR: Row = Row {
+    name: "error",
+    letter: Some('e'),
+    value: "E",
+    choices: &[],
+    help: "The least format with errors of at most E, a numeral or 2^-K",
+};
+
+const ANY: Row = Row {
+    name: "any",
+    letter: None,
+    value: "",
+    choices: &[],
+    help: "With --error, of any width, not only 8, 16, 32 and 64",
+};
+
 pub fn page() -> Page {
     Page {
         name: "fit",
         hidden_name: "",
-        about: "Find the finest format of a width that each numeral fits",
-        usage: "fixed fit --width W [OPTIONS] [FILE]...\n       fixed fit --width W [OPTIONS] --range [--] LO HI",
+        about: "Find the finest format of a width that each numeral fits, or the least within an error",
+        usage: "fixed fit --width W [OPTIONS] [FILE]...\n       fixed fit --error E [OPTIONS] [FILE]...\n       \
+                fixed fit --width W [OPTIONS] --range [--] LO HI",
         operands: &[FILES],
         has_numerals: false,
-        options: &[WIDTH, SIGNED, WHY, RANGE, RADIX],
+        options: &[WIDTH, ERROR, ANY, SIGNED, WHY, RANGE, RADIX],
         end: "A numeral fits a format where it is in range after rounding to nearest, ties to\n\
               even. The finest format has the greatest fraction length. It is signed exactly\n\
               where a numeral is below zero, or where --signed asks for it. After its name\n\
@@ -66,15 +98,22 @@ pub fn page() -> Page {
               range LO is line 1 and HI line 2; where LO begins with a minus, -- comes\n\
               before it.\n\
               \n\
+              With --error the answer is the format of the least width of 8, 16, 32 and 64, or\n\
+              of W alone, at which one has each numeral in range with an error of at most E,\n\
+              and of those of that width the finest; or none, and the first line that rules\n\
+              out the last of them.\n\
+              \n\
               Example: printf '0.5\\n-3.2\\n' | fixed fit --width 16 --why",
     }
 }
 
-/// The format of the width and the sign rule that the options name.
+/// The format of the width and the sign rule that the options name; of 64 bits where an error is asked for, and no
+/// width.
 fn kind_of<'a>(given: &Given<'_, 'a>) -> Asked<'a, Format> {
     let word = match given.value(&WIDTH) {
         Some(word) => word,
-        None => return Err(Refusal::Missing("--width W")),
+        None if given.value(&ERROR).is_some() => "64",
+        None => return Err(Refusal::Missing("--width W or --error E")),
     };
     let is_plain = !word.starts_with('0') && !word.starts_with('+');
     let kind = match word.parse::<u32>() {
@@ -87,13 +126,114 @@ fn kind_of<'a>(given: &Given<'_, 'a>) -> Asked<'a, Format> {
     }
 }
 
-/// Says on standard error which line is not a numeral, or is out of range in each format of the width.
-fn report_refused(rt: &HostRuntime, file: Option<&str>, answer: &[u8]) {
+/// Of which widths a format within an error is asked for.
+fn widths_of<'a>(given: &Given<'_, 'a>) -> Asked<'a, Widths> {
+    let is_any = given.has(&ANY);
+    if is_any && given.value(&ERROR).is_none() {
+        return Err(Refusal::Word("--any", "is for --error"));
+    }
+    match (given.value(&WIDTH), is_any) {
+        (None, true) => Ok(Widths::Any),
+        (None, false) => Ok(Widths::Types),
+        (Some(_), false) => Ok(Widths::One),
+        (Some(word), true) => Err(Refusal::Word(word, "is one width, and --any is for all")),
+    }
+}
+
+/// Halves a decimal fraction of these digits.
+fn halve(digits: &mut Vec<u8>) -> Result<(), AllocError> {
+    let mut is_odd = false;
+    for digit in digits.iter_mut() {
+        let all = u32::from(*digit) + if is_odd { 10 } else { 0 };
+        *digit = (all / 2) as u8;
+        is_odd = all % 2 == 1;
+    }
+    digits.push(if is_odd { 5 } else { 0 })?;
+    Ok(())
+}
+
+/// 2^-`power` in decimal.
+fn power_of_half(alloc: Global, power: u32) -> Result<Vec<u8>, AllocError> {
+    let mut text = Vec::new(alloc);
+    if power == 0 {
+        text.push(b'1')?;
+        return Ok(text);
+    }
+    let mut digits = Vec::new(alloc);
+    digits.push(5)?;
+    for _ in 1..power {
+        halve(&mut digits)?;
+    }
+    text.extend_from_slice(b"0.")?;
+    for digit in &digits {
+        text.push(b'0'.saturating_add(*digit))?;
+    }
+    Ok(text)
+}
+
+/// 2^-K as a numeral of the radix; `None` where K is no number up to 1,000.
+fn power_numeral(alloc: Global, word: &str, radix: Radix) -> Result<Option<Vec<u8>>, AllocError> {
+    let power = match word.parse::<u32>() {
+        Ok(power) if power <= MOST_POWER && !word.starts_with('+') => power,
+        _ => return Ok(None),
+    };
+    if radix == Radix::Dec {
+        return Ok(Some(power_of_half(alloc, power)?));
+    }
+    let mut text = Vec::new(alloc);
+    text.extend_from_slice(b"1p-")?;
+    text.extend_from_slice(word.as_bytes())?;
+    Ok(Some(text))
+}
+
+/// The numeral of an error, which is not below zero; `None` where a word is none.
+fn error_numeral<L: Ledger>(
+    alloc: Global,
+    word: &str,
+    radix: Radix,
+    steps: &mut Steps<L>,
+) -> Result<Option<Vec<u8>>, AllocError> {
+    if let Some(power) = word.strip_prefix("2^-") {
+        return power_numeral(alloc, power, radix);
+    }
+    if word.starts_with('-') || scan(word.as_bytes(), radix, steps).is_err() {
+        return Ok(None);
+    }
+    let mut text = Vec::new(alloc);
+    text.extend_from_slice(word.as_bytes())?;
+    Ok(Some(text))
+}
+
+/// The error that the option names, as a numeral; `None` where it is not there.
+fn error_of<'a, L: Ledger>(
+    alloc: Global,
+    given: &Given<'_, 'a>,
+    radix: Radix,
+    steps: &mut Steps<L>,
+) -> Asked<'a, Option<Vec<u8>>> {
+    let word = match given.value(&ERROR) {
+        Some(word) => word,
+        None => return Ok(None),
+    };
+    match error_numeral(alloc, word, radix, steps)? {
+        Some(error) => Ok(Some(error)),
+        None => Err(Refusal::Word(
+            word,
+            "is not an error: it is a numeral that is not below zero, or 2^-K with K up to 1000",
+        )),
+    }
+}
+
+/// Says on standard error which line is not a numeral, or rules out the last format.
+fn report_refused(rt: &HostRuntime, task: &FitTask, file: Option<&str>, answer: &[u8]) {
     let mut report = Report::of(file);
     match answer.strip_prefix(b"error: ") {
         Some(fault) => report.bytes(fault, 160),
         None => {
-            report.text("no format of the width fits ");
+            report.text(match task.error {
+                Some(_) => "no format fits within the error from ",
+                None => "no format of the width fits ",
+            });
             report.bytes(answer.strip_prefix(b"none ").unwrap_or(answer), 40);
         }
     }
@@ -101,7 +241,13 @@ fn report_refused(rt: &HostRuntime, file: Option<&str>, answer: &[u8]) {
 }
 
 /// Writes an answer, and says on standard error why it is none, or why it could not be written.
-fn write_answer(rt: &HostRuntime, file: Option<&str>, answer: &[u8], status: Status) -> Status {
+fn write_answer(
+    rt: &HostRuntime,
+    task: &FitTask,
+    file: Option<&str>,
+    answer: &[u8],
+    status: Status,
+) -> Status {
     let failure = Failure::new(None);
     let mut sink = StdSink::new(Writer {
         writer: rt.stdout(),
@@ -109,7 +255,7 @@ fn write_answer(rt: &HostRuntime, file: Option<&str>, answer: &[u8], status: Sta
     });
     let ended = write_text(answer, status, &mut sink);
     if ended == Status::Faults {
-        report_refused(rt, file, answer);
+        report_refused(rt, task, file, answer);
     }
     report_end(rt, file, ended, sink.lines(), &failure);
     ended
@@ -122,10 +268,36 @@ fn room(alloc: Global) -> Result<Vec<u8>, AllocError> {
     Ok(room)
 }
 
+/// Answers the list of a source into memory.
+fn answer_list<S: Source, L: Ledger>(
+    rt: &HostRuntime,
+    task: &FitTask,
+    source: &mut S,
+    sink: &mut MemorySink,
+    steps: &mut Steps<L>,
+) -> Status {
+    let question = &task.question;
+    match &task.error {
+        None => run_fit(rt.alloc(), question, source, sink, steps),
+        Some(error) => match scan(error, question.radix, steps) {
+            Ok(_) => run_bounded(
+                rt.alloc(),
+                question,
+                error,
+                task.widths,
+                source,
+                sink,
+                steps,
+            ),
+            Err(_) => Status::Usage,
+        },
+    }
+}
+
 /// Answers the list of a source, and says on standard error why it did not end well.
 pub fn run_on<S: Source, L: Ledger>(
     rt: &HostRuntime,
-    question: &Question,
+    task: &FitTask,
     file: Option<&str>,
     source: &mut S,
     steps: &mut Steps<L>,
@@ -135,8 +307,8 @@ pub fn run_on<S: Source, L: Ledger>(
         Err(_) => return report_no_memory(rt),
     };
     let mut sink = MemorySink::new(room, ANSWER, Vec::new(rt.alloc()));
-    let status = run_fit(rt.alloc(), question, source, &mut sink, steps);
-    write_answer(rt, file, sink.written(), status)
+    let status = answer_list(rt, task, source, &mut sink, steps);
+    write_answer(rt, task, file, sink.written(), status)
 }
 
 /// The list of the two ends of a range.
@@ -152,7 +324,7 @@ fn ends_of(alloc: Global, low: &str, high: &str) -> Result<Vec<u8>, AllocError> 
 /// Answers for every value between two numerals: as the list of the two.
 fn run_range<'a, L: Ledger>(
     rt: &HostRuntime,
-    question: &Question,
+    task: &FitTask,
     words: &[&'a str],
     steps: &mut Steps<L>,
 ) -> Asked<'a, Status> {
@@ -160,7 +332,7 @@ fn run_range<'a, L: Ledger>(
         [low, high] => {
             let bytes = ends_of(rt.alloc(), low, high)?;
             let mut source = MemorySource::new(bytes, 4096, Vec::new(rt.alloc()));
-            Ok(run_on(rt, question, None, &mut source, steps))
+            Ok(run_on(rt, task, None, &mut source, steps))
         }
         [_, _, word, ..] => Err(Refusal::Word(word, "is one word too many: a range is LO HI")),
         _ => Err(Refusal::Missing("range: it is LO HI")),
@@ -177,14 +349,22 @@ pub fn run<'a, L: Ledger>(
         Ok(kind) => kind,
         Err(refusal) => return Err(refusal),
     };
-    let question = Question {
-        radix: radix_of(given)?,
-        kind,
-        is_reason_asked: given.has(&WHY),
-        is_range: given.has(&RANGE),
+    let radix = radix_of(given)?;
+    let task = FitTask {
+        question: Question {
+            radix,
+            kind,
+            is_reason_asked: given.has(&WHY),
+            is_range: given.has(&RANGE),
+        },
+        error: error_of(rt.alloc(), given, radix, steps)?,
+        widths: widths_of(given)?,
     };
     if given.has(&RANGE) {
-        return run_range(rt, &question, given.from(0), steps);
+        if task.error.is_some() {
+            return Err(Refusal::Word("--range", "has half an ulp for its error, and no --error"));
+        }
+        return run_range(rt, &task, given.from(0), steps);
     }
-    Ok(run_inputs(rt, &Job::Fit(question), given.from(0), steps))
+    Ok(run_inputs(rt, &Job::Fit(task), given.from(0), steps))
 }
