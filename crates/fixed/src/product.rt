@@ -77,7 +77,8 @@ impl<'a> Gathered<'a> {
     }
 }
 
-/// Appends a line of the product: its number in its file, from 1, after the file's name where that is asked for.
+/// Appends a line of the product: its number in its file, from 1, and the file's name where that is asked for; of one
+/// past all files its number.
 fn push_line(report: &mut Report, ends: &[(&str, u64)], line: u64, is_named: bool) {
     let mut before = 0;
     for end in ends {
@@ -87,9 +88,11 @@ fn push_line(report: &mut Report, ends: &[(&str, u64)], line: u64, is_named: boo
                 report.text(" of ");
                 report.text(end.0);
             }
+            return;
         }
         before = end.1;
     }
+    report.number(line.saturating_sub(before));
 }
 
 /// Appends the file that has a line of the product, and `: `; nothing for standard input.
