@@ -48,7 +48,7 @@ pub record IsInvalidPlace (s : Settings) (bytes : List ℕ) (place : ℕ) : Type
 abbrev pub IsPlaceOrZero : Settings → List ℕ → ℕ → Type 0
 IsPlaceOrZero s bytes place = IsInvalidPlace s bytes place ⊎ ((place ≡ 0) × HasNoneUpTo s bytes (length bytes))
 
--- the byte at a place, from 1, and its place in a line that has some bytes before these, up to the greatest of 64 bits
+-- the byte at a place, from 1, and its place in a line with some bytes before these; the greatest place is not passed
 abbrev pub place_text : List ℕ → ℕ → ℕ → List ℕ
 place_text bytes place before = codes ", byte " ++ (decimal (min (place + before) (2 ^ 64 - 1))
     ++ (codes ", '" ++ (get_or bytes (place - 1) 0 ∷ codes "'")))
