@@ -214,8 +214,10 @@ fn lengths_answer<L: Ledger>(
 
 /// The answer to an input, by what is known of its lines.
 pub fn answer_of<L: Ledger>(reader: &Reader, question: &Question, steps: &mut Steps<L>) -> FitAnswer
-    requires { (list : List (List ℕ)) × HasLines question.now.radix (unbounded question.now.kind.width) list reader.now }
-    ensures { (input : List ℕ) → HasLines question.now.radix (unbounded question.now.kind.width) (lines input) reader.now
+    requires { (list : List (List ℕ))
+        × HasLines question.now.radix (unbounded question.now.kind.width) list reader.now }
+    ensures { (input : List ℕ)
+        → HasLines question.now.radix (unbounded question.now.kind.width) (lines input) reader.now
         → IsAnswer question.now input result }
 {
     let known = reader.progress;

@@ -3,7 +3,8 @@
 //! A numeral that is within an error at a fraction length is within it at each longer one. So the lengths within the
 //! error are those from a least one on, and a format serves where more lengths of its width are left than that.
 
-ghost use Rattle.std.specs.Prelude.{◌≡◌, ◌⊎◌, ◌≤◌, ◌<◌, ◌+◌, ◌++◌, ◌∷◌, ◌↔◌, [], IsTrue, IfOk, true, false, List, ℕ, Bool, length};
+ghost use Rattle.std.specs.Prelude.{◌≡◌, ◌⊎◌, ◌≤◌, ◌<◌, ◌+◌, ◌++◌, ◌∷◌, ◌↔◌, []};
+ghost use Rattle.std.specs.Prelude.{IsTrue, IfOk, true, false, List, ℕ, Bool, length};
 ghost use Rattle.fixed_bits.specs.Ranges.{IsWidth};
 ghost use Rattle.fixed_bits.specs.declared.mode.ReadMode.TheVariants.{NearestEven};
 ghost use Rattle.fixed_error.specs.ErrorSize.{HasErrorAbove, HasErrorWithin, IsReadWithin};
