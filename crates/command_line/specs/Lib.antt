@@ -1,0 +1,2 @@
+-- The words that a command line gives a command.
+pub mod Words

@@ -1,7 +1,7 @@
 //! What the words of a command line give a command, and why they may be refused.
 
-ghost use Rattle.std.specs.Prelude.{◌≡◌, option_map};
-ghost use Rattle.clap.specs.Words.{first_value, found_of};
+ghost use Rattle.std.specs.Prelude.{◌≡◌, IfErr, IfOk, None, Some, option_map};
+ghost use Rattle.command_line.specs.Words.{has_flag, keyword_at, value_of, word_at};
 
 use crate::page::{Operand, Row};
 use clap::ArgMatches;
@@ -65,18 +65,23 @@ impl<'w, 'a> Given<'w, 'a> {
 
     /// The value of an option: what `clap` found under its name.
     pub fn value(&self, row: &Row) -> Option<&'a str>
-        ensures { option_map (λ s. s.now) result ≡ first_value (found_of self.now.matches.now) row.now.name.now }
+        ensures { option_map (λ s. s.now) result ≡ value_of self.now row.now.name.now }
     {
         self.matches.get_str(row.name)
     }
 
     /// Whether an option without a value is there.
-    pub fn has(&self, row: &Row) -> bool {
-        self.matches.get_flag(row.name)
+    pub fn has(&self, row: &Row) -> bool
+        ensures { result ≡ has_flag self.now row.now.name.now }
+    {
+        self.matches.get_one(row.name).unwrap_or(false)
     }
 
     /// The word at a place, which must be there.
-    pub fn needed(&self, place: usize, name: &'static str) -> Asked<'a, &'a str> {
+    pub fn needed(&self, place: usize, name: &'static str) -> Asked<'a, &'a str>
+        ensures value { IfOk result (λ w. word_at self.now place ≡ Some w.now) }
+        ensures refused { IfErr result (λ _. word_at self.now place ≡ None) }
+    {
         match self.words.get(place) {
             Some(word) => Ok(*word),
             None => Err(Refusal::Missing(name)),
@@ -84,7 +89,9 @@ impl<'w, 'a> Given<'w, 'a> {
     }
 
     /// The word at a place where it may be a keyword.
-    pub fn keyword(&self, place: usize) -> Option<&'a str> {
+    pub fn keyword(&self, place: usize) -> Option<&'a str>
+        ensures { option_map (λ s. s.now) result ≡ keyword_at self.now place }
+    {
         if place < self.open {
             self.words.get(place).copied()
         } else {

@@ -3,6 +3,7 @@
 pub mod bits;
 pub mod column;
 pub mod column_report;
+pub mod column_words;
 pub mod constants;
 pub mod convert;
 pub mod enclose;

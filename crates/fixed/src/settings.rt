@@ -1,7 +1,12 @@
 //! What the formats and the options of a conversion name.
 
-ghost use Rattle.std.specs.Prelude.{◌≡◌, ◌≤◌, ℕ, IfErr, IfOk, MatchOption, None, Some, codes, decimal};
+ghost use Rattle.std.specs.Prelude.{◌≡◌, ◌≢◌, ◌+◌, ◌<◌, ◌≤◌, ◌^◌, ◌⊎◌, ℕ, IfErr, IfOk, MatchOption, None, Some};
+ghost use Rattle.std.specs.Prelude.{Option, codes, decimal, false, length, slice_index, true, unwrap_or};
+ghost use Rattle.std.specs.List.{list_all};
 ghost use Rattle.clap.specs.Words.{first_value, found_of};
+ghost use Rattle.command_line.specs.Words.{keyword_at, value_of, word_at};
+ghost use Rattle.fixed.specs.Lines.{IsFormatAsked, IsPartAsked, IsTargetAsked, are_counts, is_count};
+ghost use Rattle.fixed.specs.Lines.{is_like_format};
 ghost use Rattle.fixed.specs.Settings.{IsPlacesWord, IsPrintAsked, endian_text};
 ghost use Rattle.fixed_bits.specs.Formats.{FormatParts};
 ghost use Rattle.fixed_bits.specs.declared.format.Policy.{Policy};
@@ -14,6 +19,8 @@ ghost use Rattle.fixed_numeral.specs.declared.radix.Radix.{Radix};
 ghost use Rattle.fixed_pack.specs.declared.endian.Endian.{Endian};
 ghost use Rattle.fixed_respell.specs.FormatNames.{IsFormatName};
 ghost use Rattle.fixed_respell.specs.Words.{mode_text, policy_text, radix_text};
+ghost use Rattle.fixed_show.specs.declared.parts.Part.{Part};
+ghost use Rattle.line_engine.specs.Memory.{next_count};
 
 use crate::options::{ENDIAN, FIELD, FROM, MODE, PLACES, POLICY, PRINT, RADIX, SWAP, TARGET_MODE};
 use command_line::given::{Asked, Given, Refusal};
@@ -42,17 +49,32 @@ pub fn format_of<'a>(word: &'a str) -> Asked<'a, Format>
     }
 }
 
+/// Whether a byte is a digit or one of two others.
+fn is_count(byte: u8, one: u8, other: u8) -> bool
+    ensures { result ≡ is_count one other byte }
+{
+    byte.is_ascii_digit() || byte == one || byte == other
+}
+
+/// Whether all of some bytes are digits or one of two others.
+fn are_all_counts(bytes: &[u8], one: u8, other: u8) -> bool
+    ensures { result ≡ list_all (is_count one other) bytes.now }
+{
+    bytes.iter().all(|b| is_count(*b, one, other))
+}
+
 /// Whether all of some bytes, of which there are some, are digits or one of two others.
-fn are_counts(bytes: &[u8], one: u8, other: u8) -> bool {
-    !bytes.is_empty()
-        && bytes
-            .iter()
-            .all(|b| b.is_ascii_digit() || *b == one || *b == other)
+fn are_counts(bytes: &[u8], one: u8, other: u8) -> bool
+    ensures { result ≡ are_counts one other bytes.now }
+{
+    !bytes.is_empty() && are_all_counts(bytes, one, other)
 }
 
 /// Whether a word has the shape of a format: I or U, and then digits and F; or Q or UQ, and then digits and a point. A
 /// file of such a name is written `./I8F8`.
-fn is_like_format(word: &str) -> bool {
+fn is_like_format(word: &str) -> bool
+    ensures { result ≡ is_like_format word.now }
+{
     match word.as_bytes() {
         [b'U' | b'u', b'Q' | b'q', rest @ ..] => are_counts(rest, b'.', b'.'),
         [b'Q' | b'q', rest @ ..] => are_counts(rest, b'.', b'.'),
@@ -61,8 +83,18 @@ fn is_like_format(word: &str) -> bool {
     }
 }
 
+/// The value of an option, or this where it is left out.
+pub fn value_or<'a>(given: &Given<'_, 'a>, row: &Row, default: &'static str) -> &'a str
+    ensures { result.now ≡ unwrap_or (value_of given.now row.now.name.now) default.now }
+{
+    match given.value(row) {
+        Some(value) => value,
+        None => default,
+    }
+}
+
 /// What an option's value names, or a refusal of the value.
-fn known<'a, T>(found: Option<T>, given: &Given<'_, 'a>, row: &Row) -> Asked<'a, T>
+pub fn known<'a, T>(found: Option<T>, given: &Given<'_, 'a>, row: &Row) -> Asked<'a, T>
     ensures value { IfOk result (λ a. found ≡ Some a) }
     ensures refused { IfErr result (λ _. found ≡ None) }
 {
@@ -178,19 +210,22 @@ fn places_of(word: &str) -> Option<Places>
 }
 
 /// The format that the word at a place names, which must be there.
-pub fn format_at<'a>(given: &Given<'_, 'a>, place: usize, name: &'static str) -> Asked<'a, Format> {
-    match given.words.get(place) {
-        Some(word) => format_of(word),
-        None => Err(Refusal::Missing(name)),
+pub fn format_at<'a>(given: &Given<'_, 'a>, place: usize, name: &'static str) -> Asked<'a, Format>
+    ensures value { IfOk result (λ f. IsFormatAsked (word_at given.now place) f) }
+    ensures refused { IfErr result (λ _. (f : FormatParts) → ¬ IsFormatAsked (word_at given.now place) f) }
+{
+    match given.needed(place, name) {
+        Ok(word) => format_of(word),
+        Err(refusal) => Err(refusal),
     }
 }
 
 /// The target that the word at a place names, and the place of the first file: the source where the word is none.
-fn target_of<'a>(
-    given: &Given<'_, 'a>,
-    place: usize,
-    source: Format,
-) -> Asked<'a, (Format, usize)> {
+fn target_of<'a>(given: &Given<'_, 'a>, place: usize, source: Format) -> Asked<'a, (Format, usize)>
+    ensures value { IfOk result (λ a. IsTargetAsked (keyword_at given.now place) source place a.0 a.1) }
+    ensures refused { IfErr result (λ _. (target : FormatParts) (files : ℕ)
+        → ¬ IsTargetAsked (keyword_at given.now place) source place target files) }
+{
     match given.keyword(place) {
         Some(word) if is_like_format(word) => match format_of(word) {
             Ok(target) => Ok((target, place.saturating_add(1))),
@@ -225,7 +260,10 @@ pub fn endian_of<'a>(given: &Given<'_, 'a>) -> Asked<'a, Endian>
 }
 
 /// The part of a word that the options name. None where they take the whole word as it is.
-pub fn part_of<'a>(given: &Given<'_, 'a>, format: Format) -> Asked<'a, Option<Part>> {
+pub fn part_of<'a>(given: &Given<'_, 'a>, format: Format) -> Asked<'a, Option<Part>>
+    ensures value { IfOk result (λ a. IsPartAsked format given.now a) }
+    ensures refused { IfErr result (λ _. (a : Option Part) → ¬ IsPartAsked format given.now a) }
+{
     let is_reversed = given.has(&SWAP);
     let low = match given.value(&FIELD) {
         None => None,
@@ -248,6 +286,9 @@ pub fn part_of<'a>(given: &Given<'_, 'a>, format: Format) -> Asked<'a, Option<Pa
 
 /// The conversion that the words from a place on and the options name, and the place of the first file.
 pub fn conversion<'a>(given: &Given<'_, 'a>, place: usize) -> Asked<'a, (ConvertRule, usize)>
+    ensures source { IfOk result (λ found. IsFormatAsked (word_at given.now place) found.0.source) }
+    ensures target { IfOk result (λ found. IsTargetAsked (keyword_at given.now (next_count place)) found.0.source
+        (next_count place) found.0.target found.1) }
     ensures spelling { IfOk result (λ found. IsNamed Spelling spelling_text Spelling.Numeral
         (first_value (found_of given.now.matches.now) (codes "from")) found.0.spelling) }
     ensures radix { IfOk result (λ found. IsNamed Radix radix_text Radix.Dec
@@ -284,6 +325,30 @@ pub fn conversion<'a>(given: &Given<'_, 'a>, place: usize) -> Asked<'a, (Convert
         print,
     };
     Ok((ConvertRule::new(settings), files))
+}
+
+/// Whether a word neither begins with a plus nor has a zero before another byte.
+fn is_plain(word: &[u8]) -> bool
+    ensures yes { result ≡ true → (slice_index word.now 0 ≢ 43)
+        × (slice_index word.now 0 ≡ 48 → length word.now ≡ 1) }
+    ensures no { result ≡ false → (slice_index word.now 0 ≡ 43)
+        ⊎ ((slice_index word.now 0 ≡ 48) × (1 < length word.now)) }
+{
+    match word {
+        [b'+', ..] => false,
+        [b'0', _, ..] => false,
+        _ => true,
+    }
+}
+
+/// The number of 64 bits that a word is in decimal, without a sign or a leading zero.
+pub fn count_named(word: &str) -> Option<u64>
+    ensures { MatchOption result ((n : ℕ) → n < 2 ^ 64 → ¬ (word.now ≡ decimal n)) (λ n. word.now ≡ decimal n) }
+{
+    match word.parse::<u64>() {
+        Ok(count) if is_plain(word.as_bytes()) => Some(count),
+        _ => None,
+    }
 }
 
 /// The limit that a word names: a number in decimal, without a sign or a leading zero.

@@ -1,5 +1,12 @@
 //! `fixed constants`: named literals in one form, or a list of them or of numerals as an array or as a memory's file.
 
+ghost use Rattle.std.specs.Prelude.{◌≡◌, IfErr, IfOk, List, MatchOption, codes, ℕ};
+ghost use Rattle.command_line.specs.Words.{keyword_at, value_of};
+ghost use Rattle.fixed.specs.Constants.{IsArrayAsked, IsArrayWord, IsFormAsked, IsGuardAsked, IsNameAsked};
+ghost use Rattle.fixed.specs.Constants.{IsNumeralsAsked, is_file};
+ghost use Rattle.fixed_arrays.specs.declared.form.ArrayForm.{ArrayForm};
+ghost use Rattle.fixed_arrays.specs.declared.rule.Numerals.{Numerals};
+
 use crate::options::{MODE, POLICY, RADIX};
 use crate::product::{Product, run_product};
 use crate::settings::{format_of, mode_of, policy_of, radix_of};
@@ -68,7 +75,9 @@ pub fn page() -> Page {
 
 /// The form that the first word names, and the place of the first file. A file of such a name is written `./c`, or
 /// after `--`.
-fn form_and_files(given: &Given<'_, '_>) -> (Form, usize) {
+fn form_and_files(given: &Given<'_, '_>) -> (Form, usize)
+    ensures { IsFormAsked (keyword_at given.now 0) result.0 result.1 }
+{
     match given.keyword(0) {
         Some("c") => (Form::C, 1),
         Some("rust") => (Form::Rust, 1),
@@ -77,7 +86,11 @@ fn form_and_files(given: &Given<'_, '_>) -> (Form, usize) {
 }
 
 /// The guard that the option names: the empty text where it is left out.
-fn guard_of<'a>(given: &Given<'_, 'a>, is_header: bool) -> Asked<'a, &'a str> {
+fn guard_of<'a>(given: &Given<'_, 'a>, is_header: bool) -> Asked<'a, &'a str>
+    ensures value { IfOk result (λ a. IsGuardAsked is_header (value_of given.now (codes "guard")) a.now) }
+    ensures refused { IfErr result (λ _. (a : List ℕ)
+        → ¬ IsGuardAsked is_header (value_of given.now (codes "guard")) a) }
+{
     match given.value(&GUARD) {
         None => Ok(""),
         Some(guard) if !is_header => Err(Refusal::Word(
@@ -92,9 +105,11 @@ fn guard_of<'a>(given: &Given<'_, 'a>, is_header: bool) -> Asked<'a, &'a str> {
     }
 }
 
-/// What the first word has a list of numbers written as, without a guard.
-fn array_form(given: &Given<'_, '_>) -> Option<ArrayForm> {
-    match given.keyword(0)? {
+/// What a word has a list of numbers written as, without a guard.
+fn array_named(word: &str) -> Option<ArrayForm>
+    ensures { MatchOption result ((a : ArrayForm) → ¬ IsArrayWord word.now a) (λ a. IsArrayWord word.now a) }
+{
+    match word {
         "array-c" => Some(ArrayForm::C),
         "array-rust" => Some(ArrayForm::Rust),
         "vhdl" => Some(ArrayForm::Vhdl),
@@ -105,9 +120,31 @@ fn array_form(given: &Given<'_, '_>) -> Option<ArrayForm> {
     }
 }
 
+/// What the first word has a list of numbers written as, without a guard.
+fn array_form(given: &Given<'_, '_>) -> Option<ArrayForm>
+    ensures { MatchOption result ((a : ArrayForm) → ¬ IsArrayAsked (keyword_at given.now 0) a)
+        (λ a. IsArrayAsked (keyword_at given.now 0) a) }
+{
+    match given.keyword(0) {
+        Some(word) => array_named(word),
+        None => None,
+    }
+}
+
+/// Whether a list of a form is the file of a memory.
+fn is_file(form: ArrayForm) -> bool
+    ensures { result ≡ is_file form }
+{
+    matches!(form, ArrayForm::Readmemh | ArrayForm::Coe | ArrayForm::Mif)
+}
+
 /// The name of a list: the empty text for the file of a memory.
-fn name_of<'a>(given: &Given<'_, 'a>, form: ArrayForm, guard: &str) -> Asked<'a, &'a str> {
-    let is_file = matches!(form, ArrayForm::Readmemh | ArrayForm::Coe | ArrayForm::Mif);
+fn name_of<'a>(given: &Given<'_, 'a>, form: ArrayForm, guard: &str) -> Asked<'a, &'a str>
+    ensures value { IfOk result (λ a. IsNameAsked form guard.now (value_of given.now (codes "name")) a.now) }
+    ensures refused { IfErr result (λ _. (a : List ℕ)
+        → ¬ IsNameAsked form guard.now (value_of given.now (codes "name")) a) }
+{
+    let is_file = is_file(form);
     match given.value(&NAME) {
         None if is_file => Ok(""),
         None => Err(Refusal::Missing("--name NAME")),
@@ -124,7 +161,10 @@ fn name_of<'a>(given: &Given<'_, 'a>, form: ArrayForm, guard: &str) -> Asked<'a,
 }
 
 /// How the numerals of a list are read, into the format that a word names.
-fn numerals_of<'a>(given: &Given<'_, 'a>, word: &'a str) -> Asked<'a, Numerals> {
+fn numerals_of<'a>(given: &Given<'_, 'a>, word: &'a str) -> Asked<'a, Numerals>
+    ensures value { IfOk result (λ a. IsNumeralsAsked given.now word.now a) }
+    ensures refused { IfErr result (λ _. (a : Numerals) → ¬ IsNumeralsAsked given.now word.now a) }
+{
     let format = match format_of(word) {
         Ok(format) => format,
         Err(refusal) => return Err(refusal),

@@ -1,5 +1,9 @@
 //! `fixed convert`: each line is a numeral.
 
+ghost use Rattle.std.specs.Prelude.{IfErr, IfOk};
+ghost use Rattle.fixed.specs.Lines.{IsLayoutAsked};
+ghost use Rattle.fixed_command.specs.Layout.{LineLayout};
+
 use crate::inputs::{Job, run_inputs_to};
 use crate::options::{
     COMMENTS, FROM, MODE, OUTPUT, PLACES, POLICY, PRINT, RADIX, REPORT, SKIP_BLANK, SOURCE, TARGET,
@@ -49,7 +53,10 @@ pub fn page() -> Page {
 }
 
 /// What the options say that a line may have beside its numeral.
-fn layout_of<'a>(given: &Given<'_, 'a>) -> Asked<'a, Layout> {
+fn layout_of<'a>(given: &Given<'_, 'a>) -> Asked<'a, Layout>
+    ensures value { IfOk result (λ layout. IsLayoutAsked given.now layout) }
+    ensures refused { IfErr result (λ _. (layout : LineLayout) → ¬ IsLayoutAsked given.now layout) }
+{
     let prefix = match given.value(&COMMENTS) {
         Some("") => return Err(Refusal::Word("", "is no beginning of a comment: it is empty")),
         Some(prefix) if prefix.starts_with(' ') || prefix.starts_with('\t') => {

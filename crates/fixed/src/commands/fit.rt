@@ -1,6 +1,11 @@
 //! `fixed fit`: the finest format of a width that each numeral of an input fits, or the least within an error, and the
 //! greatest error in it.
 
+ghost use Rattle.std.specs.Prelude.{IfErr, IfOk, MatchOption, codes, is_some};
+ghost use Rattle.command_line.specs.Words.{has_flag, value_of};
+ghost use Rattle.fixed.specs.Lines.{IsKindAsked, IsKindWord};
+ghost use Rattle.fixed_bits.specs.Formats.{FormatParts};
+
 use crate::inputs::{Job, run_inputs};
 use crate::options::RADIX;
 use crate::settings::radix_of;
@@ -12,6 +17,7 @@ use fixed_bits::Format;
 use fixed_fit::{Question, Widths, run_bounded, run_fit};
 use fixed_io::StdSink;
 use fixed_numeral::{Radix, scan};
+use fixed_respell::number_word;
 use fixed_steps::Steps;
 use line_engine::{MemorySink, MemorySource, Source, Status, write_text};
 use std::alloc::{AllocError, Global};
@@ -107,20 +113,31 @@ pub fn page() -> Page {
     }
 }
 
+/// The format of the width that a word is and of a sign rule.
+fn kind_named(word: &str, is_signed: bool) -> Option<Format>
+    ensures { MatchOption result ((kind : FormatParts) → ¬ IsKindWord is_signed word.now kind)
+        (λ kind. IsKindWord is_signed word.now kind) }
+{
+    match number_word(word.as_bytes(), 64) {
+        Some(width) if width > 0 => Some(Format::of(is_signed, width as u32, 0)),
+        _ => None,
+    }
+}
+
 /// The format of the width and the sign rule that the options name; of 64 bits where an error is asked for, and no
 /// width.
-fn kind_of<'a>(given: &Given<'_, 'a>) -> Asked<'a, Format> {
+fn kind_of<'a>(given: &Given<'_, 'a>) -> Asked<'a, Format>
+    ensures value { IfOk result (λ kind. IsKindAsked (has_flag given.now (codes "signed"))
+        (is_some (value_of given.now (codes "error"))) (value_of given.now (codes "width")) kind) }
+    ensures refused { IfErr result (λ _. (kind : FormatParts) → ¬ IsKindAsked (has_flag given.now (codes "signed"))
+        (is_some (value_of given.now (codes "error"))) (value_of given.now (codes "width")) kind) }
+{
     let word = match given.value(&WIDTH) {
         Some(word) => word,
         None if given.value(&ERROR).is_some() => "64",
         None => return Err(Refusal::Missing("--width W or --error E")),
     };
-    let is_plain = !word.starts_with('0') && !word.starts_with('+');
-    let kind = match word.parse::<u32>() {
-        Ok(width) if is_plain => Format::of_any_width(given.has(&SIGNED), width, 0),
-        _ => None,
-    };
-    match kind {
+    match kind_named(word, given.has(&SIGNED)) {
         Some(kind) => Ok(kind),
         None => Err(Refusal::Word(word, "is not a width: it is a number from 1 to 64")),
     }

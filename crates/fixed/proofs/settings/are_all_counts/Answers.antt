@@ -1,0 +1,10 @@
+use Rattle.std.proofs.Common.{rules, tests, ◌==◌, ◌||◌, ◌&&◌, ℕ}
+use Rattle.std.proofs.lemmas.Iterator.{YieldsList-from_slice}
+use Rattle.std.proofs.lemmas.Iterator.Search.{all_from_yields_List}
+use Rattle.fixed.specs.Lines.{is_count}
+use Rattle.fixed.proofs.settings.are_all_counts.Goals as goal
+
+pub returns : goal.returns
+returns c =
+    all_from_yields_List (is_count c.args.one c.args.other) _ _ _ c.all.ensures.ran
+    (YieldsList-from_slice c.args.bytes.now cc) (λ x b q k. search (rules, tests))

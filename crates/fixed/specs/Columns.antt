@@ -1,0 +1,104 @@
+-- What the words of `fixed column` ask for.
+use Rattle.std.specs.Prelude.{◌≡◌, ◌≢◌, ◌==◌, ◌&&◌, ◌||◌, ◌⊎◌, ◌+◌, ◌-◌, ◌^◌, ◌<◌, ◌≤◌, ℕ, Bool, true, false, not}
+use Rattle.std.specs.Prelude.{List, [], ◌∷◌, ◌++◌, None, Option, Some, chars, codes, decimal, length, string_bytes}
+use Rattle.std.specs.Prelude.{unwrap_or}
+use Rattle.std.specs.Char.{is_ascii_alphanumeric, is_ascii_whitespace}
+use Rattle.std.specs.List.{list_all, list_any}
+use Rattle.column_engine.specs.declared.columns.Column.{Column}
+use Rattle.column_engine.specs.declared.columns.Column.TheVariants.{At, Named}
+use Rattle.column_engine.specs.declared.columns.Destination.{Destination}
+use Rattle.column_engine.specs.declared.columns.Destination.TheVariants.{InPlace, NewColumn}
+use Rattle.column_engine.specs.declared.columns.Range.{Range}
+use Rattle.command_line.specs.Words.{has_flag, value_of}
+use Rattle.command_line.specs.declared.given.Given.{Given}
+use Rattle.fixed_command.specs.Asked.{IsNamed}
+use Rattle.fixed_command.specs.declared.field.Empty.{Empty}
+use Rattle.fixed_command.specs.declared.field.Empty.TheVariants.{Kept, Refused, Zero}
+use Rattle.fixed_command.specs.declared.field.FieldForm.{FieldForm}
+
+-- a delimiter: the byte itself, but a quote and an end of a line, or a tab by its name
+abbrev pub IsDelimiterWord : List ℕ → ℕ → Type 0
+IsDelimiterWord word byte = ((word ≡ byte ∷ []) × (byte ≢ 34) × (byte ≢ 13) × (byte ≢ 10))
+    ⊎ ((byte ≡ 9) × ((word ≡ codes "tab") ⊎ (word ≡ 92 ∷ 116 ∷ [])))
+
+-- a byte that no numeral has, or a point: no letter, digit, sign or `@`
+abbrev pub is_separator : ℕ → Bool
+is_separator byte = not (is_ascii_alphanumeric byte) && not (byte == 43 || byte == 45 || byte == 64)
+
+-- what comes before a fraction: one such byte, and no blank
+pub record IsDecimalWord (word : List ℕ) (byte : ℕ) : Type 0 where
+  pub text : word ≡ byte ∷ []
+  pub separator : is_separator byte ≡ true
+  pub no_blank : is_ascii_whitespace byte ≡ false
+
+-- what separates thousands: one character of such bytes, and not what comes before a fraction
+pub record IsThousandsWord (decimal : ℕ) (word : List ℕ) : Type 0 where
+  pub one : (length (chars word) == 1) ≡ true
+  pub separators : list_all is_separator word ≡ true
+  pub other : list_any (λ byte. byte == decimal) word ≡ false
+
+-- the bytes that separate thousands: those of the word, and none where there is no word
+abbrev pub IsThousandsAsked : ℕ → Option (List ℕ) → List ℕ → Type 0
+IsThousandsAsked decimal None bytes = bytes ≡ []
+IsThousandsAsked decimal (Some word) bytes = (bytes ≡ word) × IsThousandsWord decimal word
+
+-- the word of what becomes of an empty field
+abbrev pub empty_text : Empty → List ℕ
+empty_text Refused = codes "fault"
+empty_text Kept = codes "keep"
+empty_text Zero = codes "0"
+
+-- how a field spells a numeral
+pub record IsFormAsked (given : Given) (form : FieldForm) : Type 0 where
+  pub trimmed : form.is_trimmed ≡ has_flag given (codes "trim")
+  pub decimal : IsDecimalWord (unwrap_or (value_of given (codes "decimal")) (codes ".")) form.decimal
+  pub thousands : IsThousandsAsked form.decimal (value_of given (codes "thousands")) form.thousands.now
+  pub empty : IsNamed Empty empty_text Refused (value_of given (codes "empty")) form.empty
+
+-- one column, by its number from 1
+pub record IsOneWord (word : List ℕ) (range : Range) : Type 0 where
+  pub one : range.from ≡ range.to
+  pub fits : range.to + 1 < 2 ^ 64
+  pub text : word ≡ decimal (range.to + 1)
+
+-- the first and the last of a range, by their numbers
+pub record IsSpan (first last : List ℕ) (range : Range) : Type 0 where
+  pub ordered : range.from ≤ range.to
+  pub fits : range.to + 1 < 2 ^ 64
+  pub first_is : first ≡ decimal (range.from + 1)
+  pub last_is : last ≡ decimal (range.to + 1)
+
+-- one column, or a range with a hyphen between its first and its last
+abbrev pub IsRangeWord : List ℕ → Range → Type 0
+IsRangeWord word range = IsOneWord word range
+    ⊎ ((first : List ℕ) × (last : List ℕ) × (word ≡ first ++ 45 ∷ last) × IsSpan first last range)
+
+-- a column of this name, or else this range, if there is one
+abbrev pub IsByName : List ℕ → Option Range → Column → Type 0
+IsByName word range (Named name or) = (string_bytes name ≡ word) × (or ≡ range)
+IsByName word range (At at) = ⊥
+
+-- the range that a word is, by one of the two, if it is one
+abbrev pub IsRangeIf : (List ℕ → Range → Type 0) → List ℕ → Option Range → Type 0
+IsRangeIf Is word None = (range : Range) → Is word range → ⊥
+IsRangeIf Is word (Some range) = Is word range
+
+-- a column: where a word may be a name, that name and the range that it is if no column has the name; else its range
+abbrev pub IsColumnWord : (List ℕ → Range → Type 0) → Bool → List ℕ → Column → Type 0
+IsColumnWord Is true word (Named name range) = (string_bytes name ≡ word) × IsRangeIf Is word range
+IsColumnWord Is true word (At range) = ⊥
+IsColumnWord Is false word (Named name range) = ⊥
+IsColumnWord Is false word (At range) = Is word range
+
+-- where the answers go: into a new column of a name of at most 1024 bytes, which is one, or to their fields
+abbrev pub IsDestinationBy : Bool → Option (List ℕ) → Destination → Type 0
+IsDestinationBy all None destination = destination ≡ InPlace
+IsDestinationBy all (Some name) destination = (destination ≡ NewColumn name) × (length name ≤ 1024) × (all ≡ false)
+
+abbrev pub IsDestinationAsked : Given → Destination → Type 0
+IsDestinationAsked given = IsDestinationBy (has_flag given (codes "all")) (value_of given (codes "into"))
+
+-- how many lines come before the records
+pub record IsSkipWord (word : List ℕ) (count : ℕ) : Type 0 where
+  pub fits : count < 2 ^ 64
+  pub text : word ≡ decimal count

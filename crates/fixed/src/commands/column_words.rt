@@ -1,0 +1,337 @@
+//! What the words of `fixed column` ask for.
+
+ghost use Rattle.std.specs.Prelude.{◌≡◌, ◌==◌, ◌<◌, ◌+◌, ◌^◌, ◌⊎◌, ◌&&◌, ◌++◌, ◌∷◌, [], ℕ, not};
+ghost use Rattle.std.specs.Prelude.{IfErr, IfOk, List, MatchOption, OnOk, chars, codes, decimal, length};
+ghost use Rattle.std.specs.Prelude.{unwrap_or};
+ghost use Rattle.std.specs.List.{list_all, list_any};
+ghost use Rattle.column_engine.specs.declared.columns.Column.{Column};
+ghost use Rattle.column_engine.specs.declared.columns.Destination.{Destination};
+ghost use Rattle.column_engine.specs.declared.columns.Range.{Range};
+ghost use Rattle.command_line.specs.Words.{value_of};
+ghost use Rattle.command_line.specs.declared.given.Refusal.{Refusal};
+ghost use Rattle.fixed.specs.Columns.{IsByName, IsColumnWord, IsDecimalWord};
+ghost use Rattle.fixed.specs.Columns.{IsDelimiterWord, IsDestinationAsked, IsFormAsked, IsOneWord};
+ghost use Rattle.fixed.specs.Columns.{IsRangeWord, IsSkipWord, IsThousandsAsked, IsThousandsWord};
+ghost use Rattle.fixed.specs.Columns.{IsSpan, empty_text, is_separator};
+ghost use Rattle.fixed_command.specs.Asked.{IsNamed};
+ghost use Rattle.fixed_command.specs.declared.field.Empty.{Empty};
+ghost use Rattle.fixed_command.specs.declared.field.FieldForm.{FieldForm};
+
+use crate::commands::column::{
+    ALL, DECIMAL, DELIMITER, EMPTY, HEADER, INTO, SKIP, THOUSANDS, TRIM,
+};
+use crate::settings::{count_named, known, value_or};
+use column_engine::{Column, Destination, MAX_NAME, Range};
+use command_line::given::{Asked, Given, Refusal};
+use fixed_command::{Empty, FieldForm};
+use std::alloc::{AllocError, Global};
+use text_buffer::TextBuffer;
+
+/// The delimiter that a word names.
+fn delimiter_named<'a>(word: &'a str) -> Asked<'a, u8>
+    ensures value { IfOk result (λ a. IsDelimiterWord word.now a) }
+    ensures refused { IfErr result (λ _. (a : ℕ) → ¬ IsDelimiterWord word.now a) }
+{
+    match word.as_bytes() {
+        [b'"' | b'\r' | b'\n'] => Err(Refusal::Word(
+            word,
+            "is not a delimiter: it is a quote or the end of a line",
+        )),
+        [delimiter] => Ok(*delimiter),
+        b"tab" | b"\\t" => Ok(b'\t'),
+        _ => Err(Refusal::Word(word, "is not a delimiter: it is one byte, or tab")),
+    }
+}
+
+/// The delimiter that the option names: a comma where it is left out.
+pub fn delimiter_of<'a>(given: &Given<'_, 'a>) -> Asked<'a, u8>
+    ensures value { IfOk result (λ a.
+        IsDelimiterWord (unwrap_or (value_of given.now (codes "delimiter")) (codes ",")) a) }
+    ensures refused { IfErr result (λ _. (a : ℕ)
+        → ¬ IsDelimiterWord (unwrap_or (value_of given.now (codes "delimiter")) (codes ",")) a) }
+{
+    delimiter_named(value_or(given, &DELIMITER, ","))
+}
+
+/// How many lines come before the records: a number in decimal, without a sign or a leading zero; 0 where the option is
+/// left out.
+pub fn skipped_of<'a>(given: &Given<'_, 'a>) -> Asked<'a, u64>
+    ensures value { IfOk result (λ a.
+        IsSkipWord (unwrap_or (value_of given.now (codes "skip")) (codes "0")) a) }
+    ensures refused { IfErr result (λ _. (a : ℕ)
+        → ¬ IsSkipWord (unwrap_or (value_of given.now (codes "skip")) (codes "0")) a) }
+{
+    let word = value_or(given, &SKIP, "0");
+    match count_named(word) {
+        Some(count) => Ok(count),
+        None => Err(Refusal::Word(word, "is not a count of lines: it is a number from 0")),
+    }
+}
+
+/// Whether a byte is in no numeral, or a point.
+fn is_separator(byte: u8) -> bool
+    ensures { result ≡ is_separator byte }
+{
+    !byte.is_ascii_alphanumeric() && !matches!(byte, b'+' | b'-' | b'@')
+}
+
+/// The byte before a fraction that a word names: none that a numeral has.
+fn decimal_named<'a>(word: &'a str) -> Asked<'a, u8>
+    ensures value { IfOk result (λ a. IsDecimalWord word.now a) }
+    ensures refused { IfErr result (λ _. (a : ℕ) → ¬ IsDecimalWord word.now a) }
+{
+    match word.as_bytes() {
+        [decimal] if is_separator(*decimal) && !decimal.is_ascii_whitespace() => Ok(*decimal),
+        _ => Err(Refusal::Word(
+            word,
+            "is not a decimal separator: it is one byte, no letter, digit, blank or sign",
+        )),
+    }
+}
+
+/// The byte before a fraction that the option names: a point where it is left out.
+fn decimal_of<'a>(given: &Given<'_, 'a>) -> Asked<'a, u8>
+    ensures value { IfOk result (λ a.
+        IsDecimalWord (unwrap_or (value_of given.now (codes "decimal")) (codes ".")) a) }
+    ensures refused { IfErr result (λ _. (a : ℕ)
+        → ¬ IsDecimalWord (unwrap_or (value_of given.now (codes "decimal")) (codes ".")) a) }
+{
+    decimal_named(value_or(given, &DECIMAL, "."))
+}
+
+/// Whether a text is one character.
+fn is_one_character(word: &str) -> bool
+    ensures { result ≡ (length (chars word.now) == 1) }
+{
+    word.chars().count() == 1
+}
+
+/// Whether all of some bytes are in no numeral, or points.
+fn are_separators(bytes: &[u8]) -> bool
+    ensures { result ≡ list_all is_separator bytes.now }
+{
+    bytes.iter().all(|b| is_separator(*b))
+}
+
+/// Whether a byte is among some.
+fn has_byte(bytes: &[u8], byte: u8) -> bool
+    ensures { result ≡ list_any (λ b. b == byte) bytes.now }
+{
+    bytes.iter().any(|b| *b == byte)
+}
+
+/// The bytes that separate thousands: those of the character that a word is.
+fn thousands_named<'a>(word: &'a str, decimal: u8) -> Asked<'a, &'a [u8]>
+    ensures value { IfOk result (λ a. (a.now ≡ word.now) × IsThousandsWord decimal word.now) }
+    ensures refused { IfErr result (λ _. ¬ IsThousandsWord decimal word.now) }
+{
+    if !is_one_character(word) || !are_separators(word.as_bytes()) {
+        return Err(Refusal::Word(
+            word,
+            "does not separate thousands: it is one character, no letter, digit or sign",
+        ));
+    }
+    if has_byte(word.as_bytes(), decimal) {
+        return Err(Refusal::Word(
+            word,
+            "does not separate thousands: it comes before a fraction; see --decimal",
+        ));
+    }
+    Ok(word.as_bytes())
+}
+
+/// The bytes that separate thousands: those of the character that the option names.
+fn thousands_of<'a>(given: &Given<'_, 'a>, decimal: u8) -> Asked<'a, &'a [u8]>
+    ensures value { IfOk result (λ a.
+        IsThousandsAsked decimal (value_of given.now (codes "thousands")) a.now) }
+    ensures refused { IfErr result (λ _. (a : List ℕ)
+        → ¬ IsThousandsAsked decimal (value_of given.now (codes "thousands")) a) }
+{
+    match given.value(&THOUSANDS) {
+        Some(word) => thousands_named(word, decimal),
+        None => Ok(&[]),
+    }
+}
+
+/// What a word says becomes of an empty field.
+fn empty_named(word: &str) -> Option<Empty>
+    ensures { MatchOption result ((a : Empty) → ¬ (word.now ≡ empty_text a)) (λ a. word.now ≡ empty_text a) }
+{
+    match word {
+        "fault" => Some(Empty::Refused),
+        "keep" => Some(Empty::Kept),
+        "0" => Some(Empty::Zero),
+        _ => None,
+    }
+}
+
+/// What the option says becomes of an empty field. It is refused where the option is left out.
+fn empty_of<'a>(given: &Given<'_, 'a>) -> Asked<'a, Empty>
+    ensures value { IfOk result (λ a. IsNamed Empty empty_text Empty.Refused (value_of given.now (codes "empty")) a) }
+    ensures refused { IfErr result (λ _. (a : Empty)
+        → ¬ IsNamed Empty empty_text Empty.Refused (value_of given.now (codes "empty")) a) }
+{
+    match given.value(&EMPTY) {
+        None => Ok(Empty::Refused),
+        Some(word) => known(empty_named(word), given, &EMPTY),
+    }
+}
+
+/// How a field spells a numeral, as the options say.
+pub fn form_of<'a>(given: &Given<'_, 'a>) -> Asked<'a, FieldForm<'a>>
+    ensures value { IfOk result (λ form. IsFormAsked given.now form) }
+    ensures refused { IfErr result (λ _. (form : FieldForm) → ¬ IsFormAsked given.now form) }
+{
+    let decimal = decimal_of(given)?;
+    let thousands = match thousands_of(given, decimal) {
+        Ok(thousands) => thousands,
+        Err(refusal) => return Err(refusal),
+    };
+    Ok(FieldForm {
+        is_trimmed: given.has(&TRIM),
+        decimal,
+        thousands,
+        empty: empty_of(given)?,
+    })
+}
+
+/// The place that a word numbers, from 0, where it is the number of a column.
+fn place_numbered(word: &str) -> Option<usize>
+    ensures { MatchOption result ((at : ℕ) → at + 1 < 2 ^ 64 → ¬ (word.now ≡ decimal (at + 1)))
+        (λ at. (at + 1 < 2 ^ 64) × (word.now ≡ decimal (at + 1))) }
+{
+    match count_named(word) {
+        Some(number) if number > 0 => Some((number - 1) as usize),
+        _ => None,
+    }
+}
+
+/// The one column that a word numbers, where it does.
+fn one_numbered(word: &str) -> Option<Range>
+    ensures { MatchOption result ((r : Range) → ¬ IsOneWord word.now r) (λ r. IsOneWord word.now r) }
+{
+    let at = place_numbered(word)?;
+    Some(Range { from: at, to: at })
+}
+
+/// The columns from one that a word numbers to one that another does.
+fn span_numbered(first: &str, last: &str) -> Option<Range>
+    ensures { MatchOption result ((r : Range) → ¬ IsSpan first.now last.now r) (λ r. IsSpan first.now last.now r) }
+{
+    let from = place_numbered(first)?;
+    let to = place_numbered(last)?;
+    if from <= to {
+        Some(Range { from, to })
+    } else {
+        None
+    }
+}
+
+/// The columns that a word numbers: one, or a range of them.
+fn range_numbered(word: &str) -> Option<Range>
+    ensures { MatchOption result ((r : Range) → ¬ IsRangeWord word.now r) (λ r. IsRangeWord word.now r) }
+{
+    match word.split_once('-') {
+        Some((first, last)) => span_numbered(first, last),
+        None => one_numbered(word),
+    }
+}
+
+/// Where the answers go: into a new column where the option names one.
+pub fn destination_of<'a>(given: &Given<'_, 'a>) -> Asked<'a, Destination>
+    ensures value { IfOk result (λ a. IsDestinationAsked given.now a) }
+    ensures refused { IfErr result (λ _. (a : Destination) → ¬ IsDestinationAsked given.now a) }
+{
+    let name = match given.value(&INTO) {
+        Some(name) => name,
+        None => return Ok(Destination::InPlace),
+    };
+    if name.len() > MAX_NAME {
+        return Err(Refusal::Word("--into", "takes a name of at most 1024 bytes"));
+    }
+    if given.has(&ALL) {
+        return Err(Refusal::Word(name, "is one new column, and --all are many"));
+    }
+    let mut text = TextBuffer::new();
+    text.push_bytes(name.as_bytes());
+    Ok(Destination::NewColumn(text))
+}
+
+/// A column of this name, or else the range that the name is read as.
+fn by_name<'a>(alloc: Global, word: &'a str, range: Option<Range>) -> Asked<'a, Column>
+    ensures value { IfOk result (λ a. IsByName word.now range a) }
+    ensures refused { IfErr result (λ e. e ≡ Refusal.NoMemory) }
+{
+    match String::from_str(alloc, word) {
+        Ok(name) => Ok(Column::Named(name, range)),
+        Err(_) => Err(Refusal::NoMemory),
+    }
+}
+
+/// The one column whose answers go into a new one.
+fn source_of<'a>(alloc: Global, word: &'a str, is_name: bool) -> Asked<'a, Column>
+    ensures value { IfOk result (λ a. IsColumnWord IsOneWord is_name word.now a) }
+    ensures refused { IfErr result (λ e. (e ≡ Refusal.NoMemory)
+        ⊎ ((a : Column) → ¬ IsColumnWord IsOneWord is_name word.now a)) }
+{
+    match one_numbered(word) {
+        range if is_name => by_name(alloc, word, range),
+        Some(range) => Ok(Column::At(range)),
+        None => Err(Refusal::Word(
+            word,
+            "is not one column: it is a number from 1, or with --header a name",
+        )),
+    }
+}
+
+/// The columns that one word of a list names.
+fn column_of<'a>(alloc: Global, word: &'a str, has_header: bool) -> Asked<'a, Column>
+    ensures value { IfOk result (λ a. IsColumnWord IsRangeWord has_header word.now a) }
+    ensures refused { IfErr result (λ e. (e ≡ Refusal.NoMemory)
+        ⊎ ((a : Column) → ¬ IsColumnWord IsRangeWord has_header word.now a)) }
+{
+    match range_numbered(word) {
+        range if has_header => by_name(alloc, word, range),
+        Some(range) => Ok(Column::At(range)),
+        None => Err(Refusal::Word(
+            word,
+            "is not a column: it is a number from 1, a range 2-5, or with --header a name",
+        )),
+    }
+}
+
+/// Every column.
+const EVERY: Column = Column::At(Range {
+    from: 0,
+    to: usize::MAX,
+});
+
+/// Appends a column to a list.
+fn push<'a>(columns: &mut Vec<Column>, column: Column) -> Asked<'a, ()>
+    ensures ok { OnOk result (columns.new.items ≡ columns.old.items ++ column ∷ []) }
+    ensures refused { IfErr result (λ e. e ≡ Refusal.NoMemory) }
+{
+    match columns.push(column) {
+        Ok(()) => Ok(()),
+        Err(_) => Err(Refusal::NoMemory),
+    }
+}
+
+/// The columns that a command names, and the place of the word that follows them.
+pub fn columns_of<'a>(alloc: Global, given: &Given<'_, 'a>) -> Asked<'a, (Vec<Column>, usize)> {
+    let mut columns = Vec::new(alloc);
+    if given.has(&ALL) {
+        push(&mut columns, EVERY)?;
+        return Ok((columns, 0));
+    }
+    let words = given.needed(0, "COLUMNS")?;
+    if given.value(&INTO).is_some() {
+        let is_name = given.has(&HEADER) && !has_byte(words.as_bytes(), b',');
+        push(&mut columns, source_of(alloc, words, is_name)?)?;
+        return Ok((columns, 1));
+    }
+    for word in words.split(',') {
+        push(&mut columns, column_of(alloc, word, given.has(&HEADER))?)?;
+    }
+    Ok((columns, 1))
+}
