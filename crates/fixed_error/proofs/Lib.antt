@@ -4,6 +4,8 @@ mod GreatestLemmas
 mod BoundLemmas
 mod RestLemmas
 mod NearLemmas
+mod FewLemmas
+mod ShortLemmas
 mod ErrorsLemmas
 mod UniqueLemmas
 mod GrowthLemmas

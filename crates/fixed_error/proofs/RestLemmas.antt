@@ -1,5 +1,5 @@
 -- How far a numeral is behind a whole number of ulps, by its digits after the point.
-use Rattle.std.proofs.Common.{◌≡◌, ℕ, suc, ◌+◌, ◌-◌, ◌*◌, ◌/◌, ◌%◌, ◌^◌, ◌<◌, ◌≤◌, ◌⊎◌, ◌↔◌, IsTrue, not, Bool, true, false, List, [], ◌∷◌, length, take, drop, refl, sym, ap, ◌∙◌, subst, arith, ⊎_elim, inl, inr, mul-le-mul_right, length-drop, if◌then◌else◌}
+use Rattle.std.proofs.Common.{◌≡◌, ℕ, suc, ◌+◌, ◌-◌, ◌*◌, ◌/◌, ◌%◌, ◌^◌, ◌<◌, ◌≤◌, ◌⊎◌, ◌↔◌, IsTrue, not, Bool, true, false, List, [], ◌∷◌, length, take, drop, refl, sym, ap, ◌∙◌, subst, arith, ⊎_elim, inl, inr, mul-le-mul_right, length-drop, mod-eq_of_lt, if◌then◌else◌}
 use Rattle.std.specs.Prelude.{min}
 use Rattle.std.specs.Int.Digits.{AllBelowBase, number_from_digits}
 use Rattle.std.proofs.Math.Nat.{one-le-pow, pow-le-pow_right, pow-zero}
@@ -22,6 +22,10 @@ use Rattle.fixed_error.proofs.SumLemmas.{power_split}
 nil_of : (xs : List ℕ) → length xs ≡ 0 → xs ≡ []
 nil_of [] e = refl
 nil_of (x ∷ xs) e = absurd (omega (arith, e))
+
+-- ---- remainders
+pub rest_of_small : (n m : ℕ) → n < m → n ≡ n % m
+rest_of_small n m h = sym (mod-eq_of_lt h)
 
 -- ---- powers
 pub oct_power : (k : ℕ) → 2 ^ (3 * k) ≡ 8 ^ k
@@ -90,7 +94,7 @@ block_is b h ds =
     ∙ (regroup x n (b ^ t) (b ^ (h - t)) g (cut b h ds)
     ∙ ap (λ v. (x * b ^ (h - t) * g + n) * v) (sym power)))
 
-cancel_eq : (a b t : ℕ) → 0 < t → a * t ≡ b * t → a ≡ b
+pub cancel_eq : (a b t : ℕ) → 0 < t → a * t ≡ b * t → a ≡ b
 cancel_eq a b t some e = omega (arith, cancel_le a b t some (omega (arith, e)), cancel_le b a t some (omega (arith, e)))
 
 two_blocks : (n p g a m f k c z : ℕ) → 0 < g → n * p * g ≡ (a * g + m) * f → m * p * k ≡ (c * k + z) * g → n * (p * p) * k ≡ ((a * p + c) * k + z) * f

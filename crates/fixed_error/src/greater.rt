@@ -1,6 +1,6 @@
 //! Which of two numerals has the greater error.
 
-ghost use Rattle.std.specs.Prelude.{◌≡◌, ◌<◌, ◌≤◌, ◌+◌, true, false, ◌^◌};
+ghost use Rattle.std.specs.Prelude.{◌≡◌, ◌<◌, ◌≤◌, ◌+◌, true, false, ◌^◌, length};
 ghost use Rattle.std.specs.Int.Digits.{AllBelowBase};
 ghost use Rattle.fixed_numeral.specs.Numeral.{IsNumeral, base};
 ghost use Rattle.fixed_numeral.specs.Scanned.{exponent_unit};
@@ -9,7 +9,7 @@ ghost use Rattle.fixed_error.specs.ErrorSize.{IsReadWithin};
 ghost use Rattle.fixed_error.specs.Inner.Gap.{IsGap, greater_part, less_part, sum_of};
 
 use crate::gap::{Gap, gap_of, power_of_two};
-use crate::sums::{Sum, is_sum_greater};
+use crate::sums::{Sum, TextLengths, is_sum_greater};
 use fixed_bits::ReadMode;
 use fixed_numeral::{Radix, Scanned, scan};
 use fixed_steps::Steps;
@@ -71,6 +71,16 @@ fn sum_of(one: Part, other: Part) -> Sum
     }
 }
 
+/// The lengths of two numerals' texts.
+fn lengths_of(one: &[u8], other: &[u8]) -> TextLengths
+    ensures { result ≡ record { one = length one.now; other = length other.now } }
+{
+    TextLengths {
+        one: one.len() as u64,
+        other: other.len() as u64,
+    }
+}
+
 /// Whether the error of a numeral, rounded in a mode to a whole number of ulps of 2^-`frac`, is greater in size than
 /// that of another. No length is too great, and no memory is taken.
 pub fn is_error_greater<L: Ledger>(
@@ -98,6 +108,7 @@ pub fn is_error_greater<L: Ledger>(
                 sum_of(less_part(left_gap), greater_part(right_gap)),
                 left.fraction_view(),
                 right.fraction_view(),
+                lengths_of(one, other),
                 radix.base(),
                 steps,
             )
@@ -157,6 +168,7 @@ pub fn is_error_above<L: Ledger>(
                 sum_of(less_part(gap), bound_part(right, radix, frac)),
                 left.fraction_view(),
                 right.fraction_view(),
+                lengths_of(text, bound),
                 radix.base(),
                 steps,
             )

@@ -1,14 +1,16 @@
 //! How far a numeral is behind a whole number of ulps, to some 36 digits.
 
 ghost use Rattle.std.specs.Prelude.{◌≡◌, ◌⊎◌, ◌<◌, ◌≤◌, ◌+◌, ◌-◌, ◌*◌, ◌^◌, ◌%◌, drop, min, List, ℕ, if◌then◌else◌};
+ghost use Rattle.std.specs.Prelude.{IfSome};
 ghost use Rattle.std.specs.Int.Digits.{AllBelowBase};
 ghost use Rattle.fixed_numeral.specs.Numeral.{HasNumeral, IsNumeral, Parts, base};
 ghost use Rattle.fixed_numeral.specs.Scanned.{IsScanned, exponent_unit};
-ghost use Rattle.fixed_error.specs.Errors.{block};
+ghost use Rattle.fixed_numeral.specs.declared.radix.Radix.TheVariants.{Dec};
+ghost use Rattle.fixed_error.specs.Errors.{block, parts};
 ghost use Rattle.fixed_error.specs.Inner.Rest.{IsRest, first_number};
 
 use crate::gap::power_of_two;
-use fixed_numeral::{DigitView, Radix, Scanned, power_of_ten, scan};
+use fixed_numeral::{DigitView, Radix, Scanned, power_of_ten, scan, short_decimal};
 use fixed_steps::Steps;
 use std::sync::ledger::Ledger;
 
@@ -67,6 +69,18 @@ fn take_block<'a, L: Ledger>(
     (u128::from(number) * power, rest)
 }
 
+/// A remainder. A division of 128 bits is slow, and most numbers are below the divisor.
+#[tactic(auto, using(crate::proofs::RestLemmas::rest_of_small))]
+fn remainder(number: u128, divisor: u128) -> u128
+    requires { 0 < divisor }
+    ensures { result ≡ number % divisor }
+{
+    if number < divisor {
+        return number;
+    }
+    number % divisor
+}
+
 /// How far a number of parts is behind a whole number of ulps, where `is_cut` says whether there is more than that.
 fn rest_by(number: u128, unit: u128, one: u128, is_cut: bool) -> Rest
     requires number { number < 2 ^ 121 }
@@ -78,7 +92,7 @@ fn rest_by(number: u128, unit: u128, one: u128, is_cut: bool) -> Rest
 {
     Rest {
         one,
-        rest: number * unit % one,
+        rest: remainder(number * unit, one),
         slack: if is_cut { unit } else { 0 },
     }
 }
@@ -97,11 +111,51 @@ fn rest_of_scanned<'a, L: Ledger>(found: &Scanned<'a>, radix: Radix, steps: &mut
     rest_by(high * unit + low, shift, unit * unit, !last.is_empty())
 }
 
+/// How many parts of an ulp a unit of the last of some decimal places has.
+fn parts_of_place(places: u32) -> u128
+    requires { places ≤ 27 }
+    ensures { result * 10 ^ places ≡ parts Dec }
+{
+    let high = places.min(18);
+    let first = u128::from(power_of_ten(18 - high));
+    let second = u128::from(power_of_ten(18 - (places - high)));
+    first * second
+}
+
+/// How far a short decimal is behind a whole number. `None` only means: look at its digits.
+fn rest_of_decimal<L: Ledger>(text: &[u8], steps: &mut Steps<L>) -> Option<Rest>
+    ensures { IfSome result (IsRest Dec 0 text.now) }
+{
+    let found = short_decimal(text, steps)?;
+    if found.exponent != 0 {
+        return None;
+    }
+    let unit = power_of(Radix::Dec, 18);
+    Some(Rest {
+        one: unit * unit,
+        rest: found.fraction * parts_of_place(found.places),
+        slack: 0,
+    })
+}
+
+/// How far a short numeral is behind a whole number. `None` only means: look at its digits.
+fn rest_of_short<L: Ledger>(text: &[u8], radix: Radix, steps: &mut Steps<L>) -> Option<Rest>
+    ensures { IfSome result (IsRest radix 0 text.now) }
+{
+    match radix {
+        Radix::Dec => rest_of_decimal(text, steps),
+        _ => None,
+    }
+}
+
 /// How far a numeral is behind a whole number.
 pub fn rest_of<L: Ledger>(text: &[u8], radix: Radix, steps: &mut Steps<L>) -> Rest
     requires { IsNumeral radix text.now }
     ensures { IsRest radix 0 text.now result }
 {
+    if let Some(rest) = rest_of_short(text, radix, steps) {
+        return rest;
+    }
     let scanned = scan(text, radix, steps);
     match &scanned {
         Ok(found) => rest_of_scanned(found, radix, steps),

@@ -112,6 +112,24 @@ fn the_greater_error_is_found_whatever_the_digits(rt: HostRuntime) {
 }
 
 #[test]
+fn zeros_of_exponents_are_passed_over(rt: HostRuntime) {
+    let (hex, dec) = (Radix::Hex, Radix::Dec);
+    let cases = [
+        row(dec, 8, "2e-2147483648", "1e-2147483648", true),
+        row(dec, 8, "1e-2147483648", "2e-2147483648", false),
+        row(dec, 8, "1e-2147483648", "1e-2147483648", false),
+        row(dec, 8, "1e-2147483648", "0.5", true),
+        row(dec, 8, "0.5", "1e-2147483648", false),
+        row(dec, 64, "-1e-2147483647", "9e-2147483648", true),
+        row(dec, 0, "0.5", "1e-2147483648", true),
+        row(hex, 62, "1p-2147483648", "1.8p-2147483648", false),
+        row(hex, 62, "1.8@-2147483648", "1p-2147483648", false),
+        row(Radix::Oct, 0, "3p-2147483648", "1p-2147483647", true),
+    ];
+    assert!(rt; are_ordered(&cases));
+}
+
+#[test]
 fn the_mode_decides_which_error_is_the_greater(rt: HostRuntime) {
     let cases = [
         moded(ReadMode::Floor, "-0.1", "0.1", false),
@@ -157,6 +175,9 @@ fn an_error_is_above_a_bound_or_not(rt: HostRuntime) {
         (64, "1e-300", "1e-301", true),
         (64, "1e-300", "0", true),
         (64, "0", "0", false),
+        (8, "2e-2147483648", "1e-2147483648", true),
+        (8, "1e-2147483648", "2e-2147483648", false),
+        (8, "0.5", "1e-2147483648", false),
     ];
     assert!(rt; are_within_or_not(&rows));
 }

@@ -1,9 +1,11 @@
-use Rattle.std.proofs.Common.{◌≡◌, ◌↔◌, ◌+◌, ◌^◌, [], IsTrue, Bool, true, false, sym, ◌∙◌}
+use Rattle.std.proofs.Common.{◌≡◌, ◌↔◌, ℕ, ◌+◌, ◌^◌, [], length, IsTrue, Bool, true, false, sym, ap, ◌∙◌}
 use Rattle.std.proofs.lemmas.Bool.{false≢true}
 use Rattle.fixed_numeral.specs.Numeral.{base}
 use Rattle.fixed_error.specs.Inner.Gap.{greater_part, less_part, sum_of}
 use Rattle.fixed_error.specs.Inner.Sums.{Decides}
+use Rattle.fixed_error.specs.declared.sums.TextLengths.{TextLengths}
 use Rattle.fixed_error.proofs.BoundLemmas.{error_above, error_within, small_bound, whole_bound}
+use Rattle.fixed_error.proofs.FewLemmas.{few_digits}
 use Rattle.fixed_error.proofs.GapLemmas.{shift_small}
 use Rattle.fixed_error.proofs.greater.is_error_above.Goals as goal
 
@@ -33,6 +35,24 @@ pub is_sum_greater-requires-clause-other : goal.is_sum_greater-requires-clause-o
 is_sum_greater-requires-clause-other g c =
     let scanned = rw c.in-Ok-Ok.is-1 at c.scan-bound_scanned.ensures.reading.read in
     rw (c.base.ensures, c.fraction_view-in-Ok-Ok.ensures) (scanned c.requires.bound.0 c.requires.bound.1).fraction_digits
+
+abbrev one_of : TextLengths → ℕ
+one_of t = t.one
+
+abbrev other_of : TextLengths → ℕ
+other_of t = t.other
+
+pub is_sum_greater-requires-clause-few_ones : goal.is_sum_greater-requires-clause-few_ones
+is_sum_greater-requires-clause-few_ones g c =
+    let scanned = rw c.in-Ok-Ok.is-0 at c.scan-text_scanned.ensures.reading.read in
+    let long : c.lengths_of.result.one ≡ length c.args.text.now = ap one_of c.lengths_of.ensures in
+    rw (c.base.ensures, c.fraction_view.ensures, long) (few_digits c.args.radix c.args.text.now c.requires.within.parts c.in-Ok-Ok.left.neg c.in-Ok-Ok.left.whole c.in-Ok-Ok.left.fraction c.in-Ok-Ok.left.bit_shift c.requires.within.numeral (scanned c.requires.within.parts c.requires.within.numeral))
+
+pub is_sum_greater-requires-clause-few_others : goal.is_sum_greater-requires-clause-few_others
+is_sum_greater-requires-clause-few_others g c =
+    let scanned = rw c.in-Ok-Ok.is-1 at c.scan-bound_scanned.ensures.reading.read in
+    let long : c.lengths_of.result.other ≡ length c.args.bound.now = ap other_of c.lengths_of.ensures in
+    rw (c.base.ensures, c.fraction_view-in-Ok-Ok.ensures, long) (few_digits c.args.radix c.args.bound.now c.requires.bound.0 c.in-Ok-Ok.right.neg c.in-Ok-Ok.right.whole c.in-Ok-Ok.right.fraction c.in-Ok-Ok.right.bit_shift c.requires.bound.1 (scanned c.requires.bound.0 c.requires.bound.1))
 
 pub returns-then-not-is_empty-clause-not : goal.returns-then-not-is_empty-clause-not
 returns-then-not-is_empty-clause-not g c = λ _.
