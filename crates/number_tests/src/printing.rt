@@ -86,16 +86,16 @@ fn a_base_shows_the_exact_value(rt: HostRuntime) -> Result<(), Fail> {
     Ok(())
 }
 
-/// Asserts what `to_text` answers for numbers of some bits, each in a style.
+/// Asserts what `to_text` answers for a number in a style.
 fn has_styles<I: Inner, const FRAC: u32>(
     rt: &impl Abort,
     alloc: Global,
-    rows: &[(I, Style, &str)],
+    rows: &[(Fixed<I, FRAC>, Style, &str)],
 ) -> Result<(), Fail>
     requires { FRAC ≤ I.BITS }
 {
-    for (bits, style, text) in rows {
-        let shown = Fixed::<I, FRAC>::from_bits(*bits).to_text(alloc, style)?;
+    for (number, style, text) in rows {
+        let shown = number.to_text(alloc, style)?;
         assert!(rt; shown.as_bytes() == text.as_bytes(), "{text}");
     }
     Ok(())
@@ -128,45 +128,117 @@ fn hexadecimal(width: u16) -> Style {
 
 #[test]
 fn a_style_is_obeyed(rt: HostRuntime) -> Result<(), Fail> {
-    let exponent = Style::plain(Notation::LowerExp);
-    let fractions = [
-        (25, places(Notation::Dec, 3), "0.098"),
-        (77, places(Notation::LowerExp, 0), "3e-1"),
-        (255, places(Notation::UpperHex, 1), "1.0"),
-        (25, exponent, "9.8e-2"),
-    ];
-    let wholes = [
-        (1200, exponent, "1.2e3"),
-        (1250, places(Notation::UpperExp, 1), "1.2E3"),
-        (999, places(Notation::LowerExp, 1), "1.0e3"),
-        (0, exponent, "0e0"),
-        (0, places(Notation::LowerExp, 2), "0.00e0"),
-    ];
-    has_styles::<u8, 8>(&rt, rt.alloc(), &fractions)?;
-    has_styles::<u16, 0>(&rt, rt.alloc(), &wholes)?;
-    has_styles::<u8, 0>(
-        &rt,
-        rt.alloc(),
-        &[(255, Style::plain(Notation::UpperHex), "FF")],
-    )
-}
-
-#[test]
-fn a_style_of_a_signed_number_is_obeyed(rt: HostRuntime) -> Result<(), Fail> {
     let mut with_plus = Style::plain(Notation::Dec);
     with_plus.plus = true;
-    let rows = [
-        (-4, places(Notation::Dec, 0), "-0"),
-        (51, Style::plain(Notation::Bin), "11.0011"),
-        (51, Style::plain(Notation::Oct), "3.14"),
-        (51, Style::plain(Notation::LowerHex), "3.3"),
-        (-51, hexadecimal(10), "-0x00003.3"),
-        (51, places(Notation::Bin, 2), "11.01"),
-        (40, places(Notation::Oct, 0), "2"),
-        (51, field(8, '*', Align::Center), "**3.2***"),
-        (51, field(8, '*', Align::Left), "3.2*****"),
-        (51, field(4, 'é', Align::Right), "é3.2"),
-        (51, with_plus, "+3.2"),
-    ];
-    has_styles::<i8, 4>(&rt, rt.alloc(), &rows)
+    has_styles(
+        &rt,
+        rt.alloc(),
+        &[
+            (
+                FixedU8::<8>::from_bits(25),
+                places(Notation::Dec, 3),
+                "0.098",
+            ),
+            (
+                FixedU8::<8>::from_bits(77),
+                places(Notation::LowerExp, 0),
+                "3e-1",
+            ),
+            (
+                FixedU8::<8>::from_bits(255),
+                places(Notation::UpperHex, 1),
+                "1.0",
+            ),
+            (
+                FixedU8::<8>::from_bits(25),
+                Style::plain(Notation::LowerExp),
+                "9.8e-2",
+            ),
+        ],
+    )?;
+    has_styles(
+        &rt,
+        rt.alloc(),
+        &[
+            (FixedI8::<4>::from_bits(-4), places(Notation::Dec, 0), "-0"),
+            (
+                FixedI8::<4>::from_bits(51),
+                Style::plain(Notation::Bin),
+                "11.0011",
+            ),
+            (
+                FixedI8::<4>::from_bits(51),
+                Style::plain(Notation::Oct),
+                "3.14",
+            ),
+            (
+                FixedI8::<4>::from_bits(51),
+                Style::plain(Notation::LowerHex),
+                "3.3",
+            ),
+            (FixedI8::<4>::from_bits(-51), hexadecimal(10), "-0x00003.3"),
+            (
+                FixedI8::<4>::from_bits(51),
+                places(Notation::Bin, 2),
+                "11.01",
+            ),
+            (FixedI8::<4>::from_bits(40), places(Notation::Oct, 0), "2"),
+            (
+                FixedI8::<4>::from_bits(51),
+                field(8, '*', Align::Center),
+                "**3.2***",
+            ),
+            (
+                FixedI8::<4>::from_bits(51),
+                field(8, '*', Align::Left),
+                "3.2*****",
+            ),
+            (
+                FixedI8::<4>::from_bits(51),
+                field(4, 'é', Align::Right),
+                "é3.2",
+            ),
+            (FixedI8::<4>::from_bits(51), with_plus, "+3.2"),
+        ],
+    )?;
+    has_styles(
+        &rt,
+        rt.alloc(),
+        &[(
+            FixedU8::<0>::from_bits(255),
+            Style::plain(Notation::UpperHex),
+            "FF",
+        )],
+    )?;
+    has_styles(
+        &rt,
+        rt.alloc(),
+        &[
+            (
+                FixedU16::<0>::from_bits(1200),
+                Style::plain(Notation::LowerExp),
+                "1.2e3",
+            ),
+            (
+                FixedU16::<0>::from_bits(1250),
+                places(Notation::UpperExp, 1),
+                "1.2E3",
+            ),
+            (
+                FixedU16::<0>::from_bits(999),
+                places(Notation::LowerExp, 1),
+                "1.0e3",
+            ),
+            (
+                FixedU16::<0>::from_bits(0),
+                Style::plain(Notation::LowerExp),
+                "0e0",
+            ),
+            (
+                FixedU16::<0>::from_bits(0),
+                places(Notation::LowerExp, 2),
+                "0.00e0",
+            ),
+        ],
+    )
 }
