@@ -76,7 +76,7 @@ const ERROR: Row = Row {
     letter: Some('e'),
     value: "E",
     choices: &[],
-    help: "The least format with errors of at most E, a numeral or 2^-K",
+    help: "The least format within an error: a numeral or 2^-K",
 };
 
 const ANY: Row = Row {
@@ -91,7 +91,7 @@ pub fn page() -> Page {
     Page {
         name: "fit",
         hidden_name: "",
-        about: "Find the finest format of a width that each numeral fits, or the least within an error",
+        about: "Find the finest format of a width, or the least within an error",
         usage: "fixed fit --width W [OPTIONS] [FILE]...\n       fixed fit --error E [OPTIONS] [FILE]...\n       \
                 fixed fit --width W [OPTIONS] --range [--] LO HI",
         operands: &[FILES],
