@@ -9,21 +9,21 @@ import time
 VALGRIND = shutil.which("valgrind")
 
 
-def run_seconds(command, path):
-    """Processor seconds of one run over a file, its output discarded."""
+def run_seconds(command, path, is_user=False):
+    """Processor seconds of one run over a file, its output discarded: all of them, or those of the program alone without the system's."""
     with open(path, "rb") as given, open(os.devnull, "wb") as none:
         child = subprocess.Popen(command, stdin=given, stdout=none, stderr=none)
         _, _, used = os.wait4(child.pid, 0)
         child.returncode = 0
-    return used.ru_utime + used.ru_stime
+    return used.ru_utime if is_user else used.ru_utime + used.ru_stime
 
 
-def in_turn(runs, tries):
+def in_turn(runs, tries, is_user=False):
     """The least processor seconds of each run, a pair of a command and a path: one of each in turn, so that all meet the same machine."""
     best = [float("inf")] * len(runs)
     for _ in range(tries):
         for at, (command, path) in enumerate(runs):
-            best[at] = min(best[at], run_seconds(command, path))
+            best[at] = min(best[at], run_seconds(command, path, is_user))
     return best
 
 
