@@ -20,12 +20,16 @@ use Rattle.fixed_read.specs.Reading.{IsReadNumber}
 use Rattle.fixed_read.proofs.Public.{read_unique}
 use Rattle.fixed_write.proofs.Public.{exact_text_unique, shortest_text_unique}
 use Rattle.fixed_write.specs.Texts.{IsShortestText}
-use Rattle.fixed_show.specs.ShortError.{AreBlockUlps, IsBlockError}
-use Rattle.fixed_show.proofs.ShortLemmas.{block_error_one, block_ulps_one}
-use Rattle.fixed_show.specs.BitsBlock.{AreValueLines, fault_message}
-use Rattle.fixed_show.specs.BlockLaws.{BitsBlockIsTheOne, ShowBlockIsTheOne, ShowRefusalIsTheOne}
-use Rattle.fixed_show.specs.Blocks.{IsHexText, hex_text, refusal_block}
-use Rattle.fixed_show.specs.ShowBlock.{IsBetween, IsReadAs, IsShown, IsUnread, neighbours_text}
+use Rattle.fixed_show.specs.ShortError.{AreFormUlps, IsFormError}
+use Rattle.fixed_show.proofs.ShortLemmas.{form_error_one, form_ulps_one}
+use Rattle.fixed_show.specs.BitsBlock.{AreBitsFacts, AreValues, fault_message}
+use Rattle.fixed_show.specs.BlockLaws.{BitsBlockIsTheOne, BitsObjectIsTheOne, ShowBlockIsTheOne, ShowObjectIsTheOne, ShowRefusalIsTheOne}
+use Rattle.fixed_show.specs.Blocks.{IsHexText, hex_text}
+use Rattle.fixed_show.specs.Forms.{refusal}
+use Rattle.fixed_show.specs.JsonText.{object_text}
+use Rattle.fixed_show.specs.declared.form.Form.{Form}
+use Rattle.fixed_show.specs.declared.form.Form.TheVariants.{Lines, Members}
+use Rattle.fixed_show.specs.ShowBlock.{AreShowFacts, IsBetween, IsReadAs, IsShown, IsUnread, neighbours}
 use Rattle.fixed_show.proofs.WordLawLemmas.{fault_one, no_fault, word_one}
 
 -- ---- the lines of a value
@@ -34,22 +38,30 @@ hex_one n v a b width x y =
     let word : pos x.word ≡ pos y.word = image_one Wrapping false n v (pos x.word) (pos y.word) width x.is_word y.is_word in
     x.text_is ∙ ap (λ w. hex_text n (unsigned_abs w)) word ∙ sym y.text_is
 
-pub lines_one : (f : FormatParts) (bits : ℤ) (a b : List ℕ) → IsWidth f.width → AreValueLines f bits a → AreValueLines f bits b → a ≡ b
-lines_one f bits a b width x y =
+pub values_one : (form : Form) (f : FormatParts) (bits : ℤ) (a b : List ℕ) → IsWidth f.width → AreValues form f bits a → AreValues form f bits b → a ≡ b
+values_one form f bits a b width x y =
     let value : x.value ≡ y.value = exact_text_unique 10 false bits f.frac x.value y.value x.is_value y.is_value in
     let shortest : x.shortest ≡ y.shortest = shortest_text_unique bits f.frac x.shortest y.shortest x.is_shortest y.is_shortest in
     let hex : x.hex ≡ y.hex = hex_one f.width bits x.hex y.hex width x.is_hex y.is_hex in
-    x.lines_are ∙ (rw (value, shortest, hex) (sym y.lines_are))
+    x.text_is ∙ (rw (value, shortest, hex) (sym y.text_is))
+
+bits_facts_one : (form : Form) (bare : Radix) (f : FormatParts) (text : List ℕ) (o p : Bool) (a b : List ℕ) → IsWidth f.width → AreBitsFacts form bare f text o a → AreBitsFacts form bare f text p b → (o ≡ p) × (a ≡ b)
+bits_facts_one form bare f text true true a b width x y =
+    let same = fault_one bare f text x.fault y.fault x.is_fault y.is_fault in
+    (refl, x.facts_are ∙ ap (λ w. refusal form (fault_message w)) same ∙ sym y.facts_are)
+bits_facts_one form bare f text true false a b width x y = absurd (no_fault bare f text x.fault y.bits x.is_fault y.is_word)
+bits_facts_one form bare f text false true a b width x y = absurd (no_fault bare f text y.fault x.bits y.is_fault x.is_word)
+bits_facts_one form bare f text false false a b width x y =
+    let bits : x.bits ≡ y.bits = word_one bare f text x.bits y.bits width x.is_word y.is_word in
+    (refl, values_one form f y.bits a b width (subst (λ (v : ℤ). AreValues form f v a) bits x.values) y.values)
 
 pub bits_block_one : BitsBlockIsTheOne
-bits_block_one bare f text true true a b width x y =
-    let same = fault_one bare f text x.fault y.fault x.is_fault y.is_fault in
-    (refl, x.block_is ∙ ap (λ w. refusal_block (fault_message w)) same ∙ sym y.block_is)
-bits_block_one bare f text true false a b width x y = absurd (no_fault bare f text x.fault y.bits x.is_fault y.is_word)
-bits_block_one bare f text false true a b width x y = absurd (no_fault bare f text y.fault x.bits y.is_fault x.is_word)
-bits_block_one bare f text false false a b width x y =
-    let bits : x.bits ≡ y.bits = word_one bare f text x.bits y.bits width x.is_word y.is_word in
-    (refl, lines_one f y.bits a b width (subst (λ (v : ℤ). AreValueLines f v a) bits x.lines) y.lines)
+bits_block_one bare f text o p a b width x y = bits_facts_one Lines bare f text o p a b width x y
+
+pub bits_object_one : BitsObjectIsTheOne
+bits_object_one bare f text o p a b width x y =
+    let same = bits_facts_one Members bare f text o p x.members y.members width x.are_facts y.are_facts in
+    (same.0, x.object_is ∙ ap (object_text text) same.1 ∙ sym y.object_is)
 
 -- ---- a numeral that is refused
 unread_one : (mode : ReadMode) (r : Radix) (bytes : List ℕ) (f : FormatParts) (policy : Policy) (k l : ParseErrorKind) → IsUnread mode r bytes f policy k → IsUnread mode r bytes f policy l → k ≡ l
@@ -84,37 +96,49 @@ read_as_one mode r bytes f policy v w o p width x y =
       flag_one f.signed f.width x.number y.number o p number x.flag y.flag,
     )
 
-between_one : (r : Radix) (bytes : List ℕ) (f : FormatParts) (a b : List ℕ) → IsBetween r bytes f a → IsBetween r bytes f b → a ≡ b
-between_one r bytes f a b (inl x) (inl y) =
+between_one : (form : Form) (r : Radix) (bytes : List ℕ) (f : FormatParts) (a b : List ℕ) → IsBetween form r bytes f a → IsBetween form r bytes f b → a ≡ b
+between_one form r bytes f a b (inl x) (inl y) =
     let ends = enclosed_one r bytes f x.lo x.hi y.lo y.hi x.enclosed y.enclosed in
     let low : x.low ≡ y.low = shortest_text_unique y.lo f.frac x.low y.low (subst (λ c. IsShortestText c f.frac x.low) ends.0 x.is_low) y.is_low in
     let high : x.high ≡ y.high = shortest_text_unique y.hi f.frac x.high y.high (subst (λ c. IsShortestText c f.frac x.high) ends.1 x.is_high) y.is_high in
-    x.text_is ∙ ap (λ t. neighbours_text t x.lo x.high x.hi) low ∙ ap (λ v. neighbours_text y.low v x.high x.hi) ends.0 ∙ ap (λ t. neighbours_text y.low y.lo t x.hi) high ∙ ap (λ v. neighbours_text y.low y.lo y.high v) ends.1 ∙ sym y.text_is
-between_one r bytes f a b (inl x) (inr y) = absurd (refusal_none r bytes f x.lo x.hi Overflow x.enclosed (inr (refl, y.0)))
-between_one r bytes f a b (inr x) (inl y) = absurd (refusal_none r bytes f y.lo y.hi Overflow y.enclosed (inr (refl, x.0)))
-between_one r bytes f a b (inr x) (inr y) = x.1 ∙ sym y.1
+    x.text_is ∙ ap (λ t. neighbours form t x.lo x.high x.hi) low ∙ ap (λ v. neighbours form y.low v x.high x.hi) ends.0 ∙ ap (λ t. neighbours form y.low y.lo t x.hi) high ∙ ap (λ v. neighbours form y.low y.lo y.high v) ends.1 ∙ sym y.text_is
+between_one form r bytes f a b (inl x) (inr y) = absurd (refusal_none r bytes f x.lo x.hi Overflow x.enclosed (inr (refl, y.0)))
+between_one form r bytes f a b (inr x) (inl y) = absurd (refusal_none r bytes f y.lo y.hi Overflow y.enclosed (inr (refl, x.0)))
+between_one form r bytes f a b (inr x) (inr y) = x.1 ∙ sym y.1
 
-shown_one : (mode : ReadMode) (r : Radix) (bytes : List ℕ) (f : FormatParts) (policy : Policy) (a b : List ℕ) → IsWidth f.width → IsShown mode r bytes f policy a → IsShown mode r bytes f policy b → a ≡ b
-shown_one mode r bytes f policy a b width x y =
+shown_one : (form : Form) (mode : ReadMode) (r : Radix) (bytes : List ℕ) (f : FormatParts) (policy : Policy) (a b : List ℕ) → IsWidth f.width → IsShown form mode r bytes f policy a → IsShown form mode r bytes f policy b → a ≡ b
+shown_one form mode r bytes f policy a b width x y =
     let one = read_as_one mode r bytes f policy x.bits y.bits x.overflowed y.overflowed width x.read y.read in
     let parts : x.read.parts ≡ y.read.parts = same_parts r bytes x.read.parts y.read.parts x.read.numeral y.read.numeral in
-    let values : x.values ≡ y.values = lines_one f y.bits x.values y.values width (subst (λ (v : ℤ). AreValueLines f v x.values) one.0 x.are_values) y.are_values in
-    let moved : IsBlockError r y.read.parts f.frac y.bits y.overflowed x.error
-    = subst (λ (o : Bool). IsBlockError r y.read.parts f.frac y.bits o x.error) one.1 (subst (λ (v : ℤ). IsBlockError r y.read.parts f.frac v x.overflowed x.error) one.0 (subst (λ (q : Parts). IsBlockError r q f.frac x.bits x.overflowed x.error) parts x.is_error)) in
-    let error : x.error ≡ y.error = block_error_one r y.read.parts f.frac y.bits y.overflowed x.error y.error moved y.is_error in
-    let counted : AreBlockUlps r y.read.parts f.frac y.bits y.overflowed x.ulps
-    = subst (λ (o : Bool). AreBlockUlps r y.read.parts f.frac y.bits o x.ulps) one.1 (subst (λ (v : ℤ). AreBlockUlps r y.read.parts f.frac v x.overflowed x.ulps) one.0 (subst (λ (q : Parts). AreBlockUlps r q f.frac x.bits x.overflowed x.ulps) parts x.are_ulps)) in
-    let ulps : x.ulps ≡ y.ulps = block_ulps_one r y.read.parts f.frac y.bits y.overflowed x.ulps y.ulps counted y.are_ulps in
-    let between : x.between ≡ y.between = between_one r bytes f x.between y.between x.is_between y.is_between in
-    x.block_is ∙ (rw (values, error, ulps, between, one.1) (sym y.block_is))
+    let values : x.values ≡ y.values = values_one form f y.bits x.values y.values width (subst (λ (v : ℤ). AreValues form f v x.values) one.0 x.are_values) y.are_values in
+    let moved : IsFormError form r y.read.parts f.frac y.bits y.overflowed x.error
+    = subst (λ (o : Bool). IsFormError form r y.read.parts f.frac y.bits o x.error) one.1 (subst (λ (v : ℤ). IsFormError form r y.read.parts f.frac v x.overflowed x.error) one.0 (subst (λ (q : Parts). IsFormError form r q f.frac x.bits x.overflowed x.error) parts x.is_error)) in
+    let error : x.error ≡ y.error = form_error_one form r y.read.parts f.frac y.bits y.overflowed x.error y.error moved y.is_error in
+    let counted : AreFormUlps form r y.read.parts f.frac y.bits y.overflowed x.ulps
+    = subst (λ (o : Bool). AreFormUlps form r y.read.parts f.frac y.bits o x.ulps) one.1 (subst (λ (v : ℤ). AreFormUlps form r y.read.parts f.frac v x.overflowed x.ulps) one.0 (subst (λ (q : Parts). AreFormUlps form r q f.frac x.bits x.overflowed x.ulps) parts x.are_ulps)) in
+    let ulps : x.ulps ≡ y.ulps = form_ulps_one form r y.read.parts f.frac y.bits y.overflowed x.ulps y.ulps counted y.are_ulps in
+    let between : x.between ≡ y.between = between_one form r bytes f x.between y.between x.is_between y.is_between in
+    x.facts_are ∙ (rw (values, error, ulps, between, one.1) (sym y.facts_are))
+
+show_facts_one : (form : Form) (mode : ReadMode) (r : Radix) (bytes : List ℕ) (f : FormatParts) (policy : Policy) (o p : Bool) (a b : List ℕ) → IsWidth f.width → AreShowFacts form mode r bytes f policy o a → AreShowFacts form mode r bytes f policy p b → (o ≡ p) × (a ≡ b)
+show_facts_one form mode r bytes f policy true true a b width x y = (refl, x.facts_are ∙ ap (λ k. refusal form (message_of k)) (unread_one mode r bytes f policy x.kind y.kind x.unread y.unread) ∙ sym y.facts_are)
+show_facts_one form mode r bytes f policy true false a b width x y = absurd (read_or_not mode r bytes f policy y.bits y.overflowed x.kind y.read x.unread)
+show_facts_one form mode r bytes f policy false true a b width x y = absurd (read_or_not mode r bytes f policy x.bits x.overflowed y.kind x.read y.unread)
+show_facts_one form mode r bytes f policy false false a b width x y = (refl, shown_one form mode r bytes f policy a b width x y)
 
 pub show_block_one : ShowBlockIsTheOne
-show_block_one mode r bytes f policy true true a b width x y = (refl, x.block_is ∙ ap (λ k. refusal_block (message_of k)) (unread_one mode r bytes f policy x.kind y.kind x.unread y.unread) ∙ sym y.block_is)
-show_block_one mode r bytes f policy true false a b width x y = absurd (read_or_not mode r bytes f policy y.bits y.overflowed x.kind y.read x.unread)
-show_block_one mode r bytes f policy false true a b width x y = absurd (read_or_not mode r bytes f policy x.bits x.overflowed y.kind x.read y.unread)
-show_block_one mode r bytes f policy false false a b width x y = (refl, shown_one mode r bytes f policy a b width x y)
+show_block_one mode r bytes f policy o p a b width x y = show_facts_one Lines mode r bytes f policy o p a b width x y
+
+pub show_object_one : ShowObjectIsTheOne
+show_object_one mode r bytes f policy o p a b width x y =
+    let same = show_facts_one Members mode r bytes f policy o p x.members y.members width x.are_facts y.are_facts in
+    (same.0, x.object_is ∙ ap (object_text bytes) same.1 ∙ sym y.object_is)
+
+-- a numeral that is shown is not refused
+pub show_facts_apart : (form : Form) (mode : ReadMode) (r : Radix) (bytes : List ℕ) (f : FormatParts) (policy : Policy) (a b : List ℕ) → AreShowFacts form mode r bytes f policy true a → AreShowFacts form mode r bytes f policy false b → ⊥
+show_facts_apart form mode r bytes f policy a b x y = read_or_not mode r bytes f policy y.bits y.overflowed x.kind y.read x.unread
 
 -- a refusal needs no width
 pub refusal_one : ShowRefusalIsTheOne
-refusal_one mode r bytes f policy true a b x y = (refl, x.block_is ∙ ap (λ k. refusal_block (message_of k)) (unread_one mode r bytes f policy x.kind y.kind x.unread y.unread) ∙ sym y.block_is)
+refusal_one mode r bytes f policy true a b x y = (refl, x.facts_are ∙ ap (λ k. refusal Lines (message_of k)) (unread_one mode r bytes f policy x.kind y.kind x.unread y.unread) ∙ sym y.facts_are)
 refusal_one mode r bytes f policy false a b x y = absurd (read_or_not mode r bytes f policy y.bits y.overflowed x.kind y.read x.unread)

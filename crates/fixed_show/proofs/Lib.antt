@@ -15,6 +15,7 @@ pub mod TallLemmas
 pub mod BoundedLemmas
 pub mod UlpsLemmas
 pub mod ShortLemmas
+pub mod JsonLemmas
 pub mod WordLawLemmas
 pub mod ToolNameLemmas
 pub mod BlockLawLemmas

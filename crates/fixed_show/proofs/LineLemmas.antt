@@ -1,8 +1,11 @@
 -- Lines that are appended part by part.
-use Rattle.std.proofs.Common.{◌≡◌, ℕ, ◌+◌, ◌≤◌, List, [], ◌∷◌, ◌++◌, length, ap, ◌∙◌, arith, append_assoc, length-append}
+use Rattle.std.proofs.Common.{◌≡◌, ℕ, ◌+◌, ◌≤◌, List, [], ◌∷◌, ◌++◌, length, take, ◌-◌, codes, ap, sym, ◌∙◌, arith, append_assoc, length-append}
 use Rattle.std.proofs.Common.{ℤ}
 use Rattle.std.specs.Fmt.{signed_decimal}
 use Rattle.fixed_show.specs.Blocks.{line}
+use Rattle.fixed_show.specs.Forms.{end_byte, fact, label}
+use Rattle.fixed_show.specs.declared.form.Form.{Form}
+use Rattle.fixed_show.specs.declared.form.Form.TheVariants.{Lines, Members}
 use Rattle.fixed_show.specs.ToolNames.{pair_text}
 
 pub line_pushed : (old a b c label text : List ℕ) → a ≡ old ++ label → b ≡ a ++ text → c ≡ b ++ 10 ∷ [] → c ≡ old ++ line label text
@@ -14,6 +17,26 @@ line_pushed old a b c label text p q r =
 pub line_length : (label text : List ℕ) → length (line label text) ≡ length label + (length text + 1)
 unfolding line
 line_length label text = omega (arith, length-append label (text ++ 10 ∷ []), length-append text (10 ∷ []))
+
+-- what stands before a fact
+pub line_label : (form : Form) (old a b key : List ℕ) → form ≡ Lines → a ≡ old ++ key → b ≡ a ++ take (10 - length key) (codes "          ") → b ≡ old ++ label form key
+unfolding label
+line_label form old a b key e p q =
+    let x : b ≡ (old ++ key) ++ take (10 - length key) (codes "          ") = cc in
+    x ∙ append_assoc old key (take (10 - length key) (codes "          ")) ∙ ap (λ t. old ++ label t key) (sym e)
+
+pub key_label : (form : Form) (old a b c key : List ℕ) → form ≡ Members → a ≡ old ++ codes ",\"" → b ≡ a ++ key → c ≡ b ++ codes "\":\"" → c ≡ old ++ label form key
+unfolding label
+key_label form old a b c key e p q r =
+    let x : c ≡ ((old ++ codes ",\"") ++ key) ++ codes "\":\"" = cc in
+    x ∙ append_assoc (old ++ codes ",\"") key (codes "\":\"") ∙ append_assoc old (codes ",\"") (key ++ codes "\":\"") ∙ ap (λ t. old ++ label t key) (sym e)
+
+-- a fact
+pub fact_pushed : (form : Form) (old a b c key text : List ℕ) (e : ℕ) → a ≡ old ++ label form key → b ≡ a ++ text → e ≡ end_byte form → c ≡ b ++ e ∷ [] → c ≡ old ++ fact form key text
+unfolding fact
+fact_pushed form old a b c key text e p q r s =
+    let x : c ≡ ((old ++ label form key) ++ text) ++ end_byte form ∷ [] = cc in
+    x ∙ simp append_assoc
 
 -- a line of three texts
 pub three_pushed : (old o1 o2 o3 o4 o5 l a b c : List ℕ) → o1 ≡ old ++ l → o2 ≡ o1 ++ a → o3 ≡ o2 ++ b → o4 ≡ o3 ++ c → o5 ≡ o4 ++ 10 ∷ [] → o5 ≡ old ++ line l (a ++ (b ++ c))

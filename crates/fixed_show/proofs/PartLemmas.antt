@@ -10,15 +10,18 @@ use Rattle.fixed_bits.specs.declared.format.Policy.TheVariants.{Wrapping}
 use Rattle.fixed_numeral.specs.declared.radix.Radix.{Radix}
 use Rattle.fixed_numeral.specs.declared.radix.Radix.TheVariants.{Bin, Oct, Dec, Hex}
 use Rattle.fixed_numeral.specs.Literal.{without_underscores}
-use Rattle.fixed_show.specs.Blocks.{refusal_block}
-use Rattle.fixed_show.specs.BitsBlock.{AreValueLines}
-use Rattle.fixed_show.specs.PartLaws.{PartBlockIsTheOne, PartFaultIsTheOne, PartHasNoFault, ReversedTwice, WholeFieldIsTheWord, WholeIsTheWord}
-use Rattle.fixed_show.specs.PartText.{AreBits, IsLongWord, IsOrdered, IsPart, WritesBytes, longest, part_message, reach_of, reversed_bytes}
+use Rattle.fixed_show.specs.BitsBlock.{AreValues}
+use Rattle.fixed_show.specs.Forms.{refusal}
+use Rattle.fixed_show.specs.JsonText.{object_text}
+use Rattle.fixed_show.specs.declared.form.Form.{Form}
+use Rattle.fixed_show.specs.declared.form.Form.TheVariants.{Lines, Members}
+use Rattle.fixed_show.specs.PartLaws.{PartBlockIsTheOne, PartFaultIsTheOne, PartHasNoFault, PartObjectIsTheOne, ReversedTwice, WholeFieldIsTheWord, WholeIsTheWord}
+use Rattle.fixed_show.specs.PartText.{AreBits, ArePartFacts, IsLongWord, IsOrdered, IsPart, WritesBytes, longest, part_message, reach_of, reversed_bytes}
 use Rattle.fixed_show.specs.WordText.{HasWordFault, word_digits, word_radix}
 use Rattle.fixed_show.specs.declared.parts.Part.{Part}
 use Rattle.fixed_show.specs.declared.parts.PartFault.TheVariants.{Signed, NoWord, NotBytes, TooWide}
 use Rattle.fixed_show.specs.declared.words.WordFault.{WordFault}
-use Rattle.fixed_show.proofs.BlockLawLemmas.{lines_one}
+use Rattle.fixed_show.proofs.BlockLawLemmas.{values_one}
 use Rattle.fixed_show.proofs.WordLawLemmas.{fault_one, no_fault}
 use Rattle.fixed_show.proofs.WordLemmas.{without_more_other}
 
@@ -89,14 +92,22 @@ part_no_fault bare part f text TooWide v x y =
     x.none y.bits (subst (λ n. AreBits part.low f.width n y.bits) ordered y.are_bits)
 
 -- ---- one block
-pub part_block_one : PartBlockIsTheOne
-part_block_one bare part f text true true a b width x y =
-    (refl, x.block_is ∙ ap (λ w. refusal_block (part_message w)) (part_fault_one bare part f text x.fault y.fault x.is_fault y.is_fault) ∙ sym y.block_is)
-part_block_one bare part f text true false a b width x y = absurd (part_no_fault bare part f text x.fault y.bits x.is_fault y.is_part)
-part_block_one bare part f text false true a b width x y = absurd (part_no_fault bare part f text y.fault x.bits y.is_fault x.is_part)
-part_block_one bare part f text false false a b width x y =
+part_facts_one : (form : Form) (bare : Radix) (part : Part) (f : FormatParts) (text : List ℕ) (o p : Bool) (a b : List ℕ) → IsWidth f.width → ArePartFacts form bare part f text o a → ArePartFacts form bare part f text p b → (o ≡ p) × (a ≡ b)
+part_facts_one form bare part f text true true a b width x y =
+    (refl, x.facts_are ∙ ap (λ w. refusal form (part_message w)) (part_fault_one bare part f text x.fault y.fault x.is_fault y.is_fault) ∙ sym y.facts_are)
+part_facts_one form bare part f text true false a b width x y = absurd (part_no_fault bare part f text x.fault y.bits x.is_fault y.is_part)
+part_facts_one form bare part f text false true a b width x y = absurd (part_no_fault bare part f text y.fault x.bits y.is_fault x.is_part)
+part_facts_one form bare part f text false false a b width x y =
     let bits : x.bits ≡ y.bits = part_one bare part f text x.bits y.bits width x.is_part y.is_part in
-    (refl, lines_one f y.bits a b width (subst (λ (v : ℤ). AreValueLines f v a) bits x.lines) y.lines)
+    (refl, values_one form f y.bits a b width (subst (λ (v : ℤ). AreValues form f v a) bits x.values) y.values)
+
+pub part_block_one : PartBlockIsTheOne
+part_block_one bare part f text o p a b width x y = part_facts_one Lines bare part f text o p a b width x y
+
+pub part_object_one : PartObjectIsTheOne
+part_object_one bare part f text o p a b width x y =
+    let same = part_facts_one Members bare part f text o p x.members y.members width x.are_facts y.are_facts in
+    (same.0, x.object_is ∙ ap (object_text text) same.1 ∙ sym y.object_is)
 
 -- ---- the whole word
 within_long : (n w : ℕ) → w ≤ 64 → n < 2 ^ w → n < 2 ^ 64

@@ -1,7 +1,14 @@
 -- What the proofs of the crates above may cite: the laws of words and of blocks.
-use Rattle.fixed_show.specs.BlockLaws.{BitsBlockIsTheOne, ShowBlockIsTheOne, ShowRefusalIsTheOne}
+use Rattle.std.specs.Prelude.{ℕ, List, true, false}
+use Rattle.fixed_bits.specs.Formats.{FormatParts}
+use Rattle.fixed_bits.specs.declared.format.Policy.{Policy}
+use Rattle.fixed_bits.specs.declared.mode.ReadMode.{ReadMode}
+use Rattle.fixed_numeral.specs.declared.radix.Radix.{Radix}
+use Rattle.fixed_show.specs.ShowBlock.{AreShowFacts}
+use Rattle.fixed_show.specs.declared.form.Form.{Form}
+use Rattle.fixed_show.specs.BlockLaws.{BitsBlockIsTheOne, BitsObjectIsTheOne, ShowBlockIsTheOne, ShowObjectIsTheOne, ShowRefusalIsTheOne}
 use Rattle.fixed_show.specs.FormatBlock.{FormatBlockIsTheOne}
-use Rattle.fixed_show.specs.PartLaws.{PartBlockIsTheOne, PartFaultIsTheOne, PartHasNoFault}
+use Rattle.fixed_show.specs.PartLaws.{PartBlockIsTheOne, PartFaultIsTheOne, PartHasNoFault, PartObjectIsTheOne}
 use Rattle.fixed_show.specs.WordLaws.{WordFaultIsTheOne, WordHasNoFault, WordIsTheOne}
 use Rattle.fixed_show.proofs.BlockLawLemmas
 use Rattle.fixed_show.proofs.BoundedLemmas
@@ -37,3 +44,15 @@ part_has_no_fault = PartLemmas.part_no_fault
 
 pub part_block_one : PartBlockIsTheOne
 part_block_one = PartLemmas.part_block_one
+
+pub bits_object_one : BitsObjectIsTheOne
+bits_object_one = BlockLawLemmas.bits_object_one
+
+pub show_object_one : ShowObjectIsTheOne
+show_object_one = BlockLawLemmas.show_object_one
+
+pub part_object_one : PartObjectIsTheOne
+part_object_one = PartLemmas.part_object_one
+
+pub show_facts_apart : (form : Form) (mode : ReadMode) (r : Radix) (bytes : List ℕ) (f : FormatParts) (policy : Policy) (a b : List ℕ) → AreShowFacts form mode r bytes f policy true a → AreShowFacts form mode r bytes f policy false b → ⊥
+show_facts_apart form mode r bytes f policy a b x y = BlockLawLemmas.show_facts_apart form mode r bytes f policy a b x y

@@ -15,9 +15,11 @@ use Rattle.fixed_numeral.specs.declared.radix.Radix.{Radix}
 use Rattle.fixed_bits.specs.Numbers.{IsNumber}
 use Rattle.fixed_read.specs.Reading.{IsReading, IsReadNumber, number_in}
 use Rattle.fixed_read.specs.declared.read_number.ReadNumber.{ReadNumber}
-use Rattle.fixed_show.specs.Blocks.{line}
-use Rattle.fixed_show.specs.Inner.Errors.{error_lines}
-use Rattle.fixed_show.specs.ShowBlock.{IsReadAs, IsUnread, neighbours_text}
+use Rattle.fixed_show.specs.Forms.{fact, label}
+use Rattle.fixed_show.specs.declared.form.Form.{Form}
+use Rattle.fixed_show.specs.declared.form.Form.TheVariants.{Lines}
+use Rattle.fixed_show.specs.Inner.Errors.{error_facts}
+use Rattle.fixed_show.specs.ShowBlock.{IsReadAs, IsUnread, neighbours}
 
 pub read_as : (mode : ReadMode) (r : Radix) (bytes : List ℕ) (f : FormatParts) (policy : Policy) (p : Parts) (found : ReadNumber) (bits : ℤ) (flag : Bool)
     → HasNumeral r bytes p → IsReading mode r p found → found.format ≡ f
@@ -51,11 +53,11 @@ unread mode r bytes f policy p found kind numeral reading e is out =
       },
     )
 
-pub neighbours_pushed : (old o1 o2 o3 o4 o5 l s t : List ℕ) (lo hi : ℤ) → o1 ≡ old ++ l → o2 ≡ o1 ++ (s ++ (codes " (" ++ (signed_decimal lo ++ codes ")"))) → o3 ≡ o2 ++ codes " and "
-    → o4 ≡ o3 ++ (t ++ (codes " (" ++ (signed_decimal hi ++ codes ")"))) → o5 ≡ o4 ++ 10 ∷ [] → o5 ≡ old ++ line l (neighbours_text s lo t hi)
-unfolding line
-neighbours_pushed old o1 o2 o3 o4 o5 l s t lo hi a b c d e =
-    let x : o5 ≡ ((((old ++ l) ++ (s ++ (codes " (" ++ (signed_decimal lo ++ codes ")")))) ++ codes " and ") ++ (t ++ (codes " (" ++ (signed_decimal hi ++ codes ")")))) ++ 10 ∷ [] = cc in
+pub neighbours_pushed : (old o1 o2 o3 o4 o5 s t : List ℕ) (lo hi : ℤ) → o1 ≡ old ++ label Lines (codes "between") → o2 ≡ o1 ++ (s ++ (codes " (" ++ (signed_decimal lo ++ codes ")"))) → o3 ≡ o2 ++ codes " and "
+    → o4 ≡ o3 ++ (t ++ (codes " (" ++ (signed_decimal hi ++ codes ")"))) → o5 ≡ o4 ++ 10 ∷ [] → o5 ≡ old ++ neighbours Lines s lo t hi
+unfolding fact
+neighbours_pushed old o1 o2 o3 o4 o5 s t lo hi a b c d e =
+    let x : o5 ≡ ((((old ++ label Lines (codes "between")) ++ (s ++ (codes " (" ++ (signed_decimal lo ++ codes ")")))) ++ codes " and ") ++ (t ++ (codes " (" ++ (signed_decimal hi ++ codes ")")))) ++ 10 ∷ [] = cc in
     x ∙ simp append_assoc
 
 pub not_enclosed : (r : Radix) (bytes : List ℕ) (f : FormatParts) (kind : ParseErrorKind) → IsNumeral r bytes → IsRefusal r bytes f kind → IsUnenclosed r bytes f
@@ -67,8 +69,7 @@ four_blocks old o1 o2 o3 o4 a b c d p q r s =
     let e : o4 ≡ (((old ++ a) ++ b) ++ c) ++ d = cc in
     e ∙ simp append_assoc
 
-pub shown_lines : (values errors error ulps between lies range : List ℕ) → errors ≡ error_lines error ulps → between ≡ line (codes "between   ") lies
-    → values ++ (errors ++ (between ++ range)) ≡ values ++ (line (codes "error     ") error ++ (line (codes "ulps      ") ulps ++ (line (codes "between   ") lies ++ range)))
-shown_lines values errors error ulps between lies range a b =
-    ap (λ t. values ++ (t ++ (between ++ range))) a ∙ ap (λ t. values ++ (error_lines error ulps ++ (t ++ range))) b
-    ∙ ap (λ t. values ++ t) (append_assoc (line (codes "error     ") error) (line (codes "ulps      ") ulps) (line (codes "between   ") lies ++ range))
+pub shown_facts : (form : Form) (values errors error ulps more : List ℕ) → errors ≡ error_facts form error ulps
+    → values ++ (errors ++ more) ≡ values ++ (fact form (codes "error") error ++ (fact form (codes "ulps") ulps ++ more))
+shown_facts form values errors error ulps more e =
+    ap (λ t. values ++ (t ++ more)) e ∙ ap (λ t. values ++ t) (append_assoc (fact form (codes "error") error) (fact form (codes "ulps") ulps) more)

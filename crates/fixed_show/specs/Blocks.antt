@@ -7,10 +7,6 @@ use Rattle.fixed_write.specs.Texts.{last_digits}
 unfoldable pub line : List ℕ → List ℕ → List ℕ
 line label text = label ++ (text ++ 10 ∷ [])
 
--- what reports a refusal
-abbrev pub refusal_block : List ℕ → List ℕ
-refusal_block message = line (codes "error: ") message
-
 -- a text of this meaning, of at most `most` bytes, was appended
 pub record Appends (Is : List ℕ → Type 0) (most : ℕ) (before after : List ℕ) : Type 0 where
   pub text : List ℕ

@@ -8,6 +8,8 @@ use Rattle.fixed_write.specs.Places.{IsExactText}
 use Rattle.fixed_write.specs.Shortest.{ReadsBack, IsShortest}
 use Rattle.fixed_write.specs.Texts.{IsShortestText}
 use Rattle.fixed_show.specs.Blocks.{line}
+use Rattle.fixed_show.specs.Forms.{fact}
+use Rattle.fixed_show.specs.declared.form.Form.TheVariants.{Lines}
 use Rattle.fixed_show.specs.ToolNames.{name_lines}
 
 -- k is the greatest count of digits after the point with which decimals are at least an ulp of 2^-f apart
@@ -54,9 +56,9 @@ pub record IsFormatBlock (f : FormatParts) (block : List ℕ) : Type 0 where
   pub short_most : List ℕ
   pub is_short_most : IsShortestText (greatest f.signed f.width) f.frac short_most
   pub block_is : block ≡ line (codes "format    ") word
-      ++ (line (codes "least     ") least
-      ++ (line (codes "greatest  ") most
-      ++ (line (codes "ulp       ") ulp
+      ++ (fact Lines (codes "least") least
+      ++ (fact Lines (codes "greatest") most
+      ++ (fact Lines (codes "ulp") ulp
       ++ (line (codes "digits    ") (digits_text whole places)
       ++ (line (codes "shortest  ") (short_least ++ (codes " to " ++ short_most))
       ++ name_lines f)))))

@@ -1,5 +1,4 @@
 -- Contracts of private functions. Nothing that is public cites them.
-pub mod Lines
 pub mod Naturals
 pub mod Decimals
 pub mod Errors

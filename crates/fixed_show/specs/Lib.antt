@@ -1,4 +1,6 @@
 pub mod Blocks
+pub mod Forms
+pub mod JsonText
 pub mod ToolNames
 pub mod FormatBlock
 pub mod WordText

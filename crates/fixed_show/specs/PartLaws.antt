@@ -3,7 +3,7 @@ use Rattle.std.specs.Prelude.{◌≡◌, ◌↔◌, ℕ, ◌^◌, ◌<◌, Bool,
 use Rattle.fixed_bits.specs.Formats.{FormatParts}
 use Rattle.fixed_bits.specs.Ranges.{IsWidth}
 use Rattle.fixed_numeral.specs.declared.radix.Radix.{Radix}
-use Rattle.fixed_show.specs.PartText.{HasPartFault, IsPart, IsPartBlock, reversed_bytes}
+use Rattle.fixed_show.specs.PartText.{HasPartFault, IsPart, IsPartBlock, IsPartObject, reversed_bytes}
 use Rattle.fixed_show.specs.WordText.{IsPlainWord}
 use Rattle.fixed_show.specs.declared.parts.Part.{Part}
 use Rattle.fixed_show.specs.declared.parts.PartFault.{PartFault}
@@ -22,6 +22,11 @@ PartHasNoFault = (bare : Radix) (part : Part) (f : FormatParts) (text : List ℕ
 abbrev pub PartBlockIsTheOne : Type 0
 PartBlockIsTheOne = (bare : Radix) (part : Part) (f : FormatParts) (text : List ℕ) (o p : Bool) (a b : List ℕ)
     → IsWidth f.width → IsPartBlock bare part f text o a → IsPartBlock bare part f text p b → (o ≡ p) × (a ≡ b)
+
+-- and one object
+abbrev pub PartObjectIsTheOne : Type 0
+PartObjectIsTheOne = (bare : Radix) (part : Part) (f : FormatParts) (text : List ℕ) (o p : Bool) (a b : List ℕ)
+    → IsWidth f.width → IsPartObject bare part f text o a → IsPartObject bare part f text p b → (o ≡ p) × (a ≡ b)
 
 -- with neither a field nor its bytes in reverse a word without a sign is what it is as a word of the format
 abbrev pub WholeIsTheWord : Type 0

@@ -5,8 +5,11 @@ use Rattle.fixed_bits.specs.Formats.{FormatParts}
 use Rattle.fixed_bits.specs.Images.{IsWrapped}
 use Rattle.fixed_numeral.specs.declared.radix.Radix.{Radix}
 use Rattle.fixed_numeral.specs.declared.radix.Radix.TheVariants.{Bin, Oct, Dec, Hex}
-use Rattle.fixed_show.specs.BitsBlock.{AreValueLines, fault_message}
-use Rattle.fixed_show.specs.Blocks.{refusal_block}
+use Rattle.fixed_show.specs.BitsBlock.{AreValues, fault_message}
+use Rattle.fixed_show.specs.Forms.{refusal}
+use Rattle.fixed_show.specs.JsonText.{object_text}
+use Rattle.fixed_show.specs.declared.form.Form.{Form}
+use Rattle.fixed_show.specs.declared.form.Form.TheVariants.{Lines, Members}
 use Rattle.fixed_show.specs.WordText.{HasWordFault, IsWordText, has_sign, word_digits, word_radix}
 use Rattle.fixed_show.specs.declared.parts.Part.{Part}
 use Rattle.fixed_show.specs.declared.parts.PartFault.{PartFault}
@@ -115,19 +118,31 @@ part_message (NoWord fault) = long_message fault
 part_message NotBytes = codes "digits are not those of whole bytes, 1 to 8, that hold the field"
 part_message TooWide = codes "word is wider than the format"
 
--- the part of the word is the number `bits`, and the lines say so
-pub record IsShownPart (bare : Radix) (part : Part) (f : FormatParts) (text block : List ℕ) : Type 0 where
+-- the part of the word is the number `bits`, and the facts say so
+pub record IsShownPart (form : Form) (bare : Radix) (part : Part) (f : FormatParts) (text facts : List ℕ) : Type 0 where
   pub bits : ℤ
   pub is_part : IsPart bare part f text bits
-  pub lines : AreValueLines f bits block
+  pub values : AreValues form f bits facts
 
 -- there is none
-pub record IsRefusedPart (bare : Radix) (part : Part) (f : FormatParts) (text block : List ℕ) : Type 0 where
+pub record IsRefusedPart (form : Form) (bare : Radix) (part : Part) (f : FormatParts)
+    (text facts : List ℕ) : Type 0 where
   pub fault : PartFault
   pub is_fault : HasPartFault bare part f text fault
-  pub block_is : block ≡ refusal_block (part_message fault)
+  pub facts_are : facts ≡ refusal form (part_message fault)
 
--- block is the answer to a word of which a part is asked for, and `refused` says which of the two
+-- facts are the answer to a word of which a part is asked for, and `refused` says which of the two
+abbrev pub ArePartFacts : Form → Radix → Part → FormatParts → List ℕ → Bool → List ℕ → Type 0
+ArePartFacts form bare part f text true facts = IsRefusedPart form bare part f text facts
+ArePartFacts form bare part f text false facts = IsShownPart form bare part f text facts
+
+-- block is the answer in lines
 abbrev pub IsPartBlock : Radix → Part → FormatParts → List ℕ → Bool → List ℕ → Type 0
-IsPartBlock bare part f text true block = IsRefusedPart bare part f text block
-IsPartBlock bare part f text false block = IsShownPart bare part f text block
+IsPartBlock bare part f text refused block = ArePartFacts Lines bare part f text refused block
+
+-- object is the answer as an object of JSON
+pub record IsPartObject (bare : Radix) (part : Part) (f : FormatParts) (text : List ℕ) (refused : Bool)
+    (object : List ℕ) : Type 0 where
+  pub members : List ℕ
+  pub are_facts : ArePartFacts Members bare part f text refused members
+  pub object_is : object ≡ object_text text members

@@ -16,10 +16,13 @@ use Rattle.fixed_numeral.specs.declared.error.ParseErrorKind.TheVariants.{Overfl
 use Rattle.fixed_numeral.specs.declared.radix.Radix.{Radix}
 use Rattle.fixed_read.specs.Reading.{IsReadNumber, IsReadOutOfRange}
 use Rattle.fixed_write.specs.Texts.{IsShortestText}
-use Rattle.fixed_show.specs.Blocks.{line, refusal_block}
-use Rattle.fixed_show.specs.BitsBlock.{AreValueLines}
+use Rattle.fixed_show.specs.BitsBlock.{AreValues}
+use Rattle.fixed_show.specs.Forms.{fact, refusal}
+use Rattle.fixed_show.specs.JsonText.{object_text}
+use Rattle.fixed_show.specs.declared.form.Form.{Form}
+use Rattle.fixed_show.specs.declared.form.Form.TheVariants.{Lines, Members}
 use Rattle.fixed_show.specs.ErrorText.{IsErrorText}
-use Rattle.fixed_show.specs.ShortError.{AreBlockUlps, IsBlockError}
+use Rattle.fixed_show.specs.ShortError.{AreFormUlps, IsFormError}
 
 -- bytes are a numeral, bits are the image of its read number, and overflowed says whether that is out of range
 pub record IsReadAs (mode : ReadMode) (r : Radix) (bytes : List ℕ) (f : FormatParts) (policy : Policy) (bits : ℤ)
@@ -53,8 +56,21 @@ abbrev pub neighbours_text : List ℕ → ℤ → List ℕ → ℤ → List ℕ
 neighbours_text low lo high hi = low ++ (codes " (" ++ (signed_decimal lo
     ++ (codes ") and " ++ (high ++ (codes " (" ++ (signed_decimal hi ++ codes ")"))))))
 
+-- what says so
+abbrev pub neighbours : Form → List ℕ → ℤ → List ℕ → ℤ → List ℕ
+neighbours Lines low lo high hi = fact Lines (codes "between") (neighbours_text low lo high hi)
+neighbours Members low lo high hi = fact Members (codes "low") low
+    ++ (fact Members (codes "low_bits") (signed_decimal lo)
+    ++ (fact Members (codes "high") high
+    ++ fact Members (codes "high_bits") (signed_decimal hi)))
+
+-- that there are none
+abbrev pub no_neighbours : Form → List ℕ
+no_neighbours Lines = fact Lines (codes "between") (codes "no two values of the format")
+no_neighbours Members = codes ",\"low\":null,\"low_bits\":null,\"high\":null,\"high_bits\":null"
+
 -- text says the two values of the format that enclose the numeral, by their shortest texts and their bits
-pub record HasNeighbours (r : Radix) (bytes : List ℕ) (f : FormatParts) (text : List ℕ) : Type 0 where
+pub record HasNeighbours (form : Form) (r : Radix) (bytes : List ℕ) (f : FormatParts) (text : List ℕ) : Type 0 where
   pub lo : ℤ
   pub hi : ℤ
   pub enclosed : IsEnclosed r bytes f lo hi
@@ -62,48 +78,59 @@ pub record HasNeighbours (r : Radix) (bytes : List ℕ) (f : FormatParts) (text 
   pub is_low : IsShortestText lo f.frac low
   pub high : List ℕ
   pub is_high : IsShortestText hi f.frac high
-  pub text_is : text ≡ neighbours_text low lo high hi
+  pub text_is : text ≡ neighbours form low lo high hi
 
 -- the format lacks one of the two, and text says so
-abbrev pub HasNoNeighbours : Radix → List ℕ → FormatParts → List ℕ → Type 0
-HasNoNeighbours r bytes f text = IsUnenclosed r bytes f × (text ≡ codes "no two values of the format")
+abbrev pub HasNoNeighbours : Form → Radix → List ℕ → FormatParts → List ℕ → Type 0
+HasNoNeighbours form r bytes f text = IsUnenclosed r bytes f × (text ≡ no_neighbours form)
 
-abbrev pub IsBetween : Radix → List ℕ → FormatParts → List ℕ → Type 0
-IsBetween r bytes f text = HasNeighbours r bytes f text ⊎ HasNoNeighbours r bytes f text
+abbrev pub IsBetween : Form → Radix → List ℕ → FormatParts → List ℕ → Type 0
+IsBetween form r bytes f text = HasNeighbours form r bytes f text ⊎ HasNoNeighbours form r bytes f text
 
 -- whether the read number is in range
 abbrev pub range_text : Bool → List ℕ
 range_text true = codes "overflowed"
 range_text false = codes "fits"
 
--- block says all of this of the numeral
-pub record IsShown (mode : ReadMode) (r : Radix) (bytes : List ℕ) (f : FormatParts) (policy : Policy)
-    (block : List ℕ) : Type 0 where
+-- facts are all of this of the numeral
+pub record IsShown (form : Form) (mode : ReadMode) (r : Radix) (bytes : List ℕ) (f : FormatParts) (policy : Policy)
+    (facts : List ℕ) : Type 0 where
   pub bits : ℤ
   pub overflowed : Bool
   pub read : IsReadAs mode r bytes f policy bits overflowed
   pub values : List ℕ
-  pub are_values : AreValueLines f bits values
+  pub are_values : AreValues form f bits values
   pub error : List ℕ
-  pub is_error : IsBlockError r read.parts f.frac bits overflowed error
+  pub is_error : IsFormError form r read.parts f.frac bits overflowed error
   pub ulps : List ℕ
-  pub are_ulps : AreBlockUlps r read.parts f.frac bits overflowed ulps
+  pub are_ulps : AreFormUlps form r read.parts f.frac bits overflowed ulps
   pub between : List ℕ
-  pub is_between : IsBetween r bytes f between
-  pub block_is : block ≡ values
-      ++ (line (codes "error     ") error
-      ++ (line (codes "ulps      ") ulps
-      ++ (line (codes "between   ") between
-      ++ line (codes "range     ") (range_text overflowed))))
+  pub is_between : IsBetween form r bytes f between
+  pub facts_are : facts ≡ values
+      ++ (fact form (codes "error") error
+      ++ (fact form (codes "ulps") ulps
+      ++ (between
+      ++ fact form (codes "range") (range_text overflowed))))
 
--- block says why there is nothing to show
-pub record IsRefusedNumeral (mode : ReadMode) (r : Radix) (bytes : List ℕ) (f : FormatParts) (policy : Policy)
-    (block : List ℕ) : Type 0 where
+-- facts say why there is nothing to show
+pub record IsRefusedNumeral (form : Form) (mode : ReadMode) (r : Radix) (bytes : List ℕ) (f : FormatParts)
+    (policy : Policy) (facts : List ℕ) : Type 0 where
   pub kind : ParseErrorKind
   pub unread : IsUnread mode r bytes f policy kind
-  pub block_is : block ≡ refusal_block (message_of kind)
+  pub facts_are : facts ≡ refusal form (message_of kind)
 
--- block is the answer to a numeral, and `refused` says which of the two
+-- facts are the answer to a numeral, and `refused` says which of the two
+abbrev pub AreShowFacts : Form → ReadMode → Radix → List ℕ → FormatParts → Policy → Bool → List ℕ → Type 0
+AreShowFacts form mode r bytes f policy true facts = IsRefusedNumeral form mode r bytes f policy facts
+AreShowFacts form mode r bytes f policy false facts = IsShown form mode r bytes f policy facts
+
+-- block is the answer in lines
 abbrev pub IsShowBlock : ReadMode → Radix → List ℕ → FormatParts → Policy → Bool → List ℕ → Type 0
-IsShowBlock mode r bytes f policy true block = IsRefusedNumeral mode r bytes f policy block
-IsShowBlock mode r bytes f policy false block = IsShown mode r bytes f policy block
+IsShowBlock mode r bytes f policy refused block = AreShowFacts Lines mode r bytes f policy refused block
+
+-- object is the answer as an object of JSON
+pub record IsShowObject (mode : ReadMode) (r : Radix) (bytes : List ℕ) (f : FormatParts) (policy : Policy)
+    (refused : Bool) (object : List ℕ) : Type 0 where
+  pub members : List ℕ
+  pub are_facts : AreShowFacts Members mode r bytes f policy refused members
+  pub object_is : object ≡ object_text bytes members

@@ -4,12 +4,15 @@ ghost use Rattle.std.specs.Prelude.{◌≡◌, ◌+◌, ◌-◌, ◌*◌, ◌≤
 ghost use Rattle.std.specs.Prelude.{◌↔◌};
 ghost use Rattle.fixed_bits.specs.Images.{IsWrapped};
 ghost use Rattle.fixed_bits.specs.Ranges.{IsWide};
-ghost use Rattle.fixed_show.specs.Blocks.{Appends, hex_text, line};
-ghost use Rattle.fixed_show.specs.BitsBlock.{AreValueLines, IsBitsBlock};
+ghost use Rattle.fixed_show.specs.Blocks.{Appends, hex_text};
+ghost use Rattle.fixed_show.specs.BitsBlock.{AreBitsFacts, AreValues, IsBitsBlock, IsBitsObject};
+ghost use Rattle.fixed_show.specs.Forms.{fact};
 
+use crate::form::{Form, end_byte, push_label};
 use crate::hex::push_hex_digits;
+use crate::json::{MAX_OBJECT, push_given};
 use crate::lines::{
-    MAX_BLOCK, frac_of, push_exact_line, push_integer_line, push_refusal, push_shortest_line,
+    MAX_BLOCK, frac_of, push_exact_fact, push_integer_fact, push_refusal, push_shortest_fact,
 };
 use crate::words::read_word;
 use fixed_bits::{Format, Policy};
@@ -26,16 +29,17 @@ fn word_of(bits: i128, format: Format) -> u64
     Policy::Wrapping.image(words, bits).unwrap() as u64
 }
 
-/// Appends the line of a word in hexadecimal.
-fn push_hex_line<const N: usize>(out: &mut TextBuffer<N>, word: u64, width: u32)
+/// Appends a fact: a word in hexadecimal.
+fn push_hex_fact<const N: usize>(out: &mut TextBuffer<N>, form: Form, word: u64, width: u32)
     requires width { width ≤ 64 }
-    requires room { length out.old + 29 ≤ N }
-    ensures appended { out.new ≡ out.old ++ line (codes "hex       ") (hex_text width word) }
-    ensures short { length out.new ≤ length out.old + 29 }
+    requires room { length out.old + 34 ≤ N }
+    ensures appended { out.new ≡ out.old ++ fact form (codes "hex") (hex_text width word) }
+    ensures short { length out.new ≤ length out.old + 34 }
 {
-    out.push_bytes(b"hex       0x");
+    push_label(out, form, b"hex");
+    out.push_bytes(b"0x");
     push_hex_digits(out, word, (width + 3) / 4);
-    out.push(b'\n');
+    out.push(end_byte(form));
 }
 
 /// A format's width.
@@ -46,24 +50,50 @@ fn width_of(format: Format) -> u32
     format.width()
 }
 
-/// Appends the lines of bits in a format: the shortest text, the bits in decimal and in hexadecimal, and the exact
+/// Appends the facts of bits in a format: the shortest text, the bits in decimal and in hexadecimal, and the exact
 /// value.
-pub(crate) fn push_value_lines<const N: usize, L: Ledger>(
+pub(crate) fn push_values<const N: usize, L: Ledger>(
     out: &mut TextBuffer<N>,
+    form: Form,
     bits: i128,
     format: Format,
     steps: &mut Steps<L>,
 )
     requires wide { IsWide bits }
-    requires room { length out.old + 261 ≤ N }
-    ensures lines { Appends (AreValueLines format bits) 261 out.old out.new }
+    requires room { length out.old + 281 ≤ N }
+    ensures values { Appends (AreValues form format bits) 281 out.old out.new }
     ensures cost { steps.new ≤ steps.old + 48 }
 {
     let frac = frac_of(format);
-    push_shortest_line(out, b"text      ", bits, frac, steps);
-    push_integer_line(out, b"bits      ", bits);
-    push_hex_line(out, word_of(bits, format), width_of(format));
-    push_exact_line(out, b"value     ", bits, frac);
+    push_shortest_fact(out, form, b"text", bits, frac, steps);
+    push_integer_fact(out, form, b"bits", bits);
+    push_hex_fact(out, form, word_of(bits, format), width_of(format));
+    push_exact_fact(out, form, b"value", bits, frac);
+}
+
+/// Appends the facts of a word, or why it is refused. Answers whether it was.
+fn push_bits_facts<const N: usize, L: Ledger>(
+    out: &mut TextBuffer<N>,
+    form: Form,
+    text: &[u8],
+    bare: Radix,
+    format: Format,
+    steps: &mut Steps<L>,
+) -> bool
+    requires room { length out.old + 281 ≤ N }
+    ensures facts { Appends (AreBitsFacts form bare format text.now result) 281 out.old out.new }
+    ensures cost { steps.new ≤ steps.old + 48 }
+{
+    match read_word(text, bare, format) {
+        Ok(bits) => {
+            push_values(out, form, bits, format, steps);
+            false
+        }
+        Err(fault) => {
+            push_refusal(out, form, fault.message());
+            true
+        }
+    }
 }
 
 /// Appends the block of a word in a format: the shortest text of the number that it is, the bits in decimal and in
@@ -83,14 +113,24 @@ pub fn bits_block<const N: usize, L: Ledger>(
     ensures block { Appends (IsBitsBlock bare format text.now result) MAX_BLOCK out.old out.new }
     ensures cost { steps.new ≤ steps.old + 48 }
 {
-    match read_word(text, bare, format) {
-        Ok(bits) => {
-            push_value_lines(out, bits, format, steps);
-            false
-        }
-        Err(fault) => {
-            push_refusal(out, fault.message());
-            true
-        }
-    }
+    push_bits_facts(out, Form::Lines, text, bare, format, steps)
+}
+
+/// Appends the same as an object of JSON, of at most `MAX_OBJECT` bytes, in which `refused` says why a text is no word.
+/// Above them is `given`, the first 768 bytes of the text. It takes at most 48 steps.
+pub fn bits_object<const N: usize, L: Ledger>(
+    text: &[u8],
+    bare: Radix,
+    format: Format,
+    out: &mut TextBuffer<N>,
+    steps: &mut Steps<L>,
+) -> bool
+    requires room { length out.old + MAX_OBJECT ≤ N }
+    ensures object { Appends (IsBitsObject bare format text.now result) MAX_OBJECT out.old out.new }
+    ensures cost { steps.new ≤ steps.old + 48 }
+{
+    push_given(out, text);
+    let is_refused = push_bits_facts(out, Form::Members, text, bare, format, steps);
+    out.push(b'}');
+    is_refused
 }

@@ -6,7 +6,8 @@ ghost use Rattle.fixed_write.specs.Texts.{IsShortestText, shortest_text};
 ghost use Rattle.fixed_show.specs.Blocks.{Appends, line};
 ghost use Rattle.fixed_show.specs.FormatBlock.{ArePlaces, AreWholeDigits, IsFormatBlock, digits_text};
 
-use crate::lines::{MAX_BLOCK, frac_of, greatest_of, lowest_of, push_exact_line, push_line};
+use crate::form::Form;
+use crate::lines::{MAX_BLOCK, frac_of, greatest_of, lowest_of, push_exact_fact, push_line};
 use crate::tool_names::push_name_lines;
 use fixed_bits::Format;
 use fixed_respell::format_name;
@@ -109,9 +110,9 @@ pub fn format_block<const N: usize, L: Ledger>(
     let low = lowest_of(format);
     let high = greatest_of(format);
     push_line(out, b"format    ", format_name(format).as_bytes());
-    push_exact_line(out, b"least     ", low, frac);
-    push_exact_line(out, b"greatest  ", high, frac);
-    push_exact_line(out, b"ulp       ", 1, frac);
+    push_exact_fact(out, Form::Lines, b"least", low, frac);
+    push_exact_fact(out, Form::Lines, b"greatest", high, frac);
+    push_exact_fact(out, Form::Lines, b"ulp", 1, frac);
     push_digits_line(out, whole_digits_of(high, frac), places_of(frac));
     push_shortest_ends(out, low, high, frac, steps);
     push_name_lines(out, format);

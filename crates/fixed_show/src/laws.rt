@@ -1,7 +1,9 @@
 //! Laws of what the blocks say, each the contract of a function that does nothing.
 
-ghost use Rattle.fixed_show.specs.BlockLaws.{BitsBlockIsTheOne, ShowBlockIsTheOne, ShowRefusalIsTheOne};
+ghost use Rattle.fixed_show.specs.BlockLaws.{BitsBlockIsTheOne, BitsObjectIsTheOne, ShowBlockIsTheOne};
+ghost use Rattle.fixed_show.specs.BlockLaws.{ShowObjectIsTheOne, ShowRefusalIsTheOne};
 ghost use Rattle.fixed_show.specs.ErrorText.{ErrorTextIsTheOne};
+ghost use Rattle.fixed_show.specs.JsonText.{JsonTextIsOneToOne};
 ghost use Rattle.fixed_show.specs.FormatBlock.{FormatBlockIsTheOne, PlacesSurvive};
 ghost use Rattle.fixed_show.specs.ShortError.{BlockErrorIsTheOne, BlockUlpsAreTheOne};
 ghost use Rattle.fixed_show.specs.ToolNames.{ArmNameIsAName};
@@ -59,4 +61,19 @@ pub fn bits_block_is_the_one()
 pub fn show_block_is_the_one()
     ensures one { ShowBlockIsTheOne }
     ensures refused { ShowRefusalIsTheOne }
+{}
+
+/// A word has one object: that of its number, or that of its fault.
+pub fn bits_object_is_the_one()
+    ensures { BitsObjectIsTheOne }
+{}
+
+/// A numeral has one object: that of its bits, or that of its refusal.
+pub fn show_object_is_the_one()
+    ensures { ShowObjectIsTheOne }
+{}
+
+/// Bytes that have one text of JSON are the same.
+pub fn json_text_is_one_to_one()
+    ensures { JsonTextIsOneToOne }
 {}

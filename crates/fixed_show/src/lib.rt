@@ -6,8 +6,10 @@
 pub mod bits;
 mod decimals;
 mod errors;
+pub mod form;
 pub mod formats;
 pub mod hex;
+pub mod json;
 pub mod laws;
 mod lines;
 mod natural;
@@ -19,10 +21,12 @@ mod tool_names;
 mod ulps;
 pub mod words;
 
-pub use bits::bits_block;
+pub use bits::{bits_block, bits_object};
+pub use form::Form;
 pub use formats::format_block;
 pub use hex::push_hex_digits;
+pub use json::{MAX_OBJECT, push_refused_object};
 pub use lines::MAX_BLOCK;
-pub use parts::{Part, PartFault, part_block, read_part};
-pub use show::{Shown, push_error_of, read_shown, show_block};
+pub use parts::{Part, PartFault, part_block, part_object, read_part};
+pub use show::{Shown, push_error_of, read_shown, show_block, show_object};
 pub use words::{WordFault, read_word};

@@ -6,8 +6,10 @@ ghost use Rattle.fixed_bits.specs.Formats.{IsFormat};
 ghost use Rattle.fixed_bits.specs.Ranges.{IsWide, greatest, lowest};
 ghost use Rattle.fixed_write.specs.Places.{IsExactText, exact_text};
 ghost use Rattle.fixed_write.specs.Texts.{IsShortestText, shortest_text};
-ghost use Rattle.fixed_show.specs.Blocks.{line, refusal_block};
+ghost use Rattle.fixed_show.specs.Blocks.{line};
+ghost use Rattle.fixed_show.specs.Forms.{fact, refusal};
 
+use crate::form::{Form, end_byte, push_label};
 use fixed_bits::Format;
 use fixed_steps::Steps;
 use fixed_write::{Base, push_exact, push_integer, push_shortest};
@@ -56,67 +58,94 @@ pub(crate) fn push_line<const N: usize>(out: &mut TextBuffer<N>, label: &[u8], t
     out.push(b'\n');
 }
 
-/// Appends a line of a label and `value` ulps of 2^-`frac`, exactly in decimal.
-pub(crate) fn push_exact_line<const N: usize>(
+/// Appends a fact: `value` ulps of 2^-`frac`, exactly in decimal.
+pub(crate) fn push_exact_fact<const N: usize>(
     out: &mut TextBuffer<N>,
-    label: &[u8],
+    form: Form,
+    key: &[u8],
     value: i128,
     frac: u32,
 )
     requires wide { IsWide value }
     requires frac { frac ≤ 64 }
-    requires label { length label.now ≤ 10 }
-    requires room { length out.old + 141 ≤ N }
-    ensures appended { out.new ≡ out.old ++ line label.now (exact_text 10 false value frac) }
+    requires key { length key.now ≤ 10 }
+    requires room { length out.old + 146 ≤ N }
+    ensures appended { out.new ≡ out.old ++ fact form key.now (exact_text 10 false value frac) }
     ensures exact { IsExactText 10 false value frac (exact_text 10 false value frac) }
-    ensures short { length out.new ≤ length out.old + 141 }
+    ensures short { length out.new ≤ length out.old + 146 }
 {
-    out.push_bytes(label);
+    push_label(out, form, key);
     push_exact(out, value, frac, Base::Dec);
-    out.push(b'\n');
+    out.push(end_byte(form));
 }
 
-/// Appends a line of a label and the shortest decimal text of `value` ulps of 2^-`frac`.
-pub(crate) fn push_shortest_line<const N: usize, L: Ledger>(
+/// Appends a fact: the shortest decimal text of `value` ulps of 2^-`frac`.
+pub(crate) fn push_shortest_fact<const N: usize, L: Ledger>(
     out: &mut TextBuffer<N>,
-    label: &[u8],
+    form: Form,
+    key: &[u8],
     value: i128,
     frac: u32,
     steps: &mut Steps<L>,
 )
     requires wide { IsWide value }
     requires frac { frac ≤ 64 }
-    requires label { length label.now ≤ 10 }
-    requires room { length out.old + 59 ≤ N }
-    ensures appended { out.new ≡ out.old ++ line label.now (shortest_text value frac) }
+    requires key { length key.now ≤ 10 }
+    requires room { length out.old + 64 ≤ N }
+    ensures appended { out.new ≡ out.old ++ fact form key.now (shortest_text value frac) }
     ensures shortest { IsShortestText value frac (shortest_text value frac) }
-    ensures short { length out.new ≤ length out.old + 59 }
+    ensures short { length out.new ≤ length out.old + 64 }
     ensures cost { steps.new ≤ steps.old + 48 }
 {
-    out.push_bytes(label);
+    push_label(out, form, key);
     push_shortest(out, value, frac, steps);
-    out.push(b'\n');
+    out.push(end_byte(form));
 }
 
-/// Appends a line of a label and a number in decimal.
-pub(crate) fn push_integer_line<const N: usize>(out: &mut TextBuffer<N>, label: &[u8], value: i128)
+/// Appends a fact: a number in decimal.
+pub(crate) fn push_integer_fact<const N: usize>(
+    out: &mut TextBuffer<N>,
+    form: Form,
+    key: &[u8],
+    value: i128,
+)
     requires wide { IsWide value }
-    requires label { length label.now ≤ 10 }
-    requires room { length out.old + 32 ≤ N }
-    ensures appended { out.new ≡ out.old ++ line label.now (signed_decimal value) }
-    ensures short { length out.new ≤ length out.old + 32 }
+    requires key { length key.now ≤ 10 }
+    requires room { length out.old + 37 ≤ N }
+    ensures appended { out.new ≡ out.old ++ fact form key.now (signed_decimal value) }
+    ensures short { length out.new ≤ length out.old + 37 }
 {
-    out.push_bytes(label);
+    push_label(out, form, key);
     push_integer(out, value);
-    out.push(b'\n');
+    out.push(end_byte(form));
 }
 
-/// Appends a line that reports a refusal.
-pub(crate) fn push_refusal<const N: usize>(out: &mut TextBuffer<N>, message: &str)
-    requires short { length message.now ≤ 64 }
-    requires room { length out.old + 72 ≤ N }
-    ensures appended { out.new ≡ out.old ++ refusal_block message.now }
-    ensures short { length out.new ≤ length out.old + 72 }
+/// Appends a fact: a text.
+pub(crate) fn push_fact<const N: usize>(
+    out: &mut TextBuffer<N>,
+    form: Form,
+    key: &[u8],
+    text: &[u8],
+)
+    requires key { length key.now ≤ 10 }
+    requires room { length out.old + (length text.now + 16) ≤ N }
+    ensures appended { out.new ≡ out.old ++ fact form key.now text.now }
+    ensures short { length out.new ≤ length out.old + (length text.now + 16) }
 {
-    push_line(out, b"error: ", message.as_bytes());
+    push_label(out, form, key);
+    out.push_bytes(text);
+    out.push(end_byte(form));
+}
+
+/// Appends what reports a refusal.
+pub(crate) fn push_refusal<const N: usize>(out: &mut TextBuffer<N>, form: Form, message: &str)
+    requires short { length message.now ≤ 64 }
+    requires room { length out.old + 80 ≤ N }
+    ensures appended { out.new ≡ out.old ++ refusal form message.now }
+    ensures short { length out.new ≤ length out.old + 80 }
+{
+    match form {
+        Form::Lines => push_line(out, b"error: ", message.as_bytes()),
+        Form::Members => push_fact(out, Form::Members, b"refused", message.as_bytes()),
+    }
 }

@@ -1,7 +1,7 @@
 //! Laws of parts of words, each the contract of a function that does nothing.
 
-ghost use Rattle.fixed_show.specs.PartLaws.{PartBlockIsTheOne, PartFaultIsTheOne, PartHasNoFault, ReversedTwice};
-ghost use Rattle.fixed_show.specs.PartLaws.{WholeFieldIsTheWord, WholeIsTheWord};
+ghost use Rattle.fixed_show.specs.PartLaws.{PartBlockIsTheOne, PartFaultIsTheOne, PartHasNoFault, PartObjectIsTheOne};
+ghost use Rattle.fixed_show.specs.PartLaws.{ReversedTwice, WholeFieldIsTheWord, WholeIsTheWord};
 
 /// A word is refused for one fault at most where a part of it is asked for, and never where it has the part.
 pub fn part_fault_is_the_one()
@@ -12,6 +12,11 @@ pub fn part_fault_is_the_one()
 /// A word has one block for a part of it: that of the part's number, or that of its fault.
 pub fn part_block_is_the_one()
     ensures { PartBlockIsTheOne }
+{}
+
+/// A word has one object for a part of it: that of the part's number, or that of its fault.
+pub fn part_object_is_the_one()
+    ensures { PartObjectIsTheOne }
 {}
 
 /// The part that is the whole word is what the word is, and so is the field of all bits of a format.

@@ -5,11 +5,14 @@ ghost use Rattle.std.specs.Prelude.{MatchOption, MatchResult};
 ghost use Rattle.fixed_bits.specs.Ranges.{IsWide};
 ghost use Rattle.fixed_numeral.specs.Literal.{without_underscores};
 ghost use Rattle.fixed_show.specs.Blocks.{Appends};
-ghost use Rattle.fixed_show.specs.PartText.{AreBits, HasPartFault, IsLongWord, IsOrdered, IsPart, IsPartBlock};
-ghost use Rattle.fixed_show.specs.PartText.{WritesBytes, long_message, longest, part_message, reach_of, reversed_bytes};
+ghost use Rattle.fixed_show.specs.PartText.{AreBits, ArePartFacts, HasPartFault, IsLongWord, IsOrdered, IsPart};
+ghost use Rattle.fixed_show.specs.PartText.{IsPartBlock, IsPartObject, WritesBytes, long_message, longest};
+ghost use Rattle.fixed_show.specs.PartText.{part_message, reach_of, reversed_bytes};
 ghost use Rattle.fixed_show.specs.WordText.{HasWordFault, has_sign};
 
-use crate::bits::push_value_lines;
+use crate::bits::push_values;
+use crate::form::Form;
+use crate::json::{MAX_OBJECT, push_given};
 use crate::lines::{MAX_BLOCK, push_refusal};
 use crate::words::{LIMIT, WordFault, bits_of, has_sign, spelled_number, split_prefix, words_of};
 use fixed_bits::Format;
@@ -182,6 +185,32 @@ pub fn read_part(text: &[u8], bare: Radix, part: Part, format: Format) -> Result
     }
 }
 
+/// Appends the facts of a part of a word, or why there is none. Answers whether it was that.
+fn push_part_facts<const N: usize, L: Ledger>(
+    out: &mut TextBuffer<N>,
+    form: Form,
+    text: &[u8],
+    bare: Radix,
+    part: Part,
+    format: Format,
+    steps: &mut Steps<L>,
+) -> bool
+    requires room { length out.old + 281 ≤ N }
+    ensures facts { Appends (ArePartFacts form bare part format text.now result) 281 out.old out.new }
+    ensures cost { steps.new ≤ steps.old + 48 }
+{
+    match read_part(text, bare, part, format) {
+        Ok(bits) => {
+            push_values(out, form, bits, format, steps);
+            false
+        }
+        Err(fault) => {
+            push_refusal(out, form, fault.message());
+            true
+        }
+    }
+}
+
 /// Appends the block of a part of a word, as that of a word, or one line `error: ` and why there is none. Answers
 /// whether it was that. There must be room for `MAX_BLOCK` bytes. It takes at most 48 steps.
 pub fn part_block<const N: usize, L: Ledger>(
@@ -196,14 +225,25 @@ pub fn part_block<const N: usize, L: Ledger>(
     ensures block { Appends (IsPartBlock bare part format text.now result) MAX_BLOCK out.old out.new }
     ensures cost { steps.new ≤ steps.old + 48 }
 {
-    match read_part(text, bare, part, format) {
-        Ok(bits) => {
-            push_value_lines(out, bits, format, steps);
-            false
-        }
-        Err(fault) => {
-            push_refusal(out, fault.message());
-            true
-        }
-    }
+    push_part_facts(out, Form::Lines, text, bare, part, format, steps)
+}
+
+/// Appends the same as an object of JSON, as that of a word. There must be room for `MAX_OBJECT` bytes. It takes at
+/// most 48 steps.
+pub fn part_object<const N: usize, L: Ledger>(
+    text: &[u8],
+    bare: Radix,
+    part: Part,
+    format: Format,
+    out: &mut TextBuffer<N>,
+    steps: &mut Steps<L>,
+) -> bool
+    requires room { length out.old + MAX_OBJECT ≤ N }
+    ensures object { Appends (IsPartObject bare part format text.now result) MAX_OBJECT out.old out.new }
+    ensures cost { steps.new ≤ steps.old + 48 }
+{
+    push_given(out, text);
+    let is_refused = push_part_facts(out, Form::Members, text, bare, part, format, steps);
+    out.push(b'}');
+    is_refused
 }

@@ -5,15 +5,21 @@ ghost use Rattle.std.specs.Fmt.{signed_decimal};
 ghost use Rattle.fixed_bits.specs.Ranges.{IsWide};
 ghost use Rattle.fixed_numeral.specs.Numeral.{IsNumeral};
 ghost use Rattle.fixed_write.specs.Texts.{IsShortestText, shortest_text};
-ghost use Rattle.fixed_show.specs.Blocks.{Appends, line};
-ghost use Rattle.fixed_show.specs.ShowBlock.{HasNoBits, IsBetween, IsReadAs, IsShowBlock, IsShownError, IsUnread};
-ghost use Rattle.fixed_show.specs.ShowBlock.{neighbours_text, range_text};
-ghost use Rattle.fixed_show.specs.Inner.Lines.{IsBetweenLine};
+ghost use Rattle.fixed_show.specs.Blocks.{Appends};
+ghost use Rattle.fixed_bits.specs.declared.format.Policy.{Policy as PolicyOf};
+ghost use Rattle.fixed_bits.specs.declared.mode.ReadMode.{ReadMode as ReadModeOf};
+ghost use Rattle.fixed_show.specs.Forms.{fact};
+ghost use Rattle.fixed_show.specs.ShowBlock.{HasNoBits, IsBetween, IsReadAs, IsShowBlock, IsShowObject, IsShown};
+ghost use Rattle.fixed_show.specs.ShowBlock.{IsShownError, IsUnread, neighbours, no_neighbours, range_text};
 
-use crate::bits::push_value_lines;
+use crate::bits::push_values;
 use crate::errors::push_error_text;
-use crate::lines::{MAX_BLOCK, frac_of, push_line, push_refusal};
-use crate::ulps::push_error_lines;
+use crate::form::{Form, push_label};
+use crate::json::{MAX_OBJECT, push_given};
+use crate::lines::{
+    MAX_BLOCK, frac_of, push_fact, push_integer_fact, push_refusal, push_shortest_fact,
+};
+use crate::ulps::push_errors;
 use fixed_bits::{Format, Policy, ReadMode};
 use fixed_enclose::enclose;
 use fixed_numeral::{ParseErrorKind, ParseFixedError, Radix};
@@ -63,9 +69,10 @@ pub fn read_shown<L: Ledger>(
     }
 }
 
-/// Appends the line of two neighbours, each as its shortest text and its bits.
+/// Appends two neighbours, each as its shortest text and its bits.
 fn push_neighbours<const N: usize, L: Ledger>(
     out: &mut TextBuffer<N>,
+    form: Form,
     low: i128,
     high: i128,
     frac: u32,
@@ -74,19 +81,43 @@ fn push_neighbours<const N: usize, L: Ledger>(
     requires low { IsWide low }
     requires high { IsWide high }
     requires frac { frac ≤ 64 }
-    requires room { length out.old + 180 ≤ N }
-    ensures appended { out.new ≡ out.old ++ line (codes "between   ")
-        (neighbours_text (shortest_text low frac) low (shortest_text high frac) high) }
+    requires room { length out.old + 202 ≤ N }
+    ensures appended { out.new ≡ out.old
+        ++ neighbours form (shortest_text low frac) low (shortest_text high frac) high }
     ensures low { IsShortestText low frac (shortest_text low frac) }
     ensures high { IsShortestText high frac (shortest_text high frac) }
-    ensures short { length out.new ≤ length out.old + 180 }
+    ensures short { length out.new ≤ length out.old + 202 }
     ensures cost { steps.new ≤ steps.old + 96 }
 {
-    out.push_bytes(b"between   ");
-    push_neighbour(out, low, frac, steps);
-    out.push_bytes(b" and ");
-    push_neighbour(out, high, frac, steps);
-    out.push(b'\n');
+    match form {
+        Form::Lines => {
+            push_label(out, Form::Lines, b"between");
+            push_neighbour(out, low, frac, steps);
+            out.push_bytes(b" and ");
+            push_neighbour(out, high, frac, steps);
+            out.push(b'\n');
+        }
+        Form::Members => {
+            push_shortest_fact(out, Form::Members, b"low", low, frac, steps);
+            push_integer_fact(out, Form::Members, b"low_bits", low);
+            push_shortest_fact(out, Form::Members, b"high", high, frac, steps);
+            push_integer_fact(out, Form::Members, b"high_bits", high);
+        }
+    }
+}
+
+/// Appends that there are no neighbours.
+fn push_no_neighbours<const N: usize>(out: &mut TextBuffer<N>, form: Form)
+    requires room { length out.old + 202 ≤ N }
+    ensures appended { out.new ≡ out.old ++ no_neighbours form }
+    ensures short { length out.new ≤ length out.old + 202 }
+{
+    match form {
+        Form::Lines => push_fact(out, Form::Lines, b"between", b"no two values of the format"),
+        Form::Members => {
+            out.push_bytes(b",\"low\":null,\"low_bits\":null,\"high\":null,\"high_bits\":null");
+        }
+    }
 }
 
 /// Appends a number of ulps of 2^-`frac` as its shortest text, and that number.
@@ -111,35 +142,36 @@ fn push_neighbour<const N: usize, L: Ledger>(
     out.push_bytes(b")");
 }
 
-/// Appends the line of the neighbours of a numeral.
+/// Appends the neighbours of a numeral.
 fn push_between<const N: usize, L: Ledger>(
+    out: &mut TextBuffer<N>,
+    form: Form,
     text: &[u8],
     radix: Radix,
     format: Format,
-    out: &mut TextBuffer<N>,
     steps: &mut Steps<L>,
 )
     requires numeral { IsNumeral radix text.now }
-    requires room { length out.old + 180 ≤ N }
-    ensures between { Appends (IsBetweenLine radix text.now format) 180 out.old out.new }
+    requires room { length out.old + 202 ≤ N }
+    ensures between { Appends (IsBetween form radix text.now format) 202 out.old out.new }
     ensures cost { steps.new ≤ steps.old + 16 * length text.now + 1248 }
 {
     match enclose(text, radix, format, steps) {
-        Ok(ends) => push_neighbours(out, ends.lo, ends.hi, frac_of(format), steps),
-        Err(_) => push_line(out, b"between   ", b"no two values of the format"),
+        Ok(ends) => push_neighbours(out, form, ends.lo, ends.hi, frac_of(format), steps),
+        Err(_) => push_no_neighbours(out, form),
     }
 }
 
-/// Appends the line of whether a read number was in range.
-fn push_range<const N: usize>(out: &mut TextBuffer<N>, overflowed: bool)
-    requires room { length out.old + 21 ≤ N }
-    ensures appended { out.new ≡ out.old ++ line (codes "range     ") (range_text overflowed) }
-    ensures short { length out.new ≤ length out.old + 21 }
+/// Appends whether a read number was in range.
+fn push_range<const N: usize>(out: &mut TextBuffer<N>, form: Form, overflowed: bool)
+    requires room { length out.old + 26 ≤ N }
+    ensures appended { out.new ≡ out.old ++ fact form (codes "range") (range_text overflowed) }
+    ensures short { length out.new ≤ length out.old + 26 }
 {
     if overflowed {
-        push_line(out, b"range     ", b"overflowed");
+        push_fact(out, form, b"range", b"overflowed");
     } else {
-        push_line(out, b"range     ", b"fits");
+        push_fact(out, form, b"range", b"fits");
     }
 }
 
@@ -177,6 +209,31 @@ pub fn push_error_of<const N: usize, L: Ledger>(
     }
 }
 
+/// Appends what there is to know of the bits that a numeral was read as.
+fn push_shown<const N: usize, L: Ledger>(
+    out: &mut TextBuffer<N>,
+    form: Form,
+    shown: &Shown,
+    text: &[u8],
+    radix: Radix,
+    format: Format,
+    steps: &mut Steps<L>,
+)
+    requires numeral { IsNumeral radix text.now }
+    requires wide { IsWide shown.now.bits }
+    requires room { length out.old + 3301 ≤ N }
+    ensures shown { (mode : ReadModeOf) (policy : PolicyOf)
+        → IsReadAs mode radix text.now format policy shown.now.bits shown.now.overflowed
+        → Appends (IsShown form mode radix text.now format policy) 3301 out.old out.new }
+    ensures short { length out.new ≤ length out.old + 3301 }
+    ensures cost { steps.new ≤ steps.old + 18 * length text.now + 2733 }
+{
+    push_values(out, form, shown.bits, format, steps);
+    push_errors(out, form, shown, frac_of(format), text, radix, steps);
+    push_between(out, form, text, radix, format, steps);
+    push_range(out, form, shown.overflowed);
+}
+
 /// Appends the block of a numeral in a format: the shortest text of the bits that it is read as, the bits in decimal
 /// and in hexadecimal, their exact value, the exact error, which is that value less the numeral's, the error in ulps,
 /// the two values of the format that enclose the numeral, and whether the read number was in range. The errors are
@@ -200,23 +257,42 @@ pub fn show_block<const N: usize, L: Ledger>(
 {
     match read_shown(text, radix, format, policy, mode, steps) {
         Ok(shown) => {
-            push_value_lines(out, shown.bits, format, steps);
-            push_error_lines(
-                text,
-                radix,
-                frac_of(format),
-                shown.bits,
-                shown.overflowed,
-                out,
-                steps,
-            );
-            push_between(text, radix, format, out, steps);
-            push_range(out, shown.overflowed);
+            push_shown(out, Form::Lines, &shown, text, radix, format, steps);
             false
         }
         Err(error) => {
-            push_refusal(out, error.message());
+            push_refusal(out, Form::Lines, error.message());
             true
         }
     }
+}
+
+/// Appends the same as an object of JSON, of at most `MAX_OBJECT` bytes, with each error in full that is known exactly.
+/// In it `refused` says why a numeral is refused. Its first member is `given`, the first 768 bytes of the numeral.
+pub fn show_object<const N: usize, L: Ledger>(
+    text: &[u8],
+    radix: Radix,
+    format: Format,
+    policy: Policy,
+    mode: ReadMode,
+    out: &mut TextBuffer<N>,
+    steps: &mut Steps<L>,
+) -> bool
+    requires room { length out.old + MAX_OBJECT ≤ N }
+    ensures object { Appends (IsShowObject mode radix text.now format policy result) MAX_OBJECT out.old out.new }
+    ensures cost { steps.new ≤ steps.old + 26 * length text.now + 3307 }
+{
+    push_given(out, text);
+    let is_refused = match read_shown(text, radix, format, policy, mode, steps) {
+        Ok(shown) => {
+            push_shown(out, Form::Members, &shown, text, radix, format, steps);
+            false
+        }
+        Err(error) => {
+            push_refusal(out, Form::Members, error.message());
+            true
+        }
+    };
+    out.push(b'}');
+    is_refused
 }

@@ -1,8 +1,8 @@
-//! The error in ulps, and the lines of a block that say an error.
+//! The error in ulps, and the facts that say an error.
 //!
 //! The error in ulps is the error times 2^f: the bits less the numeral times 2^f.
 
-ghost use Rattle.std.specs.Prelude.{◌≡◌, ◌+◌, ◌*◌, ◌^◌, ◌<◌, ◌≤◌, length, IsTrue, false, ℕ, List};
+ghost use Rattle.std.specs.Prelude.{◌≡◌, ◌+◌, ◌*◌, ◌^◌, ◌<◌, ◌≤◌, length, IsTrue, false, ℕ, ℤ, List};
 ghost use Rattle.std.specs.Int.Digits.{AllBelowBase};
 ghost use Rattle.fixed_bits.specs.Numbers.{with_sign};
 ghost use Rattle.fixed_bits.specs.Ranges.{IsWide};
@@ -13,15 +13,18 @@ ghost use Rattle.fixed_numeral.specs.Value.{magnitude};
 ghost use Rattle.fixed_numeral.specs.declared.radix.Radix.{Radix as RadixOf};
 ghost use Rattle.fixed_show.specs.Blocks.{Appends};
 ghost use Rattle.fixed_show.specs.ErrorText.{error_num};
-ghost use Rattle.fixed_show.specs.Inner.Errors.{AreBoundLines, AreErrorLines, AreExactLines, IsDecimalOf};
-ghost use Rattle.fixed_show.specs.Inner.Errors.{IsLessThanUlp};
+ghost use Rattle.fixed_show.specs.Inner.Errors.{AreBoundFacts, AreErrorFacts, AreExactFacts, IsDecimalOf};
+ghost use Rattle.fixed_show.specs.Inner.Errors.{IsFormDecimal, IsLessThanUlp};
 ghost use Rattle.fixed_show.specs.UlpsText.{ulps_power};
 
+use crate::decimals::push_trimmed;
 use crate::errors::{
     Decimal, Power, SignedDecimal, bound_power, brief_of, exact_error, is_less_than_zero,
     magnitude_of, natural_of, push_bound, push_short, scale, signed_difference, wide_natural_of,
 };
+use crate::form::{Form, end_byte, push_label};
 use crate::natural::Natural;
+use crate::show::Shown;
 use crate::sizes::ten_power;
 use fixed_numeral::{Radix, Scanned, scan};
 use fixed_steps::Steps;
@@ -82,9 +85,28 @@ fn ulps_power(power: &Power, frac: u32, is_overflowed: bool) -> Power
     }
 }
 
-/// Appends the lines of the error of `bits` ulps of 2^-`frac` less a decimal, each exactly where it is short.
-fn push_exact_lines<const N: usize>(
+/// Appends a number over a power of ten: in full, but in lines one of more than 60 digits after the point as the least
+/// power of ten that it is below in size.
+fn push_decimal<const N: usize>(out: &mut TextBuffer<N>, form: Form, decimal: &SignedDecimal)
+    requires places { decimal.now.places ≤ 1104 }
+    requires room { length out.old + 1380 ≤ N }
+    ensures decimal { (x : ℤ) (den : ℕ) → 0 < den
+        → IsDecimalOf x den decimal.now.is_negative decimal.now.number decimal.now.places
+        → Appends (IsFormDecimal form x den) 1380 out.old out.new }
+    ensures short { length out.new ≤ length out.old + 1380 }
+{
+    match form {
+        Form::Lines => push_short(out, decimal),
+        Form::Members => {
+            push_trimmed(out, decimal.is_negative, &decimal.number, decimal.places);
+        }
+    }
+}
+
+/// Appends the error of `bits` ulps of 2^-`frac` less a decimal, and the same in ulps.
+fn push_exact_facts<const N: usize>(
     out: &mut TextBuffer<N>,
+    form: Form,
     bits: i128,
     frac: u32,
     numeral: &Decimal,
@@ -94,25 +116,26 @@ fn push_exact_lines<const N: usize>(
     requires frac { frac ≤ 64 }
     requires small { numeral.now.number < 10 ^ 1208 }
     requires places { numeral.now.places ≤ 1104 }
-    requires room { length out.old + 2782 ≤ N }
-    ensures lines { (r : RadixOf) (p : Parts) (whole fraction : List ℕ) (shift : ℕ)
+    requires room { length out.old + 2792 ≤ N }
+    ensures facts { (r : RadixOf) (p : Parts) (whole fraction : List ℕ) (shift : ℕ)
         → IsScanned r p is_negative whole fraction shift
         → IsSameNumber (spelled (base r) whole fraction shift)
         (record { num = numeral.now.number; den = 10 ^ numeral.now.places })
-        → Appends (AreExactLines r p frac bits) 2782 out.old out.new }
-    ensures short { length out.new ≤ length out.old + 2782 }
+        → Appends (AreExactFacts form r p frac bits) 2792 out.old out.new }
+    ensures short { length out.new ≤ length out.old + 2792 }
 {
-    out.push_bytes(b"error     ");
-    push_short(out, &exact_error(bits, frac, numeral, is_negative));
-    out.push(b'\n');
-    out.push_bytes(b"ulps      ");
-    push_short(out, &exact_ulps(bits, frac, numeral, is_negative));
-    out.push(b'\n');
+    push_label(out, form, b"error");
+    push_decimal(out, form, &exact_error(bits, frac, numeral, is_negative));
+    out.push(end_byte(form));
+    push_label(out, form, b"ulps");
+    push_decimal(out, form, &exact_ulps(bits, frac, numeral, is_negative));
+    out.push(end_byte(form));
 }
 
-/// Appends the lines of an error below a power of ten, for ulps of 2^-`frac`.
-fn push_bound_lines<const N: usize>(
+/// Appends an error that is below a power of ten, and for ulps of 2^-`frac` the same in ulps.
+fn push_bound_facts<const N: usize>(
     out: &mut TextBuffer<N>,
+    form: Form,
     power: &Power,
     frac: u32,
     is_overflowed: bool,
@@ -120,75 +143,75 @@ fn push_bound_lines<const N: usize>(
     requires frac { frac ≤ 64 }
     requires sign { IsTrue power.now.is_negative → 0 < power.now.exponent }
     requires small { power.now.exponent < 2 ^ 69 }
-    requires room { length out.old + 2782 ≤ N }
-    ensures lines { Appends (AreBoundLines (with_sign power.now.is_negative power.now.exponent)
-        (ulps_power frac is_overflowed (with_sign power.now.is_negative power.now.exponent))) 2782 out.old out.new }
-    ensures short { length out.new ≤ length out.old + 2782 }
+    requires room { length out.old + 2792 ≤ N }
+    ensures facts { Appends (AreBoundFacts form (with_sign power.now.is_negative power.now.exponent)
+        (ulps_power frac is_overflowed (with_sign power.now.is_negative power.now.exponent))) 2792 out.old out.new }
+    ensures short { length out.new ≤ length out.old + 2792 }
 {
     let ulps = ulps_power(power, frac, is_overflowed);
-    out.push_bytes(b"error     ");
+    push_label(out, form, b"error");
     push_bound(out, &power.exponent, power.is_negative);
-    out.push(b'\n');
-    out.push_bytes(b"ulps      ");
+    out.push(end_byte(form));
+    push_label(out, form, b"ulps");
     push_bound(out, &ulps.exponent, ulps.is_negative);
-    out.push(b'\n');
+    out.push(end_byte(form));
 }
 
-/// Appends the lines of the error of `bits` ulps of 2^-`frac`, as which a scanned numeral was read.
-fn push_lines_of<'a, const N: usize, L: Ledger>(
+/// Appends the errors of the bits that a scanned numeral was read as, a number of ulps of 2^-`frac`.
+fn push_facts_of<'a, const N: usize, L: Ledger>(
     out: &mut TextBuffer<N>,
-    bits: i128,
+    form: Form,
+    shown: &Shown,
     frac: u32,
-    is_overflowed: bool,
     found: &Scanned<'a>,
     radix: Radix,
     steps: &mut Steps<L>,
 )
-    requires wide { IsWide bits }
+    requires wide { IsWide shown.now.bits }
     requires frac { frac ≤ 64 }
     requires whole { AllBelowBase (base radix) found.now.whole }
     requires fraction { AllBelowBase (base radix) found.now.fraction }
     requires bits { found.now.bit_shift < exponent_unit radix }
-    requires room { length out.old + 2782 ≤ N }
-    ensures lines { (p : Parts) → IsScanned radix p found.now.neg found.now.whole found.now.fraction found.now.bit_shift
-        → (is_overflowed ≡ false → IsLessThanUlp radix p frac bits)
-        → Appends (AreErrorLines radix p frac bits is_overflowed) 2782 out.old out.new }
-    ensures short { length out.new ≤ length out.old + 2782 }
+    requires room { length out.old + 2792 ≤ N }
+    ensures facts { (p : Parts) → IsScanned radix p found.now.neg found.now.whole found.now.fraction found.now.bit_shift
+        → (shown.now.overflowed ≡ false → IsLessThanUlp radix p frac shown.now.bits)
+        → Appends (AreErrorFacts form radix p frac shown.now.bits shown.now.overflowed) 2792 out.old out.new }
+    ensures short { length out.new ≤ length out.old + 2792 }
     ensures cost { steps.new ≤ steps.old + 1435 }
 {
     match brief_of(found, radix, steps) {
-        Some(numeral) => push_exact_lines(out, bits, frac, &numeral, found.neg()),
+        Some(numeral) => push_exact_facts(out, form, shown.bits, frac, &numeral, found.neg()),
         None => {
-            let power = bound_power(bits, frac, is_overflowed, found, radix, steps);
-            push_bound_lines(out, &power, frac, is_overflowed);
+            let power = bound_power(shown.bits, frac, shown.overflowed, found, radix, steps);
+            push_bound_facts(out, form, &power, frac, shown.overflowed);
         }
     }
 }
 
-/// Appends the lines of the error of `bits` ulps of 2^-`frac`, as which a numeral was read: the error, and the error in
+/// Appends the errors of the bits that a numeral was read as, a number of ulps of 2^-`frac`: the error, and the same in
 /// ulps.
-pub(crate) fn push_error_lines<const N: usize, L: Ledger>(
+pub(crate) fn push_errors<const N: usize, L: Ledger>(
+    out: &mut TextBuffer<N>,
+    form: Form,
+    shown: &Shown,
+    frac: u32,
     text: &[u8],
     radix: Radix,
-    frac: u32,
-    bits: i128,
-    is_overflowed: bool,
-    out: &mut TextBuffer<N>,
     steps: &mut Steps<L>,
 )
     requires numeral { IsNumeral radix text.now }
-    requires wide { IsWide bits }
+    requires wide { IsWide shown.now.bits }
     requires frac { frac ≤ 64 }
-    requires room { length out.old + 2782 ≤ N }
-    ensures lines { (p : Parts) → HasNumeral radix text.now p
-        → (is_overflowed ≡ false → IsLessThanUlp radix p frac bits)
-        → Appends (AreErrorLines radix p frac bits is_overflowed) 2782 out.old out.new }
-    ensures short { length out.new ≤ length out.old + 2782 }
+    requires room { length out.old + 2792 ≤ N }
+    ensures facts { (p : Parts) → HasNumeral radix text.now p
+        → (shown.now.overflowed ≡ false → IsLessThanUlp radix p frac shown.now.bits)
+        → Appends (AreErrorFacts form radix p frac shown.now.bits shown.now.overflowed) 2792 out.old out.new }
+    ensures short { length out.new ≤ length out.old + 2792 }
     ensures cost { steps.new ≤ steps.old + 2 * length text.now + 1437 }
 {
     let scanned = scan(text, radix, steps);
     match &scanned {
-        Ok(found) => push_lines_of(out, bits, frac, is_overflowed, found, radix, steps),
+        Ok(found) => push_facts_of(out, form, shown, frac, found, radix, steps),
         Err(_) => (),
     }
 }
