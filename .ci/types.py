@@ -7,6 +7,13 @@
 import os
 import sys
 
+if __name__ == "types":
+    # Another script of this folder wants Python's own module of this name, and finds this file first.
+    first = sys.path.pop(0)
+    del sys.modules["types"]
+    __import__("types")
+    sys.path.insert(0, first)
+
 TOP = os.path.dirname(os.path.dirname(os.path.abspath(__file__)))
 FILE = f"{TOP}/crates/fixed_point/src/types.rt"
 HEAD = """\
