@@ -1,5 +1,6 @@
 #!/usr/bin/env python3
-"""Checks that the version is one, and that archives and packages made twice, in two folders, have the same bytes.
+"""Checks that the version is one, and that what `make dist`, `make deb` and `make wheel` leave has the same bytes twice,
+in two folders, of which the second has another umask, time zone and language.
 
     packages.py [--built build|out]
 
@@ -20,11 +21,14 @@ TOP = os.path.dirname(os.path.dirname(os.path.abspath(__file__)))
 sys.path.insert(0, f"{TOP}/oracle")
 
 from compare import program  # noqa: E402
-from python import linked  # noqa: E402
+from python import found_with  # noqa: E402
 
 PROGRAMS = ("fixed_tool", "enclose_tool", "least_tool", "constants_tool", "columns_tool", "fixed")
 # What a package is made of beside what is built.
-SOURCES = ("packaging", "man", "completion", "include", "python", "CHANGELOG.md")
+SOURCES = ("packaging", "man", "completion", "include", "python", "CHANGELOG.md", "LICENSE-APACHE", "LICENSE-MIT", "Makefile",
+           "crates.txt")
+# How the second folder differs.
+OTHERWISE = {"env": os.environ | {"TZ": "Asia/Kolkata", "LC_ALL": "C", "LANGUAGE": "fr"}, "umask": 0o077}
 
 
 class Failed(Exception):
@@ -37,9 +41,11 @@ def text_of(path):
 
 
 def run(words, **how):
+    """What a command writes; a status other than 0 fails."""
     ran = subprocess.run(words, stdout=subprocess.PIPE, stderr=subprocess.STDOUT, check=False, **how)
     if ran.returncode:
         raise Failed(f"{' '.join(words)}: status {ran.returncode}\n{ran.stdout.decode(errors='replace')[-2000:]}")
+    return ran.stdout.decode(errors="replace")
 
 
 def other_versions(version):
@@ -56,9 +62,10 @@ def other_versions(version):
     if f'version: "{version}",' not in text_of("crates/fixed/src/commands.rt"):
         yield "fixed --version"
     yield from (page for page in sorted(glob.glob("man/*.[13]", root_dir=TOP)) if f".Os Lomdeqash {version}\n" not in text_of(page))
-    released = re.search(r"^## (\d\S*?),? ", text_of("CHANGELOG.md"), re.M)
-    if released and released.group(1) != version:
-        yield "CHANGELOG.md"
+    if not re.match(rf"# Changelog\n\n## {re.escape(version)}, \d{{4}}-\d\d-\d\d\n", text_of("CHANGELOG.md")):
+        yield "CHANGELOG.md, whose first heading has the version and its day"
+    if "\nVersion: @VERSION@\n" not in text_of("packaging/fixed.pc.in"):
+        yield "packaging/fixed.pc.in"
 
 
 def is_there(names, what):
@@ -80,26 +87,28 @@ def compared(what, first, second):
     print(f"{', '.join(names[0])}: the same bytes twice", flush=True)
 
 
+def twice(folders, words, inside="", **how):
+    """Runs a command in both folders, in the second otherwise."""
+    for folder, otherwise in zip(folders, ({}, OTHERWISE)):
+        run(words, cwd=f"{folder}/{inside}", **how, **otherwise)
+
+
 def check_archive(folders):
     """The archive of the sources, of two clones."""
     if not os.path.exists(f"{TOP}/.git") or not is_there(("git", "make"), "no archive of the sources was made"):
         return
-    for folder in folders:
-        run(["git", "clone", "-q", "--no-hardlinks", TOP, f"{folder}/clone"])
-        run(["make", "-s", "dist"], cwd=f"{folder}/clone")
+    twice(folders, ["git", "clone", "-q", "--no-hardlinks", TOP, "clone"])
+    twice(folders, ["make", "-s", "dist"], "clone")
     compared("build/lomdeqash-*.tar.gz", *(f"{folder}/clone" for folder in folders))
 
 
-def check_packages(folders, version, built):
-    """Debian's packages, of two copies of what they are made of."""
+def has_built(folders, built):
+    """Whether what packages are made of is built; both folders then have copies of it, and the shared library."""
     programs = {name: program(name, built) for name in PROGRAMS}
     archive = f"{TOP}/build/lib/libfixed.a" if built == "build" else f"{TOP}/crates/fixed_c/out/libfixed_c.a"
-    if not is_there(("dpkg-deb", "dpkg-shlibdeps", "strip"), "no packages were made"):
-        return
     if None in programs.values() or not os.path.isfile(archive):
         print("programs or library are not built, and so no packages were made")
-        return
-    library = f"{TOP}/build/lib" if built == "build" else os.path.dirname(linked(folders[0]))
+        return False
     for folder in folders:
         for name in SOURCES:
             copy = shutil.copytree if os.path.isdir(f"{TOP}/{name}") else shutil.copy2
@@ -107,10 +116,22 @@ def check_packages(folders, version, built):
         os.makedirs(f"{folder}/build/lib")
         for name, path in programs.items():
             shutil.copy(path, f"{folder}/build/{name}")
-        shutil.copy(f"{library}/libfixed.so.1", f"{folder}/build/lib/libfixed.so.1")
         shutil.copy(archive, f"{folder}/build/lib/libfixed.a")
-        run([f"{folder}/packaging/deb.sh", version, *PROGRAMS], env=os.environ | {"PACKAGES_ONLY": "1"})
-    compared("build/deb/*.deb", *folders)
+    twice(folders, ["make", "-s", "build/lib/libfixed.so.1"])
+    return True
+
+
+def check_packages(folders, version):
+    """Debian's packages, and the wheel, which name the version."""
+    if is_there(("dpkg-deb", "dpkg-shlibdeps"), "no packages for Debian were made"):
+        os.environ["PACKAGES_ONLY"] = OTHERWISE["env"]["PACKAGES_ONLY"] = "1"
+        twice(folders, ["packaging/deb.sh", version, *PROGRAMS])
+        compared(f"build/deb/*_{version}_*.deb", *folders)
+    if found_with("build", "setuptools", "wheel"):
+        twice(folders, ["packaging/wheel.sh", version, "build/lib/libfixed.so.1", "build/dist"])
+        compared(f"build/dist/lomdeqash-{version}-*.whl", *folders)
+    else:
+        print("build, setuptools or wheel is not on this machine, and so no wheel was made")
 
 
 def main():
@@ -120,6 +141,9 @@ def main():
     version = text_of("packaging/VERSION").strip()
     try:
         others = list(other_versions(version))
+        command = program("fixed", given.built)
+        if command and run([command, "--version"]) != f"fixed {version}\n":
+            others.append("fixed --version, as it is built")
         if others:
             raise Failed(f"not the version {version}: {', '.join(others)}")
         print(f"version {version}: everywhere the same", flush=True)
@@ -128,7 +152,8 @@ def main():
             for folder in folders:
                 os.makedirs(folder)
             check_archive(folders)
-            check_packages(folders, version, given.built)
+            if is_there(("cc", "make", "strip"), "no packages were made") and has_built(folders, given.built):
+                check_packages(folders, version)
     except Failed as why:
         print(why)
         return 1

@@ -12,9 +12,12 @@ library:
 	@$(PROVE) fixed_c
 	@mkdir -p build/lib
 	cp build/libfixed_c.a build/lib/libfixed.a
-	$(CC) -shared -o build/lib/libfixed.so.1 -Wl,-soname,libfixed.so.1 -Wl,--version-script=packaging/fixed.map \
-	  -Wl,--gc-sections -Wl,-z,relro -Wl,-z,now $(CALLS:%=-Wl,-u,%) build/lib/libfixed.a -nostartfiles -lc
+	@$(MAKE) --no-print-directory build/lib/libfixed.so.1
 	ln -sf libfixed.so.1 build/lib/libfixed.so
+
+build/lib/libfixed.so.1: build/lib/libfixed.a packaging/fixed.map
+	$(CC) -shared -o $@ -Wl,-soname,libfixed.so.1 -Wl,--version-script=packaging/fixed.map \
+	  -Wl,--gc-sections -Wl,-z,relro -Wl,-z,now $(CALLS:%=-Wl,-u,%) build/lib/libfixed.a -nostartfiles -lc
 
 # Compiles the callers in examples/ with what compilers there are, and runs them against the library.
 check-library: library
