@@ -3,10 +3,12 @@
 
     documents.py [--built build|out]
 
-README's answers, and the commands of every document, against the programs; the crates' table against crates.txt, the
-wrong bodies that docs/WRONG_BODIES.md names against must-fail/ and wrong-bodies/, definitions that docs/RULES.md and
-docs/PROVED.md name against specs/, and every path and target of make that a document names. A block of commands is
-run, or the words before it say that it is not run. What is not built or not installed is named and passed over.
+The crates' table against crates.txt, the wrong bodies that docs/WRONG_BODIES.md names against must-fail/ and
+wrong-bodies/, definitions that docs/RULES.md and docs/PROVED.md name against specs/, and every path and target of make
+that a document names. A block of commands is one that is run, or the words before it say that it is not run.
+
+With `--built` also the programs against what is said of them: README's answers, the commands of every document, and
+the lines of Python. What is not built or not installed is then named and passed over.
 """
 import argparse
 import glob
@@ -69,8 +71,10 @@ def readme_answers(built):
 
 
 def blocks(document):
-    """The indented blocks of a document, each after the words since the one before it. Rust's is in a fence."""
-    text = re.sub(r"^```.*?^```", "", text_of(document), flags=re.M | re.S)
+    """The indented blocks of a document, and those in fences but for Rust's in README, each after the words since the
+    one before it."""
+    text = re.sub(r"^```rust\n.*?^```", "", text_of(document), flags=re.M | re.S) if document == "README.md" else text_of(document)
+    text = re.sub(r"^```.*\n(.*?)^```", lambda found: re.sub("^", "    ", found.group(1), flags=re.M), text, flags=re.M | re.S)
     at = 0
     for found in re.finditer(r"(?<=\n\n)(?: {4}.*\n| *\n(?= {4}))+", text):
         yield text[at:found.start()], re.sub(r"^ {4}", "", found.group(), flags=re.M).rstrip("\n") + "\n"
@@ -164,42 +168,92 @@ def copied(document, block):
     yield from (f"{document}: {name} has no line" for name in sorted(there - lines.keys()))
 
 
-def readme_python(built, block):
-    """README's lines of Python, where the library is built and numpy is there."""
+# The doctests of the package, and those of the documents that are named, with what README's lines begin with.
+DOCTESTS = """
+import doctest, importlib, pkgutil, sys
+import lomdeqash, numpy
+modules = [lomdeqash, *(importlib.import_module(f"lomdeqash.{it.name}") for it in pkgutil.iter_modules(lomdeqash.__path__))]
+failed = sum(doctest.testmod(it).failed for it in modules)
+given = {"lomdeqash": lomdeqash, "np": numpy}
+sys.exit(failed + sum(doctest.testfile(it, module_relative=False, globs=dict(given)).failed for it in sys.argv[1:]) > 0)
+"""
+
+
+def lines_of_python(built):
+    """The lines of Python in documents and in the package, where the library is built and numpy is there."""
     python = found_with("numpy")
     if not python:
-        print("numpy is not on this machine, and so README's lines of Python were not run")
+        print("numpy is not on this machine, and so the lines of Python were not run")
         return
+    documents = [f"{TOP}/{it}" for it in DOCUMENTS if ">>> " in text_of(it)]
     with tempfile.TemporaryDirectory() as folder:
         library = f"{TOP}/build/lib/libfixed.so.1" if built == "build" else linked(folder)
         if not library or not os.path.isfile(library):
-            print("the library for C is not built, and so README's lines of Python were not run")
+            print("the library for C is not built, and so the lines of Python were not run")
             return
-        with open(f"{folder}/lines.txt", "w", encoding="utf-8") as file:
-            file.write(f">>> import lomdeqash\n>>> import numpy as np\n{block}")
         env = os.environ | {"PYTHONPATH": f"{TOP}/python", "LIBFIXED": library, "PYTHONDONTWRITEBYTECODE": "1"}
-        words = [python, "-m", "doctest", f"{folder}/lines.txt"]
-        ran = subprocess.run(words, stdout=subprocess.PIPE, check=False, env=env)
+        ran = subprocess.run([python, "-c", DOCTESTS, *documents], stdout=subprocess.PIPE, stderr=subprocess.STDOUT, check=False, env=env)
         if ran.returncode:
-            yield f"README.md: {ran.stdout.decode(errors='replace')}"
+            yield f"lines of Python: {ran.stdout.decode(errors='replace')}"
+
+
+def runner(before, block):
+    """What runs a block; None where nothing does and the words before it do not say so."""
+    if block.startswith("$ "):
+        return console
+    if block.startswith(">>> "):
+        return lambda *_: ()
+    if is_marked(before):
+        return lambda *_: ()
+    if ">answers" in block:
+        return recipe
+    return (lambda _, document, block: copied(document, block)) if "../lomdeqash/" in block else None
+
+
+def unmarked():
+    """Blocks of the documents and examples of the pages that are neither run nor said not to be, and commands in the
+    comments of other files."""
+    for document in DOCUMENTS:
+        for before, block in blocks(document):
+            if runner(before, block) is None:
+                yield f"{document}: the block {block.splitlines()[0]!r} is neither run nor said not to be"
+    for page in PAGES:
+        name = f"man/{os.path.basename(page)}"
+        yield from (f"{name}: {command!r} shows no output" for command, shown in examples_of(page) if not shown)
+        for block in re.findall(r"^\.Bd .*\n(.*)", text_of(name), re.M)[name.endswith(".3"):]:
+            if not block.startswith("$ "):
+                yield f"{name}: the block {block!r} is not run"
+    for folder in ("bench", "completion", "examples", "include", "oracle", "packaging", "python", "scale"):
+        for path in glob.glob(f"{folder}/**/*", root_dir=TOP, recursive=True):
+            if os.path.isfile(f"{TOP}/{path}") and not path.endswith(".pyc"):
+                yield from (f"{path}: the command {line!r} is not run"
+                            for line in re.findall(r"^[ \t]*(?:#|//[/!]?|\*|/\*)[ \t]*\$ (.*)", text_of(path), re.M))
+
+
+def quoted(room):
+    """Commands in the sentences of documents are ones that the programs take, and give what a sentence says that they
+    give."""
+    for document in DOCUMENTS:
+        text = " ".join(text_of(document).split())
+        for command in sorted(set(re.findall(rf"`((?:{'|'.join(PROGRAMS)}) [^`]+)`", text))):
+            is_whole = not re.search(r"(?<!\S)[A-Z]+(?!\S)|\.\.|\[|^fixed \w+$|\w .*--[\w-]+$", command)
+            if is_whole and not room.lacks(command, document) and room.run(command).returncode == 2:
+                yield f"{document}: {command!r} is not taken"
+        for command, answer in re.findall(r"`((?:echo|printf|fixed) [^`]*)` (?:gives|says) `([^`]*)`", text):
+            if not room.lacks(command, document):
+                got = room.run(command).stdout.decode(errors="replace")
+                if answer not in got:
+                    yield f"{document}: {command!r} gives {got!r}"
 
 
 def commands(built):
-    """The blocks of the documents, which are run, or which the words before them say are not run."""
+    """What the commands in documents, in the help of `fixed` and in examples/ give."""
     with tempfile.TemporaryDirectory() as folder:
         room = Room(folder, built)
         for document in DOCUMENTS:
             for before, block in blocks(document):
-                if block.startswith("$ "):
-                    yield from console(room, document, block)
-                elif block.startswith(">>> "):
-                    yield from readme_python(built, block) if document == "README.md" else ()
-                elif ">answers" in block and not is_marked(before):
-                    yield from recipe(room, document, block)
-                elif "../lomdeqash/" in block:
-                    yield from copied(document, block)
-                elif not is_marked(before):
-                    yield f"{document}: the block {block.splitlines()[0]!r} is neither run nor said not to be"
+                yield from (runner(before, block) or (lambda *_: ()))(room, document, block)
+        yield from quoted(room)
         yield from helped(room)
         yield from demos(room)
 
@@ -251,13 +305,6 @@ def demos(room):
         yield "examples/demo.sh fails"
 
 
-def unshown():
-    """The examples of the manual pages that show no output: .ci/pages.py runs the others."""
-    for page in PAGES:
-        yield from (f"man/{os.path.basename(page)}: {command!r} shows no output"
-                    for command, shown in examples_of(page) if not shown)
-
-
 def toolchain():
     """Says where README names another toolchain than this one, which is no fault."""
     if shutil.which("rt"):
@@ -284,6 +331,10 @@ def readme_shape():
     source = "crates/fixed_example/src/main.rt"
     if os.path.isfile(f"{TOP}/{source}") and (not example or example.group(1).rstrip() not in text_of(source)):
         yield f"README.md's library example is not a part of {source}"
+    in_gate = len(glob.glob(f"{TOP}/crates/*/must-fail/*.edit"))
+    for count in re.findall(r"(\d+) wrong bodies", text_of("README.md")):
+        if int(count) != in_gate:
+            yield f"README.md says {count} wrong bodies, and the gate tries {in_gate}"
 
 
 def crates_of():
@@ -326,10 +377,6 @@ def wrong_bodies():
                 for crate, name, gate in sorted(edits - named))
     yield from (f"docs/WRONG_BODIES.md: there is no {crate}/{name} that is {'in' if gate else 'left out of'} the gate"
                 for crate, name, gate in sorted(named - edits))
-    in_gate = sum(gate for _, _, gate in edits)
-    for count in re.findall(r"(\d+) wrong bodies", text_of("README.md")):
-        if int(count) != in_gate:
-            yield f"README.md says {count} wrong bodies, and the gate tries {in_gate}"
 
 
 def named(text):
@@ -459,11 +506,14 @@ def paths():
 
 def main():
     words = argparse.ArgumentParser(description=__doc__.split("\n", maxsplit=1)[0])
-    words.add_argument("--built", choices=("build", "out"), default="build")
+    words.add_argument("--built", choices=("build", "out"))
     given = words.parse_args()
     toolchain()
-    wrong = [*readme_answers(given.built), *commands(given.built), *compiled(given.built), *unshown(), *readme_shape(),
-             *crates_table(), *wrong_bodies(), *definitions(), *unknown_names(), *headline(), *paths(), *targets()]
+    for it in wrong_bodies():
+        print(f"{it} (which takes a proof to say, and fails nothing)")
+    wrong = [*unmarked(), *readme_shape(), *crates_table(), *definitions(), *unknown_names(), *headline(), *paths(), *targets()]
+    if given.built:
+        wrong += [*readme_answers(given.built), *commands(given.built), *lines_of_python(given.built), *compiled(given.built)]
     for it in wrong:
         print(it)
     print(f"documents: {len(wrong)} sentences that do not hold")
