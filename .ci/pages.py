@@ -76,6 +76,8 @@ def examples(built):
         for page in PAGES:
             name = os.path.basename(page)[:-2]
             if paths.get(name) is None:
+                if name in paths:
+                    print(f"{name} is not built, and so the examples of its page were not run")
                 continue
             for command, shown in examples_of(page):
                 got = output_of(command, **how) if shown else shown
