@@ -74,7 +74,7 @@ def blocks(document):
     """The indented blocks of a document, and those in fences but for Rust's in README, each after the words since the
     one before it."""
     text = re.sub(r"^```rust\n.*?^```", "", text_of(document), flags=re.M | re.S) if document == "README.md" else text_of(document)
-    text = re.sub(r"^```.*\n(.*?)^```", lambda found: re.sub("^", "    ", found.group(1), flags=re.M), text, flags=re.M | re.S)
+    text = re.sub(r"^```[^\n]*\n(.*?)^```$", lambda found: re.sub("^(?=.)", "    ", found.group(1), flags=re.M), text, flags=re.M | re.S)
     at = 0
     for found in re.finditer(r"(?<=\n\n)(?: {4}.*\n| *\n(?= {4}))+", text):
         yield text[at:found.start()], re.sub(r"^ {4}", "", found.group(), flags=re.M).rstrip("\n") + "\n"
