@@ -7,7 +7,6 @@ With `--built build` it takes the shared library that `make library` left, and w
 archive of the gate. What an interpreter or a tool is missing for is named and passed over.
 """
 import argparse
-import filecmp
 import glob
 import os
 import shutil
@@ -110,24 +109,21 @@ def check_sources(python, env):
 
 
 def check_wheel(python, library, folder):
-    """The wheel, made twice, and installed in an environment of its own."""
+    """The wheel, installed in an environment of its own."""
     if not has(python, "build", "setuptools", "wheel", "venv", "ensurepip"):
         print("build, setuptools, wheel or venv is not on this machine, and so no wheel was made")
         return
     with open(f"{TOP}/packaging/VERSION", encoding="ascii") as version:
-        words = [f"{TOP}/packaging/wheel.sh", version.read().strip(), library]
-    for name in ("first", "second"):
-        run([*words, f"{folder}/{name}"], "a wheel", env=os.environ | {"PYTHON": python})
-    first, second = (glob.glob(f"{folder}/{name}/*.whl")[0] for name in ("first", "second"))
-    if not filecmp.cmp(first, second, shallow=False):
-        raise Failed("two wheels differ")
+        words = [f"{TOP}/packaging/wheel.sh", version.read().strip(), library, f"{folder}/dist"]
+    run(words, "a wheel", env=os.environ | {"PYTHON": python})
+    made = glob.glob(f"{folder}/dist/*.whl")[0]
     shutil.copytree(f"{PACKAGE}/tests", f"{folder}/tests", ignore=shutil.ignore_patterns("__pycache__"))
     env = {key: value for key, value in os.environ.items() if key not in ("PYTHONPATH", "LIBFIXED")}
     for name, options in (("alone", []), ("beside", ["--system-site-packages"])):
         subprocess.run([python, "-m", "venv", *options, f"{folder}/{name}"], check=True)
         inside = f"{folder}/{name}/bin/python"
         run(
-            [inside, "-m", "pip", "install", "-q", "--no-index", "--no-deps", "--disable-pip-version-check", first],
+            [inside, "-m", "pip", "install", "-q", "--no-index", "--no-deps", "--disable-pip-version-check", made],
             f"installed {name}",
             env=env,
         )
