@@ -29,6 +29,8 @@ VECTORS := $(filter $(CRATES),fixed_vectors)
 # The processor that programs and the library for C are compiled for: x86-64 is any amd64.
 CPU ?= x86-64
 PROVE := python3 .ci/prove.py --jobs $(JOBS) --cpu $(CPU)
+# The gate, a check on each processor: rt alone reckons with more memory for a check than it takes, and leaves processors idle.
+GATE := RT_JOBS=$${RT_JOBS:-$$(python3 .ci/prove.py --processes)} rt ci
 
 .PHONY: build build/v2 try demo demo-command quick check test wrong-bodies install uninstall bench compare scale clean
 .DELETE_ON_ERROR:
@@ -60,11 +62,11 @@ quick:
 check:
 	@copy=$$(mktemp -d) && trap 'rm -rf "$$copy"' EXIT && \
 	  tar cf - --exclude=out --exclude=must-fail --exclude=wrong-bodies crates crates.txt HANDLES | tar xf - -C "$$copy" && \
-	  cd "$$copy" && rt ci
+	  jobs=$$(python3 .ci/prove.py --processes) && cd "$$copy" && RT_JOBS=$${RT_JOBS:-$$jobs} rt ci
 
 # The gate: every proof, every must-fail edit, every test and every program's stored run.
 test:
-	rt ci
+	$(GATE)
 
 # Those in a crate's wrong-bodies/: a change of its public clauses calls for them.
 wrong-bodies:

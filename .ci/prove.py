@@ -3,6 +3,7 @@
 
     prove.py [--jobs N] [--cpu CPU] [--into FOLDER] NAME..   these crates and those below them; what is compiled comes to build/ or FOLDER
     prove.py [--jobs N] [--cpu CPU] --above NAME..   these crates and those above them, and what is not proved of those below
+    prove.py --processes   how many checks may run at a time, by processors and memory
 
 `rt lib` proves and builds a library, and `rt run` a program, which it runs once over no input. What neither the crate nor those below it
 changed since is passed over. A check takes up to about 3 GB; N is how many processes share a check. CPU is the processor that
@@ -130,8 +131,14 @@ def main():
     words.add_argument("--cpu", default="x86-64")
     words.add_argument("--into", default=BUILD)
     words.add_argument("--above", action="store_true")
-    words.add_argument("names", nargs="+")
+    words.add_argument("--processes", action="store_true")
+    words.add_argument("names", nargs="*")
     given = words.parse_args()
+    if given.processes:
+        print(processes())
+        return 0
+    if not given.names:
+        words.error("no crate is named")
     crates = read_crates(os.path.abspath(given.into))
     unknown = [it for it in given.names if it not in crates]
     if unknown:

@@ -30,6 +30,7 @@ PAIRS = (
     ("column.py", "fixed", 50),
     ("pack.py", "fixed", 3),
     ("arrays.py", "fixed", 3),
+    ("taps.py", "fixed", 2),
 )
 
 
