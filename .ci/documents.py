@@ -81,6 +81,14 @@ def blocks(document):
         at = found.end()
 
 
+def is_installed(tool):
+    """Whether a tool is on this machine. Of those that are named `parallel` it is GNU's."""
+    if not shutil.which(tool):
+        return False
+    said = subprocess.run([tool, "--version"], stdin=subprocess.DEVNULL, stdout=subprocess.PIPE, stderr=subprocess.DEVNULL, check=False)
+    return tool != "parallel" or b"GNU" in said.stdout
+
+
 class Room:
     """A folder in which commands are run: the programs that are built are on the path, and the files that documents
     name are there: tariff.csv, numerals.txt, and meter.csv whose third column makes the lines of `lines`."""
@@ -109,7 +117,7 @@ class Room:
         """Whether a program or tool that these commands name is not there, which is said."""
         words = set(re.findall(r"[\w-]+", commands))
         lacking = sorted(self.missing & words)
-        lacking += [it for it in ("parallel", "jq", "xxd") if it in words and not shutil.which(it)]
+        lacking += [it for it in ("parallel", "jq", "xxd") if it in words and not is_installed(it)]
         if lacking:
             print(f"{lacking[0]} is not there, and so a block of {where} was not run")
         return bool(lacking)
