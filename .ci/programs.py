@@ -24,6 +24,7 @@ sys.path.insert(0, f"{TOP}/oracle")
 
 from compare import program  # noqa: E402
 from fit import answer as fit_answer  # noqa: E402
+from show import are_said, bits_object, show_object  # noqa: E402
 
 with open(f"{TOP}/packaging/VERSION", "rb") as file:
     VERSION = file.read().strip()
@@ -224,6 +225,16 @@ RUNS = {
          b"given     0x801e0000\ntext      -1.5\nbits      -384\nhex       0xe80\nvalue     -1.5\n\n"
          b"given     -1\nerror: word has a sign\n"),
         (["bits", "U8F0", "256"], b"", 1, b"given     256\nerror: word is wider than the format\n"),
+        (["bits", "I8F8", "--json", "0xfe80", "x"], b"", 1,
+         b'{"given":"0xfe80","text":"-1.5","bits":"-384","hex":"0xfe80","value":"-1.5"}\n'
+         b'{"given":"x","refused":"invalid digit found in string"}\n'),
+        (["bits", "--json", "U8F0"], b"0" * 1_048_577 + b"\n\"\\\x7f\r\r\n", 1,
+         b'{"given":"' + b"0" * 768 + b'","refused":"line too long"}\n'
+         b'{"given":"\\"\\\\\\u007f\\u000d","refused":"invalid digit found in string"}\n'),
+        (["show", "U8F0", "--json"], b"", 0, b""),
+        (["format", "--json", "I0F8"], b"", 0,
+         b'{"given":"I0F8","format":"I0F8","least":"-0.5","greatest":"0.49609375","ulp":"0.00390625","whole":"0","places":"2","low":"-0.5",'
+         b'"high":"0.496","ARM":null,"TI":null,"HLS":"ap_fixed<8,0>","VHDL":"sfixed(-1 downto -8)","MATLAB":"fi(_,1,8,8)"}\n'),
         (["format", "U8F0"], b"", 0, None),
         (["pack", "Q15"], b"0.5\n-1\n", 0, b"\x00\x40\x00\x80"),
         (["pack", "Q15", "--endian", "big"], b"0.5\r\n-1", 0, b"\x40\x00\x80\x00"),
@@ -414,6 +425,7 @@ class Runs:
         if self.name == "fixed":
             self.files()
             self.told()
+            self.objects()
             self.outputs_to_files()
         if self.name in GROWING:
             self.without_memory(*GROWING[self.name])
@@ -570,6 +582,28 @@ class Runs:
             if ran.stderr != wanted:
                 self.wrong += 1
                 print(f"{self.name}, {words} {given!r}: on standard error {ran.stderr!r}, not {wanted!r}")
+
+    def objects(self):
+        """Objects of JSON for words and for lines: Python reads each, with the members that the reference has."""
+        odd = bytes(byte for byte in range(1, 256) if byte != 10) * 4
+        cases = (
+            (["show", "I16F16"], (b"1e-300", b"-.5", b"3.14159", b"", b"x", b"." + b"7" * 2_000, b"7" * 2_000, odd),
+             lambda text: show_object(b"I16F16", text)),
+            (["show", "U8F0", "--radix", "16", "--policy", "saturating"], (b"ff", b"fff", b"-1.8", b"p"),
+             lambda text: show_object(b"U8F0", text, 16, b"saturating")),
+            (["bits", "I4F8", "--swap", "--field", "11:0"], (b"0x801e0000", b"-1", b"0x\xc3\xa9"),
+             lambda text: bits_object(b"I4F8", text, 10, 0, True)),
+        )
+        for words, texts, say in cases:
+            said = [say(text) for text in texts]
+            short = [text.decode() for text in texts if text != odd]
+            for more, given, objects in (([], b"\n".join(texts) + b"\n", said), (["--", *short], b"", said[: len(short)])):
+                self.tried += 1
+                ran = subprocess.run([self.path, *words, "--json", *more], input=given, stdout=subprocess.PIPE, stderr=subprocess.PIPE,
+                                     check=False, timeout=120)
+                if not are_said(ran.stdout, objects) or ran.returncode != int(any("refused" in each for each in objects)):
+                    self.wrong += 1
+                    print(f"{self.name}, {words} --json: status {ran.returncode}, {ran.stdout!r:.400}, not {objects!r:.400}")
 
     def outputs_to_files(self):
         """Answers that go to a file: it is made anew, it is no input, and what fails is said."""

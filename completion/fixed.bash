@@ -80,8 +80,9 @@ _fixed() {
       case $command:$word in
         convert:-*) words='--from --radix --policy --mode --target-mode --print --places --trim --skip-blank --comments --words --report --output --help --version' ;;
         column:-*) words='--from --radix --policy --mode --target-mode --print --places --delimiter --all --header --skip --trim --decimal --thousands --empty --into --keep --report --help --version' ;;
-        show:-*) words='--radix --policy --mode --file --output --help --version' ;;
-        bits:-*) words='--radix --field --swap --file --output --help --version' ;;
+        show:-*) words='--radix --policy --mode --json --file --output --help --version' ;;
+        bits:-*) words='--radix --field --swap --json --file --output --help --version' ;;
+        format:-*) words='--json --help --version' ;;
         lines:-* | sort:-*) words='--limit --help --version' ;;
         fit:-*) words='--width --error --any --signed --why --range --radix --help --version' ;;
         pack:-*) words='--endian --radix --policy --mode --help --version' ;;

@@ -21,6 +21,7 @@ complete -c fixed -n '__fish_seen_subcommand_from convert column' -l from -x -a 
 complete -c fixed -n '__fish_seen_subcommand_from convert column unpack' -l target-mode -x -a 'nearest floor ceil zero' -d 'how a number is rounded to the target'
 complete -c fixed -n '__fish_seen_subcommand_from convert column unpack' -l print -x -a 'text bits hex readmemh value all' -d 'what of an answer is written'
 complete -c fixed -n '__fish_seen_subcommand_from show bits' -l file -r -d 'each line of the file is asked about'
+complete -c fixed -n '__fish_seen_subcommand_from show bits format' -l json -d 'an object of JSON on a line'
 complete -c fixed -n '__fish_seen_subcommand_from bits' -l field -x -d 'bits of a longer word, HI:LO'
 complete -c fixed -n '__fish_seen_subcommand_from bits' -l swap -d 'bytes in reverse'
 complete -c fixed -n '__fish_seen_subcommand_from lines sort' -l limit -x -d 'the most bytes of an input'

@@ -26,6 +26,14 @@ pub const SWAP: Row = Row {
     help: "Bytes in reverse, of words with all hex digits",
 };
 
+pub const JSON: Row = Row {
+    name: "json",
+    letter: None,
+    value: "",
+    choices: &[],
+    help: "An object of JSON on a line in place of a block",
+};
+
 pub const POLICY: Row = Row {
     name: "policy",
     letter: Some('p'),

@@ -1,12 +1,13 @@
 //! Questions about words: those of the command line, or the lines of an input.
 
 use crate::inputs::{Job, run_inputs_to};
+use crate::options::JSON;
 use crate::output::open_output;
 use command_line::device::{Failure, Output, Writer};
 use command_line::given::{Asked, Given, Refusal};
 use command_line::page::Row;
 use command_line::report::{Report, report_end};
-use fixed_command::{Question, Task, first_refused, run_blocks};
+use fixed_command::{Form, Question, Task, first_refused, run_blocks};
 use fixed_io::StdSink;
 use fixed_steps::Steps;
 use line_engine::Status;
@@ -19,6 +20,15 @@ pub const FILE: Row = Row {
     choices: &[],
     help: "Each line of FILE is asked about; `-` is standard input",
 };
+
+/// The form of the answers.
+pub fn form_of(given: &Given<'_, '_>) -> Form {
+    if given.has(&JSON) {
+        Form::Members
+    } else {
+        Form::Lines
+    }
+}
 
 /// Says on standard error which word was the first that is refused, and why.
 fn report_word<L: Ledger>(
@@ -38,6 +48,7 @@ fn report_word<L: Ledger>(
 /// Asks a question of each word of the command line. Where one is refused, standard error names the first that is.
 pub fn run_words<L: Ledger>(
     rt: &HostRuntime,
+    form: Form,
     question: &Question,
     words: &[&str],
     output: &mut Output,
@@ -48,7 +59,7 @@ pub fn run_words<L: Ledger>(
         writer: output,
         failure: &failure,
     });
-    let status = run_blocks(question, words, &mut sink, steps);
+    let status = run_blocks(form, question, words, &mut sink, steps);
     report_end(rt, None, status, sink.lines(), &failure);
     if status == Status::Faults {
         report_word(rt, question, words, steps);
@@ -77,9 +88,9 @@ pub fn run_question<'a, L: Ledger>(
         Err(status) => return Ok(status),
     };
     if words.is_empty() {
-        let job = Job::Task(Task::Ask(*question));
+        let job = Job::Task(Task::Ask(form_of(given), *question));
         Ok(run_inputs_to(rt, &job, &[file], &mut output, steps))
     } else {
-        Ok(run_words(rt, question, words, &mut output, steps))
+        Ok(run_words(rt, form_of(given), question, words, &mut output, steps))
     }
 }

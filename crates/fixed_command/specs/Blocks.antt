@@ -1,13 +1,17 @@
--- What is written about words: a block of lines for each.
+-- What is written about words: a block of lines for each, or an object of JSON.
 use Rattle.std.specs.Prelude.{◌≡◌, ◌⊎◌, ℕ, List, [], ◌∷◌, ◌++◌, Bool, true, false, codes, flat_map, take}
 use Rattle.std.specs.declared.option.Option.{Option}
 use Rattle.std.specs.Io.KnownBytes.{Appends}
 use Rattle.fixed_bits.specs.Formats.{FormatParts}
 use Rattle.fixed_respell.specs.FormatNames.{IsFormatName}
-use Rattle.fixed_show.specs.BitsBlock.{IsBitsBlock}
-use Rattle.fixed_show.specs.FormatBlock.{IsFormatBlock}
-use Rattle.fixed_show.specs.PartText.{IsPartBlock}
-use Rattle.fixed_show.specs.ShowBlock.{IsShowBlock}
+use Rattle.fixed_show.specs.BitsBlock.{IsBitsBlock, IsBitsObject}
+use Rattle.fixed_show.specs.FormatBlock.{IsFormatBlock, IsFormatObject}
+use Rattle.fixed_show.specs.Forms.{refusal}
+use Rattle.fixed_show.specs.JsonText.{object_text}
+use Rattle.fixed_show.specs.PartText.{IsPartBlock, IsPartObject}
+use Rattle.fixed_show.specs.ShowBlock.{IsShowBlock, IsShowObject}
+use Rattle.fixed_show.specs.declared.form.Form.{Form}
+use Rattle.fixed_show.specs.declared.form.Form.TheVariants.{Lines, Members}
 use Rattle.line_engine.specs.AnswerText.{AnswerText}
 use Rattle.line_engine.specs.Failures.{HasFailed}
 use Rattle.line_engine.specs.Output.{AppendsPrefix, AreAnswers, any_fault}
@@ -17,28 +21,46 @@ use Rattle.line_engine.specs.declared.status.Status.TheVariants.{TooLong}
 use Rattle.fixed_command.specs.declared.blocks.Question.{Question}
 use Rattle.fixed_command.specs.declared.blocks.Question.TheVariants.{Bits, Format, Part, Show}
 
--- the block of the format that a word names
-pub record IsNamedFormat (word : List ℕ) (block : AnswerText) : Type 0 where
+-- text says what there is to know of the format that a word names
+abbrev pub IsFormatText : Form → List ℕ → FormatParts → List ℕ → Type 0
+IsFormatText Lines word f text = IsFormatBlock f text
+IsFormatText Members word f text = IsFormatObject word f text
+
+-- what is written of a word that is refused for a cause of the command's own
+abbrev pub refused_text : Form → List ℕ → List ℕ → List ℕ
+refused_text Lines word message = refusal Lines message
+refused_text Members word message = object_text word (refusal Members message)
+
+-- the answer to the name of a format
+pub record IsNamedFormat (form : Form) (word : List ℕ) (answer : AnswerText) : Type 0 where
   pub format : FormatParts
   pub word_is : IsFormatName word format
-  pub text : IsFormatBlock format block.text
-  pub clean : block.fault ≡ false
+  pub text : IsFormatText form word format answer.text
+  pub clean : answer.fault ≡ false
 
 -- a fault for a word that names none
-pub record IsNoFormat (word : List ℕ) (block : AnswerText) : Type 0 where
+pub record IsNoFormat (form : Form) (word : List ℕ) (answer : AnswerText) : Type 0 where
   pub none : (f : FormatParts) → ¬ IsFormatName word f
-  pub block_is : block ≡ record { text = codes "error: bad format\n"; fault = true }
+  pub answer_is : answer ≡ record { text = refused_text form word (codes "bad format"); fault = true }
 
 -- one of the two
-abbrev pub IsFormatAnswer : List ℕ → AnswerText → Type 0
-IsFormatAnswer word block = IsNamedFormat word block ⊎ IsNoFormat word block
+abbrev pub IsFormatAnswer : Form → List ℕ → AnswerText → Type 0
+IsFormatAnswer form word answer = IsNamedFormat form word answer ⊎ IsNoFormat form word answer
 
 -- the block that answers a question about a word
 abbrev pub IsBlock : Question → List ℕ → AnswerText → Type 0
 IsBlock (Show radix format policy mode) word block = IsShowBlock mode radix word format policy block.fault block.text
 IsBlock (Bits radix format) word block = IsBitsBlock radix format word block.fault block.text
 IsBlock (Part radix part format) word block = IsPartBlock radix part format word block.fault block.text
-IsBlock Format word block = IsFormatAnswer word block
+IsBlock Format word block = IsFormatAnswer Lines word block
+
+-- the object of JSON that does
+abbrev pub IsObject : Question → List ℕ → AnswerText → Type 0
+IsObject (Show radix format policy mode) word object = IsShowObject mode radix word format policy object.fault
+    object.text
+IsObject (Bits radix format) word object = IsBitsObject radix format word object.fault object.text
+IsObject (Part radix part format) word object = IsPartObject radix part format word object.fault object.text
+IsObject Format word object = IsFormatAnswer Members word object
 
 -- ---- the line of the word above its block: the word as it was given, up to 1,024 bytes
 abbrev pub head_line : List ℕ → List ℕ
@@ -50,46 +72,58 @@ pub record IsHeaded (q : Question) (word : List ℕ) (block : AnswerText) : Type
   pub is_body : IsBlock q word (record { text = body; fault = block.fault })
   pub text_is : block.text ≡ head_line word ++ body
 
--- ---- what is written for some blocks
--- an empty line, where a block was written before
-abbrev pub lead : Bool → List ℕ
-lead true = 10 ∷ []
-lead false = []
+-- the answer in a form
+abbrev pub IsAnswered : Form → Question → List ℕ → AnswerText → Type 0
+IsAnswered Lines q word answer = IsHeaded q word answer
+IsAnswered Members q word answer = IsObject q word answer
 
--- a block after another one
-abbrev pub next_text : AnswerText → List ℕ
-next_text block = 10 ∷ block.text
+-- ---- what is written for some words
+-- before an answer: an empty line, where a block was written before
+abbrev pub lead : Form → Bool → List ℕ
+lead form false = []
+lead Lines true = 10 ∷ []
+lead Members true = []
 
-abbrev pub blocks_text : List AnswerText → List ℕ
-blocks_text [] = []
-blocks_text (block ∷ blocks) = block.text ++ flat_map next_text blocks
+-- behind it: an object has a line of its own
+abbrev pub ending : Form → List ℕ
+ending Lines = []
+ending Members = 10 ∷ []
 
--- for each word, in order and nothing else, its block was written, with an empty line between two
-pub record WritesBlocks (q : Question) (words : List (List ℕ)) (written written' : Option (List ℕ))
+-- an answer after another one
+abbrev pub next_text : Form → AnswerText → List ℕ
+next_text form answer = lead form true ++ (answer.text ++ ending form)
+
+abbrev pub answers_text : Form → List AnswerText → List ℕ
+answers_text form [] = []
+answers_text form (answer ∷ answers) = answer.text ++ (ending form ++ flat_map (next_text form) answers)
+
+-- for each word, in order and nothing else, its answer was written
+pub record WritesBlocks (form : Form) (q : Question) (words : List (List ℕ)) (written written' : Option (List ℕ))
     (fault : Bool) : Type 0 where
   pub blocks : List AnswerText
-  pub answers : AreAnswers (IsHeaded q) words blocks
-  pub output : Appends written written' (blocks_text blocks)
+  pub answers : AreAnswers (IsAnswered form q) words blocks
+  pub output : Appends written written' (answers_text form blocks)
   pub faulty : any_fault blocks ≡ fault
 
--- a prefix of the blocks of the first words was written
-pub record BreaksBlocks (q : Question) (words : List (List ℕ)) (written written' : Option (List ℕ)) : Type 0 where
+-- a prefix of the answers to the first words was written
+pub record BreaksBlocks (form : Form) (q : Question) (words : List (List ℕ))
+    (written written' : Option (List ℕ)) : Type 0 where
   pub some : List (List ℕ)
   pub more : List (List ℕ)
   pub cut : words ≡ some ++ more
   pub blocks : List AnswerText
-  pub answers : AreAnswers (IsHeaded q) some blocks
-  pub output : AppendsPrefix written written' (blocks_text blocks)
+  pub answers : AreAnswers (IsAnswered form q) some blocks
+  pub output : AppendsPrefix written written' (answers_text form blocks)
 
 -- what a run over words that ended so has written, and whether a write failed
-abbrev pub BlocksRun : Question → List (List ℕ) → Option (List ℕ) → Option (List ℕ) → ℕ → ℕ → Status → Type 0
-BlocksRun q words written written' failures failures' Done = WritesBlocks q words written written' false
+abbrev pub BlocksRun : Form → Question → List (List ℕ) → Option (List ℕ) → Option (List ℕ) → ℕ → ℕ → Status → Type 0
+BlocksRun form q words written written' failures failures' Done = WritesBlocks form q words written written' false
     × (failures' ≡ failures)
-BlocksRun q words written written' failures failures' Faults = WritesBlocks q words written written' true
+BlocksRun form q words written written' failures failures' Faults = WritesBlocks form q words written written' true
     × (failures' ≡ failures)
-BlocksRun q words written written' failures failures' Usage = ⊥
-BlocksRun q words written written' failures failures' ReadFault = ⊥
-BlocksRun q words written written' failures failures' WriteFault = BreaksBlocks q words written written'
+BlocksRun form q words written written' failures failures' Usage = ⊥
+BlocksRun form q words written written' failures failures' ReadFault = ⊥
+BlocksRun form q words written written' failures failures' WriteFault = BreaksBlocks form q words written written'
     × HasFailed failures failures'
-BlocksRun q words written written' failures failures' NoMemory = ⊥
-BlocksRun q words written written' failures failures' TooLong = ⊥
+BlocksRun form q words written written' failures failures' NoMemory = ⊥
+BlocksRun form q words written written' failures failures' TooLong = ⊥

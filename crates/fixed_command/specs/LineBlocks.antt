@@ -1,9 +1,11 @@
--- What is written about a line of an input: a block, and an empty line after it.
+-- What is written about a line of an input: a block, and an empty line after it, or an object of JSON.
 use Rattle.std.specs.Prelude.{◌≡◌, ℕ, List, ◌++◌, Bool, true, false, codes, length, nat_lt}
 use Rattle.fixed_bits.specs.Formats.{IsFormat}
 use Rattle.fixed_respell.specs.LineWords.{longest_line}
+use Rattle.fixed_show.specs.declared.form.Form.{Form}
+use Rattle.fixed_show.specs.declared.form.Form.TheVariants.{Lines, Members}
 use Rattle.line_engine.specs.AnswerText.{AnswerText}
-use Rattle.fixed_command.specs.Blocks.{IsHeaded, head_line}
+use Rattle.fixed_command.specs.Blocks.{IsAnswered, head_line, refused_text}
 use Rattle.fixed_command.specs.Convert.{without_return}
 use Rattle.fixed_command.specs.declared.blocks.Question.{Question}
 use Rattle.fixed_command.specs.declared.blocks.Question.TheVariants.{Bits, Format, Part, Show}
@@ -15,20 +17,24 @@ HasFormat (Bits radix format) = IsFormat format.width format.frac
 HasFormat (Part radix part format) = IsFormat format.width format.frac
 HasFormat Format = Unit {0}
 
--- the block of a line that is too long
-abbrev pub long_block : List ℕ → AnswerText
-long_block line = record { text = head_line line ++ codes "error: line too long\n"; fault = true }
+-- the answer to a line that is too long
+abbrev pub long_answer : Form → List ℕ → AnswerText
+long_answer Lines line = record {
+  text = head_line line ++ refused_text Lines line (codes "line too long");
+  fault = true;
+}
+long_answer Members line = record { text = refused_text Members line (codes "line too long"); fault = true }
 
--- the block of a line that is too long or not
-abbrev pub IsBlockOf : Bool → Question → List ℕ → AnswerText → Type 0
-IsBlockOf true q line block = block ≡ long_block line
-IsBlockOf false q line block = HasFormat q × IsHeaded q (without_return line) block
+-- the answer to a line that is too long or not
+abbrev pub IsAnswerOf : Bool → Form → Question → List ℕ → AnswerText → Type 0
+IsAnswerOf true form q line answer = answer ≡ long_answer form line
+IsAnswerOf false form q line answer = HasFormat q × IsAnswered form q (without_return line) answer
 
--- the block of a line: that which answers the question about the line without one carriage return at its end
-abbrev pub IsLineBlock : Question → List ℕ → AnswerText → Type 0
-IsLineBlock q line block = IsBlockOf (nat_lt longest_line (length line)) q line block
+-- the answer to a line: that to the question about the line without one carriage return at its end
+abbrev pub IsLineBlock : Form → Question → List ℕ → AnswerText → Type 0
+IsLineBlock form q line answer = IsAnswerOf (nat_lt longest_line (length line)) form q line answer
 
 -- a line has one
 abbrev pub LineBlockIsTheOne : Type 0
-LineBlockIsTheOne = (q : Question) (line : List ℕ) (a b : AnswerText) → IsLineBlock q line a → IsLineBlock q line b
-    → a ≡ b
+LineBlockIsTheOne = (form : Form) (q : Question) (line : List ℕ) (a b : AnswerText) → IsLineBlock form q line a
+    → IsLineBlock form q line b → a ≡ b

@@ -1,5 +1,6 @@
 -- A command has one reply to a line, one first refused word, and one end.
 use Rattle.std.specs.Prelude.{◌≡◌, ◌-◌, ◌^◌, ◌<◌, ◌≤◌, ℕ, List, Some, length}
+use Rattle.fixed_show.specs.declared.form.Form.{Form}
 use Rattle.line_engine.specs.AnswerText.{AnswerText}
 use Rattle.line_engine.specs.Program.{Outside}
 use Rattle.line_engine.specs.declared.status.Status.{Status}
@@ -29,9 +30,10 @@ FirstRefusedIsTheOne = (q : Question) (words : List (List ℕ)) (i j : ℕ) (a b
 
 -- while the count of failures can rise, it says with the words how a run over words ended
 abbrev pub BlocksEndIsTheOne : Type 0
-BlocksEndIsTheOne = (q : Question) (words : List (List ℕ)) (before a b : List ℕ) (failures failures' : ℕ) (s t : Status)
-    → failures < 2 ^ 64 - 1 → BlocksRun q words (Some before) (Some a) failures failures' s
-    → BlocksRun q words (Some before) (Some b) failures failures' t → s ≡ t
+BlocksEndIsTheOne = (form : Form) (q : Question) (words : List (List ℕ)) (before a b : List ℕ)
+    (failures failures' : ℕ) (s t : Status) → failures < 2 ^ 64 - 1
+    → BlocksRun form q words (Some before) (Some a) failures failures' s
+    → BlocksRun form q words (Some before) (Some b) failures failures' t → s ≡ t
 
 -- ---- inputs
 -- two undisturbed runs over the lines of one input within the limit, which found memory, wrote the same and ended alike

@@ -1,10 +1,11 @@
-//! Questions about words, each answered with a block of lines.
+//! Questions about words, each answered with a block of lines or with an object of JSON.
 
 ghost use Rattle.std.specs.Prelude.{◌≡◌, ◌≤◌, ◌<◌, ◌+◌, ◌*◌, ◌++◌, ◌||◌, List, ℕ, length, map, take, IfOk, OnErr};
 ghost use Rattle.std.specs.Io.KnownBytes.{Appends};
-ghost use Rattle.fixed_command.specs.Blocks.{BlocksRun, IsBlock, IsFormatAnswer, IsHeaded, head_line};
-ghost use Rattle.fixed_command.specs.Blocks.{lead};
+ghost use Rattle.fixed_command.specs.Blocks.{BlocksRun, IsAnswered, IsBlock, IsFormatAnswer, IsHeaded, IsObject};
+ghost use Rattle.fixed_command.specs.Blocks.{ending, head_line, lead};
 ghost use Rattle.fixed_show.specs.Blocks as show_blocks;
+ghost use Rattle.fixed_show.specs.declared.form.Form.TheVariants.{Lines, Members};
 ghost use Rattle.line_engine.specs.AnswerText.{AnswerText};
 ghost use Rattle.line_engine.specs.Failures.{FailsOnlyCounted};
 ghost use Rattle.line_engine.specs.Output.{AppendsPrefix};
@@ -12,7 +13,10 @@ ghost use Rattle.line_engine.specs.Output.{AppendsPrefix};
 use fixed_bits::{Policy, ReadMode};
 use fixed_numeral::Radix;
 use fixed_respell::format_named;
-use fixed_show::{MAX_BLOCK, Part, bits_block, format_block, part_block, show_block};
+use fixed_show::{
+    Form, MAX_BLOCK, MAX_OBJECT, Part, bits_block, bits_object, format_block, format_object,
+    part_block, part_object, push_refused_object, show_block, show_object,
+};
 use fixed_steps::Steps;
 use line_engine::{Failed, Sink, Status, write_whole};
 use std::sync::ledger::Ledger;
@@ -53,14 +57,15 @@ pub enum Question {
 }
 
 /// Appends the block of the format that a word names, or a fault where it names none, and answers whether it did so.
+#[tactic(auto, unfolding(fixed_show::specs::Blocks::line))]
 fn push_format<const N: usize, L: Ledger>(
     word: &[u8],
     out: &mut TextBuffer<N>,
     steps: &mut Steps<L>,
 ) -> bool
     requires { length out.old + MAX_BLOCK ≤ N }
-    ensures block { show_blocks.Appends (λ text. IsFormatAnswer word.now (record { text = text; fault = result }))
-        MAX_BLOCK out.old out.new }
+    ensures block { show_blocks.Appends (λ text. IsFormatAnswer Lines word.now
+        (record { text = text; fault = result })) MAX_BLOCK out.old out.new }
     ensures cost { steps.new ≤ steps.old + 96 }
 {
     match format_named(word) {
@@ -104,11 +109,63 @@ pub(crate) fn push_block<const N: usize, L: Ledger>(
     }
 }
 
+/// Appends the object of the format that a word names, or a fault where it names none, and answers whether it did so.
+fn push_format_object<const N: usize, L: Ledger>(
+    word: &[u8],
+    out: &mut TextBuffer<N>,
+    steps: &mut Steps<L>,
+) -> bool
+    requires { length out.old + MAX_OBJECT ≤ N }
+    ensures object { show_blocks.Appends (λ text. IsFormatAnswer Members word.now
+        (record { text = text; fault = result })) MAX_OBJECT out.old out.new }
+    ensures cost { steps.new ≤ steps.old + 96 }
+{
+    match format_named(word) {
+        Some(format) => {
+            format_object(word, format, out, steps);
+            false
+        }
+        None => {
+            push_refused_object(out, word, "bad format");
+            true
+        }
+    }
+}
+
+/// Appends the object that answers a question about a word, and answers whether it reports a fault.
+fn push_object<const N: usize, L: Ledger>(
+    question: &Question,
+    word: &[u8],
+    out: &mut TextBuffer<N>,
+    steps: &mut Steps<L>,
+) -> bool
+    requires { length out.old + MAX_OBJECT ≤ N }
+    ensures object { show_blocks.Appends (λ text. IsObject question.now word.now
+        (record { text = text; fault = result })) MAX_OBJECT out.old out.new }
+    ensures cost { steps.new ≤ steps.old + 26 * length word.now + 3307 }
+{
+    match question {
+        Question::Show {
+            radix,
+            format,
+            policy,
+            mode,
+        } => show_object(word, *radix, *format, *policy, *mode, out, steps),
+        Question::Bits { radix, format } => bits_object(word, *radix, *format, out, steps),
+        Question::Part {
+            radix,
+            part,
+            format,
+        } => part_object(word, *radix, *part, *format, out, steps),
+        Question::Format => push_format_object(word, out, steps),
+    }
+}
+
 /// How many bytes of a word are shown above its block.
 const MAX_SHOWN: usize = 1024;
 
 /// How many bytes a block has at most, with the line of its word.
-pub const MAX_HEADED: usize = 4363;
+const MAX_HEADED: usize = 4363;
 
 /// The first bytes, at most this many.
 #[tactic(auto, using(std::proofs::lemmas::List::take_min))]
@@ -132,7 +189,7 @@ pub(crate) fn push_head<const N: usize>(out: &mut TextBuffer<N>, word: &[u8])
 
 /// Appends the block that answers a question about a word, after a line of the word, and answers whether it reports a
 /// fault.
-pub(crate) fn push_headed<const N: usize, L: Ledger>(
+fn push_headed<const N: usize, L: Ledger>(
     question: &Question,
     word: &[u8],
     out: &mut TextBuffer<N>,
@@ -147,37 +204,70 @@ pub(crate) fn push_headed<const N: usize, L: Ledger>(
     push_block(question, word, out, steps)
 }
 
-/// Appends the empty line between two blocks, where a block was written before.
-fn push_lead<const N: usize>(out: &mut TextBuffer<N>, has_begun: bool)
+/// Appends the answer in a form to a question about a word, of at most `MAX_OBJECT` bytes. Answers whether it reports a
+/// fault.
+pub(crate) fn push_answer<const N: usize, L: Ledger>(
+    form: Form,
+    question: &Question,
+    word: &[u8],
+    out: &mut TextBuffer<N>,
+    steps: &mut Steps<L>,
+) -> bool
+    requires { length out.old + MAX_OBJECT ≤ N }
+    ensures answer { show_blocks.Appends (λ text. IsAnswered form question.now word.now
+        (record { text = text; fault = result })) MAX_OBJECT out.old out.new }
+    ensures cost { steps.new ≤ steps.old + 26 * length word.now + 3307 }
+{
+    match form {
+        Form::Lines => push_headed(question, word, out, steps),
+        Form::Members => push_object(question, word, out, steps),
+    }
+}
+
+/// Appends what stands before an answer: the empty line between two blocks, where one was written before.
+fn push_lead<const N: usize>(out: &mut TextBuffer<N>, form: Form, has_begun: bool)
     requires { length out.old < N }
-    ensures appended { out.new ≡ out.old ++ lead has_begun }
+    ensures appended { out.new ≡ out.old ++ lead form has_begun }
     ensures short { length out.new ≤ length out.old + 1 }
 {
-    if has_begun {
+    if has_begun && form == Form::Lines {
         out.push(b'\n');
     }
 }
 
-/// Writes the block that answers a question about a word, after an empty line where a block was written before, and
-/// answers whether it reports a fault.
+/// Appends what stands behind an answer: the newline behind an object.
+fn push_ending<const N: usize>(out: &mut TextBuffer<N>, form: Form)
+    requires { length out.old < N }
+    ensures appended { out.new ≡ out.old ++ ending form }
+{
+    if form == Form::Members {
+        out.push(b'\n');
+    }
+}
+
+/// Writes the answer in a form to a question about a word, after what stands before it. Answers whether it reports a
+/// fault.
 #[inline(never)]
-fn write_block<K: Sink, L: Ledger>(
+fn write_answer<K: Sink, L: Ledger>(
+    form: Form,
     question: &Question,
     word: &[u8],
     has_begun: bool,
     sink: &mut K,
     steps: &mut Steps<L>,
 ) -> Result<bool, Failed>
-    ensures ok { IfOk result (λ fault. (text : List ℕ) × IsHeaded question.now word.now
+    ensures ok { IfOk result (λ fault. (text : List ℕ) × IsAnswered form question.now word.now
         (record { text = text; fault = fault })
-        × Appends (K.written sink.old) (K.written sink.new) (lead has_begun ++ text)) }
-    ensures err { OnErr result ((block : AnswerText) × IsHeaded question.now word.now block
-        × AppendsPrefix (K.written sink.old) (K.written sink.new) (lead has_begun ++ block.text)) }
+        × Appends (K.written sink.old) (K.written sink.new) (lead form has_begun ++ (text ++ ending form))) }
+    ensures err { OnErr result ((answer : AnswerText) × IsAnswered form question.now word.now answer
+        × AppendsPrefix (K.written sink.old) (K.written sink.new)
+        (lead form has_begun ++ (answer.text ++ ending form))) }
     ensures failures { FailsOnlyCounted (K.failures sink.old) (K.failures sink.new) result }
 {
-    let mut out: TextBuffer<4364> = TextBuffer::new();
-    push_lead(&mut out, has_begun);
-    let is_fault = push_headed(question, word, &mut out, steps);
+    let mut out: TextBuffer<8002> = TextBuffer::new();
+    push_lead(&mut out, form, has_begun);
+    let is_fault = push_answer(form, question, word, &mut out, steps);
+    push_ending(&mut out, form);
     write_whole(sink, out.as_bytes())?;
     Ok(is_fault)
 }
@@ -189,21 +279,23 @@ fn is_either(one: bool, other: bool) -> bool
     one || other
 }
 
-/// Writes a block about each word, in order, with an empty line between two. It takes no memory and reads nothing.
+/// Writes an answer in a form about each word, in order: blocks with an empty line between two, or objects, each on a
+/// line. It takes no memory and reads nothing.
 pub fn run_blocks<K: Sink, L: Ledger>(
+    form: Form,
     question: &Question,
     words: &[&str],
     sink: &mut K,
     steps: &mut Steps<L>,
 ) -> Status
-    ensures { BlocksRun question.now (map (λ w. w.now) words.now) (K.written sink.old) (K.written sink.new)
+    ensures { BlocksRun form question.now (map (λ w. w.now) words.now) (K.written sink.old) (K.written sink.new)
         (K.failures sink.old) (K.failures sink.new) result }
 {
     let mut has_fault = false;
     let mut has_begun = false;
     let mut rest = words;
     while !rest.is_empty() {
-        match write_block(question, rest[0].as_bytes(), has_begun, sink, steps) {
+        match write_answer(form, question, rest[0].as_bytes(), has_begun, sink, steps) {
             Err(_) => return Status::WriteFault,
             Ok(is_fault) => has_fault = is_either(has_fault, is_fault),
         }

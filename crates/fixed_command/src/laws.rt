@@ -31,7 +31,7 @@ pub fn first_refused_is_the_one()
     ensures { FirstRefusedIsTheOne }
 {}
 
-/// A line of an input has one block.
+/// A line of an input has one block, and one object.
 pub fn line_block_is_the_one()
     ensures { LineBlockIsTheOne }
 {}

@@ -33,7 +33,7 @@ pub use explain::explanation;
 pub use explain_field::field_explanation;
 pub use field::{Empty, FieldForm, FieldNumerals};
 pub use field_report::{FieldReport, ReportedNumerals, field_outcome};
-pub use fixed_show::Part;
+pub use fixed_show::{Form, Part};
 pub use hex::{push_hex, word_of};
 pub use layout::{LaidOutRule, Layout, MAX_PREFIX};
 pub use line_blocks::BlockRule;

@@ -1,19 +1,22 @@
-//! Questions about the lines of an input, each answered with a block and an empty line after it.
+//! Questions about the lines of an input, each answered with a block and an empty line after it, or with an object.
 
 ghost use Rattle.std.specs.Prelude.{◌≡◌, ◌+◌, ◌*◌, ◌++◌, ◌≤◌, length};
 ghost use Rattle.line_engine.specs.Output.{AppendsAnswer};
-ghost use Rattle.fixed_command.specs.LineBlocks.{HasFormat, IsLineBlock, long_block};
+ghost use Rattle.fixed_command.specs.LineBlocks.{HasFormat, IsLineBlock, long_answer};
 
-use crate::blocks::{MAX_HEADED, Question, push_head, push_headed};
+use crate::blocks::{Question, push_answer, push_head};
 use crate::convert::without_return;
+use fixed_show::{Form, MAX_OBJECT, push_refused_object};
 use fixed_steps::Steps;
 use line_engine::{LineRule, MAX_LINE, Output};
 use std::sync::ledger::Ledger;
 use text_buffer::TextBuffer;
 
-/// The rule that answers a line with a block.
+/// The rule that answers a line with a block, or with an object of JSON.
 #[derive(Drop)]
 pub struct BlockRule {
+    /// Which of the two it is.
+    pub form: Form,
     /// What is asked of a line.
     pub question: Question,
 }
@@ -36,34 +39,41 @@ fn check_format(question: Question)
     }
 }
 
-/// Appends the block of a line that is too long.
-fn push_long<const N: usize>(line: &[u8], out: &mut TextBuffer<N>)
-    requires { length out.old + MAX_HEADED ≤ N }
-    ensures appended { out.new ≡ out.old ++ (long_block line.now).text }
-    ensures short { length out.new ≤ length out.old + MAX_HEADED }
+/// Appends the answer to a line that is too long.
+#[tactic(auto, unfolding(fixed_show::specs::Blocks::line))]
+fn push_long<const N: usize>(form: Form, line: &[u8], out: &mut TextBuffer<N>)
+    requires { length out.old + MAX_OBJECT ≤ N }
+    ensures appended { out.new ≡ out.old ++ (long_answer form line.now).text }
+    ensures short { length out.new ≤ length out.old + MAX_OBJECT }
 {
-    push_head(out, line);
-    out.push_bytes(b"error: line too long\n");
+    match form {
+        Form::Lines => {
+            push_head(out, line);
+            out.push_bytes(b"error: line too long\n");
+        }
+        Form::Members => push_refused_object(out, line, "line too long"),
+    }
 }
 
-/// Appends the block of a line: the answer to a question about the line without one carriage return at its end, or
+/// Appends the answer in a form to a line: that to a question about the line without one carriage return at its end, or
 /// that a line of more than 1,048,576 bytes is too long. Answers whether it reports a fault.
 pub(crate) fn push_line_block<const N: usize, L: Ledger>(
+    form: Form,
     question: &Question,
     line: &[u8],
     out: &mut TextBuffer<N>,
     steps: &mut Steps<L>,
 ) -> bool
-    requires { length out.old + MAX_HEADED ≤ N }
-    ensures block { AppendsAnswer (IsLineBlock question.now) MAX_HEADED line.now out.old out.new result }
+    requires { length out.old + MAX_OBJECT ≤ N }
+    ensures block { AppendsAnswer (IsLineBlock form question.now) MAX_OBJECT line.now out.old out.new result }
     ensures cost { steps.new ≤ steps.old + 26 * length line.now + 3307 }
 {
     if line.len() > MAX_LINE {
-        push_long(line, out);
+        push_long(form, line, out);
         return true;
     }
     check_format(*question);
-    push_headed(question, without_return(line), out, steps)
+    push_answer(form, question, without_return(line), out, steps)
 }
 
 impl<L: Ledger> LineRule<L> for BlockRule {
@@ -74,23 +84,23 @@ impl<L: Ledger> LineRule<L> for BlockRule {
 
     const EXTRA: u64 = 3307;
 
-    const MAX_ANSWER: usize = MAX_HEADED;
+    const MAX_ANSWER: usize = MAX_OBJECT;
 
     ghost PER_BYTE = { 26 };
 
     ghost EXTRA = { 3307 };
 
-    ghost MAX_ANSWER = { 4363 };
+    ghost MAX_ANSWER = { 8000 };
 
-    ghost Answers = { λ asked. IsLineBlock asked.question };
+    ghost Answers = { λ asked. IsLineBlock asked.form asked.question };
 
     fn answer(&self, line: &[u8], out: &mut Output, steps: &mut Steps<L>) -> bool {
-        push_line_block(&self.question, line, out, steps)
+        push_line_block(self.form, &self.question, line, out, steps)
     }
 
     ghost room_law = { lit< tt };
 
-    ghost one_law = { λ asked. line_block_one asked.question };
+    ghost one_law = { λ asked. line_block_one asked.form asked.question };
 
-    ghost kept_law = { λ asked. long_by_its_prefix asked.question };
+    ghost kept_law = { λ asked. long_by_its_prefix asked.form asked.question };
 }

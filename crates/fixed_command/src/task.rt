@@ -28,6 +28,7 @@ use fixed_columns::ColumnsRule;
 use fixed_constants::FormRule;
 use fixed_least::LeastRule;
 use fixed_numeral::Radix;
+use fixed_show::Form;
 use fixed_steps::Steps;
 use line_engine::{LineRule, MAX_LIMIT, Sink, Source, Status, WholeRule, run_lines, run_whole};
 use std::alloc::Global;
@@ -90,8 +91,8 @@ pub enum Task<'a> {
     },
     /// Each line is answered with the enclosure of its numeral.
     Enclose,
-    /// Each line is answered with the block of a question about it.
-    Ask(Question),
+    /// Each line is answered in a form, with what a question asks of it.
+    Ask(Form, Question),
     /// The lines are numerals of this radix; the answer is the least format that holds them.
     Least(Radix),
     /// The input is a constants file; the answer is its text in this form.
@@ -189,16 +190,17 @@ fn run_enclosures<S: Source, K: Sink, L: Ledger>(
     status
 }
 
-/// Answers each line of an input of at most 4,294,967,296 bytes with the block of a question about it.
+/// Answers each line of an input of at most 4,294,967,296 bytes in a form, with what a question asks of it.
 fn run_questions<S: Source, K: Sink, L: Ledger>(
     alloc: Global,
+    form: Form,
     question: Question,
     watch: &Watch,
     source: &mut S,
     sink: &mut K,
     steps: &mut Steps<L>,
 ) -> Status
-    ensures run { HasLineRun (IsLineBlock question) max_limit 26 3307
+    ensures run { HasLineRun (IsLineBlock form question) max_limit 26 3307
         (outside (S.left source.old) (S.asked source.old) (S.failures source.old)
         (K.written sink.old) (K.failures sink.old) steps.old)
         (outside (S.left source.new) (S.asked source.new) (S.failures source.new)
@@ -206,7 +208,7 @@ fn run_questions<S: Source, K: Sink, L: Ledger>(
     ensures memory { result ≡ Status.NoMemory → sink.new ≡ sink.old }
 {
     let rule = WatchedBlocks {
-        rule: BlockRule { question },
+        rule: BlockRule { form, question },
         watch: Watch::new(),
     };
     let status = run_rule(alloc, MAX_LIMIT, &rule, source, sink, steps);
@@ -364,7 +366,9 @@ pub fn run_task<S: Source, K: Sink, L: Ledger>(
             run_laid_out(alloc, laid, *has_report, watch, source, sink, steps)
         }
         Task::Enclose => run_enclosures(alloc, watch, source, sink, steps),
-        Task::Ask(question) => run_questions(alloc, *question, watch, source, sink, steps),
+        Task::Ask(form, question) => {
+            run_questions(alloc, *form, *question, watch, source, sink, steps)
+        }
         Task::Least(radix) => run_least(alloc, *radix, watch, source, sink, steps),
         Task::Constants(rule) => run_constants(alloc, rule, watch, source, sink, steps),
         Task::Columns(limit) => run_cells(alloc, limit, watch, source, sink, steps),

@@ -8,7 +8,7 @@ ghost use Rattle.fixed_command.specs.Products.{IsProduct};
 ghost use Rattle.fixed_command.specs.Watched.{first_refused, kept_bytes, line_at, refusal_text};
 ghost use Rattle.fixed_respell.specs.Language.{fault_answer};
 
-use crate::blocks::{MAX_HEADED, first_bytes};
+use crate::blocks::first_bytes;
 use crate::convert::{ConvertRule, without_return};
 use crate::layout::LaidOutRule;
 use crate::line_blocks::BlockRule;
@@ -16,8 +16,10 @@ use crate::named_line::{line_and_message, line_at};
 use crate::outcome::{Outcome, Tally, one_more, outcome_of};
 use fixed_enclose::EncloseRule;
 use fixed_respell::RespellRule;
+use fixed_show::{Form, MAX_OBJECT};
 use fixed_steps::Steps;
 use line_engine::{LineRule, MAX_ANSWER, NoMemory, Output, WholeAnswer, WholeRule};
+use memchr::memrchr;
 use std::alloc::Global;
 use std::cell::Cell;
 use std::sync::ledger::Ledger;
@@ -266,6 +268,15 @@ fn below_head(block: &[u8]) -> &[u8] {
     rest.strip_suffix(b"\n").unwrap_or(rest)
 }
 
+/// The last text of an object, which is why its word is refused.
+fn last_text(object: &[u8]) -> &[u8] {
+    let texts = object.strip_suffix(b"\"}").unwrap_or(object);
+    match memrchr(b'"', texts) {
+        Some(quote) => texts.get(quote.saturating_add(1)..).unwrap_or(&[]),
+        None => texts,
+    }
+}
+
 impl<L: Ledger> LineRule<L> for WatchedBlocks {
     ghost use Rattle.std.proofs.Common.{lit<};
     ghost use Rattle.fixed_command.specs.LineBlocks.{IsLineBlock};
@@ -275,31 +286,35 @@ impl<L: Ledger> LineRule<L> for WatchedBlocks {
 
     const EXTRA: u64 = 3307;
 
-    const MAX_ANSWER: usize = MAX_HEADED;
+    const MAX_ANSWER: usize = MAX_OBJECT;
 
     ghost PER_BYTE = { 26 };
 
     ghost EXTRA = { 3307 };
 
-    ghost MAX_ANSWER = { 4363 };
+    ghost MAX_ANSWER = { 8000 };
 
-    ghost Answers = { λ watched. IsLineBlock watched.rule.question };
+    ghost Answers = { λ watched. IsLineBlock watched.rule.form watched.rule.question };
 
     fn answer(&self, line: &[u8], out: &mut Output, steps: &mut Steps<L>) -> bool {
         let start = self.watch.begin(out);
         let is_fault = self.rule.answer(line, out, steps);
         if is_fault {
-            let block = out.as_bytes().get(start..).unwrap_or(&[]);
-            self.watch.refuse(without_return(line), below_head(block));
+            let answer = out.as_bytes().get(start..).unwrap_or(&[]);
+            let cause = match self.rule.form {
+                Form::Lines => below_head(answer),
+                Form::Members => last_text(answer),
+            };
+            self.watch.refuse(without_return(line), cause);
         }
         is_fault
     }
 
     ghost room_law = { lit< tt };
 
-    ghost one_law = { λ watched. line_block_one watched.rule.question };
+    ghost one_law = { λ watched. line_block_one watched.rule.form watched.rule.question };
 
-    ghost kept_law = { λ watched. long_by_its_prefix watched.rule.question };
+    ghost kept_law = { λ watched. long_by_its_prefix watched.rule.form watched.rule.question };
 }
 
 impl<L: Ledger> LineRule<L> for WatchedLines {

@@ -64,21 +64,15 @@ four_lines old o1 o2 o3 o4 a b c d p q r s =
 pub text_short : (old new text : List ℕ) (n : ℕ) → new ≡ old ++ text → length new ≤ length old + n → length text ≤ n
 text_short old new text n e h = omega (arith, ap length e, length-append old text)
 
--- a line of a name of two numbers
-pub pair_pushed : (old o1 o2 o3 o4 o5 o6 o7 label head : List ℕ) (first : ℤ) (mark : List ℕ) (second : ℤ) (tail : List ℕ)
-    → o1 ≡ old ++ label → o2 ≡ o1 ++ head → o3 ≡ o2 ++ signed_decimal first → o4 ≡ o3 ++ mark
-    → o5 ≡ o4 ++ signed_decimal second → o6 ≡ o5 ++ tail → o7 ≡ o6 ++ 10 ∷ []
-    → o7 ≡ old ++ line label (pair_text head first mark second tail)
-unfolding line pair_text
-pair_pushed old o1 o2 o3 o4 o5 o6 o7 label head first mark second tail p q r s t u v =
-    let e : o7 ≡ ((((((old ++ label) ++ head) ++ signed_decimal first) ++ mark) ++ signed_decimal second) ++ tail) ++ 10 ∷ [] = cc in
-    e ∙ simp append_assoc
-
--- a part of two lines and three lines more
-pub five_lines : (old o1 o2 o3 o4 a b c d f : List ℕ) → o1 ≡ old ++ (a ++ b) → o2 ≡ o1 ++ c → o3 ≡ o2 ++ d → o4 ≡ o3 ++ f → o4 ≡ old ++ (a ++ (b ++ (c ++ (d ++ f))))
-five_lines old o1 o2 o3 o4 a b c d f p q r s =
-    let e : o4 ≡ (((old ++ (a ++ b)) ++ c) ++ d) ++ f = cc in
-    e ∙ simp append_assoc
+-- a name of two numbers
+pub pair_pushed : (form : Form) (old o1 o2 o3 o4 o5 o6 o7 key head : List ℕ) (first : ℤ) (mark : List ℕ) (second : ℤ) (tail : List ℕ) (e : ℕ)
+    → o1 ≡ old ++ label form key → o2 ≡ o1 ++ head → o3 ≡ o2 ++ signed_decimal first → o4 ≡ o3 ++ mark
+    → o5 ≡ o4 ++ signed_decimal second → o6 ≡ o5 ++ tail → e ≡ end_byte form → o7 ≡ o6 ++ e ∷ []
+    → o7 ≡ old ++ fact form key (pair_text head first mark second tail)
+unfolding fact pair_text
+pair_pushed form old o1 o2 o3 o4 o5 o6 o7 key head first mark second tail e p q r s t u w v =
+    let x : o7 ≡ ((((((old ++ label form key) ++ head) ++ signed_decimal first) ++ mark) ++ signed_decimal second) ++ tail) ++ end_byte form ∷ [] = cc in
+    x ∙ simp append_assoc
 
 -- a block of seven parts
 pub seven_lines : (old o1 o2 o3 o4 o5 o6 o7 a b c d f g h : List ℕ) → o1 ≡ old ++ a → o2 ≡ o1 ++ b → o3 ≡ o2 ++ c → o4 ≡ o3 ++ d → o5 ≡ o4 ++ f → o6 ≡ o5 ++ g → o7 ≡ o6 ++ h → o7 ≡ old ++ (a ++ (b ++ (c ++ (d ++ (f ++ (g ++ h))))))

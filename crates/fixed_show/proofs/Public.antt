@@ -7,7 +7,7 @@ use Rattle.fixed_numeral.specs.declared.radix.Radix.{Radix}
 use Rattle.fixed_show.specs.ShowBlock.{AreShowFacts}
 use Rattle.fixed_show.specs.declared.form.Form.{Form}
 use Rattle.fixed_show.specs.BlockLaws.{BitsBlockIsTheOne, BitsObjectIsTheOne, ShowBlockIsTheOne, ShowObjectIsTheOne, ShowRefusalIsTheOne}
-use Rattle.fixed_show.specs.FormatBlock.{FormatBlockIsTheOne}
+use Rattle.fixed_show.specs.FormatBlock.{FormatBlockIsTheOne, FormatObjectIsTheOne}
 use Rattle.fixed_show.specs.PartLaws.{PartBlockIsTheOne, PartFaultIsTheOne, PartHasNoFault, PartObjectIsTheOne}
 use Rattle.fixed_show.specs.WordLaws.{WordFaultIsTheOne, WordHasNoFault, WordIsTheOne}
 use Rattle.fixed_show.proofs.BlockLawLemmas
@@ -35,6 +35,9 @@ show_refusal_one = BlockLawLemmas.refusal_one
 
 pub format_block_one : FormatBlockIsTheOne
 format_block_one = BoundedLemmas.format_block_one
+
+pub format_object_one : FormatObjectIsTheOne
+format_object_one = BoundedLemmas.format_object_one
 
 pub part_fault_one : PartFaultIsTheOne
 part_fault_one = PartLemmas.part_fault_one

@@ -1,18 +1,14 @@
 -- The names of a format in other tools.
-use Rattle.std.proofs.Common.{◌≡◌, ◌∙◌, inl, inr, refl, ℕ, zero, suc, ◌-◌, ◌<◌, ◌++◌, ◌∷◌, List, Bool, true, false, pos, codes, decimal, arith, ap}
+use Rattle.std.proofs.Common.{◌≡◌, inl, inr, refl, ℕ, ◌-◌, ◌<◌, ◌++◌, ◌∷◌, List, Bool, true, false, pos, codes, decimal, ap}
 use Rattle.std.proofs.lemmas.List.{append-nil}
 use Rattle.fixed_bits.specs.Formats.{IsFormat}
 use Rattle.fixed_respell.specs.FormatNames.{IsFormatName}
-use Rattle.fixed_show.specs.ToolNames.{ArmNameIsAName, arm_name, pair_text, q_text}
+use Rattle.fixed_show.specs.ToolNames.{ArmNameIsAName, arm_name, pair_text}
 
 -- two counts around a point, after Q
 q_is : (signed : Bool) (whole frac : ℕ) (head : List ℕ) → pair_text head (pos whole) (codes ".") (pos frac) (codes "") ≡ head ++ (decimal whole ++ 46 ∷ decimal frac)
 unfolding pair_text
 q_is signed whole frac head = ap (λ (t : List ℕ). head ++ (decimal whole ++ 46 ∷ t)) (append-nil (decimal frac))
-
-some_whole : (n : ℕ) → 0 < n → (frac : ℕ) → arm_name true n frac ≡ q_text true n frac
-some_whole zero h frac = absurd (omega (arith, h))
-some_whole (suc n) h frac = refl
 
 named : (signed : Bool) (width frac : ℕ) → IsFormat width frac → (signed ≡ true → frac < width)
     → IsFormatName (arm_name signed (width - frac) frac) (record { signed = signed; width = width; frac = frac })
@@ -22,7 +18,7 @@ named true width frac is has = record {
     head = codes "Q";
     is_head = (81, inl refl, refl);
     sign_bit = has;
-    text = some_whole (width - frac) (omega (arith, has refl)) frac ∙ q_is true (width - frac) frac (codes "Q");
+    text = q_is true (width - frac) frac (codes "Q");
   }));
 }
 named false width frac is has = record {

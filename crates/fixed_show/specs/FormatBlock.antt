@@ -9,8 +9,10 @@ use Rattle.fixed_write.specs.Shortest.{ReadsBack, IsShortest}
 use Rattle.fixed_write.specs.Texts.{IsShortestText}
 use Rattle.fixed_show.specs.Blocks.{line}
 use Rattle.fixed_show.specs.Forms.{fact}
-use Rattle.fixed_show.specs.declared.form.Form.TheVariants.{Lines}
-use Rattle.fixed_show.specs.ToolNames.{name_lines}
+use Rattle.fixed_show.specs.JsonText.{object_text}
+use Rattle.fixed_show.specs.ToolNames.{name_facts}
+use Rattle.fixed_show.specs.declared.form.Form.{Form}
+use Rattle.fixed_show.specs.declared.form.Form.TheVariants.{Lines, Members}
 
 -- k is the greatest count of digits after the point with which decimals are at least an ulp of 2^-f apart
 pub record ArePlaces (f k : ℕ) : Type 0 where
@@ -36,9 +38,20 @@ abbrev pub digits_text : ℕ → ℕ → List ℕ
 digits_text whole places = signed_decimal (pos whole) ++ (codes " before the point, "
     ++ (signed_decimal (pos places) ++ codes " after it"))
 
--- block says the word, the ends and the ulp of a format, how many digits survive, the shortest texts of the ends, and
+-- what says so
+abbrev pub digits_facts : Form → ℕ → ℕ → List ℕ
+digits_facts Lines whole places = line (codes "digits    ") (digits_text whole places)
+digits_facts Members whole places = fact Members (codes "whole") (signed_decimal (pos whole))
+    ++ fact Members (codes "places") (signed_decimal (pos places))
+
+-- what says the shortest texts of two ends
+abbrev pub ends_facts : Form → List ℕ → List ℕ → List ℕ
+ends_facts Lines low high = line (codes "shortest  ") (low ++ (codes " to " ++ high))
+ends_facts Members low high = fact Members (codes "low") low ++ fact Members (codes "high") high
+
+-- facts say the word, the ends and the ulp of a format, how many digits survive, the shortest texts of the ends, and
 -- the names in other tools
-pub record IsFormatBlock (f : FormatParts) (block : List ℕ) : Type 0 where
+pub record AreFormatFacts (form : Form) (f : FormatParts) (facts : List ℕ) : Type 0 where
   pub word : List ℕ
   pub is_word : word ≡ format_text f
   pub least : List ℕ
@@ -55,14 +68,29 @@ pub record IsFormatBlock (f : FormatParts) (block : List ℕ) : Type 0 where
   pub is_short_least : IsShortestText (lowest f.signed f.width) f.frac short_least
   pub short_most : List ℕ
   pub is_short_most : IsShortestText (greatest f.signed f.width) f.frac short_most
-  pub block_is : block ≡ line (codes "format    ") word
-      ++ (fact Lines (codes "least") least
-      ++ (fact Lines (codes "greatest") most
-      ++ (fact Lines (codes "ulp") ulp
-      ++ (line (codes "digits    ") (digits_text whole places)
-      ++ (line (codes "shortest  ") (short_least ++ (codes " to " ++ short_most))
-      ++ name_lines f)))))
+  pub facts_are : facts ≡ fact form (codes "format") word
+      ++ (fact form (codes "least") least
+      ++ (fact form (codes "greatest") most
+      ++ (fact form (codes "ulp") ulp
+      ++ (digits_facts form whole places
+      ++ (ends_facts form short_least short_most
+      ++ name_facts form f)))))
 
--- it is but one
+-- block says them in lines
+abbrev pub IsFormatBlock : FormatParts → List ℕ → Type 0
+IsFormatBlock f block = AreFormatFacts Lines f block
+
+-- object says them of the format that a word was given for, as an object of JSON
+pub record IsFormatObject (word : List ℕ) (f : FormatParts) (object : List ℕ) : Type 0 where
+  pub members : List ℕ
+  pub are_facts : AreFormatFacts Members f members
+  pub object_is : object ≡ object_text word members
+
+-- a format has one block
 abbrev pub FormatBlockIsTheOne : Type 0
 FormatBlockIsTheOne = (f : FormatParts) (a b : List ℕ) → IsFormatBlock f a → IsFormatBlock f b → a ≡ b
+
+-- and one object
+abbrev pub FormatObjectIsTheOne : Type 0
+FormatObjectIsTheOne = (word : List ℕ) (f : FormatParts) (a b : List ℕ) → IsFormatObject word f a
+    → IsFormatObject word f b → a ≡ b

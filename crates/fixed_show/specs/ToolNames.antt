@@ -3,7 +3,9 @@ use Rattle.std.specs.Prelude.{◌≡◌, ℕ, zero, suc, ◌-◌, ◌<◌, List,
 use Rattle.std.specs.Fmt.{signed_decimal}
 use Rattle.fixed_bits.specs.Formats.{FormatParts, IsFormat}
 use Rattle.fixed_respell.specs.FormatNames.{IsFormatName}
-use Rattle.fixed_show.specs.Blocks.{line}
+use Rattle.fixed_show.specs.Forms.{fact}
+use Rattle.fixed_show.specs.declared.form.Form.{Form}
+use Rattle.fixed_show.specs.declared.form.Form.TheVariants.{Lines, Members}
 
 -- a name of two numbers, with a text before them, between them and after them
 unfoldable pub pair_text : List ℕ → ℤ → List ℕ → ℤ → List ℕ → List ℕ
@@ -19,16 +21,13 @@ abbrev pub q_text : Bool → ℕ → ℕ → List ℕ
 q_text signed whole frac = pair_text (head_text signed (codes "Q") (codes "UQ")) (pos whole) (codes ".") (pos frac)
     (codes "")
 
--- ARM's Q: the sign bit is one of the whole bits, so a signed format without whole bits has no name
+-- ARM's Q: the sign bit is one of the whole bits
 abbrev pub arm_name : Bool → ℕ → ℕ → List ℕ
-arm_name true zero frac = codes "none"
-arm_name true (suc above) frac = q_text true (suc above) frac
-arm_name false whole frac = q_text false whole frac
+arm_name signed whole frac = q_text signed whole frac
 
 -- TI's Q: the sign bit is counted apart from the whole bits above the point
 abbrev pub ti_name : Bool → ℕ → ℕ → List ℕ
-ti_name true zero frac = codes "none"
-ti_name true (suc above) frac = q_text true above frac
+ti_name true whole frac = q_text true (whole - 1) frac
 ti_name false whole frac = q_text false whole frac
 
 -- high-level synthesis in C++: the width, and the whole bits with the sign bit
@@ -46,13 +45,25 @@ abbrev pub matlab_name : Bool → ℕ → ℕ → List ℕ
 matlab_name signed width frac = pair_text (head_text signed (codes "fi(_,1,") (codes "fi(_,0,")) (pos width)
     (codes ",") (pos frac) (codes ")")
 
--- the lines of the names
-unfoldable pub name_lines : FormatParts → List ℕ
-name_lines f = line (codes "ARM       ") (arm_name f.signed (f.width - f.frac) f.frac)
-    ++ (line (codes "TI        ") (ti_name f.signed (f.width - f.frac) f.frac)
-    ++ (line (codes "HLS       ") (hls_name f.signed f.width (f.width - f.frac))
-    ++ (line (codes "VHDL      ") (vhdl_name f.signed (f.width - f.frac) f.frac)
-    ++ line (codes "MATLAB    ") (matlab_name f.signed f.width f.frac))))
+-- that there are no names in Q
+abbrev pub no_q_facts : Form → List ℕ
+no_q_facts Lines = fact Lines (codes "ARM") (codes "none") ++ fact Lines (codes "TI") (codes "none")
+no_q_facts Members = codes ",\"ARM\":null,\"TI\":null"
+
+-- the names in Q, which a signed format without whole bits has not
+abbrev pub q_facts : Form → Bool → ℕ → ℕ → List ℕ
+q_facts form true zero frac = no_q_facts form
+q_facts form true (suc above) frac = fact form (codes "ARM") (arm_name true (suc above) frac)
+    ++ fact form (codes "TI") (ti_name true (suc above) frac)
+q_facts form false whole frac = fact form (codes "ARM") (arm_name false whole frac)
+    ++ fact form (codes "TI") (ti_name false whole frac)
+
+-- all names
+unfoldable pub name_facts : Form → FormatParts → List ℕ
+name_facts form f = q_facts form f.signed (f.width - f.frac) f.frac
+    ++ (fact form (codes "HLS") (hls_name f.signed f.width (f.width - f.frac))
+    ++ (fact form (codes "VHDL") (vhdl_name f.signed (f.width - f.frac) f.frac)
+    ++ fact form (codes "MATLAB") (matlab_name f.signed f.width f.frac)))
 
 -- where there is an ARM's name, the command `fixed` takes it for the format
 abbrev pub ArmNameIsAName : Type 0

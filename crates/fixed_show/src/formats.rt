@@ -4,11 +4,16 @@ ghost use Rattle.std.specs.Prelude.{◌≡◌, ◌+◌, ◌≤◌, ◌<◌, ◌^
 ghost use Rattle.fixed_bits.specs.Ranges.{IsWide};
 ghost use Rattle.fixed_write.specs.Texts.{IsShortestText, shortest_text};
 ghost use Rattle.fixed_show.specs.Blocks.{Appends, line};
-ghost use Rattle.fixed_show.specs.FormatBlock.{ArePlaces, AreWholeDigits, IsFormatBlock, digits_text};
+ghost use Rattle.fixed_show.specs.FormatBlock.{AreFormatFacts, ArePlaces, AreWholeDigits, IsFormatBlock};
+ghost use Rattle.fixed_show.specs.FormatBlock.{IsFormatObject, digits_facts, digits_text, ends_facts};
 
 use crate::form::Form;
-use crate::lines::{MAX_BLOCK, frac_of, greatest_of, lowest_of, push_exact_fact, push_line};
-use crate::tool_names::push_name_lines;
+use crate::json::{MAX_OBJECT, push_given};
+use crate::lines::{
+    MAX_BLOCK, frac_of, greatest_of, lowest_of, push_exact_fact, push_fact, push_integer_fact,
+    push_shortest_fact,
+};
+use crate::tool_names::push_names;
 use fixed_bits::Format;
 use fixed_respell::format_name;
 use fixed_steps::Steps;
@@ -94,6 +99,74 @@ fn push_shortest_ends<const N: usize, L: Ledger>(
     out.push(b'\n');
 }
 
+/// Appends how many digits survive.
+fn push_digits<const N: usize>(out: &mut TextBuffer<N>, form: Form, whole: u32, places: u32)
+    requires whole { whole ≤ 20 }
+    requires places { places ≤ 20 }
+    requires room { length out.old + 81 ≤ N }
+    ensures appended { out.new ≡ out.old ++ digits_facts form whole places }
+    ensures short { length out.new ≤ length out.old + 81 }
+{
+    match form {
+        Form::Lines => push_digits_line(out, whole, places),
+        Form::Members => {
+            push_integer_fact(out, Form::Members, b"whole", i128::from(whole));
+            push_integer_fact(out, Form::Members, b"places", i128::from(places));
+        }
+    }
+}
+
+/// Appends the shortest texts of two numbers of ulps of 2^-`frac`.
+fn push_ends<const N: usize, L: Ledger>(
+    out: &mut TextBuffer<N>,
+    form: Form,
+    low: i128,
+    high: i128,
+    frac: u32,
+    steps: &mut Steps<L>,
+)
+    requires low { IsWide low }
+    requires high { IsWide high }
+    requires frac { frac ≤ 64 }
+    requires room { length out.old + 128 ≤ N }
+    ensures appended { out.new ≡ out.old ++ ends_facts form (shortest_text low frac) (shortest_text high frac) }
+    ensures low { IsShortestText low frac (shortest_text low frac) }
+    ensures high { IsShortestText high frac (shortest_text high frac) }
+    ensures short { length out.new ≤ length out.old + 128 }
+    ensures cost { steps.new ≤ steps.old + 96 }
+{
+    match form {
+        Form::Lines => push_shortest_ends(out, low, high, frac, steps),
+        Form::Members => {
+            push_shortest_fact(out, Form::Members, b"low", low, frac, steps);
+            push_shortest_fact(out, Form::Members, b"high", high, frac, steps);
+        }
+    }
+}
+
+/// Appends the facts of a format.
+fn push_format_facts<const N: usize, L: Ledger>(
+    out: &mut TextBuffer<N>,
+    form: Form,
+    format: Format,
+    steps: &mut Steps<L>,
+)
+    requires room { length out.old + 1200 ≤ N }
+    ensures facts { Appends (AreFormatFacts form format) 1200 out.old out.new }
+    ensures cost { steps.new ≤ steps.old + 96 }
+{
+    let frac = frac_of(format);
+    let low = lowest_of(format);
+    let high = greatest_of(format);
+    push_fact(out, form, b"format", format_name(format).as_bytes());
+    push_exact_fact(out, form, b"least", low, frac);
+    push_exact_fact(out, form, b"greatest", high, frac);
+    push_exact_fact(out, form, b"ulp", 1, frac);
+    push_digits(out, form, whole_digits_of(high, frac), places_of(frac));
+    push_ends(out, form, low, high, frac, steps);
+    push_names(out, form, format);
+}
+
 /// Appends the block of a format: its word, its least and its greatest value and its ulp exactly, how many decimal
 /// digits always survive reading and printing, the shortest texts of the two ends, and its names in other tools. There
 /// must be room for `MAX_BLOCK` bytes. It takes at most 96 steps.
@@ -106,14 +179,22 @@ pub fn format_block<const N: usize, L: Ledger>(
     ensures block { Appends (IsFormatBlock format) MAX_BLOCK out.old out.new }
     ensures cost { steps.new ≤ steps.old + 96 }
 {
-    let frac = frac_of(format);
-    let low = lowest_of(format);
-    let high = greatest_of(format);
-    push_line(out, b"format    ", format_name(format).as_bytes());
-    push_exact_fact(out, Form::Lines, b"least", low, frac);
-    push_exact_fact(out, Form::Lines, b"greatest", high, frac);
-    push_exact_fact(out, Form::Lines, b"ulp", 1, frac);
-    push_digits_line(out, whole_digits_of(high, frac), places_of(frac));
-    push_shortest_ends(out, low, high, frac, steps);
-    push_name_lines(out, format);
+    push_format_facts(out, Form::Lines, format, steps);
+}
+
+/// Appends the same as an object of JSON, of at most `MAX_OBJECT` bytes. Its first member is `given`, the first 768
+/// bytes of a word that names the format.
+pub fn format_object<const N: usize, L: Ledger>(
+    word: &[u8],
+    format: Format,
+    out: &mut TextBuffer<N>,
+    steps: &mut Steps<L>,
+)
+    requires room { length out.old + MAX_OBJECT ≤ N }
+    ensures object { Appends (IsFormatObject word.now format) MAX_OBJECT out.old out.new }
+    ensures cost { steps.new ≤ steps.old + 96 }
+{
+    push_given(out, word);
+    push_format_facts(out, Form::Members, format, steps);
+    out.push(b'}');
 }

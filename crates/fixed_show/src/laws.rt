@@ -4,7 +4,7 @@ ghost use Rattle.fixed_show.specs.BlockLaws.{BitsBlockIsTheOne, BitsObjectIsTheO
 ghost use Rattle.fixed_show.specs.BlockLaws.{ShowObjectIsTheOne, ShowRefusalIsTheOne};
 ghost use Rattle.fixed_show.specs.ErrorText.{ErrorTextIsTheOne};
 ghost use Rattle.fixed_show.specs.JsonText.{JsonTextIsOneToOne};
-ghost use Rattle.fixed_show.specs.FormatBlock.{FormatBlockIsTheOne, PlacesSurvive};
+ghost use Rattle.fixed_show.specs.FormatBlock.{FormatBlockIsTheOne, FormatObjectIsTheOne, PlacesSurvive};
 ghost use Rattle.fixed_show.specs.ShortError.{BlockErrorIsTheOne, BlockUlpsAreTheOne};
 ghost use Rattle.fixed_show.specs.ToolNames.{ArmNameIsAName};
 ghost use Rattle.fixed_show.specs.UlpsText.{UlpsTextIsTheOne};
@@ -42,9 +42,10 @@ pub fn block_error_is_the_one()
     ensures ulps { BlockUlpsAreTheOne }
 {}
 
-/// A format has one block.
+/// A format has one block, and one object.
 pub fn format_block_is_the_one()
-    ensures { FormatBlockIsTheOne }
+    ensures block { FormatBlockIsTheOne }
+    ensures object { FormatObjectIsTheOne }
 {}
 
 /// Where a format has a name in ARM's Q, the name is one of those that the format is known by.

@@ -23,7 +23,7 @@ pub mod words;
 
 pub use bits::{bits_block, bits_object};
 pub use form::Form;
-pub use formats::format_block;
+pub use formats::{format_block, format_object};
 pub use hex::push_hex_digits;
 pub use json::{MAX_OBJECT, push_refused_object};
 pub use lines::MAX_BLOCK;

@@ -2,43 +2,46 @@
 
 ghost use Rattle.std.specs.Prelude.{◌≡◌, ◌+◌, ◌≤◌, ◌++◌, ◌-ℤ◌, neg_ℤ, pos, codes, length};
 ghost use Rattle.fixed_bits.specs.Ranges.{IsWide};
-ghost use Rattle.fixed_show.specs.Blocks.{line};
-ghost use Rattle.fixed_show.specs.ToolNames.{arm_name, head_text, hls_name, matlab_name, name_lines, pair_text, q_text};
-ghost use Rattle.fixed_show.specs.ToolNames.{ti_name, vhdl_name};
+ghost use Rattle.fixed_show.specs.Forms.{fact};
+ghost use Rattle.fixed_show.specs.ToolNames.{head_text, hls_name, matlab_name, name_facts, no_q_facts, pair_text};
+ghost use Rattle.fixed_show.specs.ToolNames.{q_facts, q_text, vhdl_name};
 
-use crate::lines::{frac_of, push_line};
+use crate::form::{Form, end_byte, push_label};
+use crate::lines::{frac_of, push_fact};
 use fixed_bits::Format;
 use fixed_write::push_integer;
 use text_buffer::TextBuffer;
 
-/// Appends a line of a label and a name of two numbers: what is before them, between them and after them, each of at
-/// most ten bytes.
-fn push_pair_line<const N: usize>(
-    out: &mut TextBuffer<N>,
-    label: &[u8],
-    head: &[u8],
+/// A name of two numbers: what is before them, between them and after them.
+#[derive(Clone, Copy)]
+struct Pair<'a> {
+    head: &'a [u8],
     first: i128,
-    mark: &[u8],
+    mark: &'a [u8],
     second: i128,
-    tail: &[u8],
-)
-    requires first { IsWide first }
-    requires second { IsWide second }
-    requires label { length label.now ≤ 10 }
-    requires head { length head.now ≤ 10 }
-    requires mark { length mark.now ≤ 10 }
-    requires tail { length tail.now ≤ 10 }
-    requires room { length out.old + 83 ≤ N }
-    ensures appended { out.new ≡ out.old ++ line label.now (pair_text head.now first mark.now second tail.now) }
-    ensures short { length out.new ≤ length out.old + 83 }
+    tail: &'a [u8],
+}
+
+/// Appends a fact: a name of two numbers, whose other parts have at most ten bytes each.
+fn push_pair_fact<const N: usize>(out: &mut TextBuffer<N>, form: Form, key: &[u8], pair: &Pair<'_>)
+    requires first { IsWide pair.now.first }
+    requires second { IsWide pair.now.second }
+    requires key { length key.now ≤ 10 }
+    requires head { length pair.now.head.now ≤ 10 }
+    requires mark { length pair.now.mark.now ≤ 10 }
+    requires tail { length pair.now.tail.now ≤ 10 }
+    requires room { length out.old + 88 ≤ N }
+    ensures appended { out.new ≡ out.old ++ fact form key.now (pair_text pair.now.head.now pair.now.first
+        pair.now.mark.now pair.now.second pair.now.tail.now) }
+    ensures short { length out.new ≤ length out.old + 88 }
 {
-    out.push_bytes(label);
-    out.push_bytes(head);
-    push_integer(out, first);
-    out.push_bytes(mark);
-    push_integer(out, second);
-    out.push_bytes(tail);
-    out.push(b'\n');
+    push_label(out, form, key);
+    out.push_bytes(pair.head);
+    push_integer(out, pair.first);
+    out.push_bytes(pair.mark);
+    push_integer(out, pair.second);
+    out.push_bytes(pair.tail);
+    out.push(end_byte(form));
 }
 
 /// What a name begins with, of a signed format or of one that is not.
@@ -48,69 +51,91 @@ fn head_of<'a>(signed: bool, with_sign: &'a [u8], without_sign: &'a [u8]) -> &'a
     if signed { with_sign } else { without_sign }
 }
 
-/// Appends a line of a label and two counts in Q notation.
-fn push_q_line<const N: usize>(
+/// Appends a fact: two counts in Q notation.
+fn push_q_fact<const N: usize>(
     out: &mut TextBuffer<N>,
-    label: &[u8],
+    form: Form,
+    key: &[u8],
     signed: bool,
     whole: u32,
     frac: u32,
 )
     requires whole { whole ≤ 64 }
     requires frac { frac ≤ 64 }
-    requires label { length label.now ≤ 10 }
-    requires room { length out.old + 83 ≤ N }
-    ensures appended { out.new ≡ out.old ++ line label.now (q_text signed whole frac) }
-    ensures short { length out.new ≤ length out.old + 83 }
+    requires key { length key.now ≤ 10 }
+    requires room { length out.old + 88 ≤ N }
+    ensures appended { out.new ≡ out.old ++ fact form key.now (q_text signed whole frac) }
+    ensures short { length out.new ≤ length out.old + 88 }
 {
-    let head = head_of(signed, b"Q", b"UQ");
-    push_pair_line(
-        out,
-        label,
-        head,
-        i128::from(whole),
-        b".",
-        i128::from(frac),
-        b"",
-    );
+    let pair = Pair {
+        head: head_of(signed, b"Q", b"UQ"),
+        first: i128::from(whole),
+        mark: b".",
+        second: i128::from(frac),
+        tail: b"",
+    };
+    push_pair_fact(out, form, key, &pair);
 }
 
-/// Appends the lines of the names in ARM's and in TI's Q.
-fn push_q_lines<const N: usize>(out: &mut TextBuffer<N>, signed: bool, whole: u32, frac: u32)
-    requires whole { whole ≤ 64 }
-    requires frac { frac ≤ 64 }
-    requires room { length out.old + 166 ≤ N }
-    ensures appended { out.new ≡ out.old ++ (line (codes "ARM       ") (arm_name signed whole frac)
-        ++ line (codes "TI        ") (ti_name signed whole frac)) }
-    ensures short { length out.new ≤ length out.old + 166 }
+/// Appends that there are no names in Q.
+fn push_no_q_facts<const N: usize>(out: &mut TextBuffer<N>, form: Form)
+    requires room { length out.old + 176 ≤ N }
+    ensures appended { out.new ≡ out.old ++ no_q_facts form }
+    ensures short { length out.new ≤ length out.old + 176 }
 {
-    if signed && whole == 0 {
-        push_line(out, b"ARM       ", b"none");
-        push_line(out, b"TI        ", b"none");
-    } else {
-        push_q_line(out, b"ARM       ", signed, whole, frac);
-        push_q_line(out, b"TI        ", signed, whole - u32::from(signed), frac);
+    match form {
+        Form::Lines => {
+            push_fact(out, Form::Lines, b"ARM", b"none");
+            push_fact(out, Form::Lines, b"TI", b"none");
+        }
+        Form::Members => out.push_bytes(b",\"ARM\":null,\"TI\":null"),
     }
 }
 
-/// Appends the line of the name in C++ for high-level synthesis.
-fn push_hls_line<const N: usize>(out: &mut TextBuffer<N>, signed: bool, width: u32, whole: u32)
+/// Appends the names in ARM's and in TI's Q.
+fn push_q_facts<const N: usize>(
+    out: &mut TextBuffer<N>,
+    form: Form,
+    signed: bool,
+    whole: u32,
+    frac: u32,
+)
+    requires whole { whole ≤ 64 }
+    requires frac { frac ≤ 64 }
+    requires room { length out.old + 176 ≤ N }
+    ensures appended { out.new ≡ out.old ++ q_facts form signed whole frac }
+    ensures short { length out.new ≤ length out.old + 176 }
+{
+    if signed && whole == 0 {
+        push_no_q_facts(out, form);
+    } else {
+        push_q_fact(out, form, b"ARM", signed, whole, frac);
+        push_q_fact(out, form, b"TI", signed, whole - u32::from(signed), frac);
+    }
+}
+
+/// Appends the name in C++ for high-level synthesis.
+fn push_hls_fact<const N: usize>(
+    out: &mut TextBuffer<N>,
+    form: Form,
+    signed: bool,
+    width: u32,
+    whole: u32,
+)
     requires width { width ≤ 64 }
     requires whole { whole ≤ 64 }
-    requires room { length out.old + 83 ≤ N }
-    ensures appended { out.new ≡ out.old ++ line (codes "HLS       ") (hls_name signed width whole) }
-    ensures short { length out.new ≤ length out.old + 83 }
+    requires room { length out.old + 88 ≤ N }
+    ensures appended { out.new ≡ out.old ++ fact form (codes "HLS") (hls_name signed width whole) }
+    ensures short { length out.new ≤ length out.old + 88 }
 {
-    let head = head_of(signed, b"ap_fixed<", b"ap_ufixed<");
-    push_pair_line(
-        out,
-        b"HLS       ",
-        head,
-        i128::from(width),
-        b",",
-        i128::from(whole),
-        b">",
-    );
+    let pair = Pair {
+        head: head_of(signed, b"ap_fixed<", b"ap_ufixed<"),
+        first: i128::from(width),
+        mark: b",",
+        second: i128::from(whole),
+        tail: b">",
+    };
+    push_pair_fact(out, form, b"HLS", &pair);
 }
 
 /// The power of two of the highest bit.
@@ -131,50 +156,65 @@ fn lowest_bit(frac: u32) -> i128
     -i128::from(frac)
 }
 
-/// Appends the line of the name in VHDL.
-fn push_vhdl_line<const N: usize>(out: &mut TextBuffer<N>, signed: bool, whole: u32, frac: u32)
+/// Appends the name in VHDL.
+fn push_vhdl_fact<const N: usize>(
+    out: &mut TextBuffer<N>,
+    form: Form,
+    signed: bool,
+    whole: u32,
+    frac: u32,
+)
     requires whole { whole ≤ 64 }
     requires frac { frac ≤ 64 }
-    requires room { length out.old + 83 ≤ N }
-    ensures appended { out.new ≡ out.old ++ line (codes "VHDL      ") (vhdl_name signed whole frac) }
-    ensures short { length out.new ≤ length out.old + 83 }
+    requires room { length out.old + 88 ≤ N }
+    ensures appended { out.new ≡ out.old ++ fact form (codes "VHDL") (vhdl_name signed whole frac) }
+    ensures short { length out.new ≤ length out.old + 88 }
 {
-    let head = head_of(signed, b"sfixed(", b"ufixed(");
-    let (highest, lowest) = (highest_bit(whole), lowest_bit(frac));
-    push_pair_line(out, b"VHDL      ", head, highest, b" downto ", lowest, b")");
+    let pair = Pair {
+        head: head_of(signed, b"sfixed(", b"ufixed("),
+        first: highest_bit(whole),
+        mark: b" downto ",
+        second: lowest_bit(frac),
+        tail: b")",
+    };
+    push_pair_fact(out, form, b"VHDL", &pair);
 }
 
-/// Appends the line of the name in MATLAB.
-fn push_matlab_line<const N: usize>(out: &mut TextBuffer<N>, signed: bool, width: u32, frac: u32)
+/// Appends the name in MATLAB.
+fn push_matlab_fact<const N: usize>(
+    out: &mut TextBuffer<N>,
+    form: Form,
+    signed: bool,
+    width: u32,
+    frac: u32,
+)
     requires width { width ≤ 64 }
     requires frac { frac ≤ 64 }
-    requires room { length out.old + 83 ≤ N }
-    ensures appended { out.new ≡ out.old ++ line (codes "MATLAB    ") (matlab_name signed width frac) }
-    ensures short { length out.new ≤ length out.old + 83 }
+    requires room { length out.old + 88 ≤ N }
+    ensures appended { out.new ≡ out.old ++ fact form (codes "MATLAB") (matlab_name signed width frac) }
+    ensures short { length out.new ≤ length out.old + 88 }
 {
-    let head = head_of(signed, b"fi(_,1,", b"fi(_,0,");
-    push_pair_line(
-        out,
-        b"MATLAB    ",
-        head,
-        i128::from(width),
-        b",",
-        i128::from(frac),
-        b")",
-    );
+    let pair = Pair {
+        head: head_of(signed, b"fi(_,1,", b"fi(_,0,"),
+        first: i128::from(width),
+        mark: b",",
+        second: i128::from(frac),
+        tail: b")",
+    };
+    push_pair_fact(out, form, b"MATLAB", &pair);
 }
 
-/// Appends a line for each name of a format in other tools.
-pub(crate) fn push_name_lines<const N: usize>(out: &mut TextBuffer<N>, format: Format)
-    requires room { length out.old + 415 ≤ N }
-    ensures appended { out.new ≡ out.old ++ name_lines format }
-    ensures short { length out.new ≤ length out.old + 415 }
+/// Appends each name of a format in other tools.
+pub(crate) fn push_names<const N: usize>(out: &mut TextBuffer<N>, form: Form, format: Format)
+    requires room { length out.old + 440 ≤ N }
+    ensures appended { out.new ≡ out.old ++ name_facts form format }
+    ensures short { length out.new ≤ length out.old + 440 }
 {
     let width = format.width();
     let frac = frac_of(format);
     let whole = width - frac;
-    push_q_lines(out, format.signed(), whole, frac);
-    push_hls_line(out, format.signed(), width, whole);
-    push_vhdl_line(out, format.signed(), whole, frac);
-    push_matlab_line(out, format.signed(), width, frac);
+    push_q_facts(out, form, format.signed(), whole, frac);
+    push_hls_fact(out, form, format.signed(), width, whole);
+    push_vhdl_fact(out, form, format.signed(), whole, frac);
+    push_matlab_fact(out, form, format.signed(), width, frac);
 }

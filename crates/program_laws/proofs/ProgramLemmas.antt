@@ -98,7 +98,7 @@ module _ (report : ReportIsTheOne) where
     task_runs_one (Lines limit) = by_line cut respell.IsAnswer respell_one limit 8 624 (TaskRuns (Lines limit)) (λ before after s x. x)
     task_runs_one (Convert settings) = by_line cut (IsLineReply settings) (line_reply_one settings) max_limit 8 624 (TaskRuns (Convert settings)) (λ before after s x. x)
     task_runs_one (LaidOut laid has_report) = by_line cut (IsLaidOut laid.layout laid.rule) (laid_out_one laid.layout laid.rule) max_limit 24 1328 (TaskRuns (LaidOut laid has_report)) (λ before after s x. x)
-    task_runs_one (Ask question) = by_line cut (IsLineBlock question) (line_block_one question) max_limit 26 3307 (TaskRuns (Ask question)) (λ before after s x. x)
+    task_runs_one (Ask form question) = by_line cut (IsLineBlock form question) (line_block_one form question) max_limit 26 3307 (TaskRuns (Ask form question)) (λ before after s x. x)
     task_runs_one Enclose = by_line cut enclose.IsAnswer enclose_one max_limit 16 1248 (TaskRuns Enclose) (λ before after s x. x)
     task_runs_one (Least radix) = by_whole (least.IsWholeAnswer radix) (least_one radix) max_limit (TaskRuns (Least radix)) (λ before after s x. x)
     task_runs_one (Constants rule) = by_whole (IsProduct (constants.IsFormAnswer rule.form rule.guard.now)) (product_one (constants.IsFormAnswer rule.form rule.guard.now) (form_answer_one rule.form rule.guard.now))

@@ -1,7 +1,7 @@
 //! Questions about words, answered into memory.
 
 use fixed_bits::{Format, Policy, ReadMode};
-use fixed_command::{Question, run_blocks};
+use fixed_command::{Form, Question, run_blocks};
 use fixed_numeral::Radix;
 use fixed_steps::Steps;
 use line_engine::{MemoryProgram, MemoryRun, MemorySink, MemorySource, NEVER, Status};
@@ -10,9 +10,10 @@ use std::process::Abort;
 use std::sync::ledger::Ledger;
 use std::test::Fail;
 
-/// A question about words, which write fails, what is written and how the run ends.
+/// A question about words, in which form it is answered, which write fails, what is written and how the run ends.
 #[derive(Drop)]
 struct Asked {
+    form: Form,
     question: Question,
     words: &'static [&'static str],
     failing_write: u64,
@@ -29,7 +30,7 @@ impl MemoryProgram for Asked {
         sink: &mut MemorySink,
         steps: &mut Steps<L>,
     ) -> Status {
-        run_blocks(&self.question, self.words, sink, steps)
+        run_blocks(self.form, &self.question, self.words, sink, steps)
     }
 }
 
@@ -95,6 +96,20 @@ const FORMAT_AND_REFUSED: &str = "\
     given     I65F0\n\
     error: bad format\n";
 
+/// The objects of a word that is no numeral, and of 3.14159 in I16F16.
+const REFUSED_AND_ROUNDED_OBJECTS: &str = "\
+    {\"given\":\"x\",\"refused\":\"invalid digit found in string\"}\n\
+    {\"given\":\"3.14159\",\"text\":\"3.14159\",\"bits\":\"205887\",\"hex\":\"0x0003243f\",\
+    \"value\":\"3.1415863037109375\",\"error\":\"-0.0000036962890625\",\"ulps\":\"-0.24224\",\
+    \"low\":\"3.14159\",\"low_bits\":\"205887\",\"high\":\"3.1416\",\"high_bits\":\"205888\",\"range\":\"fits\"}\n";
+
+/// The objects of I0F8, and of a word that is no format.
+const FORMAT_OBJECTS: &str = "\
+    {\"given\":\"I0F8\",\"format\":\"I0F8\",\"least\":\"-0.5\",\"greatest\":\"0.49609375\",\"ulp\":\"0.00390625\",\
+    \"whole\":\"0\",\"places\":\"2\",\"low\":\"-0.5\",\"high\":\"0.496\",\"ARM\":null,\"TI\":null,\
+    \"HLS\":\"ap_fixed<8,0>\",\"VHDL\":\"sfixed(-1 downto -8)\",\"MATLAB\":\"fi(_,1,8,8)\"}\n\
+    {\"given\":\"I65F0\",\"refused\":\"bad format\"}\n";
+
 /// The question about a word of a format, whose digits are decimal without a prefix.
 fn bits(format: Format) -> Question {
     Question::Bits {
@@ -107,6 +122,7 @@ fn bits(format: Format) -> Question {
 fn each_word_has_its_block(rt: HostRuntime) -> Result<(), Fail> {
     let cases = [
         Asked {
+            form: Form::Lines,
             question: showing(),
             words: &["3.14159", "x"],
             failing_write: NEVER,
@@ -114,6 +130,7 @@ fn each_word_has_its_block(rt: HostRuntime) -> Result<(), Fail> {
             status: Status::Faults,
         },
         Asked {
+            form: Form::Lines,
             question: bits(Format::of(true, 32, 16)),
             words: &["0xfffc0000"],
             failing_write: NEVER,
@@ -121,6 +138,7 @@ fn each_word_has_its_block(rt: HostRuntime) -> Result<(), Fail> {
             status: Status::Done,
         },
         Asked {
+            form: Form::Lines,
             question: bits(Format::of(false, 8, 0)),
             words: &["256", "255"],
             failing_write: NEVER,
@@ -128,10 +146,27 @@ fn each_word_has_its_block(rt: HostRuntime) -> Result<(), Fail> {
             status: Status::Faults,
         },
         Asked {
+            form: Form::Lines,
             question: Question::Format,
             words: &["I0F8", "I65F0"],
             failing_write: NEVER,
             written: FORMAT_AND_REFUSED,
+            status: Status::Faults,
+        },
+        Asked {
+            form: Form::Members,
+            question: showing(),
+            words: &["x", "3.14159"],
+            failing_write: NEVER,
+            written: REFUSED_AND_ROUNDED_OBJECTS,
+            status: Status::Faults,
+        },
+        Asked {
+            form: Form::Members,
+            question: Question::Format,
+            words: &["I0F8", "I65F0"],
+            failing_write: NEVER,
+            written: FORMAT_OBJECTS,
             status: Status::Faults,
         },
     ];
@@ -142,6 +177,7 @@ fn each_word_has_its_block(rt: HostRuntime) -> Result<(), Fail> {
 #[test]
 fn a_failing_write_keeps_the_blocks_before_it(rt: HostRuntime) -> Result<(), Fail> {
     let cases = [Asked {
+        form: Form::Lines,
         question: bits(Format::of(false, 8, 0)),
         words: &["256", "255"],
         failing_write: 1,

@@ -2,8 +2,8 @@
 
 use fixed_bits::{Format, Policy, ReadMode};
 use fixed_command::{
-    ConvertRule, LaidOutRule, Layout, Limit, Place, Places, Print, Question, Settings, Spelling,
-    Task, Watch, greater_end, run_task, tally_text,
+    ConvertRule, Form as AnswerForm, LaidOutRule, Layout, Limit, Place, Places, Print, Question,
+    Settings, Spelling, Task, Watch, greater_end, run_task, tally_text,
 };
 use fixed_constants::{Form, FormRule};
 use fixed_numeral::Radix;
@@ -126,13 +126,24 @@ fn in_form(form: Form, guard: &[u8]) -> Task<'_> {
     Task::Constants(FormRule { form, guard })
 }
 
-/// The task of words of U8F0.
-fn asking() -> Task<'static> {
-    Task::Ask(Question::Bits {
+/// The task of words of U8F0, answered in a form.
+fn asking_in(form: AnswerForm) -> Task<'static> {
+    let question = Question::Bits {
         radix: Radix::Dec,
         format: Format::of(false, 8, 0),
-    })
+    };
+    Task::Ask(form, question)
 }
+
+/// The same, answered with blocks.
+fn asking() -> Task<'static> {
+    asking_in(AnswerForm::Lines)
+}
+
+/// The objects of two lines, of which one is refused.
+const OBJECTS: &str = "\
+    {\"given\":\"7\",\"text\":\"7\",\"bits\":\"7\",\"hex\":\"0x07\",\"value\":\"7\"}\n\
+    {\"given\":\"\\\"\\\\\\u0001\",\"refused\":\"invalid digit found in string\"}\n";
 
 /// What is written about a line that is the word 7.
 const SEVEN: &str = "given     7\ntext      7\nbits      7\nhex       0x07\nvalue     7\n\n";
@@ -331,12 +342,19 @@ fn the_first_refused_line_is_kept(rt: HostRuntime) -> Result<(), Fail> {
             "given     x\nerror: invalid digit found in string\n\n",
             Status::Faults,
         ),
+        unfailing(
+            asking_in(AnswerForm::Members),
+            "7\n\"\\\u{1}\r\n",
+            OBJECTS,
+            Status::Faults,
+        ),
     ];
     expect_runs(&rt, rt.alloc(), &cases)?;
     expect_refused(&rt, &cases[0], 2, "abc", digit);
     expect_refused(&rt, &cases[1], 2, "abc\r", digit);
     expect_refused(&rt, &cases[2], 2, "fn = 1 U8F0", "bad name");
     expect_refused(&rt, &cases[3], 1, "x", digit);
+    expect_refused(&rt, &cases[4], 2, "\"\\\u{1}", digit);
     Ok(())
 }
 

@@ -1,6 +1,6 @@
 //! `fixed bits`: what number the word of a register is.
 
-use crate::options::{FIELD, OUTPUT, RADIX, SWAP};
+use crate::options::{FIELD, JSON, OUTPUT, RADIX, SWAP};
 use crate::questions::{FILE, run_question};
 use crate::settings::{format_at, part_of, radix_of};
 use command_line::given::{Asked, Given};
@@ -28,7 +28,7 @@ pub fn page() -> Page {
         usage: "fixed bits [OPTIONS] FORMAT [WORD]...",
         operands: &[FORMAT, WORDS],
         has_numerals: true,
-        options: &[RADIX, FIELD, SWAP, FILE, OUTPUT],
+        options: &[RADIX, FIELD, SWAP, JSON, FILE, OUTPUT],
         end: "A format is I (signed) or U (unsigned), its whole bits, F and its fraction bits,\n\
               as in I16F16, 1 to 64 bits in all; or as in Q15, Q8.8 and UQ8.8.\n\
               \n\

@@ -1,6 +1,7 @@
 //! `fixed format`: what a format can hold.
 
-use crate::questions::run_words;
+use crate::options::JSON;
+use crate::questions::{form_of, run_words};
 use crate::settings::format_of;
 use command_line::device::Output;
 use command_line::given::{Asked, Given};
@@ -20,10 +21,10 @@ pub fn page() -> Page {
         name: "format",
         hidden_name: "",
         about: "Show the range, the ulp and the digits of a format",
-        usage: "fixed format FORMAT...",
+        usage: "fixed format [OPTIONS] FORMAT...",
         operands: &[FORMATS],
         has_numerals: false,
-        options: &[],
+        options: &[JSON],
         end: "A format is I (signed) or U (unsigned), its whole bits, F and its fraction bits,\n\
               as in I16F16, 1 to 64 bits in all; or as in Q15, Q8.8 and UQ8.8.\n\
               \n\
@@ -44,5 +45,12 @@ pub fn run<'a, L: Ledger>(
         }
     }
     let mut output = Output::Standard(rt.stdout());
-    Ok(run_words(rt, &Question::Format, given.from(0), &mut output, steps))
+    Ok(run_words(
+        rt,
+        form_of(given),
+        &Question::Format,
+        given.from(0),
+        &mut output,
+        steps,
+    ))
 }

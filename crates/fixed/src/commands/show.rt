@@ -1,6 +1,6 @@
 //! `fixed show`: all there is to know of a number in a format.
 
-use crate::options::{MODE, OUTPUT, POLICY, RADIX};
+use crate::options::{JSON, MODE, OUTPUT, POLICY, RADIX};
 use crate::questions::{FILE, run_question};
 use crate::settings::{format_at, mode_of, policy_of, radix_of};
 use command_line::given::{Asked, Given};
@@ -28,7 +28,7 @@ pub fn page() -> Page {
         usage: "fixed show [OPTIONS] FORMAT [NUMERAL]...",
         operands: &[FORMAT, NUMERALS],
         has_numerals: true,
-        options: &[RADIX, POLICY, MODE, FILE, OUTPUT],
+        options: &[RADIX, POLICY, MODE, JSON, FILE, OUTPUT],
         end: "A format is I (signed) or U (unsigned), its whole bits, F and its fraction bits,\n\
               as in I16F16, 1 to 64 bits in all; or as in Q15, Q8.8 and UQ8.8.\n\
               \n\

@@ -7,12 +7,16 @@ use Rattle.fixed_bits.specs.Formats.{FormatParts}
 use Rattle.fixed_respell.proofs.Public.{name_one}
 use Rattle.fixed_respell.specs.LineWords.{longest_line}
 use Rattle.fixed_show.proofs.Public.{bits_block_one, format_block_one, part_block_one, show_block_one}
-use Rattle.fixed_show.specs.FormatBlock.{IsFormatBlock}
+use Rattle.fixed_show.proofs.Public.{bits_object_one, format_object_one, part_object_one, show_object_one}
+use Rattle.fixed_show.specs.Forms.{refusal}
+use Rattle.fixed_show.specs.JsonText.{json_text, object_text}
+use Rattle.fixed_show.specs.declared.form.Form.{Form}
+use Rattle.fixed_show.specs.declared.form.Form.TheVariants.{Lines, Members}
 use Rattle.line_engine.specs.AnswerText.{AnswerText}
 use Rattle.line_engine.specs.Lines.{kept_length}
-use Rattle.fixed_command.specs.Blocks.{IsBlock, IsFormatAnswer, IsHeaded, head_line}
+use Rattle.fixed_command.specs.Blocks.{IsAnswered, IsBlock, IsFormatAnswer, IsFormatText, IsHeaded, IsObject, head_line}
 use Rattle.fixed_command.specs.Convert.{without_return}
-use Rattle.fixed_command.specs.LineBlocks.{HasFormat, IsBlockOf, IsLineBlock, LineBlockIsTheOne, long_block}
+use Rattle.fixed_command.specs.LineBlocks.{HasFormat, IsAnswerOf, IsLineBlock, LineBlockIsTheOne, long_answer}
 use Rattle.fixed_command.specs.declared.blocks.Question.{Question}
 use Rattle.fixed_command.specs.declared.blocks.Question.TheVariants.{Bits, Format, Part, Show}
 
@@ -22,17 +26,24 @@ reply_of t o = record { text = t; fault = o }
 alike : (a b : AnswerText) → a.fault ≡ b.fault → a.text ≡ b.text → a ≡ b
 alike a b e f = ap (λ t. reply_of t a.fault) f ∙ ap (λ o. reply_of b.text o) e
 
--- the block of a word
-format_one : (word : List ℕ) (a b : AnswerText) → IsFormatAnswer word a → IsFormatAnswer word b → a ≡ b
-format_one word a b (inl x) (inl y) =
-    let f : x.format ≡ y.format = name_one word x.format y.format x.word_is y.word_is in
-    let text : a.text ≡ b.text = format_block_one y.format a.text b.text
-    (subst (λ (g : FormatParts). IsFormatBlock g a.text) f x.text) y.text in
-    alike a b (x.clean ∙ sym y.clean) text
-format_one word a b (inl x) (inr y) = absurd (y.none x.format x.word_is)
-format_one word a b (inr x) (inl y) = absurd (x.none y.format y.word_is)
-format_one word a b (inr x) (inr y) = x.block_is ∙ sym y.block_is
+-- the block or the object of a format
+text_one : (form : Form) (word : List ℕ) (f : FormatParts) (a b : List ℕ) → IsFormatText form word f a
+    → IsFormatText form word f b → a ≡ b
+text_one Lines word f a b x y = format_block_one f a b x y
+text_one Members word f a b x y = format_object_one word f a b x y
 
+format_one : (form : Form) (word : List ℕ) (a b : AnswerText) → IsFormatAnswer form word a → IsFormatAnswer form word b
+    → a ≡ b
+format_one form word a b (inl x) (inl y) =
+    let f : x.format ≡ y.format = name_one word x.format y.format x.word_is y.word_is in
+    let text : a.text ≡ b.text = text_one form word y.format a.text b.text
+    (subst (λ (g : FormatParts). IsFormatText form word g a.text) f x.text) y.text in
+    alike a b (x.clean ∙ sym y.clean) text
+format_one form word a b (inl x) (inr y) = absurd (y.none x.format x.word_is)
+format_one form word a b (inr x) (inl y) = absurd (x.none y.format y.word_is)
+format_one form word a b (inr x) (inr y) = x.answer_is ∙ sym y.answer_is
+
+-- the block of a word
 block_one : (q : Question) (word : List ℕ) (a b : AnswerText) → HasFormat q → IsBlock q word a → IsBlock q word b
     → a ≡ b
 block_one (Show r f p m) word a b valid x y =
@@ -44,7 +55,21 @@ block_one (Bits r f) word a b valid x y =
 block_one (Part r part f) word a b valid x y =
     let same = part_block_one r part f word a.fault b.fault a.text b.text valid.is_width x y in
     alike a b same.0 same.1
-block_one Format word a b valid x y = format_one word a b x y
+block_one Format word a b valid x y = format_one Lines word a b x y
+
+-- its object
+object_one : (q : Question) (word : List ℕ) (a b : AnswerText) → HasFormat q → IsObject q word a → IsObject q word b
+    → a ≡ b
+object_one (Show r f p m) word a b valid x y =
+    let same = show_object_one m r word f p a.fault b.fault a.text b.text valid.is_width x y in
+    alike a b same.0 same.1
+object_one (Bits r f) word a b valid x y =
+    let same = bits_object_one r f word a.fault b.fault a.text b.text valid.is_width x y in
+    alike a b same.0 same.1
+object_one (Part r part f) word a b valid x y =
+    let same = part_object_one r part f word a.fault b.fault a.text b.text valid.is_width x y in
+    alike a b same.0 same.1
+object_one Format word a b valid x y = format_one Members word a b x y
 
 headed_one : (q : Question) (word : List ℕ) (a b : AnswerText) → HasFormat q → IsHeaded q word a → IsHeaded q word b
     → a ≡ b
@@ -54,41 +79,50 @@ headed_one q word a b valid x y =
     let body : x.body ≡ y.body = ap (λ t. t.text) same in
     alike a b (ap (λ t. t.fault) same) (x.text_is ∙ (ap (λ t. head_line word ++ t) body ∙ sym y.text_is))
 
--- the block of a line
-of_one : (long : Bool) (q : Question) (line : List ℕ) (a b : AnswerText) → IsBlockOf long q line a
-    → IsBlockOf long q line b → a ≡ b
-of_one true q line a b x y = x ∙ sym y
-of_one false q line a b x y = headed_one q (without_return line) a b x.0 x.1 y.1
+answered_one : (form : Form) (q : Question) (word : List ℕ) (a b : AnswerText) → HasFormat q → IsAnswered form q word a
+    → IsAnswered form q word b → a ≡ b
+answered_one Lines q word a b valid x y = headed_one q word a b valid x y
+answered_one Members q word a b valid x y = object_one q word a b valid x y
+
+-- the answer to a line
+of_one : (long : Bool) (form : Form) (q : Question) (line : List ℕ) (a b : AnswerText) → IsAnswerOf long form q line a
+    → IsAnswerOf long form q line b → a ≡ b
+of_one true form q line a b x y = x ∙ sym y
+of_one false form q line a b x y = answered_one form q (without_return line) a b x.0 x.1 y.1
 
 pub line_block_one : LineBlockIsTheOne
-line_block_one q line a b x y = of_one (nat_lt longest_line (length line)) q line a b x y
+line_block_one form q line a b x y = of_one (nat_lt longest_line (length line)) form q line a b x y
 
 -- a line that is too long is answered by its first bytes
-long_is : (q : Question) (line : List ℕ) (block : AnswerText) → longest_line < length line
-    → IsLineBlock q line block ↔ (block ≡ long_block line)
-long_is q line block long =
+long_is : (form : Form) (q : Question) (line : List ℕ) (answer : AnswerText) → longest_line < length line
+    → IsLineBlock form q line answer ↔ (answer ≡ long_answer form line)
+long_is form q line answer long =
     let e : nat_lt longest_line (length line) ≡ true = lt-ltb longest_line (length line) long in (
-      (λ h. subst (λ o. IsBlockOf o q line block) e h),
-      (λ h. subst (λ o. IsBlockOf o q line block) (sym e) h),
+      (λ h. subst (λ o. IsAnswerOf o form q line answer) e h),
+      (λ h. subst (λ o. IsAnswerOf o form q line answer) (sym e) h),
     )
 
-same_head : (n : ℕ) (line : List ℕ) → 1024 ≤ n → head_line (take n line) ≡ head_line line
-same_head n line h = ap (λ t. codes "given     " ++ (t ++ 10 ∷ [])) (take-take 1024 n line h)
+long_one : (form : Form) (n : ℕ) (line : List ℕ) → 1024 ≤ n → long_answer form (take n line) ≡ long_answer form line
+unfolding object_text
+long_one Lines n line h =
+    ap (λ t. reply_of ((codes "given     " ++ (t ++ 10 ∷ [])) ++ refusal Lines (codes "line too long")) true)
+    (take-take 1024 n line h)
+long_one Members n line h =
+    let behind : List ℕ = refusal Members (codes "line too long") ++ codes "}" in
+    ap (λ t. reply_of (codes "{\"given\":" ++ (json_text t ++ behind)) true) (take-take 768 n line (omega (arith, h)))
 
-by_prefix : (n : ℕ) (q : Question) (line : List ℕ) (block : AnswerText) → longest_line < n → n < length line
-    → IsLineBlock q (take n line) block ↔ IsLineBlock q line block
-by_prefix n q line block past longer =
+by_prefix : (n : ℕ) (form : Form) (q : Question) (line : List ℕ) (answer : AnswerText) → longest_line < n
+    → n < length line → IsLineBlock form q (take n line) answer ↔ IsLineBlock form q line answer
+by_prefix n form q line answer past longer =
     let whole : longest_line < length line = omega (arith, past, longer) in
     let prefix : longest_line < length (take n line) = omega (arith, length-take n line, past, longer) in
-    let one = long_is q (take n line) block prefix in
-    let all = long_is q line block whole in
-    let head = same_head n line (omega (arith, past)) in
-    let same : long_block (take n line) ≡ long_block line
-    = ap (λ t. reply_of (t ++ codes "error: line too long\n") true) head in (
+    let one = long_is form q (take n line) answer prefix in
+    let all = long_is form q line answer whole in
+    let same : long_answer form (take n line) ≡ long_answer form line = long_one form n line (omega (arith, past)) in (
       (λ h. all.1 (one.0 h ∙ same)),
       (λ h. one.1 (all.0 h ∙ sym same)),
     )
 
-pub long_by_its_prefix : (q : Question) (line : List ℕ) (block : AnswerText) → kept_length < length line
-    → IsLineBlock q (take kept_length line) block ↔ IsLineBlock q line block
-long_by_its_prefix q line block long = by_prefix kept_length q line block (omega arith) long
+pub long_by_its_prefix : (form : Form) (q : Question) (line : List ℕ) (answer : AnswerText) → kept_length < length line
+    → IsLineBlock form q (take kept_length line) answer ↔ IsLineBlock form q line answer
+long_by_its_prefix form q line answer long = by_prefix kept_length form q line answer (omega arith) long

@@ -19,8 +19,8 @@ returns-in-Err g c =
     let split : map (λ w. w.now) rest ≡ c.as_bytes.result.now ∷ map (λ w. w.now) (drop 1 rest) =
     first_and_rest (λ w. w.now) rest d some ∙ ap (λ t. t ∷ map (λ w. w.now) (drop 1 rest)) (sym c.as_bytes.ensures.value) in
     let failed = c.in-Err.ensures.err in (
-      broken c.args.question.now words (map (λ w. w.now) (drop 1 rest)) c.as_bytes.result.now failed.0 (g.K.Sink.written c.args.sink.now) (g.K.Sink.written c.loop-rest.sink) (g.K.Sink.written c.write_block.new.sink) c.loop-rest.has_begun c.loop-rest.has_fault
-          (subst (λ ws. HasWritten c.args.question.now words ws (g.K.Sink.written c.args.sink.now) (g.K.Sink.written c.loop-rest.sink) c.loop-rest.has_begun c.loop-rest.has_fault) split inv.written) failed.1 failed.2,
+      broken c.args.form c.args.question.now words (map (λ w. w.now) (drop 1 rest)) c.as_bytes.result.now failed.0 (g.K.Sink.written c.args.sink.now) (g.K.Sink.written c.loop-rest.sink) (g.K.Sink.written c.write_answer.new.sink) c.loop-rest.has_begun c.loop-rest.has_fault
+          (subst (λ ws. HasWritten c.args.form c.args.question.now words ws (g.K.Sink.written c.args.sink.now) (g.K.Sink.written c.loop-rest.sink) c.loop-rest.has_begun c.loop-rest.has_fault) split inv.written) failed.1 failed.2,
       rw (sym inv.same) c.in-Err.ensures.failures.failed,
     )
 
@@ -35,16 +35,16 @@ loop-rest-preserved g c =
     first_and_rest (λ w. w.now) rest d some ∙ ap (λ t. t ∷ map (λ w. w.now) (drop 1 rest)) (sym c.as_bytes.ensures.value) in
     let found = c.in-Ok.ensures.ok in
     let block : AnswerText = record { text = found.0; fault = c.in-Ok.is_fault } in
-    let more : HasWritten c.args.question.now words (map (λ w. w.now) (drop 1 rest)) (g.K.Sink.written c.args.sink.now) (g.K.Sink.written c.write_block.new.sink) true c.is_either-has_fault.result =
-    one_more c.args.question.now words (map (λ w. w.now) (drop 1 rest)) c.as_bytes.result.now block (g.K.Sink.written c.args.sink.now) (g.K.Sink.written c.loop-rest.sink) (g.K.Sink.written c.write_block.new.sink) c.loop-rest.has_begun c.loop-rest.has_fault c.is_either-has_fault.result
-    (subst (λ ws. HasWritten c.args.question.now words ws (g.K.Sink.written c.args.sink.now) (g.K.Sink.written c.loop-rest.sink) c.loop-rest.has_begun c.loop-rest.has_fault) split inv.written) found.1 found.2 c.is_either-has_fault.ensures in
+    let more : HasWritten c.args.form c.args.question.now words (map (λ w. w.now) (drop 1 rest)) (g.K.Sink.written c.args.sink.now) (g.K.Sink.written c.write_answer.new.sink) true c.is_either-has_fault.result =
+    one_more c.args.form c.args.question.now words (map (λ w. w.now) (drop 1 rest)) c.as_bytes.result.now block (g.K.Sink.written c.args.sink.now) (g.K.Sink.written c.loop-rest.sink) (g.K.Sink.written c.write_answer.new.sink) c.loop-rest.has_begun c.loop-rest.has_fault c.is_either-has_fault.result
+    (subst (λ ws. HasWritten c.args.form c.args.question.now words ws (g.K.Sink.written c.args.sink.now) (g.K.Sink.written c.loop-rest.sink) c.loop-rest.has_begun c.loop-rest.has_fault) split inv.written) found.1 found.2 c.is_either-has_fault.ensures in
     record {
       same = c.in-Ok.ensures.failures.same ∙ inv.same;
-      written = subst (λ (ws : List (Bor (List ℕ))). HasWritten c.args.question.now words (map (λ w. w.now) ws) (g.K.Sink.written c.args.sink.now) (g.K.Sink.written c.write_block.new.sink) true c.is_either-has_fault.result) (sym (take_rest rest 1)) more;
+      written = subst (λ (ws : List (Bor (List ℕ))). HasWritten c.args.form c.args.question.now words (map (λ w. w.now) ws) (g.K.Sink.written c.args.sink.now) (g.K.Sink.written c.write_answer.new.sink) true c.is_either-has_fault.result) (sym (take_rest rest 1)) more;
     }
 
 pub loop-rest-init : goal.loop-rest-init
 loop-rest-init g c = record {
   same = refl;
-  written = none_written c.args.question.now (map (λ w. w.now) c.args.words.now) (g.K.Sink.written c.args.sink.now) (Appends-nil (g.K.Sink.written c.args.sink.now));
+  written = none_written c.args.form c.args.question.now (map (λ w. w.now) c.args.words.now) (g.K.Sink.written c.args.sink.now) (Appends-nil (g.K.Sink.written c.args.sink.now));
 }

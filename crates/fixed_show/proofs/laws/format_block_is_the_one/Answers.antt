@@ -1,5 +1,5 @@
-use Rattle.fixed_show.proofs.BoundedLemmas.{format_block_one}
+use Rattle.fixed_show.proofs.BoundedLemmas.{format_block_one, format_object_one}
 use Rattle.fixed_show.proofs.laws.format_block_is_the_one.Goals as goal
 
 pub returns : goal.returns
-returns c = format_block_one
+returns c = record { block = format_block_one; object = format_object_one }
