@@ -12,5 +12,6 @@ mod LineLemmas
 mod RangeErrorLemmas
 mod WithinLemmas
 mod ServingLemmas
+mod ShortLemmas
 mod BoundedLemmas
 mod BoundedUniqueLemmas

@@ -1,16 +1,12 @@
 -- A numeral is zero exactly where it is a whole number of ulps, and none of them.
-use Rattle.std.proofs.Common.{◌≡◌, ℕ, ◌+◌, ◌*◌, ◌^◌, ◌<◌, ◌≤◌, ◌↔◌, Bool, true, false, IsTrue, refl, sym, ap, ◌∙◌, subst, arith, ⊎_elim, mul-le-mul_right, ℤ, pos, negsuc, ◌-ℤ◌}
-use Rattle.std.specs.Prelude.{Option, Some, None}
-use Rattle.std.proofs.Math.Nat.{one-le-pow}
+use Rattle.std.proofs.Common.{◌≡◌, ℕ, ◌+◌, ◌*◌, ◌^◌, ◌<◌, ◌≤◌, ◌↔◌, Bool, true, false, IsTrue, refl, sym, ap, ◌∙◌, subst, arith, ⊎_elim, mul-le-mul_right}
 use Rattle.std.proofs.lemmas.Bool.{cases_lt, false≢true}
 use Rattle.std.proofs.lemmas.Int.{ints}
 use Rattle.fixed_bits.specs.Numbers.{with_sign}
 use Rattle.fixed_bits.specs.declared.mode.ReadMode.TheVariants.{TowardsZero}
-use Rattle.fixed_numeral.specs.Numeral.{Exponent, Parts, is_minus}
-use Rattle.fixed_numeral.specs.PartNumbers.{IsShortNumeral, is_power_of_two, placed_magnitude}
-use Rattle.fixed_numeral.specs.Value.{Fraction, magnitude, scaled}
+use Rattle.fixed_numeral.specs.Numeral.{Parts, is_minus}
+use Rattle.fixed_numeral.specs.Value.{magnitude}
 use Rattle.fixed_numeral.specs.declared.radix.Radix.{Radix}
-use Rattle.fixed_numeral.specs.declared.radix.Radix.TheVariants.{Dec}
 use Rattle.fixed_numeral.proofs.Public.{magnitude_pos}
 use Rattle.fixed_read.specs.Reading.{IsReading}
 use Rattle.fixed_read.specs.declared.read_number.ReadNumber.{ReadNumber}
@@ -91,31 +87,3 @@ below_zero_by r p found result at x is = (to, back)
 
     back : IsBelowZero r p → IsTrue result
     back h = is.1 (x.sign ∙ h.minus, λ z. let none : (magnitude r p).num ≡ 0 = zero_is r p found at x z.0 z.1 z.2 in omega (arith, none, h.some))
-
--- ---- short decimals
-not_none : (m : ℕ) (z : ℤ) → (0 < m) ↔ (0 < (scaled m 1 10 z).num)
-not_none m (pos x) = (λ h. let p : 1 ≤ 10 ^ x = one-le-pow x 10 (omega arith) in let t : 1 * 10 ^ x ≤ m * 10 ^ x = mul-le-mul_right (10 ^ x) (omega (arith, h)) in omega (arith, p, t), λ h. ⊎_elim (λ (some : 0 < m). some) (λ (none : m ≤ 0). let is : m ≡ 0 = omega (arith, none) in let t : m * 10 ^ x ≡ 0 * 10 ^ x = ap (λ k. k * 10 ^ x) is in absurd (omega (arith, t, h))) (cases_lt 0 m))
-not_none m (negsuc x) = (λ h. h, λ h. h)
-
-never_two : (x : Option Exponent) → is_power_of_two Dec x ≡ false
-never_two None = refl
-never_two (Some x) = refl
-
-digits_some : (whole fraction places : ℕ) → (0 < whole + fraction) ↔ (0 < whole * 10 ^ places + fraction)
-digits_some whole fraction places =
-    let p : 1 ≤ 10 ^ places = one-le-pow places 10 (omega arith) in (
-      λ h. ⊎_elim (λ (some : 0 < whole). let t : 1 * 10 ^ places ≤ whole * 10 ^ places = mul-le-mul_right (10 ^ places) (omega (arith, some)) in omega (arith, p, t)) (λ (none : whole ≤ 0). omega (arith, h, none)) (cases_lt 0 whole),
-      λ h. ⊎_elim (λ (some : 0 < whole). omega (arith, some)) (λ (none : whole ≤ 0). let is : whole ≡ 0 = omega (arith, none) in let t : whole * 10 ^ places ≡ 0 * 10 ^ places = ap (λ k. k * 10 ^ places) is in omega (arith, t, h)) (cases_lt 0 whole),
-    )
-
-pub short_below : (p : Parts) (negative : Bool) (whole fraction places : ℕ) (exponent : ℤ) (two b : Bool) → IsShortNumeral Dec p negative whole fraction places exponent two → (IsTrue b ↔ ((negative ≡ true) × (0 < whole + fraction))) → IsTrue b ↔ IsBelowZero Dec p
-short_below p negative whole fraction places exponent two b h below =
-    let digits : ℕ = whole * 10 ^ places + fraction in
-    let none : two ≡ false = h.separator ∙ never_two p.exponent in
-    let same : magnitude Dec p ≡ scaled digits 1 10 (exponent -ℤ pos places) = h.value ∙ ap (placed_magnitude Dec digits places exponent) none in
-    let P : Fraction → Type 0 = λ f. 0 < f.num in
-    let some = digits_some whole fraction places in
-    let num = not_none digits (exponent -ℤ pos places) in (
-      λ t. let x = below.0 t in record { minus = sym h.sign ∙ x.0; some = subst P (sym same) (num.0 (some.0 x.1)) },
-      λ x. below.1 (h.sign ∙ x.minus, some.1 (num.1 (subst P same x.some))),
-    )

@@ -12,6 +12,7 @@ pub mod question;
 mod reader;
 pub mod run;
 mod serving;
+mod short;
 
 pub use question::{Question, Widths};
 pub use run::{run_bounded, run_fit};

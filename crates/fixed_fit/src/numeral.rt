@@ -1,13 +1,12 @@
 //! Whether a numeral is below zero.
 
-ghost use Rattle.std.specs.Prelude.{◌≡◌, ◌↔◌, ◌+◌, ◌<◌, IfSome, IsTrue, true, false};
+ghost use Rattle.std.specs.Prelude.{◌≡◌, ◌↔◌, IsTrue, true, false};
 ghost use Rattle.fixed_bits.specs.Formats.{IsFormat};
 ghost use Rattle.fixed_numeral.specs.Answer.{IsReadOrRefused};
-ghost use Rattle.fixed_numeral.specs.Numeral.{HasNumeral, IsNumeral, Parts};
 ghost use Rattle.fixed_fit.specs.Fitting.{IsBelowZero};
 
 use fixed_bits::{Format, ReadMode};
-use fixed_numeral::{ParseFixedError, Radix, ShortNumeral, short_decimal};
+use fixed_numeral::{ParseFixedError, Radix};
 use fixed_read::{ReadNumber, read_format};
 use fixed_steps::Steps;
 use std::sync::ledger::Ledger;
@@ -28,28 +27,6 @@ fn is_below(found: &ReadNumber) -> bool
     found.is_negative() && !is_zero(found)
 }
 
-/// Whether a short decimal is below zero.
-fn is_short_below(found: ShortNumeral) -> bool
-    ensures { IsTrue result ↔ ((found.negative ≡ true) × (0 < found.whole + found.fraction)) }
-{
-    found.negative && (found.whole > 0 || found.fraction > 0)
-}
-
-/// Whether a numeral that is a short decimal is below zero. `None` only means: read it.
-fn is_decimal_below<L: Ledger>(line: &[u8], radix: Radix, steps: &mut Steps<L>) -> Option<bool>
-    ensures numeral { IfSome result (λ below. IsNumeral radix line.now) }
-    ensures below { IfSome result
-        (λ below. (p : Parts) → HasNumeral radix line.now p → IsTrue below ↔ IsBelowZero radix p) }
-{
-    match radix {
-        Radix::Dec => {
-            let found = short_decimal(line, steps)?;
-            Some(is_short_below(found))
-        }
-        _ => None,
-    }
-}
-
 /// Whether a numeral is below zero: it has a minus, and is not zero.
 ///
 /// # Errors
@@ -62,9 +39,6 @@ pub fn is_below_zero<L: Ledger>(
 ) -> Result<bool, ParseFixedError>
     ensures { IsReadOrRefused radix line.now (λ p below. IsTrue below ↔ IsBelowZero radix p) result }
 {
-    if let Some(below) = is_decimal_below(line, radix, steps) {
-        return Ok(below);
-    }
     match read_format(
         line,
         radix,

@@ -6,6 +6,7 @@ ghost use Rattle.fixed_fit.specs.Inner.Progress.{HasProgress, HasSomeProgress};
 
 use crate::lengths::{Lengths, all_lengths, lowered};
 use crate::numeral::is_below_zero;
+use crate::short::below_if_left;
 use fixed_bits::Format;
 use fixed_least::LeastFault;
 use fixed_numeral::Radix;
@@ -74,6 +75,27 @@ impl Progress {
         }
     }
 
+    /// What is kept where a line is a numeral, which leaves these lengths.
+    fn with_numeral(&self, lines: u64, below: bool, plain: Lengths, signed: Lengths) -> Progress
+        ensures { result ≡ record {
+          radix = self.now.radix;
+          lines = lines;
+          fault = None;
+          is_below = self.now.is_below || below;
+          plain = plain;
+          signed = signed;
+        } }
+    {
+        Progress {
+            radix: self.radix,
+            lines,
+            fault: None,
+            is_below: is_either(self.is_below, below),
+            plain,
+            signed,
+        }
+    }
+
     /// How many fraction lengths are left, of the sign rule that leaves the more.
     pub fn count(&self) -> u32
         ensures { result ≡ max self.now.plain.count self.now.signed.count }
@@ -97,16 +119,16 @@ impl Progress {
         if self.fault.is_some() {
             return self.with_fault(place, self.fault);
         }
+        if let Some(below) = below_if_left(line, self.radix, &self.plain, &self.signed, steps) {
+            return self.with_numeral(place, below, self.plain, self.signed);
+        }
         match is_below_zero(line, self.radix, steps) {
             Err(error) => self.with_fault(place, Some(LeastFault::NotNumeral { place, error })),
-            Ok(below) => Progress {
-                radix: self.radix,
-                lines: place,
-                fault: None,
-                is_below: is_either(self.is_below, below),
-                plain: lowered(&self.plain, line, self.radix, place, steps),
-                signed: lowered(&self.signed, line, self.radix, place, steps),
-            },
+            Ok(below) => {
+                let plain = lowered(&self.plain, line, self.radix, place, steps);
+                let signed = lowered(&self.signed, line, self.radix, place, steps);
+                self.with_numeral(place, below, plain, signed)
+            }
         }
     }
 }

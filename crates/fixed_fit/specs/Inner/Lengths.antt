@@ -1,5 +1,5 @@
 -- The fraction lengths that are left of a sign rule and a width.
-use Rattle.std.specs.Prelude.{◌≡◌, ◌+◌, ◌<◌, ◌≤◌, ◌&&◌, ℕ, Bool, true}
+use Rattle.std.specs.Prelude.{◌≡◌, ◌+◌, ◌-◌, ◌*◌, ◌^◌, ◌<◌, ◌≤◌, ◌&&◌, ℕ, Bool, true}
 use Rattle.std.specs.Prelude.{false, List, [], ◌∷◌, ◌++◌, if◌then◌else◌, nat_lt, codes, decimal}
 use Rattle.line_engine.specs.AnswerText.{AnswerText}
 use Rattle.fixed_bits.specs.Formats.{FormatParts}
@@ -25,6 +25,16 @@ pub record AreLowered (r : Radix) (line : List ℕ) (place : ℕ) (old new : Len
   pub same : new.count ≡ old.count → new.place ≡ old.place
   pub exceeds : new.count < old.count → Exceeds r old.kind.signed old.kind.width new.count line
   pub noted : new.count < old.count → new.place ≡ place
+
+-- how many bits a magnitude has at most in the formats of a sign rule and a width
+abbrev pub magnitude_bits : Bool → ℕ → ℕ
+magnitude_bits true n = n - 1
+magnitude_bits false n = n
+
+-- with the longest fraction length that is left, the next whole number is in range, with this sign
+pub record IsSurelyLeft (l : Lengths) (negative : Bool) (whole : ℕ) : Type 0 where
+  pub sign : (f : ℕ) → f + 1 ≡ l.count → negative ≡ true → l.kind.signed ≡ true
+  pub room : (f : ℕ) → f + 1 ≡ l.count → (whole + 1) * 2 ^ f < 2 ^ magnitude_bits l.kind.signed l.kind.width
 
 -- the reason that is written: the line that rules out the next longer fraction length
 abbrev pub reason_of : Bool → Bool → ℕ → ℕ → ℕ → List ℕ

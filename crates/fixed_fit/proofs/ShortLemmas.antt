@@ -1,0 +1,96 @@
+-- Short decimals: which of them are below zero, and which surely fit.
+use Rattle.std.proofs.Common.{◌≡◌, ℕ, ◌+◌, ◌*◌, ◌^◌, ◌<◌, ◌≤◌, ◌↔◌, Bool, true, false, IsTrue, refl, sym, ap, ◌∙◌, subst, arith, ⊎_elim, mul-le-mul_right, ℤ, pos, negsuc, ◌-ℤ◌, zero, suc, List}
+use Rattle.std.specs.Prelude.{Option, Some, None}
+use Rattle.std.proofs.Math.Nat.{one-le-pow}
+use Rattle.std.proofs.lemmas.Bool.{cases_lt}
+use Rattle.std.proofs.lemmas.Int.{ints}
+use Rattle.fixed_bits.specs.Nearest.{IsNearest}
+use Rattle.fixed_bits.specs.Numbers.{with_sign}
+use Rattle.fixed_bits.specs.Ranges.{IsInRange}
+use Rattle.fixed_bits.specs.declared.mode.ReadMode.TheVariants.{NearestEven}
+use Rattle.fixed_numeral.specs.Numeral.{Exponent, HasNumeral, IsNumeral, Parts, is_minus}
+use Rattle.fixed_numeral.specs.PartNumbers.{IsShortNumeral, is_power_of_two, placed_magnitude}
+use Rattle.fixed_numeral.specs.Value.{Fraction, magnitude, scaled}
+use Rattle.fixed_numeral.specs.declared.radix.Radix.TheVariants.{Dec}
+use Rattle.fixed_numeral.proofs.Public.{magnitude_pos}
+use Rattle.fixed_read.proofs.Public.{read_number_is_the_one}
+use Rattle.fixed_fit.specs.Fitting.{Fits, IsBelowZero}
+use Rattle.fixed_fit.specs.Inner.Lengths.{AreLowered, IsSurelyLeft, magnitude_bits}
+use Rattle.fixed_fit.specs.declared.lengths.Lengths.{Lengths}
+use Rattle.fixed_fit.proofs.FittingLemmas.{nearest_grows, not_lowered}
+
+-- ---- below zero
+not_none : (m : ℕ) (z : ℤ) → (0 < m) ↔ (0 < (scaled m 1 10 z).num)
+not_none m (pos x) = (λ h. let p : 1 ≤ 10 ^ x = one-le-pow x 10 (omega arith) in let t : 1 * 10 ^ x ≤ m * 10 ^ x = mul-le-mul_right (10 ^ x) (omega (arith, h)) in omega (arith, p, t), λ h. ⊎_elim (λ (some : 0 < m). some) (λ (none : m ≤ 0). let is : m ≡ 0 = omega (arith, none) in let t : m * 10 ^ x ≡ 0 * 10 ^ x = ap (λ k. k * 10 ^ x) is in absurd (omega (arith, t, h))) (cases_lt 0 m))
+not_none m (negsuc x) = (λ h. h, λ h. h)
+
+never_two : (x : Option Exponent) → is_power_of_two Dec x ≡ false
+never_two None = refl
+never_two (Some x) = refl
+
+digits_some : (whole fraction places : ℕ) → (0 < whole + fraction) ↔ (0 < whole * 10 ^ places + fraction)
+digits_some whole fraction places =
+    let p : 1 ≤ 10 ^ places = one-le-pow places 10 (omega arith) in (
+      λ h. ⊎_elim (λ (some : 0 < whole). let t : 1 * 10 ^ places ≤ whole * 10 ^ places = mul-le-mul_right (10 ^ places) (omega (arith, some)) in omega (arith, p, t)) (λ (none : whole ≤ 0). omega (arith, h, none)) (cases_lt 0 whole),
+      λ h. ⊎_elim (λ (some : 0 < whole). omega (arith, some)) (λ (none : whole ≤ 0). let is : whole ≡ 0 = omega (arith, none) in let t : whole * 10 ^ places ≡ 0 * 10 ^ places = ap (λ k. k * 10 ^ places) is in omega (arith, t, h)) (cases_lt 0 whole),
+    )
+
+-- the magnitude of a short decimal by its digits
+magnitude_is : (p : Parts) (negative : Bool) (whole fraction places : ℕ) (exponent : ℤ) (two : Bool) → IsShortNumeral Dec p negative whole fraction places exponent two → magnitude Dec p ≡ scaled (whole * 10 ^ places + fraction) 1 10 (exponent -ℤ pos places)
+magnitude_is p negative whole fraction places exponent two h = h.value ∙ ap (placed_magnitude Dec (whole * 10 ^ places + fraction) places exponent) (h.separator ∙ never_two p.exponent)
+
+pub short_below : (p : Parts) (negative : Bool) (whole fraction places : ℕ) (exponent : ℤ) (two b : Bool) → IsShortNumeral Dec p negative whole fraction places exponent two → (IsTrue b ↔ ((negative ≡ true) × (0 < whole + fraction))) → IsTrue b ↔ IsBelowZero Dec p
+short_below p negative whole fraction places exponent two b h below =
+    let digits : ℕ = whole * 10 ^ places + fraction in
+    let same : magnitude Dec p ≡ scaled digits 1 10 (exponent -ℤ pos places) = magnitude_is p negative whole fraction places exponent two h in
+    let P : Fraction → Type 0 = λ f. 0 < f.num in
+    let some = digits_some whole fraction places in
+    let num = not_none digits (exponent -ℤ pos places) in (
+      λ t. let x = below.0 t in record { minus = sym h.sign ∙ x.0; some = subst P (sym same) (num.0 (some.0 x.1)) },
+      λ x. below.1 (h.sign ∙ x.minus, some.1 (num.1 (subst P same x.some))),
+    )
+
+-- ---- in range
+up_to : (digits next places : ℕ) → digits ≤ next * 10 ^ places → (scaled digits 1 10 (pos 0 -ℤ pos places)).num ≤ next * (scaled digits 1 10 (pos 0 -ℤ pos places)).den
+up_to digits next zero less = omega (arith, less)
+up_to digits next (suc k) less =
+    let P : ℤ → Type 0 = λ z. (scaled digits 1 10 z).num ≤ next * (scaled digits 1 10 z).den in
+    let is : pos 0 -ℤ pos (suc k) ≡ negsuc k = omega (arith, ints) in
+    let down : digits ≤ next * (1 * 10 ^ suc k) = omega (arith, less) in
+    subst P (sym is) down
+
+-- a number of ulps of at most a whole number is at most as many as that has
+nearest_below : (num den up next q : ℕ) → 0 < den → num ≤ next * den → IsNearest (num * up) den q → q ≤ next * up
+nearest_below num den up next q some less h =
+    let whole : IsNearest (next * up * den) den (next * up) = record { near = omega arith; tie = λ e. absurd (omega (arith, e, some)) } in
+    let step : num * up ≤ next * den * up = mul-le-mul_right up less in
+    nearest_grows (num * up) (next * up * den) den q (next * up) some (omega (arith, step)) h whole
+
+below_room : (s : Bool) (n : ℕ) (minus : Bool) (ulps : ℕ) → (minus ≡ true → s ≡ true) → ulps < 2 ^ magnitude_bits s n → IsInRange s n (with_sign minus ulps)
+below_room true n true ulps sign less = record { low = omega (arith, ints, less); high = omega (arith, ints, less) }
+below_room true n false ulps sign less = record { low = omega (arith, ints, less); high = omega (arith, ints, less) }
+below_room false n false ulps sign less = record { low = omega (arith, ints, less); high = omega (arith, ints, less) }
+below_room false n true ulps sign less = let no : false ≡ true = sign refl in cc
+
+surely_fits : (s : Bool) (n f : ℕ) (line : List ℕ) (p : Parts) (negative : Bool) (whole fraction places : ℕ) (exponent : ℤ) (two : Bool) → HasNumeral Dec line p → IsShortNumeral Dec p negative whole fraction places exponent two
+    → fraction < 10 ^ places → exponent ≡ pos 0 → (negative ≡ true → s ≡ true) → (whole + 1) * 2 ^ f < 2 ^ magnitude_bits s n → Fits Dec s n f line
+surely_fits s n f line p negative whole fraction places exponent two numeral h less none sign room =
+    let v = read_number_is_the_one NearestEven Dec p f in
+    let digits : ℕ = whole * 10 ^ places + fraction in
+    let same : magnitude Dec p ≡ scaled digits 1 10 (pos 0 -ℤ pos places) = magnitude_is p negative whole fraction places exponent two h ∙ ap (λ e. scaled digits 1 10 (e -ℤ pos places)) none in
+    let P : Fraction → Type 0 = λ m. m.num ≤ (whole + 1) * m.den in
+    let next : (magnitude Dec p).num ≤ (whole + 1) * (magnitude Dec p).den = subst P (sym same) (up_to digits (whole + 1) places (omega (arith, less))) in
+    let few : v.1.ulps ≤ (whole + 1) * 2 ^ f = nearest_below (magnitude Dec p).num (magnitude Dec p).den (2 ^ f) (whole + 1) v.1.ulps (magnitude_pos Dec p) next v.1.rounded in
+    let Q : ℤ → Type 0 = λ z. IsInRange s n z in
+    record {
+      parts = p;
+      has = numeral;
+      number = v.0;
+      read = v.1;
+      in_range = subst Q (sym v.1.value) (below_room s n (is_minus p.sign) v.1.ulps (λ m. sign (h.sign ∙ m)) (omega (arith, few, room)));
+    }
+
+pub left_as_they_were : (line : List ℕ) (place : ℕ) (l : Lengths) (negative : Bool) (whole fraction places : ℕ) (exponent : ℤ) (two : Bool) → IsNumeral Dec line
+    → ((p : Parts) → HasNumeral Dec line p → IsShortNumeral Dec p negative whole fraction places exponent two) → fraction < 10 ^ places → exponent ≡ pos 0 → IsSurelyLeft l negative whole → AreLowered Dec line place l l
+left_as_they_were line place l negative whole fraction places exponent two numeral parts less none h =
+    not_lowered Dec line place l l.count refl (λ f last. surely_fits l.kind.signed l.kind.width f line numeral.0 negative whole fraction places exponent two numeral.1 (parts numeral.0 numeral.1) less none (h.sign f last) (h.room f last))

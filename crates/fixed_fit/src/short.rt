@@ -1,0 +1,112 @@
+//! Short decimals that are decided by the numbers of their parts alone.
+//!
+//! Most lines fit each length that is left. That is seen by the whole part, where the numbers up to the next whole
+//! number fit.
+
+ghost use Rattle.std.specs.Prelude.{◌≡◌, ◌≤◌, ◌<◌, ◌+◌, ◌*◌, ◌^◌, ◌↔◌, IfSome, IsTrue, true, pos, ℕ};
+ghost use Rattle.fixed_numeral.specs.Numeral.{HasNumeral, IsNumeral, Parts};
+ghost use Rattle.fixed_fit.specs.Fitting.{IsBelowZero};
+ghost use Rattle.fixed_fit.specs.Inner.Lengths.{AreLowered, IsSurelyLeft, magnitude_bits};
+
+use crate::lengths::Lengths;
+use fixed_bits::Format;
+use fixed_numeral::{Radix, ShortNumeral, short_decimal};
+use fixed_steps::Steps;
+use std::sync::ledger::Ledger;
+
+/// A power of two.
+fn power_of_two(exponent: u32) -> u128
+    requires { exponent ≤ 64 }
+    ensures { result ≡ 2 ^ exponent }
+{
+    1u128 << exponent
+}
+
+/// How many bits a magnitude has at most in a format.
+fn magnitude_bits(kind: Format) -> u32
+    ensures bits { result ≡ magnitude_bits kind.signed kind.width }
+    ensures most { result ≤ 64 }
+{
+    let width = kind.width();
+    if kind.signed() { width - 1 } else { width }
+}
+
+/// Whether the formats of a sign rule have numbers below zero, or none is asked for.
+fn has_sign(kind: Format, is_negative: bool) -> bool
+    ensures { result ≡ true → is_negative ≡ true → kind.signed ≡ true }
+{
+    kind.signed() || !is_negative
+}
+
+/// Whether the next whole number is in range with the longest length that is left.
+fn has_room(left: Lengths, whole: u64) -> bool
+    requires some { 0 < left.count }
+    requires most { left.count ≤ left.kind.width + 1 }
+    requires whole { whole < 10 ^ 16 }
+    ensures { result ≡ true → (f : ℕ) → f + 1 ≡ left.count
+        → (whole + 1) * 2 ^ f < 2 ^ magnitude_bits left.kind.signed left.kind.width }
+{
+    let next = u128::from(whole) + 1;
+    next * power_of_two(left.count - 1) < power_of_two(magnitude_bits(left.kind))
+}
+
+/// Whether a sign and a whole part show that a number is in range with each length that is left.
+fn is_surely_left(left: Lengths, is_negative: bool, whole: u64) -> bool
+    requires most { left.count ≤ left.kind.width + 1 }
+    requires whole { whole < 10 ^ 16 }
+    ensures { result ≡ true → IsSurelyLeft left is_negative whole }
+{
+    if left.count == 0 {
+        return true;
+    }
+    has_sign(left.kind, is_negative) && has_room(left, whole)
+}
+
+/// Whether a short decimal is surely in range with each length that is left of two kinds.
+fn is_left_of_both(plain: Lengths, signed: Lengths, found: ShortNumeral) -> bool
+    requires plain { plain.count ≤ plain.kind.width + 1 }
+    requires signed { signed.count ≤ signed.kind.width + 1 }
+    requires whole { found.whole < 10 ^ 16 }
+    ensures exponent { result ≡ true → found.exponent ≡ pos 0 }
+    ensures plain { result ≡ true → IsSurelyLeft plain found.negative found.whole }
+    ensures signed { result ≡ true → IsSurelyLeft signed found.negative found.whole }
+{
+    found.exponent == 0
+        && is_surely_left(plain, found.negative, found.whole)
+        && is_surely_left(signed, found.negative, found.whole)
+}
+
+/// Whether a short decimal is below zero.
+fn is_short_below(found: ShortNumeral) -> bool
+    ensures { IsTrue result ↔ ((found.negative ≡ true) × (0 < found.whole + found.fraction)) }
+{
+    found.negative && (found.whole > 0 || found.fraction > 0)
+}
+
+/// Whether a short decimal that takes away none of the lengths that are left of two kinds is below zero. `None` only
+/// means: read the line.
+pub fn below_if_left<L: Ledger>(
+    line: &[u8],
+    radix: Radix,
+    plain: &Lengths,
+    signed: &Lengths,
+    steps: &mut Steps<L>,
+) -> Option<bool>
+    requires plain { plain.now.count ≤ plain.now.kind.width + 1 }
+    requires signed { signed.now.count ≤ signed.now.kind.width + 1 }
+    ensures numeral { IfSome result (λ below. IsNumeral radix line.now) }
+    ensures below { IfSome result
+        (λ below. (p : Parts) → HasNumeral radix line.now p → IsTrue below ↔ IsBelowZero radix p) }
+    ensures plain { IfSome result (λ below. (place : ℕ) → AreLowered radix line.now place plain.now plain.now) }
+    ensures signed { IfSome result (λ below. (place : ℕ) → AreLowered radix line.now place signed.now signed.now) }
+{
+    if radix != Radix::Dec {
+        return None;
+    }
+    let found = short_decimal(line, steps)?;
+    if is_left_of_both(*plain, *signed, found) {
+        Some(is_short_below(found))
+    } else {
+        None
+    }
+}
