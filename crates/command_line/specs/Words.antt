@@ -1,9 +1,11 @@
 -- What `clap` found, as a command asks for it.
-use Rattle.std.specs.Prelude.{ℕ, Bool, List, None, Option, Some, codes, false, if◌then◌else◌, nat_lt, option_map}
-use Rattle.std.specs.Prelude.{slice_get}
+use Rattle.std.specs.Prelude.{◌≡◌, ◌==◌, ◌∷◌, ◌++◌, [], ℕ, Bool, List, None, Option, Some, codes, false, flat_map}
+use Rattle.std.specs.Prelude.{if◌then◌else◌, length, map, nat_lt, option_map, slice_get, unwrap_or}
 use Rattle.std.specs.Str.{bytes_eq}
-use Rattle.clap.specs.Words.{first_value, found_of, one_text}
+use Rattle.clap.specs.Words.{first_value, found_of, matched_of, one_text, raw_values}
+use Rattle.clap.specs.declared.parser.matches.ArgMatches.{ArgMatches}
 use Rattle.command_line.specs.declared.given.Given.{Given}
+use Rattle.command_line.specs.declared.page.Operand.{Operand}
 
 -- the value of the option of this name
 abbrev pub value_of : Given → List ℕ → Option (List ℕ)
@@ -25,3 +27,22 @@ word_at given place = option_map (λ s. s.now) (slice_get given.words.items plac
 -- the word at a place where it may be a keyword: it comes before `--`
 abbrev pub keyword_at : Given → ℕ → Option (List ℕ)
 keyword_at given place = if nat_lt place given.open then word_at given place else None
+
+-- a word without the mark before it, which is one byte
+abbrev pub unmarked : List ℕ → List ℕ
+unmarked [] = []
+unmarked (first ∷ rest) = if first == 1 then rest else first ∷ rest
+
+-- the words that `clap` found at a place of this name
+abbrev pub found_at : ArgMatches → List ℕ → List (List ℕ)
+found_at matches name = map unmarked (unwrap_or (option_map raw_values (matched_of (found_of matches) name)) [])
+
+-- the words at some places, one after another
+abbrev pub found_words : ArgMatches → List Operand → List (List ℕ)
+found_words matches places = flat_map (λ place. found_at matches place.name.now) places
+
+-- a command is given what `clap` found, the words at its places, which may be keywords, and then those after `--`
+pub record IsGiven (matches : ArgMatches) (places : List Operand) (after : List (List ℕ)) (given : Given) : Type 0 where
+  pub options : given.matches.now ≡ matches
+  pub words : map (λ s. s.now) given.words.items ≡ found_words matches places ++ after
+  pub keywords : given.open ≡ length (found_words matches places)

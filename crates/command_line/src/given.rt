@@ -1,7 +1,8 @@
 //! What the words of a command line give a command, and why they may be refused.
 
-ghost use Rattle.std.specs.Prelude.{◌≡◌, IfErr, IfOk, None, Some, option_map};
-ghost use Rattle.command_line.specs.Words.{has_flag, keyword_at, value_of, word_at};
+ghost use Rattle.std.specs.Prelude.{◌≡◌, ◌++◌, IfErr, IfOk, None, OnOk, Some, drop, map, option_map, string_bytes};
+ghost use Rattle.command_line.specs.Words.{IsGiven, found_at, found_words, has_flag, keyword_at, unmarked, value_of};
+ghost use Rattle.command_line.specs.Words.{word_at};
 
 use crate::page::{Operand, Row};
 use clap::ArgMatches;
@@ -47,14 +48,16 @@ impl<'w, 'a> Given<'w, 'a> {
         matches: &'w ArgMatches<'a>,
         operands: &[Operand],
         after: &'a [String],
-    ) -> Result<Self, AllocError> {
+    ) -> Result<Self, AllocError>
+        ensures { IfOk result (λ given. IsGiven matches.now operands.now (map string_bytes after.now) given) }
+    {
         let mut words = Vec::new(alloc);
-        for operand in operands {
-            push_words(&mut words, matches.get_strs(operand.name).unwrap_or(&[]))?;
+        'places: for at in 0..operands.len() {
+            push_found(&mut words, matches, operands[at].name)?;
         }
         let open = words.len();
-        for word in after {
-            words.push(word.as_str())?;
+        'after: for at in 0..after.len() {
+            words.push(after[at].as_str())?;
         }
         Ok(Given {
             matches,
@@ -100,18 +103,48 @@ impl<'w, 'a> Given<'w, 'a> {
     }
 
     /// The words from a place on.
-    pub fn from(&self, place: usize) -> &[&'a str] {
+    pub fn from(&self, place: usize) -> &[&'a str]
+        ensures { result.now ≡ drop place self.now.words.items }
+    {
         let all = self.words.as_slice();
         &all[place.min(all.len())..]
     }
 }
 
+/// A word without its mark.
+fn unmarked<'a>(word: &'a str) -> &'a str
+    ensures { result.now ≡ unmarked word.now }
+{
+    match word.strip_prefix(MARK) {
+        Some(bare) => bare,
+        None => word,
+    }
+}
+
 /// Appends words, each without its mark.
-fn push_words<'a>(words: &mut Vec<&'a str>, more: &[&'a str]) -> Result<(), AllocError> {
-    for word in more {
-        words.push(word.strip_prefix(MARK).unwrap_or(word))?;
+fn push_words<'a>(words: &mut Vec<&'a str>, more: &[&'a str]) -> Result<(), AllocError>
+    ensures { OnOk result (map (λ s. s.now) words.new.items
+        ≡ map (λ s. s.now) words.old.items ++ map unmarked (map (λ s. s.now) more.now)) }
+{
+    'words: for at in 0..more.len() {
+        words.push(unmarked(more[at]))?;
     }
     Ok(())
+}
+
+/// Appends the words that `clap` found at a place of this name.
+fn push_found<'a>(
+    words: &mut Vec<&'a str>,
+    matches: &ArgMatches<'a>,
+    name: &str,
+) -> Result<(), AllocError>
+    ensures { OnOk result (map (λ s. s.now) words.new.items
+        ≡ map (λ s. s.now) words.old.items ++ found_at matches.now name.now) }
+{
+    match matches.get_strs(name) {
+        Some(found) => push_words(words, found),
+        None => Ok(()),
+    }
 }
 
 /// The words before `--`, and those after it.
