@@ -22,6 +22,7 @@ from fractions import Fraction
 TOP = os.path.dirname(os.path.dirname(os.path.abspath(__file__)))
 sys.path.insert(0, f"{TOP}/oracle")
 
+import worked  # noqa: E402
 from compare import program  # noqa: E402
 from fit import answer as fit_answer  # noqa: E402
 from show import are_said, bits_object, show_object  # noqa: E402
@@ -35,7 +36,7 @@ USAGE = {
     "constants_tool": b"usage: constants_tool [c [GUARD] | rust]\n",
     "columns_tool": b"usage: columns_tool\n",
 }
-# For each program: words, input, status, output. An output of None is not looked at.
+# For each program: words, input, status, output. An output of None is not looked at. `worked` has more.
 RUNS = {
     "fixed": (
         (["convert", "I16F16"], b"3.14159\n-2.5\r\n", 0, b"3.14159\n-2.5\n"),
@@ -348,6 +349,8 @@ BAD_WORDS = {
     "columns_tool": ([b"0"], [b"limit"], [b"limit", b"0"], [b"limit", b"07"], [b"limit", b"4294967297"], [b"limit", b"7", b""]),
 }
 NO_UTF8 = [b"\xff\xfe"]
+# Why a run ended with each status from 3 on.
+CAUSES = {3: "a read failed", 4: "a write failed", 5: "there is no memory", 6: "the input is longer than the limit"}
 # Words and an input for which a program takes more memory as it goes on.
 GROWING = {
     "least_tool": ([], b"0.1\n" * 50_000),
@@ -391,8 +394,8 @@ class Runs:
             print(f"{self.name}, {what}: status {status}, and on standard error {ran.stderr!r:.200}")
 
     def is_told(self, status, words, told, answered):
-        """Whether standard error has what it must: one line that begins with the program's name and ends with the count of the
-        lines that were answered, or nothing. (`fixed` says it of each input, with the first line that it refuses; a refused command line
+        """Whether standard error has what it must: one line of the program's name, the cause and the count of the lines that were
+        answered, or nothing. (`fixed` says it of each input, with the first line that it refuses; a refused command line
         says where there is help, and no words at all give the help.)"""
         if self.name == "fixed":
             lines = told.splitlines(keepends=True)
@@ -402,14 +405,13 @@ class Runs:
             return is_one if status else told == b""
         if status < 3:
             return told == b""
-        end = f", lines answered: {answered}\n".encode()
-        return told.startswith(f"{self.name}: ".encode()) and told.count(b"\n") == 1 and told.endswith(end)
+        return told == f"{self.name}: {CAUSES[status]}, lines answered: {answered}\n".encode()
 
     def all(self):
         clean = RUNS[self.name][0]
-        for words, given, status, output in RUNS[self.name]:
+        for words, given, status, output in (*RUNS[self.name], *worked.RUNS[self.name]):
             self.one(f"{words} {given[:40]!r}", words, status, output, input=given)
-        for words in (*BAD_WORDS[self.name], NO_UTF8):
+        for words in (*BAD_WORDS[self.name], *worked.BAD_WORDS.get(self.name, ()), NO_UTF8):
             self.one(f"words {words}", words, 2, USAGE.get(self.name, b""), input=b"")
         folder = os.open(TOP, os.O_RDONLY)
         self.one("a folder as input", clean[0], 3, b"", stdin=folder)
@@ -420,15 +422,32 @@ class Runs:
         if self.name == "fixed_tool":
             # these words need memory for nothing but themselves
             self.one("no memory for the arguments", ["self", "5"], 5, b"", input=b"", preexec_fn=within(180_000))
+            self.stored()
         if self.name in LONG:
             self.outputs(*LONG[self.name])
         if self.name == "fixed":
             self.files()
+            self.names()
             self.told()
             self.objects()
             self.outputs_to_files()
         if self.name in GROWING:
             self.without_memory(*GROWING[self.name])
+
+    def stored(self):
+        """Each line of the stored run alone: the status says a fault exactly where its answer does."""
+        with open(f"{TOP}/crates/{self.name}/stdin", "rb") as lines, open(f"{TOP}/crates/{self.name}/stdout", "rb") as answers:
+            for line, answer in zip(lines, answers):
+                self.one(f"the line {line!r}", [], int(answer.startswith(b"error: ")), answer, input=line)
+
+    def names(self):
+        """Words that name a format, by the first lines of its block."""
+        for word, name in worked.NAMES:
+            self.tried += 1
+            shown = subprocess.run([self.path, "format", word], stdout=subprocess.PIPE, check=False).stdout
+            if shown.splitlines()[:2] != [f"given     {word}".encode(), f"format    {name}".encode()]:
+                self.wrong += 1
+                print(f"{self.name}: the word {word} names {shown!r:.200}, not {name}")
 
     def outputs(self, words, given):
         """Outputs that end early: a pipe that nobody reads, one whose reader goes away, and a disk that is full after some bytes."""
@@ -576,7 +595,7 @@ class Runs:
             (["convert", "I8F0", "--words"], b"1\n", b""),
             (["convert", "I8F8", "--report"], b"", b"fixed: numerals: 0, exact: 0, rounded: 0, overflowed: 0, refused: 0\n"),
         )
-        for words, given, wanted in asked:
+        for words, given, wanted in (*asked, *worked.TOLD):
             self.tried += 1
             ran = subprocess.run([self.path, *words], input=given, stdout=subprocess.PIPE, stderr=subprocess.PIPE, check=False, timeout=120)
             if ran.stderr != wanted:
@@ -651,6 +670,13 @@ class Runs:
             self.one("a file past the limit", ["lines", "--limit", "3", clean, faulty], 6, b"error: missing field\n" * 2)
             with open("/dev/full", "wb") as full:
                 self.one("a full device", [*convert, clean, faulty], 4, None, stdout=full)
+            block, disk = b"given     256\nerror: word is wider than the format\n", f"{folder}/disk"
+            with open(disk, "wb") as full:
+                self.one("a full disk after a block", ["bits", "U8F0", "256", "255"], 4, None, stdout=full, preexec_fn=on_disk_of(len(block)))
+            with open(disk, "rb") as full:
+                if full.read() != block:
+                    self.wrong += 1
+                    print(f"{self.name}: a disk that is full after a block has other bytes")
             for words in (["show", "U8F8", "1"], ["bits", "U8F8", "1"], ["format", "U8F8"], ["--help"]):
                 with open("/dev/full", "wb") as full:
                     self.one(f"a full device for {words}", words, 4, None, stdout=full)

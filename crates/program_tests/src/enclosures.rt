@@ -1,17 +1,13 @@
-//! Enclosures of numerals at the ends of ranges and of exponents, and beside a search over all bits; and runs that
-//! write them.
+//! Enclosures of numerals at the ends of ranges and of exponents, and beside a search over all bits.
 
 ghost use Rattle.std.specs.Prelude.{◌≡◌, ◌<◌};
 
-use crate::runs::{Program, assert_run};
 use fixed_bits::Format;
 use fixed_enclose::{Enclosure, enclose};
 use fixed_numeral::Radix;
 use fixed_steps::Steps;
-use line_engine::{MemoryRun, Status};
 use std::marker::Brand;
 use std::sync::ledger::{Blank, Ledger};
-use std::test::Fail;
 
 fn enclose_over<L: Ledger>(
     numeral: &[u8],
@@ -116,38 +112,4 @@ fn eight_bit_formats_enclose_as_a_search_does(rt: HostRuntime) {
         let unsigned = ends_of(&text, Radix::Hex, false, 8, 1);
         assert!(rt; unsigned == searched(quarters, 0, 255), "{quarters}");
     }
-}
-
-#[test]
-fn lines_are_answered_as_worked_out(rt: HostRuntime) -> Result<(), Fail> {
-    let cases = [
-        MemoryRun::unfailing(
-            &[],
-            "10 I4F4 3.14\n10 U7F1 0.5\n",
-            "3.1 50 3.2 51 wide\n0.5 1 0.5 1 exact\n",
-            Status::Done,
-        ),
-        MemoryRun::unfailing(
-            &[],
-            "10 U8F0 -0.5\n10 U9F0 1",
-            "error: overflow\nerror: bad format\n",
-            Status::Faults,
-        ),
-        MemoryRun::unfailing(
-            &[],
-            "7 U8F0 1\n10 U8F0\n10 U8F0 x\n",
-            "error: bad radix\nerror: missing field\nerror: invalid digit found in string\n",
-            Status::Faults,
-        ),
-        MemoryRun::unfailing(
-            &["10"],
-            "10 U7F1 0.5\n",
-            "usage: enclose_tool\n",
-            Status::Usage,
-        ),
-    ];
-    for case in &cases {
-        assert_run(&rt, rt.alloc(), Program::Enclose, case)?;
-    }
-    Ok(())
 }

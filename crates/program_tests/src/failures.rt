@@ -1,39 +1,72 @@
-//! Reads, writes and allocations that fail, and inputs that are too long.
+//! Reads, writes and allocations that fail.
 
 use crate::runs::{Program, assert_run};
-use line_engine::{MemoryRun, Status};
-use std::alloc::{AllocError, Global};
+use line_engine::{MemoryRun, NEVER, Status};
+use std::alloc::Global;
 use std::process::Abort;
 use std::test::Fail;
 
-/// Asserts that the first read that fails, and the first write, ends a run with nothing written.
-fn assert_stops(
-    rt: &impl Abort,
-    alloc: Global,
-    program: Program,
-    input: &'static str,
-) -> Result<(), AllocError> {
-    let read = MemoryRun {
-        failing_read: 0,
-        ..MemoryRun::unfailing(&[], input, "", Status::ReadFault)
-    };
-    let write = MemoryRun {
-        failing_write: 0,
-        ..MemoryRun::unfailing(&[], input, "", Status::WriteFault)
-    };
-    assert_run(rt, alloc, program, &read)?;
-    assert_run(rt, alloc, program, &write)
+/// A program, an input of it, and what is written of that.
+const WHOLE: [(Program, &str, &str); 3] = [
+    (Program::Least, "0.5\n3\n", "least U7F1\nU8F0 line 1\n"),
+    (Program::Constants, "A = -1 I8F0\n", "A = -0x1 I8F0\n"),
+    (
+        Program::Columns,
+        "1 U8F0\n",
+        "                       1 U8F0\n",
+    ),
+];
+
+/// With pieces of one byte read call k meets byte k, or the end: nothing is written before the whole input is read.
+#[test]
+fn each_read_of_a_whole_input_fails_in_turn(rt: HostRuntime) -> Result<(), Fail> {
+    for (program, input, _) in WHOLE {
+        for call in 0..=input.len() {
+            let case = MemoryRun {
+                most: 1,
+                failing_read: call as u64,
+                ..MemoryRun::unfailing(&[], input, "", Status::ReadFault)
+            };
+            assert_run(&rt, rt.alloc(), program, &case)?;
+        }
+    }
+    Ok(())
+}
+
+/// With pieces of one byte write call k is to write byte k, and those before it are written.
+#[test]
+fn each_write_of_a_whole_answer_fails_in_turn(rt: HostRuntime) -> Result<(), Fail> {
+    for (program, input, output) in WHOLE {
+        for call in 0..output.len() {
+            let case = MemoryRun {
+                most: 1,
+                failing_write: call as u64,
+                ..MemoryRun::unfailing(&[], input, "", Status::WriteFault)
+            };
+            let given = input.as_bytes().to_vec(rt.alloc())?;
+            let (status, written) = case.of(rt.alloc(), &program, given)?;
+            assert!(rt; status == Status::WriteFault, "at {call} of {input}");
+            assert!(rt;
+                written.as_slice() == &output.as_bytes()[..call],
+                "at {call} of {input}"
+            );
+        }
+    }
+    Ok(())
 }
 
 #[test]
-fn a_failing_read_and_a_failing_write_end_the_run(rt: HostRuntime) -> Result<(), Fail> {
-    for (program, input) in [
-        (Program::Enclose, "10 U7F1 0.5\n"),
-        (Program::Least, "1\n"),
-        (Program::Constants, "A = 1 U8F0\n"),
-        (Program::Columns, "1 U8F0\n"),
+fn a_failing_read_and_a_failing_write_end_a_run_over_lines(rt: HostRuntime) -> Result<(), Fail> {
+    for (failing_read, failing_write, status) in [
+        (0, NEVER, Status::ReadFault),
+        (NEVER, 0, Status::WriteFault),
     ] {
-        assert_stops(&rt, rt.alloc(), program, input)?;
+        let case = MemoryRun {
+            failing_read,
+            failing_write,
+            ..MemoryRun::unfailing(&[], "10 U7F1 0.5\n", "", status)
+        };
+        assert_run(&rt, rt.alloc(), Program::Enclose, &case)?;
     }
     Ok(())
 }
@@ -77,20 +110,4 @@ fn refused_memory_writes_nothing(rt: HostRuntime) {
         Status::Done,
     );
     assert_whole_or_nothing(&rt, rt.alloc(), Program::Columns, &columns);
-}
-
-#[test]
-fn a_longer_input_is_reported(rt: HostRuntime) -> Result<(), Fail> {
-    for (program, byte) in [
-        (Program::Least, b'1'),
-        (Program::Constants, b'#'),
-        (Program::Columns, b' '),
-    ] {
-        let input = vec![in rt.alloc(); byte; 1_048_577]?;
-        let case = MemoryRun::unfailing(&[], "", "", Status::TooLong);
-        let (status, written) = case.of(rt.alloc(), &program, input)?;
-        assert_eq!(rt; status, Status::TooLong);
-        assert!(rt; written.is_empty());
-    }
-    Ok(())
 }

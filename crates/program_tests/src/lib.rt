@@ -1,19 +1,15 @@
-//! Tests of the libraries of the programs: whole runs over bytes in memory, with worked inputs, each fault, and reads,
-//! writes and allocations that fail; and what their numbers are. A crate with tests is proved twice, with and without
-//! them, and so these are in a crate of their own.
+//! Tests of the libraries of the programs: runs over bytes in memory in which reads, writes and allocations fail, and
+//! what the libraries' numbers are. Runs with worked inputs are tried over the built programs. A crate with tests is
+//! proved twice, with and without them, and so these are in a crate of their own.
 #![tactic(auto)]
 
 #[cfg(test)]
 mod cells;
 #[cfg(test)]
-mod columns;
-#[cfg(test)]
-mod constants;
-#[cfg(test)]
 mod enclosures;
 #[cfg(test)]
 mod failures;
 #[cfg(test)]
-mod least;
-#[cfg(test)]
 mod runs;
+#[cfg(test)]
+mod tasks;

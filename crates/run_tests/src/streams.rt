@@ -1,38 +1,11 @@
-//! The adapters: over bytes in memory, and over a reader and a writer that fail at one call and count their calls.
+//! The adapters, over a reader and a writer that fail at one call and count their calls.
 
-use fixed_io::{StdSink, StdSource, report_end};
-use line_engine::{Sink, Source};
-use std::alloc::Global;
+use fixed_io::{StdSink, StdSource};
+use line_engine::{Failed, Sink, Source};
 use std::io;
 use std::io::{ErrorKind, Read, Write};
+use std::process::Abort;
 use std::test::Fail;
-
-/// The input that the program is run on.
-const INPUT: &str =
-    "10 I4F4 I4F4 checked 3.1875\n10 U4F4 U8F0 checked 2.99\n9 U8F0 U8F0 checked 1\n";
-
-/// Moves all bytes of a reader to a writer, in pieces of 7 bytes.
-fn moved_bytes(alloc: Global) -> Result<Vec<u8>, Fail> {
-    let mut bytes = Vec::new(alloc);
-    let mut source = StdSource::new(INPUT.as_bytes());
-    let mut piece = [0u8; 7];
-    for _ in 0..INPUT.len() {
-        let count = source.read(&mut piece).ok().ok_or("a read failed")?;
-        let mut sink = StdSink::new(&mut bytes);
-        let moved = sink.write(&piece[..count]).ok().ok_or("a write failed")?;
-        if moved != count {
-            return Err(Fail::from("a short write"));
-        }
-    }
-    Ok(bytes)
-}
-
-#[test]
-fn bytes_pass_as_they_are(rt: HostRuntime) -> Result<(), Fail> {
-    let bytes = moved_bytes(rt.alloc())?;
-    assert_eq!(rt; bytes.as_slice(), INPUT.as_bytes());
-    Ok(())
-}
 
 /// How many calls a test makes of a source or a sink.
 const CALLS: u64 = 5;
@@ -87,7 +60,7 @@ impl Write for Counted {
 }
 
 /// Asserts that each read of a source is one call of its reader, also the one that fails.
-fn assert_one_read_each(rt: &impl std::process::Abort, failing: u64, kind: ErrorKind) {
+fn assert_one_read_each(rt: &impl Abort, failing: u64, kind: ErrorKind) {
     let mut reader = Counted {
         calls: 0,
         failing,
@@ -105,7 +78,7 @@ fn assert_one_read_each(rt: &impl std::process::Abort, failing: u64, kind: Error
 }
 
 /// Asserts that each write of a sink is one call of its writer, also the one that fails.
-fn assert_one_write_each(rt: &impl std::process::Abort, failing: u64, kind: ErrorKind) {
+fn assert_one_write_each(rt: &impl Abort, failing: u64, kind: ErrorKind) {
     let mut writer = Counted {
         calls: 0,
         failing,
@@ -136,33 +109,9 @@ fn each_write_is_one_call_of_the_writer(rt: HostRuntime) {
     }
 }
 
-/// What is said of an end with a code after two answered lines.
-fn report_of(alloc: Global, code: u8) -> Result<Vec<u8>, Fail> {
-    let mut bytes = Vec::new(alloc);
-    let mut errors = StdSink::new(&mut bytes);
-    report_end(b"tool: data", code, 2, &mut errors);
-    let lines = errors.lines();
-    if lines > 1 {
-        return Err(Fail::from("more than one line"));
-    }
-    Ok(bytes)
-}
-
 #[test]
-fn an_end_that_is_not_well_is_one_line(rt: HostRuntime) -> Result<(), Fail> {
-    for code in 0u8..3 {
-        let bytes = report_of(rt.alloc(), code)?;
-        assert!(rt; bytes.is_empty());
-    }
-    let bytes = report_of(rt.alloc(), 3)?;
-    assert_eq!(rt;
-        bytes.as_slice(),
-        b"tool: data: a read failed, lines answered: 2\n".as_slice()
-    );
-    let bytes = report_of(rt.alloc(), 6)?;
-    assert_eq!(rt;
-        bytes.as_slice(),
-        b"tool: data: the input is longer than the limit, lines answered: 2\n".as_slice()
-    );
+fn a_failed_device_shows_its_words(rt: HostRuntime) -> Result<(), Fail> {
+    let words = format!(in rt.alloc(); "{Failed}")?;
+    assert!(rt; words.as_str() == "device failed");
     Ok(())
 }

@@ -1,5 +1,6 @@
-//! Tests of the text in place: each call once, and a prefix at the end of the array.
+//! The text in place: each call once, and a prefix at the end of the array; and the first line of a text in memory.
 
+use line_engine::first_line;
 use text_buffer::TextBuffer;
 
 #[test]
@@ -36,4 +37,22 @@ fn what_is_cleared_or_cut_back_is_written_again(rt: HostRuntime) {
     assert!(rt; text.is_empty());
     text.push(b'y');
     assert!(rt; text.as_bytes() == b"y".as_slice());
+}
+
+#[test]
+fn a_line_ends_at_the_first_newline_or_with_the_text(rt: HostRuntime) {
+    let all = "a line of many bytes, and no other";
+    let rows = [
+        ("a\nb\n", "a", "b\n"),
+        ("\n\nb", "", "\nb"),
+        ("\n", "", ""),
+        (all, all, ""),
+    ];
+    for (text, line, rest) in rows {
+        if !text.is_empty() {
+            let (first, after) = first_line(text.as_bytes());
+            assert!(rt; first == line.as_bytes(), "the line of {text}");
+            assert!(rt; after == rest.as_bytes(), "the rest of {text}");
+        }
+    }
 }

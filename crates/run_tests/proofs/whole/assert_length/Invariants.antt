@@ -1,4 +1,0 @@
-use Rattle.run_tests.proofs.whole.assert_length.Given as goal
-
-abbrev pub ghosts-run_echo : goal.ghosts-run_echo
-ghosts-run_echo g a = record { name = a.blank.name; parts = a.blank.parts }
