@@ -2,10 +2,10 @@
 
 use fixed_bits::{Format, Policy, ReadMode};
 use fixed_command::{
-    ConvertRule, Print, Question, Settings, Spelling, Task, Watch, greater_end, run_blocks,
+    ConvertRule, Form, Print, Question, Settings, Spelling, Task, Watch, greater_end, run_blocks,
     run_task,
 };
-use fixed_constants::{Form, FormRule};
+use fixed_constants::FormRule;
 use fixed_numeral::Radix;
 use fixed_steps::Steps;
 use line_engine::{MemoryProgram, MemoryRun, MemorySink, MemorySource, NEVER, Status};
@@ -92,16 +92,19 @@ fn converting() -> Task<'static> {
 
 /// The task of words of U8F0.
 fn asking() -> Task<'static> {
-    Task::Ask(Question::Bits {
-        radix: Radix::Dec,
-        format: Format::of(false, 8, 0),
-    })
+    Task::Ask(
+        Form::Lines,
+        Question::Bits {
+            radix: Radix::Dec,
+            format: Format::of(false, 8, 0),
+        },
+    )
 }
 
 /// The task of a file of constants in Rust.
 fn rust() -> Task<'static> {
     Task::Constants(FormRule {
-        form: Form::Rust,
+        form: fixed_constants::Form::Rust,
         guard: b"",
     })
 }
@@ -137,7 +140,13 @@ impl MemoryProgram for Formats {
         sink: &mut MemorySink,
         steps: &mut Steps<L>,
     ) -> Status {
-        run_blocks(&Question::Format, &["I65F0", "I0F8"], sink, steps)
+        run_blocks(
+            Form::Lines,
+            &Question::Format,
+            &["I65F0", "I0F8"],
+            sink,
+            steps,
+        )
     }
 }
 
