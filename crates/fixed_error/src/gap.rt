@@ -1,6 +1,6 @@
 //! The gap between a numeral and the whole number of ulps that it is rounded to.
 
-ghost use Rattle.std.specs.Prelude.{IsTrue, ◌↔◌, ◌≡◌, ◌+◌, ◌%◌, ◌<◌, ◌≤◌, ◌^◌};
+ghost use Rattle.std.specs.Prelude.{IsTrue, ◌↔◌, ◌≡◌, ◌+◌, ◌*◌, ◌%◌, ◌<◌, ◌≤◌, ◌^◌, length};
 ghost use Rattle.fixed_numeral.specs.Numeral.{HasNumeral, Parts};
 ghost use Rattle.fixed_numeral.specs.Scanned.{IsScanned, exponent_unit};
 ghost use Rattle.fixed_error.specs.ErrorSize.{IsReadWithin};
@@ -24,7 +24,7 @@ pub struct Gap {
     pub is_rounded_up: bool,
 }
 
-/// The whole number of ulps that a numeral is rounded to in a mode.
+/// The whole number of ulps that a numeral is rounded to in a mode, in at most eight steps for each byte, and 128.
 fn steps_in<L: Ledger>(
     text: &[u8],
     radix: Radix,
@@ -33,7 +33,8 @@ fn steps_in<L: Ledger>(
     steps: &mut Steps<L>,
 ) -> u64
     requires { frac ≤ 64 }
-    ensures { IsReadWithin mode radix frac text.now → HasSteps mode radix frac text.now result }
+    ensures rounded { IsReadWithin mode radix frac text.now → HasSteps mode radix frac text.now result }
+    ensures cost { steps.new ≤ steps.old + 8 * length text.now + 128 }
 {
     match read_format(text, radix, Format::of(false, 64, frac), mode, steps) {
         Ok(found) => found.magnitude(),
@@ -58,7 +59,8 @@ fn whole_of(below: u64, unit: u128, more: u64) -> u128
     u128::from(below) % unit + u128::from(more)
 }
 
-/// The gap between a scanned numeral and the whole number of ulps of 2^-`frac` that it is rounded to in a mode.
+/// The gap between a scanned numeral and the whole number of ulps of 2^-`frac` that it is rounded to in a mode. It
+/// takes at most sixteen steps for each byte, and 256.
 pub fn gap_of<'a, L: Ledger>(
     text: &[u8],
     found: &Scanned<'a>,
@@ -72,7 +74,8 @@ pub fn gap_of<'a, L: Ledger>(
     requires scanned { (p : Parts) → HasNumeral radix text.now p → IsScanned radix p found.now.neg found.now.whole
         found.now.fraction found.now.bit_shift }
     requires bits { found.now.bit_shift < exponent_unit radix }
-    ensures { IsGap mode radix frac text.now found.now.fraction result }
+    ensures gap { IsGap mode radix frac text.now found.now.fraction result }
+    ensures cost { steps.new ≤ steps.old + 16 * length text.now + 256 }
 {
     let below = steps_in(text, radix, frac, ReadMode::TowardsZero, steps);
     let rounded = steps_in(text, radix, frac, mode, steps);
@@ -85,7 +88,7 @@ pub fn gap_of<'a, L: Ledger>(
 }
 
 /// Whether a text is a numeral that is rounded in a mode to fewer than 2^64 ulps of 2^-`frac`. Each numeral that is in
-/// range in a format of that fraction length is.
+/// range in a format of that fraction length is. It takes at most eight steps for each byte, and 128.
 pub fn is_read_within<L: Ledger>(
     text: &[u8],
     radix: Radix,
@@ -94,7 +97,8 @@ pub fn is_read_within<L: Ledger>(
     steps: &mut Steps<L>,
 ) -> bool
     requires { frac ≤ 64 }
-    ensures { IsTrue result ↔ IsReadWithin mode radix frac text.now }
+    ensures within { IsTrue result ↔ IsReadWithin mode radix frac text.now }
+    ensures cost { steps.new ≤ steps.old + 8 * length text.now + 128 }
 {
     match read_format(text, radix, Format::of(false, 64, frac), mode, steps) {
         Ok(found) => {

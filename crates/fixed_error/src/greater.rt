@@ -1,6 +1,6 @@
 //! Which of two numerals has the greater error.
 
-ghost use Rattle.std.specs.Prelude.{◌≡◌, ◌<◌, ◌≤◌, ◌+◌, true, false, ◌^◌, length};
+ghost use Rattle.std.specs.Prelude.{◌≡◌, ◌<◌, ◌≤◌, ◌+◌, ◌*◌, true, false, ◌^◌, length};
 ghost use Rattle.std.specs.Int.Digits.{AllBelowBase};
 ghost use Rattle.fixed_numeral.specs.Numeral.{IsNumeral, base};
 ghost use Rattle.fixed_numeral.specs.Scanned.{exponent_unit};
@@ -82,7 +82,8 @@ fn lengths_of(one: &[u8], other: &[u8]) -> TextLengths
 }
 
 /// Whether the error of a numeral, rounded in a mode to a whole number of ulps of 2^-`frac`, is greater in size than
-/// that of another. No length is too great, and no memory is taken.
+/// that of another. No length is too great, and no memory is taken. It takes at most twenty steps for each byte of
+/// both, and 792.
 pub fn is_error_greater<L: Ledger>(
     one: &[u8],
     other: &[u8],
@@ -96,6 +97,7 @@ pub fn is_error_greater<L: Ledger>(
     requires other { IsReadWithin mode radix frac other.now }
     ensures greater { result ≡ true → HasGreaterError mode radix frac one.now other.now }
     ensures not { result ≡ false → HasNoGreaterError mode radix frac one.now other.now }
+    ensures cost { steps.new ≤ steps.old + 20 * (length one.now + length other.now) + 792 }
 {
     let one_scanned = scan(one, radix, steps);
     let other_scanned = scan(other, radix, steps);
@@ -140,7 +142,7 @@ fn bound_part<'a>(found: &Scanned<'a>, radix: Radix, frac: u32) -> Part
 }
 
 /// Whether the error of a numeral, rounded in a mode to a whole number of ulps of 2^-`frac`, is greater in size than a
-/// bound, which is the magnitude of another numeral.
+/// bound, which is the magnitude of another numeral. It takes at most twenty steps for each byte of both, and 792.
 pub fn is_error_above<L: Ledger>(
     text: &[u8],
     bound: &[u8],
@@ -154,6 +156,7 @@ pub fn is_error_above<L: Ledger>(
     requires bound { IsNumeral radix bound.now }
     ensures above { result ≡ true → HasErrorAbove mode radix frac text.now bound.now }
     ensures not { result ≡ false → HasErrorWithin mode radix frac text.now bound.now }
+    ensures cost { steps.new ≤ steps.old + 20 * (length text.now + length bound.now) + 792 }
 {
     let text_scanned = scan(text, radix, steps);
     let bound_scanned = scan(bound, radix, steps);

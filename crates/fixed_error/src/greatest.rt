@@ -1,6 +1,6 @@
 //! The greatest error of numerals that come one after another.
 
-ghost use Rattle.std.specs.Prelude.{◌≡◌, ◌≤◌, ◌++◌, ◌∷◌, [], List, OnErr, OnOk, true};
+ghost use Rattle.std.specs.Prelude.{◌≡◌, ◌⊎◌, ◌≤◌, ◌+◌, ◌*◌, ◌++◌, ◌∷◌, [], List, OnErr, OnOk, length, true};
 ghost use Rattle.fixed_error.specs.ErrorSize.{HasNoGreaterError, IsReadWithin};
 ghost use Rattle.fixed_error.specs.Greatest.{Entry, HasGreatest, HasSomeGreatest};
 ghost use Rattle.fixed_error.specs.Inner.Greatest.{IsGreatestSoFar};
@@ -68,7 +68,8 @@ impl GreatestError {
     fn is_greater<L: Ledger>(&self, numeral: &[u8], steps: &mut Steps<L>) -> bool
         requires known { HasSomeGreatest self.now }
         requires within { IsReadWithin self.now.mode self.now.radix self.now.frac numeral.now }
-        ensures { IsGreatestSoFar self.now numeral.now result }
+        ensures greatest { IsGreatestSoFar self.now numeral.now result }
+        ensures cost { steps.new ≤ steps.old + 20 * (length numeral.now + length self.now.numeral.items) + 792 }
     {
         !self.is_some
             || is_error_greater(
@@ -82,10 +83,11 @@ impl GreatestError {
     }
 
     /// Takes one more numeral, which comes with a place. Memory is taken for the numeral with the greatest error alone.
+    /// It takes at most twenty steps for each byte of the numeral and of the one that was kept, and 792.
     ///
     /// # Errors
     ///
-    /// There is no memory for it.
+    /// There is no memory for it. The numeral that was kept is then lost.
     pub fn add<L: Ledger>(
         &mut self,
         numeral: &[u8],
@@ -106,6 +108,10 @@ impl GreatestError {
             self.old.frac self.old.numeral.items self.new.numeral.items) }
         ensures same_place { OnErr result (self.new.place ≡ self.old.place) }
         ensures same_some { OnErr result (self.new.is_some ≡ self.old.is_some) }
+        ensures kept { OnOk result
+            ((self.new.numeral.items ≡ self.old.numeral.items) ⊎ (self.new.numeral.items ≡ numeral.now)) }
+        ensures lost { OnErr result (self.new.numeral.items ≡ []) }
+        ensures cost { steps.new ≤ steps.old + 20 * (length numeral.now + length self.old.numeral.items) + 792 }
     {
         if self.is_greater(numeral, steps) {
             self.numeral.clear();

@@ -6,8 +6,8 @@ use Rattle.fixed_error.proofs.gap.steps_in.Goals as goal
 abbrev frac_of : FormatParts → ℕ
 frac_of f = f.frac
 
-pub returns-in-Ok : goal.returns-in-Ok
-returns-in-Ok g c = λ w. record {
+pub returns-in-Ok-clause-rounded : goal.returns-in-Ok-clause-rounded
+returns-in-Ok-clause-rounded g c = λ w. record {
   parts = w.parts;
   numeral = w.numeral;
   number = w.number;

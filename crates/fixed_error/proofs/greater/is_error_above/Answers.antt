@@ -24,7 +24,7 @@ bound_part-requires-clause-bits g c =
 pub is_sum_greater-requires-clause-right : goal.is_sum_greater-requires-clause-right
 is_sum_greater-requires-clause-right g c =
     let scanned = rw c.in-Ok-Ok.is-1 at c.scan-bound_scanned.ensures.reading.read in
-    rw (c.sum_of-in-Ok-Ok.ensures, c.less_part.ensures, c.bound_part.ensures) (small_bound c.gap_of-gap.result (c.args.frac + c.in-Ok-Ok.right.bit_shift) c.gap_of-gap.ensures.unit_small c.gap_of-gap.ensures.whole_small (shift_small c.args.radix c.args.frac c.in-Ok-Ok.right.bit_shift c.requires.frac (scanned c.requires.bound.0 c.requires.bound.1).small))
+    rw (c.sum_of-in-Ok-Ok.ensures, c.less_part.ensures, c.bound_part.ensures) (small_bound c.gap_of-gap.result (c.args.frac + c.in-Ok-Ok.right.bit_shift) c.gap_of-gap.ensures.gap.unit_small c.gap_of-gap.ensures.gap.whole_small (shift_small c.args.radix c.args.frac c.in-Ok-Ok.right.bit_shift c.requires.frac (scanned c.requires.bound.0 c.requires.bound.1).small))
 
 pub is_sum_greater-requires-clause-one : goal.is_sum_greater-requires-clause-one
 is_sum_greater-requires-clause-one g c =
@@ -64,12 +64,12 @@ pub returns-clause-above : goal.returns-clause-above
 returns-clause-above g c =
     let scanned = rw c.in-Ok-Ok.is-1 at c.scan-bound_scanned.ensures.reading.read in
     let decided : Decides (base c.args.radix) c.in-Ok-Ok.left.fraction c.in-Ok-Ok.right.fraction (sum_of (greater_part c.gap_of-gap.result) (record { whole = 0; factor = 0 })) (sum_of (less_part c.gap_of-gap.result) (record { whole = 0; factor = 2 ^ (c.args.frac + c.in-Ok-Ok.right.bit_shift) })) c.is_sum_greater.result
-    = rw (c.base.ensures, c.fraction_view.ensures, c.fraction_view-in-Ok-Ok.ensures, c.sum_of.ensures, c.sum_of-in-Ok-Ok.ensures, c.greater_part.ensures, c.less_part.ensures, c.nothing.ensures, c.bound_part.ensures) at c.is_sum_greater.ensures in
-    error_above c.args.mode c.args.radix c.args.frac c.args.text.now c.args.bound.now c.in-Ok-Ok.left.fraction c.in-Ok-Ok.right.fraction c.gap_of-gap.result c.in-Ok-Ok.right.neg c.in-Ok-Ok.right.whole c.in-Ok-Ok.right.bit_shift c.is_sum_greater.result c.gap_of-gap.ensures c.requires.bound scanned (empty c.is_empty.result (c.in-Ok-Ok.right.whole ≡ []) (rw c.whole_view.ensures at c.is_empty.ensures) c.if-not-is_empty.false) decided
+    = rw (c.base.ensures, c.fraction_view.ensures, c.fraction_view-in-Ok-Ok.ensures, c.sum_of.ensures, c.sum_of-in-Ok-Ok.ensures, c.greater_part.ensures, c.less_part.ensures, c.nothing.ensures, c.bound_part.ensures) at c.is_sum_greater.ensures.decides in
+    error_above c.args.mode c.args.radix c.args.frac c.args.text.now c.args.bound.now c.in-Ok-Ok.left.fraction c.in-Ok-Ok.right.fraction c.gap_of-gap.result c.in-Ok-Ok.right.neg c.in-Ok-Ok.right.whole c.in-Ok-Ok.right.bit_shift c.is_sum_greater.result c.gap_of-gap.ensures.gap c.requires.bound scanned (empty c.is_empty.result (c.in-Ok-Ok.right.whole ≡ []) (rw c.whole_view.ensures at c.is_empty.ensures) c.if-not-is_empty.false) decided
 
 pub returns-clause-not : goal.returns-clause-not
 returns-clause-not g c =
     let scanned = rw c.in-Ok-Ok.is-1 at c.scan-bound_scanned.ensures.reading.read in
     let decided : Decides (base c.args.radix) c.in-Ok-Ok.left.fraction c.in-Ok-Ok.right.fraction (sum_of (greater_part c.gap_of-gap.result) (record { whole = 0; factor = 0 })) (sum_of (less_part c.gap_of-gap.result) (record { whole = 0; factor = 2 ^ (c.args.frac + c.in-Ok-Ok.right.bit_shift) })) c.is_sum_greater.result
-    = rw (c.base.ensures, c.fraction_view.ensures, c.fraction_view-in-Ok-Ok.ensures, c.sum_of.ensures, c.sum_of-in-Ok-Ok.ensures, c.greater_part.ensures, c.less_part.ensures, c.nothing.ensures, c.bound_part.ensures) at c.is_sum_greater.ensures in
-    error_within c.args.mode c.args.radix c.args.frac c.args.text.now c.args.bound.now c.in-Ok-Ok.left.fraction c.in-Ok-Ok.right.fraction c.gap_of-gap.result c.in-Ok-Ok.right.neg c.in-Ok-Ok.right.whole c.in-Ok-Ok.right.bit_shift c.is_sum_greater.result c.gap_of-gap.ensures c.requires.bound scanned (empty c.is_empty.result (c.in-Ok-Ok.right.whole ≡ []) (rw c.whole_view.ensures at c.is_empty.ensures) c.if-not-is_empty.false) decided
+    = rw (c.base.ensures, c.fraction_view.ensures, c.fraction_view-in-Ok-Ok.ensures, c.sum_of.ensures, c.sum_of-in-Ok-Ok.ensures, c.greater_part.ensures, c.less_part.ensures, c.nothing.ensures, c.bound_part.ensures) at c.is_sum_greater.ensures.decides in
+    error_within c.args.mode c.args.radix c.args.frac c.args.text.now c.args.bound.now c.in-Ok-Ok.left.fraction c.in-Ok-Ok.right.fraction c.gap_of-gap.result c.in-Ok-Ok.right.neg c.in-Ok-Ok.right.whole c.in-Ok-Ok.right.bit_shift c.is_sum_greater.result c.gap_of-gap.ensures.gap c.requires.bound scanned (empty c.is_empty.result (c.in-Ok-Ok.right.whole ≡ []) (rw c.whole_view.ensures at c.is_empty.ensures) c.if-not-is_empty.false) decided
