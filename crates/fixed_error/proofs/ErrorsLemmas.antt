@@ -95,16 +95,17 @@ nothing_greater r f entries e place numeral x w rest some order h =
       };
       none = h.none;
       least = h.least;
+      bound = h.bound;
     }
 
-pub one_more_error : (r : Radix) (f : ℕ) (entries : List Entry) (e : LengthError) (place : ℕ) (numeral : List ℕ) (x : Rest) (new : GreatestError) (least : ℕ) → IsReadWithin NearestEven r f numeral → IsRest r f numeral x
+pub one_more_error : (r : Radix) (f : ℕ) (entries : List Entry) (e : LengthError) (place : ℕ) (numeral : List ℕ) (x : Rest) (new : GreatestError) (least bound : ℕ) → IsReadWithin NearestEven r f numeral → IsRest r f numeral x
     → new.radix ≡ e.greatest.radix → new.frac ≡ e.greatest.frac → new.mode ≡ e.greatest.mode → new.is_some ≡ true
     → (HasGreatest entries e.greatest → HasGreatest (entries ++ record { place = place; numeral = numeral } ∷ []) new)
     → HasNoGreaterError e.greatest.mode e.greatest.radix e.greatest.frac numeral new.numeral.items
     → (e.greatest.is_some ≡ true → HasNoGreaterError e.greatest.mode e.greatest.radix e.greatest.frac e.greatest.numeral.items new.numeral.items)
-    → least ≡ max e.least (min x.rest (x.one - x.rest) - x.slack)
-    → IsLengthError r f entries e → IsLengthError r f (entries ++ record { place = place; numeral = numeral } ∷ []) (record { greatest = new; least = least })
-one_more_error r f entries e place numeral x new least w rest radix frac mode some grown below less is h =
+    → least ≡ max e.least (min x.rest (x.one - x.rest) - x.slack) → (bound - 1) * 10 ^ 18 ≤ least
+    → IsLengthError r f entries e → IsLengthError r f (entries ++ record { place = place; numeral = numeral } ∷ []) (record { greatest = new; least = least; bound = bound })
+one_more_error r f entries e place numeral x new least bound w rest radix frac mode some grown below less is within h =
     let g = e.greatest in
     let i = h.is_greatest in
     let n : List ℕ = new.numeral.items in
@@ -113,6 +114,7 @@ one_more_error r f entries e place numeral x new least w rest radix frac mode so
       is_greatest = record { radix = radix ∙ i.radix; frac = frac ∙ i.frac; mode = mode ∙ i.mode; greatest = grown i.greatest };
       none = λ no. absurd (let e : true ≡ false = sym some ∙ no in cc);
       least = λ _. subst (IsErrorAtLeast r f n) (sym is) (greatest_of (IsErrorAtLeast r f n) e.least (min x.rest (x.one - x.rest) - x.slack) (before g.is_some refl low) low);
+      bound = λ _. (some, within);
     }
   where
     before : (b : Bool) → e.greatest.is_some ≡ b → IsErrorAtLeast r f new.numeral.items (min x.rest (x.one - x.rest) - x.slack) → IsErrorAtLeast r f new.numeral.items e.least

@@ -8,5 +8,6 @@ mod FewLemmas
 mod ShortLemmas
 mod ErrorsLemmas
 mod UniqueLemmas
+mod WordLemmas
 mod GrowthLemmas
 pub mod Public

@@ -9,7 +9,7 @@ use Rattle.fixed_numeral.specs.PartNumbers.{IsShortNumeral, is_power_of_two, pla
 use Rattle.fixed_numeral.specs.Value.{magnitude, scaled}
 use Rattle.fixed_numeral.specs.declared.radix.Radix.TheVariants.{Dec}
 use Rattle.fixed_error.specs.Errors.{parts}
-use Rattle.fixed_error.specs.Inner.Rest.{IsBehind, IsRest}
+use Rattle.fixed_error.specs.Inner.Rest.{IsBehind, IsRest, rest_of_word}
 use Rattle.fixed_error.specs.declared.rest.Rest.{Rest}
 use Rattle.fixed_error.proofs.GapLemmas.{cancel_lt}
 use Rattle.fixed_error.proofs.RestLemmas.{cancel_eq, parts_pos}
@@ -89,3 +89,27 @@ decimal_rest text negative whole fraction places exponent two x short flat less 
       below = let low : x.rest < part = cancel_lt x.rest part t (omega (arith, rest, more, parts_some)) in omega (arith, low, one);
       few = omega (arith, slack);
     }
+
+-- ---- by a word
+-- the parts of 10^-18 of a short decimal
+pub word_fits : (fraction s : ℕ) → s ≤ 18 → fraction < 10 ^ s → (fraction * 10 ^ (18 - s) * 10 ^ s ≡ fraction * 10 ^ 18) × (fraction * 10 ^ (18 - s) < 10 ^ 18)
+word_fits fraction s few less =
+    let all : 18 - s + s ≡ 18 = omega (arith, few) in
+    let power : 10 ^ (18 - s) * 10 ^ s ≡ 10 ^ 18 = sym (pow-add 10 (18 - s) s) ∙ ap (λ k. 10 ^ k) all in
+    let some : 1 ≤ 10 ^ (18 - s) = one-le-pow (18 - s) 10 (omega arith) in
+    let m : (fraction + 1) * 10 ^ (18 - s) ≤ 10 ^ s * 10 ^ (18 - s) = mul-le-mul_right (10 ^ (18 - s)) (omega (arith, less)) in
+    let same : fraction * (10 ^ (18 - s) * 10 ^ s) ≡ fraction * 10 ^ 18 = ap (λ t. fraction * t) power in
+    (omega (arith, same), omega (arith, m, power, some))
+
+-- in parts of 10^-36
+pub word_parts : (word fraction t : ℕ) → word * t ≡ fraction * 10 ^ 18 → word * 10 ^ 18 * t ≡ fraction * parts Dec
+unfolding parts
+word_parts word fraction t e =
+    let m : word * t * 10 ^ 18 ≡ fraction * 10 ^ 18 * 10 ^ 18 = ap (λ v. v * 10 ^ 18) e in
+    omega (arith, m)
+
+pub decimal_word : (text : List ℕ) (negative : Bool) (whole fraction places : ℕ) (exponent : ℤ) (two : Bool) (word : ℕ) → ((p : Parts) → HasNumeral Dec text p → IsShortNumeral Dec p negative whole fraction places exponent two) → exponent ≡ pos 0
+    → fraction < 10 ^ places → word * 10 ^ places ≡ fraction * 10 ^ 18 → IsRest Dec 0 text (rest_of_word word)
+unfolding rest_of_word
+decimal_word text negative whole fraction places exponent two word short flat less is =
+    decimal_rest text negative whole fraction places exponent two (record { one = 10 ^ 18 * 10 ^ 18; rest = word * 10 ^ 18; slack = 0 }) short flat less (unit_parts (10 ^ 18) refl) (word_parts word fraction (10 ^ places) is) refl

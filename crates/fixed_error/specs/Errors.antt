@@ -1,5 +1,5 @@
 -- The greatest errors of numerals at many fraction lengths, where they are rounded to nearest.
-use Rattle.std.specs.Prelude.{◌≡◌, ℕ, suc, ◌*◌, ◌^◌, ◌≤◌, true, false, List, [], ◌∷◌, length}
+use Rattle.std.specs.Prelude.{◌≡◌, ℕ, suc, ◌-◌, ◌*◌, ◌^◌, ◌<◌, ◌≤◌, true, false, List, [], ◌∷◌, length}
 use Rattle.fixed_bits.specs.declared.mode.ReadMode.TheVariants.{NearestEven}
 use Rattle.fixed_numeral.specs.Numeral.{base}
 use Rattle.fixed_numeral.specs.Value.{Fraction}
@@ -40,6 +40,7 @@ pub record IsLengthError (r : Radix) (f : ℕ) (entries : List Entry) (e : Lengt
   pub is_greatest : IsGreatestAt r f entries e.greatest
   pub none : e.greatest.is_some ≡ false → e.least ≡ 0
   pub least : e.greatest.is_some ≡ true → IsErrorAtLeast r f e.greatest.numeral.items e.least
+  pub bound : 0 < e.bound → (e.greatest.is_some ≡ true) × ((e.bound - 1) * 10 ^ 18 ≤ e.least)
 
 abbrev pub HasSomeLengthError : LengthError → Type 0
 HasSomeLengthError e = (entries : List Entry) × IsLengthError e.greatest.radix e.greatest.frac entries e

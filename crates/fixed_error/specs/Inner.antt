@@ -3,3 +3,4 @@ pub mod Sums
 pub mod Gap
 pub mod Greatest
 pub mod Rest
+pub mod Words

@@ -12,9 +12,12 @@ ghost use Rattle.fixed_error.specs.Errors.{HasGreatestErrors, HasSomeGreatestErr
 ghost use Rattle.fixed_error.specs.Errors.{IsGreatestAt, IsLengthError};
 ghost use Rattle.fixed_error.specs.Greatest.{Entry};
 ghost use Rattle.fixed_error.specs.Inner.Rest.{IsRest};
+ghost use Rattle.fixed_error.specs.Inner.Words.{AreWordsWithin};
 
 use crate::greatest::GreatestError;
-use crate::rest::{Rest, halved, least_of, most_of, rest_of};
+use crate::rest::{
+    Behind, Rest, behind_by, bound_of, halved, halved_word, least_of, most_of, near_word, rest_of,
+};
 use fixed_bits::ReadMode;
 use fixed_numeral::Radix;
 use fixed_steps::Steps;
@@ -28,6 +31,8 @@ pub struct LengthError {
     pub greatest: GreatestError,
     /// How great it is at least, in parts of an ulp.
     pub least: u128,
+    /// Below how many parts of 10^-18 an error is surely no greater: 0 where there is none.
+    pub bound: u64,
 }
 
 impl LengthError {
@@ -61,6 +66,7 @@ impl LengthError {
         }
         self.greatest.add(numeral, place, steps)?;
         self.least = self.least.max(least_of(rest));
+        self.bound = bound_of(self.least);
         Ok(())
     }
 }
@@ -81,7 +87,24 @@ fn no_error(alloc: Global, radix: Radix, frac: u32) -> LengthError
     LengthError {
         greatest: GreatestError::new(alloc, radix, frac, ReadMode::NearestEven),
         least: 0,
+        bound: 0,
     }
+}
+
+/// Whether a numeral that is behind a whole number by a word has surely no greater error than those before it, at any
+/// fraction length. Nearly all numerals are passed over here.
+fn are_surely_within(errors: &[LengthError], word: u64) -> bool
+    requires { word < 10 ^ 18 }
+    ensures { result ≡ true → AreWordsWithin word errors.now }
+{
+    let mut rest = word;
+    for error in errors {
+        if near_word(rest) >= error.bound {
+            return false;
+        }
+        rest = halved_word(rest);
+    }
+    true
 }
 
 impl GreatestErrors {
@@ -136,7 +159,13 @@ impl GreatestErrors {
             → HasGreatestErrors r count entries self.old
             → HasGreatestErrors r count (entries ++ record { place = place; numeral = numeral.now } ∷ []) self.new) }
     {
-        let mut rest = rest_of(numeral, self.radix, steps);
+        let behind = behind_by(numeral, self.radix, steps);
+        if let Behind::ByWord(word) = behind {
+            if are_surely_within(&self.errors, word) {
+                return Ok(());
+            }
+        }
+        let mut rest = rest_of(behind);
         for error in self.errors.iter_mut() {
             error.add(numeral, place, rest, steps)?;
             rest = halved(rest);

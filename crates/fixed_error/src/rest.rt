@@ -7,10 +7,10 @@ ghost use Rattle.fixed_numeral.specs.Numeral.{HasNumeral, IsNumeral, Parts, base
 ghost use Rattle.fixed_numeral.specs.Scanned.{IsScanned, exponent_unit};
 ghost use Rattle.fixed_numeral.specs.declared.radix.Radix.TheVariants.{Dec};
 ghost use Rattle.fixed_error.specs.Errors.{block, parts};
-ghost use Rattle.fixed_error.specs.Inner.Rest.{IsRest, first_number};
+ghost use Rattle.fixed_error.specs.Inner.Rest.{IsBehindBy, IsRest, first_number, rest_of_word};
 
 use crate::gap::power_of_two;
-use fixed_numeral::{DigitView, Radix, Scanned, power_of_ten, scan, short_decimal};
+use fixed_numeral::{DigitView, Radix, Scanned, ShortNumeral, power_of_ten, scan, short_decimal};
 use fixed_steps::Steps;
 use std::sync::ledger::Ledger;
 
@@ -24,6 +24,18 @@ pub struct Rest {
     /// How many parts more it is at most.
     pub slack: u128,
 }
+
+/// How far a numeral is behind a whole number.
+#[derive(Clone, Copy, Debug, PartialEq, Eq)]
+pub enum Behind {
+    /// By so many parts, each the 10^18th of an ulp, and no more.
+    ByWord(u64),
+    /// By that.
+    ByParts(Rest),
+}
+
+/// How many parts a whole number has where a numeral is behind one by a word.
+const WORD_PARTS: u64 = 1_000_000_000_000_000_000;
 
 /// How many digits are taken at a time.
 fn block_of(radix: Radix) -> u32
@@ -122,45 +134,121 @@ fn parts_of_place(places: u32) -> u128
     first * second
 }
 
+/// How far a short decimal of at most 18 places is behind a whole number, in parts of 10^-18.
+fn word_of_decimal(found: ShortNumeral) -> u64
+    requires below { found.fraction < 10 ^ found.places }
+    requires few { found.places ≤ 18 }
+    ensures parts { result * 10 ^ found.places ≡ found.fraction * 10 ^ 18 }
+    ensures below { result < 10 ^ 18 }
+{
+    found.fraction as u64 * power_of_ten(18 - found.places)
+}
+
+/// How far a short decimal is behind a whole number, to 36 places.
+fn parts_of_decimal(found: ShortNumeral) -> Rest
+    requires below { found.fraction < 10 ^ found.places }
+    requires few { found.places ≤ 27 }
+    ensures one { result.one ≡ parts Dec }
+    ensures parts { result.rest * 10 ^ found.places ≡ found.fraction * parts Dec }
+    ensures slack { result.slack ≡ 0 }
+{
+    let unit = power_of(Radix::Dec, 18);
+    Rest {
+        one: unit * unit,
+        rest: found.fraction * parts_of_place(found.places),
+        slack: 0,
+    }
+}
+
 /// How far a short decimal is behind a whole number. `None` only means: look at its digits.
-fn rest_of_decimal<L: Ledger>(text: &[u8], steps: &mut Steps<L>) -> Option<Rest>
-    ensures { IfSome result (IsRest Dec 0 text.now) }
+fn behind_by_decimal<L: Ledger>(text: &[u8], steps: &mut Steps<L>) -> Option<Behind>
+    ensures { IfSome result (IsBehindBy Dec text.now) }
 {
     let found = short_decimal(text, steps)?;
     if found.exponent != 0 {
         return None;
     }
-    let unit = power_of(Radix::Dec, 18);
-    Some(Rest {
-        one: unit * unit,
-        rest: found.fraction * parts_of_place(found.places),
-        slack: 0,
-    })
+    if found.places <= 18 {
+        return Some(Behind::ByWord(word_of_decimal(found)));
+    }
+    Some(Behind::ByParts(parts_of_decimal(found)))
 }
 
 /// How far a short numeral is behind a whole number. `None` only means: look at its digits.
-fn rest_of_short<L: Ledger>(text: &[u8], radix: Radix, steps: &mut Steps<L>) -> Option<Rest>
-    ensures { IfSome result (IsRest radix 0 text.now) }
+fn behind_by_short<L: Ledger>(text: &[u8], radix: Radix, steps: &mut Steps<L>) -> Option<Behind>
+    ensures { IfSome result (IsBehindBy radix text.now) }
 {
     match radix {
-        Radix::Dec => rest_of_decimal(text, steps),
+        Radix::Dec => behind_by_decimal(text, steps),
         _ => None,
     }
 }
 
 /// How far a numeral is behind a whole number.
-pub fn rest_of<L: Ledger>(text: &[u8], radix: Radix, steps: &mut Steps<L>) -> Rest
+pub fn behind_by<L: Ledger>(text: &[u8], radix: Radix, steps: &mut Steps<L>) -> Behind
     requires { IsNumeral radix text.now }
-    ensures { IsRest radix 0 text.now result }
+    ensures { IsBehindBy radix text.now result }
 {
-    if let Some(rest) = rest_of_short(text, radix, steps) {
-        return rest;
+    if let Some(behind) = behind_by_short(text, radix, steps) {
+        return behind;
     }
     let scanned = scan(text, radix, steps);
     match &scanned {
-        Ok(found) => rest_of_scanned(found, radix, steps),
+        Ok(found) => Behind::ByParts(rest_of_scanned(found, radix, steps)),
         Err(_) => unreachable!(),
     }
+}
+
+/// The same where a numeral is behind by a word.
+fn rest_of_word(word: u64) -> Rest
+    ensures { result ≡ rest_of_word word }
+{
+    let unit = u128::from(WORD_PARTS);
+    Rest {
+        one: unit * unit,
+        rest: u128::from(word) * unit,
+        slack: 0,
+    }
+}
+
+/// How far a numeral is behind a whole number, whatever is known of it.
+pub fn rest_of(behind: Behind) -> Rest
+    ensures { (r : Radix) (bytes : List ℕ) → IsBehindBy r bytes behind → IsRest r 0 bytes result }
+{
+    match behind {
+        Behind::ByWord(word) => rest_of_word(word),
+        Behind::ByParts(rest) => rest,
+    }
+}
+
+/// The same in ulps half as great.
+pub fn halved_word(word: u64) -> u64
+    requires { word < 10 ^ 18 }
+    ensures { result ≡ 2 * word % 10 ^ 18 }
+{
+    let twice = 2 * word;
+    if twice < WORD_PARTS {
+        twice
+    } else {
+        twice - WORD_PARTS
+    }
+}
+
+/// How far a numeral that is behind by a word is from the nearest whole number of ulps, in parts.
+pub fn near_word(word: u64) -> u64
+    requires { word < 10 ^ 18 }
+    ensures { result ≡ min word (10 ^ 18 - word) }
+{
+    word.min(WORD_PARTS - word)
+}
+
+/// One more than the greatest whole number of parts of 10^-18 within some of 10^-36, of those up to 2^63.
+pub fn bound_of(least: u128) -> u64
+    ensures some { 0 < result }
+    ensures within { (result - 1) * 10 ^ 18 ≤ least }
+{
+    let most = least / u128::from(WORD_PARTS);
+    most.min(1 << 63) as u64 + 1
 }
 
 /// How far a numeral is behind a whole number of ulps half as great.

@@ -5,6 +5,8 @@ use Rattle.fixed_numeral.specs.Numeral.{Parts, HasNumeral}
 use Rattle.fixed_numeral.specs.Value.{magnitude}
 use Rattle.fixed_numeral.specs.declared.radix.Radix.{Radix}
 use Rattle.fixed_error.specs.Errors.{parts}
+use Rattle.fixed_error.specs.declared.rest.Behind.{Behind}
+use Rattle.fixed_error.specs.declared.rest.Behind.TheVariants.{ByParts, ByWord}
 use Rattle.fixed_error.specs.declared.rest.Rest.{Rest}
 
 -- what the first n digits spell, with zeros where there are fewer
@@ -24,3 +26,12 @@ pub record IsRest (r : Radix) (f : ℕ) (bytes : List ℕ) (x : Rest) : Type 0 w
   pub one : x.one ≡ parts r
   pub below : x.rest < x.one
   pub few : x.slack ≤ 2 ^ (f + 3)
+
+-- a word's parts of 10^-18 in parts of 10^-36
+unfoldable pub rest_of_word : ℕ → Rest
+rest_of_word word = record { one = 10 ^ 18 * 10 ^ 18; rest = word * 10 ^ 18; slack = 0 }
+
+-- a numeral is that far behind a whole number
+abbrev pub IsBehindBy : Radix → List ℕ → Behind → Type 0
+IsBehindBy r bytes (ByWord word) = (word < 10 ^ 18) × IsRest r 0 bytes (rest_of_word word)
+IsBehindBy r bytes (ByParts rest) = IsRest r 0 bytes rest

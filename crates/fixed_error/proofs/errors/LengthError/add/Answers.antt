@@ -27,8 +27,8 @@ pub returns : goal.returns
 returns g c = λ r f entries h.
     let old = c.args.self.now.greatest in
     let added = c.in_ok-add.ensures in
-    one_more_error r f entries c.args.self.now c.args.place c.args.numeral.now c.args.rest c.add.new.self c.max-self.result
+    one_more_error r f entries c.args.self.now c.args.place c.args.numeral.now c.args.rest c.add.new.self c.max-self.result c.bound_of-self.result
     (within_moved old.radix r old.frac f c.args.numeral.now h.is_greatest.radix h.is_greatest.frac c.requires.within)
     (rest_moved old.radix r old.frac f c.args.numeral.now c.args.rest h.is_greatest.radix h.is_greatest.frac c.requires.rest)
     added.radix added.frac added.mode added.some (added.one_more entries) added.not_below added.not_less
-    (c.max-self.ensures ∙ ap (λ l. max c.args.self.now.least l) c.least_of.ensures) h
+    (c.max-self.ensures ∙ ap (λ l. max c.args.self.now.least l) c.least_of.ensures) c.bound_of-self.ensures.within h

@@ -1,0 +1,56 @@
+-- Errors of a numeral that is behind a whole number by a word.
+use Rattle.std.proofs.Common.{◌≡◌, ◌⊎◌, ℕ, suc, ◌+◌, ◌-◌, ◌*◌, ◌%◌, ◌^◌, ◌<◌, ◌≤◌, true, List, [], ◌∷◌, ◌++◌, length, drop, get_or, refl, sym, ap, ◌∙◌, subst, arith, ⊎_elim, inl, inr, drop-cons, mul-le-mul_right}
+use Rattle.std.specs.Prelude.{min}
+use Rattle.std.proofs.lemmas.Bool.{cases_lt}
+use Rattle.std.proofs.lemmas.List.{drop_all}
+use Rattle.fixed_bits.specs.declared.mode.ReadMode.TheVariants.{NearestEven}
+use Rattle.fixed_numeral.specs.declared.radix.Radix.{Radix}
+use Rattle.fixed_error.specs.ErrorSize.{IsReadWithin}
+use Rattle.fixed_error.specs.Errors.{AreLengthErrors}
+use Rattle.fixed_error.specs.Greatest.{Entry}
+use Rattle.fixed_error.specs.Inner.Rest.{IsRest, rest_of_word}
+use Rattle.fixed_error.specs.Inner.Words.{AreWordsWithin}
+use Rattle.fixed_error.specs.declared.errors.LengthError.{LengthError}
+use Rattle.fixed_error.proofs.ErrorsLemmas.{nothing_greater}
+use Rattle.fixed_error.proofs.RestLemmas.{rest_halved}
+
+-- ---- the loop over the lengths
+pub words_more : (word k : ℕ) (errors : List LengthError) (d : LengthError) → k < length errors → min word (10 ^ 18 - word) < (get_or errors k d).bound → AreWordsWithin (2 * word % 10 ^ 18) (drop (k + 1) errors) → AreWordsWithin word (drop k errors)
+words_more word k errors d less near rest =
+    let next : k + 1 ≡ suc k = omega arith in
+    let all : drop k errors ≡ get_or errors k d ∷ drop (suc k) errors = drop-cons errors k d less in
+    let P : ℕ → Type 0 = λ n. AreWordsWithin (2 * word % 10 ^ 18) (drop n errors) in
+    subst (AreWordsWithin word) (sym all) (near, subst P next rest)
+
+pub words_end : (word k : ℕ) (errors : List LengthError) → length errors ≤ k → AreWordsWithin word (drop k errors)
+words_end word k errors h = let none : drop k errors ≡ [] = drop_all k errors h in subst (AreWordsWithin word) (sym none) tt
+
+-- ---- passed over
+order : (word bound least : ℕ) → word < 10 ^ 18 → min word (10 ^ 18 - word) < bound → (bound - 1) * 10 ^ 18 ≤ least
+    → min (rest_of_word word).rest ((rest_of_word word).one - (rest_of_word word).rest) + (rest_of_word word).slack ≤ least
+unfolding rest_of_word
+order word bound least below near within = omega (arith, near, within, below)
+
+halved : (word : ℕ) → word < 10 ^ 18 → (2 * word % 10 ^ 18 * 10 ^ 18 ≡ 2 * (word * 10 ^ 18)) ⊎ (2 * word % 10 ^ 18 * 10 ^ 18 + 10 ^ 18 * 10 ^ 18 ≡ 2 * (word * 10 ^ 18))
+halved word below = ⊎_elim
+    (λ (less : 2 * word < 10 ^ 18). inl (omega (arith, less)))
+    (λ (more : 10 ^ 18 ≤ 2 * word). inr (omega (arith, more, below)))
+    (cases_lt (2 * word) (10 ^ 18))
+
+next_rest : (r : Radix) (f : ℕ) (numeral : List ℕ) (word : ℕ) → word < 10 ^ 18 → IsRest r f numeral (rest_of_word word) → IsRest r (suc f) numeral (rest_of_word (2 * word % 10 ^ 18))
+unfolding rest_of_word
+next_rest r f numeral word below h =
+    let less : 2 * word % 10 ^ 18 < 10 ^ 18 = omega arith in
+    let small : 2 * word % 10 ^ 18 * 10 ^ 18 < 10 ^ 18 * 10 ^ 18 = omega (arith, less) in
+    rest_halved r f numeral (rest_of_word word) (rest_of_word (2 * word % 10 ^ 18)) h refl (halved word below) small refl
+
+pub passed_over : (r : Radix) (f : ℕ) (entries : List Entry) (errors : List LengthError) (place : ℕ) (numeral : List ℕ) (word : ℕ) → word < 10 ^ 18 → ((k : ℕ) → k < length errors → IsReadWithin NearestEven r (f + k) numeral) → IsRest r f numeral (rest_of_word word)
+    → AreWordsWithin word errors → AreLengthErrors r f entries errors → AreLengthErrors r f (entries ++ record { place = place; numeral = numeral } ∷ []) errors
+passed_over r f entries [] place numeral word below within rest near all = tt
+passed_over r f entries (e ∷ errors) place numeral word below within rest near all =
+    let first : f + 0 ≡ f = omega arith in
+    let W : ℕ → Type 0 = λ k. IsReadWithin NearestEven r k numeral in
+    let bound = all.0.bound (omega (arith, near.0)) in (
+      nothing_greater r f entries e place numeral (rest_of_word word) (subst W first (within 0 (omega arith))) rest bound.0 (order word e.bound e.least below near.0 bound.1) all.0,
+      passed_over r (suc f) entries errors place numeral (2 * word % 10 ^ 18) (omega arith) (λ k less. subst W (omega arith) (within (suc k) (omega (arith, less)))) (next_rest r f numeral word below rest) near.1 all.1,
+    )
