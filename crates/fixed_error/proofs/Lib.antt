@@ -9,5 +9,6 @@ mod ShortLemmas
 mod ErrorsLemmas
 mod UniqueLemmas
 mod WordLemmas
+mod HalfLemmas
 mod GrowthLemmas
 pub mod Public

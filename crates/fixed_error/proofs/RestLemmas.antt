@@ -223,7 +223,7 @@ doubled a aa den d r s rr ss e h (inr less) g =
     let high : aa * d ≤ (2 * h.ulps * d + (rr + d) + ss) * den = double_high a aa den d h.ulps r s (rr + d) ss e h.at_most less g in
     record { ulps = 2 * h.ulps + 1; at_least = omega (arith, low); at_most = omega (arith, high) }
 
-twice_power : (m f : ℕ) → m * 2 ^ suc f ≡ 2 * (m * 2 ^ f)
+pub twice_power : (m f : ℕ) → m * 2 ^ suc f ≡ 2 * (m * 2 ^ f)
 twice_power m f = let e : 2 ^ suc f ≡ 2 * 2 ^ f = omega arith in let x : m * 2 ^ suc f ≡ m * (2 * 2 ^ f) = ap (λ t. m * t) e in omega (arith, x)
 
 pub rest_halved : (r : Radix) (f : ℕ) (text : List ℕ) (x y : Rest) → IsRest r f text x → y.one ≡ x.one → (y.rest ≡ 2 * x.rest) ⊎ (y.rest + x.one ≡ 2 * x.rest) → y.rest < x.one → y.slack ≡ 2 * x.slack → IsRest r (suc f) text y

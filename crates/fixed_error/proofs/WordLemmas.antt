@@ -1,18 +1,18 @@
 -- Errors of a numeral that is behind a whole number by a word.
-use Rattle.std.proofs.Common.{◌≡◌, ◌⊎◌, ℕ, suc, ◌+◌, ◌-◌, ◌*◌, ◌%◌, ◌^◌, ◌<◌, ◌≤◌, true, List, [], ◌∷◌, ◌++◌, length, drop, get_or, refl, sym, ap, ◌∙◌, subst, arith, ⊎_elim, inl, inr, drop-cons, mul-le-mul_right}
+use Rattle.std.proofs.Common.{◌≡◌, ◌⊎◌, ℕ, suc, ◌+◌, ◌-◌, ◌*◌, ◌%◌, ◌^◌, ◌<◌, ◌≤◌, true, zero, List, [], ◌∷◌, ◌++◌, length, take, drop, get_or, refl, sym, ap, ◌∙◌, subst, arith, ⊎_elim, inl, inr, drop-cons, mul-le-mul_right}
 use Rattle.std.specs.Prelude.{min}
 use Rattle.std.proofs.lemmas.Bool.{cases_lt}
 use Rattle.std.proofs.lemmas.List.{drop_all}
 use Rattle.fixed_bits.specs.declared.mode.ReadMode.TheVariants.{NearestEven}
 use Rattle.fixed_numeral.specs.declared.radix.Radix.{Radix}
 use Rattle.fixed_error.specs.ErrorSize.{IsReadWithin}
-use Rattle.fixed_error.specs.Errors.{AreLengthErrors}
+use Rattle.fixed_error.specs.Errors.{AreBoundsNearHalf, AreLengthErrors, near_half}
 use Rattle.fixed_error.specs.Greatest.{Entry}
 use Rattle.fixed_error.specs.Inner.Rest.{IsRest, rest_of_word}
 use Rattle.fixed_error.specs.Inner.Words.{AreWordsWithin}
 use Rattle.fixed_error.specs.declared.errors.LengthError.{LengthError}
 use Rattle.fixed_error.proofs.ErrorsLemmas.{nothing_greater}
-use Rattle.fixed_error.proofs.RestLemmas.{rest_halved}
+use Rattle.fixed_error.proofs.RestLemmas.{rest_halved, twice_power}
 
 -- ---- the loop over the lengths
 pub words_more : (word k : ℕ) (errors : List LengthError) (d : LengthError) → k < length errors → min word (10 ^ 18 - word) < (get_or errors k d).bound → AreWordsWithin (2 * word % 10 ^ 18) (drop (k + 1) errors) → AreWordsWithin word (drop k errors)
@@ -54,3 +54,37 @@ passed_over r f entries (e ∷ errors) place numeral word below within rest near
       nothing_greater r f entries e place numeral (rest_of_word word) (subst W first (within 0 (omega arith))) rest bound.0 (order word e.bound e.least below near.0 bound.1) all.0,
       passed_over r (suc f) entries errors place numeral (2 * word % 10 ^ 18) (omega arith) (λ k less. subst W (omega arith) (within (suc k) (omega (arith, less)))) (next_rest r f numeral word below rest) near.1 all.1,
     )
+
+-- ---- all near half an ulp
+pub near_taken : (errors : List LengthError) (k : ℕ) → AreBoundsNearHalf errors → AreBoundsNearHalf (take k errors)
+near_taken errors zero h = tt
+near_taken [] (suc k) h = tt
+near_taken (e ∷ errors) (suc k) h = (h.0, near_taken errors k h.1)
+
+pub near_more : (k : ℕ) (errors : List LengthError) (d : LengthError) → k < length errors → near_half ≤ (get_or errors k d).bound → AreBoundsNearHalf (drop (k + 1) errors) → AreBoundsNearHalf (drop k errors)
+near_more k errors d less near rest =
+    let next : k + 1 ≡ suc k = omega arith in
+    let all : drop k errors ≡ get_or errors k d ∷ drop (suc k) errors = drop-cons errors k d less in
+    let P : ℕ → Type 0 = λ n. AreBoundsNearHalf (drop n errors) in
+    subst AreBoundsNearHalf (sym all) (near, subst P next rest)
+
+pub near_end : (k : ℕ) (errors : List LengthError) → length errors ≤ k → AreBoundsNearHalf (drop k errors)
+near_end k errors h = let none : drop k errors ≡ [] = drop_all k errors h in subst AreBoundsNearHalf (sym none) tt
+
+twice_rest : (word f : ℕ) → 2 * (word * 2 ^ f % 10 ^ 18) % 10 ^ 18 ≡ word * 2 ^ suc f % 10 ^ 18
+twice_rest word f =
+    let x : ℕ = word * 2 ^ f in
+    let next : word * 2 ^ suc f ≡ 2 * x = twice_power word f in
+    let same : 2 * (x % 10 ^ 18) % 10 ^ 18 ≡ 2 * x % 10 ^ 18 = omega arith in
+    same ∙ ap (λ t. t % 10 ^ 18) (sym next)
+
+far_from : (word f : ℕ) (errors : List LengthError) → ((k : ℕ) → k < f + length errors → min (word * 2 ^ k % 10 ^ 18) (10 ^ 18 - word * 2 ^ k % 10 ^ 18) < near_half) → AreBoundsNearHalf errors → AreWordsWithin (word * 2 ^ f % 10 ^ 18) errors
+far_from word f [] far near = tt
+far_from word f (e ∷ errors) far near =
+    let here = far f (omega arith) in
+    (omega (arith, here, near.0), subst (λ (t : ℕ). AreWordsWithin t errors) (sym (twice_rest word f)) (far_from word (suc f) errors (λ k less. far k (omega (arith, less))) near.1))
+
+pub far_words : (word : ℕ) (errors : List LengthError) → word < 10 ^ 18 → ((k : ℕ) → k < length errors → min (word * 2 ^ k % 10 ^ 18) (10 ^ 18 - word * 2 ^ k % 10 ^ 18) < near_half) → AreBoundsNearHalf errors → AreWordsWithin word errors
+far_words word errors below far near =
+    let same : word * 2 ^ 0 % 10 ^ 18 ≡ word = omega (arith, below) in
+    subst (λ (t : ℕ). AreWordsWithin t errors) same (far_from word 0 errors (λ k less. far k (omega (arith, less))) near)

@@ -50,12 +50,22 @@ abbrev pub AreLengthErrors : Radix → ℕ → List Entry → List LengthError �
 AreLengthErrors r f entries [] = Unit {0}
 AreLengthErrors r f entries (e ∷ errors) = IsLengthError r f entries e × AreLengthErrors r (suc f) entries errors
 
+-- half an ulp in parts of 10^-18, less the 2^10th of an ulp
+abbrev pub near_half : ℕ
+near_half = 499023437500000000
+
+-- each error may be that great
+abbrev pub AreBoundsNearHalf : List LengthError → Type 0
+AreBoundsNearHalf [] = Unit {0}
+AreBoundsNearHalf (e ∷ errors) = (near_half ≤ e.bound) × AreBoundsNearHalf errors
+
 -- the greatest errors at the fraction lengths below a count
 pub record HasGreatestErrors (r : Radix) (count : ℕ) (entries : List Entry) (g : GreatestErrors) : Type 0 where
   pub radix : g.radix ≡ r
   pub most : count ≤ 65
   pub count_is : length g.errors.items ≡ count
   pub errors : AreLengthErrors r 0 entries g.errors.items
+  pub near : g.are_near_half ≡ true → AreBoundsNearHalf g.errors.items
 
 -- this is kept of some numerals
 abbrev pub HasSomeGreatestErrors : GreatestErrors → Type 0

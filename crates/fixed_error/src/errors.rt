@@ -8,13 +8,14 @@ ghost use Rattle.std.specs.Prelude.{length, true, min};
 ghost use Rattle.fixed_bits.specs.declared.mode.ReadMode.TheVariants.{NearestEven};
 ghost use Rattle.fixed_error.specs.ErrorSize.{IsReadWithin};
 ghost use Rattle.fixed_numeral.specs.Numeral.{IsNumeral};
-ghost use Rattle.fixed_error.specs.Errors.{HasGreatestErrors, HasSomeGreatestErrors, HasSomeLengthError};
-ghost use Rattle.fixed_error.specs.Errors.{IsGreatestAt, IsLengthError};
+ghost use Rattle.fixed_error.specs.Errors.{AreBoundsNearHalf, HasGreatestErrors, HasSomeGreatestErrors};
+ghost use Rattle.fixed_error.specs.Errors.{HasSomeLengthError, IsGreatestAt, IsLengthError};
 ghost use Rattle.fixed_error.specs.Greatest.{Entry};
 ghost use Rattle.fixed_error.specs.Inner.Rest.{IsRest};
 ghost use Rattle.fixed_error.specs.Inner.Words.{AreWordsWithin};
 
 use crate::greatest::GreatestError;
+use crate::half::is_surely_far;
 use crate::rest::{
     Behind, Rest, behind_by, bound_of, halved, halved_word, least_of, most_of, near_word, rest_of,
 };
@@ -77,6 +78,8 @@ impl LengthError {
 pub struct GreatestErrors {
     radix: Radix,
     errors: Vec<LengthError>,
+    /// Whether each of the errors is nearly half an ulp.
+    are_near_half: bool,
 }
 
 /// No numeral so far, at a fraction length.
@@ -91,8 +94,23 @@ fn no_error(alloc: Global, radix: Radix, frac: u32) -> LengthError
     }
 }
 
+/// How near to half an ulp an error is that is nearly that, in parts of 10^-18.
+const NEAR_HALF: u64 = 499_023_437_500_000_000;
+
+/// Whether each of the errors is nearly half an ulp.
+fn are_near_half(errors: &[LengthError]) -> bool
+    ensures { result ≡ true → AreBoundsNearHalf errors.now }
+{
+    for error in errors {
+        if error.bound < NEAR_HALF {
+            return false;
+        }
+    }
+    true
+}
+
 /// Whether a numeral that is behind a whole number by a word has surely no greater error than those before it, at any
-/// fraction length. Nearly all numerals are passed over here.
+/// fraction length.
 fn are_surely_within(errors: &[LengthError], word: u64) -> bool
     requires { word < 10 ^ 18 }
     ensures { result ≡ true → AreWordsWithin word errors.now }
@@ -121,7 +139,11 @@ impl GreatestErrors {
         for frac in 0..count {
             errors.push(no_error(alloc, radix, frac))?;
         }
-        Ok(GreatestErrors { radix, errors })
+        Ok(GreatestErrors {
+            radix,
+            errors,
+            are_near_half: false,
+        })
     }
 
     /// How many fraction lengths there are.
@@ -137,6 +159,19 @@ impl GreatestErrors {
             → HasGreatestErrors r (min count old) entries self.new }
     {
         self.errors.truncate(count as usize);
+    }
+
+    /// Whether a numeral that is behind a whole number by a word has surely no greater error than those before it, at
+    /// any fraction length. Once there were many numerals, nearly all are passed over by their digits alone.
+    fn is_passed_over(&self, word: u64) -> bool
+        requires word { word < 10 ^ 18 }
+        requires near { self.now.are_near_half ≡ true → AreBoundsNearHalf self.now.errors.items }
+        ensures { result ≡ true → AreWordsWithin word self.now.errors.items }
+    {
+        if self.are_near_half && is_surely_far(word, self.errors.len()) {
+            return true;
+        }
+        are_surely_within(&self.errors, word)
     }
 
     /// Takes one more numeral, which comes with a place. Memory is taken for the numerals with the greatest errors
@@ -161,7 +196,7 @@ impl GreatestErrors {
     {
         let behind = behind_by(numeral, self.radix, steps);
         if let Behind::ByWord(word) = behind {
-            if are_surely_within(&self.errors, word) {
+            if self.is_passed_over(word) {
                 return Ok(());
             }
         }
@@ -170,6 +205,7 @@ impl GreatestErrors {
             error.add(numeral, place, rest, steps)?;
             rest = halved(rest);
         }
+        self.are_near_half = are_near_half(&self.errors);
         Ok(())
     }
 

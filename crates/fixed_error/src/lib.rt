@@ -5,6 +5,7 @@ pub mod errors;
 pub mod gap;
 pub mod greater;
 pub mod greatest;
+mod half;
 pub mod laws;
 mod rest;
 mod sums;

@@ -12,7 +12,7 @@ use Rattle.fixed_error.proofs.ErrorsLemmas.{element, error_more, left_one_less, 
 use Rattle.fixed_error.proofs.WordLemmas.{passed_over}
 use Rattle.fixed_error.proofs.RestLemmas.{parts_most, power_within, rest_halved}
 use Rattle.fixed_error.proofs.errors.GreatestErrors.add.Goals as goal
-use Rattle.fixed_error.proofs.errors.GreatestErrors.add.Goals.{in-ByWord+else-are_surely_within, in_default}
+use Rattle.fixed_error.proofs.errors.GreatestErrors.add.Goals.{in-ByWord+else-is_passed_over, in_default}
 
 pub add-requires-clause-known : goal.add-requires-clause-known
 add-requires-clause-known g c =
@@ -79,21 +79,22 @@ loop-error-preserved g c =
           subst (AreLengthErrors r 0 (entries ++ e ∷ [])) (sym (take_more_set items k new less)) (error_more r 0 k (entries ++ e ∷ []) (take k items) new (let long : length (take k items) ≡ min k (length items) = length-take k items in omega (arith, long, less)) (inv.done r entries all) grown);
     }
 
-pub returns-then-are_surely_within : goal.returns-then-are_surely_within
-returns-then-are_surely_within g c = λ r count entries h.
+pub returns-then-is_passed_over : goal.returns-then-is_passed_over
+returns-then-is_passed_over g c = λ r count entries h.
     let errors = c.args.self.now.errors.items in
     let behind = rw c.in-ByWord.is at c.behind_by-behind.ensures in
-    let near = subst (AreWordsWithin c.in-ByWord.word) c.deref.ensures.value (c.are_surely_within.ensures c.if-are_surely_within.true) in
+    let near = c.is_passed_over.ensures c.if-is_passed_over.true in
     record {
       radix = h.radix;
       most = h.most;
       count_is = h.count_is;
       errors = passed_over r 0 entries errors c.args.place c.args.numeral.now c.in-ByWord.word behind.0 (λ k less. subst (λ (f : ℕ). IsReadWithin NearestEven r f c.args.numeral.now) (omega arith) (subst (λ (q : Radix). IsReadWithin NearestEven q k c.args.numeral.now) h.radix (c.requires.within k less))) (subst (λ (q : Radix). IsRest q 0 c.args.numeral.now (rest_of_word c.in-ByWord.word)) h.radix behind.1) near h.errors;
+      near = h.near;
     }
 
 pub loop-error-init : goal.loop-error-init
 loop-error-init g c =
-    let same : c.match-behind.behind ≡ c.behind_by-behind.result = elim c.match-behind.branch [ in-ByWord+else-are_surely_within w ↦ w.behind-is ∙ sym w.in-ByWord.is | in_default w ↦ w.behind-is ] in
+    let same : c.match-behind.behind ≡ c.behind_by-behind.result = elim c.match-behind.branch [ in-ByWord+else-is_passed_over w ↦ w.behind-is ∙ sym w.in-ByWord.is | in_default w ↦ w.behind-is ] in
     record {
       rest = c.rest_of-rest.ensures c.args.self.now.radix c.args.numeral.now (subst (IsBehindBy c.args.self.now.radix c.args.numeral.now) (sym same) c.behind_by-behind.ensures);
       long = refl;
