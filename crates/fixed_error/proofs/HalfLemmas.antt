@@ -1,8 +1,7 @@
 -- Binary digits near a half.
-use Rattle.std.proofs.Common.{◌≡◌, ◌⊎◌, ℕ, suc, ◌+◌, ◌-◌, ◌*◌, ◌/◌, ◌%◌, ◌^◌, ◌<◌, ◌≤◌, ◌≢◌, refl, sym, ap, ◌∙◌, subst, arith, ⊎_elim, inl, inr, mul-le-mul_right, mul-le-mul_left}
+use Rattle.std.proofs.Common.{◌≡◌, ◌⊎◌, ℕ, ◌+◌, ◌-◌, ◌*◌, ◌/◌, ◌%◌, ◌^◌, ◌<◌, ◌≤◌, sym, ap, ◌∙◌, subst, arith, ⊎_elim, inl, inr, mul-le-mul_right, mul-le-mul_left}
 use Rattle.std.specs.Prelude.{max, min}
 use Rattle.std.specs.Int.{bit_at}
-use Rattle.std.specs.Int.RustNames.{bit_or, bit_xor}
 use lib.Bits.{bit_and}
 use Rattle.std.proofs.Math.Nat.{one-le-pow}
 use Rattle.std.proofs.lemmas.Bool.{cases_lt}

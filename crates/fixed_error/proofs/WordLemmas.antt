@@ -1,8 +1,8 @@
 -- Errors of a numeral that is behind a whole number by a word.
-use Rattle.std.proofs.Common.{◌≡◌, ◌⊎◌, ℕ, suc, ◌+◌, ◌-◌, ◌*◌, ◌%◌, ◌^◌, ◌<◌, ◌≤◌, true, zero, List, [], ◌∷◌, ◌++◌, length, take, drop, get_or, refl, sym, ap, ◌∙◌, subst, arith, ⊎_elim, inl, inr, drop-cons, mul-le-mul_right}
+use Rattle.std.proofs.Common.{◌≡◌, ◌⊎◌, ℕ, suc, ◌+◌, ◌-◌, ◌*◌, ◌%◌, ◌^◌, ◌<◌, ◌≤◌, zero, List, [], ◌∷◌, ◌++◌, length, take, drop, get_or, refl, sym, ap, ◌∙◌, subst, arith, ⊎_elim, inl, inr, drop-cons}
 use Rattle.std.specs.Prelude.{min}
 use Rattle.std.proofs.lemmas.Bool.{cases_lt}
-use Rattle.std.proofs.lemmas.List.{drop_all}
+use Rattle.std.proofs.lemmas.List.{drop_all, length-drop, take_all}
 use Rattle.fixed_bits.specs.declared.mode.ReadMode.TheVariants.{NearestEven}
 use Rattle.fixed_numeral.specs.declared.radix.Radix.{Radix}
 use Rattle.fixed_error.specs.ErrorSize.{IsReadWithin}
@@ -78,13 +78,26 @@ twice_rest word f =
     let same : 2 * (x % 10 ^ 18) % 10 ^ 18 ≡ 2 * x % 10 ^ 18 = omega arith in
     same ∙ ap (λ t. t % 10 ^ 18) (sym next)
 
-far_from : (word f : ℕ) (errors : List LengthError) → ((k : ℕ) → k < f + length errors → min (word * 2 ^ k % 10 ^ 18) (10 ^ 18 - word * 2 ^ k % 10 ^ 18) < near_half) → AreBoundsNearHalf errors → AreWordsWithin (word * 2 ^ f % 10 ^ 18) errors
-far_from word f [] far near = tt
-far_from word f (e ∷ errors) far near =
+far_from : (word f n : ℕ) (errors : List LengthError) → ((k : ℕ) → k < f + n → min (word * 2 ^ k % 10 ^ 18) (10 ^ 18 - word * 2 ^ k % 10 ^ 18) < near_half) → AreBoundsNearHalf errors
+    → AreWordsWithin (word * 2 ^ (f + n) % 10 ^ 18) (drop n errors) → AreWordsWithin (word * 2 ^ f % 10 ^ 18) errors
+far_from word f zero errors far near later = let same : f + 0 ≡ f = omega arith in subst (λ (k : ℕ). AreWordsWithin (word * 2 ^ k % 10 ^ 18) errors) same later
+far_from word f (suc n) [] far near later = tt
+far_from word f (suc n) (e ∷ errors) far near later =
     let here = far f (omega arith) in
-    (omega (arith, here, near.0), subst (λ (t : ℕ). AreWordsWithin t errors) (sym (twice_rest word f)) (far_from word (suc f) errors (λ k less. far k (omega (arith, less))) near.1))
+    let next : f + suc n ≡ suc f + n = omega arith in
+    (omega (arith, here, near.0), subst (λ (t : ℕ). AreWordsWithin t errors) (sym (twice_rest word f)) (far_from word (suc f) n errors (λ k less. far k (omega (arith, less))) near.1 (subst (λ (k : ℕ). AreWordsWithin (word * 2 ^ k % 10 ^ 18) (drop n errors)) next later)))
 
-pub far_words : (word : ℕ) (errors : List LengthError) → word < 10 ^ 18 → ((k : ℕ) → k < length errors → min (word * 2 ^ k % 10 ^ 18) (10 ^ 18 - word * 2 ^ k % 10 ^ 18) < near_half) → AreBoundsNearHalf errors → AreWordsWithin word errors
-far_words word errors below far near =
+pub far_words : (word n : ℕ) (errors : List LengthError) → word < 10 ^ 18 → ((k : ℕ) → k < n → min (word * 2 ^ k % 10 ^ 18) (10 ^ 18 - word * 2 ^ k % 10 ^ 18) < near_half) → AreBoundsNearHalf errors
+    → AreWordsWithin (word * 2 ^ n % 10 ^ 18) (drop n errors) → AreWordsWithin word errors
+far_words word n errors below far near later =
     let same : word * 2 ^ 0 % 10 ^ 18 ≡ word = omega (arith, below) in
-    subst (λ (t : ℕ). AreWordsWithin t errors) same (far_from word 0 errors (λ k less. far k (omega (arith, less))) near)
+    let start : 0 + n ≡ n = omega arith in
+    subst (λ (t : ℕ). AreWordsWithin t errors) same (far_from word 0 n errors (λ k less. far k (omega (arith, less))) near (subst (λ (k : ℕ). AreWordsWithin (word * 2 ^ k % 10 ^ 18) (drop n errors)) (sym start) later))
+
+-- what is left after the 53rd length
+pub left_after : (word after n : ℕ) (xs ys : List LengthError) → ys ≡ xs → n ≡ 53 → after ≡ word * 2 ^ 53 % 10 ^ 18 → AreWordsWithin after (take (length ys - n) (drop n ys)) → AreWordsWithin (word * 2 ^ n % 10 ^ 18) (drop n xs)
+left_after word after n xs ys same all is near =
+    let long : length (drop n ys) ≤ length ys - n = omega (arith, length-drop n ys) in
+    let whole : take (length ys - n) (drop n ys) ≡ drop n xs = take_all (length ys - n) (drop n ys) long ∙ ap (drop n) same in
+    let word_is : after ≡ word * 2 ^ n % 10 ^ 18 = is ∙ ap (λ k. word * 2 ^ k % 10 ^ 18) (sym all) in
+    subst (λ (w : ℕ). AreWordsWithin w (drop n xs)) word_is (subst (AreWordsWithin after) whole near)

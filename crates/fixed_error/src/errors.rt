@@ -1,7 +1,9 @@
 //! The greatest error of numerals at each of many fraction lengths, where they are rounded to nearest.
 //!
 //! A numeral rarely has a greater error than those before it. So its error is first bounded by its first digits, at
-//! each length from that at the one before, and compared exactly only where the bound is above what is known.
+//! each length from that at the one before, and compared exactly only where the bound is above what is known. For a
+//! decimal of at most 18 places a word holds all of them; and once each error is nearly half an ulp, one look at its
+//! binary digits tells mostly that it is not as near to that, at any length (module `half`).
 
 ghost use Rattle.std.specs.Prelude.{◌≡◌, ◌<◌, ◌≤◌, ◌+◌, ◌-◌, ◌^◌, ◌++◌, ◌∷◌, [], List, ℕ, OnOk, IfOk};
 ghost use Rattle.std.specs.Prelude.{length, true, min};
@@ -15,7 +17,7 @@ ghost use Rattle.fixed_error.specs.Inner.Rest.{IsRest};
 ghost use Rattle.fixed_error.specs.Inner.Words.{AreWordsWithin};
 
 use crate::greatest::GreatestError;
-use crate::half::is_surely_far;
+use crate::half::{MOST_LENGTHS, is_surely_far, word_after};
 use crate::rest::{
     Behind, Rest, behind_by, bound_of, halved, halved_word, least_of, most_of, near_word, rest_of,
 };
@@ -168,8 +170,12 @@ impl GreatestErrors {
         requires near { self.now.are_near_half ≡ true → AreBoundsNearHalf self.now.errors.items }
         ensures { result ≡ true → AreWordsWithin word self.now.errors.items }
     {
-        if self.are_near_half && is_surely_far(word, self.errors.len()) {
-            return true;
+        let looked = self.errors.len().min(MOST_LENGTHS);
+        if self.are_near_half && is_surely_far(word, looked) {
+            if looked == self.errors.len() {
+                return true;
+            }
+            return are_surely_within(&self.errors[looked..], word_after(word));
         }
         are_surely_within(&self.errors, word)
     }

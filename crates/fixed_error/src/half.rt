@@ -74,14 +74,27 @@ fn are_far_from_half(digits: u64, count: u32) -> bool
     first_digits(changes & after, count) == first_digits(changes, count)
 }
 
+/// At how many lengths the middle is looked for at most: the digits after them are too few.
+pub const MOST_LENGTHS: usize = 53;
+
 /// Whether a numeral that is behind a whole number by a word is surely not near the middle at any of so many lengths.
 pub fn is_surely_far(word: u64, count: usize) -> bool
-    requires { word < 10 ^ 18 }
+    requires word { word < 10 ^ 18 }
+    requires most { count ≤ 53 }
     ensures { result ≡ true → (f : ℕ) → f < count
         → min (word * 2 ^ f % 10 ^ 18) (10 ^ 18 - word * 2 ^ f % 10 ^ 18) < near_half }
 {
-    if count == 0 || count > 53 {
-        return count == 0;
+    if count == 0 {
+        return true;
     }
     are_far_from_half(binary_digits(word), count as u32)
+}
+
+/// The word by which a numeral is behind after those lengths.
+pub fn word_after(word: u64) -> u64
+    requires { word < 10 ^ 18 }
+    ensures { result ≡ word * 2 ^ 53 % 10 ^ 18 }
+{
+    let moved = u128::from(word) << 53;
+    (moved % 1_000_000_000_000_000_000) as u64
 }

@@ -1,4 +1,3 @@
-use Rattle.std.proofs.Common.{arith}
 use Rattle.fixed_error.proofs.HalfLemmas.{none_of_seven}
 use Rattle.fixed_error.proofs.half.any_of_seven.Goals as goal
 

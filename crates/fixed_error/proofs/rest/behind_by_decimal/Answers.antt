@@ -1,6 +1,5 @@
 use Rattle.std.proofs.Common.{◌≡◌, arith, pos}
 use Rattle.std.proofs.lemmas.Int.{ints}
-use Rattle.fixed_numeral.specs.declared.radix.Radix.TheVariants.{Dec}
 use Rattle.fixed_error.proofs.ShortLemmas.{decimal_rest, decimal_word}
 use Rattle.fixed_error.proofs.rest.behind_by_decimal.Goals as goal
 

@@ -1,4 +1,4 @@
-use Rattle.std.proofs.Common.{◌≡◌, ◌*◌, ◌^◌, arith}
+use Rattle.std.proofs.Common.{◌^◌, arith}
 use Rattle.fixed_numeral.specs.declared.radix.Radix.TheVariants.{Dec}
 use Rattle.fixed_error.specs.Errors.{parts}
 use Rattle.fixed_error.proofs.RestLemmas.{parts_most}

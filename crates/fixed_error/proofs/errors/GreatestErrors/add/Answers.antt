@@ -7,7 +7,6 @@ use Rattle.fixed_error.specs.ErrorSize.{IsReadWithin}
 use Rattle.fixed_error.specs.Errors.{AreLengthErrors}
 use Rattle.fixed_error.specs.Greatest.{Entry}
 use Rattle.fixed_error.specs.Inner.Rest.{IsBehindBy, IsRest, rest_of_word}
-use Rattle.fixed_error.specs.Inner.Words.{AreWordsWithin}
 use Rattle.fixed_error.proofs.ErrorsLemmas.{element, error_more, left_one_less, rest_moved, some_error, within_moved}
 use Rattle.fixed_error.proofs.WordLemmas.{passed_over}
 use Rattle.fixed_error.proofs.RestLemmas.{parts_most, power_within, rest_halved}

@@ -1,10 +1,19 @@
-use Rattle.std.proofs.Common.{◌≡◌, length, subst, arith}
-use Rattle.fixed_error.specs.Inner.Words.{AreWordsWithin}
-use Rattle.fixed_error.proofs.WordLemmas.{far_words}
+use Rattle.std.proofs.Common.{◌≡◌, ◌*◌, ◌%◌, ◌^◌, arith}
+use Rattle.fixed_error.proofs.WordLemmas.{far_words, left_after, words_end}
 use Rattle.fixed_error.proofs.errors.GreatestErrors.is_passed_over.Goals as goal
 
-pub returns-then-is_surely_far : goal.returns-then-is_surely_far
-returns-then-is_surely_far c = λ _. far_words c.args.word c.args.self.now.errors.items c.requires.word (λ k less. c.is_surely_far.ensures c.if-is_surely_far.true k (let long = c.len.ensures in omega (arith, less, long))) (c.requires.near c.if-self.true)
+pub returns-then-looked-len : goal.returns-then-looked-len
+returns-then-looked-len c = λ _.
+    let errors = c.args.self.now.errors.items in
+    let looked = c.min-looked.result in
+    far_words c.args.word looked errors c.requires.word (c.is_surely_far.ensures c.if-is_surely_far.true) (c.requires.near c.if-self.true)
+    (words_end (c.args.word * 2 ^ looked % 10 ^ 18) looked errors (let all = c.if-looked-len.true in omega (arith, all, c.len-then-is_surely_far.ensures)))
 
-pub returns : goal.returns
-returns c = λ is. subst (AreWordsWithin c.args.word) c.deref.ensures.value (c.are_surely_within.ensures is)
+pub returns-then-is_surely_far : goal.returns-then-is_surely_far
+returns-then-is_surely_far c = λ is.
+    let errors = c.args.self.now.errors.items in
+    let looked = c.min-looked.result in
+    let all : looked ≡ 53 = let other = c.if-looked-len.false in omega (arith, other, c.len-then-is_surely_far.ensures, c.len.ensures, c.min-looked.ensures) in
+    let near = c.are_surely_within.ensures is in
+    far_words c.args.word looked errors c.requires.word (c.is_surely_far.ensures c.if-is_surely_far.true) (c.requires.near c.if-self.true)
+    (left_after c.args.word c.word_after.result looked errors c.deref.result.now c.deref.ensures.value all c.word_after.ensures near)
