@@ -181,19 +181,24 @@ RUNS = (
     (["1", "U8F0", "--into", "n", "--skip", "1"], b"sep=,\n7.4\n", 0, b"sep=,\n7.4,7\n", b""),
     (["1", "U8F0", "--into", "n" * 1024, "--header"], b"v\n7.4\n", 0, b"v," + b"n" * 1024 + b"\n7.4,7\n", b""),
     # How the fields came through.
-    (["1", "U8F0", "--report"], b"7,a\n\n7.4,b\n", 0, b"7,a\n\n7,b\n", b"fixed: numerals: 2, exact: 1, rounded: 1, overflowed: 0, refused: 0\n"),
+    (["1", "U8F0", "--report"], b"7,a\n\n7.4,b\n", 0, b"7,a\n\n7,b\n",
+     b"fixed: numerals: 2, exact: 1, rounded: 1, overflowed: 0, refused: 0\nfixed: greatest error in record 2: -0.4, in ulps: -0.4\n"),
     (["v,w", "U8F0", "--header", "--report", "--policy", "saturating", "--keep"], b'"a\nb",v,w\n\n1,2,300\n4,x,y\n', 1, b'"a\nb",v,w\n\n1,2,255\n4,x,y\n',
      refused(2, 3, 5, "'v'", "x")
      + b"fixed: numerals: 4, exact: 1, rounded: 0, overflowed: 1 (the first in record 2), refused: 2 (the first in record 3); "
-     + b"the first overflowed in line 4, column 'w'; the first refused in line 5, column 'v'\n"),
-    (["2", "U8F0", "--report", "--empty", "keep"], b"a,\na,1.5\n", 0, b"a,\na,2\n", b"fixed: numerals: 1, exact: 0, rounded: 1, overflowed: 0, refused: 0\n"),
-    (["2", "U8F0", "--report", "--empty", "0", "--trim"], b"a, \n", 0, b"a,0\n", b"fixed: numerals: 1, exact: 1, rounded: 0, overflowed: 0, refused: 0\n"),
+     + b"the first overflowed in line 4, column 'w'; the first refused in line 5, column 'v'\n"
+     + b"fixed: greatest error in record 2: 0, in ulps: 0\n"),
+    (["2", "U8F0", "--report", "--empty", "keep"], b"a,\na,1.5\n", 0, b"a,\na,2\n",
+     b"fixed: numerals: 1, exact: 0, rounded: 1, overflowed: 0, refused: 0\nfixed: greatest error in record 2: 0.5, in ulps: 0.5\n"),
+    (["2", "U8F0", "--report", "--empty", "0", "--trim"], b"a, \n", 0, b"a,0\n",
+     b"fixed: numerals: 1, exact: 1, rounded: 0, overflowed: 0, refused: 0\nfixed: greatest error in record 1: 0, in ulps: 0\n"),
     (["1", "U16F1", "--report", "--decimal", ",", "--thousands", "."], b'"1.234,5"\n"1,25\r"\n', 0, b"1234.5\n1\n",
-     b"fixed: numerals: 2, exact: 1, rounded: 1, overflowed: 0, refused: 0\n"),
+     b"fixed: numerals: 2, exact: 1, rounded: 1, overflowed: 0, refused: 0\nfixed: greatest error in record 2: -0.25, in ulps: -0.5\n"),
     (["1", "I8F8", "I8F0", "--report", "--from", "bits"], b"256,a\n128,a\n", 0, b"1,a\n0,a\n", b"fixed: numerals: 2, exact: 1, rounded: 1, overflowed: 0, refused: 0\n"),
     (["1", "U8F0", "--report"], b"7\n\"8", 3, b"7\n",
-     b"fixed: numerals: 1, exact: 1, rounded: 0, overflowed: 0, refused: 0\n" + stopped(2, UNCLOSED)),
-    (["1", "U8F0", "--report", "--into", "n"], b"7\n", 0, b"7,7\n", b"fixed: numerals: 1, exact: 1, rounded: 0, overflowed: 0, refused: 0\n"),
+     b"fixed: numerals: 1, exact: 1, rounded: 0, overflowed: 0, refused: 0\nfixed: greatest error in record 1: 0, in ulps: 0\n" + stopped(2, UNCLOSED)),
+    (["1", "U8F0", "--report", "--into", "n"], b"7\n", 0, b"7,7\n",
+     b"fixed: numerals: 1, exact: 1, rounded: 0, overflowed: 0, refused: 0\nfixed: greatest error in record 1: 0, in ulps: 0\n"),
     (["1", "U8F0", "--report"], b"", 0, b"", b"fixed: numerals: 0, exact: 0, rounded: 0, overflowed: 0, refused: 0\n"),
     # Words of registers, every part, every rounding.
     (["1", "I8F8", "--from", "bits"], b"0x0180,a\n-256,b\n0b1,c\n", 0, b"1.5,a\n-1,b\n0.004,c\n", b""),

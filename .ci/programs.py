@@ -584,16 +584,40 @@ class Runs:
             (["sort"], b"1 U8F0\nx y", b"fixed: lines refused: 1, the first in line 2, 'x y': bad format\n"),
             (["convert", "I8F0", *kept[0]], b"1\n2.5\n300\n-1\n",
              b"fixed: lines refused: 1, the first in line 3, '300': overflow, reached 300, I8F0 holds -128 to 127\n"
-             b"fixed: numerals: 4, exact: 2, rounded: 1, overflowed: 0, refused: 1 (the first in line 3)\n"),
+             b"fixed: numerals: 4, exact: 2, rounded: 1, overflowed: 0, refused: 1 (the first in line 3)\n"
+             b"fixed: greatest error in line 2: -0.5, in ulps: -0.5\n"),
             (["convert", "I8F0", *kept[1], "--skip-blank"], b"1\n\n300\nx\n0.5\n-300\n",
              b"fixed: lines refused: 1, the first in line 4, 'x': invalid digit found in string, byte 1, 'x'\n"
-             b"fixed: numerals: 5, exact: 1, rounded: 1, overflowed: 2 (the first in line 3), refused: 1 (the first in line 4)\n"),
+             b"fixed: numerals: 5, exact: 1, rounded: 1, overflowed: 2 (the first in line 3), refused: 1 (the first in line 4)\n"
+             b"fixed: greatest error in line 5: -0.5, in ulps: -0.5\n"),
             (["convert", "I8F0", "--words", *kept[0]], b"1, 2.5\n300\t-1x\n 300 \n",
              b"fixed: words refused: 3, the first in line 2, byte 1, '300': overflow, reached 300, I8F0 holds -128 to 127\n"
-             b"fixed: numerals: 5, exact: 1, rounded: 1, overflowed: 0, refused: 3 (the first in line 2)\n"),
+             b"fixed: numerals: 5, exact: 1, rounded: 1, overflowed: 0, refused: 3 (the first in line 2)\n"
+             b"fixed: greatest error in line 1: -0.5, in ulps: -0.5\n"),
             (["convert", "I8F0", "--words"], b"1\n2,\t7y,x", b"fixed: words refused: 2, the first in line 2, byte 4, '7y': invalid digit found in string, byte 5, 'y'\n"),
             (["convert", "I8F0", "--words"], b"1\n", b""),
             (["convert", "I8F8", "--report"], b"", b"fixed: numerals: 0, exact: 0, rounded: 0, overflowed: 0, refused: 0\n"),
+            (["convert", "I8F8", "--report"], b"1.0625\n-2\n",
+             b"fixed: numerals: 2, exact: 2, rounded: 0, overflowed: 0, refused: 0\nfixed: greatest error in line 1: 0, in ulps: 0\n"),
+            (["convert", "I8F8", "--report"], b"1\n1.002\n3.14159\n2.7182\n",
+             b"fixed: numerals: 4, exact: 1, rounded: 3, overflowed: 0, refused: 0\n"
+             b"fixed: greatest error in line 2: 0.00190625, in ulps: 0.488\n"),
+            (["convert", "I8F0", "--report", "--policy", "wrapping"], b"0.25\n-0.5\n0.5\n1.5\n300\n",
+             b"fixed: numerals: 5, exact: 0, rounded: 4, overflowed: 1 (the first in line 5), refused: 0\n"
+             b"fixed: greatest error in line 2: 0.5, in ulps: 0.5\n"),
+            (["convert", "I8F8", "I8F0", "--report"], b"1.5\n127.999\n",
+             b"fixed: lines refused: 1, the first in line 2, '127.999': overflow, reached 128, I8F8 holds -128 to 127.99609375\n"
+             b"fixed: numerals: 2, exact: 0, rounded: 1, overflowed: 0, refused: 1 (the first in line 2)\n"
+             b"fixed: greatest error in line 1: 0, in ulps: 0\n"),
+            (["convert", "I8F8", "--report"], b"0.25\n0." + b"1" * 1000 + b"\n",
+             b"fixed: numerals: 2, exact: 1, rounded: 1, overflowed: 0, refused: 0\n"
+             b"fixed: greatest error in line 2: below 1e-2 in size: it has more than 60 places, in ulps: below 1e0 in size: it has more than 60 places\n"),
+            (["convert", "I8F8", "--report", "--mode", "ceil"], b"1e-1999999999\n1e-2000000000\n0.1\n",
+             b"fixed: numerals: 3, exact: 0, rounded: 3, overflowed: 0, refused: 0\n"
+             b"fixed: greatest error in line 2: below 1e-2 in size: the numeral is too long to say more, "
+             b"in ulps: below 1e0 in size: the numeral is too long to say more\n"),
+            (["convert", "I8F8", "--report", "--from", "bits"], b"1\n",
+             b"fixed: numerals: 1, exact: 1, rounded: 0, overflowed: 0, refused: 0\n"),
         )
         for words, given, wanted in (*asked, *worked.TOLD):
             self.tried += 1

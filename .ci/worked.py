@@ -270,5 +270,6 @@ TOLD = (
     (["convert", "I8F0", "-p", "saturating", "--trim", "--skip-blank", "--comments", "#", "--report"],
      b"# a comment\n 7\t\r\n\n  # one more\n300\n-300\nx 7\n2.5\n",
      FIRST.format(1, 7, "x 7", ", byte 1, 'x'").encode()
-     + b"fixed: numerals: 5, exact: 1, rounded: 1, overflowed: 2 (the first in line 5), refused: 1 (the first in line 7)\n"),
+     + b"fixed: numerals: 5, exact: 1, rounded: 1, overflowed: 2 (the first in line 5), refused: 1 (the first in line 7)\n"
+     + b"fixed: greatest error in line 8: -0.5, in ulps: -0.5\n"),
 )

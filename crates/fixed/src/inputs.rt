@@ -7,10 +7,11 @@ use command_line::device::{Failure, Output, Unmarked, Writer};
 use command_line::report::{Report, push_words, report_end};
 use fixed_command::{
     ColumnConversion, ConvertRule, FieldReport, MAX_TALLY, Place, RefusedLine, Tally, Task, Watch,
-    convert_column, explanation, greater_end, run_task, tally_text,
+    convert_column, error_report, explanation, greater_end, place_name, run_task, tally_text,
 };
 use fixed_io::{StdSink, StdSource};
 use fixed_pack::{PackSettings, UnpackRule};
+use fixed_report::{ErrorReport, MAX_GREATEST};
 use fixed_steps::Steps;
 use fixed_words::{WordRefusal, convert_words};
 use line_engine::Status;
@@ -79,7 +80,7 @@ fn report_refused<L: Ledger>(
                 let numeral = line.text.as_bytes();
                 push_explanation(&mut report, rule, line, (numeral, 0), steps);
             }
-            Task::LaidOut { laid, .. } => {
+            Task::LaidOut(laid) | Task::Reported(laid) => {
                 let text = line.text.as_bytes();
                 let numeral = laid.layout.numeral_of(text);
                 let blanks = laid.layout.blanks_before(text);
@@ -115,6 +116,27 @@ pub fn report_tally(rt: &HostRuntime, file: Option<&str>, tally: &Tally, place: 
     report.send(rt);
 }
 
+/// Says on standard error which numeral of an input has the greatest error, where one has an error: its place, the
+/// error and the same in ulps; or that memory was wanting for it.
+pub fn report_greatest<L: Ledger>(
+    rt: &HostRuntime,
+    file: Option<&str>,
+    errors: &Option<ErrorReport>,
+    place: Place,
+    steps: &mut Steps<L>,
+) {
+    if let Some(errors) = errors {
+        let mut report = Report::of(file);
+        if errors.is_lost() {
+            report.text("greatest error: there is no memory for it");
+            report.send(rt);
+        } else if let Some(text) = errors.text(place_name(place).as_bytes(), steps) {
+            report.bytes(text.as_bytes(), MAX_GREATEST);
+            report.send(rt);
+        }
+    }
+}
+
 /// Does a task with one input, and says on standard error why it did not end well.
 fn run_task_on<R: Read + Drop, L: Ledger>(
     rt: &HostRuntime,
@@ -135,14 +157,9 @@ fn run_task_on<R: Read + Drop, L: Ledger>(
     // Where a write failed, not all answers that were counted were taken.
     if !is_last(status) {
         report_refused(rt, task, file, &watch, steps);
-        if matches!(
-            task,
-            Task::LaidOut {
-                has_report: true,
-                ..
-            }
-        ) {
+        if matches!(task, Task::Reported(_)) {
             report_tally(rt, file, &watch.tally(), Place::Line);
+            report_greatest(rt, file, &watch.errors(), Place::Line, steps);
         }
     }
     report_end(rt, file, status, sink.lines(), &failure);
@@ -165,7 +182,7 @@ fn run_column_on<R: Read + Drop, L: Ledger>(
     steps: &mut Steps<L>,
 ) -> Status {
     let watch = ColumnWatch::new(conversion.skipped.saturating_add(1));
-    let fields = FieldReport::new(&watch);
+    let fields = FieldReport::new(&watch, error_report(rt.alloc(), conversion.rule.settings()));
     let report = asked_report(&fields, has_report);
     let failure = Failure::new(None);
     let mut source = StdSource::new(reader);
@@ -241,6 +258,7 @@ fn run_words_on<R: Read + Drop, L: Ledger>(
         }
         if has_report {
             report_tally(rt, file, &end.tally, Place::Line);
+            report_greatest(rt, file, &end.errors, Place::Line, steps);
         }
     }
     report_end(rt, file, end.status, sink.lines(), &failure);

@@ -7,7 +7,6 @@ use Rattle.line_engine.specs.AnswerText.{AnswerText}
 use Rattle.line_engine.specs.Output.{AppendsPrefix, any_fault}
 use Rattle.line_engine.proofs.Public.{AreAnswers-append, any_fault-append}
 use Rattle.fixed_show.specs.declared.form.Form.{Form}
-use Rattle.fixed_show.specs.declared.form.Form.TheVariants.{Lines, Members}
 use Rattle.fixed_command.specs.Blocks.{BreaksBlocks, IsAnswered, WritesBlocks, answers_text, ending, lead, next_text}
 use Rattle.fixed_command.specs.declared.blocks.Question.{Question}
 

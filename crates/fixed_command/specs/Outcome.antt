@@ -58,6 +58,14 @@ HasNoNumber s numeral = ((message : List ℕ) × IsNoSource s.spelling s numeral
 abbrev pub IsOutcome : Outcome → Settings → List ℕ → Type 0
 IsOutcome outcome s numeral = IsConverted outcome s numeral ⊎ (HasNoNumber s numeral × (outcome ≡ Refused))
 
+-- a numeral that is in range after it was read and after it was moved has an error; a word has none
+abbrev pub has_error : Spelling → Outcome → Bool
+has_error Numeral Exact = true
+has_error Numeral Rounded = true
+has_error Numeral Overflowed = false
+has_error Numeral Refused = false
+has_error Word outcome = false
+
 -- ---- how often
 -- one more; the greatest count is not passed
 abbrev pub one_more : ℕ → ℕ

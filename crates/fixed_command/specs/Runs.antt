@@ -22,7 +22,7 @@ use Rattle.fixed_command.specs.LineBlocks.{IsLineBlock}
 use Rattle.fixed_command.specs.Products.{IsProduct}
 use Rattle.fixed_command.specs.declared.task.Task.{Task}
 use Rattle.fixed_command.specs.declared.task.Task.TheVariants.{Ask, Columns, Constants, Convert, Enclose, LaidOut}
-use Rattle.fixed_command.specs.declared.task.Task.TheVariants.{Least, Lines}
+use Rattle.fixed_command.specs.declared.task.Task.TheVariants.{Least, Lines, Reported}
 
 -- no read and no write failed
 abbrev pub Undisturbed : Outside → Outside → Type 0
@@ -70,11 +70,20 @@ pub record IsWholeRun (A : List ℕ → AnswerText → Type 0) (limit : ℕ) (be
   -- which count of failures rose, by status
   pub failures : HasFailures before.read_failures after.read_failures before.write_failures after.write_failures status
 
+-- how many steps a line costs at most where there is a report, for each of its bytes and beside those: its numeral is
+-- converted, read again, and compared with the longest that may have been kept
+abbrev pub reported_per_byte : ℕ
+reported_per_byte = 52
+
+abbrev pub reported_extra : ℕ
+reported_extra = 20973788
+
 -- what a task does to an input
 abbrev pub TaskRuns : Task → Outside → Outside → Status → Type 0
 TaskRuns (Lines limit) = HasLineRun respell.IsAnswer limit 8 624
 TaskRuns (Convert settings) = HasLineRun (IsLineReply settings) max_limit 8 624
-TaskRuns (LaidOut laid has_report) = HasLineRun (IsLaidOut laid.layout laid.rule) max_limit 24 1328
+TaskRuns (LaidOut laid) = HasLineRun (IsLaidOut laid.layout laid.rule) max_limit 8 624
+TaskRuns (Reported laid) = HasLineRun (IsLaidOut laid.layout laid.rule) max_limit reported_per_byte reported_extra
 TaskRuns Enclose = HasLineRun enclose.IsAnswer max_limit 16 1248
 TaskRuns (Ask form question) = HasLineRun (IsLineBlock form question) max_limit 26 3307
 TaskRuns (Least radix) = IsWholeRun (least.IsWholeAnswer radix) max_limit

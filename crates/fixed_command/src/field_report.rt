@@ -1,15 +1,18 @@
-//! How the numerals of fields come through their conversion. What is said of a field is the contract of a function;
-//! that a cell keeps it no contract can say, and so it is tested.
+//! How the numerals of fields come through their conversion, and which has the greatest error. What is said of a field
+//! is the contract of a function; that a cell keeps it no contract can say, and so it is tested.
 
-ghost use Rattle.std.specs.Prelude.{◌≡◌, ◌≤◌, length};
+ghost use Rattle.std.specs.Prelude.{◌≡◌, ◌==◌, ◌≤◌, ◌+◌, ◌*◌, ◌∷◌, [], if◌then◌else◌, length};
 ghost use Rattle.column_engine.specs.declared.record_buffer.TheConstants.{MAX_RECORD};
-ghost use Rattle.fixed_command.specs.Fields.{IsEmptyOutcome, IsFieldOutcome, IsReadOutcome};
+ghost use Rattle.fixed_command.specs.Fields.{IsEmptyOutcome, IsFieldOutcome, IsReadOutcome, bare};
+ghost use Rattle.fixed_command.specs.Convert.{without_return};
+ghost use Rattle.fixed_report.specs.Report.{add_extra, add_per_byte};
 
 use crate::ConvertRule;
 use crate::convert::without_return;
 use crate::field::{Empty, FieldForm, FieldNumerals, bare, write_read};
-use crate::outcome::{Outcome, Tally, outcome_of};
+use crate::outcome::{Outcome, Tally, has_error, outcome_of};
 use column_engine::{ColumnWatch, FieldPlace, FieldRule, RecordBuffer};
+use fixed_report::ErrorReport;
 use fixed_steps::Steps;
 use line_engine::Output;
 use std::cell::Cell;
@@ -60,23 +63,38 @@ pub fn field_outcome<L: Ledger>(
     outcome_of_line(rule, scratch.as_slice(), steps)
 }
 
-/// How many fields of a text came through, each way, and where the first was that overflowed, or was refused.
+/// The numeral that was read for a field, where what its bytes spell was left in the scratch: a zero for a field
+/// without a byte.
+fn numeral_read<'s>(form: &FieldForm<'_>, field: &[u8], scratch: &'s RecordBuffer) -> &'s [u8]
+    ensures { result.now ≡ (if length (bare form.now field.now) == 0 then 48 ∷ [] else without_return scratch.now) }
+{
+    if bare(form, field).is_empty() {
+        b"0"
+    } else {
+        without_return(scratch.as_slice())
+    }
+}
+
+/// How many fields of a text came through, each way, where the first was that overflowed, or was refused, and which has
+/// the greatest error.
 #[derive(Drop)]
 pub struct FieldReport<'w> {
     watch: &'w ColumnWatch,
     tally: Cell<Tally>,
     overflowed: Cell<Option<FieldPlace>>,
     refused: Cell<Option<FieldPlace>>,
+    errors: Cell<Option<ErrorReport>>,
 }
 
 impl<'w> FieldReport<'w> {
-    /// No field came through. The watch knows where a field is.
-    pub fn new(watch: &'w ColumnWatch) -> FieldReport<'w> {
+    /// No field came through. The watch knows where a field is, and `errors` keeps the greatest error.
+    pub fn new(watch: &'w ColumnWatch, errors: ErrorReport) -> FieldReport<'w> {
         FieldReport {
             watch,
             tally: Cell::new(Tally::new()),
             overflowed: Cell::new(None),
             refused: Cell::new(None),
+            errors: Cell::new(Some(errors)),
         }
     }
 
@@ -93,6 +111,21 @@ impl<'w> FieldReport<'w> {
     /// Where the first field is that was refused.
     pub fn first_refused(&self) -> Option<FieldPlace> {
         self.refused.get()
+    }
+
+    /// What is kept of the greatest error.
+    pub fn errors(&self) -> Option<ErrorReport> {
+        self.errors.replace(None)
+    }
+
+    /// The numeral of the field that is answered has an error.
+    fn note_error<L: Ledger>(&self, numeral: &[u8], steps: &mut Steps<L>)
+        ensures cost { steps.new ≤ steps.old + add_per_byte * length numeral.now + add_extra }
+    {
+        if let Some(mut errors) = self.errors() {
+            errors.add(numeral, self.watch.place().record, steps);
+            self.errors.set(Some(errors));
+        }
     }
 
     /// The field that is answered came through so.
@@ -144,6 +177,10 @@ impl<'a, L: Ledger> FieldRule<L> for ReportedNumerals<'a> {
             steps,
         ) {
             self.report.note(outcome);
+            if has_error(numerals.rule.settings().spelling, outcome) {
+                self.report
+                    .note_error(numeral_read(numerals.form, field, scratch), steps);
+            }
         }
         is_refused
     }

@@ -37,7 +37,9 @@ pub use fixed_show::{Form, Part};
 pub use hex::{push_hex, word_of};
 pub use layout::{LaidOutRule, Layout, MAX_PREFIX};
 pub use line_blocks::BlockRule;
-pub use outcome::{MAX_TALLY, Outcome, Place, Tally, outcome_of, tally_text};
+pub use outcome::{
+    MAX_TALLY, Outcome, Place, Tally, error_report, has_error, outcome_of, place_name, tally_text,
+};
 pub use print::{Places, Print};
 pub use refused::{RefusedWord, first_refused};
 pub use spelling::Spelling;

@@ -4,17 +4,20 @@ ghost use Rattle.std.specs.Prelude.{◌≡◌, ◌↔◌, ◌<◌, ◌≤◌, �
 ghost use Rattle.std.specs.Fmt.{decimal};
 ghost use Rattle.fixed_bits.specs.Ranges.{IsWide};
 ghost use Rattle.fixed_command.specs.Outcome.{IsOutcome, IsWholeMoved, IsWholeSource, first_of, first_text, noted};
-ghost use Rattle.fixed_command.specs.Outcome.{one_more, outcome_by, place_text, tally_text, total};
+ghost use Rattle.fixed_command.specs.Outcome.{has_error, one_more, outcome_by, place_text, tally_text, total};
 ghost use Rattle.fixed_command.specs.Convert.{IsSource};
 ghost use Rattle.fixed_read.specs.Reading.{IsMultipleOf};
+ghost use Rattle.fixed_report.specs.Report.{HasReport};
 
 use crate::convert::{Settings, frac_of, is_either, source_number};
 use crate::spelling::Spelling;
 use fixed_convert::reformat_mode;
 use fixed_read::read_format;
+use fixed_report::ErrorReport;
 use fixed_show::Shown;
 use fixed_steps::Steps;
 use itoa::Buffer;
+use std::alloc::Global;
 use std::sync::ledger::Ledger;
 use text_buffer::TextBuffer;
 
@@ -167,6 +170,32 @@ pub fn outcome_of<L: Ledger>(settings: &Settings, numeral: &[u8], steps: &mut St
     }
 }
 
+/// Whether a numeral that came through so has an error of its own: it is in range of both formats, and no word of bits.
+pub fn has_error(spelling: Spelling, outcome: Outcome) -> bool
+    ensures { result ≡ has_error spelling outcome }
+{
+    match spelling {
+        Spelling::Numeral => match outcome {
+            Outcome::Exact => true,
+            Outcome::Rounded => true,
+            Outcome::Overflowed => false,
+            Outcome::Refused => false,
+        },
+        Spelling::Word => false,
+    }
+}
+
+/// What is to be kept of the greatest error of numerals, where they are read into the source.
+pub fn error_report(alloc: Global, settings: &Settings) -> ErrorReport
+    ensures radix { result.radix ≡ settings.now.radix }
+    ensures format { result.format ≡ settings.now.source }
+    ensures mode { result.mode ≡ settings.now.mode }
+    ensures none { HasReport settings.now.mode settings.now.radix settings.now.source [] result.is_lost
+        result.greatest }
+{
+    ErrorReport::new(alloc, settings.radix, settings.source, settings.mode)
+}
+
 /// How many numerals of an input came through, each way, and where the first was that overflowed, or was refused.
 #[derive(Clone, Copy, Debug, PartialEq, Eq)]
 pub struct Tally {
@@ -249,7 +278,7 @@ pub enum Place {
 }
 
 /// The name of a place.
-fn place_name(place: Place) -> &'static str
+pub fn place_name(place: Place) -> &'static str
     ensures name { result.now ≡ place_text place }
     ensures short { length result.now ≤ 6 }
 {

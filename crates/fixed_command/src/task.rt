@@ -13,16 +13,17 @@ ghost use Rattle.fixed_command.specs.Layout.{IsLaidOut};
 ghost use Rattle.fixed_command.specs.Limits.{max_limit};
 ghost use Rattle.fixed_command.specs.LineBlocks.{IsLineBlock};
 ghost use Rattle.fixed_command.specs.Products.{IsProduct};
-ghost use Rattle.fixed_command.specs.Runs.{HasLineRun, IsWholeRun, TaskRuns};
+ghost use Rattle.fixed_command.specs.Runs.{HasLineRun, IsWholeRun, TaskRuns, reported_extra, reported_per_byte};
 ghost use Rattle.line_engine.specs.WholeRun.{EndsBeforeWriting};
 
 use crate::ConvertRule;
 use crate::blocks::Question;
 use crate::layout::LaidOutRule;
 use crate::line_blocks::BlockRule;
+use crate::outcome::error_report;
 use crate::watch::{
-    Product, Watch, WatchedBlocks, WatchedEnclosures, WatchedLaidOut, WatchedLines,
-    WatchedNumerals, WatchedWhole,
+    Product, ReportedLaidOut, Watch, WatchedBlocks, WatchedEnclosures, WatchedLaidOut,
+    WatchedLines, WatchedNumerals, WatchedWhole,
 };
 use fixed_columns::ColumnsRule;
 use fixed_constants::FormRule;
@@ -82,13 +83,10 @@ pub enum Task<'a> {
     Lines(Limit),
     /// Each line is a numeral that is converted.
     Convert(ConvertRule),
-    /// The same of lines as people have them, and how each numeral comes through is kept where a report is asked for.
-    LaidOut {
-        /// How a line is answered.
-        laid: LaidOutRule,
-        /// Whether there is a report.
-        has_report: bool,
-    },
+    /// The same of lines as people have them.
+    LaidOut(LaidOutRule),
+    /// The same, and it is kept how each numeral comes through, and which has the greatest error.
+    Reported(LaidOutRule),
     /// Each line is answered with the enclosure of its numeral.
     Enclose,
     /// Each line is answered in a form, with what a question asks of it.
@@ -248,13 +246,12 @@ pub fn run_convert<S: Source, K: Sink, L: Ledger>(
 fn run_laid_out<S: Source, K: Sink, L: Ledger>(
     alloc: Global,
     laid: &LaidOutRule,
-    has_report: bool,
     watch: &Watch,
     source: &mut S,
     sink: &mut K,
     steps: &mut Steps<L>,
 ) -> Status
-    ensures run { HasLineRun (IsLaidOut laid.now.layout laid.now.rule) max_limit 24 1328
+    ensures run { HasLineRun (IsLaidOut laid.now.layout laid.now.rule) max_limit 8 624
         (outside (S.left source.old) (S.asked source.old) (S.failures source.old)
         (K.written sink.old) (K.failures sink.old) steps.old)
         (outside (S.left source.new) (S.asked source.new) (S.failures source.new)
@@ -263,8 +260,32 @@ fn run_laid_out<S: Source, K: Sink, L: Ledger>(
 {
     let rule = WatchedLaidOut {
         laid: laid.same(),
-        has_report,
         watch: Watch::new(),
+    };
+    let status = run_rule(alloc, MAX_LIMIT, &rule, source, sink, steps);
+    watch.take(&rule.watch);
+    status
+}
+
+/// The same, where it is kept how each numeral comes through, and which has the greatest error.
+fn run_reported<S: Source, K: Sink, L: Ledger>(
+    alloc: Global,
+    laid: &LaidOutRule,
+    watch: &Watch,
+    source: &mut S,
+    sink: &mut K,
+    steps: &mut Steps<L>,
+) -> Status
+    ensures run { HasLineRun (IsLaidOut laid.now.layout laid.now.rule) max_limit reported_per_byte reported_extra
+        (outside (S.left source.old) (S.asked source.old) (S.failures source.old)
+        (K.written sink.old) (K.failures sink.old) steps.old)
+        (outside (S.left source.new) (S.asked source.new) (S.failures source.new)
+        (K.written sink.new) (K.failures sink.new) steps.new) result }
+    ensures memory { result ≡ Status.NoMemory → sink.new ≡ sink.old }
+{
+    let rule = ReportedLaidOut {
+        laid: laid.same(),
+        watch: Watch::of_errors(error_report(alloc, laid.rule.settings())),
     };
     let status = run_rule(alloc, MAX_LIMIT, &rule, source, sink, steps);
     watch.take(&rule.watch);
@@ -362,9 +383,8 @@ pub fn run_task<S: Source, K: Sink, L: Ledger>(
     match task {
         Task::Lines(limit) => run_words(alloc, limit, watch, source, sink, steps),
         Task::Convert(rule) => run_convert(alloc, rule, watch, source, sink, steps),
-        Task::LaidOut { laid, has_report } => {
-            run_laid_out(alloc, laid, *has_report, watch, source, sink, steps)
-        }
+        Task::LaidOut(laid) => run_laid_out(alloc, laid, watch, source, sink, steps),
+        Task::Reported(laid) => run_reported(alloc, laid, watch, source, sink, steps),
         Task::Enclose => run_enclosures(alloc, watch, source, sink, steps),
         Task::Ask(form, question) => {
             run_questions(alloc, *form, *question, watch, source, sink, steps)

@@ -6,6 +6,7 @@ ghost use Rattle.std.specs.Prelude.{◌≡◌, ◌==◌, ◌+◌, ◌*◌, ◌^�
 ghost use Rattle.fixed_command.specs.Outcome.{one_more};
 ghost use Rattle.fixed_command.specs.Products.{IsProduct};
 ghost use Rattle.fixed_command.specs.Watched.{first_refused, kept_bytes, line_at, refusal_text};
+ghost use Rattle.fixed_report.specs.Report.{add_extra, add_per_byte};
 ghost use Rattle.fixed_respell.specs.Language.{fault_answer};
 
 use crate::blocks::first_bytes;
@@ -13,8 +14,9 @@ use crate::convert::{ConvertRule, without_return};
 use crate::layout::LaidOutRule;
 use crate::line_blocks::BlockRule;
 use crate::named_line::{line_and_message, line_at};
-use crate::outcome::{Outcome, Tally, one_more, outcome_of};
+use crate::outcome::{Outcome, Tally, has_error, one_more, outcome_of};
 use fixed_enclose::EncloseRule;
+use fixed_report::ErrorReport;
 use fixed_respell::RespellRule;
 use fixed_show::{Form, MAX_OBJECT};
 use fixed_steps::Steps;
@@ -129,13 +131,14 @@ impl Refusals {
     }
 }
 
-/// What is known of the lines of an input: how many there were, which were refused, and how their numerals came
-/// through, where that is asked.
+/// What is known of the lines of an input: how many there were, which were refused, and where that is asked how their
+/// numerals came through, and which has the greatest error.
 #[derive(Drop)]
 pub struct Watch {
     lines: Cell<u64>,
     refusals: Cell<Refusals>,
     tally: Cell<Tally>,
+    errors: Cell<Option<ErrorReport>>,
 }
 
 impl Watch {
@@ -145,7 +148,15 @@ impl Watch {
             lines: Cell::new(0),
             refusals: Cell::new(Refusals::new()),
             tally: Cell::new(Tally::new()),
+            errors: Cell::new(None),
         }
+    }
+
+    /// No line was seen, of which the greatest error is to be kept.
+    pub fn of_errors(errors: ErrorReport) -> Watch {
+        let watch = Watch::new();
+        watch.errors.set(Some(errors));
+        watch
     }
 
     /// The lines that were refused.
@@ -158,11 +169,17 @@ impl Watch {
         self.tally.get()
     }
 
+    /// What is kept of the greatest error, where it is.
+    pub fn errors(&self) -> Option<ErrorReport> {
+        self.errors.replace(None)
+    }
+
     /// What another watch knows, which it keeps no longer.
     pub fn take(&self, other: &Watch) {
         self.lines.set(other.lines.get());
         self.refusals.set(other.refusals());
         self.tally.set(other.tally());
+        self.errors.set(other.errors());
     }
 
     /// A line is to be answered: where its answer begins.
@@ -195,6 +212,16 @@ impl Watch {
         self.tally.set(tally);
     }
 
+    /// The numeral of the last line that is counted has an error.
+    fn note_error<L: Ledger>(&self, numeral: &[u8], steps: &mut Steps<L>)
+        ensures cost { steps.new ≤ steps.old + add_per_byte * length numeral.now + add_extra }
+    {
+        if let Some(mut errors) = self.errors() {
+            errors.add(numeral, self.lines.get(), steps);
+            self.errors.set(Some(errors));
+        }
+    }
+
     /// An input is refused with this answer.
     fn refuse_input(&self, input: &[u8], answer: &[u8]) {
         self.refusals.set(Refusals::of_input(input, answer));
@@ -224,30 +251,41 @@ pub struct WatchedNumerals {
     pub watch: Watch,
 }
 
-/// The rule of a conversion of lines as people have them, whose refusals are watched, and with a report how each
-/// numeral comes through.
+/// The rule of a conversion of lines as people have them, whose refusals are watched.
 #[derive(Drop)]
 pub struct WatchedLaidOut {
     /// The rule.
     pub laid: LaidOutRule,
-    /// Whether there is a report.
-    pub has_report: bool,
     /// What is known of the lines.
     pub watch: Watch,
 }
 
-impl WatchedLaidOut {
+/// The same rule, where it is watched too how each numeral comes through, and which has the greatest error.
+#[derive(Drop)]
+pub struct ReportedLaidOut {
+    /// The rule.
+    pub laid: LaidOutRule,
+    /// What is known of the lines.
+    pub watch: Watch,
+}
+
+impl ReportedLaidOut {
     /// Notes how the numeral of a line came through that was answered, by a fault or not.
     fn note<L: Ledger>(&self, line: &[u8], is_fault: bool, steps: &mut Steps<L>)
-        ensures cost { steps.new ≤ steps.old + 16 * length line.now + 704 }
+        ensures cost { steps.new ≤ steps.old + (16 * length line.now + 704)
+            + (add_per_byte * length line.now + add_extra) }
     {
         let layout = &self.laid.layout;
         if is_fault {
             self.watch.note(Outcome::Refused);
         } else if !layout.is_skipped(line) {
+            let settings = self.laid.rule.settings();
             let numeral = layout.numeral_of(line);
-            self.watch
-                .note(outcome_of(self.laid.rule.settings(), numeral, steps));
+            let outcome = outcome_of(settings, numeral, steps);
+            self.watch.note(outcome);
+            if has_error(settings.spelling, outcome) {
+                self.watch.note_error(numeral, steps);
+            }
         }
     }
 }
@@ -388,15 +426,15 @@ impl<L: Ledger> LineRule<L> for WatchedLaidOut {
     ghost use Rattle.fixed_command.specs.Layout.{IsLaidOut};
     ghost use Rattle.fixed_command.specs.Lemmas.LayoutLemmas.{laid_out_one, long_by_its_prefix};
 
-    const PER_BYTE: u64 = 24;
+    const PER_BYTE: u64 = 8;
 
-    const EXTRA: u64 = 1328;
+    const EXTRA: u64 = 624;
 
     const MAX_ANSWER: usize = MAX_ANSWER;
 
-    ghost PER_BYTE = { 24 };
+    ghost PER_BYTE = { 8 };
 
-    ghost EXTRA = { 1328 };
+    ghost EXTRA = { 624 };
 
     ghost MAX_ANSWER = { 192 };
 
@@ -406,9 +444,6 @@ impl<L: Ledger> LineRule<L> for WatchedLaidOut {
         let start = self.watch.begin(out);
         let is_fault = self.laid.answer(line, out, steps);
         self.watch.end(without_return(line), out, start, is_fault);
-        if self.has_report {
-            self.note(line, is_fault, steps);
-        }
         is_fault
     }
 
@@ -417,6 +452,41 @@ impl<L: Ledger> LineRule<L> for WatchedLaidOut {
     ghost one_law = { λ watched. laid_out_one watched.laid.layout watched.laid.rule };
 
     ghost kept_law = { λ watched. long_by_its_prefix watched.laid.layout watched.laid.rule };
+}
+
+impl<L: Ledger> LineRule<L> for ReportedLaidOut {
+    ghost use Rattle.std.proofs.Common.{lit<};
+    ghost use Rattle.fixed_command.specs.Layout.{IsLaidOut};
+    ghost use Rattle.fixed_command.specs.Lemmas.LayoutLemmas.{laid_out_one, long_by_its_prefix};
+    ghost use Rattle.fixed_command.specs.Runs.{reported_extra, reported_per_byte};
+
+    const PER_BYTE: u64 = 52;
+
+    const EXTRA: u64 = 20_973_788;
+
+    const MAX_ANSWER: usize = MAX_ANSWER;
+
+    ghost PER_BYTE = { reported_per_byte };
+
+    ghost EXTRA = { reported_extra };
+
+    ghost MAX_ANSWER = { 192 };
+
+    ghost Answers = { λ reported. IsLaidOut reported.laid.layout reported.laid.rule };
+
+    fn answer(&self, line: &[u8], out: &mut Output, steps: &mut Steps<L>) -> bool {
+        let start = self.watch.begin(out);
+        let is_fault = self.laid.answer(line, out, steps);
+        self.watch.end(without_return(line), out, start, is_fault);
+        self.note(line, is_fault, steps);
+        is_fault
+    }
+
+    ghost room_law = { lit< tt };
+
+    ghost one_law = { λ reported. laid_out_one reported.laid.layout reported.laid.rule };
+
+    ghost kept_law = { λ reported. long_by_its_prefix reported.laid.layout reported.laid.rule };
 }
 
 impl<L: Ledger> LineRule<L> for WatchedEnclosures {

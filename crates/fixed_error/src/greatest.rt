@@ -32,6 +32,7 @@ impl GreatestError {
         ensures frac { result.frac ≡ frac }
         ensures mode { result.mode ≡ mode }
         ensures none { HasGreatest [] result }
+        ensures empty { result.numeral.items ≡ [] }
     {
         GreatestError {
             radix,

@@ -14,6 +14,7 @@ pub mod PowerLemmas
 pub mod TallLemmas
 pub mod BoundedLemmas
 pub mod UlpsLemmas
+pub mod ShownErrorLemmas
 pub mod ShortLemmas
 pub mod JsonLemmas
 pub mod WordLawLemmas

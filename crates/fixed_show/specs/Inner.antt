@@ -4,3 +4,4 @@ pub mod Decimals
 pub mod Errors
 pub mod Words
 pub mod Powers
+pub mod ErrorTexts

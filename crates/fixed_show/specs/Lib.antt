@@ -12,5 +12,6 @@ pub mod ErrorText
 pub mod UlpsText
 pub mod ShortError
 pub mod ShowBlock
+pub mod ShownErrors
 pub mod BlockLaws
 pub mod Inner

@@ -32,7 +32,12 @@ use std::sync::ledger::Ledger;
 use text_buffer::TextBuffer;
 
 /// `bits` less a decimal times 2^`frac`, exactly. The decimal is negative where `is_negative`.
-fn exact_ulps(bits: i128, frac: u32, numeral: &Decimal, is_negative: bool) -> SignedDecimal
+pub(crate) fn exact_ulps(
+    bits: i128,
+    frac: u32,
+    numeral: &Decimal,
+    is_negative: bool,
+) -> SignedDecimal
     requires wide { IsWide bits }
     requires frac { frac ≤ 64 }
     requires small { numeral.now.number < 10 ^ 1208 }
@@ -58,7 +63,7 @@ fn exact_ulps(bits: i128, frac: u32, numeral: &Decimal, is_negative: bool) -> Si
 }
 
 /// The power of ten of ulps of 2^-`frac` that is named for an error below a power of ten.
-fn ulps_power(power: &Power, frac: u32, is_overflowed: bool) -> Power
+pub(crate) fn ulps_power(power: &Power, frac: u32, is_overflowed: bool) -> Power
     requires frac { frac ≤ 64 }
     requires small { power.now.exponent < 2 ^ 69 }
     ensures value { with_sign result.is_negative result.exponent

@@ -4,7 +4,7 @@ use Rattle.line_engine.specs.AnswerText.{AnswerText}
 use Rattle.fixed_command.specs.Lemmas.ReplyLemmas.{reply_one}
 use Rattle.fixed_command.specs.declared.convert.Settings.{Settings}
 use Rattle.fixed_words.specs.Laws.{WordedIsTheOne}
-use Rattle.fixed_words.specs.Words.{AreEnded, Ended, HasNoSeparator, IsWordReply, IsWorded, any_refused, bytes_of, is_separator, written_of}
+use Rattle.fixed_words.specs.Words.{AreEnded, Ended, HasNoSeparator, IsWordReply, any_refused, bytes_of, is_separator, written_of}
 
 word_reply_one : (s : Settings) (word : List ℕ) (a b : AnswerText) → IsWordReply s word a → IsWordReply s word b → a ≡ b
 word_reply_one s [] a b x y = x ∙ sym y

@@ -9,7 +9,8 @@ ghost use Rattle.fixed_words.specs.Inner.Progress.{EndsWords, HasEndFailures, Ha
 use crate::chunk::{MOST_BYTES, read_chunk};
 use crate::splitter::{CHUNK, WordRefusal, Words};
 use column_engine::RecordBuffer;
-use fixed_command::{ConvertRule, Tally};
+use fixed_command::{ConvertRule, Tally, error_report};
+use fixed_report::ErrorReport;
 use fixed_steps::Steps;
 use line_engine::{Sink, Source, Status};
 use std::alloc::Global;
@@ -26,6 +27,8 @@ pub struct WordsEnd {
     pub first: Option<WordRefusal>,
     /// How the words came through, where that was asked.
     pub tally: Tally,
+    /// What is kept of the greatest error, where that was asked.
+    pub errors: Option<ErrorReport>,
 }
 
 impl WordsEnd {
@@ -38,7 +41,17 @@ impl WordsEnd {
             refused: words.refused,
             first: words.first,
             tally: words.tally,
+            errors: words.errors,
         }
+    }
+}
+
+/// What is to be kept of the greatest error, where that is asked.
+fn errors_of(alloc: Global, rule: &ConvertRule, has_report: bool) -> Option<ErrorReport> {
+    if has_report {
+        Some(error_report(alloc, rule.settings()))
+    } else {
+        None
     }
 }
 
@@ -109,9 +122,9 @@ fn convert_all<S: Source, K: Sink, L: Ledger>(
 ///
 /// A word is a stretch of bytes between separators, which are ASCII's white space and the comma; it is a numeral, or a
 /// word of bits, and the reply to it is what a line of it alone is answered with. Each separator is written as it is,
-/// and no other byte. With `has_report` it is kept how the words came through. What was answered of a chunk of 1,024
-/// bytes is written before the next is read. It takes memory for one word of 1,048,576 bytes before the first read, and
-/// answers `NoMemory` where that fails.
+/// and no other byte. With `has_report` it is kept how the words came through, and which has the greatest error. What
+/// was answered of a chunk of 1,024 bytes is written before the next is read. It takes memory for one word of 1,048,576
+/// bytes before the first read, and answers `NoMemory` where that fails.
 pub fn convert_words<S: Source, K: Sink, L: Ledger>(
     alloc: Global,
     rule: &ConvertRule,
@@ -134,7 +147,11 @@ pub fn convert_words<S: Source, K: Sink, L: Ledger>(
             refused: 0,
             first: None,
             tally: Tally::new(),
+            errors: None,
         },
-        Ok(word) => convert_all(rule, Words::new(word, has_report), source, sink, steps),
+        Ok(word) => {
+            let errors = errors_of(alloc, rule, has_report);
+            convert_all(rule, Words::new(word, errors), source, sink, steps)
+        }
     }
 }

@@ -10,7 +10,8 @@ ghost use Rattle.fixed_words.specs.Inner.Progress.{EndsWord, HasWorded, HasWritt
 
 use crate::chunk::send;
 use column_engine::{MAX_RECORD, RecordBuffer};
-use fixed_command::{ConvertRule, Outcome, RefusedLine, Tally, outcome_of};
+use fixed_command::{ConvertRule, Outcome, RefusedLine, Tally, has_error, outcome_of};
+use fixed_report::ErrorReport;
 use fixed_steps::Steps;
 use line_engine::{Failed, MAX_ANSWER, Sink};
 use std::sync::ledger::Ledger;
@@ -53,8 +54,8 @@ pub struct Words {
     pub refused: u64,
     /// The first of those.
     pub first: Option<WordRefusal>,
-    /// Whether it is kept how the words came through.
-    pub has_report: bool,
+    /// What is kept of the greatest error, where it is kept how the words came through.
+    pub errors: Option<ErrorReport>,
     /// How they did.
     pub tally: Tally,
 }
@@ -84,7 +85,7 @@ fn push_reply<L: Ledger>(
 
 impl Words {
     /// No byte, with room for a word.
-    pub fn new(word: RecordBuffer, has_report: bool) -> Words
+    pub fn new(word: RecordBuffer, errors: Option<ErrorReport>) -> Words
         requires empty { word ≡ [] }
         ensures none { (s : Settings) → HasWorded s [] [] result }
         ensures out { result.out ≡ [] }
@@ -98,7 +99,7 @@ impl Words {
             start: 1,
             refused: 0,
             first: None,
-            has_report,
+            errors,
             tally: Tally::new(),
         }
     }
@@ -129,13 +130,19 @@ impl Words {
         ensures out { self.new.out ≡ self.old.out }
         ensures fault { self.new.has_fault ≡ self.old.has_fault }
     {
-        if self.has_report && !self.word.is_empty() {
-            let outcome = if is_fault {
-                Outcome::Refused
-            } else {
-                outcome_of(rule.settings(), self.word.as_slice(), steps)
-            };
-            self.tally.note(self.line, outcome);
+        if let Some(errors) = &mut self.errors {
+            let word = self.word.as_slice();
+            if !word.is_empty() {
+                let outcome = if is_fault {
+                    Outcome::Refused
+                } else {
+                    outcome_of(rule.settings(), word, steps)
+                };
+                self.tally.note(self.line, outcome);
+                if has_error(rule.settings().spelling, outcome) {
+                    errors.add(word, self.line, steps);
+                }
+            }
         }
     }
 

@@ -37,8 +37,8 @@ use Rattle.fixed_command.specs.Lemmas.ReplyLemmas.{line_reply_one}
 use Rattle.fixed_command.specs.Limits.{max_limit}
 use Rattle.fixed_command.specs.LineBlocks.{IsLineBlock}
 use Rattle.fixed_command.specs.Products.{IsProduct}
-use Rattle.fixed_command.specs.Runs.{HasLineRun, IsWholeRun, TaskRuns}
-use Rattle.fixed_command.specs.declared.task.Task.TheVariants.{Ask, Columns, Constants, Convert, Enclose, LaidOut, Least, Lines}
+use Rattle.fixed_command.specs.Runs.{HasLineRun, IsWholeRun, TaskRuns, reported_extra, reported_per_byte}
+use Rattle.fixed_command.specs.declared.task.Task.TheVariants.{Ask, Columns, Constants, Convert, Enclose, LaidOut, Least, Lines, Reported}
 use Rattle.program_laws.specs.Laws.{ColumnsRunsAreTheOnes, EncloseRunsAreTheOnes, FormRunsAreTheOnes, LeastRunsAreTheOnes, ProgramRunsAreTheOnes, TaskRunsAreTheOnes}
 use Rattle.program_laws.specs.Runs.{RunsAreTheOnes}
 use Rattle.program_laws.proofs.LineLemmas.{calm_line_one, line_run_one}
@@ -97,7 +97,8 @@ module _ (report : ReportIsTheOne) where
     pub task_runs_one : TaskRunsAreTheOnes
     task_runs_one (Lines limit) = by_line cut respell.IsAnswer respell_one limit 8 624 (TaskRuns (Lines limit)) (λ before after s x. x)
     task_runs_one (Convert settings) = by_line cut (IsLineReply settings) (line_reply_one settings) max_limit 8 624 (TaskRuns (Convert settings)) (λ before after s x. x)
-    task_runs_one (LaidOut laid has_report) = by_line cut (IsLaidOut laid.layout laid.rule) (laid_out_one laid.layout laid.rule) max_limit 24 1328 (TaskRuns (LaidOut laid has_report)) (λ before after s x. x)
+    task_runs_one (LaidOut laid) = by_line cut (IsLaidOut laid.layout laid.rule) (laid_out_one laid.layout laid.rule) max_limit 8 624 (TaskRuns (LaidOut laid)) (λ before after s x. x)
+    task_runs_one (Reported laid) = by_line cut (IsLaidOut laid.layout laid.rule) (laid_out_one laid.layout laid.rule) max_limit reported_per_byte reported_extra (TaskRuns (Reported laid)) (λ before after s x. x)
     task_runs_one (Ask form question) = by_line cut (IsLineBlock form question) (line_block_one form question) max_limit 26 3307 (TaskRuns (Ask form question)) (λ before after s x. x)
     task_runs_one Enclose = by_line cut enclose.IsAnswer enclose_one max_limit 16 1248 (TaskRuns Enclose) (λ before after s x. x)
     task_runs_one (Least radix) = by_whole (least.IsWholeAnswer radix) (least_one radix) max_limit (TaskRuns (Least radix)) (λ before after s x. x)

@@ -1,5 +1,6 @@
 //! What `fixed column` says on standard error of an input.
 
+use crate::inputs::report_greatest;
 use column_engine::place::field_end;
 use column_engine::{Column, ColumnEnd, ColumnWatch, FieldPlace, RefusedField, Stop};
 use command_line::device::Failure;
@@ -213,7 +214,13 @@ fn push_place(
 
 /// Says on standard error how the fields of a file came through, where that is asked. Where a write failed it says
 /// nothing, since not all that was answered was written.
-fn report_fields(rt: &HostRuntime, file: Option<&str>, known: &Known<'_>, header: Option<&[u8]>) {
+fn report_fields<L: Ledger>(
+    rt: &HostRuntime,
+    file: Option<&str>,
+    known: &Known<'_>,
+    header: Option<&[u8]>,
+    steps: &mut Steps<L>,
+) {
     let fields = match known.report {
         Some(fields) if !matches!(known.end.stop, Stop::WriteFault | Stop::NoMemory) => fields,
         _ => return,
@@ -238,6 +245,7 @@ fn report_fields(rt: &HostRuntime, file: Option<&str>, known: &Known<'_>, header
         header,
     );
     report.send(rt);
+    report_greatest(rt, file, &fields.errors(), Place::Record, steps);
 }
 
 /// What is known of a file whose columns were converted.
@@ -269,7 +277,7 @@ pub fn report_end<L: Ledger>(
         None => None,
     };
     report_refused(rt, file, known, header, steps);
-    report_fields(rt, file, known, header);
+    report_fields(rt, file, known, header, steps);
     let end = known.end;
     if end.stop == Stop::Done || is_broken_pipe(&error) {
         return;

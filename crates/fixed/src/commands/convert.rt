@@ -82,10 +82,14 @@ fn task_of<'a>(given: &Given<'_, 'a>, rule: ConvertRule) -> Asked<'a, Task<'a>> 
         return Ok(Task::Convert(rule));
     }
     match layout_of(given) {
-        Ok(layout) => Ok(Task::LaidOut {
-            laid: LaidOutRule { rule, layout },
-            has_report,
-        }),
+        Ok(layout) => {
+            let laid = LaidOutRule { rule, layout };
+            Ok(if has_report {
+                Task::Reported(laid)
+            } else {
+                Task::LaidOut(laid)
+            })
+        }
         Err(refusal) => Err(refusal),
     }
 }

@@ -21,5 +21,8 @@ returns-in-Columns-clause-run g c = rw c.in-Columns.is c.run_cells.ensures.run
 pub returns-in-LaidOut-clause-run : goal.returns-in-LaidOut-clause-run
 returns-in-LaidOut-clause-run g c = rw c.in-LaidOut.is c.run_laid_out.ensures.run
 
+pub returns-in-Reported-clause-run : goal.returns-in-Reported-clause-run
+returns-in-Reported-clause-run g c = rw c.in-Reported.is c.run_reported.ensures.run
+
 pub returns-in-Ask-clause-run : goal.returns-in-Ask-clause-run
 returns-in-Ask-clause-run g c = rw c.in-Ask.is c.run_questions.ensures.run

@@ -6,7 +6,7 @@ pub returns-then-is_separator-clause-taken : goal.returns-then-is_separator-clau
 returns-then-is_separator-clause-taken g c = λ whole sent h.
     let mid = c.end_word.new.self in
     worded_end c.args.rule.now whole sent c.args.byte c.args.self.now mid
-    (record { word = mid.word; out = c.push.new.self; has_fault = mid.has_fault; line = mid.line; byte = mid.byte; start = mid.start; refused = mid.refused; first = mid.first; has_report = mid.has_report; tally = mid.tally })
+    (record { word = mid.word; out = c.push.new.self; has_fault = mid.has_fault; line = mid.line; byte = mid.byte; start = mid.start; refused = mid.refused; first = mid.first; errors = mid.errors; tally = mid.tally })
     h (sym c.is_separator.ensures ∙ c.if-is_separator.true) c.end_word.ensures.ended c.end_word.ensures.word c.push.ensures refl
 
 pub returns-else-is_separator-clause-taken : goal.returns-else-is_separator-clause-taken

@@ -1,0 +1,154 @@
+-- What one more numeral makes of what is kept, and that there is one report.
+use Rattle.std.proofs.Common.{◌≡◌, ◌≤◌, ℕ, suc, length, append_assoc, codes, decimal, ◌⊎◌, Result, Ok, Err, is_ok, OnOk, ◌^◌, ◌<◌, ℤ, Bool, true, false, List, [], ◌∷◌, ◌++◌, inl, inr, refl, sym, ap, ◌∙◌, subst, arith}
+use Rattle.std.proofs.lemmas.Bool.{false≢true}
+use Rattle.std.proofs.lemmas.Int.{ints}
+use Rattle.fixed_bits.proofs.Public.{has_none, in_wide}
+use Rattle.fixed_bits.specs.Formats.{FormatParts}
+use Rattle.fixed_bits.specs.Images.{IsImage}
+use Rattle.fixed_bits.specs.Numbers.{with_sign}
+use Rattle.fixed_bits.specs.Ranges.{IsWide, IsWidth}
+use Rattle.fixed_bits.specs.declared.format.Policy.TheVariants.{Checked}
+use Rattle.fixed_bits.specs.declared.mode.ReadMode.{ReadMode}
+use Rattle.fixed_error.proofs.Public.{first_greatest_one}
+use Rattle.fixed_error.specs.ErrorSize.{IsReadWithin}
+use Rattle.fixed_error.specs.Greatest.{Entry, HasGreatest, IsKept}
+use Rattle.fixed_error.specs.declared.greatest.GreatestError.{GreatestError}
+use Rattle.fixed_numeral.proofs.Public.{parts_unique}
+use Rattle.fixed_numeral.specs.Numeral.{Parts, is_minus}
+use Rattle.fixed_numeral.specs.declared.radix.Radix.{Radix}
+use Rattle.fixed_read.proofs.Public.{read_unique}
+use Rattle.fixed_read.specs.Reading.{IsReadNumber}
+use Rattle.fixed_report.specs.Laws.{AreSame, GreatestHasBits, ReportIsTheOne}
+use Rattle.fixed_report.specs.Report.{AreIn, HasReport, IsIn, Kept}
+use Rattle.fixed_report.specs.Text.{IsGreatestText, greatest_text}
+use Rattle.fixed_show.specs.ShowBlock.{HasNoBits, IsReadAs}
+use Rattle.fixed_show.specs.ShownErrors.{AreShownErrors}
+
+-- ---- a numeral in range is rounded to fewer than 2^64 ulps
+few_ulps : (minus : Bool) (ulps : ℕ) → IsWide (with_sign minus ulps) → ulps < 2 ^ 64
+few_ulps true ulps h = omega (arith, ints, h.low)
+few_ulps false ulps h = omega (arith, ints, h.high)
+
+pub in_within : (mode : ReadMode) (r : Radix) (f : FormatParts) (bytes : List ℕ) (bits : ℤ) (out : Bool) → IsWidth f.width → IsReadAs mode r bytes f Checked bits out → IsReadWithin mode r f.frac bytes
+in_within mode r f bytes bits out width h = record {
+  parts = h.parts;
+  numeral = h.numeral;
+  number = h.number;
+  read = h.read;
+  within = few_ulps (is_minus h.parts.sign) h.read.ulps (subst (λ (v : ℤ). IsWide v) h.read.value (in_wide f.signed f.width h.number width.most h.image.in_range));
+}
+
+-- ---- one more
+pub one_in : (mode : ReadMode) (r : Radix) (f : FormatParts) (entries found : List Entry) (e : Entry) → IsIn mode r f e.numeral → AreIn mode r f entries found → AreIn mode r f (entries ++ e ∷ []) (found ++ e ∷ [])
+one_in mode r f [] found e h are = ([], refl, inl (h, ap (λ t. t ++ e ∷ []) are))
+one_in mode r f (x ∷ xs) found e h (more, are, inl (first, is)) = (more ++ e ∷ [], one_in mode r f xs more e h are, inl (first, ap (λ t. t ++ e ∷ []) is))
+one_in mode r f (x ∷ xs) found e h (more, are, inr (none, is)) = (more ++ e ∷ [], one_in mode r f xs more e h are, inr (none, ap (λ t. t ++ e ∷ []) is))
+
+pub one_out : (mode : ReadMode) (r : Radix) (f : FormatParts) (entries found : List Entry) (e : Entry) → HasNoBits mode r e.numeral f Checked → AreIn mode r f entries found → AreIn mode r f (entries ++ e ∷ []) found
+one_out mode r f [] found e h are = ([], refl, inr (h, are))
+one_out mode r f (x ∷ xs) found e h (more, are, inl (first, is)) = (more, one_out mode r f xs more e h are, inl (first, is))
+one_out mode r f (x ∷ xs) found e h (more, are, inr (none, is)) = (more, one_out mode r f xs more e h are, inr (none, is))
+
+-- ---- in range or not
+in_or_not : (mode : ReadMode) (r : Radix) (f : FormatParts) (bytes : List ℕ) → IsIn mode r f bytes → HasNoBits mode r bytes f Checked → ⊥
+in_or_not mode r f bytes a (kind, inl b) = b.none (a.read.parts, a.read.numeral)
+in_or_not mode r f bytes a (kind, inr b) =
+    let p : a.read.parts ≡ b.2.parts = parts_unique r bytes a.read.parts b.2.parts a.read.numeral.beginning b.2.has.beginning in
+    let n : a.read.number ≡ b.2.number = read_unique mode r b.2.parts f.frac a.read.number b.2.number (subst (λ (q : Parts). IsReadNumber mode r q f.frac a.read.number) p a.read.read) b.2.read in
+    has_none f.signed f.width b.2.number a.bits b.2.out_of_range (subst (λ (x : ℤ). IsImage Checked f.signed f.width x a.bits) n a.read.image)
+
+-- ---- one report
+in_one : (mode : ReadMode) (r : Radix) (f : FormatParts) (entries a b : List Entry) → AreIn mode r f entries a → AreIn mode r f entries b → a ≡ b
+in_one mode r f [] a b x y = x ∙ sym y
+in_one mode r f (e ∷ es) a b (m, are, inl (h, is)) (n, same, inl (k, it)) = is ∙ ap (λ t. e ∷ t) (in_one mode r f es m n are same) ∙ sym it
+in_one mode r f (e ∷ es) a b (m, are, inl (h, is)) (n, same, inr (k, it)) = absurd (in_or_not mode r f e.numeral h k)
+in_one mode r f (e ∷ es) a b (m, are, inr (h, is)) (n, same, inl (k, it)) = absurd (in_or_not mode r f e.numeral k h)
+in_one mode r f (e ∷ es) a b (m, are, inr (h, is)) (n, same, inr (k, it)) = is ∙ in_one mode r f es m n are same ∙ sym it
+
+nothing_first : (mode : ReadMode) (r : Radix) (f : ℕ) (before : List Entry) (e : Entry) (after : List Entry) → before ++ e ∷ after ≡ [] → ⊥
+nothing_first mode r f [] e after h = omega (arith, let l : suc (length after) ≡ 0 = ap length h in l)
+nothing_first mode r f (x ∷ xs) e after h = omega (arith, let l : suc (length (xs ++ e ∷ after)) ≡ 0 = ap length h in l)
+
+kept_one : (mode : ReadMode) (r : Radix) (f : ℕ) (found : List Entry) (a b : Bool) (p q : ℕ) (one other : List ℕ) → IsKept mode r f found a p one → IsKept mode r f found b q other → AreSame a b p q one other
+kept_one mode r f found false false p q one other x y = record { is_some = refl; place = λ h. absurd (false≢true h); numeral = λ h. absurd (false≢true h) }
+kept_one mode r f found false true p q one other x y = absurd (nothing_first mode r f y.before (record { place = q; numeral = other }) y.after (sym y.split ∙ x))
+kept_one mode r f found true false p q one other x y = absurd (nothing_first mode r f x.before (record { place = p; numeral = one }) x.after (sym x.split ∙ y))
+kept_one mode r f found true true p q one other x y =
+    let same = first_greatest_one mode r f found p q one other x y in
+    record { is_some = refl; place = λ h. same.0; numeral = λ h. same.1 }
+
+pub report_one : ReportIsTheOne
+report_one mode r f entries a b p q one other (m, are, x) (n, same, y) =
+    kept_one mode r f.frac m a b p q one other x (subst (λ (t : List Entry). IsKept mode r f.frac t b q other) (sym (in_one mode r f entries m n are same)) y)
+
+-- ---- it has bits
+found_in : (mode : ReadMode) (r : Radix) (f : FormatParts) (entries found before : List Entry) (e : Entry) (after : List Entry) → AreIn mode r f entries found → found ≡ before ++ e ∷ after → IsIn mode r f e.numeral
+found_in mode r f [] found before e after are split = absurd (nothing_first mode r f.frac before e after (sym split ∙ are))
+found_in mode r f (x ∷ xs) found before e after (more, are, inr (none, is)) split = found_in mode r f xs more before e after are (sym is ∙ split)
+found_in mode r f (x ∷ xs) found [] e after (more, are, inl (first, is)) split =
+    let head : x ≡ e = cc in
+    subst (λ (t : Entry). IsIn mode r f t.numeral) head first
+found_in mode r f (x ∷ xs) found (b ∷ bs) e after (more, are, inl (first, is)) split =
+    let tail : more ≡ bs ++ e ∷ after = cc in
+    found_in mode r f xs more bs e after are tail
+
+pub has_bits : GreatestHasBits
+has_bits mode r f entries place numeral (found, are, x) none =
+    in_or_not mode r f numeral (found_in mode r f entries found x.before (record { place = place; numeral = numeral }) x.after are x.split) none
+
+-- ---- the text
+pub greatest_pushed : (o0 o1 o2 o3 o4 o5 o6 o7 o8 name digits error ulps : List ℕ) (place : ℕ) → o0 ≡ [] → o1 ≡ o0 ++ codes "greatest error in " → o2 ≡ o1 ++ name → o3 ≡ o2 ++ 32 ∷ [] → o4 ≡ o3 ++ digits → digits ≡ decimal place
+    → o5 ≡ o4 ++ codes ": " → o6 ≡ o5 ++ error → o7 ≡ o6 ++ codes ", in ulps: " → o8 ≡ o7 ++ ulps → o8 ≡ greatest_text name place error ulps
+greatest_pushed o0 o1 o2 o3 o4 o5 o6 o7 o8 name digits error ulps place none a b c d is e f g h =
+    let x : o8 ≡ (((((((([] ++ codes "greatest error in ") ++ name) ++ 32 ∷ []) ++ decimal place) ++ codes ": ") ++ error) ++ codes ", in ulps: ") ++ ulps) = cc in
+    x ∙ simp append_assoc
+
+-- ---- one more of what is kept
+pub more_in : (mode : ReadMode) (r : Radix) (f : FormatParts) (entries : List Entry) (e : Entry) (lost lost' : Bool) (g g' : GreatestError) → lost ≡ false → IsIn mode r f e.numeral
+    → ((found : List Entry) → HasGreatest found g → HasGreatest (found ++ e ∷ []) g') → HasReport mode r f entries lost g → HasReport mode r f (entries ++ e ∷ []) lost' g'
+more_in mode r f entries e lost lost' g g' kept h step known _ =
+    let k = known kept in
+    (k.0 ++ e ∷ [], one_in mode r f entries k.0 e h k.1, step k.0 k.2)
+
+pub more_out : (mode : ReadMode) (r : Radix) (f : FormatParts) (entries : List Entry) (e : Entry) (lost : Bool) (g : GreatestError) → HasNoBits mode r e.numeral f Checked → HasReport mode r f entries lost g → HasReport mode r f (entries ++ e ∷ []) lost g
+more_out mode r f entries e lost g h known kept =
+    let k = known kept in
+    (k.0, one_out mode r f entries k.0 e h k.1, k.2)
+
+pub kept_out : (inside k : Kept) (entries : List Entry) (e : Entry) → inside ≡ k → HasNoBits inside.mode inside.radix e.numeral inside.format Checked → HasReport k.mode k.radix k.format entries k.is_lost k.greatest
+    → HasReport k.mode k.radix k.format (entries ++ e ∷ []) k.is_lost k.greatest
+kept_out inside k entries e same h known =
+    more_out k.mode k.radix k.format entries e k.is_lost k.greatest (subst (λ (x : Kept). HasNoBits x.mode x.radix e.numeral x.format Checked) same h) known
+
+pub kept_in : (inside k : Kept) (entries : List Entry) (e : Entry) (lost : Bool) (new : GreatestError) → inside ≡ k → inside.is_lost ≡ false → IsIn inside.mode inside.radix inside.format e.numeral
+    → ((found : List Entry) → HasGreatest found inside.greatest → HasGreatest (found ++ e ∷ []) new) → HasReport k.mode k.radix k.format entries k.is_lost k.greatest → HasReport k.mode k.radix k.format (entries ++ e ∷ []) lost new
+kept_in inside k entries e lost new same kept h step =
+    subst (λ (x : Kept). HasReport x.mode x.radix x.format entries x.is_lost x.greatest → HasReport x.mode x.radix x.format (entries ++ e ∷ []) lost new) same
+    (more_in inside.mode inside.radix inside.format entries e inside.is_lost lost inside.greatest new kept h step)
+
+-- what a call that ended well promises
+pub ok_given : {T E : Type 0} → (r : Result T E) (P : Type 0) → is_ok r ≡ true → OnOk r P → P
+ok_given (Ok x) P h k = k
+ok_given (Err e) P h k = absurd (false≢true h)
+
+-- the numeral that is kept is no longer than the most
+pub kept_short : (old new numeral : List ℕ) (most : ℕ) → length old ≤ most → length numeral ≤ most → (new ≡ old) ⊎ (new ≡ numeral) → length new ≤ most
+kept_short old new numeral most a b (inl e) = subst (λ l. length l ≤ most) (sym e) a
+kept_short old new numeral most a b (inr e) = subst (λ l. length l ≤ most) (sym e) b
+
+pub text_some : (inside k : Kept) (numeral name out : List ℕ) (place : ℕ) (error ulps : List ℕ) → inside ≡ k → numeral ≡ inside.greatest.numeral.items → place ≡ inside.greatest.place
+    → AreShownErrors inside.mode inside.radix numeral inside.format Checked error ulps → out ≡ greatest_text name place error ulps → IsGreatestText k.mode k.radix k.format name k.greatest.place k.greatest.numeral.items out
+text_some inside k numeral name out place error ulps same is at shown said =
+    let here : IsGreatestText inside.mode inside.radix inside.format name inside.greatest.place inside.greatest.numeral.items out = record {
+      error = error;
+      ulps = ulps;
+      shown = subst (λ t. AreShownErrors inside.mode inside.radix t inside.format Checked error ulps) is shown;
+      text_is = said ∙ ap (λ p. greatest_text name p error ulps) at;
+    } in
+    subst (λ (x : Kept). IsGreatestText x.mode x.radix x.format name x.greatest.place x.greatest.numeral.items out) same here
+
+pub text_none : (inside k : Kept) (numeral : List ℕ) → inside ≡ k → numeral ≡ inside.greatest.numeral.items → HasNoBits inside.mode inside.radix numeral inside.format Checked
+    → (k.is_lost ≡ true) ⊎ ((k.greatest.is_some ≡ false) ⊎ HasNoBits k.mode k.radix k.greatest.numeral.items k.format Checked)
+text_none inside k numeral same is h =
+    let here : HasNoBits inside.mode inside.radix inside.greatest.numeral.items inside.format Checked = subst (λ t. HasNoBits inside.mode inside.radix t inside.format Checked) is h in
+    inr (inr (subst (λ (x : Kept). HasNoBits x.mode x.radix x.greatest.numeral.items x.format Checked) same here))

@@ -1,0 +1,75 @@
+//! What is said of the numeral with the greatest error.
+
+ghost use Rattle.std.specs.Prelude.{◌≡◌, ◌⊎◌, ◌≤◌, [], IfNone, IfSome, length, false, true};
+ghost use Rattle.fixed_bits.specs.declared.format.Policy.TheVariants.{Checked};
+ghost use Rattle.fixed_report.specs.Text.{IsGreatestText, greatest_text};
+ghost use Rattle.fixed_show.specs.ShowBlock.{HasNoBits};
+
+use crate::report::ErrorReport;
+use fixed_bits::Policy;
+use fixed_show::{ErrorTexts, error_texts};
+use fixed_steps::Steps;
+use itoa::Buffer;
+use std::sync::ledger::Ledger;
+use text_buffer::TextBuffer;
+
+/// How many bytes the text of a greatest error has at most.
+pub const MAX_GREATEST: usize = 2880;
+
+/// Appends what is said of an error at a place, which has this name.
+fn push_greatest(out: &mut TextBuffer<MAX_GREATEST>, name: &[u8], place: u64, said: &ErrorTexts)
+    requires empty { out.old ≡ [] }
+    requires name { length name.now ≤ 8 }
+    ensures { out.new ≡ greatest_text name.now place said.now.error said.now.ulps }
+{
+    out.push_bytes(b"greatest error in ");
+    out.push_bytes(name);
+    out.push(b' ');
+    let mut digits = Buffer::new();
+    out.push_bytes(digits.format(place).as_bytes());
+    out.push_bytes(b": ");
+    out.push_bytes(said.error.as_bytes());
+    out.push_bytes(b", in ulps: ");
+    out.push_bytes(said.ulps.as_bytes());
+}
+
+impl ErrorReport {
+    /// The place of the numeral with the greatest error, after a name of at most 8 bytes that such places have, its
+    /// error, and the same in ulps, as `show` writes them. None where no numeral was in range, or memory was wanting.
+    pub fn text<L: Ledger>(
+        &self,
+        name: &[u8],
+        steps: &mut Steps<L>,
+    ) -> Option<TextBuffer<MAX_GREATEST>>
+        requires name { length name.now ≤ 8 }
+        ensures kept { IfSome result (λ text. self.now.greatest.is_some ≡ true) }
+        ensures known { IfSome result (λ text. self.now.is_lost ≡ false) }
+        ensures text { IfSome result (λ text. IsGreatestText self.now.mode self.now.radix self.now.format name.now
+            self.now.greatest.place self.now.greatest.numeral.items text) }
+        ensures none { IfNone result ((self.now.is_lost ≡ true) ⊎ ((self.now.greatest.is_some ≡ false)
+            ⊎ HasNoBits self.now.mode self.now.radix self.now.greatest.numeral.items self.now.format Checked)) }
+    {
+        if self.is_lost {
+            return None;
+        }
+        if !self.greatest.is_some() {
+            return None;
+        }
+        let numeral = self.greatest.numeral();
+        match error_texts(
+            numeral,
+            self.radix,
+            self.format,
+            Policy::Checked,
+            self.mode,
+            steps,
+        ) {
+            Some(said) => {
+                let mut text: TextBuffer<MAX_GREATEST> = TextBuffer::new();
+                push_greatest(&mut text, name, self.greatest.place(), &said);
+                Some(text)
+            }
+            None => None,
+        }
+    }
+}
