@@ -1,15 +1,15 @@
 -- What the words of `fixed column` ask for.
 use Rattle.std.specs.Prelude.{◌≡◌, ◌≢◌, ◌==◌, ◌&&◌, ◌||◌, ◌⊎◌, ◌+◌, ◌-◌, ◌^◌, ◌<◌, ◌≤◌, ℕ, Bool, true, false, not}
 use Rattle.std.specs.Prelude.{List, [], ◌∷◌, ◌++◌, None, Option, Some, chars, codes, decimal, length, string_bytes}
-use Rattle.std.specs.Prelude.{unwrap_or}
+use Rattle.std.specs.Prelude.{is_some, unwrap_or}
 use Rattle.std.specs.Char.{is_ascii_alphanumeric, is_ascii_whitespace}
-use Rattle.std.specs.List.{list_all, list_any}
+use Rattle.std.specs.List.{list_all, list_any, slice_split}
 use Rattle.column_engine.specs.declared.columns.Column.{Column}
 use Rattle.column_engine.specs.declared.columns.Column.TheVariants.{At, Named}
 use Rattle.column_engine.specs.declared.columns.Destination.{Destination}
 use Rattle.column_engine.specs.declared.columns.Destination.TheVariants.{InPlace, NewColumn}
 use Rattle.column_engine.specs.declared.columns.Range.{Range}
-use Rattle.command_line.specs.Words.{has_flag, value_of}
+use Rattle.command_line.specs.Words.{has_flag, value_of, word_at}
 use Rattle.command_line.specs.declared.given.Given.{Given}
 use Rattle.fixed_command.specs.Asked.{IsNamed}
 use Rattle.fixed_command.specs.declared.field.Empty.{Empty}
@@ -89,6 +89,31 @@ IsColumnWord Is true word (Named name range) = (string_bytes name ≡ word) × I
 IsColumnWord Is true word (At range) = ⊥
 IsColumnWord Is false word (Named name range) = ⊥
 IsColumnWord Is false word (At range) = Is word range
+
+-- the columns of a list of words
+abbrev pub AreColumnWords : Bool → List (List ℕ) → List Column → Type 0
+AreColumnWords header [] [] = Unit {0}
+AreColumnWords header [] (column ∷ columns) = ⊥
+AreColumnWords header (word ∷ words) [] = ⊥
+AreColumnWords header (word ∷ words) (column ∷ columns) = IsColumnWord IsRangeWord header word column
+    × AreColumnWords header words columns
+
+-- the columns of a word: with a new column one, whose name has no comma; else those of its parts between commas
+abbrev pub AreColumnsOf : Bool → Bool → List ℕ → List Column → Type 0
+AreColumnsOf true header word columns = (column : Column) × (columns ≡ column ∷ [])
+    × IsColumnWord IsOneWord (header && not (list_any (λ b. b == 44) word)) word column
+AreColumnsOf false header word columns = AreColumnWords header (slice_split (λ b. b == 44) word) columns
+
+-- the columns that are asked for, and the place of the next word: with `--all` every one, else those of the first word
+abbrev pub AreColumnsBy : Bool → Option (List ℕ) → Bool → Bool → List Column → ℕ → Type 0
+AreColumnsBy true first into header columns next = (columns ≡ At (record { from = 0; to = 2 ^ 64 - 1 }) ∷ [])
+    × (next ≡ 0)
+AreColumnsBy false None into header columns next = ⊥
+AreColumnsBy false (Some word) into header columns next = AreColumnsOf into header word columns × (next ≡ 1)
+
+abbrev pub AreColumnsAsked : Given → List Column → ℕ → Type 0
+AreColumnsAsked given = AreColumnsBy (has_flag given (codes "all")) (word_at given 0)
+    (is_some (value_of given (codes "into"))) (has_flag given (codes "header"))
 
 -- where the answers go: into a new column of a name of at most 1024 bytes, which is one, or to their fields
 abbrev pub IsDestinationBy : Bool → Option (List ℕ) → Destination → Type 0

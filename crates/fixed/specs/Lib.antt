@@ -3,3 +3,6 @@ pub mod Settings
 pub mod Columns
 pub mod Lines
 pub mod Constants
+pub mod Fit
+pub mod Laws
+pub mod Inner

@@ -4,6 +4,8 @@ pub mod Public
 mod AskingLemmas
 mod BlockLemmas
 mod ColonLemmas
+mod ExplainFieldLemmas
+mod ExplainLawLemmas
 mod FieldLemmas
 mod OutcomeLemmas
 mod OutcomeNumbers

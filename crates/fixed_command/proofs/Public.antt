@@ -10,8 +10,12 @@ use Rattle.fixed_command.specs.Hex.{word_of}
 use Rattle.fixed_command.specs.Convert.{IsMovedAnswer, IsReply, asks_a_line}
 use Rattle.fixed_command.specs.Printed.{printed}
 use Rattle.fixed_command.specs.declared.convert.Settings.{Settings}
+use Rattle.fixed_command.specs.Explained.{DigitsAreTheOnes}
 use Rattle.fixed_command.specs.Laws.{OutcomeIsTheOne}
+use Rattle.fixed_command.specs.NameLaws.{NamesAreTheOnes}
 use Rattle.fixed_command.proofs.AskingLemmas
+use Rattle.fixed_command.proofs.ExplainLawLemmas
+use Rattle.fixed_command.proofs.NameLawLemmas
 use Rattle.fixed_command.proofs.OutcomeLemmas
 use Rattle.fixed_command.proofs.WordLemmas
 
@@ -33,3 +37,12 @@ moved_reply = AskingLemmas.moved_reply
 -- a numeral comes through in one way
 pub outcome_one : OutcomeIsTheOne
 outcome_one = OutcomeLemmas.outcome_one
+
+-- ---- options
+pub names_one : NamesAreTheOnes
+names_one = NameLawLemmas.names_one
+
+-- ---- refused numerals
+-- what is said of the byte that makes one none is one text
+pub digits_one : DigitsAreTheOnes
+digits_one = ExplainLawLemmas.digits_one

@@ -1,13 +1,18 @@
 -- What more is said of a numeral or a word that is refused.
-use Rattle.std.specs.Prelude.{◌≡◌, ◌⊎◌, ◌==◌, ◌+◌, ◌-◌, ◌^◌, ◌≤◌, ℕ, ℤ, List, [], ◌∷◌, ◌++◌, Bool, false, codes}
-use Rattle.std.specs.Prelude.{get_or, if◌then◌else◌, length, min, take}
+use Rattle.std.specs.Prelude.{◌≡◌, ◌⊎◌, ◌==◌, ◌+◌, ◌-◌, ◌^◌, ◌≤◌, ℕ, zero, suc, ℤ, List, [], ◌∷◌, ◌++◌, Bool, false}
+use Rattle.std.specs.Prelude.{codes, get_or, if◌then◌else◌, length, min, take}
 use Rattle.std.specs.Fmt.{decimal}
+use Rattle.std.specs.List.{list_any}
 use Rattle.fixed_bits.specs.Formats.{FormatParts}
 use Rattle.fixed_bits.specs.Ranges.{greatest, lowest}
 use Rattle.fixed_respell.specs.Words.{format_text}
 use Rattle.fixed_write.specs.Places.{exact_text}
 use Rattle.fixed_command.specs.Convert.{IsNoSource, IsSource}
+use Rattle.fixed_command.specs.Fields.{bare, field_numeral}
+use Rattle.fixed_command.specs.Layout.{after_blanks}
 use Rattle.fixed_command.specs.declared.convert.Settings.{Settings}
+use Rattle.fixed_command.specs.declared.explain.TheConstants.{MAX_EXPLANATION}
+use Rattle.fixed_command.specs.declared.field.FieldForm.{FieldForm}
 
 -- what a format holds
 abbrev pub holds_text : FormatParts → List ℕ
@@ -57,3 +62,44 @@ place_text bytes place before = codes ", byte " ++ (decimal (min (place + before
 abbrev pub ExplainsDigit : Settings → List ℕ → ℕ → List ℕ → Type 0
 ExplainsDigit s bytes before text = (place : ℕ) × IsPlaceOrZero s bytes place
     × (text ≡ if place == 0 then [] else place_text bytes place before)
+
+-- ---- of a field
+-- the place from 1 of the nth byte that separates no thousands
+abbrev pub place_of : List ℕ → List ℕ → ℕ → ℕ
+place_of thousands [] n = 0
+place_of thousands (byte ∷ bytes) zero = 0
+place_of thousands (byte ∷ bytes) (suc n) = 1
+    + place_of thousands bytes (if list_any (λ b. b == byte) thousands then suc n else n)
+
+-- how many bytes of a field are blanks before its numeral
+abbrev pub blanks_of : FieldForm → List ℕ → ℕ
+blanks_of form field = if form.is_trimmed then length field - length (after_blanks field) else 0
+
+-- the place in a field, from 1, of the byte that is read as the one at a place of its numeral, from 1
+abbrev pub field_place : FieldForm → List ℕ → ℕ → ℕ
+field_place form field place = blanks_of form field + place_of form.thousands.now (bare form field) place
+
+-- a byte as it is shown in a line
+abbrev pub shown_byte : ℕ → ℕ
+shown_byte byte = if byte == 10 then 63 else byte
+
+-- the byte at a place of a field, from 1, and its place
+abbrev pub field_place_text : List ℕ → ℕ → List ℕ
+field_place_text field place = codes ", byte " ++ (decimal place
+    ++ (codes ", '" ++ (shown_byte (get_or field (place - 1) 63) ∷ codes "'")))
+
+-- the numeral of a field, as far as it is looked at
+abbrev pub looked_at : FieldForm → List ℕ → List ℕ
+looked_at form field = take MAX_EXPLANATION (field_numeral form field)
+
+-- text says which byte of a field is the first that makes its numeral none, where there is one
+abbrev pub ExplainsFieldDigit : Settings → FieldForm → List ℕ → List ℕ → Type 0
+ExplainsFieldDigit s form field text = (place : ℕ) × IsPlaceOrZero s (looked_at form field) place
+    × (text ≡ if place == 0 then [] else field_place_text field (field_place form field place))
+
+-- what is said of the byte that makes a numeral none, or that of a field, is one text
+pub record DigitsAreTheOnes : Type 0 where
+  pub numeral : (s : Settings) (bytes : List ℕ) (before : ℕ) (a b : List ℕ) → ExplainsDigit s bytes before a
+      → ExplainsDigit s bytes before b → a ≡ b
+  pub field : (s : Settings) (form : FieldForm) (field a b : List ℕ) → ExplainsFieldDigit s form field a
+      → ExplainsFieldDigit s form field b → a ≡ b

@@ -49,7 +49,7 @@ pub(crate) fn bare<'f>(form: &FieldForm<'_>, field: &'f [u8]) -> &'f [u8]
 }
 
 /// A byte as it is read where this one comes before a fraction.
-fn swapped(decimal: u8, byte: u8) -> u8
+pub(crate) fn swapped(decimal: u8, byte: u8) -> u8
     ensures { result ≡ swapped decimal byte }
 {
     if byte == decimal {

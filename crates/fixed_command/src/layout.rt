@@ -36,7 +36,7 @@ impl Model for Layout {
 }
 
 /// Bytes without the blanks at the beginning.
-fn after_blanks(bytes: &[u8]) -> &[u8]
+pub(crate) fn after_blanks(bytes: &[u8]) -> &[u8]
     ensures value { result.now ≡ after_blanks bytes.now }
     ensures short { length result.now ≤ length bytes.now }
 {

@@ -2,15 +2,15 @@
 
 ghost use Rattle.std.specs.Prelude.{◌≡◌, ◌==◌, ◌<◌, ◌+◌, ◌^◌, ◌⊎◌, ◌&&◌, ◌++◌, ◌∷◌, [], ℕ, not};
 ghost use Rattle.std.specs.Prelude.{IfErr, IfOk, List, MatchOption, OnOk, chars, codes, decimal, length};
-ghost use Rattle.std.specs.Prelude.{unwrap_or};
-ghost use Rattle.std.specs.List.{list_all, list_any};
+ghost use Rattle.std.specs.Prelude.{map, unwrap_or};
+ghost use Rattle.std.specs.List.{list_all, list_any, slice_split};
 ghost use Rattle.column_engine.specs.declared.columns.Column.{Column};
 ghost use Rattle.column_engine.specs.declared.columns.Destination.{Destination};
 ghost use Rattle.column_engine.specs.declared.columns.Range.{Range};
 ghost use Rattle.command_line.specs.Words.{value_of};
 ghost use Rattle.command_line.specs.declared.given.Refusal.{Refusal};
-ghost use Rattle.fixed.specs.Columns.{IsByName, IsColumnWord, IsDecimalWord};
-ghost use Rattle.fixed.specs.Columns.{IsDelimiterWord, IsDestinationAsked, IsFormAsked, IsOneWord};
+ghost use Rattle.fixed.specs.Columns.{AreColumnWords, AreColumnsAsked, AreColumnsOf, IsByName, IsColumnWord};
+ghost use Rattle.fixed.specs.Columns.{IsDecimalWord, IsDelimiterWord, IsDestinationAsked, IsFormAsked, IsOneWord};
 ghost use Rattle.fixed.specs.Columns.{IsRangeWord, IsSkipWord, IsThousandsAsked, IsThousandsWord};
 ghost use Rattle.fixed.specs.Columns.{IsSpan, empty_text, is_separator};
 ghost use Rattle.fixed_command.specs.Asked.{IsNamed};
@@ -317,21 +317,78 @@ fn push<'a>(columns: &mut Vec<Column>, column: Column) -> Asked<'a, ()>
     }
 }
 
-/// The columns that a command names, and the place of the word that follows them.
-pub fn columns_of<'a>(alloc: Global, given: &Given<'_, 'a>) -> Asked<'a, (Vec<Column>, usize)> {
+/// The parts of a word between its commas.
+fn parts_of<'a>(alloc: Global, words: &'a str) -> Result<Vec<&'a str>, AllocError>
+    ensures { IfOk result (λ parts. map (λ s. s.now) parts.items ≡ slice_split (λ b. b == 44) words.now) }
+{
+    words.split(',').collect(alloc)
+}
+
+/// The columns that a list of words names, with commas between.
+fn listed<'a>(alloc: Global, words: &'a str, has_header: bool) -> Asked<'a, Vec<Column>>
+    ensures value { IfOk result (λ a. AreColumnWords has_header (slice_split (λ b. b == 44) words.now) a.items) }
+    ensures refused { IfErr result (λ e. (e ≡ Refusal.NoMemory) ⊎ ((a : List Column)
+        → ¬ AreColumnWords has_header (slice_split (λ b. b == 44) words.now) a)) }
+{
     let mut columns = Vec::new(alloc);
+    let parts = match parts_of(alloc, words) {
+        Ok(parts) => parts,
+        Err(_) => return Err(Refusal::NoMemory),
+    };
+    'parts: for at in 0..parts.len() {
+        let column = match column_of(alloc, parts[at], has_header) {
+            Ok(column) => column,
+            Err(refusal) => return Err(refusal),
+        };
+        push(&mut columns, column)?;
+    }
+    Ok(columns)
+}
+
+/// Whether a word may be the name of a column: it has no comma.
+fn is_name(word: &str, has_header: bool) -> bool
+    ensures { result ≡ (has_header && not (list_any (λ b. b == 44) word.now)) }
+{
+    has_header && !has_byte(word.as_bytes(), b',')
+}
+
+/// The columns that a word names: one where its answers go into a new one.
+fn named<'a>(alloc: Global, word: &'a str, is_one: bool, has_header: bool) -> Asked<'a, Vec<Column>>
+    ensures value { IfOk result (λ a. AreColumnsOf is_one has_header word.now a.items) }
+    ensures refused { IfErr result (λ e. (e ≡ Refusal.NoMemory)
+        ⊎ ((a : List Column) → ¬ AreColumnsOf is_one has_header word.now a)) }
+{
+    if !is_one {
+        return listed(alloc, word, has_header);
+    }
+    let column = match source_of(alloc, word, is_name(word, has_header)) {
+        Ok(column) => column,
+        Err(refusal) => return Err(refusal),
+    };
+    let mut columns = Vec::new(alloc);
+    push(&mut columns, column)?;
+    Ok(columns)
+}
+
+/// The columns that a command names, and the place of the word that follows them.
+pub fn columns_of<'a>(alloc: Global, given: &Given<'_, 'a>) -> Asked<'a, (Vec<Column>, usize)>
+    ensures value { IfOk result (λ a. AreColumnsAsked given.now a.0.items a.1) }
+    ensures refused { IfErr result (λ e. (e ≡ Refusal.NoMemory) ⊎ ((columns : List Column) (next : ℕ)
+        → ¬ AreColumnsAsked given.now columns next)) }
+{
     if given.has(&ALL) {
+        let mut columns = Vec::new(alloc);
         push(&mut columns, EVERY)?;
         return Ok((columns, 0));
     }
-    let words = given.needed(0, "COLUMNS")?;
-    if given.value(&INTO).is_some() {
-        let is_name = given.has(&HEADER) && !has_byte(words.as_bytes(), b',');
-        push(&mut columns, source_of(alloc, words, is_name)?)?;
-        return Ok((columns, 1));
+    let word = given.needed(0, "COLUMNS")?;
+    match named(
+        alloc,
+        word,
+        given.value(&INTO).is_some(),
+        given.has(&HEADER),
+    ) {
+        Ok(columns) => Ok((columns, 1)),
+        Err(refusal) => Err(refusal),
     }
-    for word in words.split(',') {
-        push(&mut columns, column_of(alloc, word, given.has(&HEADER))?)?;
-    }
-    Ok((columns, 1))
 }

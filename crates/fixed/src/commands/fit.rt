@@ -1,8 +1,13 @@
 //! `fixed fit`: the finest format of a width that each numeral of an input fits, or the least within an error, and the
 //! greatest error in it.
 
-ghost use Rattle.std.specs.Prelude.{IfErr, IfOk, MatchOption, codes, is_some};
+ghost use Rattle.std.specs.Prelude.{◌≡◌, ◌++◌, ◌⊎◌, ◌+◌, ◌*◌, ℕ, IfErr, IfOk, List, MatchOption, None, Option, Some};
+ghost use Rattle.std.specs.Prelude.{codes, is_some, length, option_map, slice_index};
+ghost use Rattle.std.specs.Str.Parse.{AllDigits, digits_value};
 ghost use Rattle.command_line.specs.Words.{has_flag, value_of};
+ghost use Rattle.command_line.specs.declared.given.Refusal.{Refusal};
+ghost use Rattle.fixed.specs.Fit.{IsErrorAsked, IsErrorNumeral, IsPower, IsPowerWord, half_power, widths_asked};
+ghost use Rattle.fixed.specs.Inner.Fractions.{IsFraction};
 ghost use Rattle.fixed.specs.Lines.{IsKindAsked, IsKindWord};
 ghost use Rattle.fixed_bits.specs.Formats.{FormatParts};
 
@@ -144,7 +149,12 @@ fn kind_of<'a>(given: &Given<'_, 'a>) -> Asked<'a, Format>
 }
 
 /// Of which widths a format within an error is asked for.
-fn widths_of<'a>(given: &Given<'_, 'a>) -> Asked<'a, Widths> {
+fn widths_of<'a>(given: &Given<'_, 'a>) -> Asked<'a, Widths>
+    ensures value { IfOk result (λ a. widths_asked (has_flag given.now (codes "any"))
+        (is_some (value_of given.now (codes "error"))) (is_some (value_of given.now (codes "width"))) ≡ Some a) }
+    ensures refused { IfErr result (λ _. widths_asked (has_flag given.now (codes "any"))
+        (is_some (value_of given.now (codes "error"))) (is_some (value_of given.now (codes "width"))) ≡ None) }
+{
     let is_any = given.has(&ANY);
     if is_any && given.value(&ERROR).is_none() {
         return Err(Refusal::Word("--any", "is for --error"));
@@ -157,50 +167,89 @@ fn widths_of<'a>(given: &Given<'_, 'a>) -> Asked<'a, Widths> {
     }
 }
 
-/// Halves a decimal fraction of these digits.
-fn halve(digits: &mut Vec<u8>) -> Result<(), AllocError> {
-    let mut is_odd = false;
-    for digit in digits.iter_mut() {
-        let all = u32::from(*digit) + if is_odd { 10 } else { 0 };
-        *digit = (all / 2) as u8;
-        is_odd = all % 2 == 1;
+/// The digits after the point of the half of a decimal fraction.
+fn halved(alloc: Global, digits: &[u8]) -> Result<Vec<u8>, AllocError>
+    requires { AllDigits 10 digits.now }
+    ensures { IfOk result (λ half. IsFraction (length digits.now + 1) (5 * digits_value 10 digits.now) half.items) }
+{
+    let mut half = Vec::new(alloc);
+    let mut rest = 0;
+    'digits: for at in 0..digits.len() {
+        let all = 10 * rest + (digits[at] - b'0');
+        half.push(b'0' + all / 2)?;
+        rest = all % 2;
     }
-    digits.push(if is_odd { 5 } else { 0 })?;
-    Ok(())
+    half.push(b'0' + 5 * rest)?;
+    Ok(half)
 }
 
 /// 2^-`power` in decimal.
-fn power_of_half(alloc: Global, power: u32) -> Result<Vec<u8>, AllocError> {
+fn power_of_half(alloc: Global, power: u32) -> Result<Vec<u8>, AllocError>
+    ensures { IfOk result (λ text. text.items ≡ half_power power) }
+{
     let mut text = Vec::new(alloc);
     if power == 0 {
         text.push(b'1')?;
         return Ok(text);
     }
     let mut digits = Vec::new(alloc);
-    digits.push(5)?;
-    for _ in 1..power {
-        halve(&mut digits)?;
+    digits.push(b'5')?;
+    'halves: for place in 1..power {
+        digits = halved(alloc, &digits)?;
     }
     text.extend_from_slice(b"0.")?;
-    for digit in &digits {
-        text.push(b'0'.saturating_add(*digit))?;
-    }
+    text.extend_from_slice(&digits)?;
     Ok(text)
 }
 
-/// 2^-K as a numeral of the radix; `None` where K is no number up to 1,000.
-fn power_numeral(alloc: Global, word: &str, radix: Radix) -> Result<Option<Vec<u8>>, AllocError> {
-    let power = match word.parse::<u32>() {
-        Ok(power) if power <= MOST_POWER && !word.starts_with('+') => power,
-        _ => return Ok(None),
-    };
-    if radix == Radix::Dec {
-        return Ok(Some(power_of_half(alloc, power)?));
+/// The first byte of a text, or 0 where it is empty.
+fn first_byte(text: &str) -> u8
+    ensures { result ≡ slice_index text.now 0 }
+{
+    match text.as_bytes() {
+        [first, ..] => *first,
+        [] => 0,
     }
+}
+
+/// The K, up to 1,000, whose decimal digits a word is.
+fn power_named(word: &str) -> Option<u32>
+    ensures { MatchOption result (¬ IsPower word.now) (λ k. IsPower word.now × (k ≡ digits_value 10 word.now)) }
+{
+    if first_byte(word) == b'+' {
+        return None;
+    }
+    match word.parse::<u32>() {
+        Ok(power) if power <= MOST_POWER => Some(power),
+        _ => None,
+    }
+}
+
+/// A word after a prefix.
+fn prefixed(alloc: Global, prefix: &str, word: &str) -> Result<Vec<u8>, AllocError>
+    ensures { IfOk result (λ text. text.items ≡ prefix.now ++ word.now) }
+{
     let mut text = Vec::new(alloc);
-    text.extend_from_slice(b"1p-")?;
+    text.extend_from_slice(prefix.as_bytes())?;
     text.extend_from_slice(word.as_bytes())?;
-    Ok(Some(text))
+    Ok(text)
+}
+
+/// 2^-K as a numeral of the radix; `None` where a word is no K up to 1,000.
+fn power_numeral(alloc: Global, word: &str, radix: Radix) -> Result<Option<Vec<u8>>, AllocError>
+    ensures { IfOk result (λ found. MatchOption found ((text : List ℕ) → ¬ IsPowerWord radix word.now text)
+        (λ text. IsPowerWord radix word.now text.items)) }
+{
+    let power = match power_named(word) {
+        Some(power) => power,
+        None => return Ok(None),
+    };
+    match radix {
+        Radix::Dec => Ok(Some(power_of_half(alloc, power)?)),
+        Radix::Bin => Ok(Some(prefixed(alloc, "1p-", word)?)),
+        Radix::Oct => Ok(Some(prefixed(alloc, "1p-", word)?)),
+        Radix::Hex => Ok(Some(prefixed(alloc, "1p-", word)?)),
+    }
 }
 
 /// The numeral of an error, which is not below zero; `None` where a word is none.
@@ -209,16 +258,20 @@ fn error_numeral<L: Ledger>(
     word: &str,
     radix: Radix,
     steps: &mut Steps<L>,
-) -> Result<Option<Vec<u8>>, AllocError> {
+) -> Result<Option<Vec<u8>>, AllocError>
+    ensures { IfOk result (λ found. MatchOption found ((text : List ℕ) → ¬ IsErrorNumeral radix word.now text)
+        (λ text. IsErrorNumeral radix word.now text.items)) }
+{
     if let Some(power) = word.strip_prefix("2^-") {
         return power_numeral(alloc, power, radix);
     }
-    if word.starts_with('-') || scan(word.as_bytes(), radix, steps).is_err() {
+    if first_byte(word) == b'-' {
         return Ok(None);
     }
-    let mut text = Vec::new(alloc);
-    text.extend_from_slice(word.as_bytes())?;
-    Ok(Some(text))
+    match scan(word.as_bytes(), radix, steps) {
+        Ok(_) => Ok(Some(prefixed(alloc, "", word)?)),
+        Err(_) => Ok(None),
+    }
 }
 
 /// The error that the option names, as a numeral; `None` where it is not there.
@@ -227,17 +280,23 @@ fn error_of<'a, L: Ledger>(
     given: &Given<'_, 'a>,
     radix: Radix,
     steps: &mut Steps<L>,
-) -> Asked<'a, Option<Vec<u8>>> {
+) -> Asked<'a, Option<Vec<u8>>>
+    ensures value { IfOk result (λ a. IsErrorAsked radix (value_of given.now (codes "error"))
+        (option_map (λ text. text.items) a)) }
+    ensures refused { IfErr result (λ e. (e ≡ Refusal.NoMemory) ⊎ ((a : Option (List ℕ))
+        → ¬ IsErrorAsked radix (value_of given.now (codes "error")) a)) }
+{
     let word = match given.value(&ERROR) {
         Some(word) => word,
         None => return Ok(None),
     };
-    match error_numeral(alloc, word, radix, steps)? {
-        Some(error) => Ok(Some(error)),
-        None => Err(Refusal::Word(
+    match error_numeral(alloc, word, radix, steps) {
+        Ok(Some(error)) => Ok(Some(error)),
+        Ok(None) => Err(Refusal::Word(
             word,
             "is not an error: it is a numeral that is not below zero, or 2^-K with K up to 1000",
         )),
+        Err(_) => Err(Refusal::NoMemory),
     }
 }
 

@@ -1,0 +1,88 @@
+-- What words ask for is one thing at most.
+use Rattle.std.specs.Prelude.{◌≡◌, ℕ, Bool, List, [], ◌∷◌, None, Option, Some, string_bytes}
+use Rattle.column_engine.specs.declared.columns.Column.{Column}
+use Rattle.column_engine.specs.declared.columns.Column.TheVariants.{At, Named}
+use Rattle.column_engine.specs.declared.columns.Destination.{Destination}
+use Rattle.column_engine.specs.declared.columns.Range.{Range}
+use Rattle.command_line.specs.declared.given.Given.{Given}
+use Rattle.fixed_arrays.specs.declared.form.ArrayForm.{ArrayForm}
+use Rattle.fixed_arrays.specs.declared.rule.Numerals.{Numerals}
+use Rattle.fixed_bits.specs.Formats.{FormatParts}
+use Rattle.fixed_command.specs.Layout.{LineLayout}
+use Rattle.fixed_command.specs.declared.field.Empty.{Empty}
+use Rattle.fixed_command.specs.declared.field.FieldForm.{FieldForm}
+use Rattle.fixed_command.specs.declared.print.Print.{Print}
+use Rattle.fixed_constants.specs.declared.form.Form.{Form}
+use Rattle.fixed_numeral.specs.declared.radix.Radix.{Radix}
+use Rattle.fixed_pack.specs.declared.endian.Endian.{Endian}
+use Rattle.fixed_show.specs.declared.parts.Part.{Part}
+use Rattle.fixed.specs.Columns.{AreColumnsAsked, IsDecimalWord, IsDelimiterWord, IsDestinationAsked, IsFormAsked}
+use Rattle.fixed.specs.Columns.{IsRangeWord, IsSkipWord, IsThousandsAsked, empty_text}
+use Rattle.fixed.specs.Constants.{IsArrayAsked, IsFormAsked as IsConstantsAsked, IsGuardAsked, IsNameAsked}
+use Rattle.fixed.specs.Constants.{IsNumeralsAsked}
+use Rattle.fixed.specs.Fit.{IsErrorAsked}
+use Rattle.fixed.specs.Lines.{IsFormatAsked, IsKindAsked, IsLayoutAsked, IsPartAsked, IsTargetAsked}
+use Rattle.fixed.specs.Settings.{IsPrintAsked, endian_text}
+
+-- at most one is such
+abbrev pub IsOne : (A : Type 0) → (A → Type 0) → Type 0
+IsOne A Is = (a b : A) → Is a → Is b → a ≡ b
+
+-- at most one has this word
+abbrev pub AreApart : (A : Type 0) → (A → List ℕ) → Type 0
+AreApart A word = (a b : A) → word a ≡ word b → a ≡ b
+
+-- the same form of a field
+pub record IsSameForm (a b : FieldForm) : Type 0 where
+  pub trimmed : a.is_trimmed ≡ b.is_trimmed
+  pub decimal : a.decimal ≡ b.decimal
+  pub thousands : a.thousands.now ≡ b.thousands.now
+  pub empty : a.empty ≡ b.empty
+
+-- the same column
+abbrev pub IsSameColumn : Column → Column → Type 0
+IsSameColumn (At a) (At b) = a ≡ b
+IsSameColumn (At a) (Named name range) = ⊥
+IsSameColumn (Named name range) (At b) = ⊥
+IsSameColumn (Named name range) (Named other span) = (string_bytes name ≡ string_bytes other) × (range ≡ span)
+
+abbrev pub AreSameColumns : List Column → List Column → Type 0
+AreSameColumns [] [] = Unit {0}
+AreSameColumns [] (b ∷ bs) = ⊥
+AreSameColumns (a ∷ us) [] = ⊥
+AreSameColumns (a ∷ us) (b ∷ bs) = IsSameColumn a b × AreSameColumns us bs
+
+-- of the words of `fixed column`
+pub record ColumnsAreTheOnes : Type 0 where
+  pub delimiter : (word : List ℕ) → IsOne ℕ (IsDelimiterWord word)
+  pub skip : (word : List ℕ) → IsOne ℕ (IsSkipWord word)
+  pub form : (given : Given) (a b : FieldForm) → IsFormAsked given a → IsFormAsked given b → IsSameForm a b
+  pub range : (word : List ℕ) → IsOne Range (IsRangeWord word)
+  pub columns : (given : Given) (us bs : List Column) (m n : ℕ) → AreColumnsAsked given us m
+      → AreColumnsAsked given bs n → AreSameColumns us bs × (m ≡ n)
+  pub destination : (given : Given) → IsOne Destination (IsDestinationAsked given)
+
+-- of `fixed constants`
+pub record ConstantsAreTheOnes : Type 0 where
+  pub form : (word : Option (List ℕ)) (a b : Form) (m n : ℕ) → IsConstantsAsked word a m → IsConstantsAsked word b n
+      → (a ≡ b) × (m ≡ n)
+  pub array : (word : Option (List ℕ)) → IsOne ArrayForm (IsArrayAsked word)
+  pub guard : (header : Bool) (word : Option (List ℕ)) → IsOne (List ℕ) (IsGuardAsked header word)
+  pub name : (form : ArrayForm) (guard : List ℕ) (word : Option (List ℕ))
+      → IsOne (List ℕ) (IsNameAsked form guard word)
+  pub numerals : (given : Given) (word : List ℕ) → IsOne Numerals (IsNumeralsAsked given word)
+
+-- of formats, targets, parts of words, layouts of lines, and widths
+pub record LinesAreTheOnes : Type 0 where
+  pub format : (word : Option (List ℕ)) → IsOne FormatParts (IsFormatAsked word)
+  pub target : (word : Option (List ℕ)) (source : FormatParts) (place : ℕ) (a b : FormatParts) (m n : ℕ)
+      → IsTargetAsked word source place a m → IsTargetAsked word source place b n → (a ≡ b) × (m ≡ n)
+  pub part : (format : FormatParts) (given : Given) → IsOne (Option Part) (IsPartAsked format given)
+  pub layout : (given : Given) → IsOne LineLayout (IsLayoutAsked given)
+  pub kind : (signed bounded : Bool) (word : Option (List ℕ)) → IsOne FormatParts (IsKindAsked signed bounded word)
+
+-- of what is written, an order of bytes, and an error
+pub record SettingsAreTheOnes : Type 0 where
+  pub print : (part places : Option (List ℕ)) → IsOne Print (IsPrintAsked part places)
+  pub endian : AreApart Endian endian_text
+  pub error : (radix : Radix) (word : Option (List ℕ)) → IsOne (Option (List ℕ)) (IsErrorAsked radix word)
