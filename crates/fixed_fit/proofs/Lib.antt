@@ -15,3 +15,4 @@ mod ServingLemmas
 mod ShortLemmas
 mod BoundedLemmas
 mod BoundedUniqueLemmas
+mod HalfBoundLemmas

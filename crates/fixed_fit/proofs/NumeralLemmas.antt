@@ -30,19 +30,19 @@ none_of den q some less =
     (λ (none : q ≤ 0). omega (arith, none))
     (cases_lt 0 q)
 
-no_high : (b : Bool) (high : ℕ) → (IsTrue b ↔ (0 < high)) → b ≡ false → high ≡ 0
+pub no_high : (b : Bool) (high : ℕ) → (IsTrue b ↔ (0 < high)) → b ≡ false → high ≡ 0
 no_high b high over is =
     ⊎_elim
     (λ (some : 0 < high). absurd (false≢true (sym is ∙ over.1 some)))
     (λ (none : high ≤ 0). omega (arith, none))
     (cases_lt 0 high)
 
-not_high : (b : Bool) (high : ℕ) → (IsTrue b ↔ (0 < high)) → high ≡ 0 → b ≡ false
+pub not_high : (b : Bool) (high : ℕ) → (IsTrue b ↔ (0 < high)) → high ≡ 0 → b ≡ false
 not_high false high over none = refl
 not_high true high over none = absurd (let some : 0 < high = over.0 refl in omega (arith, some, none))
 
 -- the number of ulps that a reading holds
-ulps_of : (r : Radix) (p : Parts) (found : ReadNumber) → (x : IsReading TowardsZero r p found) → x.read.ulps ≡ x.holds.high * 2 ^ 64 + found.low
+pub ulps_of : (r : Radix) (p : Parts) (found : ReadNumber) → (x : IsReading TowardsZero r p found) → x.read.ulps ≡ x.holds.high * 2 ^ 64 + found.low
 ulps_of r p found x =
     let whole : ℕ = x.holds.high * 2 ^ 64 + found.low in
     same_magnitude (is_minus p.sign) x.read.ulps whole (sym x.read.value ∙ (x.holds.value ∙ ap (λ b. with_sign b whole) x.sign))

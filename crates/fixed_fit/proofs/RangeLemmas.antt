@@ -1,19 +1,23 @@
 -- Rounding keeps the order of numbers, so the ends of a range decide for every number between them.
-use Rattle.std.proofs.Common.{◌≡◌, ℕ, ◌*◌, ◌^◌, ◌<◌, ◌≤◌, Bool, true, false, sym, ap, subst, arith, ⊎_elim, mul-le-mul_right, ℤ, ◌≤ℤ◌}
+use Rattle.std.proofs.Common.{◌≡◌, ℕ, ◌+◌, ◌*◌, ◌^◌, ◌<◌, ◌≤◌, Bool, true, false, List, sym, ap, subst, arith, ⊎_elim, mul-le-mul_right, ℤ, ◌≤ℤ◌}
 use Rattle.std.proofs.lemmas.Bool.{cases_lt}
 use Rattle.std.proofs.lemmas.Int.{ints}
-use Rattle.fixed_bits.specs.Nearest.{IsNearest}
+use Rattle.std.proofs.lemmas.Nat.{pow-add}
+use Rattle.fixed_bits.specs.Nearest.{IsNearest, distance}
 use Rattle.fixed_bits.specs.Numbers.{with_sign}
 use Rattle.fixed_bits.specs.Ranges.{IsInRange}
 use Rattle.fixed_bits.specs.declared.mode.ReadMode.TheVariants.{NearestEven}
 use Rattle.fixed_bits.proofs.Public.{nearest_scaled}
-use Rattle.fixed_numeral.specs.Numeral.{Parts, is_minus}
-use Rattle.fixed_numeral.specs.Value.{magnitude}
+use Rattle.fixed_error.specs.ErrorSize
+use Rattle.fixed_error.specs.ErrorSize.{error_size}
+use Rattle.fixed_numeral.specs.Numeral.{HasNumeral, Parts, is_minus}
+use Rattle.fixed_numeral.specs.Value.{Fraction, magnitude}
 use Rattle.fixed_numeral.specs.declared.radix.Radix.{Radix}
-use Rattle.fixed_numeral.proofs.Public.{magnitude_pos}
+use Rattle.fixed_numeral.proofs.Public.{magnitude_pos, parts_unique}
 use Rattle.fixed_read.specs.Reading.{IsReadNumber}
 use Rattle.fixed_read.proofs.Public.{read_number_is_the_one}
-use Rattle.fixed_fit.specs.Range.{EndsDecide, IsAtMost}
+use Rattle.fixed_fit.specs.Fitting.{Fits}
+use Rattle.fixed_fit.specs.Range.{EndsDecide, IsAtMost, IsFitting, RangeServesEach}
 use Rattle.fixed_fit.proofs.FittingLemmas.{nearest_grows}
 
 -- of two fractions, the nearest numbers of ulps
@@ -82,4 +86,44 @@ ends_decide r s n f low high p above below x y =
       number = v.0;
       read = v.1;
       in_range = between s n x.number v.0 y.number (read_grows r low p f x.number v.0 above x.read v.1) (read_grows r p high f v.0 y.number below v.1 y.read) x.in_range y.in_range;
+    }
+
+-- ---- a number is rounded by at most half an ulp
+pow_next : (f : ℕ) → 2 ^ (f + 1) ≡ 2 ^ f * 2
+pow_next f = pow-add 2 f 1
+
+product_grows : (a b c d : ℕ) → a ≤ b → c ≤ d → a * c ≤ b * d
+product_grows a b c d left right =
+    let one : a * c ≤ b * c = mul-le-mul_right c left in
+    let two : c * b ≤ d * b = mul-le-mul_right b right in
+    omega (arith, one, two)
+
+halved : (e den up num bd : ℕ) → 2 * e ≤ den → 1 * bd ≤ num * (up * 2) → e * bd ≤ num * (up * den)
+halved e den up num bd near least =
+    let both : (2 * e) * (1 * bd) ≤ den * (num * (up * 2)) = product_grows (2 * e) den (1 * bd) (num * (up * 2)) near least in
+    let left : (2 * e) * (1 * bd) ≡ 2 * (e * bd) = omega arith in
+    let right : den * (num * (up * 2)) ≡ 2 * (num * (up * den)) = omega arith in
+    omega (arith, both, left, right)
+
+within_half : (m b : Fraction) (f q : ℕ) → IsNearest (m.num * 2 ^ f) m.den q → ErrorSize.IsAtMost (record { num = 1; den = 2 ^ (f + 1) }) b → ErrorSize.IsAtMost (error_size m f q) b
+within_half m b f q near least =
+    let half : 1 * b.den ≤ b.num * (2 ^ f * 2) = subst (λ (u : ℕ). 1 * b.den ≤ b.num * u) (pow_next f) least in
+    halved (distance (m.num * 2 ^ f) (q * m.den)) m.den (2 ^ f) b.num b.den near.near half
+
+fitting_of : (r : Radix) (s : Bool) (n f : ℕ) (line : List ℕ) (p : Parts) → HasNumeral r line p → Fits r s n f line → IsFitting r s n f p
+fitting_of r s n f line p at h =
+    let same : h.parts ≡ p = parts_unique r line h.parts p h.has.beginning at.beginning in
+    subst (λ (k : Parts). IsFitting r s n f k) same (record { number = h.number; read = h.read; in_range = h.in_range })
+
+pub range_serves_each : RangeServesEach
+range_serves_each r s bound low high n f l h p at at' above below x =
+    let v = ends_decide r s n f l h p above below (fitting_of r s n f low l at x.fit.0) (fitting_of r s n f high h at' x.fit.1.0) in
+    let w = x.within in
+    record {
+      number = v.number;
+      read = v.read;
+      in_range = v.in_range;
+      bound_parts = w.parts;
+      bound_numeral = w.numeral;
+      at_most = within_half (magnitude r p) (magnitude r w.parts) f v.read.ulps v.read.rounded w.at_most;
     }

@@ -1,9 +1,9 @@
 -- What one more line makes of the formats that serve.
-use Rattle.std.proofs.Common.{◌≡◌, ℕ, zero, suc, ◌+◌, ◌<◌, ◌≤◌, ◌⊎◌, Bool, List, [], ◌∷◌, ◌++◌, length, take, drop, get_or, max, refl, sym, ap, ◌∙◌, subst, arith, inl, inr, ⊎_elim}
+use Rattle.std.proofs.Common.{◌≡◌, ℕ, zero, suc, ◌+◌, ◌-◌, ◌/◌, ◌<◌, ◌≤◌, ◌⊎◌, Bool, true, false, List, [], ◌∷◌, ◌++◌, length, take, drop, get_or, max, refl, sym, ap, ◌∙◌, subst, arith, inl, inr, ⊎_elim}
 use Rattle.std.proofs.lemmas.Bool.{cases_lt}
 use Rattle.std.proofs.lemmas.List.{take_all, take_more}
 use Rattle.fixed_bits.specs.Formats.{FormatParts}
-use Rattle.fixed_bits.specs.Ranges.{IsWidth}
+use Rattle.fixed_bits.specs.Ranges.{IsTypeWidth, IsWidth}
 use Rattle.fixed_bits.specs.declared.mode.ReadMode.TheVariants.{NearestEven}
 use Rattle.fixed_error.specs.ErrorSize.{HasErrorAbove, HasErrorWithin, IsReadWithin}
 use Rattle.fixed_error.proofs.Public.{above_not_within}
@@ -11,8 +11,8 @@ use Rattle.fixed_numeral.specs.Numeral.{IsNumeral}
 use Rattle.fixed_numeral.specs.declared.radix.Radix.{Radix}
 use Rattle.fixed_fit.specs.Fitting.{AllFit, IsFirstExceeding}
 use Rattle.fixed_fit.specs.Inner.Lengths.{AreLowered}
-use Rattle.fixed_fit.specs.Inner.Serving.{AreAllLeft, AreAllLowered, AreFew, AreTried, HasServing, HasWidth, IsBestOf, IsIn, IsLeftOf, IsServing, most_left}
-use Rattle.fixed_fit.specs.Within.{AllWithin, IsFirstUnserved, IsLeastWithin, IsServed, IsTried, Serves}
+use Rattle.fixed_fit.specs.Inner.Serving.{AreAllLeft, AreAllLowered, AreFew, AreTried, HasServing, HasWidth, IsBelow, IsBestOf, IsIn, IsLeftOf, IsNarrowed, IsServing, most_left}
+use Rattle.fixed_fit.specs.Within.{AllWithin, IsErrorWithin, IsLeastWithin, IsNextBelow, IsServed, IsTried, IsUnservedFrom, Serves, most_width}
 use Rattle.fixed_fit.specs.declared.lengths.Lengths.{Lengths}
 use Rattle.fixed_fit.specs.declared.question.Widths.{Widths}
 use Rattle.fixed_fit.specs.declared.question.Widths.TheVariants.{One, Types, Any}
@@ -20,7 +20,7 @@ use Rattle.fixed_fit.specs.declared.serving.Serving.{Serving}
 use Rattle.fixed_fit.proofs.FittingLemmas.{all_fit_each_shorter, exceeding_not, lengths_one_more}
 use Rattle.fixed_fit.proofs.LineLemmas.{fits_within}
 use Rattle.fixed_fit.proofs.ProgressLemmas.{all_are_left}
-use Rattle.fixed_fit.proofs.WithinLemmas.{all_within_longer, unserved_longer, within_before, within_last, within_one_more}
+use Rattle.fixed_fit.proofs.WithinLemmas.{all_within_longer, error_before, error_within_longer, from_first, from_longer, serves_before, serves_wider, within_before, within_last, within_one_more}
 
 -- ---- the lengths of some widths
 pub few_of : (r : Radix) (s : Bool) (lines : List (List ℕ)) (ls : List Lengths) → AreAllLeft r s lines ls → AreFew ls
@@ -109,47 +109,72 @@ lowered_few r s done line place (old ∷ olds) (new ∷ news) low all =
     omega (arith, rest, low.0.fewer, all.0.lengths.most, all.0.width.most)
 
 -- ---- a format serves exactly where more lengths are left than are not within the bound
-serves_by : (r : Radix) (s : Bool) (bound : List ℕ) (lines : List (List ℕ)) (l : Lengths) (f : ℕ) → IsLeftOf r s lines l → f < l.count → AllWithin r f bound lines → Serves r s bound lines l.kind.width f
-serves_by r s bound lines l f h less within = record {
+serves_by : (range : Bool) (r : Radix) (s : Bool) (bound : List ℕ) (lines : List (List ℕ)) (l : Lengths) (f : ℕ) → IsLeftOf r s lines l → f < l.count → IsErrorWithin range r f bound lines → Serves range r s bound lines l.kind.width f
+serves_by range r s bound lines l f h less within = record {
   within_width = omega (arith, less, h.lengths.most);
   fit = subst (λ t. AllFit r t l.kind.width f lines) h.signed (h.lengths.fit f less);
   within = within;
 }
 
-serves_not : (r : Radix) (s : Bool) (bound : List ℕ) (lines : List (List ℕ)) (l : Lengths) (g : ℕ) → IsLeftOf r s lines l → l.count ≤ g → Serves r s bound lines l.kind.width g → ⊥
-serves_not r s bound lines l g h past serves =
+serves_not : (range : Bool) (r : Radix) (s : Bool) (bound : List ℕ) (lines : List (List ℕ)) (l : Lengths) (g : ℕ) → IsLeftOf r s lines l → l.count ≤ g → Serves range r s bound lines l.kind.width g → ⊥
+serves_not range r s bound lines l g h past serves =
     let first : IsFirstExceeding r l.kind.signed l.kind.width l.count lines l.place = h.lengths.first (omega (arith, past, serves.within_width)) in
     let fit : AllFit r l.kind.signed l.kind.width g lines = subst (λ t. AllFit r t l.kind.width g lines) (sym h.signed) serves.fit in
     exceeding_not r l.kind.signed l.kind.width l.count lines l.place first (all_fit_each_shorter r l.kind.signed l.kind.width g l.count lines past fit)
 
-served_by : (r : Radix) (s : Bool) (widths : Widths) (one : ℕ) (lines : List (List ℕ)) (v : Serving) → AreTried widths one v.lengths.items → IsServing r s lines v → IsServed r s v.bound.items widths one lines
-served_by r s widths one lines v tried h =
+served_by : (range : Bool) (r : Radix) (s : Bool) (widths : Widths) (one : ℕ) (lines : List (List ℕ)) (v : Serving) → AreTried widths one v.lengths.items → IsServing range r s lines v → IsServed range r s v.bound.items widths one lines
+served_by range r s widths one lines v tried h =
     let l = longer_in v.low v.lengths.items h.served in
     record {
       width = l.0.kind.width;
       tried = tried.only l.0.kind.width (width_in l.0 v.lengths.items l.1);
       frac = v.low;
-      serves = serves_by r s v.bound.items lines l.0 v.low (left_in r s lines l.0 v.lengths.items l.1 h.lengths) l.2 h.within;
+      serves = serves_by range r s v.bound.items lines l.0 v.low (left_in r s lines l.0 v.lengths.items l.1 h.lengths) l.2 h.within;
     }
 
-unserved_by : (r : Radix) (s : Bool) (bound : List ℕ) (widths : Widths) (one low : ℕ) (lines : List (List ℕ)) (ls : List Lengths) → AreTried widths one ls → AreAllLeft r s lines ls → ((f : ℕ) → f < low → ¬ AllWithin r f bound lines) → most_left ls ≤ low → ¬ IsServed r s bound widths one lines
-unserved_by r s bound widths one low lines ls tried all least past h =
+unserved_by : (range : Bool) (r : Radix) (s : Bool) (bound : List ℕ) (widths : Widths) (one low : ℕ) (lines : List (List ℕ)) (ls : List Lengths) → AreTried widths one ls → AreAllLeft r s lines ls → ((f : ℕ) → f < low → ¬ IsErrorWithin range r f bound lines) → most_left ls ≤ low → ¬ IsServed range r s bound widths one lines
+unserved_by range r s bound widths one low lines ls tried all least past h =
     let l = in_width h.width ls (tried.all h.width h.tried) in
-    let serves : Serves r s bound lines l.0.kind.width h.frac = subst (λ n. Serves r s bound lines n h.frac) (sym l.2) h.serves in
+    let serves : Serves range r s bound lines l.0.kind.width h.frac = subst (λ n. Serves range r s bound lines n h.frac) (sym l.2) h.serves in
     ⊎_elim
     (λ (less : h.frac < low). least h.frac less h.serves.within)
     (λ (more : low ≤ h.frac).
     let most = in_most l.0 ls l.1 in
-    serves_not r s bound lines l.0 h.frac (left_in r s lines l.0 ls l.1 all) (omega (arith, most, past, more)) serves)
+    serves_not range r s bound lines l.0 h.frac (left_in r s lines l.0 ls l.1 all) (omega (arith, most, past, more)) serves)
     (cases_lt h.frac low)
 
+-- ---- the least
+pub least_by : (range : Bool) (r : Radix) (s : Bool) (widths : Widths) (one : ℕ) (lines : List (List ℕ)) (v : Serving) (best : Lengths) (f : ℕ) → suc f ≡ best.count → AreTried widths one v.lengths.items → IsServing range r s lines v → IsBestOf v.low v.lengths.items best
+    → IsLeastWithin range r s v.bound.items widths one lines best.kind.width f
+least_by range r s widths one lines v best f last tried h b =
+    let left = left_in r s lines best v.lengths.items b.among h.lengths in
+    let bound : List ℕ = v.bound.items in
+    let longer = b.longer in
+    record {
+      tried = tried.only best.kind.width (width_in best v.lengths.items b.among);
+      serves = serves_by range r s bound lines best f left (omega (arith, last)) (error_within_longer range r v.low f bound lines (omega (arith, last, longer)) h.within);
+      greatest = λ g more serves. serves_not range r s bound lines best g left (omega (arith, last, more)) serves;
+      least = λ m g less is serves.
+          let l = in_width m v.lengths.items (tried.all m is) in
+          let here : Serves range r s bound lines l.0.kind.width g = subst (λ n. Serves range r s bound lines n g) (sym l.2) serves in
+          ⊎_elim
+          (λ (short : g < v.low). h.least g short serves.within)
+          (λ (from : v.low ≤ g). ⊎_elim
+          (λ (within : g < l.0.count). let order = b.least l.0 l.1 (omega (arith, from, within)) in omega (arith, order, l.2, less))
+          (λ (past : l.0.count ≤ g). serves_not range r s bound lines l.0 g (left_in r s lines l.0 v.lengths.items l.1 h.lengths) past here)
+          (cases_lt g l.0.count))
+          (cases_lt g v.low);
+    }
+
 -- ---- one line more
-pub frozen : (r : Radix) (s : Bool) (widths : Widths) (one : ℕ) (done : List (List ℕ)) (line : List ℕ) (v : Serving) → (v.place ≡ 0 → ⊥) → HasServing r s widths one done v → HasServing r s widths one (done ++ line ∷ []) v
-frozen r s widths one done line v some h = record {
+pub frozen : (range : Bool) (r : Radix) (s : Bool) (widths : Widths) (one : ℕ) (done : List (List ℕ)) (line : List ℕ) (v : Serving) → v.is_served ≡ false → HasServing range r s widths one done v → HasServing range r s widths one (done ++ line ∷ []) v
+frozen range r s widths one done line v over h = record {
+  range_is = h.range_is;
   numeral = h.numeral;
   tried = h.tried;
-  serving = λ none. absurd (some none);
-  unserved = λ more. unserved_longer r s v.bound.items widths one done line v.place (h.unserved more);
+  serving = λ served. let no : true ≡ false = sym served ∙ over in cc;
+  narrowed = λ served. let no : true ≡ false = sym served ∙ over in cc;
+  unserved = λ _. from_longer range r s v.bound.items widths one done line v.place (h.unserved over);
 }
 
 not_shorter : (r : Radix) (bound : List ℕ) (done : List (List ℕ)) (line : List ℕ) (old new : ℕ) → ((f : ℕ) → f < old → ¬ AllWithin r f bound done) → ((f : ℕ) → old ≤ f → f < new → HasErrorAbove NearestEven r f line bound) → (f : ℕ) → f < new → ¬ AllWithin r f bound (done ++ line ∷ [])
@@ -159,69 +184,136 @@ not_shorter r bound done line old new least above f less all =
     (λ (from : old ≤ f). above_not_within NearestEven r f line bound (above f from less) (within_last r f bound done line all))
     (cases_lt f old)
 
-pub goes_on : (r : Radix) (s : Bool) (widths : Widths) (one : ℕ) (done : List (List ℕ)) (line : List ℕ) (place : ℕ) (old new : Serving) → new.bound.items ≡ old.bound.items → new.place ≡ old.place → (old.place ≡ 0) → AreAllLowered r line place old.lengths.items new.lengths.items → old.low ≤ new.low
-    → ((f : ℕ) → old.low ≤ f → f < new.low → HasErrorAbove NearestEven r f line old.bound.items) → HasErrorWithin NearestEven r new.low line old.bound.items → new.low < most_left new.lengths.items → place ≡ length done + 1
-    → HasServing r s widths one done old → HasServing r s widths one (done ++ line ∷ []) new
-goes_on r s widths one done line place old new bound same none low order above within served at h =
-    let was = h.serving none in
-    let B : List ℕ → Type 0 = λ b. AllWithin r new.low b (done ++ line ∷ []) in
-    let L : List ℕ → Type 0 = λ b. (f : ℕ) → f < new.low → ¬ AllWithin r f b (done ++ line ∷ []) in
+-- of a list the least length after one more line, and of a range the same
+pub low_within : (range : Bool) (r : Radix) (bound : List ℕ) (done : List (List ℕ)) (line : List ℕ) (old new : ℕ) → range ≡ false → old ≤ new → HasErrorWithin NearestEven r new line bound → IsErrorWithin range r old bound done → IsErrorWithin range r new bound (done ++ line ∷ [])
+low_within range r bound done line old new is order here all =
+    let before : AllWithin r old bound done = subst (λ b. IsErrorWithin b r old bound done) is all in
+    subst (λ b. IsErrorWithin b r new bound (done ++ line ∷ [])) (sym is) (within_one_more r new bound done line (all_within_longer r old new bound done order before) here)
+
+pub low_least : (range : Bool) (r : Radix) (bound : List ℕ) (done : List (List ℕ)) (line : List ℕ) (old new : ℕ) → range ≡ false → ((f : ℕ) → old ≤ f → f < new → HasErrorAbove NearestEven r f line bound) → ((f : ℕ) → f < old → ¬ IsErrorWithin range r f bound done) → (f : ℕ) → f < new → ¬ IsErrorWithin range r f bound (done ++ line ∷ [])
+low_least range r bound done line old new is above least f less all =
+    not_shorter r bound done line old new (λ g before w. least g before (subst (λ b. IsErrorWithin b r g bound done) (sym is) w)) above f less (subst (λ b. IsErrorWithin b r f bound (done ++ line ∷ [])) is all)
+
+pub range_within : (range : Bool) (r : Radix) (bound : List ℕ) (done : List (List ℕ)) (line : List ℕ) (low : ℕ) → range ≡ true → IsErrorWithin range r low bound done → IsErrorWithin range r low bound (done ++ line ∷ [])
+range_within range r bound done line low is h = subst (λ b. IsErrorWithin b r low bound (done ++ line ∷ [])) (sym is) (subst (λ b. IsErrorWithin b r low bound done) is h)
+
+pub range_least : (range : Bool) (r : Radix) (bound : List ℕ) (done : List (List ℕ)) (line : List ℕ) (low : ℕ) → range ≡ true → ((f : ℕ) → f < low → ¬ IsErrorWithin range r f bound done) → (f : ℕ) → f < low → ¬ IsErrorWithin range r f bound (done ++ line ∷ [])
+range_least range r bound done line low is least f less h = least f less (error_before range r f bound done (line ∷ []) h)
+
+-- what one more line makes of the least length that is within the bound
+abbrev pub IsWithinNext : Bool → Radix → List ℕ → ℕ → ℕ → List ℕ → Type 0
+IsWithinNext range r line old new bound = (lines : List (List ℕ)) → IsErrorWithin range r old bound lines → IsErrorWithin range r new bound (lines ++ line ∷ [])
+
+abbrev pub IsLeastNext : Bool → Radix → List ℕ → ℕ → ℕ → List ℕ → Type 0
+IsLeastNext range r line old new bound = (lines : List (List ℕ)) → ((f : ℕ) → f < old → ¬ IsErrorWithin range r f bound lines) → (f : ℕ) → f < new → ¬ IsErrorWithin range r f bound (lines ++ line ∷ [])
+
+-- what is kept of the formats that serve
+serving_on : (range : Bool) (r : Radix) (s : Bool) (widths : Widths) (one : ℕ) (done : List (List ℕ)) (line : List ℕ) (place : ℕ) (old new : Serving) → new.bound.items ≡ old.bound.items → old.is_served ≡ true → AreAllLowered r line place old.lengths.items new.lengths.items
+    → IsWithinNext old.is_range r line old.low new.low old.bound.items
+    → IsLeastNext old.is_range r line old.low new.low old.bound.items
+    → new.low < most_left new.lengths.items → place ≡ length done + 1
+    → HasServing range r s widths one done old → IsServing range r s (done ++ line ∷ []) new
+serving_on range r s widths one done line place old new bound on low within least served at h =
+    let was = h.serving on in
+    let E : Bool → List ℕ → Type 0 = λ b k. IsErrorWithin b r new.low k (done ++ line ∷ []) in
+    let W : Bool → Type 0 = λ b. IsErrorWithin b r old.low old.bound.items done in
+    let N : Bool → Type 0 = λ b. (f : ℕ) → f < old.low → ¬ IsErrorWithin b r f old.bound.items done in
+    let L : Bool → List ℕ → Type 0 = λ b k. (f : ℕ) → f < new.low → ¬ IsErrorWithin b r f k (done ++ line ∷ []) in
     record {
-      numeral = subst (λ b. IsNumeral r b) (sym bound) h.numeral;
-      tried = tried_after r line place widths one old.lengths.items new.lengths.items low h.tried;
-      serving = λ _. record {
-        lengths = all_one_more r s done line place old.lengths.items new.lengths.items at low was.lengths;
-        within = subst B (sym bound) (within_one_more r new.low old.bound.items done line (all_within_longer r old.low new.low old.bound.items done order was.within) within);
-        least = subst L (sym bound) (not_shorter r old.bound.items done line old.low new.low was.least above);
-        served = served;
-      };
-      unserved = λ more. absurd (omega (arith, more, same, none));
+      lengths = all_one_more r s done line place old.lengths.items new.lengths.items at low was.lengths;
+      within = subst (E range) (sym bound) (subst (λ b. E b old.bound.items) h.range_is (within done (subst W (sym h.range_is) was.within)));
+      least = subst (L range) (sym bound) (subst (λ b. L b old.bound.items) h.range_is (least done (subst N (sym h.range_is) was.least)));
+      served = served;
     }
 
-pub ends : (r : Radix) (s : Bool) (widths : Widths) (one : ℕ) (done : List (List ℕ)) (line : List ℕ) (place : ℕ) (old new : Serving) → new.bound.items ≡ old.bound.items → new.place ≡ place → (old.place ≡ 0) → AreAllLowered r line place old.lengths.items new.lengths.items
-    → ((f : ℕ) → old.low ≤ f → f < new.low → HasErrorAbove NearestEven r f line old.bound.items) → most_left new.lengths.items ≤ new.low → place ≡ length done + 1
-    → HasServing r s widths one done old → HasServing r s widths one (done ++ line ∷ []) new
-ends r s widths one done line place old new bound same none low above past at h =
-    let was = h.serving none in
-    let tried = tried_after r line place widths one old.lengths.items new.lengths.items low h.tried in
-    let left = all_one_more r s done line place old.lengths.items new.lengths.items at low was.lengths in
-    let F : List ℕ → Type 0 = λ b. IsFirstUnserved r s b widths one (done ++ line ∷ []) new.place in
+-- where the least width is another the width next below it served until this line
+moved_from : (range : Bool) (r : Radix) (s : Bool) (bound : List ℕ) (widths : Widths) (one : ℕ) (done : List (List ℕ)) (line : List ℕ) (place n f o e m : ℕ) → place ≡ length done + 1 → o < n → IsNextBelow widths one n m
+    → IsLeastWithin range r s bound widths one (done ++ line ∷ []) n f → IsLeastWithin range r s bound widths one done o e → IsUnservedFrom range r s bound One m (done ++ line ∷ []) place
+moved_from range r s bound widths one done line place n f o e m at less next new old =
+    let order : o ≤ m = next.greatest o old.tried less in
+    from_first range r s bound One m (done ++ line ∷ []) place (record {
+      before = done;
+      line = line;
+      after = [];
+      split = refl;
+      served = record { width = m; tried = refl; frac = e; serves = serves_wider range r s bound done o m e order old.serves };
+      unserved = λ h.
+          let narrow = next.less in
+          let same : h.width ≡ m = h.tried in
+          new.least h.width h.frac (omega (arith, narrow, same)) (subst (λ (k : ℕ). IsTried widths one k) (sym same) next.tried) h.serves;
+      place_is = at;
+    })
+
+narrowed_on : (range : Bool) (r : Radix) (s : Bool) (widths : Widths) (one : ℕ) (done : List (List ℕ)) (line : List ℕ) (place : ℕ) (old new : Serving) (best : Lengths) → place ≡ length done + 1 → new.bound.items ≡ old.bound.items → new.width ≡ best.kind.width → (new.width ≡ old.width → new.raised ≡ old.raised) → ((new.width ≡ old.width → ⊥) → new.raised ≡ place)
+    → AreTried widths one new.lengths.items → IsServing range r s (done ++ line ∷ []) new → IsBestOf new.low new.lengths.items best → IsNarrowed range r s widths one done old → IsNarrowed range r s widths one (done ++ line ∷ []) new
+narrowed_on range r s widths one done line place old new best at bound width same moved tried serving is h =
+    let longer = is.longer in
+    let f : ℕ = best.count - 1 in
+    let here : IsLeastWithin range r s new.bound.items widths one (done ++ line ∷ []) best.kind.width f = least_by range r s widths one (done ++ line ∷ []) new best f (omega (arith, longer)) tried serving is in
+    let least : IsLeastWithin range r s new.bound.items widths one (done ++ line ∷ []) new.width f = subst (λ (n : ℕ). IsLeastWithin range r s new.bound.items widths one (done ++ line ∷ []) n f) (sym width) here in
+    let was : IsLeastWithin range r s new.bound.items widths one done old.width h.frac = subst (λ (b : List ℕ). IsLeastWithin range r s b widths one done old.width h.frac) (sym bound) h.least in
     record {
+      frac = f;
+      least = least;
+      below = λ m next. ⊎_elim
+          (λ (more : old.width < new.width).
+          let there = moved_from range r s new.bound.items widths one done line place new.width f old.width h.frac m at more next least was in
+          subst (λ (p : ℕ). IsUnservedFrom range r s new.bound.items One m (done ++ line ∷ []) p) (sym (moved (λ e. omega (arith, e, more)))) there)
+          (λ (past : new.width ≤ old.width). ⊎_elim
+          (λ (less : new.width < old.width). absurd (was.least new.width f less least.tried (serves_before range r s new.bound.items done (line ∷ []) new.width f least.serves)))
+          (λ (back : old.width ≤ new.width).
+          let e : new.width ≡ old.width = omega (arith, past, back) in
+          let there = h.below m (subst (λ (n : ℕ). IsNextBelow widths one n m) e next) in
+          let after = from_longer range r s old.bound.items One m done line old.raised there in
+          subst (λ (p : ℕ). IsUnservedFrom range r s new.bound.items One m (done ++ line ∷ []) p) (sym (same e)) (subst (λ (b : List ℕ). IsUnservedFrom range r s b One m (done ++ line ∷ []) old.raised) (sym bound) after))
+          (cases_lt new.width old.width))
+          (cases_lt old.width new.width);
+    }
+
+pub goes_on : (range : Bool) (r : Radix) (s : Bool) (widths : Widths) (one : ℕ) (done : List (List ℕ)) (line : List ℕ) (place : ℕ) (old new : Serving) (best : Lengths) → new.bound.items ≡ old.bound.items → new.is_range ≡ old.is_range → new.is_served ≡ old.is_served → old.is_served ≡ true → AreAllLowered r line place old.lengths.items new.lengths.items
+    → IsWithinNext old.is_range r line old.low new.low old.bound.items
+    → IsLeastNext old.is_range r line old.low new.low old.bound.items
+    → new.low < most_left new.lengths.items → place ≡ length done + 1 → IsBestOf new.low new.lengths.items best → new.width ≡ best.kind.width → (new.width ≡ old.width → new.raised ≡ old.raised) → ((new.width ≡ old.width → ⊥) → new.raised ≡ place)
+    → HasServing range r s widths one done old → HasServing range r s widths one (done ++ line ∷ []) new
+goes_on range r s widths one done line place old new best bound ranged same on low within least served at is width kept moved h =
+    let serving = serving_on range r s widths one done line place old new bound on low within least served at h in
+    let tried = tried_after r line place widths one old.lengths.items new.lengths.items low h.tried in
+    record {
+      range_is = ranged ∙ h.range_is;
       numeral = subst (λ b. IsNumeral r b) (sym bound) h.numeral;
       tried = tried;
-      serving = λ none'. absurd (omega (arith, none', same, at));
-      unserved = λ _. subst F (sym bound) (record {
+      serving = λ _. serving;
+      narrowed = λ _. narrowed_on range r s widths one done line place old new best at bound width kept moved tried serving is (h.narrowed on);
+      unserved = λ over. let no : true ≡ false = sym on ∙ (sym same ∙ over) in cc;
+    }
+
+pub ends : (range : Bool) (r : Radix) (s : Bool) (widths : Widths) (one : ℕ) (done : List (List ℕ)) (line : List ℕ) (place : ℕ) (old new : Serving) → new.bound.items ≡ old.bound.items → new.is_range ≡ old.is_range → new.is_served ≡ false → new.place ≡ place → old.is_served ≡ true → AreAllLowered r line place old.lengths.items new.lengths.items
+    → IsLeastNext old.is_range r line old.low new.low old.bound.items
+    → most_left new.lengths.items ≤ new.low → place ≡ length done + 1
+    → HasServing range r s widths one done old → HasServing range r s widths one (done ++ line ∷ []) new
+ends range r s widths one done line place old new bound ranged over same on low least past at h =
+    let was = h.serving on in
+    let tried = tried_after r line place widths one old.lengths.items new.lengths.items low h.tried in
+    let left = all_one_more r s done line place old.lengths.items new.lengths.items at low was.lengths in
+    let F : List ℕ → Type 0 = λ b. IsUnservedFrom range r s b widths one (done ++ line ∷ []) new.place in
+    let N : Bool → Type 0 = λ b. (f : ℕ) → f < old.low → ¬ IsErrorWithin b r f old.bound.items done in
+    let L : Bool → Type 0 = λ b. (f : ℕ) → f < new.low → ¬ IsErrorWithin b r f old.bound.items (done ++ line ∷ []) in
+    let shorter : L range = subst L h.range_is (least done (subst N (sym h.range_is) was.least)) in
+    record {
+      range_is = ranged ∙ h.range_is;
+      numeral = subst (λ b. IsNumeral r b) (sym bound) h.numeral;
+      tried = tried;
+      serving = λ on'. let no : true ≡ false = sym on' ∙ over in cc;
+      narrowed = λ on'. let no : true ≡ false = sym on' ∙ over in cc;
+      unserved = λ _. subst F (sym bound) (from_first range r s old.bound.items widths one (done ++ line ∷ []) new.place (record {
         before = done;
         line = line;
         after = [];
         split = refl;
-        served = served_by r s widths one done old h.tried was;
-        unserved = unserved_by r s old.bound.items widths one new.low (done ++ line ∷ []) new.lengths.items tried left (not_shorter r old.bound.items done line old.low new.low was.least above) past;
+        served = served_by range r s widths one done old h.tried was;
+        unserved = unserved_by range r s old.bound.items widths one new.low (done ++ line ∷ []) new.lengths.items tried left shorter past;
         place_is = same ∙ at;
-      });
-    }
-
--- ---- the least
-pub least_by : (r : Radix) (s : Bool) (widths : Widths) (one : ℕ) (lines : List (List ℕ)) (v : Serving) (best : Lengths) (f : ℕ) → suc f ≡ best.count → AreTried widths one v.lengths.items → IsServing r s lines v → IsBestOf v.low v.lengths.items best
-    → IsLeastWithin r s v.bound.items widths one lines best.kind.width f
-least_by r s widths one lines v best f last tried h b =
-    let left = left_in r s lines best v.lengths.items b.among h.lengths in
-    let bound : List ℕ = v.bound.items in
-    let longer = b.longer in
-    record {
-      tried = tried.only best.kind.width (width_in best v.lengths.items b.among);
-      serves = serves_by r s bound lines best f left (omega (arith, last)) (all_within_longer r v.low f bound lines (omega (arith, last, longer)) h.within);
-      greatest = λ g more serves. serves_not r s bound lines best g left (omega (arith, last, more)) serves;
-      least = λ m g less is serves.
-          let l = in_width m v.lengths.items (tried.all m is) in
-          let here : Serves r s bound lines l.0.kind.width g = subst (λ n. Serves r s bound lines n g) (sym l.2) serves in
-          ⊎_elim
-          (λ (short : g < v.low). h.least g short serves.within)
-          (λ (from : v.low ≤ g). ⊎_elim
-          (λ (within : g < l.0.count). let order = b.least l.0 l.1 (omega (arith, from, within)) in omega (arith, order, l.2, less))
-          (λ (past : l.0.count ≤ g). serves_not r s bound lines l.0 g (left_in r s lines l.0 v.lengths.items l.1 h.lengths) past here)
-          (cases_lt g l.0.count))
-          (cases_lt g v.low);
+      }));
     }
 
 -- ---- before the first line
@@ -263,10 +355,18 @@ tried_width Types one n h (inr (inr (inl a))) = record { some = omega (arith, a)
 tried_width Types one n h (inr (inr (inr a))) = record { some = omega (arith, a); most = omega (arith, a) }
 tried_width Any one n h is = is
 
-some_tried : (widths : Widths) (one : ℕ) → (n : ℕ) × IsTried widths one n
-some_tried One one = (one, refl)
-some_tried Types one = (8, inl refl)
-some_tried Any one = (1, record { some = omega arith; most = omega arith })
+most_tried : (widths : Widths) (one : ℕ) → IsTried widths one (most_width widths one)
+most_tried One one = refl
+most_tried Types one = inr (inr (inr refl))
+most_tried Any one = record { some = omega arith; most = omega arith }
+
+pub tried_most : (widths : Widths) (one n : ℕ) → IsTried widths one n → n ≤ most_width widths one
+tried_most One one n same = omega (arith, same)
+tried_most Types one n (inl a) = omega (arith, a)
+tried_most Types one n (inr (inl a)) = omega (arith, a)
+tried_most Types one n (inr (inr (inl a))) = omega (arith, a)
+tried_most Types one n (inr (inr (inr a))) = omega (arith, a)
+tried_most Any one n is = let most = is.most in omega (arith, most)
 
 fresh_left : (r : Radix) (s : Bool) (ls : List Lengths) → AreFresh s ls → AreAllLeft r s [] ls
 fresh_left r s [] all = tt
@@ -277,23 +377,131 @@ fresh_in s l [] h all = absurd h
 fresh_in s l (x ∷ xs) (inl same) all = subst (λ (k : Lengths). IsFresh s k) same all.0
 fresh_in s l (x ∷ xs) (inr later) all = fresh_in s l xs later all.1
 
-pub starts : (r : Radix) (s : Bool) (widths : Widths) (one : ℕ) (v : Serving) → v.low ≡ 0 → v.place ≡ 0 → IsNumeral r v.bound.items → AreTried widths one v.lengths.items → AreFresh s v.lengths.items → HasServing r s widths one [] v
-starts r s widths one v low place numeral tried fresh =
-    let t = some_tried widths one in
-    let l = in_width t.0 v.lengths.items (tried.all t.0 t.1) in
+never_served : (range : Bool) (r : Radix) (s : Bool) (bound : List ℕ) (widths : Widths) (one low : ℕ) → ((f : ℕ) → f < low → ¬ IsErrorWithin range r f bound []) → most_width widths one < low → IsServed range r s bound widths one [] → ⊥
+never_served range r s bound widths one low least past h =
+    let few = tried_most widths one h.width h.tried in
+    let within = h.serves.within_width in
+    least h.frac (omega (arith, few, within, past)) h.serves.within
+
+not_lesser : (range : Bool) (r : Radix) (s : Bool) (widths : Widths) (one : ℕ) (v : Serving) → ((f : ℕ) → f < v.low → ¬ IsErrorWithin range r f v.bound.items []) → ((m : ℕ) → IsTried widths one m → v.low ≤ m → v.width ≤ m) → (m g : ℕ) → m < v.width → IsTried widths one m → Serves range r s v.bound.items [] m g → ⊥
+not_lesser range r s widths one v least least' m g less is serves =
+    ⊎_elim
+    (λ (short : g < v.low). least g short serves.within)
+    (λ (from : v.low ≤ g).
+    let few = serves.within_width in
+    let order = least' m is (omega (arith, from, few)) in
+    omega (arith, order, less))
+    (cases_lt g v.low)
+
+fresh_narrowed : (range : Bool) (r : Radix) (s : Bool) (widths : Widths) (one : ℕ) (v : Serving) → v.raised ≡ 0 → IsErrorWithin range r v.low v.bound.items [] → ((f : ℕ) → f < v.low → ¬ IsErrorWithin range r f v.bound.items [])
+    → IsTried widths one v.width → v.low ≤ v.width → ((m : ℕ) → IsTried widths one m → v.low ≤ m → v.width ≤ m) → IsNarrowed range r s widths one [] v
+fresh_narrowed range r s widths one v raised within least tried order least' = record {
+  frac = v.width;
+  least = record {
+    tried = tried;
+    serves = record { within_width = omega arith; fit = tt; within = error_within_longer range r v.low v.width v.bound.items [] order within };
+    greatest = λ g more serves. let few = serves.within_width in omega (arith, more, few);
+    least = not_lesser range r s widths one v least least';
+  };
+  below = λ m next. record {
+    never = λ _ h.
+        let narrow = next.less in
+        let same : h.width ≡ m = h.tried in
+        not_lesser range r s widths one v least least' h.width h.frac (omega (arith, narrow, same)) (subst (λ (k : ℕ). IsTried widths one k) (sym same) next.tried) h.serves;
+    first = λ more. absurd (omega (arith, more, raised));
+  };
+}
+
+pub starts : (range : Bool) (r : Radix) (s : Bool) (widths : Widths) (one : ℕ) (v : Serving) → v.is_range ≡ range → v.place ≡ 0 → v.raised ≡ 0 → IsWidth one → IsNumeral r v.bound.items → AreTried widths one v.lengths.items → AreFresh s v.lengths.items
+    → (v.low < 65 → IsErrorWithin range r v.low v.bound.items []) → ((f : ℕ) → f < v.low → ¬ IsErrorWithin range r f v.bound.items [])
+    → (v.is_served ≡ true → v.low ≤ most_width widths one) → (v.is_served ≡ false → most_width widths one < v.low)
+    → (v.low ≤ most_width widths one → IsTried widths one v.width) → (v.low ≤ most_width widths one → v.low ≤ v.width) → ((m : ℕ) → IsTried widths one m → v.low ≤ m → v.width ≤ m) → HasServing range r s widths one [] v
+starts range r s widths one v ranged place raised wide numeral tried fresh within least on over tried' order least' =
+    let w : ℕ = most_width widths one in
+    let l = in_width w v.lengths.items (tried.all w (most_tried widths one)) in
     let most = in_most l.0 v.lengths.items l.1 in
     let all = (fresh_in s l.0 v.lengths.items l.1 fresh).all in
+    let is = l.2 in
+    let few = (tried_width widths one w wide (most_tried widths one)).most in
+    let inside : v.low ≤ w → IsErrorWithin range r v.low v.bound.items [] = λ fits. within (omega (arith, fits, few)) in
     record {
+      range_is = ranged;
       numeral = numeral;
       tried = tried;
-      serving = λ _. record {
+      serving = λ yes. let fits = on yes in record {
         lengths = fresh_left r s v.lengths.items fresh;
-        within = tt;
-        least = λ f less. absurd (omega (arith, less, low));
-        served = omega (arith, low, most, all);
+        within = inside fits;
+        least = least;
+        served = omega (arith, fits, most, all, is);
       };
-      unserved = λ more. absurd (omega (arith, more, place));
+      narrowed = λ yes. let fits = on yes in fresh_narrowed range r s widths one v raised (inside fits) least (tried' fits) (order fits) least';
+      unserved = λ no. record {
+        never = λ _. never_served range r s v.bound.items widths one v.low least (over no);
+        first = λ more. absurd (omega (arith, more, place));
+      };
     }
+
+-- ---- widths that are tried
+pub at_least_8 : (m : ℕ) → IsTypeWidth m → 8 ≤ m
+at_least_8 m (inl a) = omega (arith, a)
+at_least_8 m (inr (inl a)) = omega (arith, a)
+at_least_8 m (inr (inr (inl a))) = omega (arith, a)
+at_least_8 m (inr (inr (inr a))) = omega (arith, a)
+
+-- of 8, 16, 32 and 64 those that are less than one of them
+less_types : (m : ℕ) → IsTypeWidth m → (m < 16 → m ≤ 8) × (m < 32 → m ≤ 16) × (m < 64 → m ≤ 32)
+less_types m (inl a) = (λ _. omega (arith, a), λ _. omega (arith, a), λ _. omega (arith, a))
+less_types m (inr (inl a)) = (λ less. omega (arith, a, less), λ _. omega (arith, a), λ _. omega (arith, a))
+less_types m (inr (inr (inl a))) = (λ less. omega (arith, a, less), λ less. omega (arith, a, less), λ _. omega (arith, a))
+less_types m (inr (inr (inr a))) = (λ less. omega (arith, a, less), λ less. omega (arith, a, less), λ less. omega (arith, a, less))
+
+-- those that are more
+pub more_types : (m : ℕ) → IsTypeWidth m → (8 < m → 16 ≤ m) × (16 < m → 32 ≤ m) × (32 < m → 64 ≤ m)
+more_types m (inl a) = (λ more. omega (arith, a, more), λ more. omega (arith, a, more), λ more. omega (arith, a, more))
+more_types m (inr (inl a)) = (λ _. omega (arith, a), λ more. omega (arith, a, more), λ more. omega (arith, a, more))
+more_types m (inr (inr (inl a))) = (λ _. omega (arith, a), λ _. omega (arith, a), λ more. omega (arith, a, more))
+more_types m (inr (inr (inr a))) = (λ _. omega (arith, a), λ _. omega (arith, a), λ _. omega (arith, a))
+
+-- the width next below
+pub below_one : (one n : ℕ) → IsTried One one n → IsBelow One one n 0
+below_one one n same = record { none = λ _ m is. omega (arith, same, is); some = λ more. absurd (omega (arith, more)) }
+
+pub below_any : (one n : ℕ) → IsTried Any one n → IsBelow Any one n (n - 1)
+below_any one n is =
+    let some = is.some in
+    let most = is.most in
+    record {
+      none = λ zero m at. let from = at.some in omega (arith, zero, from);
+      some = λ more. record {
+        tried = record { some = omega (arith, more); most = omega (arith, most) };
+        less = omega (arith, some);
+        greatest = λ k _ less. omega (arith, less);
+      };
+    }
+
+pub below_least : (one n : ℕ) → IsTried Types one n → n ≤ 8 → IsBelow Types one n 0
+below_least one n is few = record { none = λ _ m at. let from = at_least_8 m at in omega (arith, few, from); some = λ more. absurd (omega (arith, more)) }
+
+pub below_half : (one n : ℕ) → IsTried Types one n → 8 < n → IsBelow Types one n (n / 2)
+below_half one n (inl a) more = absurd (omega (arith, a, more))
+below_half one n (inr (inl a)) more =
+    let h : n / 2 ≡ 8 = omega (arith, a) in
+    subst (λ (b : ℕ). IsBelow Types one n b) (sym h) (record { none = λ zero. absurd (omega (arith, zero)); some = λ _. record { tried = inl refl; less = omega (arith, a); greatest = λ k at less. (less_types k at).0 (omega (arith, less, a)) } })
+below_half one n (inr (inr (inl a))) more =
+    let h : n / 2 ≡ 16 = omega (arith, a) in
+    subst (λ (b : ℕ). IsBelow Types one n b) (sym h) (record { none = λ zero. absurd (omega (arith, zero)); some = λ _. record { tried = inr (inl refl); less = omega (arith, a); greatest = λ k at less. (less_types k at).1 (omega (arith, less, a)) } })
+below_half one n (inr (inr (inr a))) more =
+    let h : n / 2 ≡ 32 = omega (arith, a) in
+    subst (λ (b : ℕ). IsBelow Types one n b) (sym h) (record { none = λ zero. absurd (omega (arith, zero)); some = λ _. record { tried = inr (inr (inl refl)); less = omega (arith, a); greatest = λ k at less. (less_types k at).2 (omega (arith, less, a)) } })
+
+pub some_below : (widths : Widths) (one n : ℕ) → IsTried widths one n → (b : ℕ) × IsBelow widths one n b
+some_below One one n is = (0, below_one one n is)
+some_below Any one n is = (n - 1, below_any one n is)
+some_below Types one n is =
+    ⊎_elim
+    (λ (more : 8 < n). (n / 2, below_half one n is more))
+    (λ (few : n ≤ 8). (0, below_least one n is few))
+    (cases_lt 8 n)
 
 -- ---- loops over them
 get_dropped : (xs : List Lengths) (k : ℕ) (d : Lengths) → get_or xs k d ≡ get_or (drop k xs) 0 d

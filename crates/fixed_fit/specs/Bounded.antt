@@ -1,5 +1,6 @@
 -- What is written about a list of which the least format within an error is asked for.
-use Rattle.std.specs.Prelude.{◌≡◌, ◌⊎◌, ℕ, Bool, true, false, List, ◌++◌, [], ◌∷◌, codes, decimal}
+use Rattle.std.specs.Prelude.{◌≡◌, ◌⊎◌, ◌≤◌, nat_lt, ℕ, Bool, true, false, if◌then◌else◌, List, ◌++◌, [], ◌∷◌}
+use Rattle.std.specs.Prelude.{codes, decimal}
 use Rattle.fixed_least.specs.Holding.{AllNumerals}
 use Rattle.fixed_least.specs.Least.{IsFaultAnswer}
 use Rattle.line_engine.specs.AnswerText.{AnswerText}
@@ -7,9 +8,14 @@ use Rattle.line_engine.specs.Lines.{lines}
 use Rattle.fixed_fit.specs.Answer.{IsReason, format_of, name_of}
 use Rattle.fixed_fit.specs.ErrorWord.{IsErrorWord}
 use Rattle.fixed_fit.specs.Fitting.{IsSignRule}
-use Rattle.fixed_fit.specs.Within.{IsFirstUnserved, IsLeastWithin}
+use Rattle.fixed_fit.specs.Within.{IsLeastWithin, IsNextBelow, IsTried, IsUnservedFrom}
 use Rattle.fixed_fit.specs.declared.question.Question.{Question}
 use Rattle.fixed_fit.specs.declared.question.Widths.{Widths}
+use Rattle.fixed_fit.specs.declared.question.Widths.TheVariants.{One}
+
+-- the place of a line, from 1, after its word; nothing for 0
+abbrev pub from_line : ℕ → List ℕ
+from_line place = if nat_lt 0 place then codes " line " ++ decimal place else []
 
 -- the same question of another width
 abbrev pub at_width : Question → ℕ → Question
@@ -20,6 +26,19 @@ at_width q n = record {
   is_range = q.is_range;
 }
 
+-- what says from which line on no format of a width serves
+abbrev pub width_line : ℕ → ℕ → List ℕ
+width_line n place = codes "width " ++ (decimal n ++ (from_line place ++ 10 ∷ []))
+
+-- why no lesser width serves: the line from which on no format of the next lesser one does; nothing where no lesser one
+-- is tried, or where it is not asked for
+pub record IsWidthReason (q : Question) (widths : Widths) (bound : List ℕ) (s : Bool) (list : List (List ℕ)) (n : ℕ)
+    (text : List ℕ) : Type 0 where
+  pub unasked : q.is_reason_asked ≡ false → text ≡ []
+  pub no_lesser : ((m : ℕ) → IsTried widths q.kind.width m → n ≤ m) → text ≡ []
+  pub next : q.is_reason_asked ≡ true → (m : ℕ) → IsNextBelow widths q.kind.width n m
+      → (place : ℕ) × IsUnservedFrom q.is_range q.radix s bound One m list place × (text ≡ width_line m place)
+
 -- the least format within the bound is named, and the greatest error in it
 pub record IsBoundedFound (q : Question) (widths : Widths) (bound : List ℕ) (list : List (List ℕ))
     (answer : AnswerText) : Type 0 where
@@ -28,23 +47,29 @@ pub record IsBoundedFound (q : Question) (widths : Widths) (bound : List ℕ) (l
   pub sign : IsSignRule q.radix q.kind.signed list signed
   pub width : ℕ
   pub frac : ℕ
-  pub least : IsLeastWithin q.radix signed bound widths q.kind.width list width frac
+  pub least : IsLeastWithin q.is_range q.radix signed bound widths q.kind.width list width frac
   pub error : List ℕ
   pub is_error : IsErrorWord q.is_range q.radix (format_of signed width frac) list error
   pub reason : List ℕ
   pub is_reason : IsReason (at_width q width) signed list frac reason
-  pub text : answer.text ≡ name_of signed width frac ++ (codes " error " ++ (error ++ 10 ∷ reason))
+  pub lesser : List ℕ
+  pub is_lesser : IsWidthReason q widths bound signed list width lesser
+  pub text : answer.text ≡ name_of signed width frac ++ (codes " error " ++ (error ++ 10 ∷ (reason ++ lesser)))
   pub fault : answer.fault ≡ false
 
--- no format serves, and the first line with which none does is named
+-- what says from which line on no format serves
+abbrev pub none_line : ℕ → List ℕ
+none_line place = codes "none" ++ (from_line place ++ 10 ∷ [])
+
+-- no format serves, and the first line with which none does is named, where there is one
 pub record IsBoundedNone (q : Question) (widths : Widths) (bound : List ℕ) (list : List (List ℕ))
     (answer : AnswerText) : Type 0 where
   pub numerals : AllNumerals q.radix list
   pub signed : Bool
   pub sign : IsSignRule q.radix q.kind.signed list signed
   pub place : ℕ
-  pub first : IsFirstUnserved q.radix signed bound widths q.kind.width list place
-  pub text : answer.text ≡ codes "none line " ++ (decimal place ++ 10 ∷ [])
+  pub first : IsUnservedFrom q.is_range q.radix signed bound widths q.kind.width list place
+  pub text : answer.text ≡ none_line place
   pub fault : answer.fault ≡ true
 
 -- the answer to an input: a line is no numeral, and the first such line is named; or its list of numerals is answered

@@ -5,10 +5,10 @@ use Rattle.fixed_numeral.specs.declared.radix.Radix.{Radix}
 use Rattle.fixed_show.specs.ErrorText.{IsExactDecimal}
 use Rattle.line_engine.specs.AnswerText.{AnswerText}
 use Rattle.fixed_fit.specs.Answer.{IsAnswer}
-use Rattle.fixed_fit.specs.Bounded.{IsBoundedAnswer}
+use Rattle.fixed_fit.specs.Bounded.{IsBoundedAnswer, IsWidthReason}
 use Rattle.fixed_fit.specs.ErrorWord.{IsErrorWord}
 use Rattle.fixed_fit.specs.Fitting.{AllFit, Fits, IsFinest, IsSignRule}
-use Rattle.fixed_fit.specs.Within.{IsFirstUnserved, IsLeastWithin}
+use Rattle.fixed_fit.specs.Within.{IsLeastWithin, IsTried, IsUnservedFrom}
 use Rattle.fixed_fit.specs.declared.question.Question.{Question}
 use Rattle.fixed_fit.specs.declared.question.Widths.{Widths}
 
@@ -42,14 +42,21 @@ RangeErrorIsHalfAnUlp = (r : Radix) (f : FormatParts) (lines : List (List ℕ)) 
 
 -- a list has at most one least format within a bound
 abbrev pub LeastWithinIsTheOne : Type 0
-LeastWithinIsTheOne = (r : Radix) (s : Bool) (bound : List ℕ) (widths : Widths) (one : ℕ) (lines : List (List ℕ))
-    (n m f g : ℕ) → IsLeastWithin r s bound widths one lines n f → IsLeastWithin r s bound widths one lines m g
-    → (n ≡ m) × (f ≡ g)
+LeastWithinIsTheOne = (range : Bool) (r : Radix) (s : Bool) (bound : List ℕ) (widths : Widths) (one : ℕ)
+    (lines : List (List ℕ)) (n m f g : ℕ) → IsLeastWithin range r s bound widths one lines n f
+    → IsLeastWithin range r s bound widths one lines m g → (n ≡ m) × (f ≡ g)
 
--- and one first line with which no format serves any more
+-- and no format serves from one line on, or from none
 abbrev pub FirstUnservedIsTheOne : Type 0
-FirstUnservedIsTheOne = (r : Radix) (s : Bool) (bound : List ℕ) (widths : Widths) (one : ℕ) (lines : List (List ℕ))
-    (p q : ℕ) → IsFirstUnserved r s bound widths one lines p → IsFirstUnserved r s bound widths one lines q → p ≡ q
+FirstUnservedIsTheOne = (range : Bool) (r : Radix) (s : Bool) (bound : List ℕ) (widths : Widths) (one : ℕ)
+    (lines : List (List ℕ)) (p q : ℕ) → IsUnservedFrom range r s bound widths one lines p
+    → IsUnservedFrom range r s bound widths one lines q → p ≡ q
+
+-- and no format of the next lesser width does from one line on, which has one text
+abbrev pub WidthReasonIsTheOne : Type 0
+WidthReasonIsTheOne = (q : Question) (widths : Widths) (bound : List ℕ) (s : Bool) (list : List (List ℕ)) (n : ℕ)
+    (t u : List ℕ) → IsTried widths q.kind.width n → IsWidthReason q widths bound s list n t
+    → IsWidthReason q widths bound s list n u → t ≡ u
 
 -- and so an input has one answer within a bound
 abbrev pub BoundedAnswerIsTheOne : Type 0

@@ -6,11 +6,12 @@ ghost use Rattle.line_engine.specs.Lines.{lines};
 ghost use Rattle.fixed_error.specs.Errors.{HasGreatestErrors};
 ghost use Rattle.fixed_show.specs.Blocks.{Appends};
 ghost use Rattle.fixed_fit.specs.Answer.{IsAnswer, format_of, name_of};
+ghost use Rattle.fixed_fit.specs.Bounded.{from_line, none_line};
 ghost use Rattle.fixed_fit.specs.ErrorWord.{IsErrorWord, entries_from};
 ghost use Rattle.fixed_fit.specs.Fitting.{AllFit};
 ghost use Rattle.fixed_fit.specs.Inner.Lengths.{AreLengths, IsLengthsAnswer, IsSomeAnswer, reason_of};
 ghost use Rattle.fixed_fit.specs.Inner.Reading.{HasLines};
-ghost use Rattle.fixed_fit.specs.Inner.Serving.{unbounded};
+ghost use Rattle.fixed_fit.specs.Inner.Serving.{lesser_of, unbounded};
 
 use crate::error_word::{push_half, push_size};
 use crate::lengths::{Lengths, with_frac};
@@ -72,6 +73,28 @@ fn push_name(out: &mut TextBuffer<MOST>, kind: Format, frac: u32)
     out.push_bytes(format_name(format).as_bytes());
 }
 
+/// Appends a number in decimal.
+fn push_number(out: &mut TextBuffer<MOST>, number: u64)
+    requires room { length out.old + 20 ≤ 1536 }
+    ensures appended { out.new ≡ out.old ++ decimal number }
+    ensures short { length out.new ≤ length out.old + 20 }
+{
+    let mut digits = Buffer::new();
+    out.push_bytes(digits.format(number).as_bytes());
+}
+
+/// Appends from which line on, where there is one.
+fn push_from(out: &mut TextBuffer<MOST>, place: u64)
+    requires room { length out.old + 26 ≤ 1536 }
+    ensures appended { out.new ≡ out.old ++ from_line place }
+    ensures short { length out.new ≤ length out.old + 26 }
+{
+    if 0 < place {
+        out.push_bytes(b" line ");
+        push_number(out, place);
+    }
+}
+
 /// Appends a line's place in decimal, and a newline.
 fn push_place(out: &mut TextBuffer<MOST>, place: u64)
     requires room { length out.old + 21 ≤ 1536 }
@@ -86,7 +109,8 @@ fn push_place(out: &mut TextBuffer<MOST>, place: u64)
 /// Appends the line that rules out the next longer fraction length, where there is one and it is asked for.
 fn push_reason(out: &mut TextBuffer<MOST>, kind: Format, frac: u32, place: u64, is_asked: bool)
     requires room { length out.old + 43 ≤ 1536 }
-    ensures { out.new ≡ out.old ++ reason_of is_asked kind.signed kind.width frac place }
+    ensures appended { out.new ≡ out.old ++ reason_of is_asked kind.signed kind.width frac place }
+    ensures short { length out.new ≤ length out.old + 43 }
 {
     if is_asked && frac < kind.width() {
         push_name(out, kind, frac + 1);
@@ -126,6 +150,43 @@ pub fn none_answer(place: u64) -> FitAnswer
         text,
         is_fault: true,
     }
+}
+
+/// The answer where no format serves from a line on, or, where the place is 0, without a line.
+pub fn unserved_answer(place: u64) -> FitAnswer
+    ensures text { result.text ≡ none_line place }
+    ensures fault { result.fault ≡ true }
+{
+    let mut text: TextBuffer<MOST> = TextBuffer::new();
+    text.push_bytes(b"none");
+    push_from(&mut text, place);
+    text.push(b'\n');
+    FitAnswer {
+        text,
+        is_fault: true,
+    }
+}
+
+/// Appends from which line on no format of the width next below serves, where one is tried and it is asked for.
+fn push_lesser(out: &mut TextBuffer<MOST>, below: u32, place: u64, is_asked: bool)
+    requires room { length out.old + 53 ≤ 1536 }
+    ensures { out.new ≡ out.old ++ lesser_of is_asked below place }
+{
+    if is_asked && 0 < below {
+        out.push_bytes(b"width ");
+        push_number(out, u64::from(below));
+        push_from(out, place);
+        out.push(b'\n');
+    }
+}
+
+/// Adds to an answer why no lesser width serves.
+pub fn add_lesser(answer: &mut FitAnswer, below: u32, place: u64, is_asked: bool)
+    requires room { length answer.old.text + 53 ≤ 1536 }
+    ensures text { answer.new.text ≡ answer.old.text ++ lesser_of is_asked below place }
+    ensures fault { answer.new.fault ≡ answer.old.fault }
+{
+    push_lesser(&mut answer.text, below, place, is_asked);
 }
 
 /// Appends the greatest error of a list in the format of a kind and a fraction length.
@@ -174,9 +235,10 @@ pub fn found_answer<L: Ledger>(
     requires known { (count : ℕ) × (list : List (List ℕ))
         × HasGreatestErrors question.now.radix count (entries_from 1 list) errors.now
         × AllFit question.now.radix kind.signed kind.width frac list }
-    ensures { (count : ℕ) (list : List (List ℕ))
+    ensures some { (count : ℕ) (list : List (List ℕ))
         → HasGreatestErrors question.now.radix count (entries_from 1 list) errors.now
         → IsSomeAnswer question.now list kind frac place result }
+    ensures short { length result.text ≤ 1447 }
 {
     let mut text: TextBuffer<MOST> = TextBuffer::new();
     push_name(&mut text, kind, frac);

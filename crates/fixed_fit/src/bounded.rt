@@ -1,79 +1,108 @@
 //! What is written about a list of which the least format within an error is asked for.
 
-ghost use Rattle.std.specs.Prelude.{◌≡◌, ◌<◌, ◌≤◌, ◌++◌, ◌∷◌, [], List, ℕ, Bool, true, codes, decimal};
+ghost use Rattle.std.specs.Prelude.{◌≡◌, ◌<◌, ◌≤◌, List, ℕ, Bool, true, false};
 ghost use Rattle.line_engine.specs.Lines.{lines};
 ghost use Rattle.fixed_error.specs.Errors.{HasGreatestErrors};
-ghost use Rattle.fixed_fit.specs.Bounded.{IsBoundedAnswer};
+ghost use Rattle.fixed_fit.specs.Bounded.{IsBoundedAnswer, none_line};
 ghost use Rattle.fixed_fit.specs.ErrorWord.{entries_from};
 ghost use Rattle.fixed_fit.specs.Inner.Reading.{HasLines};
-ghost use Rattle.fixed_fit.specs.Inner.Serving.{AreAllLeft, IsServingAnswer, bounded, most_left};
-ghost use Rattle.fixed_fit.specs.Within.{most_width};
-ghost use Rattle.fixed_fit.specs.declared.question.Widths.{Widths};
+ghost use Rattle.fixed_fit.specs.Inner.Serving.{AreAllLeft, IsBelow, IsServingAnswer, bounded, most_left};
+ghost use Rattle.fixed_fit.specs.Within.{IsTried, most_width};
 
-use crate::answer::{FitAnswer, fault_answer, found_answer, none_answer};
+use crate::answer::{FitAnswer, add_lesser, fault_answer, found_answer, unserved_answer};
 use crate::progress::is_either;
-use crate::question::Question;
+use crate::question::{Question, Widths};
 use crate::reader::Reader;
 use crate::serving::Serving;
 use fixed_error::GreatestErrors;
 use fixed_steps::Steps;
 use std::sync::ledger::Ledger;
 
+/// The width next below one that is tried, 0 where none is tried.
+fn width_below(widths: Widths, one: u32, width: u32) -> u32
+    requires { IsTried widths one width }
+    ensures { IsBelow widths one width result }
+{
+    match widths {
+        Widths::One => 0,
+        Widths::Types if width > 8 => width / 2,
+        Widths::Types => 0,
+        Widths::Any => width - 1,
+    }
+}
+
 /// The answer by the formats that serve.
 fn serving_answer<L: Ledger>(
     serving: &Serving,
     errors: &GreatestErrors,
     question: &Question,
+    widths: Widths,
     steps: &mut Steps<L>,
 ) -> FitAnswer
-    requires served { serving.now.place ≡ 0 → serving.now.low < most_left serving.now.lengths.items }
-    requires known { serving.now.place ≡ 0 → (count : ℕ) × (list : List (List ℕ)) × (s : Bool)
+    requires tried { serving.now.is_served ≡ true → IsTried widths question.now.kind.width serving.now.width }
+    requires served { serving.now.is_served ≡ true → serving.now.low < most_left serving.now.lengths.items }
+    requires known { serving.now.is_served ≡ true → (count : ℕ) × (list : List (List ℕ)) × (s : Bool)
         × HasGreatestErrors question.now.radix count (entries_from 1 list) errors.now
         × AreAllLeft question.now.radix s list serving.now.lengths.items
         × most_left serving.now.lengths.items ≤ count }
-    ensures none_text { 0 < serving.now.place
-        → result.text ≡ codes "none line " ++ (decimal serving.now.place ++ 10 ∷ []) }
-    ensures none_fault { 0 < serving.now.place → result.fault ≡ true }
-    ensures some { serving.now.place ≡ 0 → (count : ℕ) (list : List (List ℕ))
+    ensures none_text { serving.now.is_served ≡ false → result.text ≡ none_line serving.now.place }
+    ensures none_fault { serving.now.is_served ≡ false → result.fault ≡ true }
+    ensures some { serving.now.is_served ≡ true → (count : ℕ) (list : List (List ℕ))
         → HasGreatestErrors question.now.radix count (entries_from 1 list) errors.now
-        → IsServingAnswer question.now list serving.now result }
+        → IsServingAnswer question.now widths list serving.now result }
 {
-    let place = serving.place;
-    if place != 0 {
-        return none_answer(place);
+    if !serving.is_served {
+        return unserved_answer(serving.place);
     }
     let best = serving.best();
-    found_answer(
+    let mut found = found_answer(
         errors,
         best.kind,
         best.count - 1,
         best.place,
         question,
         steps,
-    )
+    );
+    let below = width_below(widths, question.kind.width(), serving.width);
+    add_lesser(&mut found, below, serving.raised, question.is_reason_asked);
+    found
 }
 
 /// The answer to an input, by what is known of its lines and of the formats that they fit within a bound.
 pub fn bounded_answer<L: Ledger>(
     reader: &Reader,
     question: &Question,
+    widths: Widths,
     steps: &mut Steps<L>,
 ) -> FitAnswer
-    requires { (bound : List ℕ) × (widths : Widths) × (list : List (List ℕ))
-        × HasLines question.now.radix (bounded (most_width widths question.now.kind.width) bound widths
-        question.now.kind.width) list reader.now }
-    ensures { (bound : List ℕ) (widths : Widths) (input : List ℕ)
-        → HasLines question.now.radix (bounded (most_width widths question.now.kind.width) bound widths
-        question.now.kind.width) (lines input) reader.now → IsBoundedAnswer question.now widths bound input result }
+    requires { (bound : List ℕ) × (list : List (List ℕ))
+        × HasLines question.now.radix (bounded question.now.is_range (most_width widths question.now.kind.width) bound
+        widths question.now.kind.width) list reader.now }
+    ensures { (bound : List ℕ) (input : List ℕ)
+        → HasLines question.now.radix (bounded question.now.is_range (most_width widths question.now.kind.width) bound
+        widths question.now.kind.width) (lines input) reader.now
+        → IsBoundedAnswer question.now widths bound input result }
 {
     let known = reader.progress;
     match known.fault {
         Some(fault) => fault_answer(fault),
         None => {
             if is_either(question.kind.signed(), known.is_below) {
-                serving_answer(&reader.within.signed, &reader.errors, question, steps)
+                serving_answer(
+                    &reader.within.signed,
+                    &reader.errors,
+                    question,
+                    widths,
+                    steps,
+                )
             } else {
-                serving_answer(&reader.within.plain, &reader.errors, question, steps)
+                serving_answer(
+                    &reader.within.plain,
+                    &reader.errors,
+                    question,
+                    widths,
+                    steps,
+                )
             }
         }
     }

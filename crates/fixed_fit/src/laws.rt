@@ -1,8 +1,8 @@
 //! Laws of the finest format, each the contract of a function that does nothing.
 
-ghost use Rattle.fixed_fit.specs.Range.{EndsDecide};
+ghost use Rattle.fixed_fit.specs.Range.{EndsDecide, RangeServesEach};
 ghost use Rattle.fixed_fit.specs.Laws.{BoundedAnswerIsTheOne, FirstUnservedIsTheOne, LeastWithinIsTheOne};
-ghost use Rattle.fixed_fit.specs.Laws.{AllFitEachShorter, AnswerIsTheOne};
+ghost use Rattle.fixed_fit.specs.Laws.{AllFitEachShorter, AnswerIsTheOne, WidthReasonIsTheOne};
 ghost use Rattle.fixed_fit.specs.Laws.{FinestIsTheOne, FitsEachShorter, RangeErrorIsHalfAnUlp, SignRuleIsTheOne};
 
 /// A numeral that is in range with a fraction length is in range with each shorter one.
@@ -36,6 +36,11 @@ pub fn ends_decide()
     ensures { EndsDecide }
 {}
 
+/// A format that serves a range serves every number between its ends: it is in range and rounded by at most the bound.
+pub fn range_serves_each()
+    ensures { RangeServesEach }
+{}
+
 /// The error that is written of a range is half an ulp of the format, 1 / 2^(f + 1), exactly in decimal.
 pub fn range_error_is_half_an_ulp()
     ensures { RangeErrorIsHalfAnUlp }
@@ -46,9 +51,14 @@ pub fn least_within_is_the_one()
     ensures { LeastWithinIsTheOne }
 {}
 
-/// A list has at most one first line with which no format serves any more.
+/// No format serves a list from at most one line on, or else without a line.
 pub fn first_unserved_is_the_one()
     ensures { FirstUnservedIsTheOne }
+{}
+
+/// Of the next lesser width that is tried no format serves from at most one line on.
+pub fn width_reason_is_the_one()
+    ensures { WidthReasonIsTheOne }
 {}
 
 /// An input has at most one answer within a bound.

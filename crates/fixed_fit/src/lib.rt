@@ -1,9 +1,10 @@
-//! The finest format of a width that a list of numerals fits, in one pass over the list.
+//! The finest format of a width that a list of numerals fits, or the least within an error, in one pass over the list.
 #![tactic(auto)]
 
 mod answer;
 mod bounded;
 mod error_word;
+mod half;
 pub mod laws;
 mod lengths;
 mod numeral;

@@ -10,7 +10,7 @@ pub struct Question {
     pub radix: Radix,
     /// A format of the width, which is signed where only signed formats are asked for.
     pub kind: Format,
-    /// Whether it is asked which line rules out the next finer format.
+    /// Whether it is asked which line rules out the next finer format, and within an error the next lesser width.
     pub is_reason_asked: bool,
     /// Whether the list is the two ends of a range, of which every value is meant.
     pub is_range: bool,

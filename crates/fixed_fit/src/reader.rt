@@ -14,7 +14,7 @@ ghost use Rattle.fixed_fit.specs.Inner.Reading.{HasLines, HasRead, HasSomeRead, 
 
 use crate::progress::Progress;
 use crate::question::{Question, Widths};
-use crate::serving::Within;
+use crate::serving::{Within, most_width};
 use fixed_error::GreatestErrors;
 use fixed_numeral::Radix;
 use fixed_steps::Steps;
@@ -136,9 +136,9 @@ fn read_chunk<S: Source>(source: &mut S, chunk: &mut [u8]) -> Result<usize, Fail
 /// No byte so far, of a list whose formats within a bound are kept so.
 fn new_reader(alloc: Global, radix: Radix, width: u32, within: Within) -> Result<Reader, AllocError>
     requires { IsWidth width }
-    ensures read { IfOk result (λ reader. (is : Bool) (bound : List ℕ) (widths : Widths) (one : ℕ)
-        → within.is_bounded ≡ is → (is ≡ true → AreServed radix (asked_of width is bound widths one) [] within)
-        → HasRead radix (asked_of width is bound widths one) [] reader) }
+    ensures read { IfOk result (λ reader. (is range : Bool) (bound : List ℕ) (widths : Widths) (one : ℕ)
+        → within.is_bounded ≡ is → (is ≡ true → AreServed radix (asked_of width is range bound widths one) [] within)
+        → HasRead radix (asked_of width is range bound widths one) [] reader) }
     ensures lines { IfOk result (λ reader. reader.progress.lines ≡ 0) }
 {
     let progress = Progress::new(radix, width);
@@ -163,33 +163,22 @@ fn plain_reader(alloc: Global, radix: Radix, width: u32) -> Result<Reader, Alloc
     }
 }
 
-/// The greatest width that is tried.
-fn most_width(widths: Widths, one: u32) -> u32
-    requires { IsWidth one }
-    ensures width { IsWidth result }
-    ensures most { result ≡ most_width widths one }
-{
-    match widths {
-        Widths::One => one,
-        _ => 64,
-    }
-}
-
 /// No byte so far, where a bound is asked for.
-fn bounded_reader(
+fn bounded_reader<L: Ledger>(
     alloc: Global,
-    radix: Radix,
+    question: &Question,
     bound: &[u8],
     widths: Widths,
-    one: u32,
+    steps: &mut Steps<L>,
 ) -> Result<Reader, AllocError>
-    requires width { IsWidth one }
-    requires bound { IsNumeral radix bound.now }
-    ensures read { IfOk result (HasRead radix (bounded (most_width widths one) bound.now widths one) []) }
+    requires bound { IsNumeral question.now.radix bound.now }
+    ensures read { IfOk result (HasRead question.now.radix (bounded question.now.is_range
+        (most_width widths question.now.kind.width) bound.now widths question.now.kind.width) []) }
     ensures lines { IfOk result (λ reader. reader.progress.lines ≡ 0) }
 {
-    let within = Within::new(alloc, bound, widths, one)?;
-    match new_reader(alloc, radix, most_width(widths, one), within) {
+    let one = question.kind.width();
+    let within = Within::new(alloc, question, bound, widths, steps)?;
+    match new_reader(alloc, question.radix, most_width(widths, one), within) {
         Ok(reader) => Ok(reader),
         Err(error) => Err(error),
     }
@@ -274,14 +263,13 @@ pub fn read_bounded<S: Source, L: Ledger>(
     steps: &mut Steps<L>,
 ) -> Result<Reader, Status>
     requires { IsNumeral question.now.radix bound.now }
-    ensures ok { IfOk result (ReadsAll question.now.radix (bounded (most_width widths question.now.kind.width) bound.now
-        widths question.now.kind.width) (S.left source.old) (S.left source.new) (S.failures source.old)
-        (S.failures source.new)) }
+    ensures ok { IfOk result (ReadsAll question.now.radix (bounded question.now.is_range
+        (most_width widths question.now.kind.width) bound.now widths question.now.kind.width) (S.left source.old)
+        (S.left source.new) (S.failures source.old) (S.failures source.new)) }
     ensures err { IfErr result (StopsReading (S.left source.old) (S.left source.new) (S.failures source.old)
         (S.failures source.new)) }
 {
-    let one = question.kind.width();
-    let mut reader = match bounded_reader(alloc, question.radix, bound, widths, one) {
+    let mut reader = match bounded_reader(alloc, question, bound, widths, steps) {
         Ok(reader) => reader,
         Err(_) => return Err(Status::NoMemory),
     };

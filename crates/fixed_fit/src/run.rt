@@ -57,7 +57,9 @@ pub fn run_fit<S: Source, K: Sink, L: Ledger>(
 
 /// Answers an input, which is a list of numerals, one a line, with the format of the least of the widths at which every
 /// numeral is in range after rounding to nearest and has an error of at most a bound, the magnitude of a numeral; of
-/// those with the one of the greatest fraction length, and with the greatest error of the list in it.
+/// those with the one of the greatest fraction length, and with the greatest error of the list in it. Of a range, whose
+/// two ends the input is, the error is half an ulp. Where the reason is asked for, also with the first line that rules
+/// out the next finer format, and the first with which no format of the next lesser width serves.
 ///
 /// Each line is read as it comes. Of those before it are kept the ones with the greatest error, one for each fraction
 /// length that is left. Nothing is written before the end of the input.
@@ -81,7 +83,7 @@ pub fn run_bounded<S: Source, K: Sink, L: Ledger>(
         (K.failures sink.new) result }
 {
     match read_bounded(alloc, question, bound, widths, source, steps) {
-        Ok(reader) => write_answer(&bounded_answer(&reader, question, steps), sink),
+        Ok(reader) => write_answer(&bounded_answer(&reader, question, widths, steps), sink),
         Err(status) => status,
     }
 }

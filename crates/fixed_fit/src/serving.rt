@@ -1,7 +1,11 @@
 //! The formats of some widths that every numeral so far fits within an error.
 //!
 //! A numeral that is within an error at a fraction length is within it at each longer one. So the lengths within the
-//! error are those from a least one on, and a format serves where more lengths of its width are left than that.
+//! error are those from a least one on, and a format serves where more lengths of its width are left than that. Of a
+//! range the error is half an ulp, and so the least one is known before the first line.
+//!
+//! Where a format of a width serves, so does one of each greater width. So of the next lesser width it is enough to
+//! keep the line that raised the least width last: until it a format of that width served, too.
 
 ghost use Rattle.std.specs.Prelude.{◌≡◌, ◌⊎◌, ◌≤◌, ◌<◌, ◌+◌, ◌++◌, ◌∷◌, ◌↔◌, []};
 ghost use Rattle.std.specs.Prelude.{IsTrue, IfOk, true, false, List, ℕ, Bool, length};
@@ -11,10 +15,11 @@ ghost use Rattle.fixed_error.specs.ErrorSize.{HasErrorAbove, HasErrorWithin, IsR
 ghost use Rattle.fixed_numeral.specs.Numeral.{IsNumeral};
 ghost use Rattle.fixed_fit.specs.Inner.Serving.{AreAllLowered, AreFew, HasServing, HasSomeServing, IsBestOf, most_left};
 ghost use Rattle.fixed_fit.specs.Inner.Serving.{AreServed, Asked, bounded};
-ghost use Rattle.fixed_fit.specs.Within.{IsTried};
+ghost use Rattle.fixed_fit.specs.Within.{IsErrorWithin, IsTried, most_width};
 
+use crate::half::first_length;
 use crate::lengths::{Lengths, all_lengths, lowered};
-use crate::question::Widths;
+use crate::question::{Question, Widths};
 use fixed_bits::{Format, ReadMode};
 use fixed_error::is_error_above;
 use fixed_numeral::Radix;
@@ -31,8 +36,28 @@ pub struct Serving {
     pub lengths: Vec<Lengths>,
     /// The least length within the error.
     pub low: u32,
-    /// The place of the line with which no format serves any more; 0 while one does.
+    /// The place of the line with which no format serves any more; 0 before it.
     pub place: u64,
+    /// Whether the lines are the two ends of a range, of which every value is meant.
+    pub is_range: bool,
+    /// Whether a format serves.
+    pub is_served: bool,
+    /// The least width at which one does.
+    pub width: u32,
+    /// The place of the line with which none of the next lesser width does any more; 0 where none did before a line.
+    pub raised: u64,
+}
+
+/// The greatest width that is tried.
+pub fn most_width(widths: Widths, one: u32) -> u32
+    requires { IsWidth one }
+    ensures width { IsWidth result }
+    ensures most { result ≡ most_width widths one }
+{
+    match widths {
+        Widths::One => one,
+        _ => 64,
+    }
 }
 
 /// Whether a width is tried.
@@ -45,6 +70,30 @@ fn is_tried(widths: Widths, one: u32, width: u32) -> bool
         Widths::Types => width == 8 || width == 16 || width == 32 || width == 64,
         Widths::Any => true,
     }
+}
+
+/// The least width that is tried and has a fraction length, where one has.
+fn least_width(widths: Widths, one: u32, low: u32) -> u32
+    ensures tried { low ≤ most_width widths one → IsTried widths one result }
+    ensures most { low ≤ most_width widths one → low ≤ result }
+    ensures least { (m : ℕ) → IsTried widths one m → low ≤ m → result ≤ m }
+{
+    match widths {
+        Widths::One => one,
+        Widths::Types if low <= 8 => 8,
+        Widths::Types if low <= 16 => 16,
+        Widths::Types if low <= 32 => 32,
+        Widths::Types => 64,
+        Widths::Any => low.max(1),
+    }
+}
+
+/// The place of the line that ruled out the width next below the least, which was `width` before a line at a place.
+fn raised_by(width: u32, raised: u64, least: u32, place: u64) -> u64
+    ensures same { least ≡ width → result ≡ raised }
+    ensures moved { (least ≡ width → ⊥) → result ≡ place }
+{
+    if least == width { raised } else { place }
 }
 
 /// What a line at a place leaves of all lengths, and how many are left at most.
@@ -94,6 +143,32 @@ fn raised<L: Ledger>(
     least
 }
 
+/// The least fraction length from `low` on that is within the bound with one more line, where it is below `most`.
+fn next_low<L: Ledger>(
+    is_range: bool,
+    low: u32,
+    most: u32,
+    line: &[u8],
+    bound: &[u8],
+    radix: Radix,
+    steps: &mut Steps<L>,
+) -> u32
+    requires few { most ≤ 65 }
+    requires within { (f : ℕ) → f < most → IsReadWithin NearestEven radix f line.now }
+    requires bound { IsNumeral radix bound.now }
+    ensures more { low ≤ result }
+    ensures within { (lines : List (List ℕ)) → IsErrorWithin is_range radix low bound.now lines → result < most
+        → IsErrorWithin is_range radix result bound.now (lines ++ line.now ∷ []) }
+    ensures least { (lines : List (List ℕ)) → ((f : ℕ) → f < low → ¬ IsErrorWithin is_range radix f bound.now lines)
+        → (f : ℕ) → f < result → ¬ IsErrorWithin is_range radix f bound.now (lines ++ line.now ∷ []) }
+{
+    if is_range {
+        low
+    } else {
+        raised(low, most, line, bound, radix, steps)
+    }
+}
+
 /// The one that is longer than `low`, or of two that are the one of the lesser width.
 fn better(low: u32, best: Lengths, left: Lengths) -> Lengths
     ensures one { (result ≡ best) ⊎ (result ≡ left) }
@@ -111,22 +186,27 @@ fn better(low: u32, best: Lengths, left: Lengths) -> Lengths
 }
 
 impl Serving {
-    /// No line so far.
+    /// No line so far, of a sign rule and of the least fraction length that is within the bound.
     ///
     /// # Errors
     ///
     /// There is no memory for the lengths.
     pub fn new(
         alloc: Global,
+        question: &Question,
         bound: &[u8],
+        low: u32,
         signed: bool,
         widths: Widths,
-        one: u32,
     ) -> Result<Serving, AllocError>
-        requires { IsWidth one }
+        requires numeral { IsNumeral question.now.radix bound.now }
+        requires within { low < 65 → IsErrorWithin question.now.is_range question.now.radix low bound.now [] }
+        requires least { (f : ℕ) → f < low → ¬ IsErrorWithin question.now.is_range question.now.radix f bound.now [] }
         ensures bound { IfOk result (λ v. v.bound.items ≡ bound.now) }
-        ensures kept { IfOk result (λ v. (r : Radix) → IsNumeral r bound.now → HasServing r signed widths one [] v) }
+        ensures kept { IfOk result (HasServing question.now.is_range question.now.radix signed widths
+            question.now.kind.width []) }
     {
+        let one = question.kind.width();
         let mut text = Vec::new(alloc);
         text.extend_from_slice(bound)?;
         let mut lengths = Vec::new(alloc);
@@ -138,8 +218,12 @@ impl Serving {
         Ok(Serving {
             bound: text,
             lengths,
-            low: 0,
+            low,
             place: 0,
+            is_range: question.is_range,
+            is_served: low <= most_width(widths, one),
+            width: least_width(widths, one, low),
+            raised: 0,
         })
     }
 
@@ -150,6 +234,10 @@ impl Serving {
             lengths: Vec::new(alloc),
             low: 0,
             place: 0,
+            is_range: false,
+            is_served: false,
+            width: 0,
+            raised: 0,
         }
     }
 
@@ -158,18 +246,24 @@ impl Serving {
         requires numeral { IsNumeral radix line.now }
         requires known { HasSomeServing radix self.old }
         ensures bound { self.new.bound ≡ self.old.bound }
-        ensures one_more { (s : Bool) (widths : Widths) (one : ℕ) (lines : List (List ℕ))
-            → HasServing radix s widths one lines self.old → place ≡ length lines + 1
-            → HasServing radix s widths one (lines ++ line.now ∷ []) self.new }
+        ensures one_more { (range s : Bool) (widths : Widths) (one : ℕ) (lines : List (List ℕ))
+            → HasServing range radix s widths one lines self.old → place ≡ length lines + 1
+            → HasServing range radix s widths one (lines ++ line.now ∷ []) self.new }
     {
-        if self.place != 0 {
+        if !self.is_served {
             return;
         }
         let most = lower_all(&mut self.lengths, line, radix, place, steps);
-        self.low = raised(self.low, most, line, &self.bound, radix, steps);
+        let is_range = self.is_range;
+        self.low = next_low(is_range, self.low, most, line, &self.bound, radix, steps);
         if most <= self.low {
             self.place = place;
+            self.is_served = false;
+            return;
         }
+        let width = self.best().kind.width();
+        self.raised = raised_by(self.width, self.raised, width, place);
+        self.width = width;
     }
 
     /// Of the widths at which a format serves the least, with the lengths that are left of it.
@@ -213,14 +307,21 @@ impl Within {
     /// # Errors
     ///
     /// There is no memory for the lengths.
-    pub fn new(alloc: Global, bound: &[u8], widths: Widths, one: u32) -> Result<Within, AllocError>
-        requires { IsWidth one }
+    pub fn new<L: Ledger>(
+        alloc: Global,
+        question: &Question,
+        bound: &[u8],
+        widths: Widths,
+        steps: &mut Steps<L>,
+    ) -> Result<Within, AllocError>
+        requires { IsNumeral question.now.radix bound.now }
         ensures is_bounded { IfOk result (λ w. w.is_bounded ≡ true) }
-        ensures served { IfOk result (λ w. (r : Radix) (n : ℕ) → IsNumeral r bound.now
-            → AreServed r (bounded n bound.now widths one) [] w) }
+        ensures served { IfOk result (λ w. (n : ℕ) → AreServed question.now.radix
+            (bounded question.now.is_range n bound.now widths question.now.kind.width) [] w) }
     {
-        let plain = Serving::new(alloc, bound, false, widths, one)?;
-        let signed = Serving::new(alloc, bound, true, widths, one)?;
+        let low = first_length(bound, question.radix, question.is_range, steps);
+        let plain = Serving::new(alloc, question, bound, low, false, widths)?;
+        let signed = Serving::new(alloc, question, bound, low, true, widths)?;
         Ok(Within {
             is_bounded: true,
             plain,

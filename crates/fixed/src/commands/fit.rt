@@ -65,7 +65,7 @@ const WHY: Row = Row {
     letter: None,
     value: "",
     choices: &[],
-    help: "Also the first line that rules out the next finer format",
+    help: "Also what rules out the next finer format and lesser width",
 };
 
 const RANGE: Row = Row {
@@ -98,7 +98,7 @@ pub fn page() -> Page {
         hidden_name: "",
         about: "Find the finest format of a width, or the least within an error",
         usage: "fixed fit --width W [OPTIONS] [FILE]...\n       fixed fit --error E [OPTIONS] [FILE]...\n       \
-                fixed fit --width W [OPTIONS] --range [--] LO HI",
+                fixed fit (--width W | --error E) [OPTIONS] --range [--] LO HI",
         operands: &[FILES],
         has_numerals: false,
         options: &[WIDTH, ERROR, ANY, SIGNED, WHY, RANGE, RADIX],
@@ -112,7 +112,9 @@ pub fn page() -> Page {
               With --error the answer is the format of the least width of 8, 16, 32 and 64, or\n\
               of W alone, at which one has each numeral in range with an error of at most E,\n\
               and of those of that width the finest; or none, and the first line that rules\n\
-              out the last of them.\n\
+              out the last of them. A range has one where half an ulp is at most E. With\n\
+              --why a last line has the next lesser width that was tried, and the first line\n\
+              that rules out the last of its formats.\n\
               \n\
               Example: printf '0.5\\n-3.2\\n' | fixed fit --width 16 --why",
     }
@@ -305,13 +307,16 @@ fn report_refused(rt: &HostRuntime, task: &FitTask, file: Option<&str>, answer: 
     let mut report = Report::of(file);
     match answer.strip_prefix(b"error: ") {
         Some(fault) => report.bytes(fault, 160),
-        None => {
-            report.text(match task.error {
-                Some(_) => "no format fits within the error from ",
-                None => "no format of the width fits ",
-            });
-            report.bytes(answer.strip_prefix(b"none ").unwrap_or(answer), 40);
-        }
+        None => match answer.strip_prefix(b"none ") {
+            Some(line) => {
+                report.text(match task.error {
+                    Some(_) => "no format fits within the error from ",
+                    None => "no format of the width fits ",
+                });
+                report.bytes(line, 40);
+            }
+            None => report.text("half an ulp of each format is greater than the error"),
+        },
     }
     report.send(rt);
 }
@@ -437,9 +442,6 @@ pub fn run<'a, L: Ledger>(
         widths: widths_of(given)?,
     };
     if given.has(&RANGE) {
-        if task.error.is_some() {
-            return Err(Refusal::Word("--range", "has half an ulp for its error, and no --error"));
-        }
         return run_range(rt, &task, given.from(0), steps);
     }
     Ok(run_inputs(rt, &Job::Fit(task), given.from(0), steps))

@@ -1,12 +1,14 @@
 -- What is known of the formats that serve so far.
-use Rattle.std.specs.Prelude.{◌≡◌, ◌⊎◌, ◌+◌, ◌<◌, ◌≤◌, ℕ, max, Bool, true, false, List, [], ◌∷◌, suc}
+use Rattle.std.specs.Prelude.{◌≡◌, ◌⊎◌, ◌+◌, ◌<◌, ◌≤◌, ◌&&◌, ℕ, max, Bool, true, false, List, [], ◌∷◌, ◌++◌, suc}
+use Rattle.std.specs.Prelude.{if◌then◌else◌, nat_lt}
 use Rattle.fixed_bits.specs.Ranges.{IsWidth}
 use Rattle.fixed_numeral.specs.Numeral.{IsNumeral}
 use Rattle.fixed_numeral.specs.declared.radix.Radix.{Radix}
 use Rattle.fixed_fit.specs.Inner.Lengths.{AreLengths, AreLowered, IsSomeAnswer}
 use Rattle.line_engine.specs.AnswerText.{AnswerText}
 use Rattle.fixed_fit.specs.declared.question.Question.{Question}
-use Rattle.fixed_fit.specs.Within.{AllWithin, IsFirstUnserved, IsTried}
+use Rattle.fixed_fit.specs.Bounded.{width_line}
+use Rattle.fixed_fit.specs.Within.{IsErrorWithin, IsLeastWithin, IsNextBelow, IsTried, IsUnservedFrom}
 use Rattle.fixed_fit.specs.declared.lengths.Lengths.{Lengths}
 use Rattle.fixed_fit.specs.declared.question.Widths.{Widths}
 use Rattle.fixed_fit.specs.declared.question.Widths.TheVariants.{One}
@@ -64,53 +66,85 @@ pub record IsBestOf (low : ℕ) (ls : List Lengths) (best : Lengths) : Type 0 wh
   pub least : (l : Lengths) → IsIn l ls → low < l.count → best.kind.width ≤ l.kind.width
 
 -- while a format serves: the lengths that are left, and the least that is within the bound
-pub record IsServing (r : Radix) (s : Bool) (lines : List (List ℕ)) (v : Serving) : Type 0 where
+pub record IsServing (range : Bool) (r : Radix) (s : Bool) (lines : List (List ℕ)) (v : Serving) : Type 0 where
   pub lengths : AreAllLeft r s lines v.lengths.items
-  pub within : AllWithin r v.low v.bound.items lines
-  pub least : (f : ℕ) → f < v.low → ¬ AllWithin r f v.bound.items lines
+  pub within : IsErrorWithin range r v.low v.bound.items lines
+  pub least : (f : ℕ) → f < v.low → ¬ IsErrorWithin range r f v.bound.items lines
   pub served : v.low < most_left v.lengths.items
 
--- what is kept of lines
-pub record HasServing (r : Radix) (s : Bool) (widths : Widths) (one : ℕ) (lines : List (List ℕ))
+-- while a format serves: the least width at which one does, and from where on none of the next lesser one does
+pub record IsNarrowed (range : Bool) (r : Radix) (s : Bool) (widths : Widths) (one : ℕ) (lines : List (List ℕ))
     (v : Serving) : Type 0 where
+  pub frac : ℕ
+  pub least : IsLeastWithin range r s v.bound.items widths one lines v.width frac
+  pub below : (m : ℕ) → IsNextBelow widths one v.width m → IsUnservedFrom range r s v.bound.items One m lines v.raised
+
+-- what is kept of lines
+pub record HasServing (range : Bool) (r : Radix) (s : Bool) (widths : Widths) (one : ℕ) (lines : List (List ℕ))
+    (v : Serving) : Type 0 where
+  pub range_is : v.is_range ≡ range
   pub numeral : IsNumeral r v.bound.items
   pub tried : AreTried widths one v.lengths.items
-  pub serving : v.place ≡ 0 → IsServing r s lines v
-  pub unserved : 0 < v.place → IsFirstUnserved r s v.bound.items widths one lines v.place
+  pub serving : v.is_served ≡ true → IsServing range r s lines v
+  pub narrowed : v.is_served ≡ true → IsNarrowed range r s widths one lines v
+  pub unserved : v.is_served ≡ false → IsUnservedFrom range r s v.bound.items widths one lines v.place
 
 -- and of some lines
 abbrev pub HasSomeServing : Radix → Serving → Type 0
-HasSomeServing r v = (s : Bool) × (widths : Widths) × (one : ℕ) × (lines : List (List ℕ))
-    × HasServing r s widths one lines v
+HasSomeServing r v = (range : Bool) × (s : Bool) × (widths : Widths) × (one : ℕ) × (lines : List (List ℕ))
+    × HasServing range r s widths one lines v
 
 -- what is asked: a format of a width, or one of some widths within a bound
 pub record Asked : Type 0 where
   pub width : ℕ
   pub is_bounded : Bool
+  pub is_range : Bool
   pub bound : List ℕ
   pub widths : Widths
   pub one : ℕ
 
-abbrev pub asked_of : ℕ → Bool → List ℕ → Widths → ℕ → Asked
-asked_of n is bound widths one = record { width = n; is_bounded = is; bound = bound; widths = widths; one = one }
+abbrev pub asked_of : ℕ → Bool → Bool → List ℕ → Widths → ℕ → Asked
+asked_of n is range bound widths one = record {
+  width = n;
+  is_bounded = is;
+  is_range = range;
+  bound = bound;
+  widths = widths;
+  one = one;
+}
 
 abbrev pub unbounded : ℕ → Asked
-unbounded n = asked_of n false [] One n
+unbounded n = asked_of n false false [] One n
 
-abbrev pub bounded : ℕ → List ℕ → Widths → ℕ → Asked
-bounded n bound widths one = asked_of n true bound widths one
+abbrev pub bounded : Bool → ℕ → List ℕ → Widths → ℕ → Asked
+bounded range n bound widths one = asked_of n true range bound widths one
 
 -- what is kept of the formats within the bound
 pub record AreServed (r : Radix) (a : Asked) (lines : List (List ℕ)) (w : Within) : Type 0 where
   pub plain_bound : w.plain.bound.items ≡ a.bound
   pub signed_bound : w.signed.bound.items ≡ a.bound
-  pub plain : HasServing r false a.widths a.one lines w.plain
-  pub signed : HasServing r true a.widths a.one lines w.signed
+  pub plain : HasServing a.is_range r false a.widths a.one lines w.plain
+  pub signed : HasServing a.is_range r true a.widths a.one lines w.signed
+
+-- the width next below another, 0 where none is tried
+pub record IsBelow (widths : Widths) (one n below : ℕ) : Type 0 where
+  pub none : below ≡ 0 → (m : ℕ) → IsTried widths one m → n ≤ m
+  pub some : 0 < below → IsNextBelow widths one n below
+
+-- the reason that is written: from where on no format of the next lesser width serves
+abbrev pub lesser_of : Bool → ℕ → ℕ → List ℕ
+lesser_of asked below place = if asked && nat_lt 0 below then width_line below place else []
 
 -- what is written while a format serves
-pub record IsServingAnswer (q : Question) (list : List (List ℕ)) (v : Serving) (answer : AnswerText) : Type 0 where
+pub record IsServingAnswer (q : Question) (widths : Widths) (list : List (List ℕ)) (v : Serving)
+    (answer : AnswerText) : Type 0 where
   pub best : Lengths
   pub is_best : IsBestOf v.low v.lengths.items best
   pub frac : ℕ
   pub last : suc frac ≡ best.count
-  pub some : IsSomeAnswer q list best.kind frac best.place answer
+  pub before : AnswerText
+  pub some : IsSomeAnswer q list best.kind frac best.place before
+  pub below : ℕ
+  pub is_below : IsBelow widths q.kind.width v.width below
+  pub text : answer.text ≡ before.text ++ lesser_of q.is_reason_asked below v.raised
+  pub fault : answer.fault ≡ before.fault

@@ -20,5 +20,5 @@ returns g c = λ count list h.
       none_fault = λ e. absurd (c.if-count-eq0.false e);
       some = λ f e.
           let same : all.count - 1 ≡ f = omega (arith, e) in
-          subst (λ (k : ℕ). IsSomeAnswer c.args.question.now list all.kind k all.place c.found_answer.result) same (c.found_answer.ensures count list h);
+          subst (λ (k : ℕ). IsSomeAnswer c.args.question.now list all.kind k all.place c.found_answer.result) same (c.found_answer.ensures.some count list h);
     }

@@ -13,8 +13,9 @@ serving_answer-requires g c =
     let q = c.args.question.now in
     let reader = c.args.reader.now in
     record {
-      served = λ at. (((r.3.within refl c.in-None.is).signed).serving at).served;
-      known = λ at. signed_served q r.1 r.0 r.2 reader r.3 c.in-None.is at;
+      tried = λ at. (((r.2.within refl c.in-None.is).signed).narrowed at).least.tried;
+      served = λ at. (((r.2.within refl c.in-None.is).signed).serving at).served;
+      known = λ at. signed_served q c.args.widths r.0 r.1 reader r.2 c.in-None.is at;
     }
 
 pub serving_answer-requires-else-is_either : goal.serving_answer-requires-else-is_either
@@ -23,21 +24,22 @@ serving_answer-requires-else-is_either g c =
     let q = c.args.question.now in
     let reader = c.args.reader.now in
     record {
-      served = λ at. (((r.3.within refl c.in-None.is).plain).serving at).served;
-      known = λ at. plain_served q r.1 r.0 r.2 reader r.3 c.in-None.is at;
+      tried = λ at. (((r.2.within refl c.in-None.is).plain).narrowed at).least.tried;
+      served = λ at. (((r.2.within refl c.in-None.is).plain).serving at).served;
+      known = λ at. plain_served q c.args.widths r.0 r.1 reader r.2 c.in-None.is at;
     }
 
 pub returns-in-Some : goal.returns-in-Some
-returns-in-Some g c = λ bound widths input h.
+returns-in-Some g c = λ bound input h.
     let q = c.args.question.now in
-    inl (fault_is_answer (at_width q (most_width widths q.kind.width)) input c.args.reader.now.progress c.in-Some.fault c.fault_answer.result h.progress h.radix c.in-Some.is (grind (arith, common_steps, c.fault_answer.ensures.text, c.in-Some.is)) c.fault_answer.ensures.fault)
+    inl (fault_is_answer (at_width q (most_width c.args.widths q.kind.width)) input c.args.reader.now.progress c.in-Some.fault c.fault_answer.result h.progress h.radix c.in-Some.is (grind (arith, common_steps, c.fault_answer.ensures.text, c.in-Some.is)) c.fault_answer.ensures.fault)
 
 pub returns-then-is_either : goal.returns-then-is_either
-returns-then-is_either g c = λ bound widths input h.
+returns-then-is_either g c = λ bound input h.
     let said = c.serving_answer.ensures in
-    inr (signed_bounded c.args.question.now widths bound (lines input) c.args.reader.now c.serving_answer.result h c.in-None.is (grind (arith, common_steps, c.signed.ensures, c.is_either.ensures, c.if-is_either.true)) said.none_text said.none_fault (λ at. said.some at _ (lines input) (h.errors c.in-None.is)))
+    inr (signed_bounded c.args.question.now c.args.widths bound (lines input) c.args.reader.now c.serving_answer.result h c.in-None.is (grind (arith, common_steps, c.signed.ensures, c.is_either.ensures, c.if-is_either.true)) said.none_text said.none_fault (λ at. said.some at _ (lines input) (h.errors c.in-None.is)))
 
 pub returns-else-is_either : goal.returns-else-is_either
-returns-else-is_either g c = λ bound widths input h.
+returns-else-is_either g c = λ bound input h.
     let said = c.serving_answer-else-is_either.ensures in
-    inr (plain_bounded c.args.question.now widths bound (lines input) c.args.reader.now c.serving_answer-else-is_either.result h c.in-None.is (grind (arith, common_steps, c.signed.ensures, c.is_either.ensures, c.if-is_either.false)) said.none_text said.none_fault (λ at. said.some at _ (lines input) (h.errors c.in-None.is)))
+    inr (plain_bounded c.args.question.now c.args.widths bound (lines input) c.args.reader.now c.serving_answer-else-is_either.result h c.in-None.is (grind (arith, common_steps, c.signed.ensures, c.is_either.ensures, c.if-is_either.false)) said.none_text said.none_fault (λ at. said.some at _ (lines input) (h.errors c.in-None.is)))

@@ -1,11 +1,12 @@
-use Rattle.std.proofs.Common.{◌≡◌, ◌-◌, arith}
+use Rattle.std.proofs.Common.{◌≡◌, ◌∙◌, ◌-◌, ℕ, true, false, sym, subst, arith}
+use Rattle.fixed_fit.specs.Inner.Serving.{IsBelow}
+use Rattle.fixed_fit.specs.Within.{IsTried}
 use Rattle.fixed_fit.proofs.ServingLemmas.{in_most, left_in}
 use Rattle.fixed_fit.proofs.bounded.serving_answer.Goals as goal
 
-pub found_answer-requires : goal.found_answer-requires
-found_answer-requires g c =
-    let none : c.args.serving.now.place ≡ 0 = let e = c.if-place-ne0.false in omega (arith, e) in
-    let known = c.requires.known none in
+pub found_answer-found-requires : goal.found_answer-found-requires
+found_answer-found-requires g c =
+    let known = c.requires.known c.if-not-serving.false in
     let best = c.best-best.result in
     let is = c.best-best.ensures in
     let left = left_in c.args.question.now.radix known.2 known.1 best c.args.serving.now.lengths.items is.among known.4 in
@@ -20,17 +21,25 @@ found_answer-requires g c =
 
 pub returns : goal.returns
 returns g c =
-    let none : c.args.serving.now.place ≡ 0 = let e = c.if-place-ne0.false in omega (arith, e) in
+    let on : c.args.serving.now.is_served ≡ true = c.if-not-serving.false in
     let best = c.best-best.result in
     let longer = c.best-best.ensures.longer in
     record {
-      none_text = λ more. absurd (omega (arith, more, none));
-      none_fault = λ more. absurd (omega (arith, more, none));
+      none_text = λ over. let no : true ≡ false = sym on ∙ over in cc;
+      none_fault = λ over. let no : true ≡ false = sym on ∙ over in cc;
       some = λ _ count list h. record {
         best = best;
         is_best = c.best-best.ensures;
         frac = best.count - 1;
         last = omega (arith, longer);
-        some = c.found_answer.ensures count list h;
+        before = c.found_answer-found.result;
+        some = c.found_answer-found.ensures.some count list h;
+        below = c.width_below-below.result;
+        is_below = subst (λ (n : ℕ). IsBelow c.args.widths n c.args.serving.now.width c.width_below-below.result) c.width.ensures.width c.width_below-below.ensures;
+        text = c.add_lesser.ensures.text;
+        fault = c.add_lesser.ensures.fault;
       };
     }
+
+pub width_below-below-requires : goal.width_below-below-requires
+width_below-below-requires g c = subst (λ (n : ℕ). IsTried c.args.widths n c.args.serving.now.width) (sym c.width.ensures.width) (c.requires.tried c.if-not-serving.false)

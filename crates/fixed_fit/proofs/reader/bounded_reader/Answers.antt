@@ -1,10 +1,14 @@
-use Rattle.std.proofs.Common.{ℕ, [], true, subst}
+use Rattle.std.proofs.Common.{ℕ, [], true, subst, ◌∙◌, ap}
 use Rattle.fixed_fit.specs.Inner.Reading.{HasRead}
 use Rattle.fixed_fit.specs.Inner.Serving.{bounded}
+use Rattle.fixed_fit.specs.Within.{most_width}
 use Rattle.fixed_fit.proofs.reader.bounded_reader.Goals as goal
 
 pub returns-in-Ok-clause-read : goal.returns-in-Ok-clause-read
-returns-in-Ok-clause-read c =
-    let r = c.args.radix in
-    subst (λ (n : ℕ). HasRead r (bounded n c.args.bound.now c.args.widths c.args.one) [] c.in-Ok.reader) c.most_width.ensures.most
-    (c.in-Ok.ensures.read true c.args.bound.now c.args.widths c.args.one c.in_ok-within.ensures.is_bounded (λ _. c.in_ok-within.ensures.served r c.most_width.result c.requires.bound))
+returns-in-Ok-clause-read g c =
+    let q = c.args.question.now in
+    let widths = c.args.widths in
+    let bound = c.args.bound.now in
+    let most = c.most_width.ensures.most ∙ ap (λ (n : ℕ). most_width widths n) c.width-one.ensures.width in
+    subst (λ (n : ℕ). HasRead q.radix (bounded q.is_range n bound widths q.kind.width) [] c.in-Ok.reader) most
+    (c.in-Ok.ensures.read true q.is_range bound widths q.kind.width c.in_ok-within.ensures.is_bounded (λ _. c.in_ok-within.ensures.served c.most_width.result))

@@ -86,7 +86,7 @@ add-requires-in-Ok-clause-plain g c = λ is.
     let h = c.requires.known.3.lines in
     let none : new.fault ≡ None = is_none new.fault (grind (arith, common_steps, c.is_some.ensures, c.if-is_some.false)) in
     let served = some_served r n done c.args.self.now is (c.after-self.ensures.sound none) h in
-    (false, n.widths, n.one, done, subst (λ (x : Radix). HasServing x false n.widths n.one done c.args.self.now.within.plain) (sym (c.after-self.ensures.radix ∙ h.radix)) served.plain)
+    (n.is_range, false, n.widths, n.one, done, subst (λ (x : Radix). HasServing n.is_range x false n.widths n.one done c.args.self.now.within.plain) (sym (c.after-self.ensures.radix ∙ h.radix)) served.plain)
 
 pub add-requires-in-Ok-clause-signed : goal.add-requires-in-Ok-clause-signed
 add-requires-in-Ok-clause-signed g c = λ is.
@@ -97,4 +97,4 @@ add-requires-in-Ok-clause-signed g c = λ is.
     let h = c.requires.known.3.lines in
     let none : new.fault ≡ None = is_none new.fault (grind (arith, common_steps, c.is_some.ensures, c.if-is_some.false)) in
     let served = some_served r n done c.args.self.now is (c.after-self.ensures.sound none) h in
-    (true, n.widths, n.one, done, subst (λ (x : Radix). HasServing x true n.widths n.one done c.args.self.now.within.signed) (sym (c.after-self.ensures.radix ∙ h.radix)) served.signed)
+    (n.is_range, true, n.widths, n.one, done, subst (λ (x : Radix). HasServing n.is_range x true n.widths n.one done c.args.self.now.within.signed) (sym (c.after-self.ensures.radix ∙ h.radix)) served.signed)

@@ -1,54 +1,54 @@
-use Rattle.std.proofs.Common.{◌≡◌, ◌<◌, ◌≤◌, ℕ, List, refl, subst, arith}
-use Rattle.fixed_bits.specs.declared.mode.ReadMode.TheVariants.{NearestEven}
-use Rattle.fixed_error.specs.ErrorSize.{HasErrorAbove, HasErrorWithin}
-use Rattle.fixed_fit.proofs.ServingLemmas.{ends, few_of, frozen, goes_on, lowered_few, lowered_within}
+use Rattle.std.proofs.Common.{◌≡◌, ℕ, true, false, List, refl, subst, arith}
+use Rattle.fixed_fit.proofs.ServingLemmas.{IsLeastNext, IsWithinNext, ends, few_of, frozen, goes_on, lowered_few, lowered_within}
 use Rattle.fixed_fit.proofs.serving.Serving.add.Goals as goal
 
 pub lower_all-most-requires-clause-few : goal.lower_all-most-requires-clause-few
 lower_all-most-requires-clause-few g c =
     let known = c.requires.known in
-    let none : c.args.self.now.place ≡ 0 = let e = c.if-self-ne0.false in omega (arith, e) in
-    few_of c.args.radix known.0 known.3 c.args.self.now.lengths.items (known.4.serving none).lengths
+    let on : c.args.self.now.is_served ≡ true = c.if-not-self.false in
+    few_of c.args.radix known.1 known.4 c.args.self.now.lengths.items (known.5.serving on).lengths
 
-pub raised-self-requires-clause-few : goal.raised-self-requires-clause-few
-raised-self-requires-clause-few g c =
+pub next_low-self-requires-clause-few : goal.next_low-self-requires-clause-few
+next_low-self-requires-clause-few g c =
     let known = c.requires.known in
-    let none : c.args.self.now.place ≡ 0 = let e = c.if-self-ne0.false in omega (arith, e) in
-    let few = lowered_few c.args.radix known.0 known.3 c.args.line.now c.args.place c.args.self.now.lengths.items c.lower_all-most.new.lengths.items c.lower_all-most.ensures.lowered (known.4.serving none).lengths in
+    let on : c.args.self.now.is_served ≡ true = c.if-not-self.false in
+    let few = lowered_few c.args.radix known.1 known.4 c.args.line.now c.args.place c.args.self.now.lengths.items c.lower_all-most.new.lengths.items c.lower_all-most.ensures.lowered (known.5.serving on).lengths in
     let is = c.lower_all-most.ensures.most in
     omega (arith, few, is)
 
-pub raised-self-requires-clause-within : goal.raised-self-requires-clause-within
-raised-self-requires-clause-within g c = λ f less.
+pub next_low-self-requires-clause-within : goal.next_low-self-requires-clause-within
+next_low-self-requires-clause-within g c = λ f less.
     let known = c.requires.known in
-    let none : c.args.self.now.place ≡ 0 = let e = c.if-self-ne0.false in omega (arith, e) in
+    let on : c.args.self.now.is_served ≡ true = c.if-not-self.false in
     let is = c.lower_all-most.ensures.most in
-    lowered_within c.args.radix known.0 known.3 c.args.line.now c.args.place f c.args.self.now.lengths.items c.lower_all-most.new.lengths.items c.lower_all-most.ensures.lowered (known.4.serving none).lengths (omega (arith, less, is))
+    lowered_within c.args.radix known.1 known.4 c.args.line.now c.args.place f c.args.self.now.lengths.items c.lower_all-most.new.lengths.items c.lower_all-most.ensures.lowered (known.5.serving on).lengths (omega (arith, less, is))
 
-pub returns-then-self-ne0-clause-one_more : goal.returns-then-self-ne0-clause-one_more
-returns-then-self-ne0-clause-one_more g c = λ s widths one lines h at.
-    let some = c.if-self-ne0.true in
-    frozen c.args.radix s widths one lines c.args.line.now c.args.self.now (λ (none : c.args.self.now.place ≡ 0). absurd (omega (arith, some, none))) h
+pub returns-then-not-self-clause-one_more : goal.returns-then-not-self-clause-one_more
+returns-then-not-self-clause-one_more g c = λ range s widths one lines h at. frozen range c.args.radix s widths one lines c.args.line.now c.args.self.now c.if-not-self.true h
 
 pub returns-then-most-self-clause-one_more : goal.returns-then-most-self-clause-one_more
-returns-then-most-self-clause-one_more g c = λ s widths one lines h at.
+returns-then-most-self-clause-one_more g c = λ range s widths one lines h at.
     let old = c.args.self.now in
-    let none : old.place ≡ 0 = let e = c.if-self-ne0.false in omega (arith, e) in
+    let r = c.args.radix in
+    let line = c.args.line.now in
     let is = c.lower_all-most.ensures.most in
     let past = c.if-most-self.true in
-    let low = c.raised-self.result in
-    let news = c.lower_all-most.new.lengths in
-    let above = subst (λ (b : List ℕ). (f : ℕ) → old.low ≤ f → f < low → HasErrorAbove NearestEven c.args.radix f c.args.line.now b) c.deref.ensures.value c.raised-self.ensures.above in
-    ends c.args.radix s widths one lines c.args.line.now c.args.place old (record { bound = old.bound; lengths = news; low = low; place = c.args.place }) refl refl none c.lower_all-most.ensures.lowered above (omega (arith, past, is)) at h
+    let low = c.next_low-self.result in
+    let least = subst (λ (b : List ℕ). IsLeastNext old.is_range r line old.low low b) c.deref.ensures.value c.next_low-self.ensures.least in
+    ends range r s widths one lines line c.args.place old (record { bound = old.bound; lengths = c.lower_all-most.new.lengths; low = low; place = c.args.place; is_range = old.is_range; is_served = false; width = old.width; raised = old.raised }) refl refl refl refl c.if-not-self.false
+    c.lower_all-most.ensures.lowered least (omega (arith, past, is)) at h
 
-pub returns-else-most-self-clause-one_more : goal.returns-else-most-self-clause-one_more
-returns-else-most-self-clause-one_more g c = λ s widths one lines h at.
+pub returns-clause-one_more : goal.returns-clause-one_more
+returns-clause-one_more g c = λ range s widths one lines h at.
     let old = c.args.self.now in
-    let none : old.place ≡ 0 = let e = c.if-self-ne0.false in omega (arith, e) in
+    let r = c.args.radix in
+    let line = c.args.line.now in
     let is = c.lower_all-most.ensures.most in
     let less = c.if-most-self.false in
-    let low = c.raised-self.result in
-    let news = c.lower_all-most.new.lengths in
-    let above = subst (λ (b : List ℕ). (f : ℕ) → old.low ≤ f → f < low → HasErrorAbove NearestEven c.args.radix f c.args.line.now b) c.deref.ensures.value c.raised-self.ensures.above in
-    let within = subst (λ (b : List ℕ). HasErrorWithin NearestEven c.args.radix low c.args.line.now b) c.deref.ensures.value (c.raised-self.ensures.within (omega (arith, less))) in
-    goes_on c.args.radix s widths one lines c.args.line.now c.args.place old (record { bound = old.bound; lengths = news; low = low; place = old.place }) refl refl none c.lower_all-most.ensures.lowered c.raised-self.ensures.more above within (omega (arith, less, is)) at h
+    let low = c.next_low-self.result in
+    let best = c.best.result in
+    let width = c.width-width.ensures.width in
+    let least = subst (λ (b : List ℕ). IsLeastNext old.is_range r line old.low low b) c.deref.ensures.value c.next_low-self.ensures.least in
+    let within = subst (λ (b : List ℕ). IsWithinNext old.is_range r line old.low low b) c.deref.ensures.value (λ lines w. c.next_low-self.ensures.within lines w (omega (arith, less))) in
+    goes_on range r s widths one lines line c.args.place old (record { bound = old.bound; lengths = c.lower_all-most.new.lengths; low = low; place = old.place; is_range = old.is_range; is_served = old.is_served; width = c.width-width.result; raised = c.raised_by-self.result }) best refl refl refl c.if-not-self.false
+    c.lower_all-most.ensures.lowered within least (omega (arith, less, is)) at c.best.ensures width c.raised_by-self.ensures.same c.raised_by-self.ensures.moved h
