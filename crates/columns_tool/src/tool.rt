@@ -7,7 +7,7 @@ use std::alloc::Global;
 use std::sync::ledger::Ledger;
 
 /// The program: its run is the one of fixed_columns.
-#[derive(Clone, Copy, Debug, PartialEq, Eq)]
+#[derive(Clone, Copy)]
 pub struct ColumnsTool;
 
 impl<L: Ledger> Program<L> for ColumnsTool {

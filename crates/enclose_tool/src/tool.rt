@@ -7,7 +7,7 @@ use std::alloc::Global;
 use std::sync::ledger::Ledger;
 
 /// The program: its run is the one of fixed_enclose.
-#[derive(Clone, Copy, Debug, PartialEq, Eq)]
+#[derive(Clone, Copy)]
 pub struct EncloseTool;
 
 impl<L: Ledger> Program<L> for EncloseTool {

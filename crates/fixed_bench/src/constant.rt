@@ -7,7 +7,7 @@ use std::alloc::Global;
 use std::sync::ledger::Ledger;
 
 /// Answers each line by one text.
-#[derive(Clone, Copy, Debug, PartialEq, Eq)]
+#[derive(Clone, Copy)]
 pub struct ConstantRule;
 
 impl<L: Ledger> LineRule<L> for ConstantRule {

@@ -11,7 +11,7 @@ use std::cmp::Ordering;
 use std::fmt::Write;
 
 /// What is done with each number.
-#[derive(Clone, Copy, PartialEq, Eq)]
+#[derive(Clone, Copy)]
 pub enum Work {
     Round,
     Convert,

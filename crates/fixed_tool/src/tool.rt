@@ -7,7 +7,7 @@ use std::alloc::Global;
 use std::sync::ledger::Ledger;
 
 /// The program: its run is the one of fixed_respell.
-#[derive(Clone, Copy, Debug, PartialEq, Eq)]
+#[derive(Clone, Copy)]
 pub struct FixedTool;
 
 impl<L: Ledger> Program<L> for FixedTool {

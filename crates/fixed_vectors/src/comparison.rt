@@ -1,26 +1,11 @@
-//! The comparisons, and what Display writes.
+//! The comparisons.
 
-use crate::words::{at_format, at_pair_format};
+use crate::answers::{write_order, write_words};
+use crate::words::at_pair_format;
 use fixed_bits::Inner;
 use fixed_convert::NumTarget;
 use fixed_point::Fixed;
-use std::cmp::Ordering;
 use std::io;
-
-/// Writes what Display writes: `TYPE BITS`.
-pub fn show(rt: &impl Print, word: &str, bits: i128) -> io::Result<()> {
-    match word {
-        "i8.100" => show_number(rt, Fixed::<i8, 100>::from_bits(Inner::wrap(bits))),
-        "u8.100" => show_number(rt, Fixed::<u8, 100>::from_bits(Inner::wrap(bits))),
-        "i64.64" => show_number(rt, Fixed::<i64, 64>::from_bits(Inner::wrap(bits))),
-        "u64.3000" => show_number(rt, Fixed::<u64, 3000>::from_bits(Inner::wrap(bits))),
-        _ => at_format!(word, bits, show_number(), rt),
-    }
-}
-
-fn show_number<I: Inner, const FRAC: u32>(rt: &impl Print, x: Fixed<I, FRAC>) -> io::Result<()> {
-    println!(rt; "{x}")
-}
 
 /// Writes the order of two numbers and what the five comparisons answer: `TYPE TYPE BITS BITS`.
 pub fn answer(
@@ -60,7 +45,7 @@ pub fn answer(
             bits,
             with_each(other, against),
             rt,
-            println!(rt; "unknown type")
+            write_words(rt, "unknown type")
         ),
     }
 }
@@ -90,7 +75,13 @@ fn with_format<I: Inner, const FRAC: u32>(
     other: &str,
     against: i128,
 ) -> io::Result<()> {
-    at_pair_format!(other, against, compare(x), rt, println!(rt; "unknown type"))
+    at_pair_format!(
+        other,
+        against,
+        compare(x),
+        rt,
+        write_words(rt, "unknown type")
+    )
 }
 
 fn compare<R: NumTarget, I: Inner, const FRAC: u32>(
@@ -98,15 +89,12 @@ fn compare<R: NumTarget, I: Inner, const FRAC: u32>(
     rhs: R,
     x: Fixed<I, FRAC>,
 ) -> io::Result<()> {
-    let name = match x.cmp_num(rhs) {
-        Ordering::Less => "less",
-        Ordering::Equal => "equal",
-        Ordering::Greater => "greater",
-    };
-    let equal = x.eq_num(rhs);
-    let less = x.lt_num(rhs);
-    let at_most = x.le_num(rhs);
-    let greater = x.gt_num(rhs);
-    let at_least = x.ge_num(rhs);
-    println!(rt; "{name} {equal} {less} {at_most} {greater} {at_least}")
+    let answers = [
+        x.eq_num(rhs),
+        x.lt_num(rhs),
+        x.le_num(rhs),
+        x.gt_num(rhs),
+        x.ge_num(rhs),
+    ];
+    write_order(rt, x.cmp_num(rhs), answers)
 }

@@ -2,6 +2,7 @@
 
 ghost use Rattle.std.specs.Prelude.{◌≤◌};
 
+use crate::answers::{write_flagged, write_number, write_words};
 use crate::words::at_pair_format;
 use fixed_bits::Inner;
 use fixed_convert::{Num, NumTarget};
@@ -17,22 +18,28 @@ pub fn answer(
     target: &str,
     bits: i128,
 ) -> io::Result<()> {
-    if bits % 2 == 0 {
-        at_pair_format!(
-            source,
-            bits,
-            to_each(form, target),
-            rt,
-            from_integer(rt, form, source, target, bits)
-        )
+    at_pair_format!(
+        source,
+        bits,
+        from_fixed(form, target, bits % 2 == 0),
+        rt,
+        from_integer(rt, form, source, target, bits)
+    )
+}
+
+fn from_fixed<I: Inner, const FRAC: u32>(
+    rt: &impl Print,
+    x: Fixed<I, FRAC>,
+    form: &str,
+    target: &str,
+    by_to_num: bool,
+) -> io::Result<()>
+    requires { FRAC ≤ I.BITS }
+{
+    if by_to_num {
+        to_each(rt, x, form, target)
     } else {
-        at_pair_format!(
-            source,
-            bits,
-            from_each(form, target),
-            rt,
-            from_integer(rt, form, source, target, bits)
-        )
+        from_each(rt, x, form, target)
     }
 }
 
@@ -48,7 +55,7 @@ fn from_integer(
         "u8" => from_each(rt, u8::wrap(bits), form, target),
         "i64" => from_each(rt, i64::wrap(bits), form, target),
         "u64" => from_each(rt, u64::wrap(bits), form, target),
-        _ => println!(rt; "unknown type"),
+        _ => write_words(rt, "unknown type"),
     }
 }
 
@@ -77,7 +84,13 @@ fn to_format<I: Inner, const FRAC: u32>(
 ) -> io::Result<()>
     requires { FRAC ≤ I.BITS }
 {
-    at_pair_format!(target, 0, to_num(x, form), rt, println!(rt; "unknown type"))
+    at_pair_format!(
+        target,
+        0,
+        to_num(x, form),
+        rt,
+        write_words(rt, "unknown type")
+    )
 }
 
 fn to_num<D: NumTarget, I: Inner, const FRAC: u32>(
@@ -94,10 +107,10 @@ fn to_num<D: NumTarget, I: Inner, const FRAC: u32>(
         "wrapping" => write_wide(rt, x.wrapping_to_num::<D>()),
         "overflowing" => {
             let (number, overflowed) = x.overflowing_to_num::<D>();
-            println!(rt; "{} {overflowed}", number.to_wide())
+            write_flagged(rt, number.to_wide(), overflowed)
         }
         _ => match x.checked_to_num::<D>() {
-            None => println!(rt; "none"),
+            None => write_words(rt, "none"),
             Some(number) => match form {
                 "checked" => write_wide(rt, number),
                 _ => write_wide(rt, x.to_num::<D>()),
@@ -127,7 +140,7 @@ fn to_integer<S: NumTarget>(rt: &impl Print, src: S, form: &str, target: &str) -
         "u8" => from_num(rt, Fixed::<u8, 0>::from_bits(0), src, form),
         "i64" => from_num(rt, Fixed::<i64, 0>::from_bits(0), src, form),
         "u64" => from_num(rt, Fixed::<u64, 0>::from_bits(0), src, form),
-        _ => println!(rt; "unknown type"),
+        _ => write_words(rt, "unknown type"),
     }
 }
 
@@ -145,10 +158,10 @@ fn from_num<S: Num, I: Inner, const FRAC: u32>(
         "wrapping" => write_wide(rt, Fixed::<I, FRAC>::wrapping_from_num(src)),
         "overflowing" => {
             let (number, overflowed) = Fixed::<I, FRAC>::overflowing_from_num(src);
-            println!(rt; "{} {overflowed}", number.to_wide())
+            write_flagged(rt, number.to_wide(), overflowed)
         }
         _ => match Fixed::<I, FRAC>::checked_from_num(src) {
-            None => println!(rt; "none"),
+            None => write_words(rt, "none"),
             Some(number) => match form {
                 "checked" => write_wide(rt, number),
                 _ => write_wide(rt, Fixed::<I, FRAC>::from_num(src)),
@@ -158,5 +171,5 @@ fn from_num<S: Num, I: Inner, const FRAC: u32>(
 }
 
 fn write_wide<N: Num>(rt: &impl Print, number: N) -> io::Result<()> {
-    println!(rt; "{}", number.to_wide())
+    write_number(rt, number.to_wide())
 }

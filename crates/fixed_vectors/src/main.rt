@@ -3,10 +3,12 @@
 //! about texts in a style (`styles`); each makes such lines and answers them.
 #![tactic(auto)]
 
+mod answers;
 mod comparison;
 mod conversion;
 mod reading;
 mod rounding;
+mod single;
 mod style_words;
 mod styles;
 mod words;
@@ -51,8 +53,8 @@ fn write_line(rt: &HostRuntime, line: &[u8]) -> io::Result<()> {
 fn answer(rt: &impl Print, line: &str) -> io::Result<()> {
     let (call, rest) = line.split_once(' ').unwrap_or((line, ""));
     match call {
-        "read" => reading::answer(rt, rest),
-        "lit" => reading::answer_literal(rt, rest),
+        "read" => single::answer_reading(rt, rest),
+        "lit" => single::answer_literal(rt, rest),
         _ => answer_numbers(rt, call, rest),
     }
 }
@@ -65,10 +67,10 @@ fn answer_numbers(rt: &impl Print, call: &str, rest: &str) -> io::Result<()> {
     let third = words.next().unwrap_or("");
     let fourth = words.next().unwrap_or("");
     match call {
-        "round" => rounding::answer(rt, first, second, number_of(third)),
+        "round" => single::answer_bits(rt, first, second, third),
+        "show" => single::answer_bits(rt, call, first, second),
         "convert" => conversion::answer(rt, first, second, third, number_of(fourth)),
         "compare" => comparison::answer(rt, first, second, number_of(third), number_of(fourth)),
-        "show" => comparison::show(rt, first, number_of(second)),
-        _ => println!(rt; "unknown call"),
+        _ => answers::write_words(rt, "unknown call"),
     }
 }

@@ -2,28 +2,14 @@
 
 ghost use Rattle.std.specs.Prelude.{◌≤◌};
 
-use crate::words::at_format;
+use crate::answers;
 use fixed_bits::{Inner, ReadMode};
 use fixed_numeral::{ParseFixedError, Radix};
 use fixed_point::Fixed;
 use std::io;
 
-/// Writes what a reading call answers: `FORM MODE RADIX TYPE TEXT`.
-pub fn answer(rt: &impl Print, rest: &str) -> io::Result<()> {
-    let (form, rest) = rest.split_once(' ').unwrap_or((rest, ""));
-    let (mode, rest) = rest.split_once(' ').unwrap_or((rest, ""));
-    let (radix, rest) = rest.split_once(' ').unwrap_or((rest, ""));
-    let (word, text) = rest.split_once(' ').unwrap_or((rest, ""));
-    at_format!(word, 0, read(form, mode, radix, text), rt)
-}
-
-/// Writes what a literal reads as: `TYPE TEXT`.
-pub fn answer_literal(rt: &impl Print, rest: &str) -> io::Result<()> {
-    let (word, text) = rest.split_once(' ').unwrap_or((rest, ""));
-    at_format!(word, 0, literal(text), rt)
-}
-
-fn literal<I: Inner, const FRAC: u32>(
+/// Writes what a literal reads as.
+pub fn literal<I: Inner, const FRAC: u32>(
     rt: &impl Print,
     _zero: Fixed<I, FRAC>,
     text: &str,
@@ -33,7 +19,8 @@ fn literal<I: Inner, const FRAC: u32>(
     write_number(rt, Fixed::<I, FRAC>::lit(text))
 }
 
-fn read<I: Inner, const FRAC: u32>(
+/// Writes what a reading call answers.
+pub fn read<I: Inner, const FRAC: u32>(
     rt: &impl Print,
     zero: Fixed<I, FRAC>,
     form: &str,
@@ -231,8 +218,8 @@ fn write_number<I: Inner, const FRAC: u32>(
     answer: Result<Fixed<I, FRAC>, ParseFixedError>,
 ) -> io::Result<()> {
     match answer {
-        Ok(number) => println!(rt; "{}", number.to_bits().value()),
-        Err(error) => println!(rt; "error: {error}"),
+        Ok(number) => answers::write_number(rt, number.to_bits().value()),
+        Err(error) => write_error(rt, error),
     }
 }
 
@@ -241,7 +228,13 @@ fn write_verdict<I: Inner, const FRAC: u32>(
     answer: Result<(Fixed<I, FRAC>, bool), ParseFixedError>,
 ) -> io::Result<()> {
     match answer {
-        Ok((number, overflowed)) => println!(rt; "{} {overflowed}", number.to_bits().value()),
-        Err(error) => println!(rt; "error: {error}"),
+        Ok((number, overflowed)) => {
+            answers::write_flagged(rt, number.to_bits().value(), overflowed)
+        }
+        Err(error) => write_error(rt, error),
     }
+}
+
+fn write_error(rt: &impl Print, error: ParseFixedError) -> io::Result<()> {
+    println!(rt; "error: {error}")
 }

@@ -2,16 +2,10 @@
 
 ghost use Rattle.std.specs.Prelude.{◌≤◌};
 
-use crate::words::at_format;
+use crate::answers::{write_flagged, write_number, write_words};
 use fixed_bits::Inner;
 use fixed_point::Fixed;
 use std::io;
-
-/// Writes what a rounding call answers: `CALL TYPE BITS`.
-pub fn answer(rt: &impl Print, call: &str, word: &str, bits: i128) -> io::Result<()> {
-    let (form, name) = form_of(call);
-    at_format!(word, bits, round(form, name), rt)
-}
 
 /// The form of a call, and the rounding that it names.
 fn form_of(call: &str) -> (&str, &str) {
@@ -22,18 +16,19 @@ fn form_of(call: &str) -> (&str, &str) {
     }
 }
 
-fn round<I: Inner, const FRAC: u32>(
+/// Writes what a rounding call of this name answers for a number.
+pub fn round<I: Inner, const FRAC: u32>(
     rt: &impl Print,
     x: Fixed<I, FRAC>,
-    form: &str,
-    name: &str,
+    call: &str,
 ) -> io::Result<()>
     requires { FRAC ≤ I.BITS }
 {
+    let (form, name) = form_of(call);
     match name {
-        "int" => write_number(rt, x.int()),
-        "frac" => write_number(rt, x.frac()),
-        "round_to_zero" => write_number(rt, x.round_to_zero()),
+        "int" => write_bits(rt, x.int()),
+        "frac" => write_bits(rt, x.frac()),
+        "round_to_zero" => write_bits(rt, x.round_to_zero()),
         "ceil" => ceil(rt, x, form),
         "floor" => floor(rt, x, form),
         "round" => nearest(rt, x, form),
@@ -46,18 +41,18 @@ macro_rules! six_forms {
     ($rt:expr, $x:expr, $form:expr, $plain:ident, $checked:ident, $saturating:ident, $wrapping:ident, $strict:ident,
         $overflowing:ident) => {
         match $form {
-            "saturating" => write_number($rt, $x.$saturating()),
-            "wrapping" => write_number($rt, $x.$wrapping()),
+            "saturating" => write_bits($rt, $x.$saturating()),
+            "wrapping" => write_bits($rt, $x.$wrapping()),
             "overflowing" => {
                 let (number, overflowed) = $x.$overflowing();
-                println!($rt; "{} {overflowed}", number.to_bits().value())
+                write_flagged($rt, number.to_bits().value(), overflowed)
             }
             _ => match $x.$checked() {
-                None => println!($rt; "none"),
+                None => write_words($rt, "none"),
                 Some(number) => match $form {
-                    "checked" => write_number($rt, number),
-                    "strict" => write_number($rt, $x.$strict()),
-                    _ => write_number($rt, $x.$plain()),
+                    "checked" => write_bits($rt, number),
+                    "strict" => write_bits($rt, $x.$strict()),
+                    _ => write_bits($rt, $x.$plain()),
                 },
             },
         }
@@ -140,6 +135,6 @@ fn nearest_even<I: Inner, const FRAC: u32>(
     )
 }
 
-fn write_number<I: Inner, const FRAC: u32>(rt: &impl Print, x: Fixed<I, FRAC>) -> io::Result<()> {
-    println!(rt; "{}", x.to_bits().value())
+fn write_bits<I: Inner, const FRAC: u32>(rt: &impl Print, x: Fixed<I, FRAC>) -> io::Result<()> {
+    write_number(rt, x.to_bits().value())
 }

@@ -17,7 +17,7 @@ pub fn number_of(word: &str) -> i128
 
 /// Calls a function with the number that has these bits in the format that a word names, `i8.4` for FixedI8<4>.
 macro_rules! at_format {
-    ($word:expr, $bits:expr, $call:ident ( $($given:expr),* ), $rt:expr) => {
+    ($word:expr, $bits:expr, $call:ident ( $($given:expr),* ), $rt:expr, $otherwise:expr) => {
         match $word {
             "i8.0" => $call($rt, Fixed::<i8, 0>::from_bits(Inner::wrap($bits)), $($given),*),
             "i8.4" => $call($rt, Fixed::<i8, 4>::from_bits(Inner::wrap($bits)), $($given),*),
@@ -35,7 +35,7 @@ macro_rules! at_format {
             "i64.63" => $call($rt, Fixed::<i64, 63>::from_bits(Inner::wrap($bits)), $($given),*),
             "u64.0" => $call($rt, Fixed::<u64, 0>::from_bits(Inner::wrap($bits)), $($given),*),
             "u64.64" => $call($rt, Fixed::<u64, 64>::from_bits(Inner::wrap($bits)), $($given),*),
-            _ => println!($rt; "unknown type"),
+            _ => $otherwise,
         }
     };
 }

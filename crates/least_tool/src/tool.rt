@@ -7,7 +7,7 @@ use std::alloc::Global;
 use std::sync::ledger::Ledger;
 
 /// The program: its run is the one of fixed_least.
-#[derive(Clone, Copy, Debug, PartialEq, Eq)]
+#[derive(Clone, Copy)]
 pub struct LeastTool;
 
 impl<L: Ledger> Program<L> for LeastTool {

@@ -4,7 +4,7 @@ use fixed_bits::{Format, Inner, Policy, format_at, mul10};
 
 #[test]
 fn a_format_has_a_width_of_four_and_no_more_fraction_bits(rt: HostRuntime) {
-    for (width, frac, is_format) in [
+    for (width, frac, is_format) in &[
         (8, 8, true),
         (8, 9, false),
         (64, 64, true),
@@ -14,7 +14,7 @@ fn a_format_has_a_width_of_four_and_no_more_fraction_bits(rt: HostRuntime) {
         (128, 0, false),
     ] {
         assert!(rt;
-            Format::new(true, width, frac).is_some() == is_format,
+            Format::new(true, *width, *frac).is_some() == *is_format,
             "{width} {frac}"
         );
     }
@@ -22,7 +22,7 @@ fn a_format_has_a_width_of_four_and_no_more_fraction_bits(rt: HostRuntime) {
 
 #[test]
 fn any_width_from_1_to_64_makes_a_format(rt: HostRuntime) {
-    for (signed, width, frac, ends) in [
+    for (signed, width, frac, ends) in &[
         (true, 1, 0, (-1, 0)),
         (true, 1, 1, (-1, 0)),
         (false, 1, 1, (0, 1)),
@@ -32,10 +32,10 @@ fn any_width_from_1_to_64_makes_a_format(rt: HostRuntime) {
         (false, 63, 0, (0, 9_223_372_036_854_775_807)),
         (false, 64, 64, (0, 18_446_744_073_709_551_615)),
     ] {
-        match Format::of_any_width(signed, width, frac) {
+        match Format::of_any_width(*signed, *width, *frac) {
             Some(format) => {
-                assert!(rt; (format.lowest(), format.greatest()) == ends, "{width}");
-                assert!(rt; format.rank().is_some() == (width == 64), "{width}");
+                assert!(rt; (format.lowest(), format.greatest()) == *ends, "{width}");
+                assert!(rt; format.rank().is_some() == (*width == 64), "{width}");
             }
             None => assert!(rt; false, "{width}"),
         }
@@ -66,15 +66,15 @@ fn formats_are_ordered_by_width_then_sign_then_fraction(rt: HostRuntime) {
             (-9_223_372_036_854_775_808, 9_223_372_036_854_775_807),
         ),
     ];
-    for (rank, parts, ends) in rows {
-        match format_at(rank) {
+    for (rank, parts, ends) in &rows {
+        match format_at(*rank) {
             Some(format) => {
-                assert!(rt; format.rank() == Some(rank));
+                assert!(rt; format.rank() == Some(*rank));
                 assert!(rt;
-                    (format.signed(), format.width(), format.frac()) == parts,
+                    (format.signed(), format.width(), format.frac()) == *parts,
                     "{rank}"
                 );
-                assert!(rt; (format.lowest(), format.greatest()) == ends, "{rank}");
+                assert!(rt; (format.lowest(), format.greatest()) == *ends, "{rank}");
             }
             None => assert!(rt; false, "{rank}"),
         }
@@ -85,18 +85,21 @@ fn formats_are_ordered_by_width_then_sign_then_fraction(rt: HostRuntime) {
 #[test]
 fn a_number_goes_through_three_policies(rt: HostRuntime) {
     let byte = Format::new(false, 8, 0).unwrap();
-    for (number, checked, saturating, wrapping) in [
+    for (number, checked, saturating, wrapping) in &[
         (17, Some(17), 17, 17),
         (300, None, 255, 44),
         (-1, None, 0, 255),
     ] {
-        assert!(rt; Policy::Checked.image(byte, number) == checked, "{number}");
         assert!(rt;
-            Policy::Saturating.image(byte, number) == Some(saturating),
+            Policy::Checked.image(byte, *number) == *checked,
             "{number}"
         );
         assert!(rt;
-            Policy::Wrapping.image(byte, number) == Some(wrapping),
+            Policy::Saturating.image(byte, *number) == Some(*saturating),
+            "{number}"
+        );
+        assert!(rt;
+            Policy::Wrapping.image(byte, *number) == Some(*wrapping),
             "{number}"
         );
     }

@@ -139,9 +139,9 @@ fn numbers_are_ordered_across_fraction_lengths(rt: HostRuntime) {
         ((1, 100), (0, 0), Ordering::Greater),
         ((1, 4_294_967_295), (1, 4_294_967_294), Ordering::Less),
     ];
-    for ((b, f), (c, g), order) in pairs {
+    for ((b, f), (c, g), order) in &pairs {
         assert!(rt;
-            compare(b, f, c, g) == order,
+            compare(*b, *f, *c, *g) == *order,
             "{b} with {f} against {c} with {g}"
         );
     }

@@ -1,7 +1,8 @@
-//! Tests of `fixed_bits`, `fixed_convert` and `fixed_point`: worked rows whose answers come from the definitions. A
-//! crate with tests is proved twice, with and without them, and so these are in a crate of their own. What the typed
-//! calls of `fixed_point` read, round, convert, compare and show is tried by `fixed_vectors`, in its stored run and
-//! against `oracle/`.
+//! Tests of `fixed_bits`, `fixed_convert`, `fixed_numeral`, `fixed_read`, `fixed_error`, `fixed_write` and
+//! `fixed_point`: worked rows whose answers come from the definitions. A crate with tests is proved twice, with and
+//! without them, and so these are in a crate of their own. What the typed calls of `fixed_point` read, round, convert,
+//! compare and show is tried by `fixed_vectors`, in its stored run and against `oracle/`. Rows are gone through by
+//! reference: the proof of a loop over an array by value grows with the square of its length.
 #![tactic(auto)]
 
 #[cfg(test)]
@@ -9,6 +10,14 @@ mod bits;
 #[cfg(test)]
 mod conversion;
 #[cfg(test)]
+mod errors;
+#[cfg(test)]
+mod numerals;
+#[cfg(test)]
+mod parsing;
+#[cfg(test)]
 mod printing;
 #[cfg(test)]
 mod reading;
+#[cfg(test)]
+mod writing;

@@ -20,14 +20,14 @@ const WHOLE: [(Program, &str, &str); 3] = [
 /// With pieces of one byte read call k meets byte k, or the end: nothing is written before the whole input is read.
 #[test]
 fn each_read_of_a_whole_input_fails_in_turn(rt: HostRuntime) -> Result<(), Fail> {
-    for (program, input, _) in WHOLE {
+    for (program, input, _) in &WHOLE {
         for call in 0..=input.len() {
             let case = MemoryRun {
                 most: 1,
                 failing_read: call as u64,
                 ..MemoryRun::unfailing(&[], input, "", Status::ReadFault)
             };
-            assert_run(&rt, rt.alloc(), program, &case)?;
+            assert_run(&rt, rt.alloc(), *program, &case)?;
         }
     }
     Ok(())
@@ -36,7 +36,7 @@ fn each_read_of_a_whole_input_fails_in_turn(rt: HostRuntime) -> Result<(), Fail>
 /// With pieces of one byte write call k is to write byte k, and those before it are written.
 #[test]
 fn each_write_of_a_whole_answer_fails_in_turn(rt: HostRuntime) -> Result<(), Fail> {
-    for (program, input, output) in WHOLE {
+    for (program, input, output) in &WHOLE {
         for call in 0..output.len() {
             let case = MemoryRun {
                 most: 1,
@@ -44,7 +44,7 @@ fn each_write_of_a_whole_answer_fails_in_turn(rt: HostRuntime) -> Result<(), Fai
                 ..MemoryRun::unfailing(&[], input, "", Status::WriteFault)
             };
             let given = input.as_bytes().to_vec(rt.alloc())?;
-            let (status, written) = case.of(rt.alloc(), &program, given)?;
+            let (status, written) = case.of(rt.alloc(), program, given)?;
             assert!(rt; status == Status::WriteFault, "at {call} of {input}");
             assert!(rt;
                 written.as_slice() == &output.as_bytes()[..call],
@@ -57,14 +57,14 @@ fn each_write_of_a_whole_answer_fails_in_turn(rt: HostRuntime) -> Result<(), Fai
 
 #[test]
 fn a_failing_read_and_a_failing_write_end_a_run_over_lines(rt: HostRuntime) -> Result<(), Fail> {
-    for (failing_read, failing_write, status) in [
+    for (failing_read, failing_write, status) in &[
         (0, NEVER, Status::ReadFault),
         (NEVER, 0, Status::WriteFault),
     ] {
         let case = MemoryRun {
-            failing_read,
-            failing_write,
-            ..MemoryRun::unfailing(&[], "10 U7F1 0.5\n", "", status)
+            failing_read: *failing_read,
+            failing_write: *failing_write,
+            ..MemoryRun::unfailing(&[], "10 U7F1 0.5\n", "", *status)
         };
         assert_run(&rt, rt.alloc(), Program::Enclose, &case)?;
     }

@@ -11,7 +11,7 @@ use std::process::Abort;
 use std::sync::ledger::Ledger;
 
 /// What is run.
-#[derive(Clone, Copy, Debug, PartialEq, Eq)]
+#[derive(Clone, Copy)]
 pub enum Program {
     Enclose,
     Least,

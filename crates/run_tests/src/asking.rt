@@ -45,11 +45,11 @@ fn no_read_asks_for_too_much(rt: HostRuntime) -> Result<(), Fail> {
         (5000, 5000, 5001, 4096),
         (4_294_967_296, 10, 4106, 4096),
     ];
-    for (limit, bytes, furthest, longest) in rows {
+    for (limit, bytes, furthest, longest) in &rows {
         for most in 1..=8 {
-            let asked = asked_by::<Brand>(rt.alloc(), limit, bytes, most, Blank::new(1))?;
-            assert!(rt; asked.0 == furthest, "at {most} of {limit}");
-            assert!(rt; asked.1 == longest, "at {most} of {limit}");
+            let asked = asked_by::<Brand>(rt.alloc(), *limit, *bytes, most, Blank::new(1))?;
+            assert!(rt; asked.0 == *furthest, "at {most} of {limit}");
+            assert!(rt; asked.1 == *longest, "at {most} of {limit}");
         }
     }
     Ok(())

@@ -121,15 +121,15 @@ fn runs_end_at_the_call_that_fails(rt: HostRuntime) -> Result<(), Fail> {
         (4096, NEVER, 0, &["self", "5"], "", Status::WriteFault),
         (2, NEVER, 3, &["self", "5"], "5 line", Status::WriteFault),
     ];
-    for (most, failing_read, failing_write, args, written, status) in rows {
+    for (most, failing_read, failing_write, args, written, status) in &rows {
         let case = MemoryRun {
-            args,
+            args: *args,
             input: LINES,
-            most,
-            failing_read,
-            failing_write,
-            written,
-            status,
+            most: *most,
+            failing_read: *failing_read,
+            failing_write: *failing_write,
+            written: *written,
+            status: *status,
         };
         expect_end(&rt, rt.alloc(), &case)?;
     }

@@ -94,8 +94,8 @@ fn assert_one_write_each(rt: &impl Abort, failing: u64, kind: ErrorKind) {
 #[test]
 fn each_read_is_one_call_of_the_reader(rt: HostRuntime) {
     for failing in 0..CALLS {
-        for kind in KINDS {
-            assert_one_read_each(&rt, failing, kind);
+        for kind in &KINDS {
+            assert_one_read_each(&rt, failing, *kind);
         }
     }
 }
@@ -103,8 +103,8 @@ fn each_read_is_one_call_of_the_reader(rt: HostRuntime) {
 #[test]
 fn each_write_is_one_call_of_the_writer(rt: HostRuntime) {
     for failing in 0..CALLS {
-        for kind in KINDS {
-            assert_one_write_each(&rt, failing, kind);
+        for kind in &KINDS {
+            assert_one_write_each(&rt, failing, *kind);
         }
     }
 }

@@ -48,7 +48,7 @@ fn a_line_ends_at_the_first_newline_or_with_the_text(rt: HostRuntime) {
         ("\n", "", ""),
         (all, all, ""),
     ];
-    for (text, line, rest) in rows {
+    for (text, line, rest) in &rows {
         if !text.is_empty() {
             let (first, after) = first_line(text.as_bytes());
             assert!(rt; first == line.as_bytes(), "the line of {text}");

@@ -1,4 +1,0 @@
-use Rattle.column_tests.proofs.runs.each_write_fails_in_turn.Given as goal
-
-abbrev pub ghosts-run_case : goal.ghosts-run_case
-ghosts-run_case g a = record { name = a.blank.name; parts = a.blank.parts }

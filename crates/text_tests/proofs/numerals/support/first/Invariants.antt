@@ -1,4 +1,0 @@
-use Rattle.text_tests.proofs.numerals.support.first.Given as goal
-
-abbrev pub ghosts-first_over : goal.ghosts-first_over
-ghosts-first_over a = record { name = a.blank.name; parts = a.blank.parts }

@@ -1,4 +1,0 @@
-use Rattle.text_tests.proofs.numerals.support.leading.Given as goal
-
-abbrev pub ghosts-leading_over : goal.ghosts-leading_over
-ghosts-leading_over a = record { name = a.blank.name; parts = a.blank.parts }

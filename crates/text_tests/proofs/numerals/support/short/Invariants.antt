@@ -1,4 +1,0 @@
-use Rattle.text_tests.proofs.numerals.support.short.Given as goal
-
-abbrev pub ghosts-short_over : goal.ghosts-short_over
-ghosts-short_over a = record { name = a.blank.name; parts = a.blank.parts }
