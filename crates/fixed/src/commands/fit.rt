@@ -65,7 +65,7 @@ const WHY: Row = Row {
     letter: None,
     value: "",
     choices: &[],
-    help: "Also what rules out the next finer format and lesser width",
+    help: "Also what rules out the next finer format or lesser width",
 };
 
 const RANGE: Row = Row {
