@@ -1,15 +1,15 @@
 -- Errors of a numeral that is behind a whole number by a word.
-use Rattle.std.proofs.Common.{◌≡◌, ◌⊎◌, ℕ, suc, ◌+◌, ◌-◌, ◌*◌, ◌%◌, ◌^◌, ◌<◌, ◌≤◌, zero, List, [], ◌∷◌, ◌++◌, length, take, drop, get_or, refl, sym, ap, ◌∙◌, subst, arith, ⊎_elim, inl, inr, drop-cons}
+use Rattle.std.proofs.Common.{Vec, Global, ◌≡◌, ◌⊎◌, ℕ, suc, ◌+◌, ◌-◌, ◌*◌, ◌%◌, ◌^◌, ◌<◌, ◌≤◌, zero, List, [], ◌∷◌, ◌++◌, length, replicate, take, drop, get_or, refl, sym, ap, ◌∙◌, subst, arith, ⊎_elim, inl, inr, drop-cons}
 use Rattle.std.specs.Prelude.{min}
 use Rattle.std.proofs.lemmas.Bool.{cases_lt}
-use Rattle.std.proofs.lemmas.List.{drop_all, length-drop, take_all}
+use Rattle.std.proofs.lemmas.List.{drop_all, length-drop, take-append-le, take_all}
 use Rattle.fixed_bits.specs.declared.mode.ReadMode.TheVariants.{NearestEven}
 use Rattle.fixed_numeral.specs.declared.radix.Radix.{Radix}
 use Rattle.fixed_error.specs.ErrorSize.{IsReadWithin}
-use Rattle.fixed_error.specs.Errors.{AreBoundsNearHalf, AreLengthErrors, near_half}
+use Rattle.fixed_error.specs.Errors.{AreBoundsNearHalf, ArePassed, AreLengthErrors, AreWordsWithin, HasGreatestErrors, near_half}
 use Rattle.fixed_error.specs.Greatest.{Entry}
 use Rattle.fixed_error.specs.Inner.Rest.{IsRest, rest_of_word}
-use Rattle.fixed_error.specs.Inner.Words.{AreWordsWithin}
+use Rattle.fixed_error.specs.declared.errors.GreatestErrors.{GreatestErrors}
 use Rattle.fixed_error.specs.declared.errors.LengthError.{LengthError}
 use Rattle.fixed_error.proofs.ErrorsLemmas.{nothing_greater}
 use Rattle.fixed_error.proofs.RestLemmas.{rest_halved, twice_power}
@@ -54,6 +54,20 @@ passed_over r f entries (e ∷ errors) place numeral word below within rest near
       nothing_greater r f entries e place numeral (rest_of_word word) (subst W first (within 0 (omega arith))) rest bound.0 (order word e.bound e.least below near.0 bound.1) all.0,
       passed_over r (suc f) entries errors place numeral (2 * word % 10 ^ 18) (omega arith) (λ k less. subst W (omega arith) (within (suc k) (omega (arith, less)))) (next_rest r f numeral word below rest) near.1 all.1,
     )
+
+-- ---- words that were passed over
+pub words_taken : (word : ℕ) (errors : List LengthError) (k : ℕ) → AreWordsWithin word errors → AreWordsWithin word (take k errors)
+words_taken word errors zero h = tt
+words_taken word [] (suc k) h = tt
+words_taken word (e ∷ errors) (suc k) h = (h.0, words_taken (2 * word % 10 ^ 18) errors k h.1)
+
+get_or_zeros : (n k : ℕ) → ◌≡◌ {A = ℕ} (get_or (replicate n 0) k 0) 0
+get_or_zeros zero k = refl
+get_or_zeros (suc n) zero = refl
+get_or_zeros (suc n) (suc k) = get_or_zeros n k
+
+pub none_passed : (n : ℕ) (errors : List LengthError) → ArePassed (replicate n 0) errors
+none_passed n errors k word is = absurd (omega (arith, is, get_or_zeros n k))
 
 -- ---- all near half an ulp
 pub near_taken : (errors : List LengthError) (k : ℕ) → AreBoundsNearHalf errors → AreBoundsNearHalf (take k errors)
@@ -101,3 +115,38 @@ left_after word after n xs ys same all is near =
     let whole : take (length ys - n) (drop n ys) ≡ drop n xs = take_all (length ys - n) (drop n ys) long ∙ ap (drop n) same in
     let word_is : after ≡ word * 2 ^ n % 10 ^ 18 = is ∙ ap (λ k. word * 2 ^ k % 10 ^ 18) (sym all) in
     subst (λ (w : ℕ). AreWordsWithin w (drop n xs)) word_is (subst (AreWordsWithin after) whole near)
+
+-- ---- words kept
+pub words_kept : (r : Radix) (count : ℕ) (entries : List Entry) (old new : GreatestErrors) → new.radix ≡ old.radix → new.errors ≡ old.errors → new.are_near_half ≡ old.are_near_half → ArePassed new.passed old.errors.items → HasGreatestErrors r count entries old
+    → HasGreatestErrors r count entries new
+words_kept r count entries old new radix errors near passed h =
+    let items : new.errors.items ≡ old.errors.items = ap items_of errors in
+    record {
+      radix = radix ∙ h.radix;
+      most = h.most;
+      count_is = ap length items ∙ h.count_is;
+      errors = subst (AreLengthErrors r 0 entries) (sym items) h.errors;
+      near = λ all. subst AreBoundsNearHalf (sym items) (h.near (sym near ∙ all));
+      passed = subst (ArePassed new.passed) (sym items) passed;
+    }
+  where
+    items_of : Vec LengthError Global → List LengthError
+    items_of v = v.items
+
+-- one numeral more
+pub word_added : (r : Radix) (count : ℕ) (entries : List Entry) (g : GreatestErrors) (place : ℕ) (numeral : List ℕ) (word : ℕ) → word < 10 ^ 18 → ((f : ℕ) → f < length g.errors.items → IsReadWithin NearestEven g.radix f numeral) → IsRest g.radix 0 numeral (rest_of_word word)
+    → AreWordsWithin word g.errors.items → HasGreatestErrors r count entries g → HasGreatestErrors r count (entries ++ record { place = place; numeral = numeral } ∷ []) g
+word_added r count entries g place numeral word below within rest near h =
+    let W : ℕ → Type 0 = λ f. IsReadWithin NearestEven r f numeral in
+    record {
+      radix = h.radix;
+      most = h.most;
+      count_is = h.count_is;
+      errors = passed_over r 0 entries g.errors.items place numeral word below (λ k less. subst W (omega arith) (subst (λ (q : Radix). IsReadWithin NearestEven q k numeral) h.radix (within k less))) (subst (λ (q : Radix). IsRest q 0 numeral (rest_of_word word)) h.radix rest) near h.errors;
+      near = h.near;
+      passed = h.passed;
+    }
+
+-- the elements of a vector that were all written
+pub all_written : (n : ℕ) (xs ys : List LengthError) → length xs ≡ n → take n (xs ++ drop (length xs) ys) ≡ xs
+all_written n xs ys long = take-append-le n xs (drop (length xs) ys) (omega (arith, long)) ∙ take_all n xs (omega (arith, long))

@@ -1,5 +1,5 @@
 -- The greatest errors of numerals at many fraction lengths, where they are rounded to nearest.
-use Rattle.std.specs.Prelude.{◌≡◌, ℕ, suc, ◌-◌, ◌*◌, ◌^◌, ◌<◌, ◌≤◌, true, false, List, [], ◌∷◌, length}
+use Rattle.std.specs.Prelude.{◌≡◌, ℕ, suc, ◌+◌, ◌-◌, ◌*◌, ◌%◌, ◌^◌, ◌<◌, ◌≤◌, true, false, List, [], ◌∷◌, length, get_or, min}
 use Rattle.fixed_bits.specs.declared.mode.ReadMode.TheVariants.{NearestEven}
 use Rattle.fixed_numeral.specs.Numeral.{base}
 use Rattle.fixed_numeral.specs.Value.{Fraction}
@@ -59,6 +59,15 @@ abbrev pub AreBoundsNearHalf : List LengthError → Type 0
 AreBoundsNearHalf [] = Unit {0}
 AreBoundsNearHalf (e ∷ errors) = (near_half ≤ e.bound) × AreBoundsNearHalf errors
 
+-- the error of a numeral that is so many parts of 10^-18 behind a whole number is below each bound
+abbrev pub AreWordsWithin : ℕ → List LengthError → Type 0
+AreWordsWithin word [] = Unit {0}
+AreWordsWithin word (e ∷ errors) = (min word (10 ^ 18 - word) < e.bound) × AreWordsWithin (2 * word % 10 ^ 18) errors
+
+-- each of these is 0, or one more than such a word
+abbrev pub ArePassed : List ℕ → List LengthError → Type 0
+ArePassed words errors = (k word : ℕ) → get_or words k 0 ≡ word + 1 → AreWordsWithin word errors
+
 -- the greatest errors at the fraction lengths below a count
 pub record HasGreatestErrors (r : Radix) (count : ℕ) (entries : List Entry) (g : GreatestErrors) : Type 0 where
   pub radix : g.radix ≡ r
@@ -66,6 +75,7 @@ pub record HasGreatestErrors (r : Radix) (count : ℕ) (entries : List Entry) (g
   pub count_is : length g.errors.items ≡ count
   pub errors : AreLengthErrors r 0 entries g.errors.items
   pub near : g.are_near_half ≡ true → AreBoundsNearHalf g.errors.items
+  pub passed : ArePassed g.passed g.errors.items
 
 -- this is kept of some numerals
 abbrev pub HasSomeGreatestErrors : GreatestErrors → Type 0

@@ -6,7 +6,7 @@
 //! binary digits tells mostly that it is not as near to that, at any length (module `half`).
 
 ghost use Rattle.std.specs.Prelude.{◌≡◌, ◌<◌, ◌≤◌, ◌+◌, ◌-◌, ◌^◌, ◌++◌, ◌∷◌, [], List, ℕ, OnOk, IfOk};
-ghost use Rattle.std.specs.Prelude.{length, true, min};
+ghost use Rattle.std.specs.Prelude.{length, replicate, true, min};
 ghost use Rattle.fixed_bits.specs.declared.mode.ReadMode.TheVariants.{NearestEven};
 ghost use Rattle.fixed_error.specs.ErrorSize.{IsReadWithin};
 ghost use Rattle.fixed_numeral.specs.Numeral.{IsNumeral};
@@ -14,12 +14,13 @@ ghost use Rattle.fixed_error.specs.Errors.{AreBoundsNearHalf, HasGreatestErrors,
 ghost use Rattle.fixed_error.specs.Errors.{HasSomeLengthError, IsGreatestAt, IsLengthError};
 ghost use Rattle.fixed_error.specs.Greatest.{Entry};
 ghost use Rattle.fixed_error.specs.Inner.Rest.{IsRest};
-ghost use Rattle.fixed_error.specs.Inner.Words.{AreWordsWithin};
+ghost use Rattle.fixed_error.specs.Errors.{ArePassed, AreWordsWithin};
 
 use crate::greatest::GreatestError;
 use crate::half::{MOST_LENGTHS, is_surely_far, word_after};
 use crate::rest::{
-    Behind, Rest, behind_by, bound_of, halved, halved_word, least_of, most_of, near_word, rest_of,
+    Behind, Rest, behind_by, bound_of, halved, halved_word, least_of, most_of, near_word,
+    rest_of_word,
 };
 use fixed_bits::ReadMode;
 use fixed_numeral::Radix;
@@ -82,6 +83,25 @@ pub struct GreatestErrors {
     errors: Vec<LengthError>,
     /// Whether each of the errors is nearly half an ulp.
     are_near_half: bool,
+    /// One more than words that were passed over, each in its slot: 0 where there is none.
+    passed: [u64; SLOTS],
+}
+
+/// How many of the words that were passed over are kept.
+const SLOTS: usize = 256;
+
+/// No word that was passed over.
+fn no_words() -> [u64; SLOTS]
+    ensures { result ≡ replicate 256 0 }
+{
+    [0; SLOTS]
+}
+
+/// The slot of a word: words that lie near together are put far apart.
+fn slot_of(word: u64) -> usize
+    ensures { result < 256 }
+{
+    (word.wrapping_mul(0x9e37_79b9_7f4a_7c15) >> 56) as usize
 }
 
 /// No numeral so far, at a fraction length.
@@ -145,6 +165,7 @@ impl GreatestErrors {
             radix,
             errors,
             are_near_half: false,
+            passed: no_words(),
         })
     }
 
@@ -163,21 +184,73 @@ impl GreatestErrors {
         self.errors.truncate(count as usize);
     }
 
-    /// Whether a numeral that is behind a whole number by a word has surely no greater error than those before it, at
-    /// any fraction length. Once there were many numerals, nearly all are passed over by their digits alone.
-    fn is_passed_over(&self, word: u64) -> bool
+    /// Whether the binary digits of a numeral that is behind a whole number by a word say that it has surely no greater
+    /// error than those before it, at any fraction length. Once there were many numerals, nearly all are passed over so.
+    fn is_passed_by_digits(&self, word: u64) -> bool
         requires word { word < 10 ^ 18 }
         requires near { self.now.are_near_half ≡ true → AreBoundsNearHalf self.now.errors.items }
         ensures { result ≡ true → AreWordsWithin word self.now.errors.items }
     {
-        let looked = self.errors.len().min(MOST_LENGTHS);
-        if self.are_near_half && is_surely_far(word, looked) {
-            if looked == self.errors.len() {
-                return true;
-            }
-            return are_surely_within(&self.errors[looked..], word_after(word));
+        if !self.are_near_half {
+            return false;
         }
-        are_surely_within(&self.errors, word)
+        let looked = self.errors.len().min(MOST_LENGTHS);
+        if looked == self.errors.len() {
+            return is_surely_far(word, looked);
+        }
+        is_surely_far(word, looked) && are_surely_within(&self.errors[looked..], word_after(word))
+    }
+
+    /// Whether a numeral that is behind a whole number by a word has surely no greater error than those before it, at
+    /// any fraction length. The words that were passed over are kept, since many lists have few.
+    fn pass_word(&mut self, word: u64) -> bool
+        requires word { word < 10 ^ 18 }
+        requires near { self.old.are_near_half ≡ true → AreBoundsNearHalf self.old.errors.items }
+        requires passed { ArePassed self.old.passed self.old.errors.items }
+        ensures within { result ≡ true → AreWordsWithin word self.old.errors.items }
+        ensures radix { self.new.radix ≡ self.old.radix }
+        ensures errors { self.new.errors ≡ self.old.errors }
+        ensures near { self.new.are_near_half ≡ self.old.are_near_half }
+        ensures passed { ArePassed self.new.passed self.old.errors.items }
+    {
+        if self.is_passed_by_digits(word) {
+            return true;
+        }
+        let slot = slot_of(word);
+        if self.passed[slot] == word + 1 {
+            return true;
+        }
+        if !are_surely_within(&self.errors, word) {
+            return false;
+        }
+        self.passed[slot] = word + 1;
+        true
+    }
+
+    /// Takes one more numeral, which is that far behind a whole number, and compares it at each length.
+    fn add_rest<L: Ledger>(
+        &mut self,
+        numeral: &[u8],
+        place: u64,
+        rest: Rest,
+        steps: &mut Steps<L>,
+    ) -> Result<(), AllocError>
+        requires known { HasSomeGreatestErrors self.old }
+        requires within { (f : ℕ) → f < length self.old.errors.items
+            → IsReadWithin NearestEven self.old.radix f numeral.now }
+        requires rest { IsRest self.old.radix 0 numeral.now rest }
+        ensures { OnOk result ((r : Radix) (count : ℕ) (entries : List Entry)
+            → HasGreatestErrors r count entries self.old
+            → HasGreatestErrors r count (entries ++ record { place = place; numeral = numeral.now } ∷ []) self.new) }
+    {
+        let mut rest = rest;
+        for error in self.errors.iter_mut() {
+            error.add(numeral, place, rest, steps)?;
+            rest = halved(rest);
+        }
+        self.are_near_half = are_near_half(&self.errors);
+        self.passed = no_words();
+        Ok(())
     }
 
     /// Takes one more numeral, which comes with a place. Memory is taken for the numerals with the greatest errors
@@ -200,19 +273,16 @@ impl GreatestErrors {
             → HasGreatestErrors r count entries self.old
             → HasGreatestErrors r count (entries ++ record { place = place; numeral = numeral.now } ∷ []) self.new) }
     {
-        let behind = behind_by(numeral, self.radix, steps);
-        if let Behind::ByWord(word) = behind {
-            if self.is_passed_over(word) {
-                return Ok(());
+        match behind_by(numeral, self.radix, steps) {
+            Behind::ByWord(word) => {
+                if self.pass_word(word) {
+                    return Ok(());
+                }
+                self.add_rest(numeral, place, rest_of_word(word), steps)?;
+                Ok(())
             }
+            Behind::ByParts(rest) => self.add_rest(numeral, place, rest, steps),
         }
-        let mut rest = rest_of(behind);
-        for error in self.errors.iter_mut() {
-            error.add(numeral, place, rest, steps)?;
-            rest = halved(rest);
-        }
-        self.are_near_half = are_near_half(&self.errors);
-        Ok(())
     }
 
     /// The greatest error at a fraction length.

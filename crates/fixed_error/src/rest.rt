@@ -199,8 +199,8 @@ pub fn behind_by<L: Ledger>(text: &[u8], radix: Radix, steps: &mut Steps<L>) -> 
     }
 }
 
-/// The same where a numeral is behind by a word.
-fn rest_of_word(word: u64) -> Rest
+/// How far a numeral that is behind by a word is behind a whole number, in parts of 10^-36.
+pub fn rest_of_word(word: u64) -> Rest
     ensures { result ≡ rest_of_word word }
 {
     let unit = u128::from(WORD_PARTS);
@@ -211,17 +211,7 @@ fn rest_of_word(word: u64) -> Rest
     }
 }
 
-/// How far a numeral is behind a whole number, whatever is known of it.
-pub fn rest_of(behind: Behind) -> Rest
-    ensures { (r : Radix) (bytes : List ℕ) → IsBehindBy r bytes behind → IsRest r 0 bytes result }
-{
-    match behind {
-        Behind::ByWord(word) => rest_of_word(word),
-        Behind::ByParts(rest) => rest,
-    }
-}
-
-/// The same in ulps half as great.
+/// By which word a numeral that is behind by a word is behind a whole number of ulps half as great.
 pub fn halved_word(word: u64) -> u64
     requires { word < 10 ^ 18 }
     ensures { result ≡ 2 * word % 10 ^ 18 }

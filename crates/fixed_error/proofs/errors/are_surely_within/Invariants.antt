@@ -1,5 +1,5 @@
 use Rattle.std.proofs.Common.{◌<◌, ◌^◌, drop}
-use Rattle.fixed_error.specs.Inner.Words.{AreWordsWithin}
+use Rattle.fixed_error.specs.Errors.{AreWordsWithin}
 use Rattle.fixed_error.proofs.errors.are_surely_within.Given as goal
 
 abbrev pub invariant-loop-error : goal.invariant-loop-error

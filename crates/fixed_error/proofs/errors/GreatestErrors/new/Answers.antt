@@ -1,6 +1,7 @@
-use Rattle.std.proofs.Common.{◌≡◌, ◌++◌, ◌∷◌, [], length, length-append, ap, sym, subst, arith}
+use Rattle.std.proofs.Common.{rules, refl, ◌≡◌, ◌++◌, ◌∷◌, [], length, length-append, ap, sym, subst, arith}
 use Rattle.fixed_error.specs.Errors.{AreLengthErrors}
 use Rattle.fixed_error.proofs.ErrorsLemmas.{error_more}
+use Rattle.fixed_error.proofs.WordLemmas.{none_passed}
 use Rattle.fixed_error.proofs.errors.GreatestErrors.new.Goals as goal
 
 pub loop-frac-preserved : goal.loop-frac-preserved
@@ -12,3 +13,13 @@ loop-frac-preserved c =
       count = omega (arith, ap length items, length-append old (c.no_error.result ∷ []), inv.count);
       errors = subst (AreLengthErrors c.args.radix 0 []) (sym items) (error_more c.args.radix 0 c.loop-frac.frac [] old c.no_error.result (omega (arith, inv.count)) inv.errors c.no_error.ensures);
     }
+
+pub returns : goal.returns
+returns c = record {
+  radix = refl;
+  most = c.requires;
+  count_is = search rules;
+  errors = c.loop-frac.invariant.errors;
+  near = λ no. cc;
+  passed = rw c.no_words.ensures (none_passed 256 c.loop-frac.errors.items);
+}

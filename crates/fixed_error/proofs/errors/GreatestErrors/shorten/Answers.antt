@@ -1,9 +1,9 @@
 use Rattle.std.proofs.Common.{◌≡◌, length, take, ◌∙◌, sym, ap, subst, arith}
 use Rattle.std.specs.Prelude.{min}
 use Rattle.std.proofs.lemmas.List.{length-take}
-use Rattle.fixed_error.specs.Errors.{AreBoundsNearHalf, AreLengthErrors}
+use Rattle.fixed_error.specs.Errors.{AreBoundsNearHalf, AreLengthErrors, AreWordsWithin}
 use Rattle.fixed_error.proofs.ErrorsLemmas.{errors_taken}
-use Rattle.fixed_error.proofs.WordLemmas.{near_taken}
+use Rattle.fixed_error.proofs.WordLemmas.{near_taken, words_taken}
 use Rattle.fixed_error.proofs.errors.GreatestErrors.shorten.Goals as goal
 
 pub returns : goal.returns
@@ -16,5 +16,6 @@ returns c = λ r old entries h.
       most = let most = h.most in omega (arith, most);
       count_is = ap length is ∙ (long ∙ ap (λ n. min c.args.count n) h.count_is);
       errors = subst (AreLengthErrors r 0 entries) (sym is) (errors_taken r 0 entries items c.args.count h.errors);
+      passed = λ k word at. subst (AreWordsWithin word) (sym is) (words_taken word items c.args.count (h.passed k word at));
       near = λ all. subst AreBoundsNearHalf (sym is) (near_taken items c.args.count (h.near all));
     }

@@ -3,7 +3,7 @@ use Rattle.fixed_numeral.specs.declared.radix.Radix.{Radix}
 use Rattle.fixed_error.specs.Errors.{AreLengthErrors}
 use Rattle.fixed_error.specs.Greatest.{Entry}
 use Rattle.fixed_error.specs.Inner.Rest.{IsRest}
-use Rattle.fixed_error.proofs.errors.GreatestErrors.add.Given as goal
+use Rattle.fixed_error.proofs.errors.GreatestErrors.add_rest.Given as goal
 
 abbrev pub invariant-loop-error : goal.invariant-loop-error
 invariant-loop-error g l = record {
