@@ -1,5 +1,5 @@
 -- Words that are an error.
-use Rattle.std.proofs.Common.{◌≡◌, ◌++◌, ◌∙◌, ◌≢◌, ℕ, Bool, true, false, Decides, List, [], ◌∷◌, drop, take, refl, sym, ap, subst}
+use Rattle.std.proofs.Common.{◌≡◌, ◌++◌, ◌∙◌, ◌≢◌, ℕ, Bool, true, false, Decides, List, drop, take, refl, sym, ap, subst}
 use Rattle.std.specs.Prelude.{codes}
 use Rattle.std.specs.Str.{bytes_eq}
 use Rattle.std.proofs.lemmas.Slice.Eq.{bytes_eq-Decides}

@@ -1,5 +1,5 @@
 -- What words ask for is one thing at most.
-use Rattle.std.proofs.Common.{◌≡◌, ℕ, ◌+◌, ◌-◌, ◌<◌, ◌≤◌, ◌^◌, ◌==◌, ◌++◌, Bool, true, false, Option, Some, None, List, [], ◌∷◌, length, get_or, drop, refl, sym, ap, ◌∙◌, subst, arith, inl, inr, suc, zero, if◌then◌else◌, pos, true≢false}
+use Rattle.std.proofs.Common.{◌≡◌, ℕ, ◌+◌, ◌-◌, ◌≤◌, ◌==◌, Bool, true, false, Option, Some, None, List, [], ◌∷◌, length, get_or, refl, sym, ap, ◌∙◌, subst, arith, inl, inr, if◌then◌else◌, true≢false}
 use Rattle.std.specs.Prelude.{codes, is_some, not, ◌&&◌, ◌||◌}
 use Rattle.std.specs.Fmt.{decimal}
 use Rattle.std.specs.List.{after_first, list_any, slice_split}
@@ -17,23 +17,21 @@ use Rattle.fixed_command.specs.Asked.{IsNamed, field_text}
 use Rattle.fixed_command.specs.Layout.{LineLayout}
 use Rattle.fixed_command.specs.declared.field.Empty.{Empty}
 use Rattle.fixed_command.specs.declared.field.Empty.TheVariants.{Kept, Refused, Zero}
-use Rattle.fixed_command.specs.declared.field.FieldForm.{FieldForm}
 use Rattle.fixed_command.specs.declared.print.Print.{Print}
 use Rattle.fixed_command.specs.declared.print.Print.TheVariants.{Places}
 use Rattle.fixed_command.proofs.Public.{names_one}
 use Rattle.fixed_constants.specs.Program.{NamesLanguage}
 use Rattle.fixed_constants.specs.declared.form.Form.{Form}
 use Rattle.fixed_numeral.specs.declared.radix.Radix.{Radix}
-use Rattle.fixed_numeral.specs.declared.radix.Radix.TheVariants.{Bin, Dec, Hex, Oct}
 use Rattle.fixed_pack.specs.declared.endian.Endian.{Endian}
 use Rattle.fixed_pack.specs.declared.endian.Endian.TheVariants.{Big, Little}
 use Rattle.fixed_respell.proofs.Public.{name_one}
 use Rattle.fixed_show.specs.declared.parts.Part.{Part}
-use Rattle.fixed.specs.Columns.{AreColumnWords, AreColumnsAsked, AreColumnsBy, AreColumnsOf, IsColumnWord, IsDecimalWord, IsDelimiterWord, IsDestinationAsked, IsDestinationBy, IsFormAsked, IsOneWord, IsRangeIf, IsRangeWord, IsSkipWord, IsThousandsAsked, empty_text}
-use Rattle.fixed.specs.Constants.{IsArrayAsked, IsArrayWord, IsFormAsked as IsConstantsAsked, IsGuardAsked, IsNameAsked, IsNameBy, IsNumeralsAsked, is_file}
-use Rattle.fixed.specs.Fit.{IsErrorAsked, IsErrorBy, IsErrorNumeral}
-use Rattle.fixed.specs.Laws.{AreApart, AreSameColumns, ColumnsAreTheOnes, ConstantsAreTheOnes, IsOne, IsSameColumn, LinesAreTheOnes, SettingsAreTheOnes}
-use Rattle.fixed.specs.Lines.{IsCommentAsked, IsFieldAsked, IsFormatAsked, IsKindAsked, IsKindWord, IsLayoutAsked, IsPartAsked, IsPartBy, IsTargetAsked, IsTargetBy, is_like_format}
+use Rattle.fixed.specs.Columns.{AreColumnWords, AreColumnsAsked, AreColumnsBy, AreColumnsOf, IsColumnWord, IsDelimiterWord, IsDestinationBy, IsOneWord, IsRangeIf, IsRangeWord, IsSkipWord, IsThousandsAsked, empty_text}
+use Rattle.fixed.specs.Constants.{IsArrayAsked, IsArrayWord, IsFormAsked as IsConstantsAsked, IsGuardAsked, IsNameBy, IsNumeralsAsked, is_file}
+use Rattle.fixed.specs.Fit.{IsErrorAsked, IsErrorBy}
+use Rattle.fixed.specs.Laws.{AreSameColumns, ColumnsAreTheOnes, ConstantsAreTheOnes, IsOne, IsSameColumn, LinesAreTheOnes, SettingsAreTheOnes}
+use Rattle.fixed.specs.Lines.{IsCommentAsked, IsFieldAsked, IsFormatAsked, IsKindAsked, IsKindWord, IsLayoutAsked, IsPartBy, IsTargetAsked, IsTargetBy, is_like_format}
 use Rattle.fixed.specs.Settings.{IsPrintAsked, endian_text}
 use Rattle.fixed.proofs.RangeLemmas.{IsNoDigit, after_mark, digits_of_decimal, one_word_one, range_one}
 

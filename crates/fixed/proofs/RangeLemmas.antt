@@ -1,6 +1,6 @@
 -- Ranges of columns in words.
-use Rattle.std.proofs.Common.{◌≡◌, ◌≢◌, ℕ, ◌+◌, ◌^◌, ◌<◌, Bool, List, [], ◌∷◌, ◌++◌, length, get_or, sym, ap, subst, arith, suc, drop, take, refl, ◌∙◌, inl, inr, true, false, length-append}
-use Rattle.std.proofs.Common.{ne_eqb, eq-eqb, eqb-true, ◌⊎◌}
+use Rattle.std.proofs.Common.{◌≡◌, ◌≢◌, ℕ, ◌+◌, ◌^◌, ◌<◌, List, [], ◌∷◌, ◌++◌, length, get_or, sym, ap, subst, arith, suc, drop, take, refl, ◌∙◌, inl, inr, false, length-append}
+use Rattle.std.proofs.Common.{ne_eqb, eq-eqb, eqb-true}
 use Rattle.std.proofs.Math.ListN.{get_or-append}
 use Rattle.std.specs.Prelude.{MatchOption, None, Option, Some, ◌==◌}
 use Rattle.std.specs.Fmt.{decimal}

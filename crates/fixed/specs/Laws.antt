@@ -1,5 +1,5 @@
 -- What words ask for is one thing at most.
-use Rattle.std.specs.Prelude.{◌≡◌, ℕ, Bool, List, [], ◌∷◌, None, Option, Some, string_bytes}
+use Rattle.std.specs.Prelude.{◌≡◌, ℕ, Bool, List, [], ◌∷◌, Option, string_bytes}
 use Rattle.column_engine.specs.declared.columns.Column.{Column}
 use Rattle.column_engine.specs.declared.columns.Column.TheVariants.{At, Named}
 use Rattle.column_engine.specs.declared.columns.Destination.{Destination}
@@ -9,15 +9,14 @@ use Rattle.fixed_arrays.specs.declared.form.ArrayForm.{ArrayForm}
 use Rattle.fixed_arrays.specs.declared.rule.Numerals.{Numerals}
 use Rattle.fixed_bits.specs.Formats.{FormatParts}
 use Rattle.fixed_command.specs.Layout.{LineLayout}
-use Rattle.fixed_command.specs.declared.field.Empty.{Empty}
 use Rattle.fixed_command.specs.declared.field.FieldForm.{FieldForm}
 use Rattle.fixed_command.specs.declared.print.Print.{Print}
 use Rattle.fixed_constants.specs.declared.form.Form.{Form}
 use Rattle.fixed_numeral.specs.declared.radix.Radix.{Radix}
 use Rattle.fixed_pack.specs.declared.endian.Endian.{Endian}
 use Rattle.fixed_show.specs.declared.parts.Part.{Part}
-use Rattle.fixed.specs.Columns.{AreColumnsAsked, IsDecimalWord, IsDelimiterWord, IsDestinationAsked, IsFormAsked}
-use Rattle.fixed.specs.Columns.{IsRangeWord, IsSkipWord, IsThousandsAsked, empty_text}
+use Rattle.fixed.specs.Columns.{AreColumnsAsked, IsDelimiterWord, IsDestinationAsked, IsFormAsked}
+use Rattle.fixed.specs.Columns.{IsRangeWord, IsSkipWord}
 use Rattle.fixed.specs.Constants.{IsArrayAsked, IsFormAsked as IsConstantsAsked, IsGuardAsked, IsNameAsked}
 use Rattle.fixed.specs.Constants.{IsNumeralsAsked}
 use Rattle.fixed.specs.Fit.{IsErrorAsked}

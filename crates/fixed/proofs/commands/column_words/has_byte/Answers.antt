@@ -1,4 +1,4 @@
-use Rattle.std.proofs.Common.{rules, tests, ◌==◌, ◌||◌, ◌&&◌, ℕ}
+use Rattle.std.proofs.Common.{rules, tests, ◌==◌, ℕ}
 use Rattle.std.proofs.lemmas.Iterator.{YieldsList-from_slice}
 use Rattle.std.proofs.lemmas.Iterator.Search.{any_from_yields_List}
 use Rattle.fixed.proofs.commands.column_words.has_byte.Goals as goal

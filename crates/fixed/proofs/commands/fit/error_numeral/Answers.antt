@@ -1,4 +1,4 @@
-use Rattle.std.proofs.Common.{◌∙◌, List, ℕ, subst, sym, refl, true≢false}
+use Rattle.std.proofs.Common.{◌∙◌, subst, sym, refl, true≢false}
 use Rattle.fixed_numeral.specs.Numeral.{IsNumeral}
 use Rattle.fixed.proofs.ErrorLemmas.{error_plain, plain_error}
 use Rattle.fixed.proofs.commands.fit.error_numeral.Goals as goal

@@ -1,4 +1,4 @@
-use Rattle.std.proofs.Common.{◌≡◌, ◌+◌, ◌∙◌, arith, sym}
+use Rattle.std.proofs.Common.{◌∙◌, arith, sym}
 use Rattle.std.proofs.lemmas.Fmt.{decimal_injective}
 use Rattle.fixed.proofs.commands.fit.kind_named.Goals as goal
 use Rattle.fixed.proofs.commands.fit.kind_named.Goals.{in_default-via-in-Some+else-width-gt0, in_default-via-in_default}

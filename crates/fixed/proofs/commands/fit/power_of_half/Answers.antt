@@ -1,6 +1,6 @@
-use Rattle.std.proofs.Common.{◌∙◌, ◌++◌, [], ◌∷◌, List, ℕ, ap, arith, subst, sym}
+use Rattle.std.proofs.Common.{◌∙◌, ◌++◌, [], ◌∷◌, List, ℕ, ap, subst, sym}
 use Rattle.fixed.specs.Inner.Fractions.{IsFraction}
-use Rattle.fixed.proofs.FractionLemmas.{first_power, next_power}
+use Rattle.fixed.proofs.FractionLemmas.{first_power}
 use Rattle.fixed.proofs.commands.fit.power_of_half.Goals as goal
 
 pub halves-init : goal.halves-init
