@@ -1,8 +1,8 @@
 -- Errors of a numeral that is behind a whole number by a word.
-use Rattle.std.proofs.Common.{Vec, Global, ◌≡◌, ◌⊎◌, ℕ, suc, ◌+◌, ◌-◌, ◌*◌, ◌%◌, ◌^◌, ◌<◌, ◌≤◌, zero, List, [], ◌∷◌, ◌++◌, length, replicate, take, drop, get_or, refl, sym, ap, ◌∙◌, subst, arith, ⊎_elim, inl, inr, drop-cons}
+use Rattle.std.proofs.Common.{Vec, Global, ◌≡◌, ◌⊎◌, ℕ, suc, ◌+◌, ◌-◌, ◌*◌, ◌%◌, ◌^◌, ◌<◌, ◌≤◌, zero, List, [], ◌∷◌, ◌++◌, length, replicate, set, take, drop, get_or, refl, sym, ap, ◌∙◌, subst, arith, ⊎_elim, inl, inr, drop-cons}
 use Rattle.std.specs.Prelude.{min}
 use Rattle.std.proofs.lemmas.Bool.{cases_lt}
-use Rattle.std.proofs.lemmas.List.{drop_all, length-drop, take-append-le, take_all}
+use Rattle.std.proofs.lemmas.List.{drop_all, length-drop, set-get_or, take-append-le, take_all}
 use Rattle.fixed_bits.specs.declared.mode.ReadMode.TheVariants.{NearestEven}
 use Rattle.fixed_numeral.specs.declared.radix.Radix.{Radix}
 use Rattle.fixed_error.specs.ErrorSize.{IsReadWithin}
@@ -150,3 +150,7 @@ word_added r count entries g place numeral word below within rest near h =
 -- the elements of a vector that were all written
 pub all_written : (n : ℕ) (xs ys : List LengthError) → length xs ≡ n → take n (xs ++ drop (length xs) ys) ≡ xs
 all_written n xs ys long = take-append-le n xs (drop (length xs) ys) (omega (arith, long)) ∙ take_all n xs (omega (arith, long))
+
+-- an element that stays the same
+pub unchanged : (xs initial : List LengthError) (k : ℕ) (d new : LengthError) → new ≡ get_or xs k d → xs ≡ initial → set xs k new ≡ initial
+unchanged xs initial k d new same old = ap (λ e. set xs k e) same ∙ set-get_or xs k d ∙ old

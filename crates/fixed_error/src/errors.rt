@@ -6,7 +6,7 @@
 //! binary digits tells mostly that it is not as near to that, at any length (module `half`).
 
 ghost use Rattle.std.specs.Prelude.{◌≡◌, ◌<◌, ◌≤◌, ◌+◌, ◌-◌, ◌^◌, ◌++◌, ◌∷◌, [], List, ℕ, OnOk, IfOk};
-ghost use Rattle.std.specs.Prelude.{length, replicate, true, min};
+ghost use Rattle.std.specs.Prelude.{length, replicate, true, false, min, ◌||◌};
 ghost use Rattle.fixed_bits.specs.declared.mode.ReadMode.TheVariants.{NearestEven};
 ghost use Rattle.fixed_error.specs.ErrorSize.{IsReadWithin};
 ghost use Rattle.fixed_numeral.specs.Numeral.{IsNumeral};
@@ -51,27 +51,28 @@ impl LengthError {
         self.greatest.is_some() && most_of(rest) <= self.least
     }
 
-    /// Takes one more numeral, which is that far behind a whole number of ulps.
+    /// Takes one more numeral, which is that far behind a whole number of ulps, and says whether that changed anything.
     fn add<L: Ledger>(
         &mut self,
         numeral: &[u8],
         place: u64,
         rest: Rest,
         steps: &mut Steps<L>,
-    ) -> Result<(), AllocError>
+    ) -> Result<bool, AllocError>
         requires known { HasSomeLengthError self.old }
         requires within { IsReadWithin NearestEven self.old.greatest.radix self.old.greatest.frac numeral.now }
         requires rest { IsRest self.old.greatest.radix self.old.greatest.frac numeral.now rest }
-        ensures { OnOk result ((r : Radix) (f : ℕ) (entries : List Entry) → IsLengthError r f entries self.old
+        ensures added { OnOk result ((r : Radix) (f : ℕ) (entries : List Entry) → IsLengthError r f entries self.old
             → IsLengthError r f (entries ++ record { place = place; numeral = numeral.now } ∷ []) self.new) }
+        ensures same { IfOk result (λ is_changed. is_changed ≡ false → self.new ≡ self.old) }
     {
         if self.is_surely_within(rest) {
-            return Ok(());
+            return Ok(false);
         }
         self.greatest.add(numeral, place, steps)?;
         self.least = self.least.max(least_of(rest));
         self.bound = bound_of(self.least);
-        Ok(())
+        Ok(true)
     }
 }
 
@@ -102,6 +103,13 @@ fn slot_of(word: u64) -> usize
     ensures { result < 256 }
 {
     (word.wrapping_mul(0x9e37_79b9_7f4a_7c15) >> 56) as usize
+}
+
+/// Whether one of two holds.
+fn is_either(one: bool, other: bool) -> bool
+    ensures { result ≡ (one || other) }
+{
+    one || other
 }
 
 /// No numeral so far, at a fraction length.
@@ -244,9 +252,14 @@ impl GreatestErrors {
             → HasGreatestErrors r count (entries ++ record { place = place; numeral = numeral.now } ∷ []) self.new) }
     {
         let mut rest = rest;
+        let mut is_changed = false;
         for error in self.errors.iter_mut() {
-            error.add(numeral, place, rest, steps)?;
+            let changes = error.add(numeral, place, rest, steps)?;
+            is_changed = is_either(is_changed, changes);
             rest = halved(rest);
+        }
+        if !is_changed {
+            return Ok(());
         }
         self.are_near_half = are_near_half(&self.errors);
         self.passed = no_words();

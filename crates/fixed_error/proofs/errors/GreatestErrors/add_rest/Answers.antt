@@ -1,14 +1,15 @@
-use Rattle.std.proofs.Common.{rules, ◌≡◌, suc, ◌+◌, ◌^◌, ◌<◌, ◌≤◌, ◌++◌, ◌∷◌, [], length, take, get_or, ◌∙◌, ℕ, refl, sym, ap, subst, arith}
+use Rattle.std.proofs.Common.{rules, ◌||◌, Bool, true, false, ◌≡◌, suc, ◌+◌, ◌^◌, ◌<◌, ◌≤◌, ◌++◌, ◌∷◌, [], length, take, get_or, ◌∙◌, ℕ, refl, sym, ap, subst, arith}
 use Rattle.std.proofs.lemmas.List.{drop-set-lt, length-set, length-take, take_all, take_more_set}
+use Rattle.std.proofs.lemmas.Bool.{false≢true}
 use Rattle.std.specs.Prelude.{min}
 use Rattle.fixed_bits.specs.declared.mode.ReadMode.TheVariants.{NearestEven}
 use Rattle.fixed_numeral.specs.declared.radix.Radix.{Radix}
 use Rattle.fixed_error.specs.ErrorSize.{IsReadWithin}
-use Rattle.fixed_error.specs.Errors.{AreLengthErrors}
+use Rattle.fixed_error.specs.Errors.{AreBoundsNearHalf, AreLengthErrors, ArePassed}
 use Rattle.fixed_error.specs.Greatest.{Entry}
 use Rattle.fixed_error.specs.Inner.Rest.{IsBehindBy, IsRest, rest_of_word}
 use Rattle.fixed_error.proofs.ErrorsLemmas.{element, error_more, left_one_less, rest_moved, some_error, within_moved}
-use Rattle.fixed_error.proofs.WordLemmas.{all_written, none_passed}
+use Rattle.fixed_error.proofs.WordLemmas.{all_written, none_passed, unchanged}
 use Rattle.fixed_error.proofs.RestLemmas.{parts_most, power_within, rest_halved}
 use Rattle.fixed_error.proofs.errors.GreatestErrors.add_rest.Goals as goal
 
@@ -57,6 +58,10 @@ halved-rest-requires-clause-slack g c =
     let m : 2 ^ (k + 3) ≤ 2 ^ 67 = power_within 2 (k + 3) 67 (omega arith) most in
     omega (arith, few, m)
 
+neither : (one other : Bool) → (one || other) ≡ false → (one ≡ false) × (other ≡ false)
+neither true other e = absurd (false≢true (sym e))
+neither false other e = (refl, e)
+
 pub loop-error-preserved : goal.loop-error-preserved
 loop-error-preserved g c =
     let inv = c.loop-error.invariant in
@@ -68,13 +73,36 @@ loop-error-preserved g c =
     let less : k < length items = let test = c.loop-error-test.true in omega (arith, test, inv.long) in
     record {
       rest = subst (λ f. IsRest c.args.self.now.radix f c.args.numeral.now c.halved-rest.result) next (rest_halved c.args.self.now.radix k c.args.numeral.now c.loop-error.rest c.halved-rest.result inv.rest c.halved-rest.ensures.one c.halved-rest.ensures.rest c.halved-rest.ensures.below c.halved-rest.ensures.slack);
+      same = λ is.
+          let either = neither c.loop-error.is_changed c.in_ok-changes.changes (sym c.is_either-is_changed.ensures ∙ is) in
+          unchanged items initial k c.error-item.result new (c.in_ok-changes.ensures.same either.1) (inv.same either.0);
       long = length-set items k new ∙ inv.long;
       left = drop-set-lt (k + 1) items k new (omega arith) ∙ left_one_less items initial k inv.left;
       done = λ r entries all.
           let e : Entry = record { place = c.args.place; numeral = c.args.numeral.now } in
           let at = element r entries items initial k c.error-item.result less inv.long inv.left all in
-          let grown = c.in_ok-add.ensures r k entries at in
+          let grown = c.in_ok-changes.ensures.added r k entries at in
           subst (AreLengthErrors r 0 (entries ++ e ∷ [])) (sym (take_more_set items k new less)) (error_more r 0 k (entries ++ e ∷ []) (take k items) new (let long : length (take k items) ≡ min k (length items) = length-take k items in omega (arith, long, less)) (inv.done r entries all) grown);
+    }
+
+pub returns-then-not-is_changed : goal.returns-then-not-is_changed
+returns-then-not-is_changed g c = λ r count entries h.
+    let inv = c.loop-error.invariant in
+    let items = c.loop-error.error-items in
+    let k = c.loop-error.error-index in
+    let entry : Entry = record { place = c.args.place; numeral = c.args.numeral.now } in
+    let long : length items ≡ c.args.self.now.errors.len = inv.long ∙ c.deref_mut-error-items.ensures.len in
+    let all = subst (AreLengthErrors r 0 entries) (sym c.deref_mut-error-items.ensures.value) h.errors in
+    let done : take k items ≡ items = take_all k items (let test = c.loop-error-test.false in omega (arith, test, inv.long)) in
+    let whole = all_written c.args.self.now.errors.len items c.args.self.now.errors.items long in
+    let same = whole ∙ inv.same c.if-not-is_changed.true ∙ c.deref_mut-error-items.ensures.value in
+    record {
+      radix = h.radix;
+      most = h.most;
+      count_is = ap length same ∙ h.count_is;
+      errors = subst (AreLengthErrors r 0 (entries ++ entry ∷ [])) (done ∙ sym whole) (inv.done r entries all);
+      near = λ is. subst AreBoundsNearHalf (sym same) (h.near is);
+      passed = subst (ArePassed c.args.self.now.passed) (sym same) h.passed;
     }
 
 pub returns : goal.returns

@@ -15,16 +15,16 @@ is_surely_within-requires-clause-slack g c =
     let m : 2 ^ (f + 3) ≤ 2 ^ 67 = power_within 2 (f + 3) 67 (omega arith) (omega (arith, most)) in
     omega (arith, few, m)
 
-pub returns-then-is_surely_within : goal.returns-then-is_surely_within
-returns-then-is_surely_within g c = λ r f entries h.
+pub returns-then-is_surely_within-clause-added : goal.returns-then-is_surely_within-clause-added
+returns-then-is_surely_within-clause-added g c = λ r f entries h.
     let old = c.args.self.now.greatest in
     nothing_greater r f entries c.args.self.now c.args.place c.args.numeral.now c.args.rest
     (within_moved old.radix r old.frac f c.args.numeral.now h.is_greatest.radix h.is_greatest.frac c.requires.within)
     (rest_moved old.radix r old.frac f c.args.numeral.now c.args.rest h.is_greatest.radix h.is_greatest.frac c.requires.rest)
     (c.is_surely_within.ensures.some c.if-is_surely_within.true) (c.is_surely_within.ensures.within c.if-is_surely_within.true) h
 
-pub returns : goal.returns
-returns g c = λ r f entries h.
+pub returns-clause-added : goal.returns-clause-added
+returns-clause-added g c = λ r f entries h.
     let old = c.args.self.now.greatest in
     let added = c.in_ok-add.ensures in
     one_more_error r f entries c.args.self.now c.args.place c.args.numeral.now c.args.rest c.add.new.self c.max-self.result c.bound_of-self.result
