@@ -17,7 +17,7 @@ ghost use Rattle.fixed_error.specs.Inner.Rest.{IsRest};
 ghost use Rattle.fixed_error.specs.Errors.{ArePassed, AreWordsWithin};
 
 use crate::greatest::GreatestError;
-use crate::half::{MOST_LENGTHS, is_surely_far, word_after};
+use crate::half::{MOST_LENGTHS, binary_digits, is_surely_far, word_after};
 use crate::rest::{
     Behind, Rest, behind_by, bound_of, halved, halved_word, least_of, most_of, near_word,
     rest_of_word,
@@ -89,20 +89,21 @@ pub struct GreatestErrors {
 }
 
 /// How many of the words that were passed over are kept.
-const SLOTS: usize = 256;
+const SLOTS: usize = 1024;
 
 /// No word that was passed over.
 fn no_words() -> [u64; SLOTS]
-    ensures { result ≡ replicate 256 0 }
+    ensures { result ≡ replicate 1024 0 }
 {
     [0; SLOTS]
 }
 
-/// The slot of a word: words that lie near together are put far apart.
+/// The slot of a word: its first ten binary digits, so that no two decimals of at most three places have the same.
 fn slot_of(word: u64) -> usize
-    ensures { result < 256 }
+    requires { word < 10 ^ 18 }
+    ensures { result < 1024 }
 {
-    (word.wrapping_mul(0x9e37_79b9_7f4a_7c15) >> 56) as usize
+    (binary_digits(word) >> 54) as usize
 }
 
 /// Whether one of two holds.

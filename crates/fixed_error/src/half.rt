@@ -12,7 +12,7 @@ ghost use Rattle.fixed_error.specs.Inner.Words.{IsFarFromHalf};
 const RECIPROCAL: u64 = 10_633_823_966_279_326_983;
 
 /// The first 64 binary digits after the point of so many parts of 10^-18, or a number that is less by few.
-fn binary_digits(word: u64) -> u64
+pub fn binary_digits(word: u64) -> u64
     requires { word < 10 ^ 18 }
     ensures least { result * 10 ^ 18 ≤ word * 2 ^ 64 }
     ensures most { word * 2 ^ 64 < (result + 3) * 10 ^ 18 }

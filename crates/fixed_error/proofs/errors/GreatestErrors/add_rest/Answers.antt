@@ -121,5 +121,5 @@ returns g c = λ r count entries h.
       count_is = search rules;
       errors = subst (AreLengthErrors r 0 (entries ++ entry ∷ [])) (done ∙ sym whole) (inv.done r entries all);
       near = search rules;
-      passed = rw c.no_words-self.ensures (none_passed 256 _);
+      passed = rw c.no_words-self.ensures (none_passed 1024 _);
     }

@@ -21,5 +21,5 @@ returns c = record {
   count_is = search rules;
   errors = c.loop-frac.invariant.errors;
   near = λ no. cc;
-  passed = rw c.no_words.ensures (none_passed 256 c.loop-frac.errors.items);
+  passed = rw c.no_words.ensures (none_passed 1024 c.loop-frac.errors.items);
 }
