@@ -5,9 +5,9 @@ use Rattle.std.specs.Str.{bytes_eq}
 use Rattle.std.proofs.lemmas.Slice.Eq.{bytes_eq-Decides}
 use Rattle.std.proofs.lemmas.List.{take-append-drop}
 use Rattle.fixed_numeral.specs.declared.radix.Radix.{Radix}
-use Rattle.fixed.specs.Fit.{IsErrorBy, IsErrorNumeral, IsPowerWord}
+use Rattle.fixed.specs.Fit.{IsErrorBy, IsErrorNumeral}
 
--- whether a word begins so
+-- whether a word is to be a power
 abbrev is_power : List ℕ → Bool
 is_power word = bytes_eq (take 3 word) (codes "2^-")
 
@@ -18,14 +18,7 @@ no_power word never = by (is_power word) (bytes_eq-Decides (take 3 word) (codes 
     by false d = refl
     by true d = absurd (never (drop 3 word) (sym (take-append-drop 3 word) ∙ ap (λ (l : List ℕ). l ++ drop 3 word) (d.0 refl)))
 
--- a word after that prefix
-pub power_error : (radix : Radix) (word rest numeral : List ℕ) → word ≡ codes "2^-" ++ rest → IsPowerWord radix rest numeral → IsErrorNumeral radix word numeral
-power_error radix word rest numeral e x = subst (λ (l : List ℕ). IsErrorNumeral radix l numeral) (sym e) x
-
-pub error_power : (radix : Radix) (word rest numeral : List ℕ) → word ≡ codes "2^-" ++ rest → IsErrorNumeral radix word numeral → IsPowerWord radix rest numeral
-error_power radix word rest numeral e x = subst (λ (l : List ℕ). IsErrorNumeral radix l numeral) e x
-
--- another word
+-- such a word is an error just where it is a numeral without a minus
 pub plain_error : (radix : Radix) (word numeral : List ℕ) → ((rest : List ℕ) → word ≢ codes "2^-" ++ rest) → IsErrorBy false radix word numeral
     → IsErrorNumeral radix word numeral
 plain_error radix word numeral never x = subst (λ (is : Bool). IsErrorBy is radix word numeral) (sym (no_power word never)) x
