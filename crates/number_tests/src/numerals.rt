@@ -12,23 +12,24 @@ use support::{
 
 #[test]
 fn point_is_moved_and_zeros_are_stripped(rt: HostRuntime) {
-    for (radix, text, want) in &[
-        (Radix::Dec, "12.5", spelled_by("12", "5", 0)),
-        (Radix::Dec, ".5", spelled_by("", "5", 0)),
-        (Radix::Dec, "5.", spelled_by("5", "", 0)),
-        (Radix::Dec, "+0012.500", spelled_by("12", "5", 0)),
-        (Radix::Dec, "1.5e2", spelled_by("150", "", 0)),
-        (Radix::Dec, "1.5E-2", spelled_by("", "015", 0)),
-        (Radix::Dec, "00.050@1", spelled_by("", "5", 0)),
-        (Radix::Dec, "0.00e9", spelled_by("", "", 0)),
-        (Radix::Bin, "101.1p1", spelled_by("1011", "", 0)),
-        (Radix::Oct, "0.1p1", spelled_by("", "1", 1)),
-        (Radix::Oct, "7p-1", spelled_by("", "7", 2)),
-        (Radix::Hex, "a.8p5", spelled_by("a8", "", 1)),
-        (Radix::Hex, "A.8P-5", spelled_by("", "0a8", 3)),
-        (Radix::Hex, "1e5", spelled_by("1e5", "", 0)),
+    for (radix, text, whole, fraction, bits) in &[
+        (Radix::Dec, "12.5", "12", "5", 0),
+        (Radix::Dec, ".5", "", "5", 0),
+        (Radix::Dec, "5.", "5", "", 0),
+        (Radix::Dec, "+0012.500", "12", "5", 0),
+        (Radix::Dec, "1.5e2", "150", "", 0),
+        (Radix::Dec, "1.5E-2", "", "015", 0),
+        (Radix::Dec, "00.050@1", "", "5", 0),
+        (Radix::Dec, "0.00e9", "", "", 0),
+        (Radix::Bin, "101.1p1", "1011", "", 0),
+        (Radix::Oct, "0.1p1", "", "1", 1),
+        (Radix::Oct, "7p-1", "", "7", 2),
+        (Radix::Hex, "a.8p5", "a8", "", 1),
+        (Radix::Hex, "A.8P-5", "", "0a8", 3),
+        (Radix::Hex, "1e5", "1e5", "", 0),
     ] {
-        assert!(rt; reads(*radix, text, *want), "at {text}");
+        let want = spelled_by(whole, fraction, *bits);
+        assert!(rt; reads(*radix, text, want), "at {text}");
     }
     let negative = Views {
         neg: true,
@@ -152,17 +153,18 @@ fn digits_are_taken_in_bulk(rt: HostRuntime) {
 
 #[test]
 fn literals_are_read(rt: HostRuntime) {
-    for (text, radix, want) in &[
-        ("0b_111e-2", Radix::Bin, spelled_by("1", "11", 0)),
-        ("0_.017_5_e+0_2", Radix::Dec, spelled_by("1", "75", 0)),
-        ("0o7p-2", Radix::Oct, spelled_by("", "7", 1)),
-        ("0x0.1C@1", Radix::Hex, spelled_by("1", "c", 0)),
-        ("0.127_5e2", Radix::Dec, spelled_by("12", "75", 0)),
-        ("0x_18@-1", Radix::Hex, spelled_by("1", "8", 0)),
-        ("1__0", Radix::Dec, spelled_by("10", "", 0)),
-        ("256", Radix::Dec, spelled_by("256", "", 0)),
+    for (text, radix, whole, fraction, bits) in &[
+        ("0b_111e-2", Radix::Bin, "1", "11", 0),
+        ("0_.017_5_e+0_2", Radix::Dec, "1", "75", 0),
+        ("0o7p-2", Radix::Oct, "", "7", 1),
+        ("0x0.1C@1", Radix::Hex, "1", "c", 0),
+        ("0.127_5e2", Radix::Dec, "12", "75", 0),
+        ("0x_18@-1", Radix::Hex, "1", "8", 0),
+        ("1__0", Radix::Dec, "10", "", 0),
+        ("256", Radix::Dec, "256", "", 0),
     ] {
-        assert!(rt; literal(false, text, *radix, *want), "at {text}");
+        let want = spelled_by(whole, fraction, *bits);
+        assert!(rt; literal(false, text, *radix, want), "at {text}");
     }
     let negative = Views {
         neg: true,

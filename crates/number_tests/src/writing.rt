@@ -59,25 +59,29 @@ fn field(width: u16, fill: char, align: Align) -> Style {
 #[test]
 fn plain_and_rounded_texts(rt: HostRuntime) {
     let rows = [
-        (25, 8, places(Notation::Dec, 3), "0.098"),
-        (77, 8, places(Notation::LowerExp, 0), "3e-1"),
-        (-4, 4, places(Notation::Dec, 0), "-0"),
-        (51, 4, Style::plain(Notation::Bin), "11.0011"),
-        (51, 4, Style::plain(Notation::Oct), "3.14"),
-        (51, 4, Style::plain(Notation::LowerHex), "3.3"),
-        (51, 4, places(Notation::Bin, 2), "11.01"),
-        (255, 8, places(Notation::UpperHex, 1), "1.0"),
-        (255, 0, Style::plain(Notation::UpperHex), "FF"),
-        (40, 4, places(Notation::Oct, 0), "2"),
-        (1200, 0, Style::plain(Notation::LowerExp), "1.2e3"),
-        (1250, 0, places(Notation::UpperExp, 1), "1.2E3"),
-        (999, 0, places(Notation::LowerExp, 1), "1.0e3"),
-        (0, 0, places(Notation::LowerExp, 2), "0.00e0"),
-        (25, 8, Style::plain(Notation::LowerExp), "9.8e-2"),
+        (25, 8, Notation::Dec, Some(3), "0.098"),
+        (77, 8, Notation::LowerExp, Some(0), "3e-1"),
+        (-4, 4, Notation::Dec, Some(0), "-0"),
+        (51, 4, Notation::Bin, None, "11.0011"),
+        (51, 4, Notation::Oct, None, "3.14"),
+        (51, 4, Notation::LowerHex, None, "3.3"),
+        (51, 4, Notation::Bin, Some(2), "11.01"),
+        (255, 8, Notation::UpperHex, Some(1), "1.0"),
+        (255, 0, Notation::UpperHex, None, "FF"),
+        (40, 4, Notation::Oct, Some(0), "2"),
+        (1200, 0, Notation::LowerExp, None, "1.2e3"),
+        (1250, 0, Notation::UpperExp, Some(1), "1.2E3"),
+        (999, 0, Notation::LowerExp, Some(1), "1.0e3"),
+        (0, 0, Notation::LowerExp, Some(2), "0.00e0"),
+        (25, 8, Notation::LowerExp, None, "9.8e-2"),
     ];
-    for (bits, frac, style, wanted) in &rows {
+    for (bits, frac, notation, precision, wanted) in &rows {
+        let style = Style {
+            precision: *precision,
+            ..Style::plain(*notation)
+        };
         assert_eq!(rt;
-            shows(rt.alloc(), *bits, *frac, style, wanted),
+            shows(rt.alloc(), *bits, *frac, &style, wanted),
             Ok(true),
             "{wanted}"
         );
