@@ -29,6 +29,15 @@ pub(crate) fn small_word(word: &str) -> Option<u32>
     }
 }
 
+/// The bits that the next word spells, and the fraction length that the one after it does.
+pub(crate) fn number_words(words: &mut Split<'_, char>) -> Option<(i128, u32)>
+    ensures { IfSome result (λ number. IsWide number.0 × number.1 ≤ 64) }
+{
+    let bits = bits_word(words.next()?)?;
+    let frac = small_word(words.next()?)?;
+    Some((bits, frac))
+}
+
 /// The base that a word names.
 pub(crate) fn base_word(word: &str) -> Option<Base> {
     match word {

@@ -7,7 +7,7 @@
 //! - `shortest BITS FRAC`
 //! - `integer BITS`
 
-use crate::style_words::{base_word, bits_word, small_word, style_words};
+use crate::style_words::{base_word, bits_word, number_words, small_word, style_words};
 use fixed_steps::Steps;
 use fixed_write::{push_decimal, push_exact, push_integer, push_shortest, to_text};
 use std::alloc::{AllocError, Global};
@@ -58,10 +58,7 @@ fn styled(alloc: Global, words: &mut Split<'_, char>) -> Result<Vec<u8>, AllocEr
     let Some(style) = style_words(words) else {
         return Vec::from_slice(alloc, BAD_LINE);
     };
-    let Some(bits) = bits_word(words.next().unwrap_or("")) else {
-        return Vec::from_slice(alloc, BAD_LINE);
-    };
-    let Some(frac) = small_word(words.next().unwrap_or("")) else {
+    let Some((bits, frac)) = number_words(words) else {
         return Vec::from_slice(alloc, BAD_LINE);
     };
     match to_text(alloc, bits, frac, &style) {
@@ -77,24 +74,45 @@ fn in_place<L: Ledger>(
     place: &mut Place,
     steps: &mut Steps<L>,
 ) -> Option<()> {
-    place.clear();
     match call {
-        "integer" => push_integer(place, bits_word(words.next()?)?),
-        "shortest" => {
-            let bits = bits_word(words.next()?)?;
-            push_shortest(place, bits, small_word(words.next()?)?, steps);
-        }
-        "decimal" => {
-            let places = small_word(words.next()?)?;
-            let bits = bits_word(words.next()?)?;
-            push_decimal(place, bits, small_word(words.next()?)?, places);
-        }
-        "exact" => {
-            let base = base_word(words.next()?)?;
-            let bits = bits_word(words.next()?)?;
-            push_exact(place, bits, small_word(words.next()?)?, base);
-        }
-        _ => return None,
+        "integer" => integer_in_place(words, place),
+        "shortest" => shortest_in_place(words, place, steps),
+        "decimal" => decimal_in_place(words, place),
+        "exact" => exact_in_place(words, place),
+        _ => None,
     }
+}
+
+fn integer_in_place(words: &mut Split<'_, char>, place: &mut Place) -> Option<()> {
+    let bits = bits_word(words.next()?)?;
+    place.clear();
+    push_integer(place, bits);
+    Some(())
+}
+
+fn shortest_in_place<L: Ledger>(
+    words: &mut Split<'_, char>,
+    place: &mut Place,
+    steps: &mut Steps<L>,
+) -> Option<()> {
+    let (bits, frac) = number_words(words)?;
+    place.clear();
+    push_shortest(place, bits, frac, steps);
+    Some(())
+}
+
+fn decimal_in_place(words: &mut Split<'_, char>, place: &mut Place) -> Option<()> {
+    let places = small_word(words.next()?)?;
+    let (bits, frac) = number_words(words)?;
+    place.clear();
+    push_decimal(place, bits, frac, places);
+    Some(())
+}
+
+fn exact_in_place(words: &mut Split<'_, char>, place: &mut Place) -> Option<()> {
+    let base = base_word(words.next()?)?;
+    let (bits, frac) = number_words(words)?;
+    place.clear();
+    push_exact(place, bits, frac, base);
     Some(())
 }
