@@ -2,8 +2,9 @@
 //!
 //! A numeral rarely has a greater error than those before it. So its error is first bounded by its first digits, at
 //! each length from that at the one before, and compared exactly only where the bound is above what is known. For a
-//! decimal of at most 18 places a word holds all of them; and once each error is nearly half an ulp, one look at its
-//! binary digits tells mostly that it is not as near to that, at any length (module `half`).
+//! decimal of at most 18 places a word holds all of them. Once each error is nearly half an ulp, one look at its binary
+//! digits tells mostly that it is not as near to that, at any length (module `half`). And the words that were passed
+//! over are kept, since many lists have few.
 
 ghost use Rattle.std.specs.Prelude.{◌≡◌, ◌<◌, ◌≤◌, ◌+◌, ◌-◌, ◌^◌, ◌++◌, ◌∷◌, [], List, ℕ, OnOk, IfOk};
 ghost use Rattle.std.specs.Prelude.{length, replicate, true, false, min, ◌||◌};
@@ -194,7 +195,8 @@ impl GreatestErrors {
     }
 
     /// Whether the binary digits of a numeral that is behind a whole number by a word say that it has surely no greater
-    /// error than those before it, at any fraction length. Once there were many numerals, nearly all are passed over so.
+    /// error than those before it, at any fraction length. Once there were many numerals, nearly all are passed over
+    /// so.
     fn is_passed_by_digits(&self, word: u64) -> bool
         requires word { word < 10 ^ 18 }
         requires near { self.now.are_near_half ≡ true → AreBoundsNearHalf self.now.errors.items }
@@ -211,7 +213,7 @@ impl GreatestErrors {
     }
 
     /// Whether a numeral that is behind a whole number by a word has surely no greater error than those before it, at
-    /// any fraction length. The words that were passed over are kept, since many lists have few.
+    /// any fraction length. Its word is kept where it is found so.
     fn pass_word(&mut self, word: u64) -> bool
         requires word { word < 10 ^ 18 }
         requires near { self.old.are_near_half ≡ true → AreBoundsNearHalf self.old.errors.items }

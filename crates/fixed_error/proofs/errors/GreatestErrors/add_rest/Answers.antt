@@ -1,13 +1,10 @@
-use Rattle.std.proofs.Common.{rules, ◌||◌, Bool, true, false, ◌≡◌, suc, ◌+◌, ◌^◌, ◌<◌, ◌≤◌, ◌++◌, ◌∷◌, [], length, take, get_or, ◌∙◌, ℕ, refl, sym, ap, subst, arith}
+use Rattle.std.proofs.Common.{rules, ◌||◌, Bool, true, false, ◌≡◌, suc, ◌+◌, ◌^◌, ◌<◌, ◌≤◌, ◌++◌, ◌∷◌, [], length, take, get_or, ◌∙◌, refl, sym, ap, subst, arith}
 use Rattle.std.proofs.lemmas.List.{drop-set-lt, length-set, length-take, take_all, take_more_set}
 use Rattle.std.proofs.lemmas.Bool.{false≢true}
 use Rattle.std.specs.Prelude.{min}
-use Rattle.fixed_bits.specs.declared.mode.ReadMode.TheVariants.{NearestEven}
-use Rattle.fixed_numeral.specs.declared.radix.Radix.{Radix}
-use Rattle.fixed_error.specs.ErrorSize.{IsReadWithin}
 use Rattle.fixed_error.specs.Errors.{AreBoundsNearHalf, AreLengthErrors, ArePassed}
 use Rattle.fixed_error.specs.Greatest.{Entry}
-use Rattle.fixed_error.specs.Inner.Rest.{IsBehindBy, IsRest, rest_of_word}
+use Rattle.fixed_error.specs.Inner.Rest.{IsRest}
 use Rattle.fixed_error.proofs.ErrorsLemmas.{element, error_more, left_one_less, rest_moved, some_error, within_moved}
 use Rattle.fixed_error.proofs.WordLemmas.{all_written, none_passed, unchanged}
 use Rattle.fixed_error.proofs.RestLemmas.{parts_most, power_within, rest_halved}
