@@ -127,7 +127,7 @@ pub const REPORT: Row = Row {
     letter: None,
     value: "",
     choices: &[],
-    help: "Counts of each input, on standard error",
+    help: "Counts and the greatest error, on standard error",
 };
 
 pub const OUTPUT: Row = Row {
