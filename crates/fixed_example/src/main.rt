@@ -4,14 +4,9 @@
 use fixed_point::{FixedI8, FixedI32, FixedU16};
 use std::io;
 
-/// The limit: a text that is known is read without a refusal.
 #[tactic(auto, using(fixed_point::proofs::ReadingLemmas::reads_in_range))]
-fn highest() -> FixedU16<8> {
-    FixedU16::<8>::strict_from_str("12.5")
-}
-
 fn main(rt: HostRuntime) -> io::Result<()> {
-    let limit = highest();
+    let limit = FixedU16::<8>::strict_from_str("12.5");
     for line in rt.lines(rt.alloc()) {
         let setting = line?;
         let (name, text) = setting.split_once('=').unwrap_or(("", ""));
