@@ -19,11 +19,11 @@ use Rattle.fixed_fit.specs.ErrorWord.{entries_from}
 use Rattle.fixed_fit.specs.Fitting.{AllFit, Fits}
 use Rattle.fixed_fit.specs.Inner.Lengths.{AreLengths}
 use Rattle.fixed_fit.specs.Inner.Progress.{AreFitted, HasProgress, IsKnown}
-use Rattle.fixed_fit.specs.Inner.Reading.{HasLines}
+use Rattle.fixed_fit.specs.Inner.Reading.{AreKept}
 use Rattle.fixed_fit.specs.Inner.Serving.{AreServed, Asked}
 use Rattle.fixed_fit.specs.declared.lengths.Lengths.{Lengths}
 use Rattle.fixed_fit.specs.declared.progress.Progress.{Progress}
-use Rattle.fixed_fit.specs.declared.reader.Reader.{Reader}
+use Rattle.fixed_fit.specs.declared.serving.Within.{Within}
 use Rattle.fixed_fit.proofs.ErrorWordLemmas.{entries_longer}
 
 -- ---- a numeral that fits is rounded to fewer than 2^64 ulps
@@ -78,18 +78,18 @@ errors_longer r done line place count old plain signed errors at few few' is h =
     ap (λ (k : ℕ). entries_from 1 done ++ record { place = k; numeral = line } ∷ []) at ∙ sym (entries_longer 1 done line) in
     subst (λ (l : List Entry). HasGreatestErrors r (max plain signed) l errors) here (subst (λ (c : ℕ). HasGreatestErrors r c (entries_from 1 done ++ record { place = place; numeral = line } ∷ []) errors) one h)
 
-pub ended : (r : Radix) (a : Asked) (done : List (List ℕ)) (old new : Reader) (line : List ℕ) → line ≡ old.line.items → ((m : ℕ) (lines : List (List ℕ)) → HasProgress m lines old.progress → HasProgress m (lines ++ line ∷ []) new.progress)
-    → new.progress.radix ≡ old.progress.radix → (new.progress.fault ≡ None → HasGreatestErrors r (max new.progress.plain.count new.progress.signed.count) (entries_from 1 (done ++ line ∷ [])) new.errors)
-    → new.within.is_bounded ≡ old.within.is_bounded → (a.is_bounded ≡ true → new.progress.fault ≡ None → AreServed r a (done ++ line ∷ []) new.within)
-    → HasLines r a done old → HasLines r a (done ++ old.line.items ∷ []) new
-ended r a done old new line same more radix errors is_bounded within h =
-    subst (λ (l : List ℕ). HasLines r a (done ++ l ∷ []) new) same (record { width = h.width; progress = more a.width done h.progress; radix = radix ∙ h.radix; errors = errors; is_bounded = is_bounded ∙ h.is_bounded; within = within })
+pub ended : (r : Radix) (a : Asked) (done : List (List ℕ)) (line : List ℕ) (p new : Progress) (e errors : GreatestErrors) (w within : Within) → ((m : ℕ) (lines : List (List ℕ)) → HasProgress m lines p → HasProgress m (lines ++ line ∷ []) new)
+    → new.radix ≡ p.radix → (new.fault ≡ None → HasGreatestErrors r (max new.plain.count new.signed.count) (entries_from 1 (done ++ line ∷ [])) errors)
+    → within.is_bounded ≡ w.is_bounded → (a.is_bounded ≡ true → new.fault ≡ None → AreServed r a (done ++ line ∷ []) within)
+    → AreKept r a done p e w → AreKept r a (done ++ line ∷ []) new errors within
+ended r a done line p new e errors w within more radix longer is_bounded served h =
+    record { width = h.width; progress = more a.width done h.progress; radix = radix ∙ h.radix; errors = longer; is_bounded = is_bounded ∙ h.is_bounded; within = served }
 
 -- what `add` asks for
-pub some_errors : (r : Radix) (n : Asked) (whole : List (List ℕ)) (count : ℕ) (old : Reader) (errors : GreatestErrors) → HasLines r n whole old → old.progress.fault ≡ None
-    → ((x : Radix) (c : ℕ) (entries : List Entry) → HasGreatestErrors x c entries old.errors → HasGreatestErrors x (min count c) entries errors) → HasGreatestErrors r (min count (max old.progress.plain.count old.progress.signed.count)) (entries_from 1 whole) errors
-some_errors r n whole count old errors h none shorter = shorter r (max old.progress.plain.count old.progress.signed.count) (entries_from 1 whole) (h.errors none)
+pub some_errors : (r : Radix) (a : Asked) (whole : List (List ℕ)) (count : ℕ) (p : Progress) (e errors : GreatestErrors) (w : Within) → AreKept r a whole p e w → p.fault ≡ None
+    → ((x : Radix) (c : ℕ) (entries : List Entry) → HasGreatestErrors x c entries e → HasGreatestErrors x (min count c) entries errors) → HasGreatestErrors r (min count (max p.plain.count p.signed.count)) (entries_from 1 whole) errors
+some_errors r a whole count p e errors w h none shorter = shorter r (max p.plain.count p.signed.count) (entries_from 1 whole) (h.errors none)
 
 -- what is kept within the bound is known of some lines
-pub some_served : (r : Radix) (a : Asked) (done : List (List ℕ)) (old : Reader) (bounded : old.within.is_bounded ≡ true) → old.progress.fault ≡ None → HasLines r a done old → AreServed r a done old.within
-some_served r a done old bounded none h = h.within (sym h.is_bounded ∙ bounded) none
+pub some_served : (r : Radix) (a : Asked) (done : List (List ℕ)) (p : Progress) (e : GreatestErrors) (w : Within) → w.is_bounded ≡ true → p.fault ≡ None → AreKept r a done p e w → AreServed r a done w
+some_served r a done p e w bounded none h = h.within (sym h.is_bounded ∙ bounded) none

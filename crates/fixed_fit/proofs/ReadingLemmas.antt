@@ -1,7 +1,8 @@
--- What one more byte makes of what is kept of the bytes before it.
-use Rattle.std.proofs.Common.{◌≡◌, ℕ, ◌+◌, ◌<◌, ◌≤◌, Bool, true, false, eqb, eqb-true, List, [], ◌∷◌, ◌++◌, length, take, get_or, append_assoc, append-nil, length-append, max, Option, None, Some, refl, sym, ap, ◌∙◌, subst, arith}
+-- What more bytes make of what is kept of the bytes before them.
+use Rattle.std.proofs.Common.{◌≡◌, ℕ, ◌+◌, ◌<◌, ◌≤◌, Bool, true, false, eqb, eqb-true, List, [], ◌∷◌, ◌++◌, length, take, drop, get_or, append_assoc, append-nil, length-append, max, Option, None, Some, refl, sym, ap, ◌∙◌, subst, arith}
 use Rattle.std.proofs.KnownBytes.{Consumes-trans}
-use Rattle.std.proofs.lemmas.List.{length-take, take_all, take_more}
+use Rattle.std.proofs.lemmas.List.{drop_more, get_or-take, length-take, take-append-drop}
+use Rattle.memchr.specs.Find.{NoneBefore, Nowhere, Passes, is_byte}
 use Rattle.std.specs.Io.KnownBytes.{Consumes, Keeps}
 use Rattle.line_engine.specs.Lines.{ended_lines, lines}
 use Rattle.fixed_bits.specs.Ranges.{IsWidth}
@@ -14,39 +15,63 @@ use Rattle.fixed_fit.specs.Inner.Serving.{AreServed, Asked}
 use Rattle.fixed_fit.specs.declared.progress.Progress.{Progress}
 use Rattle.fixed_fit.specs.declared.reader.Reader.{Reader}
 use Rattle.fixed_fit.specs.declared.serving.Within.{Within}
-use Rattle.fixed_fit.proofs.ByteLemmas.{ended_by_newline, ended_by_other, no_last_line, one_last_line, rest_by_newline, rest_by_other}
+use Rattle.fixed_fit.proofs.ByteLemmas.{AreOther, ended_by_others, ended_by_part, no_last_line, one_last_line, rest_by_others, rest_by_part}
 
-pub not_newline : (b : ℕ) → (b ≡ 10 → ⊥) → eqb b 10 ≡ false
-not_newline b other = by (eqb b 10) refl
+-- the first newline of these bytes is at this place
+pub record EndsAt (bytes : List ℕ) (end : ℕ) : Type 0 where
+  pub fits : end < length bytes
+  pub cut : bytes ≡ take end bytes ++ 10 ∷ drop (end + 1) bytes
+  pub other : AreOther (take end bytes)
+
+ten : (b : ℕ) → eqb b 10 ≡ true → b ≡ 10
+ten b is = eqb-true b 10 is
+
+pub ends_at : (bytes : List ℕ) (end : ℕ) → NoneBefore (Passes (is_byte 10) bytes) 0 (length bytes) end → Passes (is_byte 10) bytes end → EndsAt bytes end
+ends_at bytes end first here = record {
+  fits = first.high;
+  cut = sym (take-append-drop end bytes) ∙ ap (λ l. take end bytes ++ l) (drop_more bytes end 0 first.high ∙ ap (λ b. b ∷ drop (end + 1) bytes) (ten (get_or bytes end 0) here));
+  other = λ k below is. first.before k (omega arith) (before k below) (place k below is);
+}
   where
-    by : (t : Bool) → eqb b 10 ≡ t → eqb b 10 ≡ false
-    by true is = absurd (other (eqb-true b 10 is))
-    by false is = is
+    before : (k : ℕ) → k < length (take end bytes) → k < end
+    before k below = omega (arith, length-take end bytes)
 
-pub newline_read : (r : Radix) (n : Asked) (whole : List ℕ) (byte : ℕ) (old new : Reader) → byte ≡ 10 → new.line.items ≡ []
-    → ((m : Asked) (done : List (List ℕ)) → HasLines r m done old → HasLines r m (done ++ old.line.items ∷ []) new) → HasRead r n whole old → HasRead r n (whole ++ byte ∷ []) new
-newline_read r n whole byte old new is clear more h =
-    let P : ℕ → Type 0 = λ b. HasRead r n (whole ++ b ∷ []) new in
-    let N : List (List ℕ) → Type 0 = λ l. HasLines r n l new in
-    let grown : ended_lines whole ++ old.line.items ∷ [] ≡ ended_lines (whole ++ 10 ∷ []) = ap (λ l. ended_lines whole ++ l ∷ []) h.line ∙ sym (ended_by_newline whole) in
-    subst P (sym is) (record {
-      line = clear ∙ sym (rest_by_newline whole);
-      lines = subst N grown (more n (ended_lines whole) h.lines);
-    })
+    place : (k : ℕ) → k < length (take end bytes) → eqb (get_or (take end bytes) k 0) 10 ≡ true → eqb (get_or bytes k 0) 10 ≡ true
+    place k below is = ap (λ b. eqb b 10) (sym (get_or-take end bytes k 0 (before k below))) ∙ is
 
--- the lines are kept where the line whose end has not come is another
-pub same_lines : (r : Radix) (n : Asked) (list : List (List ℕ)) (old new : Reader) → new.progress ≡ old.progress → new.errors ≡ old.errors → new.within ≡ old.within → HasLines r n list old → HasLines r n list new
-same_lines r n list old new same same' same'' h =
-    let P : Progress → GreatestErrors → Within → Type 0 = λ p e w. HasLines r n list (record { line = new.line; progress = p; errors = e; within = w }) in
-    subst (λ p. P p new.errors new.within) (sym same) (subst (λ e. P old.progress e new.within) (sym same') (subst (λ w. P old.progress old.errors w) (sym same'') (record { width = h.width; progress = h.progress; radix = h.radix; errors = h.errors; is_bounded = h.is_bounded; within = h.within })))
+pub ends_nowhere : (bytes : List ℕ) → Nowhere (Passes (is_byte 10) bytes) 0 (length bytes) → AreOther bytes
+ends_nowhere bytes none = λ k below is. none k (omega arith) below is
 
-pub other_read : (r : Radix) (n : Asked) (whole : List ℕ) (byte : ℕ) (old new : Reader) → eqb byte 10 ≡ false → new.line.items ≡ old.line.items ++ byte ∷ [] → new.progress ≡ old.progress → new.errors ≡ old.errors → new.within ≡ old.within → HasRead r n whole old → HasRead r n (whole ++ byte ∷ []) new
-other_read r n whole byte old new other grown same same' same'' h =
-    let N : List (List ℕ) → Type 0 = λ l. HasLines r n l new in
-    record {
-      line = grown ∙ (ap (λ l. l ++ byte ∷ []) h.line ∙ sym (rest_by_other byte whole other));
-      lines = subst N (sym (ended_by_other byte whole other)) (same_lines r n (ended_lines whole) old new same same' same'' h.lines);
-    }
+-- a line that ends with a part
+pub line_read : (r : Radix) (a : Asked) (whole part : List ℕ) (old new : Reader) → AreOther part → new.line.items ≡ []
+    → ((m : Asked) (done : List (List ℕ)) → HasLines r m done old → HasLines r m (done ++ (old.line.items ++ part) ∷ []) new) → HasRead r a whole old → HasRead r a (whole ++ (part ++ 10 ∷ [])) new
+line_read r a whole part old new other clear more h =
+    let N : List (List ℕ) → Type 0 = λ l. HasLines r a l new in
+    let grown : ended_lines whole ++ (old.line.items ++ part) ∷ [] ≡ ended_lines (whole ++ (part ++ 10 ∷ [])) =
+    ap (λ l. ended_lines whole ++ (l ++ part) ∷ []) h.line ∙ sym (ended_by_part part whole other) in
+    record { line = clear ∙ sym (rest_by_part part whole); lines = subst N grown (more a (ended_lines whole) h.lines) }
+
+-- and after the bytes before it
+pub next_read : (r : Radix) (a : Asked) (whole prefix part : List ℕ) (old new : Reader) → AreOther part → new.line.items ≡ []
+    → ((m : Asked) (done : List (List ℕ)) → HasLines r m done old → HasLines r m (done ++ (old.line.items ++ part) ∷ []) new) → HasRead r a (whole ++ prefix) old → HasRead r a (whole ++ (prefix ++ (part ++ 10 ∷ []))) new
+next_read r a whole prefix part old new other clear more h =
+    subst (λ l. HasRead r a l new) (append_assoc whole prefix (part ++ 10 ∷ [])) (line_read r a (whole ++ prefix) part old new other clear more h)
+
+pub next_cut : (bytes prefix rest part more : List ℕ) → bytes ≡ prefix ++ rest → rest ≡ part ++ 10 ∷ more → bytes ≡ (prefix ++ (part ++ 10 ∷ [])) ++ more
+next_cut bytes prefix rest part more split cut =
+    split ∙ (ap (λ l. prefix ++ l) (cut ∙ sym (append_assoc part (10 ∷ []) more)) ∙ sym (append_assoc prefix (part ++ 10 ∷ []) more))
+
+-- bytes after which the line goes on
+pub rest_read : (r : Radix) (a : Asked) (whole bytes prefix rest : List ℕ) (old new : Reader) → bytes ≡ prefix ++ rest → AreOther rest → new.line.items ≡ old.line.items ++ rest
+    → ((m : Asked) (done : List (List ℕ)) → HasLines r m done old → HasLines r m done new) → HasRead r a (whole ++ prefix) old → HasRead r a (whole ++ bytes) new
+rest_read r a whole bytes prefix rest old new split other grown more h =
+    let N : List (List ℕ) → Type 0 = λ l. HasLines r a l new in
+    let all : (whole ++ prefix) ++ rest ≡ whole ++ bytes = append_assoc whole prefix rest ∙ ap (λ l. whole ++ l) (sym split) in
+    let here : HasRead r a ((whole ++ prefix) ++ rest) new = record {
+      line = grown ∙ (ap (λ l. l ++ rest) h.line ∙ sym (rest_by_others rest (whole ++ prefix) other));
+      lines = subst N (sym (ended_by_others rest (whole ++ prefix) other)) (more a (ended_lines (whole ++ prefix)) h.lines);
+    } in
+    subst (λ l. HasRead r a l new) all here
 
 -- at the end of an input
 pub ends_empty : (r : Radix) (n : Asked) (whole : List ℕ) (reader : Reader) → reader.line.items ≡ [] → HasRead r n whole reader → HasLines r n (lines whole) reader
@@ -54,30 +79,16 @@ ends_empty r n whole reader none h =
     let N : List (List ℕ) → Type 0 = λ l. HasLines r n l reader in
     subst N (sym (no_last_line whole (sym h.line ∙ none))) h.lines
 
-pub ends_line : (r : Radix) (n : Asked) (whole : List ℕ) (reader after : Reader) → (reader.line.items ≡ [] → ⊥)
-    → ((m : Asked) (done : List (List ℕ)) → HasLines r m done reader → HasLines r m (done ++ reader.line.items ∷ []) after) → HasRead r n whole reader → HasLines r n (lines whole) after
-ends_line r n whole reader after some more h =
-    let N : List (List ℕ) → Type 0 = λ l. HasLines r n l after in
-    let grown : ended_lines whole ++ reader.line.items ∷ [] ≡ lines whole = ap (λ l. ended_lines whole ++ l ∷ []) h.line ∙ sym (one_last_line whole (λ e. some (h.line ∙ e))) in
-    subst N grown (more n (ended_lines whole) h.lines)
+pub ends_line : (r : Radix) (a : Asked) (whole : List ℕ) (reader after : Reader) → (reader.line.items ≡ [] → ⊥)
+    → ((m : Asked) (done : List (List ℕ)) → HasLines r m done reader → HasLines r m (done ++ (reader.line.items ++ []) ∷ []) after) → HasRead r a whole reader → HasLines r a (lines whole) after
+ends_line r a whole reader after some more h =
+    let N : List (List ℕ) → Type 0 = λ l. HasLines r a l after in
+    let grown : ended_lines whole ++ (reader.line.items ++ []) ∷ [] ≡ lines whole = ap (λ l. ended_lines whole ++ l ∷ []) (append-nil reader.line.items ∙ h.line) ∙ sym (one_last_line whole (λ e. some (h.line ∙ e))) in
+    subst N grown (more a (ended_lines whole) h.lines)
 
 pub nil_of : (xs : List ℕ) → length xs ≡ 0 → xs ≡ []
 nil_of [] e = refl
 nil_of (x ∷ xs) e = absurd (omega (arith, e))
-
--- the bytes of a chunk, one after another
-pub one_more : (r : Radix) (n : Asked) (whole bytes : List ℕ) (k : ℕ) (reader : Reader) → k < length bytes → HasRead r n ((whole ++ take k bytes) ++ get_or bytes k 0 ∷ []) reader → HasRead r n (whole ++ take (k + 1) bytes) reader
-one_more r n whole bytes k reader less h =
-    let P : List ℕ → Type 0 = λ l. HasRead r n l reader in
-    subst P (append_assoc whole (take k bytes) (get_or bytes k 0 ∷ []) ∙ ap (λ l. whole ++ l) (sym (take_more bytes k 0 less))) h
-
-pub all_of_them : (r : Radix) (n : Asked) (whole bytes : List ℕ) (k : ℕ) (reader : Reader) → length bytes ≤ k → HasRead r n (whole ++ take k bytes) reader → HasRead r n (whole ++ bytes) reader
-all_of_them r n whole bytes k reader past h =
-    let P : List ℕ → Type 0 = λ l. HasRead r n (whole ++ l) reader in
-    subst P (take_all k bytes past) h
-
-pub nothing_read : (r : Radix) (n : Asked) (whole : List ℕ) (reader : Reader) → HasRead r n whole reader → HasRead r n (whole ++ []) reader
-nothing_read r n whole reader h = let P : List ℕ → Type 0 = λ l. HasRead r n l reader in subst P (sym (append-nil whole)) h
 
 -- ---- bytes that were taken
 pub taken_kept : (a b c : Option (List ℕ)) (bytes : List ℕ) → Consumes a b bytes → Keeps b c → Consumes a c bytes

@@ -10,7 +10,7 @@ ghost use Rattle.line_engine.specs.Lines.{lines};
 ghost use Rattle.fixed_fit.specs.Inner.Serving.{AreServed, Asked, asked_of, bounded, unbounded};
 ghost use Rattle.fixed_fit.specs.Within.{most_width};
 ghost use Rattle.fixed_fit.specs.declared.question.Widths.{Widths};
-ghost use Rattle.fixed_fit.specs.Inner.Reading.{HasLines, HasRead, HasSomeRead, ReadsAll, StopsReading};
+ghost use Rattle.fixed_fit.specs.Inner.Reading.{AreKept, HasLines, HasRead, HasSomeRead, ReadsAll, StopsReading};
 
 use crate::progress::Progress;
 use crate::question::{Question, Widths};
@@ -19,6 +19,7 @@ use fixed_error::GreatestErrors;
 use fixed_numeral::Radix;
 use fixed_steps::Steps;
 use line_engine::{Failed, NoMemory, Source, Status};
+use memchr::memchr;
 use std::alloc::{AllocError, Global};
 use std::sync::ledger::Ledger;
 
@@ -41,52 +42,98 @@ pub struct Reader {
     pub within: Within,
 }
 
+/// Takes one more line.
+fn add_line<L: Ledger>(
+    progress: &mut Progress,
+    errors: &mut GreatestErrors,
+    within: &mut Within,
+    line: &[u8],
+    steps: &mut Steps<L>,
+) -> Result<(), NoMemory>
+    requires room { progress.old.lines < 2 ^ 63 }
+    requires known { (r : Radix) × (a : Asked) × (done : List (List ℕ))
+        × AreKept r a done progress.old errors.old within.old }
+    ensures ended { OnOk result ((r : Radix) (a : Asked) (done : List (List ℕ))
+        → AreKept r a done progress.old errors.old within.old
+        → AreKept r a (done ++ line.now ∷ []) progress.new errors.new within.new) }
+    ensures lines { OnOk result (progress.new.lines ≡ progress.old.lines + 1) }
+{
+    *progress = progress.after(line, steps);
+    if progress.fault.is_some() {
+        return Ok(());
+    }
+    errors.shorten(progress.count());
+    match errors.add(line, progress.lines, steps) {
+        Ok(()) => {
+            within.add(line, progress.radix, progress.lines, steps);
+            Ok(())
+        }
+        Err(_) => Err(NoMemory),
+    }
+}
+
+/// Appends bytes to a line.
+fn extend(line: &mut Vec<u8>, part: &[u8]) -> Result<(), NoMemory>
+    ensures { OnOk result (line.new.items ≡ line.old.items ++ part.now) }
+{
+    match line.extend_from_slice(part) {
+        Ok(()) => Ok(()),
+        Err(_) => Err(NoMemory),
+    }
+}
+
 impl Reader {
-    /// Takes the next byte.
-    fn push<L: Ledger>(&mut self, byte: u8, steps: &mut Steps<L>) -> Result<(), NoMemory>
+    /// Ends the line with this part, and begins a new one. A line that is whole in the part is not copied.
+    fn end_line<L: Ledger>(&mut self, part: &[u8], steps: &mut Steps<L>) -> Result<(), NoMemory>
         requires room { self.old.progress.lines < 2 ^ 63 }
         requires known { HasSomeRead self.old }
-        ensures read { OnOk result ((r : Radix) (a : Asked) (whole : List ℕ) → HasRead r a whole self.old
-            → HasRead r a (whole ++ byte ∷ []) self.new) }
-        ensures lines { OnOk result (self.new.progress.lines ≤ self.old.progress.lines + 1) }
+        ensures line { OnOk result (self.new.line.items ≡ []) }
+        ensures ended { OnOk result ((r : Radix) (a : Asked) (done : List (List ℕ)) → HasLines r a done self.old
+            → HasLines r a (done ++ (self.old.line.items ++ part.now) ∷ []) self.new) }
+        ensures lines { OnOk result (self.new.progress.lines ≡ self.old.progress.lines + 1) }
     {
-        if byte != b'\n' {
-            return match self.line.push(byte) {
-                Ok(()) => Ok(()),
-                Err(_) => Err(NoMemory),
-            };
+        if !self.line.is_empty() {
+            return self.end_long_line(part, steps);
         }
-        match self.end_line(steps) {
+        match add_line(
+            &mut self.progress,
+            &mut self.errors,
+            &mut self.within,
+            part,
+            steps,
+        ) {
+            Ok(()) => Ok(()),
+            Err(error) => Err(error),
+        }
+    }
+
+    /// Ends the line that began before this part, and begins a new one.
+    #[cold]
+    fn end_long_line<L: Ledger>(
+        &mut self,
+        part: &[u8],
+        steps: &mut Steps<L>,
+    ) -> Result<(), NoMemory>
+        requires room { self.old.progress.lines < 2 ^ 63 }
+        requires known { HasSomeRead self.old }
+        ensures line { OnOk result (self.new.line.items ≡ []) }
+        ensures ended { OnOk result ((r : Radix) (a : Asked) (done : List (List ℕ)) → HasLines r a done self.old
+            → HasLines r a (done ++ (self.old.line.items ++ part.now) ∷ []) self.new) }
+        ensures lines { OnOk result (self.new.progress.lines ≡ self.old.progress.lines + 1) }
+    {
+        extend(&mut self.line, part)?;
+        match add_line(
+            &mut self.progress,
+            &mut self.errors,
+            &mut self.within,
+            &self.line,
+            steps,
+        ) {
             Ok(()) => {
                 self.line.clear();
                 Ok(())
             }
             Err(error) => Err(error),
-        }
-    }
-
-    /// Ends the line.
-    fn end_line<L: Ledger>(&mut self, steps: &mut Steps<L>) -> Result<(), NoMemory>
-        requires room { self.old.progress.lines < 2 ^ 63 }
-        requires known { HasSomeRead self.old }
-        ensures line { self.new.line ≡ self.old.line }
-        ensures ended { OnOk result ((r : Radix) (a : Asked) (done : List (List ℕ)) → HasLines r a done self.old
-            → HasLines r a (done ++ self.old.line.items ∷ []) self.new) }
-        ensures lines { OnOk result (self.new.progress.lines ≡ self.old.progress.lines + 1) }
-    {
-        self.progress = self.progress.after(&self.line, steps);
-        if self.progress.fault.is_some() {
-            return Ok(());
-        }
-        self.errors.shorten(self.progress.count());
-        match self.errors.add(&self.line, self.progress.lines, steps) {
-            Ok(()) => {
-                let place = self.progress.lines;
-                self.within
-                    .add(&self.line, self.progress.radix, place, steps);
-                Ok(())
-            }
-            Err(_) => Err(NoMemory),
         }
     }
 
@@ -98,10 +145,15 @@ impl Reader {
             → HasRead r a (whole ++ bytes.now) self.new) }
         ensures lines { OnOk result (self.new.progress.lines ≤ self.old.progress.lines + length bytes.now) }
     {
-        for byte in bytes {
-            self.push(*byte, steps)?;
+        let mut rest = bytes;
+        while let Some(end) = memchr(b'\n', rest) {
+            self.end_line(&rest[..end], steps)?;
+            rest = &rest[end + 1..];
         }
-        Ok(())
+        match extend(&mut self.line, rest) {
+            Ok(()) => Ok(()),
+            Err(error) => Err(error),
+        }
     }
 
     /// Takes the end of an input.
@@ -114,7 +166,7 @@ impl Reader {
         if self.line.is_empty() {
             return Ok(());
         }
-        match self.end_line(steps) {
+        match self.end_line(&[], steps) {
             Ok(()) => Ok(()),
             Err(error) => Err(error),
         }

@@ -3,6 +3,7 @@ use Rattle.std.specs.Prelude.{◌≡◌, ℕ, List, max, true, Option, None}
 use Rattle.std.specs.Io.KnownBytes.{Consumes, IsAtEnd}
 use Rattle.fixed_bits.specs.Ranges.{IsWidth}
 use Rattle.fixed_error.specs.Errors.{HasGreatestErrors}
+use Rattle.fixed_error.specs.declared.errors.GreatestErrors.{GreatestErrors}
 use Rattle.fixed_numeral.specs.declared.radix.Radix.{Radix}
 use Rattle.line_engine.specs.Failures.{HasFailed}
 use Rattle.line_engine.specs.Lines.{ended_lines, lines, unended}
@@ -13,17 +14,23 @@ use Rattle.fixed_fit.specs.Answer.{TakesBytes, most_bytes}
 use Rattle.fixed_fit.specs.ErrorWord.{entries_from}
 use Rattle.fixed_fit.specs.Inner.Progress.{HasProgress}
 use Rattle.fixed_fit.specs.Inner.Serving.{AreServed, Asked}
+use Rattle.fixed_fit.specs.declared.progress.Progress.{Progress}
 use Rattle.fixed_fit.specs.declared.reader.Reader.{Reader}
+use Rattle.fixed_fit.specs.declared.serving.Within.{Within}
 
--- what is kept of these lines
-pub record HasLines (r : Radix) (a : Asked) (list : List (List ℕ)) (reader : Reader) : Type 0 where
+-- this is kept of these lines
+pub record AreKept (r : Radix) (a : Asked) (list : List (List ℕ)) (p : Progress) (e : GreatestErrors)
+    (w : Within) : Type 0 where
   pub width : IsWidth a.width
-  pub progress : HasProgress a.width list reader.progress
-  pub radix : reader.progress.radix ≡ r
-  pub errors : reader.progress.fault ≡ None → HasGreatestErrors r
-      (max reader.progress.plain.count reader.progress.signed.count) (entries_from 1 list) reader.errors
-  pub is_bounded : reader.within.is_bounded ≡ a.is_bounded
-  pub within : a.is_bounded ≡ true → reader.progress.fault ≡ None → AreServed r a list reader.within
+  pub progress : HasProgress a.width list p
+  pub radix : p.radix ≡ r
+  pub errors : p.fault ≡ None → HasGreatestErrors r (max p.plain.count p.signed.count) (entries_from 1 list) e
+  pub is_bounded : w.is_bounded ≡ a.is_bounded
+  pub within : a.is_bounded ≡ true → p.fault ≡ None → AreServed r a list w
+
+-- what is kept of these lines by a reader
+abbrev pub HasLines : Radix → Asked → List (List ℕ) → Reader → Type 0
+HasLines r a list reader = AreKept r a list reader.progress reader.errors reader.within
 
 -- what is kept of these bytes
 pub record HasRead (r : Radix) (a : Asked) (whole : List ℕ) (reader : Reader) : Type 0 where
