@@ -1,5 +1,6 @@
 pub mod ErrorSize
 pub mod Greatest
+pub mod Short
 pub mod Errors
 pub mod Laws
 pub mod Inner

@@ -6,7 +6,7 @@
 //! digits tells mostly that it is not as near to that, at any length (module `half`). And the words that were passed
 //! over are kept, since many lists have few.
 
-ghost use Rattle.std.specs.Prelude.{◌≡◌, ◌<◌, ◌≤◌, ◌+◌, ◌-◌, ◌^◌, ◌++◌, ◌∷◌, [], List, ℕ, OnOk, IfOk};
+ghost use Rattle.std.specs.Prelude.{◌≡◌, ◌<◌, ◌≤◌, ◌+◌, ◌-◌, ◌^◌, ◌++◌, ◌∷◌, [], List, ℕ, OnOk, IfOk, IfSome};
 ghost use Rattle.std.specs.Prelude.{length, replicate, true, false, min, ◌||◌};
 ghost use Rattle.fixed_bits.specs.declared.mode.ReadMode.TheVariants.{NearestEven};
 ghost use Rattle.fixed_error.specs.ErrorSize.{IsReadWithin};
@@ -16,6 +16,7 @@ ghost use Rattle.fixed_error.specs.Errors.{HasSomeLengthError, IsGreatestAt, IsL
 ghost use Rattle.fixed_error.specs.Greatest.{Entry};
 ghost use Rattle.fixed_error.specs.Inner.Rest.{IsRest};
 ghost use Rattle.fixed_error.specs.Errors.{ArePassed, AreWordsWithin};
+ghost use Rattle.fixed_error.specs.Short.{IsShortRead};
 
 use crate::greatest::GreatestError;
 use crate::half::{MOST_LENGTHS, binary_digits, is_surely_far, word_after};
@@ -23,8 +24,9 @@ use crate::rest::{
     Behind, Rest, behind_by, bound_of, halved, halved_word, least_of, most_of, near_word,
     rest_of_word,
 };
+use crate::short::read_short;
 use fixed_bits::ReadMode;
-use fixed_numeral::Radix;
+use fixed_numeral::{Radix, ShortNumeral};
 use fixed_steps::Steps;
 use std::alloc::{AllocError, Global};
 use std::sync::ledger::Ledger;
@@ -289,7 +291,32 @@ impl GreatestErrors {
             → HasGreatestErrors r count entries self.old
             → HasGreatestErrors r count (entries ++ record { place = place; numeral = numeral.now } ∷ []) self.new) }
     {
-        match behind_by(numeral, self.radix, steps) {
+        let short = read_short(numeral, self.radix, steps);
+        self.add_read(numeral, place, short, steps)
+    }
+
+    /// `add` of a numeral that was read: the numbers of its parts are given where it was read as a short decimal.
+    ///
+    /// # Errors
+    ///
+    /// There is no memory for it.
+    pub fn add_read<L: Ledger>(
+        &mut self,
+        numeral: &[u8],
+        place: u64,
+        short: Option<ShortNumeral>,
+        steps: &mut Steps<L>,
+    ) -> Result<(), AllocError>
+        requires known { HasSomeGreatestErrors self.old }
+        requires within { (f : ℕ) → f < length self.old.errors.items
+            → IsReadWithin NearestEven self.old.radix f numeral.now }
+        requires numeral { IsNumeral self.old.radix numeral.now }
+        requires short { IfSome short (IsShortRead self.old.radix numeral.now) }
+        ensures { OnOk result ((r : Radix) (count : ℕ) (entries : List Entry)
+            → HasGreatestErrors r count entries self.old
+            → HasGreatestErrors r count (entries ++ record { place = place; numeral = numeral.now } ∷ []) self.new) }
+    {
+        match behind_by(numeral, self.radix, short, steps) {
             Behind::ByWord(word) => {
                 if self.pass_word(word) {
                     return Ok(());

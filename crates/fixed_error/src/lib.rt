@@ -8,9 +8,11 @@ pub mod greatest;
 mod half;
 pub mod laws;
 mod rest;
+pub mod short;
 mod sums;
 
 pub use errors::GreatestErrors;
 pub use gap::is_read_within;
 pub use greater::{is_error_above, is_error_greater};
 pub use greatest::GreatestError;
+pub use short::read_short;

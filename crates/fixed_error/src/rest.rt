@@ -1,16 +1,17 @@
 //! How far a numeral is behind a whole number of ulps, to some 36 digits.
 
 ghost use Rattle.std.specs.Prelude.{◌≡◌, ◌⊎◌, ◌<◌, ◌≤◌, ◌+◌, ◌-◌, ◌*◌, ◌^◌, ◌%◌, drop, min, List, ℕ, if◌then◌else◌};
-ghost use Rattle.std.specs.Prelude.{IfSome};
+ghost use Rattle.std.specs.Prelude.{IfSome, pos};
 ghost use Rattle.std.specs.Int.Digits.{AllBelowBase};
 ghost use Rattle.fixed_numeral.specs.Numeral.{HasNumeral, IsNumeral, Parts, base};
 ghost use Rattle.fixed_numeral.specs.Scanned.{IsScanned, exponent_unit};
 ghost use Rattle.fixed_numeral.specs.declared.radix.Radix.TheVariants.{Dec};
 ghost use Rattle.fixed_error.specs.Errors.{block, parts};
 ghost use Rattle.fixed_error.specs.Inner.Rest.{IsBehindBy, IsRest, first_number, rest_of_word};
+ghost use Rattle.fixed_error.specs.Short.{IsShortRead};
 
 use crate::gap::power_of_two;
-use fixed_numeral::{DigitView, Radix, Scanned, ShortNumeral, power_of_ten, scan, short_decimal};
+use fixed_numeral::{DigitView, Radix, Scanned, ShortNumeral, power_of_ten, scan};
 use fixed_steps::Steps;
 use std::sync::ledger::Ledger;
 
@@ -160,43 +161,48 @@ fn parts_of_decimal(found: ShortNumeral) -> Rest
     }
 }
 
-/// How far a short decimal is behind a whole number. `None` only means: look at its digits.
-fn behind_by_decimal<L: Ledger>(text: &[u8], steps: &mut Steps<L>) -> Option<Behind>
-    ensures { IfSome result (IsBehindBy Dec text.now) }
+/// How far a short decimal without an exponent is behind a whole number.
+fn behind_by_decimal(found: ShortNumeral) -> Behind
+    requires below { found.fraction < 10 ^ found.places }
+    requires few { found.places ≤ 27 }
+    requires flat { found.exponent ≡ pos 0 }
+    ensures { (r : Radix) (text : List ℕ) → IsShortRead r text found → IsBehindBy r text result }
 {
-    let found = short_decimal(text, steps)?;
-    if found.exponent != 0 {
-        return None;
-    }
     if found.places <= 18 {
-        return Some(Behind::ByWord(word_of_decimal(found)));
+        return Behind::ByWord(word_of_decimal(found));
     }
-    Some(Behind::ByParts(parts_of_decimal(found)))
+    Behind::ByParts(parts_of_decimal(found))
 }
 
-/// How far a short numeral is behind a whole number. `None` only means: look at its digits.
-fn behind_by_short<L: Ledger>(text: &[u8], radix: Radix, steps: &mut Steps<L>) -> Option<Behind>
-    ensures { IfSome result (IsBehindBy radix text.now) }
-{
-    match radix {
-        Radix::Dec => behind_by_decimal(text, steps),
-        _ => None,
-    }
-}
-
-/// How far a numeral is behind a whole number.
-pub fn behind_by<L: Ledger>(text: &[u8], radix: Radix, steps: &mut Steps<L>) -> Behind
+/// How far a numeral is behind a whole number, by its digits.
+fn behind_by_digits<L: Ledger>(text: &[u8], radix: Radix, steps: &mut Steps<L>) -> Behind
     requires { IsNumeral radix text.now }
     ensures { IsBehindBy radix text.now result }
 {
-    if let Some(behind) = behind_by_short(text, radix, steps) {
-        return behind;
-    }
     let scanned = scan(text, radix, steps);
     match &scanned {
         Ok(found) => Behind::ByParts(rest_of_scanned(found, radix, steps)),
         Err(_) => unreachable!(),
     }
+}
+
+/// How far a numeral is behind a whole number, by the numbers of its parts where it was read as a short decimal.
+pub fn behind_by<L: Ledger>(
+    text: &[u8],
+    radix: Radix,
+    short: Option<ShortNumeral>,
+    steps: &mut Steps<L>,
+) -> Behind
+    requires numeral { IsNumeral radix text.now }
+    requires short { IfSome short (IsShortRead radix text.now) }
+    ensures { IsBehindBy radix text.now result }
+{
+    if let Some(found) = short {
+        if found.exponent == 0 {
+            return behind_by_decimal(found);
+        }
+    }
+    behind_by_digits(text, radix, steps)
 }
 
 /// How far a numeral that is behind by a word is behind a whole number, in parts of 10^-36.

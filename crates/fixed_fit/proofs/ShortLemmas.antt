@@ -11,7 +11,10 @@ use Rattle.fixed_bits.specs.declared.mode.ReadMode.TheVariants.{NearestEven}
 use Rattle.fixed_numeral.specs.Numeral.{Exponent, HasNumeral, IsNumeral, Parts, is_minus}
 use Rattle.fixed_numeral.specs.PartNumbers.{IsShortNumeral, is_power_of_two, placed_magnitude}
 use Rattle.fixed_numeral.specs.Value.{Fraction, magnitude, scaled}
+use Rattle.fixed_numeral.specs.declared.radix.Radix.{Radix}
 use Rattle.fixed_numeral.specs.declared.radix.Radix.TheVariants.{Dec}
+use Rattle.fixed_numeral.specs.declared.short.ShortNumeral.{ShortNumeral}
+use Rattle.fixed_error.specs.Short.{IsShortRead}
 use Rattle.fixed_numeral.proofs.Public.{magnitude_pos}
 use Rattle.fixed_read.proofs.Public.{read_number_is_the_one}
 use Rattle.fixed_fit.specs.Fitting.{Fits, IsBelowZero}
@@ -39,7 +42,7 @@ digits_some whole fraction places =
 magnitude_is : (p : Parts) (negative : Bool) (whole fraction places : ℕ) (exponent : ℤ) (two : Bool) → IsShortNumeral Dec p negative whole fraction places exponent two → magnitude Dec p ≡ scaled (whole * 10 ^ places + fraction) 1 10 (exponent -ℤ pos places)
 magnitude_is p negative whole fraction places exponent two h = h.value ∙ ap (placed_magnitude Dec (whole * 10 ^ places + fraction) places exponent) (h.separator ∙ never_two p.exponent)
 
-pub short_below : (p : Parts) (negative : Bool) (whole fraction places : ℕ) (exponent : ℤ) (two b : Bool) → IsShortNumeral Dec p negative whole fraction places exponent two → (IsTrue b ↔ ((negative ≡ true) × (0 < whole + fraction))) → IsTrue b ↔ IsBelowZero Dec p
+short_below : (p : Parts) (negative : Bool) (whole fraction places : ℕ) (exponent : ℤ) (two b : Bool) → IsShortNumeral Dec p negative whole fraction places exponent two → (IsTrue b ↔ ((negative ≡ true) × (0 < whole + fraction))) → IsTrue b ↔ IsBelowZero Dec p
 short_below p negative whole fraction places exponent two b h below =
     let digits : ℕ = whole * 10 ^ places + fraction in
     let same : magnitude Dec p ≡ scaled digits 1 10 (exponent -ℤ pos places) = magnitude_is p negative whole fraction places exponent two h in
@@ -90,7 +93,17 @@ surely_fits s n f line p negative whole fraction places exponent two numeral h l
       in_range = subst Q (sym v.1.value) (below_room s n (is_minus p.sign) v.1.ulps (λ m. sign (h.sign ∙ m)) (omega (arith, few, room)));
     }
 
-pub left_as_they_were : (line : List ℕ) (place : ℕ) (l : Lengths) (negative : Bool) (whole fraction places : ℕ) (exponent : ℤ) (two : Bool) → IsNumeral Dec line
-    → ((p : Parts) → HasNumeral Dec line p → IsShortNumeral Dec p negative whole fraction places exponent two) → fraction < 10 ^ places → exponent ≡ pos 0 → IsSurelyLeft l negative whole → AreLowered Dec line place l l
-left_as_they_were line place l negative whole fraction places exponent two numeral parts less none h =
-    not_lowered Dec line place l l.count refl (λ f last. surely_fits l.kind.signed l.kind.width f line numeral.0 negative whole fraction places exponent two numeral.1 (parts numeral.0 numeral.1) less none (h.sign f last) (h.room f last))
+-- ---- what a short decimal leaves
+pub left_as_they_were : (r : Radix) (line : List ℕ) (place : ℕ) (l : Lengths) (n : ShortNumeral) → IsShortRead r line n → n.exponent ≡ pos 0 → IsSurelyLeft l n.negative n.whole → AreLowered r line place l l
+left_as_they_were r line place l n read none h =
+    let numeral = read.numeral in
+    subst (λ (x : Radix). AreLowered x line place l l) (sym read.decimal)
+    (not_lowered Dec line place l l.count refl (λ f last. surely_fits l.kind.signed l.kind.width f line numeral.0 n.negative n.whole n.fraction n.places n.exponent n.scales_by_two numeral.1 (read.parts numeral.0 numeral.1) read.fraction none (h.sign f last) (h.room f last)))
+
+pub read_below : (r : Radix) (line : List ℕ) (n : ShortNumeral) (b : Bool) → IsShortRead r line n → (IsTrue b ↔ ((n.negative ≡ true) × (0 < n.whole + n.fraction))) → (p : Parts) → HasNumeral r line p → IsTrue b ↔ IsBelowZero r p
+read_below r line n b read below =
+    subst (λ (x : Radix). (p : Parts) → HasNumeral x line p → IsTrue b ↔ IsBelowZero x p) (sym read.decimal)
+    (λ p has. short_below p n.negative n.whole n.fraction n.places n.exponent n.scales_by_two b (read.parts p has) below)
+
+pub read_numeral : (r : Radix) (line : List ℕ) (n : ShortNumeral) → IsShortRead r line n → IsNumeral r line
+read_numeral r line n read = subst (λ (x : Radix). IsNumeral x line) (sym read.decimal) read.numeral

@@ -1,15 +1,17 @@
 //! What is kept of the lines so far.
 
 ghost use Rattle.std.specs.Prelude.{◌≡◌, ◌<◌, ◌≤◌, ◌||◌, ◌+◌, ◌^◌, ◌∷◌, ◌++◌, [], List, ℕ, None, false, true, max};
+ghost use Rattle.std.specs.Prelude.{IfSome};
 ghost use Rattle.fixed_bits.specs.Ranges.{IsWidth};
+ghost use Rattle.fixed_error.specs.Short.{IsShortRead};
 ghost use Rattle.fixed_fit.specs.Inner.Progress.{HasProgress, HasSomeProgress};
 
 use crate::lengths::{Lengths, all_lengths, lowered};
 use crate::numeral::is_below_zero;
-use crate::short::below_if_left;
+use crate::short::{is_left_of_both, is_short_below};
 use fixed_bits::Format;
 use fixed_least::LeastFault;
-use fixed_numeral::Radix;
+use fixed_numeral::{Radix, ShortNumeral};
 use fixed_steps::Steps;
 use std::sync::ledger::Ledger;
 
@@ -103,10 +105,16 @@ impl Progress {
         self.plain.count.max(self.signed.count)
     }
 
-    /// What is kept after one more line.
-    pub fn after<L: Ledger>(&self, line: &[u8], steps: &mut Steps<L>) -> Progress
+    /// What is kept after one more line, by the numbers of its parts where it was read as a short decimal.
+    pub fn after<L: Ledger>(
+        &self,
+        line: &[u8],
+        short: Option<ShortNumeral>,
+        steps: &mut Steps<L>,
+    ) -> Progress
         requires room { self.now.lines < 2 ^ 63 }
         requires known { HasSomeProgress self.now }
+        requires short { IfSome short (IsShortRead self.now.radix line.now) }
         ensures radix { result.radix ≡ self.now.radix }
         ensures lines { result.lines ≡ self.now.lines + 1 }
         ensures one_more { (n : ℕ) (lines : List (List ℕ)) → HasProgress n lines self.now
@@ -119,8 +127,10 @@ impl Progress {
         if self.fault.is_some() {
             return self.with_fault(place, self.fault);
         }
-        if let Some(below) = below_if_left(line, self.radix, &self.plain, &self.signed, steps) {
-            return self.with_numeral(place, below, self.plain, self.signed);
+        if let Some(found) = short {
+            if is_left_of_both(self.plain, self.signed, found) {
+                return self.with_numeral(place, is_short_below(found), self.plain, self.signed);
+            }
         }
         match is_below_zero(line, self.radix, steps) {
             Err(error) => self.with_fault(place, Some(LeastFault::NotNumeral { place, error })),

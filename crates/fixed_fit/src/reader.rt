@@ -15,7 +15,7 @@ ghost use Rattle.fixed_fit.specs.Inner.Reading.{AreKept, HasLines, HasRead, HasS
 use crate::progress::Progress;
 use crate::question::{Question, Widths};
 use crate::serving::{Within, most_width};
-use fixed_error::GreatestErrors;
+use fixed_error::{GreatestErrors, read_short};
 use fixed_numeral::Radix;
 use fixed_steps::Steps;
 use line_engine::{Failed, NoMemory, Source, Status};
@@ -58,12 +58,13 @@ fn add_line<L: Ledger>(
         → AreKept r a (done ++ line.now ∷ []) progress.new errors.new within.new) }
     ensures lines { OnOk result (progress.new.lines ≡ progress.old.lines + 1) }
 {
-    *progress = progress.after(line, steps);
+    let short = read_short(line, progress.radix, steps);
+    *progress = progress.after(line, short, steps);
     if progress.fault.is_some() {
         return Ok(());
     }
     errors.shorten(progress.count());
-    match errors.add(line, progress.lines, steps) {
+    match errors.add_read(line, progress.lines, short, steps) {
         Ok(()) => {
             within.add(line, progress.radix, progress.lines, steps);
             Ok(())

@@ -3,16 +3,12 @@
 //! Most lines fit each length that is left. That is seen by the whole part, where the numbers up to the next whole
 //! number fit.
 
-ghost use Rattle.std.specs.Prelude.{◌≡◌, ◌≤◌, ◌<◌, ◌+◌, ◌*◌, ◌^◌, ◌↔◌, IfSome, IsTrue, true, pos, ℕ};
-ghost use Rattle.fixed_numeral.specs.Numeral.{HasNumeral, IsNumeral, Parts};
-ghost use Rattle.fixed_fit.specs.Fitting.{IsBelowZero};
-ghost use Rattle.fixed_fit.specs.Inner.Lengths.{AreLowered, IsSurelyLeft, magnitude_bits};
+ghost use Rattle.std.specs.Prelude.{◌≡◌, ◌≤◌, ◌<◌, ◌+◌, ◌*◌, ◌^◌, ◌↔◌, IsTrue, true, pos, ℕ};
+ghost use Rattle.fixed_fit.specs.Inner.Lengths.{IsSurelyLeft, magnitude_bits};
 
 use crate::lengths::Lengths;
 use fixed_bits::Format;
-use fixed_numeral::{Radix, ShortNumeral, short_decimal};
-use fixed_steps::Steps;
-use std::sync::ledger::Ledger;
+use fixed_numeral::ShortNumeral;
 
 /// A power of two.
 fn power_of_two(exponent: u32) -> u128
@@ -63,7 +59,7 @@ fn is_surely_left(left: Lengths, is_negative: bool, whole: u64) -> bool
 }
 
 /// Whether a short decimal is surely in range with each length that is left of two kinds.
-fn is_left_of_both(plain: Lengths, signed: Lengths, found: ShortNumeral) -> bool
+pub fn is_left_of_both(plain: Lengths, signed: Lengths, found: ShortNumeral) -> bool
     requires plain { plain.count ≤ plain.kind.width + 1 }
     requires signed { signed.count ≤ signed.kind.width + 1 }
     requires whole { found.whole < 10 ^ 16 }
@@ -77,36 +73,8 @@ fn is_left_of_both(plain: Lengths, signed: Lengths, found: ShortNumeral) -> bool
 }
 
 /// Whether a short decimal is below zero.
-fn is_short_below(found: ShortNumeral) -> bool
+pub fn is_short_below(found: ShortNumeral) -> bool
     ensures { IsTrue result ↔ ((found.negative ≡ true) × (0 < found.whole + found.fraction)) }
 {
     found.negative && (found.whole > 0 || found.fraction > 0)
-}
-
-/// Whether a short decimal that takes away none of the lengths that are left of two kinds is below zero. `None` only
-/// means: read the line.
-pub fn below_if_left<L: Ledger>(
-    line: &[u8],
-    radix: Radix,
-    plain: &Lengths,
-    signed: &Lengths,
-    steps: &mut Steps<L>,
-) -> Option<bool>
-    requires plain { plain.now.count ≤ plain.now.kind.width + 1 }
-    requires signed { signed.now.count ≤ signed.now.kind.width + 1 }
-    ensures numeral { IfSome result (λ below. IsNumeral radix line.now) }
-    ensures below { IfSome result
-        (λ below. (p : Parts) → HasNumeral radix line.now p → IsTrue below ↔ IsBelowZero radix p) }
-    ensures plain { IfSome result (λ below. (place : ℕ) → AreLowered radix line.now place plain.now plain.now) }
-    ensures signed { IfSome result (λ below. (place : ℕ) → AreLowered radix line.now place signed.now signed.now) }
-{
-    if radix != Radix::Dec {
-        return None;
-    }
-    let found = short_decimal(line, steps)?;
-    if is_left_of_both(*plain, *signed, found) {
-        Some(is_short_below(found))
-    } else {
-        None
-    }
 }

@@ -1,4 +1,4 @@
 use Rattle.fixed_error.proofs.rest.behind_by.Goals as goal
 
-pub returns : goal.returns
-returns g c = let scanned = rw c.in-Ok.is at c.scan-scanned.ensures.reading.read in c.rest_of_scanned.ensures c.args.text.now scanned
+pub returns-then-found-eq0 : goal.returns-then-found-eq0
+returns-then-found-eq0 g c = let short = rw c.in-Some.is at c.requires.short in c.behind_by_decimal.ensures c.args.radix c.args.text.now short

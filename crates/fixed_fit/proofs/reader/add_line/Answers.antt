@@ -1,7 +1,8 @@
-use Rattle.std.proofs.Common.{◌≡◌, ◌+◌, ◌<◌, ◌∷◌, ◌++◌, [], ℕ, List, max, min, None, true, false, refl, sym, ap, subst, ◌∙◌, arith}
+use Rattle.std.proofs.Common.{◌≡◌, IfSome, ◌+◌, ◌<◌, ◌∷◌, ◌++◌, [], ℕ, List, max, min, None, true, false, refl, sym, ap, subst, ◌∙◌, arith}
 use Rattle.std.proofs.lemmas.Grind.{common_steps}
 use Rattle.fixed_bits.specs.declared.mode.ReadMode.TheVariants.{NearestEven}
 use Rattle.fixed_error.specs.ErrorSize.{IsReadWithin}
+use Rattle.fixed_error.specs.Short.{IsShortRead}
 use Rattle.fixed_numeral.specs.Numeral.{IsNumeral}
 use Rattle.fixed_numeral.specs.declared.radix.Radix.{Radix}
 use Rattle.fixed_fit.specs.ErrorWord.{entries_from}
@@ -11,8 +12,8 @@ use Rattle.fixed_fit.proofs.LineLemmas.{ended, errors_longer, line_numeral, line
 use Rattle.fixed_fit.proofs.ProgressLemmas.{is_none}
 use Rattle.fixed_fit.proofs.reader.add_line.Goals as goal
 
-pub add-requires : goal.add-requires
-add-requires g c =
+pub add_read-requires : goal.add_read-requires
+add_read-requires g c =
     let old = c.args.progress.now in
     let new = c.after.result in
     let r = c.requires.known.0 in
@@ -31,6 +32,7 @@ add-requires g c =
           let here : IsReadWithin NearestEven r f line = line_within r n.width f done line new h.width known radix none few in
           subst (λ (x : Radix). IsReadWithin NearestEven x f line) (sym errors.radix) here;
       numeral = subst (λ (x : Radix). IsNumeral x line) (sym errors.radix) (line_numeral r n.width done line new known radix none);
+      short = subst (λ (x : Radix). IfSome c.read_short-short.result (IsShortRead x line)) (h.radix ∙ sym errors.radix) c.read_short-short.ensures;
     }
 
 pub returns-then-is_some-clause-ended : goal.returns-then-is_some-clause-ended
@@ -48,18 +50,18 @@ returns-in-Ok-clause-ended g c = λ r n done h.
     let errors = λ (none : new.fault ≡ None).
     let before = some_errors r n done c.count.result old c.args.errors.now c.shorten.new.self c.args.within.now h (c.after.ensures.sound none) c.shorten.ensures in
     let after = c.in-Ok.ensures r (min c.count.result count) (entries_from 1 done) before in
-    errors_longer r done line new.lines c.count.result count new.plain.count new.signed.count c.add.new.self
+    errors_longer r done line new.lines c.count.result count new.plain.count new.signed.count c.add_read.new.self
     (c.after.ensures.lines ∙ ap (λ (k : ℕ). k + 1) h.progress.count)
     (omega (arith, c.after.ensures.plain)) (omega (arith, c.after.ensures.signed)) c.count.ensures after in
     let radix : new.radix ≡ r = c.after.ensures.radix ∙ h.radix in
     let within = λ (is : n.is_bounded ≡ true) (none : new.fault ≡ None).
     let before : AreServed new.radix n done c.args.within.now = subst (λ (x : Radix). AreServed x n done c.args.within.now) (sym radix) (h.within is (c.after.ensures.sound none)) in
-    let after = c.add-in-Ok.ensures.one_more n done (h.is_bounded ∙ is) before (c.after.ensures.lines ∙ ap (λ (k : ℕ). k + 1) h.progress.count) in
-    subst (λ (x : Radix). AreServed x n (done ++ line ∷ []) c.add-in-Ok.new.self) radix after in
-    ended r n done line old new c.args.errors.now c.add.new.self c.args.within.now c.add-in-Ok.new.self c.after.ensures.one_more c.after.ensures.radix errors c.add-in-Ok.ensures.is_bounded within h
+    let after = c.add.ensures.one_more n done (h.is_bounded ∙ is) before (c.after.ensures.lines ∙ ap (λ (k : ℕ). k + 1) h.progress.count) in
+    subst (λ (x : Radix). AreServed x n (done ++ line ∷ []) c.add.new.self) radix after in
+    ended r n done line old new c.args.errors.now c.add_read.new.self c.args.within.now c.add.new.self c.after.ensures.one_more c.after.ensures.radix errors c.add.ensures.is_bounded within h
 
-pub add-requires-in-Ok-clause-numeral : goal.add-requires-in-Ok-clause-numeral
-add-requires-in-Ok-clause-numeral g c =
+pub add-requires-clause-numeral : goal.add-requires-clause-numeral
+add-requires-clause-numeral g c =
     let new = c.after.result in
     let r = c.requires.known.0 in
     let n = c.requires.known.1 in
@@ -69,8 +71,8 @@ add-requires-in-Ok-clause-numeral g c =
     let radix : new.radix ≡ r = c.after.ensures.radix ∙ h.radix in
     subst (λ (x : Radix). IsNumeral x c.args.line.now) (sym radix) (line_numeral r n.width done c.args.line.now new (c.after.ensures.one_more n.width done h.progress) radix none)
 
-pub add-requires-in-Ok-clause-plain : goal.add-requires-in-Ok-clause-plain
-add-requires-in-Ok-clause-plain g c = λ is.
+pub add-requires-clause-plain : goal.add-requires-clause-plain
+add-requires-clause-plain g c = λ is.
     let new = c.after.result in
     let r = c.requires.known.0 in
     let n = c.requires.known.1 in
@@ -80,8 +82,8 @@ add-requires-in-Ok-clause-plain g c = λ is.
     let served = some_served r n done c.args.progress.now c.args.errors.now c.args.within.now is (c.after.ensures.sound none) h in
     (n.is_range, false, n.widths, n.one, done, subst (λ (x : Radix). HasServing n.is_range x false n.widths n.one done c.args.within.now.plain) (sym (c.after.ensures.radix ∙ h.radix)) served.plain)
 
-pub add-requires-in-Ok-clause-signed : goal.add-requires-in-Ok-clause-signed
-add-requires-in-Ok-clause-signed g c = λ is.
+pub add-requires-clause-signed : goal.add-requires-clause-signed
+add-requires-clause-signed g c = λ is.
     let new = c.after.result in
     let r = c.requires.known.0 in
     let n = c.requires.known.1 in

@@ -1,6 +1,6 @@
 use Rattle.std.proofs.Common.{◌++◌, ◌∷◌, []}
 use Rattle.fixed_error.proofs.WordLemmas.{word_added, words_kept}
-use Rattle.fixed_error.proofs.errors.GreatestErrors.add.Goals as goal
+use Rattle.fixed_error.proofs.errors.GreatestErrors.add_read.Goals as goal
 
 pub returns-then-pass_word : goal.returns-then-pass_word
 returns-then-pass_word g c = λ r count entries h.
