@@ -1,3 +1,4 @@
+mod ImageLemmas
 mod LawLemmas
 mod LineLemmas
 mod PackLemmas

@@ -1,16 +1,14 @@
 -- What was packed is unpacked to the texts of the numbers.
-use Rattle.std.proofs.Common.{◌≡◌, ◌∙◌, ◌||◌, ◌*◌, ◌^◌, ◌<◌, ◌≤◌, ℕ, ℤ, Bool, true, false, unsigned_abs, List, [], ◌∷◌, ◌++◌, length, codes, refl, sym, ap, subst, arith, inl, inr, append-nil}
+use Rattle.std.proofs.Common.{◌≡◌, ◌∙◌, ◌||◌, ◌*◌, ◌^◌, ◌<◌, ◌≤◌, ℕ, ℤ, Bool, false, unsigned_abs, List, [], ◌∷◌, ◌++◌, length, codes, refl, sym, ap, subst, arith, inl, inr, append-nil}
 use Rattle.std.specs.Int.{is_negative}
 use Rattle.std.proofs.lemmas.Nat.{pow_pos}
-use Rattle.fixed_bits.proofs.Public.{image_within, images_agree, in_wide, nearest_by_rest, range_decided, rounded_unique, sign_and_magnitude, width_most}
+use Rattle.fixed_bits.proofs.Public.{image_within, images_agree, in_wide, range_decided, rounded_unique, sign_and_magnitude, width_most}
 use Rattle.fixed_bits.specs.Formats.{FormatParts, IsFormat}
 use Rattle.fixed_bits.specs.Images.{IsImage}
 use Rattle.fixed_bits.specs.Numbers.{with_sign}
 use Rattle.fixed_bits.specs.Ranges.{IsInRange, IsOutOfRange, IsWide, IsWidth}
-use Rattle.fixed_bits.specs.Rounded.{IsNotAbove, IsNotBelow, IsRounded}
 use Rattle.fixed_bits.specs.declared.format.Policy.{Policy}
 use Rattle.fixed_bits.specs.declared.mode.ReadMode.{ReadMode}
-use Rattle.fixed_bits.specs.declared.mode.ReadMode.TheVariants.{Ceil, Floor, NearestEven, TowardsZero}
 use Rattle.fixed_convert.specs.Rounded.{IsMovedIn, IsNotReformatted, IsReformatted}
 use Rattle.fixed_numeral.specs.declared.radix.Radix.{Radix}
 use Rattle.fixed_respell.specs.Answer.{respelled_answer}
@@ -35,24 +33,11 @@ use Rattle.fixed_pack.specs.Word.{joined, number_of, word_bytes, word_length}
 use Rattle.fixed_pack.specs.declared.endian.Endian.{Endian}
 use Rattle.fixed_pack.specs.declared.pack.PackSettings.{PackSettings}
 use Rattle.fixed_pack.specs.declared.unpack.UnpackRule.{UnpackRule}
+use Rattle.fixed_pack.proofs.ImageLemmas.{exact}
 use Rattle.fixed_pack.proofs.ReplyLemmas.{has_digits, line_short}
 use Rattle.fixed_pack.proofs.WordLemmas.{bytes_length, word_back}
 
 -- ---- a number that keeps its fraction length stays the same in every mode
-not_above : (k den : ℕ) → 0 < den → IsNotAbove (k * den) den k
-not_above k den some = record { at_most = omega arith; next = omega (arith, some) }
-
-not_below : (k den : ℕ) → 0 < den → IsNotBelow (k * den) den k
-not_below k den some = record { at_least = omega arith; before = omega (arith, some) }
-
-exact : (m : ReadMode) (n : Bool) (k den : ℕ) → 0 < den → IsRounded m n (k * den) den k
-exact NearestEven n k den some = nearest_by_rest (k * den) den k 0 (omega arith) (omega arith) (λ half. absurd (omega (arith, half, some)))
-exact TowardsZero n k den some = not_above k den some
-exact Floor false k den some = not_above k den some
-exact Floor true k den some = not_below k den some
-exact Ceil false k den some = not_below k den some
-exact Ceil true k den some = not_above k den some
-
 pub stays : (m : ReadMode) (b : ℤ) (f : ℕ) (v : ℤ) → IsMovedIn m b f f v → v ≡ b
 stays m b f v moved =
     let k : ℕ = unsigned_abs b in

@@ -129,6 +129,16 @@ impl Packer {
         }
     }
 
+    /// Keeps the line that is refused, whose bytes are not those of the line whose end has not come.
+    #[cold]
+    fn refuse(&mut self, line: &[u8], error: ParseFixedError)
+        requires { self.old.lines < 2 ^ 63 }
+        ensures refused { self.new.refused ≡ refused_line (self.old.lines + 1) line.now error }
+        ensures out { self.new.out ≡ self.old.out }
+    {
+        self.refused = refused_line(self.lines + 1, line, error);
+    }
+
     /// Packs the line that ends with this part, and begins a new one. A line that is whole in the part is not copied.
     fn end_line<L: Ledger>(&mut self, part: &[u8], steps: &mut Steps<L>) -> Result<(), Stop>
         requires lines { self.old.lines < 2 ^ 63 }
@@ -143,7 +153,7 @@ impl Packer {
                     Ok(())
                 }
                 Err(error) => {
-                    self.refused = refused_line(self.lines + 1, part, error);
+                    self.refuse(part, error);
                     Err(Stop::Refused(error))
                 }
             };

@@ -95,6 +95,11 @@ fn push_image<L: Ledger>(
     let s = settings;
     let from = frac_of(s.source);
     let to = frac_of(s.target);
+    // Bits of a format are their own image in it.
+    if s.source == s.target {
+        push_shortest(out, bits, to, steps);
+        return true;
+    }
     match reformat_mode(s.target, s.policy, s.target_mode, bits, from) {
         Some(found) => {
             push_shortest(out, found.0, to, steps);

@@ -1,0 +1,72 @@
+-- A word whose source is its target: its bits are their own image.
+use Rattle.std.proofs.Common.{◌≡◌, ◌==◌, ◌&&◌, ◌∙◌, ◌*◌, ◌^◌, ◌<◌, ◌≤◌, ◌++◌, ℕ, ℤ, Bool, true, false, unsigned_abs, List, length, refl, sym, ap, subst, arith}
+use Rattle.std.specs.Bool.{beq}
+use Rattle.std.specs.Cmp.{booleans_Decides}
+use Rattle.std.specs.Int.{is_negative}
+use Rattle.std.proofs.lemmas.Bool.{and_parts, false≢true}
+use Rattle.std.proofs.lemmas.Bool.Decides.{Decides-eqb}
+use Rattle.std.proofs.lemmas.Nat.{pow_pos}
+use Rattle.fixed_bits.proofs.Public.{images_agree, in_wide, nearest_by_rest, range_decided, sign_and_magnitude, width_most}
+use Rattle.fixed_bits.specs.Formats.{FormatParts, IsFormat}
+use Rattle.fixed_bits.specs.Ranges.{IsInRange}
+use Rattle.fixed_bits.specs.Rounded.{IsNotAbove, IsNotBelow, IsRounded}
+use Rattle.fixed_bits.specs.declared.format.Policy.{Policy}
+use Rattle.fixed_bits.specs.declared.mode.ReadMode.{ReadMode}
+use Rattle.fixed_bits.specs.declared.mode.ReadMode.TheVariants.{Ceil, Floor, NearestEven, TowardsZero}
+use Rattle.fixed_convert.specs.Rounded.{IsReformatted}
+use Rattle.fixed_write.specs.Texts.{IsShortestText}
+use Rattle.fixed_command.specs.declared.convert.Settings.{Settings}
+use Rattle.fixed_pack.specs.Inner.Unpacking.{AppendsImage}
+
+-- ---- a number in ulps of a fraction length is rounded to itself in every mode
+not_above : (k den : ℕ) → 0 < den → IsNotAbove (k * den) den k
+not_above k den some = record { at_most = omega arith; next = omega (arith, some) }
+
+not_below : (k den : ℕ) → 0 < den → IsNotBelow (k * den) den k
+not_below k den some = record { at_least = omega arith; before = omega (arith, some) }
+
+pub exact : (m : ReadMode) (n : Bool) (k den : ℕ) → 0 < den → IsRounded m n (k * den) den k
+exact NearestEven n k den some = nearest_by_rest (k * den) den k 0 (omega arith) (omega arith) (λ half. absurd (omega (arith, half, some)))
+exact TowardsZero n k den some = not_above k den some
+exact Floor false k den some = not_above k den some
+exact Floor true k den some = not_below k den some
+exact Ceil false k den some = not_below k den some
+exact Ceil true k den some = not_above k den some
+
+-- ---- formats that `==` does not tell apart are one
+pub same_format : (f g : FormatParts) → (beq f.signed g.signed && ((f.width == g.width) && (f.frac == g.frac))) ≡ true → f ≡ g
+same_format f g is =
+    let outer = and_parts (beq f.signed g.signed) ((f.width == g.width) && (f.frac == g.frac)) is in
+    let inner = and_parts (f.width == g.width) (f.frac == g.frac) outer.1 in
+    let F : Bool → ℕ → ℕ → FormatParts = λ s w k. record { signed = s; width = w; frac = k } in
+    ap (λ s. F s f.width f.frac) ((booleans_Decides f.signed g.signed).0 outer.0)
+    ∙ (ap (λ w. F g.signed w f.frac) ((Decides-eqb f.width g.width).0 inner.0) ∙ ap (λ k. F g.signed g.width k) ((Decides-eqb f.frac g.frac).0 inner.1))
+
+-- ---- bits of a format are their own image in it
+own_image : (m : ReadMode) (policy : Policy) (f : FormatParts) (b : ℤ) → IsFormat f.width f.frac → IsInRange f.signed f.width b → IsReformatted m policy f b f.frac b false
+own_image m policy f b format range = record {
+  moved = b;
+  is_moved = record {
+    ulps = unsigned_abs b;
+    rounded = exact m (is_negative b) (unsigned_abs b) (2 ^ f.frac) (pow_pos f.frac);
+    value = sym (sign_and_magnitude b);
+  };
+  image_is = (images_agree policy f.signed f.width b b format.is_width range).1 refl;
+  verdict = (λ t. absurd (false≢true t), λ out. absurd ((range_decided f.signed f.width b).1 out range));
+}
+
+-- and so their text is that of their image
+pub own_text : (s : Settings) (bits : ℤ) (frac : ℕ) (text old new : List ℕ) → s.source ≡ s.target → frac ≡ s.target.frac → IsFormat s.source.width s.source.frac → IsFormat s.target.width s.target.frac → IsInRange s.source.signed s.source.width bits
+    → IsShortestText bits frac text → length text ≤ 48 → new ≡ old ++ text → AppendsImage s bits old new
+own_text s bits frac text old new same is_frac source target range shortest short out = record {
+  source = source;
+  target = target;
+  image = bits;
+  overflowed = false;
+  moved = subst (λ f. IsReformatted s.target_mode s.policy f bits s.source.frac bits false) same (own_image s.target_mode s.policy s.source bits source range);
+  wide = in_wide s.source.signed s.source.width bits (width_most s.source.width source.is_width) range;
+  text = text;
+  shortest = subst (λ n. IsShortestText bits n text) is_frac shortest;
+  short = short;
+  out = out;
+}
