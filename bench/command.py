@@ -1,11 +1,16 @@
 """The command `fixed`: its words beside fixed_tool and beside what is asked of them, and how long it takes to start and end."""
 import os
+import random
 import subprocess
 import time
 
-from timing import in_turn, peak, table
+from timing import VALGRIND, in_turn, instructions, peak, table
 
 LINES = 200_000
+# The words of an input that is timed, and of one whose instructions are subtracted, so that starting does not count.
+WORDS, COUNTED = 500_000, 50_000
+# What is asked of `pack` and of `unpack`, in megabytes of lines a second of user time.
+MEGABYTES = 100
 # What is asked of the memory of each command that streams.
 MOST_KIB = 4096
 # How long the lines are of which the memory is measured, and how many there are.
@@ -25,21 +30,27 @@ def converting(programs, inputs, tries):
 
 
 def packing(programs, inputs, tries):
-    """Megabytes a second of numerals: those that `fixed pack` reads, and those that `fixed unpack` writes."""
+    """Megabytes of lines a second of user time, read by `fixed pack` and written by `fixed unpack`; instructions a word."""
     fixed = programs.built("fixed")
     rows = []
-    for word, kind in (("U16F16", "plain"), ("I1F15", "audio")):
-        given = inputs.path("plain", "--lines", str(LINES))
-        if kind == "audio":
-            given = inputs.of("audio", "".join(f"{(i * 40503 % 65536 - 32768) / 32768}\n" for i in range(LINES)))
-        words, texts = (os.path.join(inputs.folder, f"{kind}.{end}") for end in ("bin", "texts"))
-        for command, source, target in (("pack", given, words), ("unpack", words, texts)):
-            with open(source, "rb") as bytes_in, open(target, "wb") as bytes_out:
-                subprocess.run([fixed, command, word], stdin=bytes_in, stdout=bytes_out, check=True)
-        took = in_turn([([fixed, "pack", word], given), ([fixed, "unpack", word], words)], tries)
-        rows += [[f"fixed {command} {word}", f"{os.path.getsize(numerals) / seconds / 1e6:.0f}", f"{LINES / seconds / 1e6:.1f}"]
-                 for command, numerals, seconds in zip(("pack", "unpack"), (given, texts), took)]
-    table(rows, ["raw words", "MB/s of numerals", "M words/s"])
+    for word, size in (("Q15", 2), ("I16F16", 4)):
+        paths = {}
+        for count in (WORDS, COUNTED):
+            words, texts = (os.path.join(inputs.folder, f"{word}-{count}.{end}") for end in ("bin", "texts"))
+            with open(words, "wb") as out:
+                out.write(random.Random(1).randbytes(size * count))
+            with open(words, "rb") as given, open(texts, "wb") as out:
+                subprocess.run([fixed, "unpack", word], stdin=given, stdout=out, check=True)
+            paths[count] = {"pack": texts, "unpack": words}
+        written = os.path.getsize(paths[WORDS]["pack"])
+        took = in_turn([([fixed, it, word], path) for it, path in paths[WORDS].items()], tries, is_user=True)
+        for (it, path), seconds in zip(paths[WORDS].items(), took):
+            command, speed, counted = [fixed, it, word], written / seconds / 1e6, ""
+            if VALGRIND:
+                more = instructions(command, path) - instructions(command, paths[COUNTED][it])
+                counted = f"{more / (WORDS - COUNTED):.0f}"
+            rows.append([f"fixed {it} {word}", f"{written / WORDS:.1f}", f"{speed:.0f}", f"{speed / MEGABYTES:.0%}", counted])
+    table(rows, ["raw words", "bytes a line", "MB/s of user time", f"of {MEGABYTES}", "instructions a word"])
 
 
 def memory(programs, inputs):
