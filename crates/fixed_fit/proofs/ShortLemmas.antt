@@ -1,7 +1,8 @@
 -- Short decimals: which of them are below zero, and which surely fit.
 use Rattle.std.proofs.Common.{◌≡◌, ℕ, ◌+◌, ◌*◌, ◌^◌, ◌<◌, ◌≤◌, ◌↔◌, Bool, true, false, IsTrue, refl, sym, ap, ◌∙◌, subst, arith, ⊎_elim, mul-le-mul_right, ℤ, pos, negsuc, ◌-ℤ◌, zero, suc, List}
 use Rattle.std.specs.Prelude.{Option, Some, None}
-use Rattle.std.proofs.Math.Nat.{one-le-pow}
+use Rattle.std.proofs.Math.Nat.{one-le-pow, pow-le-pow_right}
+use Rattle.std.proofs.lemmas.Nat.{pow-add}
 use Rattle.std.proofs.lemmas.Bool.{cases_lt}
 use Rattle.std.proofs.lemmas.Int.{ints}
 use Rattle.fixed_bits.specs.Nearest.{IsNearest}
@@ -92,6 +93,16 @@ surely_fits s n f line p negative whole fraction places exponent two numeral h l
       read = v.1;
       in_range = subst Q (sym v.1.value) (below_room s n (is_minus p.sign) v.1.ulps (λ m. sign (h.sign ∙ m)) (omega (arith, few, room)));
     }
+
+-- ---- room for the next whole number
+pub room_for : (next k q f b : ℕ) → next < 2 ^ q → q ≤ k → k + f ≡ b → next * 2 ^ f < 2 ^ b
+room_for next k q f b less most is =
+    let grows : 2 ^ q ≤ 2 ^ k = pow-le-pow_right (omega arith) most in
+    let more : (next + 1) * 2 ^ f ≤ 2 ^ k * 2 ^ f = mul-le-mul_right (2 ^ f) (omega (arith, less, grows)) in
+    let some : 1 ≤ 2 ^ f = one-le-pow f 2 (omega arith) in
+    let same : 2 ^ (k + f) ≡ 2 ^ k * 2 ^ f = pow-add 2 k f in
+    let all : 2 ^ (k + f) ≡ 2 ^ b = ap (λ (x : ℕ). 2 ^ x) is in
+    omega (arith, more, some, same, all)
 
 -- ---- what a short decimal leaves
 pub left_as_they_were : (r : Radix) (line : List ℕ) (place : ℕ) (l : Lengths) (n : ShortNumeral) → IsShortRead r line n → n.exponent ≡ pos 0 → IsSurelyLeft l n.negative n.whole → AreLowered r line place l l

@@ -105,33 +105,19 @@ impl Progress {
         self.plain.count.max(self.signed.count)
     }
 
-    /// What is kept after one more line, by the numbers of its parts where it was read as a short decimal.
-    pub fn after<L: Ledger>(
-        &self,
-        line: &[u8],
-        short: Option<ShortNumeral>,
-        steps: &mut Steps<L>,
-    ) -> Progress
+    /// What is kept after one more line, where each before it is a numeral.
+    fn after<L: Ledger>(&self, line: &[u8], steps: &mut Steps<L>) -> Progress
         requires room { self.now.lines < 2 ^ 63 }
         requires known { HasSomeProgress self.now }
-        requires short { IfSome short (IsShortRead self.now.radix line.now) }
+        requires none { self.now.fault ≡ None }
         ensures radix { result.radix ≡ self.now.radix }
         ensures lines { result.lines ≡ self.now.lines + 1 }
         ensures one_more { (n : ℕ) (lines : List (List ℕ)) → HasProgress n lines self.now
             → HasProgress n (lines ++ line.now ∷ []) result }
         ensures plain { result.plain.count ≤ self.now.plain.count }
         ensures signed { result.signed.count ≤ self.now.signed.count }
-        ensures sound { result.fault ≡ None → self.now.fault ≡ None }
     {
         let place = self.lines + 1;
-        if self.fault.is_some() {
-            return self.with_fault(place, self.fault);
-        }
-        if let Some(found) = short {
-            if is_left_of_both(self.plain, self.signed, found) {
-                return self.with_numeral(place, is_short_below(found), self.plain, self.signed);
-            }
-        }
         match is_below_zero(line, self.radix, steps) {
             Err(error) => self.with_fault(place, Some(LeastFault::NotNumeral { place, error })),
             Ok(below) => {
@@ -140,5 +126,38 @@ impl Progress {
                 self.with_numeral(place, below, plain, signed)
             }
         }
+    }
+
+    /// Takes one more line, by the numbers of its parts where it was read as a short decimal. Where that takes away no
+    /// length, the lengths are not written again.
+    pub fn push<L: Ledger>(
+        &mut self,
+        line: &[u8],
+        short: Option<ShortNumeral>,
+        steps: &mut Steps<L>,
+    )
+        requires room { self.old.lines < 2 ^ 63 }
+        requires known { HasSomeProgress self.old }
+        requires short { IfSome short (IsShortRead self.old.radix line.now) }
+        ensures radix { self.new.radix ≡ self.old.radix }
+        ensures lines { self.new.lines ≡ self.old.lines + 1 }
+        ensures one_more { (n : ℕ) (lines : List (List ℕ)) → HasProgress n lines self.old
+            → HasProgress n (lines ++ line.now ∷ []) self.new }
+        ensures plain { self.new.plain.count ≤ self.old.plain.count }
+        ensures signed { self.new.signed.count ≤ self.old.signed.count }
+        ensures sound { self.new.fault ≡ None → self.old.fault ≡ None }
+    {
+        if self.fault.is_some() {
+            self.lines += 1;
+            return;
+        }
+        if let Some(found) = short {
+            if is_left_of_both(self.plain, self.signed, found) {
+                self.lines += 1;
+                self.is_below = is_either(self.is_below, is_short_below(found));
+                return;
+            }
+        }
+        *self = self.after(line, steps);
     }
 }

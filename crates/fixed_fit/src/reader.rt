@@ -59,7 +59,7 @@ fn add_line<L: Ledger>(
     ensures lines { OnOk result (progress.new.lines ≡ progress.old.lines + 1) }
 {
     let short = read_short(line, progress.radix, steps);
-    *progress = progress.after(line, short, steps);
+    progress.push(line, short, steps);
     if progress.fault.is_some() {
         return Ok(());
     }

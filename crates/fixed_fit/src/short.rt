@@ -11,11 +11,11 @@ use fixed_bits::Format;
 use fixed_numeral::ShortNumeral;
 
 /// A power of two.
-fn power_of_two(exponent: u32) -> u128
-    requires { exponent ≤ 64 }
+fn power_of_two(exponent: u32) -> u64
+    requires { exponent ≤ 63 }
     ensures { result ≡ 2 ^ exponent }
 {
-    1u128 << exponent
+    1u64 << exponent
 }
 
 /// How many bits a magnitude has at most in a format.
@@ -42,8 +42,12 @@ fn has_room(left: Lengths, whole: u64) -> bool
     ensures { result ≡ true → (f : ℕ) → f + 1 ≡ left.count
         → (whole + 1) * 2 ^ f < 2 ^ magnitude_bits left.kind.signed left.kind.width }
 {
-    let next = u128::from(whole) + 1;
-    next * power_of_two(left.count - 1) < power_of_two(magnitude_bits(left.kind))
+    let bits = magnitude_bits(left.kind) + 1;
+    if bits < left.count {
+        return false;
+    }
+    let next = whole + 1;
+    next < power_of_two((bits - left.count).min(63))
 }
 
 /// Whether a sign and a whole part show that a number is in range with each length that is left.

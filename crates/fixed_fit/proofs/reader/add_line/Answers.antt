@@ -15,16 +15,16 @@ use Rattle.fixed_fit.proofs.reader.add_line.Goals as goal
 pub add_read-requires : goal.add_read-requires
 add_read-requires g c =
     let old = c.args.progress.now in
-    let new = c.after.result in
+    let new = c.push.new.self in
     let r = c.requires.known.0 in
     let n = c.requires.known.1 in
     let done = c.requires.known.2 in
     let h = c.requires.known.3 in
     let line : List ℕ = c.args.line.now in
     let none : new.fault ≡ None = is_none new.fault (grind (arith, common_steps, c.is_some.ensures, c.if-is_some.false)) in
-    let errors = some_errors r n done c.count.result old c.args.errors.now c.shorten.new.self c.args.within.now h (c.after.ensures.sound none) c.shorten.ensures in
-    let known : HasProgress n.width (done ++ line ∷ []) new = c.after.ensures.one_more n.width done h.progress in
-    let radix : new.radix ≡ r = c.after.ensures.radix ∙ h.radix in
+    let errors = some_errors r n done c.count.result old c.args.errors.now c.shorten.new.self c.args.within.now h (c.push.ensures.sound none) c.shorten.ensures in
+    let known : HasProgress n.width (done ++ line ∷ []) new = c.push.ensures.one_more n.width done h.progress in
+    let radix : new.radix ≡ r = c.push.ensures.radix ∙ h.radix in
     record {
       known = (r, _, entries_from 1 done, errors);
       within = λ f less.
@@ -38,57 +38,57 @@ add_read-requires g c =
 pub returns-then-is_some-clause-ended : goal.returns-then-is_some-clause-ended
 returns-then-is_some-clause-ended g c = λ r n done h.
     let old = c.args.progress.now in
-    let some : c.after.result.fault ≡ None → ⊥ = grind (arith, common_steps, c.is_some.ensures, c.if-is_some.true) in
-    ended r n done c.args.line.now old c.after.result c.args.errors.now c.args.errors.now c.args.within.now c.args.within.now c.after.ensures.one_more c.after.ensures.radix (λ none. absurd (some none)) refl (λ is none. absurd (some none)) h
+    let some : c.push.new.self.fault ≡ None → ⊥ = grind (arith, common_steps, c.is_some.ensures, c.if-is_some.true) in
+    ended r n done c.args.line.now old c.push.new.self c.args.errors.now c.args.errors.now c.args.within.now c.args.within.now c.push.ensures.one_more c.push.ensures.radix (λ none. absurd (some none)) refl (λ is none. absurd (some none)) h
 
 pub returns-in-Ok-clause-ended : goal.returns-in-Ok-clause-ended
 returns-in-Ok-clause-ended g c = λ r n done h.
     let old = c.args.progress.now in
-    let new = c.after.result in
+    let new = c.push.new.self in
     let line : List ℕ = c.args.line.now in
     let count : ℕ = max old.plain.count old.signed.count in
     let errors = λ (none : new.fault ≡ None).
-    let before = some_errors r n done c.count.result old c.args.errors.now c.shorten.new.self c.args.within.now h (c.after.ensures.sound none) c.shorten.ensures in
+    let before = some_errors r n done c.count.result old c.args.errors.now c.shorten.new.self c.args.within.now h (c.push.ensures.sound none) c.shorten.ensures in
     let after = c.in-Ok.ensures r (min c.count.result count) (entries_from 1 done) before in
     errors_longer r done line new.lines c.count.result count new.plain.count new.signed.count c.add_read.new.self
-    (c.after.ensures.lines ∙ ap (λ (k : ℕ). k + 1) h.progress.count)
-    (omega (arith, c.after.ensures.plain)) (omega (arith, c.after.ensures.signed)) c.count.ensures after in
-    let radix : new.radix ≡ r = c.after.ensures.radix ∙ h.radix in
+    (c.push.ensures.lines ∙ ap (λ (k : ℕ). k + 1) h.progress.count)
+    (omega (arith, c.push.ensures.plain)) (omega (arith, c.push.ensures.signed)) c.count.ensures after in
+    let radix : new.radix ≡ r = c.push.ensures.radix ∙ h.radix in
     let within = λ (is : n.is_bounded ≡ true) (none : new.fault ≡ None).
-    let before : AreServed new.radix n done c.args.within.now = subst (λ (x : Radix). AreServed x n done c.args.within.now) (sym radix) (h.within is (c.after.ensures.sound none)) in
-    let after = c.add.ensures.one_more n done (h.is_bounded ∙ is) before (c.after.ensures.lines ∙ ap (λ (k : ℕ). k + 1) h.progress.count) in
+    let before : AreServed new.radix n done c.args.within.now = subst (λ (x : Radix). AreServed x n done c.args.within.now) (sym radix) (h.within is (c.push.ensures.sound none)) in
+    let after = c.add.ensures.one_more n done (h.is_bounded ∙ is) before (c.push.ensures.lines ∙ ap (λ (k : ℕ). k + 1) h.progress.count) in
     subst (λ (x : Radix). AreServed x n (done ++ line ∷ []) c.add.new.self) radix after in
-    ended r n done line old new c.args.errors.now c.add_read.new.self c.args.within.now c.add.new.self c.after.ensures.one_more c.after.ensures.radix errors c.add.ensures.is_bounded within h
+    ended r n done line old new c.args.errors.now c.add_read.new.self c.args.within.now c.add.new.self c.push.ensures.one_more c.push.ensures.radix errors c.add.ensures.is_bounded within h
 
 pub add-requires-clause-numeral : goal.add-requires-clause-numeral
 add-requires-clause-numeral g c =
-    let new = c.after.result in
+    let new = c.push.new.self in
     let r = c.requires.known.0 in
     let n = c.requires.known.1 in
     let done = c.requires.known.2 in
     let h = c.requires.known.3 in
     let none : new.fault ≡ None = is_none new.fault (grind (arith, common_steps, c.is_some.ensures, c.if-is_some.false)) in
-    let radix : new.radix ≡ r = c.after.ensures.radix ∙ h.radix in
-    subst (λ (x : Radix). IsNumeral x c.args.line.now) (sym radix) (line_numeral r n.width done c.args.line.now new (c.after.ensures.one_more n.width done h.progress) radix none)
+    let radix : new.radix ≡ r = c.push.ensures.radix ∙ h.radix in
+    subst (λ (x : Radix). IsNumeral x c.args.line.now) (sym radix) (line_numeral r n.width done c.args.line.now new (c.push.ensures.one_more n.width done h.progress) radix none)
 
 pub add-requires-clause-plain : goal.add-requires-clause-plain
 add-requires-clause-plain g c = λ is.
-    let new = c.after.result in
+    let new = c.push.new.self in
     let r = c.requires.known.0 in
     let n = c.requires.known.1 in
     let done = c.requires.known.2 in
     let h = c.requires.known.3 in
     let none : new.fault ≡ None = is_none new.fault (grind (arith, common_steps, c.is_some.ensures, c.if-is_some.false)) in
-    let served = some_served r n done c.args.progress.now c.args.errors.now c.args.within.now is (c.after.ensures.sound none) h in
-    (n.is_range, false, n.widths, n.one, done, subst (λ (x : Radix). HasServing n.is_range x false n.widths n.one done c.args.within.now.plain) (sym (c.after.ensures.radix ∙ h.radix)) served.plain)
+    let served = some_served r n done c.args.progress.now c.args.errors.now c.args.within.now is (c.push.ensures.sound none) h in
+    (n.is_range, false, n.widths, n.one, done, subst (λ (x : Radix). HasServing n.is_range x false n.widths n.one done c.args.within.now.plain) (sym (c.push.ensures.radix ∙ h.radix)) served.plain)
 
 pub add-requires-clause-signed : goal.add-requires-clause-signed
 add-requires-clause-signed g c = λ is.
-    let new = c.after.result in
+    let new = c.push.new.self in
     let r = c.requires.known.0 in
     let n = c.requires.known.1 in
     let done = c.requires.known.2 in
     let h = c.requires.known.3 in
     let none : new.fault ≡ None = is_none new.fault (grind (arith, common_steps, c.is_some.ensures, c.if-is_some.false)) in
-    let served = some_served r n done c.args.progress.now c.args.errors.now c.args.within.now is (c.after.ensures.sound none) h in
-    (n.is_range, true, n.widths, n.one, done, subst (λ (x : Radix). HasServing n.is_range x true n.widths n.one done c.args.within.now.signed) (sym (c.after.ensures.radix ∙ h.radix)) served.signed)
+    let served = some_served r n done c.args.progress.now c.args.errors.now c.args.within.now is (c.push.ensures.sound none) h in
+    (n.is_range, true, n.widths, n.one, done, subst (λ (x : Radix). HasServing n.is_range x true n.widths n.one done c.args.within.now.signed) (sym (c.push.ensures.radix ∙ h.radix)) served.signed)
