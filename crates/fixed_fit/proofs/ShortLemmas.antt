@@ -55,20 +55,22 @@ short_below p negative whole fraction places exponent two b h below =
     )
 
 -- ---- in range
-up_to : (digits next places : ℕ) → digits ≤ next * 10 ^ places → (scaled digits 1 10 (pos 0 -ℤ pos places)).num ≤ next * (scaled digits 1 10 (pos 0 -ℤ pos places)).den
-up_to digits next zero less = omega (arith, less)
-up_to digits next (suc k) less =
-    let P : ℤ → Type 0 = λ z. (scaled digits 1 10 z).num ≤ next * (scaled digits 1 10 z).den in
+-- an ulp or more below the end
+below_end : (digits up b places : ℕ) → digits * up + 10 ^ places ≤ b * 10 ^ places → (scaled digits 1 10 (pos 0 -ℤ pos places)).num * up + (scaled digits 1 10 (pos 0 -ℤ pos places)).den ≤ b * (scaled digits 1 10 (pos 0 -ℤ pos places)).den
+below_end digits up b zero less = omega (arith, less)
+below_end digits up b (suc k) less =
+    let P : ℤ → Type 0 = λ z. (scaled digits 1 10 z).num * up + (scaled digits 1 10 z).den ≤ b * (scaled digits 1 10 z).den in
     let is : pos 0 -ℤ pos (suc k) ≡ negsuc k = omega (arith, ints) in
-    let down : digits ≤ next * (1 * 10 ^ suc k) = omega (arith, less) in
+    let down : digits * up + 1 * 10 ^ suc k ≤ b * (1 * 10 ^ suc k) = omega (arith, less) in
     subst P (sym is) down
 
--- a number of ulps of at most a whole number is at most as many as that has
-nearest_below : (num den up next q : ℕ) → 0 < den → num ≤ next * den → IsNearest (num * up) den q → q ≤ next * up
-nearest_below num den up next q some less h =
-    let whole : IsNearest (next * up * den) den (next * up) = record { near = omega arith; tie = λ e. absurd (omega (arith, e, some)) } in
-    let step : num * up ≤ next * den * up = mul-le-mul_right up less in
-    nearest_grows (num * up) (next * up * den) den q (next * up) some (omega (arith, step)) h whole
+-- a number of at most a whole number of ulps is rounded to at most as many
+nearest_below : (num den up b q : ℕ) → 0 < den → num * up + den ≤ b * den → IsNearest (num * up) den q → q < b
+nearest_below num den up zero q some less h = absurd (omega (arith, less, some))
+nearest_below num den up (suc top) q some less h =
+    let whole : IsNearest (top * den) den top = record { near = omega arith; tie = λ e. absurd (omega (arith, e, some)) } in
+    let most : q ≤ top = nearest_grows (num * up) (top * den) den q top some (omega (arith, less)) h whole in
+    omega (arith, most)
 
 below_room : (s : Bool) (n : ℕ) (minus : Bool) (ulps : ℕ) → (minus ≡ true → s ≡ true) → ulps < 2 ^ magnitude_bits s n → IsInRange s n (with_sign minus ulps)
 below_room true n true ulps sign less = record { low = omega (arith, ints, less); high = omega (arith, ints, less) }
@@ -77,21 +79,22 @@ below_room false n false ulps sign less = record { low = omega (arith, ints, les
 below_room false n true ulps sign less = let no : false ≡ true = sign refl in cc
 
 surely_fits : (s : Bool) (n f : ℕ) (line : List ℕ) (p : Parts) (negative : Bool) (whole fraction places : ℕ) (exponent : ℤ) (two : Bool) → HasNumeral Dec line p → IsShortNumeral Dec p negative whole fraction places exponent two
-    → fraction < 10 ^ places → exponent ≡ pos 0 → (negative ≡ true → s ≡ true) → (whole + 1) * 2 ^ f < 2 ^ magnitude_bits s n → Fits Dec s n f line
-surely_fits s n f line p negative whole fraction places exponent two numeral h less none sign room =
+    → exponent ≡ pos 0 → (negative ≡ true → s ≡ true) → (whole * 10 ^ places + fraction) * 2 ^ f + 10 ^ places ≤ 2 ^ magnitude_bits s n * 10 ^ places → Fits Dec s n f line
+surely_fits s n f line p negative whole fraction places exponent two numeral h none sign room =
     let v = read_number_is_the_one NearestEven Dec p f in
     let digits : ℕ = whole * 10 ^ places + fraction in
+    let end : ℕ = 2 ^ magnitude_bits s n in
     let same : magnitude Dec p ≡ scaled digits 1 10 (pos 0 -ℤ pos places) = magnitude_is p negative whole fraction places exponent two h ∙ ap (λ e. scaled digits 1 10 (e -ℤ pos places)) none in
-    let P : Fraction → Type 0 = λ m. m.num ≤ (whole + 1) * m.den in
-    let next : (magnitude Dec p).num ≤ (whole + 1) * (magnitude Dec p).den = subst P (sym same) (up_to digits (whole + 1) places (omega (arith, less))) in
-    let few : v.1.ulps ≤ (whole + 1) * 2 ^ f = nearest_below (magnitude Dec p).num (magnitude Dec p).den (2 ^ f) (whole + 1) v.1.ulps (magnitude_pos Dec p) next v.1.rounded in
+    let P : Fraction → Type 0 = λ m. m.num * 2 ^ f + m.den ≤ end * m.den in
+    let below : (magnitude Dec p).num * 2 ^ f + (magnitude Dec p).den ≤ end * (magnitude Dec p).den = subst P (sym same) (below_end digits (2 ^ f) end places room) in
+    let few : v.1.ulps < end = nearest_below (magnitude Dec p).num (magnitude Dec p).den (2 ^ f) end v.1.ulps (magnitude_pos Dec p) below v.1.rounded in
     let Q : ℤ → Type 0 = λ z. IsInRange s n z in
     record {
       parts = p;
       has = numeral;
       number = v.0;
       read = v.1;
-      in_range = subst Q (sym v.1.value) (below_room s n (is_minus p.sign) v.1.ulps (λ m. sign (h.sign ∙ m)) (omega (arith, few, room)));
+      in_range = subst Q (sym v.1.value) (below_room s n (is_minus p.sign) v.1.ulps (λ m. sign (h.sign ∙ m)) few);
     }
 
 -- ---- room for the next whole number
@@ -104,12 +107,24 @@ room_for next k q f b less most is =
     let all : 2 ^ (k + f) ≡ 2 ^ b = ap (λ (x : ℕ). 2 ^ x) is in
     omega (arith, more, some, same, all)
 
+pub next_fits : (whole fraction t up b : ℕ) → fraction < t → (whole + 1) * up < b → (whole * t + fraction) * up + t ≤ b * t
+next_fits whole fraction t up b below less =
+    let m : ((whole + 1) * up + 1) * t ≤ b * t = mul-le-mul_right t (omega (arith, less)) in
+    let n : fraction * up ≤ t * up = mul-le-mul_right up (omega (arith, below)) in
+    omega (arith, m, n)
+
+-- ---- room by all digits
+pub digits_fit : (whole fraction t up b left : ℕ) → whole * up + left + 1 ≡ b → fraction * up ≤ left * t → (whole * t + fraction) * up + t ≤ b * t
+digits_fit whole fraction t up b left is less =
+    let m : (whole * up + left + 1) * t ≡ b * t = ap (λ (x : ℕ). x * t) is in
+    omega (arith, m, less)
+
 -- ---- what a short decimal leaves
-pub left_as_they_were : (r : Radix) (line : List ℕ) (place : ℕ) (l : Lengths) (n : ShortNumeral) → IsShortRead r line n → n.exponent ≡ pos 0 → IsSurelyLeft l n.negative n.whole → AreLowered r line place l l
+pub left_as_they_were : (r : Radix) (line : List ℕ) (place : ℕ) (l : Lengths) (n : ShortNumeral) → IsShortRead r line n → n.exponent ≡ pos 0 → IsSurelyLeft l n → AreLowered r line place l l
 left_as_they_were r line place l n read none h =
     let numeral = read.numeral in
     subst (λ (x : Radix). AreLowered x line place l l) (sym read.decimal)
-    (not_lowered Dec line place l l.count refl (λ f last. surely_fits l.kind.signed l.kind.width f line numeral.0 n.negative n.whole n.fraction n.places n.exponent n.scales_by_two numeral.1 (read.parts numeral.0 numeral.1) read.fraction none (h.sign f last) (h.room f last)))
+    (not_lowered Dec line place l l.count refl (λ f last. surely_fits l.kind.signed l.kind.width f line numeral.0 n.negative n.whole n.fraction n.places n.exponent n.scales_by_two numeral.1 (read.parts numeral.0 numeral.1) none (h.sign f last) (h.room f last)))
 
 pub read_below : (r : Radix) (line : List ℕ) (n : ShortNumeral) (b : Bool) → IsShortRead r line n → (IsTrue b ↔ ((n.negative ≡ true) × (0 < n.whole + n.fraction))) → (p : Parts) → HasNumeral r line p → IsTrue b ↔ IsBelowZero r p
 read_below r line n b read below =

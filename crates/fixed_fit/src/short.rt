@@ -1,14 +1,14 @@
 //! Short decimals that are decided by the numbers of their parts alone.
 //!
 //! Most lines fit each length that is left. That is seen by the whole part, where the numbers up to the next whole
-//! number fit.
+//! number fit, and else by the digits after the point too.
 
 ghost use Rattle.std.specs.Prelude.{◌≡◌, ◌≤◌, ◌<◌, ◌+◌, ◌*◌, ◌^◌, ◌↔◌, IsTrue, true, pos, ℕ};
-ghost use Rattle.fixed_fit.specs.Inner.Lengths.{IsSurelyLeft, magnitude_bits};
+ghost use Rattle.fixed_fit.specs.Inner.Lengths.{HasRoom, IsSurelyLeft, magnitude_bits};
 
 use crate::lengths::Lengths;
 use fixed_bits::Format;
-use fixed_numeral::ShortNumeral;
+use fixed_numeral::{ShortNumeral, power_of_ten};
 
 /// A power of two.
 fn power_of_two(exponent: u32) -> u64
@@ -16,6 +16,14 @@ fn power_of_two(exponent: u32) -> u64
     ensures { result ≡ 2 ^ exponent }
 {
     1u64 << exponent
+}
+
+/// A power of two that may be 2^64.
+fn wide_power_of_two(exponent: u32) -> u128
+    requires { exponent ≤ 64 }
+    ensures { result ≡ 2 ^ exponent }
+{
+    1u128 << exponent
 }
 
 /// How many bits a magnitude has at most in a format.
@@ -34,32 +42,67 @@ fn has_sign(kind: Format, is_negative: bool) -> bool
     kind.signed() || !is_negative
 }
 
-/// Whether the next whole number is in range with the longest length that is left.
-fn has_room(left: Lengths, whole: u64) -> bool
-    requires some { 0 < left.count }
-    requires most { left.count ≤ left.kind.width + 1 }
-    requires whole { whole < 10 ^ 16 }
-    ensures { result ≡ true → (f : ℕ) → f + 1 ≡ left.count
-        → (whole + 1) * 2 ^ f < 2 ^ magnitude_bits left.kind.signed left.kind.width }
+/// Whether the next whole number is below the end of a range of so many bits at a fraction length.
+fn has_room_above(bits: u32, frac: u32, whole: u64) -> bool
+    requires { whole < 10 ^ 16 }
+    ensures { result ≡ true → (whole + 1) * 2 ^ frac < 2 ^ bits }
 {
-    let bits = magnitude_bits(left.kind) + 1;
-    if bits < left.count {
+    if bits < frac {
         return false;
     }
     let next = whole + 1;
-    next < power_of_two((bits - left.count).min(63))
+    next < power_of_two((bits - frac).min(63))
 }
 
-/// Whether a sign and a whole part show that a number is in range with each length that is left.
-fn is_surely_left(left: Lengths, is_negative: bool, whole: u64) -> bool
+/// Whether a short decimal is an ulp or more below the end of a range of so many bits at a fraction length. `false`
+/// only means: read the line.
+fn has_room_by_digits(bits: u32, frac: u32, found: ShortNumeral) -> bool
+    requires bits { bits ≤ 64 }
+    requires frac { frac ≤ 64 }
+    requires whole { found.whole < 10 ^ 16 }
+    requires fraction { found.fraction < 10 ^ found.places }
+    ensures { result ≡ true → (found.whole * 10 ^ found.places + found.fraction) * 2 ^ frac + 10 ^ found.places
+        ≤ 2 ^ bits * 10 ^ found.places }
+{
+    if found.places > 18 {
+        return false;
+    }
+    let greatest = wide_power_of_two(bits) - 1;
+    let ulps = wide_power_of_two(frac);
+    let taken = u128::from(found.whole) * ulps;
+    if taken > greatest {
+        return false;
+    }
+    found.fraction * ulps <= (greatest - taken) * u128::from(power_of_ten(found.places))
+}
+
+/// Whether a short decimal is in range with the longest length that is left.
+fn has_room(left: Lengths, found: ShortNumeral) -> bool
+    requires some { 0 < left.count }
     requires most { left.count ≤ left.kind.width + 1 }
-    requires whole { whole < 10 ^ 16 }
-    ensures { result ≡ true → IsSurelyLeft left is_negative whole }
+    requires whole { found.whole < 10 ^ 16 }
+    requires fraction { found.fraction < 10 ^ found.places }
+    ensures { result ≡ true → HasRoom left found }
+{
+    let bits = magnitude_bits(left.kind);
+    let frac = left.count - 1;
+    if has_room_above(bits, frac, found.whole) {
+        return true;
+    }
+    has_room_by_digits(bits, frac, found)
+}
+
+/// Whether a short decimal without an exponent is surely in range with each length that is left.
+fn is_surely_left(left: Lengths, found: ShortNumeral) -> bool
+    requires most { left.count ≤ left.kind.width + 1 }
+    requires whole { found.whole < 10 ^ 16 }
+    requires fraction { found.fraction < 10 ^ found.places }
+    ensures { result ≡ true → IsSurelyLeft left found }
 {
     if left.count == 0 {
         return true;
     }
-    has_sign(left.kind, is_negative) && has_room(left, whole)
+    has_sign(left.kind, found.negative) && has_room(left, found)
 }
 
 /// Whether a short decimal is surely in range with each length that is left of two kinds.
@@ -67,13 +110,12 @@ pub fn is_left_of_both(plain: Lengths, signed: Lengths, found: ShortNumeral) -> 
     requires plain { plain.count ≤ plain.kind.width + 1 }
     requires signed { signed.count ≤ signed.kind.width + 1 }
     requires whole { found.whole < 10 ^ 16 }
+    requires fraction { found.fraction < 10 ^ found.places }
     ensures exponent { result ≡ true → found.exponent ≡ pos 0 }
-    ensures plain { result ≡ true → IsSurelyLeft plain found.negative found.whole }
-    ensures signed { result ≡ true → IsSurelyLeft signed found.negative found.whole }
+    ensures plain { result ≡ true → IsSurelyLeft plain found }
+    ensures signed { result ≡ true → IsSurelyLeft signed found }
 {
-    found.exponent == 0
-        && is_surely_left(plain, found.negative, found.whole)
-        && is_surely_left(signed, found.negative, found.whole)
+    found.exponent == 0 && is_surely_left(plain, found) && is_surely_left(signed, found)
 }
 
 /// Whether a short decimal is below zero.

@@ -7,6 +7,7 @@ use Rattle.fixed_fit.specs.Answer.{format_of, name_of, ruled_out_line}
 use Rattle.fixed_fit.specs.ErrorWord.{IsErrorWord}
 use Rattle.fixed_fit.specs.declared.question.Question.{Question}
 use Rattle.fixed_numeral.specs.declared.radix.Radix.{Radix}
+use Rattle.fixed_numeral.specs.declared.short.ShortNumeral.{ShortNumeral}
 use Rattle.fixed_fit.specs.Fitting.{AllFit, Exceeds, Fits, IsFirstExceeding}
 use Rattle.fixed_fit.specs.declared.lengths.Lengths.{Lengths}
 
@@ -31,10 +32,15 @@ abbrev pub magnitude_bits : Bool → ℕ → ℕ
 magnitude_bits true n = n - 1
 magnitude_bits false n = n
 
--- with the longest fraction length that is left, the next whole number is in range, with this sign
-pub record IsSurelyLeft (l : Lengths) (negative : Bool) (whole : ℕ) : Type 0 where
-  pub sign : (f : ℕ) → f + 1 ≡ l.count → negative ≡ true → l.kind.signed ≡ true
-  pub room : (f : ℕ) → f + 1 ≡ l.count → (whole + 1) * 2 ^ f < 2 ^ magnitude_bits l.kind.signed l.kind.width
+-- with the longest fraction length that is left, a short decimal is an ulp or more below the end of the range
+abbrev pub HasRoom : Lengths → ShortNumeral → Type 0
+HasRoom l n = (f : ℕ) → f + 1 ≡ l.count → (n.whole * 10 ^ n.places + n.fraction) * 2 ^ f + 10 ^ n.places
+    ≤ 2 ^ magnitude_bits l.kind.signed l.kind.width * 10 ^ n.places
+
+-- and its sign is one of the format's
+pub record IsSurelyLeft (l : Lengths) (n : ShortNumeral) : Type 0 where
+  pub sign : (f : ℕ) → f + 1 ≡ l.count → n.negative ≡ true → l.kind.signed ≡ true
+  pub room : HasRoom l n
 
 -- the reason that is written: the line that rules out the next longer fraction length
 abbrev pub reason_of : Bool → Bool → ℕ → ℕ → ℕ → List ℕ
