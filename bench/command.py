@@ -7,8 +7,10 @@ import time
 from timing import VALGRIND, in_turn, instructions, peak, table
 
 LINES = 200_000
-# The words of an input that is timed, and of one whose instructions are subtracted, so that starting does not count.
-WORDS, COUNTED = 500_000, 50_000
+# How many raw words are timed: user time is told from the system's by the clock's ticks, of which a run has to have many.
+WORDS = 3_000_000
+# How many there are in two inputs whose instructions are subtracted, so that starting does not count.
+MORE, FEWER = 150_000, 50_000
 # What is asked of `pack` and of `unpack`, in megabytes of lines a second of user time.
 MEGABYTES = 100
 # What is asked of the memory of each command that streams.
@@ -29,26 +31,28 @@ def converting(programs, inputs, tries):
           ["the same numerals", "M lines/s", "of fixed_tool's"])
 
 
+def raw_words(fixed, inputs, word, size, count):
+    """The paths of so many words of random bytes and of the lines that they are unpacked to, by the command that reads them."""
+    words, texts = (os.path.join(inputs.folder, f"{word}-{count}.{end}") for end in ("bin", "texts"))
+    with open(words, "wb") as out:
+        out.write(random.Random(1).randbytes(size * count))
+    with open(words, "rb") as given, open(texts, "wb") as out:
+        subprocess.run([fixed, "unpack", word], stdin=given, stdout=out, check=True)
+    return {"pack": texts, "unpack": words}
+
+
 def packing(programs, inputs, tries):
     """Megabytes of lines a second of user time, read by `fixed pack` and written by `fixed unpack`; instructions a word."""
     fixed = programs.built("fixed")
     rows = []
     for word, size in (("Q15", 2), ("I16F16", 4)):
-        paths = {}
-        for count in (WORDS, COUNTED):
-            words, texts = (os.path.join(inputs.folder, f"{word}-{count}.{end}") for end in ("bin", "texts"))
-            with open(words, "wb") as out:
-                out.write(random.Random(1).randbytes(size * count))
-            with open(words, "rb") as given, open(texts, "wb") as out:
-                subprocess.run([fixed, "unpack", word], stdin=given, stdout=out, check=True)
-            paths[count] = {"pack": texts, "unpack": words}
-        written = os.path.getsize(paths[WORDS]["pack"])
-        took = in_turn([([fixed, it, word], path) for it, path in paths[WORDS].items()], tries, is_user=True)
-        for (it, path), seconds in zip(paths[WORDS].items(), took):
+        timed, more, fewer = (raw_words(fixed, inputs, word, size, count) for count in (WORDS, MORE, FEWER))
+        written = os.path.getsize(timed["pack"])
+        took = in_turn([([fixed, it, word], path) for it, path in timed.items()], tries, is_user=True)
+        for it, seconds in zip(timed, took):
             command, speed, counted = [fixed, it, word], written / seconds / 1e6, ""
             if VALGRIND:
-                more = instructions(command, path) - instructions(command, paths[COUNTED][it])
-                counted = f"{more / (WORDS - COUNTED):.0f}"
+                counted = f"{(instructions(command, more[it]) - instructions(command, fewer[it])) / (MORE - FEWER):.0f}"
             rows.append([f"fixed {it} {word}", f"{written / WORDS:.1f}", f"{speed:.0f}", f"{speed / MEGABYTES:.0%}", counted])
     table(rows, ["raw words", "bytes a line", "MB/s of user time", f"of {MEGABYTES}", "instructions a word"])
 
