@@ -1,5 +1,5 @@
 -- What one more byte makes of the lines of an input.
-use Rattle.std.proofs.Common.{◌≡◌, ◌+◌, ◌<◌, ℕ, suc, length, get_or, append_assoc, arith, Bool, true, false, eqb, List, [], ◌∷◌, ◌++◌, refl, sym, ap, ◌∙◌, append-nil}
+use Rattle.std.proofs.Common.{◌≡◌, ◌<◌, ℕ, suc, length, get_or, append_assoc, arith, Bool, true, false, eqb, List, [], ◌∷◌, ◌++◌, refl, sym, ap, ◌∙◌, append-nil}
 use Rattle.line_engine.specs.Lines.{ended_lines, last_line, lines, unended, onto_first, onto_rest}
 
 newline_ends : (b : ℕ) (bs : List ℕ) → eqb b 10 ≡ true → ended_lines (b ∷ bs) ≡ [] ∷ ended_lines bs

@@ -1,5 +1,5 @@
 -- What more bytes make of what is kept of the bytes before them.
-use Rattle.std.proofs.Common.{◌≡◌, ℕ, ◌+◌, ◌<◌, ◌≤◌, Bool, true, false, eqb, eqb-true, List, [], ◌∷◌, ◌++◌, length, take, drop, get_or, append_assoc, append-nil, length-append, max, Option, None, Some, refl, sym, ap, ◌∙◌, subst, arith}
+use Rattle.std.proofs.Common.{◌≡◌, ℕ, ◌+◌, ◌<◌, ◌≤◌, true, eqb, eqb-true, List, [], ◌∷◌, ◌++◌, length, take, drop, get_or, append_assoc, append-nil, length-append, max, Option, None, Some, refl, sym, ap, ◌∙◌, subst, arith}
 use Rattle.std.proofs.KnownBytes.{Consumes-trans}
 use Rattle.std.proofs.lemmas.List.{drop_more, get_or-take, length-take, take-append-drop}
 use Rattle.memchr.specs.Find.{NoneBefore, Nowhere, Passes, is_byte}
@@ -7,14 +7,11 @@ use Rattle.std.specs.Io.KnownBytes.{Consumes, Keeps}
 use Rattle.line_engine.specs.Lines.{ended_lines, lines}
 use Rattle.fixed_bits.specs.Ranges.{IsWidth}
 use Rattle.fixed_error.specs.Errors.{HasGreatestErrors}
-use Rattle.fixed_error.specs.declared.errors.GreatestErrors.{GreatestErrors}
 use Rattle.fixed_numeral.specs.declared.radix.Radix.{Radix}
 use Rattle.fixed_fit.specs.Inner.Progress.{HasProgress}
 use Rattle.fixed_fit.specs.Inner.Reading.{HasLines, HasRead}
 use Rattle.fixed_fit.specs.Inner.Serving.{AreServed, Asked}
-use Rattle.fixed_fit.specs.declared.progress.Progress.{Progress}
 use Rattle.fixed_fit.specs.declared.reader.Reader.{Reader}
-use Rattle.fixed_fit.specs.declared.serving.Within.{Within}
 use Rattle.fixed_fit.proofs.ByteLemmas.{AreOther, ended_by_others, ended_by_part, no_last_line, one_last_line, rest_by_others, rest_by_part}
 
 -- the first newline of these bytes is at this place

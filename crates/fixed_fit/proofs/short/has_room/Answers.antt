@@ -1,4 +1,4 @@
-use Rattle.std.proofs.Common.{◌≡◌, ◌+◌, ◌-◌, ◌*◌, ◌<◌, ◌≤◌, ◌^◌, ℕ, true, refl, subst, sym, arith}
+use Rattle.std.proofs.Common.{◌≡◌, ◌+◌, ◌-◌, ◌*◌, ◌<◌, ◌≤◌, ◌^◌, ℕ, subst, arith}
 use Rattle.fixed_fit.specs.Inner.Lengths.{magnitude_bits}
 use Rattle.fixed_fit.proofs.ShortLemmas.{next_fits}
 use Rattle.fixed_fit.proofs.short.has_room.Goals as goal

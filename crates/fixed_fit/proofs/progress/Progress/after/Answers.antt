@@ -1,10 +1,9 @@
-use Rattle.std.proofs.Common.{◌≡◌, ◌+◌, ◌∷◌, ◌++◌, [], ℕ, List, None, refl, sym, subst, arith}
-use Rattle.std.proofs.lemmas.Grind.{common_steps}
+use Rattle.std.proofs.Common.{◌≡◌, ◌+◌, ◌∷◌, ◌++◌, [], None, refl, sym, subst}
 use Rattle.fixed_least.specs.declared.least.LeastFault.{LeastFault}
 use Rattle.fixed_least.specs.declared.least.LeastFault.TheVariants.{NotNumeral}
 use Rattle.fixed_fit.specs.Inner.Progress.{HasProgress}
 use Rattle.fixed_fit.specs.declared.progress.Progress.{Progress}
-use Rattle.fixed_fit.proofs.ProgressLemmas.{after_fault, after_numeral, first_fault, is_none}
+use Rattle.fixed_fit.proofs.ProgressLemmas.{after_numeral, first_fault}
 use Rattle.fixed_fit.proofs.progress.Progress.after.Goals as goal
 
 pub returns-in-Err-clause-one_more : goal.returns-in-Err-clause-one_more

@@ -3,8 +3,7 @@ use Rattle.std.proofs.lemmas.Grind.{common_steps}
 use Rattle.fixed_least.specs.declared.least.LeastFault.{LeastFault}
 use Rattle.std.specs.Prelude.{Option}
 use Rattle.fixed_fit.specs.Inner.Progress.{HasProgress}
-use Rattle.fixed_fit.specs.declared.progress.Progress.{Progress}
-use Rattle.fixed_fit.proofs.ProgressLemmas.{after_fault, after_numeral, first_fault, is_none}
+use Rattle.fixed_fit.proofs.ProgressLemmas.{after_fault, after_numeral, is_none}
 use Rattle.fixed_fit.proofs.ShortLemmas.{left_as_they_were, read_below, read_numeral}
 use Rattle.fixed_fit.proofs.progress.Progress.push.Goals as goal
 

@@ -1,4 +1,4 @@
-use Rattle.std.proofs.Common.{◌≡◌, ◌∷◌, ◌++◌, [], ℕ, List, subst, ◌∙◌}
+use Rattle.std.proofs.Common.{◌∷◌, ◌++◌, [], ℕ, List, subst, ◌∙◌}
 use Rattle.fixed_fit.specs.Inner.Reading.{AreKept}
 use Rattle.fixed_fit.proofs.reader.Reader.end_long_line.Goals as goal
 use Rattle.line_engine.specs.Lines.{ended_lines}
