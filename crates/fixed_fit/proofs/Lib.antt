@@ -16,3 +16,4 @@ mod ShortLemmas
 mod BoundedLemmas
 mod BoundedUniqueLemmas
 mod HalfBoundLemmas
+mod KeptLemmas

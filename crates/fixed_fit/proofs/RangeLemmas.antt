@@ -105,7 +105,7 @@ halved e den up num bd near least =
     let right : den * (num * (up * 2)) ≡ 2 * (num * (up * den)) = omega arith in
     omega (arith, both, left, right)
 
-within_half : (m b : Fraction) (f q : ℕ) → IsNearest (m.num * 2 ^ f) m.den q → ErrorSize.IsAtMost (record { num = 1; den = 2 ^ (f + 1) }) b → ErrorSize.IsAtMost (error_size m f q) b
+pub within_half : (m b : Fraction) (f q : ℕ) → IsNearest (m.num * 2 ^ f) m.den q → ErrorSize.IsAtMost (record { num = 1; den = 2 ^ (f + 1) }) b → ErrorSize.IsAtMost (error_size m f q) b
 within_half m b f q near least =
     let half : 1 * b.den ≤ b.num * (2 ^ f * 2) = subst (λ (u : ℕ). 1 * b.den ≤ b.num * u) (pow_next f) least in
     halved (distance (m.num * 2 ^ f) (q * m.den)) m.den (2 ^ f) b.num b.den near.near half

@@ -12,7 +12,7 @@ use Rattle.fixed_numeral.specs.declared.radix.Radix.{Radix}
 use Rattle.fixed_fit.specs.Fitting.{AllFit, IsFirstExceeding}
 use Rattle.fixed_fit.specs.Inner.Lengths.{AreLowered}
 use Rattle.fixed_fit.specs.Inner.Serving.{AreAllLeft, AreAllLowered, AreFew, AreTried, HasServing, HasWidth, IsBelow, IsBestOf, IsIn, IsLeftOf, IsNarrowed, IsServing, most_left}
-use Rattle.fixed_fit.specs.Within.{AllWithin, IsErrorWithin, IsLeastWithin, IsNextBelow, IsServed, IsTried, IsUnservedFrom, Serves, most_width}
+use Rattle.fixed_fit.specs.Within.{AllWithin, IsErrorWithin, IsHalfWithin, IsLeastWithin, IsNextBelow, IsServed, IsTried, IsUnservedFrom, Serves, most_width}
 use Rattle.fixed_fit.specs.declared.lengths.Lengths.{Lengths}
 use Rattle.fixed_fit.specs.declared.question.Widths.{Widths}
 use Rattle.fixed_fit.specs.declared.question.Widths.TheVariants.{One, Types, Any}
@@ -109,14 +109,14 @@ lowered_few r s done line place (old ∷ olds) (new ∷ news) low all =
     omega (arith, rest, low.0.fewer, all.0.lengths.most, all.0.width.most)
 
 -- ---- a format serves exactly where more lengths are left than are not within the bound
-serves_by : (range : Bool) (r : Radix) (s : Bool) (bound : List ℕ) (lines : List (List ℕ)) (l : Lengths) (f : ℕ) → IsLeftOf r s lines l → f < l.count → IsErrorWithin range r f bound lines → Serves range r s bound lines l.kind.width f
+pub serves_by : (range : Bool) (r : Radix) (s : Bool) (bound : List ℕ) (lines : List (List ℕ)) (l : Lengths) (f : ℕ) → IsLeftOf r s lines l → f < l.count → IsErrorWithin range r f bound lines → Serves range r s bound lines l.kind.width f
 serves_by range r s bound lines l f h less within = record {
   within_width = omega (arith, less, h.lengths.most);
   fit = subst (λ t. AllFit r t l.kind.width f lines) h.signed (h.lengths.fit f less);
   within = within;
 }
 
-serves_not : (range : Bool) (r : Radix) (s : Bool) (bound : List ℕ) (lines : List (List ℕ)) (l : Lengths) (g : ℕ) → IsLeftOf r s lines l → l.count ≤ g → Serves range r s bound lines l.kind.width g → ⊥
+pub serves_not : (range : Bool) (r : Radix) (s : Bool) (bound : List ℕ) (lines : List (List ℕ)) (l : Lengths) (g : ℕ) → IsLeftOf r s lines l → l.count ≤ g → Serves range r s bound lines l.kind.width g → ⊥
 serves_not range r s bound lines l g h past serves =
     let first : IsFirstExceeding r l.kind.signed l.kind.width l.count lines l.place = h.lengths.first (omega (arith, past, serves.within_width)) in
     let fit : AllFit r l.kind.signed l.kind.width g lines = subst (λ t. AllFit r t l.kind.width g lines) (sym h.signed) serves.fit in
@@ -171,6 +171,7 @@ pub frozen : (range : Bool) (r : Radix) (s : Bool) (widths : Widths) (one : ℕ)
 frozen range r s widths one done line v over h = record {
   range_is = h.range_is;
   numeral = h.numeral;
+  half = h.half;
   tried = h.tried;
   serving = λ served. let no : true ≡ false = sym served ∙ over in cc;
   narrowed = λ served. let no : true ≡ false = sym served ∙ over in cc;
@@ -270,28 +271,32 @@ narrowed_on range r s widths one done line place old new best at bound width sam
           (cases_lt old.width new.width);
     }
 
-pub goes_on : (range : Bool) (r : Radix) (s : Bool) (widths : Widths) (one : ℕ) (done : List (List ℕ)) (line : List ℕ) (place : ℕ) (old new : Serving) (best : Lengths) → new.bound.items ≡ old.bound.items → new.is_range ≡ old.is_range → new.is_served ≡ old.is_served → old.is_served ≡ true → AreAllLowered r line place old.lengths.items new.lengths.items
+same_half : (r : Radix) (f g : ℕ) (b c : List ℕ) → g ≡ f → c ≡ b → (f < 65 → IsHalfWithin r f b) → g < 65 → IsHalfWithin r g c
+same_half r f g b c same bound h = subst (λ (k : ℕ). k < 65 → IsHalfWithin r k c) (sym same) (subst (λ (l : List ℕ). f < 65 → IsHalfWithin r f l) (sym bound) h)
+
+pub goes_on : (range : Bool) (r : Radix) (s : Bool) (widths : Widths) (one : ℕ) (done : List (List ℕ)) (line : List ℕ) (place : ℕ) (old new : Serving) (best : Lengths) → new.bound.items ≡ old.bound.items → new.is_range ≡ old.is_range → new.half ≡ old.half → new.is_served ≡ old.is_served → old.is_served ≡ true → AreAllLowered r line place old.lengths.items new.lengths.items
     → IsWithinNext old.is_range r line old.low new.low old.bound.items
     → IsLeastNext old.is_range r line old.low new.low old.bound.items
     → new.low < most_left new.lengths.items → place ≡ length done + 1 → IsBestOf new.low new.lengths.items best → new.width ≡ best.kind.width → (new.width ≡ old.width → new.raised ≡ old.raised) → ((new.width ≡ old.width → ⊥) → new.raised ≡ place)
     → HasServing range r s widths one done old → HasServing range r s widths one (done ++ line ∷ []) new
-goes_on range r s widths one done line place old new best bound ranged same on low within least served at is width kept moved h =
+goes_on range r s widths one done line place old new best bound ranged half same on low within least served at is width kept moved h =
     let serving = serving_on range r s widths one done line place old new bound on low within least served at h in
     let tried = tried_after r line place widths one old.lengths.items new.lengths.items low h.tried in
     record {
       range_is = ranged ∙ h.range_is;
       numeral = subst (λ b. IsNumeral r b) (sym bound) h.numeral;
+      half = same_half r old.half new.half old.bound.items new.bound.items half bound h.half;
       tried = tried;
       serving = λ _. serving;
       narrowed = λ _. narrowed_on range r s widths one done line place old new best at bound width kept moved tried serving is (h.narrowed on);
       unserved = λ over. let no : true ≡ false = sym on ∙ (sym same ∙ over) in cc;
     }
 
-pub ends : (range : Bool) (r : Radix) (s : Bool) (widths : Widths) (one : ℕ) (done : List (List ℕ)) (line : List ℕ) (place : ℕ) (old new : Serving) → new.bound.items ≡ old.bound.items → new.is_range ≡ old.is_range → new.is_served ≡ false → new.place ≡ place → old.is_served ≡ true → AreAllLowered r line place old.lengths.items new.lengths.items
+pub ends : (range : Bool) (r : Radix) (s : Bool) (widths : Widths) (one : ℕ) (done : List (List ℕ)) (line : List ℕ) (place : ℕ) (old new : Serving) → new.bound.items ≡ old.bound.items → new.is_range ≡ old.is_range → new.half ≡ old.half → new.is_served ≡ false → new.place ≡ place → old.is_served ≡ true → AreAllLowered r line place old.lengths.items new.lengths.items
     → IsLeastNext old.is_range r line old.low new.low old.bound.items
     → most_left new.lengths.items ≤ new.low → place ≡ length done + 1
     → HasServing range r s widths one done old → HasServing range r s widths one (done ++ line ∷ []) new
-ends range r s widths one done line place old new bound ranged over same on low least past at h =
+ends range r s widths one done line place old new bound ranged half over same on low least past at h =
     let was = h.serving on in
     let tried = tried_after r line place widths one old.lengths.items new.lengths.items low h.tried in
     let left = all_one_more r s done line place old.lengths.items new.lengths.items at low was.lengths in
@@ -302,6 +307,7 @@ ends range r s widths one done line place old new bound ranged over same on low 
     record {
       range_is = ranged ∙ h.range_is;
       numeral = subst (λ b. IsNumeral r b) (sym bound) h.numeral;
+      half = same_half r old.half new.half old.bound.items new.bound.items half bound h.half;
       tried = tried;
       serving = λ on'. let no : true ≡ false = sym on' ∙ over in cc;
       narrowed = λ on'. let no : true ≡ false = sym on' ∙ over in cc;
@@ -412,11 +418,11 @@ fresh_narrowed range r s widths one v raised within least tried order least' = r
   };
 }
 
-pub starts : (range : Bool) (r : Radix) (s : Bool) (widths : Widths) (one : ℕ) (v : Serving) → v.is_range ≡ range → v.place ≡ 0 → v.raised ≡ 0 → IsWidth one → IsNumeral r v.bound.items → AreTried widths one v.lengths.items → AreFresh s v.lengths.items
+pub starts : (range : Bool) (r : Radix) (s : Bool) (widths : Widths) (one : ℕ) (v : Serving) → v.is_range ≡ range → v.place ≡ 0 → v.raised ≡ 0 → IsWidth one → IsNumeral r v.bound.items → (v.half < 65 → IsHalfWithin r v.half v.bound.items) → AreTried widths one v.lengths.items → AreFresh s v.lengths.items
     → (v.low < 65 → IsErrorWithin range r v.low v.bound.items []) → ((f : ℕ) → f < v.low → ¬ IsErrorWithin range r f v.bound.items [])
     → (v.is_served ≡ true → v.low ≤ most_width widths one) → (v.is_served ≡ false → most_width widths one < v.low)
     → (v.low ≤ most_width widths one → IsTried widths one v.width) → (v.low ≤ most_width widths one → v.low ≤ v.width) → ((m : ℕ) → IsTried widths one m → v.low ≤ m → v.width ≤ m) → HasServing range r s widths one [] v
-starts range r s widths one v ranged place raised wide numeral tried fresh within least on over tried' order least' =
+starts range r s widths one v ranged place raised wide numeral half tried fresh within least on over tried' order least' =
     let w : ℕ = most_width widths one in
     let l = in_width w v.lengths.items (tried.all w (most_tried widths one)) in
     let most = in_most l.0 v.lengths.items l.1 in
@@ -427,6 +433,7 @@ starts range r s widths one v ranged place raised wide numeral tried fresh withi
     record {
       range_is = ranged;
       numeral = numeral;
+      half = half;
       tried = tried;
       serving = λ yes. let fits = on yes in record {
         lengths = fresh_left r s v.lengths.items fresh;

@@ -37,7 +37,7 @@ pow_grows f g order = pow-le-pow_right (omega arith) (omega (arith, order))
 times_grows : (a b c : ℕ) → b ≤ c → a * b ≤ a * c
 times_grows a b c order = let h : b * a ≤ c * a = mul-le-mul_right a order in omega (arith, h)
 
-half_within_longer : (r : Radix) (f g : ℕ) (bound : List ℕ) → f ≤ g → IsHalfWithin r f bound → IsHalfWithin r g bound
+pub half_within_longer : (r : Radix) (f g : ℕ) (bound : List ℕ) → f ≤ g → IsHalfWithin r f bound → IsHalfWithin r g bound
 half_within_longer r f g bound order h =
     let m = magnitude r h.parts in
     let more : m.num * 2 ^ (f + 1) ≤ m.num * 2 ^ (g + 1) = times_grows m.num (2 ^ (f + 1)) (2 ^ (g + 1)) (pow_grows f g order) in

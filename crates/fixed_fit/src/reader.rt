@@ -66,7 +66,7 @@ fn add_line<L: Ledger>(
     errors.shorten(progress.count());
     match errors.add_read(line, progress.lines, short, steps) {
         Ok(()) => {
-            within.add(line, progress.radix, progress.lines, steps);
+            within.add(line, progress.radix, progress.lines, short, steps);
             Ok(())
         }
         Err(_) => Err(NoMemory),

@@ -2,27 +2,30 @@
 //!
 //! A numeral that is within an error at a fraction length is within it at each longer one. So the lengths within the
 //! error are those from a least one on, and a format serves where more lengths of its width are left than that. Of a
-//! range the error is half an ulp, and so the least one is known before the first line.
+//! range the error is half an ulp, and so the least one is known before the first line. No numeral's error is greater
+//! than half an ulp: from the length on at which that is within the error, a numeral only takes lengths away.
 //!
 //! Where a format of a width serves, so does one of each greater width. So of the next lesser width it is enough to
 //! keep the line that raised the least width last: until it a format of that width served, too.
 
-ghost use Rattle.std.specs.Prelude.{◌≡◌, ◌⊎◌, ◌≤◌, ◌<◌, ◌+◌, ◌++◌, ◌∷◌, ◌↔◌, []};
-ghost use Rattle.std.specs.Prelude.{IsTrue, IfOk, true, false, List, ℕ, Bool, length};
+ghost use Rattle.std.specs.Prelude.{◌≡◌, ◌⊎◌, ◌≤◌, ◌<◌, ◌+◌, ◌^◌, ◌++◌, ◌∷◌, ◌↔◌, [], pos};
+ghost use Rattle.std.specs.Prelude.{IsTrue, IfOk, IfSome, true, false, List, ℕ, Bool, length};
 ghost use Rattle.fixed_bits.specs.Ranges.{IsWidth};
 ghost use Rattle.fixed_bits.specs.declared.mode.ReadMode.TheVariants.{NearestEven};
 ghost use Rattle.fixed_error.specs.ErrorSize.{HasErrorAbove, HasErrorWithin, IsReadWithin};
+ghost use Rattle.fixed_error.specs.Short.{IsShortRead};
 ghost use Rattle.fixed_numeral.specs.Numeral.{IsNumeral};
 ghost use Rattle.fixed_fit.specs.Inner.Serving.{AreAllLowered, AreFew, HasServing, HasSomeServing, IsBestOf, most_left};
-ghost use Rattle.fixed_fit.specs.Inner.Serving.{AreServed, Asked, bounded};
-ghost use Rattle.fixed_fit.specs.Within.{IsErrorWithin, IsTried, most_width};
+ghost use Rattle.fixed_fit.specs.Inner.Serving.{AreServed, AreSurelyLeft, Asked, bounded};
+ghost use Rattle.fixed_fit.specs.Within.{IsErrorWithin, IsHalfWithin, IsTried, most_width};
 
 use crate::half::first_length;
 use crate::lengths::{Lengths, all_lengths, lowered};
 use crate::question::{Question, Widths};
+use crate::short::is_left_of_all;
 use fixed_bits::{Format, ReadMode};
 use fixed_error::is_error_above;
-use fixed_numeral::Radix;
+use fixed_numeral::{Radix, ShortNumeral};
 use fixed_steps::Steps;
 use std::alloc::{AllocError, Global};
 use std::sync::ledger::Ledger;
@@ -36,6 +39,8 @@ pub struct Serving {
     pub lengths: Vec<Lengths>,
     /// The least length within the error.
     pub low: u32,
+    /// A length at which half an ulp is within the error, and so every numeral is; 65 where none up to 64 is.
+    pub half: u32,
     /// The place of the line with which no format serves any more; 0 before it.
     pub place: u64,
     /// Whether the lines are the two ends of a range, of which every value is meant.
@@ -196,12 +201,14 @@ impl Serving {
         question: &Question,
         bound: &[u8],
         low: u32,
+        half: u32,
         signed: bool,
         widths: Widths,
     ) -> Result<Serving, AllocError>
         requires numeral { IsNumeral question.now.radix bound.now }
         requires within { low < 65 → IsErrorWithin question.now.is_range question.now.radix low bound.now [] }
         requires least { (f : ℕ) → f < low → ¬ IsErrorWithin question.now.is_range question.now.radix f bound.now [] }
+        requires half { half < 65 → IsHalfWithin question.now.radix half bound.now }
         ensures bound { IfOk result (λ v. v.bound.items ≡ bound.now) }
         ensures kept { IfOk result (HasServing question.now.is_range question.now.radix signed widths
             question.now.kind.width []) }
@@ -219,6 +226,7 @@ impl Serving {
             bound: text,
             lengths,
             low,
+            half,
             place: 0,
             is_range: question.is_range,
             is_served: low <= most_width(widths, one),
@@ -233,6 +241,7 @@ impl Serving {
             bound: Vec::new(alloc),
             lengths: Vec::new(alloc),
             low: 0,
+            half: 0,
             place: 0,
             is_range: false,
             is_served: false,
@@ -241,10 +250,31 @@ impl Serving {
         }
     }
 
-    /// Takes one more line, which is a numeral at a place.
-    pub fn add<L: Ledger>(&mut self, line: &[u8], radix: Radix, place: u64, steps: &mut Steps<L>)
+    /// Whether a short decimal surely changes nothing, where a format serves.
+    fn is_kept_by(&self, found: ShortNumeral) -> bool
+        requires few { AreFew self.now.lengths.items }
+        requires whole { found.whole < 10 ^ 16 }
+        requires fraction { found.fraction < 10 ^ found.places }
+        ensures half { result ≡ true → self.now.half ≤ self.now.low }
+        ensures exponent { result ≡ true → found.exponent ≡ pos 0 }
+        ensures left { result ≡ true → AreSurelyLeft self.now.lengths.items found }
+    {
+        self.half <= self.low && is_left_of_all(&self.lengths, found)
+    }
+
+    /// Takes one more line, which is a numeral at a place, by the numbers of its parts where it was read as a short
+    /// decimal.
+    pub fn add<L: Ledger>(
+        &mut self,
+        line: &[u8],
+        radix: Radix,
+        place: u64,
+        short: Option<ShortNumeral>,
+        steps: &mut Steps<L>,
+    )
         requires numeral { IsNumeral radix line.now }
         requires known { HasSomeServing radix self.old }
+        requires short { IfSome short (IsShortRead radix line.now) }
         ensures bound { self.new.bound ≡ self.old.bound }
         ensures one_more { (range s : Bool) (widths : Widths) (one : ℕ) (lines : List (List ℕ))
             → HasServing range radix s widths one lines self.old → place ≡ length lines + 1
@@ -252,6 +282,11 @@ impl Serving {
     {
         if !self.is_served {
             return;
+        }
+        if let Some(found) = short {
+            if self.is_kept_by(found) {
+                return;
+            }
         }
         let most = lower_all(&mut self.lengths, line, radix, place, steps);
         let is_range = self.is_range;
@@ -320,8 +355,9 @@ impl Within {
             (bounded question.now.is_range n bound.now widths question.now.kind.width) [] w) }
     {
         let low = first_length(bound, question.radix, question.is_range, steps);
-        let plain = Serving::new(alloc, question, bound, low, false, widths)?;
-        let signed = Serving::new(alloc, question, bound, low, true, widths)?;
+        let half = first_length(bound, question.radix, true, steps);
+        let plain = Serving::new(alloc, question, bound, low, half, false, widths)?;
+        let signed = Serving::new(alloc, question, bound, low, half, true, widths)?;
         Ok(Within {
             is_bounded: true,
             plain,
@@ -329,19 +365,28 @@ impl Within {
         })
     }
 
-    /// Takes one more line, which is a numeral at a place.
-    pub fn add<L: Ledger>(&mut self, line: &[u8], radix: Radix, place: u64, steps: &mut Steps<L>)
+    /// Takes one more line, which is a numeral at a place, by the numbers of its parts where it was read as a short
+    /// decimal.
+    pub fn add<L: Ledger>(
+        &mut self,
+        line: &[u8],
+        radix: Radix,
+        place: u64,
+        short: Option<ShortNumeral>,
+        steps: &mut Steps<L>,
+    )
         requires numeral { IsNumeral radix line.now }
         requires plain { self.old.is_bounded ≡ true → HasSomeServing radix self.old.plain }
         requires signed { self.old.is_bounded ≡ true → HasSomeServing radix self.old.signed }
+        requires short { IfSome short (IsShortRead radix line.now) }
         ensures is_bounded { self.new.is_bounded ≡ self.old.is_bounded }
         ensures one_more { (a : Asked) (lines : List (List ℕ)) → self.old.is_bounded ≡ true
             → AreServed radix a lines self.old → place ≡ length lines + 1
             → AreServed radix a (lines ++ line.now ∷ []) self.new }
     {
         if self.is_bounded {
-            self.plain.add(line, radix, place, steps);
-            self.signed.add(line, radix, place, steps);
+            self.plain.add(line, radix, place, short, steps);
+            self.signed.add(line, radix, place, short, steps);
         }
     }
 }

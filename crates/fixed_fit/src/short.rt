@@ -5,6 +5,7 @@
 
 ghost use Rattle.std.specs.Prelude.{◌≡◌, ◌≤◌, ◌<◌, ◌+◌, ◌*◌, ◌^◌, ◌↔◌, IsTrue, true, pos, ℕ};
 ghost use Rattle.fixed_fit.specs.Inner.Lengths.{HasRoom, IsSurelyLeft, magnitude_bits};
+ghost use Rattle.fixed_fit.specs.Inner.Serving.{AreFew, AreSurelyLeft};
 
 use crate::lengths::Lengths;
 use fixed_bits::Format;
@@ -116,6 +117,25 @@ pub fn is_left_of_both(plain: Lengths, signed: Lengths, found: ShortNumeral) -> 
     ensures signed { result ≡ true → IsSurelyLeft signed found }
 {
     found.exponent == 0 && is_surely_left(plain, found) && is_surely_left(signed, found)
+}
+
+/// Whether a short decimal is surely in range with each length that is left of some kinds.
+pub fn is_left_of_all(lengths: &[Lengths], found: ShortNumeral) -> bool
+    requires few { AreFew lengths.now }
+    requires whole { found.whole < 10 ^ 16 }
+    requires fraction { found.fraction < 10 ^ found.places }
+    ensures exponent { result ≡ true → found.exponent ≡ pos 0 }
+    ensures left { result ≡ true → AreSurelyLeft lengths.now found }
+{
+    if found.exponent != 0 {
+        return false;
+    }
+    for left in lengths {
+        if !is_surely_left(*left, found) {
+            return false;
+        }
+    }
+    true
 }
 
 /// Whether a short decimal is below zero.

@@ -4,11 +4,12 @@ use Rattle.std.specs.Prelude.{if◌then◌else◌, nat_lt}
 use Rattle.fixed_bits.specs.Ranges.{IsWidth}
 use Rattle.fixed_numeral.specs.Numeral.{IsNumeral}
 use Rattle.fixed_numeral.specs.declared.radix.Radix.{Radix}
-use Rattle.fixed_fit.specs.Inner.Lengths.{AreLengths, AreLowered, IsSomeAnswer}
+use Rattle.fixed_numeral.specs.declared.short.ShortNumeral.{ShortNumeral}
+use Rattle.fixed_fit.specs.Inner.Lengths.{AreLengths, AreLowered, IsSomeAnswer, IsSurelyLeft}
 use Rattle.line_engine.specs.AnswerText.{AnswerText}
 use Rattle.fixed_fit.specs.declared.question.Question.{Question}
 use Rattle.fixed_fit.specs.Bounded.{width_line}
-use Rattle.fixed_fit.specs.Within.{IsErrorWithin, IsLeastWithin, IsNextBelow, IsTried, IsUnservedFrom}
+use Rattle.fixed_fit.specs.Within.{IsErrorWithin, IsHalfWithin, IsLeastWithin, IsNextBelow, IsTried, IsUnservedFrom}
 use Rattle.fixed_fit.specs.declared.lengths.Lengths.{Lengths}
 use Rattle.fixed_fit.specs.declared.question.Widths.{Widths}
 use Rattle.fixed_fit.specs.declared.question.Widths.TheVariants.{One}
@@ -38,6 +39,11 @@ AreAllLowered r line place [] (new ∷ news) = ⊥
 AreAllLowered r line place (old ∷ olds) [] = ⊥
 AreAllLowered r line place (old ∷ olds) (new ∷ news) = AreLowered r line place old new
     × AreAllLowered r line place olds news
+
+-- a short decimal is surely in range with each length that is left of them
+abbrev pub AreSurelyLeft : List Lengths → ShortNumeral → Type 0
+AreSurelyLeft [] n = Unit {0}
+AreSurelyLeft (l ∷ ls) n = IsSurelyLeft l n × AreSurelyLeft ls n
 
 -- one of them is
 abbrev pub IsIn : Lengths → List Lengths → Type 0
@@ -84,6 +90,7 @@ pub record HasServing (range : Bool) (r : Radix) (s : Bool) (widths : Widths) (o
     (v : Serving) : Type 0 where
   pub range_is : v.is_range ≡ range
   pub numeral : IsNumeral r v.bound.items
+  pub half : v.half < 65 → IsHalfWithin r v.half v.bound.items
   pub tried : AreTried widths one v.lengths.items
   pub serving : v.is_served ≡ true → IsServing range r s lines v
   pub narrowed : v.is_served ≡ true → IsNarrowed range r s widths one lines v

@@ -1,4 +1,5 @@
 use Rattle.std.proofs.Common.{◌≡◌, ℕ, true, false, List, refl, subst, arith}
+use Rattle.fixed_fit.proofs.KeptLemmas.{stays}
 use Rattle.fixed_fit.proofs.ServingLemmas.{IsLeastNext, IsWithinNext, ends, few_of, frozen, goes_on, lowered_few, lowered_within}
 use Rattle.fixed_fit.proofs.serving.Serving.add.Goals as goal
 
@@ -35,7 +36,7 @@ returns-then-most-self-clause-one_more g c = λ range s widths one lines h at.
     let past = c.if-most-self.true in
     let low = c.next_low-self.result in
     let least = subst (λ (b : List ℕ). IsLeastNext old.is_range r line old.low low b) c.deref.ensures.value c.next_low-self.ensures.least in
-    ends range r s widths one lines line c.args.place old (record { bound = old.bound; lengths = c.lower_all-most.new.lengths; low = low; place = c.args.place; is_range = old.is_range; is_served = false; width = old.width; raised = old.raised }) refl refl refl refl c.if-not-self.false
+    ends range r s widths one lines line c.args.place old (record { bound = old.bound; lengths = c.lower_all-most.new.lengths; low = low; half = old.half; place = c.args.place; is_range = old.is_range; is_served = false; width = old.width; raised = old.raised }) refl refl refl refl refl c.if-not-self.false
     c.lower_all-most.ensures.lowered least (omega (arith, past, is)) at h
 
 pub returns-clause-one_more : goal.returns-clause-one_more
@@ -50,5 +51,19 @@ returns-clause-one_more g c = λ range s widths one lines h at.
     let width = c.width-width.ensures.width in
     let least = subst (λ (b : List ℕ). IsLeastNext old.is_range r line old.low low b) c.deref.ensures.value c.next_low-self.ensures.least in
     let within = subst (λ (b : List ℕ). IsWithinNext old.is_range r line old.low low b) c.deref.ensures.value (λ lines w. c.next_low-self.ensures.within lines w (omega (arith, less))) in
-    goes_on range r s widths one lines line c.args.place old (record { bound = old.bound; lengths = c.lower_all-most.new.lengths; low = low; place = old.place; is_range = old.is_range; is_served = old.is_served; width = c.width-width.result; raised = c.raised_by-self.result }) best refl refl refl c.if-not-self.false
+    goes_on range r s widths one lines line c.args.place old (record { bound = old.bound; lengths = c.lower_all-most.new.lengths; low = low; half = old.half; place = old.place; is_range = old.is_range; is_served = old.is_served; width = c.width-width.result; raised = c.raised_by-self.result }) best refl refl refl refl c.if-not-self.false
     c.lower_all-most.ensures.lowered within least (omega (arith, less, is)) at c.best.ensures width c.raised_by-self.ensures.same c.raised_by-self.ensures.moved h
+
+pub is_kept_by-requires-clause-few : goal.is_kept_by-requires-clause-few
+is_kept_by-requires-clause-few g c =
+    let known = c.requires.known in
+    let on : c.args.self.now.is_served ≡ true = c.if-not-self.false in
+    few_of c.args.radix known.1 known.4 c.args.self.now.lengths.items (known.5.serving on).lengths
+
+pub returns-then-is_kept_by-clause-one_more : goal.returns-then-is_kept_by-clause-one_more
+returns-then-is_kept_by-clause-one_more g c = λ range s widths one lines h at.
+    let found = c.in-Some.found in
+    let read = rw c.in-Some.is at c.requires.short in
+    let kept = c.is_kept_by.ensures in
+    let is = c.if-is_kept_by.true in
+    stays range c.args.radix s widths one lines c.args.line.now c.args.place found c.args.self.now c.if-not-self.false (kept.half is) read (kept.exponent is) (kept.left is) at h

@@ -5,7 +5,7 @@ use Rattle.fixed_bits.specs.Ranges.{IsWidth}
 use Rattle.fixed_numeral.specs.Numeral.{IsNumeral}
 use Rattle.fixed_fit.specs.declared.lengths.Lengths.{Lengths}
 use Rattle.fixed_fit.specs.Inner.Serving.{HasServing}
-use Rattle.fixed_fit.specs.Within.{IsErrorWithin, IsTried}
+use Rattle.fixed_fit.specs.Within.{IsErrorWithin, IsHalfWithin, IsTried}
 use Rattle.fixed_fit.specs.declared.serving.Serving.{Serving}
 use Rattle.fixed_fit.proofs.ServingLemmas.{IsCovered, covered_all, covered_more, covered_past, none_covered, starts}
 use Rattle.fixed_fit.proofs.serving.Serving.new.Goals as goal
@@ -42,9 +42,10 @@ returns-clause-kept c =
     let most = c.most_width.ensures.most in
     let first = c.least_width.ensures in
     let same : bound.items ≡ c.args.bound.now = c.in_ok-extend_from_slice.ensures.items ∙ ap (λ (l : List ℕ). l ++ c.args.bound.now) c.new-text.ensures.items in
-    let v : Serving = record { bound = bound; lengths = c.loop-width.lengths; low = low; place = 0; is_range = q.is_range; is_served = leb low c.most_width.result; width = c.least_width.result; raised = 0 } in
+    let v : Serving = record { bound = bound; lengths = c.loop-width.lengths; low = low; half = c.args.half; place = 0; is_range = q.is_range; is_served = leb low c.most_width.result; width = c.least_width.result; raised = 0 } in
     let here : HasServing q.is_range q.radix c.args.signed widths one [] v = starts q.is_range q.radix c.args.signed widths one v refl refl refl wide
     (subst (λ (l : List ℕ). IsNumeral q.radix l) (sym same) c.requires.numeral)
+    (λ less. subst (λ (l : List ℕ). IsHalfWithin q.radix c.args.half l) (sym same) (c.requires.half less))
     (covered_all c.args.signed widths one c.loop-width.width c.loop-width.lengths.items wide c.loop-width-test.false inv)
     inv.fresh
     (λ less. subst (λ (l : List ℕ). IsErrorWithin q.is_range q.radix low l []) (sym same) (c.requires.within less))

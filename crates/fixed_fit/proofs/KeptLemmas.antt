@@ -1,0 +1,102 @@
+-- A short decimal that changes nothing: it is in range with each length that is left, and its error is within the bound.
+use Rattle.std.proofs.Common.{◌≡◌, ℕ, ◌+◌, ◌<◌, ◌≤◌, Bool, true, false, List, [], ◌∷◌, ◌++◌, length, sym, ◌∙◌, subst, arith, ◌⊎◌, inl, inr, pos, refl}
+use Rattle.std.proofs.lemmas.Bool.{cases_lt}
+use Rattle.fixed_bits.specs.declared.mode.ReadMode.TheVariants.{NearestEven}
+use Rattle.fixed_error.specs.ErrorSize.{HasErrorWithin, error_size}
+use Rattle.fixed_error.specs.Short.{IsShortRead}
+use Rattle.fixed_numeral.specs.Numeral.{IsNumeral}
+use Rattle.fixed_numeral.specs.Value.{magnitude}
+use Rattle.fixed_numeral.specs.declared.radix.Radix.{Radix}
+use Rattle.fixed_numeral.specs.declared.short.ShortNumeral.{ShortNumeral}
+use Rattle.fixed_read.proofs.Public.{read_number_is_the_one}
+use Rattle.fixed_fit.specs.Inner.Lengths.{IsSurelyLeft}
+use Rattle.fixed_fit.specs.Inner.Serving.{AreAllLeft, AreAllLowered, AreSurelyLeft, HasServing, IsIn, most_left}
+use Rattle.fixed_fit.specs.Within.{IsErrorWithin, IsHalfWithin, IsLeastWithin, Serves}
+use Rattle.fixed_fit.specs.declared.lengths.Lengths.{Lengths}
+use Rattle.fixed_fit.specs.declared.question.Widths.{Widths}
+use Rattle.fixed_fit.specs.declared.question.Widths.TheVariants.{One}
+use Rattle.fixed_fit.specs.declared.serving.Serving.{Serving}
+use Rattle.fixed_fit.proofs.RangeLemmas.{within_half}
+use Rattle.fixed_fit.proofs.ServingLemmas.{all_one_more, in_width, left_in, serves_by, serves_not}
+use Rattle.fixed_fit.proofs.ShortLemmas.{left_as_they_were, read_numeral}
+use Rattle.fixed_fit.proofs.WithinLemmas.{error_before, error_within_longer, from_longer, half_within_longer, serves_before, within_one_more}
+
+-- ---- some lengths
+pub left_more : (n : ShortNumeral) (ls : List Lengths) (l : Lengths) → AreSurelyLeft ls n → IsSurelyLeft l n → AreSurelyLeft (ls ++ l ∷ []) n
+left_more n [] l all here = (here, tt)
+left_more n (x ∷ xs) l all here = (all.0, left_more n xs l all.1 here)
+
+pub all_as_they_were : (r : Radix) (line : List ℕ) (place : ℕ) (n : ShortNumeral) (ls : List Lengths) → IsShortRead r line n → n.exponent ≡ pos 0 → AreSurelyLeft ls n → AreAllLowered r line place ls ls
+all_as_they_were r line place n [] read none all = tt
+all_as_they_were r line place n (l ∷ ls) read none all = (left_as_they_were r line place l n read none all.0, all_as_they_were r line place n ls read none all.1)
+
+-- ---- where half an ulp is within the bound each numeral is
+pub numeral_within : (r : Radix) (f : ℕ) (line bound : List ℕ) → IsNumeral r line → IsHalfWithin r f bound → HasErrorWithin NearestEven r f line bound
+numeral_within r f line bound numeral h =
+    let p = numeral.0 in
+    let v = read_number_is_the_one NearestEven r p f in
+    record {
+      size = error_size (magnitude r p) f v.1.ulps;
+      has_size = record { parts = p; numeral = numeral.1; number = v.0; read = v.1; size_is = refl };
+      bound_parts = h.parts;
+      bound_numeral = h.numeral;
+      at_most = within_half (magnitude r p) (magnitude r h.parts) f v.1.ulps v.1.rounded h.at_most;
+    }
+
+within_on : (range : Bool) (r : Radix) (f : ℕ) (bound : List ℕ) (done : List (List ℕ)) (line : List ℕ) → IsNumeral r line → IsHalfWithin r f bound → IsErrorWithin range r f bound done → IsErrorWithin range r f bound (done ++ line ∷ [])
+within_on true r f bound done line numeral half h = h
+within_on false r f bound done line numeral half h = within_one_more r f bound done line h (numeral_within r f line bound numeral half)
+
+-- ---- what serves at the least width goes on to
+serves_on : (range : Bool) (r : Radix) (s : Bool) (bound : List ℕ) (done : List (List ℕ)) (line : List ℕ) (ls : List Lengths) (l : Lengths) (low f : ℕ) → AreAllLeft r s done ls → AreAllLeft r s (done ++ line ∷ []) ls → (f < l.count) ⊎ (l.count ≤ f) → (f < low) ⊎ (low ≤ f) → IsIn l ls
+    → ((g : ℕ) → g < low → ¬ IsErrorWithin range r g bound done) → IsErrorWithin range r low bound (done ++ line ∷ []) → Serves range r s bound done l.kind.width f → Serves range r s bound (done ++ line ∷ []) l.kind.width f
+serves_on range r s bound done line ls l low f before after (inr past) order is least within h = absurd (serves_not range r s bound done l f (left_in r s done l ls is before) past h)
+serves_on range r s bound done line ls l low f before after (inl less) (inl short) is least within h = absurd (least f short h.within)
+serves_on range r s bound done line ls l low f before after (inl less) (inr from) is least within h =
+    serves_by range r s bound (done ++ line ∷ []) l f (left_in r s (done ++ line ∷ []) l ls is after) less (error_within_longer range r low f bound (done ++ line ∷ []) from within)
+
+least_on : (range : Bool) (r : Radix) (s : Bool) (bound : List ℕ) (widths : Widths) (one : ℕ) (done : List (List ℕ)) (line : List ℕ) (n f : ℕ) → Serves range r s bound (done ++ line ∷ []) n f → IsLeastWithin range r s bound widths one done n f → IsLeastWithin range r s bound widths one (done ++ line ∷ []) n f
+least_on range r s bound widths one done line n f serves h = record {
+  tried = h.tried;
+  serves = serves;
+  greatest = λ g more x. h.greatest g more (serves_before range r s bound done (line ∷ []) n g x);
+  least = λ m g less is x. h.least m g less is (serves_before range r s bound done (line ∷ []) m g x);
+}
+
+few_left : (r : Radix) (s : Bool) (lines : List (List ℕ)) (ls : List Lengths) → AreAllLeft r s lines ls → most_left ls ≤ 65
+few_left r s lines [] all = omega arith
+few_left r s lines (l ∷ ls) all = let rest = few_left r s lines ls all.1 in omega (arith, rest, all.0.lengths.most, all.0.width.most)
+
+pub stays : (range : Bool) (r : Radix) (s : Bool) (widths : Widths) (one : ℕ) (done : List (List ℕ)) (line : List ℕ) (place : ℕ) (n : ShortNumeral) (v : Serving) → v.is_served ≡ true → v.half ≤ v.low → IsShortRead r line n → n.exponent ≡ pos 0 → AreSurelyLeft v.lengths.items n → place ≡ length done + 1
+    → HasServing range r s widths one done v → HasServing range r s widths one (done ++ line ∷ []) v
+stays range r s widths one done line place n v on order read none surely at h =
+    let was = h.serving on in
+    let now = h.narrowed on in
+    let bound : List ℕ = v.bound.items in
+    let ls : List Lengths = v.lengths.items in
+    let few = few_left r s done ls was.lengths in
+    let served = was.served in
+    let half : IsHalfWithin r v.low bound = half_within_longer r v.half v.low bound order (h.half (omega (arith, order, few, served))) in
+    let after = all_one_more r s done line place ls ls at (all_as_they_were r line place n ls read none surely) was.lengths in
+    let within = within_on range r v.low bound done line (read_numeral r line n read) half was.within in
+    let l = in_width v.width ls (h.tried.all v.width now.least.tried) in
+    let S : List (List ℕ) → ℕ → Type 0 = λ lines m. Serves range r s bound lines m now.frac in
+    let serves : S (done ++ line ∷ []) v.width = subst (S (done ++ line ∷ [])) l.2 (serves_on range r s bound done line ls l.0 v.low now.frac was.lengths after (cases_lt now.frac l.0.count) (cases_lt now.frac v.low) l.1 was.least within (subst (S done) (sym l.2) now.least.serves)) in
+    record {
+      range_is = h.range_is;
+      numeral = h.numeral;
+      half = h.half;
+      tried = h.tried;
+      serving = λ _. record {
+        lengths = after;
+        within = within;
+        least = λ f less x. was.least f less (error_before range r f bound done (line ∷ []) x);
+        served = served;
+      };
+      narrowed = λ _. record {
+        frac = now.frac;
+        least = least_on range r s bound widths one done line v.width now.frac serves now.least;
+        below = λ m next. from_longer range r s bound One m done line v.raised (now.below m next);
+      };
+      unserved = λ over. let no : true ≡ false = sym on ∙ over in cc;
+    }
