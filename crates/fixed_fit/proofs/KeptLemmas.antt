@@ -1,5 +1,5 @@
 -- A short decimal that changes nothing: it is in range with each length that is left, and its error is within the bound.
-use Rattle.std.proofs.Common.{◌≡◌, ℕ, ◌+◌, ◌<◌, ◌≤◌, Bool, true, false, List, [], ◌∷◌, ◌++◌, length, sym, ◌∙◌, subst, arith, ◌⊎◌, inl, inr, pos, refl}
+use Rattle.std.proofs.Common.{◌≡◌, ℕ, ◌+◌, ◌-◌, ◌^◌, ◌<◌, ◌≤◌, Bool, true, false, List, [], ◌∷◌, ◌++◌, length, sym, ◌∙◌, subst, arith, ◌⊎◌, inl, inr, pos, refl}
 use Rattle.std.proofs.lemmas.Bool.{cases_lt}
 use Rattle.fixed_bits.specs.declared.mode.ReadMode.TheVariants.{NearestEven}
 use Rattle.fixed_error.specs.ErrorSize.{HasErrorWithin, error_size}
@@ -9,8 +9,8 @@ use Rattle.fixed_numeral.specs.Value.{magnitude}
 use Rattle.fixed_numeral.specs.declared.radix.Radix.{Radix}
 use Rattle.fixed_numeral.specs.declared.short.ShortNumeral.{ShortNumeral}
 use Rattle.fixed_read.proofs.Public.{read_number_is_the_one}
-use Rattle.fixed_fit.specs.Inner.Lengths.{IsSurelyLeft}
-use Rattle.fixed_fit.specs.Inner.Serving.{AreAllLeft, AreAllLowered, AreSurelyLeft, HasServing, IsIn, most_left}
+use Rattle.fixed_fit.specs.Inner.Lengths.{IsSurelyLeft, magnitude_bits}
+use Rattle.fixed_fit.specs.Inner.Serving.{AreAllLeft, AreAllLowered, AreSurelyLeft, HasServing, HaveRoom, IsIn, most_left}
 use Rattle.fixed_fit.specs.Within.{IsErrorWithin, IsHalfWithin, IsLeastWithin, Serves}
 use Rattle.fixed_fit.specs.declared.lengths.Lengths.{Lengths}
 use Rattle.fixed_fit.specs.declared.question.Widths.{Widths}
@@ -18,7 +18,7 @@ use Rattle.fixed_fit.specs.declared.question.Widths.TheVariants.{One}
 use Rattle.fixed_fit.specs.declared.serving.Serving.{Serving}
 use Rattle.fixed_fit.proofs.RangeLemmas.{within_half}
 use Rattle.fixed_fit.proofs.ServingLemmas.{all_one_more, in_width, left_in, serves_by, serves_not}
-use Rattle.fixed_fit.proofs.ShortLemmas.{left_as_they_were, read_numeral}
+use Rattle.fixed_fit.proofs.ShortLemmas.{left_as_they_were, next_fits, read_numeral, room_for}
 use Rattle.fixed_fit.proofs.WithinLemmas.{error_before, error_within_longer, from_longer, half_within_longer, serves_before, within_one_more}
 
 -- ---- some lengths
@@ -29,6 +29,36 @@ left_more n (x ∷ xs) l all here = (all.0, left_more n xs l all.1 here)
 pub all_as_they_were : (r : Radix) (line : List ℕ) (place : ℕ) (n : ShortNumeral) (ls : List Lengths) → IsShortRead r line n → n.exponent ≡ pos 0 → AreSurelyLeft ls n → AreAllLowered r line place ls ls
 all_as_they_were r line place n [] read none all = tt
 all_as_they_were r line place n (l ∷ ls) read none all = (left_as_they_were r line place l n read none all.0, all_as_they_were r line place n ls read none all.1)
+
+-- ---- by the room of all
+bits_near : (s : Bool) (n : ℕ) → n ≤ magnitude_bits s n + 1
+bits_near true n = omega arith
+bits_near false n = omega arith
+
+pub room_of : (l : Lengths) (bits : ℕ) → l.count ≤ l.kind.width + 1 → bits ≡ magnitude_bits l.kind.signed l.kind.width → l.count ≤ bits + 2
+room_of l bits most is = let near = bits_near l.kind.signed l.kind.width in omega (arith, most, is, near)
+
+pub less_room : (j k : ℕ) (ls : List Lengths) → j ≤ k → HaveRoom k ls → HaveRoom j ls
+less_room j k [] order all = tt
+less_room j k (l ∷ ls) order all = (λ some. let h = all.0 some in omega (arith, h, order), less_room j k ls order all.1)
+
+pub more_room : (k : ℕ) (ls : List Lengths) (l : Lengths) → HaveRoom k ls → (0 < l.count → k + l.count ≤ magnitude_bits l.kind.signed l.kind.width + 2) → HaveRoom k (ls ++ l ∷ [])
+more_room k [] l all here = (here, tt)
+more_room k (x ∷ xs) l all here = (all.0, more_room k xs l all.1 here)
+
+surely_by_room : (l : Lengths) (n : ShortNumeral) (k : ℕ) → (n.negative ≡ true → l.kind.signed ≡ true) → n.fraction < 10 ^ n.places → 0 < k → n.whole + 1 < 2 ^ (k - 1) → (0 < l.count → k + l.count ≤ magnitude_bits l.kind.signed l.kind.width + 2) → IsSurelyLeft l n
+surely_by_room l n k sign below some less room = record {
+  sign = λ f last. sign;
+  room = λ f last.
+      let b : ℕ = magnitude_bits l.kind.signed l.kind.width in
+      let h = room (omega (arith, last)) in
+      let near : k + (f + 1) ≤ b + 2 = omega (arith, h, last) in
+      next_fits n.whole n.fraction (10 ^ n.places) (2 ^ f) (2 ^ b) below (room_for (n.whole + 1) (b - f) (k - 1) f b less (omega (arith, near)) (omega (arith, near, some)));
+}
+
+pub all_by_room : (ls : List Lengths) (n : ShortNumeral) (k : ℕ) (s : Bool) → ((l : Lengths) → IsIn l ls → l.kind.signed ≡ s) → (n.negative ≡ true → s ≡ true) → n.fraction < 10 ^ n.places → 0 < k → n.whole + 1 < 2 ^ (k - 1) → HaveRoom k ls → AreSurelyLeft ls n
+all_by_room [] n k s signs sign below some less room = tt
+all_by_room (l ∷ ls) n k s signs sign below some less room = (surely_by_room l n k (λ m. signs l (inl refl) ∙ sign m) below some less room.0, all_by_room ls n k s (λ x is. signs x (inr is)) sign below some less room.1)
 
 -- ---- where half an ulp is within the bound each numeral is
 pub numeral_within : (r : Radix) (f : ℕ) (line bound : List ℕ) → IsNumeral r line → IsHalfWithin r f bound → HasErrorWithin NearestEven r f line bound
@@ -86,6 +116,8 @@ stays range r s widths one done line place n v on order read none surely at h =
       range_is = h.range_is;
       numeral = h.numeral;
       half = h.half;
+      signed_is = h.signed_is;
+      room = h.room;
       tried = h.tried;
       serving = λ _. record {
         lengths = after;

@@ -11,7 +11,7 @@ use Rattle.fixed_numeral.specs.Numeral.{IsNumeral}
 use Rattle.fixed_numeral.specs.declared.radix.Radix.{Radix}
 use Rattle.fixed_fit.specs.Fitting.{AllFit, IsFirstExceeding}
 use Rattle.fixed_fit.specs.Inner.Lengths.{AreLowered}
-use Rattle.fixed_fit.specs.Inner.Serving.{AreAllLeft, AreAllLowered, AreFew, AreTried, HasServing, HasWidth, IsBelow, IsBestOf, IsIn, IsLeftOf, IsNarrowed, IsServing, most_left}
+use Rattle.fixed_fit.specs.Inner.Serving.{AreAllLeft, AreAllLowered, AreFew, AreTried, HasServing, HasWidth, HaveRoom, IsBelow, IsBestOf, IsIn, IsLeftOf, IsNarrowed, IsServing, most_left}
 use Rattle.fixed_fit.specs.Within.{AllWithin, IsErrorWithin, IsHalfWithin, IsLeastWithin, IsNextBelow, IsServed, IsTried, IsUnservedFrom, Serves, most_width}
 use Rattle.fixed_fit.specs.declared.lengths.Lengths.{Lengths}
 use Rattle.fixed_fit.specs.declared.question.Widths.{Widths}
@@ -88,6 +88,12 @@ tried_after r line place widths one olds news low h = record {
   all = λ n t. widths_after r line place n olds news low (h.all n t);
   only = λ n w. h.only n (widths_back r line place n olds news low w);
 }
+
+pub few_after : (r : Radix) (line : List ℕ) (place : ℕ) (olds news : List Lengths) → AreAllLowered r line place olds news → AreFew olds → AreFew news
+few_after r line place [] [] low few = tt
+few_after r line place [] (new ∷ news) low few = absurd low
+few_after r line place (old ∷ olds) [] low few = absurd low
+few_after r line place (old ∷ olds) (new ∷ news) low few = (subst (λ (k : FormatParts). new.count ≤ k.width + 1) (sym low.0.kind) (let most = few.0 in omega (arith, low.0.fewer, most)), few_after r line place olds news low.1 few.1)
 
 -- with a length that is left of some width the line is read within 64 bits
 pub lowered_within : (r : Radix) (s : Bool) (done : List (List ℕ)) (line : List ℕ) (place f : ℕ) (olds news : List Lengths) → AreAllLowered r line place olds news → AreAllLeft r s done olds → f < most_left news → IsReadWithin NearestEven r f line
@@ -172,6 +178,8 @@ frozen range r s widths one done line v over h = record {
   range_is = h.range_is;
   numeral = h.numeral;
   half = h.half;
+  signed_is = h.signed_is;
+  room = h.room;
   tried = h.tried;
   serving = λ served. let no : true ≡ false = sym served ∙ over in cc;
   narrowed = λ served. let no : true ≡ false = sym served ∙ over in cc;
@@ -274,29 +282,31 @@ narrowed_on range r s widths one done line place old new best at bound width sam
 same_half : (r : Radix) (f g : ℕ) (b c : List ℕ) → g ≡ f → c ≡ b → (f < 65 → IsHalfWithin r f b) → g < 65 → IsHalfWithin r g c
 same_half r f g b c same bound h = subst (λ (k : ℕ). k < 65 → IsHalfWithin r k c) (sym same) (subst (λ (l : List ℕ). f < 65 → IsHalfWithin r f l) (sym bound) h)
 
-pub goes_on : (range : Bool) (r : Radix) (s : Bool) (widths : Widths) (one : ℕ) (done : List (List ℕ)) (line : List ℕ) (place : ℕ) (old new : Serving) (best : Lengths) → new.bound.items ≡ old.bound.items → new.is_range ≡ old.is_range → new.half ≡ old.half → new.is_served ≡ old.is_served → old.is_served ≡ true → AreAllLowered r line place old.lengths.items new.lengths.items
+pub goes_on : (range : Bool) (r : Radix) (s : Bool) (widths : Widths) (one : ℕ) (done : List (List ℕ)) (line : List ℕ) (place : ℕ) (old new : Serving) (best : Lengths) → new.bound.items ≡ old.bound.items → new.is_range ≡ old.is_range → new.half ≡ old.half → new.signed ≡ old.signed → HaveRoom new.room new.lengths.items → new.is_served ≡ old.is_served → old.is_served ≡ true → AreAllLowered r line place old.lengths.items new.lengths.items
     → IsWithinNext old.is_range r line old.low new.low old.bound.items
     → IsLeastNext old.is_range r line old.low new.low old.bound.items
     → new.low < most_left new.lengths.items → place ≡ length done + 1 → IsBestOf new.low new.lengths.items best → new.width ≡ best.kind.width → (new.width ≡ old.width → new.raised ≡ old.raised) → ((new.width ≡ old.width → ⊥) → new.raised ≡ place)
     → HasServing range r s widths one done old → HasServing range r s widths one (done ++ line ∷ []) new
-goes_on range r s widths one done line place old new best bound ranged half same on low within least served at is width kept moved h =
+goes_on range r s widths one done line place old new best bound ranged half signed room same on low within least served at is width kept moved h =
     let serving = serving_on range r s widths one done line place old new bound on low within least served at h in
     let tried = tried_after r line place widths one old.lengths.items new.lengths.items low h.tried in
     record {
       range_is = ranged ∙ h.range_is;
       numeral = subst (λ b. IsNumeral r b) (sym bound) h.numeral;
       half = same_half r old.half new.half old.bound.items new.bound.items half bound h.half;
+      signed_is = signed ∙ h.signed_is;
+      room = room;
       tried = tried;
       serving = λ _. serving;
       narrowed = λ _. narrowed_on range r s widths one done line place old new best at bound width kept moved tried serving is (h.narrowed on);
       unserved = λ over. let no : true ≡ false = sym on ∙ (sym same ∙ over) in cc;
     }
 
-pub ends : (range : Bool) (r : Radix) (s : Bool) (widths : Widths) (one : ℕ) (done : List (List ℕ)) (line : List ℕ) (place : ℕ) (old new : Serving) → new.bound.items ≡ old.bound.items → new.is_range ≡ old.is_range → new.half ≡ old.half → new.is_served ≡ false → new.place ≡ place → old.is_served ≡ true → AreAllLowered r line place old.lengths.items new.lengths.items
+pub ends : (range : Bool) (r : Radix) (s : Bool) (widths : Widths) (one : ℕ) (done : List (List ℕ)) (line : List ℕ) (place : ℕ) (old new : Serving) → new.bound.items ≡ old.bound.items → new.is_range ≡ old.is_range → new.half ≡ old.half → new.signed ≡ old.signed → HaveRoom new.room new.lengths.items → new.is_served ≡ false → new.place ≡ place → old.is_served ≡ true → AreAllLowered r line place old.lengths.items new.lengths.items
     → IsLeastNext old.is_range r line old.low new.low old.bound.items
     → most_left new.lengths.items ≤ new.low → place ≡ length done + 1
     → HasServing range r s widths one done old → HasServing range r s widths one (done ++ line ∷ []) new
-ends range r s widths one done line place old new bound ranged half over same on low least past at h =
+ends range r s widths one done line place old new bound ranged half signed room over same on low least past at h =
     let was = h.serving on in
     let tried = tried_after r line place widths one old.lengths.items new.lengths.items low h.tried in
     let left = all_one_more r s done line place old.lengths.items new.lengths.items at low was.lengths in
@@ -308,6 +318,8 @@ ends range r s widths one done line place old new bound ranged half over same on
       range_is = ranged ∙ h.range_is;
       numeral = subst (λ b. IsNumeral r b) (sym bound) h.numeral;
       half = same_half r old.half new.half old.bound.items new.bound.items half bound h.half;
+      signed_is = signed ∙ h.signed_is;
+      room = room;
       tried = tried;
       serving = λ on'. let no : true ≡ false = sym on' ∙ over in cc;
       narrowed = λ on'. let no : true ≡ false = sym on' ∙ over in cc;
@@ -418,11 +430,11 @@ fresh_narrowed range r s widths one v raised within least tried order least' = r
   };
 }
 
-pub starts : (range : Bool) (r : Radix) (s : Bool) (widths : Widths) (one : ℕ) (v : Serving) → v.is_range ≡ range → v.place ≡ 0 → v.raised ≡ 0 → IsWidth one → IsNumeral r v.bound.items → (v.half < 65 → IsHalfWithin r v.half v.bound.items) → AreTried widths one v.lengths.items → AreFresh s v.lengths.items
+pub starts : (range : Bool) (r : Radix) (s : Bool) (widths : Widths) (one : ℕ) (v : Serving) → v.is_range ≡ range → v.place ≡ 0 → v.raised ≡ 0 → IsWidth one → IsNumeral r v.bound.items → (v.half < 65 → IsHalfWithin r v.half v.bound.items) → v.signed ≡ s → HaveRoom v.room v.lengths.items → AreTried widths one v.lengths.items → AreFresh s v.lengths.items
     → (v.low < 65 → IsErrorWithin range r v.low v.bound.items []) → ((f : ℕ) → f < v.low → ¬ IsErrorWithin range r f v.bound.items [])
     → (v.is_served ≡ true → v.low ≤ most_width widths one) → (v.is_served ≡ false → most_width widths one < v.low)
     → (v.low ≤ most_width widths one → IsTried widths one v.width) → (v.low ≤ most_width widths one → v.low ≤ v.width) → ((m : ℕ) → IsTried widths one m → v.low ≤ m → v.width ≤ m) → HasServing range r s widths one [] v
-starts range r s widths one v ranged place raised wide numeral half tried fresh within least on over tried' order least' =
+starts range r s widths one v ranged place raised wide numeral half signed room tried fresh within least on over tried' order least' =
     let w : ℕ = most_width widths one in
     let l = in_width w v.lengths.items (tried.all w (most_tried widths one)) in
     let most = in_most l.0 v.lengths.items l.1 in
@@ -434,6 +446,8 @@ starts range r s widths one v ranged place raised wide numeral half tried fresh 
       range_is = ranged;
       numeral = numeral;
       half = half;
+      signed_is = signed;
+      room = room;
       tried = tried;
       serving = λ yes. let fits = on yes in record {
         lengths = fresh_left r s v.lengths.items fresh;
@@ -591,6 +605,10 @@ best_all low items k best past some among least =
       longer = (least t.0 (back t.0 t.1) t.2).0;
       least = λ x is longer. (least x (back x is) longer).1;
     }
+
+pub fresh_few : (s : Bool) (ls : List Lengths) → AreFresh s ls → AreFew ls
+fresh_few s [] all = tt
+fresh_few s (l ∷ ls) all = (let is = all.0.all in omega (arith, is), fresh_few s ls all.1)
 
 -- the widths below one
 pub record IsCovered (s : Bool) (widths : Widths) (one width : ℕ) (items : List Lengths) : Type 0 where

@@ -16,13 +16,13 @@ ghost use Rattle.fixed_error.specs.ErrorSize.{HasErrorAbove, HasErrorWithin, IsR
 ghost use Rattle.fixed_error.specs.Short.{IsShortRead};
 ghost use Rattle.fixed_numeral.specs.Numeral.{IsNumeral};
 ghost use Rattle.fixed_fit.specs.Inner.Serving.{AreAllLowered, AreFew, HasServing, HasSomeServing, IsBestOf, most_left};
-ghost use Rattle.fixed_fit.specs.Inner.Serving.{AreServed, AreSurelyLeft, Asked, bounded};
+ghost use Rattle.fixed_fit.specs.Inner.Serving.{AreServed, AreSurelyLeft, Asked, HaveRoom, IsIn, bounded};
 ghost use Rattle.fixed_fit.specs.Within.{IsErrorWithin, IsHalfWithin, IsTried, most_width};
 
 use crate::half::first_length;
 use crate::lengths::{Lengths, all_lengths, lowered};
 use crate::question::{Question, Widths};
-use crate::short::is_left_of_all;
+use crate::short::{is_left_by_room, is_left_of_all, least_room};
 use fixed_bits::{Format, ReadMode};
 use fixed_error::is_error_above;
 use fixed_numeral::{Radix, ShortNumeral};
@@ -37,6 +37,10 @@ pub struct Serving {
     pub bound: Vec<u8>,
     /// The lengths that are left, of each width that is tried.
     pub lengths: Vec<Lengths>,
+    /// Whether they are of formats with a sign.
+    pub signed: bool,
+    /// One more than how many bits, or more, are before the point with the longest that is left of each width.
+    pub room: u32,
     /// The least length within the error.
     pub low: u32,
     /// A length at which half an ulp is within the error, and so every numeral is; 65 where none up to 64 is.
@@ -222,9 +226,12 @@ impl Serving {
                 lengths.push(all_lengths(Format::of(signed, width, 0)))?;
             }
         }
+        let room = least_room(&lengths);
         Ok(Serving {
             bound: text,
             lengths,
+            signed,
+            room,
             low,
             half,
             place: 0,
@@ -240,6 +247,8 @@ impl Serving {
         Serving {
             bound: Vec::new(alloc),
             lengths: Vec::new(alloc),
+            signed: false,
+            room: 0,
             low: 0,
             half: 0,
             place: 0,
@@ -253,13 +262,21 @@ impl Serving {
     /// Whether a short decimal surely changes nothing, where a format serves.
     fn is_kept_by(&self, found: ShortNumeral) -> bool
         requires few { AreFew self.now.lengths.items }
+        requires signs { (l : Lengths) → IsIn l self.now.lengths.items → l.kind.signed ≡ self.now.signed }
+        requires room { HaveRoom self.now.room self.now.lengths.items }
         requires whole { found.whole < 10 ^ 16 }
         requires fraction { found.fraction < 10 ^ found.places }
         ensures half { result ≡ true → self.now.half ≤ self.now.low }
         ensures exponent { result ≡ true → found.exponent ≡ pos 0 }
         ensures left { result ≡ true → AreSurelyLeft self.now.lengths.items found }
     {
-        self.half <= self.low && is_left_of_all(&self.lengths, found)
+        if self.half > self.low {
+            return false;
+        }
+        if is_left_by_room(self.room, self.signed, found) {
+            return true;
+        }
+        is_left_of_all(&self.lengths, found)
     }
 
     /// Takes one more line, which is a numeral at a place, by the numbers of its parts where it was read as a short
@@ -289,6 +306,7 @@ impl Serving {
             }
         }
         let most = lower_all(&mut self.lengths, line, radix, place, steps);
+        self.room = least_room(&self.lengths);
         let is_range = self.is_range;
         self.low = next_low(is_range, self.low, most, line, &self.bound, radix, steps);
         if most <= self.low {

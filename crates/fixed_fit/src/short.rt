@@ -3,9 +3,9 @@
 //! Most lines fit each length that is left. That is seen by the whole part, where the numbers up to the next whole
 //! number fit, and else by the digits after the point too.
 
-ghost use Rattle.std.specs.Prelude.{◌≡◌, ◌≤◌, ◌<◌, ◌+◌, ◌*◌, ◌^◌, ◌↔◌, IsTrue, true, pos, ℕ};
+ghost use Rattle.std.specs.Prelude.{◌≡◌, ◌≤◌, ◌<◌, ◌+◌, ◌*◌, ◌^◌, ◌↔◌, IsTrue, true, pos, ℕ, List};
 ghost use Rattle.fixed_fit.specs.Inner.Lengths.{HasRoom, IsSurelyLeft, magnitude_bits};
-ghost use Rattle.fixed_fit.specs.Inner.Serving.{AreFew, AreSurelyLeft};
+ghost use Rattle.fixed_fit.specs.Inner.Serving.{AreFew, AreSurelyLeft, HaveRoom, IsIn};
 
 use crate::lengths::Lengths;
 use fixed_bits::Format;
@@ -44,6 +44,7 @@ fn has_sign(kind: Format, is_negative: bool) -> bool
 }
 
 /// Whether the next whole number is below the end of a range of so many bits at a fraction length.
+#[inline(always)]
 fn has_room_above(bits: u32, frac: u32, whole: u64) -> bool
     requires { whole < 10 ^ 16 }
     ensures { result ≡ true → (whole + 1) * 2 ^ frac < 2 ^ bits }
@@ -78,6 +79,7 @@ fn has_room_by_digits(bits: u32, frac: u32, found: ShortNumeral) -> bool
 }
 
 /// Whether a short decimal is in range with the longest length that is left.
+#[inline(always)]
 fn has_room(left: Lengths, found: ShortNumeral) -> bool
     requires some { 0 < left.count }
     requires most { left.count ≤ left.kind.width + 1 }
@@ -94,6 +96,7 @@ fn has_room(left: Lengths, found: ShortNumeral) -> bool
 }
 
 /// Whether a short decimal without an exponent is surely in range with each length that is left.
+#[inline(always)]
 fn is_surely_left(left: Lengths, found: ShortNumeral) -> bool
     requires most { left.count ≤ left.kind.width + 1 }
     requires whole { found.whole < 10 ^ 16 }
@@ -117,6 +120,46 @@ pub fn is_left_of_both(plain: Lengths, signed: Lengths, found: ShortNumeral) -> 
     ensures signed { result ≡ true → IsSurelyLeft signed found }
 {
     found.exponent == 0 && is_surely_left(plain, found) && is_surely_left(signed, found)
+}
+
+/// One more than how many bits are before the point with the longest length that is left, or than that is 65.
+fn room_left(left: Lengths) -> u32
+    requires { left.count ≤ left.kind.width + 1 }
+    ensures { 0 < left.count → result + left.count ≤ magnitude_bits left.kind.signed left.kind.width + 2 }
+{
+    if left.count == 0 {
+        return 65;
+    }
+    magnitude_bits(left.kind) + 2 - left.count
+}
+
+/// One more than how many bits, or more, are before the point with the longest length that is left of each.
+pub fn least_room(lengths: &[Lengths]) -> u32
+    requires { AreFew lengths.now }
+    ensures { HaveRoom result lengths.now }
+{
+    let mut least = 65;
+    for left in lengths {
+        least = room_left(*left).min(least);
+    }
+    least
+}
+
+/// Whether a short decimal is surely in range with each length that is left of a sign rule, by the room of all.
+pub fn is_left_by_room(room: u32, signed: bool, found: ShortNumeral) -> bool
+    requires whole { found.whole < 10 ^ 16 }
+    requires fraction { found.fraction < 10 ^ found.places }
+    ensures exponent { result ≡ true → found.exponent ≡ pos 0 }
+    ensures left { (lengths : List Lengths) → ((l : Lengths) → IsIn l lengths → l.kind.signed ≡ signed)
+        → HaveRoom room lengths → result ≡ true → AreSurelyLeft lengths found }
+{
+    if room == 0 || found.exponent != 0 {
+        return false;
+    }
+    if found.negative && !signed {
+        return false;
+    }
+    has_room_above(room - 1, 0, found.whole)
 }
 
 /// Whether a short decimal is surely in range with each length that is left of some kinds.

@@ -5,7 +5,7 @@ use Rattle.fixed_bits.specs.Ranges.{IsWidth}
 use Rattle.fixed_numeral.specs.Numeral.{IsNumeral}
 use Rattle.fixed_numeral.specs.declared.radix.Radix.{Radix}
 use Rattle.fixed_numeral.specs.declared.short.ShortNumeral.{ShortNumeral}
-use Rattle.fixed_fit.specs.Inner.Lengths.{AreLengths, AreLowered, IsSomeAnswer, IsSurelyLeft}
+use Rattle.fixed_fit.specs.Inner.Lengths.{AreLengths, AreLowered, IsSomeAnswer, IsSurelyLeft, magnitude_bits}
 use Rattle.line_engine.specs.AnswerText.{AnswerText}
 use Rattle.fixed_fit.specs.declared.question.Question.{Question}
 use Rattle.fixed_fit.specs.Bounded.{width_line}
@@ -44,6 +44,11 @@ AreAllLowered r line place (old ∷ olds) (new ∷ news) = AreLowered r line pla
 abbrev pub AreSurelyLeft : List Lengths → ShortNumeral → Type 0
 AreSurelyLeft [] n = Unit {0}
 AreSurelyLeft (l ∷ ls) n = IsSurelyLeft l n × AreSurelyLeft ls n
+
+-- with the longest length that is left of each, one less than this many bits, or more, are before the point
+abbrev pub HaveRoom : ℕ → List Lengths → Type 0
+HaveRoom k [] = Unit {0}
+HaveRoom k (l ∷ ls) = (0 < l.count → k + l.count ≤ magnitude_bits l.kind.signed l.kind.width + 2) × HaveRoom k ls
 
 -- one of them is
 abbrev pub IsIn : Lengths → List Lengths → Type 0
@@ -91,6 +96,8 @@ pub record HasServing (range : Bool) (r : Radix) (s : Bool) (widths : Widths) (o
   pub range_is : v.is_range ≡ range
   pub numeral : IsNumeral r v.bound.items
   pub half : v.half < 65 → IsHalfWithin r v.half v.bound.items
+  pub signed_is : v.signed ≡ s
+  pub room : HaveRoom v.room v.lengths.items
   pub tried : AreTried widths one v.lengths.items
   pub serving : v.is_served ≡ true → IsServing range r s lines v
   pub narrowed : v.is_served ≡ true → IsNarrowed range r s widths one lines v

@@ -4,10 +4,10 @@ use Rattle.fixed_bits.specs.Formats.{FormatParts}
 use Rattle.fixed_bits.specs.Ranges.{IsWidth}
 use Rattle.fixed_numeral.specs.Numeral.{IsNumeral}
 use Rattle.fixed_fit.specs.declared.lengths.Lengths.{Lengths}
-use Rattle.fixed_fit.specs.Inner.Serving.{HasServing}
+use Rattle.fixed_fit.specs.Inner.Serving.{AreFew, HasServing, HaveRoom}
 use Rattle.fixed_fit.specs.Within.{IsErrorWithin, IsHalfWithin, IsTried}
 use Rattle.fixed_fit.specs.declared.serving.Serving.{Serving}
-use Rattle.fixed_fit.proofs.ServingLemmas.{IsCovered, covered_all, covered_more, covered_past, none_covered, starts}
+use Rattle.fixed_fit.proofs.ServingLemmas.{IsCovered, covered_all, covered_more, covered_past, fresh_few, none_covered, starts}
 use Rattle.fixed_fit.proofs.serving.Serving.new.Goals as goal
 use Rattle.fixed_fit.proofs.serving.Serving.new.Goals.{then-is_tried+in_ok-push, else-is_tried}
 
@@ -30,6 +30,9 @@ loop-width-preserved c =
           (covered_past c.args.signed c.args.widths c.width-one.result width c.loop-width.lengths.items (λ (t : IsTried c.args.widths c.width-one.result width). let yes = c.is_tried.ensures.1 t in let no = w.if-is_tried.false in cc) c.loop-width.invariant)
     ]
 
+pub least_room-room-requires : goal.least_room-room-requires
+least_room-room-requires c = subst (λ (l : List Lengths). AreFew l) (sym c.deref.ensures.value) (fresh_few c.args.signed c.loop-width.lengths.items c.loop-width.invariant.fresh)
+
 pub returns-clause-kept : goal.returns-clause-kept
 returns-clause-kept c =
     let inv = c.loop-width.invariant in
@@ -42,10 +45,11 @@ returns-clause-kept c =
     let most = c.most_width.ensures.most in
     let first = c.least_width.ensures in
     let same : bound.items ≡ c.args.bound.now = c.in_ok-extend_from_slice.ensures.items ∙ ap (λ (l : List ℕ). l ++ c.args.bound.now) c.new-text.ensures.items in
-    let v : Serving = record { bound = bound; lengths = c.loop-width.lengths; low = low; half = c.args.half; place = 0; is_range = q.is_range; is_served = leb low c.most_width.result; width = c.least_width.result; raised = 0 } in
+    let v : Serving = record { bound = bound; lengths = c.loop-width.lengths; signed = c.args.signed; room = c.least_room-room.result; low = low; half = c.args.half; place = 0; is_range = q.is_range; is_served = leb low c.most_width.result; width = c.least_width.result; raised = 0 } in
     let here : HasServing q.is_range q.radix c.args.signed widths one [] v = starts q.is_range q.radix c.args.signed widths one v refl refl refl wide
     (subst (λ (l : List ℕ). IsNumeral q.radix l) (sym same) c.requires.numeral)
     (λ less. subst (λ (l : List ℕ). IsHalfWithin q.radix c.args.half l) (sym same) (c.requires.half less))
+    refl (subst (λ (l : List Lengths). HaveRoom c.least_room-room.result l) c.deref.ensures.value c.least_room-room.ensures)
     (covered_all c.args.signed widths one c.loop-width.width c.loop-width.lengths.items wide c.loop-width-test.false inv)
     inv.fresh
     (λ less. subst (λ (l : List ℕ). IsErrorWithin q.is_range q.radix low l []) (sym same) (c.requires.within less))
