@@ -18,7 +18,7 @@ use Rattle.fixed_error.proofs.GreatestLemmas.{den_some, kept_old, size_unique}
 use Rattle.fixed_error.proofs.NearLemmas.{greatest_of, least_error, least_moved, most_error, no_greater_by}
 use Rattle.fixed_error.proofs.RestLemmas.{parts_pos}
 
--- ---- by how far a numeral is behind
+-- ---- by how far a numeral is above a whole number
 most_at : (r : Radix) (f : ℕ) (bytes : List ℕ) (x : Rest) (w : IsReadWithin NearestEven r f bytes) → IsRest r f bytes x
     → distance ((magnitude r w.parts).num * 2 ^ f) (w.read.ulps * (magnitude r w.parts).den) * parts r ≤ (min x.rest (parts r - x.rest) + x.slack) * (magnitude r w.parts).den
 most_at r f bytes x w h =

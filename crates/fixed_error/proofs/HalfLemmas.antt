@@ -1,12 +1,12 @@
 -- Binary digits near a half.
-use Rattle.std.proofs.Common.{◌≡◌, ◌⊎◌, ℕ, ◌+◌, ◌-◌, ◌*◌, ◌/◌, ◌%◌, ◌^◌, ◌<◌, ◌≤◌, sym, ap, ◌∙◌, subst, arith, ⊎_elim, inl, inr, mul-le-mul_right, mul-le-mul_left}
+use Rattle.std.proofs.Common.{◌≡◌, ◌⊎◌, ℕ, ◌+◌, ◌-◌, ◌*◌, ◌/◌, ◌%◌, ◌^◌, ◌<◌, ◌≤◌, sym, ap, ◌∙◌, subst, arith, ⊎_elim, inl, inr, bit_and, w64, mul-le-mul_right, mul-le-mul_left, div-add-mod', mod-lt}
 use Rattle.std.specs.Prelude.{max, min}
 use Rattle.std.specs.Int.{bit_at}
-use lib.Bits.{bit_and}
+use lib.Count.{count_leading_zeros}
 use Rattle.std.proofs.Math.Nat.{one-le-pow}
 use Rattle.std.proofs.lemmas.Bool.{cases_lt}
-use Rattle.std.proofs.lemmas.Nat.{shr-shr}
-use Rattle.std.proofs.lemmas.Nat.Bits.{bit_at_and, bit_at_cat_high, bit_at_cat_low, bit_at_ones, bit_at_ones_above, bit_at-pow_other, bit_at-pow_same}
+use Rattle.std.proofs.lemmas.Nat.{leading_length, pow-add}
+use Rattle.std.proofs.lemmas.Nat.Bits.{bit_at_above, bit_at_and, bit_at_cat_high, bit_at_cat_low, bit_at_not, bit_at_ones, bit_at_ones_above, bit_at-pow_other, bit_at-pow_same}
 use Rattle.fixed_error.specs.Errors.{near_half}
 use Rattle.fixed_error.specs.Inner.Words.{IsFarFromHalf}
 use Rattle.fixed_error.proofs.RestLemmas.{power_within}
@@ -21,11 +21,6 @@ moved_bit n k i from below =
     let some : 1 ≤ 2 ^ k = one-le-pow k 2 (omega arith) in
     let high : bit_at x i ≡ bit_at n (i - k) = ap (λ t. bit_at t i) none ∙ bit_at_cat_high n k 0 i (omega (arith, some)) from in
     sym low ∙ high
-
-lowered_bit : (n u i : ℕ) → u ≤ i → bit_at (n / 2 ^ u) (i - u) ≡ bit_at n i
-lowered_bit n u i from =
-    let all : u + (i - u) ≡ i = omega (arith, from) in
-    ap (λ t. t % 2) (shr-shr n u (i - u) ∙ ap (λ t. n / 2 ^ t) all)
 
 -- ---- a number near a half
 record IsHalf (n : ℕ) : Type 0 where
@@ -55,15 +50,15 @@ half_of n low high = ⊎_elim
     (cases_lt n (2 ^ 63))
 
 -- ---- where digits differ from those after them
-pub far_by : (digits changes after u f : ℕ) → f < 53 → u + f < 64 → ((i : ℕ) → 1 ≤ i → i < 64 → bit_at changes i ≡ (bit_at digits i + bit_at digits (i - 1)) % 2)
+far_by : (digits changes after near f : ℕ) → f < 53 → ((i : ℕ) → 1 ≤ i → i < 64 → bit_at changes i ≡ (bit_at digits i + bit_at digits (i - 1)) % 2)
     → ((i : ℕ) → 7 ≤ i → i < 64 → ((k : ℕ) → k < 7 → bit_at changes (i - 1 - k) ≡ 0) → bit_at after i ≡ 0)
-    → bit_and changes after / 2 ^ u ≡ changes / 2 ^ u → IsFarFromHalf digits f
-far_by digits changes after u f few room change any same =
+    → bit_at near (63 - f) ≡ min (bit_at changes (63 - f)) (1 - bit_at after (63 - f)) → bit_at near (63 - f) ≡ 0 → IsFarFromHalf digits f
+far_by digits changes after near f few change any both is =
     let r : ℕ = digits * 2 ^ f % 2 ^ 64 in
     ⊎_elim
     (λ (low : r + 2 ^ 55 < 2 ^ 63). inl low)
-    (λ (near : 2 ^ 63 ≤ r + 2 ^ 55). ⊎_elim
-    (λ (less : r < 2 ^ 63 + 2 ^ 55). absurd (clash (half_of r near less)))
+    (λ (high : 2 ^ 63 ≤ r + 2 ^ 55). ⊎_elim
+    (λ (less : r < 2 ^ 63 + 2 ^ 55). absurd (clash (half_of r high less)))
     (λ (more : 2 ^ 63 + 2 ^ 55 ≤ r). inr more)
     (cases_lt r (2 ^ 63 + 2 ^ 55)))
     (cases_lt (r + 2 ^ 55) (2 ^ 63))
@@ -86,9 +81,26 @@ far_by digits changes after u f few room change any same =
         let e : i - 1 - k ≡ 62 - k - f = omega arith in
         ap (bit_at changes) e ∙ change_at (62 - k) (omega (arith, less)) (omega arith) ∙ h.same (62 - k) (omega (arith, less)) (omega arith) in
         let none : bit_at after i ≡ 0 = any i (omega (arith, few)) (omega arith) zeros_are in
-        let both : bit_at (bit_and changes after) i ≡ bit_at changes i = sym (lowered_bit (bit_and changes after) u i (omega (arith, room))) ∙ ap (λ t. bit_at t (i - u)) same ∙ lowered_bit changes u i (omega (arith, room)) in
-        let least : bit_at (bit_and changes after) i ≡ min (bit_at changes i) (bit_at after i) = bit_at_and changes after i in
-        omega (arith, one, none, both, least)
+        omega (arith, one, none, both, is)
+
+pub far_place : (digits changes after f : ℕ) → after < 2 ^ 64 → ((i : ℕ) → 1 ≤ i → i < 64 → bit_at changes i ≡ (bit_at digits i + bit_at digits (i - 1)) % 2)
+    → ((i : ℕ) → 7 ≤ i → i < 64 → ((k : ℕ) → k < 7 → bit_at changes (i - 1 - k) ≡ 0) → bit_at after i ≡ 0)
+    → f < 53 → bit_at (bit_and changes (18446744073709551615 - after)) (63 - f) ≡ 0 → IsFarFromHalf digits f
+far_place digits changes after f small change any few is =
+    let other : ℕ = 18446744073709551615 - after in
+    let i : ℕ = 63 - f in
+    let turned : bit_at other i ≡ 1 - bit_at after i = bit_at_not w64 after i small (omega arith) in
+    let both = bit_at_and changes other i ∙ ap (λ t. min (bit_at changes i) t) turned in
+    far_by digits changes after (bit_and changes other) f few change any both is
+
+-- the next place with a one
+pub none_before : (n moved from f : ℕ) → moved < 2 ^ 64 → ((i : ℕ) → from ≤ i → i < 64 → bit_at moved i ≡ bit_at n (i - from)) → from ≤ f → f < 64 → f < from + count_leading_zeros 64 moved → bit_at n (63 - f) ≡ 0
+none_before n moved from f small at order below less =
+    let m = leading_length 64 moved small in
+    let long = m.1 in
+    let i : ℕ = 63 + from - f in
+    let e : i - from ≡ 63 - f = omega (arith, below, order) in
+    ap (bit_at n) (sym e) ∙ sym (at i (omega (arith, below)) (omega (arith, order))) ∙ bit_at_above moved m.0 i m.2 (omega (arith, long, less, below, order))
 
 joined_none : (digits result places i : ℕ) → places ≤ i → i < 64 → ((j : ℕ) → places ≤ j → j < 64 → bit_at result j ≡ max (bit_at digits j) (bit_at digits (j - places))) → bit_at digits i ≡ 0 → bit_at digits (i - places) ≡ 0 → bit_at result i ≡ 0
 joined_none digits result places i from below h one other = let e = h i from below in omega (arith, e, one, other)
@@ -146,3 +158,34 @@ far_near word digits f below few least most far =
     let split : x ≡ x / 10 ^ 18 * 10 ^ 18 + x % 10 ^ 18 = omega arith in
     let split' : y ≡ y / 2 ^ 64 * 2 ^ 64 + y % 2 ^ 64 = omega arith in
     near_by (x % 10 ^ 18) (x / 10 ^ 18) (y % 2 ^ 64) (y / 2 ^ 64) (m * power) (omega arith) (omega arith) (omega (arith, a, b)) (omega (arith, scaled, split, split')) far
+
+-- ---- the word at a length
+quotient_is : (word digits f quotient : ℕ) → f < 64 → digits * 10 ^ 18 ≤ word * 2 ^ 64 → word * 2 ^ 64 < (digits + 3) * 10 ^ 18 → quotient ≡ digits / 2 / 2 ^ (63 - f) → (quotient * 10 ^ 18 ≤ word * 2 ^ f) × (word * 2 ^ f < (quotient + 2) * 10 ^ 18)
+quotient_is word digits f quotient few least most is =
+    let up : ℕ = 2 ^ f in
+    let half : ℕ = 2 ^ (63 - f) in
+    let some : 1 ≤ half = one-le-pow (63 - f) 2 (omega arith) in
+    let all : f + (63 - f) ≡ 63 = omega (arith, few) in
+    let product : 2 ^ 63 ≡ up * half = ap (λ (n : ℕ). 2 ^ n) (sym all) ∙ pow-add 2 f (63 - f) in
+    let split : digits / 2 / half * half + digits / 2 % half ≡ digits / 2 = div-add-mod' (digits / 2) half in
+    let rest : digits / 2 % half < half = mod-lt (digits / 2) some in
+    let least' : quotient * half ≤ digits / 2 = subst (λ (n : ℕ). n * half ≤ digits / 2) (sym is) (omega (arith, split)) in
+    let most' : digits / 2 < (quotient + 1) * half = subst (λ (n : ℕ). digits / 2 < (n + 1) * half) (sym is) (omega (arith, split, rest)) in
+    let scaled : word * 2 ^ 64 ≡ word * up * (2 * half) = ap (λ (n : ℕ). word * (2 * n)) product ∙ omega arith in (
+      below (quotient * 10 ^ 18) (word * up) (2 * half) (omega (arith, some)) (omega (arith, least, least', scaled)),
+      above (word * up) ((quotient + 2) * 10 ^ 18) (2 * half) (omega (arith, most, most', scaled, some)),
+    )
+  where
+    below : (a b c : ℕ) → 0 < c → a * c ≤ b * c → a ≤ b
+    below a b c some less = ⊎_elim (λ (over : b < a). let m : (b + 1) * c ≤ a * c = mul-le-mul_right c (omega (arith, over)) in absurd (omega (arith, m, less, some))) (λ (is : a ≤ b). is) (cases_lt b a)
+
+    above : (a b c : ℕ) → a * c < b * c → a < b
+    above a b c less = ⊎_elim (λ (is : a < b). is) (λ (over : b ≤ a). let m : b * c ≤ a * c = mul-le-mul_right c over in absurd (omega (arith, m, less))) (cases_lt a b)
+
+pub word_moved : (word digits f quotient w one : ℕ) → word < 10 ^ 18 → f < 64 → digits * 10 ^ 18 ≤ word * 2 ^ 64 → word * 2 ^ 64 < (digits + 3) * 10 ^ 18 → quotient ≡ digits / 2 / 2 ^ (63 - f) → w ≡ word → one ≡ 10 ^ 18
+    → (w * 2 ^ f ≡ word * 2 ^ f) × (quotient * one ≡ quotient * 10 ^ 18) × (word * 2 ^ f < 2 ^ 128) × (quotient * 10 ^ 18 ≤ word * 2 ^ f) × (word * 2 ^ f < (quotient + 2) * 10 ^ 18)
+word_moved word digits f quotient w one below few least most is same parts =
+    let wide : 2 ^ f ≤ 2 ^ 63 = power_within 2 f 63 (omega arith) (omega (arith, few)) in
+    let a : word * 2 ^ f ≤ word * 2 ^ 63 = mul-le-mul_left word wide in
+    let q = quotient_is word digits f quotient few least most is in
+    (ap (λ (n : ℕ). n * 2 ^ f) same, ap (λ (n : ℕ). quotient * n) parts, omega (arith, a, below), q.0, q.1)

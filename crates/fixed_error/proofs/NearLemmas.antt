@@ -1,4 +1,4 @@
--- How great an error is, by how far the numeral is behind a whole number of ulps.
+-- How great an error is, by how far the numeral is above a whole number of ulps.
 use Rattle.std.proofs.Common.{◌≡◌, ℕ, ◌+◌, ◌-◌, ◌*◌, ◌<◌, ◌≤◌, ◌⊎◌, ap, subst, arith, ⊎_elim, inl, inr, mul-le-mul_right}
 use Rattle.std.specs.Prelude.{min, max}
 use Rattle.std.proofs.lemmas.Bool.{cases_lt}
@@ -36,7 +36,7 @@ below_high a b t q d some high near (inr e) =
     (λ (more : q ≤ t). let m : q * b ≤ t * b = mul-le-mul_right b more in omega (arith, m, e))
     (cases_lt t q)
 
--- ---- an error is at most so many parts
+-- ---- an error is at most this many parts
 most_above : (a b one w r s q d : ℕ) → 0 < b → 0 < one → (w * one + r) * b ≤ a * one → a * one ≤ (w * one + r + s) * b → 2 * d ≤ b → (a ≡ q * b + d) ⊎ (a + d ≡ q * b) → d * one ≤ (r + s) * b
 most_above a b one w r s q d some some' low high near far =
     let under : w * b ≤ a = cancel_le (w * b) a one some' (omega (arith, low)) in

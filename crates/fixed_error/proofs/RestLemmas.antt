@@ -1,4 +1,4 @@
--- How far a numeral is behind a whole number of ulps, by its digits after the point.
+-- How far a numeral is above a whole number of ulps, by its digits after the point.
 use Rattle.std.proofs.Common.{◌≡◌, ℕ, suc, ◌+◌, ◌-◌, ◌*◌, ◌/◌, ◌%◌, ◌^◌, ◌<◌, ◌≤◌, ◌⊎◌, ◌↔◌, IsTrue, not, Bool, true, false, List, [], ◌∷◌, length, take, drop, refl, sym, ap, ◌∙◌, subst, arith, ⊎_elim, inl, inr, mul-le-mul_right, length-drop, mod-eq_of_lt, if◌then◌else◌}
 use Rattle.std.specs.Prelude.{min}
 use Rattle.std.specs.Int.Digits.{AllBelowBase, number_from_digits}

@@ -1,4 +1,4 @@
--- How far a short decimal is behind a whole number.
+-- How far a short decimal is above a whole number.
 use Rattle.std.proofs.Common.{◌≡◌, ℕ, suc, ◌+◌, ◌-◌, ◌*◌, ◌^◌, ◌<◌, ◌≤◌, Bool, false, List, refl, sym, ap, ◌∙◌, subst, arith, mul-le-mul_right, ℤ, pos, negsuc, ◌-ℤ◌}
 use Rattle.std.specs.Prelude.{min, Option, Some, None}
 use Rattle.std.proofs.Math.Nat.{one-le-pow, pow-zero}

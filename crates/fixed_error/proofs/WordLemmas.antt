@@ -1,8 +1,9 @@
--- Errors of a numeral that is behind a whole number by a word.
+-- Errors of a numeral that is above a whole number by a word.
 use Rattle.std.proofs.Common.{Vec, Global, ◌≡◌, ◌⊎◌, ℕ, suc, ◌+◌, ◌-◌, ◌*◌, ◌%◌, ◌^◌, ◌<◌, ◌≤◌, zero, List, [], ◌∷◌, ◌++◌, length, replicate, set, take, drop, get_or, refl, sym, ap, ◌∙◌, subst, arith, ⊎_elim, inl, inr, drop-cons}
 use Rattle.std.specs.Prelude.{min}
+use Rattle.std.specs.Int.{bit_at}
 use Rattle.std.proofs.lemmas.Bool.{cases_lt}
-use Rattle.std.proofs.lemmas.List.{drop_all, length-drop, set-get_or, take-append-le, take_all}
+use Rattle.std.proofs.lemmas.List.{drop_all, set-get_or, take-append-le, take_all}
 use Rattle.fixed_bits.specs.declared.mode.ReadMode.TheVariants.{NearestEven}
 use Rattle.fixed_numeral.specs.declared.radix.Radix.{Radix}
 use Rattle.fixed_error.specs.ErrorSize.{IsReadWithin}
@@ -92,29 +93,58 @@ twice_rest word f =
     let same : 2 * (x % 10 ^ 18) % 10 ^ 18 ≡ 2 * x % 10 ^ 18 = omega arith in
     same ∙ ap (λ t. t % 10 ^ 18) (sym next)
 
-far_from : (word f n : ℕ) (errors : List LengthError) → ((k : ℕ) → k < f + n → min (word * 2 ^ k % 10 ^ 18) (10 ^ 18 - word * 2 ^ k % 10 ^ 18) < near_half) → AreBoundsNearHalf errors
-    → AreWordsWithin (word * 2 ^ (f + n) % 10 ^ 18) (drop n errors) → AreWordsWithin (word * 2 ^ f % 10 ^ 18) errors
-far_from word f zero errors far near later = let same : f + 0 ≡ f = omega arith in subst (λ (k : ℕ). AreWordsWithin (word * 2 ^ k % 10 ^ 18) errors) same later
-far_from word f (suc n) [] far near later = tt
-far_from word f (suc n) (e ∷ errors) far near later =
-    let here = far f (omega arith) in
-    let next : f + suc n ≡ suc f + n = omega arith in
-    (omega (arith, here, near.0), subst (λ (t : ℕ). AreWordsWithin t errors) (sym (twice_rest word f)) (far_from word (suc f) n errors (λ k less. far k (omega (arith, less))) near.1 (subst (λ (k : ℕ). AreWordsWithin (word * 2 ^ k % 10 ^ 18) (drop n errors)) next later)))
+-- the error at the length f is below its bound
+abbrev pub IsWordWithinAt : ℕ → List LengthError → ℕ → LengthError → Type 0
+IsWordWithinAt word errors f d = min (word * 2 ^ f % 10 ^ 18) (10 ^ 18 - word * 2 ^ f % 10 ^ 18) < (get_or errors f d).bound
 
-pub far_words : (word n : ℕ) (errors : List LengthError) → word < 10 ^ 18 → ((k : ℕ) → k < n → min (word * 2 ^ k % 10 ^ 18) (10 ^ 18 - word * 2 ^ k % 10 ^ 18) < near_half) → AreBoundsNearHalf errors
-    → AreWordsWithin (word * 2 ^ n % 10 ^ 18) (drop n errors) → AreWordsWithin word errors
-far_words word n errors below far near later =
+within_from : (word f : ℕ) (errors : List LengthError) → ((k : ℕ) (d : LengthError) → k < length errors → min (word * 2 ^ (f + k) % 10 ^ 18) (10 ^ 18 - word * 2 ^ (f + k) % 10 ^ 18) < (get_or errors k d).bound)
+    → AreWordsWithin (word * 2 ^ f % 10 ^ 18) errors
+within_from word f [] all = tt
+within_from word f (e ∷ errors) all =
+    let N : ℕ → ℕ → Type 0 = λ k b. min (word * 2 ^ k % 10 ^ 18) (10 ^ 18 - word * 2 ^ k % 10 ^ 18) < b in
+    let first : f + 0 ≡ f = omega arith in (
+      subst (λ (k : ℕ). N k e.bound) first (all 0 e (omega arith)),
+      subst (λ (t : ℕ). AreWordsWithin t errors) (sym (twice_rest word f)) (within_from word (suc f) errors (λ k d less. let next : f + suc k ≡ suc f + k = omega arith in subst (λ (j : ℕ). N j (get_or errors k d).bound) next (all (suc k) d (omega (arith, less))))),
+    )
+
+pub within_each : (word : ℕ) (errors : List LengthError) → word < 10 ^ 18 → ((f : ℕ) (d : LengthError) → f < length errors → IsWordWithinAt word errors f d) → AreWordsWithin word errors
+within_each word errors below all =
+    let same : word * 2 ^ 0 % 10 ^ 18 ≡ word = omega (arith, below) in
+    let N : LengthError → ℕ → ℕ → Type 0 = λ d f k. min (word * 2 ^ k % 10 ^ 18) (10 ^ 18 - word * 2 ^ k % 10 ^ 18) < (get_or errors f d).bound in
+    subst (λ (t : ℕ). AreWordsWithin t errors) same (within_from word 0 errors (λ k d less. let start : k ≡ 0 + k = omega arith in subst (N d k) start (all k d less)))
+
+pub near_at : (errors : List LengthError) (k : ℕ) (d : LengthError) → k < length errors → AreBoundsNearHalf errors → near_half ≤ (get_or errors k d).bound
+near_at [] k d less all = absurd (omega (arith, less))
+near_at (e ∷ errors) zero d less all = all.0
+near_at (e ∷ errors) (suc k) d less all = near_at errors k d (omega (arith, less)) all.1
+
+-- a length at which the binary digits say that a numeral is not near the middle
+pub far_at : (word near f : ℕ) (errors : List LengthError) (d : LengthError) → length errors ≤ 53 → f < length errors → AreBoundsNearHalf errors
+    → ((k : ℕ) → k < 53 → bit_at near (63 - k) ≡ 0 → min (word * 2 ^ k % 10 ^ 18) (10 ^ 18 - word * 2 ^ k % 10 ^ 18) < near_half) → bit_at near (63 - f) ≡ 0 → IsWordWithinAt word errors f d
+far_at word near f errors d few less all far is =
+    let here = far f (omega (arith, few, less)) is in
+    let bound = near_at errors f d less all in
+    omega (arith, here, bound)
+
+pub near_dropped : (k : ℕ) (errors : List LengthError) → AreBoundsNearHalf errors → AreBoundsNearHalf (drop k errors)
+near_dropped zero errors h = h
+near_dropped (suc k) [] h = h
+near_dropped (suc k) (e ∷ errors) h = near_dropped k errors h.1
+
+-- the lengths below one and those from it on
+joined_from : (word f n : ℕ) (errors : List LengthError) → AreWordsWithin (word * 2 ^ f % 10 ^ 18) (take n errors) → AreWordsWithin (word * 2 ^ (f + n) % 10 ^ 18) (drop n errors) → AreWordsWithin (word * 2 ^ f % 10 ^ 18) errors
+joined_from word f zero errors before after = let same : f + 0 ≡ f = omega arith in subst (λ (k : ℕ). AreWordsWithin (word * 2 ^ k % 10 ^ 18) errors) same after
+joined_from word f (suc n) [] before after = tt
+joined_from word f (suc n) (e ∷ errors) before after =
+    let next : f + suc n ≡ suc f + n = omega arith in
+    let W : ℕ → Type 0 = λ t. AreWordsWithin t (take n errors) in
+    (before.0, subst (λ (t : ℕ). AreWordsWithin t errors) (sym (twice_rest word f)) (joined_from word (suc f) n errors (subst W (twice_rest word f) before.1) (subst (λ (k : ℕ). AreWordsWithin (word * 2 ^ k % 10 ^ 18) (drop n errors)) next after)))
+
+pub words_joined : (word n : ℕ) (errors : List LengthError) → word < 10 ^ 18 → AreWordsWithin word (take n errors) → AreWordsWithin (word * 2 ^ n % 10 ^ 18) (drop n errors) → AreWordsWithin word errors
+words_joined word n errors below before after =
     let same : word * 2 ^ 0 % 10 ^ 18 ≡ word = omega (arith, below) in
     let start : 0 + n ≡ n = omega arith in
-    subst (λ (t : ℕ). AreWordsWithin t errors) same (far_from word 0 n errors (λ k less. far k (omega (arith, less))) near (subst (λ (k : ℕ). AreWordsWithin (word * 2 ^ k % 10 ^ 18) (drop n errors)) (sym start) later))
-
--- what is left after the 53rd length
-pub left_after : (word after n : ℕ) (xs ys : List LengthError) → ys ≡ xs → n ≡ 53 → after ≡ word * 2 ^ 53 % 10 ^ 18 → AreWordsWithin after (take (length ys - n) (drop n ys)) → AreWordsWithin (word * 2 ^ n % 10 ^ 18) (drop n xs)
-left_after word after n xs ys same all is near =
-    let long : length (drop n ys) ≤ length ys - n = omega (arith, length-drop n ys) in
-    let whole : take (length ys - n) (drop n ys) ≡ drop n xs = take_all (length ys - n) (drop n ys) long ∙ ap (drop n) same in
-    let word_is : after ≡ word * 2 ^ n % 10 ^ 18 = is ∙ ap (λ k. word * 2 ^ k % 10 ^ 18) (sym all) in
-    subst (λ (w : ℕ). AreWordsWithin w (drop n xs)) word_is (subst (AreWordsWithin after) whole near)
+    subst (λ (t : ℕ). AreWordsWithin t errors) same (joined_from word 0 n errors (subst (λ (t : ℕ). AreWordsWithin t (take n errors)) (sym same) before) (subst (λ (k : ℕ). AreWordsWithin (word * 2 ^ k % 10 ^ 18) (drop n errors)) (sym start) after))
 
 -- ---- words kept
 pub words_kept : (r : Radix) (count : ℕ) (entries : List Entry) (old new : GreatestErrors) → new.radix ≡ old.radix → new.errors ≡ old.errors → new.are_near_half ≡ old.are_near_half → ArePassed new.passed old.errors.items → HasGreatestErrors r count entries old

@@ -30,7 +30,7 @@ block Hex = 15
 unfoldable pub parts : Radix → ℕ
 parts r = base r ^ block r * base r ^ block r
 
--- the error of a numeral is at least so many parts of an ulp of 2^-f
+-- the error of a numeral is at least this many parts of an ulp of 2^-f
 pub record IsErrorAtLeast (r : Radix) (f : ℕ) (bytes : List ℕ) (least : ℕ) : Type 0 where
   pub size : Fraction
   pub has_size : HasErrorSize NearestEven r f bytes size
@@ -60,7 +60,7 @@ abbrev pub AreBoundsNearHalf : List LengthError → Type 0
 AreBoundsNearHalf [] = Unit {0}
 AreBoundsNearHalf (e ∷ errors) = (near_half ≤ e.bound) × AreBoundsNearHalf errors
 
--- the error of a numeral that is so many parts of 10^-18 behind a whole number is below each bound
+-- the error of a numeral that is this many parts of 10^-18 above a whole number is below each bound
 abbrev pub AreWordsWithin : ℕ → List LengthError → Type 0
 AreWordsWithin word [] = Unit {0}
 AreWordsWithin word (e ∷ errors) = (min word (10 ^ 18 - word) < e.bound) × AreWordsWithin (2 * word % 10 ^ 18) errors

@@ -2,9 +2,9 @@
 //!
 //! A numeral rarely has a greater error than those before it. So its error is first bounded by its first digits, at
 //! each length from that at the one before, and compared exactly only where the bound is above what is known. For a
-//! decimal of at most 18 places a word holds all of them. Once each error is nearly half an ulp, one look at its binary
-//! digits tells mostly that it is not as near to that, at any length (module `half`). And the words that were passed
-//! over are kept, since many lists have few.
+//! decimal of at most 18 places a word holds all of them. Once each error is nearly half an ulp, one look at a
+//! numeral's binary digits tells at which lengths its own may be as near to that (module `half`), and it is compared at
+//! those alone. And the words that were passed over are kept, since many lists have few.
 
 ghost use Rattle.std.specs.Prelude.{◌≡◌, ◌<◌, ◌≤◌, ◌+◌, ◌-◌, ◌^◌, ◌++◌, ◌∷◌, [], List, ℕ, OnOk, IfOk, IfSome};
 ghost use Rattle.std.specs.Prelude.{length, replicate, true, false, min, ◌||◌};
@@ -19,7 +19,7 @@ ghost use Rattle.fixed_error.specs.Errors.{ArePassed, AreWordsWithin};
 ghost use Rattle.fixed_error.specs.Short.{IsShortRead};
 
 use crate::greatest::GreatestError;
-use crate::half::{MOST_LENGTHS, binary_digits, is_surely_far, word_after};
+use crate::half::{MOST_LENGTHS, binary_digits, near_lengths, next_length, word_at};
 use crate::rest::{
     Behind, Rest, behind_by, bound_of, halved, halved_word, least_of, most_of, near_word,
     rest_of_word,
@@ -54,7 +54,7 @@ impl LengthError {
         self.greatest.is_some() && most_of(rest) <= self.least
     }
 
-    /// Takes one more numeral, which is that far behind a whole number of ulps, and says whether that changed anything.
+    /// Takes one more numeral, which is that far above a whole number of ulps, and says whether that changed anything.
     fn add<L: Ledger>(
         &mut self,
         numeral: &[u8],
@@ -143,7 +143,7 @@ fn are_near_half(errors: &[LengthError]) -> bool
     true
 }
 
-/// Whether a numeral that is behind a whole number by a word has surely no greater error than those before it, at any
+/// Whether a numeral that is above a whole number by a word has surely no greater error than those before it, at any
 /// fraction length.
 fn are_surely_within(errors: &[LengthError], word: u64) -> bool
     requires { word < 10 ^ 18 }
@@ -155,6 +155,26 @@ fn are_surely_within(errors: &[LengthError], word: u64) -> bool
             return false;
         }
         rest = halved_word(rest);
+    }
+    true
+}
+
+/// Whether a numeral that is above a whole number by a word has surely no greater error than those before it, each of
+/// which is nearly half an ulp, at any of some fraction lengths: it is compared at those alone that its binary digits
+/// leave.
+fn are_within_by_digits(errors: &[LengthError], word: u64) -> bool
+    requires word { word < 10 ^ 18 }
+    requires few { length errors.now ≤ 53 }
+    requires near { AreBoundsNearHalf errors.now }
+    ensures { result ≡ true → AreWordsWithin word errors.now }
+{
+    let near = near_lengths(word);
+    let mut frac = next_length(near, 0);
+    while (frac as usize) < errors.len() {
+        if near_word(word_at(word, frac)) >= errors[frac as usize].bound {
+            return false;
+        }
+        frac = next_length(near, frac + 1);
     }
     true
 }
@@ -196,28 +216,33 @@ impl GreatestErrors {
         self.errors.truncate(count as usize);
     }
 
-    /// Whether the binary digits of a numeral that is behind a whole number by a word say that it has surely no greater
+    /// Whether the binary digits of a numeral that is above a whole number by a word say that it has surely no greater
     /// error than those before it, at any fraction length. Once there were many numerals, nearly all are passed over
     /// so.
     fn is_passed_by_digits(&self, word: u64) -> bool
         requires word { word < 10 ^ 18 }
+        requires few { length self.now.errors.items ≤ 65 }
         requires near { self.now.are_near_half ≡ true → AreBoundsNearHalf self.now.errors.items }
         ensures { result ≡ true → AreWordsWithin word self.now.errors.items }
     {
         if !self.are_near_half {
             return false;
         }
-        let looked = self.errors.len().min(MOST_LENGTHS);
-        if looked == self.errors.len() {
-            return is_surely_far(word, looked);
+        if self.errors.len() <= MOST_LENGTHS {
+            return are_within_by_digits(&self.errors, word);
         }
-        is_surely_far(word, looked) && are_surely_within(&self.errors[looked..], word_after(word))
+        are_within_by_digits(&self.errors[..MOST_LENGTHS], word)
+            && are_within_by_digits(
+                &self.errors[MOST_LENGTHS..],
+                word_at(word, MOST_LENGTHS as u32),
+            )
     }
 
-    /// Whether a numeral that is behind a whole number by a word has surely no greater error than those before it, at
+    /// Whether a numeral that is above a whole number by a word has surely no greater error than those before it, at
     /// any fraction length. Its word is kept where it is found so.
     fn pass_word(&mut self, word: u64) -> bool
         requires word { word < 10 ^ 18 }
+        requires few { length self.old.errors.items ≤ 65 }
         requires near { self.old.are_near_half ≡ true → AreBoundsNearHalf self.old.errors.items }
         requires passed { ArePassed self.old.passed self.old.errors.items }
         ensures within { result ≡ true → AreWordsWithin word self.old.errors.items }
@@ -240,7 +265,7 @@ impl GreatestErrors {
         true
     }
 
-    /// Takes one more numeral, which is that far behind a whole number, and compares it at each length.
+    /// Takes one more numeral, which is that far above a whole number, and compares it at each length.
     fn add_rest<L: Ledger>(
         &mut self,
         numeral: &[u8],

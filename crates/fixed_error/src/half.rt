@@ -1,17 +1,19 @@
-//! Whether a numeral is near the middle between two whole numbers of ulps, by its binary digits.
+//! At which fraction lengths a numeral is near the middle between two whole numbers of ulps, by its binary digits.
 //!
 //! At a fraction length a numeral is near the middle where the digits after that place are one digit and then many
-//! times the other. So one look at a word of digits says at many lengths that it is not.
+//! times the other. So one look at a word of digits tells at many lengths, and at most of them it is not.
 
-ghost use Rattle.std.specs.Prelude.{◌≡◌, ◌⊎◌, ◌+◌, ◌-◌, ◌*◌, ◌/◌, ◌%◌, ◌^◌, ◌<◌, ◌≤◌, ℕ, max, min, true};
+ghost use Rattle.std.specs.Prelude.{◌≡◌, ◌⊎◌, ◌+◌, ◌-◌, ◌*◌, ◌%◌, ◌^◌, ◌<◌, ◌≤◌, ℕ, max, min};
 ghost use Rattle.std.specs.Int.{bit_at};
 ghost use Rattle.fixed_error.specs.Errors.{near_half};
 ghost use Rattle.fixed_error.specs.Inner.Words.{IsFarFromHalf};
 
+use crate::rest::WORD_PARTS;
+
 /// 2^123 / 10^18, rounded down.
 const RECIPROCAL: u64 = 10_633_823_966_279_326_983;
 
-/// The first 64 binary digits after the point of so many parts of 10^-18, or a number that is less by few.
+/// The first 64 binary digits after the point of this many parts of 10^-18, or a number that is less by few.
 pub fn binary_digits(word: u64) -> u64
     requires { word < 10 ^ 18 }
     ensures least { result * 10 ^ 18 ≤ word * 2 ^ 64 }
@@ -54,47 +56,51 @@ fn any_of_seven(digits: u64) -> u64
     moved_up(joined(four, 3), 1)
 }
 
-/// The first digits alone.
-fn first_digits(digits: u64, count: u32) -> u64
-    requires some { 0 < count }
-    requires most { count ≤ 64 }
-    ensures { result ≡ digits / 2 ^ (64 - count) }
-{
-    digits >> (64 - count)
-}
-
-/// Whether at none of so many places nine digits follow of which the first alone differs from the others.
-fn are_far_from_half(digits: u64, count: u32) -> bool
-    requires some { 0 < count }
-    requires most { count ≤ 53 }
-    ensures { result ≡ true → (f : ℕ) → f < count → IsFarFromHalf digits f }
+/// Where nine digits follow of which the first alone differs from the others: a one for the place f at bit 63 - f.
+#[tactic(auto, using(crate::proofs::HalfLemmas::far_place))]
+fn near_places(digits: u64) -> u64
+    ensures { (f : ℕ) → f < 53 → bit_at result (63 - f) ≡ 0 → IsFarFromHalf digits f }
 {
     let changes = changes_of(digits);
-    let after = any_of_seven(changes);
-    first_digits(changes & after, count) == first_digits(changes, count)
+    changes & !any_of_seven(changes)
 }
 
-/// At how many lengths the middle is looked for at most: the digits after them are too few.
+/// At how many fraction lengths the middle is looked for at most: the digits after them are too few.
 pub const MOST_LENGTHS: usize = 53;
 
-/// Whether a numeral that is behind a whole number by a word is surely not near the middle at any of so many lengths.
-pub fn is_surely_far(word: u64, count: usize) -> bool
-    requires word { word < 10 ^ 18 }
-    requires most { count ≤ 53 }
-    ensures { result ≡ true → (f : ℕ) → f < count
+/// At which of those lengths a numeral that is above a whole number by a word may be near the middle: a one for the
+/// length f at bit 63 - f.
+pub fn near_lengths(word: u64) -> u64
+    requires { word < 10 ^ 18 }
+    ensures { (f : ℕ) → f < 53 → bit_at result (63 - f) ≡ 0
         → min (word * 2 ^ f % 10 ^ 18) (10 ^ 18 - word * 2 ^ f % 10 ^ 18) < near_half }
 {
-    if count == 0 {
-        return true;
-    }
-    are_far_from_half(binary_digits(word), count as u32)
+    near_places(binary_digits(word))
 }
 
-/// The word by which a numeral is behind after those lengths.
-pub fn word_after(word: u64) -> u64
-    requires { word < 10 ^ 18 }
-    ensures { result ≡ word * 2 ^ 53 % 10 ^ 18 }
+/// The least length from one on with a one at its bit, 64 or more where there is none.
+pub fn next_length(lengths: u64, from: u32) -> u32
+    requires { from < 64 }
+    ensures from { from ≤ result }
+    ensures none { (f : ℕ) → from ≤ f → f < 64 → f < result → bit_at lengths (63 - f) ≡ 0 }
 {
-    let moved = u128::from(word) << 53;
-    (moved % 1_000_000_000_000_000_000) as u64
+    from + moved_up(lengths, from).leading_zeros()
+}
+
+/// The word by which a numeral that is above a whole number by a word is above one of ulps of a fraction length.
+///
+/// The quotient is taken from the binary digits, since a division of 128 bits is slow.
+pub fn word_at(word: u64, frac: u32) -> u64
+    requires word { word < 10 ^ 18 }
+    requires frac { frac < 64 }
+    ensures { result ≡ word * 2 ^ frac % 10 ^ 18 }
+{
+    let quotient = (binary_digits(word) >> 1) >> (63 - frac);
+    let moved = u128::from(word) << frac;
+    let rest = (moved - u128::from(quotient) * u128::from(WORD_PARTS)) as u64;
+    if rest < WORD_PARTS {
+        rest
+    } else {
+        rest - WORD_PARTS
+    }
 }

@@ -1,4 +1,4 @@
-//! How far a numeral is behind a whole number of ulps, to some 36 digits.
+//! How far a numeral is above a whole number of ulps, to some 36 digits.
 
 ghost use Rattle.std.specs.Prelude.{◌≡◌, ◌⊎◌, ◌<◌, ◌≤◌, ◌+◌, ◌-◌, ◌*◌, ◌^◌, ◌%◌, drop, min, List, ℕ, if◌then◌else◌};
 ghost use Rattle.std.specs.Prelude.{IfSome, pos};
@@ -15,7 +15,7 @@ use fixed_numeral::{DigitView, Radix, Scanned, ShortNumeral, power_of_ten, scan}
 use fixed_steps::Steps;
 use std::sync::ledger::Ledger;
 
-/// How far a numeral is behind a whole number of ulps.
+/// How far a numeral is above a whole number of ulps.
 #[derive(Clone, Copy, Debug, PartialEq, Eq)]
 pub struct Rest {
     /// How many parts an ulp has.
@@ -26,17 +26,17 @@ pub struct Rest {
     pub slack: u128,
 }
 
-/// How far a numeral is behind a whole number.
+/// How far a numeral is above a whole number.
 #[derive(Clone, Copy, Debug, PartialEq, Eq)]
 pub enum Behind {
-    /// By so many parts, each the 10^18th of an ulp, and no more.
+    /// By this many parts, each the 10^18th of an ulp, and no more.
     ByWord(u64),
-    /// By that.
+    /// By the parts of a `Rest`, and at most its slack more.
     ByParts(Rest),
 }
 
-/// How many parts a whole number has where a numeral is behind one by a word.
-const WORD_PARTS: u64 = 1_000_000_000_000_000_000;
+/// How many parts a whole number has where a numeral is above one by a word.
+pub const WORD_PARTS: u64 = 1_000_000_000_000_000_000;
 
 /// How many digits are taken at a time.
 fn block_of(radix: Radix) -> u32
@@ -94,7 +94,7 @@ fn remainder(number: u128, divisor: u128) -> u128
     number % divisor
 }
 
-/// How far a number of parts is behind a whole number of ulps, where `is_cut` says whether there is more than that.
+/// How far a number of parts is above a whole number of ulps, where `is_cut` says whether there is more than that.
 fn rest_by(number: u128, unit: u128, one: u128, is_cut: bool) -> Rest
     requires number { number < 2 ^ 121 }
     requires unit { unit ≤ 8 }
@@ -110,7 +110,7 @@ fn rest_by(number: u128, unit: u128, one: u128, is_cut: bool) -> Rest
     }
 }
 
-/// How far a scanned numeral is behind a whole number.
+/// How far a scanned numeral is above a whole number.
 fn rest_of_scanned<'a, L: Ledger>(found: &Scanned<'a>, radix: Radix, steps: &mut Steps<L>) -> Rest
     requires fraction { AllBelowBase (base radix) found.now.fraction }
     requires bits { found.now.bit_shift < exponent_unit radix }
@@ -135,7 +135,7 @@ fn parts_of_place(places: u32) -> u128
     first * second
 }
 
-/// How far a short decimal of at most 18 places is behind a whole number, in parts of 10^-18.
+/// How far a short decimal of at most 18 places is above a whole number, in parts of 10^-18.
 fn word_of_decimal(found: ShortNumeral) -> u64
     requires below { found.fraction < 10 ^ found.places }
     requires few { found.places ≤ 18 }
@@ -145,7 +145,7 @@ fn word_of_decimal(found: ShortNumeral) -> u64
     found.fraction as u64 * power_of_ten(18 - found.places)
 }
 
-/// How far a short decimal is behind a whole number, to 36 places.
+/// How far a short decimal is above a whole number, to 36 places.
 fn parts_of_decimal(found: ShortNumeral) -> Rest
     requires below { found.fraction < 10 ^ found.places }
     requires few { found.places ≤ 27 }
@@ -161,7 +161,7 @@ fn parts_of_decimal(found: ShortNumeral) -> Rest
     }
 }
 
-/// How far a short decimal without an exponent is behind a whole number.
+/// How far a short decimal without an exponent is above a whole number.
 fn behind_by_decimal(found: ShortNumeral) -> Behind
     requires below { found.fraction < 10 ^ found.places }
     requires few { found.places ≤ 27 }
@@ -174,7 +174,7 @@ fn behind_by_decimal(found: ShortNumeral) -> Behind
     Behind::ByParts(parts_of_decimal(found))
 }
 
-/// How far a numeral is behind a whole number, by its digits.
+/// How far a numeral is above a whole number, by its digits.
 fn behind_by_digits<L: Ledger>(text: &[u8], radix: Radix, steps: &mut Steps<L>) -> Behind
     requires { IsNumeral radix text.now }
     ensures { IsBehindBy radix text.now result }
@@ -186,7 +186,7 @@ fn behind_by_digits<L: Ledger>(text: &[u8], radix: Radix, steps: &mut Steps<L>) 
     }
 }
 
-/// How far a numeral is behind a whole number, by the numbers of its parts where it was read as a short decimal.
+/// How far a numeral is above a whole number, by the numbers of its parts where it was read as a short decimal.
 pub fn behind_by<L: Ledger>(
     text: &[u8],
     radix: Radix,
@@ -205,7 +205,7 @@ pub fn behind_by<L: Ledger>(
     behind_by_digits(text, radix, steps)
 }
 
-/// How far a numeral that is behind by a word is behind a whole number, in parts of 10^-36.
+/// How far a numeral that is above a whole number by a word is above it, in parts of 10^-36.
 pub fn rest_of_word(word: u64) -> Rest
     ensures { result ≡ rest_of_word word }
 {
@@ -217,7 +217,7 @@ pub fn rest_of_word(word: u64) -> Rest
     }
 }
 
-/// By which word a numeral that is behind by a word is behind a whole number of ulps half as great.
+/// The word by which a numeral that is above a whole number by a word is above one of ulps half as great.
 pub fn halved_word(word: u64) -> u64
     requires { word < 10 ^ 18 }
     ensures { result ≡ 2 * word % 10 ^ 18 }
@@ -230,7 +230,7 @@ pub fn halved_word(word: u64) -> u64
     }
 }
 
-/// How far a numeral that is behind by a word is from the nearest whole number of ulps, in parts.
+/// How far a numeral that is above a whole number of ulps by a word is from the nearest, in parts of 10^-18.
 pub fn near_word(word: u64) -> u64
     requires { word < 10 ^ 18 }
     ensures { result ≡ min word (10 ^ 18 - word) }
@@ -247,7 +247,7 @@ pub fn bound_of(least: u128) -> u64
     most.min(1 << 63) as u64 + 1
 }
 
-/// How far a numeral is behind a whole number of ulps half as great.
+/// How far a numeral is above a whole number of ulps half as great.
 pub fn halved(rest: Rest) -> Rest
     requires below { rest.rest < rest.one }
     requires one { rest.one ≤ 2 ^ 120 }

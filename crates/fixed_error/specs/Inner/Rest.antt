@@ -1,4 +1,4 @@
--- How far a numeral is behind a whole number of ulps, to so many digits.
+-- How far a numeral is above a whole number of ulps, to some 36 digits.
 use Rattle.std.specs.Prelude.{◌≡◌, ℕ, ◌+◌, ◌-◌, ◌*◌, ◌^◌, ◌<◌, ◌≤◌, List, length, take, min}
 use Rattle.std.specs.Int.Digits.{number_from_digits}
 use Rattle.fixed_numeral.specs.Numeral.{Parts, HasNumeral}
@@ -19,7 +19,7 @@ pub record IsBehind (num den one rest slack : ℕ) : Type 0 where
   pub at_least : (ulps * one + rest) * den ≤ num * one
   pub at_most : num * one ≤ (ulps * one + rest + slack) * den
 
--- a numeral in ulps of 2^-f is that far behind a whole number
+-- a numeral in ulps of 2^-f is that far above a whole number
 pub record IsRest (r : Radix) (f : ℕ) (bytes : List ℕ) (x : Rest) : Type 0 where
   pub behind : (p : Parts) → HasNumeral r bytes p
       → IsBehind ((magnitude r p).num * 2 ^ f) (magnitude r p).den (parts r) x.rest x.slack
@@ -31,7 +31,7 @@ pub record IsRest (r : Radix) (f : ℕ) (bytes : List ℕ) (x : Rest) : Type 0 w
 unfoldable pub rest_of_word : ℕ → Rest
 rest_of_word word = record { one = 10 ^ 18 * 10 ^ 18; rest = word * 10 ^ 18; slack = 0 }
 
--- a numeral is that far behind a whole number
+-- a numeral is that far above a whole number
 abbrev pub IsBehindBy : Radix → List ℕ → Behind → Type 0
 IsBehindBy r bytes (ByWord word) = (word < 10 ^ 18) × IsRest r 0 bytes (rest_of_word word)
 IsBehindBy r bytes (ByParts rest) = IsRest r 0 bytes rest

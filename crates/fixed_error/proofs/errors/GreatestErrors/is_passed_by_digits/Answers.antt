@@ -1,18 +1,37 @@
-use Rattle.std.proofs.Common.{◌≡◌, ◌*◌, ◌%◌, ◌^◌, arith}
-use Rattle.fixed_error.proofs.WordLemmas.{far_words, left_after, words_end}
+use Rattle.std.proofs.Common.{◌≡◌, ℕ, ◌-◌, ◌≤◌, List, length, take, drop, ap, ◌∙◌, sym, subst, arith}
+use Rattle.std.specs.Prelude.{min}
+use Rattle.std.proofs.lemmas.List.{length-drop, length-take, take_all}
+use Rattle.fixed_error.specs.Errors.{AreBoundsNearHalf, AreWordsWithin}
+use Rattle.fixed_error.specs.declared.errors.LengthError.{LengthError}
+use Rattle.fixed_error.proofs.WordLemmas.{near_dropped, near_taken, words_joined}
 use Rattle.fixed_error.proofs.errors.GreatestErrors.is_passed_by_digits.Goals as goal
 
-pub returns-then-looked-len : goal.returns-then-looked-len
-returns-then-looked-len c = λ is.
-    let errors = c.args.self.now.errors.items in
-    let looked = c.min-looked.result in
-    far_words c.args.word looked errors c.requires.word (c.is_surely_far.ensures is) (c.requires.near c.if-not-self.false)
-    (words_end (c.args.word * 2 ^ looked % 10 ^ 18) looked errors (let all = c.if-looked-len.true in omega (arith, all, c.len-2.ensures)))
+pub slice_bounds-are_within_by_digits-end : goal.slice_bounds-are_within_by_digits-end
+slice_bounds-are_within_by_digits-end c =
+    let long : length c.deref-2.result.now ≡ length c.args.self.now.errors.items = ap length c.deref-2.ensures.value in
+    let taken : length (take 53 c.deref-2.result.now) ≡ min 53 (length c.deref-2.result.now) = length-take 53 c.deref-2.result.now in
+    let more = c.if-len-le-MOST_LENGTHS.false in
+    omega (arith, taken, long, more, c.len.ensures)
 
-pub returns-then-is_surely_far : goal.returns-then-is_surely_far
-returns-then-is_surely_far c = λ is.
+pub are_within_by_digits-requires-2-clause-few : goal.are_within_by_digits-requires-2-clause-few
+are_within_by_digits-requires-2-clause-few c = let long : length (take 53 c.deref-2.result.now) ≡ min 53 (length c.deref-2.result.now) = length-take 53 c.deref-2.result.now in omega (arith, long)
+
+pub are_within_by_digits-requires-2-clause-near : goal.are_within_by_digits-requires-2-clause-near
+are_within_by_digits-requires-2-clause-near c = near_taken c.deref-2.result.now 53 (subst AreBoundsNearHalf (sym c.deref-2.ensures.value) (c.requires.near c.if-not-self.false))
+
+pub are_within_by_digits-requires-then-are_within_by_digits-clause-near : goal.are_within_by_digits-requires-then-are_within_by_digits-clause-near
+are_within_by_digits-requires-then-are_within_by_digits-clause-near c =
+    let errors = c.deref-then-are_within_by_digits.result.now in
+    near_taken (drop 53 errors) (length errors - 53) (near_dropped 53 errors (subst AreBoundsNearHalf (sym c.deref-then-are_within_by_digits.ensures.value) (c.requires.near c.if-not-self.false)))
+
+pub returns-then-are_within_by_digits : goal.returns-then-are_within_by_digits
+returns-then-are_within_by_digits c = λ is.
+    let word = c.args.word in
     let errors = c.args.self.now.errors.items in
-    let looked = c.min-looked.result in
-    let all : looked ≡ 53 = let other = c.if-looked-len.false in omega (arith, other, c.len-2.ensures, c.len.ensures, c.min-looked.ensures) in
-    far_words c.args.word looked errors c.requires.word (c.is_surely_far-2.ensures c.if-is_surely_far.true) (c.requires.near c.if-not-self.false)
-    (left_after c.args.word c.word_after.result looked errors c.deref.result.now c.deref.ensures.value all c.word_after.ensures (c.are_surely_within.ensures is))
+    let later = c.deref-then-are_within_by_digits.result.now in
+    let same : later ≡ errors = c.deref-then-are_within_by_digits.ensures.value in
+    let first : AreWordsWithin word (take 53 errors) = subst (λ (xs : List LengthError). AreWordsWithin word (take 53 xs)) c.deref-2.ensures.value (c.are_within_by_digits-2.ensures c.if-are_within_by_digits.true) in
+    let long : length (drop 53 later) ≤ length later - 53 = omega (arith, length-drop 53 later) in
+    let whole : take (length later - 53) (drop 53 later) ≡ drop 53 errors = take_all (length later - 53) (drop 53 later) long ∙ ap (drop 53) same in
+    let rest : AreWordsWithin c.word_at.result (drop 53 errors) = subst (AreWordsWithin c.word_at.result) whole (c.are_within_by_digits-then-are_within_by_digits.ensures is) in
+    words_joined word 53 errors c.requires.word first (subst (λ (w : ℕ). AreWordsWithin w (drop 53 errors)) c.word_at.ensures rest)
