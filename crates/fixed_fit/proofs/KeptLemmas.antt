@@ -1,64 +1,49 @@
 -- A short decimal that changes nothing: it is in range with each length that is left, and its error is within the bound.
-use Rattle.std.proofs.Common.{◌≡◌, ℕ, ◌+◌, ◌-◌, ◌^◌, ◌<◌, ◌≤◌, Bool, true, false, List, [], ◌∷◌, ◌++◌, length, sym, ◌∙◌, subst, arith, ◌⊎◌, inl, inr, pos, refl}
+use Rattle.std.proofs.Common.{◌≡◌, ℕ, ◌+◌, ◌*◌, ◌^◌, ◌<◌, ◌≤◌, Bool, true, false, List, [], ◌∷◌, ◌++◌, length, sym, ◌∙◌, subst, arith, ap, ⊎_elim, mul-le-mul_right, ◌⊎◌, inl, inr, pos, refl}
 use Rattle.std.proofs.lemmas.Bool.{cases_lt}
+use Rattle.fixed_bits.specs.Nearest.{IsNearest, distance}
 use Rattle.fixed_bits.specs.declared.mode.ReadMode.TheVariants.{NearestEven}
-use Rattle.fixed_error.specs.ErrorSize.{HasErrorWithin, error_size}
+use Rattle.fixed_error.specs.ErrorSize.{HasErrorWithin, IsAtMost, error_size}
 use Rattle.fixed_error.specs.Short.{IsShortRead}
 use Rattle.fixed_numeral.specs.Numeral.{IsNumeral}
-use Rattle.fixed_numeral.specs.Value.{magnitude}
+use Rattle.fixed_numeral.specs.Value.{Fraction, magnitude}
 use Rattle.fixed_numeral.specs.declared.radix.Radix.{Radix}
 use Rattle.fixed_numeral.specs.declared.short.ShortNumeral.{ShortNumeral}
+use Rattle.fixed_numeral.proofs.Public.{magnitude_pos}
 use Rattle.fixed_read.proofs.Public.{read_number_is_the_one}
-use Rattle.fixed_fit.specs.Inner.Lengths.{IsSurelyLeft, magnitude_bits}
+use Rattle.fixed_fit.specs.Inner.Lengths.{IsFlatDecimal, IsRoomOf}
 use Rattle.fixed_fit.specs.Inner.Serving.{AreAllLeft, AreAllLowered, AreSurelyLeft, HasServing, HaveRoom, IsIn, most_left}
 use Rattle.fixed_fit.specs.Within.{IsErrorWithin, IsHalfWithin, IsLeastWithin, Serves}
 use Rattle.fixed_fit.specs.declared.lengths.Lengths.{Lengths}
+use Rattle.fixed_fit.specs.declared.short.FlatDecimal.{FlatDecimal}
 use Rattle.fixed_fit.specs.declared.question.Widths.{Widths}
 use Rattle.fixed_fit.specs.declared.question.Widths.TheVariants.{One}
 use Rattle.fixed_fit.specs.declared.serving.Serving.{Serving}
 use Rattle.fixed_fit.proofs.RangeLemmas.{within_half}
 use Rattle.fixed_fit.proofs.ServingLemmas.{all_one_more, in_width, left_in, serves_by, serves_not}
-use Rattle.fixed_fit.proofs.ShortLemmas.{left_as_they_were, next_fits, read_numeral, room_for}
+use Rattle.fixed_fit.proofs.ShortLemmas.{left_as_they_were, less_room, read_numeral, surely_left, whole_magnitude}
 use Rattle.fixed_fit.proofs.WithinLemmas.{error_before, error_within_longer, from_longer, half_within_longer, serves_before, within_one_more}
 
 -- ---- some lengths
-pub left_more : (n : ShortNumeral) (ls : List Lengths) (l : Lengths) → AreSurelyLeft ls n → IsSurelyLeft l n → AreSurelyLeft (ls ++ l ∷ []) n
-left_more n [] l all here = (here, tt)
-left_more n (x ∷ xs) l all here = (all.0, left_more n xs l all.1 here)
-
 pub all_as_they_were : (r : Radix) (line : List ℕ) (place : ℕ) (n : ShortNumeral) (ls : List Lengths) → IsShortRead r line n → n.exponent ≡ pos 0 → AreSurelyLeft ls n → AreAllLowered r line place ls ls
 all_as_they_were r line place n [] read none all = tt
 all_as_they_were r line place n (l ∷ ls) read none all = (left_as_they_were r line place l n read none all.0, all_as_they_were r line place n ls read none all.1)
 
 -- ---- by the room of all
-bits_near : (s : Bool) (n : ℕ) → n ≤ magnitude_bits s n + 1
-bits_near true n = omega arith
-bits_near false n = omega arith
+pub less_rooms : (j k : ℕ) (ls : List Lengths) → j ≤ k → HaveRoom k ls → HaveRoom j ls
+less_rooms j k [] order all = tt
+less_rooms j k (l ∷ ls) order all = (less_room j k l order all.0, less_rooms j k ls order all.1)
 
-pub room_of : (l : Lengths) (bits : ℕ) → l.count ≤ l.kind.width + 1 → bits ≡ magnitude_bits l.kind.signed l.kind.width → l.count ≤ bits + 2
-room_of l bits most is = let near = bits_near l.kind.signed l.kind.width in omega (arith, most, is, near)
-
-pub less_room : (j k : ℕ) (ls : List Lengths) → j ≤ k → HaveRoom k ls → HaveRoom j ls
-less_room j k [] order all = tt
-less_room j k (l ∷ ls) order all = (λ some. let h = all.0 some in omega (arith, h, order), less_room j k ls order all.1)
-
-pub more_room : (k : ℕ) (ls : List Lengths) (l : Lengths) → HaveRoom k ls → (0 < l.count → k + l.count ≤ magnitude_bits l.kind.signed l.kind.width + 2) → HaveRoom k (ls ++ l ∷ [])
+pub more_room : (k : ℕ) (ls : List Lengths) (l : Lengths) → HaveRoom k ls → IsRoomOf k l → HaveRoom k (ls ++ l ∷ [])
 more_room k [] l all here = (here, tt)
 more_room k (x ∷ xs) l all here = (all.0, more_room k xs l all.1 here)
 
-surely_by_room : (l : Lengths) (n : ShortNumeral) (k : ℕ) → (n.negative ≡ true → l.kind.signed ≡ true) → n.fraction < 10 ^ n.places → 0 < k → n.whole + 1 < 2 ^ (k - 1) → (0 < l.count → k + l.count ≤ magnitude_bits l.kind.signed l.kind.width + 2) → IsSurelyLeft l n
-surely_by_room l n k sign below some less room = record {
-  sign = λ f last. sign;
-  room = λ f last.
-      let b : ℕ = magnitude_bits l.kind.signed l.kind.width in
-      let h = room (omega (arith, last)) in
-      let near : k + (f + 1) ≤ b + 2 = omega (arith, h, last) in
-      next_fits n.whole n.fraction (10 ^ n.places) (2 ^ f) (2 ^ b) below (room_for (n.whole + 1) (b - f) (k - 1) f b less (omega (arith, near)) (omega (arith, near, some)));
-}
-
-pub all_by_room : (ls : List Lengths) (n : ShortNumeral) (k : ℕ) (s : Bool) → ((l : Lengths) → IsIn l ls → l.kind.signed ≡ s) → (n.negative ≡ true → s ≡ true) → n.fraction < 10 ^ n.places → 0 < k → n.whole + 1 < 2 ^ (k - 1) → HaveRoom k ls → AreSurelyLeft ls n
-all_by_room [] n k s signs sign below some less room = tt
-all_by_room (l ∷ ls) n k s signs sign below some less room = (surely_by_room l n k (λ m. signs l (inl refl) ∙ sign m) below some less room.0, all_by_room ls n k s (λ x is. signs x (inr is)) sign below some less room.1)
+pub all_by_room : (ls : List Lengths) (d : FlatDecimal) (k : ℕ) (s : Bool) → ((l : Lengths) → IsIn l ls → l.kind.signed ≡ s) → (d.decimal.negative ≡ true → s ≡ true) → IsFlatDecimal d → d.parts ≤ k → HaveRoom k ls → AreSurelyLeft ls d.decimal
+all_by_room [] d k s signs sign flat less room = tt
+all_by_room (l ∷ ls) d k s signs sign flat less room = (
+  surely_left l d k (λ f last minus. signs l (inl refl) ∙ sign minus) flat less room.0,
+  all_by_room ls d k s (λ x within. signs x (inr within)) sign flat less room.1,
+)
 
 -- ---- where half an ulp is within the bound each numeral is
 pub numeral_within : (r : Radix) (f : ℕ) (line bound : List ℕ) → IsNumeral r line → IsHalfWithin r f bound → HasErrorWithin NearestEven r f line bound
@@ -73,9 +58,45 @@ numeral_within r f line bound numeral h =
       at_most = within_half (magnitude r p) (magnitude r h.parts) f v.1.ulps v.1.rounded h.at_most;
     }
 
+within_by : (range : Bool) (r : Radix) (f : ℕ) (bound : List ℕ) (done : List (List ℕ)) (line : List ℕ) → HasErrorWithin NearestEven r f line bound → IsErrorWithin range r f bound done → IsErrorWithin range r f bound (done ++ line ∷ [])
+within_by true r f bound done line here h = h
+within_by false r f bound done line here h = within_one_more r f bound done line h here
+
 within_on : (range : Bool) (r : Radix) (f : ℕ) (bound : List ℕ) (done : List (List ℕ)) (line : List ℕ) → IsNumeral r line → IsHalfWithin r f bound → IsErrorWithin range r f bound done → IsErrorWithin range r f bound (done ++ line ∷ [])
 within_on true r f bound done line numeral half h = h
 within_on false r f bound done line numeral half h = within_one_more r f bound done line h (numeral_within r f line bound numeral half)
+
+-- ---- a whole number has no error
+nearest_whole : (w den q : ℕ) → 0 < den → IsNearest (w * den) den q → distance (w * den) (q * den) ≡ 0
+nearest_whole w den q some h = ⊎_elim
+    (λ (less : w < q). let m : (w + 1) * den ≤ q * den = mul-le-mul_right den (omega (arith, less)) in let near = h.near in absurd (omega (arith, m, near, some)))
+    (λ (most : q ≤ w). ⊎_elim
+    (λ (more : q < w). let m : (q + 1) * den ≤ w * den = mul-le-mul_right den (omega (arith, more)) in let near = h.near in absurd (omega (arith, m, near, some)))
+    (λ (least : w ≤ q). let same : w ≡ q = omega (arith, least, most) in let e : w * den ≡ q * den = ap (λ (k : ℕ). k * den) same in omega (arith, e))
+    (cases_lt q w))
+    (cases_lt w q)
+
+no_error : (m b : Fraction) (f w q : ℕ) → 0 < m.den → m.num ≡ w * m.den → IsNearest (m.num * 2 ^ f) m.den q → IsAtMost (error_size m f q) b
+no_error m b f w q some is near =
+    let up : ℕ = 2 ^ f in
+    let same : m.num * up ≡ w * up * m.den = ap (λ (k : ℕ). k * up) is ∙ omega arith in
+    let none : distance (w * up * m.den) (q * m.den) ≡ 0 = nearest_whole (w * up) m.den q some (subst (λ (k : ℕ). IsNearest k m.den q) same near) in
+    let here : distance (m.num * up) (q * m.den) ≡ 0 = subst (λ (k : ℕ). distance k (q * m.den) ≡ 0) (sym same) none in
+    let left : distance (m.num * up) (q * m.den) * b.den ≡ 0 * b.den = ap (λ (k : ℕ). k * b.den) here in
+    omega (arith, left)
+
+whole_within : (r : Radix) (f : ℕ) (line bound : List ℕ) (n : ShortNumeral) → IsShortRead r line n → n.exponent ≡ pos 0 → n.fraction ≡ 0 → IsNumeral r bound → HasErrorWithin NearestEven r f line bound
+whole_within r f line bound n read none whole limit =
+    let numeral = read_numeral r line n read in
+    let p = numeral.0 in
+    let v = read_number_is_the_one NearestEven r p f in
+    record {
+      size = error_size (magnitude r p) f v.1.ulps;
+      has_size = record { parts = p; numeral = numeral.1; number = v.0; read = v.1; size_is = refl };
+      bound_parts = limit.0;
+      bound_numeral = limit.1;
+      at_most = no_error (magnitude r p) (magnitude r limit.0) f n.whole v.1.ulps (magnitude_pos r p) (whole_magnitude r line n p numeral.1 read none whole) v.1.rounded;
+    }
 
 -- ---- what serves at the least width goes on to
 serves_on : (range : Bool) (r : Radix) (s : Bool) (bound : List ℕ) (done : List (List ℕ)) (line : List ℕ) (ls : List Lengths) (l : Lengths) (low f : ℕ) → AreAllLeft r s done ls → AreAllLeft r s (done ++ line ∷ []) ls → (f < l.count) ⊎ (l.count ≤ f) → (f < low) ⊎ (low ≤ f) → IsIn l ls
@@ -97,18 +118,20 @@ few_left : (r : Radix) (s : Bool) (lines : List (List ℕ)) (ls : List Lengths) 
 few_left r s lines [] all = omega arith
 few_left r s lines (l ∷ ls) all = let rest = few_left r s lines ls all.1 in omega (arith, rest, all.0.lengths.most, all.0.width.most)
 
-pub stays : (range : Bool) (r : Radix) (s : Bool) (widths : Widths) (one : ℕ) (done : List (List ℕ)) (line : List ℕ) (place : ℕ) (n : ShortNumeral) (v : Serving) → v.is_served ≡ true → v.half ≤ v.low → IsShortRead r line n → n.exponent ≡ pos 0 → AreSurelyLeft v.lengths.items n → place ≡ length done + 1
+pub stays : (range : Bool) (r : Radix) (s : Bool) (widths : Widths) (one : ℕ) (done : List (List ℕ)) (line : List ℕ) (place : ℕ) (n : ShortNumeral) (v : Serving) → v.is_served ≡ true → (v.half ≤ v.low) ⊎ (n.fraction ≡ 0) → IsShortRead r line n → n.exponent ≡ pos 0 → AreSurelyLeft v.lengths.items n → place ≡ length done + 1
     → HasServing range r s widths one done v → HasServing range r s widths one (done ++ line ∷ []) v
-stays range r s widths one done line place n v on order read none surely at h =
+stays range r s widths one done line place n v on sure read none surely at h =
     let was = h.serving on in
     let now = h.narrowed on in
     let bound : List ℕ = v.bound.items in
     let ls : List Lengths = v.lengths.items in
     let few = few_left r s done ls was.lengths in
     let served = was.served in
-    let half : IsHalfWithin r v.low bound = half_within_longer r v.half v.low bound order (h.half (omega (arith, order, few, served))) in
     let after = all_one_more r s done line place ls ls at (all_as_they_were r line place n ls read none surely) was.lengths in
-    let within = within_on range r v.low bound done line (read_numeral r line n read) half was.within in
+    let within = ⊎_elim
+    (λ (order : v.half ≤ v.low). within_on range r v.low bound done line (read_numeral r line n read) (half_within_longer r v.half v.low bound order (h.half (omega (arith, order, few, served)))) was.within)
+    (λ (whole : n.fraction ≡ 0). within_by range r v.low bound done line (whole_within r v.low line bound n read none whole h.numeral) was.within)
+    sure in
     let l = in_width v.width ls (h.tried.all v.width now.least.tried) in
     let S : List (List ℕ) → ℕ → Type 0 = λ lines m. Serves range r s bound lines m now.frac in
     let serves : S (done ++ line ∷ []) v.width = subst (S (done ++ line ∷ [])) l.2 (serves_on range r s bound done line ls l.0 v.low now.frac was.lengths after (cases_lt now.frac l.0.count) (cases_lt now.frac v.low) l.1 was.least within (subst (S done) (sym l.2) now.least.serves)) in

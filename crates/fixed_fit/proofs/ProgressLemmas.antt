@@ -7,7 +7,7 @@ use Rattle.fixed_numeral.specs.Cause.{HasCause}
 use Rattle.fixed_numeral.specs.Numeral.{Parts, HasNumeral, IsNumeral}
 use Rattle.fixed_numeral.specs.declared.radix.Radix.{Radix}
 use Rattle.fixed_fit.specs.Fitting.{HasBelowZero, IsBelowZero, IsLineBelowZero}
-use Rattle.fixed_fit.specs.Inner.Lengths.{AreLengths, AreLowered}
+use Rattle.fixed_fit.specs.Inner.Lengths.{AreLengths, AreLowered, IsRoomOf}
 use Rattle.fixed_fit.specs.Inner.Progress.{AreFitted, HasProgress, IsKnown}
 use Rattle.fixed_fit.specs.declared.lengths.Lengths.{Lengths}
 use Rattle.fixed_fit.specs.declared.progress.Progress.{Progress}
@@ -76,7 +76,7 @@ counted done line old new is more = omega (arith, is, more, length-append done (
 
 -- one more line where one was no numeral
 pub after_fault : (n : ℕ) (done : List (List ℕ)) (line : List ℕ) (p : Progress) (place : ℕ) (fault : Option LeastFault) → fault ≡ p.fault → (fault ≡ None → ⊥) → place ≡ p.lines + 1 → HasProgress n done p
-    → HasProgress n (done ++ line ∷ []) (record { radix = p.radix; lines = place; fault = fault; is_below = p.is_below; plain = p.plain; signed = p.signed })
+    → HasProgress n (done ++ line ∷ []) (record { radix = p.radix; lines = place; fault = fault; is_below = p.is_below; plain = p.plain; signed = p.signed; room = p.room })
 after_fault n done line p place None same some at h = absurd (some refl)
 after_fault n done line p place (Some fault) same some at h =
     let P : Option LeastFault → Type 0 = λ f. IsKnown n done p f in
@@ -86,12 +86,14 @@ after_fault n done line p place (Some fault) same some at h =
       signed_kind = h.signed_kind;
       plain_most = h.plain_most;
       signed_most = h.signed_most;
+      plain_room = h.plain_room;
+      signed_room = h.signed_room;
       known = fault_longer p.radix done line fault (subst P (sym same) h.known);
     }
 
 -- the first line that is no numeral
 pub first_fault : (n : ℕ) (done : List (List ℕ)) (line : List ℕ) (p : Progress) (place : ℕ) (fault : LeastFault) → p.fault ≡ None → place_of fault ≡ place → HasCause p.radix line (kind_at fault) → place ≡ p.lines + 1 → HasProgress n done p
-    → HasProgress n (done ++ line ∷ []) (record { radix = p.radix; lines = place; fault = Some fault; is_below = p.is_below; plain = p.plain; signed = p.signed })
+    → HasProgress n (done ++ line ∷ []) (record { radix = p.radix; lines = place; fault = Some fault; is_below = p.is_below; plain = p.plain; signed = p.signed; room = p.room })
 first_fault n done line p place fault none named cause at h =
     let P : Option LeastFault → Type 0 = λ f. IsKnown n done p f in
     let fitted : AreFitted n done p = subst P none h.known in
@@ -101,14 +103,16 @@ first_fault n done line p place fault none named cause at h =
       signed_kind = h.signed_kind;
       plain_most = h.plain_most;
       signed_most = h.signed_most;
+      plain_room = h.plain_room;
+      signed_room = h.signed_room;
       known = record { before = done; line = line; after = []; split = refl; numerals = fitted.numerals; cause = cause; place_is = named ∙ (at ∙ ap (λ k. k + 1) h.count) };
     }
 
 -- one more numeral
-pub after_numeral : (n : ℕ) (done : List (List ℕ)) (line : List ℕ) (p : Progress) (place : ℕ) (below : Bool) (plain signed : Lengths) → p.fault ≡ None → place ≡ p.lines + 1 → IsNumeral p.radix line
+pub after_numeral : (n : ℕ) (done : List (List ℕ)) (line : List ℕ) (p : Progress) (place : ℕ) (below : Bool) (plain signed : Lengths) (room : ℕ) → IsRoomOf room plain → IsRoomOf room signed → p.fault ≡ None → place ≡ p.lines + 1 → IsNumeral p.radix line
     → ((q : Parts) → HasNumeral p.radix line q → IsTrue below ↔ IsBelowZero p.radix q) → AreLowered p.radix line place p.plain plain → AreLowered p.radix line place p.signed signed → HasProgress n done p
-    → HasProgress n (done ++ line ∷ []) (record { radix = p.radix; lines = place; fault = None; is_below = p.is_below || below; plain = plain; signed = signed })
-after_numeral n done line p place below plain signed none at numeral found low low' h =
+    → HasProgress n (done ++ line ∷ []) (record { radix = p.radix; lines = place; fault = None; is_below = p.is_below || below; plain = plain; signed = signed; room = room })
+after_numeral n done line p place below plain signed room plain_room signed_room none at numeral found low low' h =
     let P : Option LeastFault → Type 0 = λ f. IsKnown n done p f in
     let fitted : AreFitted n done p = subst P none h.known in
     let here : place ≡ length done + 1 = at ∙ ap (λ k. k + 1) h.count in
@@ -118,6 +122,8 @@ after_numeral n done line p place below plain signed none at numeral found low l
       signed_kind = low'.kind ∙ h.signed_kind;
       plain_most = omega (arith, low.fewer, h.plain_most);
       signed_most = omega (arith, low'.fewer, h.signed_most);
+      plain_room = plain_room;
+      signed_room = signed_room;
       known = record {
         numerals = numerals_one_more p.radix done line fitted.numerals numeral;
         plain = lengths_one_more p.radix done line place p.plain plain here fitted.plain low;

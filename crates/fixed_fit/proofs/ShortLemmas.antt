@@ -1,7 +1,7 @@
 -- Short decimals: which of them are below zero, and which surely fit.
-use Rattle.std.proofs.Common.{◌≡◌, ℕ, ◌+◌, ◌*◌, ◌^◌, ◌<◌, ◌≤◌, ◌↔◌, Bool, true, false, IsTrue, refl, sym, ap, ◌∙◌, subst, arith, ⊎_elim, mul-le-mul_right, ℤ, pos, negsuc, ◌-ℤ◌, zero, suc, List}
+use Rattle.std.proofs.Common.{◌≡◌, ℕ, ◌+◌, ◌-◌, ◌*◌, ◌/◌, ◌%◌, ◌^◌, ◌<◌, ◌≤◌, ◌↔◌, Bool, true, false, IsTrue, refl, sym, ap, ◌∙◌, subst, arith, ⊎_elim, mul-le-mul_right, div-add-mod', ℤ, pos, negsuc, ◌-ℤ◌, zero, suc, List}
 use Rattle.std.specs.Prelude.{Option, Some, None}
-use Rattle.std.proofs.Math.Nat.{one-le-pow, pow-le-pow_right}
+use Rattle.std.proofs.Math.Nat.{one-le-pow}
 use Rattle.std.proofs.lemmas.Nat.{pow-add}
 use Rattle.std.proofs.lemmas.Bool.{cases_lt}
 use Rattle.std.proofs.lemmas.Int.{ints}
@@ -19,8 +19,9 @@ use Rattle.fixed_error.specs.Short.{IsShortRead}
 use Rattle.fixed_numeral.proofs.Public.{magnitude_pos}
 use Rattle.fixed_read.proofs.Public.{read_number_is_the_one}
 use Rattle.fixed_fit.specs.Fitting.{Fits, IsBelowZero}
-use Rattle.fixed_fit.specs.Inner.Lengths.{AreLowered, IsSurelyLeft, magnitude_bits}
+use Rattle.fixed_fit.specs.Inner.Lengths.{AreLowered, IsFlatDecimal, IsRoomOf, IsSurelyLeft, magnitude_bits}
 use Rattle.fixed_fit.specs.declared.lengths.Lengths.{Lengths}
+use Rattle.fixed_fit.specs.declared.short.FlatDecimal.{FlatDecimal}
 use Rattle.fixed_fit.proofs.FittingLemmas.{nearest_grows, not_lowered}
 
 -- ---- below zero
@@ -97,27 +98,51 @@ surely_fits s n f line p negative whole fraction places exponent two numeral h n
       in_range = subst Q (sym v.1.value) (below_room s n (is_minus p.sign) v.1.ulps (λ m. sign (h.sign ∙ m)) few);
     }
 
--- ---- room for the next whole number
-pub room_for : (next k q f b : ℕ) → next < 2 ^ q → q ≤ k → k + f ≡ b → next * 2 ^ f < 2 ^ b
-room_for next k q f b less most is =
-    let grows : 2 ^ q ≤ 2 ^ k = pow-le-pow_right (omega arith) most in
-    let more : (next + 1) * 2 ^ f ≤ 2 ^ k * 2 ^ f = mul-le-mul_right (2 ^ f) (omega (arith, less, grows)) in
-    let some : 1 ≤ 2 ^ f = one-le-pow f 2 (omega arith) in
-    let same : 2 ^ (k + f) ≡ 2 ^ k * 2 ^ f = pow-add 2 k f in
-    let all : 2 ^ (k + f) ≡ 2 ^ b = ap (λ (x : ℕ). 2 ^ x) is in
-    omega (arith, more, some, same, all)
+-- ---- room by parts of 10^-18
+parts_fit : (digits parts k t up b one : ℕ) → 0 < one → digits * one ≤ parts * t → parts ≤ k → k * up + one ≤ b * one → digits * up + t ≤ b * t
+parts_fit digits parts k t up b one some is less room =
+    let m : (k * up + one) * t ≤ b * one * t = mul-le-mul_right t room in
+    let n : digits * one * up ≤ parts * t * up = mul-le-mul_right up is in
+    let o : parts * (t * up) ≤ k * (t * up) = mul-le-mul_right (t * up) less in
+    ⊎_elim
+    (λ (over : b * t < digits * up + t). let p : (b * t + 1) * one ≤ (digits * up + t) * one = mul-le-mul_right one (omega (arith, over)) in absurd (omega (arith, m, n, o, p, some)))
+    (λ (fits : digits * up + t ≤ b * t). fits)
+    (cases_lt (b * t) (digits * up + t))
 
-pub next_fits : (whole fraction t up b : ℕ) → fraction < t → (whole + 1) * up < b → (whole * t + fraction) * up + t ≤ b * t
-next_fits whole fraction t up b below less =
-    let m : ((whole + 1) * up + 1) * t ≤ b * t = mul-le-mul_right t (omega (arith, less)) in
-    let n : fraction * up ≤ t * up = mul-le-mul_right up (omega (arith, below)) in
-    omega (arith, m, n)
+pub surely_left : (l : Lengths) (d : FlatDecimal) (k : ℕ) → ((f : ℕ) → f + 1 ≡ l.count → d.decimal.negative ≡ true → l.kind.signed ≡ true) → IsFlatDecimal d → d.parts ≤ k → IsRoomOf k l → IsSurelyLeft l d.decimal
+surely_left l d k sign flat less room =
+    let n = d.decimal in
+    record {
+      sign = sign;
+      room = λ f last. parts_fit (n.whole * 10 ^ n.places + n.fraction) d.parts k (10 ^ n.places) (2 ^ f) (2 ^ magnitude_bits l.kind.signed l.kind.width) (10 ^ 18) (omega arith) flat.parts less (room f last);
+    }
 
--- ---- room by all digits
-pub digits_fit : (whole fraction t up b left : ℕ) → whole * up + left + 1 ≡ b → fraction * up ≤ left * t → (whole * t + fraction) * up + t ≤ b * t
-digits_fit whole fraction t up b left is less =
-    let m : (whole * up + left + 1) * t ≡ b * t = ap (λ (x : ℕ). x * t) is in
-    omega (arith, m, less)
+pub less_room : (j k : ℕ) (l : Lengths) → j ≤ k → IsRoomOf k l → IsRoomOf j l
+less_room j k l order room f last =
+    let h = room f last in
+    let m : j * 2 ^ f ≤ k * 2 ^ f = mul-le-mul_right (2 ^ f) order in
+    omega (arith, h, m)
+
+pub fraction_fits : (fraction places : ℕ) → places ≤ 18 → fraction < 10 ^ places → (fraction * 10 ^ (18 - places) * 10 ^ places ≡ fraction * 10 ^ 18) × (fraction * 10 ^ (18 - places) < 10 ^ 18)
+fraction_fits fraction places few below =
+    let t : ℕ = 10 ^ places in
+    let up : ℕ = 10 ^ (18 - places) in
+    let split : 18 ≡ 18 - places + places = omega (arith, few) in
+    let all : 10 ^ 18 ≡ up * t = ap (λ (n : ℕ). 10 ^ n) split ∙ pow-add 10 (18 - places) places in
+    let some : 1 ≤ up = one-le-pow (18 - places) 10 (omega arith) in
+    let m : (fraction + 1) * up ≤ t * up = mul-le-mul_right up (omega (arith, below)) in
+    let same : fraction * up * t ≡ fraction * (up * t) = omega arith in
+    (same ∙ ap (λ (n : ℕ). fraction * n) (sym all), omega (arith, m, some, all))
+
+pub room_by : (end bits count f one : ℕ) → count ≡ f → end ≡ 2 ^ bits → (end - 1) * one / 2 ^ count * 2 ^ f + one ≤ 2 ^ bits * one
+room_by end bits count f one ulps is =
+    let up : ℕ = 2 ^ count in
+    let parts : ℕ = (end - 1) * one in
+    let some : 1 ≤ 2 ^ bits = one-le-pow bits 2 (omega arith) in
+    let same : parts / up * 2 ^ f ≡ parts / up * up = ap (λ (n : ℕ). parts / up * 2 ^ n) (sym ulps) in
+    let split : parts / up * up + parts % up ≡ parts = div-add-mod' parts up in
+    let all : (end - 1 + 1) * one ≡ 2 ^ bits * one = ap (λ (n : ℕ). n * one) (omega (arith, is, some)) in
+    omega (arith, same, split, all)
 
 -- ---- what a short decimal leaves
 pub left_as_they_were : (r : Radix) (line : List ℕ) (place : ℕ) (l : Lengths) (n : ShortNumeral) → IsShortRead r line n → n.exponent ≡ pos 0 → IsSurelyLeft l n → AreLowered r line place l l
@@ -130,6 +155,24 @@ pub read_below : (r : Radix) (line : List ℕ) (n : ShortNumeral) (b : Bool) →
 read_below r line n b read below =
     subst (λ (x : Radix). (p : Parts) → HasNumeral x line p → IsTrue b ↔ IsBelowZero x p) (sym read.decimal)
     (λ p has. short_below p n.negative n.whole n.fraction n.places n.exponent n.scales_by_two b (read.parts p has) below)
+
+-- a short decimal without a fraction is a whole number
+whole_scaled : (whole fraction places : ℕ) → fraction ≡ 0 → (scaled (whole * 10 ^ places + fraction) 1 10 (pos 0 -ℤ pos places)).num ≡ whole * (scaled (whole * 10 ^ places + fraction) 1 10 (pos 0 -ℤ pos places)).den
+whole_scaled whole fraction zero none = omega (arith, none)
+whole_scaled whole fraction (suc k) none =
+    let P : ℤ → Type 0 = λ z. (scaled (whole * 10 ^ suc k + fraction) 1 10 z).num ≡ whole * (scaled (whole * 10 ^ suc k + fraction) 1 10 z).den in
+    let is : pos 0 -ℤ pos (suc k) ≡ negsuc k = omega (arith, ints) in
+    let down : whole * 10 ^ suc k + fraction ≡ whole * (1 * 10 ^ suc k) = omega (arith, none) in
+    subst P (sym is) down
+
+pub whole_magnitude : (r : Radix) (line : List ℕ) (n : ShortNumeral) (p : Parts) → HasNumeral r line p → IsShortRead r line n → n.exponent ≡ pos 0 → n.fraction ≡ 0 → (magnitude r p).num ≡ n.whole * (magnitude r p).den
+whole_magnitude r line n p has read none whole =
+    let G : Radix → Type 0 = λ x. HasNumeral x line p → (magnitude x p).num ≡ n.whole * (magnitude x p).den in
+    let here : G Dec = λ numeral.
+    let same : magnitude Dec p ≡ scaled (n.whole * 10 ^ n.places + n.fraction) 1 10 (pos 0 -ℤ pos n.places) = magnitude_is p n.negative n.whole n.fraction n.places n.exponent n.scales_by_two (read.parts p numeral) ∙ ap (λ e. scaled (n.whole * 10 ^ n.places + n.fraction) 1 10 (e -ℤ pos n.places)) none in
+    let P : Fraction → Type 0 = λ m. m.num ≡ n.whole * m.den in
+    subst P (sym same) (whole_scaled n.whole n.fraction n.places whole) in
+    subst G (sym read.decimal) here has
 
 pub read_numeral : (r : Radix) (line : List ℕ) (n : ShortNumeral) → IsShortRead r line n → IsNumeral r line
 read_numeral r line n read = subst (λ (x : Radix). IsNumeral x line) (sym read.decimal) read.numeral

@@ -87,7 +87,7 @@ pub record AnswersInPart (A : List ℕ → AnswerText → Type 0)
   pub is_answer : A input answer
   pub output : AppendsPrefix written written' answer.text
 
--- at least so many bytes were taken
+-- at least this many bytes were taken
 pub record TakesBytes (least : ℕ) (left left' : Option (List ℕ)) : Type 0 where
   pub bytes : List ℕ
   pub taken : Consumes left left' bytes

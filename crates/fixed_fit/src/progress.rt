@@ -3,15 +3,15 @@
 ghost use Rattle.std.specs.Prelude.{◌≡◌, ◌<◌, ◌≤◌, ◌||◌, ◌+◌, ◌^◌, ◌∷◌, ◌++◌, [], List, ℕ, None, false, true, max};
 ghost use Rattle.std.specs.Prelude.{IfSome};
 ghost use Rattle.fixed_bits.specs.Ranges.{IsWidth};
-ghost use Rattle.fixed_error.specs.Short.{IsShortRead};
+ghost use Rattle.fixed_fit.specs.Inner.Lengths.{IsFlatRead, IsRoomOf};
 ghost use Rattle.fixed_fit.specs.Inner.Progress.{HasProgress, HasSomeProgress};
 
 use crate::lengths::{Lengths, all_lengths, lowered};
 use crate::numeral::is_below_zero;
-use crate::short::{is_left_of_both, is_short_below};
+use crate::short::{FlatDecimal, is_short_below, is_within_room, room_of_both};
 use fixed_bits::Format;
 use fixed_least::LeastFault;
-use fixed_numeral::{Radix, ShortNumeral};
+use fixed_numeral::Radix;
 use fixed_steps::Steps;
 use std::sync::ledger::Ledger;
 
@@ -30,6 +30,8 @@ pub struct Progress {
     pub plain: Lengths,
     /// The fraction lengths that are left with a sign.
     pub signed: Lengths,
+    /// How many parts of 10^-18 a number may have that surely fits the longest of both.
+    pub room: u128,
 }
 
 /// Whether one of two holds.
@@ -40,20 +42,39 @@ pub fn is_either(one: bool, other: bool) -> bool
 }
 
 impl Progress {
-    /// No line.
-    pub fn new(radix: Radix, width: u32) -> Progress
-        requires { IsWidth width }
-        ensures radix { result.radix ≡ radix }
-        ensures none { HasProgress width [] result }
+    /// No line, where these lengths are left.
+    fn of_lengths(radix: Radix, plain: Lengths, signed: Lengths, room: u128) -> Progress
+        ensures { result ≡ record {
+          radix = radix;
+          lines = 0;
+          fault = None;
+          is_below = false;
+          plain = plain;
+          signed = signed;
+          room = room;
+        } }
     {
         Progress {
             radix,
             lines: 0,
             fault: None,
             is_below: false,
-            plain: all_lengths(Format::of(false, width, 0)),
-            signed: all_lengths(Format::of(true, width, 0)),
+            plain,
+            signed,
+            room,
         }
+    }
+
+    /// No line.
+    pub fn new(radix: Radix, width: u32) -> Progress
+        requires { IsWidth width }
+        ensures radix { result.radix ≡ radix }
+        ensures none { HasProgress width [] result }
+    {
+        let plain = all_lengths(Format::of(false, width, 0));
+        let signed = all_lengths(Format::of(true, width, 0));
+        let room = room_of_both(&plain, &signed);
+        Progress::of_lengths(radix, plain, signed, room)
     }
 
     /// What is kept where a line is not a numeral.
@@ -65,6 +86,7 @@ impl Progress {
           is_below = self.now.is_below;
           plain = self.now.plain;
           signed = self.now.signed;
+          room = self.now.room;
         } }
     {
         Progress {
@@ -74,11 +96,19 @@ impl Progress {
             is_below: self.is_below,
             plain: self.plain,
             signed: self.signed,
+            room: self.room,
         }
     }
 
     /// What is kept where a line is a numeral, which leaves these lengths.
-    fn with_numeral(&self, lines: u64, below: bool, plain: Lengths, signed: Lengths) -> Progress
+    fn with_numeral(
+        &self,
+        lines: u64,
+        below: bool,
+        plain: Lengths,
+        signed: Lengths,
+        room: u128,
+    ) -> Progress
         ensures { result ≡ record {
           radix = self.now.radix;
           lines = lines;
@@ -86,6 +116,7 @@ impl Progress {
           is_below = self.now.is_below || below;
           plain = plain;
           signed = signed;
+          room = room;
         } }
     {
         Progress {
@@ -95,6 +126,7 @@ impl Progress {
             is_below: is_either(self.is_below, below),
             plain,
             signed,
+            room,
         }
     }
 
@@ -123,22 +155,18 @@ impl Progress {
             Ok(below) => {
                 let plain = lowered(&self.plain, line, self.radix, place, steps);
                 let signed = lowered(&self.signed, line, self.radix, place, steps);
-                self.with_numeral(place, below, plain, signed)
+                let room = room_of_both(&plain, &signed);
+                self.with_numeral(place, below, plain, signed, room)
             }
         }
     }
 
     /// Takes one more line, by the numbers of its parts where it was read as a short decimal. Where that takes away no
     /// length, the lengths are not written again.
-    pub fn push<L: Ledger>(
-        &mut self,
-        line: &[u8],
-        short: Option<ShortNumeral>,
-        steps: &mut Steps<L>,
-    )
+    pub fn push<L: Ledger>(&mut self, line: &[u8], flat: Option<FlatDecimal>, steps: &mut Steps<L>)
         requires room { self.old.lines < 2 ^ 63 }
         requires known { HasSomeProgress self.old }
-        requires short { IfSome short (IsShortRead self.old.radix line.now) }
+        requires flat { IfSome flat (IsFlatRead self.old.radix line.now) }
         ensures radix { self.new.radix ≡ self.old.radix }
         ensures lines { self.new.lines ≡ self.old.lines + 1 }
         ensures one_more { (n : ℕ) (lines : List (List ℕ)) → HasProgress n lines self.old
@@ -151,10 +179,10 @@ impl Progress {
             self.lines += 1;
             return;
         }
-        if let Some(found) = short {
-            if is_left_of_both(self.plain, self.signed, found) {
+        if let Some(found) = flat {
+            if is_within_room(self.room, self.plain.count == 0, found) {
                 self.lines += 1;
-                self.is_below = is_either(self.is_below, is_short_below(found));
+                self.is_below = is_either(self.is_below, is_short_below(found.decimal));
                 return;
             }
         }

@@ -1,12 +1,14 @@
 //! The bytes of an input, one after another: the line whose end has not come, and what is kept of those before it.
 
 ghost use Rattle.std.specs.Prelude.{◌≡◌, ◌≤◌, ◌<◌, ◌+◌, ◌^◌, ◌++◌, ◌∷◌, []};
-ghost use Rattle.std.specs.Prelude.{List, ℕ, Bool, true, OnOk, OnErr, IfOk, IfErr, length, take};
+ghost use Rattle.std.specs.Prelude.{List, ℕ, Bool, true, OnOk, OnErr, IfOk, IfErr, IfSome, length, take};
 ghost use Rattle.std.specs.Io.KnownBytes.{Consumes, IsAtEnd, Keeps};
 ghost use Rattle.line_engine.specs.Failures.{FailsOnlyCounted};
 ghost use Rattle.fixed_bits.specs.Ranges.{IsWidth};
 ghost use Rattle.fixed_numeral.specs.Numeral.{IsNumeral};
+ghost use Rattle.fixed_error.specs.Short.{IsShortRead};
 ghost use Rattle.line_engine.specs.Lines.{lines};
+ghost use Rattle.fixed_fit.specs.Inner.Lengths.{IsFlatRead};
 ghost use Rattle.fixed_fit.specs.Inner.Serving.{AreServed, Asked, asked_of, bounded, unbounded};
 ghost use Rattle.fixed_fit.specs.Within.{most_width};
 ghost use Rattle.fixed_fit.specs.declared.question.Widths.{Widths};
@@ -15,8 +17,9 @@ ghost use Rattle.fixed_fit.specs.Inner.Reading.{AreKept, HasLines, HasRead, HasS
 use crate::progress::Progress;
 use crate::question::{Question, Widths};
 use crate::serving::{Within, most_width};
+use crate::short::{FlatDecimal, flat_decimal};
 use fixed_error::{GreatestErrors, read_short};
-use fixed_numeral::Radix;
+use fixed_numeral::{Radix, ShortNumeral};
 use fixed_steps::Steps;
 use line_engine::{Failed, NoMemory, Source, Status};
 use memchr::memchr;
@@ -42,6 +45,18 @@ pub struct Reader {
     pub within: Within,
 }
 
+/// A numeral that was read as a short decimal, where it has no exponent.
+#[inline(always)]
+fn flat_of(short: Option<ShortNumeral>) -> Option<FlatDecimal>
+    requires { (r : Radix) × (line : List ℕ) × IfSome short (IsShortRead r line) }
+    ensures { (r : Radix) (line : List ℕ) → IfSome short (IsShortRead r line) → IfSome result (IsFlatRead r line) }
+{
+    match short {
+        Some(found) => flat_decimal(found),
+        None => None,
+    }
+}
+
 /// Takes one more line.
 fn add_line<L: Ledger>(
     progress: &mut Progress,
@@ -59,14 +74,15 @@ fn add_line<L: Ledger>(
     ensures lines { OnOk result (progress.new.lines ≡ progress.old.lines + 1) }
 {
     let short = read_short(line, progress.radix, steps);
-    progress.push(line, short, steps);
+    let flat = flat_of(short);
+    progress.push(line, flat, steps);
     if progress.fault.is_some() {
         return Ok(());
     }
     errors.shorten(progress.count());
     match errors.add_read(line, progress.lines, short, steps) {
         Ok(()) => {
-            within.add(line, progress.radix, progress.lines, short, steps);
+            within.add(line, progress.radix, progress.lines, flat, steps);
             Ok(())
         }
         Err(_) => Err(NoMemory),

@@ -3,7 +3,8 @@
 //! A numeral that is within an error at a fraction length is within it at each longer one. So the lengths within the
 //! error are those from a least one on, and a format serves where more lengths of its width are left than that. Of a
 //! range the error is half an ulp, and so the least one is known before the first line. No numeral's error is greater
-//! than half an ulp: from the length on at which that is within the error, a numeral only takes lengths away.
+//! than half an ulp: from the length on at which that is within the error, a numeral only takes lengths away. So does a
+//! whole number at any.
 //!
 //! Where a format of a width serves, so does one of each greater width. So of the next lesser width it is enough to
 //! keep the line that raised the least width last: until it a format of that width served, too.
@@ -13,7 +14,7 @@ ghost use Rattle.std.specs.Prelude.{IsTrue, IfOk, IfSome, true, false, List, ℕ
 ghost use Rattle.fixed_bits.specs.Ranges.{IsWidth};
 ghost use Rattle.fixed_bits.specs.declared.mode.ReadMode.TheVariants.{NearestEven};
 ghost use Rattle.fixed_error.specs.ErrorSize.{HasErrorAbove, HasErrorWithin, IsReadWithin};
-ghost use Rattle.fixed_error.specs.Short.{IsShortRead};
+ghost use Rattle.fixed_fit.specs.Inner.Lengths.{IsFlatRead};
 ghost use Rattle.fixed_numeral.specs.Numeral.{IsNumeral};
 ghost use Rattle.fixed_fit.specs.Inner.Serving.{AreAllLowered, AreFew, HasServing, HasSomeServing, IsBestOf, most_left};
 ghost use Rattle.fixed_fit.specs.Inner.Serving.{AreServed, AreSurelyLeft, Asked, HaveRoom, IsIn, bounded};
@@ -22,10 +23,10 @@ ghost use Rattle.fixed_fit.specs.Within.{IsErrorWithin, IsHalfWithin, IsTried, m
 use crate::half::first_length;
 use crate::lengths::{Lengths, all_lengths, lowered};
 use crate::question::{Question, Widths};
-use crate::short::{is_left_by_room, is_left_of_all, least_room};
+use crate::short::{FlatDecimal, is_within_room, least_room};
 use fixed_bits::{Format, ReadMode};
 use fixed_error::is_error_above;
-use fixed_numeral::{Radix, ShortNumeral};
+use fixed_numeral::Radix;
 use fixed_steps::Steps;
 use std::alloc::{AllocError, Global};
 use std::sync::ledger::Ledger;
@@ -39,8 +40,8 @@ pub struct Serving {
     pub lengths: Vec<Lengths>,
     /// Whether they are of formats with a sign.
     pub signed: bool,
-    /// One more than how many bits, or more, are before the point with the longest that is left of each width.
-    pub room: u32,
+    /// How many parts of 10^-18 a number may have that surely fits the longest that is left of each width.
+    pub room: u128,
     /// The least length within the error.
     pub low: u32,
     /// A length at which half an ulp is within the error, and so every numeral is; 65 where none up to 64 is.
@@ -259,52 +260,25 @@ impl Serving {
         }
     }
 
-    /// Whether a short decimal surely changes nothing, where a format serves.
-    fn is_kept_by(&self, found: ShortNumeral) -> bool
-        requires few { AreFew self.now.lengths.items }
-        requires signs { (l : Lengths) → IsIn l self.now.lengths.items → l.kind.signed ≡ self.now.signed }
-        requires room { HaveRoom self.now.room self.now.lengths.items }
-        requires whole { found.whole < 10 ^ 16 }
-        requires fraction { found.fraction < 10 ^ found.places }
-        ensures half { result ≡ true → self.now.half ≤ self.now.low }
-        ensures exponent { result ≡ true → found.exponent ≡ pos 0 }
-        ensures left { result ≡ true → AreSurelyLeft self.now.lengths.items found }
+    /// Whether a short decimal is surely within the bound at the least length: half an ulp is, or it is a whole number.
+    #[inline(always)]
+    fn is_surely_within(&self, found: FlatDecimal) -> bool
+        ensures { result ≡ true → (self.now.half ≤ self.now.low) ⊎ (found.decimal.fraction ≡ 0) }
     {
-        if self.half > self.low {
-            return false;
-        }
-        if is_left_by_room(self.room, self.signed, found) {
-            return true;
-        }
-        is_left_of_all(&self.lengths, found)
+        self.half <= self.low || found.decimal.fraction == 0
     }
 
-    /// Takes one more line, which is a numeral at a place, by the numbers of its parts where it was read as a short
-    /// decimal.
-    pub fn add<L: Ledger>(
-        &mut self,
-        line: &[u8],
-        radix: Radix,
-        place: u64,
-        short: Option<ShortNumeral>,
-        steps: &mut Steps<L>,
-    )
+    /// Takes one more line, which is a numeral at a place, by rounding it, where a format serves.
+    #[cold]
+    fn rule_out<L: Ledger>(&mut self, line: &[u8], radix: Radix, place: u64, steps: &mut Steps<L>)
         requires numeral { IsNumeral radix line.now }
         requires known { HasSomeServing radix self.old }
-        requires short { IfSome short (IsShortRead radix line.now) }
+        requires on { self.old.is_served ≡ true }
         ensures bound { self.new.bound ≡ self.old.bound }
         ensures one_more { (range s : Bool) (widths : Widths) (one : ℕ) (lines : List (List ℕ))
             → HasServing range radix s widths one lines self.old → place ≡ length lines + 1
             → HasServing range radix s widths one (lines ++ line.now ∷ []) self.new }
     {
-        if !self.is_served {
-            return;
-        }
-        if let Some(found) = short {
-            if self.is_kept_by(found) {
-                return;
-            }
-        }
         let most = lower_all(&mut self.lengths, line, radix, place, steps);
         self.room = least_room(&self.lengths);
         let is_range = self.is_range;
@@ -317,6 +291,36 @@ impl Serving {
         let width = self.best().kind.width();
         self.raised = raised_by(self.width, self.raised, width, place);
         self.width = width;
+    }
+
+    /// Takes one more line, which is a numeral at a place, by its size where it was read as a short decimal
+    /// without an exponent.
+    #[inline(always)]
+    pub fn add<L: Ledger>(
+        &mut self,
+        line: &[u8],
+        radix: Radix,
+        place: u64,
+        flat: Option<FlatDecimal>,
+        steps: &mut Steps<L>,
+    )
+        requires numeral { IsNumeral radix line.now }
+        requires known { HasSomeServing radix self.old }
+        requires flat { IfSome flat (IsFlatRead radix line.now) }
+        ensures bound { self.new.bound ≡ self.old.bound }
+        ensures one_more { (range s : Bool) (widths : Widths) (one : ℕ) (lines : List (List ℕ))
+            → HasServing range radix s widths one lines self.old → place ≡ length lines + 1
+            → HasServing range radix s widths one (lines ++ line.now ∷ []) self.new }
+    {
+        if !self.is_served {
+            return;
+        }
+        if let Some(found) = flat {
+            if self.is_surely_within(found) && is_within_room(self.room, self.signed, found) {
+                return;
+            }
+        }
+        self.rule_out(line, radix, place, steps);
     }
 
     /// Of the widths at which a format serves the least, with the lengths that are left of it.
@@ -383,28 +387,28 @@ impl Within {
         })
     }
 
-    /// Takes one more line, which is a numeral at a place, by the numbers of its parts where it was read as a short
-    /// decimal.
+    /// Takes one more line, which is a numeral at a place, by its size where it was read as a short decimal
+    /// without an exponent.
     pub fn add<L: Ledger>(
         &mut self,
         line: &[u8],
         radix: Radix,
         place: u64,
-        short: Option<ShortNumeral>,
+        flat: Option<FlatDecimal>,
         steps: &mut Steps<L>,
     )
         requires numeral { IsNumeral radix line.now }
         requires plain { self.old.is_bounded ≡ true → HasSomeServing radix self.old.plain }
         requires signed { self.old.is_bounded ≡ true → HasSomeServing radix self.old.signed }
-        requires short { IfSome short (IsShortRead radix line.now) }
+        requires flat { IfSome flat (IsFlatRead radix line.now) }
         ensures is_bounded { self.new.is_bounded ≡ self.old.is_bounded }
         ensures one_more { (a : Asked) (lines : List (List ℕ)) → self.old.is_bounded ≡ true
             → AreServed radix a lines self.old → place ≡ length lines + 1
             → AreServed radix a (lines ++ line.now ∷ []) self.new }
     {
         if self.is_bounded {
-            self.plain.add(line, radix, place, short, steps);
-            self.signed.add(line, radix, place, short, steps);
+            self.plain.add(line, radix, place, flat, steps);
+            self.signed.add(line, radix, place, flat, steps);
         }
     }
 }

@@ -1,6 +1,6 @@
 -- The fraction lengths that are left of a sign rule and a width.
 use Rattle.std.specs.Prelude.{◌≡◌, ◌+◌, ◌-◌, ◌*◌, ◌^◌, ◌<◌, ◌≤◌, ◌&&◌, ℕ, Bool, true}
-use Rattle.std.specs.Prelude.{false, List, [], ◌∷◌, ◌++◌, if◌then◌else◌, nat_lt, codes, decimal}
+use Rattle.std.specs.Prelude.{pos, false, List, [], ◌∷◌, ◌++◌, if◌then◌else◌, nat_lt, codes, decimal}
 use Rattle.line_engine.specs.AnswerText.{AnswerText}
 use Rattle.fixed_bits.specs.Formats.{FormatParts}
 use Rattle.fixed_fit.specs.Answer.{format_of, name_of, ruled_out_line}
@@ -8,6 +8,8 @@ use Rattle.fixed_fit.specs.ErrorWord.{IsErrorWord}
 use Rattle.fixed_fit.specs.declared.question.Question.{Question}
 use Rattle.fixed_numeral.specs.declared.radix.Radix.{Radix}
 use Rattle.fixed_numeral.specs.declared.short.ShortNumeral.{ShortNumeral}
+use Rattle.fixed_error.specs.Short.{IsShortRead}
+use Rattle.fixed_fit.specs.declared.short.FlatDecimal.{FlatDecimal}
 use Rattle.fixed_fit.specs.Fitting.{AllFit, Exceeds, Fits, IsFirstExceeding}
 use Rattle.fixed_fit.specs.declared.lengths.Lengths.{Lengths}
 
@@ -37,7 +39,26 @@ abbrev pub HasRoom : Lengths → ShortNumeral → Type 0
 HasRoom l n = (f : ℕ) → f + 1 ≡ l.count → (n.whole * 10 ^ n.places + n.fraction) * 2 ^ f + 10 ^ n.places
     ≤ 2 ^ magnitude_bits l.kind.signed l.kind.width * 10 ^ n.places
 
--- and its sign is one of the format's
+-- each number of at most this many parts of 10^-18 is
+abbrev pub IsRoomOf : ℕ → Lengths → Type 0
+IsRoomOf k l = (f : ℕ) → f + 1 ≡ l.count → k * 2 ^ f + 10 ^ 18
+    ≤ 2 ^ magnitude_bits l.kind.signed l.kind.width * 10 ^ 18
+
+-- this many parts of 10^-18 are no less than a short decimal
+abbrev pub IsPartsOf : ℕ → ShortNumeral → Type 0
+IsPartsOf parts n = (n.whole * 10 ^ n.places + n.fraction) * 10 ^ 18 ≤ parts * 10 ^ n.places
+
+-- a short decimal without an exponent
+pub record IsFlatDecimal (d : FlatDecimal) : Type 0 where
+  pub exponent : d.decimal.exponent ≡ pos 0
+  pub parts : IsPartsOf d.parts d.decimal
+
+-- a numeral was read as one
+pub record IsFlatRead (r : Radix) (line : List ℕ) (d : FlatDecimal) : Type 0 where
+  pub read : IsShortRead r line d.decimal
+  pub flat : IsFlatDecimal d
+
+-- a short decimal has room, and its sign is one of the format's
 pub record IsSurelyLeft (l : Lengths) (n : ShortNumeral) : Type 0 where
   pub sign : (f : ℕ) → f + 1 ≡ l.count → n.negative ≡ true → l.kind.signed ≡ true
   pub room : HasRoom l n

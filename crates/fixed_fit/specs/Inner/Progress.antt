@@ -4,7 +4,7 @@ use Rattle.fixed_least.specs.Holding.{AllNumerals}
 use Rattle.fixed_least.specs.Least.{IsNoNumeral}
 use Rattle.fixed_least.specs.declared.least.LeastFault.{LeastFault}
 use Rattle.fixed_fit.specs.Fitting.{HasBelowZero}
-use Rattle.fixed_fit.specs.Inner.Lengths.{AreLengths}
+use Rattle.fixed_fit.specs.Inner.Lengths.{AreLengths, IsRoomOf}
 use Rattle.fixed_fit.specs.declared.progress.Progress.{Progress}
 
 -- of lines that are numerals: the lengths that are left of both sign rules, and whether one is below zero
@@ -26,6 +26,8 @@ pub record HasProgress (n : ℕ) (lines : List (List ℕ)) (p : Progress) : Type
   pub signed_kind : p.signed.kind ≡ record { signed = true; width = n; frac = 0 }
   pub plain_most : p.plain.count ≤ n + 1
   pub signed_most : p.signed.count ≤ n + 1
+  pub plain_room : IsRoomOf p.room p.plain
+  pub signed_room : IsRoomOf p.room p.signed
   pub known : IsKnown n lines p p.fault
 
 -- and this of some lines

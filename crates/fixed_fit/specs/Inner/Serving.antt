@@ -5,7 +5,7 @@ use Rattle.fixed_bits.specs.Ranges.{IsWidth}
 use Rattle.fixed_numeral.specs.Numeral.{IsNumeral}
 use Rattle.fixed_numeral.specs.declared.radix.Radix.{Radix}
 use Rattle.fixed_numeral.specs.declared.short.ShortNumeral.{ShortNumeral}
-use Rattle.fixed_fit.specs.Inner.Lengths.{AreLengths, AreLowered, IsSomeAnswer, IsSurelyLeft, magnitude_bits}
+use Rattle.fixed_fit.specs.Inner.Lengths.{AreLengths, AreLowered, IsRoomOf, IsSomeAnswer, IsSurelyLeft}
 use Rattle.line_engine.specs.AnswerText.{AnswerText}
 use Rattle.fixed_fit.specs.declared.question.Question.{Question}
 use Rattle.fixed_fit.specs.Bounded.{width_line}
@@ -45,10 +45,10 @@ abbrev pub AreSurelyLeft : List Lengths → ShortNumeral → Type 0
 AreSurelyLeft [] n = Unit {0}
 AreSurelyLeft (l ∷ ls) n = IsSurelyLeft l n × AreSurelyLeft ls n
 
--- with the longest length that is left of each, one less than this many bits, or more, are before the point
+-- with the longest length that is left of each, each number of at most this many parts of 10^-18 has room
 abbrev pub HaveRoom : ℕ → List Lengths → Type 0
 HaveRoom k [] = Unit {0}
-HaveRoom k (l ∷ ls) = (0 < l.count → k + l.count ≤ magnitude_bits l.kind.signed l.kind.width + 2) × HaveRoom k ls
+HaveRoom k (l ∷ ls) = IsRoomOf k l × HaveRoom k ls
 
 -- one of them is
 abbrev pub IsIn : Lengths → List Lengths → Type 0

@@ -18,4 +18,4 @@ returns-in-Ok-clause-one_more g c = λ n lines h.
     let p = c.args.self.now in
     let P : Progress → Type 0 = λ q. HasProgress n (lines ++ c.args.line.now ∷ []) q in
     let none : p.fault ≡ None = c.requires.none in
-    subst P (sym c.with_numeral.ensures) (after_numeral n lines c.args.line.now p (p.lines + 1) c.in-Ok.below c.lowered-plain.result c.lowered-signed.result none refl (c.in-Ok.ensures.numeral.0 refl) c.in-Ok.ensures.read c.lowered-plain.ensures c.lowered-signed.ensures h)
+    subst P (sym c.with_numeral.ensures) (after_numeral n lines c.args.line.now p (p.lines + 1) c.in-Ok.below c.lowered-plain.result c.lowered-signed.result c.room_of_both-room.result c.room_of_both-room.ensures.plain c.room_of_both-room.ensures.signed none refl (c.in-Ok.ensures.numeral.0 refl) c.in-Ok.ensures.read c.lowered-plain.ensures c.lowered-signed.ensures h)

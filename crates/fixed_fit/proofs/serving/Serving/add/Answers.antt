@@ -1,86 +1,19 @@
-use Rattle.std.proofs.Common.{◌≡◌, ℕ, true, false, List, refl, sym, ◌∙◌, subst, arith}
-use Rattle.fixed_fit.specs.Inner.Serving.{AreFew, HaveRoom}
+use Rattle.std.proofs.Common.{◌≡◌, sym, ◌∙◌}
+use Rattle.fixed_fit.specs.Inner.Serving.{IsIn}
 use Rattle.fixed_fit.specs.declared.lengths.Lengths.{Lengths}
-use Rattle.fixed_fit.proofs.KeptLemmas.{stays}
-use Rattle.fixed_fit.proofs.ServingLemmas.{IsLeastNext, IsWithinNext, ends, few_after, few_of, frozen, goes_on, left_in, lowered_few, lowered_within}
+use Rattle.fixed_fit.proofs.KeptLemmas.{all_by_room, stays}
+use Rattle.fixed_fit.proofs.ServingLemmas.{frozen, left_in}
 use Rattle.fixed_fit.proofs.serving.Serving.add.Goals as goal
-
-pub lower_all-most-requires-clause-few : goal.lower_all-most-requires-clause-few
-lower_all-most-requires-clause-few g c =
-    let known = c.requires.known in
-    let on : c.args.self.now.is_served ≡ true = c.if-not-self.false in
-    few_of c.args.radix known.1 known.4 c.args.self.now.lengths.items (known.5.serving on).lengths
-
-pub next_low-self-requires-clause-few : goal.next_low-self-requires-clause-few
-next_low-self-requires-clause-few g c =
-    let known = c.requires.known in
-    let on : c.args.self.now.is_served ≡ true = c.if-not-self.false in
-    let few = lowered_few c.args.radix known.1 known.4 c.args.line.now c.args.place c.args.self.now.lengths.items c.lower_all-most.new.lengths.items c.lower_all-most.ensures.lowered (known.5.serving on).lengths in
-    let is = c.lower_all-most.ensures.most in
-    omega (arith, few, is)
-
-pub next_low-self-requires-clause-within : goal.next_low-self-requires-clause-within
-next_low-self-requires-clause-within g c = λ f less.
-    let known = c.requires.known in
-    let on : c.args.self.now.is_served ≡ true = c.if-not-self.false in
-    let is = c.lower_all-most.ensures.most in
-    lowered_within c.args.radix known.1 known.4 c.args.line.now c.args.place f c.args.self.now.lengths.items c.lower_all-most.new.lengths.items c.lower_all-most.ensures.lowered (known.5.serving on).lengths (omega (arith, less, is))
 
 pub returns-then-not-self-clause-one_more : goal.returns-then-not-self-clause-one_more
 returns-then-not-self-clause-one_more g c = λ range s widths one lines h at. frozen range c.args.radix s widths one lines c.args.line.now c.args.self.now c.if-not-self.true h
 
-pub returns-then-most-self-clause-one_more : goal.returns-then-most-self-clause-one_more
-returns-then-most-self-clause-one_more g c = λ range s widths one lines h at.
-    let old = c.args.self.now in
-    let r = c.args.radix in
-    let line = c.args.line.now in
-    let is = c.lower_all-most.ensures.most in
-    let past = c.if-most-self.true in
-    let low = c.next_low-self.result in
-    let room : HaveRoom c.least_room-self.result c.lower_all-most.new.lengths.items = subst (λ (l : List Lengths). HaveRoom c.least_room-self.result l) c.deref.ensures.value c.least_room-self.ensures in
-    let least = subst (λ (b : List ℕ). IsLeastNext old.is_range r line old.low low b) c.deref-2.ensures.value c.next_low-self.ensures.least in
-    ends range r s widths one lines line c.args.place old (record { bound = old.bound; lengths = c.lower_all-most.new.lengths; signed = old.signed; room = c.least_room-self.result; low = low; half = old.half; place = c.args.place; is_range = old.is_range; is_served = false; width = old.width; raised = old.raised }) refl refl refl refl room refl refl c.if-not-self.false
-    c.lower_all-most.ensures.lowered least (omega (arith, past, is)) at h
-
-pub returns-clause-one_more : goal.returns-clause-one_more
-returns-clause-one_more g c = λ range s widths one lines h at.
-    let old = c.args.self.now in
-    let r = c.args.radix in
-    let line = c.args.line.now in
-    let is = c.lower_all-most.ensures.most in
-    let less = c.if-most-self.false in
-    let low = c.next_low-self.result in
-    let room : HaveRoom c.least_room-self.result c.lower_all-most.new.lengths.items = subst (λ (l : List Lengths). HaveRoom c.least_room-self.result l) c.deref.ensures.value c.least_room-self.ensures in
-    let best = c.best.result in
-    let width = c.width-width.ensures.width in
-    let least = subst (λ (b : List ℕ). IsLeastNext old.is_range r line old.low low b) c.deref-2.ensures.value c.next_low-self.ensures.least in
-    let within = subst (λ (b : List ℕ). IsWithinNext old.is_range r line old.low low b) c.deref-2.ensures.value (λ lines w. c.next_low-self.ensures.within lines w (omega (arith, less))) in
-    goes_on range r s widths one lines line c.args.place old (record { bound = old.bound; lengths = c.lower_all-most.new.lengths; signed = old.signed; room = c.least_room-self.result; low = low; half = old.half; place = old.place; is_range = old.is_range; is_served = old.is_served; width = c.width-width.result; raised = c.raised_by-self.result }) best refl refl refl refl room refl c.if-not-self.false
-    c.lower_all-most.ensures.lowered within least (omega (arith, less, is)) at c.best.ensures width c.raised_by-self.ensures.same c.raised_by-self.ensures.moved h
-
-pub least_room-self-requires : goal.least_room-self-requires
-least_room-self-requires g c =
-    let known = c.requires.known in
-    let on : c.args.self.now.is_served ≡ true = c.if-not-self.false in
-    let few = few_of c.args.radix known.1 known.4 c.args.self.now.lengths.items (known.5.serving on).lengths in
-    subst (λ (l : List Lengths). AreFew l) (sym c.deref.ensures.value) (few_after c.args.radix c.args.line.now c.args.place c.args.self.now.lengths.items c.lower_all-most.new.lengths.items c.lower_all-most.ensures.lowered few)
-
-pub is_kept_by-requires-clause-signs : goal.is_kept_by-requires-clause-signs
-is_kept_by-requires-clause-signs g c = λ l is.
-    let known = c.requires.known in
-    let on : c.args.self.now.is_served ≡ true = c.if-not-self.false in
-    (left_in c.args.radix known.1 known.4 l c.args.self.now.lengths.items is (known.5.serving on).lengths).signed ∙ sym known.5.signed_is
-
-pub is_kept_by-requires-clause-few : goal.is_kept_by-requires-clause-few
-is_kept_by-requires-clause-few g c =
-    let known = c.requires.known in
-    let on : c.args.self.now.is_served ≡ true = c.if-not-self.false in
-    few_of c.args.radix known.1 known.4 c.args.self.now.lengths.items (known.5.serving on).lengths
-
-pub returns-then-is_kept_by-clause-one_more : goal.returns-then-is_kept_by-clause-one_more
-returns-then-is_kept_by-clause-one_more g c = λ range s widths one lines h at.
+pub returns-then-is_within_room-clause-one_more : goal.returns-then-is_within_room-clause-one_more
+returns-then-is_within_room-clause-one_more g c = λ range s widths one lines h at.
+    let v = c.args.self.now in
     let found = c.in-Some.found in
-    let read = rw c.in-Some.is at c.requires.short in
-    let kept = c.is_kept_by.ensures in
-    let is = c.if-is_kept_by.true in
-    stays range c.args.radix s widths one lines c.args.line.now c.args.place found c.args.self.now c.if-not-self.false (kept.half is) read (kept.exponent is) (kept.left is) at h
+    let read = rw c.in-Some.is at c.requires.flat in
+    let room = c.is_within_room.ensures in
+    let signs : (l : Lengths) → IsIn l v.lengths.items → l.kind.signed ≡ v.signed = λ l is. (left_in c.args.radix s lines l v.lengths.items is (h.serving c.if-not-self.false).lengths).signed ∙ sym h.signed_is in
+    let left = all_by_room v.lengths.items found v.room v.signed signs (room.sign c.if-is_within_room.true) read.flat (room.room c.if-is_within_room.true) h.room in
+    stays range c.args.radix s widths one lines c.args.line.now c.args.place found.decimal v c.if-not-self.false (c.is_surely_within.ensures c.if-is_surely_within.true) read.read read.flat.exponent left at h
