@@ -260,7 +260,7 @@ pub struct WatchedLaidOut {
     pub watch: Watch,
 }
 
-/// The same rule, where it is watched too how each numeral comes through, and which has the greatest error.
+/// The rule of a report: it is watched too how each numeral comes through, and which has the greatest error.
 #[derive(Drop)]
 pub struct ReportedLaidOut {
     /// The rule.

@@ -6,9 +6,9 @@ ghost use Rattle.line_engine.specs.Status.{code_of};
 /// How a run ended.
 #[derive(Clone, Copy, Debug, PartialEq, Eq)]
 pub enum Status {
-    /// Every line was answered, none by a fault.
+    /// Every line, or the input as a whole, was answered, none by a fault.
     Done,
-    /// Every line was answered, at least one by a fault.
+    /// Every line, or the input as a whole, was answered, at least one by a fault.
     Faults,
     /// The words were no command, and the usage line was written.
     Usage,
@@ -16,7 +16,7 @@ pub enum Status {
     ReadFault,
     /// A write failed.
     WriteFault,
-    /// There was no memory to begin with; nothing was read or written.
+    /// There was no memory. A run over lines ends so before it reads or writes.
     NoMemory,
     /// The input has more bytes than the limit.
     TooLong,
