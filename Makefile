@@ -68,7 +68,7 @@ check:
 test:
 	$(GATE)
 
-# Those in a crate's wrong-bodies/: a change of its public clauses calls for them.
+# Those in a crate's wrong-bodies/: a change of its public clauses, or of a body that one of them edits, calls for them.
 wrong-bodies:
 	@python3 .ci/edits.py
 	@python3 .ci/wrong_bodies.py try $(CRATE)

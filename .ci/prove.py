@@ -155,7 +155,8 @@ def main():
     is_well = prove(crates, wanted, jobs, given.cpu)
     if is_well and given.above:
         others = len(crates) - len(below(crates, names))
-        print(f"Left: the tests (rt test in a crate's folder) and the wrong bodies (rt must-fail NAME) of {' '.join(sorted(names))},"
+        print(f"Left: the tests (rt test in a crate's folder) and the wrong bodies (make wrong-bodies CRATE=NAME, and"
+              f" rt must-fail NAME for those in the gate) of {' '.join(sorted(names))},"
               f" and {others} crates that neither use nor are used by these. make test does all.")
     return 0 if is_well else 1
 

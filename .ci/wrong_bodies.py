@@ -133,9 +133,9 @@ def document(found):
     stops = sum(where == "at a goal" for _, where in found.values())
     text = ["# Wrong bodies", "",
             "Each is a body that a reader might write in place of the right one, and that the check has to refuse. The gate tries",
-            f"those of each crate's `{IN_GATE}/`, and `make wrong-bodies` those of its `{LEFT_OUT}/`. One that stops inside an",
-            "answer that was written for the right body shows less of the contract than one that stops at a goal that is open or",
-            "false.", "",
+            f"those of each crate's `{IN_GATE}/`, and `make wrong-bodies` those of its `{LEFT_OUT}/`, where a crate that takes",
+            "long to check has all of them. One that stops inside an answer that was written for the right body shows less of",
+            "the contract than one that stops at a goal that is open or false.", "",
             f"Of {len(found)} wrong bodies {sum(it in gate for it in found)} are in the gate; {stops} stop at a goal. This page is written by",
             "`.ci/wrong_bodies.py`.", ""]
     for crate in crates_in_order():
