@@ -1,32 +1,45 @@
-// Wraps two calls in C++ types.
-#include <cstdio>
-#include <optional>
+// Reads the taps of a filter, such as "0.25, -0.5, .1", into Q15, and prints them as an initializer with what each is.
+#include <cstdint>
+#include <iostream>
 #include <string>
 #include <string_view>
+#include <system_error>
+#include <vector>
 
-#include "fixed.h"
+#include "fixed.hpp"
 
-namespace fixed {
+namespace {
 
-std::optional<fixed_number> read(std::string_view text, fixed_format format, uint32_t policy = FIXED_CHECKED) {
-  fixed_number number;  // the data of an empty view may be null, which is an empty text
-  if (fixed_read_text(text.data(), text.size(), 10, format, policy, FIXED_NEAREST, &number) != FIXED_OK) return std::nullopt;
-  return number;
+using namespace lomdeqash::literals;
+
+constexpr auto q15 = "Q15"_format;
+
+// Numerals with commas and blanks between them. What is not in range becomes the nearer end.
+std::vector<std::int16_t> taps_of(std::string_view text) {
+  std::vector<std::int16_t> taps;
+  const char* at = text.data();
+  const char* const end = at + text.size();
+  while (true) {
+    while (at != end && (*at == ' ' || *at == ',')) ++at;
+    if (at == end) return taps;
+    std::int16_t tap{};
+    const auto [next, error, overflowed] =
+        lomdeqash::from_chars(at, end, tap, q15, lomdeqash::radix::decimal, lomdeqash::policy::saturating);
+    if (error != lomdeqash::errc{}) throw std::system_error(error, std::string(at, end));
+    if (overflowed) std::cerr << std::string(at, next) << " is not in range\n";
+    taps.push_back(tap);
+    at = next;
+  }
 }
 
-std::string print(int64_t bits, fixed_format format) {
-  char out[FIXED_TEXT_SIZE];
-  size_t len = 0;
-  if (fixed_print_bits(bits, format, out, sizeof out, &len) != FIXED_OK) return {};
-  return std::string(out, len);
-}
+}  // namespace
 
-}  // namespace fixed
-
-int main() {
-  const fixed_format i16f16 = {1, 32, 16};
-  const auto number = fixed::read("3.14159", i16f16);
-  if (!number) return 1;
-  std::printf("%lld %s\n", static_cast<long long>(number->bits), fixed::print(number->bits, i16f16).c_str());
-  std::printf("%s\n", fixed::read({}, i16f16) ? "read" : "refused");
+int main(int argc, char** argv) {
+  try {
+    for (const std::int16_t tap : taps_of(argc > 1 ? argv[1] : "0.25, -0.5, .1, 3e-3"))
+      std::cout << tap << ",  // " << lomdeqash::to_string(tap, q15) << '\n';
+  } catch (const std::system_error& error) {
+    std::cout << error.what() << '\n';
+    return 1;
+  }
 }

@@ -1,48 +1,50 @@
-//! The library from Rust, with safe functions over two of its calls.
+//! Adds up the readings of a meter that are given as arguments, exactly, and names what is not a reading.
+use std::error::Error;
+use std::{env, fmt};
 
-#[repr(C)]
-#[derive(Clone, Copy)]
-pub struct Format {
-    is_signed: u32,
-    width: u32,
-    frac: u32,
-}
+use lomdeqash::{FixedText, Format};
 
-#[repr(C)]
-#[derive(Clone, Copy, Debug, Default, PartialEq)]
-pub struct Number {
-    bits: i64,
-    overflowed: u32,
-}
+/// Energy in kWh, in steps of 1/256.
+#[derive(Clone, Copy, Debug, Default, PartialEq, Eq, PartialOrd, Ord)]
+struct Energy(u32);
 
-extern "C" {
-    fn fixed_read_text(text: *const u8, len: usize, radix: u32, format: Format, policy: u32, mode: u32, out: *mut Number) -> u32;
-    fn fixed_print_bits(bits: i64, format: Format, out: *mut u8, size: usize, len: *mut usize) -> u32;
-}
+impl FixedText for Energy {
+    type Bits = u32;
+    const FORMAT: Format = Format::of("U24F8");
 
-/// The decimal numeral as a number of the format; the error is the code.
-pub fn read(text: &str, format: Format) -> Result<Number, u32> {
-    let mut number = Number::default();
-    // SAFETY: a str's pointer is never null, and `number` is writable
-    match unsafe { fixed_read_text(text.as_ptr(), text.len(), 10, format, 0, 0, &mut number) } {
-        0 => Ok(number),
-        code => Err(code),
+    fn from_bits(bits: u32) -> Self {
+        Energy(bits)
+    }
+
+    fn to_bits(self) -> u32 {
+        self.0
     }
 }
 
-/// The shortest decimal that reads back as the bits; the error is the code.
-pub fn print(bits: i64, format: Format) -> Result<String, u32> {
-    let mut out = [0u8; 49];
-    let mut len = 0;
-    // SAFETY: `out` has 49 writable bytes
-    match unsafe { fixed_print_bits(bits, format, out.as_mut_ptr(), out.len(), &mut len) } {
-        0 => Ok(String::from_utf8_lossy(&out[..len]).into_owned()),
-        code => Err(code),
+impl fmt::Display for Energy {
+    fn fmt(&self, f: &mut fmt::Formatter<'_>) -> fmt::Result {
+        self.number().fmt(f)
     }
 }
 
-fn main() {
-    let i16f16 = Format { is_signed: 1, width: 32, frac: 16 };
-    println!("{:?} {:?}", read("3.14159", i16f16), print(205887, i16f16));
-    println!("{:?} {:?}", read("", i16f16), read("40000", i16f16));
+impl Energy {
+    fn checked_add(self, other: Energy) -> Option<Energy> {
+        self.0.checked_add(other.0).map(Energy)
+    }
+}
+
+fn main() -> Result<(), Box<dyn Error>> {
+    let (mut total, mut most) = (Energy::default(), Energy::default());
+    for text in env::args().skip(1) {
+        match Energy::read(&text) {
+            Ok(reading) => {
+                total = total.checked_add(reading).ok_or("the total is too great")?;
+                most = most.max(reading);
+                println!("{text:>8} {reading:>10} {reading:>10.2}");
+            }
+            Err(error) => println!("{text:>8} {error}"),
+        }
+    }
+    println!("{total} kWh, at most {most}");
+    Ok(())
 }

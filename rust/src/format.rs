@@ -1,0 +1,280 @@
+//! Formats: a sign, a width and a fraction length.
+
+use core::fmt;
+use core::str::FromStr;
+
+use crate::calls::{self, Enclosure};
+use crate::error::{checked, Error, ErrorKind};
+use crate::{text, Bits, Number, Policy, Radix, Reading, Row, Text};
+
+/// A format: signed or not, from 1 to 64 bits, and how many of them are after the point.
+///
+/// A format is named in a constant, where a wrong name does not compile:
+///
+/// ```
+/// use lomdeqash::Format;
+///
+/// const I16F16: Format = Format::of("I16F16");
+/// assert_eq!((I16F16.is_signed(), I16F16.width(), I16F16.frac()), (true, 32, 16));
+/// assert_eq!(I16F16.read("3.14159")?.bits(), 205887);
+/// # Ok::<(), lomdeqash::Error>(())
+/// ```
+///
+/// ```compile_fail
+/// const WRONG: lomdeqash::Format = lomdeqash::Format::of("I16.16");
+/// ```
+///
+/// A name that comes while the program runs is parsed by the library: `"Q15".parse::<Format>()`.
+#[repr(C)]
+#[derive(Clone, Copy, PartialEq, Eq, Hash)]
+pub struct Format {
+    is_signed: u32,
+    width: u32,
+    frac: u32,
+}
+
+impl Format {
+    /// A format of `width` bits, `frac` of them after the point.
+    ///
+    /// # Errors
+    /// `BadFormat` unless the width is from 1 to 64 and `frac` at most the width.
+    pub const fn new(is_signed: bool, width: u32, frac: u32) -> Result<Format, Error> {
+        if width < 1 || width > 64 || frac > width {
+            return Err(Error::new(ErrorKind::BadFormat));
+        }
+        Ok(Format { is_signed: is_signed as u32, width, frac })
+    }
+
+    /// The format that a name says, in either case: `I16F16`, `U0F24`, `Q15` or `UQ8.8` (by ARM's counting).
+    ///
+    /// This is for constants. `parse::<Format>()` asks the library, which may know further names.
+    ///
+    /// # Errors
+    /// `BadWord`: the word does not name a format.
+    pub const fn parse(name: &str) -> Result<Format, Error> {
+        match names::shape_of(name.as_bytes()) {
+            Some((is_signed, whole, frac)) => match Format::new(is_signed, whole + frac, frac) {
+                Ok(format) => Ok(format),
+                Err(_) => Err(Error::new(ErrorKind::BadWord)),
+            },
+            None => Err(Error::new(ErrorKind::BadWord)),
+        }
+    }
+
+    /// The same for a name that is known to be right.
+    ///
+    /// # Panics
+    /// The word does not name a format. In a constant, the compiler says so.
+    pub const fn of(name: &str) -> Format {
+        match Format::parse(name) {
+            Ok(format) => format,
+            Err(_) => panic!("the word does not name a format"),
+        }
+    }
+
+    /// Whether numbers of the format may be negative.
+    pub const fn is_signed(self) -> bool {
+        self.is_signed != 0
+    }
+
+    /// The width in bits.
+    pub const fn width(self) -> u32 {
+        self.width
+    }
+
+    /// How many bits are after the point.
+    pub const fn frac(self) -> u32 {
+        self.frac
+    }
+
+    /// The name, such as `I16F16`.
+    pub fn name(self) -> Text {
+        // SAFETY: `text::written` hands over a writable buffer with its size, and a writable length
+        let name = text::written(|out, size, len| unsafe { calls::fixed_word_of_format(self, out, size, len) });
+        name.expect("a format has a name")
+    }
+
+    /// The least number of the format.
+    pub const fn min(self) -> Number {
+        Number::end(self, false)
+    }
+
+    /// The greatest number of the format.
+    pub const fn max(self) -> Number {
+        Number::end(self, true)
+    }
+
+    /// Reads a decimal numeral, rounded to the nearest with ties to even.
+    ///
+    /// # Errors
+    /// Why the text is not a numeral, or `Overflow`.
+    pub fn read(self, text: impl AsRef<[u8]>) -> Result<Number, Error> {
+        self.read_with(text, Reading::new()).map(|(number, _)| number)
+    }
+
+    /// Reads a numeral in a radix, with a policy and a mode. Returns the number, and whether it overflowed.
+    ///
+    /// # Errors
+    /// Why the text is not a numeral; with `Policy::Checked` also `Overflow`.
+    pub fn read_with(self, text: impl AsRef<[u8]>, how: impl Into<Reading>) -> Result<(Number, bool), Error> {
+        let (text, how, mut out) = (text.as_ref(), how.into(), Row::default());
+        let (radix, policy, mode) = (how.radix as u32, how.policy as u32, how.mode as u32);
+        // SAFETY: `text` is readable, and `out` writable
+        checked(unsafe { calls::fixed_read_text(text.as_ptr(), text.len(), radix, self, policy, mode, &mut out) })?;
+        Ok(out.of(self))
+    }
+
+    /// Reads a literal: a numeral that may have a prefix `0b`, `0o` or `0x`, and underscores. It is rounded to the
+    /// nearest with ties to even. Returns the number, and whether it overflowed.
+    ///
+    /// # Errors
+    /// Why the text is not a literal; with `Policy::Checked` also `Overflow`.
+    pub fn read_literal(self, text: impl AsRef<[u8]>, policy: Policy) -> Result<(Number, bool), Error> {
+        let (text, mut out) = (text.as_ref(), Row::default());
+        // SAFETY: `text` is readable, and `out` writable
+        checked(unsafe { calls::fixed_read_literal(text.as_ptr(), text.len(), self, policy as u32, &mut out) })?;
+        Ok(out.of(self))
+    }
+
+    /// Reads a numeral into this format, and rounds the number down to another. Returns the number, and whether
+    /// either overflowed.
+    ///
+    /// # Errors
+    /// Why the text is not a numeral; with `Policy::Checked` also `Overflow`.
+    pub fn read_into(
+        self,
+        target: Format,
+        text: impl AsRef<[u8]>,
+        how: impl Into<Reading>,
+    ) -> Result<(Number, bool), Error> {
+        let (text, how, mut out) = (text.as_ref(), how.into(), Row::default());
+        let (radix, policy, mode) = (how.radix as u32, how.policy as u32, how.mode as u32);
+        let (start, len) = (text.as_ptr(), text.len());
+        // SAFETY: `text` is readable, and `out` writable
+        checked(unsafe { calls::fixed_respell_text(start, len, radix, self, target, policy, mode, &mut out) })?;
+        Ok(out.of(target))
+    }
+
+    /// The numbers of the format between which a numeral's value lies: the greatest not above it, and the least not
+    /// below it.
+    ///
+    /// # Errors
+    /// Why the text is not a numeral, or `Overflow`: one of the two does not exist.
+    pub fn enclose(self, text: impl AsRef<[u8]>, radix: Radix) -> Result<(Number, Number), Error> {
+        let (text, mut out) = (text.as_ref(), Enclosure::default());
+        // SAFETY: `text` is readable, and `out` writable
+        checked(unsafe { calls::fixed_enclose_text(text.as_ptr(), text.len(), radix as u32, self, &mut out) })?;
+        Ok((Number::of_call(out.lo, self), Number::of_call(out.hi, self)))
+    }
+
+    /// The format, if integers of type `B` hold all its bits.
+    ///
+    /// # Panics
+    /// They do not. In a constant, the compiler says so.
+    #[doc(hidden)]
+    pub const fn held_by<B: Bits>(self) -> Format {
+        let is_narrower = self.width < B::WIDTH || (self.width == B::WIDTH && self.is_signed() == B::IS_SIGNED);
+        assert!(is_narrower && (B::IS_SIGNED || !self.is_signed()), "the integers do not hold the bits of the format");
+        self
+    }
+
+    /// The format of all bits of integers of type `B`, `frac` of them after the point.
+    ///
+    /// # Panics
+    /// `B` has fewer bits. In a constant, the compiler says so.
+    pub const fn of_bits<B: Bits>(frac: u32) -> Format {
+        match Format::new(B::IS_SIGNED, B::WIDTH, frac) {
+            Ok(format) => format,
+            Err(_) => panic!("more fraction bits than bits"),
+        }
+    }
+}
+
+impl FromStr for Format {
+    type Err = Error;
+
+    /// The format that a name says, by the library.
+    fn from_str(name: &str) -> Result<Format, Error> {
+        let mut format = Format { is_signed: 0, width: 1, frac: 0 };
+        // SAFETY: `name` is readable, and `format` writable
+        checked(unsafe { calls::fixed_format_of_word(name.as_ptr(), name.len(), &mut format) })?;
+        Ok(Format { is_signed: (format.is_signed != 0) as u32, ..format })
+    }
+}
+
+impl fmt::Display for Format {
+    fn fmt(&self, f: &mut fmt::Formatter<'_>) -> fmt::Result {
+        f.pad(&self.name())
+    }
+}
+
+impl fmt::Debug for Format {
+    fn fmt(&self, f: &mut fmt::Formatter<'_>) -> fmt::Result {
+        f.write_str(&self.name())
+    }
+}
+
+/// Names of formats, parsed in constants.
+mod names {
+    /// Whether the byte at `at` is a letter, in either case.
+    const fn has(name: &[u8], at: usize, letter: u8) -> bool {
+        at < name.len() && name[at].to_ascii_uppercase() == letter
+    }
+
+    /// The count at `at`, of one or two digits without a zero before others, and the index after it.
+    const fn count_at(name: &[u8], at: usize) -> Option<(u32, usize)> {
+        if at >= name.len() || !name[at].is_ascii_digit() {
+            return None;
+        }
+        let first = (name[at] - b'0') as u32;
+        if at + 1 >= name.len() || !name[at + 1].is_ascii_digit() {
+            return Some((first, at + 1));
+        }
+        match first {
+            0 => None,
+            _ => Some((first * 10 + (name[at + 1] - b'0') as u32, at + 2)),
+        }
+    }
+
+    /// The count of `letter` and a count, which end the name.
+    const fn count_after(name: &[u8], at: usize, letter: u8) -> Option<u32> {
+        if !has(name, at, letter) {
+            return None;
+        }
+        match count_at(name, at + 1) {
+            Some((count, end)) if end == name.len() => Some(count),
+            _ => None,
+        }
+    }
+
+    /// Whether a name says a signed format, its whole bits, and its fraction bits.
+    pub const fn shape_of(name: &[u8]) -> Option<(bool, u32, u32)> {
+        let is_signed = !has(name, 0, b'U');
+        let letters = if is_signed { 0 } else { 1 };
+        if has(name, letters, b'Q') {
+            return shape_of_q(name, is_signed, letters + 1);
+        }
+        if is_signed && !has(name, 0, b'I') {
+            return None;
+        }
+        match count_at(name, 1) {
+            Some((whole, at)) => match count_after(name, at, b'F') {
+                Some(frac) => Some((is_signed, whole, frac)),
+                None => None,
+            },
+            None => None,
+        }
+    }
+
+    /// The same after the letters of a Q name, from `at`. A signed format has its sign among its whole bits.
+    const fn shape_of_q(name: &[u8], is_signed: bool, at: usize) -> Option<(bool, u32, u32)> {
+        match count_at(name, at) {
+            Some((frac, end)) if is_signed && end == name.len() => Some((true, 1, frac)),
+            Some((whole, end)) if !is_signed || whole > 0 => match count_after(name, end, b'.') {
+                Some(frac) => Some((is_signed, whole, frac)),
+                None => None,
+            },
+            _ => None,
+        }
+    }
+}
