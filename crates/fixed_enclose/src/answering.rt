@@ -22,13 +22,23 @@ ghost use Rattle.fixed_respell.specs.LineWords.{HasWords, longest_line, space};
 ghost use Rattle.fixed_respell.specs.Split.{count_of};
 ghost use Rattle.fixed_write.specs.Texts.{IsShortestText, shortest_text};
 ghost use Rattle.line_engine.specs.Appended.{AppendsAnswer};
-ghost use Rattle.fixed_enclose.specs.Answer.{Asks, IsAnswer, IsFirstFault, ends_answer, task_of, verdict};
+ghost use Rattle.fixed_respell.specs.Refusal.{refusal_message};
+ghost use Rattle.run_engine.specs.Reply.{Replies};
+ghost use Rattle.fixed_enclose.specs.Answer.{
+  Asks,
+  IsAnswer,
+  IsFirstFault,
+  ends_answer,
+  fault_message,
+  task_of,
+  verdict,
+};
 
 use crate::enclosing::enclose;
 use crate::fault::EncloseFault;
 use fixed_bits::Format;
 use fixed_numeral::Radix;
-use fixed_respell::{format_word, push_fault, radix_word, split_once};
+use fixed_respell::{Refusal, format_word, push_fault, radix_word, split_once};
 use fixed_steps::Steps;
 use fixed_write::{push_integer, push_shortest};
 use line_engine::{MAX_ANSWER, MAX_LINE};
@@ -162,7 +172,31 @@ fn push_ends<const N: usize, L: Ledger>(
     push_verdict(out, exact);
 }
 
-/// Appends the answer to a line, without a newline, and answers whether it names a fault.
+/// Appends the answer to a line, without a newline; or appends nothing and returns why the line is refused.
+pub fn answer_or_refuse<const N: usize, L: Ledger>(
+    line: &[u8],
+    out: &mut TextBuffer<N>,
+    steps: &mut Steps<L>,
+) -> Option<Refusal<EncloseFault>>
+    requires room { length out.old + 192 ≤ N }
+    ensures answer { Replies IsAnswer (refusal_message fault_message) 192 line.now out.old out.new result }
+    ensures cost { steps.new ≤ steps.old + 16 * length line.now + 1248 }
+{
+    let task = match read_task(line) {
+        Ok(task) => task,
+        Err(fault) => return Some(Refusal::Line(fault)),
+    };
+    match enclose(task.numeral, task.radix, task.format, steps) {
+        Ok(ends) => {
+            let exact = is_exact(ends.lo, ends.hi);
+            push_ends(out, ends.lo, ends.hi, exact, task.format.frac(), steps);
+            None
+        }
+        Err(error) => Some(Refusal::Numeral(error)),
+    }
+}
+
+/// Appends the answer to a line, without a newline. Returns whether the line is refused.
 pub fn append_answer<const N: usize, L: Ledger>(
     line: &[u8],
     out: &mut TextBuffer<N>,
@@ -172,21 +206,10 @@ pub fn append_answer<const N: usize, L: Ledger>(
     ensures answer { AppendsAnswer IsAnswer 192 line.now out.old out.new result }
     ensures cost { steps.new ≤ steps.old + 16 * length line.now + 1248 }
 {
-    let task = match read_task(line) {
-        Ok(task) => task,
-        Err(fault) => {
-            push_fault(out, fault.words());
-            return true;
-        }
-    };
-    match enclose(task.numeral, task.radix, task.format, steps) {
-        Ok(ends) => {
-            let exact = is_exact(ends.lo, ends.hi);
-            push_ends(out, ends.lo, ends.hi, exact, task.format.frac(), steps);
-            false
-        }
-        Err(error) => {
-            push_fault(out, error.message());
+    match answer_or_refuse(line, out, steps) {
+        None => false,
+        Some(refusal) => {
+            push_fault(out, refusal.words());
             true
         }
     }

@@ -2,6 +2,8 @@
 
 ghost use Rattle.std.specs.Prelude.{◌≡◌};
 
+use fixed_respell::Fault;
+
 /// Why a line asks for no enclosure, in the order in which the faults are looked for.
 #[derive(Clone, Copy, Debug, PartialEq, Eq)]
 pub enum EncloseFault {
@@ -28,5 +30,15 @@ impl EncloseFault {
             EncloseFault::BadRadix => "bad radix",
             EncloseFault::BadFormat => "bad format",
         }
+    }
+}
+
+impl Fault for EncloseFault {
+    ghost use Rattle.fixed_enclose.specs.Answer.{fault_message};
+
+    ghost text = { fault_message };
+
+    fn report(&self) -> &'static str {
+        self.words()
     }
 }

@@ -8,6 +8,7 @@ pub mod laws;
 pub mod program;
 pub mod rule;
 
+pub use answering::append_answer;
 pub use enclosing::{Enclosure, enclose};
 pub use fault::EncloseFault;
 pub use program::run_enclose;

@@ -12,7 +12,8 @@ ghost use Rattle.fixed_enclose.specs.Answer.{IsAnswer, usage_line};
 
 use crate::rule::EncloseRule;
 use fixed_steps::Steps;
-use line_engine::{MAX_LIMIT, Sink, Source, Status, run_lines, write_text};
+use line_engine::{MAX_LIMIT, Sink, Source, Status, write_text};
+use run_engine::run_lines;
 use std::alloc::Global;
 use std::sync::ledger::Ledger;
 

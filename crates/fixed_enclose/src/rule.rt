@@ -4,9 +4,12 @@ ghost use Rattle.std.proofs.Common.{lit<};
 ghost use Rattle.fixed_enclose.specs.Answer.{IsAnswer};
 ghost use Rattle.fixed_enclose.specs.Lemmas.AnswerLemmas.{answer_one, long_by_its_prefix};
 
-use crate::answering::append_answer;
+use crate::answering::answer_or_refuse;
+use crate::fault::EncloseFault;
+use fixed_respell::Refusal;
 use fixed_steps::Steps;
-use line_engine::{LineRule, MAX_ANSWER, Output};
+use line_engine::{MAX_ANSWER, Output};
+use run_engine::{LineRule, Rule};
 use std::sync::ledger::Ledger;
 
 /// The rule that answers a line `RADIX FORMAT NUMERAL`: with the line's first fault; else with the fault for which its
@@ -15,7 +18,9 @@ use std::sync::ledger::Ledger;
 #[derive(Clone, Copy, Debug, PartialEq, Eq)]
 pub struct EncloseRule;
 
-impl<L: Ledger> LineRule<L> for EncloseRule {
+impl<L: Ledger> Rule<L> for EncloseRule {
+    type Cause = Refusal<EncloseFault>;
+
     const PER_BYTE: u64 = 16;
 
     const EXTRA: u64 = 1248;
@@ -30,13 +35,20 @@ impl<L: Ledger> LineRule<L> for EncloseRule {
 
     ghost Answers = { λ rule. IsAnswer };
 
-    fn answer(&self, line: &[u8], out: &mut Output, steps: &mut Steps<L>) -> bool {
-        append_answer(line, out, steps)
+    fn answer(
+        &self,
+        line: &[u8],
+        out: &mut Output,
+        steps: &mut Steps<L>,
+    ) -> Option<Refusal<EncloseFault>> {
+        answer_or_refuse(line, out, steps)
     }
 
     ghost room_law = { lit< tt };
 
     ghost one_law = { λ rule. answer_one };
+}
 
+impl<L: Ledger> LineRule<L> for EncloseRule {
     ghost kept_law = { λ rule. long_by_its_prefix };
 }

@@ -8,6 +8,35 @@ use Rattle.line_engine.specs.RunLaws.{OutputIsTheOne, WholeOutputIsTheOne}
 use Rattle.line_engine.proofs.AnsweredLemmas
 use Rattle.line_engine.proofs.LineLemmas
 use Rattle.line_engine.proofs.RunLawLemmas
+-- what the engines above share
+pub use Rattle.line_engine.proofs.AnsweredLemmas.{bytes_in-append}
+pub use Rattle.line_engine.proofs.AskedLemmas.{AskedSoFar, so_far_more, so_far_none, so_far_within}
+pub use Rattle.line_engine.proofs.ChunkLemmas.{
+  ended_lines_line,
+  ended_lines_quiet,
+  kept_unended,
+  none_kept,
+  nothing_kept,
+  one_last,
+  part_kept,
+  take_kept,
+  ten,
+  unended_line,
+  unended_quiet,
+  whole_part,
+}
+pub use Rattle.line_engine.proofs.CompleteLemmas.{complete, part_of_output}
+pub use Rattle.line_engine.proofs.LineLemmas.{
+  ended_lines-append,
+  ended_lines-quiet_cons,
+  ended_newline,
+  ended_other,
+  unended-append,
+  unended_newline,
+  unended_other,
+}
+pub use Rattle.line_engine.proofs.PrefixLemmas.{part_first}
+pub use Rattle.line_engine.proofs.TakenLemmas.{Consumes-kept, Consumes-none, all_taken, few_taken}
 
 -- ---- answers to lines, and to the lines after them
 pub AreAnswers-append : (A : List ℕ → AnswerText → Type 0) (lines more : List (List ℕ)) (replies others : List AnswerText) → AreAnswers A lines replies → AreAnswers A more others → AreAnswers A (lines ++ more) (replies ++ others)

@@ -1,21 +1,24 @@
 //! One read of an input: how much is asked for, and into which part of a chunk.
 
-ghost use Rattle.std.specs.Prelude.{◌≡◌, ◌≤◌, ◌<◌, ◌+◌, length, take, IfOk, OnErr};
+ghost use Rattle.std.specs.Prelude.{◌≡◌, ◌≤◌, ◌<◌, ◌+◌, ◌^◌, length, take, IfOk, OnErr};
 ghost use Rattle.std.specs.Io.KnownBytes.{Consumes, IsAtEnd, Keeps};
 ghost use Rattle.line_engine.specs.Asked.{HasAsked, longest_chunk};
 ghost use Rattle.line_engine.specs.Failures.{FailsOnlyCounted};
 
 use crate::{Failed, Source};
 
-/// How many bytes an input has at most, whatever the limit: the greatest limit.
+/// The greatest limit, in bytes, of an input that is read whole, and of what a program's arguments name.
 pub const MAX_LIMIT: u64 = 4_294_967_296;
+
+/// The limit, in bytes, of lines that have none: 2^62, more than any input has.
+pub const NO_LIMIT: u64 = 4_611_686_018_427_387_904;
 
 /// How many bytes are read at a time at most.
 pub const CHUNK: usize = 4096;
 
 /// How many bytes are asked for next, with this many of the limit taken.
 pub(crate) fn next_room(limit: u64, taken: u64) -> usize
-    requires limit { limit ≤ 4294967296 }
+    requires limit { limit ≤ 2 ^ 62 }
     requires taken { taken ≤ limit }
     ensures some { 0 < result }
     ensures chunk { result ≤ longest_chunk }

@@ -1,6 +1,6 @@
 //! The line engine: lines in, answers out, whatever the rule that answers.
 
-ghost use Rattle.std.specs.Prelude.{◌≡◌, ◌≤◌, ◌<◌, ◌⊎◌, List, ℕ, Some, [], length, false};
+ghost use Rattle.std.specs.Prelude.{◌≡◌, ◌≤◌, ◌<◌, ◌^◌, ◌⊎◌, List, ℕ, Some, [], length, false};
 ghost use Rattle.line_engine.specs.Asked.{AskedWithin};
 ghost use Rattle.line_engine.specs.Failures.{HasFailed};
 ghost use Rattle.line_engine.specs.Lines.{kept_length, last_line, lines};
@@ -10,7 +10,7 @@ ghost use Rattle.line_engine.specs.Inner.Progress.{EndsLines, IsKept, state};
 ghost use Rattle.line_engine.specs.AnswerText.{AnswerText};
 ghost use Rattle.line_engine.specs.Run.{HasFailures, HasRun, Spends};
 
-use crate::chunk::{CHUNK, MAX_LIMIT, next_room, read_prefix};
+use crate::chunk::{CHUNK, next_room, read_prefix};
 use crate::line_buffer::LineBuffer;
 use crate::output::Output;
 use crate::splitter::LineSplitter;
@@ -54,7 +54,7 @@ fn answer_lines<R: LineRule<L>, S: Source, K: Sink, L: Ledger>(
     sink: &mut K,
     steps: &mut Steps<L>,
 ) -> Status
-    requires limit { limit ≤ 4294967296 }
+    requires limit { limit ≤ 2 ^ 62 }
     requires line { splitter.line ≡ [] }
     requires fault { splitter.has_fault ≡ false }
     ensures run { HasRun (R.Answers rule.now) limit (S.left source.old) (S.left source.new) (K.written sink.old)
@@ -93,7 +93,7 @@ fn answer_lines<R: LineRule<L>, S: Source, K: Sink, L: Ledger>(
 /// part of it; the rule is given its first 1,048,577 bytes. What follows the last newline is a line where it isn't
 /// empty.
 ///
-/// The limit is in bytes, from 1 to 4,294,967,296.
+/// The limit is in bytes, from 1 to 2^62.
 pub fn run_lines<R: LineRule<L>, S: Source, K: Sink, L: Ledger>(
     alloc: Global,
     limit: u64,
@@ -103,7 +103,7 @@ pub fn run_lines<R: LineRule<L>, S: Source, K: Sink, L: Ledger>(
     steps: &mut Steps<L>,
 ) -> Status
     requires some { 1 ≤ limit }
-    requires most { limit ≤ 4294967296 }
+    requires most { limit ≤ 2 ^ 62 }
 
     // What was taken and what was written, by status.
     ensures run { HasRun (R.Answers rule.now) limit (S.left source.old) (S.left source.new) (K.written sink.old)

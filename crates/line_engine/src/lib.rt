@@ -28,10 +28,10 @@ pub mod whole_rule;
 pub mod writing;
 
 pub use answer::{Answer, MAX_ANSWER};
-pub use chunk::MAX_LIMIT;
+pub use chunk::{MAX_LIMIT, NO_LIMIT};
 pub use device::{Failed, Sink, Source};
 pub use engine::run_lines;
-pub use line_buffer::MAX_LINE;
+pub use line_buffer::{LineBuffer, MAX_LINE};
 pub use memory::{MemorySink, MemorySource};
 pub use memory_run::{MemoryProgram, MemoryRun, NEVER};
 pub use output::{OUTPUT_BUFFER, Output};

@@ -1,14 +1,12 @@
-use Rattle.std.proofs.Common.{◌≡◌, ◌≤◌, ◌++◌, ◌↔◌, IsTrue, List, ℕ, ℤ, FitsSigned, inr, inl, refl, rules, arith, ap, length, length-append}
+use Rattle.std.proofs.Common.{◌≡◌, ◌≤◌, ◌++◌, ◌↔◌, IsTrue, List, [], ℕ, ℤ, FitsSigned, inr, inl, refl, rules, arith, ap, append-nil, codes, length, length-append, sym}
 use Rattle.std.specs.Int.{w128}
 use Rattle.std.proofs.lemmas.Int.{to_z-of_z}
 use Rattle.fixed_bits.proofs.Public.{width_most}
 use Rattle.fixed_write.specs.Texts.{IsShortestText, shortest_text}
 use Rattle.fixed_numeral.specs.Messages.{message_of}
-use Rattle.fixed_respell.specs.Language.{fault_answer}
 use Rattle.fixed_numeral.proofs.Public.{message_short}
-use Rattle.fixed_respell.proofs.Public.{fault_appended}
-use Rattle.fixed_enclose.specs.Answer.{IsAnswer, ends_answer, task_of}
-use Rattle.fixed_enclose.proofs.answering.append_answer.Goals as goal
+use Rattle.fixed_enclose.specs.Answer.{ends_answer, task_of}
+use Rattle.fixed_enclose.proofs.answering.answer_or_refuse.Goals as goal
 
 pub push_ends-requires : goal.push_ends-requires
 push_ends-requires g c =
@@ -52,16 +50,25 @@ returns-in-Ok-enclose-clause-answer g c =
         });
       });
       appended = appended;
+      none = tt;
       short = omega (arith, c.push_ends.ensures.short, ap length appended, length-append c.args.out.now text);
     }
+
+short : (message : List ℕ) → length message ≤ 64 → length (codes "error: " ++ message) ≤ 192
+short message few = omega (arith, length-append (codes "error: ") message)
 
 pub returns-in-Err-enclose-clause-answer : goal.returns-in-Err-enclose-clause-answer
 returns-in-Err-enclose-clause-answer g c =
     let t = c.in-Ok.task in
     let refused = c.in-Err-enclose in
-    let answer : IsAnswer c.args.line.now (fault_answer (message_of refused.error)) = inr (record {
-      task = task_of t.radix t.format t.numeral.now;
-      asks = c.in-Ok.ensures.task;
-      answered = inl (record { kind = refused.error; refusal = refused.ensures.refused; answer_is = refl });
-    }) in
-    fault_appended IsAnswer c.args.line.now c.args.out.now c.push_fault-in-Err-enclose.new.out (message_of refused.error) (message_short refused.error) answer (rw c.message.ensures at c.push_fault-in-Err-enclose.ensures)
+    record {
+      text = [];
+      answer = inr (record {
+        task = task_of t.radix t.format t.numeral.now;
+        asks = c.in-Ok.ensures.task;
+        answered = inl (record { kind = refused.error; refusal = refused.ensures.refused; answer_is = refl });
+      });
+      appended = sym (append-nil c.args.out.now);
+      none = refl;
+      short = short (message_of refused.error) (message_short refused.error);
+    }

@@ -1,0 +1,10 @@
+-- What no other crate can name
+mod LineCountLemmas
+mod LineRunLemmas
+mod LineStatusLemmas
+mod MachineLemmas
+mod PieceLemmas
+mod PutLemmas
+mod RefusedLemmas
+mod RunLawLemmas
+mod RunLemmas

@@ -1,0 +1,45 @@
+-- What an observer keeps of the refused lines.
+use Rattle.std.proofs.Common.{◌≡◌, ◌≤◌, ◌∙◌, ℕ, List, [], ◌∷◌, Option, Some, None, ap, arith, refl, subst, sym, take}
+use Rattle.std.proofs.lemmas.List.{take-take}
+use Rattle.line_engine.specs.Lines.{kept_length}
+use Rattle.run_engine.specs.LineRun.{Tells, one_more}
+use Rattle.run_engine.specs.Refused.{Counts, KeepsTheFirst, first_of, first_or, refused_line, refused_of}
+use Rattle.run_engine.specs.declared.refusals.RefusedLine.{RefusedLine}
+use Rattle.run_engine.specs.declared.refusals.Refusals.{Refusals}
+
+-- a prefix of what is kept is that prefix
+prefix_as : (m n : ℕ) (told line : List ℕ) → m ≤ n → take n told ≡ take n line → take m told ≡ take m line
+prefix_as m n told line few same = sym (take-take m n told few) ∙ ap (λ l. take m l) same ∙ take-take m n line few
+
+told_as : (told line : List ℕ) → take kept_length told ≡ take kept_length line → take 160 told ≡ take 160 line
+told_as told line = prefix_as 160 kept_length told line (omega arith)
+
+module _ {C : Type 0} where
+  -- the first of some lines, and of those after a refused one
+  first_stays : (first : Option (RefusedLine C)) (line : RefusedLine C) (next : Option (RefusedLine C)) → first_or (first_or first (Some line)) next ≡ first_or first (Some line)
+  first_stays None line next = refl
+  first_stays (Some first) line next = refl
+
+  pub keeps : (watch : Refusals C) → KeepsTheFirst watch
+  keeps watch count total [] [] last saw = (ap (λ (w : Refusals C). w.count) saw.0, ap (λ (w : Refusals C). w.first) saw.0 ∙ none watch.first)
+    where
+      none : (first : Option (RefusedLine C)) → first ≡ first_or first None
+      none None = refl
+      none (Some first) = refl
+  keeps watch count total [] (cause ∷ causes) last saw = absurd saw
+  keeps watch count total (line ∷ lines) [] last saw = absurd saw
+  keeps watch count total (line ∷ lines) (None ∷ causes) last saw =
+      let then = saw.0 in
+      let same : then ≡ watch = saw.1.saw in
+      subst (λ (w : Refusals C). (last.count ≡ refused_of w.count causes) × (last.first ≡ first_or w.first (first_of (one_more count) lines causes))) same
+      (keeps then (one_more count) total lines causes last saw.2)
+  keeps watch count total (line ∷ lines) (Some cause ∷ causes) last saw =
+      let then = saw.0 in
+      let tells : Tells Counts watch (one_more count) line (Some cause) then = saw.1 in
+      let rest = keeps then (one_more count) total lines causes last saw.2 in
+      let kept : refused_line (one_more count) tells.told cause ≡ refused_line (one_more count) line cause
+      = ap (λ l. record { number = one_more count; line = l; cause = cause }) (told_as tells.told line tells.is) in
+      let first : then.first ≡ first_or watch.first (Some (refused_line (one_more count) line cause)) = tells.saw.1 ∙ ap (λ r. first_or watch.first (Some r)) kept in (
+        rest.0 ∙ ap (λ n. refused_of n causes) tells.saw.0,
+        rest.1 ∙ ap (λ f. first_or f (first_of (one_more count) lines causes)) first ∙ first_stays watch.first (refused_line (one_more count) line cause) (first_of (one_more count) lines causes),
+      )

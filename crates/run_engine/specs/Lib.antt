@@ -1,0 +1,11 @@
+pub mod Inner
+pub mod Lemmas
+pub mod LineRun
+pub mod LineStatus
+pub mod Machines
+pub mod Reply
+pub mod Run
+pub mod RunLaws
+pub mod Seen
+pub mod Refused
+pub mod Pieces

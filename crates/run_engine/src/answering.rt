@@ -1,0 +1,45 @@
+//! The answer of a rule to a line, of which an observer is told.
+
+ghost use Rattle.std.specs.Prelude.{◌≡◌, ◌≤◌, ◌+◌, ◌*◌, ◌++◌, codes, length};
+ghost use Rattle.run_engine.specs.LineRun.{AnswersLine};
+
+use crate::rule::{Cause, Rule};
+use crate::watch::Watch;
+use fixed_steps::Steps;
+use line_engine::Output;
+use std::sync::ledger::Ledger;
+
+/// Appends `error: ` and the message of a cause.
+#[cold]
+fn push_cause<C: Cause>(cause: &C, out: &mut Output)
+    requires { length out.old + length (codes "error: " ++ C.message cause.now) ≤ 8192 }
+    ensures { out.new ≡ out.old ++ (codes "error: " ++ C.message cause.now) }
+{
+    out.push_bytes(b"error: ");
+    cause.push_message(out);
+}
+
+/// Appends a rule's answer to a line, or `error: ` and the message of the cause for which it is refused, without a
+/// newline, and tells the observer. Returns whether the line is refused.
+#[inline]
+pub fn answer_one<R: Rule<L>, W: Watch<R::Cause>, L: Ledger>(
+    rule: &R,
+    line: &[u8],
+    number: u64,
+    watch: &mut W,
+    out: &mut Output,
+    steps: &mut Steps<L>,
+) -> bool
+    requires room { length out.old + R.MAX_ANSWER ≤ 8192 }
+    ensures answers { AnswersLine (R.Answers rule.now) R.Cause.message W.Saw line.now number watch.old watch.new
+        out.old out.new result }
+    ensures room { length out.new ≤ length out.old + R.MAX_ANSWER }
+    ensures cost { steps.new ≤ steps.old + R.PER_BYTE * length line.now + R.EXTRA }
+{
+    let cause = rule.answer(line, out, steps);
+    if let Some(why) = &cause {
+        push_cause(why, out);
+    }
+    watch.see(number, line, &cause);
+    cause.is_some()
+}

@@ -1,0 +1,104 @@
+//! A run over the lines of a source, into a sink.
+
+ghost use Rattle.std.specs.Prelude.{◌≡◌, ◌≤◌, ◌<◌, ◌⊎◌, ◌^◌, List, ℕ, Some, length};
+ghost use Rattle.line_engine.specs.Asked.{AskedWithin};
+ghost use Rattle.line_engine.specs.Failures.{HasFailed};
+ghost use Rattle.line_engine.specs.Lines.{lines};
+ghost use Rattle.line_engine.specs.Output.{AreAnswers, AppendsPrefix, WritesOutput, written_of};
+ghost use Rattle.line_engine.specs.AnswerText.{AnswerText};
+ghost use Rattle.line_engine.specs.Run.{HasFailures, HasRun, Spends};
+ghost use Rattle.run_engine.specs.LineStatus.{IsStatus};
+
+use crate::engine::{End, run};
+use crate::gathered::Gathered;
+use crate::lines::Lines;
+use crate::pieces::Cut;
+use crate::rule::LineRule;
+use crate::streams::Devices;
+use fixed_steps::Steps;
+use line_engine::{Sink, Source, Status};
+use std::alloc::Global;
+use std::convert::Infallible;
+use std::sync::ledger::Ledger;
+
+/// The status of a run over lines that ended so.
+fn status_of(end: End<Infallible>) -> Status
+    ensures { IsStatus end result }
+{
+    match end {
+        End::Done => Status::Done,
+        End::Faults => Status::Faults,
+        End::ReadFault => Status::ReadFault,
+        End::WriteFault => Status::WriteFault,
+        End::TooLong => Status::TooLong,
+        End::NoMemory => Status::NoMemory,
+        End::Stopped(never) => match never {},
+    }
+}
+
+/// Has each line of a source answered by a rule, and writes each answer and a newline to a sink.
+///
+/// Takes memory for one line buffer of 1,048,577 bytes, and returns `NoMemory` if that fails; takes none afterwards.
+/// Each read asks for at most 4,096 bytes, and for at most limit + 1 bytes less those already taken. The answers of the
+/// lines that ended in a chunk are written before the next chunk is read. `Lines` says what a line is.
+///
+/// The limit is in bytes, at most 2^62.
+pub fn run_lines<R: LineRule<L> + Copy, S: Source, K: Sink, L: Ledger>(
+    alloc: Global,
+    limit: u64,
+    rule: &R,
+    source: &mut S,
+    sink: &mut K,
+    steps: &mut Steps<L>,
+) -> Status
+    requires most { limit ≤ 2 ^ 62 }
+
+    // What was taken and what was written, by status.
+    ensures run { HasRun (R.Answers rule.now) limit (S.left source.old) (S.left source.new) (K.written sink.old)
+        (K.written sink.new) result }
+
+    // Which count of failures rose, by status.
+    ensures failures { HasFailures (S.failures source.old) (S.failures source.new) (K.failures sink.old)
+        (K.failures sink.new) result }
+
+    // With no count risen, an input within the limit is answered whole, and the status says whether a line was refused;
+    // or there was no memory.
+    ensures output { (input : List ℕ) → S.left source.old ≡ Some input → length input ≤ limit
+        → ¬ HasFailed (S.failures source.old) (S.failures source.new)
+        → ¬ HasFailed (K.failures sink.old) (K.failures sink.new)
+        → (result ≡ Status.NoMemory)
+        ⊎ WritesOutput (R.Answers rule.now) input (K.written sink.old) (K.written sink.new) result }
+
+    // A longer input is reported as too long.
+    ensures too_long { (input : List ℕ) → S.left source.old ≡ Some input → limit < length input
+        → ¬ HasFailed (S.failures source.old) (S.failures source.new)
+        → ¬ HasFailed (K.failures sink.old) (K.failures sink.new)
+        → (result ≡ Status.NoMemory) ⊎ (result ≡ Status.TooLong) }
+
+    // If a write failed, a prefix of the whole output was written.
+    ensures prefix_on_write_fault { result ≡ Status.WriteFault → (input : List ℕ) (replies : List AnswerText)
+        → S.left source.old ≡ Some input
+        → AreAnswers (R.Answers rule.now) (lines input) replies
+        → AppendsPrefix (K.written sink.old) (K.written sink.new) (written_of replies) }
+
+    // How many bytes were taken, and how many steps.
+    ensures cost { Spends limit R.PER_BYTE R.EXTRA (S.left source.old) (S.left source.new) steps.old steps.new }
+
+    // What the source was asked for: no read asked for more than limit + 1 bytes less those taken, or for more than
+    // 4,096.
+    ensures asked { AskedWithin limit (S.asked source.old) (S.asked source.new) }
+
+    // Nothing was read or written.
+    ensures memory { result ≡ Status.NoMemory
+        → (source.new ≡ source.old) × (sink.new ≡ sink.old) × (steps.new ≡ steps.old) }
+{
+    match Lines::new(alloc, *rule, ()) {
+        Err(_) => Status::NoMemory,
+        Ok(lines) => {
+            let mut lines = Cut(lines);
+            let mut out = Gathered::new(Devices { source, sink });
+            let end = run(&mut lines, limit, &mut out, steps);
+            status_of(end)
+        }
+    }
+}

@@ -1,0 +1,65 @@
+//! What answers a line.
+
+ghost use Rattle.std.specs.Prelude.{◌≡◌, ◌+◌, ◌*◌, ◌≤◌, ◌<◌, ◌++◌, ◌↔◌, ℕ, List, length, take};
+ghost use Rattle.line_engine.specs.AnswerText.{AnswerText};
+ghost use Rattle.line_engine.specs.Lines.{kept_length};
+ghost use Rattle.run_engine.specs.Reply.{Replies};
+
+use fixed_steps::Steps;
+use line_engine::Output;
+use std::sync::ledger::Ledger;
+
+/// Why a line is refused.
+pub trait Cause {
+    /// The message.
+    ghost message: { Self → List ℕ };
+
+    /// Appends the message.
+    fn push_message(&self, out: &mut Output)
+        requires room { length out.old + length (message self.now) ≤ 8192 }
+        ensures { out.new ≡ out.old ++ message self.now };
+}
+
+/// A rule that answers lines. Its meaning is a relation of a line and its one answer.
+pub trait Rule<L: Ledger> {
+    /// Why a line may be refused.
+    type Cause: Cause + Drop;
+
+    /// The most steps that an answer takes for each byte of its line.
+    const PER_BYTE: u64;
+
+    /// The most steps that an answer takes beside those for the bytes.
+    const EXTRA: u64;
+
+    /// The most bytes that an answer has, or `error: ` and a message, without the newline: at most 8,191.
+    const MAX_ANSWER: usize;
+
+    ghost PER_BYTE: { ℕ };
+
+    ghost EXTRA: { ℕ };
+
+    ghost MAX_ANSWER: { ℕ };
+
+    /// The rule's meaning: whether a text with its flag is the answer to a line.
+    ghost Answers: { Self → List ℕ → AnswerText → Type 0 };
+
+    /// Appends the answer to a line, without a newline; or appends nothing and returns why the line is refused.
+    fn answer(&self, line: &[u8], out: &mut Output, steps: &mut Steps<L>) -> Option<Self::Cause>
+        requires room { length out.old + MAX_ANSWER ≤ 8192 }
+        ensures answer { Replies (Answers self.now) Self.Cause.message MAX_ANSWER line.now out.old out.new result }
+        ensures cost { steps.new ≤ steps.old + PER_BYTE * length line.now + EXTRA };
+
+    /// An answer and its newline fit the buffer.
+    ghost room_law: { MAX_ANSWER < 8192 };
+
+    /// A line has at most one answer.
+    ghost one_law: { (rule : Self) (line : List ℕ) (a b : AnswerText) → Answers rule line a → Answers rule line b
+        → a ≡ b };
+}
+
+/// A rule that needs only the bytes of a line that are kept.
+pub trait LineRule<L: Ledger>: Rule<L> {
+    /// A line that is longer than what is kept is answered like the prefix that is kept.
+    ghost kept_law: { (rule : Self) (line : List ℕ) (reply : AnswerText) → kept_length < length line
+        → (Self.Answers rule (take kept_length line) reply ↔ Self.Answers rule line reply) };
+}
