@@ -11,7 +11,7 @@
  * processor runs the library, and a call takes less than FIXED_STACK_SIZE bytes of stack.
  *
  * Each call returns a code, FIXED_OK or what was wrong first: its arguments are tested first, in the order of the codes from 11
- * on, then the text (1 to 9), then whether the number fits (10), and the room for what is written (17) last. With any other code
+ * on, then the text (1 to 9) or whether a float is finite (27), then whether the number fits (10), and the room for what is written (17) last. With any other code
  * than FIXED_OK and FIXED_NO_ROOM a call writes nothing. fixed_abi and fixed_version alone return what they are asked for.
  *
  * A numeral is an optional sign, digits of the radix with at most one point among them, and at least one digit; and after these
@@ -30,9 +30,9 @@
 
 /* The version of the library that this file came with. */
 #define FIXED_VERSION_MAJOR 1
-#define FIXED_VERSION_MINOR 0
+#define FIXED_VERSION_MINOR 1
 #define FIXED_VERSION_PATCH 0
-#define FIXED_VERSION_STRING "1.0.0"
+#define FIXED_VERSION_STRING "1.1.0"
 #define FIXED_VERSION (FIXED_VERSION_MAJOR * 10000 + FIXED_VERSION_MINOR * 100 + FIXED_VERSION_PATCH)
 
 #ifdef __cplusplus
@@ -60,8 +60,19 @@ typedef struct {
 /* What is done with a number that its format does not hold: it is refused, becomes the nearer end, or loses its high bits. */
 enum fixed_policy { FIXED_CHECKED = 0, FIXED_SATURATING = 1, FIXED_WRAPPING = 2 };
 
-/* How a number between two numbers of a format is rounded: to the nearest with ties to even, down, up, towards zero. */
-enum fixed_mode { FIXED_NEAREST = 0, FIXED_FLOOR = 1, FIXED_CEIL = 2, FIXED_ZERO = 3 };
+/* How a number between two numbers of a format is rounded: to the nearest with ties to even, down, up, towards zero; to the
+ * nearest with ties away from zero, towards zero, up, down; away from zero. */
+enum fixed_mode {
+  FIXED_NEAREST = 0,
+  FIXED_FLOOR = 1,
+  FIXED_CEIL = 2,
+  FIXED_ZERO = 3,
+  FIXED_TIES_AWAY = 4,
+  FIXED_TIES_ZERO = 5,
+  FIXED_TIES_UP = 6,
+  FIXED_TIES_DOWN = 7,
+  FIXED_AWAY = 8
+};
 
 /* Which whole number a number is rounded to: the least not below it, the greatest not above it, the nearest with ties away from
  * zero, the nearest with ties to even, the nearest that is not farther from zero. */
@@ -74,16 +85,32 @@ enum fixed_notation { FIXED_DECIMAL = 0, FIXED_LOWER_EXPONENT = 1, FIXED_UPPER_E
                       FIXED_LOWER_HEX = 5, FIXED_UPPER_HEX = 6 };
 enum fixed_align { FIXED_LEFT = 0, FIXED_CENTER = 1, FIXED_RIGHT = 2 };
 
+/* The type of an argument that is one of these constants: in C their enum, so that exchanged arguments are a warning of
+ * -Wenum-conversion (on in clang, and by -Wextra in gcc); in C++, and in C where FIXED_PLAIN_ARGUMENTS is defined before this file is
+ * included, uint32_t. A call is the same in either case, since these enums have 4 bytes; with -fshort-enums they have fewer, so that
+ * C wants FIXED_PLAIN_ARGUMENTS. Any other number is refused as before. */
+#if defined(__cplusplus) || defined(FIXED_PLAIN_ARGUMENTS)
+#define FIXED_ENUM(name) uint32_t
+#else
+#define FIXED_ENUM(name) enum name
+typedef char fixed_enums_have_4_bytes[sizeof(enum fixed_policy) == 4 && sizeof(enum fixed_mode) == 4 &&
+                                      sizeof(enum fixed_rounding) == 4 ? 1 : -1];
+#endif
+
 /* A precision of as many places as a number needs: the shortest decimal, or in radix 2, 8 and 16 the exact value. */
 #define FIXED_NO_PRECISION 0xFFFFFFFFu
 
 /* A style: a notation; a precision of 0 to 65535 digits after the point, rounded to the nearest with ties to even, or
  * FIXED_NO_PRECISION; the least number of characters, 0 to 65535; the character that fills the field up to it, a Unicode scalar value,
- * which is written in UTF-8; an alignment; and three flags, set where they are not 0: a `+` before a number that is not negative, a
- * prefix `0b`, `0o` or `0x`, and zeros after sign and prefix in place of fill and alignment. */
+ * which is written in UTF-8, or 0 for a blank; an alignment; and three flags, set where they are not 0: a `+` before a number that is
+ * not negative, a prefix `0b`, `0o` or `0x`, and zeros after sign and prefix in place of fill and alignment. */
 typedef struct {
   uint32_t notation, precision, width, fill, align, plus, prefix, zero_pad;
 } fixed_style;
+
+/* The style of fixed_print_bits, to the right in a field of blanks where a width is set: `fixed_style style = FIXED_STYLE_DEFAULT;`.
+ * A style of zeros is another, of precision 0 and to the left. */
+#define FIXED_STYLE_DEFAULT { FIXED_DECIMAL, FIXED_NO_PRECISION, 0, ' ', FIXED_RIGHT, 0, 0, 0 }
 
 enum fixed_code {
   FIXED_OK = 0,
@@ -116,7 +143,8 @@ enum fixed_code {
   FIXED_BAD_NOTATION = 23,
   FIXED_BAD_WIDTH = 24, /* more than 65535 */
   FIXED_BAD_FILL = 25,  /* not a Unicode scalar value */
-  FIXED_BAD_ALIGN = 26
+  FIXED_BAD_ALIGN = 26,
+  FIXED_NOT_FINITE = 27 /* the double or float is an infinity or a NaN */
 };
 
 /* Sizes that are always enough, the zero byte included; and more stack than any call takes. Where
@@ -124,18 +152,19 @@ enum fixed_code {
 enum { FIXED_TEXT_SIZE = 49, FIXED_PLACES_SIZE = 87, FIXED_ANSWER_SIZE = 193, FIXED_MESSAGE_SIZE = 48, FIXED_WORD_SIZE = 9, FIXED_STACK_SIZE = 8192 };
 
 /* text[0..len), a numeral in a radix of 2, 8, 10 or 16, as a number of a format. */
-uint32_t fixed_read_text(const char *text, size_t len, uint32_t radix, fixed_format format, uint32_t policy, uint32_t mode,
-                         fixed_number *out);
+uint32_t fixed_read_text(const char *text, size_t len, uint32_t radix, fixed_format format,
+                         FIXED_ENUM(fixed_policy) policy, FIXED_ENUM(fixed_mode) mode, fixed_number *out);
 
 /* The shortest decimal that reads back as the bits, and a zero byte; *len is its length, at most 48. */
 uint32_t fixed_print_bits(int64_t bits, fixed_format format, char *out, size_t size, size_t *len);
 
 /* Bits of one format as those of the greatest number not above it in another. */
-uint32_t fixed_convert_bits(int64_t bits, fixed_format source, fixed_format target, uint32_t policy, fixed_number *out);
+uint32_t fixed_convert_bits(int64_t bits, fixed_format source, fixed_format target, FIXED_ENUM(fixed_policy) policy,
+                            fixed_number *out);
 
 /* text[0..len) read into the source format, and then converted to the target format. */
 uint32_t fixed_respell_text(const char *text, size_t len, uint32_t radix, fixed_format source, fixed_format target,
-                            uint32_t policy, uint32_t mode, fixed_number *out);
+                            FIXED_ENUM(fixed_policy) policy, FIXED_ENUM(fixed_mode) mode, fixed_number *out);
 
 /* *order is -1, 0 or 1, as the value of a is less than that of b, equal to it, or greater. */
 uint32_t fixed_compare_bits(int64_t a, fixed_format a_format, int64_t b, fixed_format b_format, int32_t *order);
@@ -153,17 +182,23 @@ uint32_t fixed_message(uint32_t code, char *out, size_t size, size_t *len);
 /* Bits rounded to this many decimal places, 0 to 64, ties to even, and a zero byte; *len is the text's length, at most 86. */
 uint32_t fixed_print_places(int64_t bits, fixed_format format, uint32_t places, char *out, size_t size, size_t *len);
 
+/* The same, rounded in a mode. */
+uint32_t fixed_print_places_mode(int64_t bits, fixed_format format, uint32_t places, uint32_t mode, char *out, size_t size,
+                                 size_t *len);
+
 /* Bits rounded to a whole number, as bits of the same format. */
-uint32_t fixed_round_bits(int64_t bits, fixed_format format, uint32_t rounding, uint32_t policy, fixed_number *out);
+uint32_t fixed_round_bits(int64_t bits, fixed_format format, FIXED_ENUM(fixed_rounding) rounding,
+                          FIXED_ENUM(fixed_policy) policy, fixed_number *out);
 
 /* Bits of one format as those of another, rounded in a mode. */
-uint32_t fixed_convert_bits_mode(int64_t bits, fixed_format source, fixed_format target, uint32_t policy, uint32_t mode,
-                                 fixed_number *out);
+uint32_t fixed_convert_bits_mode(int64_t bits, fixed_format source, fixed_format target,
+                                 FIXED_ENUM(fixed_policy) policy, FIXED_ENUM(fixed_mode) mode, fixed_number *out);
 
 /* text[0..len), a literal, as a number of a format, rounded to the nearest with ties to even. A literal is a numeral that may have
  * a `-` where the format is signed and no `+`, after it 0b, 0o or 0x for a radix of 2, 8 or 16, else 10, and underscores after these
  * and after a digit of their part: "-0x1f.8", "1_000.25". */
-uint32_t fixed_read_literal(const char *text, size_t len, fixed_format format, uint32_t policy, fixed_number *out);
+uint32_t fixed_read_literal(const char *text, size_t len, fixed_format format, FIXED_ENUM(fixed_policy) policy,
+                            fixed_number *out);
 
 /* The format that word[0..len) names, such as I16F16, u0f24, Q15 or UQ8.8 (by ARM's counting), and the word of a format, such as
  * I16F16, with a zero byte; *len is the word's length, at most 8. */
@@ -175,15 +210,44 @@ uint32_t fixed_word_of_format(fixed_format format, char *out, size_t size, size_
  * fixed_print_rows writes the text of fixed_print_bits into each row and zero bytes up to its end, none where the text fills it; a row is
  * as it was where its code is not FIXED_OK. *refused is how many of the codes are not FIXED_OK. The calls return FIXED_OK, or, where len is
  * not size * code_count, or count or bits_count is not code_count, FIXED_BAD_ROWS with nothing written. */
-uint32_t fixed_read_rows(const char *rows, size_t len, size_t size, uint32_t radix, fixed_format format, uint32_t policy,
-                         uint32_t mode, fixed_number *out, size_t count, uint32_t *codes, size_t code_count, size_t *refused);
+uint32_t fixed_read_rows(const char *rows, size_t len, size_t size, uint32_t radix, fixed_format format,
+                         FIXED_ENUM(fixed_policy) policy, FIXED_ENUM(fixed_mode) mode, fixed_number *out, size_t count,
+                         uint32_t *codes, size_t code_count, size_t *refused);
 uint32_t fixed_print_rows(const int64_t *bits, size_t count, fixed_format format, char *rows, size_t len, size_t size,
                           uint32_t *codes, size_t code_count, size_t *refused);
-uint32_t fixed_convert_rows(const int64_t *bits, size_t bits_count, fixed_format source, fixed_format target, uint32_t policy,
-                            uint32_t mode, fixed_number *out, size_t count, uint32_t *codes, size_t code_count, size_t *refused);
+uint32_t fixed_convert_rows(const int64_t *bits, size_t bits_count, fixed_format source, fixed_format target,
+                            FIXED_ENUM(fixed_policy) policy, FIXED_ENUM(fixed_mode) mode, fixed_number *out,
+                            size_t count, uint32_t *codes, size_t code_count, size_t *refused);
+
+/* The same for fixed_print_places_mode and fixed_compare_bits: row i of fixed_print_places_rows has the text of bits[i] to this many
+ * places in the mode, and orders[i] is what fixed_compare_bits leaves in 0. a_count, b_count and order_count are to be code_count. */
+uint32_t fixed_print_places_rows(const int64_t *bits, size_t count, fixed_format format, uint32_t places,
+                                 FIXED_ENUM(fixed_mode) mode, char *rows, size_t len, size_t size,
+                                 uint32_t *codes, size_t code_count, size_t *refused);
+uint32_t fixed_compare_rows(const int64_t *a, size_t a_count, fixed_format a_format, const int64_t *b, size_t b_count,
+                            fixed_format b_format, int32_t *orders, size_t order_count, uint32_t *codes, size_t code_count, size_t *refused);
+
+/* Floats. double and float are binary64 and binary32 of IEEE 754, in the byte order of the machine's whole numbers, as on every amd64
+ * processor: the library reads and writes arrays of them as their bits. A float is read by its exact value, rounded in a mode as a
+ * numeral of that value is; a zero with a sign is 0. Infinities and NaNs are FIXED_NOT_FINITE, whatever the policy. The double of
+ * bits is the nearest to their value, ties to even: exactly that value if the format has at most 53 bits; that of 0 has no sign. A float
+ * goes to fixed_read_double as it is. The calls over rows are the single calls for each value, as above; out[i] is a number of zeros, or
+ * 0.0, where codes[i] is not FIXED_OK. count, out_count and code_count are to be the same. */
+uint32_t fixed_read_double(double value, fixed_format format, FIXED_ENUM(fixed_policy) policy,
+                           FIXED_ENUM(fixed_mode) mode, fixed_number *out);
+uint32_t fixed_read_doubles(const double *values, size_t count, fixed_format format, FIXED_ENUM(fixed_policy) policy,
+                            FIXED_ENUM(fixed_mode) mode, fixed_number *out, size_t out_count, uint32_t *codes,
+                            size_t code_count, size_t *refused);
+uint32_t fixed_read_floats(const float *values, size_t count, fixed_format format, FIXED_ENUM(fixed_policy) policy,
+                           FIXED_ENUM(fixed_mode) mode, fixed_number *out, size_t out_count, uint32_t *codes,
+                           size_t code_count, size_t *refused);
+uint32_t fixed_double_of_bits(int64_t bits, fixed_format format, double *out);
+uint32_t fixed_doubles_of_bits(const int64_t *bits, size_t count, fixed_format format, double *out, size_t out_count,
+                               uint32_t *codes, size_t code_count, size_t *refused);
 
 /* Bits in a style, and a zero byte; *len is the text's length in bytes, which a size of 0 asks for. */
-uint32_t fixed_print_styled(int64_t bits, fixed_format format, const fixed_style *style, char *out, size_t size, size_t *len);
+uint32_t fixed_print_styled(int64_t bits, fixed_format format, const fixed_style *style, char *out, size_t size,
+                            size_t *len);
 
 /* *count is how many bytes the numeral at the beginning of text[0..len) takes: the length of the longest beginning of the text that is
  * a numeral, so 3 for "1.5 m", "1.5e" and "1.5.2". Where no beginning is one, the code says why the text is no numeral. */

@@ -1,5 +1,5 @@
 -- What makes the end of a call the one.
-use Rattle.std.proofs.Common.{◌≡◌, ◌⊎◌, ◌↔◌, ◌∙◌, ℕ, ℤ, Bool, true, false, IsTrue, ◌+◌, ◌≤◌, List, [], ◌∷◌, ◌++◌, length, drop, Result, Ok, Err, MatchResult, inl, inr, refl, sym, ap, subst, arith, FitsSigned}
+use Rattle.std.proofs.Common.{◌==◌, if◌then◌else◌, ◌≡◌, ◌⊎◌, ◌↔◌, ◌∙◌, ℕ, ℤ, Bool, true, false, IsTrue, ◌+◌, ◌≤◌, List, [], ◌∷◌, ◌++◌, length, drop, Result, Ok, Err, MatchResult, inl, inr, refl, sym, ap, subst, arith, FitsSigned}
 use Rattle.std.specs.Int.{w64}
 use Rattle.std.proofs.lemmas.Int.{ints}
 use Rattle.std.proofs.lemmas.List.{take-append-drop}
@@ -10,6 +10,8 @@ use Rattle.fixed_bits.specs.declared.format.Policy.{Policy}
 use Rattle.fixed_bits.specs.declared.format.Policy.TheVariants.{Checked, Saturating, Wrapping}
 use Rattle.fixed_bits.specs.declared.mode.ReadMode.{ReadMode}
 use Rattle.fixed_bits.specs.declared.mode.ReadMode.TheVariants.{NearestEven, Floor, Ceil, TowardsZero}
+use Rattle.fixed_bits.specs.declared.mode.ReadMode.TheVariants.{NearestAway, NearestZero, NearestUp, NearestDown}
+use Rattle.fixed_bits.specs.declared.mode.ReadMode.TheVariants.{AwayFromZero}
 use Rattle.fixed_bits.proofs.Public.{image_one, range_decided}
 use Rattle.fixed_numeral.specs.Numeral.{base}
 use Rattle.fixed_numeral.specs.declared.error.ParseErrorKind.{ParseErrorKind}
@@ -89,23 +91,23 @@ policy_one Saturating Wrapping n e g = absurd (omega arith)
 policy_one Wrapping Checked n e g = absurd (omega arith)
 policy_one Wrapping Saturating n e g = absurd (omega arith)
 
+mode_at : ℕ → ReadMode
+mode_at n = if n == 0 then NearestEven else (if n == 1 then Floor else (if n == 2 then Ceil else (if n == 3 then TowardsZero else (if n == 4 then NearestAway else (if n == 5 then NearestZero else (if n == 6 then NearestUp else (if n == 7 then NearestDown else AwayFromZero)))))))
+
+mode_is : (m : ReadMode) → m ≡ mode_at (mode_code m)
+unfolding mode_at
+mode_is NearestEven = refl
+mode_is Floor = refl
+mode_is Ceil = refl
+mode_is TowardsZero = refl
+mode_is NearestAway = refl
+mode_is NearestZero = refl
+mode_is NearestUp = refl
+mode_is NearestDown = refl
+mode_is AwayFromZero = refl
+
 pub mode_one : (a b : ReadMode) (n : ℕ) → n ≡ mode_code a → n ≡ mode_code b → a ≡ b
-mode_one NearestEven NearestEven n e g = refl
-mode_one Floor Floor n e g = refl
-mode_one Ceil Ceil n e g = refl
-mode_one TowardsZero TowardsZero n e g = refl
-mode_one NearestEven Floor n e g = absurd (omega arith)
-mode_one NearestEven Ceil n e g = absurd (omega arith)
-mode_one NearestEven TowardsZero n e g = absurd (omega arith)
-mode_one Floor NearestEven n e g = absurd (omega arith)
-mode_one Floor Ceil n e g = absurd (omega arith)
-mode_one Floor TowardsZero n e g = absurd (omega arith)
-mode_one Ceil NearestEven n e g = absurd (omega arith)
-mode_one Ceil Floor n e g = absurd (omega arith)
-mode_one Ceil TowardsZero n e g = absurd (omega arith)
-mode_one TowardsZero NearestEven n e g = absurd (omega arith)
-mode_one TowardsZero Floor n e g = absurd (omega arith)
-mode_one TowardsZero Ceil n e g = absurd (omega arith)
+mode_one a b n e g = mode_is a ∙ ap mode_at (sym e ∙ g) ∙ sym (mode_is b)
 
 -- ---- bits
 -- bits of 64 are one number

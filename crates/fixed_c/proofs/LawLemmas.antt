@@ -35,7 +35,7 @@ use Rattle.fixed_c.specs.Texts.{PutsText}
 use Rattle.fixed_c.specs.declared.number.FixedEnclosure.{FixedEnclosure}
 use Rattle.fixed_c.specs.declared.number.FixedNumber.{FixedNumber}
 use Rattle.fixed_c.specs.declared.refusal.Refusal.{Refusal}
-use Rattle.fixed_c.specs.declared.refusal.Refusal.TheVariants.{Numeral, BadRadix, BadFormat, BadTarget, BadPolicy, BadMode, BadBits, NoRoom, BadOtherBits, BadPlaces, BadRounding, BadWord, BadRows, BadNotation, BadWidth, BadFill, BadAlign}
+use Rattle.fixed_c.specs.declared.refusal.Refusal.TheVariants.{Numeral, BadRadix, BadFormat, BadTarget, BadPolicy, BadMode, BadBits, NoRoom, BadOtherBits, BadPlaces, BadRounding, BadWord, BadRows, BadNotation, BadWidth, BadFill, BadAlign, NotFinite}
 use Rattle.std.proofs.Common.{false, ◌≤◌}
 use Rattle.fixed_bits.specs.declared.mode.ReadMode.TheVariants.{NearestEven}
 use Rattle.fixed_convert.specs.Rounded.{IsMovedIn, MovedInIsTheOne}
@@ -353,13 +353,13 @@ answer_ends_once one line old a b m n fault flag code other p q =
 
 -- ---- messages
 message_at : ℕ → List ℕ
-message_at n = if nat_lt 26 n then codes "unknown code" else (if n == 0 then codes "done" else (if n == 1 then message_of InvalidDigit else (if n == 2 then message_of MisplacedSign
+message_at n = if nat_lt 27 n then codes "unknown code" else (if n == 0 then codes "done" else (if n == 1 then message_of InvalidDigit else (if n == 2 then message_of MisplacedSign
     else (if n == 3 then message_of MisplacedUnderscore else (if n == 4 then message_of TooManyPoints else (if n == 5 then message_of TooManyExp else (if n == 6 then message_of ExpInvalidDigit
     else (if n == 7 then message_of ExpOverflow else (if n == 8 then message_of NoDigits else (if n == 9 then message_of ExpNoDigits else (if n == 10 then message_of Overflow
     else (if n == 11 then refusal_message BadRadix else (if n == 12 then refusal_message BadFormat else (if n == 13 then refusal_message BadTarget else (if n == 14 then refusal_message BadPolicy
     else (if n == 15 then refusal_message BadMode else (if n == 16 then refusal_message BadBits else (if n == 17 then refusal_message NoRoom else (if n == 18 then refusal_message BadOtherBits
     else (if n == 19 then refusal_message BadPlaces else (if n == 20 then refusal_message BadRounding else (if n == 21 then refusal_message BadWord else (if n == 22 then refusal_message BadRows
-    else (if n == 23 then refusal_message BadNotation else (if n == 24 then refusal_message BadWidth else (if n == 25 then refusal_message BadFill else refusal_message BadAlign))))))))))))))))))))))))))
+    else (if n == 23 then refusal_message BadNotation else (if n == 24 then refusal_message BadWidth else (if n == 25 then refusal_message BadFill else (if n == 26 then refusal_message BadAlign else refusal_message NotFinite)))))))))))))))))))))))))))
 
 message_of_refusal : (r : Refusal) → refusal_message r ≡ message_at (refusal_code r)
 unfolding message_at
@@ -389,28 +389,53 @@ message_of_refusal BadNotation = refl
 message_of_refusal BadWidth = refl
 message_of_refusal BadFill = refl
 message_of_refusal BadAlign = refl
+message_of_refusal NotFinite = refl
 
 message_is : (code : ℕ) (text : List ℕ) → IsMessage code text → text ≡ message_at code
 unfolding message_at
 message_is code text (inl p) = rw (p.0) p.1
 message_is code text (inr (inl p)) = p.2 ∙ message_of_refusal p.0 ∙ ap message_at (sym p.1)
-message_is code text (inr (inr p)) = let h : nat_lt 26 code ≡ true = lt-ltb 26 code p.0 in p.1 ∙ rw h refl
+message_is code text (inr (inr p)) = let h : nat_lt 27 code ≡ true = lt-ltb 27 code p.0 in p.1 ∙ rw h refl
 
 pub message_ends_once : MessageEndsOnce
 message_ends_once code old a b len m n c other =
     text_one (IsMessage code) Never old a b len m n c other (λ s t p q. message_is code s p ∙ sym (message_is code t q)) (λ t r p x. x) (λ r s x y. absurd x)
 
 -- ---- to places
+module _ (f : FormatParts) (bits : ℤ) (places mode : ℕ) where
+  abbrev OfPlaces : Refusal → Type 0
+  OfPlaces = Unless (places ≤ 64) BadPlaces Never
+
+  abbrev OfBits : Refusal → Type 0
+  OfBits = Unless (AreBits f bits) BadBits OfPlaces
+
+  abbrev OfMode : Refusal → Type 0
+  OfMode = Unless (NamesMode mode) BadMode OfBits
+
+  placed_one : RoundedTextIsComputed → FitsSigned w64 bits → (s t : List ℕ) → IsPrintedTo f bits places mode s → IsPrintedTo f bits places mode t → s ≡ t
+  placed_one one fits s t p q =
+      let number : q.number ≡ p.number = bits_one f bits q.number p.number fits q.bits_are p.bits_are in
+      let the_mode : q.the_mode ≡ p.the_mode = mode_one q.the_mode p.the_mode mode q.mode_is p.mode_is in
+      let moved : IsRoundedText q.the_mode 10 false places p.number f.frac t = subst (λ (x : ℤ). IsRoundedText q.the_mode 10 false places x f.frac t) number q.rounded in
+      let same : IsRoundedText p.the_mode 10 false places p.number f.frac t = subst (λ (m : ReadMode). IsRoundedText m 10 false places p.number f.frac t) the_mode moved in
+      (one p.the_mode 10 false places p.number f.frac s).0 p.rounded ∙ sym ((one p.the_mode 10 false places p.number f.frac t).0 same)
+
+  not_both : (t : List ℕ) (r : Refusal) → IsPrintedTo f bits places mode t → PlacesIsRefused f bits places mode r → ⊥
+  not_both t r p = unless_none (NamesFormat f) BadFormat OfMode r p.format
+      (unless_none (NamesMode mode) BadMode OfBits r (p.the_mode, p.mode_is)
+      (unless_none (AreBits f bits) BadBits OfPlaces r (p.number, p.bits_are)
+      (unless_none (places ≤ 64) BadPlaces Never r p.few (λ x. x))))
+
+  refused_alike : (r s : Refusal) → PlacesIsRefused f bits places mode r → PlacesIsRefused f bits places mode s → r ≡ s
+  refused_alike r s = unless_one (NamesFormat f) BadFormat OfMode r s
+      (unless_one (NamesMode mode) BadMode OfBits r s
+      (unless_one (AreBits f bits) BadBits OfPlaces r s
+      (unless_one (places ≤ 64) BadPlaces Never r s (λ x y. absurd x))))
+
 pub places_ends_once : RoundedTextIsComputed → PlacesEndsOnce
-places_ends_once one f bits places fits old a b len m n code other =
-    text_one (IsPrintedTo f bits places) (PlacesIsRefused f bits places) old a b len m n code other
-    (λ s t p q.
-    let same : IsRoundedText 10 false places p.number f.frac t = subst (λ (x : ℤ). IsRoundedText 10 false places x f.frac t) (bits_one f bits q.number p.number fits q.bits_are p.bits_are) q.rounded in
-    (one 10 false places p.number f.frac s).0 p.rounded ∙ sym ((one 10 false places p.number f.frac t).0 same))
-    (λ t r p. unless_none (NamesFormat f) BadFormat (Unless (AreBits f bits) BadBits (Unless (places ≤ 64) BadPlaces Never)) r p.format
-    (unless_none (AreBits f bits) BadBits (Unless (places ≤ 64) BadPlaces Never) r (p.number, p.bits_are) (unless_none (places ≤ 64) BadPlaces Never r p.few (λ x. x))))
-    (λ r s. unless_one (NamesFormat f) BadFormat (Unless (AreBits f bits) BadBits (Unless (places ≤ 64) BadPlaces Never)) r s
-    (unless_one (AreBits f bits) BadBits (Unless (places ≤ 64) BadPlaces Never) r s (unless_one (places ≤ 64) BadPlaces Never r s (λ x y. absurd x))))
+places_ends_once one f bits places mode fits old a b len m n code other =
+    text_one (IsPrintedTo f bits places mode) (PlacesIsRefused f bits places mode) old a b len m n code other
+    (placed_one f bits places mode one fits) (not_both f bits places mode) (refused_alike f bits places mode)
 
 -- ---- rounding
 rounding_at : ℕ → WholeRounding

@@ -6,3 +6,5 @@ mod RowLawLemmas
 mod ScanEndLemmas
 mod StyleLemmas
 mod AskedLemmas
+mod FloatLemmas
+mod ItemLemmas

@@ -4,6 +4,8 @@ use Rattle.fixed_bits.specs.declared.format.Policy.{Policy}
 use Rattle.fixed_bits.specs.declared.format.Policy.TheVariants.{Checked, Saturating, Wrapping}
 use Rattle.fixed_bits.specs.declared.mode.ReadMode.{ReadMode}
 use Rattle.fixed_bits.specs.declared.mode.ReadMode.TheVariants.{NearestEven, Floor, Ceil, TowardsZero}
+use Rattle.fixed_bits.specs.declared.mode.ReadMode.TheVariants.{NearestAway, NearestZero, NearestUp, NearestDown}
+use Rattle.fixed_bits.specs.declared.mode.ReadMode.TheVariants.{AwayFromZero}
 use Rattle.fixed_numeral.specs.Messages.{message_of}
 use Rattle.fixed_numeral.specs.declared.error.ParseErrorKind.{ParseErrorKind}
 use Rattle.fixed_numeral.specs.declared.error.ParseErrorKind.TheVariants.{InvalidDigit, MisplacedSign}
@@ -14,7 +16,7 @@ use Rattle.fixed_c.specs.declared.refusal.Refusal.{Refusal}
 use Rattle.fixed_c.specs.declared.refusal.Refusal.TheVariants.{Numeral, BadRadix, BadFormat, BadTarget, BadPolicy}
 use Rattle.fixed_c.specs.declared.refusal.Refusal.TheVariants.{BadMode, BadBits, NoRoom, BadOtherBits, BadPlaces}
 use Rattle.fixed_c.specs.declared.refusal.Refusal.TheVariants.{BadRounding, BadWord, BadRows, BadNotation, BadWidth}
-use Rattle.fixed_c.specs.declared.refusal.Refusal.TheVariants.{BadFill, BadAlign}
+use Rattle.fixed_c.specs.declared.refusal.Refusal.TheVariants.{BadFill, BadAlign, NotFinite}
 
 abbrev pub policy_code : Policy → ℕ
 policy_code Checked = 0
@@ -26,6 +28,11 @@ mode_code NearestEven = 0
 mode_code Floor = 1
 mode_code Ceil = 2
 mode_code TowardsZero = 3
+mode_code NearestAway = 4
+mode_code NearestZero = 5
+mode_code NearestUp = 6
+mode_code NearestDown = 7
+mode_code AwayFromZero = 8
 
 abbrev pub kind_code : ParseErrorKind → ℕ
 kind_code InvalidDigit = 1
@@ -57,6 +64,7 @@ refusal_code BadNotation = 23
 refusal_code BadWidth = 24
 refusal_code BadFill = 25
 refusal_code BadAlign = 26
+refusal_code NotFinite = 27
 
 abbrev pub refusal_message : Refusal → List ℕ
 refusal_message (Numeral kind) = message_of kind
@@ -76,9 +84,10 @@ refusal_message BadNotation = codes "bad notation"
 refusal_message BadWidth = codes "too great a width"
 refusal_message BadFill = codes "bad fill character"
 refusal_message BadAlign = codes "bad alignment"
+refusal_message NotFinite = codes "not a finite number"
 
 -- text is the message of the code: that of 0, of a refusal, or of a number that is no code
 abbrev pub IsMessage : ℕ → List ℕ → Type 0
 IsMessage code text = ((code ≡ 0) × (text ≡ codes "done"))
     ⊎ ((refusal : Refusal) × (code ≡ refusal_code refusal) × (text ≡ refusal_message refusal))
-    ⊎ ((26 < code) × (text ≡ codes "unknown code"))
+    ⊎ ((27 < code) × (text ≡ codes "unknown code"))

@@ -119,15 +119,17 @@ pub record IsPrinted (f : FormatParts) (bits : ℤ) (text : List ℕ) : Type 0 w
   pub bits_are : AreBitsOf f bits number
   pub shortest : IsShortestText number f.frac text
 
--- the format is one, and the text is the bits to this many decimal places, at most 64
-pub record IsPrintedTo (f : FormatParts) (bits : ℤ) (places : ℕ) (text : List ℕ) : Type 0 where
+-- the format is one, and the text is the bits to this many decimal places, at most 64, rounded in the mode of a code
+pub record IsPrintedTo (f : FormatParts) (bits : ℤ) (places mode : ℕ) (text : List ℕ) : Type 0 where
   pub format : NamesFormat f
   pub number : ℤ
   pub bits_are : AreBitsOf f bits number
   pub few : places ≤ 64
-  pub rounded : IsRoundedText 10 false places number f.frac text
+  pub the_mode : ReadMode
+  pub mode_is : mode ≡ mode_code the_mode
+  pub rounded : IsRoundedText the_mode 10 false places number f.frac text
 
 -- the refusal of a call that prints to places
-abbrev pub PlacesIsRefused : FormatParts → ℤ → ℕ → Refusal → Type 0
-PlacesIsRefused f bits places = Unless (NamesFormat f) BadFormat
-    (Unless (AreBits f bits) BadBits (Unless (places ≤ 64) BadPlaces Never))
+abbrev pub PlacesIsRefused : FormatParts → ℤ → ℕ → ℕ → Refusal → Type 0
+PlacesIsRefused f bits places mode = Unless (NamesFormat f) BadFormat
+    (Unless (NamesMode mode) BadMode (Unless (AreBits f bits) BadBits (Unless (places ≤ 64) BadPlaces Never)))

@@ -1,2 +1,3 @@
 -- Contracts of private functions. Nothing that is public cites them.
 pub mod Asked
+pub mod Floats

@@ -72,8 +72,8 @@ AnswerEndsOnce = (line old a b : List ℕ) (m n fault flag code other : ℕ) →
     → IsAnswered line old b n flag other → (code ≡ other) × (a ≡ b) × (m ≡ n) × (fault ≡ flag)
 
 abbrev pub PlacesEndsOnce : Type 0
-PlacesEndsOnce = (f : FormatParts) (bits : ℤ) (places : ℕ) → FitsSigned w64 bits
-    → TextIsTheOne (IsPrintedTo f bits places) (PlacesIsRefused f bits places)
+PlacesEndsOnce = (f : FormatParts) (bits : ℤ) (places mode : ℕ) → FitsSigned w64 bits
+    → TextIsTheOne (IsPrintedTo f bits places mode) (PlacesIsRefused f bits places mode)
 
 abbrev pub RoundEndsOnce : Type 0
 RoundEndsOnce = (f : FormatParts) (rounding policy : ℕ) (bits : ℤ) → FitsSigned w64 bits

@@ -3,6 +3,8 @@ pub mod Arguments
 pub mod Codes
 pub mod Convert
 pub mod Enclose
+pub mod Floats
+pub mod Items
 pub mod Laws
 pub mod Literal
 pub mod Numbers

@@ -50,13 +50,17 @@ NamesPrecision code = (precision : Option ℕ) × IsPrecision code precision
 abbrev pub is_set : ℕ → Bool
 is_set flag = if flag == 0 then false else true
 
+-- the character that fills a field: 0 is for a blank
+abbrev pub fill_at : ℕ → ℕ
+fill_at code = if code == 0 then 32 else code
+
 -- the numbers are those of the style
 pub record NamesStyle (given : FixedStyle) (style : Style) : Type 0 where
   pub notation_is : given.notation ≡ notation_code style.notation
   pub precision_is : IsPrecision given.precision style.precision
   pub width_is : given.width ≡ style.width
   pub narrow : given.width < 2 ^ 16
-  pub fill_is : given.fill ≡ style.fill
+  pub fill_is : fill_at given.fill ≡ style.fill
   pub scalar : IsScalar given.fill
   pub align_is : given.align ≡ align_code style.align
   pub plus_is : style.plus ≡ is_set given.plus

@@ -58,6 +58,9 @@ pub fn policy_of(code: u32) -> Result<Policy, Refusal>
     }
 }
 
+/// The code of the mode NearestEven.
+pub const NEAREST_EVEN: u32 = 0;
+
 /// The mode of a code.
 pub fn mode_of(code: u32) -> Result<ReadMode, Refusal>
     ensures { MatchResult result (λ m. code ≡ mode_code m) (λ refusal. (¬ NamesMode code) × (refusal ≡ BadMode)) }
@@ -67,6 +70,11 @@ pub fn mode_of(code: u32) -> Result<ReadMode, Refusal>
         1 => Ok(ReadMode::Floor),
         2 => Ok(ReadMode::Ceil),
         3 => Ok(ReadMode::TowardsZero),
+        4 => Ok(ReadMode::NearestAway),
+        5 => Ok(ReadMode::NearestZero),
+        6 => Ok(ReadMode::NearestUp),
+        7 => Ok(ReadMode::NearestDown),
+        8 => Ok(ReadMode::AwayFromZero),
         _ => Err(Refusal::BadMode),
     }
 }

@@ -1,13 +1,17 @@
 //! The functions that C calls.
 
-ghost use Rattle.std.specs.Prelude.{◌≡◌, ◌<◌};
+ghost use Rattle.std.specs.Prelude.{◌≡◌, ◌<◌, ℕ, ℤ, to_bits};
 ghost use Rattle.fixed_c.specs.Answer.{IsAnswered};
+ghost use Rattle.fixed_bits.specs.declared.mode.ReadMode.TheVariants.{NearestEven};
 ghost use Rattle.fixed_c.specs.Arguments.{Names};
-ghost use Rattle.fixed_c.specs.Codes.{IsMessage};
+ghost use Rattle.fixed_c.specs.Codes.{IsMessage, mode_code};
 ghost use Rattle.fixed_c.specs.Convert.{CompareIsRefused, ConvertInIsRefused, ConvertIsRefused, IsCompared};
 ghost use Rattle.fixed_c.specs.Convert.{IsConverted, IsConvertedIn, IsPrinted, IsPrintedTo, PlacesIsRefused};
 ghost use Rattle.fixed_c.specs.Convert.{PrintIsRefused};
 ghost use Rattle.fixed_c.specs.Enclose.{EncloseIsRefused, IsEnclosedBy};
+ghost use Rattle.fixed_c.specs.Floats.{DoubleRow, FloatIsRefused, HaveDoubles, HaveFloats, IsDoubleOf, IsFloatRead};
+ghost use Rattle.fixed_c.specs.Floats.{NamesBoth, ReadsFloatRow};
+ghost use Rattle.fixed_c.specs.Items.{ComparesRow, HavePairs, ItemsEnd, PlacesEnd};
 ghost use Rattle.fixed_c.specs.Literal.{IsLiteralReadAs, LiteralIsRefused};
 ghost use Rattle.fixed_c.specs.Numbers.{format_of};
 ghost use Rattle.fixed_c.specs.Outcome.{EndsWith, Never};
@@ -19,10 +23,16 @@ ghost use Rattle.fixed_c.specs.Style.{IsPrintedIn, StyledIsRefused};
 ghost use Rattle.fixed_c.specs.Rows.{ConvertsRow, HaveBits, HaveRows, PrintedEnd, ReadsRow, RowsEnd};
 ghost use Rattle.fixed_c.specs.Texts.{TextEnds};
 ghost use Rattle.fixed_c.specs.Words.{FormatIsRefused, IsFormatNamed, IsFormatText, WordIsRefused};
+ghost use Rattle.fixed_float.specs.declared.layout.FloatLayout.TheVariants.{Binary32, Binary64};
+ghost use Rattle.std.specs.Float.{binary64};
 
-use crate::arguments::{FixedFormat, given_text};
+use crate::arguments::{FixedFormat, NEAREST_EVEN, given_text};
+use crate::float_rows::{FloatReading, doubles_of, read_doubles, read_floats};
+use crate::floats::{double_of, double_read};
 use crate::number::{FixedEnclosure, FixedNumber};
 use crate::numbers::{convert, convert_in, ends_around, literal, order_by_value, read, respelled};
+use crate::order_rows::compare_rows;
+use crate::place_rows::{PlacesPrinting, print_places_rows};
 use crate::refusal::{hand_over, message_of};
 use crate::rounding::round;
 use crate::rows::{Conversion, Reading, convert_rows, print_rows, read_rows};
@@ -30,6 +40,7 @@ use crate::scanning::leading;
 use crate::style::{FixedStyle, print_styled};
 use crate::texts::{answer_line, print_bits, print_places, put_text};
 use crate::words::{named_format, put_word};
+use std::num::f64_to_bits_with_nan;
 
 /// A numeral in a radix of 2, 8, 10 or 16, as a number of a format: `fixed_read_text` of the header.
 #[unsafe(no_mangle)]
@@ -161,7 +172,7 @@ pub extern "C" fn fixed_message(code: u32, out: &mut [u8], len: &mut usize) -> u
     put_text(message_of(code).as_bytes(), out, len)
 }
 
-/// Bits to a count of decimal places: `fixed_print_places` of the header.
+/// Bits to a count of decimal places, ties to even: `fixed_print_places` of the header.
 #[unsafe(no_mangle)]
 pub extern "C" fn fixed_print_places(
     bits: i64,
@@ -171,11 +182,29 @@ pub extern "C" fn fixed_print_places(
     len: &mut usize,
 ) -> u32
     ensures { TextEnds
-        (IsPrintedTo (format_of format.is_signed format.width format.frac) bits places)
-        (PlacesIsRefused (format_of format.is_signed format.width format.frac) bits places) out.old out.new len.old
-        len.new result }
+        (IsPrintedTo (format_of format.is_signed format.width format.frac) bits places (mode_code NearestEven))
+        (PlacesIsRefused (format_of format.is_signed format.width format.frac) bits places (mode_code NearestEven))
+        out.old out.new len.old len.new result }
 {
-    print_places(bits, format, places, out, len)
+    print_places(bits, format, places, NEAREST_EVEN, out, len)
+}
+
+/// Bits to a count of decimal places in a mode: `fixed_print_places_mode` of the header.
+#[unsafe(no_mangle)]
+pub extern "C" fn fixed_print_places_mode(
+    bits: i64,
+    format: FixedFormat,
+    places: u32,
+    mode: u32,
+    out: &mut [u8],
+    len: &mut usize,
+) -> u32
+    ensures { TextEnds
+        (IsPrintedTo (format_of format.is_signed format.width format.frac) bits places mode)
+        (PlacesIsRefused (format_of format.is_signed format.width format.frac) bits places mode)
+        out.old out.new len.old len.new result }
+{
+    print_places(bits, format, places, mode, out, len)
 }
 
 /// Bits rounded to a whole number: `fixed_round_bits` of the header.
@@ -316,6 +345,139 @@ pub extern "C" fn fixed_convert_rows(
     convert_rows(bits, conversion, out, codes, refused)
 }
 
+/// A double by its exact value, as a number of a format: `fixed_read_double` of the header. C passes its value.
+#[unsafe(no_mangle)]
+pub extern "C" fn fixed_read_double(
+    value: f64,
+    format: FixedFormat,
+    policy: u32,
+    mode: u32,
+    out: &mut FixedNumber,
+) -> u32
+    ensures { EndsWith
+        (λ n. NamesBoth policy mode (IsFloatRead Binary64 (to_bits binary64 value)
+        (format_of format.is_signed format.width format.frac) n))
+        (FloatIsRefused Binary64 (to_bits binary64 value) (format_of format.is_signed format.width format.frac)
+        policy mode) out.old out.new result }
+{
+    let bits = f64_to_bits_with_nan(value);
+    hand_over(double_read(bits, format, policy, mode), out)
+}
+
+/// Doubles of rows as numbers of a format: `fixed_read_doubles` of the header. C has their bits as doubles.
+#[unsafe(no_mangle)]
+pub extern "C" fn fixed_read_doubles(
+    values: &[u64],
+    format: FixedFormat,
+    policy: u32,
+    mode: u32,
+    out: &mut [FixedNumber],
+    codes: &mut [u32],
+    refused: &mut usize,
+) -> u32
+    ensures { RowsEnd (HaveFloats values.now out.old codes.old)
+        (ReadsFloatRow Binary64 values.now (format_of format.is_signed format.width format.frac) policy mode)
+        out.old out.new codes.old codes.new refused.old refused.new result }
+{
+    let reading = FloatReading {
+        format,
+        policy,
+        mode,
+    };
+    read_doubles(values, reading, out, codes, refused)
+}
+
+/// Floats of rows as numbers of a format: `fixed_read_floats` of the header. C has their bits as floats.
+#[unsafe(no_mangle)]
+pub extern "C" fn fixed_read_floats(
+    values: &[u32],
+    format: FixedFormat,
+    policy: u32,
+    mode: u32,
+    out: &mut [FixedNumber],
+    codes: &mut [u32],
+    refused: &mut usize,
+) -> u32
+    ensures { RowsEnd (HaveFloats values.now out.old codes.old)
+        (ReadsFloatRow Binary32 values.now (format_of format.is_signed format.width format.frac) policy mode)
+        out.old out.new codes.old codes.new refused.old refused.new result }
+{
+    let reading = FloatReading {
+        format,
+        policy,
+        mode,
+    };
+    read_floats(values, reading, out, codes, refused)
+}
+
+/// The double nearest to the value of bits: `fixed_double_of_bits` of the header. C has its bits as a double.
+#[unsafe(no_mangle)]
+pub extern "C" fn fixed_double_of_bits(bits: i64, format: FixedFormat, out: &mut u64) -> u32
+    ensures { EndsWith
+        (IsDoubleOf (format_of format.is_signed format.width format.frac) bits)
+        (PrintIsRefused (format_of format.is_signed format.width format.frac) bits) out.old out.new result }
+{
+    hand_over(double_of(bits, format), out)
+}
+
+/// The doubles nearest to the values of the bits of rows: `fixed_doubles_of_bits` of the header.
+#[unsafe(no_mangle)]
+pub extern "C" fn fixed_doubles_of_bits(
+    bits: &[i64],
+    format: FixedFormat,
+    out: &mut [u64],
+    codes: &mut [u32],
+    refused: &mut usize,
+) -> u32
+    ensures { ItemsEnd ℕ (HaveDoubles bits.now out.old codes.old)
+        (DoubleRow bits.now (format_of format.is_signed format.width format.frac))
+        out.old out.new codes.old codes.new refused.old refused.new result }
+{
+    doubles_of(bits, format, out, codes, refused)
+}
+
+/// The bits of rows to a count of decimal places in a mode: `fixed_print_places_rows` of the header.
+#[unsafe(no_mangle)]
+pub extern "C" fn fixed_print_places_rows(
+    bits: &[i64],
+    format: FixedFormat,
+    places: u32,
+    mode: u32,
+    rows: &mut [u8],
+    size: usize,
+    codes: &mut [u32],
+    refused: &mut usize,
+) -> u32
+    ensures { PlacesEnd (format_of format.is_signed format.width format.frac) places mode bits.now size rows.old
+        rows.new codes.old codes.new refused.old refused.new result }
+{
+    let printing = PlacesPrinting {
+        format,
+        places,
+        mode,
+    };
+    print_places_rows(bits, printing, rows, size, codes, refused)
+}
+
+/// The orders of the values of the bits of rows: `fixed_compare_rows` of the header.
+#[unsafe(no_mangle)]
+pub extern "C" fn fixed_compare_rows(
+    a: &[i64],
+    a_format: FixedFormat,
+    b: &[i64],
+    b_format: FixedFormat,
+    orders: &mut [i32],
+    codes: &mut [u32],
+    refused: &mut usize,
+) -> u32
+    ensures { ItemsEnd ℤ (HavePairs a.now b.now orders.old codes.old)
+        (ComparesRow a.now (format_of a_format.is_signed a_format.width a_format.frac) b.now
+        (format_of b_format.is_signed b_format.width b_format.frac))
+        orders.old orders.new codes.old codes.new refused.old refused.new result }
+{
+    compare_rows(a, a_format, b, b_format, orders, codes, refused)
+}
+
 /// Bits in a style: `fixed_print_styled` of the header.
 #[unsafe(no_mangle)]
 pub extern "C" fn fixed_print_styled(
@@ -349,10 +511,10 @@ pub extern "C" fn fixed_abi() -> u32
     1
 }
 
-/// The version of the library, 1.0.0: `fixed_version` of the header.
+/// The version of the library, 1.1.0: `fixed_version` of the header.
 #[unsafe(no_mangle)]
 pub extern "C" fn fixed_version() -> u32
-    ensures { result ≡ 10000 }
+    ensures { result ≡ 10100 }
 {
-    10_000
+    10_100
 }

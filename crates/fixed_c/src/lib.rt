@@ -8,9 +8,13 @@
 mod arguments;
 mod asked;
 mod exports;
+mod float_rows;
+mod floats;
 pub mod laws;
 mod number;
 mod numbers;
+mod order_rows;
+mod place_rows;
 mod refusal;
 mod rounding;
 mod rows;

@@ -46,6 +46,8 @@ pub enum Refusal {
     BadFill,
     /// The alignment is none of 0 to 2.
     BadAlign,
+    /// The float is an infinity or a NaN.
+    NotFinite,
 }
 
 /// The code of a kind, 1 to 10.
@@ -67,7 +69,7 @@ fn kind_code(kind: ParseErrorKind) -> u32
 }
 
 impl Refusal {
-    /// The code of the refusal, 1 to 26.
+    /// The code of the refusal, 1 to 27.
     pub fn code(self) -> u32
         ensures { result ≡ refusal_code self }
     {
@@ -89,6 +91,7 @@ impl Refusal {
             Refusal::BadWidth => 24,
             Refusal::BadFill => 25,
             Refusal::BadAlign => 26,
+            Refusal::NotFinite => 27,
         }
     }
 
@@ -115,13 +118,14 @@ impl Refusal {
             Refusal::BadWidth => "too great a width",
             Refusal::BadFill => "bad fill character",
             Refusal::BadAlign => "bad alignment",
+            Refusal::NotFinite => "not a finite number",
         }
     }
 }
 
 /// The refusal of a code. None where it is that of none.
 fn refusal_of(code: u32) -> Option<Refusal>
-    ensures { MatchOption result ((code ≡ 0) ⊎ (26 < code)) (λ refusal. code ≡ refusal_code refusal) }
+    ensures { MatchOption result ((code ≡ 0) ⊎ (27 < code)) (λ refusal. code ≡ refusal_code refusal) }
 {
     match code {
         1 => Some(Refusal::Numeral(ParseErrorKind::InvalidDigit)),
@@ -150,6 +154,7 @@ fn refusal_of(code: u32) -> Option<Refusal>
         24 => Some(Refusal::BadWidth),
         25 => Some(Refusal::BadFill),
         26 => Some(Refusal::BadAlign),
+        27 => Some(Refusal::NotFinite),
         _ => None,
     }
 }

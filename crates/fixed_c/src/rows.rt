@@ -15,7 +15,7 @@ use crate::refusal::{OK, Refusal, hand_over};
 use crate::texts::shortest_of;
 
 /// What each number is before its row is read.
-const NO_NUMBER: FixedNumber = FixedNumber {
+pub const NO_NUMBER: FixedNumber = FixedNumber {
     bits: 0,
     overflowed: 0,
 };
@@ -61,7 +61,7 @@ fn end_of_text(rows: &[u8], start: usize, size: usize) -> usize
 }
 
 /// 1 for a code that is not 0.
-fn tally(code: u32) -> usize
+pub fn tally(code: u32) -> usize
     ensures value { result ≡ (if code == 0 then 0 else 1) }
     ensures most { result ≤ 1 }
 {
@@ -81,7 +81,7 @@ fn read_row(rows: &[u8], size: usize, i: usize, asked: &Asked) -> (FixedNumber, 
 }
 
 /// The bits of a row.
-fn bits_at(bits: &[i64], i: usize) -> i64
+pub fn bits_at(bits: &[i64], i: usize) -> i64
     requires { i < length bits.now }
     ensures { result ≡ slice_index_or bits.now i (pos 0) }
 {
@@ -144,7 +144,7 @@ fn read_asked(
 }
 
 /// Refuses each row, and answers how many there are.
-fn refuse_each(refusal: Refusal, out: &mut [FixedNumber], codes: &mut [u32]) -> usize
+pub fn refuse_each(refusal: Refusal, out: &mut [FixedNumber], codes: &mut [u32]) -> usize
     requires { length out.old ≡ length codes.old }
     ensures { AreRows (RefusesRow refusal) out.new codes.new result }
 {
@@ -243,7 +243,7 @@ pub fn convert_rows(
 }
 
 /// Puts a text into a row, and zero bytes after it.
-fn put_row(text: &[u8], row: &mut [u8]) -> u32
+pub fn put_row(text: &[u8], row: &mut [u8]) -> u32
     ensures { PutsRow text.now row.old row.new result }
 {
     let count = text.len();
@@ -278,7 +278,7 @@ fn print_at(bits: i64, format: FixedFormat, rows: &mut [u8], size: usize, i: usi
 }
 
 /// Whether there are as many bits and rows as codes.
-fn have_texts(bits: &[i64], rows: &[u8], size: usize, codes: &[u32]) -> bool
+pub fn have_texts(bits: &[i64], rows: &[u8], size: usize, codes: &[u32]) -> bool
     ensures { IsTrue result ↔ HaveTexts bits.now rows.now size codes.now }
 {
     bits.len() == codes.len() && rows.len() as u128 == size as u128 * codes.len() as u128

@@ -4,7 +4,8 @@ ghost use Rattle.std.specs.Prelude.{◌≡◌, ◌<◌, ◌^◌, MatchResult};
 ghost use Rattle.std.specs.Char.{IsScalar};
 ghost use Rattle.fixed_c.specs.Numbers.{format_of};
 ghost use Rattle.fixed_c.specs.Style.{NamesAlign, NamesNotation, NamesPrecision, NamesStyle, IsPrecision};
-ghost use Rattle.fixed_c.specs.Style.{IsPrintedIn, StyleIsRefused, StyledIsRefused, align_code, notation_code};
+ghost use Rattle.fixed_c.specs.Style.{IsPrintedIn, StyleIsRefused, StyledIsRefused, align_code, fill_at};
+ghost use Rattle.fixed_c.specs.Style.{notation_code};
 ghost use Rattle.fixed_c.specs.Texts.{PutsText, TextEnds};
 ghost use Rattle.fixed_c.specs.declared.refusal.Refusal.TheVariants.{BadAlign, BadFill, BadNotation};
 ghost use Rattle.fixed_c.specs.declared.refusal.Refusal.TheVariants.{BadPlaces, BadWidth};
@@ -27,7 +28,7 @@ pub struct FixedStyle {
     pub precision: u32,
     /// The least number of characters, at most 65,535.
     pub width: u32,
-    /// The character that fills the field up to the width, by its Unicode scalar value.
+    /// The character that fills the field up to the width, by its Unicode scalar value, or 0 for a blank.
     pub fill: u32,
     /// Where the text is in the field, 0 to 2.
     pub align: u32,
@@ -97,12 +98,15 @@ fn width_of(width: u32) -> Result<u16, Refusal>
     }
 }
 
-/// The character of a Unicode scalar value.
+/// The character of a Unicode scalar value, and a blank for 0.
 fn fill_of(code: u32) -> Result<char, Refusal>
     ensures { MatchResult result
-        (λ c. (code ≡ c) × IsScalar code)
+        (λ c. (fill_at code ≡ c) × IsScalar code)
         (λ refusal. (¬ IsScalar code) × (refusal ≡ BadFill)) }
 {
+    if code == 0 {
+        return Ok(' ');
+    }
     match char::from_u32(code) {
         Some(fill) => Ok(fill),
         None => Err(Refusal::BadFill),

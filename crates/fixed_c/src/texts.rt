@@ -6,7 +6,7 @@ ghost use Rattle.fixed_c.specs.Convert.{IsPrinted, IsPrintedTo, PlacesIsRefused,
 ghost use Rattle.fixed_c.specs.Numbers.{format_of};
 ghost use Rattle.fixed_c.specs.Texts.{PutsText, TextEnds};
 
-use crate::arguments::{FixedFormat, format_of};
+use crate::arguments::{FixedFormat, format_of, mode_of};
 use crate::number::{flag, number_in};
 use crate::refusal::{OK, Refusal};
 use crate::uncounted::{answer_uncounted, shortest_uncounted};
@@ -52,36 +52,43 @@ pub fn print_bits(bits: i64, format: FixedFormat, out: &mut [u8], len: &mut usiz
     }
 }
 
-/// Bits to a count of decimal places: a text of at most 86 bytes.
-fn rounded_to(bits: i64, format: FixedFormat, places: u32) -> Result<TextBuffer<130>, Refusal>
+/// Bits to a count of decimal places, rounded in a mode: a text of at most 86 bytes.
+pub fn rounded_to(
+    bits: i64,
+    format: FixedFormat,
+    places: u32,
+    mode: u32,
+) -> Result<TextBuffer<130>, Refusal>
     ensures { MatchResult result
-        (IsPrintedTo (format_of format.is_signed format.width format.frac) bits places)
-        (PlacesIsRefused (format_of format.is_signed format.width format.frac) bits places) }
+        (IsPrintedTo (format_of format.is_signed format.width format.frac) bits places mode)
+        (PlacesIsRefused (format_of format.is_signed format.width format.frac) bits places mode) }
 {
     let format = format_of(format, Refusal::BadFormat)?;
+    let mode = mode_of(mode)?;
     let number = number_in(bits, format, Refusal::BadBits)?;
     if places > 64 {
         return Err(Refusal::BadPlaces);
     }
     let mut text = TextBuffer::new();
-    push_decimal(&mut text, number, format.frac(), places);
+    push_decimal(&mut text, number, format.frac(), places, mode);
     Ok(text)
 }
 
-/// Hands over bits to a count of decimal places.
+/// Hands over bits to a count of decimal places, rounded in a mode.
 pub fn print_places(
     bits: i64,
     format: FixedFormat,
     places: u32,
+    mode: u32,
     out: &mut [u8],
     len: &mut usize,
 ) -> u32
     ensures { TextEnds
-        (IsPrintedTo (format_of format.is_signed format.width format.frac) bits places)
-        (PlacesIsRefused (format_of format.is_signed format.width format.frac) bits places) out.old out.new len.old
+        (IsPrintedTo (format_of format.is_signed format.width format.frac) bits places mode)
+        (PlacesIsRefused (format_of format.is_signed format.width format.frac) bits places mode) out.old out.new len.old
         len.new result }
 {
-    match rounded_to(bits, format, places) {
+    match rounded_to(bits, format, places, mode) {
         Ok(text) => put_text(text.as_bytes(), out, len),
         Err(refusal) => refusal.code(),
     }

@@ -1,0 +1,28 @@
+use Rattle.std.proofs.Common.{◌<◌, ◌≤◌, ◌+◌, ◌∙◌, sym, ap, length, take, arith}
+use Rattle.std.proofs.lemmas.List.{take_all}
+use Rattle.fixed_c.specs.Floats.{DoubleRow}
+use Rattle.fixed_c.specs.Numbers.{format_of}
+use Rattle.fixed_c.specs.Rows.{refused_of}
+use Rattle.fixed_c.proofs.ItemLemmas.{item_more}
+use Rattle.fixed_c.proofs.RowLemmas.{refused_next}
+use Rattle.fixed_c.proofs.float_rows.each_double_of.Goals as goal
+
+pub loop-i-preserved : goal.loop-i-preserved
+loop-i-preserved c =
+    let less : c.loop-i.i < length c.loop-i.codes = omega arith in
+    let same = c.requires.same in
+    let lt : c.loop-i.i < length c.loop-i.out = omega arith in
+    record {
+      each = item_more (DoubleRow c.args.bits.now (format_of c.args.format.is_signed c.args.format.width c.args.format.frac)) c.loop-i.out c.loop-i.codes c.loop-i.i c.double_of_row-double.result.0 c.double_of_row-double.result.1 lt less c.loop-i.invariant.each c.double_of_row-double.ensures;
+      counted = ap (λ x. x + c.tally-refused.result) c.loop-i.invariant.counted ∙ ap (λ x. refused_of (take c.loop-i.i c.loop-i.codes) + x) c.tally-refused.ensures.value
+          ∙ sym (refused_next c.loop-i.codes c.loop-i.i c.double_of_row-double.result.1 less);
+      few = omega (arith, c.tally-refused.ensures.most, c.loop-i.invariant.few);
+    }
+
+pub returns : goal.returns
+returns c =
+    let all : length c.loop-i.codes ≤ c.loop-i.i = omega arith in
+    record {
+      each = λ d k h. let lt : k < c.loop-i.i = omega arith in c.loop-i.invariant.each d k lt;
+      counted = c.loop-i.invariant.counted ∙ ap refused_of (take_all c.loop-i.i c.loop-i.codes all);
+    }

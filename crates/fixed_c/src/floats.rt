@@ -1,0 +1,119 @@
+//! Floats read into a format, and the doubles of bits, before they are handed over.
+
+ghost use Rattle.std.specs.Prelude.{◌≡◌, ◌↔◌, ℕ, IsOk, IfOk, MatchResult};
+ghost use Rattle.fixed_c.specs.Convert.{PrintIsRefused};
+ghost use Rattle.fixed_c.specs.Floats.{FloatIsRefused, FloatNotRead, IsDoubleOf, IsFloatRead, NamesBoth};
+ghost use Rattle.fixed_bits.specs.declared.mode.ReadMode.{ReadMode};
+ghost use Rattle.fixed_c.specs.Inner.Floats.{AreFloatNamed, IsFloatNotReadAsAsked, IsFloatReadAsAsked, IsFloatUnnamed};
+ghost use Rattle.fixed_c.specs.Numbers.{format_of};
+ghost use Rattle.fixed_float.specs.Floats.{IsFinite, IsFloatReading};
+ghost use Rattle.fixed_float.specs.declared.layout.FloatLayout.{FloatLayout};
+ghost use Rattle.fixed_float.specs.declared.layout.FloatLayout.TheVariants.{Binary32, Binary64};
+
+use crate::arguments::{FixedFormat, format_of, mode_of, policy_of};
+use crate::number::{FixedNumber, number_for_c, number_in};
+use crate::refusal::Refusal;
+use fixed_bits::{Format, Policy, ReadMode};
+use fixed_float::{NotFinite, binary64_of, read_binary32, read_binary64};
+use fixed_numeral::ParseErrorKind;
+use fixed_read::ReadNumber;
+
+/// How a float is read.
+#[derive(Clone, Copy)]
+pub struct FloatAsked {
+    pub format: Format,
+    pub policy: Policy,
+    pub mode: ReadMode,
+}
+
+/// What the codes of C ask for.
+pub fn float_asked_of(format: FixedFormat, policy: u32, mode: u32) -> Result<FloatAsked, Refusal>
+    ensures { MatchResult result
+        (λ a. AreFloatNamed (format_of format.is_signed format.width format.frac) policy mode a)
+        (IsFloatUnnamed (format_of format.is_signed format.width format.frac) policy mode) }
+{
+    let format = format_of(format, Refusal::BadFormat)?;
+    let policy = policy_of(policy)?;
+    let mode = mode_of(mode)?;
+    Ok(FloatAsked {
+        format,
+        policy,
+        mode,
+    })
+}
+
+/// What was read of a float, brought into the format that it was read into.
+#[inline(always)]
+fn brought(
+    found: Result<ReadNumber, NotFinite>,
+    format: Format,
+    policy: Policy,
+) -> Result<FixedNumber, Refusal>
+    requires format { IfOk found (λ n. n.format ≡ format) }
+    ensures { (layout : FloatLayout) (float : ℕ) (mode : ReadMode) → (IsOk found ↔ IsFinite layout float)
+        → IfOk found (IsFloatReading mode layout float) → MatchResult result
+        (λ n. IsFloatRead layout float format n policy mode) (FloatNotRead layout float format policy mode) }
+{
+    let found = match found {
+        Ok(found) => found,
+        Err(_) => return Err(Refusal::NotFinite),
+    };
+    match found.image(policy) {
+        Some(number) => Ok(number_for_c(format, number, found.is_out_of_range())),
+        None => Err(Refusal::Numeral(ParseErrorKind::Overflow)),
+    }
+}
+
+/// The bits of a double, read as they are asked for.
+#[inline(always)]
+pub fn read_double(bits: u64, asked: &FloatAsked) -> Result<FixedNumber, Refusal>
+    ensures { MatchResult result (IsFloatReadAsAsked Binary64 bits asked.now)
+        (IsFloatNotReadAsAsked Binary64 bits asked.now) }
+{
+    brought(
+        read_binary64(bits, asked.format, asked.mode),
+        asked.format,
+        asked.policy,
+    )
+}
+
+/// The bits of a float of single precision, read as they are asked for.
+#[inline(always)]
+pub fn read_float(bits: u32, asked: &FloatAsked) -> Result<FixedNumber, Refusal>
+    ensures { MatchResult result (IsFloatReadAsAsked Binary32 bits asked.now)
+        (IsFloatNotReadAsAsked Binary32 bits asked.now) }
+{
+    brought(
+        read_binary32(bits, asked.format, asked.mode),
+        asked.format,
+        asked.policy,
+    )
+}
+
+/// The bits of a double, read into a format.
+pub fn double_read(
+    bits: u64,
+    format: FixedFormat,
+    policy: u32,
+    mode: u32,
+) -> Result<FixedNumber, Refusal>
+    ensures { MatchResult result
+        (λ n. NamesBoth policy mode (IsFloatRead Binary64 bits (format_of format.is_signed format.width format.frac) n))
+        (FloatIsRefused Binary64 bits (format_of format.is_signed format.width format.frac) policy mode) }
+{
+    match float_asked_of(format, policy, mode) {
+        Ok(asked) => read_double(bits, &asked),
+        Err(refusal) => Err(refusal),
+    }
+}
+
+/// The bits of the double nearest to the value of bits of a format.
+pub fn double_of(bits: i64, format: FixedFormat) -> Result<u64, Refusal>
+    ensures { MatchResult result
+        (IsDoubleOf (format_of format.is_signed format.width format.frac) bits)
+        (PrintIsRefused (format_of format.is_signed format.width format.frac) bits) }
+{
+    let format = format_of(format, Refusal::BadFormat)?;
+    let number = number_in(bits, format, Refusal::BadBits)?;
+    Ok(binary64_of(number, format))
+}

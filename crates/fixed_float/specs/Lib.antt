@@ -1,0 +1,4 @@
+pub mod Floats
+pub mod Nearest
+pub mod Laws
+pub mod Inner

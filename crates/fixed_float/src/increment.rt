@@ -1,0 +1,22 @@
+//! The rounding of a share of an ulp in a mode.
+
+ghost use Rattle.std.specs.Prelude.{◌≡◌, ◌⊎◌, ◌+◌, ◌*◌, ◌%◌, ◌^◌, ◌<◌, ◌≤◌, ℕ};
+ghost use Rattle.fixed_bits.specs.Rounded.{IsRounded};
+
+use fixed_bits::{ReadMode, magnitude_mode_of, share_increment};
+
+/// How many ulps rounding in a mode adds to the whole ulps of a magnitude if rest / unit of an ulp is left: none or
+/// one. `negative` is the sign of the number, and `odd` is 1 if the whole number of ulps is odd. Less than half of a
+/// unit is rounded alike in any greater unit.
+#[inline(always)]
+pub fn mode_increment(mode: ReadMode, negative: bool, rest: u64, unit: u64, odd: u64) -> u64
+    requires small { rest < unit }
+    requires unit { unit < 2 ^ 63 }
+    requires odd { odd < 2 }
+    ensures rounded { (q den : ℕ) → q % 2 ≡ odd → (unit ≡ den) ⊎ ((2 * rest < unit) × (unit ≤ den))
+        → IsRounded mode negative (q * den + rest) den (q + result) }
+    ensures none { rest ≡ 0 → result ≡ 0 }
+    ensures most { result ≤ 1 }
+{
+    share_increment(rest, unit, odd, magnitude_mode_of(mode, negative))
+}

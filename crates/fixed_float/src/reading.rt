@@ -1,0 +1,140 @@
+//! Reading a float into a format: one shift and one rounding.
+
+ghost use Rattle.std.specs.Prelude.{◌≡◌, ◌↔◌, ◌<◌, ◌≤◌, ◌^◌, ◌*◌, ◌/◌, IsTrue, IsOk, IfOk};
+ghost use Rattle.fixed_float.specs.Floats.{IsFinite, IsFloatReading};
+ghost use Rattle.fixed_float.specs.Inner.Fields.{IsLowOf, IsScaledReading, IsShift};
+ghost use Rattle.fixed_float.specs.declared.layout.FloatLayout.TheVariants.{Binary32, Binary64};
+
+use crate::increment::mode_increment;
+use crate::layout::{FloatFields, binary32_fields, binary64_fields};
+use fixed_bits::{Format, Number, ReadMode};
+use fixed_read::ReadNumber;
+
+/// Why a float is refused: it is an infinity or a NaN.
+#[derive(Clone, Copy, Debug, PartialEq, Eq)]
+pub struct NotFinite;
+
+/// The scale of a double that is its significand.
+const BINARY64_UNIT: u32 = 1075;
+
+/// The scale of a float of single precision that is its significand.
+const BINARY32_UNIT: u32 = 150;
+
+/// How far a scale is to be shifted down to another, but at most `most`.
+#[inline(always)]
+fn shift(from: u32, to: u32, most: u32) -> u32
+    ensures shift { IsShift from to most result }
+    ensures most { result ≤ most }
+{
+    from.saturating_sub(to).min(most)
+}
+
+/// Two to the power of `bits`.
+#[inline(always)]
+pub fn power_of_two(bits: u32) -> u64
+    requires { bits ≤ 62 }
+    ensures power { result ≡ 2 ^ bits }
+    ensures least { 0 < result }
+    ensures most { result < 2 ^ 63 }
+{
+    1 << bits
+}
+
+/// A significand over two to the power of `bits`, rounded down.
+#[inline(always)]
+fn quotient(significand: u64, bits: u32) -> u64
+    requires bits { bits ≤ 62 }
+    requires few_bits { significand < 2 ^ 53 }
+    ensures quotient { result ≡ significand / 2 ^ bits }
+    ensures few_bits { result < 2 ^ 53 }
+{
+    significand >> bits
+}
+
+/// A significand times two to the power of `bits`.
+#[inline(always)]
+fn multiple(significand: u64, bits: u32) -> u128
+    requires bits { bits ≤ 64 }
+    requires few_bits { significand < 2 ^ 53 }
+    ensures multiple { result ≡ significand * 2 ^ bits }
+    ensures few_bits { result < 2 ^ 117 }
+{
+    u128::from(significand) << bits
+}
+
+/// The number with that sign and magnitude. Its sign is kept where the magnitude is 0.
+#[inline(always)]
+fn signed(negative: bool, magnitude: u128) -> Number
+    ensures sign { result.negative ≡ negative }
+    ensures low { IsLowOf result magnitude }
+{
+    Number {
+        low: (magnitude % (1 << 64)) as u64,
+        negative,
+        has_high_bits: magnitude >= 1 << 64,
+    }
+}
+
+/// Whether nothing is left.
+#[inline(always)]
+fn is_nothing(rest: u64) -> bool
+    ensures { IsTrue result ↔ (rest ≡ 0) }
+{
+    rest == 0
+}
+
+/// The read number of a significand times two to the power of its scale less `unit`, the scale of one.
+///
+/// A magnitude shifted up by more than 64 bits has the same low bits as one shifted by 64, and one shifted down by 62
+/// bits or more is less than half of an ulp.
+#[inline(always)]
+fn read_fields(fields: FloatFields, unit: u32, format: Format, mode: ReadMode) -> ReadNumber
+    requires few_bits { fields.significand < 2 ^ 53 }
+    requires few_scales { fields.scale < 2 ^ 11 }
+    requires unit { unit ≤ 1075 }
+    ensures reading { IsScaledReading mode fields unit result }
+    ensures format { result.format ≡ format }
+{
+    let scale = fields.scale + format.frac();
+    let down = shift(unit, scale, 62);
+    let ulp = power_of_two(down);
+    let rest = fields.significand % ulp;
+    let whole = multiple(quotient(fields.significand, down), shift(scale, unit, 64));
+    let more = mode_increment(mode, fields.negative, rest, ulp, (whole % 2) as u64);
+    let number = signed(fields.negative, whole + u128::from(more));
+    ReadNumber::new(number, format, is_nothing(rest))
+}
+
+/// Reads a double, given by its bits, into a format: its exact value rounded to ulps in a mode.
+///
+/// # Errors
+///
+/// Infinities and NaNs are refused.
+#[inline(always)]
+pub fn read_binary64(bits: u64, format: Format, mode: ReadMode) -> Result<ReadNumber, NotFinite>
+    ensures finite { IsOk result ↔ IsFinite Binary64 bits }
+    ensures reading { IfOk result (IsFloatReading mode Binary64 bits) }
+    ensures format { IfOk result (λ found. found.format ≡ format) }
+{
+    match binary64_fields(bits) {
+        Some(fields) => Ok(read_fields(fields, BINARY64_UNIT, format, mode)),
+        None => Err(NotFinite),
+    }
+}
+
+/// Reads a float of single precision, given by its bits, into a format: its exact value rounded to ulps in a mode.
+///
+/// # Errors
+///
+/// Infinities and NaNs are refused.
+#[inline(always)]
+pub fn read_binary32(bits: u32, format: Format, mode: ReadMode) -> Result<ReadNumber, NotFinite>
+    ensures finite { IsOk result ↔ IsFinite Binary32 bits }
+    ensures reading { IfOk result (IsFloatReading mode Binary32 bits) }
+    ensures format { IfOk result (λ found. found.format ≡ format) }
+{
+    match binary32_fields(bits) {
+        Some(fields) => Ok(read_fields(fields, BINARY32_UNIT, format, mode)),
+        None => Err(NotFinite),
+    }
+}
