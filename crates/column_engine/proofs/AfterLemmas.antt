@@ -8,6 +8,7 @@ use Rattle.column_engine.specs.Run.{HasRun}
 use Rattle.column_engine.specs.Skip.{AreFirst, AreWhole, HasRunAfter, PassesLines, StopsLines, newlines}
 use Rattle.column_engine.specs.Steps.{SameCounts}
 use Rattle.column_engine.specs.declared.columns.Column.{Column}
+use Rattle.column_engine.specs.declared.columns.Keeping.{Keeping}
 use Rattle.column_engine.specs.declared.end.Stop.{Stop}
 use Rattle.column_engine.specs.declared.end.Stop.TheVariants.{Done, NoColumn, NoMemory, NoName, ReadFault, TooLong, Unclosed, WriteFault}
 use Rattle.column_engine.specs.declared.run.TheConstants.{MAX_TEXT}
@@ -68,7 +69,7 @@ lines_are_the_ones count xs ys rest rest' e first next =
     (same, left_cancel xs rest rest' (e ∙ ap (λ l. l ++ rest') (sym same)))
 
 -- ---- the run after them
-module _ (A : List ℕ → AnswerText → Type 0) (one : (field : List ℕ) (a b : AnswerText) → A field a → A field b → a ≡ b) (keeps : Bool) (d : ℕ) (columns : List Column) where
+module _ (A : List ℕ → AnswerText → Type 0) (one : (field : List ℕ) (a b : AnswerText) → A field a → A field b → a ≡ b) (keeps : Keeping) (d : ℕ) (columns : List Column) where
   -- what is left after the lines, and what was written by then
   pub record RunsAfter (count : ℕ) (stop : Stop) (s u : State) (input before a : List ℕ) (left : Option (List ℕ)) : Type 0 where
     pub bytes : List ℕ

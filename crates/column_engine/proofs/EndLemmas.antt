@@ -12,6 +12,7 @@ use Rattle.column_engine.specs.Run.{AnswersLast, Ends, HasFailures, HasRun, IsEn
 use Rattle.column_engine.specs.Steps.{IsRecord, IsUnanswered, LacksColumn}
 use Rattle.column_engine.specs.declared.columns.Column.{Column}
 use Rattle.column_engine.specs.declared.columns.Column.TheVariants.{At, Named}
+use Rattle.column_engine.specs.declared.columns.Keeping.{Keeping}
 use Rattle.column_engine.specs.declared.columns.Range.{Range}
 use Rattle.column_engine.specs.declared.end.Stop.{Stop}
 use Rattle.column_engine.specs.declared.end.Stop.TheVariants.{Done, NoColumn, NoMemory, NoName, ReadFault, TooLong, Unclosed, WriteFault}
@@ -92,7 +93,7 @@ any_found names (column ∷ columns) [] are missing = are
 any_found names (column ∷ columns) (r ∷ rs) are (inl missing) = missing_found names column r are.0 missing
 any_found names (column ∷ columns) (r ∷ rs) are (inr missing) = any_found names columns rs are.1 missing
 
-module _ (A : List ℕ → AnswerText → Type 0) (one : (field : List ℕ) (a b : AnswerText) → A field a → A field b → a ≡ b) (keeps : Bool) (d : ℕ) (columns : List Column) where
+module _ (A : List ℕ → AnswerText → Type 0) (one : (field : List ℕ) (a b : AnswerText) → A field a → A field b → a ≡ b) (keeps : Keeping) (d : ℕ) (columns : List Column) where
   some_short : (s t : State) (row : Row) (text : List ℕ)
       → PassesHeader d columns s row text t ⊎ (AnswersFields A keeps d s row text t ⊎ AppendsField A keeps d s row text t) → length row.body ≤ MAX_RECORD
   some_short s t row text (inl header) = header.short

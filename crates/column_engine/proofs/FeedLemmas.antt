@@ -18,6 +18,7 @@ use Rattle.column_engine.specs.declared.end.Stop.TheVariants.{Done, NoColumn, No
 use Rattle.column_engine.specs.declared.record_buffer.TheConstants.{MAX_RECORD}
 use Rattle.std.specs.Prelude.{◌≢◌, Result, Ok, Err, Some, None, IfErr, IfSome, OnErr}
 use Rattle.column_engine.specs.declared.columns.Column.{Column}
+use Rattle.column_engine.specs.declared.columns.Keeping.{Keeping}
 use Rattle.column_engine.specs.declared.place.Place.{Place}
 use Rattle.column_engine.specs.declared.place.Place.TheVariants.{Start}
 use Rattle.column_engine.proofs.GatherLemmas.{flushes_both, flushes_none}
@@ -117,7 +118,7 @@ pub stops_by : (r : Result (Unit {0}) Stop) (P : Type 0) (F : Stop → Type 0) �
 stops_by (Ok x) P F is p f = tt
 stops_by (Err e) P F is p f = subst F (sym is) (f p)
 
-module _ (A : List ℕ → AnswerText → Type 0) (keeps : Bool) (d : ℕ) (columns : List Column) where
+module _ (A : List ℕ → AnswerText → Type 0) (keeps : Keeping) (d : ℕ) (columns : List Column) where
   pub row_empty : (s : State) (row : Row) → row.body ≡ [] → AnswersRow A keeps d columns s row row.end s
   row_empty s row is = inl (record { empty = is; text_is = refl; after = refl })
 
@@ -203,7 +204,7 @@ module _ (A : List ℕ → AnswerText → Type 0) (keeps : Bool) (d : ℕ) (colu
       → FailsRow A keeps d columns row s held a b
   fails_whole s t row text held a b answer part = record { text = text; part = inl (t, answer); left = part.0; gathered = part.1 }
 
-module _ (A : List ℕ → AnswerText → Type 0) (keeps : Bool) (d : ℕ) (columns : List Column) where
+module _ (A : List ℕ → AnswerText → Type 0) (keeps : Keeping) (d : ℕ) (columns : List Column) where
   pub rows_append : (s t u : State) (rows more : List Row) (text most : List ℕ) → AnswersRows A keeps d columns s rows text t → AnswersRows A keeps d columns t more most u
       → AnswersRows A keeps d columns s (rows ++ more) (text ++ most) u
   rows_append s t u [] more text most first next = rw (first.0, ← first.1) next

@@ -11,6 +11,7 @@ use Rattle.line_engine.specs.Lines.{onto_first}
 use Rattle.column_engine.specs.Answers.{AreAnswers, FieldAnswer, IsAnswer, answers_text, before_field, count_refused, is_asked}
 use Rattle.column_engine.specs.Gathered.{GathersAnswer, GathersField, GathersFields, GathersPart, IsFieldAt, ahead, only, unanswered}
 use Rattle.column_engine.specs.Rows.{ends_field, raw_fields, within_after}
+use Rattle.column_engine.specs.declared.columns.Keeping.{Keeping}
 use Rattle.column_engine.specs.declared.columns.Range.{Range}
 use Rattle.column_engine.specs.declared.place.Place.{Place}
 use Rattle.column_engine.specs.declared.place.Place.TheVariants.{Start}
@@ -48,7 +49,7 @@ ahead_rest held body from start low high =
     let all : take (length body - start) (drop start body) ≡ drop start body = take_rest body start in
     ap (λ l. ahead held body from start ++ l) (sym all) ∙ sym (ahead_more held body from start (length body) low high)
 
-module _ (A : List ℕ → AnswerText → Type 0) (keeps : Bool) (d : ℕ) where
+module _ (A : List ℕ → AnswerText → Type 0) (keeps : Keeping) (d : ℕ) where
   pub pass_unasked : (asks : Bool) (held body : List ℕ) (from start end : ℕ) (a : Option (List ℕ)) → asks ≡ false → from ≤ start → start ≤ end
       → GathersField A keeps d asks (take (end - start) (drop start body)) false (ahead held body from start) (ahead held body from end) a a
   pass_unasked asks held body from start end a is low high = rw is (record {
@@ -156,7 +157,7 @@ none_refused : (raws : List (List ℕ)) → count_refused (map unanswered raws) 
 none_refused [] = refl
 none_refused (raw ∷ raws) = omega (arith, none_refused raws)
 
-module _ (A : List ℕ → AnswerText → Type 0) (keeps : Bool) (d : ℕ) (asked : List Range) where
+module _ (A : List ℕ → AnswerText → Type 0) (keeps : Keeping) (d : ℕ) (asked : List Range) where
   answers_kept : (column : ℕ) (raws : List (List ℕ)) → ((k : ℕ) → column ≤ k → k < column + length raws → is_asked asked k ≡ false)
       → AreAnswers A keeps d asked column raws (map unanswered raws)
   answers_kept column [] none = tt
@@ -256,7 +257,7 @@ none_after d asked body past column start most after span fits short room none k
     let few = fields_few d Start (drop start body) in
     none k (omega (arith, after, low)) (omega (arith, high, few, length-drop start body, span, fits, short, room))
 
-module _ (A : List ℕ → AnswerText → Type 0) (keeps : Bool) (d : ℕ) (asked : List Range) where
+module _ (A : List ℕ → AnswerText → Type 0) (keeps : Keeping) (d : ℕ) (asked : List Range) where
   -- one more field
   pub fields_next : (some : List (List ℕ)) (raw : List ℕ) (column count n : ℕ) (held before from_here new : List ℕ) (a b c : Option (List ℕ)) → column ≡ length some
       → GathersFields A keeps d asked 0 some count held before a b → before ++ before_field d column ≡ from_here
@@ -359,7 +360,7 @@ refused_around : (some more : List (List ℕ)) (answer : FieldAnswer)
 refused_around [] more answer = omega (arith, none_refused more)
 refused_around (raw ∷ some) more answer = omega (arith, refused_around some more answer)
 
-module _ (A : List ℕ → AnswerText → Type 0) (keeps : Bool) (d : ℕ) where
+module _ (A : List ℕ → AnswerText → Type 0) (keeps : Keeping) (d : ℕ) where
   -- one field answered, and the bytes around it
   pub field_around : (body : List ℕ) (column start end : ℕ) (text : List ℕ) (refused : Bool) (held new : List ℕ) (a b : Option (List ℕ)) → IsFieldAt d body column start end
       → IsAnswer A keeps d true (take (end - start) (drop start body)) (record { text = text; refused = refused })

@@ -8,6 +8,7 @@ use Rattle.line_engine.specs.Inner.Progress.{Flushes}
 use Rattle.line_engine.specs.Output.{AppendsPrefix}
 use Rattle.column_engine.specs.Answers.{AreAnswers, FieldAnswer, IsAnswer, answers_text, before_field, count_refused, is_asked}
 use Rattle.column_engine.specs.Gathered.{GathersField, GathersFields, GathersPart}
+use Rattle.column_engine.specs.declared.columns.Keeping.{Keeping}
 use Rattle.column_engine.specs.declared.columns.Range.{Range}
 
 -- nothing more
@@ -88,7 +89,7 @@ if_ok (Ok x) P Q f p = f x p
 if_ok (Err e) P Q f p = tt
 
 -- ---- the answers to fields
-module _ (A : List ℕ → AnswerText → Type 0) (keeps : Bool) (d : ℕ) (asked : List Range) where
+module _ (A : List ℕ → AnswerText → Type 0) (keeps : Keeping) (d : ℕ) (asked : List Range) where
   answers_more : (column : ℕ) (raws : List (List ℕ)) (answers : List FieldAnswer) (raw : List ℕ) (answer : FieldAnswer)
       → AreAnswers A keeps d asked column raws answers → IsAnswer A keeps d (is_asked asked (column + length raws)) raw answer
       → AreAnswers A keeps d asked column (raws ++ raw ∷ []) (answers ++ answer ∷ [])

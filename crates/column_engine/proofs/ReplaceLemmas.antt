@@ -5,10 +5,11 @@ use Rattle.std.specs.Prelude.{◌≢◌, ⊤, None, Option, Some}
 use Rattle.csv.specs.Writing.{default_writer, escaped, needs_byte, needs_quotes, quoted}
 use Rattle.line_engine.specs.AnswerText.{AnswerText}
 use Rattle.line_engine.specs.Lines.{onto_first}
-use Rattle.column_engine.specs.Answers.{AnswersFields, AnswersRow, AnswersRows, AppendsField, AreAnswers, FieldAnswer, IsAnswer, PassesHeader, State, answers_text, as_field, before_field, calls_for_quotes, first_asked, is_asked, stays}
+use Rattle.column_engine.specs.Answers.{AnswersFields, AnswersRow, AnswersRows, AppendsField, AreAnswers, FieldAnswer, IsAnswer, PassesHeader, State, answers_text, as_field, before_field, calls_for_quotes, first_asked, is_asked, keeps_quotes, stays, written_for}
 use Rattle.column_engine.specs.Laws.{AreReplaced, AreReplacedRows, AreRows, FieldsAreReplaced, IsDelimiter, IsRecordOf, IsReplaced, IsReplacedRow}
 use Rattle.column_engine.specs.Rows.{IsEnded, IsLast, IsUnended, Row, content, ends_field, ends_record, field_texts, place_after, places_after, raw_fields, row_text, rows_text, within_after}
 use Rattle.column_engine.specs.declared.columns.Column.{Column}
+use Rattle.column_engine.specs.declared.columns.Keeping.{Keeping}
 use Rattle.column_engine.specs.declared.columns.Range.{Range}
 use Rattle.column_engine.specs.declared.place.Place.{Place}
 use Rattle.column_engine.specs.declared.place.Place.TheVariants.{AfterQuote, Inside, Quoted, Start}
@@ -342,6 +343,11 @@ field_means d text false is e =
     let some : (length text == 0) ≡ false = or_left _ _ first in
     rw e (plain_means d text (λ none. absurd (false≢true (sym some ∙ ap (λ l. length l == 0) none))) (or_right _ _ e))
 
+-- the reply to a field, in quotes or not
+written_means : (d : ℕ) (keeps : Keeping) (raw : List ℕ) (reply : AnswerText) (has : Bool) → IsDelimiter d → keeps_quotes keeps raw reply ≡ has → Means d (written_for keeps d raw reply) reply.text
+written_means d keeps raw reply true is e = rw e (quoted_means d reply.text is)
+written_means d keeps raw reply false is e = rw e (field_means d reply.text (calls_for_quotes d reply.text) is refl)
+
 -- ---- the answers to the fields of a record
 pub texts : List FieldAnswer → List (List ℕ)
 texts answers = map (λ (a : FieldAnswer). a.text) answers
@@ -359,21 +365,21 @@ texts_joined d [] = refl
 texts_joined d (answer ∷ answers) = ap (λ l. answer.text ++ l) (texts_joined_more d 0 answers)
 
 -- an answer to a field
-pub record Answered (A : List ℕ → AnswerText → Type 0) (keeps : Bool) (d : ℕ) (asks : Bool) (raw text : List ℕ) : Type 0 where
+pub record Answered (A : List ℕ → AnswerText → Type 0) (keeps : Keeping) (d : ℕ) (asks : Bool) (raw text : List ℕ) : Type 0 where
   pub raw_is : IsRaw d Start text
   pub closed : places_after d Start raw ≢ Quoted → places_after d Start text ≢ Quoted
   pub some : raw ≢ [] → text ≢ []
   pub replaced : IsReplaced A keeps asks (content Start raw) (content Start text)
 
-module _ (A : List ℕ → AnswerText → Type 0) (keeps : Bool) (d : ℕ) where
+module _ (A : List ℕ → AnswerText → Type 0) (keeps : Keeping) (d : ℕ) where
   replied : (raw : List ℕ) (reply : AnswerText) (answer : FieldAnswer) (kept : Bool) → IsDelimiter d → IsRaw d Start raw → A (content Start raw) reply → stays keeps reply ≡ kept
-      → answer ≡ record { text = if stays keeps reply then raw else as_field d reply.text; refused = reply.fault } → Answered A keeps d true raw answer.text
+      → answer ≡ record { text = if stays keeps reply then raw else written_for keeps d raw reply; refused = reply.fault } → Answered A keeps d true raw answer.text
   replied raw reply answer true is raw_is meaning e answer_is =
       let text : answer.text ≡ raw = ap (λ (a : FieldAnswer). a.text) answer_is ∙ rw e refl in
       rw text (record { raw_is = raw_is; closed = λ x. x; some = λ x. x; replaced = (reply, meaning, rw e refl) })
   replied raw reply answer false is raw_is meaning e answer_is =
-      let text : answer.text ≡ as_field d reply.text = ap (λ (a : FieldAnswer). a.text) answer_is ∙ rw e refl in
-      let means = field_means d reply.text (calls_for_quotes d reply.text) is refl in
+      let text : answer.text ≡ written_for keeps d raw reply = ap (λ (a : FieldAnswer). a.text) answer_is ∙ rw e refl in
+      let means = written_means d keeps raw reply (keeps_quotes keeps raw reply) is refl in
       rw text (record {
         raw_is = means.raw_is;
         closed = λ x. means.closed;
@@ -544,7 +550,7 @@ line_outside Inside byte is = λ e. cc e
 line_outside Quoted byte is = absurd (false≢true is)
 line_outside AfterQuote byte is = λ e. cc e
 
-module _ (A : List ℕ → AnswerText → Type 0) (keeps : Bool) (d : ℕ) (columns : List Column) where
+module _ (A : List ℕ → AnswerText → Type 0) (keeps : Keeping) (d : ℕ) (columns : List Column) where
   -- what is written for a record
   pub record NewRow (s : State) (row : Row) (text : List ℕ) : Type 0 where
     pub new : Row

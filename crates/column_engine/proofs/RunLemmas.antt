@@ -15,6 +15,7 @@ use Rattle.column_engine.specs.Rows.{IsLast, IsUnended, Row, byte_order_mark, en
 use Rattle.column_engine.specs.Run.{Ends, HasFailures, IsEndless, RunsOn, RunsSoFar, RunsText, StopsText, Writes}
 use Rattle.column_engine.specs.Steps.{HasRisen, PassesRow, SameCounts, StopsRow}
 use Rattle.column_engine.specs.declared.columns.Column.{Column}
+use Rattle.column_engine.specs.declared.columns.Keeping.{Keeping}
 use Rattle.column_engine.specs.declared.end.Stop.{Stop}
 use Rattle.column_engine.specs.declared.end.Stop.TheVariants.{Done, NoColumn, NoMemory, NoName, ReadFault, TooLong, Unclosed, WriteFault}
 use Rattle.column_engine.specs.declared.place.Place.{Place}
@@ -149,7 +150,7 @@ same_counts s = record { answered = refl; refused = refl; first = refl }
 counts_both : (s t u : State) → SameCounts s t → SameCounts t u → SameCounts s u
 counts_both s t u first next = record { answered = next.answered ∙ first.answered; refused = next.refused ∙ first.refused; first = next.first ∙ first.first }
 
-module _ (A : List ℕ → AnswerText → Type 0) (keeps : Bool) (d : ℕ) (columns : List Column) where
+module _ (A : List ℕ → AnswerText → Type 0) (keeps : Keeping) (d : ℕ) (columns : List Column) where
   -- why the records that ended in a chunk were no longer answered
   ends_feed : (stop : Stop) (s u : State) (rest part : List ℕ) (left : Option (List ℕ)) → StopsAt stop A keeps d columns s rest part → SameCounts s u → Ends stop A keeps d columns s rest left part u
   ends_feed WriteFault s u rest part left at counts = inr (at.0, inl (at.1.rest, at.1.split, at.1.ended), inl (at.2, counts))

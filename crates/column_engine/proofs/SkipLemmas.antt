@@ -11,6 +11,7 @@ use Rattle.column_engine.specs.Skip.{AreWhole, HasRunAfter, PassesLines, StopsLi
 use Rattle.column_engine.specs.Answers.{State}
 use Rattle.column_engine.specs.Steps.{SameCounts}
 use Rattle.column_engine.specs.declared.columns.Column.{Column}
+use Rattle.column_engine.specs.declared.columns.Keeping.{Keeping}
 use Rattle.column_engine.specs.declared.end.Stop.{Stop}
 use Rattle.column_engine.specs.declared.skip.TheConstants.{MAX_SKIPPED}
 use Rattle.line_engine.specs.AnswerText.{AnswerText}
@@ -180,7 +181,7 @@ same_counts s t u first next = record {
   first = next.first ∙ first.first;
 }
 
-pub after_counts : (count : ℕ) (stop : Stop) (A : List ℕ → AnswerText → Type 0) (keeps : Bool) (d : ℕ) (columns : List Column) (s u v : State) (left left' a b : Option (List ℕ))
+pub after_counts : (count : ℕ) (stop : Stop) (A : List ℕ → AnswerText → Type 0) (keeps : Keeping) (d : ℕ) (columns : List Column) (s u v : State) (left left' a b : Option (List ℕ))
     → SameCounts u v → HasRunAfter count stop A keeps d columns s u left left' a b → HasRunAfter count stop A keeps d columns s v left left' a b
 after_counts count stop A keeps d columns s u v left left' a b counts (inl x) = inl (x.0, same_counts s u v x.1 counts)
 after_counts count stop A keeps d columns s u v left left' a b counts (inr x) =

@@ -3,7 +3,7 @@ use Rattle.std.proofs.Common.{◌≡◌, ◌<◌, ◌≤◌, ◌+◌, ℕ, List,
 use Rattle.std.proofs.lemmas.Bool.{cases_lt, false≢true}
 use Rattle.std.specs.Prelude.{Option, Some, None, string_bytes}
 use Rattle.line_engine.specs.AnswerText.{AnswerText}
-use Rattle.column_engine.specs.Answers.{AnswersFields, AnswersRow, AnswersRows, AppendsField, AreAnswers, AreFound, FieldAnswer, HasNoNamed, IsAnswer, IsFirstNamed, IsFound, PassesHeader, State, answers_text, as_field, count_refused, first_asked, is_asked, one_more, stays}
+use Rattle.column_engine.specs.Answers.{AnswersFields, AnswersRow, AnswersRows, AppendsField, AreAnswers, AreFound, FieldAnswer, HasNoNamed, IsAnswer, IsFirstNamed, IsFound, PassesHeader, State, answers_text, count_refused, first_asked, is_asked, one_more, stays, written_for}
 use Rattle.column_engine.specs.Laws.{AnswersAreTheOne, RowsAreTheOnes}
 use Rattle.csv.specs.Reading.{strip_bom}
 use Rattle.column_engine.specs.Run.{AnswersLast, HasRun, RunsText, StopsText}
@@ -12,6 +12,7 @@ use Rattle.column_engine.specs.declared.end.Stop.TheVariants.{Done}
 use Rattle.column_engine.specs.Rows.{AreEnded, IsEnded, IsUnended, Row, ends_record, place_after, places_after, raw_fields, row_text, rows_text}
 use Rattle.column_engine.specs.declared.columns.Column.{Column}
 use Rattle.column_engine.specs.declared.columns.Column.TheVariants.{At, Named}
+use Rattle.column_engine.specs.declared.columns.Keeping.{Keeping}
 use Rattle.column_engine.specs.declared.columns.Range.{Range}
 use Rattle.column_engine.specs.declared.place.Place.{Place}
 use Rattle.column_engine.specs.declared.place.Place.TheVariants.{Start}
@@ -55,9 +56,9 @@ all_found_one names (column ∷ columns) (a ∷ others) (b ∷ bs) first next =
     ap (λ r. r ∷ others) (found_one names column a b first.0 next.0) ∙ ap (λ l. b ∷ l) (all_found_one names columns others bs first.1 next.1)
 
 -- ---- the answers
-module _ (A : List ℕ → AnswerText → Type 0) (one : (field : List ℕ) (a b : AnswerText) → A field a → A field b → a ≡ b) (keeps : Bool) (d : ℕ) where
+module _ (A : List ℕ → AnswerText → Type 0) (one : (field : List ℕ) (a b : AnswerText) → A field a → A field b → a ≡ b) (keeps : Keeping) (d : ℕ) where
   answer_of : List ℕ → AnswerText → FieldAnswer
-  answer_of raw reply = record { text = if stays keeps reply then raw else as_field d reply.text; refused = reply.fault }
+  answer_of raw reply = record { text = if stays keeps reply then raw else written_for keeps d raw reply; refused = reply.fault }
 
   answer_one : (asks : Bool) (raw : List ℕ) (a b : FieldAnswer) → IsAnswer A keeps d asks raw a → IsAnswer A keeps d asks raw b → a ≡ b
   unfolding answer_of
@@ -228,7 +229,7 @@ pub unended_none : (d : ℕ) (rest : List ℕ) → rest ≡ [] → IsUnended d S
 unfolding IsUnended
 unended_none d rest is = rw is tt
 
-module _ (A : List ℕ → AnswerText → Type 0) (one : (field : List ℕ) (a b : AnswerText) → A field a → A field b → a ≡ b) (keeps : Bool) (d : ℕ) (columns : List Column) where
+module _ (A : List ℕ → AnswerText → Type 0) (one : (field : List ℕ) (a b : AnswerText) → A field a → A field b → a ≡ b) (keeps : Keeping) (d : ℕ) (columns : List Column) where
   pub last_unended : (s u : State) (rest part : List ℕ) → AnswersLast A keeps d columns s rest part u → IsUnended d Start rest
   last_unended s u rest part (inl none) = unended_none d rest none.0
   last_unended s u rest part (inr some) = subst (IsUnended d Start) (sym some.1) some.2.unended

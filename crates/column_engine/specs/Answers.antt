@@ -9,6 +9,7 @@ use Rattle.column_engine.specs.declared.columns.Column.{Column}
 use Rattle.column_engine.specs.declared.columns.Column.TheVariants.{At, Named}
 use Rattle.column_engine.specs.declared.columns.Destination.{Destination}
 use Rattle.column_engine.specs.declared.columns.Destination.TheVariants.{InPlace, NewColumn}
+use Rattle.column_engine.specs.declared.columns.Keeping.{Keeping}
 use Rattle.column_engine.specs.declared.columns.Range.{Range}
 use Rattle.column_engine.specs.declared.place.Place.TheVariants.{Start}
 use Rattle.column_engine.specs.declared.record_buffer.TheConstants.{MAX_RECORD}
@@ -86,11 +87,11 @@ abbrev pub calls_for_quotes : ℕ → List ℕ → Bool
 calls_for_quotes delimiter text = (length text == 0) || (get_or text 0 0 == 239) || needs_quotes (record
     default_writer { delimiter = delimiter }) text
 
+abbrev pub in_quotes : ℕ → List ℕ → List ℕ
+in_quotes delimiter text = quoted (record default_writer { delimiter = delimiter }) text
+
 abbrev pub as_field : ℕ → List ℕ → List ℕ
-as_field delimiter text = if calls_for_quotes delimiter text then quoted (record default_writer {
-  delimiter =
-      delimiter;
-}) text else text
+as_field delimiter text = if calls_for_quotes delimiter text then in_quotes delimiter text else text
 
 -- what is written for a field, and whether it was refused
 pub record FieldAnswer : Type 0 where
@@ -98,22 +99,31 @@ pub record FieldAnswer : Type 0 where
   pub refused : Bool
 
 -- whether a field stays as it was: by a reply without a byte, and where it is refused and refused fields are kept
-abbrev pub stays : Bool → AnswerText → Bool
-stays keeps reply = (keeps && reply.fault) || (length reply.text == 0)
+abbrev pub stays : Keeping → AnswerText → Bool
+stays keeps reply = (keeps.refused && reply.fault) || (length reply.text == 0)
+
+-- whether the reply to a field is written in quotes because the field has them: if these are kept and it is no refusal
+abbrev pub keeps_quotes : Keeping → List ℕ → AnswerText → Bool
+keeps_quotes keeps raw reply = (keeps.quotes && not reply.fault) && (get_or raw 0 0 == 34)
+
+-- the reply to a field as a field
+abbrev pub written_for : Keeping → ℕ → List ℕ → AnswerText → List ℕ
+written_for keeps delimiter raw reply = if keeps_quotes keeps raw reply then in_quotes delimiter reply.text
+    else as_field delimiter reply.text
 
 -- the bytes of a field that is not asked for stay; those of one that is are replaced by the reply to its text, by
 -- this meaning of a reply, or stay
-abbrev pub IsAnswer : (List ℕ → AnswerText → Type 0) → Bool → ℕ → Bool → List ℕ → FieldAnswer → Type 0
+abbrev pub IsAnswer : (List ℕ → AnswerText → Type 0) → Keeping → ℕ → Bool → List ℕ → FieldAnswer → Type 0
 IsAnswer A keeps delimiter false raw answer = answer ≡ record { text = raw; refused = false }
 IsAnswer A keeps delimiter true raw answer = (reply : AnswerText) × A (content Start raw) reply
     × (answer ≡ record {
-      text = if stays keeps reply then raw else as_field delimiter reply.text;
+      text = if stays keeps reply then raw else written_for keeps delimiter raw reply;
       refused =
           reply.fault;
     })
 
 -- these fields, the first of which is in this column, have these answers
-abbrev pub AreAnswers : (List ℕ → AnswerText → Type 0) → Bool → ℕ → List Range → ℕ → List (List ℕ) → List FieldAnswer
+abbrev pub AreAnswers : (List ℕ → AnswerText → Type 0) → Keeping → ℕ → List Range → ℕ → List (List ℕ) → List FieldAnswer
     → Type 0
 AreAnswers A keeps delimiter asked column [] [] = ⊤
 AreAnswers A keeps delimiter asked column [] (answer ∷ answers) = ⊥
@@ -179,7 +189,7 @@ pub record PassesHeader (delimiter : ℕ) (columns : List Column) (s : State) (r
   pub after : t ≡ one_more (record s { headed = false; asked = found }) 0
 
 -- a record: the answers to its fields, and the byte that ends it
-pub record AnswersFields (A : List ℕ → AnswerText → Type 0) (keeps : Bool) (delimiter : ℕ) (s : State) (row : Row)
+pub record AnswersFields (A : List ℕ → AnswerText → Type 0) (keeps : Keeping) (delimiter : ℕ) (s : State) (row : Row)
     (text : List ℕ) (t : State) : Type 0 where
   pub known : s.headed ≡ false
   pub in_place : s.into ≡ None
@@ -191,7 +201,7 @@ pub record AnswersFields (A : List ℕ → AnswerText → Type 0) (keeps : Bool)
   pub after : t ≡ one_more s (count_refused answers)
 
 -- a record with a new column: its bytes, the answer to the first column that is asked for, and the byte that ends it
-pub record AppendsField (A : List ℕ → AnswerText → Type 0) (keeps : Bool) (delimiter : ℕ) (s : State) (row : Row)
+pub record AppendsField (A : List ℕ → AnswerText → Type 0) (keeps : Keeping) (delimiter : ℕ) (s : State) (row : Row)
     (text : List ℕ) (t : State) : Type 0 where
   pub known : s.headed ≡ false
   pub name : List ℕ
@@ -210,13 +220,14 @@ pub record PassesEmpty (s : State) (row : Row) (text : List ℕ) (t : State) : T
   pub text_is : text ≡ row.end
   pub after : t ≡ s
 
-abbrev pub AnswersRow : (List ℕ → AnswerText → Type 0) → Bool → ℕ → List Column → State → Row → List ℕ → State → Type 0
+abbrev pub AnswersRow : (List ℕ → AnswerText → Type 0) → Keeping → ℕ → List Column → State → Row → List ℕ → State
+    → Type 0
 AnswersRow A keeps delimiter columns s row text t =
     PassesEmpty s row text t ⊎ ((row.body ≢ []) × (PassesHeader delimiter columns s row text t
     ⊎ (AnswersFields A keeps delimiter s row text t ⊎ AppendsField A keeps delimiter s row text t)))
 
 -- this text is written for these records
-abbrev pub AnswersRows : (List ℕ → AnswerText → Type 0) → Bool → ℕ → List Column → State → List Row → List ℕ → State
+abbrev pub AnswersRows : (List ℕ → AnswerText → Type 0) → Keeping → ℕ → List Column → State → List Row → List ℕ → State
     → Type 0
 AnswersRows A keeps delimiter columns s [] text t = (text ≡ []) × (t ≡ s)
 AnswersRows A keeps delimiter columns s (row ∷ rows) text t = (first : List ℕ) × (rest : List ℕ) × (between : State)

@@ -7,6 +7,7 @@ use Rattle.column_engine.specs.Answers.{AnswersRows, State}
 use Rattle.column_engine.specs.Rows.{AreEnded, IsEnded, IsUnended, Row, places_after, row_text, rows_text}
 use Rattle.column_engine.specs.Steps.{SameCounts, IsUnanswered, IsRowPart}
 use Rattle.column_engine.specs.declared.columns.Column.{Column}
+use Rattle.column_engine.specs.declared.columns.Keeping.{Keeping}
 use Rattle.column_engine.specs.declared.end.Stop.{Stop}
 use Rattle.column_engine.specs.declared.end.Stop.TheVariants.{Done, NoColumn, NoMemory, NoName, ReadFault, TooLong}
 use Rattle.column_engine.specs.declared.end.Stop.TheVariants.{Unclosed, WriteFault}
@@ -20,7 +21,7 @@ pub record IsStanding (delimiter : ℕ) (kept : List ℕ) (place : Place) : Type
   pub place_is : place ≡ places_after delimiter Start kept
 
 -- the records that end in these bytes were answered, and the rest of the bytes is kept
-pub record FeedsRows (A : List ℕ → AnswerText → Type 0) (keeps : Bool) (delimiter : ℕ) (columns : List Column) (bytes
+pub record FeedsRows (A : List ℕ → AnswerText → Type 0) (keeps : Keeping) (delimiter : ℕ) (columns : List Column) (bytes
     rest : List ℕ) (s t : State)
     (held held' : List ℕ) (written written' : Option (List ℕ)) : Type 0 where
   pub rows : List Row
@@ -42,7 +43,8 @@ pub record BeginsWith (delimiter : ℕ) (row : Row) (bytes : List ℕ) : Type 0 
   pub ended : IsEnded delimiter row
 
 -- why no more records were answered of a text that goes on so, and what of the next record was to be written
-abbrev pub StopsAt : Stop → (List ℕ → AnswerText → Type 0) → Bool → ℕ → List Column → State → List ℕ → List ℕ → Type 0
+abbrev pub StopsAt : Stop → (List ℕ → AnswerText → Type 0) → Keeping → ℕ → List Column → State → List ℕ → List ℕ
+    → Type 0
 StopsAt TooLong A keeps delimiter columns s bytes part = IsTooLong delimiter bytes × (part ≡ [])
 StopsAt (NoColumn count) A keeps delimiter columns s bytes part =
     (row : Row) × BeginsWith delimiter row bytes × IsUnanswered (NoColumn count) delimiter columns s row × (part ≡ [])
@@ -67,7 +69,7 @@ IsLeft NoMemory left held = ⊥
 IsLeft Unclosed left held = ⊥
 
 -- the first of the records that end in these bytes were answered, and then no more
-pub record FailsFeed (stop : Stop) (A : List ℕ → AnswerText → Type 0) (keeps : Bool) (delimiter : ℕ) (columns : List
+pub record FailsFeed (stop : Stop) (A : List ℕ → AnswerText → Type 0) (keeps : Keeping) (delimiter : ℕ) (columns : List
     Column) (bytes : List ℕ) (s t : State)
     (held held' : List ℕ) (written written' : Option (List ℕ)) : Type 0 where
   pub rest : List ℕ

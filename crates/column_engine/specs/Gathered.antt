@@ -9,6 +9,7 @@ use Rattle.column_engine.specs.Answers.{first_asked}
 use Rattle.column_engine.specs.Rows.{Row, raw_fields}
 use Rattle.column_engine.specs.declared.answer.Shown.{Shown}
 use Rattle.column_engine.specs.declared.answer.Shown.TheVariants.{Raw, Reply, Text}
+use Rattle.column_engine.specs.declared.columns.Keeping.{Keeping}
 use Rattle.column_engine.specs.declared.columns.Range.{Range}
 use Rattle.column_engine.specs.declared.place.Place.TheVariants.{Start}
 
@@ -43,7 +44,7 @@ shown_bytes Reply raw reply text = reply
 shown_bytes Text raw reply text = text
 
 -- the answer to a field was gathered
-pub record GathersField (A : List ℕ → AnswerText → Type 0) (keeps : Bool) (delimiter : ℕ) (asks : Bool)
+pub record GathersField (A : List ℕ → AnswerText → Type 0) (keeps : Keeping) (delimiter : ℕ) (asks : Bool)
     (raw : List ℕ) (refused : Bool)
     (held held' : List ℕ) (written written' : Option (List ℕ)) : Type 0 where
   pub text : List ℕ
@@ -51,7 +52,7 @@ pub record GathersField (A : List ℕ → AnswerText → Type 0) (keeps : Bool) 
   pub gathered : Flushes held text held' written written'
 
 -- the answer to a field that is asked for was, after these bytes
-pub record GathersAnswer (A : List ℕ → AnswerText → Type 0) (keeps : Bool) (delimiter : ℕ) (before raw : List ℕ)
+pub record GathersAnswer (A : List ℕ → AnswerText → Type 0) (keeps : Keeping) (delimiter : ℕ) (before raw : List ℕ)
     (refused : Bool)
     (held held' : List ℕ) (written written' : Option (List ℕ)) : Type 0 where
   pub text : List ℕ
@@ -59,7 +60,7 @@ pub record GathersAnswer (A : List ℕ → AnswerText → Type 0) (keeps : Bool)
   pub gathered : Flushes held (before ++ text) held' written written'
 
 -- the answers to these fields were
-pub record GathersFields (A : List ℕ → AnswerText → Type 0) (keeps : Bool) (delimiter : ℕ) (asked : List Range)
+pub record GathersFields (A : List ℕ → AnswerText → Type 0) (keeps : Keeping) (delimiter : ℕ) (asked : List Range)
     (column : ℕ) (raws : List (List ℕ)) (refused : ℕ)
     (held held' : List ℕ) (written written' : Option (List ℕ)) : Type 0 where
   pub answers : List FieldAnswer
@@ -68,7 +69,7 @@ pub record GathersFields (A : List ℕ → AnswerText → Type 0) (keeps : Bool)
   pub gathered : Flushes held (answers_text delimiter column answers) held' written written'
 
 -- the answers to the first of these fields, or to all, were to be written, and a write failed
-pub record GathersPart (A : List ℕ → AnswerText → Type 0) (keeps : Bool) (delimiter : ℕ) (asked : List Range) (raws :
+pub record GathersPart (A : List ℕ → AnswerText → Type 0) (keeps : Keeping) (delimiter : ℕ) (asked : List Range) (raws :
     List (List ℕ))
     (held : List ℕ) (written written' : Option (List ℕ)) : Type 0 where
   pub some : List (List ℕ)
@@ -79,7 +80,7 @@ pub record GathersPart (A : List ℕ → AnswerText → Type 0) (keeps : Bool) (
   pub fields : GathersFields A keeps delimiter asked 0 some refused held left written written'
 
 -- a record with a new column was gathered
-pub record GathersLonger (A : List ℕ → AnswerText → Type 0) (keeps : Bool) (delimiter : ℕ) (asked : List Range)
+pub record GathersLonger (A : List ℕ → AnswerText → Type 0) (keeps : Keeping) (delimiter : ℕ) (asked : List Range)
     (row : Row) (refused : Bool) (held held' : List ℕ) (written written' : Option (List ℕ)) : Type 0 where
   pub text : List ℕ
   pub answer : IsAnswer A keeps delimiter true (get_or (raw_fields delimiter Start row.body) (first_asked asked) [])

@@ -11,6 +11,7 @@ use Rattle.column_engine.specs.Run.{HasFailures}
 use Rattle.column_engine.specs.Skip.{AreFirst, HasRunAfter}
 use Rattle.column_engine.specs.Steps.{SameCounts}
 use Rattle.column_engine.specs.declared.columns.Column.{Column}
+use Rattle.column_engine.specs.declared.columns.Keeping.{Keeping}
 use Rattle.column_engine.specs.declared.columns.Range.{Range}
 use Rattle.column_engine.specs.declared.end.Stop.{Stop}
 use Rattle.column_engine.specs.declared.end.Stop.TheVariants.{Done, NoMemory}
@@ -47,14 +48,15 @@ RecordsAreTheKits = (delimiter : ℕ) (rows : List Row) → IsDelimiter delimite
 
 -- a reply without a byte leaves a field as it was, and so does a refusal where refused fields are kept; else the reply
 -- is the field's text
-abbrev pub IsReplaced : (List ℕ → AnswerText → Type 0) → Bool → Bool → List ℕ → List ℕ → Type 0
+abbrev pub IsReplaced : (List ℕ → AnswerText → Type 0) → Keeping → Bool → List ℕ → List ℕ → Type 0
 IsReplaced A keeps false text new = new ≡ text
 IsReplaced A keeps true text new = (reply : AnswerText) × A text reply
     × (new ≡ (if stays keeps reply then text else reply.text))
 
 -- the texts of these fields, the first of which is in this column, are those of other fields but where they are asked
 -- for
-abbrev pub AreReplaced : (List ℕ → AnswerText → Type 0) → Bool → List Range → ℕ → List (List ℕ) → List (List ℕ) → Type 0
+abbrev pub AreReplaced : (List ℕ → AnswerText → Type 0) → Keeping → List Range → ℕ → List (List ℕ) → List (List ℕ)
+    → Type 0
 AreReplaced A keeps asked column [] [] = ⊤
 AreReplaced A keeps asked column [] (new ∷ news) = ⊥
 AreReplaced A keeps asked column (text ∷ texts) [] = ⊥
@@ -69,7 +71,7 @@ pub record IsLonger (delimiter : ℕ) (row new : Row) (text : List ℕ) : Type 0
 -- what becomes of a record, by whether it is the header, and by the name of the new column where there is one: the
 -- header stays, or has the name as one field more; another record has the replies in its fields, or the reply to one as
 -- one field more
-abbrev pub IsRecordOf : (List ℕ → AnswerText → Type 0) → Bool → ℕ → List Range → Bool → Option (List ℕ) → Row → Row
+abbrev pub IsRecordOf : (List ℕ → AnswerText → Type 0) → Keeping → ℕ → List Range → Bool → Option (List ℕ) → Row → Row
     → Type 0
 IsRecordOf A keeps delimiter asked true None row new = new ≡ row
 IsRecordOf A keeps delimiter asked true (Some name) row new = IsLonger delimiter row new name
@@ -80,11 +82,11 @@ IsRecordOf A keeps delimiter asked false (Some name) row new = (text : List ℕ)
     × IsLonger delimiter row new text
 
 -- an empty line stays
-abbrev pub IsReplacedRow : (List ℕ → AnswerText → Type 0) → Bool → ℕ → State → Row → Row → Type 0
+abbrev pub IsReplacedRow : (List ℕ → AnswerText → Type 0) → Keeping → ℕ → State → Row → Row → Type 0
 IsReplacedRow A keeps delimiter s row new = ((row.body ≡ []) × (new ≡ row))
     ⊎ ((row.body ≢ []) × IsRecordOf A keeps delimiter s.asked s.headed s.into row new)
 
-abbrev pub AreReplacedRows : (List ℕ → AnswerText → Type 0) → Bool → ℕ → List Column → State → List Row → List Row
+abbrev pub AreReplacedRows : (List ℕ → AnswerText → Type 0) → Keeping → ℕ → List Column → State → List Row → List Row
     → State → Type 0
 AreReplacedRows A keeps delimiter columns s [] [] t = t ≡ s
 AreReplacedRows A keeps delimiter columns s [] (new ∷ news) t = ⊥
@@ -96,7 +98,7 @@ AreReplacedRows A keeps delimiter columns s (row ∷ rows) (new ∷ news) t = (b
 -- what is written for the records of a text has as many records, with the same fields but for the replies, which are in
 -- place of fields or one field more, and each keeps its end
 abbrev pub FieldsAreReplaced : (List ℕ → AnswerText → Type 0) → Type 0
-FieldsAreReplaced A = (keeps : Bool) (delimiter : ℕ) (columns : List Column) (s t : State) (rows : List Row)
+FieldsAreReplaced A = (keeps : Keeping) (delimiter : ℕ) (columns : List Column) (s t : State) (rows : List Row)
     (text : List ℕ) → IsDelimiter delimiter → AreRows delimiter rows
     → AnswersRows A keeps delimiter columns s rows text t
     → (news : List Row) × (text ≡ rows_text news) × AreRows delimiter news
@@ -104,9 +106,9 @@ FieldsAreReplaced A = (keeps : Bool) (delimiter : ℕ) (columns : List Column) (
 
 -- by a rule of one reply, at most one text is written for records, and one state follows
 abbrev pub AnswersAreTheOne : (List ℕ → AnswerText → Type 0) → Type 0
-AnswersAreTheOne A = (keeps : Bool) (delimiter : ℕ) (columns : List Column) (s : State) (rows : List Row) (a b : List ℕ)
-    (t u : State) → AnswersRows A keeps delimiter columns s rows a t → AnswersRows A keeps delimiter columns s rows b u
-    → (a ≡ b) × (t ≡ u)
+AnswersAreTheOne A = (keeps : Keeping) (delimiter : ℕ) (columns : List Column) (s : State) (rows : List Row)
+    (a b : List ℕ) (t u : State) → AnswersRows A keeps delimiter columns s rows a t
+    → AnswersRows A keeps delimiter columns s rows b u → (a ≡ b) × (t ≡ u)
 
 -- the records that end in a text, and what follows the last of them, are the ones
 abbrev pub RowsAreTheOnes : Type 0
@@ -121,7 +123,7 @@ LinesAreTheOnes = (count : ℕ) (bytes bytes' rest rest' : List ℕ) → bytes +
 
 -- a text has at most one output of a run to its end, with the counts
 abbrev pub OutputIsTheOne : (List ℕ → AnswerText → Type 0) → Type 0
-OutputIsTheOne A = (skipped : ℕ) (keeps : Bool) (delimiter : ℕ) (columns : List Column) (s t u : State)
+OutputIsTheOne A = (skipped : ℕ) (keeps : Keeping) (delimiter : ℕ) (columns : List Column) (s t u : State)
     (input left left' before a b : List ℕ)
     → HasRunAfter skipped Done A keeps delimiter columns s t (Some input) (Some left) (Some before) (Some a)
     → HasRunAfter skipped Done A keeps delimiter columns s u (Some input) (Some left') (Some before) (Some b)
@@ -130,7 +132,7 @@ OutputIsTheOne A = (skipped : ℕ) (keeps : Bool) (delimiter : ℕ) (columns : L
 -- while the counts of failures can rise, they say with what was taken of a text how its run ended that found memory,
 -- for a text of fewer bytes than a run takes
 abbrev pub RunEndIsTheOne : (List ℕ → AnswerText → Type 0) → Type 0
-RunEndIsTheOne A = (skipped : ℕ) (keeps : Bool) (delimiter : ℕ) (columns : List Column) (s t u : State)
+RunEndIsTheOne A = (skipped : ℕ) (keeps : Keeping) (delimiter : ℕ) (columns : List Column) (s t u : State)
     (input left before a b : List ℕ) (read read' write write' : ℕ) (stop other : Stop) → length input < MAX_TEXT
     → read < 2 ^ 64 - 1 → write < 2 ^ 64 - 1 → stop ≢ NoMemory → other ≢ NoMemory
     → HasRunAfter skipped stop A keeps delimiter columns s t (Some input) (Some left) (Some before) (Some a)

@@ -15,6 +15,7 @@ use Rattle.column_engine.specs.declared.columns.Column.{Column}
 use Rattle.column_engine.specs.declared.columns.Column.TheVariants.{At, Named}
 use Rattle.column_engine.specs.declared.columns.Range.{Range}
 use Rattle.column_engine.specs.declared.columns.Destination.{Destination}
+use Rattle.column_engine.specs.declared.columns.Keeping.{Keeping}
 use Rattle.column_engine.specs.declared.end.ColumnEnd.{ColumnEnd}
 use Rattle.column_engine.specs.declared.end.Stop.{Stop}
 use Rattle.column_engine.specs.declared.end.Stop.TheVariants.{Done, NoColumn, NoMemory, NoName, ReadFault, TooLong}
@@ -59,7 +60,7 @@ IsNext delimiter row rest left =
     × IsLast delimiter row)
 
 -- the last record was answered, where there is one
-abbrev pub AnswersLast : (List ℕ → AnswerText → Type 0) → Bool → ℕ → List Column → State → List ℕ → List ℕ → State
+abbrev pub AnswersLast : (List ℕ → AnswerText → Type 0) → Keeping → ℕ → List Column → State → List ℕ → List ℕ → State
     → Type 0
 AnswersLast A keeps delimiter columns s rest part u =
     ((rest ≡ []) × (part ≡ []) × SameCounts s u)
@@ -67,7 +68,7 @@ AnswersLast A keeps delimiter columns s rest part u =
     row part t × SameCounts t u)
 
 -- some of a record was to be written, or all of it
-abbrev pub WritesNext : (List ℕ → AnswerText → Type 0) → Bool → ℕ → List Column → State → List ℕ → Option (List ℕ)
+abbrev pub WritesNext : (List ℕ → AnswerText → Type 0) → Keeping → ℕ → List Column → State → List ℕ → Option (List ℕ)
     → List ℕ → State → Type 0
 WritesNext A keeps delimiter columns s rest left part u =
     ((part ≡ []) × SameCounts s u)
@@ -83,7 +84,7 @@ RefusesNext stop delimiter columns s rest left part u =
 -- after some records, why no more were answered of the bytes that were taken, which go on so, and what of the next
 -- record was to be
 -- written
-abbrev pub Ends : Stop → (List ℕ → AnswerText → Type 0) → Bool → ℕ → List Column → State → List ℕ → Option (List ℕ)
+abbrev pub Ends : Stop → (List ℕ → AnswerText → Type 0) → Keeping → ℕ → List Column → State → List ℕ → Option (List ℕ)
     → List ℕ → State → Type 0
 Ends Done A keeps delimiter columns s rest left part u = IsAtEnd left × AnswersLast A keeps delimiter columns s rest
     part u
@@ -111,7 +112,7 @@ Writes (NoColumn count) old new text = Appends old new text
 Writes NoName old new text = Appends old new text
 
 -- the first records of these bytes were answered, after something else that was written, and then no more
-pub record StopsText (stop : Stop) (A : List ℕ → AnswerText → Type 0) (keeps : Bool) (delimiter : ℕ) (columns : List
+pub record StopsText (stop : Stop) (A : List ℕ → AnswerText → Type 0) (keeps : Keeping) (delimiter : ℕ) (columns : List
     Column) (before bytes : List ℕ) (s u : State)
     (left written written' : Option (List ℕ)) : Type 0 where
   pub rows : List Row
@@ -127,7 +128,7 @@ pub record StopsText (stop : Stop) (A : List ℕ → AnswerText → Type 0) (kee
 
 -- of the bytes that were taken, a byte order mark was written, and the first records of those after it were answered,
 -- and then no more
-pub record RunsText (stop : Stop) (A : List ℕ → AnswerText → Type 0) (keeps : Bool) (delimiter : ℕ) (columns : List
+pub record RunsText (stop : Stop) (A : List ℕ → AnswerText → Type 0) (keeps : Keeping) (delimiter : ℕ) (columns : List
     Column) (s u : State)
     (left left' written written' : Option (List ℕ)) : Type 0 where
   pub bytes : List ℕ
@@ -138,8 +139,8 @@ pub record RunsText (stop : Stop) (A : List ℕ → AnswerText → Type 0) (keep
 
 -- of the bytes that were taken, a byte order mark was written, and the records of those after it that ended were
 -- answered
-pub record RunsSoFar (A : List ℕ → AnswerText → Type 0) (keeps : Bool) (delimiter : ℕ) (columns : List Column) (rest :
-    List ℕ) (s t : State)
+pub record RunsSoFar (A : List ℕ → AnswerText → Type 0) (keeps : Keeping) (delimiter : ℕ) (columns : List Column)
+    (rest : List ℕ) (s t : State)
     (left left' written written' : Option (List ℕ)) : Type 0 where
   pub bytes : List ℕ
   pub taken : Consumes left left' bytes
@@ -150,14 +151,14 @@ pub record RunsSoFar (A : List ℕ → AnswerText → Type 0) (keeps : Bool) (de
   pub fed : FeedsRows A keeps delimiter columns (strip_bom bytes) rest s t [] [] between written'
 
 -- and no byte order mark can be made of the next bytes
-pub record RunsOn (A : List ℕ → AnswerText → Type 0) (keeps : Bool) (delimiter : ℕ) (columns : List Column) (rest :
+pub record RunsOn (A : List ℕ → AnswerText → Type 0) (keeps : Keeping) (delimiter : ℕ) (columns : List Column) (rest :
     List ℕ) (s t : State)
     (left left' written written' : Option (List ℕ)) : Type 0 where
   pub so_far : RunsSoFar A keeps delimiter columns rest s t left left' written written'
   pub goes_on : (more : List ℕ) → strip_bom (so_far.bytes ++ more) ≡ strip_bom so_far.bytes ++ more
 
 -- a text that has no end among so many bytes
-pub record IsEndless (stop : Stop) (A : List ℕ → AnswerText → Type 0) (keeps : Bool) (delimiter : ℕ) (columns : List
+pub record IsEndless (stop : Stop) (A : List ℕ → AnswerText → Type 0) (keeps : Keeping) (delimiter : ℕ) (columns : List
     Column) (s u : State)
     (left left' written written' : Option (List ℕ)) : Type 0 where
   pub is_long : stop ≡ TooLong
@@ -168,7 +169,7 @@ pub record IsEndless (stop : Stop) (A : List ℕ → AnswerText → Type 0) (kee
   pub many : MAX_TEXT ≤ length so_far.bytes
 
 -- what a run that ended so, with these counts, took and wrote
-abbrev pub HasRun : Stop → (List ℕ → AnswerText → Type 0) → Bool → ℕ → List Column → State → State → Option (List ℕ)
+abbrev pub HasRun : Stop → (List ℕ → AnswerText → Type 0) → Keeping → ℕ → List Column → State → State → Option (List ℕ)
     → Option (List ℕ)
     → Option (List ℕ) → Option (List ℕ) → Type 0
 HasRun stop A keeps delimiter columns s u left left' written written' =

@@ -8,6 +8,7 @@ use Rattle.column_engine.specs.Answers.{State}
 use Rattle.column_engine.specs.Run.{HasRun, Writes}
 use Rattle.column_engine.specs.Steps.{SameCounts}
 use Rattle.column_engine.specs.declared.columns.Column.{Column}
+use Rattle.column_engine.specs.declared.columns.Keeping.{Keeping}
 use Rattle.column_engine.specs.declared.end.Stop.{Stop}
 use Rattle.column_engine.specs.declared.end.Stop.TheVariants.{Done, NoColumn, NoMemory, NoName, ReadFault, TooLong}
 use Rattle.column_engine.specs.declared.end.Stop.TheVariants.{Unclosed, WriteFault}
@@ -57,7 +58,7 @@ pub record StopsLines (stop : Stop) (count : ℕ) (left left' written written' :
 
 -- what a run that ended so, with these counts, took and wrote: the first lines as they are, and then the text after
 -- them, which is run over as a text of its own
-abbrev pub HasRunAfter : ℕ → Stop → (List ℕ → AnswerText → Type 0) → Bool → ℕ → List Column → State → State
+abbrev pub HasRunAfter : ℕ → Stop → (List ℕ → AnswerText → Type 0) → Keeping → ℕ → List Column → State → State
     → Option (List ℕ) → Option (List ℕ) → Option (List ℕ) → Option (List ℕ) → Type 0
 HasRunAfter count stop A keeps delimiter columns s u left left' written written' =
     (StopsLines stop count left left' written written' × SameCounts s u)

@@ -9,6 +9,7 @@ use Rattle.column_engine.specs.Answers.{AnswersRow, AnyMissing, AreAnswers, AreF
 use Rattle.column_engine.specs.Answers.{answers_text, name_of, needed}
 use Rattle.column_engine.specs.Rows.{Row, field_texts, raw_fields}
 use Rattle.column_engine.specs.declared.columns.Column.{Column}
+use Rattle.column_engine.specs.declared.columns.Keeping.{Keeping}
 use Rattle.column_engine.specs.declared.columns.Range.{Range}
 use Rattle.column_engine.specs.declared.end.Stop.{Stop}
 use Rattle.column_engine.specs.declared.end.Stop.TheVariants.{Done, NoColumn, NoMemory, NoName, ReadFault, TooLong}
@@ -106,8 +107,8 @@ pub record RisesOnly (before now : ℕ) (result : Result (Unit {0}) Stop) : Type
   pub stops : IfErr result (λ stop. HasRisen before now stop)
 
 -- the answers to the first of the fields of a record
-pub record IsPartOfFields (A : List ℕ → AnswerText → Type 0) (keeps : Bool) (delimiter : ℕ) (asked : List Range) (raws
-    : List (List ℕ)) (text : List ℕ) : Type 0 where
+pub record IsPartOfFields (A : List ℕ → AnswerText → Type 0) (keeps : Keeping) (delimiter : ℕ) (asked : List Range)
+    (raws : List (List ℕ)) (text : List ℕ) : Type 0 where
   pub some : List (List ℕ)
   pub more : List (List ℕ)
   pub cut : raws ≡ some ++ more
@@ -116,14 +117,14 @@ pub record IsPartOfFields (A : List ℕ → AnswerText → Type 0) (keeps : Bool
   pub text_is : text ≡ answers_text delimiter 0 answers
 
 -- what was to be written for a record, or for the first of its fields
-abbrev pub IsRowPart : (List ℕ → AnswerText → Type 0) → Bool → ℕ → List Column → State → Row → List ℕ → Type 0
+abbrev pub IsRowPart : (List ℕ → AnswerText → Type 0) → Keeping → ℕ → List Column → State → Row → List ℕ → Type 0
 IsRowPart A keeps delimiter columns s row text =
     ((t : State) × AnswersRow A keeps delimiter columns s row text t)
     ⊎ ((s.headed ≡ false) × (s.into ≡ None) × (row.body ≢ []) × IsPartOfFields A keeps delimiter s.asked (raw_fields
     delimiter Start row.body) text)
 
 -- a record was answered
-pub record PassesRow (A : List ℕ → AnswerText → Type 0) (keeps : Bool) (delimiter : ℕ) (columns : List Column) (row :
+pub record PassesRow (A : List ℕ → AnswerText → Type 0) (keeps : Keeping) (delimiter : ℕ) (columns : List Column) (row :
     Row) (s t : State)
     (held held' : List ℕ) (written written' : Option (List ℕ)) : Type 0 where
   pub text : List ℕ
@@ -131,7 +132,7 @@ pub record PassesRow (A : List ℕ → AnswerText → Type 0) (keeps : Bool) (de
   pub gathered : Flushes held text held' written written'
 
 -- or it was not, or not to its end
-pub record FailsRow (A : List ℕ → AnswerText → Type 0) (keeps : Bool) (delimiter : ℕ) (columns : List Column) (row :
+pub record FailsRow (A : List ℕ → AnswerText → Type 0) (keeps : Keeping) (delimiter : ℕ) (columns : List Column) (row :
     Row) (s : State)
     (held : List ℕ) (written written' : Option (List ℕ)) : Type 0 where
   pub text : List ℕ
@@ -139,7 +140,7 @@ pub record FailsRow (A : List ℕ → AnswerText → Type 0) (keeps : Bool) (del
   pub left : List ℕ
   pub gathered : Flushes held text left written written'
 
-abbrev pub StopsRow : Stop → (List ℕ → AnswerText → Type 0) → Bool → ℕ → List Column → Row → State → List ℕ → List ℕ
+abbrev pub StopsRow : Stop → (List ℕ → AnswerText → Type 0) → Keeping → ℕ → List Column → Row → State → List ℕ → List ℕ
     → Option (List ℕ) → Option (List ℕ) → Type 0
 StopsRow WriteFault A keeps delimiter columns row s held held' written written' = FailsRow A keeps delimiter columns
     row s held written written'

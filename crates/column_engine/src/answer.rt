@@ -1,13 +1,13 @@
 //! The answer to a field.
 
-ghost use Rattle.std.specs.Prelude.{◌≡◌, ◌≤◌, List, ℕ, if◌then◌else◌, true, length};
-ghost use Rattle.column_engine.specs.Answers.{IsAnswer, as_field, stays};
+ghost use Rattle.std.specs.Prelude.{◌≡◌, ◌==◌, ◌≤◌, List, ℕ, if◌then◌else◌, true, get_or, length};
+ghost use Rattle.column_engine.specs.Answers.{IsAnswer, as_field, in_quotes, keeps_quotes, stays};
 ghost use Rattle.column_engine.specs.Gathered.{shown_bytes};
 ghost use Rattle.column_engine.specs.Rows.{content};
 ghost use Rattle.column_engine.specs.declared.record_buffer.TheConstants.{MAX_RECORD};
 
-use crate::columns::{Column, Destination};
-use crate::field::{calls_for_quotes, plain_content, write_as_field, write_content};
+use crate::columns::{Column, Destination, Keeping};
+use crate::field::{calls_for_quotes, plain_content, write_content, write_in_quotes};
 use crate::place::Place;
 use crate::record_buffer::RecordBuffer;
 use crate::rule::FieldRule;
@@ -29,8 +29,8 @@ pub struct ColumnTask<'a, A> {
     pub destination: &'a Destination,
     /// Whether the first record is a header, which is passed through.
     pub has_header: bool,
-    /// Whether a field that is refused stays as it was.
-    pub is_kept: bool,
+    /// What of a field is kept.
+    pub keeps: Keeping,
     /// The byte between fields: an ASCII character that is no quote and no end of a line.
     pub delimiter: u8,
     /// What is kept to be reported.
@@ -88,10 +88,24 @@ fn watch_refusal(watch: &ColumnWatch, column: usize, raw: &[u8], work: &Work) {
 }
 
 /// Whether a field stays as it was.
-fn stays(is_kept: bool, is_refused: bool, reply: &[u8]) -> bool
-    ensures { result ≡ stays is_kept (record { text = reply.now; fault = is_refused }) }
+fn stays(keeps: Keeping, is_refused: bool, reply: &[u8]) -> bool
+    ensures { result ≡ stays keeps (record { text = reply.now; fault = is_refused }) }
 {
-    is_kept && is_refused || reply.is_empty()
+    keeps.refused && is_refused || reply.is_empty()
+}
+
+/// Whether the bytes of a field begin with a quote.
+fn is_quoted(raw: &[u8]) -> bool
+    ensures { result ≡ (get_or raw.now 0 0 == 34) }
+{
+    !raw.is_empty() && raw[0] == b'"'
+}
+
+/// Whether the reply to a field is written in quotes because the field has them.
+fn keeps_quotes(keeps: Keeping, raw: &[u8], is_refused: bool) -> bool
+    ensures { (text : List ℕ) → result ≡ keeps_quotes keeps raw.now (record { text = text; fault = is_refused }) }
+{
+    keeps.quotes && !is_refused && is_quoted(raw)
 }
 
 /// Where the bytes lie that are written for a field.
@@ -127,18 +141,24 @@ impl Answered {
     }
 }
 
-/// Where the bytes lie that are written for a field with this reply, by whether it stays as it was. They are written
-/// out where they take quotes.
-fn show(delimiter: u8, is_same: bool, reply: &Output, text: &mut RecordBuffer) -> Shown
-    ensures { (raw : List ℕ) → shown_bytes result raw reply.now text.new ≡ (if is_same then raw else as_field delimiter
-        reply.now) }
+/// Where the bytes lie that are written for a field with this reply, by whether the field stays as it was, and whether
+/// quotes are kept. They are written out if they take quotes.
+fn show(
+    delimiter: u8,
+    is_same: bool,
+    has_quotes: bool,
+    reply: &Output,
+    text: &mut RecordBuffer,
+) -> Shown
+    ensures { (raw : List ℕ) → shown_bytes result raw reply.now text.new ≡ (if is_same then raw else (if has_quotes
+        then in_quotes delimiter reply.now else as_field delimiter reply.now)) }
 {
-    let bytes = reply.as_bytes();
     if is_same {
         return Shown::Raw;
     }
-    if calls_for_quotes(delimiter, bytes) {
-        write_as_field(delimiter, bytes, text);
+    let bytes = reply.as_bytes();
+    if has_quotes || calls_for_quotes(delimiter, bytes) {
+        write_in_quotes(delimiter, bytes, text);
         return Shown::Text;
     }
     Shown::Reply
@@ -154,7 +174,7 @@ pub(crate) fn answer_asked<A: FieldRule<L>, L: Ledger>(
     steps: &mut Steps<L>,
 ) -> Answered
     requires { length raw.now ≤ MAX_RECORD }
-    ensures answer { IsAnswer (A.Answers task.now.rule.now) task.now.is_kept task.now.delimiter true raw.now (record {
+    ensures answer { IsAnswer (A.Answers task.now.rule.now) task.now.keeps task.now.delimiter true raw.now (record {
       text = shown_bytes result.shown raw.now work.new.reply work.new.text;
       refused = result.is_refused;
     }) }
@@ -165,7 +185,14 @@ pub(crate) fn answer_asked<A: FieldRule<L>, L: Ledger>(
     if is_refused {
         watch_refusal(task.watch, column, raw, work);
     }
-    let is_same = stays(task.is_kept, is_refused, work.reply.as_bytes());
-    let shown = show(task.delimiter, is_same, &work.reply, &mut work.text);
+    let is_same = stays(task.keeps, is_refused, work.reply.as_bytes());
+    let has_quotes = keeps_quotes(task.keeps, raw, is_refused);
+    let shown = show(
+        task.delimiter,
+        is_same,
+        has_quotes,
+        &work.reply,
+        &mut work.text,
+    );
     Answered { shown, is_refused }
 }

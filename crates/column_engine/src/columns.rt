@@ -36,6 +36,15 @@ pub enum Destination {
     NewColumn(TextBuffer<MAX_NAME>),
 }
 
+/// What of a field that is answered is kept.
+#[derive(Clone, Copy, Debug, Drop, PartialEq, Eq)]
+pub struct Keeping {
+    /// Whether a field stays as it was if it is refused.
+    pub refused: bool,
+    /// Whether the answer to a field in quotes is written in quotes even if it needs none, unless the field is refused.
+    pub quotes: bool,
+}
+
 /// Whether a range has a column.
 fn is_within(column: usize, range: Range) -> bool
     ensures { result ≡ is_within column range }

@@ -41,12 +41,12 @@ fn end_row<A: FieldRule<L>, K: Sink, L: Ledger>(
     requires as_many { length cutter.old.progress.asked.items ≡ length task.now.columns.now }
     ensures kept { OnOk result (cutter.new.kept ≡ []) }
     ensures place { OnOk result (cutter.new.place ≡ Place.Start) }
-    ensures ok { OnOk result (PassesRow (A.Answers task.now.rule.now) task.now.is_kept task.now.delimiter
+    ensures ok { OnOk result (PassesRow (A.Answers task.now.rule.now) task.now.keeps task.now.delimiter
         task.now.columns.now
         (record { body = cutter.old.kept ++ part.now; end = end.now })
         (state_of cutter.old.progress) (state_of cutter.new.progress) work.old.out work.new.out (K.written sink.old)
         (K.written sink.new)) }
-    ensures err { IfErr result (λ stop. StopsRow stop (A.Answers task.now.rule.now) task.now.is_kept
+    ensures err { IfErr result (λ stop. StopsRow stop (A.Answers task.now.rule.now) task.now.keeps
         task.now.delimiter task.now.columns.now
         (record { body = cutter.old.kept ++ part.now; end = end.now })
         (state_of cutter.old.progress) work.old.out work.new.out (K.written sink.old) (K.written sink.new)) }
@@ -86,11 +86,11 @@ pub(crate) fn feed<A: FieldRule<L>, K: Sink, L: Ledger>(
     requires standing { IsStanding task.now.delimiter cutter.old.kept cutter.old.place }
     requires as_many { length cutter.old.progress.asked.items ≡ length task.now.columns.now }
     ensures standing { OnOk result (IsStanding task.now.delimiter cutter.new.kept cutter.new.place) }
-    ensures ok { OnOk result (FeedsRows (A.Answers task.now.rule.now) task.now.is_kept task.now.delimiter
+    ensures ok { OnOk result (FeedsRows (A.Answers task.now.rule.now) task.now.keeps task.now.delimiter
         task.now.columns.now
         (cutter.old.kept ++ chunk.now) cutter.new.kept (state_of cutter.old.progress) (state_of cutter.new.progress)
         work.old.out work.new.out (K.written sink.old) (K.written sink.new)) }
-    ensures err { IfErr result (λ stop. FailsFeed stop (A.Answers task.now.rule.now) task.now.is_kept
+    ensures err { IfErr result (λ stop. FailsFeed stop (A.Answers task.now.rule.now) task.now.keeps
         task.now.delimiter task.now.columns.now
         (cutter.old.kept ++ chunk.now) (state_of cutter.old.progress) (state_of cutter.new.progress)
         work.old.out work.new.out (K.written sink.old) (K.written sink.new)) }

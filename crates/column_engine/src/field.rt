@@ -2,7 +2,7 @@
 
 ghost use Rattle.std.specs.Prelude.{◌≡◌, ◌==◌, ◌<◌, ◌≤◌, ◌+◌, ◌*◌, ◌++◌, [], ◌∷◌, IfSome, if◌then◌else◌, length};
 ghost use Rattle.csv.specs.Writing.{default_writer, needs_byte, needs_quotes, quoted};
-ghost use Rattle.column_engine.specs.Answers.{as_field, calls_for_quotes};
+ghost use Rattle.column_engine.specs.Answers.{as_field, calls_for_quotes, in_quotes};
 ghost use Rattle.column_engine.specs.Rows.{content, is_dropped};
 ghost use Rattle.column_engine.specs.declared.record_buffer.TheConstants.{MAX_RECORD};
 
@@ -11,7 +11,7 @@ use crate::record_buffer::RecordBuffer;
 use memchr::memchr;
 
 /// Whether a byte of a field is a quote around its text, or the first of two that mean one.
-fn is_dropped(place: Place, byte: u8) -> bool
+pub(crate) fn is_dropped(place: Place, byte: u8) -> bool
     ensures { result ≡ is_dropped place byte }
 {
     match place {
@@ -114,15 +114,24 @@ fn push_quoted(delimiter: u8, text: &[u8], shown: &mut RecordBuffer)
     shown.push(b'"');
 }
 
+/// Writes out a text as a field in quotes.
+pub(crate) fn write_in_quotes(delimiter: u8, text: &[u8], shown: &mut RecordBuffer)
+    requires { 2 * length text.now + 2 ≤ MAX_RECORD }
+    ensures { shown.new ≡ in_quotes delimiter text.now }
+{
+    shown.clear();
+    push_quoted(delimiter, text, shown);
+}
+
 /// Writes out a text as a field.
 pub(crate) fn write_as_field(delimiter: u8, text: &[u8], shown: &mut RecordBuffer)
     requires { 2 * length text.now + 2 ≤ MAX_RECORD }
     ensures { shown.new ≡ as_field delimiter text.now }
 {
-    shown.clear();
     if calls_for_quotes(delimiter, text) {
-        push_quoted(delimiter, text, shown);
+        write_in_quotes(delimiter, text, shown);
     } else {
+        shown.clear();
         shown.append(text);
     }
 }

@@ -41,11 +41,11 @@ fn gather_answer<A: FieldRule<L>, K: Sink, L: Ledger>(
     steps: &mut Steps<L>,
 ) -> Result<bool, Failed>
     requires { length raw.now ≤ MAX_RECORD }
-    ensures ok { IfOk result (λ refused. GathersAnswer (A.Answers task.now.rule.now) task.now.is_kept
+    ensures ok { IfOk result (λ refused. GathersAnswer (A.Answers task.now.rule.now) task.now.keeps
         task.now.delimiter before.now raw.now refused work.old.out work.new.out (K.written sink.old)
         (K.written sink.new)) }
     ensures err { OnErr result ((refused : Bool) × (left : List ℕ) × GathersAnswer (A.Answers task.now.rule.now)
-        task.now.is_kept task.now.delimiter before.now raw.now refused work.old.out left (K.written sink.old)
+        task.now.keeps task.now.delimiter before.now raw.now refused work.old.out left (K.written sink.old)
         (K.written sink.new)) }
     ensures failures { FailsOnlyCounted (K.failures sink.old) (K.failures sink.new) result }
 {
@@ -75,12 +75,12 @@ fn pass_field<A: FieldRule<L>, K: Sink, L: Ledger>(
     ensures from { IfOk result (λ r. r.0 ≤ field.end) }
     ensures most { IfOk result (λ r. r.1 ≤ 1) }
     ensures ok { IfOk result (λ r. (refused : Bool) × (r.1 ≡ (if refused then 1 else 0)) × GathersField
-        (A.Answers task.now.rule.now) task.now.is_kept task.now.delimiter (is_asked asked.now field.column)
+        (A.Answers task.now.rule.now) task.now.keeps task.now.delimiter (is_asked asked.now field.column)
         (take (field.end - field.start) (drop field.start body.now)) refused
         (ahead work.old.out body.now from field.start)
         (ahead work.new.out body.now r.0 field.end) (K.written sink.old) (K.written sink.new)) }
     ensures err { OnErr result ((refused : Bool) × (left : List ℕ) × GathersField (A.Answers task.now.rule.now)
-        task.now.is_kept task.now.delimiter (is_asked asked.now field.column)
+        task.now.keeps task.now.delimiter (is_asked asked.now field.column)
         (take (field.end - field.start) (drop field.start body.now)) refused
         (ahead work.old.out body.now from field.start)
         left (K.written sink.old) (K.written sink.new)) }
@@ -164,10 +164,10 @@ pub(crate) fn answer_field<A: FieldRule<L>, K: Sink, L: Ledger>(
 ) -> Result<u64, Failed>
     requires short { length body.now ≤ MAX_RECORD }
     requires field { IsFieldAt task.now.delimiter body.now field.column field.start field.end }
-    ensures ok { IfOk result (λ refused. GathersFields (A.Answers task.now.rule.now) task.now.is_kept
+    ensures ok { IfOk result (λ refused. GathersFields (A.Answers task.now.rule.now) task.now.keeps
         task.now.delimiter (only field.column) 0 (raw_fields task.now.delimiter Place.Start body.now)
         refused work.old.out work.new.out (K.written sink.old) (K.written sink.new)) }
-    ensures err { OnErr result (GathersPart (A.Answers task.now.rule.now) task.now.is_kept task.now.delimiter
+    ensures err { OnErr result (GathersPart (A.Answers task.now.rule.now) task.now.keeps task.now.delimiter
         (only field.column) (raw_fields task.now.delimiter Place.Start body.now)
         work.old.out (K.written sink.old) (K.written sink.new)) }
     ensures failures { FailsOnlyCounted (K.failures sink.old) (K.failures sink.new) result }
@@ -193,10 +193,10 @@ pub(crate) fn answer_fields<A: FieldRule<L>, K: Sink, L: Ledger>(
     steps: &mut Steps<L>,
 ) -> Result<u64, Failed>
     requires { length body.now ≤ MAX_RECORD }
-    ensures ok { IfOk result (λ refused. GathersFields (A.Answers task.now.rule.now) task.now.is_kept
+    ensures ok { IfOk result (λ refused. GathersFields (A.Answers task.now.rule.now) task.now.keeps
         task.now.delimiter asked.now 0 (raw_fields task.now.delimiter Place.Start body.now)
         refused work.old.out work.new.out (K.written sink.old) (K.written sink.new)) }
-    ensures err { OnErr result (GathersPart (A.Answers task.now.rule.now) task.now.is_kept task.now.delimiter
+    ensures err { OnErr result (GathersPart (A.Answers task.now.rule.now) task.now.keeps task.now.delimiter
         asked.now (raw_fields task.now.delimiter Place.Start body.now)
         work.old.out (K.written sink.old) (K.written sink.new)) }
     ensures failures { FailsOnlyCounted (K.failures sink.old) (K.failures sink.new) result }

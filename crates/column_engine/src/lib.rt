@@ -11,6 +11,7 @@ mod fields;
 mod gather;
 mod header;
 pub mod laws;
+pub mod name;
 pub mod place;
 mod record;
 pub mod record_buffer;
@@ -21,7 +22,7 @@ pub mod skip;
 pub mod watch;
 
 pub use answer::ColumnTask;
-pub use columns::{Column, Destination, MAX_NAME, Range};
+pub use columns::{Column, Destination, Keeping, MAX_NAME, Range};
 pub use end::{ColumnEnd, Stop};
 pub use record_buffer::{MAX_RECORD, RecordBuffer};
 pub use rule::FieldRule;

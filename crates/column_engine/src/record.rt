@@ -86,11 +86,11 @@ fn lengthen_record<A: FieldRule<L>, K: Sink, L: Ledger>(
 ) -> Result<u64, Failed>
     requires { length body.now ≤ MAX_RECORD }
     ensures ok { IfOk result (λ count. (refused : Bool) × (count ≡ (if refused then 1 else 0)) × GathersLonger
-        (A.Answers task.now.rule.now) task.now.is_kept task.now.delimiter asked.now
+        (A.Answers task.now.rule.now) task.now.keeps task.now.delimiter asked.now
         (record { body = body.now; end = end.now }) refused work.old.out work.new.out (K.written sink.old)
         (K.written sink.new)) }
     ensures err { OnErr result ((refused : Bool) × (left : List ℕ) × GathersLonger
-        (A.Answers task.now.rule.now) task.now.is_kept task.now.delimiter asked.now
+        (A.Answers task.now.rule.now) task.now.keeps task.now.delimiter asked.now
         (record { body = body.now; end = end.now }) refused work.old.out left (K.written sink.old)
         (K.written sink.new)) }
     ensures failures { FailsOnlyCounted (K.failures sink.old) (K.failures sink.new) result }
@@ -140,10 +140,10 @@ fn fill_record<A: FieldRule<L>, K: Sink, L: Ledger>(
     requires short { length body.now ≤ MAX_RECORD }
     requires one { IfSome found (λ field. (asked.now ≡ only field.column)
         × IsFieldAt task.now.delimiter body.now field.column field.start field.end) }
-    ensures ok { IfOk result (λ refused. GathersFields (A.Answers task.now.rule.now) task.now.is_kept
+    ensures ok { IfOk result (λ refused. GathersFields (A.Answers task.now.rule.now) task.now.keeps
         task.now.delimiter asked.now 0 (raw_fields task.now.delimiter Place.Start body.now)
         refused work.old.out work.new.out (K.written sink.old) (K.written sink.new)) }
-    ensures err { OnErr result (GathersPart (A.Answers task.now.rule.now) task.now.is_kept task.now.delimiter
+    ensures err { OnErr result (GathersPart (A.Answers task.now.rule.now) task.now.keeps task.now.delimiter
         asked.now (raw_fields task.now.delimiter Place.Start body.now)
         work.old.out (K.written sink.old) (K.written sink.new)) }
     ensures failures { FailsOnlyCounted (K.failures sink.old) (K.failures sink.new) result }
@@ -171,11 +171,11 @@ fn gather_record<A: FieldRule<L>, K: Sink, L: Ledger>(
     requires enough { needed progress.now.asked.items ≤ length (raw_fields task.now.delimiter Place.Start body.now) }
     requires one { IfSome found (λ field. (progress.now.asked.items ≡ only field.column)
         × IsFieldAt task.now.delimiter body.now field.column field.start field.end) }
-    ensures ok { IfOk result (λ refused. PassesRow (A.Answers task.now.rule.now) task.now.is_kept task.now.delimiter
+    ensures ok { IfOk result (λ refused. PassesRow (A.Answers task.now.rule.now) task.now.keeps task.now.delimiter
         task.now.columns.now (record { body = body.now; end = end.now }) (state_of progress.now)
         (one_more (state_of progress.now) refused) work.old.out work.new.out (K.written sink.old)
         (K.written sink.new)) }
-    ensures err { OnErr result (FailsRow (A.Answers task.now.rule.now) task.now.is_kept task.now.delimiter
+    ensures err { OnErr result (FailsRow (A.Answers task.now.rule.now) task.now.keeps task.now.delimiter
         task.now.columns.now (record { body = body.now; end = end.now }) (state_of progress.now) work.old.out
         (K.written sink.old) (K.written sink.new)) }
     ensures failures { FailsOnlyCounted (K.failures sink.old) (K.failures sink.new) result }
@@ -216,11 +216,11 @@ pub(crate) fn answer_record<A: FieldRule<L>, K: Sink, L: Ledger>(
     requires some { body.now ≢ [] }
     requires known { progress.old.is_headed ≡ false }
     requires as_many { length progress.old.asked.items ≡ length task.now.columns.now }
-    ensures ok { OnOk result (PassesRow (A.Answers task.now.rule.now) task.now.is_kept task.now.delimiter
+    ensures ok { OnOk result (PassesRow (A.Answers task.now.rule.now) task.now.keeps task.now.delimiter
         task.now.columns.now (record { body = body.now; end = end.now })
         (state_of progress.old) (state_of progress.new) work.old.out work.new.out (K.written sink.old) (K.written
         sink.new)) }
-    ensures err { IfErr result (λ stop. StopsRow stop (A.Answers task.now.rule.now) task.now.is_kept
+    ensures err { IfErr result (λ stop. StopsRow stop (A.Answers task.now.rule.now) task.now.keeps
         task.now.delimiter task.now.columns.now (record { body = body.now; end = end.now })
         (state_of progress.old) work.old.out work.new.out (K.written sink.old) (K.written sink.new)) }
     ensures counts { IfErr result (λ stop. SameCounts (state_of progress.old) (state_of progress.new)) }

@@ -172,11 +172,11 @@ pub(crate) fn answer_row<A: FieldRule<L>, K: Sink, L: Ledger>(
 ) -> Result<(), Stop>
     requires short { length body.now ≤ MAX_RECORD }
     requires as_many { length progress.old.asked.items ≡ length task.now.columns.now }
-    ensures ok { OnOk result (PassesRow (A.Answers task.now.rule.now) task.now.is_kept task.now.delimiter
+    ensures ok { OnOk result (PassesRow (A.Answers task.now.rule.now) task.now.keeps task.now.delimiter
         task.now.columns.now (record { body = body.now; end = end.now })
         (state_of progress.old) (state_of progress.new) work.old.out work.new.out (K.written sink.old) (K.written
         sink.new)) }
-    ensures err { IfErr result (λ stop. StopsRow stop (A.Answers task.now.rule.now) task.now.is_kept
+    ensures err { IfErr result (λ stop. StopsRow stop (A.Answers task.now.rule.now) task.now.keeps
         task.now.delimiter task.now.columns.now (record { body = body.now; end = end.now })
         (state_of progress.old) work.old.out work.new.out (K.written sink.old) (K.written sink.new)) }
     ensures counts { IfErr result (λ stop. SameCounts (state_of progress.old) (state_of progress.new)) }

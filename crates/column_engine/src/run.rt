@@ -66,12 +66,12 @@ fn take_chunk<A: FieldRule<L>, K: Sink, L: Ledger>(
     requires empty { work.old.out ≡ [] }
     ensures standing { OnOk result (IsStanding task.now.delimiter cutter.new.kept cutter.new.place) }
     ensures empty { OnOk result (work.new.out ≡ []) }
-    ensures ok { OnOk result (FeedsRows (A.Answers task.now.rule.now) task.now.is_kept task.now.delimiter
+    ensures ok { OnOk result (FeedsRows (A.Answers task.now.rule.now) task.now.keeps task.now.delimiter
         task.now.columns.now
         (cutter.old.kept ++ chunk.now) cutter.new.kept (state_of cutter.old.progress) (state_of cutter.new.progress)
         [] [] (K.written sink.old) (K.written sink.new)) }
     ensures err { IfErr result (λ stop. (left : Option (List ℕ)) → StopsText stop (A.Answers task.now.rule.now)
-        task.now.is_kept task.now.delimiter task.now.columns.now
+        task.now.keeps task.now.delimiter task.now.columns.now
         [] (cutter.old.kept ++ chunk.now) (state_of cutter.old.progress) (state_of cutter.new.progress) left
         (K.written sink.old) (K.written sink.new)) }
     ensures reads { IfErr result (λ stop. stop ≢ Stop.ReadFault) }
@@ -99,7 +99,7 @@ fn end_text<A: FieldRule<L>, K: Sink, L: Ledger>(
     requires as_many { length cutter.old.progress.asked.items ≡ length task.now.columns.now }
     requires empty { work.old.out ≡ [] }
     ensures ends { (left : Option (List ℕ)) → IsAtEnd left → StopsText result (A.Answers task.now.rule.now)
-        task.now.is_kept task.now.delimiter task.now.columns.now
+        task.now.keeps task.now.delimiter task.now.columns.now
         [] cutter.old.kept (state_of cutter.old.progress) (state_of cutter.new.progress) left (K.written sink.old)
         (K.written sink.new) }
     ensures reads { result ≢ Stop.ReadFault }
@@ -147,11 +147,11 @@ fn begin_text<A: FieldRule<L>, S: Source, K: Sink, L: Ledger>(
     ensures standing { OnOk result (IsStanding task.now.delimiter cutter.new.kept cutter.new.place) }
     ensures as_many { OnOk result (length cutter.new.progress.asked.items ≡ length task.now.columns.now) }
     ensures empty { OnOk result (work.new.out ≡ []) }
-    ensures ok { OnOk result (RunsOn (A.Answers task.now.rule.now) task.now.is_kept task.now.delimiter
+    ensures ok { OnOk result (RunsOn (A.Answers task.now.rule.now) task.now.keeps task.now.delimiter
         task.now.columns.now
         cutter.new.kept (state_of cutter.old.progress) (state_of cutter.new.progress) (S.left source.old) (S.left
         source.new) (K.written sink.old) (K.written sink.new)) }
-    ensures err { IfErr result (λ stop. RunsText stop (A.Answers task.now.rule.now) task.now.is_kept
+    ensures err { IfErr result (λ stop. RunsText stop (A.Answers task.now.rule.now) task.now.keeps
         task.now.delimiter task.now.columns.now
         (state_of cutter.old.progress) (state_of cutter.new.progress) (S.left source.old) (S.left source.new)
         (K.written sink.old) (K.written sink.new)) }
@@ -191,7 +191,7 @@ fn answer_text<A: FieldRule<L>, S: Source, K: Sink, L: Ledger>(
     requires place { cutter.old.place ≡ Place.Start }
     requires as_many { length cutter.old.progress.asked.items ≡ length task.now.columns.now }
     requires empty { work.old.out ≡ [] }
-    ensures run { HasRun result (A.Answers task.now.rule.now) task.now.is_kept task.now.delimiter task.now.columns.now
+    ensures run { HasRun result (A.Answers task.now.rule.now) task.now.keeps task.now.delimiter task.now.columns.now
         (state_of cutter.old.progress) (state_of cutter.new.progress) (S.left source.old) (S.left source.new)
         (K.written sink.old) (K.written sink.new) }
     ensures failures { HasFailures (S.failures source.old) (S.failures source.new) (K.failures sink.old) (K.failures
@@ -228,7 +228,7 @@ fn answer_after_lines<A: FieldRule<L>, S: Source, K: Sink, L: Ledger>(
     requires place { cutter.old.place ≡ Place.Start }
     requires as_many { length cutter.old.progress.asked.items ≡ length task.now.columns.now }
     requires empty { work.old.out ≡ [] }
-    ensures run { HasRunAfter task.now.skipped result (A.Answers task.now.rule.now) task.now.is_kept task.now.delimiter
+    ensures run { HasRunAfter task.now.skipped result (A.Answers task.now.rule.now) task.now.keeps task.now.delimiter
         task.now.columns.now (state_of cutter.old.progress) (state_of cutter.new.progress) (S.left source.old) (S.left
         source.new) (K.written sink.old) (K.written sink.new) }
     ensures failures { HasFailures (S.failures source.old) (S.failures source.new) (K.failures sink.old) (K.failures
@@ -345,7 +345,7 @@ pub fn run_column<A: FieldRule<L>, S: Source, K: Sink, L: Ledger>(
 ) -> ColumnEnd
     // What was taken and what was written, by how the run ended.
     ensures run { (result.stop ≡ Stop.NoMemory) ⊎ HasRunAfter task.now.skipped result.stop (A.Answers task.now.rule.now)
-        task.now.is_kept task.now.delimiter task.now.columns.now
+        task.now.keeps task.now.delimiter task.now.columns.now
         (first_state task.now.has_header task.now.destination.now task.now.columns.now) (counts_of result)
         (S.left source.old) (S.left source.new) (K.written sink.old) (K.written sink.new) }
 

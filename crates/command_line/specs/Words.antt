@@ -1,5 +1,5 @@
 -- What `clap` found, as a command asks for it.
-use Rattle.std.specs.Prelude.{◌≡◌, ◌==◌, ◌∷◌, ◌++◌, [], ℕ, Bool, List, None, Option, Some, codes, false, flat_map}
+use Rattle.std.specs.Prelude.{◌≡◌, ◌++◌, [], ℕ, Bool, List, None, Option, Some, codes, false, flat_map}
 use Rattle.std.specs.Prelude.{if◌then◌else◌, length, map, nat_lt, option_map, slice_get, unwrap_or}
 use Rattle.std.specs.Str.{bytes_eq}
 use Rattle.clap.specs.Words.{first_value, found_of, matched_of, one_text, raw_values}
@@ -28,14 +28,9 @@ word_at given place = option_map (λ s. s.now) (slice_get given.words.items plac
 abbrev pub keyword_at : Given → ℕ → Option (List ℕ)
 keyword_at given place = if nat_lt place given.open then word_at given place else None
 
--- a word without the mark before it, which is one byte
-abbrev pub unmarked : List ℕ → List ℕ
-unmarked [] = []
-unmarked (first ∷ rest) = if first == 1 then rest else first ∷ rest
-
 -- the words that `clap` found at a place of this name
 abbrev pub found_at : ArgMatches → List ℕ → List (List ℕ)
-found_at matches name = map unmarked (unwrap_or (option_map raw_values (matched_of (found_of matches) name)) [])
+found_at matches name = unwrap_or (option_map raw_values (matched_of (found_of matches) name)) []
 
 -- the words at some places, one after another
 abbrev pub found_words : ArgMatches → List Operand → List (List ℕ)

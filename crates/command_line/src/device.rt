@@ -3,7 +3,7 @@
 
 use std::cell::Cell;
 use std::fs::File;
-use std::io::{Error, Read, Result, Stdout, Write};
+use std::io::{Error, ErrorKind, Read, Result, Stdout, Write};
 
 /// Where answers go.
 #[derive(Drop)]
@@ -12,6 +12,8 @@ pub enum Output {
     Standard(Stdout),
     /// To a file.
     File(File),
+    /// Nowhere: there are no answers, since no input can be read.
+    Nowhere,
 }
 
 impl Write for Output {
@@ -19,6 +21,7 @@ impl Write for Output {
         match self {
             Output::Standard(out) => out.write(buf),
             Output::File(out) => out.write(buf),
+            Output::Nowhere => Err(Error::from(ErrorKind::Other)),
         }
     }
 
@@ -26,6 +29,7 @@ impl Write for Output {
         match self {
             Output::Standard(out) => out.flush(),
             Output::File(out) => out.flush(),
+            Output::Nowhere => Ok(()),
         }
     }
 }

@@ -1,15 +1,11 @@
 //! What the words of a command line give a command, and why they may be refused.
 
 ghost use Rattle.std.specs.Prelude.{◌≡◌, ◌++◌, IfErr, IfOk, None, OnOk, Some, drop, map, option_map, string_bytes};
-ghost use Rattle.command_line.specs.Words.{IsGiven, found_at, found_words, has_flag, keyword_at, unmarked, value_of};
-ghost use Rattle.command_line.specs.Words.{word_at};
+ghost use Rattle.command_line.specs.Words.{IsGiven, found_at, found_words, has_flag, keyword_at, value_of, word_at};
 
 use crate::page::{Operand, Row};
 use clap::ArgMatches;
 use std::alloc::{AllocError, Global};
-
-/// Before a word that is no option though it begins with a hyphen.
-pub const MARK: char = '\u{1}';
 
 /// Why a command line is refused.
 #[derive(Clone, Copy, Debug)]
@@ -20,6 +16,8 @@ pub enum Refusal<'a> {
     Missing(&'static str),
     /// This word is wrong, for this reason.
     Word(&'a str, &'static str),
+    /// The option of this name is out of place, for this reason.
+    Option(&'static str, &'static str),
 }
 
 impl<'a> From<AllocError> for Refusal<'a> {
@@ -111,27 +109,6 @@ impl<'w, 'a> Given<'w, 'a> {
     }
 }
 
-/// A word without its mark.
-fn unmarked<'a>(word: &'a str) -> &'a str
-    ensures { result.now ≡ unmarked word.now }
-{
-    match word.strip_prefix(MARK) {
-        Some(bare) => bare,
-        None => word,
-    }
-}
-
-/// Appends words, each without its mark.
-fn push_words<'a>(words: &mut Vec<&'a str>, more: &[&'a str]) -> Result<(), AllocError>
-    ensures { OnOk result (map (λ s. s.now) words.new.items
-        ≡ map (λ s. s.now) words.old.items ++ map unmarked (map (λ s. s.now) more.now)) }
-{
-    'words: for at in 0..more.len() {
-        words.push(unmarked(more[at]))?;
-    }
-    Ok(())
-}
-
 /// Appends the words that `clap` found at a place of this name.
 fn push_found<'a>(
     words: &mut Vec<&'a str>,
@@ -142,7 +119,7 @@ fn push_found<'a>(
         ≡ map (λ s. s.now) words.old.items ++ found_at matches.now name.now) }
 {
     match matches.get_strs(name) {
-        Some(found) => push_words(words, found),
+        Some(found) => words.extend_from_slice(found),
         None => Ok(()),
     }
 }
@@ -161,21 +138,29 @@ pub fn split_words(words: &[String]) -> (&[String], &[String]) {
     }
 }
 
-/// Whether a word is an option of these, to the letter.
-fn is_option(word: &str, options: &[Row]) -> bool {
-    if word == "--help" || word == "-h" || word == "--version" || word == "-V" {
-        return true;
-    }
-    options.iter().any(|row| is_row(word, row))
+/// Whether a byte after a hyphen is the letter of an option.
+fn is_letter(byte: u8, options: &[Row]) -> bool {
+    let is_general = byte == b'h' || byte == b'V';
+    is_general
+        || options
+            .iter()
+            .any(|row| row.letter == Some(char::from(byte)))
 }
 
-/// Whether a word is an option: its name after `--`, and a value after `=`, or its letter after `-`.
+/// Whether a word is an option of a command of numerals: it begins with two hyphens, or with one and an option's
+/// letter.
+fn is_option(word: &str, options: &[Row]) -> bool {
+    match word.as_bytes() {
+        [b'-', b'-', ..] => true,
+        [b'-', next, ..] => is_letter(*next, options),
+        _ => false,
+    }
+}
+
+/// Whether a word is the name of an option after `--`, or its letter after `-`.
 fn is_row(word: &str, row: &Row) -> bool {
     match word.strip_prefix("--") {
-        Some(rest) => match rest.strip_prefix(row.name) {
-            Some(value) => value.is_empty() || value.starts_with('='),
-            None => false,
-        },
+        Some(name) => name == row.name,
         None => match word.strip_prefix('-') {
             Some(rest) => row.letter.is_some_and(|letter| is_one(rest, letter)),
             None => false,
@@ -191,29 +176,121 @@ fn is_one(text: &str, letter: char) -> bool {
     }
 }
 
-/// A word with a mark before it.
-fn marked(alloc: Global, word: &str) -> Result<String, AllocError> {
-    let mut text = String::new(alloc);
-    text.push(MARK)?;
-    text.push_str(word)?;
+/// Whether a word is an option whose value is the next word.
+fn takes_next(word: &str, options: &[Row]) -> bool {
+    options
+        .iter()
+        .any(|row| !row.value.is_empty() && is_row(word, row))
+}
+
+/// An option and its value as one word.
+fn with_value(alloc: Global, option: &str, value: &str) -> Result<String, AllocError> {
+    let mut text = String::from_str(alloc, option)?;
+    text.push('=')?;
+    text.push_str(value)?;
     Ok(text)
 }
 
-/// The words of a command of numerals for `clap`: each that begins with a hyphen and is no option of it is marked.
-pub fn marked_words(
+/// Appends the options among words, each with its value, to one list, and the other words to another.
+fn sort_words(
     alloc: Global,
     words: &[String],
     options: &[Row],
+    read: &mut Vec<String>,
+    others: &mut Vec<String>,
+) -> Result<(), AllocError> {
+    let mut open: Option<&str> = None;
+    for word in words {
+        let word = word.as_str();
+        match open.take() {
+            Some(option) if !is_option(word, options) => {
+                read.push(with_value(alloc, option, word)?)?;
+                continue;
+            }
+            Some(option) => read.push(String::from_str(alloc, option)?)?,
+            None => (),
+        }
+        if takes_next(word, options) {
+            open = Some(word);
+        } else if is_option(word, options) {
+            read.push(String::from_str(alloc, word)?)?;
+        } else {
+            others.push(String::from_str(alloc, word)?)?;
+        }
+    }
+    if let Some(option) = open {
+        read.push(String::from_str(alloc, option)?)?;
+    }
+    Ok(())
+}
+
+/// The words of a command of numerals for `clap`: the command and its options, then `--`, and then all other words in
+/// their order, so that no numeral is taken for an option.
+pub fn sorted_words(
+    alloc: Global,
+    command: &str,
+    words: &[String],
+    options: &[Row],
+) -> Result<Vec<String>, AllocError> {
+    let mut read = Vec::new(alloc);
+    let mut others = Vec::new(alloc);
+    read.push(String::from_str(alloc, command)?)?;
+    sort_words(alloc, words, options, &mut read, &mut others)?;
+    read.push(String::from_str(alloc, "--")?)?;
+    for word in others {
+        read.push(word)?;
+    }
+    Ok(read)
+}
+
+/// The option that a word is, if its value may be left out.
+fn open_row<'r>(word: &str, options: &'r [Row]) -> Option<&'r Row> {
+    let name = word.strip_prefix("--")?;
+    options
+        .iter()
+        .find(|row| row.may_lack_value() && row.name == name)
+}
+
+/// An option and its value in one word: this one if it is one of its values, and else the first of those.
+fn filled(alloc: Global, row: &Row, word: &str) -> Result<(String, bool), AllocError> {
+    let mut text = String::from_str(alloc, "--")?;
+    text.push_str(row.name)?;
+    text.push('=')?;
+    let is_value = row.choices.iter().any(|choice| *choice == word);
+    if is_value {
+        text.push_str(word)?;
+    } else if let [first, ..] = row.choices {
+        text.push_str(first)?;
+    }
+    Ok((text, is_value))
+}
+
+/// The words of a command for `clap`, in which each option has its value.
+pub fn filled_words(
+    alloc: Global,
+    words: Vec<String>,
+    options: &[Row],
 ) -> Result<Vec<String>, AllocError> {
     let mut all = Vec::new(alloc);
+    let mut before = None;
     for word in words {
-        let text = word.as_str();
-        let is_numeral = text.len() > 1 && text.starts_with('-') && !is_option(text, options);
-        all.push(if is_numeral || text.starts_with(MARK) {
-            marked(alloc, text)?
+        let mut is_value = false;
+        if let Some(row) = before {
+            let (text, is_its_value) = filled(alloc, row, &word)?;
+            all.push(text)?;
+            is_value = is_its_value;
+        }
+        before = if is_value {
+            None
         } else {
-            String::from_str(alloc, text)?
-        })?;
+            open_row(&word, options)
+        };
+        if !is_value && before.is_none() {
+            all.push(word)?;
+        }
+    }
+    if let Some(row) = before {
+        all.push(filled(alloc, row, "")?.0)?;
     }
     Ok(all)
 }

@@ -10,12 +10,19 @@ pub struct Row {
     pub name: &'static str,
     /// Its letter, after `-`, where it has one.
     pub letter: Option<char>,
-    /// What help calls its value: the empty text where it takes none.
+    /// What help calls its value: the empty text where it takes none, and in brackets if it may be left out.
     pub value: &'static str,
-    /// The values that it takes, where these are a few.
+    /// The values that it takes, where these are a few; the first is meant if it may be left out.
     pub choices: &'static [&'static str],
     /// What help says of it.
     pub help: &'static str,
+}
+
+impl Row {
+    /// Whether the option takes a value that may be left out.
+    pub fn may_lack_value(&self) -> bool {
+        self.value.starts_with('[')
+    }
 }
 
 /// The words at one place.
@@ -40,7 +47,7 @@ pub struct Page {
     pub usage: &'static str,
     /// Its words in order. The last takes all that are left.
     pub operands: &'static [Operand],
-    /// Whether a word that begins with a hyphen is a numeral, unless it is an option to the letter.
+    /// Whether a word that begins with one hyphen is a numeral, unless an option's letter follows.
     pub has_numerals: bool,
     /// Its options.
     pub options: &'static [Row],
@@ -93,9 +100,17 @@ fn optional<'a>(alloc: Global, row: &Row) -> Arg<'a> {
     let known = lettered(known, row.letter);
     if row.value.is_empty() {
         known.action(ArgAction::SetTrue)
+    } else if row.may_lack_value() {
+        chosen(valued(known, bare_value(row.value)), row.choices).num_args(0..2)
     } else {
         chosen(valued(known, row.value), row.choices)
     }
+}
+
+/// The name of a value without the brackets around it.
+fn bare_value(value: &'static str) -> &'static str {
+    let open = value.strip_prefix('[').unwrap_or(value);
+    open.strip_suffix(']').unwrap_or(open)
 }
 
 /// The words at a place; at the last one, all that are left.

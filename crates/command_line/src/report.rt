@@ -5,12 +5,44 @@ use crate::device::Failure;
 use fixed_io::StdSink;
 use itoa::Buffer;
 use line_engine::{Status, write_text};
+use memchr::memchr;
 use std::alloc::Global;
 use std::io::{Error, ErrorKind};
 use text_buffer::TextBuffer;
 
-/// How many bytes a name in a report has at most.
-const MAX_NAME: usize = 256;
+/// What a report has of a file's name: its first characters that are at most 256 bytes.
+fn first_part(name: &str) -> &str {
+    for end in [256, 255, 254, 253] {
+        if let Some(first) = name.get(..end) {
+            return first;
+        }
+    }
+    name
+}
+
+/// A number below 16 as a hexadecimal digit.
+pub fn hex_digit(number: u8) -> u8 {
+    if number < 10 {
+        b'0' + number
+    } else {
+        b'a' + (number.min(15) - 10)
+    }
+}
+
+/// How many bytes the character of UTF-8 has that bytes begin with. 0 where they begin with none.
+fn character_width(bytes: &[u8]) -> usize {
+    let width = match bytes {
+        [0..=0x7f, ..] => 1,
+        [0xc0..=0xdf, ..] => 2,
+        [0xe0..=0xef, ..] => 3,
+        [0xf0..=0xff, ..] => 4,
+        _ => 0,
+    };
+    match bytes.get(..width) {
+        Some(first) if str::from_utf8(first).is_ok() => width,
+        _ => 0,
+    }
+}
 
 /// A line for standard error.
 #[derive(Drop)]
@@ -26,34 +58,53 @@ impl Report {
         let mut report = Report { line };
         if let Some(file) = file {
             report.text(": ");
-            for byte in file.bytes().take(MAX_NAME) {
-                report.byte(byte);
-            }
+            report.name(first_part(file).as_bytes(), 256);
         }
         report.text(": ");
         report
     }
 
-    /// Appends a byte where there is room for it and a newline.
-    fn byte(&mut self, byte: u8) {
-        if self.line.room() > 1 {
-            self.line
-                .push(if byte.is_ascii_control() { b'?' } else { byte });
+    /// Appends bytes, where there is room for them and a newline.
+    fn push(&mut self, bytes: &[u8]) {
+        if self.line.room() > bytes.len() {
+            self.line.push_bytes(bytes);
         }
     }
 
-    /// Appends bytes, up to a newline and to this many characters, each control character as `?`.
-    pub fn bytes(&mut self, bytes: &[u8], most: usize) {
-        let mut left = most;
-        for byte in bytes {
-            let is_begun = *byte & 0xc0 == 0x80;
-            if *byte == b'\n' || left == 0 && !is_begun {
+    /// Appends the first character of some bytes as it is shown, and returns the bytes after it. A control character is
+    /// `?`, and a byte that begins no character of UTF-8 is its two hexadecimal digits after `\x`.
+    fn character<'t>(&mut self, bytes: &'t [u8]) -> &'t [u8] {
+        let width = character_width(bytes);
+        let (first, rest) = bytes.split_at(width.max(1).min(bytes.len()));
+        match first {
+            _ if width == 0 => {
+                for byte in first {
+                    self.push(&[b'\\', b'x', hex_digit(byte / 16), hex_digit(byte % 16)]);
+                }
+            }
+            [byte] if byte.is_ascii_control() => self.push(b"?"),
+            [0xc2, 0x80..=0x9f] => self.push(b"?"),
+            _ => self.push(first),
+        }
+        rest
+    }
+
+    /// Appends this many characters of some bytes, a newline as any other control character.
+    pub fn name(&mut self, bytes: &[u8], most: usize) {
+        let mut rest = bytes;
+        for _ in 0..most {
+            if rest.is_empty() {
                 return;
             }
-            if !is_begun {
-                left = left.saturating_sub(1);
-            }
-            self.byte(*byte);
+            rest = self.character(rest);
+        }
+    }
+
+    /// Appends this many characters of some bytes, up to a newline.
+    pub fn bytes(&mut self, bytes: &[u8], most: usize) {
+        match memchr(b'\n', bytes) {
+            Some(end) => self.name(&bytes[..end], most),
+            None => self.name(bytes, most),
         }
     }
 

@@ -1,7 +1,7 @@
 //! What the words of a command line ask for, read by `clap` from the tables of the commands, is done.
 
 use crate::device::{Failure, Writer};
-use crate::given::{Asked, Given, Refusal, marked_words, plain_words, split_words};
+use crate::given::{Asked, Given, Refusal, filled_words, plain_words, sorted_words, split_words};
 use crate::page::{Page, commands_of};
 use crate::report::{Report, refuse, report_end, report_no_memory};
 use clap::error::ErrorKind;
@@ -68,18 +68,19 @@ fn prepared(
     program: &Program<'_>,
     words: &[String],
 ) -> Result<Vec<String>, AllocError> {
-    if let [first, ..] = words {
+    if let [first, rest @ ..] = words {
         if let Some(page) = page_of(program, first) {
             if page.has_numerals {
-                return marked_words(alloc, words, page.options);
+                return sorted_words(alloc, first, rest, page.options);
             }
+            return filled_words(alloc, plain_words(alloc, words)?, page.options);
         }
     }
     plain_words(alloc, words)
 }
 
 /// Writes a text to standard output, and says on standard error where that failed.
-fn write_out(rt: &HostRuntime, text: &[u8]) -> Status {
+pub fn write_out(rt: &HostRuntime, text: &[u8]) -> Status {
     let failure = Failure::new(None);
     let mut sink = StdSink::new(Writer {
         writer: rt.stdout(),
@@ -93,14 +94,18 @@ fn write_out(rt: &HostRuntime, text: &[u8]) -> Status {
 /// Appends what an error of `clap` says in one line: what comes before its first empty line, and which word is similar.
 fn push_error(report: &mut Report, text: &str) {
     let mut has_ended = false;
+    let mut has_begun = false;
     for line in text.lines() {
         let words = line.trim();
         has_ended = has_ended || words.is_empty();
         if !has_ended {
+            if has_begun {
+                report.text(" ");
+            }
             report.text(words.strip_prefix("error: ").unwrap_or(words));
-            report.text(" ");
+            has_begun = true;
         } else if words.contains("similar") {
-            report.text("(");
+            report.text(" (");
             report.text(words.strip_prefix("tip: ").unwrap_or(words));
             report.text(")");
         }
@@ -157,14 +162,16 @@ fn report_refusal(rt: &HostRuntime, name: &str, refusal: Refusal<'_>) -> Status 
     match refusal {
         Refusal::NoMemory => report_no_memory(rt),
         Refusal::Missing(word) => refuse(rt, name, &["there is no ", word]),
-        Refusal::Word(word, why) => refuse_word(rt, name, word, why),
+        Refusal::Word(word, why) => refuse_word(rt, name, "", word, why),
+        Refusal::Option(option, why) => refuse_word(rt, name, "--", option, why),
     }
 }
 
-/// Says on standard error why a command refuses a word.
-fn refuse_word(rt: &HostRuntime, name: &str, word: &str, why: &str) -> Status {
+/// Says on standard error why a command refuses a word, or an option by its name after hyphens.
+fn refuse_word(rt: &HostRuntime, name: &str, hyphens: &str, word: &str, why: &str) -> Status {
     let mut report = Report::of(None);
     report.text("'");
+    report.text(hyphens);
     report.text(word);
     report.text("' ");
     report.text(why);

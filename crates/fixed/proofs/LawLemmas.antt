@@ -1,6 +1,6 @@
 -- What words ask for is one thing at most.
 use Rattle.std.proofs.Common.{◌≡◌, ℕ, ◌+◌, ◌-◌, ◌≤◌, ◌==◌, Bool, true, false, Option, Some, None, List, [], ◌∷◌, length, get_or, refl, sym, ap, ◌∙◌, subst, arith, inl, inr, if◌then◌else◌, true≢false}
-use Rattle.std.specs.Prelude.{codes, is_some, not, ◌&&◌, ◌||◌}
+use Rattle.std.specs.Prelude.{codes, is_some, not, unwrap_or, ◌&&◌, ◌||◌}
 use Rattle.std.specs.Fmt.{decimal}
 use Rattle.std.specs.List.{after_first, list_any, slice_split}
 use Rattle.std.proofs.lemmas.Fmt.{decimal_injective}
@@ -27,12 +27,17 @@ use Rattle.fixed_pack.specs.declared.endian.Endian.{Endian}
 use Rattle.fixed_pack.specs.declared.endian.Endian.TheVariants.{Big, Little}
 use Rattle.fixed_respell.proofs.Public.{name_one}
 use Rattle.fixed_show.specs.declared.parts.Part.{Part}
-use Rattle.fixed.specs.Columns.{AreColumnWords, AreColumnsAsked, AreColumnsBy, AreColumnsOf, IsColumnWord, IsDelimiterWord, IsDestinationBy, IsOneWord, IsRangeIf, IsRangeWord, IsSkipWord, IsThousandsAsked, empty_text}
+use Rattle.fixed_command.specs.declared.field.FieldForm.{FieldForm}
+use Rattle.fixed_words.specs.declared.rule.Leaving.{Leaving}
+use Rattle.fixed_words.specs.declared.rule.Leaving.TheVariants.{Everything, NoNumerals, Nothing}
+use Rattle.fixed.specs.Columns.{AreColumnWords, AreColumnsAsked, AreColumnsBy, AreColumnsOf, IsColumnWord, IsDecimalWord, IsDelimiterWord, IsDestinationBy, IsMarkAsked, IsOneWord, IsRangeIf, IsRangeWord, IsSkipWord, IsThousandsAsked, empty_text}
 use Rattle.fixed.specs.Constants.{IsArrayAsked, IsArrayWord, IsFormAsked as IsConstantsAsked, IsGuardAsked, IsNameBy, IsNumeralsAsked, is_file}
 use Rattle.fixed.specs.Fit.{IsErrorAsked, IsErrorBy}
 use Rattle.fixed.specs.Laws.{AreSameColumns, ColumnsAreTheOnes, ConstantsAreTheOnes, IsOne, IsSameColumn, LinesAreTheOnes, SettingsAreTheOnes}
 use Rattle.fixed.specs.Lines.{IsCommentAsked, IsFieldAsked, IsFormatAsked, IsKindAsked, IsKindWord, IsLayoutAsked, IsPartBy, IsTargetAsked, IsTargetBy, is_like_format}
+use Rattle.fixed_bits.specs.declared.mode.ReadMode.TheVariants.{NearestEven}
 use Rattle.fixed.specs.Settings.{IsPrintAsked, endian_text}
+use Rattle.fixed.specs.Words.{IsLeavingAsked, IsLeavingWord}
 use Rattle.fixed.proofs.RangeLemmas.{IsNoDigit, after_mark, digits_of_decimal, one_word_one, range_one}
 
 byte_at : ℕ → List ℕ → ℕ
@@ -63,9 +68,18 @@ empty_one : (value : Option (List ℕ)) (a b : Empty) → IsNamed Empty empty_te
 empty_one None a b x y = x ∙ sym y
 empty_one (Some word) a b x y = sym (empty_back a) ∙ (ap empty_at (sym x ∙ y) ∙ empty_back b)
 
-thousands_one : (d e : ℕ) (word : Option (List ℕ)) (a b : List ℕ) → IsThousandsAsked d word a → IsThousandsAsked e word b → a ≡ b
-thousands_one d e None a b x y = x ∙ sym y
-thousands_one d e (Some word) a b x y = x.0 ∙ sym y.0
+thousands_one : (d e : ℕ) (word any : Option (List ℕ)) (a b : List ℕ) (g h : Bool) → IsThousandsAsked d word any a g → IsThousandsAsked e word any b h → (a ≡ b) × (g ≡ h)
+thousands_one d e None None a b g h x y = (x.0 ∙ sym y.0, x.1 ∙ sym y.1)
+thousands_one d e (Some word) None a b g h x y = (x.0 ∙ sym y.0, x.2 ∙ sym y.2)
+thousands_one d e None (Some word) a b g h x y = (x.0 ∙ sym y.0, x.2 ∙ sym y.2)
+thousands_one d e (Some word) (Some other) a b g h x y = absurd x
+
+mark_word_one : (word : List ℕ) (a b : ℕ) → IsDecimalWord word a → IsDecimalWord word b → a ≡ b
+mark_word_one word a b x y = ap (λ (l : List ℕ). get_or l 0 0) (sym x.text ∙ y.text)
+
+mark_one : (mark decimal : Option (List ℕ)) (a b : ℕ) → IsMarkAsked mark decimal a → IsMarkAsked mark decimal b → a ≡ b
+mark_one (Some word) decimal a b x y = mark_word_one word a b x y
+mark_one None decimal a b x y = mark_word_one (unwrap_or decimal (codes ".")) a b x y
 
 if_one : (Is : List ℕ → Range → Type 0) → ((word : List ℕ) → IsOne Range (Is word)) → (word : List ℕ) → IsOne (Option Range) (IsRangeIf Is word)
 if_one Is one word None None x y = refl
@@ -123,7 +137,9 @@ columns_one = record {
   form = λ given a b x y. record {
     trimmed = x.trimmed ∙ sym y.trimmed;
     decimal = ap (λ (l : List ℕ). get_or l 0 0) (sym x.decimal.text ∙ y.decimal.text);
-    thousands = thousands_one a.decimal b.decimal (value_of given (codes "thousands")) a.thousands.now b.thousands.now x.thousands y.thousands;
+    mark = mark_one (value_of given (codes "decimal-out")) (value_of given (codes "decimal")) a.mark b.mark x.mark y.mark;
+    thousands = (thousands_same given a b x.thousands y.thousands).0;
+    groups = (thousands_same given a b x.thousands y.thousands).1;
     empty = empty_one (value_of given (codes "empty")) a.empty b.empty x.empty y.empty;
   };
   range = range_one;
@@ -131,6 +147,12 @@ columns_one = record {
   destination = λ given a b x y. destination_by_one (has_flag given (codes "all")) (value_of given (codes "into")) a b x y;
 }
   where
+    thousands_same : (given : Given) (a b : FieldForm) → IsThousandsAsked a.decimal (value_of given (codes "thousands")) (value_of given (codes "thousands-anywhere")) a.thousands.now a.has_groups
+        → IsThousandsAsked b.decimal (value_of given (codes "thousands")) (value_of given (codes "thousands-anywhere")) b.thousands.now b.has_groups
+        → (a.thousands.now ≡ b.thousands.now) × (a.has_groups ≡ b.has_groups)
+    thousands_same given a b x y = thousands_one a.decimal b.decimal (value_of given (codes "thousands")) (value_of given (codes "thousands-anywhere"))
+        a.thousands.now b.thousands.now a.has_groups b.has_groups x y
+
     destination_by_one : (all : Bool) (name : Option (List ℕ)) → IsOne _ (IsDestinationBy all name)
     destination_by_one all None a b x y = x ∙ sym y
     destination_by_one all (Some name) a b x y = x.0 ∙ sym y.0
@@ -246,6 +268,19 @@ layout_one given a b x y =
     ∙ (ap (λ (z : Bool). record { is_trimmed = b.is_trimmed; skips_blank = z; comments = a.comments }) (x.blank ∙ sym y.blank)
     ∙ ap (λ (z : List ℕ). record { is_trimmed = b.is_trimmed; skips_blank = b.skips_blank; comments = z }) c)
 
+leaving_word_one : (word : List ℕ) (a b : Leaving) → IsLeavingWord word a → IsLeavingWord word b → a ≡ b
+leaving_word_one word Nothing b x y = absurd x
+leaving_word_one word NoNumerals Nothing x y = absurd y
+leaving_word_one word NoNumerals NoNumerals x y = refl
+leaving_word_one word NoNumerals Everything x y = absurd (omega (arith, ap length (sym x ∙ y)))
+leaving_word_one word Everything Nothing x y = absurd y
+leaving_word_one word Everything NoNumerals x y = absurd (omega (arith, ap length (sym x ∙ y)))
+leaving_word_one word Everything Everything x y = refl
+
+leaving_one : (value : Option (List ℕ)) (a b : Leaving) → IsLeavingAsked value a → IsLeavingAsked value b → a ≡ b
+leaving_one None a b x y = x ∙ sym y
+leaving_one (Some word) a b x y = leaving_word_one word a b x y
+
 kind_word_one : (signed : Bool) (word : List ℕ) → IsOne FormatParts (IsKindWord signed word)
 kind_word_one signed word a b x y =
     let p = x.valid.is_width in
@@ -266,15 +301,22 @@ lines_one = record {
   target = target_one;
   part = λ format given. part_by_one format (value_of given (codes "field")) (has_flag given (codes "swap"));
   layout = layout_one;
+  words = λ given a b x y. record {
+    separators = x.separators.text ∙ sym y.separators.text;
+    token = x.token.text ∙ sym y.token.text;
+    leaves = leaving_one (value_of given (codes "keep")) a.leaves b.leaves x.leaves y.leaves;
+  };
   kind = kind_one;
 }
 
 -- ---- settings
-print_one : (part places : Option (List ℕ)) → IsOne Print (IsPrintAsked part places)
-print_one part None a b x y = names_one.print part a b x y
-print_one part (Some word) a b x y =
+print_one : (part places mode : Option (List ℕ)) → IsOne Print (IsPrintAsked part places mode)
+print_one part None None a b x y = names_one.print part a b x y
+print_one part None (Some word) a b x y = absurd x
+print_one part (Some word) mode a b x y =
     let count : x.1 ≡ y.1 = decimal_injective x.1 y.1 (omega (arith, x.2.most)) (omega (arith, y.2.most)) (sym x.2.word_is ∙ y.2.word_is) in
-    x.3 ∙ (ap Places count ∙ sym y.3)
+    let same : x.3 ≡ y.3 = names_one.mode NearestEven mode x.3 y.3 x.4 y.4 in
+    x.5 ∙ ((λ i. Places (count i) (same i)) ∙ sym y.5)
 
 endian_at : List ℕ → Endian
 endian_at word = if byte_at 0 word == 108 then Little else Big

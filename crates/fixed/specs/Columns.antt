@@ -37,10 +37,19 @@ pub record IsThousandsWord (decimal : ℕ) (word : List ℕ) : Type 0 where
   pub separators : list_all is_separator word ≡ true
   pub other : list_any (λ byte. byte == decimal) word ≡ false
 
--- the bytes that separate thousands: those of the word, and none where there is no word
-abbrev pub IsThousandsAsked : ℕ → Option (List ℕ) → List ℕ → Type 0
-IsThousandsAsked decimal None bytes = bytes ≡ []
-IsThousandsAsked decimal (Some word) bytes = (bytes ≡ word) × IsThousandsWord decimal word
+-- the bytes that separate thousands, between groups or anywhere: those of the one word or the other, and none without a
+-- word; not both
+abbrev pub IsThousandsAsked : ℕ → Option (List ℕ) → Option (List ℕ) → List ℕ → Bool → Type 0
+IsThousandsAsked decimal None None bytes groups = (bytes ≡ []) × (groups ≡ false)
+IsThousandsAsked decimal (Some word) None bytes groups = (bytes ≡ word) × IsThousandsWord decimal word × (groups ≡ true)
+IsThousandsAsked decimal None (Some word) bytes groups = (bytes ≡ word) × IsThousandsWord decimal word
+    × (groups ≡ false)
+IsThousandsAsked decimal (Some word) (Some other) bytes groups = ⊥
+
+-- what comes before the fraction of an answer: the byte of its own word, or else that of fields
+abbrev pub IsMarkAsked : Option (List ℕ) → Option (List ℕ) → ℕ → Type 0
+IsMarkAsked (Some word) decimal byte = IsDecimalWord word byte
+IsMarkAsked None decimal byte = IsDecimalWord (unwrap_or decimal (codes ".")) byte
 
 -- the word of what becomes of an empty field
 abbrev pub empty_text : Empty → List ℕ
@@ -52,7 +61,9 @@ empty_text Zero = codes "0"
 pub record IsFormAsked (given : Given) (form : FieldForm) : Type 0 where
   pub trimmed : form.is_trimmed ≡ has_flag given (codes "trim")
   pub decimal : IsDecimalWord (unwrap_or (value_of given (codes "decimal")) (codes ".")) form.decimal
-  pub thousands : IsThousandsAsked form.decimal (value_of given (codes "thousands")) form.thousands.now
+  pub mark : IsMarkAsked (value_of given (codes "decimal-out")) (value_of given (codes "decimal")) form.mark
+  pub thousands : IsThousandsAsked form.decimal (value_of given (codes "thousands"))
+      (value_of given (codes "thousands-anywhere")) form.thousands.now form.has_groups
   pub empty : IsNamed Empty empty_text Refused (value_of given (codes "empty")) form.empty
 
 -- one column, by its number from 1

@@ -15,6 +15,7 @@ use Rattle.fixed_constants.specs.declared.form.Form.{Form}
 use Rattle.fixed_numeral.specs.declared.radix.Radix.{Radix}
 use Rattle.fixed_pack.specs.declared.endian.Endian.{Endian}
 use Rattle.fixed_show.specs.declared.parts.Part.{Part}
+use Rattle.fixed_words.specs.declared.rule.WordRule.{WordRule}
 use Rattle.fixed.specs.Columns.{AreColumnsAsked, IsDelimiterWord, IsDestinationAsked, IsFormAsked}
 use Rattle.fixed.specs.Columns.{IsRangeWord, IsSkipWord}
 use Rattle.fixed.specs.Constants.{IsArrayAsked, IsFormAsked as IsConstantsAsked, IsGuardAsked, IsNameAsked}
@@ -22,6 +23,7 @@ use Rattle.fixed.specs.Constants.{IsNumeralsAsked}
 use Rattle.fixed.specs.Fit.{IsErrorAsked}
 use Rattle.fixed.specs.Lines.{IsFormatAsked, IsKindAsked, IsLayoutAsked, IsPartAsked, IsTargetAsked}
 use Rattle.fixed.specs.Settings.{IsPrintAsked, endian_text}
+use Rattle.fixed.specs.Words.{IsWordRuleAsked}
 
 -- at most one is such
 abbrev pub IsOne : (A : Type 0) → (A → Type 0) → Type 0
@@ -35,7 +37,9 @@ AreApart A word = (a b : A) → word a ≡ word b → a ≡ b
 pub record IsSameForm (a b : FieldForm) : Type 0 where
   pub trimmed : a.is_trimmed ≡ b.is_trimmed
   pub decimal : a.decimal ≡ b.decimal
+  pub mark : a.mark ≡ b.mark
   pub thousands : a.thousands.now ≡ b.thousands.now
+  pub groups : a.has_groups ≡ b.has_groups
   pub empty : a.empty ≡ b.empty
 
 -- the same column
@@ -50,6 +54,12 @@ AreSameColumns [] [] = Unit {0}
 AreSameColumns [] (b ∷ bs) = ⊥
 AreSameColumns (a ∷ us) [] = ⊥
 AreSameColumns (a ∷ us) (b ∷ bs) = IsSameColumn a b × AreSameColumns us bs
+
+-- the same separators, token, and refused words that stay
+pub record IsSameWordRule (a b : WordRule) : Type 0 where
+  pub separators : a.separators.now ≡ b.separators.now
+  pub token : a.token ≡ b.token
+  pub leaves : a.leaves ≡ b.leaves
 
 -- of the words of `fixed column`
 pub record ColumnsAreTheOnes : Type 0 where
@@ -71,17 +81,18 @@ pub record ConstantsAreTheOnes : Type 0 where
       → IsOne (List ℕ) (IsNameAsked form guard word)
   pub numerals : (given : Given) (word : List ℕ) → IsOne Numerals (IsNumeralsAsked given word)
 
--- of formats, targets, parts of words, layouts of lines, and widths
+-- of formats, targets, parts of words, layouts of lines, words of texts, and widths
 pub record LinesAreTheOnes : Type 0 where
   pub format : (word : Option (List ℕ)) → IsOne FormatParts (IsFormatAsked word)
   pub target : (word : Option (List ℕ)) (source : FormatParts) (place : ℕ) (a b : FormatParts) (m n : ℕ)
       → IsTargetAsked word source place a m → IsTargetAsked word source place b n → (a ≡ b) × (m ≡ n)
   pub part : (format : FormatParts) (given : Given) → IsOne (Option Part) (IsPartAsked format given)
   pub layout : (given : Given) → IsOne LineLayout (IsLayoutAsked given)
+  pub words : (given : Given) (a b : WordRule) → IsWordRuleAsked given a → IsWordRuleAsked given b → IsSameWordRule a b
   pub kind : (signed bounded : Bool) (word : Option (List ℕ)) → IsOne FormatParts (IsKindAsked signed bounded word)
 
 -- of what is written, an order of bytes, and an error
 pub record SettingsAreTheOnes : Type 0 where
-  pub print : (part places : Option (List ℕ)) → IsOne Print (IsPrintAsked part places)
+  pub print : (part places mode : Option (List ℕ)) → IsOne Print (IsPrintAsked part places mode)
   pub endian : AreApart Endian endian_text
   pub error : (radix : Radix) (word : Option (List ℕ)) → IsOne (Option (List ℕ)) (IsErrorAsked radix word)

@@ -4,5 +4,6 @@ pub mod Columns
 pub mod Lines
 pub mod Constants
 pub mod Fit
+pub mod Words
 pub mod Laws
 pub mod Inner

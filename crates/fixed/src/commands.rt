@@ -6,11 +6,13 @@ pub mod column_report;
 pub mod column_words;
 pub mod constants;
 pub mod convert;
+pub mod convert_words;
 pub mod enclose;
 pub mod fit;
 pub mod format;
 pub mod least;
 pub mod lines;
+pub mod modes;
 pub mod pack;
 pub mod show;
 pub mod sort;
@@ -25,13 +27,14 @@ use std::sync::ledger::Ledger;
 
 /// The pages of the commands, in the order of the help. Each is made by a function of its own: as parts of one constant
 /// they are more than the prover reads at once.
-pub fn pages() -> [Page; 13] {
+pub fn pages() -> [Page; 14] {
     [
         convert::page(),
         column::page(),
         bits::page(),
         show::page(),
         format::page(),
+        modes::page(),
         lines::page(),
         enclose::page(),
         least::page(),
@@ -47,7 +50,7 @@ pub fn pages() -> [Page; 13] {
 pub fn program(pages: &[Page]) -> Program<'_> {
     Program {
         name: "fixed",
-        version: "1.0.0",
+        version: "1.1.0",
         about: "Read, print and convert binary fixed-point numbers",
         usage: "fixed COMMAND [OPTIONS] [WORD]...",
         end: "Example: fixed convert U8F8 --print all <numerals.txt",
@@ -73,6 +76,7 @@ impl<L: Ledger> Commands<L> for AllCommands {
             "bits" => bits::run(rt, given, steps),
             "show" => show::run(rt, given, steps),
             "format" => format::run(rt, given, steps),
+            "modes" => modes::run(rt, given, steps),
             "lines" => lines::run(rt, given, steps),
             "enclose" => enclose::run(rt, given, steps),
             "least" => least::run(rt, given, steps),

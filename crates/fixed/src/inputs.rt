@@ -13,7 +13,7 @@ use fixed_io::{StdSink, StdSource};
 use fixed_pack::{PackSettings, UnpackRule};
 use fixed_report::{ErrorReport, MAX_GREATEST};
 use fixed_steps::Steps;
-use fixed_words::{WordRefusal, convert_words};
+use fixed_words::{WordRefusal, WordRule, convert_words};
 use line_engine::Status;
 use std::fs::File;
 use std::io::{Error, Read};
@@ -30,7 +30,7 @@ pub enum Job<'a> {
     /// Each of its words is converted where it stands.
     Words {
         /// How a word is converted.
-        rule: ConvertRule,
+        rule: WordRule<'a>,
         /// Whether there is a report.
         has_report: bool,
     },
@@ -137,7 +137,9 @@ pub fn report_greatest<L: Ledger>(
     }
 }
 
-/// Does a task with one input, and says on standard error why it did not end well.
+/// Does a task with one input, and says on standard error why it did not end well. As each kind of job it is kept
+/// apart, so that its buffers take no room on the stack of another.
+#[inline(never)]
 fn run_task_on<R: Read + Drop, L: Ledger>(
     rt: &HostRuntime,
     task: &Task<'_>,
@@ -172,6 +174,7 @@ fn asked_report<'r>(report: &'r FieldReport<'r>, has_report: bool) -> Option<&'r
 }
 
 /// Converts columns of one input, and says on standard error why it did not end well.
+#[inline(never)]
 fn run_column_on<R: Read + Drop, L: Ledger>(
     rt: &HostRuntime,
     conversion: &ColumnConversion<'_>,
@@ -206,7 +209,7 @@ fn run_column_on<R: Read + Drop, L: Ledger>(
         report,
         end: &end,
     };
-    column_report::report_end(rt, file, &known, &failure, steps);
+    column_report::report_end(rt, file, &known, sink.lines(), &failure, steps);
     end.status()
 }
 
@@ -227,9 +230,10 @@ fn word_report(file: Option<&str>, count: u64, word: &WordRefusal) -> Report {
 }
 
 /// Converts the words of one input, and says on standard error why it did not end well.
+#[inline(never)]
 fn run_words_on<R: Read + Drop, L: Ledger>(
     rt: &HostRuntime,
-    rule: &ConvertRule,
+    rule: &WordRule<'_>,
     has_report: bool,
     file: Option<&str>,
     reader: R,
@@ -249,7 +253,7 @@ fn run_words_on<R: Read + Drop, L: Ledger>(
             let before = word.byte.saturating_sub(1) as usize;
             push_explanation(
                 &mut report,
-                rule,
+                &rule.rule,
                 &word.line,
                 (word.line.text.as_bytes(), before),
                 steps,

@@ -7,7 +7,7 @@ pub const RADIX: Row = Row {
     letter: Some('r'),
     value: "RADIX",
     choices: &["2", "8", "10", "16"],
-    help: "Of numerals and bare words: 2, 8, 10 (default), 16",
+    help: "Of numerals and words: 2, 8, 10 (default) or 16",
 };
 
 pub const FIELD: Row = Row {
@@ -39,23 +39,36 @@ pub const POLICY: Row = Row {
     letter: Some('p'),
     value: "POLICY",
     choices: &["checked", "saturating", "wrapping"],
-    help: "Overflow: checked (default), saturating, wrapping",
+    help: "checked (default), saturating or wrapping",
 };
+
+/// The words of the rounding modes.
+const MODES: &[&str] = &[
+    "nearest",
+    "ties-away",
+    "ties-zero",
+    "ties-up",
+    "ties-down",
+    "floor",
+    "ceil",
+    "zero",
+    "away",
+];
 
 pub const MODE: Row = Row {
     name: "mode",
     letter: Some('m'),
     value: "MODE",
-    choices: &["nearest", "floor", "ceil", "zero"],
-    help: "Rounding: nearest (default), floor, ceil, zero",
+    choices: MODES,
+    help: "nearest (default), or see 'fixed help modes'",
 };
 
 pub const TARGET_MODE: Row = Row {
     name: "target-mode",
     letter: None,
     value: "MODE",
-    choices: &["nearest", "floor", "ceil", "zero"],
-    help: "To TARGET: nearest, floor (default), ceil, zero",
+    choices: MODES,
+    help: "To TARGET: floor (default), or as --mode",
 };
 
 pub const FROM: Row = Row {
@@ -71,7 +84,7 @@ pub const PRINT: Row = Row {
     letter: None,
     value: "PART",
     choices: &["text", "bits", "hex", "readmemh", "value", "all"],
-    help: "text (default), bits, hex, readmemh, value or all",
+    help: "text (default), bits, hex, readmemh, value, all",
 };
 
 pub const PLACES: Row = Row {
@@ -80,6 +93,14 @@ pub const PLACES: Row = Row {
     value: "N",
     choices: &[],
     help: "The text with N digits after the point, 0 to 64",
+};
+
+pub const PLACES_MODE: Row = Row {
+    name: "places-mode",
+    letter: None,
+    value: "MODE",
+    choices: MODES,
+    help: "To N digits: nearest (default), or as --mode",
 };
 
 pub const ENDIAN: Row = Row {
@@ -120,6 +141,30 @@ pub const WORDS: Row = Row {
     value: "",
     choices: &[],
     help: "Each word of a line; blanks and commas stay",
+};
+
+pub const SEPARATORS: Row = Row {
+    name: "separators",
+    letter: None,
+    value: "CHARS",
+    choices: &[],
+    help: "What separates words beside blanks: ',' (default)",
+};
+
+pub const REFUSED: Row = Row {
+    name: "refused",
+    letter: None,
+    value: "TOKEN",
+    choices: &[],
+    help: "What a refused word becomes: error (default)",
+};
+
+pub const KEEP_WORDS: Row = Row {
+    name: "keep",
+    letter: None,
+    value: "[WHAT]",
+    choices: &["text", "all"],
+    help: "Text among words stays; all: overflows as well",
 };
 
 pub const REPORT: Row = Row {

@@ -2,7 +2,7 @@
 
 use crate::inputs::{Job, run_inputs_to};
 use crate::options::JSON;
-use crate::output::open_output;
+use crate::output::{open_answers, open_output};
 use command_line::device::{Failure, Output, Writer};
 use command_line::given::{Asked, Given, Refusal};
 use command_line::page::Row;
@@ -83,14 +83,20 @@ pub fn run_question<'a, L: Ledger>(
         }
         file => file.unwrap_or("-"),
     };
-    let mut output = match open_output(rt, given, &[file])? {
+    let form = form_of(given);
+    let opened = if words.is_empty() {
+        open_output(rt, given, &[file])?
+    } else {
+        open_answers(rt, given)
+    };
+    let mut output = match opened {
         Ok(output) => output,
         Err(status) => return Ok(status),
     };
     if words.is_empty() {
-        let job = Job::Task(Task::Ask(form_of(given), *question));
+        let job = Job::Task(Task::Ask(form, *question));
         Ok(run_inputs_to(rt, &job, &[file], &mut output, steps))
     } else {
-        Ok(run_words(rt, form_of(given), question, words, &mut output, steps))
+        Ok(run_words(rt, form, question, words, &mut output, steps))
     }
 }

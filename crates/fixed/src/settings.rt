@@ -22,9 +22,12 @@ ghost use Rattle.fixed_respell.specs.Words.{mode_text, policy_text, radix_text};
 ghost use Rattle.fixed_show.specs.declared.parts.Part.{Part};
 ghost use Rattle.line_engine.specs.Memory.{next_count};
 
-use crate::options::{ENDIAN, FIELD, FROM, MODE, PLACES, POLICY, PRINT, RADIX, SWAP, TARGET_MODE};
+use crate::options::{
+    ENDIAN, FIELD, FROM, MODE, PLACES, PLACES_MODE, POLICY, PRINT, RADIX, SWAP, TARGET_MODE,
+};
 use command_line::given::{Asked, Given, Refusal};
 use command_line::page::Row;
+use command_line::report::Report;
 use fixed_bits::{Format, Policy, ReadMode};
 use fixed_command::{
     ConvertRule, Limit, Part, Places, Print, Settings, Spelling, field_named, mode_named,
@@ -164,19 +167,30 @@ fn spelling_of<'a>(given: &Given<'_, 'a>) -> Asked<'a, Spelling>
 /// What the options say of an answer is written.
 fn print_of<'a>(given: &Given<'_, 'a>) -> Asked<'a, Print>
     ensures value { IfOk result (λ a. IsPrintAsked (first_value (found_of given.now.matches.now) (codes "print"))
-        (first_value (found_of given.now.matches.now) (codes "places")) a) }
+        (first_value (found_of given.now.matches.now) (codes "places"))
+        (first_value (found_of given.now.matches.now) (codes "places-mode")) a) }
     ensures refused { IfErr result (λ _. (a : Print)
         → ¬ IsPrintAsked (first_value (found_of given.now.matches.now) (codes "print"))
-        (first_value (found_of given.now.matches.now) (codes "places")) a) }
+        (first_value (found_of given.now.matches.now) (codes "places"))
+        (first_value (found_of given.now.matches.now) (codes "places-mode")) a) }
 {
     let print = match known(print_named(given.value(&PRINT)), given, &PRINT) {
         Ok(print) => print,
         Err(refusal) => return Err(refusal),
     };
     match given.value(&PLACES) {
-        None => Ok(print),
+        None => match given.value(&PLACES_MODE) {
+            None => Ok(print),
+            Some(word) => Err(Refusal::Word(
+                word,
+                "rounds nothing: '--places-mode' goes with '--places' alone",
+            )),
+        },
         Some(word) => match print {
-            Print::Text => text_of_places(word),
+            Print::Text => match places_mode_of(given) {
+                Ok(mode) => text_of_places(word, mode),
+                Err(refusal) => Err(refusal),
+            },
             _ => Err(Refusal::Word(
                 word,
                 "rounds nothing: '--places' goes with '--print text' alone",
@@ -185,13 +199,23 @@ fn print_of<'a>(given: &Given<'_, 'a>) -> Asked<'a, Print>
     }
 }
 
-/// The text with the places that a word counts.
-fn text_of_places<'a>(word: &'a str) -> Asked<'a, Print>
-    ensures value { IfOk result (λ a. (n : ℕ) × IsPlacesWord word.now n × (a ≡ Print.Places n)) }
+/// The mode that the option names for the way to a count of places.
+fn places_mode_of<'a>(given: &Given<'_, 'a>) -> Asked<'a, ReadMode>
+    ensures value { IfOk result (λ a. IsNamed ReadMode mode_text ReadMode.NearestEven
+        (first_value (found_of given.now.matches.now) (codes "places-mode")) a) }
+    ensures refused { IfErr result (λ _. (a : ReadMode) → ¬ IsNamed ReadMode mode_text ReadMode.NearestEven
+        (first_value (found_of given.now.matches.now) (codes "places-mode")) a) }
+{
+    known(mode_named(given.value(&PLACES_MODE)), given, &PLACES_MODE)
+}
+
+/// The text with the places that a word counts, in a mode.
+fn text_of_places<'a>(word: &'a str, mode: ReadMode) -> Asked<'a, Print>
+    ensures value { IfOk result (λ a. (n : ℕ) × IsPlacesWord word.now n × (a ≡ Print.Places n mode)) }
     ensures refused { IfErr result (λ _. (n : ℕ) → ¬ IsPlacesWord word.now n) }
 {
     match places_of(word) {
-        Some(places) => Ok(Print::Places(places)),
+        Some(places) => Ok(Print::Places(places, mode)),
         None => Err(Refusal::Word(
             word,
             "is not a count of places: it is a number from 0 to 64",
@@ -300,7 +324,8 @@ pub fn conversion<'a>(given: &Given<'_, 'a>, place: usize) -> Asked<'a, (Convert
     ensures target_mode { IfOk result (λ found. IsNamed ReadMode mode_text ReadMode.Floor
         (first_value (found_of given.now.matches.now) (codes "target-mode")) found.0.target_mode) }
     ensures print { IfOk result (λ found. IsPrintAsked (first_value (found_of given.now.matches.now) (codes "print"))
-        (first_value (found_of given.now.matches.now) (codes "places")) found.0.print) }
+        (first_value (found_of given.now.matches.now) (codes "places"))
+        (first_value (found_of given.now.matches.now) (codes "places-mode")) found.0.print) }
 {
     let source = match format_at(given, place, "SOURCE") {
         Ok(source) => source,
@@ -325,6 +350,19 @@ pub fn conversion<'a>(given: &Given<'_, 'a>, place: usize) -> Asked<'a, (Convert
         print,
     };
     Ok((ConvertRule::new(settings), files))
+}
+
+/// Says on standard error that the move to the target rounds down, if a target and the mode of reading are given alone.
+/// `files` is the place of the first file after a source at `place`.
+pub fn note_target_mode(rt: &HostRuntime, given: &Given<'_, '_>, place: usize, files: usize) {
+    let has_target = files > place.saturating_add(1);
+    if has_target && given.value(&MODE).is_some() && given.value(&TARGET_MODE).is_none() {
+        let mut report = Report::of(None);
+        report.text(
+            "--mode rounds into SOURCE; the move to TARGET rounds down, for want of --target-mode",
+        );
+        report.send(rt);
+    }
 }
 
 /// Whether a word neither begins with a plus nor has a zero before another byte.

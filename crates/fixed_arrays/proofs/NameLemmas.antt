@@ -3,7 +3,7 @@ use Rattle.std.proofs.Common.{◌≡◌, ◌↔◌, ◌∙◌, ℕ, List, [], �
 use Rattle.std.specs.Prelude.{is_some, not}
 use Rattle.std.proofs.lemmas.Bool.{false≢true}
 use Rattle.memchr.specs.Find.{FindsNeedle, OccursAt}
-use Rattle.fixed_arrays.specs.Names.{AreApart, two_underscores}
+use Rattle.fixed_arrays.specs.Names.{AreApart, HasTwoUnderscores, two_underscores}
 
 pub and_not : (a b : Bool) (P Q : Type 0) → (IsTrue a ↔ P) → a ≡ true → (IsTrue b ↔ Q) → IsTrue (not b) ↔ (P × (Q → ⊥))
 and_not a true P Q p t q = (λ h. absurd (false≢true h), λ h. absurd (h.1 (q.0 refl)))
@@ -23,3 +23,10 @@ apart_by name hay None true same found is = (λ _. never, λ _. refl)
   where
     never : AreApart name
     never place h = let O : List ℕ → Type 0 = λ n. OccursAt n two_underscores place in let at = subst O (sym same) h in let fits = at.fits in found place (omega arith) (omega arith) at
+
+pub has_two_by : (name : List ℕ) (r : Option ℕ) (b : Bool) → FindsNeedle name two_underscores 0 r → b ≡ is_some r → IsTrue b ↔ HasTwoUnderscores name
+has_two_by name (Some k) b found is = (λ _. (k, found.1), λ _. is)
+has_two_by name None b found is = (λ holds. absurd (false≢true (sym is ∙ holds)), λ h. absurd (never h))
+  where
+    never : HasTwoUnderscores name → ⊥
+    never h = let at = h.1 in let fits = at.fits in found h.0 (omega arith) (omega arith) at

@@ -1,6 +1,6 @@
 -- Which names a list of numbers may have.
-use Rattle.std.specs.Prelude.{◌≡◌, ℕ, List, [], ◌∷◌, ◌++◌, codes, map}
-use Rattle.std.specs.Char.{to_ascii_lowercase}
+use Rattle.std.specs.Prelude.{◌≡◌, ◌==◌, ◌&&◌, ◌⊎◌, ℕ, Bool, List, [], ◌∷◌, ◌++◌, codes, false, map, true}
+use Rattle.std.specs.Char.{is_ascii_uppercase, to_ascii_lowercase}
 use Rattle.memchr.specs.Find.{OccursAt}
 use Rattle.fixed_constants.specs.Constants.{IsName}
 use Rattle.fixed_constants.specs.Forms.{IsAmong, IsReserved}
@@ -33,10 +33,34 @@ AreApart name = (place : ℕ) → ¬ OccursAt (95 ∷ (name ++ 95 ∷ [])) two_u
 abbrev pub IsVhdlName : List ℕ → Type 0
 IsVhdlName name = IsName name × (AreApart name × (¬ IsAmong vhdl_words (map to_ascii_lowercase name)))
 
+-- the names that GNU C defines beside those that C reserves, each between two spaces
+unfoldable pub gnu_words : List ℕ
+gnu_words = codes " i386 linux unix "
+
+-- two underscores of the name are side by side
+abbrev pub HasTwoUnderscores : List ℕ → Type 0
+HasTwoUnderscores name = (place : ℕ) × OccursAt name two_underscores place
+
+-- the name begins with an underscore and a capital letter
+abbrev pub begins_kept : List ℕ → Bool
+begins_kept [] = false
+begins_kept (first ∷ []) = false
+begins_kept (first ∷ next ∷ rest) = (first == 95) && is_ascii_uppercase next
+
+-- C keeps the name for compilers and libraries
+abbrev pub IsKept : List ℕ → Type 0
+IsKept name = HasTwoUnderscores name ⊎ (begins_kept name ≡ true)
+
+-- a name of C in a header with this guard: the language does not reserve it, GNU C does not define it, and it is not
+-- kept for compilers and libraries
+abbrev pub IsCName : List ℕ → List ℕ → Type 0
+IsCName guard name = (IsName name × (¬ IsReserved language.C guard name))
+    × ((¬ IsAmong gnu_words name) × (¬ IsKept name))
+
 -- a list may have the name in a form, in a header with this guard; the files of a memory have no name
 abbrev pub IsArrayName : ArrayForm → List ℕ → List ℕ → Type 0
-IsArrayName C guard name = IsName name × (¬ IsReserved language.C guard name)
-IsArrayName GuardedC guard name = IsName name × (¬ IsReserved language.C guard name)
+IsArrayName C guard name = IsCName guard name
+IsArrayName GuardedC guard name = IsCName guard name
 IsArrayName Rust guard name = IsName name × (¬ IsReserved language.Rust guard name)
 IsArrayName Vhdl guard name = IsVhdlName name
 IsArrayName Readmemh guard name = name ≡ []

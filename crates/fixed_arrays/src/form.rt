@@ -4,7 +4,8 @@ ghost use Rattle.std.specs.Prelude.{◌≡◌, ◌↔◌, ◌≤◌, IsTrue, len
 ghost use Rattle.std.specs.Char.{to_ascii_lowercase};
 ghost use Rattle.fixed_constants.specs.Constants.{IsName};
 ghost use Rattle.fixed_constants.specs.Forms.{IsAmong, IsReserved};
-ghost use Rattle.fixed_arrays.specs.Names.{AreApart, IsArrayName, IsVhdlName, vhdl_words};
+ghost use Rattle.fixed_arrays.specs.Names.{AreApart, HasTwoUnderscores, IsArrayName, IsCName, IsKept, IsVhdlName};
+ghost use Rattle.fixed_arrays.specs.Names.{begins_kept, gnu_words, vhdl_words};
 
 use fixed_constants::{Form, is_among, is_name, is_reserved};
 use memchr::memmem;
@@ -40,6 +41,16 @@ const VHDL_WORDS: &[u8] = b" \
     rol ror select sequence severity shared signal sla sll sra srl strong subtype then to transport type \
     unaffected units until use variable vmode vpkg vprop vunit wait when while with xnor xor view \
     ieee numeric_std signed standard std std_logic_1164 unsigned work ";
+
+/// The names that GNU C defines beside those that C reserves, each between two spaces.
+const GNU_WORDS: &[u8] = b" i386 linux unix ";
+
+/// The names that GNU C defines.
+fn gnu_words() -> &'static [u8]
+    ensures { result.now ≡ gnu_words }
+{
+    GNU_WORDS
+}
 
 /// The words that VHDL reserves.
 fn vhdl_words() -> &'static [u8]
@@ -103,13 +114,53 @@ fn is_free_name(language: Form, guard: &[u8], name: &[u8]) -> bool
     is_name(name) && !is_reserved(language, guard, name)
 }
 
+/// Whether two underscores of a name are side by side.
+fn has_two_underscores(name: &[u8]) -> bool
+    ensures { IsTrue result ↔ HasTwoUnderscores name.now }
+{
+    memmem::find(name, b"__").is_some()
+}
+
+/// Whether a name begins with an underscore and a capital letter.
+fn begins_kept(name: &[u8]) -> bool
+    ensures { result ≡ begins_kept name.now }
+{
+    match name {
+        [first, next, ..] => *first == b'_' && next.is_ascii_uppercase(),
+        _ => false,
+    }
+}
+
+/// Whether C keeps a name for compilers and libraries: two of its underscores are side by side, or it begins with an
+/// underscore and a capital letter.
+pub fn is_kept(name: &[u8]) -> bool
+    ensures { IsTrue result ↔ IsKept name.now }
+{
+    has_two_underscores(name) || begins_kept(name)
+}
+
+/// Whether C leaves a name free that is none of its words.
+fn is_open(name: &[u8]) -> bool
+    requires { length name.now ≤ 64 }
+    ensures { IsTrue result ↔ ((¬ IsAmong gnu_words name.now) × (¬ IsKept name.now)) }
+{
+    !is_among(gnu_words(), name) && !is_kept(name)
+}
+
+/// Whether a list may have a name in C, in a header with this guard.
+fn is_c_name(guard: &[u8], name: &[u8]) -> bool
+    ensures { IsTrue result ↔ IsCName guard.now name.now }
+{
+    is_free_name(Form::C, guard, name) && is_open(name)
+}
+
 /// Whether a list of a form may have a name, in a header with this guard. The files of a memory have none.
 pub fn is_array_name(form: ArrayForm, guard: &[u8], name: &[u8]) -> bool
     ensures { IsTrue result ↔ IsArrayName form guard.now name.now }
 {
     match form {
-        ArrayForm::C => is_free_name(Form::C, guard, name),
-        ArrayForm::GuardedC => is_free_name(Form::C, guard, name),
+        ArrayForm::C => is_c_name(guard, name),
+        ArrayForm::GuardedC => is_c_name(guard, name),
         ArrayForm::Rust => is_free_name(Form::Rust, guard, name),
         ArrayForm::Vhdl => is_vhdl_name(name),
         ArrayForm::Readmemh => name.is_empty(),

@@ -17,6 +17,6 @@ mod table;
 mod text;
 
 pub use fault::{ArrayFault, LiteralsFault};
-pub use form::{ArrayForm, is_array_name};
+pub use form::{ArrayForm, is_array_name, is_kept};
 pub use literal_rule::LiteralArrayRule;
 pub use rule::{ArrayRule, Numerals};

@@ -3,6 +3,7 @@
 ghost use Rattle.std.specs.Prelude.{◌≤◌};
 ghost use Rattle.fixed_bits.specs.Ranges.{IsWide};
 
+use fixed_bits::ReadMode;
 use fixed_steps::Steps;
 use fixed_write::{Notation, Style, push_decimal, push_shortest, shortest, to_text};
 use std::alloc::{AllocError, Global};
@@ -118,7 +119,7 @@ pub fn places_as(format: &str, all: &[SignedBits], places: u32, times: u32) -> i
     for _pass in 0..times {
         for bits in all {
             out.clear();
-            push_decimal(&mut out, bits.value(), frac, places);
+            push_decimal(&mut out, bits.value(), frac, places, ReadMode::NearestEven);
             sum = sum.wrapping_add(weight(out.as_bytes()));
         }
     }

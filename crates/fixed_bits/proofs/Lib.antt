@@ -10,3 +10,4 @@ mod LawLemmas
 mod MaskLemmas
 mod NumberLemmas
 mod OrderLemmas
+mod LostLemmas

@@ -5,19 +5,22 @@ use Rattle.fixed_bits.specs.Down.{IsDown, down}
 use Rattle.fixed_bits.specs.Formats.{FormatParts, IsFormat, IsTypeFormat}
 use Rattle.fixed_bits.specs.Images.{DiffersByMultiple, IsImage, IsWrapped}
 use Rattle.fixed_bits.specs.Laws.{RangeIsDecided, EndsAreWide, ImagesAgree, CheckedHasNone, ImageIsTheOne, ImageIsInRange, DownIsTheOne, RankIsOrder, RoundedIsTheOne, EqualFractionsRoundAlike}
+use Rattle.fixed_bits.specs.LostFractions.{IsLostFraction, quarters}
 use Rattle.fixed_bits.specs.Nearest.{IsNearest, IsEven}
 use Rattle.fixed_bits.specs.Numbers.{IsImageUnlessRefused, IsNumber, IsRefused, number_of_image, with_sign}
 use Rattle.fixed_bits.specs.Order.{rank}
 use Rattle.fixed_bits.specs.Ranges.{IsInRange, IsOutOfRange, IsTypeWidth, IsWidth, IsWide}
-use Rattle.fixed_bits.specs.Rounded.{IsRounded}
+use Rattle.fixed_bits.specs.Rounded.{IsRounded, magnitude_mode}
 use Rattle.fixed_bits.specs.declared.format.Policy.{Policy}
 use Rattle.fixed_bits.specs.declared.format.Policy.TheVariants.{Checked}
 use Rattle.fixed_bits.specs.declared.mode.ReadMode.{ReadMode}
 use Rattle.fixed_bits.specs.declared.number.Image.{Image}
 use Rattle.fixed_bits.specs.declared.number.Number.{Number}
+use Rattle.fixed_bits.specs.declared.rounding.LostFraction.{LostFraction}
 use Rattle.fixed_bits.proofs.DownLemmas
 use Rattle.fixed_bits.proofs.ImageLemmas
 use Rattle.fixed_bits.proofs.LawLemmas
+use Rattle.fixed_bits.proofs.LostLemmas
 use Rattle.fixed_bits.proofs.NearestLemmas
 use Rattle.fixed_bits.proofs.NumberLemmas
 use Rattle.fixed_bits.proofs.OrderLemmas
@@ -133,6 +136,22 @@ rounded_one = LawLemmas.rounded_one
 
 pub rounded_same : EqualFractionsRoundAlike
 rounded_same = LawLemmas.rounded_alike
+
+-- the magnitude in its mode
+pub magnitude_rounded : (m : ReadMode) (negative : Bool) (num den q : ℕ) → IsRounded (magnitude_mode m negative) false num den q → IsRounded m negative num den q
+magnitude_rounded = RoundedLemmas.magnitude_rounded
+
+-- a whole number is rounded to itself
+pub rounded_exact : (m : ReadMode) (negative : Bool) (q u : ℕ) → 0 < u → IsRounded m negative (q * u) u q
+rounded_exact = RoundedLemmas.rounded_exact
+
+-- rounding moves a number by less than one
+pub rounded_close : (m : ReadMode) (negative : Bool) (num den q : ℕ) → 0 < den → IsRounded m negative num den q → (q * den < num + den) × (num < q * den + den)
+rounded_close = RoundedLemmas.rounded_close
+
+-- a lost fraction is rounded as its quarters are
+pub rounds_as_quarters : (mode : ReadMode) (lost : LostFraction) (q s den inc : ℕ) → 0 < den → IsLostFraction lost s den → IsRounded mode false (q * 4 + quarters lost) 4 (q + inc) → IsRounded mode false (q * den + s) den (q + inc)
+rounds_as_quarters = LostLemmas.rounds_as_quarters
 
 -- ---- the order of formats
 pub rank_below : (f : FormatParts) → IsTypeFormat f.width f.frac → rank f < 248

@@ -6,5 +6,6 @@ pub mod Lemmas
 pub mod Formats
 pub mod Order
 pub mod Nearest
+pub mod LostFractions
 pub mod Rounded
 pub mod Laws

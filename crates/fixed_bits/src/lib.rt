@@ -11,10 +11,12 @@ mod masks;
 pub mod mode;
 pub mod number;
 pub mod order;
+pub mod rounding;
 
 pub use bits::FixedBits;
 pub use format::{Format, Policy, mul10};
 pub use inner::Inner;
-pub use mode::ReadMode;
+pub use mode::{ReadMode, magnitude_mode_of};
 pub use number::{Image, Number, is_refused, moved, sign_and_magnitude, signed_number};
 pub use order::{FORMAT_COUNT, format_at};
+pub use rounding::{LostFraction, lost_fraction, rounding_increment, share_increment};

@@ -13,6 +13,7 @@ use Rattle.fixed_bits.specs.declared.format.Policy.{Policy}
 use Rattle.fixed_bits.specs.declared.format.Policy.TheVariants.{Checked, Saturating, Wrapping}
 use Rattle.fixed_bits.specs.declared.mode.ReadMode.{ReadMode}
 use Rattle.fixed_bits.specs.declared.mode.ReadMode.TheVariants.{NearestEven, Floor, Ceil, TowardsZero}
+use Rattle.fixed_bits.specs.declared.mode.ReadMode.TheVariants.{AwayFromZero, NearestAway, NearestDown, NearestUp, NearestZero}
 use Rattle.fixed_bits.proofs.Public.{image_within, width_most}
 use Rattle.fixed_numeral.specs.Messages.{message_of}
 use Rattle.fixed_numeral.specs.declared.error.ParseErrorKind.{ParseErrorKind}
@@ -25,7 +26,7 @@ use Rattle.fixed_respell.specs.Language.{fault_answer}
 use Rattle.fixed_respell.specs.LineWords.{longest_line, space}
 use Rattle.fixed_respell.specs.Reached.{IsRefusal, IsRespelled}
 use Rattle.fixed_respell.specs.Split.{count_of}
-use Rattle.fixed_respell.specs.Words.{IsPolicyWord, format_text, mode_text, policy_text, radix_text, sign_letter, slash}
+use Rattle.fixed_respell.specs.Words.{IsPolicyName, format_text, mode_text, policy_text, radix_text, sign_letter, slash}
 use Rattle.fixed_respell.proofs.Public.{text_names}
 use Rattle.fixed_respell.specs.Lemmas.SplitLemmas.{count-append, count_cons}
 use Rattle.fixed_numeral.proofs.Public.{message_short}
@@ -119,6 +120,11 @@ mode_unspaced NearestEven = refl
 mode_unspaced Floor = refl
 mode_unspaced Ceil = refl
 mode_unspaced TowardsZero = refl
+mode_unspaced NearestAway = refl
+mode_unspaced NearestZero = refl
+mode_unspaced NearestUp = refl
+mode_unspaced NearestDown = refl
+mode_unspaced AwayFromZero = refl
 
 letter_high : (signed : Bool) → 33 ≤ sign_letter signed
 letter_high true = omega arith
@@ -133,7 +139,7 @@ format_unspaced f is =
     ∙ both_unspaced (decimal (f.width - f.frac)) (70 ∷ decimal f.frac) (decimal_unspaced (f.width - f.frac) (omega arith)) fraction
 
 -- ---- what the line asks for
-asks : (s : Settings) (numeral : List ℕ) → AreFormats s → length (asking_line s numeral) ≤ longest_line → AsksBy IsFormatName IsPolicyWord (asking_line s numeral) (task_of s.radix s.source s.target s.policy s.mode numeral)
+asks : (s : Settings) (numeral : List ℕ) → AreFormats s → length (asking_line s numeral) ≤ longest_line → AsksBy IsFormatName IsPolicyName (asking_line s numeral) (task_of s.radix s.source s.target s.policy s.mode numeral)
 asks s numeral formats short = record {
   short = short;
   radix_word = radix_text s.radix;

@@ -1,10 +1,16 @@
 -- What is read for the bytes of a field.
-use Rattle.std.proofs.Common.{◌≡◌, ◌∙◌, ◌==◌, ◌+◌, ◌<◌, ℕ, suc, List, [], ◌∷◌, ◌++◌, false, subst, length, take, take-suc, get_or, append-nil, refl, sym, ap, arith}
-use Rattle.std.specs.List.{flat_map}
+use Rattle.std.proofs.Common.{◌≡◌, ◌∙◌, ◌==◌, ◌&&◌, ◌+◌, ◌-◌, ◌<◌, ◌≤◌, ℕ, zero, suc, Option, List, [], ◌∷◌, ◌++◌, Bool, true, false, not, subst, length, map, take, take-suc, get_or, add-one, append-nil, drop, drop-cons, refl, sym, ap, arith}
+use Rattle.std.specs.List.{flat_map, starts_with}
+use Rattle.std.proofs.lemmas.List.{drop_all, map_more}
 use Rattle.std.proofs.lemmas.Grind.{flat_map-append}
 use Rattle.line_engine.specs.AnswerText.{AnswerText}
 use Rattle.fixed_command.specs.Convert.{IsLineReply}
-use Rattle.fixed_command.specs.Fields.{IsFieldReply, IsFieldReplyBy, bare, field_numeral, read_for, swapped}
+use Rattle.fixed_numeral.specs.Numeral.{base}
+use Rattle.fixed_numeral.specs.declared.radix.Radix.{Radix}
+use Rattle.fixed_respell.specs.Language.{fault_answer}
+use Rattle.fixed_command.specs.Fields.{IsFieldOutcome, IsFieldOutcomeBy, IsNumeralOutcome, IsReadOutcome}
+use Rattle.fixed_command.specs.declared.outcome.Outcome.{Outcome}
+use Rattle.fixed_command.specs.Fields.{IsEmptyReply, IsFieldReply, IsFieldReplyBy, IsPointReply, IsReadReply, after_sign, are_groups, bare, digits_of, field_numeral, has_part, is_digit, is_grouped, is_misplaced, marked, misplaced_message, read_for, swapped}
 use Rattle.fixed_command.specs.declared.convert.Settings.{Settings}
 use Rattle.fixed_command.specs.declared.field.FieldForm.{FieldForm}
 
@@ -27,10 +33,141 @@ plain_read [] = refl
 plain_read (byte ∷ rest) = ap (λ b. b ∷ flat_map (read_for [] 46) rest) (same_byte byte) ∙ ap (λ l. byte ∷ l) (plain_read rest)
 
 -- so the reply to a field that is not empty is that to its bytes
-pub plain_reply : (form : FieldForm) (s : Settings) (field bytes : List ℕ) (reply : AnswerText) → bytes ≡ bare form field → (length bytes == 0) ≡ false
-    → form.decimal ≡ 46 → form.thousands.now ≡ [] → IsLineReply s bytes reply → IsFieldReply form s field reply
-plain_reply form s field bytes reply same some decimal thousands answer =
-    let empty : (length (bare form field) == 0) ≡ false = ap (λ l. length l == 0) (sym same) ∙ some in
+no_part : (bytes : List ℕ) → has_part [] bytes ≡ false
+no_part [] = refl
+no_part (byte ∷ rest) = no_part rest
+
+and_none : (a b : Bool) → ((a && false) && b) ≡ false
+and_none true b = refl
+and_none false b = refl
+
+none_misplaced : (form : FieldForm) (radix : Radix) (bytes : List ℕ) → form.thousands.now ≡ [] → is_misplaced form radix bytes ≡ false
+none_misplaced form radix bytes none =
+    let part : has_part form.thousands.now bytes ≡ false = ap (λ (l : List ℕ). has_part l bytes) none ∙ no_part bytes in
+    let grouped : Bool = is_grouped (base radix == 16) form.thousands.now (after_sign bytes) in
+    ap (λ (b : Bool). (form.has_groups && b) && not grouped) part ∙ and_none form.has_groups (not grouped)
+
+pub plain_reply : (form : FieldForm) (s : Settings) (field bytes : List ℕ) (reply : AnswerText) → bytes ≡ bare form field
+    → form.decimal ≡ 46 → form.thousands.now ≡ [] → IsLineReply s bytes reply → IsReadReply (is_misplaced form s.radix bytes) form s field reply
+plain_reply form s field bytes reply same decimal thousands answer =
     let numeral : field_numeral form field ≡ bytes = ap (λ l. flat_map (read_for form.thousands.now form.decimal) l) (sym same)
     ∙ (ap (λ d. flat_map (read_for form.thousands.now d) bytes) decimal ∙ (ap (λ t. flat_map (read_for t 46) bytes) thousands ∙ plain_read bytes)) in
-    subst (λ b. IsFieldReplyBy b form s field reply) (sym empty) (subst (λ l. IsLineReply s l reply) (sym numeral) answer)
+    subst (λ b. IsReadReply b form s field reply) (sym (none_misplaced form s.radix bytes thousands)) (subst (λ l. IsLineReply s l reply) (sym numeral) answer)
+
+faulty : List ℕ → AnswerText
+faulty text = record { text = text; fault = true }
+
+pub misplaced_reply : (form : FieldForm) (s : Settings) (field bytes out : List ℕ) → is_misplaced form s.radix bytes ≡ true
+    → out ≡ (fault_answer misplaced_message).text → IsReadReply (is_misplaced form s.radix bytes) form s field (record { text = out; fault = true })
+unfolding faulty
+misplaced_reply form s field bytes out e is = subst (λ b. IsReadReply b form s field (faulty out)) (sym e) (ap faulty is)
+
+pub read_reply : (form : FieldForm) (s : Settings) (field bytes : List ℕ) (reply : AnswerText) → bytes ≡ bare form field → is_misplaced form s.radix bytes ≡ false
+    → IsLineReply s (flat_map (read_for form.thousands.now form.decimal) bytes) reply → IsReadReply (is_misplaced form s.radix bytes) form s field reply
+read_reply form s field bytes reply same e answer =
+    let numeral : flat_map (read_for form.thousands.now form.decimal) bytes ≡ field_numeral form field = ap (λ l. flat_map (read_for form.thousands.now form.decimal) l) same in
+    subst (λ b. IsReadReply b form s field reply) (sym e) (subst (λ l. IsLineReply s l reply) numeral answer)
+
+-- ---- by whether a field is empty
+pub empty_field : (form : FieldForm) (s : Settings) (field bytes : List ℕ) (reply : AnswerText) → bytes ≡ bare form field → (length bytes == 0) ≡ true
+    → IsEmptyReply form.empty s reply → IsPointReply form s field reply
+empty_field form s field bytes reply same none answer =
+    let empty : (length (bare form field) == 0) ≡ true = ap (λ (l : List ℕ). length l == 0) (sym same) ∙ none in
+    subst (λ b. IsFieldReplyBy b form s field reply) (sym empty) answer
+
+pub some_field : (form : FieldForm) (s : Settings) (field bytes : List ℕ) (reply : AnswerText) → bytes ≡ bare form field → (length bytes == 0) ≡ false
+    → IsReadReply (is_misplaced form s.radix bytes) form s field reply → IsPointReply form s field reply
+some_field form s field bytes reply same some answer =
+    let empty : (length (bare form field) == 0) ≡ false = ap (λ (l : List ℕ). length l == 0) (sym same) ∙ some in
+    subst (λ b. IsFieldReplyBy b form s field reply) (sym empty) (subst (λ l. IsReadReply (is_misplaced form s.radix l) form s field reply) same answer)
+
+-- ---- the mark of an answer
+pub marked_next : (mark : ℕ) (bytes out more : List ℕ) (k byte : ℕ) → k < length bytes → out ≡ map (marked mark) (take k bytes) → byte ≡ get_or bytes k 0
+    → more ≡ out ++ marked mark byte ∷ [] → more ≡ map (marked mark) (take (k + 1) bytes)
+marked_next mark bytes out more k byte low before is next =
+    next ∙ (ap (λ (b : ℕ). out ++ marked mark b ∷ []) is ∙ (ap (λ (l : List ℕ). l ++ marked mark (get_or bytes k 0) ∷ []) before ∙ sym (map_more (marked mark) bytes k 0 low)))
+
+same_point : (byte : ℕ) → marked 46 byte ≡ byte
+same_point byte = grind arith
+
+point_stays : (bytes : List ℕ) → map (marked 46) bytes ≡ bytes
+point_stays [] = refl
+point_stays (byte ∷ rest) = ap (λ b. b ∷ map (marked 46) rest) (same_point byte) ∙ ap (λ l. byte ∷ l) (point_stays rest)
+
+clean : List ℕ → AnswerText
+clean text = record { text = text; fault = false }
+
+pub refused_field : (form : FieldForm) (s : Settings) (field text : List ℕ) → IsPointReply form s field (record { text = text; fault = true })
+    → IsFieldReply form s field (record { text = text; fault = true })
+refused_field form s field text reply = (record { text = text; fault = true }, reply, refl)
+
+pub point_field : (form : FieldForm) (s : Settings) (field text : List ℕ) → form.mark ≡ 46 → IsPointReply form s field (record { text = text; fault = false })
+    → IsFieldReply form s field (record { text = text; fault = false })
+unfolding clean
+point_field form s field text point reply =
+    (clean text, reply, ap clean (sym (ap (λ (m : ℕ). map (marked m) text) point ∙ point_stays text)))
+
+pub marked_field : (form : FieldForm) (s : Settings) (field text new : List ℕ) → new ≡ map (marked form.mark) text → IsPointReply form s field (record { text = text; fault = false })
+    → IsFieldReply form s field (record { text = new; fault = false })
+unfolding clean
+marked_field form s field text new is reply = (clean text, reply, ap clean is)
+
+-- ---- groups of digits
+pub no_digits : (hex : Bool) (bytes : List ℕ) (k : ℕ) → k < length bytes → is_digit hex (get_or bytes k 0) ≡ false → digits_of hex (drop k bytes) ≡ 0
+unfolding digits_of
+no_digits hex bytes k low e = ap (digits_of hex) (drop-cons bytes k 0 low) ∙ rw e refl
+
+pub one_digit : (hex : Bool) (bytes : List ℕ) (k : ℕ) → k < length bytes → is_digit hex (get_or bytes k 0) ≡ true → digits_of hex (drop k bytes) ≡ 1 + digits_of hex (drop (k + 1) bytes)
+unfolding digits_of
+one_digit hex bytes k low e = rw add-one (ap (digits_of hex) (drop-cons bytes k 0 low) ∙ rw e refl)
+
+pub last_digit : (hex : Bool) (bytes : List ℕ) (k : ℕ) → length bytes ≤ k → digits_of hex (drop k bytes) ≡ 0
+unfolding digits_of
+last_digit hex bytes k high = ap (digits_of hex) (drop_all k bytes high)
+
+-- after a separator come three digits, or not
+abbrev pub starts : List ℕ → List ℕ → Bool
+starts separator bytes = starts_with (λ a b. a == b) bytes separator
+
+pub group_next : (n : ℕ) (hex : Bool) (separator bytes : List ℕ) → starts separator bytes ≡ true → (digits_of hex (drop (length separator) bytes) == 3) ≡ true
+    → are_groups (suc n) hex separator bytes ≡ are_groups n hex separator (drop 3 (drop (length separator) bytes))
+unfolding are_groups
+group_next n hex separator bytes begins three = rw (begins, three) refl
+
+pub group_wrong : (n : ℕ) (hex : Bool) (separator bytes : List ℕ) → starts separator bytes ≡ true → (digits_of hex (drop (length separator) bytes) == 3) ≡ false
+    → are_groups (suc n) hex separator bytes ≡ false
+unfolding are_groups
+group_wrong n hex separator bytes begins other = rw (begins, other) refl
+
+pub groups_end : (n : ℕ) (hex : Bool) (separator bytes : List ℕ) → starts separator bytes ≡ false → are_groups (suc n) hex separator bytes ≡ not (has_part separator bytes)
+unfolding are_groups
+groups_end n hex separator bytes ends = rw ends refl
+
+pub group_other : (most : ℕ) (hex : Bool) (separator bytes : List ℕ) → 0 < most → starts separator bytes ≡ true → (digits_of hex (drop (length separator) bytes) == 3) ≡ false
+    → are_groups most hex separator bytes ≡ false
+group_other zero hex separator bytes some begins other = absurd (omega arith)
+group_other (suc n) hex separator bytes some begins other = group_wrong n hex separator bytes begins other
+
+abbrev pub groups_over : ℕ → Bool → List ℕ → List ℕ → Bool
+groups_over n hex separator bytes = are_groups n hex separator bytes
+
+pub group_more : (most : ℕ) (hex : Bool) (separator bytes : List ℕ) → 0 < most → starts separator bytes ≡ true → (digits_of hex (drop (length separator) bytes) == 3) ≡ true
+    → are_groups most hex separator bytes ≡ groups_over (most - 1) hex separator (drop 3 (drop (length separator) bytes))
+group_more zero hex separator bytes some begins three = absurd (omega arith)
+group_more (suc n) hex separator bytes some begins three =
+    let before : suc n - 1 ≡ n = omega arith in
+    group_next n hex separator bytes begins three ∙ ap (λ (k : ℕ). are_groups k hex separator (drop 3 (drop (length separator) bytes))) (sym before)
+
+pub groups_ended : (most : ℕ) (hex : Bool) (separator bytes : List ℕ) → 0 < most → starts separator bytes ≡ false → are_groups most hex separator bytes ≡ not (has_part separator bytes)
+groups_ended zero hex separator bytes some ends = absurd (omega arith)
+groups_ended (suc n) hex separator bytes some ends = groups_end n hex separator bytes ends
+
+-- ---- how a field comes through
+pub read_outcome : (form : FieldForm) (s : Settings) (field bytes text : List ℕ) (found : Option Outcome) → bytes ≡ bare form field → (length bytes == 0) ≡ false
+    → is_misplaced form s.radix bytes ≡ false → text ≡ flat_map (read_for form.thousands.now form.decimal) bytes → IsReadOutcome s text found → IsFieldOutcome form s field found
+read_outcome form s field bytes text found same some placed is outcome =
+    let empty : (length (bare form field) == 0) ≡ false = ap (λ (l : List ℕ). length l == 0) (sym same) ∙ some in
+    let numeral : text ≡ field_numeral form field = is ∙ ap (λ l. flat_map (read_for form.thousands.now form.decimal) l) same in
+    let place : is_misplaced form s.radix (bare form field) ≡ false = ap (λ l. is_misplaced form s.radix l) (sym same) ∙ placed in
+    subst (λ b. IsFieldOutcomeBy b form s field found) (sym empty) (subst (λ b. IsNumeralOutcome b form s field found) (sym place)
+    (subst (λ l. IsReadOutcome s l found) numeral outcome))

@@ -34,7 +34,7 @@ print_at word = if byte_at 0 word == 116 then Text else if byte_at 0 word == 98 
 print_is : (word : List ℕ) (p : Print) → IsPrintWord word p → print_at word ≡ p
 unfolding print_at byte_at
 print_is word Text x = ap print_at x
-print_is word (Places count) x = absurd x
+print_is word (Places count mode) x = absurd x
 print_is word Bits x = ap print_at x
 print_is word Hex x = ap print_at x
 print_is word Readmemh x = ap print_at x

@@ -11,7 +11,7 @@ use Rattle.fixed_command.specs.declared.spelling.Spelling.TheVariants.{Numeral, 
 -- a word names a part of an answer; a count of places has no word
 abbrev pub IsPrintWord : List ℕ → Print → Type 0
 IsPrintWord word Text = word ≡ codes "text"
-IsPrintWord word (Places count) = ⊥
+IsPrintWord word (Places count mode) = ⊥
 IsPrintWord word Bits = word ≡ codes "bits"
 IsPrintWord word Hex = word ≡ codes "hex"
 IsPrintWord word Readmemh = word ≡ codes "readmemh"

@@ -5,7 +5,7 @@ use Rattle.std.specs.Fmt.{signed_decimal}
 use Rattle.fixed_bits.specs.Formats.{IsFormat}
 use Rattle.fixed_bits.specs.Ranges.{IsWide}
 use Rattle.fixed_bits.specs.declared.mode.ReadMode.{ReadMode}
-use Rattle.fixed_bits.specs.declared.mode.ReadMode.TheVariants.{NearestEven, Floor, Ceil, TowardsZero}
+use Rattle.fixed_bits.specs.declared.mode.ReadMode.TheVariants.{Floor}
 use Rattle.fixed_convert.specs.Rounded.{IsNotReformatted, IsReformatted}
 use Rattle.fixed_numeral.specs.Messages.{message_of}
 use Rattle.fixed_numeral.specs.declared.error.ParseErrorKind.{ParseErrorKind}
@@ -99,11 +99,8 @@ IsMovedAnswer s numeral answer = IsLong s numeral answer
 -- whether it is that to a line, in which formats are of any width: of a numeral, where the target mode is Floor, as in
 -- every line
 abbrev pub asks_a_line : Spelling → ReadMode → Bool
-asks_a_line Numeral NearestEven = false
 asks_a_line Numeral Floor = true
-asks_a_line Numeral Ceil = false
-asks_a_line Numeral TowardsZero = false
-asks_a_line Word mode = false
+asks_a_line spelling mode = false
 
 abbrev pub IsAnswerBy : Bool → Settings → List ℕ → AnswerText → Type 0
 IsAnswerBy true s numeral answer = IsNamedAnswer (asking_line s numeral) answer

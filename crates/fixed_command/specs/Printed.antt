@@ -10,7 +10,7 @@ use Rattle.fixed_command.specs.declared.print.Print.TheVariants.{All, Bits, Hex,
 -- the part of an answer with this text as its first word and these bits as its second
 abbrev pub printed : Print → FormatParts → List ℕ → List ℕ → ℤ → List ℕ
 printed Text f answer text bits = text
-printed (Places count) f answer text bits = rounded_text 10 false count bits f.frac
+printed (Places count mode) f answer text bits = rounded_text mode 10 false count bits f.frac
 printed Bits f answer text bits = signed_decimal bits
 printed Hex f answer text bits = hex_text f.width bits
 printed Readmemh f answer text bits = hex_digits f.width bits

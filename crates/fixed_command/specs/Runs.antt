@@ -17,7 +17,7 @@ use Rattle.line_engine.specs.declared.status.Status.{Status}
 use Rattle.line_engine.specs.declared.status.Status.TheVariants.{NoMemory, TooLong, WriteFault}
 use Rattle.fixed_command.specs.Convert.{IsLineReply}
 use Rattle.fixed_command.specs.Layout.{IsLaidOut}
-use Rattle.fixed_command.specs.Limits.{max_limit}
+use Rattle.fixed_command.specs.Limits.{limit_of, max_limit, no_limit}
 use Rattle.fixed_command.specs.LineBlocks.{IsLineBlock}
 use Rattle.fixed_command.specs.Products.{IsProduct}
 use Rattle.fixed_command.specs.declared.task.Task.{Task}
@@ -80,12 +80,12 @@ reported_extra = 20973788
 
 -- what a task does to an input
 abbrev pub TaskRuns : Task → Outside → Outside → Status → Type 0
-TaskRuns (Lines limit) = HasLineRun respell.IsAnswer limit 8 624
-TaskRuns (Convert settings) = HasLineRun (IsLineReply settings) max_limit 8 624
-TaskRuns (LaidOut laid) = HasLineRun (IsLaidOut laid.layout laid.rule) max_limit 8 624
-TaskRuns (Reported laid) = HasLineRun (IsLaidOut laid.layout laid.rule) max_limit reported_per_byte reported_extra
-TaskRuns Enclose = HasLineRun enclose.IsAnswer max_limit 16 1248
-TaskRuns (Ask form question) = HasLineRun (IsLineBlock form question) max_limit 26 3307
+TaskRuns (Lines limit) = HasLineRun respell.IsAnswer (limit_of limit) 8 624
+TaskRuns (Convert settings) = HasLineRun (IsLineReply settings) no_limit 8 624
+TaskRuns (LaidOut laid) = HasLineRun (IsLaidOut laid.layout laid.rule) no_limit 8 624
+TaskRuns (Reported laid) = HasLineRun (IsLaidOut laid.layout laid.rule) no_limit reported_per_byte reported_extra
+TaskRuns Enclose = HasLineRun enclose.IsAnswer no_limit 16 1248
+TaskRuns (Ask form question) = HasLineRun (IsLineBlock form question) no_limit 26 3307
 TaskRuns (Least radix) = IsWholeRun (least.IsWholeAnswer radix) max_limit
 TaskRuns (Constants rule) = IsWholeRun (IsProduct (constants.IsFormAnswer rule.form rule.guard.now)) max_limit
 TaskRuns (Columns limit) = IsWholeRun columns.IsWholeAnswer limit

@@ -4,13 +4,14 @@ ghost use Rattle.std.specs.Prelude.{◌≡◌, ◌⊎◌, List, ℕ};
 ghost use Rattle.column_engine.specs.Run.{HasFailures, counts_of, first_state};
 ghost use Rattle.column_engine.specs.Skip.{HasRunAfter};
 ghost use Rattle.column_engine.specs.declared.end.Stop.{Stop};
-ghost use Rattle.fixed_command.specs.Fields.{IsFieldReply};
+ghost use Rattle.fixed_command.specs.Fields.{IsFieldReply, has_point, kept_of};
 
 use crate::ConvertRule;
 use crate::field::{FieldForm, FieldNumerals};
 use crate::field_report::{FieldReport, ReportedNumerals};
+use crate::print::Print;
 use column_engine::{
-    Column, ColumnEnd, ColumnTask, ColumnWatch, Destination, FieldRule, Stop, run_column,
+    Column, ColumnEnd, ColumnTask, ColumnWatch, Destination, FieldRule, Keeping, Stop, run_column,
 };
 use fixed_steps::Steps;
 use line_engine::{Sink, Source};
@@ -38,6 +39,26 @@ pub struct ColumnConversion<'a> {
     pub delimiter: u8,
 }
 
+/// Whether a part of an answer has a number with a point.
+fn has_point(print: Print) -> bool
+    ensures { result ≡ has_point print }
+{
+    match print {
+        Print::Text | Print::Places(..) | Print::Value | Print::All => true,
+        Print::Bits | Print::Hex | Print::Readmemh => false,
+    }
+}
+
+/// What of a field is kept.
+fn kept_of(conversion: &ColumnConversion<'_>) -> Keeping
+    ensures { result ≡ kept_of conversion.now.is_kept conversion.now.form.mark conversion.now.rule.print }
+{
+    Keeping {
+        refused: conversion.is_kept,
+        quotes: conversion.form.mark != b'.' && has_point(conversion.rule.settings().print),
+    }
+}
+
 /// Converts columns of the records of a text by a rule.
 fn convert_by<A: FieldRule<L>, S: Source, K: Sink, L: Ledger>(
     alloc: Global,
@@ -50,7 +71,8 @@ fn convert_by<A: FieldRule<L>, S: Source, K: Sink, L: Ledger>(
 ) -> ColumnEnd
     ensures run { (result.stop ≡ Stop.NoMemory)
         ⊎ HasRunAfter conversion.now.skipped result.stop (A.Answers rule.now)
-        conversion.now.is_kept conversion.now.delimiter conversion.now.columns.items
+        (kept_of conversion.now.is_kept conversion.now.form.mark conversion.now.rule.print)
+        conversion.now.delimiter conversion.now.columns.items
         (first_state conversion.now.has_header conversion.now.destination conversion.now.columns.items)
         (counts_of result) (S.left source.old) (S.left source.new) (K.written sink.old) (K.written sink.new) }
     ensures failures { HasFailures (S.failures source.old) (S.failures source.new) (K.failures sink.old)
@@ -63,7 +85,7 @@ fn convert_by<A: FieldRule<L>, S: Source, K: Sink, L: Ledger>(
         columns: &conversion.columns,
         destination: &conversion.destination,
         has_header: conversion.has_header,
-        is_kept: conversion.is_kept,
+        keeps: kept_of(conversion),
         delimiter: conversion.delimiter,
         watch,
     };
@@ -85,7 +107,8 @@ pub fn convert_column<S: Source, K: Sink, L: Ledger>(
     // What was taken and what was written, by how the run ended.
     ensures run { (result.stop ≡ Stop.NoMemory)
         ⊎ HasRunAfter conversion.now.skipped result.stop (IsFieldReply conversion.now.form conversion.now.rule)
-        conversion.now.is_kept conversion.now.delimiter conversion.now.columns.items
+        (kept_of conversion.now.is_kept conversion.now.form.mark conversion.now.rule.print)
+        conversion.now.delimiter conversion.now.columns.items
         (first_state conversion.now.has_header conversion.now.destination conversion.now.columns.items)
         (counts_of result)
         (S.left source.old) (S.left source.new) (K.written sink.old) (K.written sink.new) }

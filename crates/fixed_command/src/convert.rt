@@ -105,7 +105,9 @@ fn push_part<const N: usize>(
 {
     match settings.print {
         Print::Text => out.push_bytes(text),
-        Print::Places(places) => push_places(out, settings.target, bits, places.count()),
+        Print::Places(places, mode) => {
+            push_places(out, settings.target, bits, places.count(), mode);
+        }
         Print::Bits => push_integer(out, bits),
         Print::Hex => push_hex(out, settings.target, bits),
         Print::Readmemh => push_digits(out, settings.target, bits),
@@ -114,15 +116,21 @@ fn push_part<const N: usize>(
     }
 }
 
-/// Appends a number of a format rounded to a count of places.
-fn push_places<const N: usize>(out: &mut TextBuffer<N>, format: Format, bits: i128, places: u32)
+/// Appends a number of a format rounded to a count of places in a mode.
+fn push_places<const N: usize>(
+    out: &mut TextBuffer<N>,
+    format: Format,
+    bits: i128,
+    places: u32,
+    mode: ReadMode,
+)
     requires wide { IsWide bits }
     requires places { places ≤ 64 }
     requires room { length out.old + 130 ≤ N }
-    ensures appended { out.new ≡ out.old ++ rounded_text 10 false places bits format.frac }
+    ensures appended { out.new ≡ out.old ++ rounded_text mode 10 false places bits format.frac }
     ensures short { length out.new ≤ length out.old + 130 }
 {
-    push_decimal(out, bits, frac_of(format), places);
+    push_decimal(out, bits, frac_of(format), places, mode);
 }
 
 /// Appends the exact value of bits of a format.
@@ -273,15 +281,10 @@ impl ConvertRule {
 fn asks_a_line(spelling: Spelling, target_mode: ReadMode) -> bool
     ensures { result ≡ asks_a_line spelling target_mode }
 {
-    match spelling {
-        Spelling::Numeral => match target_mode {
-            ReadMode::NearestEven => false,
-            ReadMode::Floor => true,
-            ReadMode::Ceil => false,
-            ReadMode::TowardsZero => false,
-        },
-        Spelling::Word => false,
-    }
+    matches!(
+        (spelling, target_mode),
+        (Spelling::Numeral, ReadMode::Floor)
+    )
 }
 
 /// A format's width.

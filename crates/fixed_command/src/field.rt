@@ -1,13 +1,17 @@
 //! Fields as people spell them: with blanks around a numeral, a decimal comma, separators of thousands, or without a
 //! byte.
 
-ghost use Rattle.std.specs.Prelude.{◌≡◌, ◌≤◌, ◌<◌, ◌+◌, ◌++◌, [], IsTrue, length, flat_map};
+ghost use Rattle.std.specs.Prelude.{◌≡◌, ◌≤◌, ◌<◌, ◌+◌, ◌++◌, [], List, ℕ, IsTrue, drop, length, flat_map, map};
 ghost use Rattle.column_engine.specs.declared.record_buffer.TheConstants.{MAX_RECORD};
 ghost use Rattle.fixed_command.specs.Convert.{IsLineReply};
-ghost use Rattle.fixed_command.specs.Fields.{IsEmptyReply, bare, read_for, swapped};
+ghost use Rattle.fixed_command.specs.Fields.{IsEmptyReply, IsPointReply, IsReadReply, after_sign, bare};
+ghost use Rattle.fixed_command.specs.Fields.{digits_of, has_part, is_after_group, is_digit, is_grouped, is_misplaced};
+ghost use Rattle.fixed_command.specs.Fields.{marked, read_for, swapped};
 
 use crate::ConvertRule;
 use column_engine::{FieldRule, MAX_RECORD, RecordBuffer};
+use fixed_numeral::Radix;
+use fixed_respell::push_fault;
 use fixed_steps::Steps;
 use line_engine::{LineRule, Output};
 use std::sync::ledger::Ledger;
@@ -32,6 +36,10 @@ pub struct FieldForm<'a> {
     pub decimal: u8,
     /// The bytes that separate thousands: they are taken out.
     pub thousands: &'a [u8],
+    /// Whether those stand only between groups of three whole digits, as one character. Elsewhere they are refused.
+    pub has_groups: bool,
+    /// The byte before the fraction of an answer.
+    pub mark: u8,
     /// What becomes of a field without a byte.
     pub empty: Empty,
 }
@@ -83,6 +91,110 @@ pub(crate) fn write_read(form: &FieldForm<'_>, bytes: &[u8], numeral: &mut Recor
     }
 }
 
+/// Whether a byte is a digit of a whole number.
+fn is_digit(is_hex: bool, byte: u8) -> bool
+    ensures { result ≡ is_digit is_hex byte }
+{
+    if is_hex {
+        byte.is_ascii_hexdigit()
+    } else {
+        byte.is_ascii_digit()
+    }
+}
+
+/// How many digits bytes begin with.
+fn digits_of(is_hex: bool, bytes: &[u8]) -> usize
+    ensures count { result ≡ digits_of is_hex bytes.now }
+    ensures most { result ≤ length bytes.now }
+{
+    'bytes: for at in 0..bytes.len() {
+        if !is_digit(is_hex, bytes[at]) {
+            return at;
+        }
+    }
+    bytes.len()
+}
+
+/// The bytes after a sign, if there is one.
+fn after_sign(bytes: &[u8]) -> &[u8]
+    ensures value { result.now ≡ after_sign bytes.now }
+    ensures short { length result.now ≤ length bytes.now }
+{
+    match bytes {
+        [b'+' | b'-', rest @ ..] => rest,
+        _ => bytes,
+    }
+}
+
+/// Whether one of the bytes is one of a separator.
+fn has_part(separator: &[u8], bytes: &[u8]) -> bool
+    ensures { result ≡ has_part separator.now bytes.now }
+{
+    bytes.iter().any(|byte| separator.contains(byte))
+}
+
+/// The bytes after the first few.
+fn after(bytes: &[u8], count: usize) -> &[u8]
+    requires { count ≤ length bytes.now }
+    ensures rest { result.now ≡ drop count bytes.now }
+    ensures count { length result.now + count ≡ length bytes.now }
+{
+    &bytes[count..]
+}
+
+/// Whether these bytes follow a group of digits: separators, three digits after each, and then bytes that are none of a
+/// separator.
+fn is_after_group(is_hex: bool, separator: &[u8], bytes: &[u8]) -> bool
+    ensures { result ≡ is_after_group is_hex separator.now bytes.now }
+{
+    let mut rest = bytes;
+    'groups: while rest.starts_with(separator) {
+        let group = after(rest, separator.len());
+        if digits_of(is_hex, group) != 3 {
+            return false;
+        }
+        rest = after(group, 3);
+    }
+    !has_part(separator, rest)
+}
+
+/// Whether the whole digits of a number are in groups: one to three digits, and then three after each separator.
+fn is_grouped(is_hex: bool, separator: &[u8], number: &[u8]) -> bool
+    ensures { result ≡ is_grouped is_hex separator.now number.now }
+{
+    let first = digits_of(is_hex, number);
+    1 <= first && first <= 3 && is_after_group(is_hex, separator, &number[first..])
+}
+
+/// Whether separators of thousands are wanted between groups, and a field has one elsewhere.
+pub(crate) fn is_misplaced(form: &FieldForm<'_>, radix: Radix, bytes: &[u8]) -> bool
+    ensures { result ≡ is_misplaced form.now radix bytes.now }
+{
+    form.has_groups
+        && has_part(form.thousands, bytes)
+        && !is_grouped(radix.base() == 16, form.thousands, after_sign(bytes))
+}
+
+/// A byte of a number as it is written.
+fn marked(mark: u8, byte: u8) -> u8
+    ensures { result ≡ marked mark byte }
+{
+    if byte == b'.' { mark } else { byte }
+}
+
+/// Writes a reply anew, with the mark for each point. The scratch is room for it.
+fn write_marked(mark: u8, scratch: &mut RecordBuffer, out: &mut Output)
+    ensures { out.new ≡ map (marked mark) out.old }
+{
+    scratch.clear();
+    scratch.append(out.as_bytes());
+    out.clear();
+    'bytes: for at in 0..scratch.len() {
+        let bytes = scratch.as_slice();
+        out.push(marked(mark, bytes[at]));
+    }
+}
+
 /// Whether each byte is read as it is.
 fn is_plain(form: &FieldForm<'_>) -> bool
     ensures decimal { IsTrue result → form.now.decimal ≡ 46 }
@@ -130,6 +242,55 @@ pub struct FieldNumerals<'a> {
     pub form: &'a FieldForm<'a>,
 }
 
+impl<'a> FieldNumerals<'a> {
+    /// Writes out the reply to a field that has a byte.
+    fn reply_to_read<L: Ledger>(
+        &self,
+        bytes: &[u8],
+        scratch: &mut RecordBuffer,
+        out: &mut Output,
+        steps: &mut Steps<L>,
+    ) -> bool
+        requires short { length bytes.now ≤ MAX_RECORD }
+        requires empty { out.old ≡ [] }
+        ensures { (field : List ℕ) → bytes.now ≡ bare self.now.form.now field
+            → IsReadReply (is_misplaced self.now.form.now self.now.rule.now.radix bytes.now) self.now.form.now
+            self.now.rule.now field (record { text = out.new; fault = result }) }
+    {
+        if is_plain(self.form) {
+            return reply_to(self.rule, bytes, out, steps);
+        }
+        if is_misplaced(self.form, self.rule.settings().radix, bytes) {
+            push_fault(out, "misplaced thousands separator");
+            return true;
+        }
+        write_read(self.form, bytes, scratch);
+        reply_to(self.rule, scratch.as_slice(), out, steps)
+    }
+
+    /// Writes out the reply to a field, its number with a point.
+    fn reply_with_point<L: Ledger>(
+        &self,
+        field: &[u8],
+        scratch: &mut RecordBuffer,
+        out: &mut Output,
+        steps: &mut Steps<L>,
+    ) -> bool
+        requires short { length field.now ≤ MAX_RECORD }
+        requires empty { out.old ≡ [] }
+        ensures { IsPointReply self.now.form.now self.now.rule.now field.now (record {
+          text = out.new;
+          fault = result;
+        }) }
+    {
+        let bytes = bare(self.form, field);
+        if bytes.is_empty() {
+            return reply_to_empty(self.form.empty, self.rule, out, steps);
+        }
+        self.reply_to_read(bytes, scratch, out, steps)
+    }
+}
+
 impl<'a, L: Ledger> FieldRule<L> for FieldNumerals<'a> {
     ghost use Rattle.fixed_command.specs.Fields.{IsFieldReply};
     ghost use Rattle.fixed_command.specs.Lemmas.FieldLemmas.{field_reply_one};
@@ -143,15 +304,14 @@ impl<'a, L: Ledger> FieldRule<L> for FieldNumerals<'a> {
         out: &mut Output,
         steps: &mut Steps<L>,
     ) -> bool {
-        let bytes = bare(self.form, field);
-        if bytes.is_empty() {
-            return reply_to_empty(self.form.empty, self.rule, out, steps);
+        if self.reply_with_point(field, scratch, out, steps) {
+            return true;
         }
-        if is_plain(self.form) {
-            return reply_to(self.rule, bytes, out, steps);
+        if self.form.mark == b'.' {
+            return false;
         }
-        write_read(self.form, bytes, scratch);
-        reply_to(self.rule, scratch.as_slice(), out, steps)
+        write_marked(self.form.mark, scratch, out);
+        false
     }
 
     ghost one_law = { λ fields. field_reply_one fields.form.now fields.rule.now };

@@ -9,7 +9,7 @@ ghost use Rattle.fixed_report.specs.Report.{add_extra, add_per_byte};
 
 use crate::ConvertRule;
 use crate::convert::without_return;
-use crate::field::{Empty, FieldForm, FieldNumerals, bare, write_read};
+use crate::field::{Empty, FieldForm, FieldNumerals, bare, is_misplaced, write_read};
 use crate::outcome::{Outcome, Tally, has_error, outcome_of};
 use column_engine::{ColumnWatch, FieldPlace, FieldRule, RecordBuffer};
 use fixed_report::ErrorReport;
@@ -58,6 +58,9 @@ pub fn field_outcome<L: Ledger>(
     let bytes = bare(form, field);
     if bytes.is_empty() {
         return outcome_of_empty(form.empty, rule, steps);
+    }
+    if is_misplaced(form, rule.settings().radix, bytes) {
+        return Some(Outcome::Refused);
     }
     write_read(form, bytes, scratch);
     outcome_of_line(rule, scratch.as_slice(), steps)

@@ -2,6 +2,7 @@
 
 ghost use Rattle.std.specs.Prelude.{◌≡◌, ◌≤◌, MatchOption};
 
+use fixed_bits::ReadMode;
 use std::marker::Model;
 
 /// How many digits are written after the point: at most 64.
@@ -48,8 +49,8 @@ impl Places {
 pub enum Print {
     /// The text.
     Text,
-    /// The number rounded to this many digits after the point, with ties to even.
-    Places(Places),
+    /// The number rounded to this many digits after the point in a mode.
+    Places(Places, ReadMode),
     /// The bits in decimal.
     Bits,
     /// The bits in hexadecimal, of the target's width, after `0x`.

@@ -10,7 +10,7 @@ ghost use Rattle.fixed_least.specs.Least as least;
 ghost use Rattle.fixed_respell.specs.Answer.{IsAnswer};
 ghost use Rattle.fixed_command.specs.Convert.{IsLineReply};
 ghost use Rattle.fixed_command.specs.Layout.{IsLaidOut};
-ghost use Rattle.fixed_command.specs.Limits.{max_limit};
+ghost use Rattle.fixed_command.specs.Limits.{limit_of, max_limit, no_limit};
 ghost use Rattle.fixed_command.specs.LineBlocks.{IsLineBlock};
 ghost use Rattle.fixed_command.specs.Products.{IsProduct};
 ghost use Rattle.fixed_command.specs.Runs.{HasLineRun, IsWholeRun, TaskRuns, reported_extra, reported_per_byte};
@@ -31,7 +31,9 @@ use fixed_least::LeastRule;
 use fixed_numeral::Radix;
 use fixed_show::Form;
 use fixed_steps::Steps;
-use line_engine::{LineRule, MAX_LIMIT, Sink, Source, Status, WholeRule, run_lines, run_whole};
+use line_engine::{
+    LineRule, MAX_LIMIT, NO_LIMIT, Sink, Source, Status, WholeRule, run_lines, run_whole,
+};
 use std::alloc::Global;
 use std::marker::Model;
 use std::sync::ledger::Ledger;
@@ -79,8 +81,8 @@ impl Limit {
 /// What is done with an input.
 #[derive(Drop)]
 pub enum Task<'a> {
-    /// Each line is answered as one of `fixed_tool`, in an input within the limit.
-    Lines(Limit),
+    /// Each line is answered as one of `fixed_tool`, in an input within a limit where there is one.
+    Lines(Option<Limit>),
     /// Each line is a numeral that is converted.
     Convert(ConvertRule),
     /// The same of lines as people have them.
@@ -109,7 +111,7 @@ fn run_rule<R: LineRule<L>, S: Source, K: Sink, L: Ledger>(
     steps: &mut Steps<L>,
 ) -> Status
     requires some { 1 ≤ limit }
-    requires most { limit ≤ max_limit }
+    requires most { limit ≤ no_limit }
     ensures run { HasLineRun (R.Answers rule.now) limit R.PER_BYTE R.EXTRA
         (outside (S.left source.old) (S.asked source.old) (S.failures source.old)
         (K.written sink.old) (K.failures sink.old) steps.old)
@@ -141,16 +143,28 @@ fn run_whole_rule<R: WholeRule<L>, S: Source, K: Sink, L: Ledger>(
     run_whole(alloc, limit, rule, source, sink, steps)
 }
 
+/// How many bytes an input of lines has at most.
+fn bytes_within(limit: &Option<Limit>) -> u64
+    ensures value { result ≡ limit_of limit.now }
+    ensures some { 1 ≤ result }
+    ensures most { result ≤ no_limit }
+{
+    match limit {
+        Some(limit) => limit.bytes(),
+        None => NO_LIMIT,
+    }
+}
+
 /// Answers each line of an input within the limit as `fixed_tool` does.
 fn run_words<S: Source, K: Sink, L: Ledger>(
     alloc: Global,
-    limit: &Limit,
+    limit: &Option<Limit>,
     watch: &Watch,
     source: &mut S,
     sink: &mut K,
     steps: &mut Steps<L>,
 ) -> Status
-    ensures run { HasLineRun IsAnswer limit.now 8 624
+    ensures run { HasLineRun IsAnswer (limit_of limit.now) 8 624
         (outside (S.left source.old) (S.asked source.old) (S.failures source.old)
         (K.written sink.old) (K.failures sink.old) steps.old)
         (outside (S.left source.new) (S.asked source.new) (S.failures source.new)
@@ -160,12 +174,12 @@ fn run_words<S: Source, K: Sink, L: Ledger>(
     let rule = WatchedLines {
         watch: Watch::new(),
     };
-    let status = run_rule(alloc, limit.bytes(), &rule, source, sink, steps);
+    let status = run_rule(alloc, bytes_within(limit), &rule, source, sink, steps);
     watch.take(&rule.watch);
     status
 }
 
-/// Answers each line of an input of at most 4,294,967,296 bytes with the enclosure of its numeral.
+/// Answers each line of an input with the enclosure of its numeral.
 fn run_enclosures<S: Source, K: Sink, L: Ledger>(
     alloc: Global,
     watch: &Watch,
@@ -173,7 +187,7 @@ fn run_enclosures<S: Source, K: Sink, L: Ledger>(
     sink: &mut K,
     steps: &mut Steps<L>,
 ) -> Status
-    ensures run { HasLineRun enclose.IsAnswer max_limit 16 1248
+    ensures run { HasLineRun enclose.IsAnswer no_limit 16 1248
         (outside (S.left source.old) (S.asked source.old) (S.failures source.old)
         (K.written sink.old) (K.failures sink.old) steps.old)
         (outside (S.left source.new) (S.asked source.new) (S.failures source.new)
@@ -183,12 +197,12 @@ fn run_enclosures<S: Source, K: Sink, L: Ledger>(
     let rule = WatchedEnclosures {
         watch: Watch::new(),
     };
-    let status = run_rule(alloc, MAX_LIMIT, &rule, source, sink, steps);
+    let status = run_rule(alloc, NO_LIMIT, &rule, source, sink, steps);
     watch.take(&rule.watch);
     status
 }
 
-/// Answers each line of an input of at most 4,294,967,296 bytes in a form, with what a question asks of it.
+/// Answers each line of an input in a form, with what a question asks of it.
 fn run_questions<S: Source, K: Sink, L: Ledger>(
     alloc: Global,
     form: Form,
@@ -198,7 +212,7 @@ fn run_questions<S: Source, K: Sink, L: Ledger>(
     sink: &mut K,
     steps: &mut Steps<L>,
 ) -> Status
-    ensures run { HasLineRun (IsLineBlock form question) max_limit 26 3307
+    ensures run { HasLineRun (IsLineBlock form question) no_limit 26 3307
         (outside (S.left source.old) (S.asked source.old) (S.failures source.old)
         (K.written sink.old) (K.failures sink.old) steps.old)
         (outside (S.left source.new) (S.asked source.new) (S.failures source.new)
@@ -209,12 +223,12 @@ fn run_questions<S: Source, K: Sink, L: Ledger>(
         rule: BlockRule { form, question },
         watch: Watch::new(),
     };
-    let status = run_rule(alloc, MAX_LIMIT, &rule, source, sink, steps);
+    let status = run_rule(alloc, NO_LIMIT, &rule, source, sink, steps);
     watch.take(&rule.watch);
     status
 }
 
-/// Answers each line of an input of at most 4,294,967,296 bytes with the conversion of its numeral. It takes memory
+/// Answers each line of an input with the conversion of its numeral. It takes memory
 /// for one line buffer before the first read.
 pub fn run_convert<S: Source, K: Sink, L: Ledger>(
     alloc: Global,
@@ -224,7 +238,7 @@ pub fn run_convert<S: Source, K: Sink, L: Ledger>(
     sink: &mut K,
     steps: &mut Steps<L>,
 ) -> Status
-    ensures run { HasLineRun (IsLineReply rule.now) max_limit 8 624
+    ensures run { HasLineRun (IsLineReply rule.now) no_limit 8 624
         (outside (S.left source.old) (S.asked source.old) (S.failures source.old)
         (K.written sink.old) (K.failures sink.old) steps.old)
         (outside (S.left source.new) (S.asked source.new) (S.failures source.new)
@@ -236,13 +250,12 @@ pub fn run_convert<S: Source, K: Sink, L: Ledger>(
         rule: ConvertRule::new(*rule.settings()),
         watch: Watch::new(),
     };
-    let status = run_rule(alloc, MAX_LIMIT, &rule, source, sink, steps);
+    let status = run_rule(alloc, NO_LIMIT, &rule, source, sink, steps);
     watch.take(&rule.watch);
     status
 }
 
-/// Answers each line of an input of at most 4,294,967,296 bytes, as people have them, with the conversion of its
-/// numeral.
+/// Answers each line of an input, as people have them, with the conversion of its numeral.
 fn run_laid_out<S: Source, K: Sink, L: Ledger>(
     alloc: Global,
     laid: &LaidOutRule,
@@ -251,7 +264,7 @@ fn run_laid_out<S: Source, K: Sink, L: Ledger>(
     sink: &mut K,
     steps: &mut Steps<L>,
 ) -> Status
-    ensures run { HasLineRun (IsLaidOut laid.now.layout laid.now.rule) max_limit 8 624
+    ensures run { HasLineRun (IsLaidOut laid.now.layout laid.now.rule) no_limit 8 624
         (outside (S.left source.old) (S.asked source.old) (S.failures source.old)
         (K.written sink.old) (K.failures sink.old) steps.old)
         (outside (S.left source.new) (S.asked source.new) (S.failures source.new)
@@ -262,7 +275,7 @@ fn run_laid_out<S: Source, K: Sink, L: Ledger>(
         laid: laid.same(),
         watch: Watch::new(),
     };
-    let status = run_rule(alloc, MAX_LIMIT, &rule, source, sink, steps);
+    let status = run_rule(alloc, NO_LIMIT, &rule, source, sink, steps);
     watch.take(&rule.watch);
     status
 }
@@ -276,7 +289,7 @@ fn run_reported<S: Source, K: Sink, L: Ledger>(
     sink: &mut K,
     steps: &mut Steps<L>,
 ) -> Status
-    ensures run { HasLineRun (IsLaidOut laid.now.layout laid.now.rule) max_limit reported_per_byte reported_extra
+    ensures run { HasLineRun (IsLaidOut laid.now.layout laid.now.rule) no_limit reported_per_byte reported_extra
         (outside (S.left source.old) (S.asked source.old) (S.failures source.old)
         (K.written sink.old) (K.failures sink.old) steps.old)
         (outside (S.left source.new) (S.asked source.new) (S.failures source.new)
@@ -287,7 +300,7 @@ fn run_reported<S: Source, K: Sink, L: Ledger>(
         laid: laid.same(),
         watch: Watch::of_errors(error_report(alloc, laid.rule.settings())),
     };
-    let status = run_rule(alloc, MAX_LIMIT, &rule, source, sink, steps);
+    let status = run_rule(alloc, NO_LIMIT, &rule, source, sink, steps);
     watch.take(&rule.watch);
     status
 }

@@ -15,9 +15,9 @@ use crate::layout::LaidOutRule;
 use crate::line_blocks::BlockRule;
 use crate::named_line::{line_and_message, line_at};
 use crate::outcome::{Outcome, Tally, has_error, one_more, outcome_of};
-use fixed_enclose::EncloseRule;
+use fixed_enclose::append_answer as append_enclosure;
 use fixed_report::ErrorReport;
-use fixed_respell::RespellRule;
+use fixed_respell::append_answer;
 use fixed_show::{Form, MAX_OBJECT};
 use fixed_steps::Steps;
 use line_engine::{LineRule, MAX_ANSWER, NoMemory, Output, WholeAnswer, WholeRule};
@@ -376,7 +376,7 @@ impl<L: Ledger> LineRule<L> for WatchedLines {
 
     fn answer(&self, line: &[u8], out: &mut Output, steps: &mut Steps<L>) -> bool {
         let start = self.watch.begin(out);
-        let is_fault = RespellRule.answer(line, out, steps);
+        let is_fault = append_answer(line, out, steps);
         self.watch.end(line, out, start, is_fault);
         is_fault
     }
@@ -510,7 +510,7 @@ impl<L: Ledger> LineRule<L> for WatchedEnclosures {
 
     fn answer(&self, line: &[u8], out: &mut Output, steps: &mut Steps<L>) -> bool {
         let start = self.watch.begin(out);
-        let is_fault = EncloseRule.answer(line, out, steps);
+        let is_fault = append_enclosure(line, out, steps);
         self.watch.end(line, out, start, is_fault);
         is_fault
     }

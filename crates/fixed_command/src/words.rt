@@ -42,13 +42,18 @@ pub fn policy_name(policy: Policy) -> &'static str
 /// The word of a mode.
 pub fn mode_name(mode: ReadMode) -> &'static str
     ensures name { result.now ≡ mode_text mode }
-    ensures short { length result.now ≤ 7 }
+    ensures short { length result.now ≤ 9 }
 {
     match mode {
         ReadMode::NearestEven => "nearest",
         ReadMode::Floor => "floor",
         ReadMode::Ceil => "ceil",
         ReadMode::TowardsZero => "zero",
+        ReadMode::NearestAway => "ties-away",
+        ReadMode::NearestZero => "ties-zero",
+        ReadMode::NearestUp => "ties-up",
+        ReadMode::NearestDown => "ties-down",
+        ReadMode::AwayFromZero => "away",
     }
 }
 
@@ -112,6 +117,11 @@ fn mode_of_word(word: &str) -> Option<ReadMode>
         "floor" => Some(ReadMode::Floor),
         "ceil" => Some(ReadMode::Ceil),
         "zero" => Some(ReadMode::TowardsZero),
+        "ties-away" => Some(ReadMode::NearestAway),
+        "ties-zero" => Some(ReadMode::NearestZero),
+        "ties-up" => Some(ReadMode::NearestUp),
+        "ties-down" => Some(ReadMode::NearestDown),
+        "away" => Some(ReadMode::AwayFromZero),
         _ => None,
     }
 }

@@ -12,8 +12,8 @@ use Rattle.fixed_bits.specs.Ranges.{IsOutOfRange}
 use Rattle.fixed_bits.specs.Rounded.{IsRounded}
 use Rattle.fixed_bits.specs.declared.format.Policy.TheVariants.{Checked}
 use Rattle.fixed_bits.specs.declared.mode.ReadMode.{ReadMode}
-use Rattle.fixed_bits.specs.declared.mode.ReadMode.TheVariants.{NearestEven, Floor, Ceil, TowardsZero}
-use Rattle.fixed_bits.proofs.Public.{down_is, grown, has_none, image_one, nearest_by_rest, not_negative, rounded_exists, rounded_same, rounded_unique}
+use Rattle.fixed_bits.specs.declared.mode.ReadMode.TheVariants.{Floor}
+use Rattle.fixed_bits.proofs.Public.{down_is, grown, has_none, image_one, not_negative, rounded_exact, rounded_exists, rounded_same, rounded_unique}
 use Rattle.fixed_convert.specs.Moved.{shifted}
 use Rattle.fixed_convert.specs.Rounded.{FloorIsDown, IsMovedIn, MovedInIsTheOne, ReformattedIsTheOne}
 
@@ -25,14 +25,6 @@ moved_by mode b v f g q negative e rounded value = record {
 }
 
 -- ---- to a fraction length that is not shorter
-exact_rounded : (mode : ReadMode) (negative : Bool) (q u : ℕ) → 0 < u → IsRounded mode negative (q * u) u q
-exact_rounded NearestEven negative q u h = nearest_by_rest (q * u) u q 0 (omega arith) (omega arith) (λ e. absurd (omega arith))
-exact_rounded TowardsZero negative q u h = record { at_most = omega arith; next = omega arith }
-exact_rounded Floor false q u h = record { at_most = omega arith; next = omega arith }
-exact_rounded Floor true q u h = record { at_least = omega arith; before = omega arith }
-exact_rounded Ceil false q u h = record { at_least = omega arith; before = omega arith }
-exact_rounded Ceil true q u h = record { at_most = omega arith; next = omega arith }
-
 powers_joined : (a f g : ℕ) → f ≤ g → a * 2 ^ (g - f) * 2 ^ f ≡ a * 2 ^ g
 powers_joined a f g h =
     let i : (g - f) + f ≡ g = omega arith in
@@ -42,10 +34,10 @@ powers_joined a f g h =
 moved_longer : (mode : ReadMode) (b : ℤ) (f g : ℕ) → f ≤ g → IsMovedIn mode b f g (shifted b (g - f))
 moved_longer mode (pos a) f g h =
     moved_by mode (pos a) (shifted (pos a) (g - f)) f g (a * 2 ^ (g - f)) false (not_negative a)
-    (subst (λ (x : ℕ). IsRounded mode false x (2 ^ f) (a * 2 ^ (g - f))) (powers_joined a f g h) (exact_rounded mode false (a * 2 ^ (g - f)) (2 ^ f) (pow_pos f))) (omega (arith, ints))
+    (subst (λ (x : ℕ). IsRounded mode false x (2 ^ f) (a * 2 ^ (g - f))) (powers_joined a f g h) (rounded_exact mode false (a * 2 ^ (g - f)) (2 ^ f) (pow_pos f))) (omega (arith, ints))
 moved_longer mode (negsuc a) f g h =
     moved_by mode (negsuc a) (shifted (negsuc a) (g - f)) f g (suc a * 2 ^ (g - f)) true refl
-    (subst (λ (x : ℕ). IsRounded mode true x (2 ^ f) (suc a * 2 ^ (g - f))) (powers_joined (suc a) f g h) (exact_rounded mode true (suc a * 2 ^ (g - f)) (2 ^ f) (pow_pos f))) (omega (arith, ints))
+    (subst (λ (x : ℕ). IsRounded mode true x (2 ^ f) (suc a * 2 ^ (g - f))) (powers_joined (suc a) f g h) (rounded_exact mode true (suc a * 2 ^ (g - f)) (2 ^ f) (pow_pos f))) (omega (arith, ints))
 
 -- the number is moved as it is moved down
 pub moved_exact : (mode : ReadMode) (b : ℤ) (f g : ℕ) → f ≤ g → IsMovedIn mode b f g (down b f g)
@@ -61,7 +53,7 @@ moved_shorter mode b v f g q h rounded value =
 nothing_rounded : (mode : ReadMode) (negative : Bool) (u : ℕ) → 0 < u → IsRounded mode negative 0 u 0
 nothing_rounded mode negative u h =
     let e : 0 * u ≡ 0 = omega arith in
-    subst (λ (k : ℕ). IsRounded mode negative k u 0) e (exact_rounded mode negative 0 u h)
+    subst (λ (k : ℕ). IsRounded mode negative k u 0) e (rounded_exact mode negative 0 u h)
 
 -- by sign and magnitude, where zero may have either sign
 pub moved_parts : (mode : ReadMode) (negative : Bool) (m f g q : ℕ) → g ≤ f → IsRounded mode negative m (2 ^ (f - g)) q → IsMovedIn mode (with_sign negative m) f g (with_sign negative q)

@@ -1,13 +1,15 @@
 //! Bits moved to another fraction length in a mode.
 
 ghost use Rattle.std.specs.Prelude.{◌≡◌, ◌<◌, ◌≤◌, ◌*◌, ◌+◌, ◌^◌, ℕ, IfSome, MatchOption};
-ghost use Rattle.fixed_bits.specs.Nearest.{IsNearest};
 ghost use Rattle.fixed_bits.specs.Ranges.{IsInRange, IsWide};
-ghost use Rattle.fixed_bits.specs.Rounded.{IsNotBelow, IsRounded};
+ghost use Rattle.fixed_bits.specs.Rounded.{IsRounded};
 ghost use Rattle.fixed_convert.specs.Rounded.{IsMovedIn, IsNotReformatted, IsReformatted};
 
 use crate::floored::reformat;
-use fixed_bits::{Format, Policy, ReadMode, sign_and_magnitude, signed_number};
+use fixed_bits::{
+    Format, Policy, ReadMode, lost_fraction, magnitude_mode_of, rounding_increment,
+    sign_and_magnitude, signed_number,
+};
 
 /// The image of the bits `b`, moved in a mode from fraction length `from` to that of the format, and whether the moved
 /// number was out of range. `None` exactly where it was, under `Checked`.
@@ -57,13 +59,8 @@ fn rounded_quotient(magnitude: u64, bits: u32, mode: ReadMode, negative: bool) -
     ensures { IsRounded mode negative magnitude (2 ^ bits) result }
 {
     let (whole, rest) = parts(magnitude, bits);
-    let unit = power_of_two(bits);
-    match mode {
-        ReadMode::NearestEven => nearest(whole, rest, unit),
-        ReadMode::Floor if negative => above(whole, rest),
-        ReadMode::Ceil if !negative => above(whole, rest),
-        _ => whole,
-    }
+    let lost = lost_fraction(rest, power_of_two(bits));
+    whole + rounding_increment(lost, whole % 2, magnitude_mode_of(mode, negative))
 }
 
 /// A magnitude in units of two to the power of `bits`, and what is left.
@@ -86,29 +83,4 @@ fn power_of_two(bits: u32) -> u128
     ensures { result ≡ 2 ^ bits }
 {
     1 << bits
-}
-
-/// A whole number of units and a rest as the nearest whole number, ties to even.
-fn nearest(whole: u64, rest: u128, unit: u128) -> u64
-    requires whole { whole < 2 ^ 63 }
-    requires unit { unit ≤ 2 ^ 64 }
-    requires rest { rest < unit }
-    ensures { IsNearest (whole * unit + rest) unit result }
-{
-    let double = 2 * rest;
-    if double < unit {
-        whole
-    } else if double == unit {
-        whole + whole % 2
-    } else {
-        whole + 1
-    }
-}
-
-/// The least whole number that is not below a whole number of units and a rest.
-fn above(whole: u64, rest: u128) -> u64
-    requires { whole < 2 ^ 63 }
-    ensures { (unit : ℕ) → rest < unit → IsNotBelow (whole * unit + rest) unit result }
-{
-    if rest == 0 { whole } else { whole + 1 }
 }

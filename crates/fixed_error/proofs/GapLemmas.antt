@@ -11,7 +11,8 @@ use Rattle.fixed_bits.specs.Nearest.{distance}
 use Rattle.fixed_bits.specs.Numbers.{with_sign}
 use Rattle.fixed_bits.specs.Rounded.{IsNotAbove, IsRounded}
 use Rattle.fixed_bits.specs.declared.mode.ReadMode.{ReadMode}
-use Rattle.fixed_bits.specs.declared.mode.ReadMode.TheVariants.{NearestEven, TowardsZero, Floor, Ceil}
+use Rattle.fixed_bits.specs.declared.mode.ReadMode.TheVariants.{TowardsZero}
+use Rattle.fixed_bits.proofs.Public.{rounded_close}
 use Rattle.fixed_numeral.proofs.Public.{magnitude_pos, number_append, parts_unique}
 use Rattle.fixed_numeral.specs.Numeral.{Parts, HasNumeral, IsNumeral, base, is_minus, signed}
 use Rattle.fixed_numeral.specs.Scanned.{IsScanned, exponent_unit}
@@ -76,12 +77,7 @@ pub record IsClose (num den q : ℕ) : Type 0 where
   pub below : q * den < num + den
 
 pub close : (mode : ReadMode) (negative : Bool) (num den q : ℕ) → 0 < den → IsRounded mode negative num den q → IsClose num den q
-close NearestEven negative num den q h x = record { above = omega (arith, h, x.near); below = omega (arith, h, x.near) }
-close TowardsZero negative num den q h x = record { above = omega (arith, h, x.next); below = omega (arith, h, x.at_most) }
-close Floor false num den q h x = record { above = omega (arith, h, x.next); below = omega (arith, h, x.at_most) }
-close Floor true num den q h x = record { above = omega (arith, h, x.at_least); below = omega (arith, h, x.before) }
-close Ceil false num den q h x = record { above = omega (arith, h, x.at_least); below = omega (arith, h, x.before) }
-close Ceil true num den q h x = record { above = omega (arith, h, x.next); below = omega (arith, h, x.at_most) }
+close mode negative num den q h x = let near = rounded_close mode negative num den q h x in record { above = near.1; below = near.0 }
 
 -- what is rounded is the whole number below or the next
 record IsNextTo (num den k q : ℕ) : Type 0 where

@@ -17,6 +17,7 @@ use Rattle.fixed_numeral.specs.declared.radix.Radix.TheVariants.{Bin, Oct, Dec, 
 use Rattle.fixed_numeral.specs.Numeral.{Parts, HasNumeral, IsNumeral, base, minus, text_of, fractional_digits, signed, is_sign}
 use Rattle.fixed_numeral.specs.Value.{scaled}
 use Rattle.fixed_read.specs.Reading.{IsReadNumber}
+use Rattle.fixed_bits.specs.declared.mode.ReadMode.{ReadMode}
 use Rattle.fixed_write.specs.Shortest.{ReadsBack}
 use Rattle.fixed_write.specs.Texts.{IsShortestText, decimal_text, whole_digits, last_digits, fraction_part, point_text}
 use Rattle.fixed_write.specs.Places.{IsExactText, IsRoundedText}
@@ -213,8 +214,8 @@ exact_reads_back r u c g text h = (
   },
 )
 
-pub rounded_numeral : (r : Radix) (u : Bool) (c : ℤ) (g k : ℕ) (text : List ℕ) → IsRoundedText (base r) u k c g text → IsNumeral r text
-rounded_numeral r u c g k text h = (text_parts (base r) u (is_negative c) k h.number, rw h.text_is (text_is_numeral r u (is_negative c) k h.number))
+pub rounded_numeral : (mode : ReadMode) (r : Radix) (u : Bool) (c : ℤ) (g k : ℕ) (text : List ℕ) → IsRoundedText mode (base r) u k c g text → IsNumeral r text
+rounded_numeral mode r u c g k text h = (text_parts (base r) u (is_negative c) k h.number, rw h.text_is (text_is_numeral r u (is_negative c) k h.number))
 
 read_back : (n k c g : ℕ) → ReadsBack n k c g → IsNearest ((scaled n 1 10 (pos 0 -ℤ pos k)).num * 2 ^ g) (scaled n 1 10 (pos 0 -ℤ pos k)).den c
 read_back n zero c g h =

@@ -5,6 +5,7 @@ use Rattle.fixed_numeral.specs.declared.radix.Radix.{Radix}
 use Rattle.fixed_numeral.specs.declared.radix.Radix.TheVariants.{Dec}
 use Rattle.fixed_numeral.specs.Numeral.{Parts, HasNumeral, IsNumeral, base}
 use Rattle.fixed_read.specs.Reading.{IsReadNumber}
+use Rattle.fixed_bits.specs.declared.mode.ReadMode.{ReadMode}
 use Rattle.fixed_write.specs.Texts.{IsShortestText}
 use Rattle.fixed_write.specs.Places.{IsExactText, IsRoundedText}
 
@@ -18,7 +19,7 @@ abbrev pub ExactTextReadsBack : Type 0
 ExactTextReadsBack = (r : Radix) (upper : Bool) (c : ℤ) (g : ℕ) (text : List ℕ) → IsExactText (base r) upper c g text
     → (p : Parts) × HasNumeral r text p × IsReadNumber NearestEven r p g c
 
--- the text to any count of places is a numeral of the base
+-- the text to any count of places, in any mode, is a numeral of the base
 abbrev pub RoundedTextIsNumeral : Type 0
-RoundedTextIsNumeral = (r : Radix) (upper : Bool) (c : ℤ) (g k : ℕ) (text : List ℕ)
-    → IsRoundedText (base r) upper k c g text → IsNumeral r text
+RoundedTextIsNumeral = (mode : ReadMode) (r : Radix) (upper : Bool) (c : ℤ) (g k : ℕ) (text : List ℕ)
+    → IsRoundedText mode (base r) upper k c g text → IsNumeral r text

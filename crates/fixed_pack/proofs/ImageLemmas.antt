@@ -6,32 +6,15 @@ use Rattle.std.specs.Int.{is_negative}
 use Rattle.std.proofs.lemmas.Bool.{and_parts, false≢true}
 use Rattle.std.proofs.lemmas.Bool.Decides.{Decides-eqb}
 use Rattle.std.proofs.lemmas.Nat.{pow_pos}
-use Rattle.fixed_bits.proofs.Public.{images_agree, in_wide, nearest_by_rest, range_decided, sign_and_magnitude, width_most}
+use Rattle.fixed_bits.proofs.Public.{images_agree, in_wide, range_decided, rounded_exact, sign_and_magnitude, width_most}
 use Rattle.fixed_bits.specs.Formats.{FormatParts, IsFormat}
 use Rattle.fixed_bits.specs.Ranges.{IsInRange}
-use Rattle.fixed_bits.specs.Rounded.{IsNotAbove, IsNotBelow, IsRounded}
 use Rattle.fixed_bits.specs.declared.format.Policy.{Policy}
 use Rattle.fixed_bits.specs.declared.mode.ReadMode.{ReadMode}
-use Rattle.fixed_bits.specs.declared.mode.ReadMode.TheVariants.{Ceil, Floor, NearestEven, TowardsZero}
 use Rattle.fixed_convert.specs.Rounded.{IsReformatted}
 use Rattle.fixed_write.specs.Texts.{IsShortestText}
 use Rattle.fixed_command.specs.declared.convert.Settings.{Settings}
 use Rattle.fixed_pack.specs.Inner.Unpacking.{AppendsImage}
-
--- ---- a number in ulps of a fraction length is rounded to itself in every mode
-not_above : (k den : ℕ) → 0 < den → IsNotAbove (k * den) den k
-not_above k den some = record { at_most = omega arith; next = omega (arith, some) }
-
-not_below : (k den : ℕ) → 0 < den → IsNotBelow (k * den) den k
-not_below k den some = record { at_least = omega arith; before = omega (arith, some) }
-
-pub exact : (m : ReadMode) (n : Bool) (k den : ℕ) → 0 < den → IsRounded m n (k * den) den k
-exact NearestEven n k den some = nearest_by_rest (k * den) den k 0 (omega arith) (omega arith) (λ half. absurd (omega (arith, half, some)))
-exact TowardsZero n k den some = not_above k den some
-exact Floor false k den some = not_above k den some
-exact Floor true k den some = not_below k den some
-exact Ceil false k den some = not_below k den some
-exact Ceil true k den some = not_above k den some
 
 -- ---- formats that `==` does not tell apart are one
 pub same_format : (f g : FormatParts) → (beq f.signed g.signed && ((f.width == g.width) && (f.frac == g.frac))) ≡ true → f ≡ g
@@ -48,7 +31,7 @@ own_image m policy f b format range = record {
   moved = b;
   is_moved = record {
     ulps = unsigned_abs b;
-    rounded = exact m (is_negative b) (unsigned_abs b) (2 ^ f.frac) (pow_pos f.frac);
+    rounded = rounded_exact m (is_negative b) (unsigned_abs b) (2 ^ f.frac) (pow_pos f.frac);
     value = sym (sign_and_magnitude b);
   };
   image_is = (images_agree policy f.signed f.width b b format.is_width range).1 refl;

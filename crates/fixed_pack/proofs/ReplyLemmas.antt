@@ -10,6 +10,7 @@ use Rattle.fixed_bits.specs.declared.format.Policy.{Policy}
 use Rattle.fixed_bits.specs.declared.format.Policy.TheVariants.{Checked, Saturating, Wrapping}
 use Rattle.fixed_bits.specs.declared.mode.ReadMode.{ReadMode}
 use Rattle.fixed_bits.specs.declared.mode.ReadMode.TheVariants.{Ceil, Floor, NearestEven, TowardsZero}
+use Rattle.fixed_bits.specs.declared.mode.ReadMode.TheVariants.{AwayFromZero, NearestAway, NearestDown, NearestUp, NearestZero}
 use Rattle.fixed_convert.specs.Rounded.{IsReformatted}
 use Rattle.fixed_numeral.proofs.Public.{pow-mul}
 use Rattle.fixed_numeral.specs.declared.radix.Radix.{Radix}
@@ -63,9 +64,14 @@ policy_length Checked = omega arith
 policy_length Saturating = omega arith
 policy_length Wrapping = omega arith
 
-mode_length : (m : ReadMode) → length (mode_text m) ≤ 7
+mode_length : (m : ReadMode) → length (mode_text m) ≤ 9
 mode_length NearestEven = omega arith
 mode_length TowardsZero = omega arith
+mode_length NearestAway = omega arith
+mode_length NearestZero = omega arith
+mode_length NearestUp = omega arith
+mode_length NearestDown = omega arith
+mode_length AwayFromZero = omega arith
 mode_length Floor = omega arith
 mode_length Ceil = omega arith
 

@@ -2,7 +2,7 @@
 use Rattle.std.proofs.Common.{◌≡◌, ◌∙◌, ◌||◌, ◌*◌, ◌^◌, ◌<◌, ◌≤◌, ℕ, ℤ, Bool, false, unsigned_abs, List, [], ◌∷◌, ◌++◌, length, codes, refl, sym, ap, subst, arith, inl, inr, append-nil}
 use Rattle.std.specs.Int.{is_negative}
 use Rattle.std.proofs.lemmas.Nat.{pow_pos}
-use Rattle.fixed_bits.proofs.Public.{image_within, images_agree, in_wide, range_decided, rounded_unique, sign_and_magnitude, width_most}
+use Rattle.fixed_bits.proofs.Public.{image_within, images_agree, in_wide, range_decided, rounded_exact, rounded_unique, sign_and_magnitude, width_most}
 use Rattle.fixed_bits.specs.Formats.{FormatParts, IsFormat}
 use Rattle.fixed_bits.specs.Images.{IsImage}
 use Rattle.fixed_bits.specs.Numbers.{with_sign}
@@ -33,7 +33,6 @@ use Rattle.fixed_pack.specs.Word.{joined, number_of, word_bytes, word_length}
 use Rattle.fixed_pack.specs.declared.endian.Endian.{Endian}
 use Rattle.fixed_pack.specs.declared.pack.PackSettings.{PackSettings}
 use Rattle.fixed_pack.specs.declared.unpack.UnpackRule.{UnpackRule}
-use Rattle.fixed_pack.proofs.ImageLemmas.{exact}
 use Rattle.fixed_pack.proofs.ReplyLemmas.{has_digits, line_short}
 use Rattle.fixed_pack.proofs.WordLemmas.{bytes_length, word_back}
 
@@ -42,7 +41,7 @@ pub stays : (m : ReadMode) (b : ℤ) (f : ℕ) (v : ℤ) → IsMovedIn m b f f v
 stays m b f v moved =
     let k : ℕ = unsigned_abs b in
     let some : 0 < 2 ^ f = pow_pos f in
-    let same : moved.ulps ≡ k = rounded_unique m (is_negative b) (k * 2 ^ f) (2 ^ f) moved.ulps k some moved.rounded (exact m (is_negative b) k (2 ^ f) some) in
+    let same : moved.ulps ≡ k = rounded_unique m (is_negative b) (k * 2 ^ f) (2 ^ f) moved.ulps k some moved.rounded (rounded_exact m (is_negative b) k (2 ^ f) some) in
     moved.value ∙ (ap (with_sign (is_negative b)) same ∙ sign_and_magnitude b)
 
 -- and so do its bits, which are in range

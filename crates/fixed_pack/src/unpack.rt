@@ -80,7 +80,7 @@ impl UnpackEnd {
 ///
 /// A word is the fewest bytes that have the bits of the source format. Its line is the answer to its text, in
 /// hexadecimal after `0x`: a word of more bits than the format's is refused. Bytes that are fewer than a word at
-/// the end of the input are left over. The lines of the words that end in a chunk of 1,024 bytes are written before
+/// the end of the input are left over. The lines of the words that end in a chunk of 512 bytes are written before
 /// the next is read. It takes no memory.
 pub fn run_unpack<S: Source, K: Sink, L: Ledger>(
     rule: &UnpackRule,

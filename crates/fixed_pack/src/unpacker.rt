@@ -27,10 +27,10 @@ use std::sync::ledger::Ledger;
 use text_buffer::TextBuffer;
 
 /// How many bytes are read at a time at most.
-pub const CHUNK: usize = 1024;
+pub const CHUNK: usize = 512;
 
 /// How many bytes the replies to the words of a chunk have at most, with their newlines.
-const HELD: usize = 197_632;
+const HELD: usize = 98_816;
 
 /// The lines that are to be written.
 type Held = TextBuffer<HELD>;

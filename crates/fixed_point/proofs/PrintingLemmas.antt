@@ -9,6 +9,7 @@ use Rattle.std.specs.declared.fmt.Formatter.{Formatter}
 use Rattle.std.specs.declared.fmt.Error.{Error}
 use Rattle.std.specs.List.{FoldsTo, concat, repeat}
 use Rattle.std.specs.Char.{encode_utf8}
+use Rattle.fixed_bits.specs.declared.mode.ReadMode.TheVariants.{NearestEven}
 use Rattle.fixed_write.proofs.Public.{rounded_zeros}
 use Rattle.fixed_write.specs.Texts.{shortest_text, decimal_text}
 use Rattle.fixed_write.specs.Places.{exact_text, rounded_text}
@@ -29,7 +30,7 @@ pub exact_text_split : (base : ℕ) (upper : Bool) (c : ℤ) (f : ℕ) → exact
 unfolding exact_text
 exact_text_split base upper c f = rw (not_negative (unsigned_abs c)) refl
 
-rounded_text_split : (k : ℕ) (c : ℤ) (f : ℕ) → rounded_text 10 false k c f ≡ sign_text (is_negative c) ++ rounded_text 10 false k (pos (unsigned_abs c)) f
+rounded_text_split : (k : ℕ) (c : ℤ) (f : ℕ) → rounded_text NearestEven 10 false k c f ≡ sign_text (is_negative c) ++ rounded_text NearestEven 10 false k (pos (unsigned_abs c)) f
 unfolding rounded_text
 rounded_text_split k c f = rw (not_negative (unsigned_abs c)) refl
 
@@ -85,12 +86,12 @@ styled_bare g precision n f c text e l width plus alternate t =
     let same : padded_integral (formatter_spec g) (is_negative c) [] (shortest_text (pos (unsigned_abs c)) f) ≡ text = bare_text g (is_negative c) [] (shortest_text (pos (unsigned_abs c)) f) width plus alternate ∙ sym (t ∙ shortest_text_split c f) in
     rw (e, le_is f n l, same) refl
 
-pub styled_bare_places : {W : Type 0} (g : Formatter W) (precision : Option ℕ) (k n f : ℕ) (c : ℤ) (text : List ℕ) → precision ≡ Some k → f ≤ n → spec_width (formatter_spec g) ≡ None → spec_sign_plus (formatter_spec g) ≡ false → spec_alternate (formatter_spec g) ≡ false → text ≡ rounded_text 10 false k c f → styled_text precision (padded_integral (formatter_spec g) (is_negative c) []) n f c ≡ text
+pub styled_bare_places : {W : Type 0} (g : Formatter W) (precision : Option ℕ) (k n f : ℕ) (c : ℤ) (text : List ℕ) → precision ≡ Some k → f ≤ n → spec_width (formatter_spec g) ≡ None → spec_sign_plus (formatter_spec g) ≡ false → spec_alternate (formatter_spec g) ≡ false → text ≡ rounded_text NearestEven 10 false k c f → styled_text precision (padded_integral (formatter_spec g) (is_negative c) []) n f c ≡ text
 styled_bare_places g precision k n f c text e l width plus alternate t =
-    let same : padded_integral (formatter_spec g) (is_negative c) [] (rounded_text 10 false k (pos (unsigned_abs c)) f) ≡ text = bare_text g (is_negative c) [] (rounded_text 10 false k (pos (unsigned_abs c)) f) width plus alternate ∙ sym (t ∙ rounded_text_split k c f) in
+    let same : padded_integral (formatter_spec g) (is_negative c) [] (rounded_text NearestEven 10 false k (pos (unsigned_abs c)) f) ≡ text = bare_text g (is_negative c) [] (rounded_text NearestEven 10 false k (pos (unsigned_abs c)) f) width plus alternate ∙ sym (t ∙ rounded_text_split k c f) in
     rw (e, le_is f n l, same) refl
 
-pub styled_long : {W : Type 0} (g : Formatter W) (precision : Option ℕ) (p z n f : ℕ) (c : ℤ) (digits : List ℕ) → precision ≡ Some p → p ≡ 64 + z → f ≤ n → f ≤ 64 → digits ≡ rounded_text 10 false 64 (pos (unsigned_abs c)) f → styled_text precision (padded_integral (formatter_spec g) (is_negative c) []) n f c ≡ padded_integral (formatter_spec g) (is_negative c) [] (digits ++ replicate z 48)
+pub styled_long : {W : Type 0} (g : Formatter W) (precision : Option ℕ) (p z n f : ℕ) (c : ℤ) (digits : List ℕ) → precision ≡ Some p → p ≡ 64 + z → f ≤ n → f ≤ 64 → digits ≡ rounded_text NearestEven 10 false 64 (pos (unsigned_abs c)) f → styled_text precision (padded_integral (formatter_spec g) (is_negative c) []) n f c ≡ padded_integral (formatter_spec g) (is_negative c) [] (digits ++ replicate z 48)
 styled_long g precision p z n f c digits e many l few t =
     rw (e, le_is f n l, many, rounded_zeros z (pos (unsigned_abs c)) f few, t) refl
 

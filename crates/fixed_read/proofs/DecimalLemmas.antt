@@ -8,9 +8,10 @@ use Rattle.std.proofs.Common.{Ordering, Less, Equal, Greater}
 use Rattle.std.specs.Ordering.{MatchOrdering}
 use Rattle.fixed_numeral.specs.Place.{NoTrailingZero}
 use Rattle.fixed_read.specs.Inner.Blocks.{IsBlockOf, IsCandidate, scaled_rest, scaled_unit}
-use Rattle.fixed_read.specs.Inner.Rounding.{IsFractionUlps, IsSettled, IsLostFraction}
-use Rattle.fixed_read.specs.declared.lost_fraction.LostFraction.{LostFraction}
-use Rattle.fixed_read.specs.declared.lost_fraction.LostFraction.TheVariants.{LessThanHalf, MoreThanHalf}
+use Rattle.fixed_bits.specs.LostFractions.{IsLostFraction}
+use Rattle.fixed_read.specs.Inner.Rounding.{IsFractionUlps, IsSettled}
+use Rattle.fixed_bits.specs.declared.rounding.LostFraction.{LostFraction}
+use Rattle.fixed_bits.specs.declared.rounding.LostFraction.TheVariants.{LessThanHalf, MoreThanHalf}
 use Rattle.fixed_read.proofs.DigitLemmas.{cancel_lt, some_number, some_digits, none_number}
 
 ten_pos : (n : ℕ) → 0 < 10 ^ n

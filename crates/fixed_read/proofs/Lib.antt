@@ -5,7 +5,7 @@ mod DigitLemmas
 mod PartLemmas
 mod DecimalLemmas
 mod NumberLemmas
-mod DirectionLemmas
+mod LostLemmas
 mod WholeLemmas
 mod ReadLemmas
 mod MultipleLemmas

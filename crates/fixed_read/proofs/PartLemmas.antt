@@ -5,10 +5,11 @@ use Rattle.std.proofs.lemmas.Int.Digits.{number_lt}
 use Rattle.std.proofs.Math.Nat.{one-le-pow, pow-le-pow_right}
 use Rattle.std.specs.Int.Digits.{number_from_digits}
 use Rattle.fixed_numeral.proofs.Public.{pow-mul}
-use Rattle.fixed_read.specs.declared.lost_fraction.LostFraction.{LostFraction}
-use Rattle.fixed_read.specs.declared.lost_fraction.LostFraction.TheVariants.{Zero}
+use Rattle.fixed_bits.specs.declared.rounding.LostFraction.{LostFraction}
+use Rattle.fixed_bits.specs.declared.rounding.LostFraction.TheVariants.{Zero}
 use Rattle.fixed_read.specs.Inner.Blocks.{IsBlockOf}
-use Rattle.fixed_read.specs.Inner.Rounding.{IsLostFraction, IsFractionUlps}
+use Rattle.fixed_bits.specs.LostFractions.{IsLostFraction}
+use Rattle.fixed_read.specs.Inner.Rounding.{IsFractionUlps}
 use Rattle.fixed_read.proofs.DigitLemmas.{cancel_lt, some_digits}
 
 -- ---- the block in ulps, over plain numbers: x and w the powers of the base for all digits and for those after the block

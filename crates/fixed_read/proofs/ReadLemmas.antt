@@ -17,10 +17,10 @@ use Rattle.fixed_read.specs.Reading.{IsReadNumber, IsReading, IsReadInRange, IsR
 use Rattle.fixed_read.specs.declared.magnitude.Ulps.{Ulps}
 use Rattle.fixed_read.specs.declared.read_number.ReadNumber.{ReadNumber}
 use Rattle.fixed_read.specs.Laws.{ReadNumberIsTheOne}
-use Rattle.fixed_read.specs.Inner.Directions.{direction}
+use Rattle.fixed_bits.specs.Rounded.{magnitude_mode}
 use Rattle.fixed_read.specs.Inner.Rounding.{IsMagnitude, IsSplitNumeral}
 use Rattle.fixed_read.proofs.ShortNumeralLemmas.{magnitude_same}
-use Rattle.fixed_read.proofs.DirectionLemmas.{to_rounded}
+use Rattle.fixed_bits.proofs.Public.{magnitude_rounded}
 
 -- ---- a numeral has one read number
 pub read_unique : (mode : ReadMode) (r : Radix) (p : Parts) (f : ℕ) (v w : ℤ) → IsReadNumber mode r p f v → IsReadNumber mode r p f w → v ≡ w
@@ -76,10 +76,10 @@ base_some Bin = omega arith
 base_some r = omega arith
 
 -- the reading of a numeral whose magnitude is a number that was rounded
-pub reading_from : (mode : ReadMode) (r : Radix) (p : Parts) (number : Fraction) (ulps : Ulps) (found : ReadNumber) → found.negative ≡ is_minus p.sign → 0 < number.den → IsSameNumber number (magnitude r p) → IsMagnitude (direction mode found.negative) number found.format.frac ulps → found.low ≡ ulps.low → found.has_high_bits ≡ ulps.has_high_bits → found.exact ≡ ulps.is_exact → IsReading mode r p found
+pub reading_from : (mode : ReadMode) (r : Radix) (p : Parts) (number : Fraction) (ulps : Ulps) (found : ReadNumber) → found.negative ≡ is_minus p.sign → 0 < number.den → IsSameNumber number (magnitude r p) → IsMagnitude (magnitude_mode mode found.negative) number found.format.frac ulps → found.low ≡ ulps.low → found.has_high_bits ≡ ulps.has_high_bits → found.exact ≡ ulps.is_exact → IsReading mode r p found
 reading_from mode r p number ulps found sign some same mag low high exact =
-    let own = magnitude_same (direction mode found.negative) number (magnitude r p) found.format.frac ulps some (magnitude_pos r p) same mag in
-    let rounded = to_rounded mode found.negative _ _ _ own.to in
+    let own = magnitude_same (magnitude_mode mode found.negative) number (magnitude r p) found.format.frac ulps some (magnitude_pos r p) same mag in
+    let rounded = magnitude_rounded mode found.negative _ _ _ own.to in
     record {
       number = with_sign found.negative (own.high * 2 ^ 64 + ulps.low);
       read = record { ulps = own.high * 2 ^ 64 + ulps.low; rounded = subst (λ s. IsRounded mode s ((magnitude r p).num * 2 ^ found.format.frac) (magnitude r p).den (own.high * 2 ^ 64 + ulps.low)) sign rounded; value = ap (λ s. with_sign s (own.high * 2 ^ 64 + ulps.low)) sign };

@@ -1,12 +1,12 @@
 -- The ulps of a block of 13 digits, and what is left of one over a unit.
-use Rattle.std.proofs.Common.{◌≡◌, ◌↔◌, IsTrue, ℕ, ◌+◌, ◌-◌, ◌*◌, ◌/◌, ◌%◌, ◌^◌, ◌<◌, ◌≤◌, sym, ap, ◌∙◌, arith, mul-le-mul_right, div-add-mod', mod-lt}
+use Rattle.std.proofs.Common.{false, ◌≡◌, ◌↔◌, IsTrue, ℕ, ◌+◌, ◌-◌, ◌*◌, ◌/◌, ◌%◌, ◌^◌, ◌<◌, ◌≤◌, sym, ap, ◌∙◌, arith, mul-le-mul_right, div-add-mod', mod-lt}
 use Rattle.std.proofs.lemmas.Nat.{pow-add}
 use Rattle.std.proofs.Math.Nat.{one-le-pow, pow-le-pow_right}
-use Rattle.fixed_read.specs.Inner.Directions.{IsRoundedTo}
+use Rattle.fixed_bits.specs.Rounded.{IsRounded}
 use Rattle.fixed_read.specs.Inner.Rounding.{IsShare, IsMagnitude}
 use Rattle.fixed_read.specs.declared.magnitude.Ulps.{Ulps}
-use Rattle.fixed_read.specs.declared.direction.Direction.{Direction}
-use Rattle.fixed_read.proofs.DirectionLemmas.{to_same}
+use Rattle.fixed_bits.specs.declared.mode.ReadMode.{ReadMode}
+use Rattle.fixed_bits.proofs.Public.{rounded_same}
 use Rattle.fixed_read.proofs.MultipleLemmas.{cancel_eq, exact_rest}
 use Rattle.fixed_read.proofs.ShortNumeralLemmas.{ten_split, split_whole, thirteen_below}
 
@@ -68,13 +68,13 @@ pub share_whole : (w num den frac q count rest unit : ℕ) → count ≡ w * 2 ^
 share_whole w num den frac q count rest unit e h = record { small = h.small; split = rw e (omega (arith, h.split)) }
 
 -- a share rounded
-pub magnitude_of_share : (direction : Direction) (num den frac q rest unit more high : ℕ) (ulps : Ulps) → 0 < den → IsShare num den frac q rest unit → IsRoundedTo direction (q * unit + rest) unit (q + more) → (IsTrue ulps.is_exact ↔ (rest ≡ 0)) → q + more ≡ high * 2 ^ 64 + ulps.low → (IsTrue ulps.has_high_bits ↔ (0 < high)) → IsMagnitude direction (record { num = num; den = den }) frac ulps
-magnitude_of_share direction num den frac q rest unit more high ulps some h to none e over =
+pub magnitude_of_share : (mode : ReadMode) (num den frac q rest unit more high : ℕ) (ulps : Ulps) → 0 < den → IsShare num den frac q rest unit → IsRounded mode false (q * unit + rest) unit (q + more) → (IsTrue ulps.is_exact ↔ (rest ≡ 0)) → q + more ≡ high * 2 ^ 64 + ulps.low → (IsTrue ulps.has_high_bits ↔ (0 < high)) → IsMagnitude mode (record { num = num; den = den }) frac ulps
+magnitude_of_share mode num den frac q rest unit more high ulps some h to none e over =
     let unit_some : 0 < unit = omega (arith, h.small) in
     let test = exact_rest (num * 2 ^ frac) den q unit rest some unit_some h.small h.split in
     record {
       high = high;
-      to = rw e at (to_same direction (q * unit + rest) unit (num * 2 ^ frac) den (q + more) unit_some some (sym h.split) to);
+      to = rw e at (rounded_same mode false (q * unit + rest) unit (num * 2 ^ frac) den (q + more) unit_some some (sym h.split) to);
       over = over;
       exact = (λ t. test.0 (none.0 t), λ m. none.1 (test.1 m));
     }

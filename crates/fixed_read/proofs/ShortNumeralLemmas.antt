@@ -13,15 +13,16 @@ use Rattle.fixed_numeral.specs.declared.radix.Radix.{Radix}
 use Rattle.fixed_numeral.specs.declared.radix.Radix.TheVariants.{Dec}
 use Rattle.fixed_read.specs.Inner.Blocks.{IsCandidate}
 use Rattle.fixed_read.specs.Inner.BinaryPower.{up_of, down_of, ups, downs}
-use Rattle.fixed_read.specs.Inner.Directions.{IsRoundedTo}
-use Rattle.fixed_read.specs.Inner.Rounding.{IsSplitUlps, IsMagnitude, IsLostFraction}
+use Rattle.fixed_bits.specs.Rounded.{IsRounded}
+use Rattle.fixed_bits.specs.LostFractions.{IsLostFraction}
+use Rattle.fixed_read.specs.Inner.Rounding.{IsSplitUlps, IsMagnitude}
 use Rattle.fixed_read.specs.declared.magnitude.Ulps.{Ulps}
-use Rattle.fixed_read.specs.declared.direction.Direction.{Direction}
-use Rattle.fixed_read.specs.declared.direction.Direction.TheVariants.{Nearest, Down, Up}
-use Rattle.fixed_read.specs.declared.lost_fraction.LostFraction.{LostFraction}
-use Rattle.fixed_read.specs.declared.lost_fraction.LostFraction.TheVariants.{Zero}
+use Rattle.fixed_bits.specs.declared.mode.ReadMode.{ReadMode}
+use Rattle.fixed_bits.specs.declared.rounding.LostFraction.{LostFraction}
+use Rattle.fixed_bits.specs.declared.rounding.LostFraction.TheVariants.{Zero}
 use Rattle.fixed_read.proofs.MultipleLemmas.{cancel_eq, exact_rest, multiple_same}
-use Rattle.fixed_read.proofs.DirectionLemmas.{to_same, tail_within, near_nothing, down_any, up_nothing}
+use Rattle.fixed_bits.proofs.Public.{rounded_exact, rounded_same}
+use Rattle.fixed_read.proofs.LostLemmas.{tail_within}
 
 -- ---- an option's cases
 pub if_some : {T : Type 0} (P Q : T → Type 0) (o : Option T) → ((x : T) → P x → Q x) → IfSome o P → IfSome o Q
@@ -86,12 +87,12 @@ pub coarser_small : (ulps w frac bits : ℕ) → w ≡ ulps / 2 ^ bits → ulps 
 coarser_small ulps w frac bits e l = grind (arith, (rw (pow-add 2 frac bits) at l), (rw (← e) at (div-add-mod' ulps (2 ^ bits))))
 
 -- ---- rounding
-pub magnitude_is_rounded : (direction : Direction) (num den frac q more high : ℕ) (lost : LostFraction) (ulps : Ulps) → 0 < den → (h : IsSplitUlps num den frac q lost) → IsRoundedTo direction (q * h.unit + h.rest) h.unit (q + more) → ((y d : ℕ) → 0 < d → IsLostFraction lost y d → IsTrue ulps.is_exact ↔ (y ≡ 0)) → q + more ≡ high * 2 ^ 64 + ulps.low → (IsTrue ulps.has_high_bits ↔ (0 < high)) → IsMagnitude direction (record { num = num; den = den }) frac ulps
-magnitude_is_rounded direction num den frac q more high lost ulps some h to none e over =
+pub magnitude_is_rounded : (mode : ReadMode) (num den frac q more high : ℕ) (lost : LostFraction) (ulps : Ulps) → 0 < den → (h : IsSplitUlps num den frac q lost) → IsRounded mode false (q * h.unit + h.rest) h.unit (q + more) → ((y d : ℕ) → 0 < d → IsLostFraction lost y d → IsTrue ulps.is_exact ↔ (y ≡ 0)) → q + more ≡ high * 2 ^ 64 + ulps.low → (IsTrue ulps.has_high_bits ↔ (0 < high)) → IsMagnitude mode (record { num = num; den = den }) frac ulps
+magnitude_is_rounded mode num den frac q more high lost ulps some h to none e over =
     let test = exact_rest (num * 2 ^ frac) den q h.unit h.rest some h.some (tail_within lost h.rest h.unit h.some h.left) h.split in
     record {
       high = high;
-      to = rw e at (to_same direction (q * h.unit + h.rest) h.unit (num * 2 ^ frac) den (q + more) h.some some (sym h.split) to);
+      to = rw e at (rounded_same mode false (q * h.unit + h.rest) h.unit (num * 2 ^ frac) den (q + more) h.some some (sym h.split) to);
       over = over;
       exact = (λ t. test.0 ((none h.rest h.unit h.some h.left).0 t), λ m. (none h.rest h.unit h.some h.left).1 (test.1 m));
     }
@@ -101,12 +102,12 @@ pub split_high : (total high low m : ℕ) → high ≡ total / m → low ≡ tot
 split_high total high low m eh el = rw (eh, el) (sym (div-add-mod' total m))
 
 -- ---- the magnitude of an equal fraction
-pub magnitude_same : (direction : Direction) (a b : Fraction) (frac : ℕ) (ulps : Ulps) → 0 < a.den → 0 < b.den → IsSameNumber a b → IsMagnitude direction a frac ulps → IsMagnitude direction b frac ulps
-magnitude_same direction a b frac ulps pa pb same h =
+pub magnitude_same : (mode : ReadMode) (a b : Fraction) (frac : ℕ) (ulps : Ulps) → 0 < a.den → 0 < b.den → IsSameNumber a b → IsMagnitude mode a frac ulps → IsMagnitude mode b frac ulps
+magnitude_same mode a b frac ulps pa pb same h =
     let cross = times a.num a.den b.num b.den (2 ^ frac) same in
     record {
       high = h.high;
-      to = to_same direction (a.num * 2 ^ frac) a.den (b.num * 2 ^ frac) b.den (h.high * 2 ^ 64 + ulps.low) pa pb cross h.to;
+      to = rounded_same mode false (a.num * 2 ^ frac) a.den (b.num * 2 ^ frac) b.den (h.high * 2 ^ 64 + ulps.low) pa pb cross h.to;
       over = h.over;
       exact = (λ t. multiple_same (a.num * 2 ^ frac) a.den (b.num * 2 ^ frac) b.den pa cross (h.exact.0 t), λ m. h.exact.1 (multiple_same (b.num * 2 ^ frac) b.den (a.num * 2 ^ frac) a.den pb (sym cross) m));
     }
@@ -139,13 +140,14 @@ fraction_same w f p digits (pos (suc x)) l e ep = absurd (l (omega (arith, ints)
 fraction_same w f p digits (negsuc x) l e ep = rw ep (omega (arith, ap (λ y. y * (10 ^ suc x)) e))
 
 -- ---- powers of two
-pub whole_to : (direction : Direction) (q : ℕ) → IsRoundedTo direction (q * 1 + 0) 1 (q + 0)
-whole_to Nearest q = near_nothing q 0 1 0 (omega arith) refl
-whole_to Down q = down_any q 0 1 0 (omega arith) (omega arith)
-whole_to Up q = up_nothing q 0 1 0 (omega arith) refl
+pub whole_to : (mode : ReadMode) (q : ℕ) → IsRounded mode false (q * 1 + 0) 1 (q + 0)
+whole_to mode q =
+    let whole : q * 1 ≡ q * 1 + 0 = omega arith in
+    let none : q ≡ q + 0 = omega arith in
+    subst (λ n. IsRounded mode false n 1 (q + 0)) whole (subst (λ n. IsRounded mode false (q * 1) 1 n) none (rounded_exact mode false q 1 (omega arith)))
 
-pub raised : (direction : Direction) (num den frac q high : ℕ) (ulps : Ulps) → 0 < den → q * den ≡ num * 2 ^ frac → ulps.is_exact ≡ true → q ≡ high * 2 ^ 64 + ulps.low → (IsTrue ulps.has_high_bits ↔ (0 < high)) → IsMagnitude direction (record { num = num; den = den }) frac ulps
-raised direction num den frac q high ulps some e exact split over = magnitude_is_rounded direction num den frac q 0 high Zero ulps some (record { rest = 0; unit = 1; some = omega arith; split = omega (arith, e); left = refl }) (whole_to direction q) (λ y d p left. (λ t. left, λ z. exact)) (let z : q + 0 ≡ q = omega arith in z ∙ split) over
+pub raised : (mode : ReadMode) (num den frac q high : ℕ) (ulps : Ulps) → 0 < den → q * den ≡ num * 2 ^ frac → ulps.is_exact ≡ true → q ≡ high * 2 ^ 64 + ulps.low → (IsTrue ulps.has_high_bits ↔ (0 < high)) → IsMagnitude mode (record { num = num; den = den }) frac ulps
+raised mode num den frac q high ulps some e exact split over = magnitude_is_rounded mode num den frac q 0 high Zero ulps some (record { rest = 0; unit = 1; some = omega arith; split = omega (arith, e); left = refl }) (whole_to mode q) (λ y d p left. (λ t. left, λ z. exact)) (let z : q + 0 ≡ q = omega arith in z ∙ split) over
 
 pub far_up : (digits by : ℕ) → 64 ≤ by → digits * 2 ^ by ≡ digits * 2 ^ (by - 64) * 2 ^ 64 + 0
 far_up digits by l =

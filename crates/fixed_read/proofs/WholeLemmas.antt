@@ -1,18 +1,20 @@
 -- Whole steps modulo a power of two.
-use Rattle.std.proofs.Common.{◌≡◌, ℕ, ◌+◌, ◌-◌, ◌*◌, ◌/◌, ◌%◌, ◌^◌, ◌<◌, ◌≤◌, ◌⊎◌, ◌↔◌, Bool, IsTrue, List, ◌++◌, length, sym, ap, ◌∙◌, arith, pow_pos, mul-le-mul_right, div-add-mod', mod-lt, ⊎_elim, inl, inr}
+use Rattle.std.proofs.Common.{false, ◌≡◌, ℕ, ◌+◌, ◌-◌, ◌*◌, ◌/◌, ◌%◌, ◌^◌, ◌<◌, ◌≤◌, ◌⊎◌, ◌↔◌, Bool, IsTrue, List, ◌++◌, length, sym, ap, ◌∙◌, arith, pow_pos, mul-le-mul_right, div-add-mod', mod-lt, ⊎_elim, inl, inr}
 use Rattle.std.proofs.lemmas.Bool.{cases_lt}
 use Rattle.std.proofs.lemmas.Nat.{pow-add}
 use Rattle.std.proofs.Math.Nat.{one-le-pow, pow-le-pow_right}
 use Rattle.std.specs.Int.Digits.{number_from_digits}
 use Rattle.fixed_numeral.proofs.Public.{number_append}
 use Rattle.fixed_numeral.specs.Spelled.{spelled}
-use Rattle.fixed_read.specs.declared.direction.Direction.{Direction}
-use Rattle.fixed_read.specs.declared.lost_fraction.LostFraction.{LostFraction}
-use Rattle.fixed_read.specs.Inner.Directions.{IsRoundedTo}
+use Rattle.fixed_bits.specs.declared.mode.ReadMode.{ReadMode}
+use Rattle.fixed_bits.specs.declared.rounding.LostFraction.{LostFraction}
+use Rattle.fixed_bits.specs.Rounded.{IsRounded}
 use Rattle.fixed_read.specs.Reading.{IsMultipleOf}
-use Rattle.fixed_read.specs.Inner.Rounding.{IsLostFraction, IsFractionUlps, IsMagnitude}
+use Rattle.fixed_bits.specs.LostFractions.{IsLostFraction}
+use Rattle.fixed_read.specs.Inner.Rounding.{IsFractionUlps, IsMagnitude}
 use Rattle.fixed_read.specs.declared.magnitude.Ulps.{Ulps}
-use Rattle.fixed_read.proofs.DirectionLemmas.{to_same, tail_within}
+use Rattle.fixed_bits.proofs.Public.{rounded_same}
+use Rattle.fixed_read.proofs.LostLemmas.{tail_within}
 use Rattle.fixed_read.proofs.MultipleLemmas.{exact_rest}
 
 -- the low whole bits, moved up
@@ -74,18 +76,18 @@ parity w m t n p pos e =
         rw more (omega arith)
 
 -- ---- together
-pub record Rounded (r : Direction) (b : ℕ) (w f : List ℕ) (s frac number : ℕ) (flag : Bool) : Type 0 where
-  pub to : IsRoundedTo r ((spelled b w f s).num * 2 ^ frac) (spelled b w f s).den number
+pub record Rounded (r : ReadMode) (b : ℕ) (w f : List ℕ) (s frac number : ℕ) (flag : Bool) : Type 0 where
+  pub to : IsRounded r false ((spelled b w f s).num * 2 ^ frac) (spelled b w f s).den number
   pub exact : IsTrue flag ↔ IsMultipleOf (spelled b w f s).den ((spelled b w f s).num * 2 ^ frac)
 
-pub rounded : (r : Direction) (b : ℕ) (w f : List ℕ) (s frac t p more : ℕ) (lost : LostFraction) (exact : Bool) → 0 < b → t ≡ frac + s → (h : IsFractionUlps b f t p lost) → IsRoundedTo r ((number_from_digits b w * 2 ^ t + p) * h.ulps.unit + h.ulps.rest) h.ulps.unit (number_from_digits b w * 2 ^ t + p + more) → ((y den : ℕ) → 0 < den → IsLostFraction lost y den → IsTrue exact ↔ (y ≡ 0)) → Rounded r b w f s frac (number_from_digits b w * 2 ^ t + p + more) exact
+pub rounded : (r : ReadMode) (b : ℕ) (w f : List ℕ) (s frac t p more : ℕ) (lost : LostFraction) (exact : Bool) → 0 < b → t ≡ frac + s → (h : IsFractionUlps b f t p lost) → IsRounded r false ((number_from_digits b w * 2 ^ t + p) * h.ulps.unit + h.ulps.rest) h.ulps.unit (number_from_digits b w * 2 ^ t + p + more) → ((y den : ℕ) → 0 < den → IsLostFraction lost y den → IsTrue exact ↔ (y ≡ 0)) → Rounded r b w f s frac (number_from_digits b w * 2 ^ t + p + more) exact
 rounded r b w f s frac t p more lost exact pos et h to none =
     let number : number_from_digits b (w ++ f) ≡ number_from_digits b w * b ^ length f + number_from_digits b f = number_append b w f in
     let power : 2 ^ t ≡ 2 ^ frac * 2 ^ s = ap (λ i. 2 ^ i) et ∙ pow-add 2 frac s in
     let cross : ((number_from_digits b w * 2 ^ t + p) * h.ulps.unit + h.ulps.rest) * b ^ length f ≡ number_from_digits b (w ++ f) * 2 ^ s * 2 ^ frac * h.ulps.unit = crossed (number_from_digits b w) (number_from_digits b f) (number_from_digits b (w ++ f)) (b ^ length f) (2 ^ t) (2 ^ frac) (2 ^ s) p h.ulps.unit h.ulps.rest number power h.ulps.split in
     let test = exact_rest (number_from_digits b (w ++ f) * 2 ^ s * 2 ^ frac) (b ^ length f) (number_from_digits b w * 2 ^ t + p) h.ulps.unit h.ulps.rest (one-le-pow (length f) b pos) h.ulps.some (tail_within lost h.ulps.rest h.ulps.unit h.ulps.some h.ulps.left) (sym cross) in
     record {
-      to = to_same r _ h.ulps.unit _ (b ^ length f) _ h.ulps.some (one-le-pow (length f) b pos) cross to;
+      to = rounded_same r false _ h.ulps.unit _ (b ^ length f) _ h.ulps.some (one-le-pow (length f) b pos) cross to;
       exact = (λ e. test.0 ((none h.ulps.rest h.ulps.unit h.ulps.some h.ulps.left).0 e), λ m. (none h.ulps.rest h.ulps.unit h.ulps.some h.ulps.left).1 (test.1 m));
     }
   where
@@ -103,7 +105,7 @@ sum_room m t n w low moved p most hn ht e k em small one =
     let room = low_is m t n w low e k in
     omega (arith, room, pow-le-pow_right {n = 2} (omega arith) hn, pow-le-pow_right {n = 2} (omega arith) ht)
 
-pub magnitude_is : (r : Direction) (b m n s frac t low moved p more high : ℕ) (w f : List ℕ) (lost : LostFraction) (over : Bool) (ulps : Ulps) → 0 < b → n ≡ 64 → t ≡ frac + s → m ≡ n - t → low ≡ number_from_digits b w % 2 ^ m → (IsTrue over ↔ (2 ^ m ≤ number_from_digits b w)) → moved ≡ low * 2 ^ t → IsFractionUlps b f t p lost → ((q y den : ℕ) → 0 < den → q % 2 ≡ (moved + p) % 2 → IsLostFraction lost y den → IsRoundedTo r (q * den + y) den (q + more)) → ((y den : ℕ) → 0 < den → IsLostFraction lost y den → IsTrue ulps.is_exact ↔ (y ≡ 0)) → high ≡ (moved + p + more) / 2 ^ n → ulps.low ≡ (moved + p + more) % 2 ^ n → (IsTrue ulps.has_high_bits ↔ (IsTrue over ⊎ (0 < high))) → IsMagnitude r (spelled b w f s) frac ulps
+pub magnitude_is : (r : ReadMode) (b m n s frac t low moved p more high : ℕ) (w f : List ℕ) (lost : LostFraction) (over : Bool) (ulps : Ulps) → 0 < b → n ≡ 64 → t ≡ frac + s → m ≡ n - t → low ≡ number_from_digits b w % 2 ^ m → (IsTrue over ↔ (2 ^ m ≤ number_from_digits b w)) → moved ≡ low * 2 ^ t → IsFractionUlps b f t p lost → ((q y den : ℕ) → 0 < den → q % 2 ≡ (moved + p) % 2 → IsLostFraction lost y den → IsRounded r false (q * den + y) den (q + more)) → ((y den : ℕ) → 0 < den → IsLostFraction lost y den → IsTrue ulps.is_exact ↔ (y ≡ 0)) → high ≡ (moved + p + more) / 2 ^ n → ulps.low ≡ (moved + p + more) % 2 ^ n → (IsTrue ulps.has_high_bits ↔ (IsTrue over ⊎ (0 < high))) → IsMagnitude r (spelled b w f s) frac ulps
 magnitude_is r b m n s frac t low moved p more high w f lost over ulps pos en et em el eo ev h up none eh ebits eb =
     let some : 0 < n = omega (arith, en) in
     let low_is : moved ≡ number_from_digits b w % 2 ^ m * 2 ^ t = ev ∙ ap (λ x. x * 2 ^ t) el in

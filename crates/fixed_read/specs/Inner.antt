@@ -1,5 +1,4 @@
 -- What private functions keep: no public clause cites these.
 pub mod Blocks
 pub mod Rounding
-pub mod Directions
 pub mod BinaryPower

@@ -25,14 +25,15 @@ ghost use Rattle.std.specs.Int.Digits.{number_from_digits, AllBelowBase};
 ghost use Rattle.std.specs.Ordering.{MatchOrdering};
 ghost use Rattle.fixed_numeral.specs.Place.{NoTrailingZero};
 ghost use Rattle.fixed_read.specs.Inner.Blocks.{IsBlockOf, scaled_rest, scaled_unit};
-ghost use Rattle.fixed_read.specs.Inner.Rounding.{IsFractionUlps, IsSettled, IsLostFraction};
+ghost use Rattle.fixed_bits.specs.LostFractions.{IsLostFraction};
+ghost use Rattle.fixed_read.specs.Inner.Rounding.{IsFractionUlps, IsSettled};
 
 use crate::decimal_block::{
     Candidate, FIVE_TO_27, candidate_of, coarser_ulps, lost_fraction_of_share,
 };
 use crate::digits::{is_longer, leading_number, leading_number_u128};
-use crate::lost_fraction::LostFraction;
 use crate::shifts::{power_of_two, shl_u64};
+use fixed_bits::LostFraction;
 use fixed_numeral::{DigitView, power_of_ten};
 use fixed_steps::Steps;
 use std::cmp::Ordering;

@@ -7,11 +7,13 @@
 
 ghost use Rattle.std.specs.Prelude.{◌≡◌, ◌+◌, ◌-◌, ◌*◌, ◌/◌, ◌^◌, ◌<◌, ◌≤◌, ℕ};
 ghost use Rattle.fixed_read.specs.Inner.Blocks.{IsCandidate};
-ghost use Rattle.fixed_read.specs.Inner.Rounding.{IsShare, IsSplitUlps, IsLostFraction};
+ghost use Rattle.fixed_bits.specs.LostFractions.{IsLostFraction};
+ghost use Rattle.fixed_read.specs.Inner.Rounding.{IsShare, IsSplitUlps};
 
-use crate::lost_fraction::{LostFraction, is_above_zero, lost_fraction_of};
+use crate::lost_fraction::{is_above_zero, lost_fraction_of};
 use crate::reciprocal::divided_by_five_to_27;
 use crate::shifts::{power_of_two, shl, shl_u64, split_bits, to_u64};
+use fixed_bits::LostFraction;
 use fixed_numeral::power_of_ten;
 
 /// 5^13.

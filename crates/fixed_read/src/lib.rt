@@ -4,7 +4,6 @@
 mod decimal;
 mod decimal_block;
 mod digits;
-mod direction;
 pub mod laws;
 mod literal;
 mod lost_fraction;

@@ -10,12 +10,10 @@ ghost use Rattle.fixed_read.specs.Inner.Rounding.{IsFractionUlps, IsMagnitude, I
 
 use crate::decimal::decimal_ulps;
 use crate::digits::{is_over, number_mod_power};
-use crate::direction::Direction;
-use crate::lost_fraction::{
-    LostFraction, is_nothing, is_zero, rounding_increment, share_increment,
-};
+use crate::lost_fraction::{is_nothing, is_zero};
 use crate::power_of_two_radix::bit_fraction_ulps;
 use crate::shifts::{is_some, shl, split_bits};
+use fixed_bits::{LostFraction, ReadMode, rounding_increment, share_increment};
 use fixed_numeral::{DigitView, Radix, Scanned};
 use fixed_steps::Steps;
 use std::sync::ledger::Ledger;
@@ -33,12 +31,12 @@ pub struct Ulps {
 
 /// The magnitude of `count` ulps and a lost fraction, rounded.
 #[inline]
-pub fn rounded_ulps(count: u128, lost: LostFraction, direction: Direction) -> Ulps
+pub fn rounded_ulps(count: u128, lost: LostFraction, mode: ReadMode) -> Ulps
     requires { count + 1 < 2 ^ 128 }
     ensures { (num den frac : ℕ) → 0 < den → IsSplitUlps num den frac count lost
-        → IsMagnitude direction (record { num = num; den = den }) frac result }
+        → IsMagnitude mode (record { num = num; den = den }) frac result }
 {
-    let total = count + rounding_increment(lost, direction, count % 2);
+    let total = count + u128::from(rounding_increment(lost, (count % 2) as u64, mode));
     let (high, low) = split_bits(total, 64);
     Ulps {
         low,
@@ -49,14 +47,14 @@ pub fn rounded_ulps(count: u128, lost: LostFraction, direction: Direction) -> Ul
 
 /// The magnitude of `count` ulps and rest / unit of one, rounded.
 #[inline(always)]
-pub fn rounded_share(count: u128, rest: u64, unit: u64, direction: Direction) -> Ulps
+pub fn rounded_share(count: u128, rest: u64, unit: u64, mode: ReadMode) -> Ulps
     requires count { count + 1 < 2 ^ 128 }
     requires small { rest < unit }
     requires most { unit < 2 ^ 63 }
     ensures { (num den frac : ℕ) → 0 < den → IsShare num den frac count rest unit
-        → IsMagnitude direction (record { num = num; den = den }) frac result }
+        → IsMagnitude mode (record { num = num; den = den }) frac result }
 {
-    let total = count + u128::from(share_increment(rest, unit, (count % 2) as u64, direction));
+    let total = count + u128::from(share_increment(rest, unit, (count % 2) as u64, mode));
     let (high, low) = split_bits(total, 64);
     Ulps {
         low,
@@ -72,7 +70,7 @@ fn rounded_magnitude<'a, L: Ledger>(
     more: u128,
     lost: LostFraction,
     fraction_bits: u32,
-    direction: Direction,
+    mode: ReadMode,
     steps: &mut Steps<L>,
 ) -> Ulps
     requires digits { AllBelowBase base whole.now }
@@ -84,12 +82,12 @@ fn rounded_magnitude<'a, L: Ledger>(
     requires fraction_bits { fraction_bits ≤ 68 }
     ensures magnitude { (f : List ℕ) (frac s : ℕ) → fraction_bits ≡ frac + s
         → IsFractionUlps base f fraction_bits more lost
-        → IsMagnitude direction (spelled base whole.now f s) frac result }
+        → IsMagnitude mode (spelled base whole.now f s) frac result }
     ensures cost { steps.new ≤ steps.old + (64 - fraction_bits) + 15 }
 {
     let (low, over) = number_mod_power(whole, base, 64_u32.saturating_sub(fraction_bits), steps);
     let sum = shl(u128::from(low), fraction_bits) + more;
-    let total = sum + rounding_increment(lost, direction, sum % 2);
+    let total = sum + u128::from(rounding_increment(lost, (sum % 2) as u64, mode));
     let (high, bits) = split_bits(total, 64);
     Ulps {
         low: bits,
@@ -133,12 +131,12 @@ pub fn magnitude<'a, L: Ledger>(
     found: &Scanned<'a>,
     radix: Radix,
     frac: u32,
-    direction: Direction,
+    mode: ReadMode,
     steps: &mut Steps<L>,
 ) -> Ulps
     requires split { IsSplitNumeral radix found.now.whole found.now.fraction found.now.bit_shift }
     requires frac { frac ≤ 64 }
-    ensures magnitude { IsMagnitude direction
+    ensures magnitude { IsMagnitude mode
         (spelled (base radix) found.now.whole found.now.fraction found.now.bit_shift) frac result }
     ensures cost { steps.new ≤ steps.old + 117 }
 {
@@ -150,7 +148,7 @@ pub fn magnitude<'a, L: Ledger>(
         more,
         lost,
         frac + bit_shift,
-        direction,
+        mode,
         steps,
     )
 }

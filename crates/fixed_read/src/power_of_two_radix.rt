@@ -10,8 +10,9 @@ ghost use Rattle.fixed_read.specs.Inner.Blocks.{IsBlockOf};
 ghost use Rattle.fixed_read.specs.Inner.Rounding.{IsFractionUlps};
 
 use crate::digits::{is_longer, leading_number, leading_number_u128};
-use crate::lost_fraction::{LostFraction, lost_fraction_of};
+use crate::lost_fraction::lost_fraction_of;
 use crate::shifts::{power_of_two, split_bits};
+use fixed_bits::LostFraction;
 use fixed_numeral::DigitView;
 use fixed_steps::Steps;
 use std::sync::ledger::Ledger;

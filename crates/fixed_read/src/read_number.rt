@@ -17,17 +17,16 @@ ghost use Rattle.fixed_numeral.specs.Spelled.{IsSameNumber};
 ghost use Rattle.fixed_numeral.specs.Value.{Fraction, magnitude};
 ghost use Rattle.fixed_numeral.specs.declared.radix.Radix.{Radix};
 ghost use Rattle.fixed_bits.specs.declared.mode.ReadMode.{ReadMode};
-ghost use Rattle.fixed_read.specs.Inner.Directions.{direction};
+ghost use Rattle.fixed_bits.specs.Rounded.{magnitude_mode};
 ghost use Rattle.fixed_numeral.specs.PartNumbers.{IsShortNumeral, HasFewDigits};
 ghost use Rattle.fixed_numeral.specs.Scanned.{IsScanned};
 ghost use Rattle.fixed_numeral.specs.declared.radix.Radix.TheVariants.{Dec};
 ghost use Rattle.fixed_read.specs.Reading.{IsReading, number_in};
 ghost use Rattle.fixed_read.specs.Inner.Rounding.{IsMagnitude, IsSplitNumeral};
 
-use crate::direction::direction_of;
 use crate::magnitude::{Ulps, magnitude};
 use crate::short_numeral::short_ulps;
-use fixed_bits::{Format, Number, Policy, ReadMode};
+use fixed_bits::{Format, Number, Policy, ReadMode, magnitude_mode_of};
 use fixed_numeral::{
     ParseFixedError, Radix, Scanned, ShortNumeral, scan, scan_lit, short_decimal, short_numeral,
 };
@@ -48,6 +47,22 @@ pub struct ReadNumber {
 }
 
 impl ReadNumber {
+    /// A number that was read into a format, and whether what was read was a whole number of ulps.
+    #[inline(always)]
+    pub fn new(number: Number, format: Format, exact: bool) -> ReadNumber
+        ensures number { number_in result ≡ number }
+        ensures format { result.format ≡ format }
+        ensures exact { result.exact ≡ exact }
+    {
+        ReadNumber {
+            low: number.low,
+            negative: number.negative,
+            has_high_bits: number.has_high_bits,
+            format,
+            exact,
+        }
+    }
+
     /// The format that the numeral was read into.
     pub fn format(&self) -> Format
         ensures { result ≡ self.now.format }
@@ -138,7 +153,7 @@ fn number_of<'a, L: Ledger>(
         found,
         radix,
         format.frac(),
-        direction_of(mode, negative),
+        magnitude_mode_of(mode, negative),
         steps,
     );
     number_from(format, negative, ulps)
@@ -149,7 +164,7 @@ fn number_of<'a, L: Ledger>(
 fn number_from(format: Format, negative: bool, ulps: Ulps) -> ReadNumber
     ensures reading { (mode : ReadMode) (r : Radix) (p : Parts) (number : Fraction) → negative ≡ is_minus p.sign
         → 0 < number.den → IsSameNumber number (magnitude r p)
-        → IsMagnitude (direction mode negative) number format.frac ulps → IsReading mode r p result }
+        → IsMagnitude (magnitude_mode mode negative) number format.frac ulps → IsReading mode r p result }
     ensures format { result.format ≡ format }
 {
     ReadNumber {
@@ -179,8 +194,8 @@ fn number_of_short(
         found.scales_by_two → IsReading mode radix p n) }
     ensures format { IfSome result (λ n. n.format ≡ format) }
 {
-    let direction = direction_of(mode, found.negative);
-    match short_ulps(found, radix, format.frac(), direction) {
+    let own_mode = magnitude_mode_of(mode, found.negative);
+    match short_ulps(found, radix, format.frac(), own_mode) {
         Some(ulps) => Some(number_from(format, found.negative, ulps)),
         None => None,
     }

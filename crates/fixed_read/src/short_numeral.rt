@@ -11,13 +11,13 @@ ghost use Rattle.fixed_numeral.specs.PartNumbers.{IsShortNumeral, HasFewDigits};
 ghost use Rattle.fixed_numeral.specs.Spelled.{IsSameNumber};
 ghost use Rattle.fixed_numeral.specs.Value.{scaled, magnitude};
 ghost use Rattle.fixed_read.specs.Inner.BinaryPower.{up_of, down_of, ups, downs};
-ghost use Rattle.fixed_read.specs.Inner.Rounding.{IsMagnitude, IsLostFraction};
+ghost use Rattle.fixed_bits.specs.LostFractions.{IsLostFraction};
+ghost use Rattle.fixed_read.specs.Inner.Rounding.{IsMagnitude};
 
 use crate::decimal_block::{ulps_of_few_places, ulps_of_many_places};
-use crate::direction::Direction;
-use crate::lost_fraction::LostFraction;
 use crate::magnitude::{Ulps, rounded_share, rounded_ulps};
 use crate::shifts::{power_of_two, shl, shl_u64, to_u64};
+use fixed_bits::{LostFraction, ReadMode};
 use fixed_numeral::{Radix, ShortNumeral, power_of_ten};
 
 /// A whole number and a decimal fraction of at most 27 places.
@@ -34,20 +34,20 @@ pub struct Decimal {
 /// The magnitude of a decimal in ulps of 2^-frac. Up to 13 places all but the sum fits a word.
 #[tactic(auto, using(crate::proofs::ShareLemmas::with_whole))]
 #[inline(always)]
-fn ulps_of_decimal(decimal: Decimal, frac: u32, direction: Direction) -> Ulps
+fn ulps_of_decimal(decimal: Decimal, frac: u32, mode: ReadMode) -> Ulps
     requires { frac ≤ 64 }
-    ensures { IsMagnitude direction
+    ensures { IsMagnitude mode
         (record { num = decimal.whole * 10 ^ decimal.places + decimal.fraction; den = 10 ^ decimal.places }) frac
         result }
 {
     if decimal.places > 13 {
         let (ulps, lost) = ulps_of_many_places(decimal.fraction, decimal.places, frac);
         let count = shl(u128::from(decimal.whole), frac) + u128::from(ulps);
-        return rounded_ulps(count, lost, direction);
+        return rounded_ulps(count, lost, mode);
     }
     let shared = ulps_of_few_places(to_u64(decimal.fraction), decimal.places, frac);
     let count = shl(u128::from(decimal.whole), frac) + u128::from(shared.ulps);
-    rounded_share(count, shared.rest, shared.unit, direction)
+    rounded_share(count, shared.rest, shared.unit, mode)
 }
 
 /// digits * 10^up as a decimal. `None` where it is too large for one.
@@ -150,40 +150,40 @@ fn decimal_of(found: ShortNumeral) -> Option<Decimal>
 /// to be looked at. Apart from `decimal_ulps`, so that the answer of a call has room in memory only where there is an
 /// exponent.
 #[inline(always)]
-fn scaled_ulps(found: ShortNumeral, frac: u32, direction: Direction) -> Option<Ulps>
+fn scaled_ulps(found: ShortNumeral, frac: u32, mode: ReadMode) -> Option<Ulps>
     requires few { HasFewDigits 10 found.whole found.fraction found.places }
     requires frac { frac ≤ 64 }
-    ensures { IfSome result (λ ulps. IsMagnitude direction
+    ensures { IfSome result (λ ulps. IsMagnitude mode
         (scaled (found.whole * 10 ^ found.places + found.fraction) 1 10
         (found.exponent -ℤ pos found.places)) frac ulps) }
 {
     match decimal_of(found) {
-        Some(decimal) => Some(ulps_of_decimal(decimal, frac, direction)),
+        Some(decimal) => Some(ulps_of_decimal(decimal, frac, mode)),
         None => None,
     }
 }
 
 /// The magnitude of a short numeral in radix 10 in ulps of 2^-frac. `None` where its digits have to be looked at.
 #[inline(always)]
-fn decimal_ulps(found: ShortNumeral, frac: u32, direction: Direction) -> Option<Ulps>
+fn decimal_ulps(found: ShortNumeral, frac: u32, mode: ReadMode) -> Option<Ulps>
     requires fraction { found.fraction < 10 ^ found.places }
     requires whole { found.whole < 10 ^ 16 }
     requires places { found.places ≤ 27 }
     requires few { found.exponent ≢ pos 0 → HasFewDigits 10 found.whole found.fraction found.places }
     requires frac { frac ≤ 64 }
-    ensures { IfSome result (λ ulps. IsMagnitude direction
+    ensures { IfSome result (λ ulps. IsMagnitude mode
         (scaled (found.whole * 10 ^ found.places + found.fraction) 1 10
         (found.exponent -ℤ pos found.places)) frac ulps) }
 {
     if found.exponent != 0 {
-        return scaled_ulps(found, frac, direction);
+        return scaled_ulps(found, frac, mode);
     }
     let decimal = Decimal {
         whole: found.whole,
         fraction: found.fraction,
         places: found.places,
     };
-    Some(ulps_of_decimal(decimal, frac, direction))
+    Some(ulps_of_decimal(decimal, frac, mode))
 }
 
 /// What is lost where `rest` of two halves are left.
@@ -236,13 +236,13 @@ fn shifted_down(digits: u64, by: u64) -> (u64, LostFraction)
 /// The magnitude of digits / 2^by ulps.
 #[tactic(auto, using(crate::proofs::ShortNumeralLemmas::lowered_split))]
 #[inline(always)]
-fn lowered_ulps(digits: u64, by: u64, direction: Direction) -> Ulps
+fn lowered_ulps(digits: u64, by: u64, mode: ReadMode) -> Ulps
     requires { 0 < by }
     ensures { (num den frac : ℕ) → 0 < den → digits * den ≡ num * 2 ^ frac * 2 ^ by
-        → IsMagnitude direction (record { num = num; den = den }) frac result }
+        → IsMagnitude mode (record { num = num; den = den }) frac result }
 {
     let (count, lost) = shifted_down(digits, by);
-    rounded_ulps(u128::from(count), lost, direction)
+    rounded_ulps(u128::from(count), lost, mode)
 }
 
 /// Whether a number is above a limit.
@@ -255,8 +255,8 @@ fn exceeds(number: u64, limit: u64) -> bool
 /// The magnitude of digits * 2^by ulps.
 #[inline(always)]
 fn raised_ulps(digits: u64, by: u64) -> Ulps
-    ensures { (direction : Direction) (num den frac : ℕ) → 0 < den → digits * 2 ^ by * den ≡ num * 2 ^ frac
-        → IsMagnitude direction (record { num = num; den = den }) frac result }
+    ensures { (mode : ReadMode) (num den frac : ℕ) → 0 < den → digits * 2 ^ by * den ≡ num * 2 ^ frac
+        → IsMagnitude mode (record { num = num; den = den }) frac result }
 {
     if by >= 64 {
         return Ulps {
@@ -328,30 +328,25 @@ fn binary_ulps(
     exponent: i32,
     scales_by_two: bool,
     frac: u32,
-    direction: Direction,
+    mode: ReadMode,
 ) -> Ulps
     requires bits { bits ≤ 4 }
     requires frac { frac ≤ 64 }
     ensures { (num den : ℕ) → 0 < den → digits * 2 ^ ups bits places exponent scales_by_two * den
         ≡ num * 2 ^ downs bits places exponent scales_by_two
-        → IsMagnitude direction (record { num = num; den = den }) frac result }
+        → IsMagnitude mode (record { num = num; den = den }) frac result }
 {
     let net = net_power(bits, places, exponent, scales_by_two) + i64::from(frac);
     if net >= 0 {
         raised_ulps(digits, net as u64)
     } else {
-        lowered_ulps(digits, (-net) as u64, direction)
+        lowered_ulps(digits, (-net) as u64, mode)
     }
 }
 
 /// The magnitude of a short numeral in ulps of 2^-frac. `None` where its digits have to be looked at.
 #[inline(always)]
-pub fn short_ulps(
-    found: ShortNumeral,
-    radix: Radix,
-    frac: u32,
-    direction: Direction,
-) -> Option<Ulps>
+pub fn short_ulps(found: ShortNumeral, radix: Radix, frac: u32, mode: ReadMode) -> Option<Ulps>
     requires fraction { found.fraction < base radix ^ found.places }
     requires whole { found.whole < base radix ^ 16 }
     requires places { found.places ≤ 27 }
@@ -360,10 +355,10 @@ pub fn short_ulps(
     requires frac { frac ≤ 64 }
     ensures { IfSome result (λ ulps. (p : Parts)
         → IsShortNumeral radix p found.negative found.whole found.fraction found.places found.exponent
-        found.scales_by_two → IsMagnitude direction (magnitude radix p) frac ulps) }
+        found.scales_by_two → IsMagnitude mode (magnitude radix p) frac ulps) }
 {
     match radix {
-        Radix::Dec => decimal_ulps(found, frac, direction),
+        Radix::Dec => decimal_ulps(found, frac, mode),
         _ => {
             let bits = bits_of(radix);
             let digits = binary_digits(found, bits);
@@ -374,7 +369,7 @@ pub fn short_ulps(
                 found.exponent,
                 found.scales_by_two,
                 frac,
-                direction,
+                mode,
             ))
         }
     }

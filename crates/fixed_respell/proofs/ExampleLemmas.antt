@@ -1,6 +1,6 @@
 -- Worked examples, each decided by one computation: what a numeral of known parts reaches, and what its line is answered.
 use Rattle.std.proofs.Common.{◌≡◌, ℕ, ◌+◌, ◌-◌, ◌*◌, ◌%◌, ◌^◌, Bool, true, false, cond, IsTrue, List, [], ◌∷◌, length, Option, Some, None, refl, arith, inl, inr, ℤ, pos}
-use Rattle.std.specs.Prelude.{◌&&◌, ◌||◌, not, eqb, leb, ltb, int_lt, IfSome, ◌<ℤ◌, ◌<◌}
+use Rattle.std.specs.Prelude.{◌≤◌, ◌&&◌, ◌||◌, not, eqb, leb, ltb, int_lt, IfSome, ◌<ℤ◌, ◌<◌}
 use Rattle.std.specs.Bool.{Decides}
 use Rattle.std.specs.Char.{digit_value}
 use Rattle.std.specs.Str.Parse.{AllDigits}
@@ -16,11 +16,12 @@ use Rattle.fixed_bits.specs.Images.{IsImage, IsSaturated, wrap_to_signed, wrap_t
 use Rattle.fixed_bits.specs.Lemmas.InnerLaws.{wrapped_signed, wrapped_unsigned}
 use Rattle.fixed_bits.specs.Nearest.{distance}
 use Rattle.fixed_bits.specs.Ranges.{IsOutOfRange, greatest, lowest}
-use Rattle.fixed_bits.specs.Rounded.{IsRounded}
+use Rattle.fixed_bits.specs.Rounded.{IsNearestGreater, IsNearestLesser, IsNotAbove, IsNotBelow, IsRounded}
 use Rattle.fixed_bits.specs.declared.format.Policy.{Policy}
 use Rattle.fixed_bits.specs.declared.format.Policy.TheVariants.{Checked, Saturating, Wrapping}
 use Rattle.fixed_bits.specs.declared.mode.ReadMode.{ReadMode}
 use Rattle.fixed_bits.specs.declared.mode.ReadMode.TheVariants.{NearestEven, Floor, Ceil, TowardsZero}
+use Rattle.fixed_bits.specs.declared.mode.ReadMode.TheVariants.{AwayFromZero, NearestAway, NearestDown, NearestUp, NearestZero}
 use Rattle.fixed_numeral.specs.Numeral.{Exponent, HasNumeral, IsExponentOf, Parts, base, exponent_number, fractional_digits, is_minus, is_separator, is_sign, mantissa, signed, text_of}
 use Rattle.fixed_numeral.specs.Value.{magnitude}
 use Rattle.fixed_numeral.specs.declared.radix.Radix.{Radix}
@@ -94,29 +95,72 @@ is_not_above num den q = leb (q * den) num && ltb num ((q + 1) * den)
 abbrev is_not_below : ℕ → ℕ → ℕ → Bool
 is_not_below num den q = leb num (q * den) && ltb (q * den) (num + den)
 
+-- at most half of den away, and where it is half of it, by the test
+abbrev is_nearest_by : Bool → ℕ → ℕ → ℕ → Bool
+is_nearest_by at_tie num den q = leb (2 * distance num (q * den)) den && (ltb (2 * distance num (q * den)) den || at_tie)
+
+abbrev is_greater : ℕ → ℕ → ℕ → Bool
+is_greater num den q = is_nearest_by (leb num (q * den)) num den q
+
+abbrev is_lesser : ℕ → ℕ → ℕ → Bool
+is_lesser num den q = is_nearest_by (leb (q * den) num) num den q
+
 abbrev is_rounded : ReadMode → Bool → ℕ → ℕ → ℕ → Bool
-is_rounded NearestEven negative num den q = leb (2 * distance num (q * den)) den && (ltb (2 * distance num (q * den)) den || eqb (q % 2) 0)
-is_rounded TowardsZero negative num den q = is_not_above num den q
+is_rounded NearestEven negative num den q = is_nearest_by (eqb (q % 2) 0) num den q
+is_rounded NearestAway negative num den q = is_greater num den q
+is_rounded NearestZero negative num den q = is_lesser num den q
+is_rounded NearestUp false num den q = is_greater num den q
+is_rounded NearestUp true num den q = is_lesser num den q
+is_rounded NearestDown false num den q = is_lesser num den q
+is_rounded NearestDown true num den q = is_greater num den q
 is_rounded Floor false num den q = is_not_above num den q
 is_rounded Floor true num den q = is_not_below num den q
 is_rounded Ceil false num den q = is_not_below num den q
 is_rounded Ceil true num den q = is_not_above num den q
+is_rounded TowardsZero negative num den q = is_not_above num den q
+is_rounded AwayFromZero negative num den q = is_not_below num den q
 
-rounded : (mode : ReadMode) (negative : Bool) (num den q : ℕ) → is_rounded mode negative num den q ≡ true → IsRounded mode negative num den q
-rounded NearestEven negative num den q e =
-    let h = and_parts (leb (2 * distance num (q * den)) den) (ltb (2 * distance num (q * den)) den || eqb (q % 2) 0) e in
+record Near (at_tie : Bool) (num den q : ℕ) : Type 0 where
+  near : 2 * distance num (q * den) ≤ den
+  tie : 2 * distance num (q * den) ≡ den → at_tie ≡ true
+
+near_by : (at_tie : Bool) (num den q : ℕ) → is_nearest_by at_tie num den q ≡ true → Near at_tie num den q
+near_by at_tie num den q e =
+    let h = and_parts (leb (2 * distance num (q * den)) den) (ltb (2 * distance num (q * den)) den || at_tie) e in
     record {
       near = leb-true _ _ h.0;
-      tie = λ same. elim (or_cases (ltb (2 * distance num (q * den)) den) (eqb (q % 2) 0) h.1) [
+      tie = λ same. elim (or_cases (ltb (2 * distance num (q * den)) den) at_tie h.1) [
         | inl less ↦ let l = ltb-true (2 * distance num (q * den)) den less in absurd (omega (arith, same, l))
-        | inr even ↦ eqb-true (q % 2) 0 even
+        | inr tied ↦ tied
       ];
     }
-rounded TowardsZero negative num den q e = let h = and_parts _ _ e in record { at_most = leb-true _ _ h.0; next = ltb-true _ _ h.1 }
-rounded Floor false num den q e = let h = and_parts _ _ e in record { at_most = leb-true _ _ h.0; next = ltb-true _ _ h.1 }
-rounded Floor true num den q e = let h = and_parts _ _ e in record { at_least = leb-true _ _ h.0; before = ltb-true _ _ h.1 }
-rounded Ceil false num den q e = let h = and_parts _ _ e in record { at_least = leb-true _ _ h.0; before = ltb-true _ _ h.1 }
-rounded Ceil true num den q e = let h = and_parts _ _ e in record { at_most = leb-true _ _ h.0; next = ltb-true _ _ h.1 }
+
+greater : (num den q : ℕ) → is_greater num den q ≡ true → IsNearestGreater num den q
+greater num den q e = let h = near_by (leb num (q * den)) num den q e in record { near = h.near; tie = λ same. leb-true num (q * den) (h.tie same) }
+
+lesser : (num den q : ℕ) → is_lesser num den q ≡ true → IsNearestLesser num den q
+lesser num den q e = let h = near_by (leb (q * den) num) num den q e in record { near = h.near; tie = λ same. leb-true (q * den) num (h.tie same) }
+
+not_above : (num den q : ℕ) → is_not_above num den q ≡ true → IsNotAbove num den q
+not_above num den q e = let h = and_parts _ _ e in record { at_most = leb-true _ _ h.0; next = ltb-true _ _ h.1 }
+
+not_below : (num den q : ℕ) → is_not_below num den q ≡ true → IsNotBelow num den q
+not_below num den q e = let h = and_parts _ _ e in record { at_least = leb-true _ _ h.0; before = ltb-true _ _ h.1 }
+
+rounded : (mode : ReadMode) (negative : Bool) (num den q : ℕ) → is_rounded mode negative num den q ≡ true → IsRounded mode negative num den q
+rounded NearestEven negative num den q e = let h = near_by (eqb (q % 2) 0) num den q e in record { near = h.near; tie = λ same. eqb-true (q % 2) 0 (h.tie same) }
+rounded NearestAway negative num den q e = greater num den q e
+rounded NearestZero negative num den q e = lesser num den q e
+rounded NearestUp false num den q e = greater num den q e
+rounded NearestUp true num den q e = lesser num den q e
+rounded NearestDown false num den q e = lesser num den q e
+rounded NearestDown true num den q e = greater num den q e
+rounded Floor false num den q e = not_above num den q e
+rounded Floor true num den q e = not_below num den q e
+rounded Ceil false num den q e = not_below num den q e
+rounded Ceil true num den q e = not_above num den q e
+rounded TowardsZero negative num den q e = not_above num den q e
+rounded AwayFromZero negative num den q e = not_below num den q e
 
 -- ---- images
 abbrev is_out : Bool → ℕ → ℤ → Bool

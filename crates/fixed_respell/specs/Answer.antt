@@ -14,7 +14,7 @@ use Rattle.fixed_respell.specs.Reached.{IsRespelled, IsRefusal}
 use Rattle.line_engine.specs.AnswerText.{AnswerText}
 use Rattle.fixed_write.specs.Texts.{IsShortestText}
 use Rattle.fixed_respell.specs.FormatNames.{IsFormatName}
-use Rattle.fixed_respell.specs.Words.{radix_text, IsFormatWord, IsPlainWord, IsPolicyWord}
+use Rattle.fixed_respell.specs.Words.{radix_text, IsFormatWord, IsPlainWord, IsPolicyName, IsPolicyWord}
 use Rattle.fixed_respell.specs.declared.fault.LineFault.{LineFault}
 use Rattle.fixed_respell.specs.declared.fault.LineFault.TheVariants.{LineTooLong, MissingField, BadRadix, BadSource}
 use Rattle.fixed_respell.specs.declared.fault.LineFault.TheVariants.{BadTarget, BadPolicy}
@@ -22,7 +22,7 @@ use Rattle.fixed_respell.specs.declared.fault.LineFault.TheVariants.{BadTarget, 
 -- ---- the faults of a line
 -- Which format a word names, and which policy and which mode a fourth word names, are parameters of what follows. In
 -- the programs of lines they are `IsFormatWord` and `IsPolicyWord`, and without mode words `IsPlainWord`; with formats
--- of any width the first is `IsFormatName`.
+-- of any width and all modes they are `IsFormatName` and `IsPolicyName`.
 
 -- a word names a radix
 abbrev pub NamesRadix : List ℕ → Type 0
@@ -164,6 +164,6 @@ IsAnswer = IsAnswerIn (respell_language IsFormatWord IsPolicyWord)
 abbrev pub IsPlainAnswer : List ℕ → AnswerText → Type 0
 IsPlainAnswer = IsAnswerIn (respell_language IsFormatWord IsPlainWord)
 
--- and the answer with mode words, where a format is of any width and has any of its names
+-- and where a format is of any width and has any of its names, and a mode is any
 abbrev pub IsNamedAnswer : List ℕ → AnswerText → Type 0
-IsNamedAnswer = IsAnswerIn (respell_language IsFormatName IsPolicyWord)
+IsNamedAnswer = IsAnswerIn (respell_language IsFormatName IsPolicyName)

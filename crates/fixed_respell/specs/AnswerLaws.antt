@@ -28,11 +28,11 @@ FormatWordIsAName = (word : List ℕ) (f : FormatParts) → IsFormatWord word f 
 abbrev pub AnswerIsTheOne : Type 0
 AnswerIsTheOne = (line : List ℕ) (a b : AnswerText) → IsAnswer line a → IsAnswer line b → a ≡ b
 
--- so it is where formats have any of their names
+-- so it is with all names of formats and all modes
 abbrev pub NamedAnswerIsTheOne : Type 0
 NamedAnswerIsTheOne = (line : List ℕ) (a b : AnswerText) → IsNamedAnswer line a → IsNamedAnswer line b → a ≡ b
 
--- and a line that asks for a task by the words of formats has the same answer
+-- and a line that asks for a task by the words of the programs has the same answer
 abbrev pub NamedAnswerIsTheAnswer : Type 0
 NamedAnswerIsTheAnswer = (line : List ℕ) (t : Task) (reply : AnswerText) → Asks line t
     → IsNamedAnswer line reply ↔ IsAnswer line reply

@@ -6,6 +6,7 @@ pub mod FormatNames
 pub mod SelfMode
 pub mod SelfLaws
 pub mod Reached
+pub mod Refusal
 pub mod Answer
 pub mod Laws
 pub mod Command
@@ -23,3 +24,4 @@ pub use Rattle.line_engine.specs.Memory
 pub use Rattle.line_engine.specs.Output
 pub use Rattle.line_engine.specs.Run
 pub use Rattle.line_engine.specs.Status
+pub use Rattle.run_engine.specs.Reply

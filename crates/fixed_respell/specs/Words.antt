@@ -1,10 +1,12 @@
 -- The words of a line.
-use Rattle.std.specs.Prelude.{◌≡◌, ℕ, ◌-◌, ◌⊎◌, Bool, true, false, List, ◌∷◌, ◌++◌, codes, decimal}
+use Rattle.std.specs.Prelude.{◌≡◌, ℕ, ◌-◌, ◌⊎◌, Bool, true, false, IsTrue, List, ◌∷◌, ◌++◌, codes, decimal}
 use Rattle.fixed_bits.specs.Formats.{FormatParts, IsTypeFormat}
 use Rattle.fixed_bits.specs.declared.format.Policy.{Policy}
 use Rattle.fixed_bits.specs.declared.format.Policy.TheVariants.{Checked, Saturating, Wrapping}
 use Rattle.fixed_bits.specs.declared.mode.ReadMode.{ReadMode}
 use Rattle.fixed_bits.specs.declared.mode.ReadMode.TheVariants.{NearestEven, Floor, Ceil, TowardsZero}
+use Rattle.fixed_bits.specs.declared.mode.ReadMode.TheVariants.{NearestAway, NearestZero, NearestUp, NearestDown}
+use Rattle.fixed_bits.specs.declared.mode.ReadMode.TheVariants.{AwayFromZero}
 use Rattle.fixed_numeral.specs.declared.radix.Radix.{Radix}
 use Rattle.fixed_numeral.specs.declared.radix.Radix.TheVariants.{Bin, Oct, Dec, Hex}
 
@@ -42,9 +44,30 @@ policy_text Wrapping = codes "wrapping"
 -- the word of a mode
 abbrev pub mode_text : ReadMode → List ℕ
 mode_text NearestEven = codes "nearest"
+mode_text NearestAway = codes "ties-away"
+mode_text NearestZero = codes "ties-zero"
+mode_text NearestUp = codes "ties-up"
+mode_text NearestDown = codes "ties-down"
 mode_text Floor = codes "floor"
 mode_text Ceil = codes "ceil"
 mode_text TowardsZero = codes "zero"
+mode_text AwayFromZero = codes "away"
+
+-- whether a line can name the mode
+abbrev pub is_line_mode : ReadMode → Bool
+is_line_mode NearestEven = true
+is_line_mode NearestAway = false
+is_line_mode NearestZero = false
+is_line_mode NearestUp = false
+is_line_mode NearestDown = false
+is_line_mode Floor = true
+is_line_mode Ceil = true
+is_line_mode TowardsZero = true
+is_line_mode AwayFromZero = false
+
+-- word names the mode, in a line
+abbrev pub IsModeWord : List ℕ → ReadMode → Type 0
+IsModeWord word mode = (word ≡ mode_text mode) × IsTrue (is_line_mode mode)
 
 -- '/', between a policy and a mode
 abbrev pub slash : ℕ
@@ -54,6 +77,11 @@ slash = 47
 abbrev pub IsPlainWord : List ℕ → Policy → ReadMode → Type 0
 IsPlainWord word policy mode = (word ≡ policy_text policy) × (mode ≡ NearestEven)
 
--- word names the policy, and the mode, which is NearestEven where it names none
+-- word names the policy and the mode, any of the nine; the mode is NearestEven where it names none
+abbrev pub IsPolicyName : List ℕ → Policy → ReadMode → Type 0
+IsPolicyName word policy mode = IsPlainWord word policy mode ⊎ (word ≡ policy_text policy ++ slash ∷ mode_text mode)
+
+-- word does so in a line, which can name four of the modes
 abbrev pub IsPolicyWord : List ℕ → Policy → ReadMode → Type 0
-IsPolicyWord word policy mode = IsPlainWord word policy mode ⊎ (word ≡ policy_text policy ++ slash ∷ mode_text mode)
+IsPolicyWord word policy mode = IsPlainWord word policy mode
+    ⊎ ((word ≡ policy_text policy ++ slash ∷ mode_text mode) × IsTrue (is_line_mode mode))

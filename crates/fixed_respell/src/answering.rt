@@ -6,13 +6,24 @@ ghost use Rattle.std.specs.Fmt.{signed_decimal};
 ghost use Rattle.fixed_bits.specs.Numbers.{number_of_image};
 ghost use Rattle.fixed_write.specs.Texts.{IsShortestText, shortest_text};
 ghost use Rattle.line_engine.specs.Output.{AppendsAnswer};
-ghost use Rattle.fixed_respell.specs.Answer.{Asks, IsAnswer, IsFirstFault, respelled_answer, task_of, verdict};
+ghost use Rattle.run_engine.specs.Reply.{Replies};
+ghost use Rattle.fixed_respell.specs.Answer.{
+  Asks,
+  IsAnswer,
+  IsFirstFault,
+  fault_message,
+  respelled_answer,
+  task_of,
+  verdict,
+};
 ghost use Rattle.fixed_respell.specs.Language.{fault_answer};
 ghost use Rattle.fixed_respell.specs.LineWords.{longest_line, space};
+ghost use Rattle.fixed_respell.specs.Refusal.{refusal_message};
 
 use crate::Answer;
 use crate::fault::LineFault;
 use crate::fields::split_line;
+use crate::refusal::Refusal;
 use crate::respelling::{Task, reach};
 use crate::words::{format_word, policy_word, radix_word};
 use fixed_bits::Image;
@@ -125,7 +136,31 @@ pub fn push_respelled<const N: usize, L: Ledger>(
     push_verdict(out, reached.is_out_of_range);
 }
 
-/// Appends the answer to a line, without a newline, and answers whether it names a fault.
+/// Appends the answer to a line, without a newline; or appends nothing and returns why the line is refused.
+#[inline]
+pub fn answer_or_refuse<const N: usize, L: Ledger>(
+    line: &[u8],
+    out: &mut TextBuffer<N>,
+    steps: &mut Steps<L>,
+) -> Option<Refusal<LineFault>>
+    requires room { length out.old + MAX_ANSWER ≤ N }
+    ensures answer { Replies IsAnswer (refusal_message fault_message) MAX_ANSWER line.now out.old out.new result }
+    ensures cost { steps.new ≤ steps.old + 8 * length line.now + 624 }
+{
+    let task = match read_task(line) {
+        Ok(task) => task,
+        Err(fault) => return Some(Refusal::Line(fault)),
+    };
+    match reach(line, &task, steps) {
+        Ok(reached) => {
+            push_respelled(out, reached, task.target.frac(), steps);
+            None
+        }
+        Err(error) => Some(Refusal::Numeral(error)),
+    }
+}
+
+/// Appends the answer to a line, without a newline. Returns whether the line is refused.
 #[inline]
 pub fn append_answer<const N: usize, L: Ledger>(
     line: &[u8],
@@ -136,20 +171,10 @@ pub fn append_answer<const N: usize, L: Ledger>(
     ensures answer { AppendsAnswer IsAnswer MAX_ANSWER line.now out.old out.new result }
     ensures cost { steps.new ≤ steps.old + 8 * length line.now + 624 }
 {
-    let task = match read_task(line) {
-        Ok(task) => task,
-        Err(fault) => {
-            push_fault(out, fault.words());
-            return true;
-        }
-    };
-    match reach(line, &task, steps) {
-        Ok(reached) => {
-            push_respelled(out, reached, task.target.frac(), steps);
-            false
-        }
-        Err(error) => {
-            push_fault(out, error.message());
+    match answer_or_refuse(line, out, steps) {
+        None => false,
+        Some(refusal) => {
+            push_fault(out, refusal.words());
             true
         }
     }

@@ -16,6 +16,8 @@ ghost use Rattle.fixed_respell.specs.AnswerLaws.{
 };
 ghost use Rattle.fixed_bits.specs.declared.format.Policy.TheVariants.{Checked, Saturating, Wrapping};
 ghost use Rattle.fixed_bits.specs.declared.mode.ReadMode.TheVariants.{NearestEven, Floor, Ceil, TowardsZero};
+ghost use Rattle.fixed_bits.specs.declared.mode.ReadMode.TheVariants.{AwayFromZero, NearestAway, NearestDown};
+ghost use Rattle.fixed_bits.specs.declared.mode.ReadMode.TheVariants.{NearestUp, NearestZero};
 ghost use Rattle.fixed_numeral.specs.declared.radix.Radix.TheVariants.{Bin, Oct, Dec, Hex};
 ghost use Rattle.fixed_respell.specs.Reached.{IsRespelled, OverflowsOn};
 ghost use Rattle.fixed_respell.specs.Examples.{unsigned_format, signed_format};
@@ -91,6 +93,16 @@ pub fn worked_examples()
         (negsuc 1) false }
     ensures towards_zero_below_zero { IsRespelled TowardsZero Dec (codes "-2.5") Checked (signed_format 8 0)
         (signed_format 8 0) (negsuc 1) false }
+    ensures tie_away_from_zero { IsRespelled NearestAway Dec (codes "-2.5") Checked (signed_format 8 0)
+        (signed_format 8 0) (negsuc 2) false }
+    ensures tie_towards_zero { IsRespelled NearestZero Dec (codes "-2.5") Checked (signed_format 8 0)
+        (signed_format 8 0) (negsuc 1) false }
+    ensures tie_up_below_zero { IsRespelled NearestUp Dec (codes "-2.5") Checked (signed_format 8 0)
+        (signed_format 8 0) (negsuc 1) false }
+    ensures tie_down_below_zero { IsRespelled NearestDown Dec (codes "-2.5") Checked (signed_format 8 0)
+        (signed_format 8 0) (negsuc 2) false }
+    ensures away_from_zero { IsRespelled AwayFromZero Dec (codes "-2.1") Checked (signed_format 8 0)
+        (signed_format 8 0) (negsuc 2) false }
     ensures saturates_below { IsRespelled NearestEven Dec (codes "-300") Saturating (signed_format 8 0)
         (signed_format 8 0) (negsuc 127) true }
     ensures negative_wraps { IsRespelled NearestEven Dec (codes "-1") Wrapping (unsigned_format 8 0)

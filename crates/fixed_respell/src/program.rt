@@ -14,9 +14,10 @@ ghost use Rattle.fixed_respell.specs.declared.command.Command.TheVariants.{Read,
 
 use crate::command::{Command, read_command};
 use crate::self_mode::run_self;
-use crate::{RespellRule, Sink, Source, Status, run_lines};
+use crate::{RespellRule, Sink, Source, Status};
 use fixed_steps::Steps;
 use line_engine::write_text;
+use run_engine::run_lines;
 use std::alloc::Global;
 use std::sync::ledger::Ledger;
 

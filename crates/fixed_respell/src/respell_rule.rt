@@ -4,16 +4,21 @@ ghost use Rattle.std.proofs.Common.{lit<};
 ghost use Rattle.fixed_respell.specs.Answer.{IsAnswer};
 ghost use Rattle.fixed_respell.specs.Lemmas.AnswerLemmas.{answer_one, long_by_its_prefix};
 
-use crate::answering::append_answer;
+use crate::answering::answer_or_refuse;
+use crate::fault::LineFault;
+use crate::refusal::Refusal;
 use fixed_steps::Steps;
-use line_engine::{LineRule, MAX_ANSWER, Output};
+use line_engine::{MAX_ANSWER, Output};
+use run_engine::{LineRule, Rule};
 use std::sync::ledger::Ledger;
 
 /// The rule that answers a line as `answer` does.
 #[derive(Clone, Copy, Debug, PartialEq, Eq)]
 pub struct RespellRule;
 
-impl<L: Ledger> LineRule<L> for RespellRule {
+impl<L: Ledger> Rule<L> for RespellRule {
+    type Cause = Refusal<LineFault>;
+
     const PER_BYTE: u64 = 8;
 
     const EXTRA: u64 = 624;
@@ -28,13 +33,20 @@ impl<L: Ledger> LineRule<L> for RespellRule {
 
     ghost Answers = { λ rule. IsAnswer };
 
-    fn answer(&self, line: &[u8], out: &mut Output, steps: &mut Steps<L>) -> bool {
-        append_answer(line, out, steps)
+    fn answer(
+        &self,
+        line: &[u8],
+        out: &mut Output,
+        steps: &mut Steps<L>,
+    ) -> Option<Refusal<LineFault>> {
+        answer_or_refuse(line, out, steps)
     }
 
     ghost room_law = { lit< tt };
 
     ghost one_law = { λ rule. answer_one };
+}
 
+impl<L: Ledger> LineRule<L> for RespellRule {
     ghost kept_law = { λ rule. long_by_its_prefix };
 }

@@ -8,7 +8,7 @@ ghost use Rattle.fixed_numeral.specs.declared.radix.Radix.{Radix};
 ghost use Rattle.fixed_respell.specs.Inner.Places.{HasBytes, IsBothNames, policy_of_place, radix_of_place};
 ghost use Rattle.fixed_respell.specs.FormatNames.{IsFormatName};
 ghost use Rattle.fixed_respell.specs.Words.{IsFormatWord, IsPolicyWord, format_text};
-ghost use Rattle.fixed_respell.specs.Words.{mode_text, policy_text, radix_text};
+ghost use Rattle.fixed_respell.specs.Words.{IsModeWord, policy_text, radix_text};
 ghost use Rattle.fixed_respell.specs.Words.{sign_letter};
 
 use crate::format_table::{counts_of_key, four_bytes, key_of};
@@ -130,9 +130,9 @@ fn named_policy(name: &[u8]) -> Option<Policy>
     }
 }
 
-/// The mode of this name.
+/// The mode of this name, one of the four that a line can name.
 fn named_mode(name: &[u8]) -> Option<ReadMode>
-    ensures { MatchOption result ((m : ReadMode) → ¬ (name.now ≡ mode_text m)) (λ m. name.now ≡ mode_text m) }
+    ensures { MatchOption result ((m : ReadMode) → ¬ IsModeWord name.now m) (λ m. IsModeWord name.now m) }
 {
     match name {
         b"nearest" => Some(ReadMode::NearestEven),

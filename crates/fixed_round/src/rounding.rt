@@ -1,6 +1,7 @@
 //! The four roundings.
 
-/// Which of the two whole numbers around a value it is rounded to.
+/// Which of the two whole numbers around a value it is rounded to: the four roundings of the crate `fixed`, by its
+/// names, and so another enum than `ReadMode`, in which `Round` is NearestAway.
 #[derive(Clone, Copy, Debug, PartialEq, Eq)]
 pub enum Rounding {
     /// The least whole number that is not below the value.

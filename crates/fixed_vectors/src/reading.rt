@@ -32,9 +32,22 @@ pub fn read<I: Inner, const FRAC: u32>(
 {
     match mode {
         "nearest" => read_nearest(rt, zero, form, radix, text),
-        "floor" => read_in_mode(rt, zero, form, ReadMode::Floor, radix_of(radix), text),
-        "ceil" => read_in_mode(rt, zero, form, ReadMode::Ceil, radix_of(radix), text),
-        _ => read_in_mode(rt, zero, form, ReadMode::TowardsZero, radix_of(radix), text),
+        other => read_in_mode(rt, zero, form, mode_of(other), radix_of(radix), text),
+    }
+}
+
+/// The mode of a word, any of the nine.
+pub fn mode_of(word: &str) -> ReadMode {
+    match word {
+        "ties-away" => ReadMode::NearestAway,
+        "ties-zero" => ReadMode::NearestZero,
+        "ties-up" => ReadMode::NearestUp,
+        "ties-down" => ReadMode::NearestDown,
+        "floor" => ReadMode::Floor,
+        "ceil" => ReadMode::Ceil,
+        "zero" => ReadMode::TowardsZero,
+        "away" => ReadMode::AwayFromZero,
+        _ => ReadMode::NearestEven,
     }
 }
 

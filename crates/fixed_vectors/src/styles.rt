@@ -7,7 +7,9 @@
 //! - `shortest BITS FRAC`
 //! - `integer BITS`
 
+use crate::reading::mode_of;
 use crate::style_words::{base_word, bits_word, number_words, small_word, style_words};
+use fixed_bits::ReadMode;
 use fixed_steps::Steps;
 use fixed_write::{push_decimal, push_exact, push_integer, push_shortest, to_text};
 use std::alloc::{AllocError, Global};
@@ -30,7 +32,7 @@ pub(crate) fn text_of<L: Ledger>(
     let (call, words) = line.split_once(' ').unwrap_or((line, ""));
     match call {
         "text" => Ok(Some(styled(alloc, &mut words.split(' '))?)),
-        "decimal" | "exact" | "shortest" | "integer" => Ok(Some(text_in_place(
+        "decimal" | "rounded" | "exact" | "shortest" | "integer" => Ok(Some(text_in_place(
             alloc, line, steps,
         )?)),
         _ => Ok(None),
@@ -77,7 +79,11 @@ fn in_place<L: Ledger>(
     match call {
         "integer" => integer_in_place(words, place),
         "shortest" => shortest_in_place(words, place, steps),
-        "decimal" => decimal_in_place(words, place),
+        "decimal" => decimal_in_place(words, place, ReadMode::NearestEven),
+        "rounded" => {
+            let mode = mode_of(words.next()?);
+            decimal_in_place(words, place, mode)
+        }
         "exact" => exact_in_place(words, place),
         _ => None,
     }
@@ -101,11 +107,11 @@ fn shortest_in_place<L: Ledger>(
     Some(())
 }
 
-fn decimal_in_place(words: &mut Split<'_, char>, place: &mut Place) -> Option<()> {
+fn decimal_in_place(words: &mut Split<'_, char>, place: &mut Place, mode: ReadMode) -> Option<()> {
     let places = small_word(words.next()?)?;
     let (bits, frac) = number_words(words)?;
     place.clear();
-    push_decimal(place, bits, frac, places);
+    push_decimal(place, bits, frac, places, mode);
     Some(())
 }
 

@@ -9,7 +9,7 @@ use Rattle.line_engine.specs.Failures.{HasFailed}
 use Rattle.line_engine.specs.Run.{HasFailures}
 use Rattle.line_engine.specs.declared.status.Status.{Status}
 use Rattle.line_engine.specs.declared.status.Status.TheVariants.{Done, Faults, Usage, ReadFault, WriteFault, NoMemory, TooLong}
-use Rattle.fixed_command.specs.declared.convert.Settings.{Settings}
+use Rattle.fixed_words.specs.declared.rule.WordRule.{WordRule}
 use Rattle.fixed_words.specs.Inner.Progress.{EndsBy, EndsWord, HasEndFailures, HasWorded, HasWritten, IsEnd}
 use Rattle.fixed_words.specs.Run.{BreaksAtEnd, HasWordsRun, WritesEnded, WritesText}
 use Rattle.fixed_words.specs.Words.{IsWorded, any_refused, written_of}
@@ -18,10 +18,10 @@ use Rattle.fixed_words.proofs.WordLemmas.{reply_kept}
 
 -- ---- the last word
 -- what is made of a text, with the last word
-answer_of : (s : Settings) (whole sent : List ℕ) (old mid : Words) → HasWorded s whole sent old → EndsWord s old.word old mid → AnswerText
+answer_of : (s : WordRule) (whole sent : List ℕ) (old mid : Words) → HasWorded s whole sent old → EndsWord s old.word old mid → AnswerText
 answer_of s whole sent old mid h e = record { text = written_of h.words ++ e.reply.text; fault = any_refused h.words || e.reply.fault }
 
-worded : (s : Settings) (whole sent : List ℕ) (old mid : Words) (h : HasWorded s whole sent old) (e : EndsWord s old.word old mid) → IsWorded s whole (answer_of s whole sent old mid h e)
+worded : (s : WordRule) (whole sent : List ℕ) (old mid : Words) (h : HasWorded s whole sent old) (e : EndsWord s old.word old mid) → IsWorded s whole (answer_of s whole sent old mid h e)
 unfolding answer_of
 worded s whole sent old mid h e = record {
   words = h.words;
@@ -35,17 +35,17 @@ worded s whole sent old mid h e = record {
   fault_is = refl;
 }
 
-text_of : (s : Settings) (whole sent : List ℕ) (old mid : Words) (h : HasWorded s whole sent old) (e : EndsWord s old.word old mid) → old.out ≡ [] → sent ++ mid.out ≡ (answer_of s whole sent old mid h e).text
+text_of : (s : WordRule) (whole sent : List ℕ) (old mid : Words) (h : HasWorded s whole sent old) (e : EndsWord s old.word old mid) → old.out ≡ [] → sent ++ mid.out ≡ (answer_of s whole sent old mid h e).text
 unfolding answer_of
 text_of s whole sent old mid h e none =
     let text : List ℕ = e.reply.text in
     ap (λ l. sent ++ l) (e.out ∙ ap (λ l. l ++ text) none) ∙ ap (λ l. l ++ text) (sym (h.held ∙ (ap (λ l. sent ++ l) none ∙ append-nil sent)))
 
-fault_of : (s : Settings) (whole sent : List ℕ) (old mid : Words) (h : HasWorded s whole sent old) (e : EndsWord s old.word old mid) → (answer_of s whole sent old mid h e).fault ≡ mid.has_fault
+fault_of : (s : WordRule) (whole sent : List ℕ) (old mid : Words) (h : HasWorded s whole sent old) (e : EndsWord s old.word old mid) → (answer_of s whole sent old mid h e).fault ≡ mid.has_fault
 unfolding answer_of
 fault_of s whole sent old mid h e = sym (e.fault ∙ ap (λ f. f || e.reply.fault) h.faulty)
 
-pub all_done : (s : Settings) (whole : List ℕ) (a b c : Option (List ℕ)) (old mid : Words) (fault : Bool) → HasWritten s whole a b old → EndsWord s old.word old mid → Appends b c mid.out → fault ≡ mid.has_fault → WritesText s whole a c fault
+pub all_done : (s : WordRule) (whole : List ℕ) (a b c : Option (List ℕ)) (old mid : Words) (fault : Bool) → HasWritten s whole a b old → EndsWord s old.word old mid → Appends b c mid.out → fault ≡ mid.has_fault → WritesText s whole a c fault
 all_done s whole a b c old mid fault h e last is = record {
   answer = answer_of s whole h.sent old mid h.worded e;
   is = worded s whole h.sent old mid h.worded e;
@@ -53,7 +53,7 @@ all_done s whole a b c old mid fault h e last is = record {
   faulty = fault_of s whole h.sent old mid h.worded e ∙ sym is;
 }
 
-pub part_done : (s : Settings) (whole : List ℕ) (a b c : Option (List ℕ)) (old mid : Words) → HasWritten s whole a b old → EndsWord s old.word old mid → AppendsPrefix b c mid.out → BreaksAtEnd s whole a c
+pub part_done : (s : WordRule) (whole : List ℕ) (a b c : Option (List ℕ)) (old mid : Words) → HasWritten s whole a b old → EndsWord s old.word old mid → AppendsPrefix b c mid.out → BreaksAtEnd s whole a c
 part_done s whole a b c old mid h e last = record {
   answer = answer_of s whole h.sent old mid h.worded e;
   is = worded s whole h.sent old mid h.worded e;
@@ -66,7 +66,7 @@ part_done s whole a b c old mid h e last = record {
 }
 
 -- ---- how a run ends
-pub ends_by : (s : Settings) (whole : List ℕ) (a b : Option (List ℕ)) (fault : Bool) (st : Status) → IsEnd fault st → WritesText s whole a b fault → EndsBy s whole a b st
+pub ends_by : (s : WordRule) (whole : List ℕ) (a b : Option (List ℕ)) (fault : Bool) (st : Status) → IsEnd fault st → WritesText s whole a b fault → EndsBy s whole a b st
 ends_by s whole a b true st end h = let P : Status → Type 0 = EndsBy s whole a b in subst P (sym end) h
 ends_by s whole a b false st end h = let P : Status → Type 0 = EndsBy s whole a b in subst P (sym end) h
 
@@ -74,7 +74,7 @@ pub end_failures : (f f' : ℕ) (fault : Bool) (st : Status) → IsEnd fault st 
 end_failures f f' true st end same = subst (λ t. HasEndFailures f f' t) (sym end) same
 end_failures f f' false st end same = subst (λ t. HasEndFailures f f' t) (sym end) same
 
-pub ended_run : (s : Settings) (bytes : List ℕ) (l l' w w' : Option (List ℕ)) (st : Status) → Consumes l l' bytes → IsAtEnd l' → EndsBy s bytes w w' st → HasWordsRun s l l' w w' st
+pub ended_run : (s : WordRule) (bytes : List ℕ) (l l' w w' : Option (List ℕ)) (st : Status) → Consumes l l' bytes → IsAtEnd l' → EndsBy s bytes w w' st → HasWordsRun s l l' w w' st
 ended_run s bytes l l' w w' Done taken last e = record { input = bytes; taken = taken; at_end = last; writes = e }
 ended_run s bytes l l' w w' Faults taken last e = record { input = bytes; taken = taken; at_end = last; writes = e }
 ended_run s bytes l l' w w' Usage taken last e = absurd e
@@ -92,7 +92,7 @@ ended_failures r r' w w' w'' WriteFault e f h = (e, subst (λ x. HasFailed x w''
 ended_failures r r' w w' w'' NoMemory e f h = absurd h
 ended_failures r r' w w' w'' TooLong e f h = absurd h
 
-pub ended_written : (s : Settings) (whole : List ℕ) (a b : Option (List ℕ)) (u : Words) → HasWritten s whole a b u → WritesEnded s whole a b
+pub ended_written : (s : WordRule) (whole : List ℕ) (a b : Option (List ℕ)) (u : Words) → HasWritten s whole a b u → WritesEnded s whole a b
 ended_written s whole a b u h = record {
   words = h.worded.words;
   are = h.worded.are;
@@ -102,7 +102,7 @@ ended_written s whole a b u h = record {
   output = subst (λ l. Appends a b l) (sym (h.worded.held ∙ (ap (λ l. h.sent ++ l) h.none ∙ append-nil h.sent))) h.output;
 }
 
-pub first_written : (s : Settings) (u : Words) (a : Option (List ℕ)) → HasWorded s [] [] u → u.out ≡ [] → HasWritten s [] a a u
+pub first_written : (s : WordRule) (u : Words) (a : Option (List ℕ)) → HasWorded s [] [] u → u.out ≡ [] → HasWritten s [] a a u
 first_written s u a h none = record { sent = []; worded = h; none = none; output = Appends-nil a }
 
 -- ---- bytes that were taken

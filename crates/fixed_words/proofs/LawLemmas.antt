@@ -2,21 +2,23 @@
 use Rattle.std.proofs.Common.{◌≡◌, ◌∙◌, ◌||◌, ℕ, Bool, true, false, List, [], ◌∷◌, ◌++◌, refl, sym, ap, subst, append_assoc, true≢false}
 use Rattle.line_engine.specs.AnswerText.{AnswerText}
 use Rattle.fixed_command.specs.Lemmas.ReplyLemmas.{reply_one}
-use Rattle.fixed_command.specs.declared.convert.Settings.{Settings}
+use Rattle.fixed_words.specs.declared.rule.WordRule.{WordRule}
 use Rattle.fixed_words.specs.Laws.{WordedIsTheOne}
-use Rattle.fixed_words.specs.Words.{AreEnded, Ended, HasNoSeparator, IsWordReply, any_refused, bytes_of, is_separator, written_of}
+use Rattle.fixed_words.specs.Words.{AreEnded, Ended, HasNoSeparator, IsWordReply, answer_of, any_refused, bytes_of, is_separator, written_of}
 
-word_reply_one : (s : Settings) (word : List ℕ) (a b : AnswerText) → IsWordReply s word a → IsWordReply s word b → a ≡ b
+word_reply_one : (s : WordRule) (word : List ℕ) (a b : AnswerText) → IsWordReply s word a → IsWordReply s word b → a ≡ b
 word_reply_one s [] a b x y = x ∙ sym y
-word_reply_one s (c ∷ cs) a b x y = reply_one s (c ∷ cs) a b x y
+word_reply_one s (c ∷ cs) a b x y =
+    let same : x.0 ≡ y.0 = reply_one s.rule (c ∷ cs) x.0 y.0 x.1 y.1 in
+    x.2 ∙ (ap (answer_of s (c ∷ cs)) same ∙ sym y.2)
 
-broken : (b c : ℕ) → b ≡ c → is_separator b ≡ true → is_separator c ≡ false → ⊥
-broken b c same one none = true≢false (sym one ∙ (ap (λ n. is_separator n) same ∙ none))
+broken : (others : List ℕ) (b c : ℕ) → b ≡ c → is_separator others b ≡ true → is_separator others c ≡ false → ⊥
+broken others b c same one none = true≢false (sym one ∙ (ap (λ n. is_separator others n) same ∙ none))
 
 -- a word without a separator has none
-none_within : (word : List ℕ) (b : ℕ) (rest : List ℕ) → HasNoSeparator (word ++ b ∷ rest) → is_separator b ≡ true → ⊥
-none_within [] b rest h one = broken b b refl one h.0
-none_within (c ∷ cs) b rest h one = none_within cs b rest h.1 one
+none_within : (others word : List ℕ) (b : ℕ) (rest : List ℕ) → HasNoSeparator others (word ++ b ∷ rest) → is_separator others b ≡ true → ⊥
+none_within others [] b rest h one = broken others b b refl one h.0
+none_within others (c ∷ cs) b rest h one = none_within others cs b rest h.1 one
 
 -- the first word of a text, its separator, and what follows
 pub record AreSame (w v : List ℕ) (a b : ℕ) (t u : List ℕ) : Type 0 where
@@ -24,30 +26,30 @@ pub record AreSame (w v : List ℕ) (a b : ℕ) (t u : List ℕ) : Type 0 where
   pub separator : a ≡ b
   pub rest : t ≡ u
 
-first_one : (w v : List ℕ) (a b : ℕ) (t u : List ℕ) → HasNoSeparator w → HasNoSeparator v → is_separator a ≡ true → is_separator b ≡ true → w ++ a ∷ t ≡ v ++ b ∷ u → AreSame w v a b t u
-first_one [] [] a b t u h k x y e = record { word = refl; separator = let same : a ≡ b = cc in same; rest = let same : t ≡ u = cc in same }
-first_one [] (d ∷ ds) a b t u h k x y e = let same : a ≡ d = cc in absurd (broken a d same x k.0)
-first_one (c ∷ cs) [] a b t u h k x y e = let same : b ≡ c = cc in absurd (broken b c same y h.0)
-first_one (c ∷ cs) (d ∷ ds) a b t u h k x y e =
+first_one : (others w v : List ℕ) (a b : ℕ) (t u : List ℕ) → HasNoSeparator others w → HasNoSeparator others v → is_separator others a ≡ true → is_separator others b ≡ true → w ++ a ∷ t ≡ v ++ b ∷ u → AreSame w v a b t u
+first_one others [] [] a b t u h k x y e = record { word = refl; separator = let same : a ≡ b = cc in same; rest = let same : t ≡ u = cc in same }
+first_one others [] (d ∷ ds) a b t u h k x y e = let same : a ≡ d = cc in absurd (broken others a d same x k.0)
+first_one others (c ∷ cs) [] a b t u h k x y e = let same : b ≡ c = cc in absurd (broken others b c same y h.0)
+first_one others (c ∷ cs) (d ∷ ds) a b t u h k x y e =
     let head : c ≡ d = cc in
     let tail : cs ++ a ∷ t ≡ ds ++ b ∷ u = cc in
-    let r = first_one cs ds a b t u h.1 k.1 x y tail in
+    let r = first_one others cs ds a b t u h.1 k.1 x y tail in
     record { word = ap (λ n. n ∷ cs) head ∙ ap (λ l. d ∷ l) r.word; separator = r.separator; rest = r.rest }
 
 pub record AreParts (es fs : List Ended) (x y : List ℕ) : Type 0 where
   pub words : es ≡ fs
   pub rest : x ≡ y
 
-parts_one : (s : Settings) (es fs : List Ended) (x y : List ℕ) → AreEnded s es → AreEnded s fs → HasNoSeparator x → HasNoSeparator y → bytes_of es ++ x ≡ bytes_of fs ++ y → AreParts es fs x y
+parts_one : (s : WordRule) (es fs : List Ended) (x y : List ℕ) → AreEnded s es → AreEnded s fs → HasNoSeparator s.separators.now x → HasNoSeparator s.separators.now y → bytes_of es ++ x ≡ bytes_of fs ++ y → AreParts es fs x y
 parts_one s [] [] x y h k p q e = record { words = refl; rest = e }
 parts_one s [] (f ∷ fs) x y h k p q e =
-    let whole : HasNoSeparator (f.word ++ (f.separator ∷ (bytes_of fs ++ y))) = subst (λ l. HasNoSeparator l) (e ∙ append_assoc f.word (f.separator ∷ bytes_of fs) y) p in
-    absurd (none_within f.word f.separator (bytes_of fs ++ y) whole k.0.separates)
+    let whole : HasNoSeparator s.separators.now (f.word ++ (f.separator ∷ (bytes_of fs ++ y))) = subst (λ l. HasNoSeparator s.separators.now l) (e ∙ append_assoc f.word (f.separator ∷ bytes_of fs) y) p in
+    absurd (none_within s.separators.now f.word f.separator (bytes_of fs ++ y) whole k.0.separates)
 parts_one s (d ∷ ds) [] x y h k p q e =
-    let whole : HasNoSeparator (d.word ++ (d.separator ∷ (bytes_of ds ++ x))) = subst (λ l. HasNoSeparator l) (sym e ∙ append_assoc d.word (d.separator ∷ bytes_of ds) x) q in
-    absurd (none_within d.word d.separator (bytes_of ds ++ x) whole h.0.separates)
+    let whole : HasNoSeparator s.separators.now (d.word ++ (d.separator ∷ (bytes_of ds ++ x))) = subst (λ l. HasNoSeparator s.separators.now l) (sym e ∙ append_assoc d.word (d.separator ∷ bytes_of ds) x) q in
+    absurd (none_within s.separators.now d.word d.separator (bytes_of ds ++ x) whole h.0.separates)
 parts_one s (d ∷ ds) (f ∷ fs) x y h k p q e =
-    let first = first_one d.word f.word d.separator f.separator (bytes_of ds ++ x) (bytes_of fs ++ y) h.0.unbroken k.0.unbroken h.0.separates k.0.separates
+    let first = first_one s.separators.now d.word f.word d.separator f.separator (bytes_of ds ++ x) (bytes_of fs ++ y) h.0.unbroken k.0.unbroken h.0.separates k.0.separates
     (sym (append_assoc d.word (d.separator ∷ bytes_of ds) x) ∙ (e ∙ append_assoc f.word (f.separator ∷ bytes_of fs) y)) in
     let others = parts_one s ds fs x y h.1 k.1 p q first.rest in
     let reply : d.reply ≡ f.reply = word_reply_one s f.word d.reply f.reply (subst (λ w. IsWordReply s w d.reply) first.word h.0.replied) k.0.replied in

@@ -1,7 +1,8 @@
 -- Words that were converted, one byte after the other.
-use Rattle.std.proofs.Common.{◌≡◌, ◌∙◌, ◌||◌, ◌+◌, ◌<◌, ◌≤◌, ℕ, Bool, true, false, List, [], ◌∷◌, ◌++◌, length, take, get_or, refl, sym, ap, subst, arith, append-nil, append_assoc, length-append, ⊎_elim, Option}
+use Rattle.std.proofs.Common.{◌≡◌, ◌∙◌, ◌||◌, ◌+◌, ◌<◌, ◌≤◌, ℕ, Bool, true, false, List, [], ◌∷◌, ◌++◌, length, take, get_or, min, nat_le, refl, sym, ap, subst, arith, append-nil, append_assoc, length-append, ⊎_elim, Option}
 use Rattle.std.proofs.KnownBytes.{Appends-trans}
 use Rattle.std.proofs.lemmas.Bool.{cases_lt}
+use Rattle.std.proofs.lemmas.Bool.Decides.{nat_tests}
 use Rattle.std.proofs.lemmas.List.{take_all, take_more}
 use Rattle.std.specs.Io.KnownBytes.{Appends}
 use Rattle.line_engine.specs.AnswerText.{AnswerText}
@@ -9,14 +10,19 @@ use Rattle.line_engine.specs.Appended.{AppendsPrefix}
 use Rattle.line_engine.specs.Output.{AppendsAnswer}
 use Rattle.fixed_command.specs.Convert.{IsReply}
 use Rattle.fixed_command.specs.Lemmas.ReplyLemmas.{asking_longer, long_reply, reply_one}
-use Rattle.fixed_command.specs.declared.convert.Settings.{Settings}
+use Rattle.fixed_words.specs.declared.rule.Ending.{Ending}
+use Rattle.fixed_words.specs.declared.rule.Ending.TheVariants.{Converted, Left, Refused}
+use Rattle.fixed_words.specs.declared.rule.Leaving.{Leaving}
+use Rattle.fixed_words.specs.declared.rule.Leaving.TheVariants.{Everything, NoNumerals, Nothing}
+use Rattle.fixed_words.specs.declared.rule.TheConstants.{MAX_LEFT}
+use Rattle.fixed_words.specs.declared.rule.WordRule.{WordRule}
 use Rattle.fixed_respell.specs.Answer.{fault_message}
 use Rattle.fixed_respell.specs.Language.{fault_answer}
 use Rattle.fixed_respell.specs.LineWords.{longest_line}
 use Rattle.fixed_respell.specs.declared.fault.LineFault.TheVariants.{LineTooLong}
 use Rattle.fixed_words.specs.Inner.Progress.{EndsWord, HasWorded, HasWritten, IsKept}
 use Rattle.fixed_words.specs.Run.{BreaksWords}
-use Rattle.fixed_words.specs.Words.{AreEnded, Ended, HasNoSeparator, IsEnded, IsWordReply, any_refused, bytes_of, is_separator, written_of}
+use Rattle.fixed_words.specs.Words.{AreEnded, Ended, HasNoSeparator, IsEnded, IsWordReply, answer_of, any_refused, bytes_of, is_left, is_refused, is_separator, shown, written_of}
 use Rattle.fixed_words.specs.declared.splitter.Words.{Words}
 
 -- ---- one word more
@@ -40,13 +46,13 @@ refused_more : (es : List Ended) (e : Ended) → any_refused (es ++ e ∷ []) �
 refused_more [] e = or_false e.reply.fault
 refused_more (c ∷ cs) e = ap (λ b. c.reply.fault || b) (refused_more cs e) ∙ sym (or_assoc c.reply.fault (any_refused cs) e.reply.fault)
 
-are_more : (s : Settings) (es : List Ended) (e : Ended) → AreEnded s es → IsEnded s e → AreEnded s (es ++ e ∷ [])
+are_more : (s : WordRule) (es : List Ended) (e : Ended) → AreEnded s es → IsEnded s e → AreEnded s (es ++ e ∷ [])
 are_more s [] e h k = (k, tt)
 are_more s (c ∷ cs) e h k = (h.0, are_more s cs e h.1 k)
 
-unbroken_more : (word : List ℕ) (b : ℕ) → HasNoSeparator word → is_separator b ≡ false → HasNoSeparator (word ++ b ∷ [])
-unbroken_more [] b h k = (k, tt)
-unbroken_more (c ∷ cs) b h k = (h.0, unbroken_more cs b h.1 k)
+unbroken_more : (others word : List ℕ) (b : ℕ) → HasNoSeparator others word → is_separator others b ≡ false → HasNoSeparator others (word ++ b ∷ [])
+unbroken_more others [] b h k = (k, tt)
+unbroken_more others (c ∷ cs) b h k = (h.0, unbroken_more others cs b h.1 k)
 
 -- ---- what is kept of a word
 within : (word kept : List ℕ) → length kept < longest_line → IsKept word kept → length word ≤ longest_line
@@ -77,31 +83,56 @@ past_byte word kept b full k =
       full = λ _. full;
     }
 
--- ---- what is kept of a word is replied to as the word
-pub to_reply : (s : Settings) (word : List ℕ) (reply : AnswerText) → 0 < length word → IsWordReply s word reply → IsReply s word reply
-to_reply s [] reply some h = absurd (omega (arith, some))
-to_reply s (b ∷ bytes) reply some h = h
+-- ---- what is kept of a word is answered as the word
+-- a word with a byte has a reply, and is answered by it
+pub record IsAnswered (s : WordRule) (word : List ℕ) (answer : AnswerText) : Type 0 where
+  pub reply : AnswerText
+  pub replied : IsReply s.rule word reply
+  pub is : answer ≡ answer_of s word reply
 
-pub of_reply : (s : Settings) (word : List ℕ) (reply : AnswerText) → 0 < length word → IsReply s word reply → IsWordReply s word reply
-of_reply s [] reply some h = absurd (omega (arith, some))
-of_reply s (b ∷ bytes) reply some h = h
+to_answer : (s : WordRule) (word : List ℕ) (answer : AnswerText) → 0 < length word → IsWordReply s word answer → IsAnswered s word answer
+to_answer s [] answer some h = absurd (omega (arith, some))
+to_answer s (b ∷ bytes) answer some h = record { reply = h.0; replied = h.1; is = h.2 }
 
-long : (s : Settings) (word : List ℕ) → longest_line ≤ length word → IsReply s word (fault_answer (fault_message LineTooLong))
-long s word many = long_reply s word (omega (arith, many, asking_longer s word))
+pub of_answer : (s : WordRule) (word : List ℕ) (answer : AnswerText) → 0 < length word → IsAnswered s word answer → IsWordReply s word answer
+of_answer s [] answer some h = absurd (omega (arith, some))
+of_answer s (b ∷ bytes) answer some h = (h.reply, h.replied, h.is)
 
-long_kept : (s : Settings) (word kept : List ℕ) (reply : AnswerText) → longest_line ≤ length word → longest_line ≤ length kept → IsWordReply s kept reply → IsWordReply s word reply
-long_kept s word kept reply many full h =
-    let same : reply ≡ fault_answer (fault_message LineTooLong) = reply_one s kept reply (fault_answer (fault_message LineTooLong)) (to_reply s kept reply (omega (arith, full)) h) (long s kept full) in
-    of_reply s word reply (omega (arith, many)) (subst (λ a. IsReply s word a) (sym same) (long s word many))
+long : (s : WordRule) (word : List ℕ) → longest_line ≤ length word → IsReply s.rule word (fault_answer (fault_message LineTooLong))
+long s word many = long_reply s.rule word (omega (arith, many, asking_longer s.rule word))
 
-pub reply_kept : (s : Settings) (word kept : List ℕ) (reply : AnswerText) → IsKept word kept → IsWordReply s kept reply → IsWordReply s word reply
+past_left : (n : ℕ) → longest_line ≤ n → nat_le n MAX_LEFT ≡ false
+past_left n many = grind (arith, nat_tests)
+
+-- so long a word does not stay
+not_left : (leaves : Leaving) (word text : List ℕ) → longest_line ≤ length word → is_left leaves word text ≡ false
+not_left Nothing word text many = refl
+not_left NoNumerals word text many = rw (past_left (length word) many) refl
+not_left Everything word text many = past_left (length word) many
+
+token_of : WordRule → AnswerText
+token_of s = record { text = s.token; fault = true }
+
+long_answer : (s : WordRule) (word : List ℕ) → longest_line ≤ length word → answer_of s word (fault_answer (fault_message LineTooLong)) ≡ token_of s
+unfolding token_of
+long_answer s word many = rw (not_left s.leaves word (fault_answer (fault_message LineTooLong)).text many) refl
+
+long_kept : (s : WordRule) (word kept : List ℕ) (answer : AnswerText) → longest_line ≤ length word → longest_line ≤ length kept → IsWordReply s kept answer → IsWordReply s word answer
+long_kept s word kept answer many full h =
+    let k = to_answer s kept answer (omega (arith, full)) h in
+    let fault : AnswerText = fault_answer (fault_message LineTooLong) in
+    let same : k.reply ≡ fault = reply_one s.rule kept k.reply fault k.replied (long s kept full) in
+    let is : answer ≡ token_of s = k.is ∙ (ap (answer_of s kept) same ∙ long_answer s kept full) in
+    of_answer s word answer (omega (arith, many)) (record { reply = fault; replied = long s word many; is = is ∙ sym (long_answer s word many) })
+
+pub reply_kept : (s : WordRule) (word kept : List ℕ) (reply : AnswerText) → IsKept word kept → IsWordReply s kept reply → IsWordReply s word reply
 reply_kept s word kept reply k h = ⊎_elim
     (λ (less : longest_line < length word). long_kept s word kept reply (omega (arith, less)) (k.full (omega (arith, less))) h)
     (λ (most : length word ≤ longest_line). subst (λ w. IsWordReply s w reply) (k.whole most) h)
     (cases_lt longest_line (length word))
 
 -- ---- one byte more
-pub worded_none : (s : Settings) (u : Words) → u.word ≡ [] → u.out ≡ [] → u.has_fault ≡ false → HasWorded s [] [] u
+pub worded_none : (s : WordRule) (u : Words) → u.word ≡ [] → u.out ≡ [] → u.has_fault ≡ false → HasWorded s [] [] u
 worded_none s u word out fault = record {
   words = [];
   are = tt;
@@ -114,13 +145,13 @@ worded_none s u word out fault = record {
 }
 
 -- that is part of a word
-pub worded_byte : (s : Settings) (whole sent : List ℕ) (b : ℕ) (old new : Words) → HasWorded s whole sent old → is_separator b ≡ false → ((word : List ℕ) → IsKept word old.word → IsKept (word ++ b ∷ []) new.word)
+pub worded_byte : (s : WordRule) (whole sent : List ℕ) (b : ℕ) (old new : Words) → HasWorded s whole sent old → is_separator s.separators.now b ≡ false → ((word : List ℕ) → IsKept word old.word → IsKept (word ++ b ∷ []) new.word)
     → new.out ≡ old.out → new.has_fault ≡ old.has_fault → HasWorded s (whole ++ b ∷ []) sent new
 worded_byte s whole sent b old new h inner kept out fault = record {
   words = h.words;
   are = h.are;
   rest = h.rest ++ b ∷ [];
-  unbroken = unbroken_more h.rest b h.unbroken inner;
+  unbroken = unbroken_more s.separators.now h.rest b h.unbroken inner;
   kept = kept h.rest h.kept;
   cut = ap (λ w. w ++ b ∷ []) h.cut ∙ append_assoc (bytes_of h.words) h.rest (b ∷ []);
   held = h.held ∙ ap (λ l. sent ++ l) (sym out);
@@ -128,7 +159,7 @@ worded_byte s whole sent b old new h inner kept out fault = record {
 }
 
 -- that ends a word
-pub worded_end : (s : Settings) (whole sent : List ℕ) (b : ℕ) (old mid new : Words) → HasWorded s whole sent old → is_separator b ≡ true → EndsWord s old.word old mid
+pub worded_end : (s : WordRule) (whole sent : List ℕ) (b : ℕ) (old mid new : Words) → HasWorded s whole sent old → is_separator s.separators.now b ≡ true → EndsWord s old.word old mid
     → new.word ≡ [] → new.out ≡ mid.out ++ b ∷ [] → new.has_fault ≡ mid.has_fault → HasWorded s (whole ++ b ∷ []) sent new
 worded_end s whole sent b old mid new h ends e word out fault =
     let ended : Ended = record { word = h.rest; separator = b; reply = e.reply } in
@@ -146,7 +177,7 @@ worded_end s whole sent b old mid new h ends e word out fault =
       faulty = fault ∙ (e.fault ∙ (ap (λ f. f || e.reply.fault) h.faulty ∙ sym (refused_more h.words ended)));
     }
 
-pub worded_same : (s : Settings) (whole sent : List ℕ) (old new : Words) → HasWorded s whole sent old → new.word ≡ old.word → new.out ≡ old.out → new.has_fault ≡ old.has_fault → HasWorded s whole sent new
+pub worded_same : (s : WordRule) (whole sent : List ℕ) (old new : Words) → HasWorded s whole sent old → new.word ≡ old.word → new.out ≡ old.out → new.has_fault ≡ old.has_fault → HasWorded s whole sent new
 worded_same s whole sent old new h word out fault = record {
   words = h.words;
   are = h.are;
@@ -158,30 +189,53 @@ worded_same s whole sent old new h word out fault = record {
   faulty = fault ∙ h.faulty;
 }
 
-pub ends_word : (s : Settings) (word : List ℕ) (old new : Words) (text : List ℕ) (fault : Bool) → AppendsAnswer (IsWordReply s) 192 word old.out text fault → new.out ≡ text → new.has_fault ≡ (old.has_fault || fault)
-    → EndsWord s word old new
-ends_word s word old new text fault a out is = record {
-  reply = record { text = a.text; fault = fault };
-  replied = a.answer;
-  out = out ∙ a.appended;
-  short = a.short;
-  fault = is;
+shown_fault : (ending : Ending) (s : WordRule) (word reply : List ℕ) → (shown ending s word reply).fault ≡ is_refused ending
+shown_fault Converted s word reply = refl
+shown_fault Left s word reply = refl
+shown_fault Refused s word reply = refl
+
+-- a word with a byte was answered
+pub ends_word : (s : WordRule) (old new : Words) (reply : List ℕ) (fault : Bool) (ending : Ending) → 0 < length old.word → AppendsAnswer (IsReply s.rule) 192 old.word [] reply fault
+    → answer_of s old.word (record { text = reply; fault = fault }) ≡ shown ending s old.word reply → new.out ≡ old.out ++ (shown ending s old.word reply).text
+    → length (shown ending s old.word reply).text ≤ min (length old.word) MAX_LEFT + 192 → new.has_fault ≡ (old.has_fault || is_refused ending) → EndsWord s old.word old new
+ends_word s old new reply fault ending some a is out short faulty =
+    let made : List ℕ → AnswerText = λ (t : List ℕ). record { text = t; fault = fault } in
+    let replied : IsReply s.rule old.word (made reply) = subst (λ t. IsReply s.rule old.word (made t)) (sym a.appended) a.answer in
+    record {
+      reply = shown ending s old.word reply;
+      replied = of_answer s old.word (shown ending s old.word reply) some (record { reply = made reply; replied = replied; is = sym is });
+      out = out;
+      short = short;
+      fault = faulty ∙ ap (λ b. old.has_fault || b) (sym (shown_fault ending s old.word reply));
+    }
+
+-- and one without a byte
+pub ends_none : (s : WordRule) (u : Words) → u.word ≡ [] → EndsWord s u.word u u
+ends_none s u none = record {
+  reply = record { text = []; fault = false };
+  replied = subst (λ w. IsWordReply s w (record { text = []; fault = false })) (sym none) refl;
+  out = sym (append-nil u.out);
+  short = omega arith;
+  fault = sym (or_false u.has_fault);
 }
 
+pub ends_same : (s : WordRule) (word : List ℕ) (old mid new : Words) → EndsWord s word old mid → new.out ≡ mid.out → new.has_fault ≡ mid.has_fault → EndsWord s word old new
+ends_same s word old mid new e out fault = record { reply = e.reply; replied = e.replied; out = out ∙ e.out; short = e.short; fault = fault ∙ e.fault }
+
 -- ---- the bytes of a chunk
-pub nothing_taken : (s : Settings) (whole sent : List ℕ) (u : Words) → HasWorded s whole sent u → HasWorded s (whole ++ []) sent u
+pub nothing_taken : (s : WordRule) (whole sent : List ℕ) (u : Words) → HasWorded s whole sent u → HasWorded s (whole ++ []) sent u
 nothing_taken s whole sent u h = let P : List ℕ → Type 0 = λ l. HasWorded s l sent u in subst P (sym (append-nil whole)) h
 
-pub one_taken : (s : Settings) (whole sent bytes : List ℕ) (k : ℕ) (u : Words) → k < length bytes → HasWorded s ((whole ++ take k bytes) ++ get_or bytes k 0 ∷ []) sent u → HasWorded s (whole ++ take (k + 1) bytes) sent u
+pub one_taken : (s : WordRule) (whole sent bytes : List ℕ) (k : ℕ) (u : Words) → k < length bytes → HasWorded s ((whole ++ take k bytes) ++ get_or bytes k 0 ∷ []) sent u → HasWorded s (whole ++ take (k + 1) bytes) sent u
 one_taken s whole sent bytes k u less h =
     let P : List ℕ → Type 0 = λ l. HasWorded s l sent u in
     subst P (append_assoc whole (take k bytes) (get_or bytes k 0 ∷ []) ∙ ap (λ l. whole ++ l) (sym (take_more bytes k 0 less))) h
 
-pub all_taken : (s : Settings) (whole sent bytes : List ℕ) (k : ℕ) (u : Words) → length bytes ≤ k → HasWorded s (whole ++ take k bytes) sent u → HasWorded s (whole ++ bytes) sent u
+pub all_taken : (s : WordRule) (whole sent bytes : List ℕ) (k : ℕ) (u : Words) → length bytes ≤ k → HasWorded s (whole ++ take k bytes) sent u → HasWorded s (whole ++ bytes) sent u
 all_taken s whole sent bytes k u done h = let P : List ℕ → Type 0 = λ l. HasWorded s (whole ++ l) sent u in subst P (take_all k bytes done) h
 
 -- ---- what was held was written
-pub written_all : (s : Settings) (whole sent : List ℕ) (a b c : Option (List ℕ)) (old new : Words) → HasWorded s whole sent old → Appends a b sent → Appends b c old.out → new.out ≡ [] → new.word ≡ old.word → new.has_fault ≡ old.has_fault
+pub written_all : (s : WordRule) (whole sent : List ℕ) (a b c : Option (List ℕ)) (old new : Words) → HasWorded s whole sent old → Appends a b sent → Appends b c old.out → new.out ≡ [] → new.word ≡ old.word → new.has_fault ≡ old.has_fault
     → HasWritten s whole a c new
 written_all s whole sent a b c old new h first last none word fault = record {
   sent = sent ++ old.out;
@@ -199,7 +253,7 @@ written_all s whole sent a b c old new h first last none word fault = record {
   output = Appends-trans a b c sent old.out first last;
 }
 
-pub written_part : (s : Settings) (whole sent : List ℕ) (a b c : Option (List ℕ)) (u : Words) → HasWorded s whole sent u → Appends a b sent → AppendsPrefix b c u.out → BreaksWords s whole a c
+pub written_part : (s : WordRule) (whole sent : List ℕ) (a b c : Option (List ℕ)) (u : Words) → HasWorded s whole sent u → Appends a b sent → AppendsPrefix b c u.out → BreaksWords s whole a c
 written_part s whole sent a b c u h first last = record {
   words = h.words;
   are = h.are;
@@ -211,16 +265,4 @@ written_part s whole sent a b c u h first last = record {
     split = h.held ∙ (ap (λ l. sent ++ l) last.split ∙ sym (append_assoc sent last.prefix last.rest));
     appends = Appends-trans a b c sent last.prefix first last.appends;
   };
-}
-
--- ---- the reply to a word
-pub none_replied : (s : Settings) (word old : List ℕ) → word ≡ [] → AppendsAnswer (IsWordReply s) 192 word old old false
-none_replied s word old none = subst (λ w. AppendsAnswer (IsWordReply s) 192 w old old false) (sym none) (record { text = []; answer = refl; appended = sym (append-nil old); short = omega arith })
-
-pub some_replied : (s : Settings) (word old new : List ℕ) (fault : Bool) → 0 < length word → AppendsAnswer (IsReply s) 192 word old new fault → AppendsAnswer (IsWordReply s) 192 word old new fault
-some_replied s word old new fault some a = record {
-  text = a.text;
-  answer = of_reply s word (record { text = a.text; fault = fault }) some a.answer;
-  appended = a.appended;
-  short = a.short;
 }

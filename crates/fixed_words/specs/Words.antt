@@ -1,23 +1,61 @@
 -- The words of a text, and what they are converted to where they stand.
-use Rattle.std.specs.Prelude.{◌≡◌, ◌==◌, ◌||◌, ◌++◌, ℕ, Bool, true, false, List, [], ◌∷◌}
+use Rattle.std.specs.Prelude.{◌≡◌, ◌&&◌, ◌||◌, ◌++◌, ◌==◌, ℕ, Bool, true, false, List, [], ◌∷◌, codes, not}
+use Rattle.std.specs.Prelude.{if◌then◌else◌, length, nat_le}
 use Rattle.std.specs.Char.{is_ascii_whitespace}
+use Rattle.std.specs.List.{list_any}
+use Rattle.std.specs.Str.{bytes_eq}
 use Rattle.line_engine.specs.AnswerText.{AnswerText}
 use Rattle.fixed_command.specs.Convert.{IsReply}
-use Rattle.fixed_command.specs.declared.convert.Settings.{Settings}
+use Rattle.fixed_words.specs.declared.rule.TheConstants.{MAX_LEFT}
+use Rattle.fixed_words.specs.declared.rule.Ending.{Ending}
+use Rattle.fixed_words.specs.declared.rule.Ending.TheVariants.{Converted, Left, Refused}
+use Rattle.fixed_words.specs.declared.rule.Leaving.{Leaving}
+use Rattle.fixed_words.specs.declared.rule.Leaving.TheVariants.{Everything, NoNumerals, Nothing}
+use Rattle.fixed_words.specs.declared.rule.WordRule.{WordRule}
 
--- a byte that separates words: ASCII's white space, or a comma
-abbrev pub is_separator : ℕ → Bool
-is_separator byte = is_ascii_whitespace byte || (byte == 44)
+-- a byte that separates words: ASCII's white space, or one of these
+abbrev pub is_separator : List ℕ → ℕ → Bool
+is_separator others byte = is_ascii_whitespace byte || list_any (λ b. b == byte) others
 
 -- none of the bytes separates words
-abbrev pub HasNoSeparator : List ℕ → Type 0
-HasNoSeparator [] = Unit {0}
-HasNoSeparator (b ∷ bytes) = (is_separator b ≡ false) × HasNoSeparator bytes
+abbrev pub HasNoSeparator : List ℕ → List ℕ → Type 0
+HasNoSeparator others [] = Unit {0}
+HasNoSeparator others (b ∷ bytes) = (is_separator others b ≡ false) × HasNoSeparator others bytes
 
--- the reply to a word: an empty one where the word has no byte
-abbrev pub IsWordReply : Settings → List ℕ → AnswerText → Type 0
-IsWordReply s [] reply = reply ≡ record { text = []; fault = false }
-IsWordReply s (b ∷ bytes) reply = IsReply s (b ∷ bytes) reply
+-- a refusal says that a number is out of range
+abbrev pub is_overflow : List ℕ → Bool
+is_overflow text = bytes_eq text (codes "error: overflow")
+
+-- whether a word that is refused with this text stays as it was: never, if it is no numeral, or always; but not a word
+-- that is longer than the longest that stays
+abbrev pub is_left : Leaving → List ℕ → List ℕ → Bool
+is_left Nothing word text = false
+is_left NoNumerals word text = nat_le (length word) MAX_LEFT && not (is_overflow text)
+is_left Everything word text = nat_le (length word) MAX_LEFT
+
+-- what is written for a word with this reply, and whether it is refused: the reply, or for a refusal the word itself or
+-- a token
+abbrev pub answer_of : WordRule → List ℕ → AnswerText → AnswerText
+answer_of rule word reply = if not reply.fault then reply else (if is_left rule.leaves word reply.text
+    then record { text = word; fault = false } else record { text = rule.token; fault = true })
+
+-- the same by how the word ended
+abbrev pub shown : Ending → WordRule → List ℕ → List ℕ → AnswerText
+shown Converted rule word reply = record { text = reply; fault = false }
+shown Left rule word reply = record { text = word; fault = false }
+shown Refused rule word reply = record { text = rule.token; fault = true }
+
+-- whether a word that ended so is refused
+abbrev pub is_refused : Ending → Bool
+is_refused Converted = false
+is_refused Left = false
+is_refused Refused = true
+
+-- the answer to a word: an empty one where the word has no byte
+abbrev pub IsWordReply : WordRule → List ℕ → AnswerText → Type 0
+IsWordReply s [] answer = answer ≡ record { text = []; fault = false }
+IsWordReply s (b ∷ bytes) answer = (reply : AnswerText) × IsReply s.rule (b ∷ bytes) reply
+    × (answer ≡ answer_of s (b ∷ bytes) reply)
 
 -- a word, the separator behind it, and the reply to it
 pub record Ended : Type 0 where
@@ -25,12 +63,12 @@ pub record Ended : Type 0 where
   pub separator : ℕ
   pub reply : AnswerText
 
-pub record IsEnded (s : Settings) (e : Ended) : Type 0 where
-  pub unbroken : HasNoSeparator e.word
-  pub separates : is_separator e.separator ≡ true
+pub record IsEnded (s : WordRule) (e : Ended) : Type 0 where
+  pub unbroken : HasNoSeparator s.separators.now e.word
+  pub separates : is_separator s.separators.now e.separator ≡ true
   pub replied : IsWordReply s e.word e.reply
 
-abbrev pub AreEnded : Settings → List Ended → Type 0
+abbrev pub AreEnded : WordRule → List Ended → Type 0
 AreEnded s [] = Unit {0}
 AreEnded s (e ∷ es) = IsEnded s e × AreEnded s es
 
@@ -51,11 +89,11 @@ any_refused (e ∷ es) = e.reply.fault || any_refused es
 
 -- the text that is made of another, and whether a word of that is refused: its words up to the last separator, and a
 -- last word behind it
-pub record IsWorded (s : Settings) (bytes : List ℕ) (answer : AnswerText) : Type 0 where
+pub record IsWorded (s : WordRule) (bytes : List ℕ) (answer : AnswerText) : Type 0 where
   pub words : List Ended
   pub are : AreEnded s words
   pub rest : List ℕ
-  pub unbroken : HasNoSeparator rest
+  pub unbroken : HasNoSeparator s.separators.now rest
   pub cut : bytes ≡ bytes_of words ++ rest
   pub last : AnswerText
   pub replied : IsWordReply s rest last

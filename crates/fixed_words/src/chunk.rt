@@ -5,8 +5,8 @@ ghost use Rattle.std.specs.Io.KnownBytes.{Appends, Consumes, IsAtEnd, Keeps};
 ghost use Rattle.line_engine.specs.Appended.{AppendsPrefix};
 ghost use Rattle.line_engine.specs.Failures.{FailsOnlyCounted};
 
+use column_engine::RecordBuffer;
 use line_engine::{Failed, Sink, Source, write_whole};
-use text_buffer::TextBuffer;
 
 /// From how many bytes on an input is too long.
 pub const MOST_BYTES: u64 = 4_611_686_018_427_387_904;
@@ -24,13 +24,13 @@ pub fn read_chunk<S: Source>(source: &mut S, chunk: &mut [u8]) -> Result<usize, 
 }
 
 /// Writes what was gathered.
-pub fn send<const N: usize, K: Sink>(out: &mut TextBuffer<N>, sink: &mut K) -> Result<(), Failed>
+pub fn send<K: Sink>(out: &mut RecordBuffer, sink: &mut K) -> Result<(), Failed>
     ensures ok { OnOk result (Appends (K.written sink.old) (K.written sink.new) out.old) }
     ensures none { OnOk result (out.new ≡ []) }
     ensures err { OnErr result (AppendsPrefix (K.written sink.old) (K.written sink.new) out.old) }
     ensures failures { FailsOnlyCounted (K.failures sink.old) (K.failures sink.new) result }
 {
-    match write_whole(sink, out.as_bytes()) {
+    match write_whole(sink, out.as_slice()) {
         Ok(()) => {
             out.clear();
             Ok(())

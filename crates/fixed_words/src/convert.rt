@@ -2,14 +2,15 @@
 
 ghost use Rattle.std.specs.Prelude.{◌≡◌, []};
 ghost use Rattle.line_engine.specs.Run.{HasFailures};
-ghost use Rattle.fixed_command.specs.declared.convert.Settings.{Settings};
 ghost use Rattle.fixed_words.specs.Run.{HasWordsRun};
 ghost use Rattle.fixed_words.specs.Inner.Progress.{EndsWords, HasEndFailures, HasWorded, IsEnd};
+ghost use Rattle.fixed_words.specs.declared.rule.WordRule.{WordRule};
 
 use crate::chunk::{MOST_BYTES, read_chunk};
+use crate::rule::WordRule;
 use crate::splitter::{CHUNK, WordRefusal, Words};
 use column_engine::RecordBuffer;
-use fixed_command::{ConvertRule, Tally, error_report};
+use fixed_command::{Tally, error_report};
 use fixed_report::ErrorReport;
 use fixed_steps::Steps;
 use line_engine::{Sink, Source, Status};
@@ -47,9 +48,9 @@ impl WordsEnd {
 }
 
 /// What is to be kept of the greatest error, where that is asked.
-fn errors_of(alloc: Global, rule: &ConvertRule, has_report: bool) -> Option<ErrorReport> {
+fn errors_of(alloc: Global, rule: &WordRule<'_>, has_report: bool) -> Option<ErrorReport> {
     if has_report {
-        Some(error_report(alloc, rule.settings()))
+        Some(error_report(alloc, rule.rule.settings()))
     } else {
         None
     }
@@ -68,7 +69,7 @@ fn status_of(has_fault: bool) -> Status
 
 /// Answers the last word of an input, and says how the run ended.
 fn end_words<K: Sink, L: Ledger>(
-    rule: &ConvertRule,
+    rule: &WordRule<'_>,
     words: Words,
     sink: &mut K,
     steps: &mut Steps<L>,
@@ -89,14 +90,14 @@ fn end_words<K: Sink, L: Ledger>(
 
 /// Reads an input, and has the words of each chunk answered.
 fn convert_all<S: Source, K: Sink, L: Ledger>(
-    rule: &ConvertRule,
+    rule: &WordRule<'_>,
     words: Words,
     source: &mut S,
     sink: &mut K,
     steps: &mut Steps<L>,
 ) -> WordsEnd
     requires none { words.out ≡ [] }
-    requires begun { (s : Settings) → HasWorded s [] [] words }
+    requires begun { (s : WordRule) → HasWorded s [] [] words }
     ensures run { HasWordsRun rule.now (S.left source.old) (S.left source.new) (K.written sink.old)
         (K.written sink.new) result.status }
     ensures failures { HasFailures (S.failures source.old) (S.failures source.new) (K.failures sink.old)
@@ -120,14 +121,15 @@ fn convert_all<S: Source, K: Sink, L: Ledger>(
 
 /// Converts the words of an input where they stand, and says how that ended.
 ///
-/// A word is a stretch of bytes between separators, which are ASCII's white space and the comma; it is a numeral, or a
-/// word of bits, and the reply to it is what a line of it alone is answered with. Each separator is written as it is,
-/// and no other byte. With `has_report` it is kept how the words came through, and which has the greatest error. What
-/// was answered of a chunk of 1,024 bytes is written before the next is read. It takes memory for one word of 1,048,576
-/// bytes before the first read, and answers `NoMemory` where that fails.
+/// A word is a stretch of bytes between separators, which are ASCII's white space and those of the rule. It is a
+/// numeral, or a word of bits. The answer to a line of it alone is written in its place; for a refused word that is the
+/// token or, if the rule leaves it, the word itself. Each separator is written as it is. With `has_report` the end says
+/// how the words came through, and which has the greatest error. What was answered of a chunk of 1,024 bytes is written
+/// before the next is read. Before the first read it takes memory for one word of 1,048,576 bytes and for as many bytes
+/// that are to be written, and ends with `NoMemory` if that fails.
 pub fn convert_words<S: Source, K: Sink, L: Ledger>(
     alloc: Global,
-    rule: &ConvertRule,
+    rule: &WordRule<'_>,
     has_report: bool,
     source: &mut S,
     sink: &mut K,
@@ -141,17 +143,17 @@ pub fn convert_words<S: Source, K: Sink, L: Ledger>(
     ensures failures { HasFailures (S.failures source.old) (S.failures source.new) (K.failures sink.old)
         (K.failures sink.new) result.status }
 {
-    match RecordBuffer::new(alloc) {
-        Err(_) => WordsEnd {
+    match (RecordBuffer::new(alloc), RecordBuffer::new(alloc)) {
+        (Ok(word), Ok(out)) => {
+            let errors = errors_of(alloc, rule, has_report);
+            convert_all(rule, Words::new(word, out, errors), source, sink, steps)
+        }
+        _ => WordsEnd {
             status: Status::NoMemory,
             refused: 0,
             first: None,
             tally: Tally::new(),
             errors: None,
         },
-        Ok(word) => {
-            let errors = errors_of(alloc, rule, has_report);
-            convert_all(rule, Words::new(word, errors), source, sink, steps)
-        }
     }
 }

@@ -1,13 +1,15 @@
 //! Words of a text, each a numeral or a word of bits, that are converted where they stand: every other byte stays.
 //!
-//! `splitter` takes the bytes of a text and answers the words that end in them, and `convert` runs it over a source and
-//! a sink.
+//! `rule` says what separates words and what becomes of refused ones, `splitter` takes the bytes of a text and answers
+//! the words that end in them, and `convert` runs it over a source and a sink.
 #![tactic(auto)]
 
 mod chunk;
 pub mod convert;
 pub mod laws;
+pub mod rule;
 pub mod splitter;
 
 pub use convert::{WordsEnd, convert_words};
+pub use rule::{Leaving, MAX_LEFT, MAX_TOKEN, WordRule};
 pub use splitter::WordRefusal;

@@ -1,14 +1,17 @@
 //! Words that are converted as the bytes of their text come: the word that has not ended, and what is to be written.
 
 ghost use Rattle.std.specs.Prelude.{◌≡◌, ◌≤◌, ◌<◌, ◌+◌, ◌*◌, ◌++◌, ◌∷◌, ◌||◌, [], List, ℕ, Option, OnOk, OnErr, length};
+ghost use Rattle.std.specs.Prelude.{min};
+ghost use Rattle.column_engine.specs.declared.record_buffer.TheConstants.{MAX_RECORD};
 ghost use Rattle.line_engine.specs.Failures.{FailsOnlyCounted};
-ghost use Rattle.line_engine.specs.Output.{AppendsAnswer};
-ghost use Rattle.fixed_command.specs.declared.convert.Settings.{Settings};
-ghost use Rattle.fixed_words.specs.Words.{IsWordReply, is_separator};
+ghost use Rattle.fixed_words.specs.Words.{is_refused};
+ghost use Rattle.fixed_words.specs.declared.rule.TheConstants.{MAX_LEFT};
+ghost use Rattle.fixed_words.specs.declared.rule.WordRule.{WordRule};
 ghost use Rattle.fixed_words.specs.Run.{BreaksAtEnd, BreaksWords, WritesText};
 ghost use Rattle.fixed_words.specs.Inner.Progress.{EndsWord, HasWorded, HasWritten, IsKept};
 
 use crate::chunk::send;
+use crate::rule::{Ending, WordRule, ending_of, is_overflow, is_separator, push_shown};
 use column_engine::{MAX_RECORD, RecordBuffer};
 use fixed_command::{ConvertRule, Outcome, RefusedLine, Tally, has_error, outcome_of};
 use fixed_report::ErrorReport;
@@ -19,12 +22,6 @@ use text_buffer::TextBuffer;
 
 /// How many bytes are read at a time at most.
 pub const CHUNK: usize = 1024;
-
-/// How many bytes the replies to the words of a chunk have at most, with their separators.
-const HELD: usize = 197_632;
-
-/// What is to be written.
-type Held = TextBuffer<HELD>;
 
 /// A word that is refused.
 #[derive(Drop)]
@@ -41,7 +38,7 @@ pub struct Words {
     /// The first bytes of the word that has not ended.
     pub word: RecordBuffer,
     /// What is to be written.
-    pub out: Held,
+    pub out: RecordBuffer,
     /// Whether a word was refused.
     pub has_fault: bool,
     /// The line of the next byte, from 1.
@@ -60,39 +57,27 @@ pub struct Words {
     pub tally: Tally,
 }
 
-/// Whether a byte separates words: ASCII's white space, or a comma.
-fn is_separator(byte: u8) -> bool
-    ensures { result ≡ is_separator byte }
+/// Whether a word that ended so is refused.
+fn is_refused(ending: Ending) -> bool
+    ensures { result ≡ is_refused ending }
 {
-    byte.is_ascii_whitespace() || byte == b','
-}
-
-/// Appends the reply to a word, and answers whether it is a fault; nothing where the word has no byte.
-fn push_reply<L: Ledger>(
-    rule: &ConvertRule,
-    word: &[u8],
-    out: &mut Held,
-    steps: &mut Steps<L>,
-) -> bool
-    requires room { length out.old + MAX_ANSWER ≤ HELD }
-    ensures { AppendsAnswer (IsWordReply rule.now) MAX_ANSWER word.now out.old out.new result }
-{
-    if word.is_empty() {
-        return false;
+    match ending {
+        Ending::Converted | Ending::Left => false,
+        Ending::Refused => true,
     }
-    rule.push_reply(word, out, steps)
 }
 
 impl Words {
-    /// No byte, with room for a word.
-    pub fn new(word: RecordBuffer, errors: Option<ErrorReport>) -> Words
-        requires empty { word ≡ [] }
-        ensures none { (s : Settings) → HasWorded s [] [] result }
+    /// No byte, with room for a word and for what is to be written.
+    pub fn new(word: RecordBuffer, out: RecordBuffer, errors: Option<ErrorReport>) -> Words
+        requires word { word ≡ [] }
+        requires out { out ≡ [] }
+        ensures none { (s : WordRule) → HasWorded s [] [] result }
         ensures out { result.out ≡ [] }
     {
         Words {
             word,
-            out: TextBuffer::new(),
+            out,
             has_fault: false,
             line: 1,
             byte: 1,
@@ -104,17 +89,16 @@ impl Words {
         }
     }
 
-    /// Counts a word that was answered, from this place on.
-    fn count(&mut self, start: usize, is_fault: bool)
+    /// Counts a word that ended so, with this reply.
+    fn count(&mut self, ending: Ending, reply: &[u8])
         ensures word { self.new.word ≡ self.old.word }
         ensures out { self.new.out ≡ self.old.out }
-        ensures fault { self.new.has_fault ≡ (self.old.has_fault || is_fault) }
+        ensures fault { self.new.has_fault ≡ (self.old.has_fault || is_refused ending) }
     {
-        if is_fault {
+        if is_refused(ending) {
             self.has_fault = true;
             self.refused = self.refused.saturating_add(1);
             if self.refused == 1 {
-                let reply = self.out.as_bytes().get(start..).unwrap_or(&[]);
                 let cause = reply.strip_prefix(b"error: ").unwrap_or(reply);
                 self.first = Some(WordRefusal {
                     line: RefusedLine::new(self.line, self.word.as_slice(), cause),
@@ -124,24 +108,29 @@ impl Words {
         }
     }
 
-    /// Notes how a word came through that was answered, by a fault or not.
-    fn note<L: Ledger>(&mut self, rule: &ConvertRule, is_fault: bool, steps: &mut Steps<L>)
+    /// Notes how a word came through that ended so, with this reply: not at all if it is no numeral and stays.
+    fn note<L: Ledger>(
+        &mut self,
+        rule: &ConvertRule,
+        ending: Ending,
+        reply: &[u8],
+        steps: &mut Steps<L>,
+    )
         ensures word { self.new.word ≡ self.old.word }
         ensures out { self.new.out ≡ self.old.out }
         ensures fault { self.new.has_fault ≡ self.old.has_fault }
     {
         if let Some(errors) = &mut self.errors {
             let word = self.word.as_slice();
-            if !word.is_empty() {
-                let outcome = if is_fault {
-                    Outcome::Refused
-                } else {
-                    outcome_of(rule.settings(), word, steps)
-                };
-                self.tally.note(self.line, outcome);
-                if has_error(rule.settings().spelling, outcome) {
-                    errors.add(word, self.line, steps);
-                }
+            let outcome = match ending {
+                Ending::Converted => outcome_of(rule.settings(), word, steps),
+                Ending::Refused => Outcome::Refused,
+                Ending::Left if is_overflow(reply) => Outcome::Overflowed,
+                Ending::Left => return,
+            };
+            self.tally.note(self.line, outcome);
+            if has_error(rule.settings().spelling, outcome) {
+                errors.add(word, self.line, steps);
             }
         }
     }
@@ -149,6 +138,7 @@ impl Words {
     /// Goes on with a byte of a word. Those past the greatest length of a line are passed over.
     fn keep(&mut self, byte: u8)
         ensures word { (rest : List ℕ) → IsKept rest self.old.word → IsKept (rest ++ byte ∷ []) self.new.word }
+        ensures longer { length self.new.word ≤ length self.old.word + 1 }
         ensures out { self.new.out ≡ self.old.out }
         ensures fault { self.new.has_fault ≡ self.old.has_fault }
     {
@@ -157,27 +147,45 @@ impl Words {
         }
     }
 
-    /// Answers the word that ends, and begins a new one.
-    fn end_word<L: Ledger>(&mut self, rule: &ConvertRule, steps: &mut Steps<L>)
-        requires room { length self.old.out + 192 ≤ HELD }
+    /// Answers the word that ends, which has a byte.
+    fn answer_word<L: Ledger>(&mut self, rule: &WordRule<'_>, steps: &mut Steps<L>)
+        requires some { 0 < length self.old.word }
+        requires room { length self.old.out + min (length self.old.word) MAX_LEFT + 192 ≤ MAX_RECORD }
+        ensures { EndsWord rule.now self.old.word self.old self.new }
+    {
+        let mut reply: TextBuffer<MAX_ANSWER> = TextBuffer::new();
+        let is_fault = rule
+            .rule
+            .push_reply(self.word.as_slice(), &mut reply, steps);
+        let word = self.word.as_slice();
+        let ending = ending_of(rule, word, reply.as_bytes(), is_fault);
+        push_shown(rule, ending, word, reply.as_bytes(), &mut self.out);
+        self.count(ending, reply.as_bytes());
+        self.note(&rule.rule, ending, reply.as_bytes(), steps);
+    }
+
+    /// Answers the word that ends, if it has a byte, and begins a new one.
+    fn end_word<L: Ledger>(&mut self, rule: &WordRule<'_>, steps: &mut Steps<L>)
+        requires room { length self.old.out + min (length self.old.word) MAX_LEFT + 192 ≤ MAX_RECORD }
         ensures word { self.new.word ≡ [] }
         ensures ended { EndsWord rule.now self.old.word self.old self.new }
     {
-        let start = self.out.len();
-        let is_fault = push_reply(rule, self.word.as_slice(), &mut self.out, steps);
-        self.count(start, is_fault);
-        self.note(rule, is_fault, steps);
+        if self.word.is_empty() {
+            return;
+        }
+        self.answer_word(rule, steps);
         self.word.clear();
     }
 
     /// Takes the next byte, and answers the word that ends with it.
-    fn take<L: Ledger>(&mut self, rule: &ConvertRule, byte: u8, steps: &mut Steps<L>)
-        requires room { length self.old.out + 193 ≤ HELD }
+    fn take<L: Ledger>(&mut self, rule: &WordRule<'_>, byte: u8, steps: &mut Steps<L>)
+        requires room { length self.old.out + min (length self.old.word) MAX_LEFT + 193 ≤ MAX_RECORD }
         ensures taken { (whole sent : List ℕ) → HasWorded rule.now whole sent self.old
             → HasWorded rule.now (whole ++ byte ∷ []) sent self.new }
-        ensures room { length self.new.out ≤ length self.old.out + 193 }
+        ensures room { length self.new.out + min (length self.new.word) MAX_LEFT
+            ≤ length self.old.out + min (length self.old.word) MAX_LEFT + 193 }
     {
-        if is_separator(byte) {
+        if is_separator(rule.separators, byte) {
             self.end_word(rule, steps);
             self.out.push(byte);
         } else {
@@ -203,18 +211,19 @@ impl Words {
     }
 
     /// Takes the next byte, answers the word that ends with it, and goes on to the next place.
-    fn push<L: Ledger>(&mut self, rule: &ConvertRule, byte: u8, steps: &mut Steps<L>)
-        requires room { length self.old.out + 193 ≤ HELD }
+    fn push<L: Ledger>(&mut self, rule: &WordRule<'_>, byte: u8, steps: &mut Steps<L>)
+        requires room { length self.old.out + min (length self.old.word) MAX_LEFT + 193 ≤ MAX_RECORD }
         ensures taken { (whole sent : List ℕ) → HasWorded rule.now whole sent self.old
             → HasWorded rule.now (whole ++ byte ∷ []) sent self.new }
-        ensures room { length self.new.out ≤ length self.old.out + 193 }
+        ensures room { length self.new.out + min (length self.new.word) MAX_LEFT
+            ≤ length self.old.out + min (length self.old.word) MAX_LEFT + 193 }
     {
         self.take(rule, byte, steps);
         self.pass(byte);
     }
 
     /// Takes the next bytes, and answers the words that end in them.
-    fn push_all<L: Ledger>(&mut self, rule: &ConvertRule, bytes: &[u8], steps: &mut Steps<L>)
+    fn push_all<L: Ledger>(&mut self, rule: &WordRule<'_>, bytes: &[u8], steps: &mut Steps<L>)
         requires none { self.old.out ≡ [] }
         requires chunk { length bytes.now ≤ CHUNK }
         ensures { (whole sent : List ℕ) → HasWorded rule.now whole sent self.old
@@ -232,7 +241,7 @@ impl Words {
     /// A write failed.
     pub fn feed<K: Sink, L: Ledger>(
         &mut self,
-        rule: &ConvertRule,
+        rule: &WordRule<'_>,
         bytes: &[u8],
         sink: &mut K,
         steps: &mut Steps<L>,
@@ -262,7 +271,7 @@ impl Words {
     /// A write failed.
     pub fn finish<K: Sink, L: Ledger>(
         &mut self,
-        rule: &ConvertRule,
+        rule: &WordRule<'_>,
         sink: &mut K,
         steps: &mut Steps<L>,
     ) -> Result<(), Failed>

@@ -1,14 +1,17 @@
 -- Places of a value, in one block, in digits and a block, or exactly.
-use Rattle.std.proofs.Common.{◌≡◌, ℕ, zero, suc, ◌+◌, ◌-◌, ◌*◌, ◌/◌, ◌%◌, ◌^◌, ◌<◌, ◌≤◌, ◌⊎◌, Bool, List, [], ◌∷◌, ◌++◌, length, inl, inr, ⊎_elim, refl, sym, ap, ◌∙◌, arith, pow-suc, append-nil, append_assoc, mul_assoc, mul-le-mul_right, sub-one}
+use Rattle.std.proofs.Common.{false, ◌≡◌, ℕ, zero, suc, ◌+◌, ◌-◌, ◌*◌, ◌/◌, ◌%◌, ◌^◌, ◌<◌, ◌≤◌, ◌⊎◌, Bool, List, [], ◌∷◌, ◌++◌, length, inl, inr, ⊎_elim, refl, sym, ap, ◌∙◌, arith, pow-suc, append-nil, append_assoc, mul_assoc, mul-le-mul_right, sub-one}
 use Rattle.std.proofs.Math.Nat.{pow-zero, pow-le-pow_left, pow-le-pow_right, one-le-pow}
 use Rattle.std.proofs.lemmas.Nat.{pow-add, mul-pow, div_below}
 use Rattle.std.proofs.lemmas.Bool.{cases_lt}
 use Rattle.std.specs.Fmt.{digit_glyph}
-use Rattle.fixed_bits.specs.Nearest.{IsNearest, IsEven}
+use Rattle.fixed_bits.specs.Nearest.{IsEven}
+use Rattle.fixed_bits.specs.Rounded.{IsRounded}
+use Rattle.fixed_bits.specs.declared.mode.ReadMode.{ReadMode}
+use Rattle.fixed_bits.proofs.Public.{rounded_close}
 use Rattle.fixed_write.specs.Texts.{point, whole_digits, last_digits, fraction_part, point_text}
 use Rattle.fixed_write.specs.Inner.Digits.{AppendsRounded, AppendsExact, IsBlock}
 use Rattle.fixed_write.proofs.DigitLemmas.{parts_are, whole_digits_short, last_digits_joined, fraction_none, fraction_some, fraction_same}
-use Rattle.fixed_write.proofs.NearLemmas.{even_product, near_after}
+use Rattle.fixed_write.proofs.NearLemmas.{even_product, rounded_after}
 use Rattle.fixed_write.proofs.RestLemmas.{Digits, digits_length, digits_none, digits_more}
 
 -- ---- room and powers
@@ -39,23 +42,23 @@ point_text_parts b u k w d p l =
     rw (parts.0, fraction_same b u k w d p) refl
 
 -- ---- one block
-pub block_places : (b : ℕ) (u : Bool) (c k w d s : ℕ) (before text after : List ℕ) → 0 < b → s ≡ b ^ k → d < s → IsNearest (c * s) (2 ^ 64) (w * s + d) → text ≡ before ++ whole_digits b u w → after ≡ text ++ fraction_part b u k d → AppendsRounded b u c 64 k before after
-block_places b u c k w d s before text after p e l h t a = record {
+pub block_places : (mode : ReadMode) (b : ℕ) (u : Bool) (c k w d s : ℕ) (before text after : List ℕ) → 0 < b → s ≡ b ^ k → d < s → IsRounded mode false (c * s) (2 ^ 64) (w * s + d) → text ≡ before ++ whole_digits b u w → after ≡ text ++ fraction_part b u k d → AppendsRounded mode b u c 64 k before after
+block_places mode b u c k w d s before text after p e l h t a = record {
   number = w * b ^ k + d;
-  near = rw e at h;
+  rounded = rw e at h;
   text_is =
       let l' : d < b ^ k = rw e at l in
       a ∙ rw (t, point_text_parts b u k w d p l') (append_assoc before (whole_digits b u w) (fraction_part b u k d));
 }
 
-pub block_places_none : (b : ℕ) (u : Bool) (c k w d s : ℕ) (before text : List ℕ) → 0 < b → s ≡ b ^ k → d < s → IsNearest (c * s) (2 ^ 64) (w * s + d) → text ≡ before ++ whole_digits b u w → k ≤ 0 → AppendsRounded b u c 64 k before text
-block_places_none b u c k w d s before text p e l h t z =
+pub block_places_none : (mode : ReadMode) (b : ℕ) (u : Bool) (c k w d s : ℕ) (before text : List ℕ) → 0 < b → s ≡ b ^ k → d < s → IsRounded mode false (c * s) (2 ^ 64) (w * s + d) → text ≡ before ++ whole_digits b u w → k ≤ 0 → AppendsRounded mode b u c 64 k before text
+block_places_none mode b u c k w d s before text p e l h t z =
     let none : k ≡ 0 = omega arith in
-    block_places b u c k w d s before text text p e l h t (rw (none, fraction_none b u d) (sym (append-nil text)))
+    block_places mode b u c k w d s before text text p e l h t (rw (none, fraction_none b u d) (sym (append-nil text)))
 
-pub block_places_some : (b : ℕ) (u : Bool) (c k w d s : ℕ) (before text dot after : List ℕ) → 0 < b → s ≡ b ^ k → d < s → IsNearest (c * s) (2 ^ 64) (w * s + d) → text ≡ before ++ whole_digits b u w → 0 < k → dot ≡ text ++ point ∷ [] → after ≡ dot ++ last_digits b u k d → AppendsRounded b u c 64 k before after
-block_places_some b u c k w d s before text dot after p e l h t some f a =
-    block_places b u c k w d s before text after p e l h t (a ∙ rw (f, fraction_some b u k d some) (append_assoc text (point ∷ []) (last_digits b u k d)))
+pub block_places_some : (mode : ReadMode) (b : ℕ) (u : Bool) (c k w d s : ℕ) (before text dot after : List ℕ) → 0 < b → s ≡ b ^ k → d < s → IsRounded mode false (c * s) (2 ^ 64) (w * s + d) → text ≡ before ++ whole_digits b u w → 0 < k → dot ≡ text ++ point ∷ [] → after ≡ dot ++ last_digits b u k d → AppendsRounded mode b u c 64 k before after
+block_places_some mode b u c k w d s before text dot after p e l h t some f a =
+    block_places mode b u c k w d s before text after p e l h t (a ∙ rw (f, fraction_some b u k d some) (append_assoc text (point ∷ []) (last_digits b u k d)))
 
 -- ---- digits and a block
 -- a rest after at least one digit ends in as many zeros as the block needs: it never comes as near to one
@@ -81,31 +84,32 @@ multiple_left x step rest n e is =
         let more : (x - m + 1) * step ≤ rest * step = mul-le-mul_right step (omega arith) in
         omega arith
 
-no_whole : (s step left f : ℕ) → 2 ^ 64 < 2 * step * s → left + step ≤ 2 ^ 64 → IsNearest (left * s) (2 ^ 64) f → f ≤ s → f < s
-no_whole s step left f full room h l = ⊎_elim (λ a. a) (λ (a : s ≤ f).
+no_whole : (mode : ReadMode) (s step left f : ℕ) → 2 ^ 64 ≤ step * s → left + step ≤ 2 ^ 64 → IsRounded mode false (left * s) (2 ^ 64) f → f ≤ s → f < s
+no_whole mode s step left f full room h l = ⊎_elim (λ a. a) (λ (a : s ≤ f).
     let same : f ≡ s = omega arith in
-    let h' : IsNearest (left * s) (2 ^ 64) s = rw same at h in
+    let h' : IsRounded mode false (left * s) (2 ^ 64) s = rw same at h in
+    let close = rounded_close mode false (left * s) (2 ^ 64) s (omega arith) h' in
     let far : (left + step) * s ≤ 2 ^ 64 * s = mul-le-mul_right s room in
-    absurd (omega (arith, h'.near, far))) (cases_lt f s)
+    absurd (omega (arith, close.0, far, full))) (cases_lt f s)
 
 split_power : (a b others step : ℕ) → 0 < a → b ≡ others * step → b ^ a ≡ b ^ (a - 1) * others * step
 split_power zero b others step p e = absurd (omega arith)
 split_power (suc a) b others step p e = rw (pow-suc, sub-one) (ap (λ y. b ^ a * y) e ∙ sym (mul_assoc (b ^ a) others step))
 
-from_none : (left s f : ℕ) → IsNearest ((0 * 2 ^ 64 + left) * s) (2 ^ 64) (0 * s + f) → IsNearest (left * s) (2 ^ 64) f
-from_none left s f h =
+from_none : (mode : ReadMode) (left s f : ℕ) → IsRounded mode false ((0 * 2 ^ 64 + left) * s) (2 ^ 64) (0 * s + f) → IsRounded mode false (left * s) (2 ^ 64) f
+from_none mode left s f h =
     let a : 0 * 2 ^ 64 + left ≡ left = omega arith in
     let b : 0 * s + f ≡ f = omega arith in
     rw (a, b) at h
 
 -- the last block is never one whole
-pub block_below : (b block a r left f s : ℕ) → IsBlock b block → 0 < a → s ≡ b ^ block → left ≡ r * b ^ a % 2 ^ 64 → IsNearest ((0 * 2 ^ 64 + left) * s) (2 ^ 64) (0 * s + f) → f ≤ s → f < b ^ block
-block_below b block a r left f s block_is some e left_is h most =
+pub block_below : (mode : ReadMode) (b block a r left f s : ℕ) → IsBlock b block → 0 < a → s ≡ b ^ block → left ≡ r * b ^ a % 2 ^ 64 → IsRounded mode false ((0 * 2 ^ 64 + left) * s) (2 ^ 64) (0 * s + f) → f ≤ s → f < b ^ block
+block_below mode b block a r left f s block_is some e left_is h most =
     let steps : b ^ a ≡ b ^ (a - 1) * block_is.others * block_is.step = split_power a b block_is.others block_is.step some block_is.divides in
     let ends : left ≡ r * (b ^ (a - 1) * block_is.others) * block_is.step % 2 ^ 64 = left_is ∙ ap (λ y. y % 2 ^ 64) (rw steps (omega arith)) in
     let room : left + block_is.step ≤ 2 ^ 64 = multiple_left (r * (b ^ (a - 1) * block_is.others)) block_is.step block_is.rest left block_is.divides_unit ends in
-    let full : 2 ^ 64 < 2 * block_is.step * s = rw e (omega (arith, block_is.full)) in
-    let less : f < s = no_whole s block_is.step left f full room (from_none left s f h) most in
+    let full : 2 ^ 64 ≤ block_is.step * s = rw e (omega (arith, block_is.full)) in
+    let less : f < s = no_whole mode s block_is.step left f full room (from_none mode left s f h) most in
     rw e at less
 
 split_more : (w r b a block f : ℕ) → (w * 2 ^ 64 + r) * b ^ (a + block) ≡ ((w * b ^ a + r * b ^ a / 2 ^ 64) * 2 ^ 64 + r * b ^ a % 2 ^ 64) * b ^ block
@@ -114,18 +118,18 @@ split_more w r b a block f =
     let lead : (w * 2 ^ 64 + r) * b ^ a ≡ (w * b ^ a + r * b ^ a / 2 ^ 64) * 2 ^ 64 + r * b ^ a % 2 ^ 64 = omega (arith, parts) in
     rw pow-add (sym (mul_assoc (w * 2 ^ 64 + r) (b ^ a) (b ^ block)) ∙ ap (λ x. x * b ^ block) lead)
 
-pub long_places : (b block : ℕ) (u : Bool) (w r a left f k s : ℕ) (before text dot digits after : List ℕ) → IsBlock b block → r < 2 ^ 64 → 0 < a → a + block ≡ k → s ≡ b ^ block → text ≡ before ++ whole_digits b u w → dot ≡ text ++ point ∷ [] → digits ≡ dot ++ last_digits b u a (r * b ^ a / 2 ^ 64) → left ≡ r * b ^ a % 2 ^ 64 → IsNearest ((0 * 2 ^ 64 + left) * s) (2 ^ 64) (0 * s + f) → f ≤ s → after ≡ digits ++ last_digits b u block f → AppendsRounded b u (w * 2 ^ 64 + r) 64 k before after
-long_places b block u w r a left f k s before text dot digits after block_is small some total e t d g left_is h most x =
-    let less' : f < b ^ block = block_below b block a r left f s block_is some e left_is h most in
-    let near : IsNearest (left * s) (2 ^ 64) f = from_none left s f h in
+pub long_places : (mode : ReadMode) (b block : ℕ) (u : Bool) (w r a left f k s : ℕ) (before text dot digits after : List ℕ) → IsBlock b block → r < 2 ^ 64 → 0 < a → a + block ≡ k → s ≡ b ^ block → text ≡ before ++ whole_digits b u w → dot ≡ text ++ point ∷ [] → digits ≡ dot ++ last_digits b u a (r * b ^ a / 2 ^ 64) → left ≡ r * b ^ a % 2 ^ 64 → IsRounded mode false ((0 * 2 ^ 64 + left) * s) (2 ^ 64) (0 * s + f) → f ≤ s → after ≡ digits ++ last_digits b u block f → AppendsRounded mode b u (w * 2 ^ 64 + r) 64 k before after
+long_places mode b block u w r a left f k s before text dot digits after block_is small some total e t d g left_is h most x =
+    let less' : f < b ^ block = block_below mode b block a r left f s block_is some e left_is h most in
+    let near : IsRounded mode false (left * s) (2 ^ 64) f = from_none mode left s f h in
     let two : 0 < b = omega (arith, block_is.low) in
     let even : IsEven s = rw e (even_power_some b block block_is.some block_is.even) in
-    let later : IsNearest (((w * b ^ a + r * b ^ a / 2 ^ 64) * 2 ^ 64 + left) * s) (2 ^ 64) ((w * b ^ a + r * b ^ a / 2 ^ 64) * s + f) = near_after (w * b ^ a + r * b ^ a / 2 ^ 64) left s (2 ^ 64) f even near in
+    let later : IsRounded mode false (((w * b ^ a + r * b ^ a / 2 ^ 64) * 2 ^ 64 + left) * s) (2 ^ 64) ((w * b ^ a + r * b ^ a / 2 ^ 64) * s + f) = rounded_after mode (w * b ^ a + r * b ^ a / 2 ^ 64) left s (2 ^ 64) f (omega arith) even near in
     let all : (w * 2 ^ 64 + r) * b ^ (a + block) ≡ ((w * b ^ a + r * b ^ a / 2 ^ 64) * 2 ^ 64 + left) * s = rw (e, left_is) (split_more w r b a block f) in
     let lead : r * b ^ a / 2 ^ 64 < b ^ a = div_below (r * b ^ a) (2 ^ 64) (b ^ a) (omega arith) (times_less r (b ^ a) (pow_pos' b a two) small) in
     rw (← total) (record {
       number = w * b ^ (a + block) + (r * b ^ a / 2 ^ 64 * b ^ block + f);
-      near = rw (all, number_is w b a block (r * b ^ a / 2 ^ 64) f, ← e) later;
+      rounded = rw (all, number_is w b a block (r * b ^ a / 2 ^ 64) f, ← e) later;
       text_is = x ∙ rw (g, d, t, point_text_parts b u (a + block) w (r * b ^ a / 2 ^ 64 * b ^ block + f) two (joined_less (b ^ a) (b ^ block) (r * b ^ a / 2 ^ 64) f (b ^ (a + block)) (pow-add b a block) lead less'), fraction_some b u (a + block) (r * b ^ a / 2 ^ 64 * b ^ block + f) (omega arith), last_digits_joined b u a block (r * b ^ a / 2 ^ 64) f two less') (regroup before (whole_digits b u w) (last_digits b u a (r * b ^ a / 2 ^ 64)) (last_digits b u block f));
     })
   where

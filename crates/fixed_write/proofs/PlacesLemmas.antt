@@ -1,5 +1,5 @@
 -- Rounded and exact texts: the computed one is the text, its length, and that it is ASCII.
-use Rattle.std.proofs.Common.{◌≡◌, ℕ, zero, suc, ◌+◌, ◌-◌, ◌*◌, ◌/◌, ◌%◌, ◌^◌, ◌<◌, ◌≤◌, ◌==◌, Bool, true, false, List, ◌++◌, length, ℤ, unsigned_abs, refl, sym, ap, ◌∙◌, ⊎_elim, arith, pow_pos, le_antisymm, length-append, append_assoc, div-add-mod', pos, negsuc, mul-le-mul_right, mul-le-mul_left}
+use Rattle.std.proofs.Common.{◌≡◌, ℕ, zero, suc, ◌+◌, ◌-◌, ◌*◌, ◌/◌, ◌%◌, ◌^◌, ◌<◌, ◌≤◌, ◌==◌, Bool, true, false, List, ◌++◌, length, ℤ, unsigned_abs, refl, sym, ap, ◌∙◌, ⊎_elim, arith, pow_pos, le_antisymm, length-append, append_assoc, div-add-mod', mod-lt, nat_lt, subst, pos, negsuc, mul-le-mul_right, mul-le-mul_left}
 use Rattle.std.proofs.lemmas.Bool.{cases_Bool, cases_lt, eqb-true}
 use Rattle.std.proofs.lemmas.Bool.Decides.{nat_tests}
 use Rattle.std.proofs.lemmas.Nat.{mul-pow, div_below}
@@ -9,13 +9,15 @@ use Rattle.std.specs.Str.{IsAscii}
 use Rattle.std.proofs.lemmas.Str.{IsAscii-append}
 use Rattle.std.specs.Fmt.{sign_text}
 use Rattle.std.specs.Int.{is_negative}
-use Rattle.fixed_bits.specs.Nearest.{IsNearest, IsEven}
-use Rattle.fixed_bits.proofs.Public.{nearest_unique}
+use Rattle.fixed_bits.specs.Nearest.{IsEven}
+use Rattle.fixed_bits.specs.Rounded.{IsNearestGreater, IsNearestLesser, IsNotAbove, IsNotBelow, IsRounded, magnitude_mode}
+use Rattle.fixed_bits.specs.declared.mode.ReadMode.{ReadMode}
+use Rattle.fixed_bits.specs.declared.mode.ReadMode.TheVariants.{AwayFromZero, Ceil, Floor, NearestAway, NearestDown, NearestEven, NearestUp, NearestZero, TowardsZero}
+use Rattle.fixed_bits.proofs.Public.{magnitude_rounded, rounded_close, rounded_unique}
 use Rattle.fixed_write.specs.Laws.{RoundedTextIsComputed, ExactTextIsComputed}
-use Rattle.fixed_write.specs.Shortest.{nearest_number}
 use Rattle.fixed_write.specs.Texts.{point_text, whole_digits, fraction_part}
 use Rattle.fixed_write.proofs.DigitLemmas.{fraction_none, fraction_suc, last_digits_length, whole_digits_short}
-use Rattle.fixed_write.specs.Places.{IsRoundedText, IsExactText, IsExact, rounded_text, exact_text, exact_places, exact_places_from}
+use Rattle.fixed_write.specs.Places.{IsRoundedText, IsExactText, IsExact, nearest_greater, nearest_lesser, number_above, number_below, rounded_number, rounded_text, exact_text, exact_places, exact_places_from}
 use Rattle.fixed_bits.specs.Ranges.{IsWide}
 use Rattle.fixed_write.specs.Bases.{number_of, has_capitals}
 use Rattle.fixed_write.specs.declared.in_place.Base.{Base}
@@ -26,22 +28,71 @@ use Rattle.fixed_write.proofs.ComputedLemmas.{nearest_number_is}
 use Rattle.fixed_write.proofs.AsciiLemmas.{sign_ascii, point_text_ascii}
 
 -- ---- rounded
-pub rounded_text_is : (base : ℕ) (upper : Bool) (k : ℕ) (c : ℤ) (g : ℕ) → IsRoundedText base upper k c g (rounded_text base upper k c g)
+number_below_is : (num den : ℕ) → 0 < den → IsNotAbove num den (number_below num den)
+unfolding number_below
+number_below_is num den some =
+    let split : num ≡ num / den * den + num % den = sym (div-add-mod' num den) in
+    let low : num % den < den = mod-lt num some in
+    record { at_most = omega arith; next = omega arith }
+
+number_above_is : (num den : ℕ) → 0 < den → IsNotBelow num den (number_above num den)
+unfolding number_above
+number_above_is num den some =
+    let split : num ≡ num / den * den + num % den = sym (div-add-mod' num den) in
+    let low : num % den < den = mod-lt num some in
+    ⊎_elim (λ t. rw t (let none = eqb-true (num % den) 0 t in record { at_least = omega arith; before = omega arith }))
+    (λ f. rw f (let more : 0 < num % den = grind (arith, nat_tests) in record { at_least = omega arith; before = omega arith }))
+    (cases_Bool (num % den == 0))
+
+nearest_greater_is : (num den : ℕ) → 0 < den → IsNearestGreater num den (nearest_greater num den)
+unfolding nearest_greater
+nearest_greater_is num den some =
+    let split : num ≡ num / den * den + num % den = sym (div-add-mod' num den) in
+    let low : num % den < den = mod-lt num some in
+    ⊎_elim (λ t. rw t (let less : 2 * (num % den) < den = grind (arith, nat_tests) in record { near = omega arith; tie = λ e. omega arith }))
+    (λ f. rw f (let more : den ≤ 2 * (num % den) = grind (arith, nat_tests) in record { near = omega arith; tie = λ e. omega arith }))
+    (cases_Bool (nat_lt (2 * (num % den)) den))
+
+nearest_lesser_is : (num den : ℕ) → 0 < den → IsNearestLesser num den (nearest_lesser num den)
+unfolding nearest_lesser
+nearest_lesser_is num den some =
+    let split : num ≡ num / den * den + num % den = sym (div-add-mod' num den) in
+    let low : num % den < den = mod-lt num some in
+    ⊎_elim (λ t. rw t (let more : den < 2 * (num % den) = grind (arith, nat_tests) in record { near = omega arith; tie = λ e. omega arith }))
+    (λ f. rw f (let less : 2 * (num % den) ≤ den = grind (arith, nat_tests) in record { near = omega arith; tie = λ e. omega arith }))
+    (cases_Bool (nat_lt den (2 * (num % den))))
+
+pub rounded_number_is : (mode : ReadMode) (negative : Bool) (num den : ℕ) → 0 < den → IsRounded mode negative num den (rounded_number mode negative num den)
+rounded_number_is NearestEven n num den some = nearest_number_is num den some
+rounded_number_is NearestAway n num den some = nearest_greater_is num den some
+rounded_number_is NearestZero n num den some = nearest_lesser_is num den some
+rounded_number_is NearestUp false num den some = nearest_greater_is num den some
+rounded_number_is NearestUp true num den some = nearest_lesser_is num den some
+rounded_number_is NearestDown false num den some = nearest_lesser_is num den some
+rounded_number_is NearestDown true num den some = nearest_greater_is num den some
+rounded_number_is Floor false num den some = number_below_is num den some
+rounded_number_is Floor true num den some = number_above_is num den some
+rounded_number_is Ceil false num den some = number_above_is num den some
+rounded_number_is Ceil true num den some = number_below_is num den some
+rounded_number_is TowardsZero n num den some = number_below_is num den some
+rounded_number_is AwayFromZero n num den some = number_above_is num den some
+
+pub rounded_text_is : (mode : ReadMode) (base : ℕ) (upper : Bool) (k : ℕ) (c : ℤ) (g : ℕ) → IsRoundedText mode base upper k c g (rounded_text mode base upper k c g)
 unfolding rounded_text
-rounded_text_is base upper k c g = record {
-  number = nearest_number (unsigned_abs c * base ^ k) (2 ^ g);
-  near = nearest_number_is (unsigned_abs c * base ^ k) (2 ^ g) (pow_pos g);
+rounded_text_is mode base upper k c g = record {
+  number = rounded_number mode (is_negative c) (unsigned_abs c * base ^ k) (2 ^ g);
+  rounded = rounded_number_is mode (is_negative c) (unsigned_abs c * base ^ k) (2 ^ g) (pow_pos g);
   text_is = refl;
 }
 
-pub rounded_text_unique : (base : ℕ) (upper : Bool) (k : ℕ) (c : ℤ) (g : ℕ) (a b : List ℕ) → IsRoundedText base upper k c g a → IsRoundedText base upper k c g b → a ≡ b
-rounded_text_unique base upper k c g a b h i =
-    let same : h.number ≡ i.number = nearest_unique (unsigned_abs c * base ^ k) (2 ^ g) h.number i.number (pow_pos g) h.near i.near in
+pub rounded_text_unique : (mode : ReadMode) (base : ℕ) (upper : Bool) (k : ℕ) (c : ℤ) (g : ℕ) (a b : List ℕ) → IsRoundedText mode base upper k c g a → IsRoundedText mode base upper k c g b → a ≡ b
+rounded_text_unique mode base upper k c g a b h i =
+    let same : h.number ≡ i.number = rounded_unique mode (is_negative c) (unsigned_abs c * base ^ k) (2 ^ g) h.number i.number (pow_pos g) h.rounded i.rounded in
     h.text_is ∙ (rw same refl ∙ sym i.text_is)
 
-pub rounded_text_ascii : (base : ℕ) (upper : Bool) (k : ℕ) (c : ℤ) (g : ℕ) → 2 ≤ base → base ≤ 16 → IsAscii (rounded_text base upper k c g)
+pub rounded_text_ascii : (mode : ReadMode) (base : ℕ) (upper : Bool) (k : ℕ) (c : ℤ) (g : ℕ) → 2 ≤ base → base ≤ 16 → IsAscii (rounded_text mode base upper k c g)
 unfolding rounded_text
-rounded_text_ascii base upper k c g two small = IsAscii-append (sign_text (is_negative c)) _ (sign_ascii (is_negative c)) (point_text_ascii base upper k _ two small)
+rounded_text_ascii mode base upper k c g two small = IsAscii-append (sign_text (is_negative c)) _ (sign_ascii (is_negative c)) (point_text_ascii base upper k _ two small)
 
 -- ---- exact
 exact_unique : (base c g k n j m : ℕ) → IsExact base c g k n → IsExact base c g j m → (k ≡ j) × (n ≡ m)
@@ -122,9 +173,9 @@ exact_text_is base upper c g even = record {
 }
 
 pub rounded_text_computed : RoundedTextIsComputed
-rounded_text_computed base upper k c g text = (
-  (λ h. rounded_text_unique base upper k c g text (rounded_text base upper k c g) h (rounded_text_is base upper k c g)),
-  (λ e. rw e (rounded_text_is base upper k c g)),
+rounded_text_computed mode base upper k c g text = (
+  (λ h. rounded_text_unique mode base upper k c g text (rounded_text mode base upper k c g) h (rounded_text_is mode base upper k c g)),
+  (λ e. rw e (rounded_text_is mode base upper k c g)),
 )
 
 pub exact_text_computed : ExactTextIsComputed
@@ -141,15 +192,16 @@ exact_text_ascii base upper c g two small = IsAscii-append (sign_text (is_negati
 regroup : (old sign start text : List ℕ) → start ≡ old ++ sign → start ++ text ≡ old ++ (sign ++ text)
 regroup old sign start text e = ap (λ (t : List ℕ). t ++ text) e ∙ append_assoc old sign text
 
-pub rounded_of_parts : (base : ℕ) (upper : Bool) (v : ℤ) (m g k w r : ℕ) (old start after : List ℕ) → g ≤ 64 → m ≡ unsigned_abs v → w ≡ m / 2 ^ g → r ≡ m % 2 ^ g * 2 ^ (64 - g) → start ≡ old ++ sign_text (is_negative v) → AppendsRounded base upper (w * 2 ^ 64 + r) 64 k start after → after ≡ old ++ rounded_text base upper k v g
-rounded_of_parts base upper v m g k w r old start after l me we re s h =
-    let p : AppendsRounded base upper m g k start after = places_of base upper m g k w r start after l we re h in
-    let printed : IsRoundedText base upper k v g (sign_text (is_negative v) ++ point_text base upper k p.number) = record {
+pub rounded_of_parts : (mode own : ReadMode) (base : ℕ) (upper : Bool) (v : ℤ) (m g k w r : ℕ) (old start after : List ℕ) → own ≡ magnitude_mode mode (is_negative v) → g ≤ 64 → m ≡ unsigned_abs v → w ≡ m / 2 ^ g → r ≡ m % 2 ^ g * 2 ^ (64 - g) → start ≡ old ++ sign_text (is_negative v) → AppendsRounded own base upper (w * 2 ^ 64 + r) 64 k start after → after ≡ old ++ rounded_text mode base upper k v g
+rounded_of_parts mode own base upper v m g k w r old start after own_is l me we re s h =
+    let h' : AppendsRounded (magnitude_mode mode (is_negative v)) base upper (w * 2 ^ 64 + r) 64 k start after = subst (λ (x : ReadMode). AppendsRounded x base upper (w * 2 ^ 64 + r) 64 k start after) own_is h in
+    let p : AppendsRounded (magnitude_mode mode (is_negative v)) base upper m g k start after = places_of (magnitude_mode mode (is_negative v)) base upper m g k w r start after l we re h' in
+    let printed : IsRoundedText mode base upper k v g (sign_text (is_negative v) ++ point_text base upper k p.number) = record {
       number = p.number;
-      near = rw (← me) p.near;
+      rounded = rw (← me) (magnitude_rounded mode (is_negative v) (m * base ^ k) (2 ^ g) p.number p.rounded);
       text_is = refl;
     } in
-    p.text_is ∙ (regroup old (sign_text (is_negative v)) start (point_text base upper k p.number) s ∙ ap (λ (t : List ℕ). old ++ t) (rounded_text_unique base upper k v g _ _ printed (rounded_text_is base upper k v g)))
+    p.text_is ∙ (regroup old (sign_text (is_negative v)) start (point_text base upper k p.number) s ∙ ap (λ (t : List ℕ). old ++ t) (rounded_text_unique mode base upper k v g _ _ printed (rounded_text_is mode base upper k v g)))
 
 pub exact_of_parts : (base : ℕ) (upper : Bool) (v : ℤ) (m g w r : ℕ) (old start after : List ℕ) → IsEven base → g ≤ 64 → m ≡ unsigned_abs v → w ≡ m / 2 ^ g → r ≡ m % 2 ^ g * 2 ^ (64 - g) → start ≡ old ++ sign_text (is_negative v) → AppendsExact base upper (w * 2 ^ 64 + r) 64 start after → after ≡ old ++ exact_text base upper v g
 exact_of_parts base upper v m g w r old start after even l me we re s h =
@@ -202,21 +254,23 @@ unfolding point_text
 text_short negative b u k n most two some l =
     omega (arith, length-append (sign_text negative) (whole_digits b u (n / b ^ k) ++ fraction_part b u k n), length-append (whole_digits b u (n / b ^ k)) (fraction_part b u k n), sign_short negative, fraction_short b u k n, whole_digits_short b u most (n / b ^ k) two some l)
 
--- the nearest number is hardly above the number
-nearest_small : (num den q : ℕ) → 0 < den → IsNearest num den q → q ≤ num + 1
-nearest_small num den q some h = ⊎_elim (λ (a : num + 1 < q).
+-- the rounded number is hardly above the number
+rounded_small : (mode : ReadMode) (negative : Bool) (num den q : ℕ) → 0 < den → IsRounded mode negative num den q → q ≤ num + 1
+rounded_small mode negative num den q some h =
+    let close = (rounded_close mode negative num den q some h).0 in
+    ⊎_elim (λ (a : num + 1 < q).
     let far : (num + 2) * den ≤ q * den = mul-le-mul_right den (omega arith) in
     let more : num * 1 ≤ num * den = mul-le-mul_left num some in
-    absurd (omega (arith, h.near))) (λ a. a) (cases_lt (num + 1) q)
+    absurd (omega arith)) (λ a. a) (cases_lt (num + 1) q)
 
-pub rounded_length : (v : ℤ) (g k : ℕ) → IsWide v → g ≤ 64 → k ≤ 64 → length (rounded_text 10 false k v g) ≤ 86
+pub rounded_length : (mode : ReadMode) (v : ℤ) (g k : ℕ) → IsWide v → g ≤ 64 → k ≤ 64 → length (rounded_text mode 10 false k v g) ≤ 86
 unfolding rounded_text
-rounded_length v g k h l m =
-    let n : ℕ = nearest_number (unsigned_abs v * 10 ^ k) (2 ^ g) in
-    let small : nearest_number (unsigned_abs v * 10 ^ k) (2 ^ g) ≤ unsigned_abs v * 10 ^ k + 1 = nearest_small (unsigned_abs v * 10 ^ k) (2 ^ g) _ (pow_pos g) (nearest_number_is (unsigned_abs v * 10 ^ k) (2 ^ g) (pow_pos g)) in
+rounded_length mode v g k h l m =
+    let n : ℕ = rounded_number mode (is_negative v) (unsigned_abs v * 10 ^ k) (2 ^ g) in
+    let small : n ≤ unsigned_abs v * 10 ^ k + 1 = rounded_small mode (is_negative v) (unsigned_abs v * 10 ^ k) (2 ^ g) n (pow_pos g) (rounded_number_is mode (is_negative v) (unsigned_abs v * 10 ^ k) (2 ^ g) (pow_pos g)) in
     let some : 0 < 10 ^ k = one-le-pow k 10 (omega arith) in
-    let whole : nearest_number (unsigned_abs v * 10 ^ k) (2 ^ g) / 10 ^ k < unsigned_abs v + 2 = div_below (nearest_number (unsigned_abs v * 10 ^ k) (2 ^ g)) (10 ^ k) (unsigned_abs v + 2) some (below (unsigned_abs v) (10 ^ k) _ some small) in
-    omega (arith, text_short (is_negative v) 10 false k (nearest_number (unsigned_abs v * 10 ^ k) (2 ^ g)) 20 (omega arith) (omega arith) (omega (arith, whole, wide_magnitude v h)))
+    let whole : n / 10 ^ k < unsigned_abs v + 2 = div_below n (10 ^ k) (unsigned_abs v + 2) some (below (unsigned_abs v) (10 ^ k) n some small) in
+    omega (arith, text_short (is_negative v) 10 false k n 20 (omega arith) (omega arith) (omega (arith, whole, wide_magnitude v h)))
   where
     below : (c s n : ℕ) → 0 < s → n ≤ c * s + 1 → n < (c + 2) * s
     below c s n p l = omega arith

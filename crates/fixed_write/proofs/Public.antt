@@ -4,6 +4,7 @@ use Rattle.std.specs.Fmt.{decimal, digit_glyph}
 use Rattle.fixed_bits.specs.Nearest.{IsEven}
 use Rattle.fixed_bits.specs.Ranges.{IsWide}
 use Rattle.fixed_write.specs.Laws.{PairIsNearest, PairIsTheOne, TextIsTheOne}
+use Rattle.fixed_bits.specs.declared.mode.ReadMode.TheVariants.{NearestEven}
 use Rattle.fixed_write.specs.Places.{IsExactText, exact_text, rounded_text}
 use Rattle.fixed_write.specs.Shortest.{IsShortest}
 use Rattle.fixed_write.specs.Texts.{IsShortestText, shortest_text, whole_digits, last_digits, fraction_part, point, zero_digit}
@@ -44,7 +45,7 @@ pub exact_text_is : (base : ℕ) (upper : Bool) (c : ℤ) (g : ℕ) → IsEven b
 exact_text_is = PlacesLemmas.exact_text_is
 
 -- a value to more than 64 places ends in zeros
-pub rounded_zeros : (z : ℕ) (c : ℤ) (g : ℕ) → g ≤ 64 → rounded_text 10 false (64 + z) c g ≡ rounded_text 10 false 64 c g ++ replicate z zero_digit
+pub rounded_zeros : (z : ℕ) (c : ℤ) (g : ℕ) → g ≤ 64 → rounded_text NearestEven 10 false (64 + z) c g ≡ rounded_text NearestEven 10 false 64 c g ++ replicate z zero_digit
 rounded_zeros = StyledLemmas.rounded_zeros
 
 -- ---- numbers

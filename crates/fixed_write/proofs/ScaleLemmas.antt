@@ -1,11 +1,13 @@
 -- Steps of 2^-64 and ulps of 2^-g.
-use Rattle.std.proofs.Common.{◌≡◌, ℕ, zero, suc, ◌+◌, ◌-◌, ◌*◌, ◌/◌, ◌%◌, ◌^◌, ◌<◌, ◌≤◌, Bool, List, ℤ, unsigned_abs, refl, sym, ap, ◌∙◌, arith, pow_pos, mul_assoc, mul_comm, div-add-mod', mul-le-mul_left}
+use Rattle.std.proofs.Math.Nat.{mul-le-mul}
+use Rattle.std.proofs.Common.{false, ◌≡◌, ℕ, zero, suc, ◌+◌, ◌-◌, ◌*◌, ◌/◌, ◌%◌, ◌^◌, ◌<◌, ◌≤◌, Bool, List, ℤ, unsigned_abs, refl, sym, ap, ◌∙◌, arith, pow_pos, mul_assoc, mul_comm, div-add-mod', mul-le-mul_left}
 use Rattle.std.proofs.Math.Nat.{mul-div_cancel_left, pow-le-pow_right}
 use Rattle.std.proofs.lemmas.Nat.{pow-add, div_below}
 use Rattle.std.specs.Fmt.{sign_text}
 use Rattle.std.specs.Int.{is_negative}
-use Rattle.fixed_bits.specs.Nearest.{IsNearest}
-use Rattle.fixed_bits.proofs.Public.{nearest_scaled}
+use Rattle.fixed_bits.specs.Rounded.{IsRounded}
+use Rattle.fixed_bits.specs.declared.mode.ReadMode.{ReadMode}
+use Rattle.fixed_bits.proofs.Public.{rounded_same}
 use Rattle.fixed_write.specs.Places.{IsExact, IsRoundedText, IsExactText}
 use Rattle.fixed_write.specs.Inner.Digits.{AppendsRounded, AppendsExact, IsBlock}
 
@@ -21,18 +23,17 @@ in_units m g w r l e f =
     product : (q u s r m : ℕ) → m ≡ q * u + r → q * (u * s) + r * s ≡ s * m
     product q u s r m e = rw e (omega arith)
 
-pub places_of : (b : ℕ) (u : Bool) (m g k w r : ℕ) (before after : List ℕ) → g ≤ 64 → w ≡ m / 2 ^ g → r ≡ m % 2 ^ g * 2 ^ (64 - g) → AppendsRounded b u (w * 2 ^ 64 + r) 64 k before after → AppendsRounded b u m g k before after
-places_of b u m g k w r before after l we re h = record {
+pub places_of : (mode : ReadMode) (b : ℕ) (u : Bool) (m g k w r : ℕ) (before after : List ℕ) → g ≤ 64 → w ≡ m / 2 ^ g → r ≡ m % 2 ^ g * 2 ^ (64 - g) → AppendsRounded mode b u (w * 2 ^ 64 + r) 64 k before after → AppendsRounded mode b u m g k before after
+places_of mode b u m g k w r before after l we re h = record {
   number = h.number;
-  near = near_of (2 ^ (64 - g)) m (b ^ k) (2 ^ g) h.number (pow_pos (64 - g)) (rw (in_units m g w r l we re, whole_power g l) at h.near);
+  rounded = rounded_of (2 ^ (64 - g)) m (b ^ k) (2 ^ g) h.number (pow_pos (64 - g)) (pow_pos g) (rw (in_units m g w r l we re, whole_power g l) at h.rounded);
   text_is = h.text_is;
 }
   where
-    near_of : (s m p u n : ℕ) → 0 < s → IsNearest (s * m * p) (u * s) n → IsNearest (m * p) u n
-    near_of s m p u n some h =
-        let e : s * m * p ≡ s * (m * p) = mul_assoc s m p in
-        let f : u * s ≡ s * u = mul_comm u s in
-        (nearest_scaled s (m * p) u n some).0 (rw (e, f) at h)
+    rounded_of : (s m p u n : ℕ) → 0 < s → 0 < u → IsRounded mode false (s * m * p) (u * s) n → IsRounded mode false (m * p) u n
+    rounded_of s m p u n some unit h =
+        let product : 1 * 1 ≤ u * s = mul-le-mul unit some in
+        rounded_same mode false (s * m * p) (u * s) (m * p) u n (omega (arith, product)) unit (omega arith) h
 
 cancel : (s x y : ℕ) → 0 < s → s * x ≡ s * y → x ≡ y
 cancel s x y some e = sym (mul-div_cancel_left x some) ∙ (ap (λ z. z / s) e ∙ mul-div_cancel_left y some)

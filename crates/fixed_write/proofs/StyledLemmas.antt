@@ -10,6 +10,7 @@ use Rattle.fixed_bits.specs.Nearest.{IsNearest}
 use Rattle.fixed_bits.proofs.Public.{nearest_by_rest, nearest_unique}
 use Rattle.fixed_write.specs.declared.style.Notation.{Notation}
 use Rattle.fixed_write.specs.declared.style.Notation.TheVariants.{Dec, LowerExp, UpperExp, Bin, Oct, LowerHex, UpperHex}
+use Rattle.fixed_bits.specs.declared.mode.ReadMode.TheVariants.{NearestEven}
 use Rattle.fixed_write.specs.Places.{rounded_text}
 use Rattle.fixed_write.specs.Shortest.{nearest_number}
 use Rattle.fixed_write.specs.Texts.{IsShortestText, decimal_text, whole_digits, last_digits, fraction_part, point_text, point, zero_digit}
@@ -145,7 +146,7 @@ moved_places : (c x y n u : ℕ) → c * x ≡ n * u → c * (x * y) ≡ n * y *
 moved_places c x y n u e = let f : c * x * y ≡ n * u * y = ap (λ t. t * y) e in omega arith
 
 -- a value to more than 64 places ends in zeros
-pub rounded_zeros : (z : ℕ) (c : ℤ) (g : ℕ) → g ≤ 64 → rounded_text 10 false (64 + z) c g ≡ rounded_text 10 false 64 c g ++ replicate z zero_digit
+pub rounded_zeros : (z : ℕ) (c : ℤ) (g : ℕ) → g ≤ 64 → rounded_text NearestEven 10 false (64 + z) c g ≡ rounded_text NearestEven 10 false 64 c g ++ replicate z zero_digit
 unfolding rounded_text
 rounded_zeros z c g l =
     let m : ℕ = unsigned_abs c in
@@ -156,18 +157,18 @@ rounded_zeros z c g l =
     let same : nearest_number (m * 10 ^ (64 + z)) (2 ^ g) ≡ n * 10 ^ z = nearest_unique (m * 10 ^ (64 + z)) (2 ^ g) (nearest_number (m * 10 ^ (64 + z)) (2 ^ g)) (n * 10 ^ z) (pow_pos g) (nearest_number_is (m * 10 ^ (64 + z)) (2 ^ g) (pow_pos g)) near in
     rw (same, more_places 10 false n 64 z (omega arith) (omega arith)) (sym (append_assoc (sign_text (is_negative c)) (point_text 10 false 64 n) (replicate z zero_digit)))
 
-short_body : (notation : Notation) (p c g k z : ℕ) (before after : List ℕ) → k ≡ p → z ≡ 0 → AppendsRounded (base_of notation) (is_upper notation) c g k before after → AppendsBody notation (Some p) c g before after z
+short_body : (notation : Notation) (p c g k z : ℕ) (before after : List ℕ) → k ≡ p → z ≡ 0 → AppendsRounded NearestEven (base_of notation) (is_upper notation) c g k before after → AppendsBody notation (Some p) c g before after z
 short_body notation p c g k z before after e f h = record {
   body = point_text (base_of notation) (is_upper notation) k h.number;
-  is_body = record { number = h.number; places = k; shown = (e, rw e at h.near); body_is = refl };
+  is_body = record { number = h.number; places = k; shown = (e, rw e at h.rounded); body_is = refl };
   text = rw f (append-nil after ∙ h.text_is);
 }
 
-long_body : (notation : Notation) (p c g z : ℕ) (before after : List ℕ) → g ≤ 64 → p ≡ 64 + z → AppendsRounded (base_of notation) (is_upper notation) c g 64 before after → AppendsBody notation (Some p) c g before after z
+long_body : (notation : Notation) (p c g z : ℕ) (before after : List ℕ) → g ≤ 64 → p ≡ 64 + z → AppendsRounded NearestEven (base_of notation) (is_upper notation) c g 64 before after → AppendsBody notation (Some p) c g before after z
 long_body notation p c g z before after l e h =
     let even = base_even notation in
     let some : 0 < base_of notation = base_some notation in
-    let exact : c * base_of notation ^ 64 ≡ h.number * 2 ^ g = all_exact (base_of notation) even.0 c g h.number even.1 l h.near in
+    let exact : c * base_of notation ^ 64 ≡ h.number * 2 ^ g = all_exact (base_of notation) even.0 c g h.number even.1 l h.rounded in
     let power : base_of notation ^ p ≡ base_of notation ^ 64 * base_of notation ^ z = ap (λ x. base_of notation ^ x) e ∙ pow-add (base_of notation) 64 z in
     let steps : c * base_of notation ^ p ≡ h.number * base_of notation ^ z * 2 ^ g = ap (λ x. c * x) power ∙ moved_places c (base_of notation ^ 64) (base_of notation ^ z) h.number (2 ^ g) exact in
     record {
@@ -176,12 +177,12 @@ long_body notation p c g z before after l e h =
       text = rw (h.text_is, e, more_places (base_of notation) (is_upper notation) h.number 64 z some (omega arith)) (append_assoc before (point_text (base_of notation) (is_upper notation) 64 h.number) (replicate z zero_digit));
     }
 
-pub rounded_body : (notation : Notation) (p c g k z : ℕ) (before after : List ℕ) → g ≤ 64 → k ≡ min p 64 → z ≡ p - k → AppendsRounded (base_of notation) (is_upper notation) c g k before after → AppendsBody notation (Some p) c g before after z
+pub rounded_body : (notation : Notation) (p c g k z : ℕ) (before after : List ℕ) → g ≤ 64 → k ≡ min p 64 → z ≡ p - k → AppendsRounded NearestEven (base_of notation) (is_upper notation) c g k before after → AppendsBody notation (Some p) c g before after z
 rounded_body notation p c g k z before after l e f h = ⊎_elim
     (λ (a : p < 65). short_body notation p c g k z before after (omega arith) (omega arith) h)
     (λ (a : 65 ≤ p).
     let all : k ≡ 64 = omega arith in
-    let h' : AppendsRounded (base_of notation) (is_upper notation) c g 64 before after = rw all at h in
+    let h' : AppendsRounded NearestEven (base_of notation) (is_upper notation) c g 64 before after = rw all at h in
     long_body notation p c g z before after l (omega arith) h')
     (cases_lt p 65)
 

@@ -1,23 +1,58 @@
 -- A value to a count of places in a base, rounded or exactly.
-use Rattle.std.specs.Prelude.{◌≡◌, ℕ, zero, suc, ◌*◌, ◌/◌, ◌%◌, ◌^◌, ◌≤◌, ◌==◌, Bool, if◌then◌else◌, List, ◌++◌, ℤ}
+use Rattle.std.specs.Prelude.{◌≡◌, ℕ, zero, suc, ◌+◌, ◌*◌, ◌/◌, ◌%◌, ◌^◌, ◌≤◌, ◌==◌, Bool, true, false, List, ◌++◌, ℤ}
+use Rattle.std.specs.Prelude.{if◌then◌else◌, nat_lt}
 use Rattle.std.specs.Prelude.{unsigned_abs}
 use Rattle.std.specs.Fmt.{sign_text}
 use Rattle.std.specs.Int.{is_negative}
-use Rattle.fixed_bits.specs.Nearest.{IsNearest}
+use Rattle.fixed_bits.specs.Rounded.{IsRounded}
+use Rattle.fixed_bits.specs.declared.mode.ReadMode.{ReadMode}
+use Rattle.fixed_bits.specs.declared.mode.ReadMode.TheVariants.{AwayFromZero, Ceil, Floor, NearestAway, NearestDown}
+use Rattle.fixed_bits.specs.declared.mode.ReadMode.TheVariants.{NearestEven, NearestUp, NearestZero, TowardsZero}
 use Rattle.fixed_write.specs.Shortest.{nearest_number}
 use Rattle.fixed_write.specs.Texts.{point_text}
 
 -- ---- rounded
--- text is c / 2^g to k places of the base, rounded to the nearest with ties to even
-pub record IsRoundedText (base : ℕ) (upper : Bool) (k : ℕ) (c : ℤ) (g : ℕ) (text : List ℕ) : Type 0 where
+-- text is c / 2^g to k places of the base, rounded in the mode
+pub record IsRoundedText (mode : ReadMode) (base : ℕ) (upper : Bool) (k : ℕ) (c : ℤ) (g : ℕ)
+    (text : List ℕ) : Type 0 where
   pub number : ℕ
-  pub near : IsNearest (unsigned_abs c * base ^ k) (2 ^ g) number
+  pub rounded : IsRounded mode (is_negative c) (unsigned_abs c * base ^ k) (2 ^ g) number
   pub text_is : text ≡ sign_text (is_negative c) ++ point_text base upper k number
 
+-- the greatest number that is not above num / den, and the least that is not below it
+unfoldable pub number_below : ℕ → ℕ → ℕ
+number_below num den = num / den
+
+unfoldable pub number_above : ℕ → ℕ → ℕ
+number_above num den = if num % den == 0 then num / den else num / den + 1
+
+-- the nearest number, and of two equally near the greater, or the lesser
+unfoldable pub nearest_greater : ℕ → ℕ → ℕ
+nearest_greater num den = if nat_lt (2 * (num % den)) den then num / den else num / den + 1
+
+unfoldable pub nearest_lesser : ℕ → ℕ → ℕ
+nearest_lesser num den = if nat_lt den (2 * (num % den)) then num / den + 1 else num / den
+
+-- the rounded magnitude num / den of a number that is negative or not, computed
+abbrev pub rounded_number : ReadMode → Bool → ℕ → ℕ → ℕ
+rounded_number NearestEven negative num den = nearest_number num den
+rounded_number NearestAway negative num den = nearest_greater num den
+rounded_number NearestZero negative num den = nearest_lesser num den
+rounded_number NearestUp false num den = nearest_greater num den
+rounded_number NearestUp true num den = nearest_lesser num den
+rounded_number NearestDown false num den = nearest_lesser num den
+rounded_number NearestDown true num den = nearest_greater num den
+rounded_number Floor false num den = number_below num den
+rounded_number Floor true num den = number_above num den
+rounded_number Ceil false num den = number_above num den
+rounded_number Ceil true num den = number_below num den
+rounded_number TowardsZero negative num den = number_below num den
+rounded_number AwayFromZero negative num den = number_above num den
+
 -- that text, computed
-unfoldable pub rounded_text : ℕ → Bool → ℕ → ℤ → ℕ → List ℕ
-rounded_text base upper k c g = sign_text (is_negative c) ++ point_text base upper k
-    (nearest_number (unsigned_abs c * base ^ k) (2 ^ g))
+unfoldable pub rounded_text : ReadMode → ℕ → Bool → ℕ → ℤ → ℕ → List ℕ
+rounded_text mode base upper k c g = sign_text (is_negative c) ++ point_text base upper k
+    (rounded_number mode (is_negative c) (unsigned_abs c * base ^ k) (2 ^ g))
 
 -- ---- exactly
 -- n / base^k is exactly c ulps of 2^-g, and no fewer places would do

@@ -20,6 +20,7 @@ use crate::integer::push_integer;
 use crate::places::{Split, push_rounded_in, split_of};
 use crate::printer::{Fraction, padded_fraction, rest_of, scaled, whole_of};
 use crate::style::Notation;
+use fixed_bits::ReadMode;
 use text_buffer::TextBuffer;
 
 /// Figures, without the zeros that are counted: at most twenty digits before the point, and 64 after it.
@@ -182,7 +183,7 @@ fn push_rounded_places(out: &mut Figures, value: Split, decade: u32, precision: 
 {
     let places = (precision - decade).min(EXACT_PLACES);
     let mut text: Figures = TextBuffer::new();
-    push_rounded_in::<10, 19, 136>(&mut text, value, places, false);
+    push_rounded_in::<10, 19, 136>(&mut text, value, places, false, ReadMode::NearestEven);
     let whole = whole_len(&text, places);
     if whole == decade as usize + 1 {
         push_without_point(out, &text, whole);

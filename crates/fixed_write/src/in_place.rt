@@ -9,6 +9,7 @@ ghost use Rattle.fixed_write.specs.Bases.{number_of, has_capitals};
 
 use crate::places::{Split, push_exact_in, push_rounded_in, split_of};
 use crate::printer::{magnitude_of, push_sign};
+use fixed_bits::{ReadMode, magnitude_mode_of};
 use text_buffer::TextBuffer;
 
 /// The base of the digits of an exact text, and the case of its letters.
@@ -21,22 +22,30 @@ pub enum Base {
     UpperHex,
 }
 
-/// Appends `value` ulps of 2^-`frac` in decimal with `places` digits after the point, rounded to the nearest with ties
-/// to even. There must be room for 130 bytes.
+/// Appends `value` ulps of 2^-`frac` in decimal with `places` digits after the point, rounded in a mode. There must be
+/// room for 130 bytes.
 #[inline]
-pub fn push_decimal<const N: usize>(out: &mut TextBuffer<N>, value: i128, frac: u32, places: u32)
+pub fn push_decimal<const N: usize>(
+    out: &mut TextBuffer<N>,
+    value: i128,
+    frac: u32,
+    places: u32,
+    mode: ReadMode,
+)
     requires wide { IsWide value }
     requires frac { frac ≤ 64 }
     requires places { places ≤ 64 }
     requires room { length out.old + 130 ≤ N }
-    ensures appended { out.new ≡ out.old ++ rounded_text 10 false places value frac }
-    ensures rounded { IsRoundedText 10 false places value frac (rounded_text 10 false places value frac) }
-    ensures short { length (rounded_text 10 false places value frac) ≤ 86 }
-    ensures ascii { IsAscii (rounded_text 10 false places value frac) }
+    ensures appended { out.new ≡ out.old ++ rounded_text mode 10 false places value frac }
+    ensures rounded { IsRoundedText mode 10 false places value frac (rounded_text mode 10 false places value frac) }
+    ensures short { length (rounded_text mode 10 false places value frac) ≤ 86 }
+    ensures ascii { IsAscii (rounded_text mode 10 false places value frac) }
 {
-    push_sign(out, value < 0);
+    let negative = value < 0;
+    push_sign(out, negative);
     let split = split_of(magnitude_of(value), frac);
-    push_rounded_in::<10, 19, N>(out, split, places, false);
+    let own_mode = magnitude_mode_of(mode, negative);
+    push_rounded_in::<10, 19, N>(out, split, places, false, own_mode);
 }
 
 /// Appends `value` ulps of 2^-`frac` exactly, in the fewest places. There must be room for 130 bytes.

@@ -1,14 +1,17 @@
 //! The digits of a value in a base, to a count of places or exactly.
 
 ghost use Rattle.std.specs.Prelude.{◌≡◌, ℕ, ◌+◌, ◌*◌, ◌/◌, ◌%◌, ◌-◌, ◌^◌, ◌<◌, ◌≤◌, ◌++◌, [], ◌∷◌, ◌⊎◌, ◌==◌};
-ghost use Rattle.std.specs.Prelude.{if◌then◌else◌, length};
-ghost use Rattle.fixed_bits.specs.Nearest.{IsNearest, IsEven};
+ghost use Rattle.std.specs.Prelude.{false, if◌then◌else◌, length};
+ghost use Rattle.fixed_bits.specs.LostFractions.{IsLostFraction};
+ghost use Rattle.fixed_bits.specs.Nearest.{IsEven};
+ghost use Rattle.fixed_bits.specs.Rounded.{IsRounded};
 ghost use Rattle.fixed_write.specs.Texts.{last_digits};
 ghost use Rattle.fixed_write.specs.Inner.Digits.{IsBlock, AppendsRounded, AppendsExact};
 
 use crate::base::{push_digit, push_last_in, push_whole_in};
 use crate::digits::power_of_ten;
-use crate::printer::{is_raised, rest_of, scaled, whole_of};
+use crate::printer::{HALF, rest_of, scaled, whole_of};
+use fixed_bits::{LostFraction, ReadMode, rounding_increment};
 use text_buffer::TextBuffer;
 
 /// A value as a whole number and a rest in units of 2^-64.
@@ -41,32 +44,44 @@ pub(crate) fn split_of(magnitude: u64, frac: u32) -> Split
     }
 }
 
-/// A rest times a scale as the nearest whole number, ties to even by the number that it ends, with `above` before it.
-pub(crate) fn nearest_part(rest: u64, scale: u64, above: u64) -> u64
+/// What a rest in units of 2^-64 is of one.
+#[inline]
+fn lost_fraction_of(rest: u64) -> LostFraction
+    ensures { IsLostFraction result rest (2 ^ 64) }
+{
+    if rest == 0 {
+        LostFraction::Zero
+    } else if rest < HALF {
+        LostFraction::LessThanHalf
+    } else if rest == HALF {
+        LostFraction::Half
+    } else {
+        LostFraction::MoreThanHalf
+    }
+}
+
+/// A rest times a scale as a whole number, rounded in a mode as the end of the number that has `above` before it.
+pub(crate) fn rounded_part(rest: u64, scale: u64, above: u64, mode: ReadMode) -> u64
     requires scale { 1 ≤ scale }
     requires even { (scale ≡ 1) ⊎ IsEven scale }
-    ensures near { IsNearest ((above * 2 ^ 64 + rest) * scale) (2 ^ 64) (above * scale + result) }
+    ensures to { IsRounded mode false ((above * 2 ^ 64 + rest) * scale) (2 ^ 64) (above * scale + result) }
     ensures most { result ≤ scale }
     ensures none { rest ≡ 0 → result ≡ 0 }
 {
     let (number, left) = scaled(rest, scale);
     let last = if scale == 1 { above } else { number };
-    if is_raised(left, last) {
-        number + 1
-    } else {
-        number
-    }
+    number + rounding_increment(lost_fraction_of(left), last % 2, mode)
 }
 
-/// The value to the places that the scale has, ties to even.
-pub(crate) fn rounded(value: Split, scale: u64) -> Places
+/// The value to the places that the scale has, rounded in a mode.
+pub(crate) fn rounded(value: Split, scale: u64, mode: ReadMode) -> Places
     requires scale { 1 ≤ scale }
     requires even { (scale ≡ 1) ⊎ IsEven scale }
-    ensures near { IsNearest ((value.whole * 2 ^ 64 + value.rest) * scale) (2 ^ 64)
+    ensures to { IsRounded mode false ((value.whole * 2 ^ 64 + value.rest) * scale) (2 ^ 64)
         (result.whole * scale + result.part) }
     ensures part { result.part < scale }
 {
-    let part = nearest_part(value.rest, scale, value.whole);
+    let part = rounded_part(value.rest, scale, value.whole, mode);
     if part == scale {
         Places {
             whole: value.whole + 1,
@@ -80,7 +95,7 @@ pub(crate) fn rounded(value: Split, scale: u64) -> Places
     }
 }
 
-/// Appends the value to a count of places, at most 64.
+/// Appends the value to a count of places, at most 64, rounded in a mode.
 ///
 /// The places that fit a word are one number, of which the rest decides; then it may be one whole, and the whole
 /// number is raised. Before the last block of a longer fraction there are single digits; then it never is.
@@ -90,22 +105,23 @@ pub(crate) fn push_rounded_in<const BASE: u64, const BLOCK: u32, const N: usize>
     value: Split,
     places: u32,
     upper: bool,
+    mode: ReadMode,
 )
     requires block { IsBlock BASE BLOCK }
     requires decimal { BASE ≡ 10 → BLOCK ≤ 19 }
     requires places { places ≤ 64 }
     requires room { length out.old + 129 ≤ N }
-    ensures { AppendsRounded BASE upper (value.whole * 2 ^ 64 + value.rest) 64 places out.old out.new }
+    ensures { AppendsRounded mode BASE upper (value.whole * 2 ^ 64 + value.rest) 64 places out.old out.new }
 {
     if places <= BLOCK {
-        let near = rounded(value, power::<BASE>(places));
+        let near = rounded(value, power::<BASE>(places), mode);
         push_whole_in::<BASE, N>(out, near.whole, upper);
         if places > 0 {
             out.push(b'.');
             push_last_in::<BASE, N>(out, near.part, places, upper);
         }
     } else {
-        push_long::<BASE, BLOCK, N>(out, value, places, upper);
+        push_long::<BASE, BLOCK, N>(out, value, places, upper, mode);
     }
 }
 
@@ -115,20 +131,21 @@ fn push_long<const BASE: u64, const BLOCK: u32, const N: usize>(
     value: Split,
     places: u32,
     upper: bool,
+    mode: ReadMode,
 )
     requires block { IsBlock BASE BLOCK }
     requires decimal { BASE ≡ 10 → BLOCK ≤ 19 }
     requires long { BLOCK < places }
     requires places { places ≤ 64 }
     requires room { length out.old + 129 ≤ N }
-    ensures { AppendsRounded BASE upper (value.whole * 2 ^ 64 + value.rest) 64 places out.old out.new }
+    ensures { AppendsRounded mode BASE upper (value.whole * 2 ^ 64 + value.rest) 64 places out.old out.new }
 {
     push_whole_in::<BASE, N>(out, value.whole, upper);
     out.push(b'.');
     let rest = push_rest_digits::<BASE, N>(out, value.rest, places - BLOCK, upper);
     push_last_in::<BASE, N>(
         out,
-        nearest_part(rest, power::<BASE>(BLOCK), 0),
+        rounded_part(rest, power::<BASE>(BLOCK), 0, mode),
         BLOCK,
         upper,
     );

@@ -260,11 +260,11 @@ fn nearer_digit(digit: u64, rest: u64) -> u64
 }
 
 /// One half, in units of 2^-64.
-const HALF: u64 = 1 << 63;
+pub(crate) const HALF: u64 = 1 << 63;
 
 /// Whether a number is raised: where more than one half is left of it, or one half and it is odd.
 #[inline]
-pub(crate) fn is_raised(left: u64, number: u64) -> bool
+fn is_raised(left: u64, number: u64) -> bool
     ensures { IsTrue result ↔ ((2 ^ 63 < left) ⊎ ((left ≡ 2 ^ 63) × (number % 2 ≡ 1))) }
 {
     left > HALF - number % 2

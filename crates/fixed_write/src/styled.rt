@@ -3,6 +3,7 @@
 ghost use Rattle.std.specs.Prelude.{◌≡◌, ◌+◌, ◌*◌, ◌^◌, ◌≤◌, ◌<◌, ◌++◌, [], ◌∷◌, length, IfOk, Some, None};
 ghost use Rattle.fixed_bits.specs.Ranges.{IsWide};
 ghost use Rattle.fixed_write.specs.Styled.{IsStyledText, sign_and_prefix, base_of, is_upper, prefix_of};
+ghost use Rattle.fixed_bits.specs.declared.mode.ReadMode.TheVariants.{NearestEven};
 ghost use Rattle.fixed_write.specs.Inner.Digits.{AppendsRounded};
 ghost use Rattle.fixed_write.specs.Inner.Figures.{HasBody};
 ghost use Rattle.fixed_write.specs.Inner.Styling.{IsPointNotation, AppendsBody};
@@ -13,6 +14,7 @@ use crate::printer::magnitude_of;
 use crate::style::{Notation, Style};
 use crate::text::{BodyParts, Text, padded};
 use crate::uncounted::push_shortest_body;
+use fixed_bits::ReadMode;
 use std::alloc::Global;
 use text_buffer::{NoMemory, TextBuffer};
 
@@ -24,15 +26,16 @@ fn push_rounded_body(out: &mut Body, value: Split, notation: Notation, places: u
     requires notation { IsPointNotation notation }
     requires places { places ≤ 64 }
     requires room { length out.old ≤ 7 }
-    ensures { AppendsRounded (base_of notation) (is_upper notation)
+    ensures { AppendsRounded NearestEven (base_of notation) (is_upper notation)
         (value.whole * 2 ^ 64 + value.rest) 64 places out.old out.new }
 {
+    let mode = ReadMode::NearestEven;
     match notation {
-        Notation::Bin => push_rounded_in::<2, 63, 144>(out, value, places, false),
-        Notation::Oct => push_rounded_in::<8, 21, 144>(out, value, places, false),
-        Notation::LowerHex => push_rounded_in::<16, 15, 144>(out, value, places, false),
-        Notation::UpperHex => push_rounded_in::<16, 15, 144>(out, value, places, true),
-        _ => push_rounded_in::<10, 19, 144>(out, value, places, false),
+        Notation::Bin => push_rounded_in::<2, 63, 144>(out, value, places, false, mode),
+        Notation::Oct => push_rounded_in::<8, 21, 144>(out, value, places, false, mode),
+        Notation::LowerHex => push_rounded_in::<16, 15, 144>(out, value, places, false, mode),
+        Notation::UpperHex => push_rounded_in::<16, 15, 144>(out, value, places, true, mode),
+        _ => push_rounded_in::<10, 19, 144>(out, value, places, false, mode),
     }
 }
 

@@ -20,4 +20,6 @@ mod printing;
 #[cfg(test)]
 mod reading;
 #[cfg(test)]
+mod typed;
+#[cfg(test)]
 mod writing;

@@ -72,6 +72,7 @@ fn plain_and_rounded_texts(rt: HostRuntime) {
         (1200, 0, Notation::LowerExp, None, "1.2e3"),
         (1250, 0, Notation::UpperExp, Some(1), "1.2E3"),
         (999, 0, Notation::LowerExp, Some(1), "1.0e3"),
+        (0, 0, Notation::LowerExp, None, "0e0"),
         (0, 0, Notation::LowerExp, Some(2), "0.00e0"),
         (25, 8, Notation::LowerExp, None, "9.8e-2"),
     ];

@@ -34,7 +34,7 @@ use Rattle.fixed_command.specs.Lemmas.BlockLemmas.{line_block_one}
 use Rattle.fixed_command.specs.Lemmas.LayoutLemmas.{laid_out_one}
 use Rattle.fixed_command.specs.Lemmas.ProductLemmas.{product_one}
 use Rattle.fixed_command.specs.Lemmas.ReplyLemmas.{line_reply_one}
-use Rattle.fixed_command.specs.Limits.{max_limit}
+use Rattle.fixed_command.specs.Limits.{limit_of, max_limit, no_limit}
 use Rattle.fixed_command.specs.LineBlocks.{IsLineBlock}
 use Rattle.fixed_command.specs.Products.{IsProduct}
 use Rattle.fixed_command.specs.Runs.{HasLineRun, IsWholeRun, TaskRuns, reported_extra, reported_per_byte}
@@ -95,12 +95,12 @@ module _ (report : ReportIsTheOne) where
     enclose_runs_one (word ∷ words) = by_usage enclose.usage_line (HasEncloseRun (word ∷ words)) (λ before after s x. x.usage (λ e. cc))
 
     pub task_runs_one : TaskRunsAreTheOnes
-    task_runs_one (Lines limit) = by_line cut respell.IsAnswer respell_one limit 8 624 (TaskRuns (Lines limit)) (λ before after s x. x)
-    task_runs_one (Convert settings) = by_line cut (IsLineReply settings) (line_reply_one settings) max_limit 8 624 (TaskRuns (Convert settings)) (λ before after s x. x)
-    task_runs_one (LaidOut laid) = by_line cut (IsLaidOut laid.layout laid.rule) (laid_out_one laid.layout laid.rule) max_limit 8 624 (TaskRuns (LaidOut laid)) (λ before after s x. x)
-    task_runs_one (Reported laid) = by_line cut (IsLaidOut laid.layout laid.rule) (laid_out_one laid.layout laid.rule) max_limit reported_per_byte reported_extra (TaskRuns (Reported laid)) (λ before after s x. x)
-    task_runs_one (Ask form question) = by_line cut (IsLineBlock form question) (line_block_one form question) max_limit 26 3307 (TaskRuns (Ask form question)) (λ before after s x. x)
-    task_runs_one Enclose = by_line cut enclose.IsAnswer enclose_one max_limit 16 1248 (TaskRuns Enclose) (λ before after s x. x)
+    task_runs_one (Lines limit) = by_line cut respell.IsAnswer respell_one (limit_of limit) 8 624 (TaskRuns (Lines limit)) (λ before after s x. x)
+    task_runs_one (Convert settings) = by_line cut (IsLineReply settings) (line_reply_one settings) no_limit 8 624 (TaskRuns (Convert settings)) (λ before after s x. x)
+    task_runs_one (LaidOut laid) = by_line cut (IsLaidOut laid.layout laid.rule) (laid_out_one laid.layout laid.rule) no_limit 8 624 (TaskRuns (LaidOut laid)) (λ before after s x. x)
+    task_runs_one (Reported laid) = by_line cut (IsLaidOut laid.layout laid.rule) (laid_out_one laid.layout laid.rule) no_limit reported_per_byte reported_extra (TaskRuns (Reported laid)) (λ before after s x. x)
+    task_runs_one (Ask form question) = by_line cut (IsLineBlock form question) (line_block_one form question) no_limit 26 3307 (TaskRuns (Ask form question)) (λ before after s x. x)
+    task_runs_one Enclose = by_line cut enclose.IsAnswer enclose_one no_limit 16 1248 (TaskRuns Enclose) (λ before after s x. x)
     task_runs_one (Least radix) = by_whole (least.IsWholeAnswer radix) (least_one radix) max_limit (TaskRuns (Least radix)) (λ before after s x. x)
     task_runs_one (Constants rule) = by_whole (IsProduct (constants.IsFormAnswer rule.form rule.guard.now)) (product_one (constants.IsFormAnswer rule.form rule.guard.now) (form_answer_one rule.form rule.guard.now))
         max_limit (TaskRuns (Constants rule)) (λ before after s x. x)

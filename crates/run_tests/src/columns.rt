@@ -3,8 +3,8 @@
 ghost use Rattle.std.specs.Prelude.{◌≡◌, ◌==◌, ◌<◌, ◌≤◌, get_or};
 
 use column_engine::{
-    Column, ColumnEnd, ColumnTask, ColumnWatch, Destination, FieldRule, Range, RecordBuffer, Stop,
-    run_column,
+    Column, ColumnEnd, ColumnTask, ColumnWatch, Destination, FieldRule, Keeping, Range,
+    RecordBuffer, Stop, run_column,
 };
 use fixed_steps::Steps;
 use line_engine::{MemorySink, MemorySource, NEVER, Output};
@@ -19,11 +19,11 @@ use text_buffer::TextBuffer;
 #[derive(Drop)]
 struct NoX;
 
-/// The first byte of a field, or 0.
-fn first_of(field: &[u8]) -> u8
-    ensures { result ≡ get_or field.now 0 0 }
+/// The first byte, or 0.
+pub(crate) fn first_of(bytes: &[u8]) -> u8
+    ensures { result ≡ get_or bytes.now 0 0 }
 {
-    match field.first() {
+    match bytes.first() {
         Some(byte) => *byte,
         None => 0,
     }
@@ -55,7 +55,7 @@ impl<L: Ledger> FieldRule<L> for NoX {
 }
 
 /// A run: how many lines are passed over, the columns, the name of a new one for the answers, under a header or not,
-/// what is read, which read and which write fails, what is written and how it ends.
+/// what is kept of fields, what is read, which read and which write fails, what is written and how it ends.
 #[derive(Drop)]
 struct Case {
     skipped: u64,
@@ -64,6 +64,7 @@ struct Case {
     into: Option<&'static [u8]>,
     has_header: bool,
     is_kept: bool,
+    has_quotes: bool,
     delimiter: u8,
     failing_read: u64,
     failing_write: u64,
@@ -113,7 +114,10 @@ fn run_case<L: Ledger>(
         columns: &columns,
         destination: &destination,
         has_header: case.has_header,
-        is_kept: case.is_kept,
+        keeps: Keeping {
+            refused: case.is_kept,
+            quotes: case.has_quotes,
+        },
         delimiter: case.delimiter,
         watch: &ColumnWatch::new(1),
     };
@@ -174,6 +178,7 @@ fn second(input: &'static [u8], written: &'static [u8], answered: u64) -> Case {
         into: None,
         has_header: false,
         is_kept: false,
+        has_quotes: false,
         delimiter: b',',
         failing_read: NEVER,
         failing_write: NEVER,
@@ -352,6 +357,30 @@ fn refused_fields_are_counted_and_kept_where_that_is_asked(rt: HostRuntime) -> R
         second(b"a,\"\"\"x\"\n", b"a,yes\n", 1),
         refusing(second(b"a,\"x\"\"\"\n", b"a,\"not, so\"\n", 1), 1, 1),
         second(b"a,\"=1\"\nb,=\n", b"a,\"=1\"\nb,=\n", 2),
+    ];
+    assert_runs(&rt, rt.alloc(), &cases)?;
+    Ok(())
+}
+
+#[test]
+fn answers_to_fields_in_quotes_stay_in_quotes_where_that_is_asked(
+    rt: HostRuntime,
+) -> Result<(), Fail> {
+    let in_place = second(
+        b"a,\"1\"\n\"b\",2\nc,=\n",
+        b"a,\"yes\"\n\"b\",yes\nc,=\n",
+        3,
+    );
+    let appended = second(b"a,\"1\"\nb,2\n", b"a,\"1\",\"yes\"\nb,2,yes\n", 2);
+    let cases = [
+        Case {
+            has_quotes: true,
+            ..in_place
+        },
+        Case {
+            has_quotes: true,
+            ..appending(b"m", appended)
+        },
     ];
     assert_runs(&rt, rt.alloc(), &cases)?;
     Ok(())

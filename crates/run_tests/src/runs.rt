@@ -135,3 +135,29 @@ fn runs_end_at_the_call_that_fails(rt: HostRuntime) -> Result<(), Fail> {
     }
     Ok(())
 }
+
+/// One line of 23 bytes, and its answer.
+const ONE_LINE: (&str, &str) = ("10 U8F0 U8F0 checked 7\n", "7 7 fits\n");
+
+#[test]
+fn a_failing_call_after_one_line_keeps_its_answer(rt: HostRuntime) -> Result<(), Fail> {
+    let (input, answer) = ONE_LINE;
+    let rows: [Row; 3] = [
+        (23, 1, NEVER, &[], answer, Status::ReadFault),
+        (1, NEVER, 3, &[], "7 7", Status::WriteFault),
+        (23, NEVER, NEVER, &["limit", "23"], answer, Status::Done),
+    ];
+    for (most, failing_read, failing_write, args, written, status) in &rows {
+        let case = MemoryRun {
+            args: *args,
+            input,
+            most: *most,
+            failing_read: *failing_read,
+            failing_write: *failing_write,
+            written: *written,
+            status: *status,
+        };
+        expect_end(&rt, rt.alloc(), &case)?;
+    }
+    Ok(())
+}

@@ -5,9 +5,9 @@ use crate::commands::column_words::{
 };
 use crate::inputs::{Job, run_inputs};
 use crate::options::{
-    FROM, MODE, PLACES, POLICY, PRINT, RADIX, REPORT, SOURCE, TARGET, TARGET_MODE,
+    FROM, MODE, PLACES, PLACES_MODE, POLICY, PRINT, RADIX, REPORT, SOURCE, TARGET, TARGET_MODE,
 };
-use crate::settings::conversion;
+use crate::settings::{conversion, note_target_mode};
 use command_line::given::{Asked, Given};
 use command_line::page::{Operand, Page, Row};
 use fixed_command::ColumnConversion;
@@ -41,7 +41,7 @@ pub const HEADER: Row = Row {
     letter: Some('H'),
     value: "",
     choices: &[],
-    help: "The first record is a header, which may name COLUMNS",
+    help: "The first record is a header with names",
 };
 
 const KEEP: Row = Row {
@@ -65,7 +65,7 @@ pub const SKIP: Row = Row {
     letter: None,
     value: "N",
     choices: &[],
-    help: "The first N lines come before the records, and stay",
+    help: "The first N lines are no records, and stay",
 };
 
 pub const TRIM: Row = Row {
@@ -84,12 +84,28 @@ pub const DECIMAL: Row = Row {
     help: "The byte before a fraction: a point (default)",
 };
 
+pub const DECIMAL_OUT: Row = Row {
+    name: "decimal-out",
+    letter: None,
+    value: "C",
+    choices: &[],
+    help: "The same of answers: that of --decimal (default)",
+};
+
 pub const THOUSANDS: Row = Row {
     name: "thousands",
     letter: None,
     value: "C",
     choices: &[],
-    help: "What separates thousands: it is not read",
+    help: "Between groups of three digits; not written",
+};
+
+pub const THOUSANDS_ANYWHERE: Row = Row {
+    name: "thousands-anywhere",
+    letter: None,
+    value: "C",
+    choices: &[],
+    help: "The same wherever it stands: it is not read",
 };
 
 pub const EMPTY: Row = Row {
@@ -116,13 +132,16 @@ pub fn page() -> Page {
             TARGET_MODE,
             PRINT,
             PLACES,
+            PLACES_MODE,
             DELIMITER,
             ALL,
             HEADER,
             SKIP,
             TRIM,
             DECIMAL,
+            DECIMAL_OUT,
             THOUSANDS,
+            THOUSANDS_ANYWHERE,
             EMPTY,
             INTO,
             KEEP,
@@ -132,7 +151,7 @@ pub fn page() -> Page {
               as in I16F16, 1 to 64 bits in all; or as in Q15, Q8.8 and UQ8.8. A\n\
               number is rounded down from SOURCE to TARGET, or by --target-mode.\n\
               \n\
-              Example: fixed column price U16F16 --header <tariff.csv",
+              Example: fixed column celsius I16F16 --header <sensor.csv",
     }
 }
 
@@ -158,6 +177,7 @@ pub fn run<'a, L: Ledger>(
         is_kept: given.has(&KEEP),
         delimiter: delimiter_of(given)?,
     };
+    note_target_mode(rt, given, source, files);
     let job = Job::Column {
         conversion,
         has_report: given.has(&REPORT),

@@ -1,6 +1,7 @@
 //! What `fixed column` says on standard error of an input.
 
 use crate::inputs::report_greatest;
+use column_engine::name::write_name;
 use column_engine::place::field_end;
 use column_engine::{Column, ColumnEnd, ColumnWatch, FieldPlace, RefusedField, Stop};
 use command_line::device::Failure;
@@ -10,6 +11,7 @@ use fixed_command::{
 };
 use fixed_steps::Steps;
 use std::sync::ledger::Ledger;
+use text_buffer::TextBuffer;
 
 /// How many characters of a field, or of a name, a report has.
 const MAX_TEXT: usize = 40;
@@ -19,6 +21,12 @@ const MAX_KEPT: usize = 160;
 
 /// How many bytes of a header are known at most: the last of that many may be within a name.
 const MAX_HEADER: usize = 4096;
+
+/// The bytes that are tried as delimiters of a header that lacks a name.
+const DELIMITERS: &[u8] = b";\t,|: ";
+
+/// A name of a header.
+type Name = TextBuffer<MAX_HEADER>;
 
 /// The names of a header that are known.
 #[derive(Drop)]
@@ -38,36 +46,48 @@ impl<'h> Names<'h> {
         }
     }
 
-    /// The next name, without the quotes around it. None where no more is known.
-    fn next_name(&mut self) -> Option<&'h [u8]> {
-        let rest = self.rest?;
+    /// Writes out the next name, as COLUMNS names it. False if no more is known.
+    fn next_name(&mut self, name: &mut Name) -> bool {
+        let rest = match self.rest {
+            Some(rest) => rest,
+            None => return false,
+        };
         let end = field_end(self.delimiter, rest);
         self.rest = rest.get(end.saturating_add(1)..);
         if self.rest.is_none() && self.is_cut {
-            return None;
+            return false;
         }
-        let name = rest.get(..end).unwrap_or(&[]);
-        match name {
-            [b'"', inner @ .., b'"'] => Some(inner),
-            _ => Some(name),
+        write_name(rest.get(..end).unwrap_or(&[]), name);
+        true
+    }
+
+    /// Whether one of the names is this one.
+    fn has(mut self, wanted: &[u8]) -> bool {
+        let mut name = Name::new();
+        for _ in 0..MAX_HEADER {
+            if !self.next_name(&mut name) {
+                return false;
+            }
+            if name.as_bytes() == wanted {
+                return true;
+            }
+        }
+        false
+    }
+
+    /// Whether there is one name only, as far as is known.
+    fn is_one(&self) -> bool {
+        match self.rest {
+            Some(rest) => field_end(self.delimiter, rest) == rest.len(),
+            None => false,
         }
     }
 }
 
-/// Appends a text between quotes, cut where it is long. A newline in it is shown like any control character.
+/// Appends a text between quotes, cut where it is long.
 fn push_quoted(report: &mut Report, text: &[u8]) {
     report.text("'");
-    let mut left = MAX_TEXT;
-    for byte in text {
-        let is_begun = *byte & 0xc0 == 0x80;
-        if left == 0 && !is_begun {
-            break;
-        }
-        if !is_begun {
-            left = left.saturating_sub(1);
-        }
-        report.bytes(&[if *byte == b'\n' { b'?' } else { *byte }], 1);
-    }
+    report.name(text, MAX_TEXT);
     report.text("'");
 }
 
@@ -75,13 +95,14 @@ fn push_quoted(report: &mut Report, text: &[u8]) {
 fn push_column(report: &mut Report, column: usize, delimiter: u8, header: Option<&[u8]>) {
     if let Some(header) = header {
         let mut names = Names::new(delimiter, header);
+        let mut name = Name::new();
         for _ in 0..column {
-            if names.next_name().is_none() {
+            if !names.next_name(&mut name) {
                 break;
             }
         }
-        if let Some(name) = names.next_name() {
-            push_quoted(report, name);
+        if names.next_name(&mut name) {
+            push_quoted(report, name.as_bytes());
             return;
         }
     }
@@ -126,20 +147,50 @@ fn push_missing(report: &mut Report, columns: &[Column], word: usize) {
 /// Appends the names that a header has.
 fn push_names(report: &mut Report, delimiter: u8, header: &[u8]) {
     let mut names = Names::new(delimiter, header);
+    let mut name = Name::new();
     report.text("; it has");
     let mut mark = " ";
     for _ in 0..MAX_HEADER {
-        match names.next_name() {
-            Some(name) => {
-                report.text(mark);
-                push_quoted(report, name);
-                mark = ", ";
-            }
-            None => break,
+        if !names.next_name(&mut name) {
+            break;
         }
+        report.text(mark);
+        push_quoted(report, name.as_bytes());
+        mark = ", ";
     }
     if names.is_cut {
         report.text(" and more");
+    }
+}
+
+/// Appends the delimiter with which a header of one field has the missing name, if there is one.
+fn push_delimiter(report: &mut Report, delimiter: u8, header: &[u8], wanted: &[u8]) {
+    if !Names::new(delimiter, header).is_one() {
+        return;
+    }
+    for other in DELIMITERS {
+        if *other != delimiter && Names::new(*other, header).has(wanted) {
+            match *other {
+                b'\t' => report.text(" (is a tab the delimiter? -d tab)"),
+                _ => {
+                    report.text(" (is '");
+                    report.bytes(&[*other], 1);
+                    report.text("' the delimiter? -d '");
+                    report.bytes(&[*other], 1);
+                    report.text("')");
+                }
+            }
+            return;
+        }
+    }
+}
+
+/// Appends what a header has that lacks a name.
+fn push_header(report: &mut Report, known: &Known<'_>, header: &[u8]) {
+    let delimiter = known.conversion.delimiter;
+    push_names(report, delimiter, header);
+    if let Some(Column::Named(name, _)) = known.conversion.columns.get(known.watch.word()) {
+        push_delimiter(report, delimiter, header, name.as_bytes());
     }
 }
 
@@ -262,11 +313,12 @@ pub struct Known<'a> {
 }
 
 /// Says on standard error how many fields of a file were refused, and which was the first; how they came through, where
-/// that is asked; and why its records ended before its end.
+/// that is asked; and why its records ended before its end, with how many lines were written by then if a write failed.
 pub fn report_end<L: Ledger>(
     rt: &HostRuntime,
     file: Option<&str>,
     known: &Known<'_>,
+    written: u64,
     failure: &Failure,
     steps: &mut Steps<L>,
 ) {
@@ -288,10 +340,19 @@ pub fn report_end<L: Ledger>(
         report.text(": ");
         push_words(&mut report, rt.alloc(), error);
     }
-    report.text(", records answered: ");
-    report.number(end.answered);
+    // Where a write failed, not all records that were answered were taken.
+    match end.stop {
+        Stop::WriteFault => {
+            report.text(", lines answered: ");
+            report.number(written);
+        }
+        _ => {
+            report.text(", records answered: ");
+            report.number(end.answered);
+        }
+    }
     if let (Stop::NoName, Some(header)) = (end.stop, header) {
-        push_names(&mut report, known.conversion.delimiter, header);
+        push_header(&mut report, known, header);
     }
     report.send(rt);
 }

@@ -1,6 +1,6 @@
 //! What the words of `fixed column` ask for.
 
-ghost use Rattle.std.specs.Prelude.{◌≡◌, ◌==◌, ◌<◌, ◌+◌, ◌^◌, ◌⊎◌, ◌&&◌, ◌++◌, ◌∷◌, [], ℕ, not};
+ghost use Rattle.std.specs.Prelude.{◌≡◌, ◌==◌, ◌<◌, ◌+◌, ◌^◌, ◌⊎◌, ◌&&◌, ◌++◌, ◌∷◌, [], Bool, ℕ, not};
 ghost use Rattle.std.specs.Prelude.{IfErr, IfOk, List, MatchOption, OnOk, chars, codes, decimal, length};
 ghost use Rattle.std.specs.Prelude.{map, unwrap_or};
 ghost use Rattle.std.specs.List.{list_all, list_any, slice_split};
@@ -10,15 +10,16 @@ ghost use Rattle.column_engine.specs.declared.columns.Range.{Range};
 ghost use Rattle.command_line.specs.Words.{value_of};
 ghost use Rattle.command_line.specs.declared.given.Refusal.{Refusal};
 ghost use Rattle.fixed.specs.Columns.{AreColumnWords, AreColumnsAsked, AreColumnsOf, IsByName, IsColumnWord};
-ghost use Rattle.fixed.specs.Columns.{IsDecimalWord, IsDelimiterWord, IsDestinationAsked, IsFormAsked, IsOneWord};
-ghost use Rattle.fixed.specs.Columns.{IsRangeWord, IsSkipWord, IsThousandsAsked, IsThousandsWord};
+ghost use Rattle.fixed.specs.Columns.{IsDecimalWord, IsDelimiterWord, IsDestinationAsked, IsFormAsked, IsMarkAsked};
+ghost use Rattle.fixed.specs.Columns.{IsOneWord, IsRangeWord, IsSkipWord, IsThousandsAsked, IsThousandsWord};
 ghost use Rattle.fixed.specs.Columns.{IsSpan, empty_text, is_separator};
 ghost use Rattle.fixed_command.specs.Asked.{IsNamed};
 ghost use Rattle.fixed_command.specs.declared.field.Empty.{Empty};
 ghost use Rattle.fixed_command.specs.declared.field.FieldForm.{FieldForm};
 
 use crate::commands::column::{
-    ALL, DECIMAL, DELIMITER, EMPTY, HEADER, INTO, SKIP, THOUSANDS, TRIM,
+    ALL, DECIMAL, DECIMAL_OUT, DELIMITER, EMPTY, HEADER, INTO, SKIP, THOUSANDS, THOUSANDS_ANYWHERE,
+    TRIM,
 };
 use crate::settings::{count_named, known, value_or};
 use column_engine::{Column, Destination, MAX_NAME, Range};
@@ -99,6 +100,19 @@ fn decimal_of<'a>(given: &Given<'_, 'a>) -> Asked<'a, u8>
     decimal_named(value_or(given, &DECIMAL, "."))
 }
 
+/// The byte before the fraction of an answer: the one of fields where the option is left out.
+fn mark_of<'a>(given: &Given<'_, 'a>) -> Asked<'a, u8>
+    ensures value { IfOk result (λ a. IsMarkAsked (value_of given.now (codes "decimal-out"))
+        (value_of given.now (codes "decimal")) a) }
+    ensures refused { IfErr result (λ _. (a : ℕ) → ¬ IsMarkAsked (value_of given.now (codes "decimal-out"))
+        (value_of given.now (codes "decimal")) a) }
+{
+    match given.value(&DECIMAL_OUT) {
+        Some(word) => decimal_named(word),
+        None => decimal_of(given),
+    }
+}
+
 /// Whether a text is one character.
 fn is_one_character(word: &str) -> bool
     ensures { result ≡ (length (chars word.now) == 1) }
@@ -140,16 +154,28 @@ fn thousands_named<'a>(word: &'a str, decimal: u8) -> Asked<'a, &'a [u8]>
     Ok(word.as_bytes())
 }
 
-/// The bytes that separate thousands: those of the character that the option names.
-fn thousands_of<'a>(given: &Given<'_, 'a>, decimal: u8) -> Asked<'a, &'a [u8]>
-    ensures value { IfOk result (λ a.
-        IsThousandsAsked decimal (value_of given.now (codes "thousands")) a.now) }
-    ensures refused { IfErr result (λ _. (a : List ℕ)
-        → ¬ IsThousandsAsked decimal (value_of given.now (codes "thousands")) a) }
+/// What separates thousands: the bytes of the character that one of the two options names, and whether they stand only
+/// between groups.
+fn thousands_of<'a>(given: &Given<'_, 'a>, decimal: u8) -> Asked<'a, (&'a [u8], bool)>
+    ensures value { IfOk result (λ a. IsThousandsAsked decimal (value_of given.now (codes "thousands"))
+        (value_of given.now (codes "thousands-anywhere")) a.0.now a.1) }
+    ensures refused { IfErr result (λ _. (a : List ℕ) (has_groups : Bool) → ¬ IsThousandsAsked decimal
+        (value_of given.now (codes "thousands")) (value_of given.now (codes "thousands-anywhere")) a has_groups) }
 {
-    match given.value(&THOUSANDS) {
-        Some(word) => thousands_named(word, decimal),
-        None => Ok(&[]),
+    match (given.value(&THOUSANDS), given.value(&THOUSANDS_ANYWHERE)) {
+        (Some(_), Some(_)) => Err(Refusal::Word(
+            "--thousands",
+            "does not go with '--thousands-anywhere'",
+        )),
+        (Some(word), None) => match thousands_named(word, decimal) {
+            Ok(bytes) => Ok((bytes, true)),
+            Err(refusal) => Err(refusal),
+        },
+        (None, Some(word)) => match thousands_named(word, decimal) {
+            Ok(bytes) => Ok((bytes, false)),
+            Err(refusal) => Err(refusal),
+        },
+        (None, None) => Ok((&[], false)),
     }
 }
 
@@ -183,14 +209,17 @@ pub fn form_of<'a>(given: &Given<'_, 'a>) -> Asked<'a, FieldForm<'a>>
     ensures refused { IfErr result (λ _. (form : FieldForm) → ¬ IsFormAsked given.now form) }
 {
     let decimal = decimal_of(given)?;
-    let thousands = match thousands_of(given, decimal) {
-        Ok(thousands) => thousands,
+    let mark = mark_of(given)?;
+    let (thousands, has_groups) = match thousands_of(given, decimal) {
+        Ok(found) => found,
         Err(refusal) => return Err(refusal),
     };
     Ok(FieldForm {
         is_trimmed: given.has(&TRIM),
         decimal,
         thousands,
+        has_groups,
+        mark,
         empty: empty_of(given)?,
     })
 }

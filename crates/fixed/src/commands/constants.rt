@@ -12,7 +12,7 @@ use crate::product::{Product, run_product};
 use crate::settings::{format_of, mode_of, policy_of, radix_of};
 use command_line::given::{Asked, Given, Refusal};
 use command_line::page::{Operand, Page, Row};
-use fixed_arrays::{ArrayForm, ArrayRule, LiteralArrayRule, Numerals, is_array_name};
+use fixed_arrays::{ArrayForm, ArrayRule, LiteralArrayRule, Numerals, is_array_name, is_kept};
 use fixed_constants::{Form, FormRule, is_guard};
 use fixed_steps::Steps;
 use line_engine::Status;
@@ -49,6 +49,9 @@ const NAME: Row = Row {
 
 /// Why an option has no meaning without a list.
 const FOR_LISTS: &str = "is for a list: array-c, array-rust, vhdl, readmemh, coe or mif";
+
+/// Why a word cannot be the form of a list.
+const NO_LIST: &str = "is not a form of a list: array-c, array-rust, vhdl, readmemh, coe or mif";
 
 pub fn page() -> Page {
     Page {
@@ -138,6 +141,15 @@ fn is_file(form: ArrayForm) -> bool
     matches!(form, ArrayForm::Readmemh | ArrayForm::Coe | ArrayForm::Mif)
 }
 
+/// Why a list of a form cannot have a name.
+fn why_no_name(form: ArrayForm, name: &str) -> &'static str {
+    if form == ArrayForm::C && is_kept(name.as_bytes()) {
+        "can name no array: C keeps names with two underscores side by side, or an underscore and a capital first"
+    } else {
+        "can name no array: it is not a name, or the language reserves it, or it is the guard"
+    }
+}
+
 /// The name of a list: the empty text for the file of a memory.
 fn name_of<'a>(given: &Given<'_, 'a>, form: ArrayForm, guard: &str) -> Asked<'a, &'a str>
     ensures value { IfOk result (λ a. IsNameAsked form guard.now (value_of given.now (codes "name")) a.now) }
@@ -153,10 +165,7 @@ fn name_of<'a>(given: &Given<'_, 'a>, form: ArrayForm, guard: &str) -> Asked<'a,
             "names nothing: a memory's file has no name",
         )),
         Some(name) if is_array_name(form, guard.as_bytes(), name.as_bytes()) => Ok(name),
-        Some(name) => Err(Refusal::Word(
-            name,
-            "can name no array: it is not a name, or the language reserves it, or it is the guard",
-        )),
+        Some(name) => Err(Refusal::Word(name, why_no_name(form, name))),
     }
 }
 
@@ -181,8 +190,21 @@ fn numerals_of<'a>(given: &Given<'_, 'a>, word: &'a str) -> Asked<'a, Numerals>
 fn refuse_option<'a>(given: &Given<'_, 'a>, row: &Row, cause: &'static str) -> Asked<'a, ()> {
     match given.value(row) {
         None => Ok(()),
-        Some(word) => Err(Refusal::Word(word, cause)),
+        Some(_) => Err(Refusal::Option(row.name, cause)),
     }
+}
+
+/// Refuses the options of a list where the first word is no form of one: by that word, unless it is another form.
+fn refuse_list<'a>(given: &Given<'_, 'a>) -> Asked<'a, ()> {
+    for row in [&NUMERALS, &NAME, &RADIX, &POLICY, &MODE] {
+        match given.keyword(0) {
+            Some(word) if word != "c" && word != "rust" && given.value(row).is_some() => {
+                return Err(Refusal::Word(word, NO_LIST));
+            }
+            _ => refuse_option(given, row, FOR_LISTS)?,
+        }
+    }
+    Ok(())
 }
 
 /// The list of the numerals of all files, or, where none are asked for, of their named literals.
@@ -240,9 +262,7 @@ pub fn run<'a, L: Ledger>(
     if let Some(form) = array_form(given) {
         return run_list(rt, given, form, steps);
     }
-    for row in [&NUMERALS, &NAME, &RADIX, &POLICY, &MODE] {
-        refuse_option(given, row, FOR_LISTS)?;
-    }
+    refuse_list(given)?;
     let (form, files) = form_and_files(given);
     let rule = FormRule {
         form,

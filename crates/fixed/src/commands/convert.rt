@@ -4,13 +4,14 @@ ghost use Rattle.std.specs.Prelude.{IfErr, IfOk};
 ghost use Rattle.fixed.specs.Lines.{IsLayoutAsked};
 ghost use Rattle.fixed_command.specs.Layout.{LineLayout};
 
+use crate::commands::convert_words::word_rule;
 use crate::inputs::{Job, run_inputs_to};
 use crate::options::{
-    COMMENTS, FROM, MODE, OUTPUT, PLACES, POLICY, PRINT, RADIX, REPORT, SKIP_BLANK, SOURCE, TARGET,
-    TARGET_MODE, TRIM, WORDS,
+    COMMENTS, FROM, KEEP_WORDS, MODE, OUTPUT, PLACES, PLACES_MODE, POLICY, PRINT, RADIX, REFUSED,
+    REPORT, SEPARATORS, SKIP_BLANK, SOURCE, TARGET, TARGET_MODE, TRIM, WORDS,
 };
 use crate::output::open_output;
-use crate::settings::conversion;
+use crate::settings::{conversion, note_target_mode};
 use command_line::given::{Asked, Given, Refusal};
 use command_line::page::Page;
 use fixed_command::{ConvertRule, LaidOutRule, Layout, Task};
@@ -34,19 +35,27 @@ pub fn page() -> Page {
             TARGET_MODE,
             PRINT,
             PLACES,
+            PLACES_MODE,
             TRIM,
             SKIP_BLANK,
             COMMENTS,
             WORDS,
+            SEPARATORS,
+            REFUSED,
+            KEEP_WORDS,
             REPORT,
             OUTPUT,
         ],
         end: "A format is I (signed) or U (unsigned), its whole bits, F and its fraction bits,\n\
               as in I16F16, 1 to 64 bits in all; or as in Q15, Q8.8 and UQ8.8. A\n\
-              number is rounded down from SOURCE to TARGET, or by --target-mode.\n\
+              number is rounded down from SOURCE to TARGET, or by --target-mode. A text reads\n\
+              back in its own format only: in another it may round to another number.\n\
               \n\
               A word is decimal, or after 0x, 0o or 0b, or bare in the radix, of at most the\n\
               bits of SOURCE in two's complement; with a sign it is the number itself.\n\
+              \n\
+              With --words a refused word becomes one word, or text stays (--keep);\n\
+              CHARS may be ',[]{}():=;' for C, TOML and dumps.\n\
               \n\
               Example: echo 3.14159 | fixed convert I16F16 I8F8 --print all",
     }
@@ -99,20 +108,38 @@ fn job_of<'a>(given: &Given<'_, 'a>, rule: ConvertRule) -> Asked<'a, Job<'a>> {
     if given.has(&WORDS) {
         return words_of(given, rule);
     }
+    refuse_words(given)?;
     match task_of(given, rule) {
         Ok(task) => Ok(Job::Task(task)),
         Err(refusal) => Err(refusal),
     }
 }
 
+/// Refuses options that mean something for words only.
+fn refuse_words<'a>(given: &Given<'_, 'a>) -> Asked<'a, ()> {
+    let option = if given.value(&SEPARATORS).is_some() {
+        "--separators"
+    } else if given.value(&REFUSED).is_some() {
+        "--refused"
+    } else if given.value(&KEEP_WORDS).is_some() {
+        "--keep"
+    } else {
+        return Ok(());
+    };
+    Err(Refusal::Word(option, "goes with '--words' alone"))
+}
+
 /// Words are converted where they stand, and separators stay: there are no comments among them.
 fn words_of<'a>(given: &Given<'_, 'a>, rule: ConvertRule) -> Asked<'a, Job<'a>> {
-    match given.value(&COMMENTS) {
-        Some(_) => Err(Refusal::Word("--comments", "does not go with '--words'")),
-        None => Ok(Job::Words {
+    if given.value(&COMMENTS).is_some() {
+        return Err(Refusal::Word("--comments", "does not go with '--words'"));
+    }
+    match word_rule(given, rule) {
+        Ok(rule) => Ok(Job::Words {
             rule,
             has_report: given.has(&REPORT),
         }),
+        Err(refusal) => Err(refusal),
     }
 }
 
@@ -127,6 +154,7 @@ pub fn run<'a, L: Ledger>(
         Ok(job) => job,
         Err(refusal) => return Err(refusal),
     };
+    note_target_mode(rt, given, 0, place);
     let files = given.from(place);
     match open_output(rt, given, files)? {
         Ok(mut output) => Ok(run_inputs_to(rt, &job, files, &mut output, steps)),

@@ -98,16 +98,15 @@ pub fn page() -> Page {
         hidden_name: "",
         about: "Find the finest format of a width, or the least within an error",
         usage: "fixed fit --width W [OPTIONS] [FILE]...\n       fixed fit --error E [OPTIONS] [FILE]...\n       \
-                fixed fit (--width W | --error E) [OPTIONS] --range [--] LO HI",
+                fixed fit (--width W | --error E) [OPTIONS] --range LO HI",
         operands: &[FILES],
-        has_numerals: false,
+        has_numerals: true,
         options: &[WIDTH, ERROR, ANY, SIGNED, WHY, RANGE, RADIX],
         end: "A numeral fits a format where it is in range after rounding to nearest, ties to\n\
               even. The finest format has the greatest fraction length. It is signed exactly\n\
               where a numeral is below zero, or where --signed asks for it. After its name\n\
               stands the greatest error of a numeral in it; of a range half an ulp. Of a\n\
-              range LO is line 1 and HI line 2; where LO begins with a minus, -- comes\n\
-              before it.\n\
+              range LO is line 1 and HI line 2, and either may begin with a minus.\n\
               \n\
               With --error the answer is the format of the least width of 8, 16, 32 and 64, or\n\
               of W alone, at which one has each numeral in range with an error of at most E,\n\
@@ -376,6 +375,7 @@ fn answer_list<S: Source, L: Ledger>(
 }
 
 /// Answers the list of a source, and says on standard error why it did not end well.
+#[inline(never)]
 pub fn run_on<S: Source, L: Ledger>(
     rt: &HostRuntime,
     task: &FitTask,
@@ -420,6 +420,22 @@ fn run_range<'a, L: Ledger>(
     }
 }
 
+/// Refuses a word that begins with a hyphen, which is no file: such a file is written `./-x`, or after `--`.
+fn refuse_hyphens<'a>(given: &Given<'_, 'a>) -> Asked<'a, ()> {
+    for place in 0..given.words.len() {
+        match given.keyword(place) {
+            Some(word) if word.len() > 1 && word.starts_with('-') => {
+                return Err(Refusal::Word(
+                    word,
+                    "is not an option, nor a file: a numeral is an end of '--range'",
+                ));
+            }
+            _ => (),
+        }
+    }
+    Ok(())
+}
+
 /// Answers each file, or a range.
 pub fn run<'a, L: Ledger>(
     rt: &HostRuntime,
@@ -444,5 +460,6 @@ pub fn run<'a, L: Ledger>(
     if given.has(&RANGE) {
         return run_range(rt, &task, given.from(0), steps);
     }
+    refuse_hyphens(given)?;
     Ok(run_inputs(rt, &Job::Fit(task), given.from(0), steps))
 }

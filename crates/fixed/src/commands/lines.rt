@@ -29,7 +29,10 @@ pub fn run<'a, L: Ledger>(
     given: &Given<'_, 'a>,
     steps: &mut Steps<L>,
 ) -> Asked<'a, Status> {
-    let limit = limit_of(given.value(&LIMIT).unwrap_or("4294967296"))?;
+    let limit = match given.value(&LIMIT) {
+        Some(word) => Some(limit_of(word)?),
+        None => None,
+    };
     let job = Job::Task(Task::Lines(limit));
     Ok(run_inputs(rt, &job, given.from(0), steps))
 }

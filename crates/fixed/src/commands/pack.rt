@@ -122,6 +122,7 @@ fn report_end<L: Ledger>(
 }
 
 /// Packs one input, and says on standard error why it did not end well.
+#[inline(never)]
 pub fn run_on<R: Read + Drop, L: Ledger>(
     rt: &HostRuntime,
     settings: &PackSettings,

@@ -1,12 +1,12 @@
 //! `fixed unpack`: raw words to lines.
 
 use crate::inputs::{Job, run_inputs};
-use crate::options::{ENDIAN, PLACES, POLICY, PRINT, TARGET, TARGET_MODE};
+use crate::options::{ENDIAN, PLACES, PLACES_MODE, POLICY, PRINT, TARGET, TARGET_MODE};
 use crate::settings::{conversion, endian_of};
 use command_line::device::{Failure, Writer};
 use command_line::given::{Asked, Given};
 use command_line::page::{Operand, Page};
-use command_line::report::{Report, report_end};
+use command_line::report::{Report, hex_digit, report_end};
 use fixed_command::RefusedLine;
 use fixed_io::{StdSink, StdSource};
 use fixed_pack::{UnpackEnd, UnpackRule, run_unpack};
@@ -28,24 +28,20 @@ pub fn page() -> Page {
         usage: "fixed unpack [OPTIONS] FORMAT [TARGET] [FILE]...",
         operands: &[FORMAT, TARGET],
         has_numerals: false,
-        options: &[ENDIAN, POLICY, TARGET_MODE, PRINT, PLACES],
+        options: &[ENDIAN, POLICY, TARGET_MODE, PRINT, PLACES, PLACES_MODE],
         end: "A word is the fewest bytes that hold the width of FORMAT. Its line is what\n\
               'fixed convert --from bits' answers to its bits: a word that has a bit above\n\
               the width is refused. Standard error says how many bytes are left over at the\n\
               end of an input, with status 1.\n\
               \n\
+              A text reads back in its own format only. Words of Q23 become the nearest words\n\
+              of Q15 by 'fixed unpack Q23 Q15 --target-mode nearest | fixed pack Q15', with\n\
+              '-p saturating' where a number may round out of range.\n\
+              \n\
               A format is I (signed) or U (unsigned), its whole bits, F and its fraction bits,\n\
               as in I16F16, 1 to 64 bits in all; or as in Q15, Q8.8 and UQ8.8.\n\
               \n\
               Example: printf '\\x40\\x00' | fixed unpack Q15 --endian big",
-    }
-}
-
-/// The last four bits of a byte as a hexadecimal digit.
-fn hex_digit(byte: u8) -> u8 {
-    match byte & 15 {
-        digit if digit < 10 => b'0' + digit,
-        digit => b'a' + (digit - 10),
     }
 }
 
@@ -58,7 +54,7 @@ fn report_refused(rt: &HostRuntime, file: Option<&str>, refused: u64, word: &Ref
     report.number(word.number);
     report.text(", bytes");
     for byte in word.text.as_bytes() {
-        report.bytes(&[b' ', hex_digit(byte / 16), hex_digit(*byte)], 3);
+        report.bytes(&[b' ', hex_digit(byte / 16), hex_digit(byte % 16)], 3);
     }
     report.text(": ");
     report.bytes(word.cause.as_bytes(), 160);
@@ -76,6 +72,7 @@ fn report_left_over(rt: &HostRuntime, file: Option<&str>, end: &UnpackEnd) {
 }
 
 /// Unpacks one input, and says on standard error why it did not end well.
+#[inline(never)]
 pub fn run_on<R: Read + Drop, L: Ledger>(
     rt: &HostRuntime,
     rule: &UnpackRule,

@@ -12,7 +12,7 @@ use Rattle.fixed_respell.specs.Answer.{fault_message}
 use Rattle.fixed_respell.specs.FormatNames.{IsFormatName}
 use Rattle.fixed_respell.specs.Language.{fault_answer}
 use Rattle.fixed_respell.specs.LineWords.{longest_line, spaced}
-use Rattle.fixed_respell.specs.Words.{format_text, mode_text, policy_text, radix_text, slash}
+use Rattle.fixed_respell.specs.Words.{IsPolicyName, format_text, mode_text, policy_text, radix_text, slash}
 use Rattle.fixed_respell.specs.declared.fault.LineFault.TheVariants.{LineTooLong}
 use Rattle.fixed_respell.proofs.Public.{named_answer_one}
 use Rattle.fixed_respell.specs.Lemmas.FaultLemmas.{first_long}
@@ -128,7 +128,7 @@ long_asked : (line : Bool) (s : Settings) (numeral : List ℕ) → longest_line 
     → IsAnswerBy line s numeral (fault_answer (fault_message LineTooLong))
 long_asked true s numeral long = inl (record {
   fault = LineTooLong;
-  first = first_long IsFormatName (asking_line s numeral)
+  first = first_long IsFormatName IsPolicyName (asking_line s numeral)
       long;
   answer_is = refl;
 })

@@ -1,24 +1,17 @@
 -- How many ulps a number is, and what is lost.
-use Rattle.std.specs.Prelude.{◌≡◌, ℕ, ◌+◌, ◌*◌, ◌^◌, ◌<◌, ◌↔◌, IsTrue, List, length}
+use Rattle.std.specs.Prelude.{◌≡◌, ℕ, ◌+◌, ◌*◌, ◌^◌, ◌<◌, ◌↔◌, IsTrue, false, List, length}
 use Rattle.std.specs.Int.Digits.{number_from_digits, AllBelowBase}
+use Rattle.fixed_bits.specs.LostFractions.{IsLostFraction}
+use Rattle.fixed_bits.specs.Rounded.{IsRounded}
 use Rattle.fixed_numeral.specs.Numeral.{base}
 use Rattle.fixed_numeral.specs.Place.{NoLeadingZero, NoTrailingZero}
 use Rattle.fixed_numeral.specs.Scanned.{exponent_unit}
 use Rattle.fixed_numeral.specs.Value.{Fraction}
 use Rattle.fixed_numeral.specs.declared.radix.Radix.{Radix}
 use Rattle.fixed_read.specs.Reading.{IsMultipleOf}
-use Rattle.fixed_read.specs.Inner.Directions.{IsRoundedTo}
 use Rattle.fixed_read.specs.declared.magnitude.Ulps.{Ulps}
-use Rattle.fixed_read.specs.declared.direction.Direction.{Direction}
-use Rattle.fixed_read.specs.declared.lost_fraction.LostFraction.{LostFraction}
-use Rattle.fixed_read.specs.declared.lost_fraction.LostFraction.TheVariants.{Zero, LessThanHalf, Half, MoreThanHalf}
-
--- s / den of an ulp is lost
-abbrev pub IsLostFraction : LostFraction → ℕ → ℕ → Type 0
-IsLostFraction Zero s den = s ≡ 0
-IsLostFraction LessThanHalf s den = (0 < s) × (2 * s < den)
-IsLostFraction Half s den = 2 * s ≡ den
-IsLostFraction MoreThanHalf s den = (den < 2 * s) × (s < den)
+use Rattle.fixed_bits.specs.declared.mode.ReadMode.{ReadMode}
+use Rattle.fixed_bits.specs.declared.rounding.LostFraction.{LostFraction}
 
 -- num / den is p whole and what is lost
 pub record IsSettled (num den p : ℕ) (lost : LostFraction) : Type 0 where
@@ -45,9 +38,9 @@ pub record IsFractionUlps (b : ℕ) (ds : List ℕ) (t p : ℕ) (lost : LostFrac
   pub small : p < 2 ^ t
 
 -- number rounded to ulps of 2^-frac: its lowest 64 bits, whether there are more, and whether nothing was rounded
-pub record IsMagnitude (direction : Direction) (number : Fraction) (frac : ℕ) (ulps : Ulps) : Type 0 where
+pub record IsMagnitude (mode : ReadMode) (number : Fraction) (frac : ℕ) (ulps : Ulps) : Type 0 where
   pub high : ℕ
-  pub to : IsRoundedTo direction (number.num * 2 ^ frac) number.den (high * 2 ^ 64 + ulps.low)
+  pub to : IsRounded mode false (number.num * 2 ^ frac) number.den (high * 2 ^ 64 + ulps.low)
   pub over : IsTrue ulps.has_high_bits ↔ (0 < high)
   pub exact : IsTrue ulps.is_exact ↔ IsMultipleOf number.den (number.num * 2 ^ frac)
 

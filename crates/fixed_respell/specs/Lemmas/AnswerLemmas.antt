@@ -9,6 +9,8 @@ use Rattle.fixed_bits.specs.declared.format.Policy.{Policy}
 use Rattle.fixed_bits.specs.declared.format.Policy.TheVariants.{Checked, Saturating, Wrapping}
 use Rattle.fixed_bits.specs.declared.mode.ReadMode.{ReadMode}
 use Rattle.fixed_bits.specs.declared.mode.ReadMode.TheVariants.{NearestEven, Floor, Ceil, TowardsZero}
+use Rattle.fixed_bits.specs.declared.mode.ReadMode.TheVariants.{NearestAway, NearestZero, NearestUp, NearestDown}
+use Rattle.fixed_bits.specs.declared.mode.ReadMode.TheVariants.{AwayFromZero}
 use Rattle.fixed_numeral.specs.Messages.{message_of}
 use Rattle.fixed_numeral.specs.declared.radix.Radix.{Radix}
 use Rattle.fixed_numeral.specs.declared.radix.Radix.TheVariants.{Bin, Oct, Dec, Hex}
@@ -21,7 +23,8 @@ use Rattle.line_engine.specs.Lines.{kept_length}
 use Rattle.fixed_respell.specs.LineWords.{longest_line}
 use Rattle.line_engine.specs.AnswerText.{AnswerText}
 use Rattle.fixed_respell.specs.Split.{count_of}
-use Rattle.fixed_respell.specs.Words.{radix_text, format_text, policy_text, mode_text, IsFormatWord, IsPolicyWord}
+use Rattle.fixed_respell.specs.Words.{radix_text, format_text, policy_text, mode_text, IsFormatWord, IsPolicyName}
+use Rattle.fixed_respell.specs.Words.{IsPolicyWord}
 use Rattle.fixed_respell.specs.Words.{slash, sign_letter, fraction_letter}
 use Rattle.fixed_respell.specs.declared.fault.LineFault.TheVariants.{LineTooLong}
 use Rattle.fixed_respell.specs.Lemmas.FaultLemmas.{faults_apart, first_long, no_fault}
@@ -68,30 +71,46 @@ pub policy_one : (p q : Policy) → policy_text p ≡ policy_text q → p ≡ q
 policy_one p q e = sym (policy_back p) ∙ (ap policy_at e ∙ policy_back q)
 
 mode_at : List ℕ → ReadMode
-mode_at word = if first_byte word == 110 then NearestEven else if first_byte word == 102 then Floor
-    else if first_byte word == 99 then Ceil else TowardsZero
+mode_at word = if get_or word 5 0 == 97 then NearestAway else if get_or word 5 0 == 122 then NearestZero
+    else if get_or word 5 0 == 117 then NearestUp else if get_or word 5 0 == 100 then NearestDown
+    else if first_byte word == 110 then NearestEven else if first_byte word == 102 then Floor
+    else if first_byte word == 99 then Ceil else if first_byte word == 97 then AwayFromZero else TowardsZero
 
 mode_back : (m : ReadMode) → mode_at (mode_text m) ≡ m
 unfolding mode_at first_byte
 mode_back NearestEven = refl
+mode_back NearestAway = refl
+mode_back NearestZero = refl
+mode_back NearestUp = refl
+mode_back NearestDown = refl
 mode_back Floor = refl
 mode_back Ceil = refl
 mode_back TowardsZero = refl
+mode_back AwayFromZero = refl
 
 pub mode_one : (m k : ReadMode) → mode_text m ≡ mode_text k → m ≡ k
 mode_one m k e = sym (mode_back m) ∙ (ap mode_at e ∙ mode_back k)
 
-pub policy_word_one : (word : List ℕ) (p q : Policy) (m k : ReadMode) → IsPolicyWord word p m → IsPolicyWord word q k
+pub policy_name_one : (word : List ℕ) (p q : Policy) (m k : ReadMode) → IsPolicyName word p m → IsPolicyName word q k
     → (p ≡ q) × (m ≡ k)
-policy_word_one word p q m k (inl a) (inl b) = (policy_one p q (sym a.0 ∙ b.0), a.1 ∙ sym b.1)
-policy_word_one word p q m k (inl a) (inr b) = absurd (split_has_one slash word (policy_text q) (mode_text k) b
+policy_name_one word p q m k (inl a) (inl b) = (policy_one p q (sym a.0 ∙ b.0), a.1 ∙ sym b.1)
+policy_name_one word p q m k (inl a) (inr b) = absurd (split_has_one slash word (policy_text q) (mode_text k) b
     (ap (count_of slash) a.0 ∙ no_slash p))
-policy_word_one word p q m k (inr a) (inl b) = absurd (split_has_one slash word (policy_text p) (mode_text m) a
+policy_name_one word p q m k (inr a) (inl b) = absurd (split_has_one slash word (policy_text p) (mode_text m) a
     (ap (count_of slash) b.0 ∙ no_slash q))
-policy_word_one word p q m k (inr a) (inr b) =
+policy_name_one word p q m k (inr a) (inr b) =
     let same = same_split slash (policy_text p) (policy_text q) (mode_text m) (mode_text k) (sym a ∙ b) (no_slash p)
     (no_slash q) in
     (policy_one p q same.before, mode_one m k same.after)
+
+-- a word of a policy is a name of it
+pub word_is_name : (word : List ℕ) (p : Policy) (m : ReadMode) → IsPolicyWord word p m → IsPolicyName word p m
+word_is_name word p m (inl plain) = inl plain
+word_is_name word p m (inr named) = inr named.0
+
+pub policy_word_one : (word : List ℕ) (p q : Policy) (m k : ReadMode) → IsPolicyWord word p m → IsPolicyWord word q k
+    → (p ≡ q) × (m ≡ k)
+policy_word_one word p q m k a b = policy_name_one word p q m k (word_is_name word p m a) (word_is_name word q k b)
 
 -- and one format
 abbrev parts : Bool → ℕ → ℕ → FormatParts
@@ -136,11 +155,13 @@ refused_or_not : (t : Task) (a b : AnswerText) → IsRefusalAnswer t a → IsRes
 refused_or_not t a b x y = refusal_none t.mode t.radix t.numeral t.policy t.source t.target x.kind y.bits y.overflowed
     x.refusal y.respelled
 
--- ---- a line has one answer, whichever relation tells which format a word names, if a word names one at most
+-- ---- a line has one answer, whichever relations tell what a word names, if a word names one at most
 module _ (Names : List ℕ → FormatParts → Type 0) (one_format : (word : List ℕ) (f g : FormatParts) → Names word f
-    → Names word g → f ≡ g) (valid : (word : List ℕ) (f : FormatParts) → Names word f → IsFormat f.width f.frac) where
+    → Names word g → f ≡ g) (valid : (word : List ℕ) (f : FormatParts) → Names word f → IsFormat f.width f.frac)
+    (NamesPolicy : List ℕ → Policy → ReadMode → Type 0) (one_policy : (word : List ℕ) (p q : Policy) (m k : ReadMode)
+    → NamesPolicy word p m → NamesPolicy word q k → (p ≡ q) × (m ≡ k)) where
   -- a line asks for one task
-  pub task_one : (line : List ℕ) (t u : Task) → AsksBy Names IsPolicyWord line t → AsksBy Names IsPolicyWord line u
+  pub task_one : (line : List ℕ) (t u : Task) → AsksBy Names NamesPolicy line t → AsksBy Names NamesPolicy line u
       → t ≡ u
   task_one line t u a b =
       let same = words_one line _ _ t.numeral u.numeral a.words b.words refl in
@@ -148,15 +169,15 @@ module _ (Names : List ℕ → FormatParts → Type 0) (one_format : (word : Lis
       let source : a.source_word ≡ b.source_word = ap (λ ws. get_or ws 1 []) same.words in
       let target : a.target_word ≡ b.target_word = ap (λ ws. get_or ws 2 []) same.words in
       let policy : a.policy_word ≡ b.policy_word = ap (λ ws. get_or ws 3 []) same.words in
-      let named = policy_word_one b.policy_word t.policy u.policy t.mode u.mode
-      (subst (λ w. IsPolicyWord w t.policy t.mode) policy a.policy) b.policy in
+      let named = one_policy b.policy_word t.policy u.policy t.mode u.mode
+      (subst (λ w. NamesPolicy w t.policy t.mode) policy a.policy) b.policy in
       task_is t u
       (radix_one t.radix u.radix (sym a.radix ∙ (radix ∙ b.radix)))
       (one_format b.source_word t.source u.source (subst (λ w. Names w t.source) source a.source) b.source)
       (one_format b.target_word t.target u.target (subst (λ w. Names w t.target) target a.target) b.target)
       named.0 named.1 same.rests
 
-  respellings : (line : List ℕ) (t : Task) (a b : AnswerText) → AsksBy Names IsPolicyWord line t
+  respellings : (line : List ℕ) (t : Task) (a b : AnswerText) → AsksBy Names NamesPolicy line t
       → IsRespelledAnswer t a → IsRespelledAnswer t b → a ≡ b
   respellings line t a b asks x y =
       let one = respelled_one t.mode t.radix t.numeral t.policy t.source t.target x.bits y.bits x.overflowed
@@ -166,35 +187,35 @@ module _ (Names : List ℕ → FormatParts → Type 0) (one_format : (word : Lis
       (subst (λ c. IsShortestText c t.target.frac x.text) one.0 x.shortest) y.shortest in
       x.answer_is ∙ ((λ i. respelled_answer (text i) (one.0 i) (one.1 i)) ∙ sym y.answer_is)
 
-  task_answer_one : (line : List ℕ) (t : Task) (a b : AnswerText) → AsksBy Names IsPolicyWord line t
+  task_answer_one : (line : List ℕ) (t : Task) (a b : AnswerText) → AsksBy Names NamesPolicy line t
       → IsTaskAnswered t a → IsTaskAnswered t b → a ≡ b
   task_answer_one line t a b asks (inl x) (inl y) = refusals t a b x y
   task_answer_one line t a b asks (inl x) (inr y) = absurd (refused_or_not t a b x y)
   task_answer_one line t a b asks (inr x) (inl y) = absurd (refused_or_not t b a y x)
   task_answer_one line t a b asks (inr x) (inr y) = respellings line t a b asks x y
 
-  definite : IsDefinite (respell_language Names IsPolicyWord)
+  definite : IsDefinite (respell_language Names NamesPolicy)
   definite = record {
     apart = faults_apart;
-    no_fault = no_fault Names;
+    no_fault = no_fault Names NamesPolicy;
     task_one = task_one;
     answer_one = task_answer_one;
   }
 
-  pub answer_by : (line : List ℕ) (a b : AnswerText) → IsAnswerIn (respell_language Names IsPolicyWord) line a
-      → IsAnswerIn (respell_language Names IsPolicyWord) line b → a ≡ b
-  answer_by line a b x y = answer_in_one (respell_language Names IsPolicyWord) definite line a b x y
+  pub answer_by : (line : List ℕ) (a b : AnswerText) → IsAnswerIn (respell_language Names NamesPolicy) line a
+      → IsAnswerIn (respell_language Names NamesPolicy) line b → a ≡ b
+  answer_by line a b x y = answer_in_one (respell_language Names NamesPolicy) definite line a b x y
 
 word_valid : (word : List ℕ) (f : FormatParts) → IsFormatWord word f → IsFormat f.width f.frac
 word_valid word f is = type_format f.width f.frac is.format
 
 pub answer_one : AnswerIsTheOne
-answer_one = answer_by IsFormatWord format_word_one word_valid
+answer_one = answer_by IsFormatWord format_word_one word_valid IsPolicyWord policy_word_one
 
 long_answer : (line : List ℕ) → longest_line < length line → IsAnswer line (fault_answer (fault_message LineTooLong))
 long_answer line long = inl (record {
   fault = LineTooLong;
-  first = first_long IsFormatWord line long;
+  first = first_long IsFormatWord IsPolicyWord line long;
   answer_is = refl;
 })
 
@@ -208,7 +229,7 @@ plain_word word p m none = (to, λ w. inl w)
   where
     to : IsPolicyWord word p m → (word ≡ policy_text p) × (m ≡ NearestEven)
     to (inl w) = w
-    to (inr w) = absurd (split_has_one slash word (policy_text p) (mode_text m) w none)
+    to (inr w) = absurd (split_has_one slash word (policy_text p) (mode_text m) w.0 none)
 
 pub plain_line : PlainLineAsksNearest
 plain_line line t asks none = (plain_word asks.policy_word t.policy t.mode none).0 asks.policy

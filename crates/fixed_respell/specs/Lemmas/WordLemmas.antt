@@ -18,4 +18,4 @@ pub policy_split : (word xs ys : List ℕ) (p : Policy) (m : ReadMode) → IsSpl
 policy_split word xs ys p m cut (inl plain) = absurd (split_has_one slash word xs ys cut.split
     (ap (count_of slash) plain.0 ∙ no_slash p))
 policy_split word xs ys p m cut (inr split) = split_is_one slash word xs ys (policy_text p) (mode_text m) cut
-    (record { split = split; first = no_slash p })
+    (record { split = split.0; first = no_slash p })

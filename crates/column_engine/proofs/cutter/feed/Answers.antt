@@ -12,7 +12,7 @@ rows-init g c = record {
   same = refl;
   standing = c.requires.standing;
   as_many = c.requires.as_many;
-  fed = feeds_none (g.A.FieldRule.Answers c.args.task.now.rule.now) c.args.task.now.is_kept c.args.task.now.delimiter c.args.task.now.columns.now
+  fed = feeds_none (g.A.FieldRule.Answers c.args.task.now.rule.now) c.args.task.now.keeps c.args.task.now.delimiter c.args.task.now.columns.now
       (c.args.cutter.now.kept ++ c.args.chunk.now) (state_of c.args.cutter.now.progress) c.args.work.now.out (g.K.Sink.written c.args.sink.now);
 }
 
@@ -24,7 +24,7 @@ returns-in-None-clause-standing g c =
 pub returns-then-rest-room-clause-err : goal.returns-then-rest-room-clause-err
 returns-then-rest-room-clause-err g c =
     let fact = c.record_end-end.ensures.none c.in-None.is in
-    fails_long (g.A.FieldRule.Answers c.args.task.now.rule.now) c.args.task.now.is_kept c.args.task.now.delimiter c.args.task.now.columns.now
+    fails_long (g.A.FieldRule.Answers c.args.task.now.rule.now) c.args.task.now.keeps c.args.task.now.delimiter c.args.task.now.columns.now
     (c.args.cutter.now.kept ++ c.args.chunk.now) (c.rows.cutter.kept ++ c.rows.rest.now) (state_of c.args.cutter.now.progress) (state_of c.rows.cutter.progress)
     c.args.work.now.out c.rows.work.out (g.K.Sink.written c.args.sink.now) (g.K.Sink.written c.rows.sink) c.rows.invariant.fed
     (long_standing c.args.task.now.delimiter MAX_RECORD c.rows.cutter.kept c.rows.rest.now c.rows.cutter.place c.record_end-end.result.1 c.rows.invariant.standing fact.0 fact.1
@@ -33,7 +33,7 @@ returns-then-rest-room-clause-err g c =
 pub returns-then-end-room-clause-err : goal.returns-then-end-room-clause-err
 returns-then-end-room-clause-err g c =
     let at = ends_at c.args.task.now.delimiter c.rows.cutter.place c.record_end-end.result.1 c.rows.rest.now c.record_end-end.result.0 c.in-Some.end c.in-Some.is c.record_end-end.ensures.some in
-    fails_long (g.A.FieldRule.Answers c.args.task.now.rule.now) c.args.task.now.is_kept c.args.task.now.delimiter c.args.task.now.columns.now
+    fails_long (g.A.FieldRule.Answers c.args.task.now.rule.now) c.args.task.now.keeps c.args.task.now.delimiter c.args.task.now.columns.now
     (c.args.cutter.now.kept ++ c.args.chunk.now) (c.rows.cutter.kept ++ c.rows.rest.now) (state_of c.args.cutter.now.progress) (state_of c.rows.cutter.progress)
     c.args.work.now.out c.rows.work.out (g.K.Sink.written c.args.sink.now) (g.K.Sink.written c.rows.sink) c.rows.invariant.fed
     (long_ended c.args.task.now.delimiter MAX_RECORD c.rows.cutter.kept c.rows.rest.now c.in-Some.end c.rows.cutter.place c.record_end-end.result.1 c.rows.invariant.standing at
@@ -49,7 +49,7 @@ returns-in-Err-clause-err g c =
     let at = ends_at d c.rows.cutter.place c.record_end-end.result.1 rest c.record_end-end.result.0 end c.in-Some.is c.record_end-end.ensures.some in
     let row : Row = record { body = kept ++ take end rest; end = piece } in
     let begins = begins_with d kept rest piece end c.rows.cutter.place c.record_end-end.result.1 c.rows.invariant.standing at (piece_one rest end at.low) in
-    fails_row (g.A.FieldRule.Answers c.args.task.now.rule.now) c.args.task.now.is_kept d c.args.task.now.columns.now c.in-Err.stop
+    fails_row (g.A.FieldRule.Answers c.args.task.now.rule.now) c.args.task.now.keeps d c.args.task.now.columns.now c.in-Err.stop
     (c.args.cutter.now.kept ++ c.args.chunk.now) (kept ++ rest) row (state_of c.args.cutter.now.progress) (state_of c.rows.cutter.progress) (state_of c.end_row.new.cutter.progress)
     c.args.work.now.out c.rows.work.out c.end_row.new.work.out (g.K.Sink.written c.args.sink.now) (g.K.Sink.written c.rows.sink) (g.K.Sink.written c.end_row.new.sink)
     c.rows.invariant.fed begins c.in-Err.ensures.err c.in-Err.ensures.counts
@@ -58,7 +58,7 @@ pub rows-preserved : goal.rows-preserved
 unfolding begins_with
 rows-preserved g c =
     let A = g.A.FieldRule.Answers c.args.task.now.rule.now in
-    let keeps = c.args.task.now.is_kept in
+    let keeps = c.args.task.now.keeps in
     let d = c.args.task.now.delimiter in
     let columns = c.args.task.now.columns.now in
     let kept = c.rows.cutter.kept in

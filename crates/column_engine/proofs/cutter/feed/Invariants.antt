@@ -8,7 +8,7 @@ invariant-rows g l = record {
   same : g.K.Sink.failures l.sink ≡ g.K.Sink.failures l.initial.sink;
   standing : IsStanding l.task.delimiter l.cutter.kept l.cutter.place;
   as_many : length l.cutter.progress.asked.items ≡ length l.task.columns.now;
-  fed : FeedsRows (g.A.FieldRule.Answers l.task.rule.now) l.task.is_kept l.task.delimiter l.task.columns.now
+  fed : FeedsRows (g.A.FieldRule.Answers l.task.rule.now) l.task.keeps l.task.delimiter l.task.columns.now
       (l.initial.cutter.kept ++ l.chunk) (l.cutter.kept ++ l.rest) (state_of l.initial.cutter.progress) (state_of l.cutter.progress)
       l.initial.work.out l.work.out (g.K.Sink.written l.initial.sink) (g.K.Sink.written l.sink);
 }

@@ -12,13 +12,13 @@ returns-in-Err-clause-err g c =
     let f = c.args.field in
     let body = c.args.body.now in
     let part = c.in-Err.ensures.err in
-    field_cut (g.A.FieldRule.Answers c.args.task.now.rule.now) c.args.task.now.is_kept c.args.task.now.delimiter body _ f.column f.start f.end part.0 c.args.work.now.out part.1
+    field_cut (g.A.FieldRule.Answers c.args.task.now.rule.now) c.args.task.now.keeps c.args.task.now.delimiter body _ f.column f.start f.end part.0 c.args.work.now.out part.1
     (g.K.Sink.written c.args.sink.now) (g.K.Sink.written c.gather_answer.new.sink) c.requires.field refl part.2
 
 pub returns-in-Err-put-clause-err : goal.returns-in-Err-put-clause-err
 returns-in-Err-put-clause-err g c =
     let A = g.A.FieldRule.Answers c.args.task.now.rule.now in
-    let keeps = c.args.task.now.is_kept in
+    let keeps = c.args.task.now.keeps in
     let d = c.args.task.now.delimiter in
     let f = c.args.field in
     let body = c.args.body.now in
@@ -34,6 +34,6 @@ pub returns-in-Ok-put-clause-ok : goal.returns-in-Ok-put-clause-ok
 returns-in-Ok-put-clause-ok g c =
     let f = c.args.field in
     let body = c.args.body.now in
-    field_filled (g.A.FieldRule.Answers c.args.task.now.rule.now) c.args.task.now.is_kept c.args.task.now.delimiter body _ _ f.column f.start f.end c.as_count.result c.in-Ok.is_refused
+    field_filled (g.A.FieldRule.Answers c.args.task.now.rule.now) c.args.task.now.keeps c.args.task.now.delimiter body _ _ f.column f.start f.end c.as_count.result c.in-Ok.is_refused
     c.args.work.now.out c.gather_answer.new.work.out c.put.new.out (g.K.Sink.written c.args.sink.now) (g.K.Sink.written c.gather_answer.new.sink) (g.K.Sink.written c.put.new.sink)
     c.requires.field c.as_count.ensures.value refl (take_rest body f.end) c.in-Ok.ensures.ok c.in-Ok-put.ensures.ok

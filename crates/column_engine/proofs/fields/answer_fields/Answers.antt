@@ -21,7 +21,7 @@ fields-init g c = record {
   span = omega arith;
   few = omega arith;
   before = c.args.work.now.out;
-  fields = fields_none (g.A.FieldRule.Answers c.args.task.now.rule.now) c.args.task.now.is_kept c.args.task.now.delimiter c.args.asked.now c.args.work.now.out (g.K.Sink.written c.args.sink.now);
+  fields = fields_none (g.A.FieldRule.Answers c.args.task.now.rule.now) c.args.task.now.keeps c.args.task.now.delimiter c.args.asked.now c.args.work.now.out (g.K.Sink.written c.args.sink.now);
   held = refl;
 }
 
@@ -35,7 +35,7 @@ returns-in_err-next-clause-err g c =
     let found = field_at d body _ start c.field_end.result inv.fits (take_rest body start) c.field_end.ensures.within c.field_end.ensures.last c.field_end.ensures.more c.field_end.ensures.delimiter in
     let raw = take (end - start) (drop start body) in
     on_err c.from_residual.result
-    (part_next (g.A.FieldRule.Answers c.args.task.now.rule.now) c.args.task.now.is_kept d c.args.asked.now (raw_fields d Start body) inv.some found.others raw c.fields.column c.fields.refused
+    (part_next (g.A.FieldRule.Answers c.args.task.now.rule.now) c.args.task.now.keeps d c.args.asked.now (raw_fields d Start body) inv.some found.others raw c.fields.column c.fields.refused
     c.args.work.now.out inv.before (ahead c.fields.work.out body c.fields.from start) (g.K.Sink.written c.args.sink.now) (g.K.Sink.written c.fields.sink) (g.K.Sink.written c.pass_field.new.sink)
     (cut_more (raw_fields d Start body) inv.some (raw_fields d Start (drop start body)) found.others raw inv.cut found.cut) inv.many inv.fields inv.held c.in_err-next.ensures.err)
 
@@ -43,7 +43,7 @@ pub returns-in_err-put-clause-err : goal.returns-in_err-put-clause-err
 returns-in_err-put-clause-err g c =
     let inv = c.fields.invariant in
     let A = g.A.FieldRule.Answers c.args.task.now.rule.now in
-    let keeps = c.args.task.now.is_kept in
+    let keeps = c.args.task.now.keeps in
     let d = c.args.task.now.delimiter in
     let asked = c.args.asked.now in
     let body = c.args.body.now in
@@ -69,7 +69,7 @@ pub returns-then-end-body-clause-ok : goal.returns-then-end-body-clause-ok
 returns-then-end-body-clause-ok g c =
     let inv = c.fields.invariant in
     let A = g.A.FieldRule.Answers c.args.task.now.rule.now in
-    let keeps = c.args.task.now.is_kept in
+    let keeps = c.args.task.now.keeps in
     let d = c.args.task.now.delimiter in
     let asked = c.args.asked.now in
     let body = c.args.body.now in
@@ -93,7 +93,7 @@ pub fields-preserved : goal.fields-preserved
 fields-preserved g c =
     let inv = c.fields.invariant in
     let A = g.A.FieldRule.Answers c.args.task.now.rule.now in
-    let keeps = c.args.task.now.is_kept in
+    let keeps = c.args.task.now.keeps in
     let d = c.args.task.now.delimiter in
     let body = c.args.body.now in
     let start = c.fields.start in
@@ -121,7 +121,7 @@ pub returns-in_err-put-2-clause-err : goal.returns-in_err-put-2-clause-err
 returns-in_err-put-2-clause-err g c =
     let inv = c.fields.invariant in
     let A = g.A.FieldRule.Answers c.args.task.now.rule.now in
-    let keeps = c.args.task.now.is_kept in
+    let keeps = c.args.task.now.keeps in
     let d = c.args.task.now.delimiter in
     let asked = c.args.asked.now in
     let body = c.args.body.now in
@@ -140,7 +140,7 @@ pub returns-clause-ok : goal.returns-clause-ok
 returns-clause-ok g c =
     let inv = c.fields.invariant in
     let A = g.A.FieldRule.Answers c.args.task.now.rule.now in
-    let keeps = c.args.task.now.is_kept in
+    let keeps = c.args.task.now.keeps in
     let d = c.args.task.now.delimiter in
     let asked = c.args.asked.now in
     let body = c.args.body.now in

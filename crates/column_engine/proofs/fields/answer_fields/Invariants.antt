@@ -16,7 +16,7 @@ invariant-fields g l = record {
   span : l.column ≤ l.start;
   few : l.refused ≤ l.column;
   before : List ℕ;
-  fields : GathersFields (g.A.FieldRule.Answers l.task.rule.now) l.task.is_kept l.task.delimiter l.asked 0 some l.refused l.initial.work.out before
+  fields : GathersFields (g.A.FieldRule.Answers l.task.rule.now) l.task.keeps l.task.delimiter l.asked 0 some l.refused l.initial.work.out before
       (g.K.Sink.written l.initial.sink) (g.K.Sink.written l.sink);
   held : before ++ before_field l.task.delimiter l.column ≡ ahead l.work.out l.body l.from l.start;
 }

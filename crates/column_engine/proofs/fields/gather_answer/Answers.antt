@@ -37,7 +37,7 @@ returns-in_err-put-2-clause-err g c =
       part.0,
       record {
         text = c.bytes-shown.result.now;
-        answer = subst (λ t. IsAnswer A c.args.task.now.is_kept c.args.task.now.delimiter true c.args.raw.now (record { text = t; refused = refused })) (sym c.bytes-shown.ensures) c.answer_asked-answered.ensures.answer;
+        answer = subst (λ t. IsAnswer A c.args.task.now.keeps c.args.task.now.delimiter true c.args.raw.now (record { text = t; refused = refused })) (sym c.bytes-shown.ensures) c.answer_asked-answered.ensures.answer;
         gathered = flushes_both c.args.work.now.out c.args.before.now c.bytes-shown.result.now c.put.new.out part.0 a b z first part.1;
       },
     )
@@ -52,6 +52,6 @@ returns-clause-ok g c =
     let first = subst (λ h. Flushes h c.args.before.now c.put.new.out a b) c.answer_asked-answered.ensures.out c.in_ok-put.ensures.ok in
     record {
       text = c.bytes-shown.result.now;
-      answer = subst (λ t. IsAnswer A c.args.task.now.is_kept c.args.task.now.delimiter true c.args.raw.now (record { text = t; refused = refused })) (sym c.bytes-shown.ensures) c.answer_asked-answered.ensures.answer;
+      answer = subst (λ t. IsAnswer A c.args.task.now.keeps c.args.task.now.delimiter true c.args.raw.now (record { text = t; refused = refused })) (sym c.bytes-shown.ensures) c.answer_asked-answered.ensures.answer;
       gathered = flushes_both c.args.work.now.out c.args.before.now c.bytes-shown.result.now c.put.new.out c.put-2.new.out a b z first c.in_ok-put-2.ensures.ok;
     }

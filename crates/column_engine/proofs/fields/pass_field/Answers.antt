@@ -7,7 +7,7 @@ pub returns-then-not-is_asked-clause-ok : goal.returns-then-not-is_asked-clause-
 returns-then-not-is_asked-clause-ok g c = (
   false,
   refl,
-  pass_unasked (g.A.FieldRule.Answers c.args.task.now.rule.now) c.args.task.now.is_kept c.args.task.now.delimiter (is_asked c.args.asked.now c.args.field.column) c.args.work.now.out c.args.body.now
+  pass_unasked (g.A.FieldRule.Answers c.args.task.now.rule.now) c.args.task.now.keeps c.args.task.now.delimiter (is_asked c.args.asked.now c.args.field.column) c.args.work.now.out c.args.body.now
       c.args.from c.args.field.start c.args.field.end (g.K.Sink.written c.args.sink.now) (sym c.is_asked.ensures ∙ c.if-not-is_asked.true) c.requires.before c.requires.ordered,
 )
 
@@ -16,7 +16,7 @@ returns-in-Err-clause-err g c =
     let part = c.in-Err.ensures.err in (
       part.0,
       part.1,
-      pass_part (g.A.FieldRule.Answers c.args.task.now.rule.now) c.args.task.now.is_kept c.args.task.now.delimiter (is_asked c.args.asked.now c.args.field.column) part.0 c.args.work.now.out part.1 c.args.body.now
+      pass_part (g.A.FieldRule.Answers c.args.task.now.rule.now) c.args.task.now.keeps c.args.task.now.delimiter (is_asked c.args.asked.now c.args.field.column) part.0 c.args.work.now.out part.1 c.args.body.now
           (take (c.args.field.end - c.args.field.start) (drop c.args.field.start c.args.body.now)) c.args.from c.args.field.start
           (g.K.Sink.written c.args.sink.now) (g.K.Sink.written c.gather_answer.new.sink) (sym c.is_asked.ensures ∙ c.if-not-is_asked.false) part.2,
     )
@@ -25,7 +25,7 @@ pub returns-in-Ok-clause-ok : goal.returns-in-Ok-clause-ok
 returns-in-Ok-clause-ok g c = (
   c.in-Ok.is_refused,
   c.as_count.ensures.value,
-  pass_asked (g.A.FieldRule.Answers c.args.task.now.rule.now) c.args.task.now.is_kept c.args.task.now.delimiter (is_asked c.args.asked.now c.args.field.column) c.in-Ok.is_refused c.args.work.now.out c.gather_answer.new.work.out
+  pass_asked (g.A.FieldRule.Answers c.args.task.now.rule.now) c.args.task.now.keeps c.args.task.now.delimiter (is_asked c.args.asked.now c.args.field.column) c.in-Ok.is_refused c.args.work.now.out c.gather_answer.new.work.out
       c.args.body.now (take (c.args.field.end - c.args.field.start) (drop c.args.field.start c.args.body.now)) c.args.from c.args.field.start c.args.field.end
       (g.K.Sink.written c.args.sink.now) (g.K.Sink.written c.gather_answer.new.sink) (sym c.is_asked.ensures ∙ c.if-not-is_asked.false) c.in-Ok.ensures.ok,
 )

@@ -12,7 +12,7 @@ use Rattle.column_engine.proofs.record.gather_record.Goals as goal
 pub returns-in-NewColumn-clause-ok : goal.returns-in-NewColumn-clause-ok
 returns-in-NewColumn-clause-ok g c =
     let A = g.A.FieldRule.Answers c.args.task.now.rule.now in
-    let keeps = c.args.task.now.is_kept in
+    let keeps = c.args.task.now.keeps in
     let d = c.args.task.now.delimiter in
     let columns = c.args.task.now.columns.now in
     let s = state_of c.args.progress.now in
@@ -31,7 +31,7 @@ returns-in-NewColumn-clause-ok g c =
 pub returns-in-NewColumn-clause-err : goal.returns-in-NewColumn-clause-err
 returns-in-NewColumn-clause-err g c =
     let A = g.A.FieldRule.Answers c.args.task.now.rule.now in
-    let keeps = c.args.task.now.is_kept in
+    let keeps = c.args.task.now.keeps in
     let d = c.args.task.now.delimiter in
     let columns = c.args.task.now.columns.now in
     let s = state_of c.args.progress.now in
@@ -48,7 +48,7 @@ returns-in-NewColumn-clause-err g c =
 pub returns-in-Err-put_end-clause-err : goal.returns-in-Err-put_end-clause-err
 returns-in-Err-put_end-clause-err g c =
     let A = g.A.FieldRule.Answers c.args.task.now.rule.now in
-    let keeps = c.args.task.now.is_kept in
+    let keeps = c.args.task.now.keeps in
     let d = c.args.task.now.delimiter in
     let raws = raw_fields d Start c.args.body.now in
     let held = c.args.work.now.out in
@@ -62,7 +62,7 @@ returns-in-Err-put_end-clause-err g c =
 pub returns-in-Ok-put_end-clause-ok : goal.returns-in-Ok-put_end-clause-ok
 returns-in-Ok-put_end-clause-ok g c =
     let A = g.A.FieldRule.Answers c.args.task.now.rule.now in
-    let keeps = c.args.task.now.is_kept in
+    let keeps = c.args.task.now.keeps in
     let d = c.args.task.now.delimiter in
     let raws = raw_fields d Start c.args.body.now in
     let held = c.args.work.now.out in

@@ -8,7 +8,7 @@ use Rattle.column_engine.proofs.record.lengthen_record.Goals as goal
 pub returns-in-Err-clause-err : goal.returns-in-Err-clause-err
 returns-in-Err-clause-err g c =
     let A = g.A.FieldRule.Answers c.args.task.now.rule.now in
-    let keeps = c.args.task.now.is_kept in
+    let keeps = c.args.task.now.keeps in
     let d = c.args.task.now.delimiter in
     let body = c.args.body.now in
     let refused = c.answer_asked-answered.result.is_refused in

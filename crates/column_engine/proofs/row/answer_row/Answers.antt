@@ -8,7 +8,7 @@ use Rattle.column_engine.proofs.row.answer_row.Goals as goal
 pub returns-in-Err-clause-err : goal.returns-in-Err-clause-err
 returns-in-Err-clause-err g c =
     let A = g.A.FieldRule.Answers c.args.task.now.rule.now in
-    let keeps = c.args.task.now.is_kept in
+    let keeps = c.args.task.now.keeps in
     let d = c.args.task.now.delimiter in
     let columns = c.args.task.now.columns.now in
     let s = state_of c.args.progress.now in
@@ -18,7 +18,7 @@ returns-in-Err-clause-err g c =
 pub returns-in-Err-put_header-clause-err : goal.returns-in-Err-put_header-clause-err
 returns-in-Err-put_header-clause-err g c =
     let A = g.A.FieldRule.Answers c.args.task.now.rule.now in
-    let keeps = c.args.task.now.is_kept in
+    let keeps = c.args.task.now.keeps in
     let d = c.args.task.now.delimiter in
     let columns = c.args.task.now.columns.now in
     let s = state_of c.args.progress.now in

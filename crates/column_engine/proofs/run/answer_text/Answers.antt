@@ -8,7 +8,7 @@ use Rattle.column_engine.proofs.run.answer_text.Goals as goal
 pub returns-in-Ok-eq0-clause-run : goal.returns-in-Ok-eq0-clause-run
 returns-in-Ok-eq0-clause-run g c =
     let A = g.A.FieldRule.Answers c.args.task.now.rule.now in
-    let keeps = c.args.task.now.is_kept in
+    let keeps = c.args.task.now.keeps in
     let d = c.args.task.now.delimiter in
     let columns = c.args.task.now.columns.now in
     let s = state_of c.args.cutter.now.progress in
@@ -24,7 +24,7 @@ returns-in-Ok-eq0-clause-run g c =
 pub returns-in-Err-take_chunk-clause-run : goal.returns-in-Err-take_chunk-clause-run
 returns-in-Err-take_chunk-clause-run g c =
     let left'' = g.S.Source.left c.read.new.self in
-    inl (runs_fail (g.A.FieldRule.Answers c.args.task.now.rule.now) c.args.task.now.is_kept c.args.task.now.delimiter c.args.task.now.columns.now
+    inl (runs_fail (g.A.FieldRule.Answers c.args.task.now.rule.now) c.args.task.now.keeps c.args.task.now.delimiter c.args.task.now.columns.now
     c.in-Err-take_chunk.stop c.chunks.cutter.kept (take c.in-Ok.count c.read.new.buf) (state_of c.args.cutter.now.progress) (state_of c.chunks.cutter.progress) (state_of c.take_chunk.new.cutter.progress)
     (g.S.Source.left c.args.source.now) (g.S.Source.left c.chunks.source) left'' (g.K.Sink.written c.args.sink.now) (g.K.Sink.written c.chunks.sink) (g.K.Sink.written c.take_chunk.new.sink)
     c.chunks.invariant.on c.in-Ok.ensures.bytes.0 (c.in-Err-take_chunk.ensures.err left''))
@@ -34,7 +34,7 @@ unfolding runs_more
 chunks-preserved g c =
     let inv = c.chunks.invariant in
     let buf = c.read.new.buf in
-    let on = runs_more (g.A.FieldRule.Answers c.args.task.now.rule.now) c.args.task.now.is_kept c.args.task.now.delimiter c.args.task.now.columns.now
+    let on = runs_more (g.A.FieldRule.Answers c.args.task.now.rule.now) c.args.task.now.keeps c.args.task.now.delimiter c.args.task.now.columns.now
     c.chunks.cutter.kept c.take_chunk.new.cutter.kept (take c.in-Ok.count buf) (state_of c.args.cutter.now.progress) (state_of c.chunks.cutter.progress) (state_of c.take_chunk.new.cutter.progress)
     (g.S.Source.left c.args.source.now) (g.S.Source.left c.chunks.source) (g.S.Source.left c.read.new.self) (g.K.Sink.written c.args.sink.now) (g.K.Sink.written c.chunks.sink) (g.K.Sink.written c.take_chunk.new.sink)
     inv.on c.in-Ok.ensures.bytes.0 c.in-Ok-take_chunk.ensures.ok in
@@ -50,6 +50,6 @@ chunks-preserved g c =
 
 pub returns-clause-run : goal.returns-clause-run
 returns-clause-run g c =
-    inr (runs_endless (g.A.FieldRule.Answers c.args.task.now.rule.now) c.args.task.now.is_kept c.args.task.now.delimiter c.args.task.now.columns.now
+    inr (runs_endless (g.A.FieldRule.Answers c.args.task.now.rule.now) c.args.task.now.keeps c.args.task.now.delimiter c.args.task.now.columns.now
     c.chunks.cutter.kept (state_of c.args.cutter.now.progress) (state_of c.chunks.cutter.progress) (g.S.Source.left c.args.source.now) (g.S.Source.left c.chunks.source)
     (g.K.Sink.written c.args.sink.now) (g.K.Sink.written c.chunks.sink) c.chunks.invariant.on (omega (arith, c.chunks-test.false, c.chunks.invariant.many)))

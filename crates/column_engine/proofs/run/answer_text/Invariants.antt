@@ -12,7 +12,7 @@ invariant-chunks g l = record {
   standing : IsStanding l.task.delimiter l.cutter.kept l.cutter.place;
   as_many : length l.cutter.progress.asked.items ≡ length l.task.columns.now;
   empty : l.work.out ≡ [];
-  on : RunsOn (g.A.FieldRule.Answers l.task.rule.now) l.task.is_kept l.task.delimiter l.task.columns.now
+  on : RunsOn (g.A.FieldRule.Answers l.task.rule.now) l.task.keeps l.task.delimiter l.task.columns.now
       l.cutter.kept (state_of l.fn.cutter.progress) (state_of l.cutter.progress) (g.S.Source.left l.fn.source) (g.S.Source.left l.source)
       (g.K.Sink.written l.fn.sink) (g.K.Sink.written l.sink);
   many : l.taken ≤ length on.so_far.bytes;

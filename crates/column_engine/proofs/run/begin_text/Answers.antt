@@ -17,7 +17,7 @@ returns-in-Ok-clause-standing g c = standing_start c.args.task.now.delimiter c.a
 pub returns-in-Err-clause-err : goal.returns-in-Err-clause-err
 returns-in-Err-clause-err g c =
     let A = g.A.FieldRule.Answers c.args.task.now.rule.now in
-    let keeps = c.args.task.now.is_kept in
+    let keeps = c.args.task.now.keeps in
     let d = c.args.task.now.delimiter in
     let columns = c.args.task.now.columns.now in
     let kept = c.args.cutter.now.kept in
@@ -31,7 +31,7 @@ returns-in-Err-clause-err g c =
 pub returns-in-Err-write_whole-clause-err : goal.returns-in-Err-write_whole-clause-err
 returns-in-Err-write_whole-clause-err g c =
     let A = g.A.FieldRule.Answers c.args.task.now.rule.now in
-    let keeps = c.args.task.now.is_kept in
+    let keeps = c.args.task.now.keeps in
     let d = c.args.task.now.delimiter in
     let columns = c.args.task.now.columns.now in
     let kept = c.args.cutter.now.kept in
@@ -45,7 +45,7 @@ returns-in-Err-write_whole-clause-err g c =
 pub returns-in-Ok-clause-ok : goal.returns-in-Ok-clause-ok
 returns-in-Ok-clause-ok g c =
     let A = g.A.FieldRule.Answers c.args.task.now.rule.now in
-    let keeps = c.args.task.now.is_kept in
+    let keeps = c.args.task.now.keeps in
     let d = c.args.task.now.delimiter in
     let columns = c.args.task.now.columns.now in
     let kept = c.args.cutter.now.kept in
@@ -59,7 +59,7 @@ returns-in-Ok-clause-ok g c =
 pub returns-in-Err-take_chunk-clause-err : goal.returns-in-Err-take_chunk-clause-err
 returns-in-Err-take_chunk-clause-err g c =
     let A = g.A.FieldRule.Answers c.args.task.now.rule.now in
-    let keeps = c.args.task.now.is_kept in
+    let keeps = c.args.task.now.keeps in
     let d = c.args.task.now.delimiter in
     let columns = c.args.task.now.columns.now in
     let kept = c.args.cutter.now.kept in
@@ -75,7 +75,7 @@ returns-in-Err-take_chunk-clause-err g c =
 pub returns-in-Ok-take_chunk-clause-ok : goal.returns-in-Ok-take_chunk-clause-ok
 returns-in-Ok-take_chunk-clause-ok g c =
     let A = g.A.FieldRule.Answers c.args.task.now.rule.now in
-    let keeps = c.args.task.now.is_kept in
+    let keeps = c.args.task.now.keeps in
     let d = c.args.task.now.delimiter in
     let columns = c.args.task.now.columns.now in
     let kept = c.args.cutter.now.kept in
@@ -91,7 +91,7 @@ returns-in-Ok-take_chunk-clause-ok g c =
 pub returns-in-Err-take_chunk-2-clause-err : goal.returns-in-Err-take_chunk-2-clause-err
 returns-in-Err-take_chunk-2-clause-err g c =
     let A = g.A.FieldRule.Answers c.args.task.now.rule.now in
-    let keeps = c.args.task.now.is_kept in
+    let keeps = c.args.task.now.keeps in
     let d = c.args.task.now.delimiter in
     let columns = c.args.task.now.columns.now in
     let kept = c.args.cutter.now.kept in
@@ -108,7 +108,7 @@ returns-in-Err-take_chunk-2-clause-err g c =
 pub returns-in-Ok-take_chunk-2-clause-err : goal.returns-in-Ok-take_chunk-2-clause-err
 returns-in-Ok-take_chunk-2-clause-err g c =
     let A = g.A.FieldRule.Answers c.args.task.now.rule.now in
-    let keeps = c.args.task.now.is_kept in
+    let keeps = c.args.task.now.keeps in
     let d = c.args.task.now.delimiter in
     let columns = c.args.task.now.columns.now in
     let kept = c.args.cutter.now.kept in

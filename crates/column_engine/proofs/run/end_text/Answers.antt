@@ -6,13 +6,13 @@ use Rattle.column_engine.proofs.run.end_text.Goals as goal
 
 pub returns-then-is_empty-clause-ends : goal.returns-then-is_empty-clause-ends
 returns-then-is_empty-clause-ends g c = λ left end.
-    stops_none (g.A.FieldRule.Answers c.args.task.now.rule.now) c.args.task.now.is_kept c.args.task.now.delimiter c.args.task.now.columns.now
+    stops_none (g.A.FieldRule.Answers c.args.task.now.rule.now) c.args.task.now.keeps c.args.task.now.delimiter c.args.task.now.columns.now
     c.args.cutter.now.kept (state_of c.args.cutter.now.progress) left (g.K.Sink.written c.args.sink.now) (c.is_empty.ensures.none.0 c.if-is_empty.true) end
 
 pub returns-in-Err : goal.returns-in-Err
 returns-in-Err g c =
     let A = g.A.FieldRule.Answers c.args.task.now.rule.now in
-    let keeps = c.args.task.now.is_kept in
+    let keeps = c.args.task.now.keeps in
     let d = c.args.task.now.delimiter in
     let columns = c.args.task.now.columns.now in
     let kept = c.args.cutter.now.kept in
@@ -32,7 +32,7 @@ returns-in-Err g c =
 pub returns-in-Err-flush : goal.returns-in-Err-flush
 returns-in-Err-flush g c =
     let A = g.A.FieldRule.Answers c.args.task.now.rule.now in
-    let keeps = c.args.task.now.is_kept in
+    let keeps = c.args.task.now.keeps in
     let d = c.args.task.now.delimiter in
     let columns = c.args.task.now.columns.now in
     let kept = c.args.cutter.now.kept in
@@ -53,7 +53,7 @@ returns-in-Err-flush g c =
 pub returns-in-Ok-flush : goal.returns-in-Ok-flush
 returns-in-Ok-flush g c =
     let A = g.A.FieldRule.Answers c.args.task.now.rule.now in
-    let keeps = c.args.task.now.is_kept in
+    let keeps = c.args.task.now.keeps in
     let d = c.args.task.now.delimiter in
     let columns = c.args.task.now.columns.now in
     let kept = c.args.cutter.now.kept in

@@ -8,7 +8,7 @@ use Rattle.column_engine.proofs.run.run_column.Goals as goal
 pub returns-in-Ok-Ok-clause-run : goal.returns-in-Ok-Ok-clause-run
 returns-in-Ok-Ok-clause-run g c =
     let A = g.A.FieldRule.Answers c.args.task.now.rule.now in
-    let keeps = c.args.task.now.is_kept in
+    let keeps = c.args.task.now.keeps in
     let d = c.args.task.now.delimiter in
     let columns = c.args.task.now.columns.now in
     let skipped = c.args.task.now.skipped in

@@ -7,7 +7,7 @@ use Rattle.column_engine.proofs.run.take_chunk.Goals as goal
 pub returns-in-Err-clause-err : goal.returns-in-Err-clause-err
 returns-in-Err-clause-err g c = λ left.
     let A = g.A.FieldRule.Answers c.args.task.now.rule.now in
-    let keeps = c.args.task.now.is_kept in
+    let keeps = c.args.task.now.keeps in
     let d = c.args.task.now.delimiter in
     let columns = c.args.task.now.columns.now in
     let bytes = c.args.cutter.now.kept ++ c.args.chunk.now in
@@ -29,7 +29,7 @@ returns-in-Err-clause-failures g c = record {
 pub returns-in-Err-flush-clause-err : goal.returns-in-Err-flush-clause-err
 returns-in-Err-flush-clause-err g c = λ left.
     let A = g.A.FieldRule.Answers c.args.task.now.rule.now in
-    let keeps = c.args.task.now.is_kept in
+    let keeps = c.args.task.now.keeps in
     let d = c.args.task.now.delimiter in
     let columns = c.args.task.now.columns.now in
     let bytes = c.args.cutter.now.kept ++ c.args.chunk.now in
@@ -44,6 +44,6 @@ returns-in-Err-flush-clause-err g c = λ left.
 
 pub returns-in-Err-clause-reads : goal.returns-in-Err-clause-reads
 returns-in-Err-clause-reads g c =
-    stops_unread (g.A.FieldRule.Answers c.args.task.now.rule.now) c.args.task.now.is_kept c.args.task.now.delimiter c.args.task.now.columns.now c.in-Err.stop c.stop_after.result
+    stops_unread (g.A.FieldRule.Answers c.args.task.now.rule.now) c.args.task.now.keeps c.args.task.now.delimiter c.args.task.now.columns.now c.in-Err.stop c.stop_after.result
     (c.args.cutter.now.kept ++ c.args.chunk.now) (state_of c.args.cutter.now.progress) (state_of c.feed.new.cutter.progress) c.args.work.now.out c.feed.new.work.out
     (g.K.Sink.written c.args.sink.now) (g.K.Sink.written c.feed.new.sink) c.in-Err.ensures.err c.stop_after.ensures.which

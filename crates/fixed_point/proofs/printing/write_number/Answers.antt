@@ -1,6 +1,7 @@
 use Rattle.std.proofs.Common.{rules, refl, sym, false, ◌≡◌, ◌≤◌, ◌∙◌}
 use Rattle.std.specs.Prelude.{Some, None}
 use Rattle.std.specs.Fmt.{formatter_spec, spec_precision}
+use Rattle.fixed_bits.specs.declared.mode.ReadMode.TheVariants.{NearestEven}
 use Rattle.fixed_write.specs.Texts.{shortest_text}
 use Rattle.fixed_write.specs.Places.{rounded_text}
 use Rattle.fixed_point.proofs.PrintingLemmas.{styled_bare, styled_bare_places}
@@ -16,4 +17,4 @@ pub returns-in-Some-clause-styled : goal.returns-in-Some-clause-styled
 returns-in-Some-clause-styled g c =
     let within : c.args.frac ≤ c.args.width = c.if-frac-width.true in
     let some : spec_precision (formatter_spec c.args.f.now) ≡ Some c.in-Some.places = sym c.precision.ensures.value ∙ c.in-Some.is in
-    rw (styled_bare_places c.args.f.now (spec_precision (formatter_spec c.args.f.now)) c.in-Some.places c.args.width c.args.frac c.args.value (rounded_text 10 false c.in-Some.places c.args.value c.args.frac) some within (c.is_bare.ensures.width c.if-is_bare.true) (c.is_bare.ensures.plus c.if-is_bare.true) (c.is_bare.ensures.alternate c.if-is_bare.true) refl) (search (rules, c.write_places.ensures.styled))
+    rw (styled_bare_places c.args.f.now (spec_precision (formatter_spec c.args.f.now)) c.in-Some.places c.args.width c.args.frac c.args.value (rounded_text NearestEven 10 false c.in-Some.places c.args.value c.args.frac) some within (c.is_bare.ensures.width c.if-is_bare.true) (c.is_bare.ensures.plus c.if-is_bare.true) (c.is_bare.ensures.alternate c.if-is_bare.true) refl) (search (rules, c.write_places.ensures.styled))

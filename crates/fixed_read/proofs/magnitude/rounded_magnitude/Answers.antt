@@ -23,4 +23,4 @@ overflow_add-total g c =
 pub returns-clause-magnitude : goal.returns-clause-magnitude
 returns-clause-magnitude g c f frac s later h =
     let moved : c.shl.result ≡ c.number_mod_power-low.result.0 * 2 ^ c.args.fraction_bits = c.shl.ensures ∙ ap (λ x. x * 2 ^ c.args.fraction_bits) c.from.ensures in
-    magnitude_is c.args.direction c.args.base c.saturating_sub.result 64 s frac c.args.fraction_bits c.number_mod_power-low.result.0 c.shl.result c.args.more c.rounding_increment.result c.split_bits-high.result.0 c.args.whole.now f c.args.lost c.number_mod_power-low.result.1 _ (omega (arith, c.requires.least)) refl later c.saturating_sub.ensures c.number_mod_power-low.ensures.number c.number_mod_power-low.ensures.over moved h c.rounding_increment.ensures.to c.is_zero.ensures c.split_bits-high.ensures.high c.split_bits-high.ensures.low c.is_over.ensures
+    magnitude_is c.args.mode c.args.base c.saturating_sub.result 64 s frac c.args.fraction_bits c.number_mod_power-low.result.0 c.shl.result c.args.more c.rounding_increment.result c.split_bits-high.result.0 c.args.whole.now f c.args.lost c.number_mod_power-low.result.1 _ (omega (arith, c.requires.least)) refl later c.saturating_sub.ensures c.number_mod_power-low.ensures.number c.number_mod_power-low.ensures.over moved h c.rounding_increment.ensures.to c.is_zero.ensures (rw c.from-2.ensures at c.split_bits-high.ensures.high) (rw c.from-2.ensures at c.split_bits-high.ensures.low) c.is_over.ensures

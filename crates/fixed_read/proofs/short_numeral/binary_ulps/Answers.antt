@@ -12,7 +12,7 @@ returns-then-net-ge0 c num den some e =
     let u = ups c.args.bits c.args.places c.args.exponent c.args.scales_by_two in
     let d = downs c.args.bits c.args.places c.args.exponent c.args.scales_by_two in
     let net : c.net_power.result ≡ pos u -ℤ pos d = subst (λ x. c.net_power.result ≡ pos (ups c.args.bits c.args.places x c.args.scales_by_two) -ℤ pos (downs c.args.bits c.args.places x c.args.scales_by_two)) same c.net_power.ensures.power in
-    c.raised_ulps.ensures c.args.direction num den c.args.frac some (net_up c.args.digits u d num den c.args.frac _ e (omega (arith, ints, net, c.if-net-ge0.true, c.from.ensures, c.requires.frac, c.net_power.ensures.least, c.net_power.ensures.most)))
+    c.raised_ulps.ensures c.args.mode num den c.args.frac some (net_up c.args.digits u d num den c.args.frac _ e (omega (arith, ints, net, c.if-net-ge0.true, c.from.ensures, c.requires.frac, c.net_power.ensures.least, c.net_power.ensures.most)))
 
 pub returns-else-net-ge0 : goal.returns-else-net-ge0
 returns-else-net-ge0 c num den some e =

@@ -7,4 +7,4 @@ use Rattle.fixed_read.proofs.short_numeral.scaled_ulps.Goals as goal
 pub returns-in-Some : goal.returns-in-Some
 returns-in-Some c =
     let digits = c.args.found.whole * 10 ^ c.args.found.places + c.args.found.fraction in
-    magnitude_same c.args.direction (record { num = c.in-Some.decimal.whole * 10 ^ c.in-Some.decimal.places + c.in-Some.decimal.fraction; den = 10 ^ c.in-Some.decimal.places }) (scaled digits 1 10 (c.args.found.exponent -ℤ pos c.args.found.places)) c.args.frac c.ulps_of_decimal.result (one-le-pow c.in-Some.decimal.places 10 (omega arith)) (scaled_den digits (c.args.found.exponent -ℤ pos c.args.found.places)) c.in-Some.ensures c.ulps_of_decimal.ensures
+    magnitude_same c.args.mode (record { num = c.in-Some.decimal.whole * 10 ^ c.in-Some.decimal.places + c.in-Some.decimal.fraction; den = 10 ^ c.in-Some.decimal.places }) (scaled digits 1 10 (c.args.found.exponent -ℤ pos c.args.found.places)) c.args.frac c.ulps_of_decimal.result (one-le-pow c.in-Some.decimal.places 10 (omega arith)) (scaled_den digits (c.args.found.exponent -ℤ pos c.args.found.places)) c.in-Some.ensures c.ulps_of_decimal.ensures

@@ -11,7 +11,7 @@ use Rattle.fixed_read.proofs.short_numeral.short_ulps.Goals as goal
 
 pub returns-in-Dec : goal.returns-in-Dec
 returns-in-Dec c =
-    if_some _ _ c.decimal_ulps.result (λ ulps f p h. subst (λ n. IsMagnitude c.args.direction n c.args.frac ulps) (sym (decimal_value c.args.radix p c.args.found.negative c.args.found.whole c.args.found.fraction c.args.found.places c.args.found.exponent c.args.found.scales_by_two c.in-Dec.is h)) f) c.decimal_ulps.ensures
+    if_some _ _ c.decimal_ulps.result (λ ulps f p h. subst (λ n. IsMagnitude c.args.mode n c.args.frac ulps) (sym (decimal_value c.args.radix p c.args.found.negative c.args.found.whole c.args.found.fraction c.args.found.places c.args.found.exponent c.args.found.scales_by_two c.in-Dec.is h)) f) c.decimal_ulps.ensures
 
 pub returns-in_default : goal.returns-in_default
 returns-in_default c p h =

@@ -13,7 +13,7 @@ use Rattle.fixed_numeral.specs.declared.radix.Radix.{Radix}
 use Rattle.fixed_numeral.specs.declared.radix.Radix.TheVariants.{Bin, Dec, Hex, Oct}
 use Rattle.fixed_respell.specs.Answer.{task_of}
 use Rattle.fixed_respell.specs.Examples.{signed_format, unsigned_format}
-use Rattle.fixed_respell.specs.Words.{IsFormatWord, radix_text}
+use Rattle.fixed_respell.specs.Words.{IsFormatWord, IsPolicyWord, radix_text}
 use Rattle.fixed_respell.specs.declared.fault.LineFault.TheVariants.{BadRadix}
 use Rattle.fixed_respell.specs.Lemmas.FaultLemmas.{first_radix}
 use Rattle.fixed_write.specs.Shortest.{least_places_from, nearest_number, reads_back_at, shortest_number, shortest_places}
@@ -90,7 +90,7 @@ returns c = record {
   tie_of_texts = answered NearestEven Dec Checked (unsigned_format 6 2) (unsigned_format 6 2) (codes "checked") (plain None (codes "0") (Some (codes "25"))) 1 (inl (refl, refl)) refl refl;
   octal = answered NearestEven Oct Checked (unsigned_format 0 8) (unsigned_format 0 8) (codes "checked") (by_two (codes "0") (codes "1") 49) 64 (inl (refl, refl)) refl refl;
   hexadecimal = answered NearestEven Hex Wrapping (unsigned_format 8 8) (unsigned_format 8 8) (codes "wrapping") (plain None (codes "C0F") (Some (codes "FE"))) 790526 (inl (refl, refl)) refl refl;
-  mode_word = answered Floor Dec Checked (signed_format 8 0) (signed_format 8 0) (codes "checked/floor") (plain (Some 45) (codes "2") (Some (codes "5"))) 3 (inr refl) refl refl;
+  mode_word = answered Floor Dec Checked (signed_format 8 0) (signed_format 8 0) (codes "checked/floor") (plain (Some 45) (codes "2") (Some (codes "5"))) 3 (inr (refl, refl)) refl refl;
   overflow = inr (record {
     task = task_of Dec (unsigned_format 8 0) (unsigned_format 16 0) Checked NearestEven (codes "300");
     asks = asks Dec (unsigned_format 8 0) (unsigned_format 16 0) (codes "checked") Checked NearestEven (codes "300") refl (inl (refl, refl));
@@ -103,7 +103,7 @@ returns c = record {
   });
   line_fault = inl (record {
     fault = BadRadix;
-    first = first_radix IsFormatWord (codes "9 U8F0 U9F0 checked 1") (codes "9") (codes "U8F0") (codes "U9F0") (codes "checked") (codes "1") (omega arith) (record { text = refl; unspaced = (refl, (refl, (refl, (refl, tt)))) }) no_radix;
+    first = first_radix IsFormatWord IsPolicyWord (codes "9 U8F0 U9F0 checked 1") (codes "9") (codes "U8F0") (codes "U9F0") (codes "checked") (codes "1") (omega arith) (record { text = refl; unspaced = (refl, (refl, (refl, (refl, tt)))) }) no_radix;
     answer_is = refl;
   });
 }

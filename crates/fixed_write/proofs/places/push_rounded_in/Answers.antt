@@ -28,8 +28,8 @@ push_last_in-requires g c =
 
 pub returns-then-places-gt0 : goal.returns-then-places-gt0
 returns-then-places-gt0 g c =
-    block_places_some _ _ _ _ _ _ _ _ _ _ _ (omega (arith, c.requires.block.low)) c.power.ensures c.rounded-near.ensures.part c.rounded-near.ensures.near c.push_whole_in.ensures c.if-places-gt0.true c.push.ensures c.push_last_in.ensures
+    block_places_some _ _ _ _ _ _ _ _ _ _ _ _ (omega (arith, c.requires.block.low)) c.power.ensures c.rounded-near.ensures.part c.rounded-near.ensures.to c.push_whole_in.ensures c.if-places-gt0.true c.push.ensures c.push_last_in.ensures
 
 pub returns-else-places-gt0 : goal.returns-else-places-gt0
 returns-else-places-gt0 g c =
-    block_places_none _ _ _ _ _ _ _ _ _ (omega (arith, c.requires.block.low)) c.power.ensures c.rounded-near.ensures.part c.rounded-near.ensures.near c.push_whole_in.ensures c.if-places-gt0.false
+    block_places_none _ _ _ _ _ _ _ _ _ _ (omega (arith, c.requires.block.low)) c.power.ensures c.rounded-near.ensures.part c.rounded-near.ensures.to c.push_whole_in.ensures c.if-places-gt0.false

@@ -1,9 +1,13 @@
-use Rattle.std.proofs.Common.{sym, ◌∙◌}
-use Rattle.fixed_command.proofs.FieldLemmas.{plain_reply}
+use Rattle.std.proofs.Common.{false, subst}
+use Rattle.fixed_command.specs.Fields.{IsPointReply}
+use Rattle.fixed_command.proofs.FieldLemmas.{point_field}
 use Rattle.fixed_command.proofs.field.FieldNumeralsFieldRule.answer.Goals as goal
 
-pub returns-then-is_plain : goal.returns-then-is_plain
-returns-then-is_plain g c =
-    plain_reply c.args.self.now.form.now c.args.self.now.rule.now c.args.field.now c.bare-bytes.result.now (record { text = c.reply_to.new.out; fault = c.reply_to.result })
-    c.bare-bytes.ensures.value (sym c.is_empty.ensures ∙ c.if-is_empty.false)
-    (c.is_plain.ensures.decimal c.if-is_plain.true) (c.is_plain.ensures.thousands c.if-is_plain.true) c.reply_to.ensures
+pub returns-then-self-eq46 : goal.returns-then-self-eq46
+returns-then-self-eq46 g c =
+    let form = c.args.self.now.form.now in
+    let rule = c.args.self.now.rule.now in
+    let text = c.reply_with_point.new.out in
+    let point : IsPointReply form rule c.args.field.now (record { text = text; fault = false }) =
+    subst (λ b. IsPointReply form rule c.args.field.now (record { text = text; fault = b })) c.if-reply_with_point.false c.reply_with_point.ensures in
+    point_field form rule c.args.field.now text c.if-self-eq46.true point

@@ -11,7 +11,7 @@ invariant-loop-rest g l = record {
   part : length l.self.part < count_of l.rule;
   words : l.self.answered.words + length l.rest ≤ l.initial.self.answered.words + length l.bytes;
   few_refused : l.self.answered.refused ≤ l.self.answered.words;
-  room : length l.self.answered.out + 193 * length l.rest ≤ 197632;
+  room : length l.self.answered.out + 193 * length l.rest ≤ 98816;
 }
 
 abbrev pub decreases-loop-rest : goal.decreases-loop-rest

@@ -1,0 +1,35 @@
+//! The text of a field, as much of it as there is room for: of a name in a header.
+
+ghost use Rattle.std.specs.Prelude.{◌≡◌, ◌+◌, ◌<◌, ◌≤◌, ◌++◌, [], ◌∷◌, if◌then◌else◌, length, take};
+ghost use Rattle.column_engine.specs.Rows.{content, is_dropped};
+
+use crate::field::is_dropped;
+use crate::place::{Place, within_after};
+use text_buffer::TextBuffer;
+
+/// Goes on with a byte of a field, if it is of its text.
+fn push_kept<const N: usize>(place: Place, byte: u8, name: &mut TextBuffer<N>)
+    requires { length name.old < N }
+    ensures text { name.new ≡ name.old ++ (if is_dropped place byte then [] else byte ∷ []) }
+    ensures short { length name.new ≤ length name.old + 1 }
+{
+    if !is_dropped(place, byte) {
+        name.push(byte);
+    }
+}
+
+/// Writes out the text of a field without the quotes around it, a quote within for each two, as much of it as there is
+/// room for.
+pub fn write_name<const N: usize>(raw: &[u8], name: &mut TextBuffer<N>)
+    ensures { name.new ≡ take N (content Place.Start raw.now) }
+{
+    name.clear();
+    let mut place = Place::Start;
+    'bytes: for at in 0..raw.len() {
+        if name.room() == 0 {
+            return;
+        }
+        push_kept(place, raw[at], name);
+        place = within_after(place, raw[at]);
+    }
+}
