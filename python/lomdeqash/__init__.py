@@ -13,8 +13,9 @@ Decimal('0.33331298828125')
 
 Each method takes one item, an iterable, or a numpy array, and gives one value, a list, or an array.
 """
-from ._errors import Code, FixedError
+from ._errors import Code, FixedError, FixedTypeError
 from ._format import Format
 from ._options import Errors, Mode, Policy
 
-__all__ = ["Code", "Errors", "FixedError", "Format", "Mode", "Policy"]
+__all__ = ["Code", "Errors", "FixedError", "FixedTypeError", "Format", "Mode", "Policy"]
+__version__ = "1.1.0"

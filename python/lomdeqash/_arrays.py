@@ -1,39 +1,51 @@
 """Whole arrays of numpy, by the library's calls over rows."""
 from __future__ import annotations
 
-import operator
 from collections.abc import Callable, Iterator
-from typing import TYPE_CHECKING, Any, Tuple, Union
+from dataclasses import replace
+from typing import TYPE_CHECKING, Any, NamedTuple, Protocol
 
 import numpy as np
 from numpy.typing import NDArray
 
-from . import _library
+from . import _library, _lists, _pandas
+from ._errors import Code, FixedError, Index, brief, placed
 from ._library import Reading
-from ._errors import Code, FixedError, brief
-from ._options import Errors, reading
+from ._options import Errors
 
 if TYPE_CHECKING:
-    from ._format import Format, Move
+    from . import _calls
+    from ._format import Format
 
 Array = NDArray[Any]
 Bytes = NDArray[np.uint8]
 Words = NDArray[np.int64]
 Codes = NDArray[np.uint32]
 Flags = NDArray[np.bool_]
-# What a call finds in a flat array: an array or a pair of them, with zeros for what is refused, and a code for each.
-Found = Tuple[Array, Codes]
-Call = Callable[[Array], Tuple[Union[Array, Tuple[Array, Array]], Codes]]
 
 # So many rows, and no more than so many bytes of them, are handed over at a time: they stay in a processor's cache.
 BLOCK, BLOCK_SIZE = 8192, 1 << 18
 # `fixed_number` of the header.
 NUMBER = np.dtype([("bits", np.int64), ("overflowed", np.uint32)], align=True)
-# The two digits of each byte, and the powers of two from the least to the greatest of any float less 64 bits.
-HEX = np.array([f"{byte:02x}".encode() for byte in range(256)])
-LEAST_POWER, GREATEST_POWER = -16_600, 16_400
-POWERS = np.array([f"p{power:+06d}".encode() for power in range(LEAST_POWER, GREATEST_POWER)])
-SPELLED = np.dtype([("sign", "S1"), ("digits", "S16"), ("power", "S7")])
+# The code of an item that is of no type that a call takes.
+NO_CODE = 2**32 - 1
+
+
+class Whole(NamedTuple):
+    """What a call finds in a flat array: one array or a pair, with zeros for what is refused; and a code for each item,
+    or None where nothing is refused. Faults are errors that say more than a code."""
+
+    found: tuple[Array, ...]
+    codes: Codes | None
+    faults: dict[int, FixedError | TypeError] = {}
+
+
+class Call(_lists.Call, Protocol):
+    """What is done with items, and with a flat array of other things than objects; and the types of what it finds."""
+
+    @property
+    def dtypes(self) -> tuple[Any, ...]: ...
+    def whole(self, flat: Array) -> Whole: ...
 
 
 def dtype_of(form: Format) -> np.dtype[Any]:
@@ -44,49 +56,99 @@ def dtype_of(form: Format) -> np.dtype[Any]:
 
 def over(given: Any, call: Call, errors: Errors) -> Any:
     """What a call finds in an array, in the array's shape; what is masked is not handed over and stays so."""
-    data = np.asarray(given)
+    if _pandas.is_column(given):
+        return _pandas.like(given, over(_pandas.array_of(given, errors), call, errors))
+    data, is_masked = np.asarray(given), errors is Errors.MASK or isinstance(given, np.ma.MaskedArray)
+    return over_items(data, hidden(given, data, errors), is_masked, call, errors)
+
+
+def over_items(data: Array, is_hidden: Flags | None, is_masked: bool, call: Call, errors: Errors) -> Any:
+    """The same of items of which some are hidden; what is found is masked, or nothing of it is."""
     flat = data.reshape(-1)
-    is_hidden = hidden(given, errors).reshape(-1)
-    places = np.flatnonzero(~is_hidden) if is_hidden.any() else None
-    found, codes = call(flat if places is None else flat[places])
-    refused = np.flatnonzero(codes)
-    if places is not None:
-        refused = places[refused]
-    if errors is Errors.RAISE and refused.size:
-        index = tuple(map(int, np.unravel_index(refused[0], data.shape)))
-        item = shown(flat[refused[0] : refused[0] + 1])
-        raise FixedError(int(codes[codes != 0][0]), item, index[0] if len(index) == 1 else index or None)
-    is_hidden[refused] = True
-    is_masked = errors is Errors.MASK or isinstance(given, np.ma.MaskedArray)
+    places = None if is_hidden is None else np.flatnonzero(~is_hidden)
+    items = flat if places is None else flat[places]
+    whole = of_objects(items.tolist(), call, errors) if items.dtype.kind in "OT" else call.whole(items)
+    refused = np.zeros(0, np.intp) if whole.codes is None else np.flatnonzero(whole.codes)
+    raise_first(whole, refused, items, errors, lambda at: index_in(data, at if places is None else places[at]))
+    mask = np.zeros(flat.size if is_masked else 0, np.bool_) if is_hidden is None else is_hidden
+    if is_masked:
+        mask[refused if places is None else places[refused]] = True
 
     def shaped(part: Array) -> Any:
         if places is not None:
             part, found_there = np.zeros(flat.size, part.dtype), part
             part[places] = found_there
-        whole = part.reshape(data.shape)
-        return masked_array(whole, mask=is_hidden.reshape(data.shape)) if is_masked else whole[()]
+        whole_part = part.reshape(data.shape)
+        return masked_array(whole_part, mask.reshape(data.shape)) if is_masked else whole_part[()]
 
-    return tuple(map(shaped, found)) if isinstance(found, tuple) else shaped(found)
+    parts = tuple(map(shaped, whole.found))
+    return parts if len(parts) > 1 else parts[0]
+
+
+def raise_first(
+    whole: Whole, refused: Array, items: Array, errors: Errors, index_of: Callable[[int], Index | None]
+) -> None:
+    """Raises the error of the first item that ends the call: with errors masked only one of another type does."""
+    ends: Any = refused
+    if errors is Errors.MASK:
+        ends = [at for at in whole.faults if isinstance(whole.faults[at], TypeError)]
+    for at in map(int, ends[:1]):
+        codes: Any = whole.codes
+        error = whole.faults.get(at) or FixedError(int(codes[at]), shown(items[at : at + 1]))
+        index = index_of(at)
+        raise error if index is None else placed(error, index)
+
+
+def index_in(data: Array, at: int) -> Index | None:
+    """The index of a place in a flat array: a number, a tuple, or None in an array without a dimension."""
+    index = tuple(map(int, np.unravel_index(at, data.shape)))
+    return index[0] if len(index) == 1 else index or None
 
 
 def masked_array(items: Array, mask: Flags) -> Any:
-    return np.ma.MaskedArray(items, mask=mask)  # type: ignore[no-untyped-call]
+    return np.ma.MaskedArray(items, mask=mask.copy())  # type: ignore[no-untyped-call]
 
 
-def hidden(given: Any, errors: Errors) -> Flags:
-    """Which items are masked, or None where those are masked."""
-    flags = np.array(np.ma.getmaskarray(given))  # type: ignore[no-untyped-call]
-    if errors is Errors.MASK and flags.size and np.asarray(given).dtype.kind == "O":
-        flags |= np.array([item is None for item in np.asarray(given).reshape(-1)]).reshape(flags.shape)
-    return flags
+def hidden(given: Any, data: Array, errors: Errors) -> Flags | None:
+    """Which items of a flat array are masked, or None where those are masked; None where none is."""
+    is_masked, may_be_none = isinstance(given, np.ma.MaskedArray), errors is Errors.MASK and data.dtype.kind == "O"
+    if not is_masked and not may_be_none:
+        return None
+    flags = np.zeros(data.size, np.bool_)
+    if is_masked:
+        flags |= np.ma.getmaskarray(given).reshape(-1)  # type: ignore[no-untyped-call]
+    if may_be_none:
+        flags |= np.fromiter((item is None for item in data.reshape(-1)), np.bool_, data.size)
+    return flags if flags.any() else None
 
 
 def shown(item: Array) -> str:
     """An array's one item as an error shows it."""
     try:
         return brief(item.tolist()[0])
-    except (SystemError, ValueError):
+    except (SystemError, ValueError):  # numpy has texts that are none of Python's
         return "a text of no characters"
+
+
+def of_objects(items: list[Any], call: Call, errors: Errors) -> Whole:
+    """What a call finds in objects, as in a list."""
+    found: list[Any] = []
+    codes: Any = np.zeros(len(items), np.uint32)
+    faults: dict[int, FixedError | TypeError] = {}
+    for start in range(0, len(items), _lists.PART):
+        values, refusals = _lists.found_in(items[start : start + _lists.PART], call, errors)
+        found += values
+        for at, why in refusals:
+            codes[start + at] = why if isinstance(why, int) else getattr(why, "code", NO_CODE)
+            if not isinstance(why, int):
+                faults[start + at] = why
+    is_found = codes == 0
+    values = [each for each in found if each is not None] if faults or codes.any() else found
+    columns: list[Any] = list(zip(*values)) if len(call.dtypes) > 1 and values else [values] * len(call.dtypes)
+    parts = tuple(np.zeros(len(items), dtype) for dtype in call.dtypes)
+    for part, column in zip(parts, columns):
+        part[... if is_found.all() else is_found] = column
+    return Whole(parts, None if is_found.all() else codes, faults)
 
 
 def blocks(flat: Array) -> Iterator[tuple[slice, Array]]:
@@ -98,72 +160,84 @@ def blocks(flat: Array) -> Iterator[tuple[slice, Array]]:
         yield part, np.ascontiguousarray(flat[part], dtype=native)
 
 
-def each(items: Any, one: Callable[[Any], Any], dtype: Any) -> Found:
-    """What is found item by item."""
-    listed = list(items)
-    found, codes = np.zeros(len(listed), dtype), np.zeros(len(listed), np.uint32)
-    for place, item in enumerate(listed):
-        try:
-            found[place] = one(item)
-        except FixedError as error:
-            codes[place] = error.code
-    return found, codes
+class Gathered:
+    """The codes of all blocks, which are gathered from the first that refuses something on."""
+
+    def __init__(self, size: int) -> None:
+        self.size = size
+        self.block = np.empty(min(size, BLOCK), np.uint32)
+        self.address = self.block.ctypes.data
+        self.codes: Codes | None = None
+
+    def take(self, part: slice, count: int, refused: int) -> None:
+        if refused:
+            if self.codes is None:
+                self.codes = np.zeros(self.size, np.uint32)
+            self.codes[part] = self.block[:count]
 
 
-def done(answer: tuple[int, int]) -> int:
-    """How many rows a call refused. Its own code is of an option that was none."""
-    code, refused = answer
-    if code:
-        raise FixedError(code)
-    return refused
+def first(codes: Codes | None, later: Codes | None) -> Codes | None:
+    """The codes of two steps."""
+    if codes is None or later is None:
+        return later if codes is None else codes
+    return np.where(codes != 0, codes, later)
 
 
-def zeroed(found: Array, codes: Codes) -> Array:
-    """What was found, with zeros where nothing was."""
-    refused = codes != 0
-    if refused.any():
-        found[refused] = np.zeros(1, found.dtype)
+def zeroed(found: Array, codes: Codes | None) -> Array:
+    """What was found, with zeros where something was refused."""
+    if codes is not None:
+        found[codes != 0] = np.zeros(1, found.dtype)
     return found
 
 
-def first(codes: Codes, later: Codes) -> Codes:
-    """The codes of two steps."""
-    return np.where(codes != 0, codes, later)
+def numbers(flat: Array, form: Format, is_flagged: bool, hand_over: Callable[[Array, int, int], int]) -> Whole:
+    """The numbers that a call over rows leaves in a format: it takes a block, an address for them and one for codes."""
+    bits, codes = np.empty(flat.size, dtype_of(form)), Gathered(flat.size)
+    flags = np.empty(flat.size, np.bool_) if is_flagged else None
+    records = np.empty(min(flat.size, BLOCK), NUMBER)
+    for part, items in blocks(flat):
+        codes.take(part, len(items), hand_over(items, records.ctypes.data, codes.address))
+        bits[part] = records["bits"][: len(items)]
+        if flags is not None:
+            flags[part] = records["overflowed"][: len(items)]
+    return Whole((bits,) if flags is None else (bits, flags), codes.codes)
 
 
 # ---- numerals
 
 
-def read(form: Format, flat: Array, how: Reading, one: Callable[[Any], int], move: Move | None = None) -> Found:
+def read(call: _calls.Read, flat: Array) -> Whole:
     """The bits of numerals in the format, or moved on to another."""
-    kind = flat.dtype.kind
-    if kind in "OT":
-        return each(flat.tolist(), one, dtype_of(move.target if move else form))
+    found = numerals(call, flat)
+    if not call.move:
+        return found
+    moved = convert(replace(call.move, is_flagged=call.is_flagged), found.found[0])
+    codes = first(found.codes, moved.codes)
+    if call.is_flagged:
+        return Whole((zeroed(moved.found[0], codes), zeroed(found.found[1] | moved.found[1], codes)), codes)
+    return Whole((zeroed(moved.found[0], codes),), codes)
+
+
+def numerals(call: _calls.Read, flat: Array) -> Whole:
+    form, how, kind = call.form, call.how, flat.dtype.kind
     if kind in "biu":
-        found, codes = whole_numbers(form, flat, how)
-    elif kind in "SU":
-        found, codes = read_rows(form, flat, how, text_rows)
-    elif kind == "f":
-        with np.errstate(all="ignore"):
-            found, codes = floats(form, flat, how._replace(radix=16))
-    else:
-        raise TypeError(f"an array of numerals is of texts or numbers, not {flat.dtype}")
-    if not move:
-        return found, codes
-    moved, later = convert(move, found)
-    return zeroed(moved, first(codes, later)), first(codes, later)
+        words = flat.astype(np.int64 if kind == "i" else np.uint64).view(np.int64)
+        return converted(words, _library.CFormat(kind == "i", 64, 0), form, how, call.is_flagged)
+    if kind in "SU":
+        return read_rows(call, flat, how, text_rows)
+    if kind == "f":
+        return read_long_floats(call, flat) if flat.itemsize > 8 else read_floats(call, flat)
+    raise TypeError(f"an array of numerals is of texts or numbers, not {flat.dtype}")
 
 
-def read_rows(form: Format, flat: Array, how: Reading, rows_of: Callable[[Array], Bytes]) -> Found:
-    """What the library reads of the rows that are made of each part."""
-    bits, codes = np.empty(flat.size, dtype_of(form)), np.empty(flat.size, np.uint32)
-    numbers = np.empty(min(flat.size, BLOCK), NUMBER)
-    for part, items in blocks(flat):
+def read_rows(call: _calls.Read, flat: Array, how: Reading, rows_of: Callable[[Array], Bytes]) -> Whole:
+    """What the library reads of the rows that are made of each block."""
+
+    def hand_over(items: Array, records: int, codes: int) -> int:
         rows = rows_of(items)
-        size, to = rows.shape[1], (numbers.ctypes.data, codes[part].ctypes.data)
-        done(_library.read_rows(rows.ctypes.data, size, len(rows), form.c_format, how, *to))
-        bits[part] = numbers["bits"][: len(rows)]
-    return zeroed(bits, codes), codes
+        return _library.read_rows(rows.ctypes.data, rows.shape[1], len(rows), call.form.c_format, how, records, codes)
+
+    return numbers(flat, call.form, call.is_flagged, hand_over)
 
 
 def text_rows(items: Array) -> Bytes:
@@ -186,53 +260,37 @@ def without_holes(rows: Bytes) -> Bytes:
     return np.where(has_later & (rows == 0), np.uint8(255), rows)
 
 
-def floats(form: Format, flat: Array, how: Reading) -> Found:
-    """Floats that are not too large as bits of a format of two more fraction bits, and others spelled out.
+def read_floats(call: _calls.Read, flat: Array) -> Whole:
+    """What the library reads of floats of at most 8 bytes."""
 
-    The last of the two says whether something is left beside the half ulps, which is all that rounding asks.
-    """
-    if form.frac > 62:
-        return read_rows(form, flat, how, float_rows)
-    halves = np.ldexp(np.abs(flat.astype(np.promote_types(flat.dtype, np.float64))), form.frac + 1)
-    others = np.flatnonzero(~(halves < 2.0**61))
-    halves[others] = 0
-    whole = np.floor(halves)
-    words = 2 * whole.astype(np.int64) + (halves != whole)
-    source = _library.CFormat(True, 64, form.frac + 2)
-    found, codes = convert_rows(np.where(flat < 0, -words, words), source, form, how)
-    if others.size:
-        found[others], codes[others] = read_rows(form, flat[others], how, float_rows)
-    return found, codes
+    def hand_over(items: Array, records: int, codes: int) -> int:
+        given = items.itemsize, items.ctypes.data, len(items), call.form.c_format, call.how
+        return _library.read_floats(*given, records, codes)
+
+    return numbers(flat.astype(np.float32) if flat.itemsize < 4 else flat, call.form, call.is_flagged, hand_over)
 
 
-def float_rows(items: Array) -> Bytes:
-    """Floats as numerals in radix 16, exactly: 64 bits times a power of two."""
-    is_finite = np.isfinite(items)
-    fractions, powers = np.frexp(np.where(is_finite, items, 0).astype(np.promote_types(items.dtype, np.float64)))
-    rows = np.empty(len(items), SPELLED)
-    rows["sign"] = np.where(np.signbit(items), b"-", b"+")
-    rows["digits"] = HEX[np.ldexp(np.abs(fractions), 64).astype(">u8").view(np.uint8)].view("S16")
-    rows["power"] = POWERS[powers - 64 - LEAST_POWER]
-    rows["digits"][~is_finite] = b"not a number"
-    return rows.view(np.uint8).reshape(len(rows), -1)
+def read_long_floats(call: _calls.Read, flat: Array) -> Whole:
+    """What the library reads of longer floats: as floats of 8 bytes those that are such, and the others one by one."""
+    with np.errstate(all="ignore"):
+        short = flat.astype(np.float64)
+    whole = read_floats(call, short)
+    places = np.flatnonzero((short != flat) & (flat == flat))
+    if not places.size:
+        return whole
+    others = of_objects(list(flat[places]), replace(call, move=None), Errors.RAISE)
+    codes = np.zeros(flat.size, np.uint32) if whole.codes is None else whole.codes
+    codes[places] = 0 if others.codes is None else others.codes
+    for part, other in zip(whole.found, others.found):
+        part[places] = other
+    return Whole(whole.found, codes)
 
 
-def whole_numbers(form: Format, flat: Array, how: Reading) -> Found:
-    """Whole numbers as numerals: they are converted from a format of 64 whole bits."""
-    is_signed = flat.dtype.kind == "i"
-    words = flat.astype(np.int64 if is_signed else np.uint64).view(np.int64)
-    return convert_rows(words, _library.CFormat(is_signed, 64, 0), form, how)
-
-
-def enclose(form: Format, flat: Array, how: Reading, one: Callable[[Any], Any]) -> tuple[tuple[Array, Array], Codes]:
-    """The bits below and above numerals: what reading down and reading up give, where both are in range."""
-    if flat.dtype.kind in "OT":
-        pairs, codes = each(flat.tolist(), one, np.dtype([("low", dtype_of(form)), ("high", dtype_of(form))]))
-        return (pairs["low"].copy(), pairs["high"].copy()), codes
-    low, low_codes = read(form, flat, how, operator.index)
-    high, high_codes = read(form, flat, reading(how.radix, "checked", "ceil"), operator.index)
-    codes = first(low_codes, high_codes)
-    return (zeroed(low, codes), zeroed(high, codes)), codes
+def enclose(call: _calls.Enclose, flat: Array) -> Whole:
+    """The bits below and above numerals."""
+    low, high = numerals(call.down, flat), numerals(call.up, flat)
+    codes = first(low.codes, high.codes)
+    return Whole((zeroed(low.found[0], codes), zeroed(high.found[0], codes)), codes)
 
 
 # ---- bits
@@ -244,73 +302,111 @@ def expect_integers(given: Array) -> None:
         raise TypeError(f"bits are integers, not {given.dtype}")
 
 
-def words_of(form: Format, flat: Array) -> tuple[Words, Codes]:
+def words_of(form: Format, flat: Array) -> tuple[Words, Codes | None]:
     """Bits as C takes them, and a code for each. Those that are none of the format are 0."""
     expect_integers(flat)
-    if flat.dtype.kind == "O":
-        own, codes = each(flat.tolist(), form.own_bits, np.int64 if form.is_signed else np.uint64)
-        return own.view(np.int64), codes
     own = flat.astype(np.int64 if flat.dtype.kind == "i" else np.uint64)
+    if flat.dtype == form.dtype and form.width == 8 * flat.itemsize:
+        return own.view(np.int64), None
     ends = np.iinfo(own.dtype)
     is_bad = (own < max(form.min_bits, int(ends.min))) | (own > min(form.max_bits, int(ends.max)))
-    codes = np.where(is_bad, np.uint32(Code.BAD_BITS), np.uint32(0))
+    codes = np.where(is_bad, np.uint32(Code.BAD_BITS), np.uint32(0)) if is_bad.any() else None
     return zeroed(own, codes).view(np.int64), codes
 
 
-def text(form: Format, flat: Array, places: int | None, dtype: str, one: Callable[[Any], str]) -> Found:
+def text(call: _calls.Text, flat: Array) -> Whole:
     """The texts of bits."""
-    words, codes = words_of(form, flat)
-    size = form.text_size(places)
-    if places is not None:
-        own = words if form.is_signed else words.view(np.uint64)
-        found, _ = each(own.tolist(), one, f"{dtype}{size}")
-        return zeroed(found, codes), codes
-    found = np.empty(flat.size, f"{dtype}{size}")
-    letters = found.view(np.uint8 if dtype == "S" else np.uint32).reshape(-1, size)
-    rows, ends = np.empty((min(flat.size, BLOCK), size + 1), np.uint8), np.empty(BLOCK, np.uint32)
+    words, codes = words_of(call.form, flat)
+    (dtype,), form = call.dtypes, call.form
+    size = np.dtype(dtype).itemsize // np.dtype(f"{call.dtype}1").itemsize
+    found = np.empty(flat.size, dtype)
+    letters = found.view(np.uint8 if call.dtype == "S" else np.uint32).reshape(-1, size)
+    rows, ends = np.empty((min(flat.size, BLOCK), size + 1), np.uint8), Gathered(flat.size)
     for part, items in blocks(words):
-        to = rows.ctypes.data, size + 1, ends.ctypes.data
-        done(_library.print_rows(items.ctypes.data, len(items), form.c_format, *to))
+        to = rows.ctypes.data, size + 1, ends.address
+        _library.print_rows(items.ctypes.data, len(items), form.c_format, call.to_places, *to)
         letters[part] = rows[: len(items), :size]
-    return zeroed(found, codes), codes
+    return Whole((zeroed(found, codes),), codes)
 
 
-def value(form: Format, flat: Array, kind: type[Any], one: Callable[[Any], Any]) -> Found:
+def value(call: _calls.Value, flat: Array) -> Whole:
     """The exact values of bits as objects, or the nearest floats."""
-    words, codes = words_of(form, flat)
-    own = words if form.is_signed else words.view(np.uint64)
-    if kind is float:
-        return zeroed(np.ldexp(own.astype(np.float64), -form.frac), codes), codes
-    return each(own.tolist(), one, object)[0], codes
-
-
-def convert(move: Move, flat: Array) -> Found:
-    """Bits of one format as those of another."""
-    words, codes = words_of(move.source, flat)
-    found, later = convert_rows(words, move.source.c_format, move.target, move.how)
-    return zeroed(found, first(codes, later)), first(codes, later)
-
-
-def convert_rows(words: Words, source: _library.CFormat, target: Format, how: Reading) -> Found:
-    """What the library converts of each part."""
-    bits, codes = np.empty(words.size, dtype_of(target)), np.empty(words.size, np.uint32)
-    numbers = np.empty(min(words.size, BLOCK), NUMBER)
+    words, codes = words_of(call.form, flat)
+    if not issubclass(call.kind, float):
+        own = words if call.form.is_signed else words.view(np.uint64)
+        return Whole((zeroed(of_objects(own.tolist(), call, Errors.RAISE).found[0], codes),), codes)
+    found, ends = np.empty(flat.size), Gathered(flat.size)
     for part, items in blocks(words):
-        to = numbers.ctypes.data, codes[part].ctypes.data
-        done(_library.convert_rows(items.ctypes.data, len(items), source, target.c_format, how, *to))
-        bits[part] = numbers["bits"][: len(items)]
-    return zeroed(bits, codes), codes
+        given = items.ctypes.data, len(items), call.form.c_format, found[part].ctypes.data
+        _library.floats_of_rows(*given, ends.address)
+    return Whole((zeroed(found, codes),), codes)
 
 
-def compare(bits: Any, others: Any, one: Callable[[Any], int], errors: Errors) -> Any:
+def convert(call: _calls.Convert, flat: Array) -> Whole:
+    """Bits of one format as those of another."""
+    words, codes = words_of(call.source, flat)
+    found = converted(words, call.source.c_format, call.target, call.how, call.is_flagged)
+    both = first(codes, found.codes)
+    return Whole(tuple(zeroed(part, both) for part in found.found), both)
+
+
+def converted(words: Words, source: _library.CFormat, target: Format, how: Reading, is_flagged: bool) -> Whole:
+    """What the library converts of each block."""
+
+    def hand_over(items: Array, records: int, codes: int) -> int:
+        return _library.convert_rows(items.ctypes.data, len(items), source, target.c_format, how, records, codes)
+
+    return numbers(words, target, is_flagged, hand_over)
+
+
+def compare(bits: Any, others: Any, call: _calls.Compare, errors: Errors) -> Any:
     """The order of two arrays, item by item, as numpy brings them into one shape."""
-    left, right = (given if hasattr(given, "dtype") else np.asarray(given, object) for given in (bits, others))
+    columns = [given for given in (bits, others) if _pandas.is_column(given)]
+    if columns:
+        left, right = (_pandas.array_of(it, errors) if _pandas.is_column(it) else it for it in (bits, others))
+        return _pandas.like(_pandas.of_one_index(columns), compare(left, right, call, errors))
+    left, right = (given if hasattr(given, "dtype") else integers(given) for given in (bits, others))
     expect_integers(left)
     expect_integers(right)
-    is_masked = isinstance(left, np.ma.MaskedArray) or isinstance(right, np.ma.MaskedArray)
-    flags = np.broadcast_arrays(hidden(left, errors), hidden(right, errors))
+    flags = [np.zeros(each.shape, np.bool_) for each in (left, right)]
+    for flag, given in zip(flags, (left, right)):
+        is_hidden = hidden(given, np.asarray(given), errors)
+        if is_hidden is not None:
+            flag |= is_hidden.reshape(given.shape)
+    is_masked = errors is Errors.MASK or any(isinstance(given, np.ma.MaskedArray) for given in (left, right))
     left, right = np.broadcast_arrays(np.asarray(left), np.asarray(right))
-    pairs = np.empty(left.shape, object)
-    pairs.reshape(-1)[:] = list(zip(left.reshape(-1).tolist(), right.reshape(-1).tolist()))
-    given = masked_array(pairs, mask=flags[0] | flags[1]) if is_masked or (flags[0] | flags[1]).any() else pairs
-    return over(given, lambda flat: each(flat.tolist(), one, np.int8), errors)
+    mask = np.broadcast_to(flags[0] | flags[1], left.shape).reshape(-1)
+    return over_items(pairs_of(left, right), mask.copy() if mask.any() else None, is_masked, call, errors)
+
+
+def integers(given: Any) -> Array:
+    """An array of whole numbers of Python, of objects where they are too long for another."""
+    found = np.asarray(given)
+    return found if found.dtype.kind in "biu" else np.asarray(given, object)
+
+
+def pairs_of(left: Array, right: Array) -> Array:
+    """Two arrays of one shape as one of pairs."""
+    if "O" not in (left.dtype.kind, right.dtype.kind):
+        pairs = np.empty(left.shape, [("left", left.dtype), ("right", right.dtype)])
+        pairs["left"], pairs["right"] = left, right
+        return pairs
+    objects = np.empty(left.shape, object)
+    objects.reshape(-1)[:] = list(zip(left.reshape(-1).tolist(), right.reshape(-1).tolist()))
+    return objects
+
+
+def orders(call: _calls.Compare, flat: Array) -> Whole:
+    """The order of pairs of bits."""
+    left, codes = words_of(call.left, flat["left"])
+    right, right_codes = words_of(call.right, flat["right"])
+    if right_codes is not None:
+        right_codes[right_codes != 0] = Code.BAD_OTHER_BITS
+    codes = first(codes, right_codes)
+    found, ends, block = np.empty(flat.size, np.int8), Gathered(flat.size), np.empty(min(flat.size, BLOCK), np.int32)
+    for part, items in blocks(left):
+        others = np.ascontiguousarray(right[part])
+        given = items.ctypes.data, call.left.c_format, others.ctypes.data, call.right.c_format, len(items)
+        _library.compare_rows(*given, block.ctypes.data, ends.address)
+        found[part] = block[: len(items)]
+    return Whole((zeroed(found, codes),), codes)

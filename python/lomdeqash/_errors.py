@@ -2,6 +2,7 @@
 from __future__ import annotations
 
 import enum
+from fractions import Fraction
 from typing import Union
 
 from . import _library
@@ -39,6 +40,7 @@ class Code(enum.IntEnum):
     BAD_WIDTH = 24
     BAD_FILL = 25
     BAD_ALIGN = 26
+    NOT_FINITE = 27
 
 
 class FixedError(ValueError):
@@ -73,10 +75,35 @@ class FixedError(ValueError):
         return self.message + (f": {self.given}" if self.given else "") + place
 
 
+class FixedTypeError(TypeError):
+    """An item of many is of no type that the call takes. `index` is its place, as that of a `FixedError`."""
+
+    __module__ = "lomdeqash"
+
+    def __init__(self, message: str, index: Index) -> None:
+        super().__init__(message, index)
+        self.message = message
+        self.index = index
+
+    def __str__(self) -> str:
+        return f"{self.message} at {self.index}"
+
+
+def placed(error: FixedError | TypeError, index: Index) -> FixedError | FixedTypeError:
+    """The error of one item as that of an item of many."""
+    if isinstance(error, FixedError):
+        return FixedError(error.code, error.given, index)
+    return FixedTypeError(str(error), index)
+
+
 def brief(given: object) -> str:
     """An item as an error shows it, cut at 40 characters."""
+    if isinstance(given, tuple):
+        return f"({', '.join(map(brief, given))})"
     if isinstance(given, (str, bytes, bytearray)):
         given = given[:40]
     elif isinstance(given, int) and given.bit_length() > 128:
         return f"a number of {given.bit_length()} bits"
+    elif isinstance(given, Fraction) and max(given.numerator.bit_length(), given.denominator.bit_length()) > 128:
+        return f"Fraction({brief(given.numerator)}, {brief(given.denominator)})"
     return repr(given)[:42]

@@ -1,39 +1,30 @@
 """Formats, and all that is done with their numbers."""
 from __future__ import annotations
 
-import functools
 import operator
-import re
-from collections.abc import Callable, Iterable
+from collections.abc import Iterable
 from dataclasses import dataclass, field
 from decimal import Decimal
 from fractions import Fraction
 from numbers import Number
 from typing import TYPE_CHECKING, Any, Literal, TypeVar, Union, overload
 
-from . import _library
+from . import _library, _lists
+from ._calls import Compare, Convert, Enclose, Read, Text, Value, base_of, expect
 from ._errors import Code, FixedError, brief
-from ._numerals import Numeral, decimal_of, numeral_of
-from ._options import Errors, ModeLike, PolicyLike, reading
+from ._numerals import Numeral, decimal_of
+from ._options import Errors, ErrorsLike, Mask, Mode, ModeLike, PolicyLike, Raise, mode_code, reading
 
 if TYPE_CHECKING:
-    from numpy import dtype
+    from . import _arrays
+    from numpy import dtype, float64
     from numpy.typing import NDArray
 
     Array = NDArray[Any]
     Many = Union[Iterable[int], Array]
 
-# ARM's name of a format: the whole bits, of which the sign is one, may be left out.
-ARM_WORD = re.compile(r"([Uu]?)[Qq](?:([0-9]+)\.)?([0-9]+)")
-
-# So many items of an iterable are handed over at a time, where they are alike.
-PART = 1024
-
 FormatLike = Union["Format", str]
-ErrorsLike = Union[Errors, str]
-Raise = Literal["raise", Errors.RAISE]
-Mask = Literal["mask", Errors.MASK]
-_Value = TypeVar("_Value", Decimal, Fraction, float)
+_Value = TypeVar("_Value", Decimal, Fraction, float, "float64")
 
 
 # Of each method's forms the first that fits is meant: a text is an iterable of texts as well, and so may an array be.
@@ -64,11 +55,8 @@ class Format:
         text = word.word if isinstance(word, Format) else word
         if not isinstance(text, str):
             raise TypeError(f"a format is a word such as 'I1F15', not {type(text).__name__}")
-        arm = ARM_WORD.fullmatch(text)
-        if arm:
-            text = f"{'U' if arm[1] else 'I'}{arm[2] or int(not arm[1])}F{arm[3]}"
-        code, given = _library.format_of_word(text.encode("utf-8", "replace").upper())
-        _expect(code, word)
+        code, given = _library.format_of_word(text.encode("utf-8", "replace"))
+        expect(code, word)
         object.__setattr__(self, "c_format", given)
         for name, value in (("width", given.width), ("is_signed", bool(given.is_signed)), ("frac", given.frac)):
             object.__setattr__(self, name, value)
@@ -85,7 +73,7 @@ class Format:
     @property
     def word(self) -> str:
         """The format's name."""
-        return f"{'I' if self.is_signed else 'U'}{self.width - self.frac}F{self.frac}"
+        return _library.word_of_format(self.c_format)
 
     @property
     def min_bits(self) -> int:
@@ -112,19 +100,43 @@ class Format:
     @overload
     def read(self, numerals: Numeral, *,  # type: ignore[misc]
              radix: int = ..., policy: PolicyLike = ..., mode: ModeLike = ..., target: FormatLike | None = ...,
-             target_mode: ModeLike = ..., errors: ErrorsLike = ...) -> int: ...
+             target_mode: ModeLike = ...,
+             overflowed: Literal[False] = ..., errors: ErrorsLike = ...) -> int: ...
+    @overload
+    def read(self, numerals: Numeral, *,  # type: ignore[misc]
+             radix: int = ..., policy: PolicyLike = ..., mode: ModeLike = ..., target: FormatLike | None = ...,
+             target_mode: ModeLike = ...,
+             overflowed: Literal[True], errors: ErrorsLike = ...) -> tuple[int, bool]: ...
     @overload
     def read(self, numerals: Array, *,  # type: ignore[misc]
              radix: int = ..., policy: PolicyLike = ..., mode: ModeLike = ..., target: FormatLike | None = ...,
-             target_mode: ModeLike = ..., errors: ErrorsLike = ...) -> Array: ...
+             target_mode: ModeLike = ...,
+             overflowed: Literal[False] = ..., errors: ErrorsLike = ...) -> Array: ...
+    @overload
+    def read(self, numerals: Array, *,  # type: ignore[misc]
+             radix: int = ..., policy: PolicyLike = ..., mode: ModeLike = ..., target: FormatLike | None = ...,
+             target_mode: ModeLike = ...,
+             overflowed: Literal[True], errors: ErrorsLike = ...) -> tuple[Array, Array]: ...
     @overload
     def read(self, numerals: Iterable[Numeral], *,
              radix: int = ..., policy: PolicyLike = ..., mode: ModeLike = ..., target: FormatLike | None = ...,
-             target_mode: ModeLike = ..., errors: Raise = ...) -> list[int]: ...
+             target_mode: ModeLike = ...,
+             overflowed: Literal[False] = ..., errors: Raise = ...) -> list[int]: ...
+    @overload
+    def read(self, numerals: Iterable[Numeral], *,
+             radix: int = ..., policy: PolicyLike = ..., mode: ModeLike = ..., target: FormatLike | None = ...,
+             target_mode: ModeLike = ...,
+             overflowed: Literal[True], errors: Raise = ...) -> tuple[list[int], list[bool]]: ...
     @overload
     def read(self, numerals: Iterable[Numeral | None], *,
              radix: int = ..., policy: PolicyLike = ..., mode: ModeLike = ..., target: FormatLike | None = ...,
-             target_mode: ModeLike = ..., errors: Mask) -> list[int | None]: ...
+             target_mode: ModeLike = ...,
+             overflowed: Literal[False] = ..., errors: Mask) -> list[int | None]: ...
+    @overload
+    def read(self, numerals: Iterable[Numeral | None], *,
+             radix: int = ..., policy: PolicyLike = ..., mode: ModeLike = ..., target: FormatLike | None = ...,
+             target_mode: ModeLike = ...,
+             overflowed: Literal[True], errors: Mask) -> tuple[list[int | None], list[bool | None]]: ...
 
     def read(
         self,
@@ -135,11 +147,14 @@ class Format:
         mode: ModeLike = "nearest",
         target: FormatLike | None = None,
         target_mode: ModeLike = "floor",
+        overflowed: bool = False,
         errors: ErrorsLike = "raise",
     ) -> Any:
         """The bits of numerals: texts in the radix, or numbers of Python or numpy by their exact value.
 
-        With a target, each is rounded to this format by `mode`, and the result to the target by `target_mode`.
+        With a target, each is rounded to this format by `mode`, and the result to the target by `target_mode`. With
+        `overflowed`, a second result says which were out of range, and so at an end or wrapped. Numbers that are bits
+        already are none of these: they go to `text`, `value` or `convert`.
 
         >>> form = Format("I4F4")
         >>> form.read("3.14"), form.read("c.8p-2", radix=16), form.read(0.1, mode="ceil")
@@ -148,62 +163,47 @@ class Format:
         2
         >>> form.read(["9", "-9"], policy="saturating"), form.read(["1", "one", "9"], errors="mask")
         ([127, -128], [16, None, None])
+        >>> form.read(["9", "1"], policy="saturating", overflowed=True)
+        ([127, 16], [True, False])
         """
         how = reading(radix, policy, mode)
-        move = None if target is None else Move(self, Format(target), reading(radix, policy, target_mode))
-
-        def one(item: Any) -> int:
-            text, base = numeral_of(item, how.radix, self.frac)
-            given = how if base == how.radix else how._replace(radix=base)
-            code, bits = _library.read_text(text, self.c_format, given)
-            _expect(code, item)
-            return move.one(self.bits_of_c(bits)) if move else self.bits_of_c(bits)
-
-        def together(items: list[Any]) -> list[int] | None:
-            if move or set(map(type, items)) != {str}:
-                return None
-            return _library.read_texts([item.encode("utf-8", "replace") for item in items], self.c_format, how)
-
-        return _apply(numerals, one, lambda arrays, flat: arrays.read(self, flat, how, one, move), errors, together)
+        move = None if target is None else Convert(self, Format(target), reading(radix, policy, target_mode))
+        return _parted(_apply(numerals, Read(self, how, move, bool(overflowed)), errors), overflowed)
 
     @overload
-    def text(self, bits: int, *, places: int | None = ..., errors: ErrorsLike = ...) -> str: ...
+    def text(self, bits: int, *, places: int | None = ..., mode: ModeLike = ..., errors: ErrorsLike = ...) -> str: ...
     @overload
     def text(self, bits: Array, *,  # type: ignore[misc]
-             places: int | None = ..., dtype: Literal["U", "S"] = ..., errors: ErrorsLike = ...) -> Array: ...
+             places: int | None = ..., mode: ModeLike = ..., dtype: Literal["U", "S"] = ...,
+             errors: ErrorsLike = ...) -> Array: ...
     @overload
-    def text(self, bits: Iterable[int], *, places: int | None = ..., errors: Raise = ...) -> list[str]: ...
+    def text(self, bits: Iterable[int], *, places: int | None = ..., mode: ModeLike = ...,
+             errors: Raise = ...) -> list[str]: ...
     @overload
-    def text(self, bits: Iterable[int | None], *, places: int | None = ..., errors: Mask) -> list[str | None]: ...
+    def text(self, bits: Iterable[int | None], *, places: int | None = ..., mode: ModeLike = ...,
+             errors: Mask) -> list[str | None]: ...
 
-    def text(self, bits: Any, *, places: int | None = None, dtype: str = "U", errors: ErrorsLike = "raise") -> Any:
-        """The shortest decimals that read back as the bits; or with `places`, decimals of that many, ties to even.
+    def text(self, bits: Any, *, places: int | None = None, mode: ModeLike = Mode.NEAREST, dtype: str = "U",
+             errors: ErrorsLike = "raise") -> Any:
+        """The shortest decimals that read back as the bits; or with `places`, decimals of that many, rounded in the mode.
 
         An array of texts is of str (`dtype` is ``U``) or of bytes (``S``).
 
         >>> Format("I1F15").text([10922, -32768]), Format("I1F15").text(10922, places=2)
         (['0.3333', '-1'], '0.33')
+        >>> import decimal
+        >>> Format("I4F4").text([2, -2], places=2, mode=decimal.ROUND_HALF_UP)
+        ['0.13', '-0.13']
         """
         if places is not None and not 0 <= operator.index(places) <= 64:
             raise FixedError(Code.BAD_PLACES, brief(places))
+        mode_is = mode_code(mode)
+        if places is None and mode_is != mode_code(Mode.NEAREST):
+            raise ValueError("a mode rounds nothing where no places are given")
         if dtype not in ("U", "S"):
             raise ValueError("an array of texts has dtype 'U' or 'S'")
 
-        def one(item: Any) -> str:
-            if places is None:
-                code, text = _library.print_bits(self.own_bits(item), self.c_format)
-            else:
-                code, text = _library.print_places(self.own_bits(item), self.c_format, places)
-            _expect(code, item)
-            return text
-
-        def together(items: list[Any]) -> list[str] | None:
-            if places is not None or set(map(type, items)) != {int}:
-                return None
-            is_held = self.min_bits <= min(items) and max(items) <= self.max_bits
-            return _library.print_texts(items, self.c_format, self.text_size(None) + 1) if is_held else None
-
-        return _apply(bits, one, lambda arrays, flat: arrays.text(self, flat, places, dtype, one), errors, together)
+        return _apply(bits, Text(self, places, mode_is, dtype), errors)
 
     @overload
     def value(self, bits: int, *, errors: ErrorsLike = ...) -> Decimal: ...
@@ -211,7 +211,7 @@ class Format:
     def value(self, bits: int, kind: type[_Value], *, errors: ErrorsLike = ...) -> _Value: ...
     @overload
     def value(self, bits: Array,  # type: ignore[misc]
-              kind: type[Decimal | Fraction | float] = ..., *, errors: ErrorsLike = ...) -> Array: ...
+              kind: type[Decimal | Fraction | float | float64] = ..., *, errors: ErrorsLike = ...) -> Array: ...
     @overload
     def value(self, bits: Iterable[int], *, errors: Raise = ...) -> list[Decimal]: ...
     @overload
@@ -222,35 +222,49 @@ class Format:
     def value(self, bits: Iterable[int | None], kind: type[_Value], *, errors: Mask) -> list[_Value | None]: ...
 
     def value(self, bits: Any, kind: type[Any] = Decimal, *, errors: ErrorsLike = "raise") -> Any:
-        """The exact values of bits, as Decimal or Fraction; or as float, exact up to 53 bits and else the nearest.
+        """The exact values of bits, as Decimal or Fraction; or as float or numpy.float64, exact up to 53 bits and else
+        the nearest.
 
         >>> form = Format("I4F4")
         >>> form.value(51), form.value(51, Fraction), form.value([51, -1], float)
         (Decimal('3.1875'), Fraction(51, 16), [3.1875, -0.0625])
         """
-        if kind not in (Decimal, Fraction, float):
-            raise TypeError("a value is of kind Decimal, Fraction or float")
-
-        def one(item: Any) -> Any:
-            own = self.own_bits(item)
-            if kind is Decimal:
-                return decimal_of(own, self.frac)
-            return Fraction(own, 1 << self.frac) if kind is Fraction else own / (1 << self.frac)
-
-        return _apply(bits, one, lambda arrays, flat: arrays.value(self, flat, kind, one), errors)
+        if kind not in (Decimal, Fraction) and base_of(kind) is not float:
+            raise TypeError("a value is of kind Decimal, Fraction, float or numpy.float64")
+        return _apply(bits, Value(self, kind), errors)
 
     @overload
     def convert(self, bits: int, target: FormatLike, *,
-                policy: PolicyLike = ..., target_mode: ModeLike = ..., errors: ErrorsLike = ...) -> int: ...
+                policy: PolicyLike = ..., target_mode: ModeLike = ...,
+                overflowed: Literal[False] = ..., errors: ErrorsLike = ...) -> int: ...
+    @overload
+    def convert(self, bits: int, target: FormatLike, *,
+                policy: PolicyLike = ..., target_mode: ModeLike = ...,
+                overflowed: Literal[True], errors: ErrorsLike = ...) -> tuple[int, bool]: ...
     @overload
     def convert(self, bits: Array, target: FormatLike, *,  # type: ignore[misc]
-                policy: PolicyLike = ..., target_mode: ModeLike = ..., errors: ErrorsLike = ...) -> Array: ...
+                policy: PolicyLike = ..., target_mode: ModeLike = ...,
+                overflowed: Literal[False] = ..., errors: ErrorsLike = ...) -> Array: ...
+    @overload
+    def convert(self, bits: Array, target: FormatLike, *,  # type: ignore[misc]
+                policy: PolicyLike = ..., target_mode: ModeLike = ...,
+                overflowed: Literal[True], errors: ErrorsLike = ...) -> tuple[Array, Array]: ...
     @overload
     def convert(self, bits: Iterable[int], target: FormatLike, *,
-                policy: PolicyLike = ..., target_mode: ModeLike = ..., errors: Raise = ...) -> list[int]: ...
+                policy: PolicyLike = ..., target_mode: ModeLike = ...,
+                overflowed: Literal[False] = ..., errors: Raise = ...) -> list[int]: ...
+    @overload
+    def convert(self, bits: Iterable[int], target: FormatLike, *,
+                policy: PolicyLike = ..., target_mode: ModeLike = ...,
+                overflowed: Literal[True], errors: Raise = ...) -> tuple[list[int], list[bool]]: ...
     @overload
     def convert(self, bits: Iterable[int | None], target: FormatLike, *,
-                policy: PolicyLike = ..., target_mode: ModeLike = ..., errors: Mask) -> list[int | None]: ...
+                policy: PolicyLike = ..., target_mode: ModeLike = ...,
+                overflowed: Literal[False] = ..., errors: Mask) -> list[int | None]: ...
+    @overload
+    def convert(self, bits: Iterable[int | None], target: FormatLike, *,
+                policy: PolicyLike = ..., target_mode: ModeLike = ...,
+                overflowed: Literal[True], errors: Mask) -> tuple[list[int | None], list[bool | None]]: ...
 
     def convert(
         self,
@@ -259,16 +273,17 @@ class Format:
         *,
         policy: PolicyLike = "checked",
         target_mode: ModeLike = "floor",
+        overflowed: bool = False,
         errors: ErrorsLike = "raise",
     ) -> Any:
-        """The bits of the same values in another format, rounded by `target_mode`.
+        """The bits of the same values in another format, rounded by `target_mode`; `overflowed` as in `read`.
 
         >>> form = Format("I4F4")
         >>> form.convert([51, -51], "I8F0"), form.convert(-51, "I8F0", target_mode="zero")
         ([3, -4], -3)
         """
-        move = Move(self, Format(target), reading(10, policy, target_mode))
-        return _apply(bits, move.one, lambda arrays, flat: arrays.convert(move, flat), errors)
+        move = Convert(self, Format(target), reading(10, policy, target_mode), bool(overflowed))
+        return _parted(_apply(bits, move, errors), overflowed)
 
     @overload
     def enclose(self, numerals: Numeral, *,  # type: ignore[misc]
@@ -289,15 +304,8 @@ class Format:
         >>> Format("I4F4").enclose("3.14"), Format("I4F4").enclose(3.125)
         ((50, 51), (50, 50))
         """
-        how = reading(radix, "checked", "floor")
-
-        def one(item: Any) -> tuple[int, int]:
-            text, base = numeral_of(item, how.radix, self.frac)
-            code, low, high = _library.enclose_text(text, base, self.c_format)
-            _expect(code, item)
-            return self.bits_of_c(low), self.bits_of_c(high)
-
-        return _apply(numerals, one, lambda arrays, flat: arrays.enclose(self, flat, how, one), errors)
+        down, up = (Read(self, reading(radix, "checked", mode), None, False) for mode in (Mode.FLOOR, Mode.CEIL))
+        return _apply(numerals, Enclose(self, down, up), errors)
 
     @overload
     def compare(self, bits: int, others: int, other: FormatLike | None = ..., *, errors: ErrorsLike = ...) -> int: ...
@@ -321,22 +329,15 @@ class Format:
         >>> Format("I4F4").compare(51, 3, "I8F0"), Format("I4F4").compare([47, 48], 3, "I8F0")
         (1, [-1, 0])
         """
-        right = self if other is None else Format(other)
-
-        def one(pair: Any) -> int:
-            left_bits, right_bits = self.own_bits(pair[0]), right.own_bits(pair[1], Code.BAD_OTHER_BITS)
-            code, order = _library.compare_bits(left_bits, self.c_format, right_bits, right.c_format)
-            _expect(code, pair)
-            return order
-
+        call, how = Compare(self, self if other is None else Format(other)), Errors(errors)
         if _is_array(bits) or _is_array(others):
             from . import _arrays
 
-            return _arrays.compare(bits, others, one, Errors(errors))
+            return _arrays.compare(bits, others, call, how)
         if _is_one(bits) and _is_one(others):
-            return one((bits, others))
-        pairs = (None if left is None or right is None else (left, right) for left, right in _pairs(bits, others))
-        return _each(one, pairs, Errors(errors))
+            return call.one((bits, others))
+        pairs = _pairs(bits, others)
+        return _lists.over((None if None in pair else pair for pair in pairs) if how is Errors.MASK else pairs, call, how)
 
     def text_size(self, places: int | None) -> int:
         """A length that no text of the format is above: so many places tell all its numbers apart."""
@@ -357,28 +358,6 @@ class Format:
         return bits
 
 
-@dataclass(frozen=True)
-class Move:
-    """A conversion of bits: its formats, and how."""
-
-    source: Format
-    target: Format
-    how: _library.Reading
-
-    def one(self, item: Any) -> int:
-        """The bits in the target."""
-        bits, source = self.source.own_bits(item), self.source.c_format
-        code, found = _library.convert_bits(bits, source, self.target.c_format, self.how)
-        _expect(code, item)
-        return self.target.bits_of_c(found)
-
-
-def _expect(code: int, item: Any) -> None:
-    """Raises what a code says of an item."""
-    if code:
-        raise FixedError(code, brief(item))
-
-
 def _is_array(given: Any) -> bool:
     """Whether numpy takes it as an array; numbers and texts of numpy are single items."""
     return hasattr(given, "__array__") and not isinstance(given, (str, bytes, Number))
@@ -388,39 +367,21 @@ def _is_one(given: Any) -> bool:
     return isinstance(given, (str, bytes, bytearray)) or not isinstance(given, Iterable)
 
 
-def _apply(
-    given: Any,
-    one: Callable[[Any], Any],
-    whole: Callable[[Any, Any], Any],
-    errors: ErrorsLike,
-    together: Callable[[list[Any]], list[Any] | None] = lambda _: None,
-) -> Any:
-    """What is found for an item, an iterable or an array; `whole` takes the module of arrays and a flat array."""
+def _apply(given: Any, call: _arrays.Call, errors: ErrorsLike) -> Any:
+    """What a call finds for an item, an iterable or an array."""
     how = Errors(errors)
     if _is_array(given):
         from . import _arrays
 
-        return _arrays.over(given, functools.partial(whole, _arrays), how)
-    if _is_one(given):
-        return one(given)
-    listed, found = list(given), []
-    for start in range(0, len(listed), PART):
-        part = listed[start : start + PART]
-        found += together(part) or _each(one, part, how, start)
-    return found
+        return _arrays.over(given, call, how)
+    return call.one(given) if _is_one(given) else _lists.over(given, call, how)
 
 
-def _each(one: Callable[[Any], Any], items: Iterable[Any], errors: Errors, start: int = 0) -> list[Any]:
-    """What is found for each item. Under mask, what is refused is None, and None stays."""
-    found: list[Any] = []
-    for index, item in enumerate(items, start):
-        try:
-            found.append(None if item is None and errors is Errors.MASK else one(item))
-        except FixedError as error:
-            if errors is Errors.RAISE:
-                raise FixedError(error.code, error.given, index) from None
-            found.append(None)
-    return found
+def _parted(found: Any, is_parted: bool) -> Any:
+    """A list of pairs as a pair of lists, if that is asked for."""
+    if not is_parted or not isinstance(found, list):
+        return found
+    return [pair and pair[0] for pair in found], [pair and pair[1] for pair in found]
 
 
 def _pairs(left: Any, right: Any) -> Iterable[tuple[Any, Any]]:

@@ -8,13 +8,11 @@ from __future__ import annotations
 import ctypes
 import os
 import pathlib
-from ctypes import POINTER, addressof, byref, c_char_p, c_int32, c_int64, c_size_t, c_uint32, c_uint64, c_void_p
-from typing import Any, NamedTuple, cast
+from ctypes import POINTER, byref, c_char_p, c_double, c_int32, c_int64, c_size_t, c_uint32, c_void_p
+from typing import Any, NamedTuple
 
 ABI = 1
-# The longest text that is read as a row among rows of Python's own.
-ROW_SIZE = 48
-TEXT_SIZE, PLACES_SIZE, MESSAGE_SIZE = 49, 87, 48
+TEXT_SIZE, PLACES_SIZE, MESSAGE_SIZE, WORD_SIZE = 49, 87, 48, 9
 
 
 class CFormat(ctypes.Structure):
@@ -43,22 +41,38 @@ class Reading(NamedTuple):
     mode: int
 
 
+class Places(NamedTuple):
+    """How many places a text has, and the code of the mode that rounds it."""
+
+    places: int
+    mode: int
+
+
 # An address and a count; and an address, a count of bytes, and how many of them a row has.
 _SLICE = (c_void_p, c_size_t)
 _TEXTS = (c_void_p, c_size_t, c_size_t)
 _CALLS: dict[str, tuple[Any, ...]] = {
     "fixed_read_text": (c_char_p, c_size_t, c_uint32, CFormat, c_uint32, c_uint32, POINTER(CNumber)),
     "fixed_print_bits": (c_int64, CFormat, c_void_p, c_size_t, POINTER(c_size_t)),
-    "fixed_print_places": (c_int64, CFormat, c_uint32, c_char_p, c_size_t, POINTER(c_size_t)),
+    "fixed_print_places_mode": (c_int64, CFormat, c_uint32, c_uint32, c_char_p, c_size_t, POINTER(c_size_t)),
     "fixed_convert_bits_mode": (c_int64, CFormat, CFormat, c_uint32, c_uint32, POINTER(CNumber)),
     "fixed_compare_bits": (c_int64, CFormat, c_int64, CFormat, POINTER(c_int32)),
     "fixed_enclose_text": (c_char_p, c_size_t, c_uint32, CFormat, POINTER(CEnclosure)),
     "fixed_format_of_word": (c_char_p, c_size_t, POINTER(CFormat)),
+    "fixed_word_of_format": (CFormat, c_char_p, c_size_t, POINTER(c_size_t)),
     "fixed_message": (c_uint32, c_char_p, c_size_t, POINTER(c_size_t)),
     "fixed_abi": (),
+    "fixed_version": (),
     "fixed_read_rows": (*_TEXTS, c_uint32, CFormat, c_uint32, c_uint32, *_SLICE, *_SLICE, POINTER(c_size_t)),
     "fixed_print_rows": (*_SLICE, CFormat, *_TEXTS, *_SLICE, POINTER(c_size_t)),
     "fixed_convert_rows": (*_SLICE, CFormat, CFormat, c_uint32, c_uint32, *_SLICE, *_SLICE, POINTER(c_size_t)),
+    "fixed_read_double": (c_double, CFormat, c_uint32, c_uint32, POINTER(CNumber)),
+    "fixed_read_doubles": (*_SLICE, CFormat, c_uint32, c_uint32, *_SLICE, *_SLICE, POINTER(c_size_t)),
+    "fixed_read_floats": (*_SLICE, CFormat, c_uint32, c_uint32, *_SLICE, *_SLICE, POINTER(c_size_t)),
+    "fixed_double_of_bits": (c_int64, CFormat, POINTER(c_double)),
+    "fixed_doubles_of_bits": (*_SLICE, CFormat, *_SLICE, *_SLICE, POINTER(c_size_t)),
+    "fixed_print_places_rows": (*_SLICE, CFormat, c_uint32, c_uint32, *_TEXTS, *_SLICE, POINTER(c_size_t)),
+    "fixed_compare_rows": (*_SLICE, CFormat, *_SLICE, CFormat, *_SLICE, *_SLICE, POINTER(c_size_t)),
 }
 
 
@@ -83,11 +97,25 @@ def _load() -> ctypes.CDLL:
 _C = _load()
 
 
-def read_text(text: bytes, form: CFormat, how: Reading) -> tuple[int, int]:
-    """The code and the bits of a numeral in a format."""
+def read_text(text: bytes, form: CFormat, how: Reading) -> tuple[int, int, bool]:
+    """The code and the bits of a numeral in a format, and whether it was out of range."""
     number = CNumber()
     code = _C.fixed_read_text(text, len(text), how.radix, form, how.policy, how.mode, byref(number))
-    return code, number.bits
+    return code, number.bits, number.overflowed != 0
+
+
+def read_double(value: float, form: CFormat, how: Reading) -> tuple[int, int, bool]:
+    """The same of a float."""
+    number = CNumber()
+    code = _C.fixed_read_double(value, form, how.policy, how.mode, byref(number))
+    return code, number.bits, number.overflowed != 0
+
+
+def double_of_bits(bits: int, form: CFormat) -> tuple[int, float]:
+    """The code and the float nearest to the value of bits."""
+    value = c_double()
+    code = _C.fixed_double_of_bits(bits, form, byref(value))
+    return code, value.value
 
 
 def print_bits(bits: int, form: CFormat) -> tuple[int, str]:
@@ -97,18 +125,18 @@ def print_bits(bits: int, form: CFormat) -> tuple[int, str]:
     return code, out.value.decode("ascii")
 
 
-def print_places(bits: int, form: CFormat, places: int) -> tuple[int, str]:
-    """The code and the decimal of that many places, 0 to 64."""
+def print_places(bits: int, form: CFormat, places: int, mode: int) -> tuple[int, str]:
+    """The code and the decimal of that many places, 0 to 64, rounded in a mode."""
     out, count = ctypes.create_string_buffer(PLACES_SIZE), c_size_t()
-    code = _C.fixed_print_places(bits, form, places, out, PLACES_SIZE, byref(count))
+    code = _C.fixed_print_places_mode(bits, form, places, mode, out, PLACES_SIZE, byref(count))
     return code, out.value.decode("ascii")
 
 
-def convert_bits(bits: int, source: CFormat, target: CFormat, how: Reading) -> tuple[int, int]:
-    """The code and the bits of the target."""
+def convert_bits(bits: int, source: CFormat, target: CFormat, how: Reading) -> tuple[int, int, bool]:
+    """The code and the bits of the target, and whether the number was out of its range."""
     number = CNumber()
     code = _C.fixed_convert_bits_mode(bits, source, target, how.policy, how.mode, byref(number))
-    return code, number.bits
+    return code, number.bits, number.overflowed != 0
 
 
 def compare_bits(left: int, left_form: CFormat, right: int, right_form: CFormat) -> tuple[int, int]:
@@ -132,6 +160,18 @@ def format_of_word(word: bytes) -> tuple[int, CFormat]:
     return code, form
 
 
+def word_of_format(form: CFormat) -> str:
+    """The word of a format that is one."""
+    out, count = ctypes.create_string_buffer(WORD_SIZE), c_size_t()
+    _C.fixed_word_of_format(form, out, WORD_SIZE, byref(count))
+    return out.value.decode("ascii")
+
+
+def version() -> int:
+    """The version of the library: that of its second part in hundreds, of its first in ten thousands."""
+    return int(_C.fixed_version())
+
+
 def message(code: int) -> str:
     """The message of a code."""
     out, count = ctypes.create_string_buffer(MESSAGE_SIZE), c_size_t()
@@ -139,55 +179,54 @@ def message(code: int) -> str:
     return out.value.decode("ascii")
 
 
-# The calls over rows take addresses of arrays: of `count` rows of `size` bytes, of int64 bits, of records of a CNumber,
-# and of uint32 codes, one for each row. Each gives its own code and how many rows were refused.
+# The calls over rows take addresses of arrays: of `count` rows of `size` bytes, of int64 bits, of floats, of records of
+# a CNumber, of int32 orders, and of uint32 codes, one for each row. Each gives how many of the rows were refused.
 
 
-def read_rows(
-    rows: int, size: int, count: int, form: CFormat, how: Reading, numbers: int, codes: int
-) -> tuple[int, int]:
+def _over_rows(name: str, *given: Any) -> int:
+    refused = c_size_t()
+    code = getattr(_C, name)(*given, byref(refused))
+    if code:
+        raise RuntimeError(message(code))
+    return refused.value
+
+
+def read_rows(rows: int | bytes, size: int, count: int, form: CFormat, how: Reading, numbers: int, codes: int) -> int:
     """Reads a numeral from each row."""
-    refused = c_size_t()
     given = rows, size * count, size, how.radix, form, how.policy, how.mode
-    code = _C.fixed_read_rows(*given, numbers, count, codes, count, byref(refused))
-    return code, refused.value
+    return _over_rows("fixed_read_rows", *given, numbers, count, codes, count)
 
 
-def print_rows(bits: int, count: int, form: CFormat, rows: int, size: int, codes: int) -> tuple[int, int]:
-    """Prints each of the bits into a row."""
-    refused = c_size_t()
-    code = _C.fixed_print_rows(bits, count, form, rows, size * count, size, codes, count, byref(refused))
-    return code, refused.value
+def read_floats(size: int, values: int, count: int, form: CFormat, how: Reading, numbers: int, codes: int) -> int:
+    """Reads each of some floats of 4 or 8 bytes."""
+    name = "fixed_read_floats" if size == 4 else "fixed_read_doubles"
+    return _over_rows(name, values, count, form, how.policy, how.mode, numbers, count, codes, count)
+
+
+def floats_of_rows(bits: int, count: int, form: CFormat, values: int, codes: int) -> int:
+    """The floats of 8 bytes nearest to the values of bits."""
+    return _over_rows("fixed_doubles_of_bits", bits, count, form, values, count, codes, count)
+
+
+def print_rows(bits: int, count: int, form: CFormat, to_places: Places | None, rows: int, size: int, codes: int) -> int:
+    """Prints each of the bits into a row: the shortest decimal, or one with a count of places."""
+    to = rows, size * count, size, codes, count
+    if to_places is None:
+        return _over_rows("fixed_print_rows", bits, count, form, *to)
+    return _over_rows("fixed_print_places_rows", bits, count, form, *to_places, *to)
+
+
+def compare_rows(
+    left: int, left_form: CFormat, right: int, right_form: CFormat, count: int, orders: int, codes: int
+) -> int:
+    """The order of each of some bits and of others."""
+    given = left, count, left_form, right, count, right_form
+    return _over_rows("fixed_compare_rows", *given, orders, count, codes, count)
 
 
 def convert_rows(
     bits: int, count: int, source: CFormat, target: CFormat, how: Reading, numbers: int, codes: int
-) -> tuple[int, int]:
+) -> int:
     """Converts each of the bits, by the policy and the mode."""
-    refused = c_size_t()
     given = bits, count, source, target, how.policy, how.mode
-    code = _C.fixed_convert_rows(*given, numbers, count, codes, count, byref(refused))
-    return code, refused.value
-
-
-def read_texts(texts: list[bytes], form: CFormat, how: Reading) -> list[int] | None:
-    """The bits of numerals by one call; None where one of them is refused, or cannot be a row."""
-    size, count = max(map(len, texts)), len(texts)
-    if size > ROW_SIZE or b"\0" in b"".join(texts):
-        return None
-    rows = ctypes.create_string_buffer(b"".join([text.ljust(size, b"\0") for text in texts]))
-    # A record is as long as two of its bits, which are its first part.
-    numbers, codes = ((c_int64 if form.is_signed else c_uint64) * (2 * count))(), (c_uint32 * count)()
-    code, refused = read_rows(addressof(rows), size, count, form, how, addressof(numbers), addressof(codes))
-    return None if code or refused else cast("list[int]", numbers[::2])
-
-
-def print_texts(bits: list[int], form: CFormat, size: int) -> list[str] | None:
-    """The texts of bits, each with a zero byte of at most that size; None where one of them is refused."""
-    count = len(bits)
-    words, codes, rows = (c_int64 * count)(*bits), (c_uint32 * count)(), ctypes.create_string_buffer(size * count)
-    code, refused = print_rows(addressof(words), count, form, addressof(rows), size, addressof(codes))
-    if code or refused:
-        return None
-    text = rows.raw.decode("ascii")
-    return [text[start : start + size].rstrip("\0") for start in range(0, len(text), size)]
+    return _over_rows("fixed_convert_rows", *given, numbers, count, codes, count)

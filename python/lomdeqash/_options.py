@@ -1,9 +1,10 @@
 """The words of options, and their codes."""
 from __future__ import annotations
 
+import decimal
 import enum
 import operator
-from typing import TypeVar, Union
+from typing import Literal, TypeVar, Union
 
 from . import _errors, _library
 
@@ -23,6 +24,16 @@ class Mode(enum.Enum):
     FLOOR = "floor"  #: down
     CEIL = "ceil"  #: up
     ZERO = "zero"  #: towards zero
+    TIES_AWAY = "ties-away"  #: to the nearest, ties away from zero
+    TIES_ZERO = "ties-zero"  #: to the nearest, ties towards zero
+    TIES_UP = "ties-up"  #: to the nearest, ties up
+    TIES_DOWN = "ties-down"  #: to the nearest, ties down
+    AWAY = "away"  #: away from zero
+
+    @classmethod
+    def _missing_(cls, value: object) -> Mode | None:
+        """The mode that a constant of `decimal` means, such as `ROUND_HALF_UP`."""
+        return cls(_OF_DECIMAL[value]) if isinstance(value, str) and value in _OF_DECIMAL else None
 
 
 class Errors(enum.Enum):
@@ -32,9 +43,25 @@ class Errors(enum.Enum):
     MASK = "mask"  #: it becomes None in a list, and is masked in an array
 
 
+_OF_DECIMAL = {
+    decimal.ROUND_HALF_EVEN: "nearest",
+    decimal.ROUND_HALF_UP: "ties-away",
+    decimal.ROUND_HALF_DOWN: "ties-zero",
+    decimal.ROUND_FLOOR: "floor",
+    decimal.ROUND_CEILING: "ceil",
+    decimal.ROUND_DOWN: "zero",
+    decimal.ROUND_UP: "away",
+}
+
 _Option = TypeVar("_Option", Policy, Mode, Errors)
-PolicyLike = Union[Policy, str]
-ModeLike = Union[Mode, str]
+PolicyLike = Union[Policy, Literal["checked", "saturating", "wrapping"]]
+ModeWord = Literal["nearest", "ties-away", "ties-zero", "ties-up", "ties-down", "floor", "ceil", "zero", "away"]
+DecimalWord = Literal["ROUND_HALF_EVEN", "ROUND_HALF_UP", "ROUND_HALF_DOWN", "ROUND_FLOOR", "ROUND_CEILING",
+                      "ROUND_DOWN", "ROUND_UP"]
+ModeLike = Union[Mode, ModeWord, DecimalWord]
+Raise = Literal["raise", Errors.RAISE]
+Mask = Literal["mask", Errors.MASK]
+ErrorsLike = Union[Raise, Mask]
 
 
 def _place(kind: type[_Option], word: _Option | str, code: _errors.Code) -> int:
@@ -46,9 +73,14 @@ def _place(kind: type[_Option], word: _Option | str, code: _errors.Code) -> int:
         raise _errors.FixedError(code, f"{_errors.brief(word)} is none of {words}") from None
 
 
+def mode_code(mode: ModeLike) -> int:
+    """The code of a mode in C."""
+    return _place(Mode, mode, _errors.Code.BAD_MODE)
+
+
 def reading(radix: int, policy: PolicyLike, mode: ModeLike) -> _library.Reading:
     """How numerals are read."""
     if operator.index(radix) not in (2, 8, 10, 16):
         raise _errors.FixedError(_errors.Code.BAD_RADIX, f"{_errors.brief(radix)} is none of 2, 8, 10, 16")
-    codes = _place(Policy, policy, _errors.Code.BAD_POLICY), _place(Mode, mode, _errors.Code.BAD_MODE)
+    codes = _place(Policy, policy, _errors.Code.BAD_POLICY), mode_code(mode)
     return _library.Reading(radix, *codes)

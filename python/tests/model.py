@@ -4,18 +4,26 @@ from __future__ import annotations
 import math
 from collections.abc import Callable
 from fractions import Fraction
-from typing import NamedTuple
+from typing import Literal, NamedTuple
 
 from hypothesis import strategies as st
 from lomdeqash import FixedError, Format
 
-ROUND: dict[str, Callable[[Fraction], int]] = {
+ModeWord = Literal["nearest", "ties-away", "ties-zero", "ties-up", "ties-down", "floor", "ceil", "zero", "away"]
+PolicyWord = Literal["checked", "saturating", "wrapping"]
+HALF = Fraction(1, 2)
+ROUND: dict[ModeWord, Callable[[Fraction], int]] = {
     "nearest": round,
+    "ties-away": lambda value: math.floor(value + HALF) if value >= 0 else math.ceil(value - HALF),
+    "ties-zero": lambda value: math.ceil(value - HALF) if value >= 0 else math.floor(value + HALF),
+    "ties-up": lambda value: math.floor(value + HALF),
+    "ties-down": lambda value: math.ceil(value - HALF),
+    "away": lambda value: math.ceil(value) if value >= 0 else math.floor(value),
     "floor": math.floor,
     "ceil": math.ceil,
     "zero": math.trunc,
 }
-POLICIES = ("checked", "saturating", "wrapping")
+POLICIES: tuple[PolicyWord, ...] = ("checked", "saturating", "wrapping")
 DIGITS = {2: "01", 8: "01234567", 10: "0123456789", 16: "0123456789abcdefABCDEF"}
 
 
@@ -84,7 +92,7 @@ def values_near(draw: st.DrawFn, form: Format) -> Fraction:
     return (halves + beside) / (2 << form.frac)
 
 
-def image(form: Format, number: int, policy: str) -> int | None:
+def image(form: Format, number: int, policy: PolicyWord) -> int | None:
     """What a policy makes of a number."""
     if form.min_bits <= number <= form.max_bits:
         return number
@@ -95,7 +103,7 @@ def image(form: Format, number: int, policy: str) -> int | None:
     return form.min_bits + (number - form.min_bits) % (1 << form.width)
 
 
-def read(form: Format, value: Fraction, policy: str = "checked", mode: str = "nearest") -> int | None:
+def read(form: Format, value: Fraction, policy: PolicyWord = "checked", mode: ModeWord = "nearest") -> int | None:
     return image(form, ROUND[mode](value * (1 << form.frac)), policy)
 
 

@@ -10,8 +10,8 @@ import model
 import pytest
 from hypothesis import given
 from hypothesis import strategies as st
-from lomdeqash import Code, FixedError, Format
-from model import formats, numerals
+from lomdeqash import Code, FixedError, FixedTypeError, Format
+from model import ModeWord, PolicyWord, formats, numerals
 
 np = pytest.importorskip("numpy")
 
@@ -94,7 +94,7 @@ def test_bits(dtype: Any, layout: str) -> None:
 
 
 @given(formats(), st.lists(numerals().filter(lambda it: it.radix == 16), max_size=20), policies, modes)
-def test_texts_of_any_format(form: Format, listed: list[model.Numeral], policy: str, mode: str) -> None:
+def test_texts_of_any_format(form: Format, listed: list[model.Numeral], policy: PolicyWord, mode: ModeWord) -> None:
     wanted = [model.read(form, each.value, policy, mode) for each in listed]
     for dtype in ("S", "U", object):
         given_ = np.array([each.text for each in listed], dtype)
@@ -103,13 +103,13 @@ def test_texts_of_any_format(form: Format, listed: list[model.Numeral], policy: 
 
 
 @given(formats(), st.lists(st.floats(), max_size=20), policies, modes)
-def test_floats_of_any_format(form: Format, listed: list[float], policy: str, mode: str) -> None:
+def test_floats_of_any_format(form: Format, listed: list[float], policy: PolicyWord, mode: ModeWord) -> None:
     found = form.read(np.array(listed, np.float64), policy=policy, mode=mode, errors="mask")
     assert found.tolist() == form.read(listed, policy=policy, mode=mode, errors="mask")
 
 
 @given(formats(), st.data(), policies)
-def test_integers_of_any_format(form: Format, data: st.DataObject, policy: str) -> None:
+def test_integers_of_any_format(form: Format, data: st.DataObject, policy: PolicyWord) -> None:
     dtype = data.draw(st.sampled_from(INTEGERS[:-1]))
     ends = np.iinfo(dtype)
     listed = data.draw(st.lists(st.integers(int(ends.min), int(ends.max)), max_size=20))
@@ -128,7 +128,9 @@ def test_integers_of_any_format(form: Format, data: st.DataObject, policy: str) 
 
 
 @given(formats(), formats(), policies, modes, st.data())
-def test_bits_of_any_format(form: Format, target: Format, policy: str, mode: str, data: st.DataObject) -> None:
+def test_bits_of_any_format(
+    form: Format, target: Format, policy: PolicyWord, mode: ModeWord, data: st.DataObject
+) -> None:
     listed = data.draw(st.lists(model.bits_of(form), max_size=20))
     given_ = np.array(listed, form.dtype)
     assert form.text(given_).tolist() == form.text(listed)
@@ -289,6 +291,63 @@ def test_characters_that_are_none() -> None:
     assert FORM.read(given_, errors="mask").tolist() == [16, None, None]
     with pytest.raises(TypeError):
         FORM.compare(1, given_)
+
+
+def test_values_of_numpys_floats() -> None:
+    found = FORM.value(np.array([1, 2], np.int8), np.float64)
+    assert found.dtype == np.float64 and found.tolist() == [0.0625, 0.125]
+    for each in (FORM.value(1, np.float64), *FORM.value([1], np.float64)):
+        assert type(each) is np.float64 and each == 0.0625
+    with pytest.raises(TypeError):
+        FORM.value(1, np.int64)
+
+
+@pytest.mark.parametrize("dtype", ["S", "U", object, "f4", "f8", "i2"])
+def test_arrays_say_what_was_out_of_range(dtype: Any) -> None:
+    given_ = np.array([[1, 9], [-200, 7]]).astype(dtype)
+    bits, is_out = FORM.read(given_, policy="saturating", overflowed=True)
+    assert bits.tolist() == [[16, 127], [-128, 112]] and bits.dtype == np.int8
+    assert is_out.tolist() == [[False, True], [True, False]] and is_out.dtype == np.bool_
+    bits, is_out = FORM.read(given_, policy="saturating", target="I2F6", overflowed=True)
+    assert bits.tolist() == [[64, 127], [-128, 127]] and is_out.tolist() == [[False, True], [True, True]]
+    bits, is_out = Format("I12F4").convert(np.array([16, 2000]), "I4F4", policy="wrapping", overflowed=True)
+    assert bits.tolist() == [16, -48] and is_out.tolist() == [False, True]
+
+
+@pytest.mark.parametrize("dtype", ["f2", "f4", ">f8", "longdouble", object])
+def test_floats_that_are_not_finite(dtype: Any) -> None:
+    given_ = np.array([0.5, np.nan, -np.inf]).astype(dtype)
+    calls: list[Callable[[Any], Any]] = [FORM.read, FORM.enclose, lambda it: FORM.read(it, target="I8F8")]
+    for call in calls:
+        with pytest.raises(FixedError) as found:
+            call(given_)
+        assert (found.value.code, found.value.index) == (Code.NOT_FINITE, 1)
+    assert FORM.read(given_, policy="saturating", errors="mask").tolist() == [8, None, None]
+    assert [FORM.read([item], errors="mask") for item in given_] == [[8], [None], [None]]
+
+
+def test_objects_of_other_types_have_their_index() -> None:
+    for given_, index in ((np.array(["1", None], object), 1), (np.array([["1", 2], [None, 3]], object), (1, 0))):
+        with pytest.raises(FixedTypeError) as found:
+            FORM.read(given_)
+        assert found.value.index == index
+    with pytest.raises(FixedError) as error:
+        FORM.read(np.array([1, np.nan]))
+    assert error.value.index == 1
+
+
+def test_long_bits_are_shown_by_their_size() -> None:
+    calls: list[Callable[[], Any]] = [
+        lambda: FORM.text(np.array([1, 10**5000], object)),
+        lambda: FORM.compare(np.array([1, 1]), 10**5000),
+    ]
+    for call in calls:
+        with pytest.raises(FixedError) as found:
+            call()
+        assert found.value.given == "a number of 16610 bits"
+    with pytest.raises(FixedError) as found:
+        FORM.read(np.array([1, Fraction(10**5000, 3)], object))
+    assert (found.value.index, found.value.given) == (1, "Fraction(a number of 16610 bits, 3)")
 
 
 def test_order_of_arrays() -> None:

@@ -6,10 +6,11 @@ import pickle
 import re
 from collections.abc import Callable
 from decimal import Decimal
+from fractions import Fraction
 from typing import Any
 
 import pytest
-from lomdeqash import Code, Errors, FixedError, Format
+from lomdeqash import Code, Errors, FixedError, FixedTypeError, Format
 
 FORM = Format("I4F4")
 CALLS: list[Callable[[Any], Any]] = [
@@ -66,6 +67,49 @@ def test_masking() -> None:
     assert FORM.compare([1, None, 999], 1, errors="mask") == [0, None, None]
     with pytest.raises(FixedError):
         FORM.read("x", errors="mask")
+
+
+def test_an_item_of_no_such_type_has_its_index() -> None:
+    calls: list[tuple[Callable[[], Any], int]] = [
+        (lambda: FORM.read(["1", None]), 1),  # type: ignore[list-item]
+        (lambda: FORM.read([*["1"] * 10_000, None, "x"]), 10_000),  # type: ignore[list-item]
+        (lambda: FORM.text([1, 2, 2.5]), 2),  # type: ignore[list-item]
+        (lambda: FORM.compare([1, None], 2), 1),  # type: ignore[list-item]
+        (lambda: FORM.read(["1", object()], errors="mask"), 1),  # type: ignore[call-overload]
+    ]
+    for call, index in calls:
+        with pytest.raises(FixedTypeError) as found:
+            call()
+        assert found.value.index == index and str(found.value).endswith(f" at {index}")
+        assert str(pickle.loads(pickle.dumps(found.value))) == str(found.value)
+    with pytest.raises(FixedError) as error:
+        FORM.read(["1", float("nan")])
+    assert error.value.index == 1
+
+
+def test_the_first_of_errors_of_two_kinds_is_raised() -> None:
+    cases: list[tuple[list[Any], Any]] = [
+        (["1", "x", None], FixedError),
+        (["1", None, "x"], FixedTypeError),
+        ([1, 1e9, None], FixedError),
+    ]
+    for items, kind in cases:
+        with pytest.raises(kind) as found:
+            FORM.read(items)
+        assert found.value.index == 1
+
+
+def test_a_long_number_is_shown_by_its_size() -> None:
+    long = Fraction(10**5000 + 1, 3)
+    lists: list[list[int | Fraction]] = [[long], [1, long]]
+    for items in lists:
+        with pytest.raises(FixedError) as found:
+            FORM.read(items)
+        assert found.value.given == "Fraction(a number of 16610 bits, 3)" and found.value.code is Code.OVERFLOW
+    assert FORM.read([1, long], errors="mask") == [16, None]
+    with pytest.raises(FixedError) as found:
+        FORM.compare([1], [10**5000])
+    assert found.value.given == "a number of 16610 bits" and found.value.index == 0
 
 
 @pytest.mark.parametrize("bits", [128, -129, 1 << 64, -(1 << 64), (1 << 64) - 1, 10**100])

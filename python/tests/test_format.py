@@ -4,9 +4,10 @@ from __future__ import annotations
 import copy
 import pickle
 
+import lomdeqash
 import pytest
 from hypothesis import given
-from lomdeqash import Code, FixedError, Format
+from lomdeqash import Code, FixedError, Format, _library
 from model import formats
 
 
@@ -24,8 +25,7 @@ def test_a_format_is_its_name(form: Format) -> None:
         ("q31", "I1F31"),
         ("Q8.8", "I8F8"),
         ("UQ8.8", "U8F8"),
-        ("uq16", "U0F16"),
-        ("Q0.8", "I0F8"),
+        ("q1.7", "I1F7"),
         ("i1f15", "I1F15"),
     ],
 )
@@ -49,6 +49,10 @@ def test_names_of_other_tools(word: str, name: str) -> None:
         "S1F15",
         "Q",
         "Q8.",
+        "Q0.8",
+        "Q0.15",
+        "UQ8",
+        "uq15",
         "\u0661",
         "I\u0664F\u0664",
         "I8F8\n",
@@ -72,6 +76,11 @@ def test_order() -> None:
 def test_a_format_stays() -> None:
     with pytest.raises(AttributeError):
         Format("I4F4").frac = 3  # type: ignore[misc]
+
+
+def test_the_version_is_that_of_the_library() -> None:
+    numbers = [int(part) for part in lomdeqash.__version__.split(".")]
+    assert numbers[0] * 10_000 + numbers[1] * 100 + numbers[2] == _library.version()
 
 
 def test_a_format_is_a_word() -> None:

@@ -2,21 +2,23 @@
 from __future__ import annotations
 
 import math
+from collections.abc import Callable
 from decimal import Decimal
 from fractions import Fraction
+from typing import Any
 
 import model
 import pytest
 from hypothesis import given
 from hypothesis import strategies as st
 from lomdeqash import Code, FixedError, Format, Mode, Policy
-from model import Numeral, formats, formats_with_bits, numerals, values_near
+from model import ModeWord, Numeral, PolicyWord, formats, formats_with_bits, numerals, values_near
 
 modes, policies = st.sampled_from(list(model.ROUND)), st.sampled_from(model.POLICIES)
 
 
 @given(formats(), numerals(), policies, modes)
-def test_reading(form: Format, numeral: Numeral, policy: str, mode: str) -> None:
+def test_reading(form: Format, numeral: Numeral, policy: PolicyWord, mode: ModeWord) -> None:
     wanted = model.read(form, numeral.value, policy, mode)
     assert form.read([numeral.text], radix=numeral.radix, policy=policy, mode=mode, errors="mask") == [wanted]
     found = form.read(
@@ -26,7 +28,7 @@ def test_reading(form: Format, numeral: Numeral, policy: str, mode: str) -> None
 
 
 @given(st.data(), formats(), policies, modes)
-def test_reading_near_ties(data: st.DataObject, form: Format, policy: str, mode: str) -> None:
+def test_reading_near_ties(data: st.DataObject, form: Format, policy: PolicyWord, mode: ModeWord) -> None:
     value = data.draw(values_near(form))
     wanted = [model.read(form, value, policy, mode)]
     assert form.read([value], policy=policy, mode=mode, errors="mask") == wanted
@@ -48,7 +50,7 @@ def test_reading_near_ties(data: st.DataObject, form: Format, policy: str, mode:
     modes,
 )
 def test_numbers_come_in_by_their_exact_value(
-    form: Format, number: int | float | Fraction | Decimal, policy: str, mode: str
+    form: Format, number: int | float | Fraction | Decimal, policy: PolicyWord, mode: ModeWord
 ) -> None:
     assert form.read([number], policy=policy, mode=mode, errors="mask") == [
         model.read(form, Fraction(number), policy, mode)
@@ -57,7 +59,7 @@ def test_numbers_come_in_by_their_exact_value(
 
 @given(formats(), formats(), numerals(), policies, modes, modes)
 def test_reading_into_a_target(
-    form: Format, target: Format, numeral: Numeral, policy: str, mode: str, target_mode: str
+    form: Format, target: Format, numeral: Numeral, policy: PolicyWord, mode: ModeWord, target_mode: ModeWord
 ) -> None:
     wanted = model.read(form, numeral.value, policy, mode)
     if wanted is not None:
@@ -75,7 +77,7 @@ def test_reading_into_a_target(
 
 
 @given(formats_with_bits(), formats(), policies, modes)
-def test_converting(pair: tuple[Format, int], target: Format, policy: str, mode: str) -> None:
+def test_converting(pair: tuple[Format, int], target: Format, policy: PolicyWord, mode: ModeWord) -> None:
     form, bits = pair
     wanted = model.read(target, model.value(form, bits), policy, mode)
     assert form.convert([bits], target, policy=policy, target_mode=mode, errors="mask") == [wanted]
@@ -140,7 +142,79 @@ def test_iterables() -> None:
         form.compare([1, 2], [1])
 
 
-@pytest.mark.parametrize("count", [1, 1023, 1024, 1025, 3000])
+@given(
+    st.data(),
+    formats(),
+    st.lists(
+        st.one_of(
+            st.text("0123456789.-e \0\u0661", max_size=8),
+            st.binary(max_size=4),
+            st.integers(),
+            st.floats(),
+            st.decimals(),
+            st.fractions(),
+            st.booleans(),
+            st.none(),
+        ),
+        max_size=40,
+    ),
+    policies,
+    modes,
+)
+def test_a_list_is_its_items_one_by_one(
+    data: st.DataObject, form: Format, items: list[Any], policy: PolicyWord, mode: ModeWord
+) -> None:
+    def alone(item: Any) -> Any:
+        try:
+            return None if item is None else form.read(item, policy=policy, mode=mode, overflowed=True)
+        except FixedError:
+            return None
+
+    pairs = [alone(item) for item in items]
+    bits, is_out = form.read(items, policy=policy, mode=mode, overflowed=True, errors="mask")
+    assert list(zip(bits, is_out)) == [pair or (None, None) for pair in pairs]
+    assert form.read(items, policy=policy, mode=mode, errors="mask") == bits
+    target = data.draw(formats())
+    moved = [pair and form.convert([pair[0]], target, policy=policy, errors="mask")[0] for pair in pairs]
+    assert form.read(items, policy=policy, mode=mode, target=target, errors="mask") == moved
+
+
+@given(formats(), numerals(), policies, modes)
+def test_whether_a_number_was_out_of_range(
+    form: Format, numeral: Numeral, policy: PolicyWord, mode: ModeWord
+) -> None:
+    bits, is_out = form.read(
+        [numeral.text], radix=numeral.radix, policy=policy, mode=mode, overflowed=True, errors="mask"
+    )
+    wanted = model.read(form, numeral.value, policy, mode)
+    held = model.read(form, numeral.value, "checked", mode)
+    assert (bits, is_out) == ([wanted], [None if wanted is None else held is None])
+
+
+def test_overflows_of_either_step_are_told() -> None:
+    form = Format("I8F8")
+    numerals_ = ["1", "9", "200"]
+    found = form.read(numerals_, policy="saturating", target="I4F4", overflowed=True)
+    assert found == ([16, 127, 127], [False, True, True])
+    assert [form.read(it, policy="saturating", target="I4F4", overflowed=True) for it in numerals_] == list(zip(*found))
+    assert form.convert([256, 2304], "I4F4", policy="wrapping", overflowed=True) == ([16, -112], [False, True])
+    assert form.convert(2304, "I4F4", policy="wrapping", overflowed=True) == (-112, True)
+
+
+def test_decimals_of_long_exponents() -> None:
+    form = Format("I4F4")
+    great, small = Decimal("7e3000000000"), Decimal("-7e-3000000000")
+    for given_ in ([great], [Decimal(1), great]):
+        with pytest.raises(FixedError) as found:
+            form.read(given_)
+        assert found.value.code is Code.OVERFLOW
+    listed = [great, great.copy_negate(), small, small.copy_negate(), Decimal("0e3000000000"), Decimal(1)]
+    assert form.read(listed, policy="saturating", mode="floor") == [127, -128, -1, 0, 0, 16]
+    assert form.read(listed, policy="wrapping", mode="ceil") == [0, 0, 0, 1, 0, 16]
+    assert form.enclose(listed[2:4]) == [(-1, 0), (0, 1)]
+
+
+@pytest.mark.parametrize("count", [1, 1023, 1024, 1025, 3000, 9000])
 def test_long_lists(count: int) -> None:
     for form in (Format("I1F15"), Format("U32F32")):
         bits = [(at * 0x9E3779B97F4A7C15) % (1 << form.width) + form.min_bits for at in range(count)]
@@ -155,10 +229,18 @@ def test_long_lists(count: int) -> None:
 
 def test_numbers_without_end_or_of_great_size() -> None:
     form = Format("I16F16")
-    endless: list[str | float | Decimal] = ["nan", float("nan"), float("-inf"), Decimal("NaN"), Decimal("Infinity")]
+    endless: list[float | Decimal] = [float("nan"), float("-inf"), Decimal("NaN"), Decimal("-Infinity"), Decimal("sNaN")]
     for number in endless:
-        with pytest.raises(FixedError):
+        lists: list[list[float | Decimal]] = [[number], [1.5, Decimal(1), number]]
+        for items in lists:
+            calls: list[Callable[[Any], Any]] = [form.read, form.enclose]
+            for call in calls:
+                with pytest.raises(FixedError) as found:
+                    call(items)
+                assert (found.value.code, found.value.index) == (Code.NOT_FINITE, len(items) - 1)
+        with pytest.raises(FixedError) as found:
             form.read(number, policy="saturating")
+        assert found.value.code is Code.NOT_FINITE
     assert form.read(Decimal("1e2000000000"), policy="saturating") == form.max_bits
     assert form.read([10**5000, -(2**20000)], policy="saturating") == [form.max_bits, form.min_bits]
     assert form.read(["1e2147483647", "1e-2147483648", "0e2147483647"], policy="saturating") == [form.max_bits, 0, 0]

@@ -8,7 +8,7 @@ if TYPE_CHECKING:
     from fractions import Fraction
 
     from lomdeqash import Format
-    from numpy import int16, str_
+    from numpy import float64, int16, str_
     from numpy.typing import NDArray
     from typing_extensions import assert_type
 
@@ -34,3 +34,15 @@ if TYPE_CHECKING:
         assert_type(form.compare(1, 2, "I8F8"), int)
         assert_type(form.compare([1], 2), List[int])
         assert_type(form.compare(1, array), NDArray[Any])
+        assert_type(form.read("1", overflowed=True), Tuple[int, bool])
+        assert_type(form.read(["1"], overflowed=True), Tuple[List[int], List[bool]])
+        assert_type(form.convert(array, "I8F8", overflowed=True), Tuple[NDArray[Any], NDArray[Any]])
+        assert_type(form.value([1], float64), List[float64])
+
+    def words() -> None:
+        """Words that are none: an ignored error that is not there would be an error."""
+        form.read("1", mode="ties")  # type: ignore[call-overload]
+        form.read("1", policy="saturated")  # type: ignore[call-overload]
+        form.convert(1, "I8F8", target_mode="up")  # type: ignore[call-overload]
+        form.text([1], errors="ignore")  # type: ignore[call-overload]
+        form.text(1, dtype="O")  # type: ignore[call-overload]
