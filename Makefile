@@ -10,11 +10,14 @@
 #   make wrong-bodies [CRATE=..]   the wrong bodies that the gate leaves out, of every crate or of these
 #   make install   puts what make build and make library left below PREFIX (and DESTDIR); make uninstall removes it
 #   make library   the library for C, in build/lib; make check-library tries it; make deb makes packages, make dist an archive
+#   make doc       the reference, in build/doc: every public item with its clauses, every name in them a link
 #   make bench     times, memory and instructions; make compare: seeded inputs against the reference in oracle/
 #
-# JOBS=N: how many processes share a proof. If it is not given, processors and memory decide.
+# JOBS=N: how many proofs are made at a time. If it is not given, processors and memory decide.
+# STORE=DIR: where what was proved is kept, for every target and every clone; by default lomdeqash in the user's cache.
 
 PREFIX ?= /usr/local
+export STORE
 DESTDIR ?=
 JOBS ?= 0
 # How many seeded lines `make compare` hands over.
@@ -29,10 +32,12 @@ VECTORS := $(filter $(CRATES),fixed_vectors)
 # The processor that programs and the library for C are compiled for: x86-64 is any amd64.
 CPU ?= x86-64
 PROVE := python3 .ci/prove.py --jobs $(JOBS) --cpu $(CPU)
-# The gate, a check on each processor: rt alone reckons with more memory for a check than it takes, and leaves processors idle.
-GATE := RT_JOBS=$${RT_JOBS:-$$(python3 .ci/prove.py --processes)} rt ci
 
-.PHONY: build build/v2 try demo demo-command quick check test wrong-bodies install uninstall bench compare scale clean
+# A command that names those of some files that are not there, and how to make them; its status is 1 if there are any.
+need_files = (missing=; for file in $(1); do test -f "$$file" || missing="$$missing $$file"; done; \
+  test -z "$$missing" || { echo "Not built:$$missing: run $(2)" >&2; exit 1; })
+
+.PHONY: build build/v2 try demo demo-command quick check test wrong-bodies install uninstall doc bench compare scale clean
 .DELETE_ON_ERROR:
 
 build:
@@ -50,37 +55,44 @@ demo:
 	@$(PROVE) fixed_tool
 	@build/fixed_tool <examples/demo.txt >build/answers; test $$? -le 1
 	@paste -d '>' examples/demo.txt build/answers | sed 's/>/  ->  /'
+	@echo "These are the answers of build/fixed_tool, which is proved."
 
 demo-command:
 	@$(PROVE) fixed
 	@PATH="$(CURDIR)/build:$$PATH" sh examples/demo.sh
+	@echo "This wrote build/fixed, which is proved."
 
 quick:
 	@$(PROVE) --above $(or $(CRATE),$(error make quick CRATE=NAME))
 
-# The gate over a copy without the wrong bodies. What passes is kept for the gate.
+# Every proof, test and stored run that is not known to pass for these files.
 check:
-	@copy=$$(mktemp -d) && trap 'rm -rf "$$copy"' EXIT && \
-	  tar cf - --exclude=out --exclude=must-fail --exclude=wrong-bodies crates crates.txt HANDLES | tar xf - -C "$$copy" && \
-	  jobs=$$(python3 .ci/prove.py --processes) && cd "$$copy" && RT_JOBS=$${RT_JOBS:-$$jobs} rt ci
+	@$(PROVE) --tests
 
-# The gate: every proof, every must-fail edit, every test and every program's stored run.
+# The gate: every proof, every must-fail edit, every test and every program's stored run, from nothing, by rt ci. What it proved is kept.
 test:
-	$(GATE)
+	@$(PROVE) --gate
 
 # Those in a crate's wrong-bodies/: a change of its public clauses, or of a body that one of them edits, calls for them.
 wrong-bodies:
 	@python3 .ci/edits.py
 	@python3 .ci/wrong_bodies.py try $(CRATE)
 
-# What was built: as root, nothing is proved or built anew.
-install: install-library
-	@for program in $(PROGRAMS); do test -f "build/$$program" || { echo "$$program is not built: make build" >&2; exit 1; }; done
+# What was built: as root, nothing is proved or built anew. What is missing is named before anything is copied.
+install:
+	@$(call need_files,$(PROGRAMS:%=build/%),make build); programs=$$?; $(call need_files,$(LIBRARY),make library) && test $$programs -eq 0
+	@$(MAKE) --no-print-directory install-library
 	install -d "$(DESTDIR)$(PREFIX)/bin"
 	for program in $(PROGRAMS); do install -m 755 "build/$$program" "$(DESTDIR)$(PREFIX)/bin/$$program" || exit 1; done
+	@echo "Installed below $(DESTDIR)$(PREFIX)."
 
 uninstall: uninstall-library
 	for program in $(PROGRAMS); do rm -f "$(DESTDIR)$(PREFIX)/bin/$$program"; done
+	@echo "Removed from $(DESTDIR)$(PREFIX)."
+
+# The reference, made from the sources by python3 alone: static pages, which need no network and no script.
+doc:
+	@python3 -m apidoc --into build/doc
 
 # Times, memory and instructions of the programs and of single calls, beside C, a reference in plain Rust, and PEER (see
 # bench/measure.py). What has no compiler here is left out.
@@ -113,9 +125,12 @@ compare:
 # The recipes of docs/SCALING.md, each compared byte for byte with one process.
 scale: build
 	scale/scale.sh
+	@echo "Each recipe that was run wrote the bytes of one process."
 
+# What was built here, and what rt keeps. The store stays: it is for every clone.
 clean:
 	rm -rf build crates/*/out
+	@echo "Removed build/ and crates/*/out."
 
 include packaging/library.mk
 include packaging/python.mk

@@ -7,6 +7,7 @@ import argparse
 import os
 import resource
 import select
+import signal
 import subprocess
 import sys
 import tempfile
@@ -14,6 +15,7 @@ import tempfile
 TOP = os.path.dirname(os.path.dirname(os.path.abspath(__file__)))
 sys.path[:0] = [f"{TOP}/oracle", f"{TOP}/bench"]
 
+import column  # noqa: E402
 from compare import program  # noqa: E402
 from timing import peak  # noqa: E402
 
@@ -31,7 +33,9 @@ def refused(count, record, line, column, text, why="invalid digit found in strin
 
 def refused_bytes(text):
     """A report of a first field of bytes that are no text."""
-    return b"fixed: fields refused: 1, the first in record 1, line 1, column 1, '%s': %s, byte 1, '%s'\n" % (text, DIGIT[7:], text[:1])
+    shown = [chr(byte) if byte < 128 else f"\\x{byte:02x}" for byte in text]
+    return (f"fixed: fields refused: 1, the first in record 1, line 1, column 1, '{''.join(shown)}': {DIGIT[7:].decode()}, byte 1, "
+            f"'{shown[0]}'\n").encode()
 
 
 def stopped(record, why):
@@ -129,36 +133,81 @@ RUNS = (
     (["2", "U8F0"], b'"a\nb",1\r\n\r\n"c",2\r\n"d",x\r\n', 1, b'"a\nb",1\r\n\r\n"c",2\r\n"d",' + DIGIT + b"\r\n", refused(1, 3, 5, 2, "x")),
     (["1", "U8F0"], b"1\r2\rx\r", 1, b"1\r2\r" + DIGIT + b"\r", refused(1, 3, 3, 1, "x")),
     (["2", "U8F0", "--header"], b'"a","b ""c"""\n1,"2\n\t3"\n', 1, b'"a","b ""c"""\n1,' + DIGIT + b"\n",
-     refused(1, 2, 2, "'b \"\"c\"\"'", "2??3", "invalid digit found in string, byte 2", "?")),
+     refused(1, 2, 2, "'b \"c\"'", "2??3", "invalid digit found in string, byte 2", "?")),
     (["1", "U8F0"], b"1" * 60 + b"x\n", 1, DIGIT + b"\n", refused(1, 1, 1, 1, "1" * 40, "invalid digit found in string, byte 61", "x")),
     (["1", "I8F8", "I4F4"], b"128\n", 1, b"error: overflow\n",
      refused(1, 1, 1, 1, "128", "overflow, reached 128, I8F8 holds -128 to 127.99609375")),
     (["1", "U8F0", "--header"], b"a" * 5000 + b"\nx\n", 1, b"a" * 5000 + b"\n" + DIGIT + b"\n", refused(1, 2, 2, 1, "x")),
     (["q,1", "U8F0", "--header"], b'a,"b, c"\n1,2\n', 3, b"", b"fixed: the header has no column 'q', records answered: 0; it has 'a', 'b, c'\n"),
     (["1,q", "U8F0", "--header"], b"a\n1\n", 3, b"", b"fixed: the header has no column 'q', records answered: 0; it has 'a'\n"),
+    (["zz", "I8F8", "--header"], b'"a""b",c\n1,2\n', 3, b"", b"fixed: the header has no column 'zz', records answered: 0; it has 'a\"b', 'c'\n"),
+    (['a"b', "I8F8", "--header"], b'"a""b",c\n1.50,2\n', 0, b'"a""b",c\n1.5,2\n', b""),
+    (["zz", "I8F8", "--header"], b'"a"b,"c"""\n1,2\n', 3, b"", b"fixed: the header has no column 'zz', records answered: 0; it has 'ab', 'c\"'\n"),
+    # A header of one field in which another delimiter finds the name.
+    (["p", "I8F8", "--header"], b"n;p\n1;2\n", 3, b"", b"fixed: the header has no column 'p', records answered: 0; it has 'n;p' (is ';' the delimiter? -d ';')\n"),
+    (["p", "I8F8", "--header"], b"n\tp\n1\t2\n", 3, b"", b"fixed: the header has no column 'p', records answered: 0; it has 'n?p' (is a tab the delimiter? -d tab)\n"),
+    (["p", "I8F8", "--header", "-d", ";"], b'n,"p"\n1,2\n', 3, b"", b"fixed: the header has no column 'p', records answered: 0; it has 'n,\"p\"' (is ',' the delimiter? -d ',')\n"),
+    (["q", "I8F8", "--header"], b"n;p\n1;2\n", 3, b"", b"fixed: the header has no column 'q', records answered: 0; it has 'n;p'\n"),
+    (["p", "I8F8", "--header"], b"n;p,m\n1;2,3\n", 3, b"", b"fixed: the header has no column 'p', records answered: 0; it has 'n;p', 'm'\n"),
     # Blanks, decimal commas, thousands.
     (["1", "I16F16", "--trim"], b"  1.50\t,a\n 2 ,b\n", 0, b"1.5,a\n2,b\n", b""),
     (["1", "I16F16"], b" 1.50,a\n", 1, DIGIT + b",a\n", refused(1, 1, 1, 1, " 1.50")),
     (["1", "I16F16", "--trim"], b"  1.x ,a\n", 1, DIGIT + b",a\n", refused(1, 1, 1, 1, "  1.x ", "invalid digit found in string, byte 5", "x")),
-    (["2", "I16F16", "--delimiter", ";", "--decimal", ","], b"a;1,50;b\n", 0, b"a;1.5;b\n", b""),
-    (["2", "I16F16", "--decimal", ","], b'a,"1,50",b\n', 0, b"a,1.5,b\n", b""),
+    (["2", "I16F16", "--delimiter", ";", "--decimal", ","], b"a;1,50;b\n", 0, b"a;1,5;b\n", b""),
+    (["2", "I16F16", "--decimal", ","], b'a,"1,50",b\n', 0, b'a,"1,5",b\n', b""),
     (["1", "I16F16", "--delimiter", ";", "--decimal", ","], b"1.5\n", 1, DIGIT + b"\n",
      refused(1, 1, 1, 1, "1.5", "invalid digit found in string, byte 2", ".")),
-    (["1", "I16F16", "--delimiter", ";", "--decimal", ",", "--thousands", "."], b"1.234,50;x\n-12.345,5;y\n", 0, b"1234.5;x\n-12345.5;y\n", b""),
+    (["1", "I16F16", "--delimiter", ";", "--decimal", ",", "--thousands", "."], b"1.234,50;x\n-12.345,5;y\n", 0, b"1234,5;x\n-12345,5;y\n", b""),
     (["1", "I16F16", "--delimiter", ";", "--decimal", ",", "--thousands", "."], b"1.234,5x\n", 1, DIGIT + b"\n",
      refused(1, 1, 1, 1, "1.234,5x", "invalid digit found in string, byte 8", "x")),
     (["1", "I16F16", "--thousands", ","], b'"1,234.50",x\n', 0, b"1234.5,x\n", b""),
     (["1", "I16F16", "--thousands", "'"], b"1'234.50,x\n", 0, b"1234.5,x\n", b""),
     (["1", "I16F16", "--thousands", "\u202f"], "1\u202f234.50,x\n".encode(), 0, b"1234.5,x\n", b""),
-    (["1", "I16F16", "--thousands", " ", "--decimal", ",", "--delimiter", "tab", "--trim"], b" 1 234,5 \tx\n", 0, b"1234.5\tx\n", b""),
+    (["1", "I16F16", "--thousands", " ", "--decimal", ",", "--delimiter", "tab", "--trim"], b" 1 234,5 \tx\n", 0, b"1234,5\tx\n", b""),
+    # An answer has the mark of its field, and stays in quotes where a field with another mark than a point has them.
+    (["p", "U32F32", "--header", "-d", ";", "--decimal", ",", "--thousands", "."], b'n;p\n1;"5.433,012"\n2;7,5\n', 0, b'n;p\n1;"5433,012"\n2;7,5\n', b""),
+    (["1", "U32F32", "--decimal", ",", "--keep"], b'"1,50",a\n"x, y",b\n"2,25",c\n', 1, b'"1,5",a\n"x, y",b\n"2,25",c\n', refused(1, 2, 2, 1, "x, y")),
+    (["1", "U8F8", "--decimal", ","], b'"1,5","2"\n2,"3"\n"2",z\n', 0, b'"1,5","2"\n2,"3"\n"2",z\n', b""),
+    (["1", "U8F8", "--decimal", ",", "-d", ";"], b'"1,5"\n1,5\n"2"\n"x"\n', 1, b'"1,5"\n1,5\n"2"\n' + DIGIT + b"\n", refused(1, 4, 4, 1, "x")),
+    (["1", "U8F8", "--decimal", ",", "--decimal-out", "."], b'"1,50",a\n', 0, b"1.5,a\n", b""),
+    (["1", "U8F8", "--decimal-out", ","], b'1.50,a\n"2.5",b\n', 0, b'"1,5",a\n"2,5",b\n', b""),
+    (["1", "U8F8", "--decimal-out", "|", "-d", ";"], b'1.50;"a"\n"2.5";b\n', 0, b'1|5;"a"\n"2|5";b\n', b""),
+    (["1", "U8F8", "--decimal", ",", "--decimal-out", '"'], b'"1,50",a\n', 0, b'"1""5",a\n', b""),
+    (["1", "I8F8", "--decimal", ",", "--print", "value"], b'"-0,1",a\n', 0, b'"-0,1015625",a\n', b""),
+    (["1", "I8F8", "--decimal", ",", "--print", "all"], b'"-0,1",a\n', 0, b'"-0,1 -26 fits",a\n', b""),
+    (["1", "I8F8", "--decimal", ",", "--places", "3"], b'"-0,1",a\n', 0, b'"-0,102",a\n', b""),
+    (["1", "I8F8", "--decimal", ",", "--print", "bits"], b'"-0,1",a\n', 0, b"-26,a\n", b""),
+    (["1", "I8F8", "--decimal", ",", "--print", "hex"], b'"-0,1",a\n', 0, b"0xffe6,a\n", b""),
+    (["1", "I8F8", "--decimal", ",", "--print", "readmemh"], b'"-0,1",a\n', 0, b"ffe6,a\n", b""),
+    (["2", "I8F8", "--decimal", ",", "--into", "n"], b'a,"1,50"\nb,2\n', 0, b'a,"1,50","1,5"\nb,2,2\n', b""),
+    (["1", "I8F8", "--decimal", ",", "--empty", "0"], b'"",a\n,b\n', 0, b'"0",a\n0,b\n', b""),
+    (["1", "I8F8", "--decimal", ",", "--empty", "keep"], b'"",a\n,b\n', 0, b'"",a\n,b\n', b""),
+    # Groups of thousands.
+    (["1", "U32F8", "--thousands", ",", "-d", ";"], b"1,234\n12,345,678.5\n-0\n+1,000\n999\n1234\n12345.5\n1,234e1\n1,000e-3\n", 0,
+     b"1234\n12345678.5\n0\n1000\n999\n1234\n12345.5\n12340\n1\n", b""),
+    (["1", "I32F8", "--thousands", ".", "--decimal", ",", "-d", ";"], b"12.34\n12.34.56,7\n1.234.5\n.123\n1.234.\n1..234\n1,234.5\n1234.567\n1.2345\n-.123\n1.234,5.0\n",
+     1, b"error: misplaced thousands separator\n" * 11, refused(11, 1, 1, 1, "12.34", "misplaced thousands separator")),
+    (["1", "I32F8", "--thousands", ".", "--decimal", ",", "-d", ";", "--keep"], b'a\n1.234\n"12.34"\n', 1, b'a\n1234\n"12.34"\n', refused(2, 1, 1, 1, "a")),
+    (["1", "I32F8", "--thousands", ".", "--decimal", ",", "--report"], b"1.23;\n", 1, b"error: misplaced thousands separator\n",
+     refused(1, 1, 1, 1, "1.23;", "misplaced thousands separator")
+     + b"fixed: numerals: 1, exact: 0, rounded: 0, overflowed: 0, refused: 1 (the first in record 1); the first refused in line 1, column 1\n"),
+    (["1", "U32F8", "--thousands", "'", "--radix", "16"], b"f'f00\nf'f0\n1'234.8\n", 1, b"65280\nerror: misplaced thousands separator\n4660.5\n",
+     refused(1, 2, 2, 1, "f'f0", "misplaced thousands separator")),
+    (["1", "U32F8", "--thousands", "\u202f"], "1\u202f234\n12\u202f34\n1\u202f\u202f234\n".encode() + b"1\xe2234\n1\xe2\x80234\n", 1,
+     b"1234\n" + b"error: misplaced thousands separator\n" * 4, refused(4, 2, 2, 1, "12\u202f34", "misplaced thousands separator")),
+    (["1", "U32F8", "--thousands-anywhere", ",", "-d", ";"], b"1,2,,34.5,\n,\n", 1, b"1234.5\nerror: string has no digits\n",
+     refused(1, 2, 2, 1, ",", "string has no digits")),
+    (["1", "I32F8", "--thousands-anywhere", ".", "--decimal", ",", "-d", ";"], b"12.34\n12.34.56,7\n", 0, b"1234\n123456,7\n", b""),
     # Empty fields.
     (["2", "I8F8", "--empty", "keep"], b'a,,b\na,"",b\na,1.50,b\n', 0, b'a,,b\na,"",b\na,1.5,b\n', b""),
     (["2", "I8F8", "--empty", "0", "--print", "bits"], b'a,,b\na,"",b\n', 0, b"a,0,b\na,0,b\n", b""),
     (["2", "I8F8", "--empty", "fault"], b"a,,b\n", 1, b"a,error: string has no digits,b\n", refused(1, 1, 1, 2, "", "string has no digits")),
     (["2", "I8F8", "--empty", "keep", "--trim"], b'a, ,b\na," \t",b\n', 0, b'a, ,b\na," \t",b\n', b""),
     (["2", "I8F8", "--empty", "keep"], b"a, ,b\n", 1, b"a," + DIGIT + b",b\n", refused(1, 1, 1, 2, " ")),
-    (["2", "I8F8", "--empty", "keep", "--thousands", "'"], b"a,',b\n", 1, b"a,error: string has no digits,b\n",
+    (["2", "I8F8", "--empty", "keep", "--thousands-anywhere", "'"], b"a,',b\n", 1, b"a,error: string has no digits,b\n",
      refused(1, 1, 1, 2, "'", "string has no digits")),
+    (["2", "I8F8", "--empty", "keep", "--thousands", "'"], b"a,',b\n", 1, b"a,error: misplaced thousands separator,b\n",
+     refused(1, 1, 1, 2, "'", "misplaced thousands separator")),
     # Lines before the records.
     (["v", "U8F0", "--header", "--skip", "1"], b"sep=,\nv,w\n7.4,8.4\n", 0, b"sep=,\nv,w\n7,8.4\n", b""),
     (["1", "U8F0", "--skip", "2"], b'# "a\r\n\r\n7.4\r\nx\r\n', 1, b'# "a\r\n\r\n7\r\n' + DIGIT + b"\r\n", refused(1, 2, 4, 1, "x")),
@@ -192,7 +241,7 @@ RUNS = (
      b"fixed: numerals: 1, exact: 0, rounded: 1, overflowed: 0, refused: 0\nfixed: greatest error in record 2: 0.5, in ulps: 0.5\n"),
     (["2", "U8F0", "--report", "--empty", "0", "--trim"], b"a, \n", 0, b"a,0\n",
      b"fixed: numerals: 1, exact: 1, rounded: 0, overflowed: 0, refused: 0\nfixed: greatest error in record 1: 0, in ulps: 0\n"),
-    (["1", "U16F1", "--report", "--decimal", ",", "--thousands", "."], b'"1.234,5"\n"1,25\r"\n', 0, b"1234.5\n1\n",
+    (["1", "U16F1", "--report", "--decimal", ",", "--thousands", "."], b'"1.234,5"\n"1,25\r"\n', 0, b'"1234,5"\n"1"\n',
      b"fixed: numerals: 2, exact: 1, rounded: 1, overflowed: 0, refused: 0\nfixed: greatest error in record 2: -0.25, in ulps: -0.5\n"),
     (["1", "I8F8", "I8F0", "--report", "--from", "bits"], b"256,a\n128,a\n", 0, b"1,a\n0,a\n", b"fixed: numerals: 2, exact: 1, rounded: 1, overflowed: 0, refused: 0\n"),
     (["1", "U8F0", "--report"], b"7\n\"8", 3, b"7\n",
@@ -211,7 +260,7 @@ RUNS = (
     (["1", "I8F0", "--mode", "floor", "--policy", "saturating"], b"1.75,a\n-1.25,a\n999,a\n", 0, b"1,a\n-2,a\n127,a\n", b""),
     # As spreadsheets, numpy and Miller write them.
     (["b", "I16F16", "--header", "--delimiter", ";", "--decimal", ",", "--thousands", ".", "--skip", "1", "--empty", "keep"],
-     MARK + b'sep=;\r\n"a";"b"\r\n"x; y";"1.234,50"\r\n\r\n"z";\r\n', 0, MARK + b'sep=;\r\n"a";"b"\r\n"x; y";1234.5\r\n\r\n"z";\r\n', b""),
+     MARK + b'sep=;\r\n"a";"b"\r\n"x; y";"1.234,50"\r\n\r\n"z";\r\n', 0, MARK + b'sep=;\r\n"a";"b"\r\n"x; y";"1234,5"\r\n\r\n"z";\r\n', b""),
     (["U8F8", "--all"], b"1.500000000000000000e+00,2.500000000000000000e-01\n", 0, b"1.5,0.25\n", b""),
     (["y", "U8F8", "--header", "--trim"], b"x,y\n1, 2.50\n3,4.0\n", 0, b"x,y\n1,2.5\n3,4\n", b""),
     (["--help"], b"", 0, None, b""),
@@ -229,6 +278,10 @@ BAD_WORDS = (
     (["1", "U8F0", "--thousands", "."], b"'.' does not separate thousands"), (["1", "U8F0", "--thousands", "ab"], b"'ab' does not"),
     (["1", "U8F0", "--thousands", "-"], b"does not separate"), (["1", "U8F0", "--thousands", ""], b"'' does not separate"),
     (["1", "U8F0", "--decimal", ",", "--thousands", ","], b"',' does not separate"), (["1", "U8F0", "--empty", "1"], b"1"),
+    (["1", "U8F0", "--thousands-anywhere", "."], b"'.' does not separate thousands"), (["1", "U8F0", "--thousands-anywhere", ""], b"'' does not separate"),
+    (["1", "U8F0", "--thousands", "'", "--thousands-anywhere", "'"], b"'--thousands' does not go with '--thousands-anywhere'"),
+    (["1", "U8F0", "--decimal-out", ""], b"'' is not a decimal"), (["1", "U8F0", "--decimal-out", "1"], b"'1' is not a decimal"),
+    (["1", "U8F0", "--decimal-out", ",,"], b"',,' is not a decimal"), (["1", "U8F0", "--decimal-out", "-"], b"'-' is not a decimal"),
     (["1", "U8F0", "--skip", "01"], b"'01' is not a count"), (["1", "U8F0", "--skip", "+1"], b"'+1' is not a count"),
     (["1", "U8F0", "--skip", "-1"], b"-1"), (["1", "U8F0", "--skip", "18446744073709551616"], b"is not a count"),
     (["1", "U8F0", "--keep", "--keep"], b"--keep"), (["1", "U8F0", "--print", "text", "--print", "bits"], b"--print"),
@@ -248,6 +301,8 @@ LARGE = (
     (["1", "U8F0"], b"1" * 30_000_000, 1),
 )
 MOST_KIB = 4_096
+# How many tables of amounts are read back.
+READ_BACK = 1_000
 
 
 class Runs:
@@ -297,13 +352,26 @@ class Runs:
         os.close(folder)
         for given in (b"1,a\n", plain):
             with open("/dev/full", "wb") as full:
-                self.one(["1", "U8F0"], given, 4, None, one_line(b"a write failed"), stdout=full)
+                self.one(["1", "U8F0"], given, 4, None, one_line(b"a write failed: No space left on device, lines answered: 0\n"), stdout=full)
             read, write = os.pipe()
             os.close(read)
             self.one(["1", "U8F0"], given, 4, None, b"", stdout=write)
             os.close(write)
+        self.part(["1", "U8F0"], plain)
         many = b"1" + b"," * (LONGEST - 1) + b"\n"
         self.one(["1", "U8F0"], many, 5, b"", one_line(b"there is no memory"), preexec_fn=within(1_500_000))
+
+    def part(self, words, given):
+        """Where a device takes only some bytes, the lines are counted that it took."""
+        self.tried += 1
+        with tempfile.TemporaryFile() as out:
+            ran = subprocess.run([self.path, "column", *words], input=given, stdout=out, stderr=subprocess.PIPE, check=False, timeout=120,
+                                 preexec_fn=at_most(5_000))
+            out.seek(0)
+            lines = out.read().count(b"\n")
+        if ran.returncode != 4 or not ran.stderr.endswith(b", lines answered: %d\n" % lines) or not 0 < lines < given.count(b"\n"):
+            self.wrong += 1
+            print(f"fixed column {words}, a file of at most 5,000 bytes: {ran.returncode}, {ran.stderr!r}, {lines} lines")
 
     def one_by_one(self):
         """Each record is answered as soon as it was read, also where its bytes come one at a time."""
@@ -338,6 +406,14 @@ def one_line(part):
     return lambda told: told.startswith(b"fixed: ") and told.endswith(b"\n") and told.count(b"\n") == 1 and part in told
 
 
+def at_most(most):
+    """Lets a process write files of this many bytes at most."""
+    def limited():
+        signal.signal(signal.SIGXFSZ, signal.SIG_IGN)
+        resource.setrlimit(resource.RLIMIT_FSIZE, (most, most))
+    return limited
+
+
 def within(most):
     """Leaves a process this many bytes of memory."""
     return lambda: resource.setrlimit(resource.RLIMIT_DATA, (most, most))
@@ -354,6 +430,7 @@ def main():
     runs = Runs(path)
     runs.all()
     runs.memory()
+    runs.wrong += column.read_back(path, READ_BACK, 1)
     print(f"fixed column: {runs.tried} runs at its edges, {runs.wrong} wrong")
     return 1 if runs.wrong else 0
 

@@ -34,7 +34,7 @@ class Function:
         self.path, self.crate, self.name, self.kind = path, path.split("/")[1], name, kind
         self.is_counted = "Steps<" in head
         self.makes = re.search(r"\b(?:Blank|Brand)\b", head + body) is not None
-        self.is_bound = self.is_counted and (re.search(r"\bsteps\.new\b", head) or kind[1] in ("LineRule", "Program"))
+        self.is_bound = self.is_counted and (re.search(r"\bsteps\.new\b", head) or kind[1] in ("LineRule", "Rule", "Program"))
         self.names = set(re.findall(r"\w+", body)) | {name for name, form in MEANT.items() if re.search(form, body)}
         self.names |= {old for old, new in renamed if new in self.names}
 

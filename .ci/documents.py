@@ -32,7 +32,7 @@ PROGRAMS = ("fixed", "fixed_tool", "enclose_tool", "least_tool", "constants_tool
 LONGEST_README = 150
 # What is made by building, and so is named and not there.
 MADE = ("build/", "crates/*/out", "crates/NAME", "DIR/")
-FOLDERS = r"crates|docs|bench|oracle|scale|examples|include|man|packaging|completion|python|\.ci"
+FOLDERS = r"apidoc|crates|docs|bench|oracle|scale|examples|include|man|packaging|completion|python|rust|\.ci"
 
 
 def text_of(path):
@@ -91,7 +91,7 @@ def is_installed(tool):
 
 class Room:
     """A folder in which commands are run: the programs that are built are on the path, and the files that documents
-    name are there: tariff.csv, numerals.txt, and meter.csv whose third column makes the lines of `lines`."""
+    name are there: sensor.csv, numerals.txt, and meter.csv whose third column makes the lines of `lines`."""
 
     def __init__(self, folder, built):
         self.folder, self.missing = folder, set()
@@ -103,7 +103,7 @@ class Room:
                 os.makedirs(f"{folder}/bin", exist_ok=True)
                 os.symlink(path, f"{folder}/bin/{name}")
         os.symlink(f"{TOP}/scale", f"{folder}/scale")
-        shutil.copy(f"{TOP}/examples/tariff.csv", folder)
+        shutil.copy(f"{TOP}/examples/sensor.csv", folder)
         numerals = [it for day in range(20)
                     for it in (f"{day}.14159", f"{day * 31}", f"1.{day}.5", f"-{day}", f"{day}e-3")]
         with open(f"{folder}/meter.csv", "w", encoding="ascii") as file:
@@ -289,6 +289,14 @@ def compiled(built):
             yield f"man/fixed.3: its example writes {got!r}"
 
 
+def numbers_of_c():
+    """The codes and sizes of the header that man/fixed.3 leaves out or gives another number."""
+    header, page = text_of("include/fixed.h"), text_of("man/fixed.3")
+    for name, number in re.findall(r"\b(FIXED_\w+) = (\d+)", header[header.index("enum fixed_code {"):]):
+        if not re.search(rf"^\.Dv {name}\n\({number}\b", page, re.M):
+            yield f"man/fixed.3: no {name} ({number})"
+
+
 def helped(room):
     """The examples in the help of `fixed` end well."""
     if room.lacks("fixed", "the help of fixed"):
@@ -314,11 +322,11 @@ def demos(room):
 
 
 def toolchain():
-    """Says where README names another toolchain than this one, which is no fault."""
+    """Says if README names another logic than that of this toolchain, which is no fault."""
     if shutil.which("rt"):
         said = subprocess.run(["rt", "version"], stdout=subprocess.PIPE, check=False).stdout.decode().strip()
-        if said not in text_of("README.md"):
-            print(f"README.md does not name this toolchain: {said}")
+        if said[said.find("logic "):] not in text_of("README.md"):
+            print(f"README.md does not name the logic of this toolchain: {said}")
 
 
 def targets():
@@ -444,7 +452,7 @@ def specs():
         imported[crate, file] = {name.strip().split(" as ")[-1]: home
                                  for home, names in uses for name in names.split(",")}
         for line in text.split("\n"):
-            head = re.match(r"(?:(?:abbrev|unfoldable) (?:pub )?|pub (?:record )?|record )([\w']+)", line)
+            head = re.match(r"(?:(?:abbrev|unfoldable) (?:pub )?|pub (?:record |data )?|record |data )([\w']+)", line)
             name = head.group(1) if head else name
             if name and line and not line.startswith(("use ", "pub use ", "--")) and not line.lstrip().startswith("--"):
                 stated[crate, file, name] = stated.get((crate, file, name), "") + line + "\n"
@@ -519,7 +527,7 @@ def main():
     toolchain()
     for it in wrong_bodies():
         print(f"{it} (which takes a proof to say, and fails nothing)")
-    wrong = [*unmarked(), *readme_shape(), *crates_table(), *definitions(), *unknown_names(), *headline(), *paths(), *targets()]
+    wrong = [*unmarked(), *readme_shape(), *crates_table(), *definitions(), *unknown_names(), *headline(), *paths(), *targets(), *numbers_of_c()]
     if given.built:
         wrong += [*readme_answers(given.built), *commands(given.built), *lines_of_python(given.built), *compiled(given.built)]
     for it in wrong:

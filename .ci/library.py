@@ -3,8 +3,8 @@
 
     library.py [--built build|out] [--lines N] [--calls N]
 
-With `--built out` it takes the libraries and the program that the gate built, and proves `fixed_c` over these for its archive; with
-`--built build` it takes what `make library` and `make build` left. A compiler that is not on this machine is named and passed over.
+With `--built out` it takes the program that the gate built, and the archive that was made of what the gate proved; with `--built build`
+it takes what `make library` and `make build` left. A compiler that is not on this machine is named and passed over.
 """
 import argparse
 import os
@@ -14,7 +14,7 @@ import subprocess
 import sys
 import tempfile
 
-from prove import below, processes, read_crates
+from prove import Bench
 
 TOP = os.path.dirname(os.path.dirname(os.path.abspath(__file__)))
 HEADER = f"{TOP}/include"
@@ -29,9 +29,18 @@ it lies between 205887 and 205888 of 65536
 10 U4F4 U8F0 checked 2.99 -> 3 3 fits
 """
 PYTHON = "(205887, False) 3.14159\nmore than one point found in string\n"
-RUST = 'Ok(Number { bits: 205887, overflowed: 0 }) Ok("3.14159")\nErr(8) Err(10)\n'
-CPP = "205887 3.14159\nrefused\n"
+RUST = ("    12.1       12.1      12.10\n     0,5 invalid digit found in string\n12.1 kWh, at most 12.1\n", "12.1", "0,5")
+CPP = "8192,  // 0.25\n-16384,  // -0.5\n3277,  // 0.1\n98,  // 0.003\n"
 GO = "205887 0 3.14159\n"
+# Calls with exchanged arguments, each on a line of its own: a policy and a mode, and a mode for a rounding.
+EXCHANGED = """#include "fixed.h"
+fixed_style style = FIXED_STYLE_DEFAULT;
+uint32_t exchanged(fixed_format f, fixed_number *n) {
+  return fixed_read_text("1", 1, 10, f, FIXED_CEIL, FIXED_SATURATING, n)
+      + fixed_round_bits(1, f, FIXED_CEIL, FIXED_CHECKED, n)
+      + fixed_convert_rows(0, 0, f, f, FIXED_CEIL, FIXED_NEAREST, 0, 0, 0, 0, 0);
+}
+"""
 # The oldest processors of which qemu has a model: all of amd64's first years, without x86-64-v2.
 PROCESSORS = ("qemu64", "kvm64", "core2duo", "phenom")
 
@@ -62,22 +71,14 @@ def calls():
 
 
 def archive(built):
-    """The path of the archive. The libraries that `rt ci` leaves have no stamp, so that `rt lib` would prove all of them again."""
+    """The path of the archive; beside the programs of the gate, which builds no library, it is made of what the gate proved."""
     if built == "build":
         return f"{TOP}/build/lib/libfixed.a"
-    crates = read_crates()
-    made = f"{crates['fixed_c'].folder}/out/libfixed_c.a"
-    os.makedirs(os.path.dirname(made), exist_ok=True)
-    kit = os.path.dirname(run(["rt", "doc"]).strip())
-    words = ["--crate-name", "fixed_c", "src/lib.rt", "--extern", f"std={kit}/rlibs/std.rlib", "-L", f"dependency={kit}/rlibs"]
-    for name in crates["fixed_c"].uses:
-        words += ["--extern", f"{name}={crates[name].folder}/out/rlib/{name}.rlib"]
-    for name in sorted(below(crates, crates["fixed_c"].uses)):
-        words += ["-L", f"dependency={crates[name].folder}/out/rlib"]
-    words += ["--antt-project", f"{kit}/rattle/logic/antt-project.json", "--logic-built", f"{kit}/logic_built", "--links", "fixed_c=",
-              "--crate-type", "staticlib", "--cpu", "x86-64", "--toolchain", f"{kit}/toolchain", "--jobs", str(processes()), "-o", made]
-    run(["rattle", "build", *words], cwd=crates["fixed_c"].folder, stdin=subprocess.DEVNULL)
-    return made
+    bench = Bench(into=f"{TOP}/crates/fixed_c/out")
+    if not bench.do([("fixed_c", "made")]):
+        raise Failed("fixed_c is not proved")
+    bench.hand_out(["fixed_c"])
+    return f"{bench.into}/libfixed_c.a"
 
 
 def check_symbols(library, shared):
@@ -112,6 +113,19 @@ def check_header():
     print("header: compiles in each standard", flush=True)
 
 
+def check_exchanged(folder):
+    """An exchanged argument is a warning in C, and in C++ and with FIXED_PLAIN_ARGUMENTS none, nor is the default style."""
+    with open(f"{folder}/exchanged.c", "w", encoding="ascii") as file:
+        file.write(EXCHANGED)
+    lines = [str(number) for number, line in enumerate(EXCHANGED.split("\n"), 1) if "FIXED_CEIL" in line]
+    for compiler in filter(shutil.which, ("gcc", "clang")):
+        words = [compiler, "-Wall", "-Wextra", "-I", HEADER, "-fsyntax-only", "-x"]
+        warned = re.findall(r":(\d+):\d+: warning: .*\[-Wenum-conversion\]", run([*words, "c", f"{folder}/exchanged.c"]))
+        wanted(f"{compiler}, lines with exchanged arguments", " ".join(sorted(set(warned))), " ".join(lines))
+        for others in (["c", "-DFIXED_PLAIN_ARGUMENTS"], ["c", "-DFIXED_PLAIN_ARGUMENTS", "-fshort-enums"], ["c++", "-std=c++98"]):
+            run([*words, *others, "-Werror", f"{folder}/exchanged.c"])
+
+
 def check_processors(folder, shared):
     """Every caller that was built, on the oldest processors, by qemu's user mode."""
     if not shutil.which("qemu-x86_64"):
@@ -119,7 +133,7 @@ def check_processors(folder, shared):
         return
     example = [(f"{folder}/gcc_example_plain",), EXAMPLE]
     edges = [(f"{folder}/gcc_edges_plain", "2000"), "the threads agree\n"]
-    others = [[(f"{folder}/cpp",), CPP], [(f"{folder}/rust",), RUST], [(f"{folder}/golang",), GO]]
+    others = [[(f"{folder}/cpp",), CPP], [(f"{folder}/rust", *RUST[1:]), RUST[0]], [(f"{folder}/golang",), GO]]
     callers = [each for each in (example, edges, *others) if os.path.isfile(each[0][0])]
     callers.append([(sys.executable, f"{TOP}/examples/python/fixed.py"), PYTHON])
     env = os.environ | {"LIBFIXED": shared, "LD_LIBRARY_PATH": os.path.dirname(shared)}
@@ -173,9 +187,11 @@ def check_others(folder, library, shared):
         wanted("C++", run([f"{folder}/cpp"]), CPP)
     wanted("Python", run([sys.executable, f"{TOP}/examples/python/fixed.py"], env=os.environ | {"LIBFIXED": shared}), PYTHON)
     if shutil.which("rustc"):
-        run(["rustc", "--edition", "2021", "-O", f"{TOP}/examples/rust/src/main.rs", "-L", os.path.dirname(shared), "-l", "static=fixed",
-             "-o", f"{folder}/rust"])
-        wanted("Rust", run([f"{folder}/rust"]), RUST)
+        rustc = ["rustc", "--edition", "2021", "-O", "-L", os.path.dirname(shared)]
+        run([*rustc, "--crate-type", "rlib", "--crate-name", "lomdeqash", "--cfg", 'feature="std"', f"{TOP}/rust/src/lib.rs", "-l",
+             "static=fixed", "-o", f"{folder}/liblomdeqash.rlib"])
+        run([*rustc, f"{TOP}/examples/rust/src/main.rs", "--extern", f"lomdeqash={folder}/liblomdeqash.rlib", "-o", f"{folder}/rust"])
+        wanted("Rust", run([f"{folder}/rust", *RUST[1:]]), RUST[0])
     else:
         print("rustc is not on this machine")
     if shutil.which("go"):
@@ -208,9 +224,11 @@ def main():
                  "-Wl,--gc-sections", "-Wl,-z,relro", "-Wl,-z,now", *undefined, library, "-nostartfiles", "-lc"])
             os.symlink("libfixed.so.1", f"{folder}/libfixed.so")
             check_header()
+            check_exchanged(folder)
             check_symbols(library, shared)
             check_c(folder, library, program, given.lines)
             print(run([sys.executable, f"{TOP}/oracle/library.py", shared, "--count", str(given.calls)]), end="", flush=True)
+            print(run([sys.executable, f"{TOP}/oracle/floats.py", shared]), end="", flush=True)
             print(run([sys.executable, f"{TOP}/oracle/widths.py", shared]), end="", flush=True)
             check_others(folder, library, shared)
             check_processors(folder, shared)

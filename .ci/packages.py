@@ -1,6 +1,6 @@
 #!/usr/bin/env python3
-"""Checks that the version is one, and that what `make dist`, `make deb` and `make wheel` leave has the same bytes twice,
-in two folders, of which the second has another umask, time zone and language.
+"""Checks that the version is one, that `make install` puts all in place or nothing, and that what `make dist`, `make deb` and
+`make wheel` leave has the same bytes twice, in two folders, of which the second has another umask, time zone and language.
 
     packages.py [--built build|out]
 
@@ -25,8 +25,10 @@ from python import found_with  # noqa: E402
 
 PROGRAMS = ("fixed_tool", "enclose_tool", "least_tool", "constants_tool", "columns_tool", "fixed")
 # What a package is made of beside what is built.
-SOURCES = ("packaging", "man", "completion", "include", "python", "CHANGELOG.md", "LICENSE-APACHE", "LICENSE-MIT", "Makefile",
+SOURCES = ("packaging", "man", "completion", "include", "python", "rust", "CHANGELOG.md", "LICENSE-APACHE", "LICENSE-MIT", "Makefile",
            "crates.txt")
+# What make install copies of what is built.
+INSTALLED = tuple(f"build/{it}" for it in (*PROGRAMS, "lib/libfixed.a", "lib/libfixed.so.1"))
 # How the second folder differs.
 OTHERWISE = {"env": os.environ | {"TZ": "Asia/Kolkata", "LC_ALL": "C", "LANGUAGE": "fr"}, "umask": 0o077}
 
@@ -64,8 +66,12 @@ def other_versions(version):
     yield from (page for page in sorted(glob.glob("man/*.[13]", root_dir=TOP)) if f".Os Lomdeqash {version}\n" not in text_of(page))
     if not re.match(rf"# Changelog\n\n## {re.escape(version)}, \d{{4}}-\d\d-\d\d\n", text_of("CHANGELOG.md")):
         yield "CHANGELOG.md, whose first heading has the version and its day"
+    if f'\nversion = "{version}"\n' not in text_of("rust/Cargo.toml"):
+        yield "rust/Cargo.toml"
     if "\nVersion: @VERSION@\n" not in text_of("packaging/fixed.pc.in"):
         yield "packaging/fixed.pc.in"
+    if f'__version__ = "{version}"\n' not in text_of("python/lomdeqash/__init__.py"):
+        yield "lomdeqash.__version__"
 
 
 def is_there(names, what):
@@ -102,6 +108,44 @@ def check_archive(folders):
     compared("build/lomdeqash-*.tar.gz", *(f"{folder}/clone" for folder in folders))
 
 
+def copy_sources(folder):
+    """Copies what a package is made of beside what is built."""
+    for name in SOURCES:
+        copy = shutil.copytree if os.path.isdir(f"{TOP}/{name}") else shutil.copy2
+        copy(f"{TOP}/{name}", f"{folder}/{name}")
+
+
+def files_below(folder):
+    """How many files and links there are below a folder."""
+    return sum(len(files) for _, _, files in os.walk(folder))
+
+
+def refused_install(folder, missing):
+    """Fails unless make install names just these files as missing, and copies nothing."""
+    ran = subprocess.run(["make", "-s", "install", f"DESTDIR={folder}/root"], cwd=folder, capture_output=True, text=True, check=False)
+    named = sorted(re.findall(r"build/[\w./]+", ran.stderr))
+    if ran.returncode == 0 or named != sorted(missing) or os.path.exists(f"{folder}/root"):
+        raise Failed(f"make install without {', '.join(missing)}: status {ran.returncode}\n{ran.stderr}")
+
+
+def check_install(folder):
+    """`make install` over empty files in place of what is built: all of it or nothing; `make uninstall` leaves nothing."""
+    copy_sources(folder)
+    os.makedirs(f"{folder}/build/lib")
+    for count, made in enumerate(reversed(INSTALLED)):
+        if count in (0, 2, len(INSTALLED) - 1):
+            refused_install(folder, INSTALLED[:len(INSTALLED) - count])
+        with open(f"{folder}/{made}", "wb"):
+            pass
+    run(["make", "-s", "install", "DESTDIR=root"], cwd=folder)
+    lacking = [it for it in INSTALLED if not os.path.isfile(f"{folder}/root/usr/local/{it.replace('build/', 'bin/').replace('bin/lib/', 'lib/')}")]
+    count = files_below(f"{folder}/root")
+    run(["make", "-s", "uninstall", "DESTDIR=root"], cwd=folder)
+    if lacking or files_below(f"{folder}/root"):
+        raise Failed(f"make install left {count} files, without {lacking}, and make uninstall {files_below(f'{folder}/root')}")
+    print(f"make install: {count} files, or none if one is not built; make uninstall removes all", flush=True)
+
+
 def has_built(folders, built):
     """Whether what packages are made of is built; both folders then have copies of it, and the shared library."""
     programs = {name: program(name, built) for name in PROGRAMS}
@@ -110,9 +154,7 @@ def has_built(folders, built):
         print("programs or library are not built, and so no packages were made")
         return False
     for folder in folders:
-        for name in SOURCES:
-            copy = shutil.copytree if os.path.isdir(f"{TOP}/{name}") else shutil.copy2
-            copy(f"{TOP}/{name}", f"{folder}/{name}")
+        copy_sources(folder)
         os.makedirs(f"{folder}/build/lib")
         for name, path in programs.items():
             shutil.copy(path, f"{folder}/build/{name}")
@@ -152,6 +194,9 @@ def main():
             for folder in folders:
                 os.makedirs(folder)
             check_archive(folders)
+            if is_there(("make",), "make install was not tried"):
+                os.makedirs(f"{room}/install")
+                check_install(f"{room}/install")
             if is_there(("cc", "make", "strip"), "no packages were made") and has_built(folders, given.built):
                 check_packages(folders, version)
     except Failed as why:

@@ -60,6 +60,8 @@ RUNS = {
         (["fit", "--width", "12", "--why"], b"0.5\n-3.2\n", 0, b"I3F9 error 0.00078125\nI2F10 line 2\n"),
         (["fit", "--width", "16", "--range", "--why", "--", "-3.2", "10"], b"", 0,
          b"I5F11 error 0.000244140625\nI4F12 line 2\n"),
+        (["fit", "--range", "-10", "10", "--error", "0.001"], b"", 0, b"I5F11 error 0.000244140625\n"),
+        (["fit", "-w", "16", "--range", "-.5", "-1e-3"], b"", 0, b"I0F16 error 0.00000762939453125\n"),
         (["fit", "--width", "8"], b"1e-2147483648\n", 0,
          b"U0F8 error below 1e-1100 in size: the numeral is too long to say more\n"),
         (["fit", "--width", "8"], b"1e-2147483648\n0.5\n-2e-2147483648\n1e-2147483648\n", 0,
@@ -168,10 +170,27 @@ RUNS = {
         (["convert", "U8F0", "--trim", "--skip-blank", "--comments=#", "--from", "bits"], b"# words\n\n 0x10 \n", 0, b"\n\n16\n"),
         (["convert", "U8F0", "--skip-blank"], b" " * 1_048_577 + b"\n7\n", 1, b"error: line too long\n7\n"),
         (["convert", "I8F8", "--words"], b" 1,2.5\t-3\r\n\n,,0.1", 0, b" 1,2.5\t-3\r\n\n,,0.1"),
-        (["convert", "Q15", "--words", "--print", "hex"], b"0.5, x 1\n-1\n", 1, b"0x4000, error: invalid digit found in string error: overflow\n0x8000\n"),
-        (["convert", "U8F0", "--words", "--from", "bits"], b"0x10;7", 1, b"error: invalid digit found in string"),
+        (["convert", "Q15", "--words", "--print", "hex"], b"0.5, x 1\n-1\n", 1, b"0x4000, error error\n0x8000\n"),
+        (["convert", "U8F0", "--words", "--from", "bits"], b"0x10;7", 1, b"error"),
         (["convert", "U8F0", "--words"], b"", 0, b""),
-        (["convert", "U8F0", "--words"], b"0" * 1_048_577 + b",7", 1, b"error: line too long,7"),
+        (["convert", "U8F0", "--words"], b"0" * 1_048_577 + b",7", 1, b"error,7"),
+        # A refused word is one word, in columns that stay; what is no numeral stays if that is asked for, and what separates is.
+        (["convert", "I8F8", "--words", "--refused", "NaN"], b"1.50 x\n300\t2\n", 1, b"1.5 NaN\nNaN\t2\n"),
+        (["convert", "U8F8", "--words", "--keep"], b"kp = 0.75000 # gain\n", 0, b"kp = 0.75 # gain\n"),
+        (["convert", "U8F0", "--words", "--keep"], b"kp = 300 # gain\n", 1, b"kp = error # gain\n"),
+        (["convert", "U8F0", "--words", "--keep", "text"], b"kp = 300 # gain\n", 1, b"kp = error # gain\n"),
+        (["convert", "--words", "--keep", "all", "U8F0"], b"kp = 300 # gain\n", 0, b"kp = 300 # gain\n"),
+        (["convert", "U8F0", "--words", "--keep=all"], b"kp = 300 7.4\n", 0, b"kp = 300 7\n"),
+        (["convert", "--words", "--keep", "U8F0", "--policy", "saturating"], b"kp = 300 # gain\n", 0, b"kp = 255 # gain\n"),
+        (["convert", "U8F0", "--words", "--keep", "--refused", "-"], b"a 300 b\n", 1, b"a - b\n"),
+        (["convert", "U16F0", "--words", "--from", "bits", "--separators", ",:", "--keep"], b"0x40: 0x1a2b, x\n", 0, b"64: 6699, x\n"),
+        (["convert", "I4F12", "--words", "--separators", ",[]{}():=;", "--keep"], b"int16_t h[3] = { 0.50, -1.250,\t+2. };\n", 0,
+         b"int16_t h[3] = { 0.5, -1.25,\t2 };\n"),
+        (["convert", "I4F12", "--words", "--separators", ""], b"1.50,2 3.0\n", 1, b"error 3\n"),
+        (["convert", "I4F12", "--words", "--keep"], b"x" * 524_288 + b" 1.0\n", 0, b"x" * 524_288 + b" 1\n"),
+        (["convert", "I4F12", "--words", "--keep"], b"x" * 524_289 + b" 1.0\n", 1, b"error 1\n"),
+        (["convert", "I4F12", "--words", "--keep", "all"], b"9" * 524_288 + b"," + b"9" * 524_289 + b" 1.0\n", 1, b"9" * 524_288 + b",error 1\n"),
+        (["convert", "U8F0", "--words", "--keep"], (b"x" * 1_023 + b" ") * 3_000, 0, (b"x" * 1_023 + b" ") * 3_000),
         (["convert", "U8F0", "--words"], b"1," * 600_000 + b"\n" + b"0" * 900_000 + b"7", 0, b"1," * 600_000 + b"\n7"),
         (["convert", "U8F0", "-o", "/dev/null"], b"7\n", 0, b""),
         (["convert", "U8F0", "-o", "-"], b"7\n", 0, b"7\n"),
@@ -184,10 +203,15 @@ RUNS = {
         (["convert", "I3F2", "--from", "bits"], b"0x1f\n31\n32\n", 1, b"-0.2\n-0.2\nerror: word is wider than the format\n"),
         (["bits", "I8F8", "--radix", "16", "fe80"], b"", 0,
          b"given     fe80\ntext      -1.5\nbits      -384\nhex       0xfe80\nvalue     -1.5\n"),
+        (["bits", "-r16", "Q15", "8000"], b"", 0,
+         b"given     8000\ntext      -1\nbits      -32768\nhex       0x8000\nvalue     -1\n"),
+        (["bits", "Q15", "-r", "16", "-1", "--json"], b"", 0,
+         b'{"given":"-1","text":"-0.00003","bits":"-1","hex":"0xffff","value":"-0.000030517578125"}\n'),
         (["show", "I16F16", "3.14159", "-0.1"], b"", 0, None),
         (["show", "I8F8", "-.5", "-1e-3", "--mode", "floor"], b"", 0, None),
         (["show", "--mode=ceil", "I8F8", "-5.818915989413629393e-04"], b"", 0, None),
         (["show", "--", "I8F8", "-r"], b"", 1, b"given     -r\nerror: invalid digit found in string\n"),
+        (["show", "I8F8", "-x"], b"", 1, b"given     -x\nerror: invalid digit found in string\n"),
         (["show", "U8F0", "300"], b"", 1, b"given     300\nerror: overflow\n"),
         (["show", "U8F0", "-p", "wrapping", "-1"], b"", 0,
          b"given     -1\ntext      255\nbits      255\nhex       0xff\nvalue     255\nerror     256\nulps      256\n"
@@ -335,6 +359,11 @@ BAD_WORDS = {
         [b"columns", b"limit", b"0"], [b"columns", b"limit", b"4294967297"], [b"columns", b"--limit", b"5", b"limit", b"7"],
         [b"convert", b"U8F0", b"--mode", b"ceil", b"--mode", b"floor"], [b"format", b"U8F0\n\nU8F1"], [b"con\nvert"],
         [b"lines", b"--limit", b"05"], [b"lines", b"--limit", b"+5"], [b"column", b"01", b"I8F8"], [b"help", b"converts"],
+        [b"show", b"Q15", b"0.1", b"--places", b"3"], [b"bits", b"Q15", b"--places=3"], [b"show", b"Q15", b"--5"], [b"bits", b"Q15", b"7", b"-r"],
+        [b"show", b"Q15", b"1", b"--mode", b"-1"], [b"format", b"\x01I8F8"], [b"fit", b"--width", b"8", b"-5"], [b"fit", b"--width", b"8", b"-x"],
+        [b"constants", b"verilog", b"--numerals", b"Q15"], [b"constants", b"verilog", b"--name", b"h"],
+        *([b"constants", b"array-c", b"--numerals", b"U8F0", b"--name", name] for name in worked.KEPT_BY_C),
+        [b"constants", b"array-c", b"--name", b"_Fract", b"--guard", b"H_H"],
         [b"fit"], [b"fit", b"--width", b"65"], [b"fit", b"--width", b"08"], [b"fit", b"--width", b"8", b"--places", b"2"],
         [b"fit", b"--error", b"-1"], [b"fit", b"--error", b"2^-1001"], [b"fit", b"--error", b"2^-+1"], [b"fit", b"--error", b"2^-"],
         [b"fit", b"--error", b"x"],
@@ -344,7 +373,14 @@ BAD_WORDS = {
         [b"convert", b"U8F0", b"--places", b"65"], [b"convert", b"U8F0", b"--places", b"01"],
         [b"convert", b"U8F0", b"--places", b"2", b"--print", b"bits"], [b"convert", b"--"],
         [b"convert", b"U8F0", b"--comments", b""], [b"convert", b"U8F0", b"--comments", b" #"], [b"convert", b"U8F0", b"--comments", b"#" * 65],
-        [b"convert", b"U8F0", b"--trim=yes"], [b"convert", b"U8F0", b"--words", b"--comments", b"#"], [b"convert", b"U8F0", b"-o"], [b"convert", b"U8F0", b"--report", b"--report"],
+        [b"convert", b"U8F0", b"--trim=yes"], [b"convert", b"U8F0", b"--words", b"--comments", b"#"],
+        [b"convert", b"U8F0", b"--separators", b";"], [b"convert", b"U8F0", b"--refused", b"x"], [b"convert", b"U8F0", b"--keep"],
+        [b"convert", b"U8F0", b"--keep", b"all"], [b"convert", b"U8F0", b"--words", b"--keep=none"], [b"convert", b"U8F0", b"--words", b"--refused", b""],
+        [b"convert", b"U8F0", b"--words", b"--refused", b"a b"], [b"convert", b"U8F0", b"--words", b"--refused", b"a,b"],
+        [b"convert", b"U8F0", b"--words", b"--refused", b"x" * 65], [b"convert", b"U8F0", b"--words", b"--refused", b"a;b", b"--separators", b";"],
+        [b"convert", b"U8F0", b"--words", b"--separators", b"1"], [b"convert", b"U8F0", b"--words", b"--separators", b";."],
+        [b"convert", b"U8F0", b"--words", b"--separators", "\u00a7".encode()], [b"convert", b"U8F0", b"--words", b"--keep", b"--keep"],
+        [b"convert", b"U8F0", b"-o"], [b"convert", b"U8F0", b"--report", b"--report"],
         [b"convert", b"U8F0", b"--from", b"hex"], [b"convert", b"U8F0", b"--target-mode", b"up"], [b"convert", b"U8F0", b"--from"],
         [b"bits", b"U8F0", b"--radix", b"7", b"1"], [b"bits", b"U8F0", b"--field", b"8:0", b"1"], [b"bits", b"U8F0", b"--field", b"64:57"],
         [b"bits", b"U8F0", b"--field", b"0:7"], [b"bits", b"U8F0", b"--field", b"07:0"], [b"bits", b"U8F0", b"--field", b"7"], [b"bits", b"U8F0", b"--swap=1"],
@@ -375,6 +411,39 @@ LONG = {
     "constants_tool": GROWING["constants_tool"],
     "columns_tool": GROWING["columns_tool"],
 }
+# How many bytes of stack a command has, with what the process itself takes before it reads its words.
+STACK = (512 + 32) * 1024
+LONG_NUMERAL = b"0." + b"1" * 1_000
+# Words and an input for each command of `fixed`, with what takes most of it.
+STACKS = (
+    *((["convert", "I16F16", "I8F8", *words], LONG_NUMERAL + b"\n-1.5\nx\n") for words in (
+        [], ["--print", "all"], ["--trim", "--skip-blank"], ["--report"], ["--words"], ["--words", "--report"], ["--places", "64"])),
+    (["convert", "I16F16", "--report", "--radix", "16"], LONG_NUMERAL + b"\n300\n"),
+    (["column", "1", "I8F8", "--report"], b"1.5,2\n" + LONG_NUMERAL + b",x\nx,1\n"),
+    (["column", "1-2", "I8F8", "--into", "b"], b"1.5,2\n"),
+    (["column", "a", "I8F8", "--header", "--into", "b", "--keep"], b"a,c\n1.5,2\nx,1\n"),
+    *(([command, "I1F63", *form, *words], given) for command, word in (("show", LONG_NUMERAL), ("bits", b"0x7f")) for form in ([], ["--json"])
+      for words, given in (([word.decode()], b""), ([], word + b"\nx\n"))),
+    (["show", "I16F16", "--json", "--policy", "wrapping", "--radix", "2", "1" * 300 + "." + "1" * 1_000], b""),
+    (["show", "I16F16", "--policy", "wrapping", "1" * 1_000 + "e-1099"], b""),
+    (["format", "I0F64", "--json"], b""),
+    (["format", "I0F64"], b""),
+    (["lines"], b"10 I16F16 I16F16 checked " + LONG_NUMERAL + b"\n"),
+    (["enclose"], b"10 I16F16 " + LONG_NUMERAL + b"\n"),
+    (["least"], LONG_NUMERAL + b"\n1\n"),
+    (["fit", "--width", "16", "--why"], LONG_NUMERAL + b"\n-1\n"),
+    (["fit", "--error", "2^-1000", "--any", "--why"], LONG_NUMERAL + b"\n-1\n"),
+    (["fit", "--error", "0.001", "--range", "--why", "-10", "10"], b""),
+    (["pack", "I16F16"], LONG_NUMERAL + b"\nx\n"),
+    (["unpack", "U1F0"], b"\1\0" * 2_000 + b"\2"),
+    (["constants"], b"A = 0x1.8 I4F4\n" * 2),
+    (["constants", "c"], b"A = 0x1.8 I4F4\n"),
+    (["constants", "array-c", "--name", "h"], b"A = 0x1.8 I4F4\n"),
+    (["constants", "mif", "--numerals", "I1F63"], LONG_NUMERAL + b"\n"),
+    (["sort"], b"0.5 U7F1\n-1 I8F0\n"),
+    (["--help"], b""),
+    (["convert", "--help"], b""),
+)
 # A literal, its format, the type of C and the bits: the ends of each width, and values between them.
 NUMBERS = (
     ("1.75", "I4F4", "int8", 28), ("-3.1875", "I4F4", "int8", -51), ("-8", "I4F4", "int8", -128), ("7.9375", "I4F4", "int8", 127),
@@ -441,6 +510,9 @@ class Runs:
             self.told()
             self.objects()
             self.outputs_to_files()
+            self.beyond_a_limit()
+            self.stacks()
+            self.repacked()
         if self.name in GROWING:
             self.without_memory(*GROWING[self.name])
 
@@ -475,7 +547,12 @@ class Runs:
                 how = {"stdin": file, "stdout": full, "stderr": subprocess.PIPE, "preexec_fn": on_disk_of(100_000)}
                 ran = subprocess.run([self.path, *words], check=False, timeout=120, **how)
             with open(disk, "rb") as full:
-                self.early("a full disk", ran.returncode, ran.stderr, full.read(), whole[:100_000])
+                got = full.read()
+            self.early("a full disk", ran.returncode, ran.stderr, got, whole[:100_000])
+            taken = got.count(b"\n")
+            if not ran.stderr.endswith(b", lines answered: %d\n" % taken):
+                self.wrong += 1
+                print(f"{self.name}, a full disk: {ran.stderr!r:.200}, and {taken} lines arrived")
             with open(source, "rb") as file:
                 how = {"stdin": file, "stdout": subprocess.PIPE, "stderr": subprocess.PIPE}
                 with subprocess.Popen([self.path, *words], **how) as begun:
@@ -629,7 +706,7 @@ class Runs:
             (["convert", "I8F8", "--report", "--from", "bits"], b"1\n",
              b"fixed: numerals: 1, exact: 1, rounded: 0, overflowed: 0, refused: 0\n"),
         )
-        for words, given, wanted in (*asked, *worked.TOLD):
+        for words, given, wanted in (*asked, *worked.TOLD, *worked.SHOWN, *worked.REFUSED):
             self.tried += 1
             ran = subprocess.run([self.path, *words], input=given, stdout=subprocess.PIPE, stderr=subprocess.PIPE, check=False, timeout=120)
             if ran.stderr != wanted:
@@ -679,6 +756,74 @@ class Runs:
                     self.wrong += 1
                     print(f"{self.name}: an input was lost")
             self.one("a folder as output", ["convert", "U8F8", given, "-o", folder], 4, b"")
+            self.outputs_kept(folder, given)
+
+    def outputs_kept(self, folder, given):
+        """Outputs that stay as they were: no input can be read, or the output is standard input."""
+        kept, words = f"{folder}/kept", (["convert", "U8F8"], ["convert", "U8F8", "--words"], ["show", "U8F8", "--file"], ["bits", "U8F8", "--file"])
+        for command in words:
+            for none in (f"{folder}/none", folder):
+                with open(kept, "wb") as file:
+                    file.write(b"1.5\n")
+                self.one(f"no input of {command}", [*command, none, "-o", kept], 3, b"")
+                self.has(kept, b"1.5\n", f"no input of {command}")
+                os.remove(kept)
+                self.one(f"no input of {command} and no output", [*command, none, "-o", kept], 3, b"")
+                if os.path.exists(kept):
+                    self.wrong += 1
+                    print(f"{self.name}: an output of {command} was made of no input")
+            with open(given, "rb") as file:
+                self.one(f"standard input as output of {command}", [it for it in command if it != "--file"] + ["-o", given], 2, b"", stdin=file)
+            self.has(given, b"1.5\n", f"standard input as output of {command}")
+        self.one("one of two inputs", ["convert", "U8F8", f"{folder}/none", given, "-o", kept], 3, b"")
+        self.has(kept, b"1.5\n", "one of two inputs")
+        with open(os.devnull, "rb") as empty:
+            self.one("a device as input and as output", ["convert", "U8F8", "-o", os.devnull], 0, b"", stdin=empty)
+        with open(f"{folder}/\x01x1", "wb") as file:
+            file.write(b"2.5\n")
+        self.one("a file whose name begins with a control character", ["convert", "U8F8", "\x01x1"], 0, b"2.5\n", cwd=folder)
+
+    def has(self, path, wanted, what):
+        """Says so where a file has other bytes."""
+        with open(path, "rb") as file:
+            got = file.read()
+        if got != wanted:
+            self.wrong += 1
+            print(f"{self.name}, {what}: the file has {got!r:.200}, not {wanted!r:.200}")
+
+    def repacked(self):
+        """Words of Q23 to the nearest words of Q15, ties to even, as the help says: by the text of Q15, not by that of Q23."""
+        self.tried += 1
+        source = random_module.Random(3)
+        words = [source.randrange(-(2**23), 2**23 - 128) for _ in range(20_000)] + [-(2**23), -129, -128, -127, 127, 128, 129, 383, 384, 385]
+        given = b"".join((word % 2**24).to_bytes(3, "little") for word in words)
+        texts = subprocess.run([self.path, "unpack", "Q23", "Q15", "--target-mode", "nearest"], input=given, stdout=subprocess.PIPE, check=False).stdout
+        got = subprocess.run([self.path, "pack", "Q15"], input=texts, stdout=subprocess.PIPE, check=False).stdout
+        wanted = b"".join((round(Fraction(word, 256)) % 2**16).to_bytes(2, "little") for word in words)
+        if got != wanted:
+            self.wrong += 1
+            print(f"{self.name}: words of Q23 become other words of Q15 than the nearest")
+
+    def stacks(self):
+        """Each command of `fixed` takes at most 512 KB of stack beside what the process takes to begin: it ends as without a limit."""
+        for words, given in STACKS:
+            self.tried += 1
+            how = {"input": given, "stdout": subprocess.PIPE, "stderr": subprocess.PIPE, "check": False, "timeout": 120}
+            wanted, got = (subprocess.run([self.path, *words], **how, **more) for more in ({}, {"preexec_fn": with_stack(STACK)}))
+            if (got.returncode, got.stdout, got.stderr) != (wanted.returncode, wanted.stdout, wanted.stderr):
+                self.wrong += 1
+                print(f"{self.name}, a small stack for {words!r:.80}: status {got.returncode}, not {wanted.returncode}")
+
+    def beyond_a_limit(self):
+        """Lines past 4 GiB are answered: zeros that take no room on the disk, a line too long, and one more."""
+        with tempfile.TemporaryFile() as file:
+            file.truncate(2**32)
+            file.seek(2**32)
+            file.write(b"\n7\n")
+            for words, answers in ((["convert", "U8F0"], b"error: line too long\n7\n"), (["enclose"], b"error: line too long\nerror: missing field\n"),
+                                   (["lines"], b"error: line too long\nerror: missing field\n")):
+                file.seek(0)
+                self.one(f"more than 4 GiB for {words}", words, 1, answers, stdin=file)
 
     def files(self):
         """Inputs from files: several one after another, `-`, one that is missing, a folder, and the greatest status."""
@@ -840,6 +985,11 @@ def on_disk_of(most):
         signal.signal(signal.SIGXFSZ, signal.SIG_IGN)
         resource.setrlimit(resource.RLIMIT_FSIZE, (most, most))
     return limit
+
+
+def with_stack(most):
+    """Leaves a process this many bytes of stack."""
+    return lambda: resource.setrlimit(resource.RLIMIT_STACK, (most, most))
 
 
 def within(most):

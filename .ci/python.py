@@ -93,6 +93,8 @@ def check_sources(python, env):
     if has(python, "numpy"):
         page = ["--doctest-glob=PYTHON.md", f"{TOP}/docs/PYTHON.md"]
         run([python, "-m", "pytest", *tests, *page], "with numpy", cwd=PACKAGE, env=env)
+        if not has(python, "pandas"):
+            print("pandas is not on this machine, and so its columns were not tried")
     else:
         print("numpy is not on this machine")
     run([python, "-c", WITHOUT_NUMPY, *tests], "without numpy", cwd=PACKAGE, env=env)

@@ -118,8 +118,8 @@ FIXED = (
         (["--print", "readmemh"], b"0324\nfd80\n"), (["--print", "value"], b"3.140625\n-2.5\n"), (["--places", "2"], b"3.14\n-2.50\n"))),
     converted(["--print", "all"], b"3.14159\n200\n\r\n-2.5\r\r\n",
               b"3.14 804 fits\nerror: overflow\nerror: string has no digits\nerror: invalid digit found in string\n", 1),
-    converted(["--print", "all", "-p", "saturating", "-m", "ceil"], b"200\n-0.00001\n", b"127.996 32767 overflowed\n0 0 fits\n"),
-    converted(["--print", "all", "-p", "wrapping", "-m", "floor"], b"200\n-0.00001\n", b"-56 -14336 overflowed\n-0.004 -1 fits\n"),
+    converted(["--print", "all", "-p", "saturating", "-m", "ceil", "--target-mode", "floor"], b"200\n-0.00001\n", b"127.996 32767 overflowed\n0 0 fits\n"),
+    converted(["--print", "all", "-p", "wrapping", "-m", "floor", "--target-mode", "floor"], b"200\n-0.00001\n", b"-56 -14336 overflowed\n-0.004 -1 fits\n"),
     moved(["--from", "bits"], b"0xfe80\n-384\r\n0x180\n0x8000\n0x10000\n",
           b"-2 -2 fits\n-2 -2 fits\n1 1 fits\n-128 -128 fits\nerror: word is wider than the format\n", 1),
     moved(["--from", "bits", "--target-mode", "nearest"], b"0xfe80\n384\n0x7fff\n", b"-2 -2 fits\n2 2 fits\nerror: overflow\n", 1),
@@ -261,6 +261,29 @@ NAMES = (
     ("Q63", "I1F63"), ("Q1.14", "I1F14"), ("Q8.8", "I8F8"), ("UQ8.8", "U8F8"), ("uq0.24", "U0F24"),
 )
 FIRST = "fixed: lines refused: {}, the first in line {}, '{}': invalid digit found in string{}\n"
+# Names that GNU C has for itself: macros, functions, types and operators.
+KEPT_BY_C = (b"__LINE__", b"__func__", b"__int128", b"_Pragma", b"_Float32", b"__attribute__", b"a__b", b"_X", b"linux", b"unix", b"i386",
+             b"asm", b"typeof", b"inline", b"nullptr", b"constexpr", b"thread_local", b"_Generic")
+# Lines of bytes that a terminal would obey, or that are cut within a character: each is shown by characters.
+BEGINNING = "fixed: lines refused: 1, the first in line 1, '{}': invalid digit found in string, byte {}, '{}'\n"
+SHOWN = tuple((["convert", "I8F8"], given + b"\n", BEGINNING.format(*shown).encode()) for given, shown in (
+    (b"1\xc2\x9b31m", ("1?31m", 2, "\\xc2")), ("\u20ac 12".encode(), ("\u20ac 12", 1, "\\xe2")), (b"1\x1b[31m\x7f", ("1?[31m?", 2, "?")),
+    (b"1 \xff\xe2\x82", ("1 \\xff\\xe2\\x82", 2, " ")), (b"x\xc0\x80\xed\xa0\x80", ("x\\xc0\\x80\\xed\\xa0\\x80", 1, "x")),
+    ("\u20ac".encode() * 39 + "\U0001f600\u20ac".encode(), ("\u20ac" * 39 + "\U0001f600", 1, "\\xe2")),
+    ("7\u00e9\u0085\u00a0".encode(), ("7\u00e9?\u00a0", 2, "\\xc3"))))
+LISTS = "array-c, array-rust, vhdl, readmemh, coe or mif"
+# Words of `fixed` that are refused, and the whole line that says why.
+REFUSED = tuple((words, b"", f"fixed: {why}; try 'fixed {words[0]} --help'\n".encode()) for words, why in (
+    (["show", "Q15", "0.1", "--places", "3"], "unexpected argument '--places' found"),
+    (["fit", "--error", "-1"], "'-1' is not an error: it is a numeral that is not below zero, or 2^-K with K up to 1000"),
+    (["fit", "--width", "8", "-5"], "'-5' is not an option, nor a file: a numeral is an end of '--range'"),
+    (["constants", "verilog", "--numerals", "Q15"], f"'verilog' is not a form of a list: {LISTS}"),
+    (["constants", "c", "--numerals", "Q15"], f"'--numerals' is for a list: {LISTS}"),
+    (["constants", "array-c", "--name", "__LINE__"],
+     "'__LINE__' can name no array: C keeps names with two underscores side by side, or an underscore and a capital first"),
+    (["constants", "array-c", "--name", "linux"],
+     "'linux' can name no array: it is not a name, or the language reserves it, or it is the guard"),
+))
 # Words of `fixed`, an input, and what standard error says of it: the first line that was refused, and the report.
 TOLD = (
     (["convert", "I16F16", "I8F8"], b"7\nabc\r\n300\n", FIRST.format(2, 2, "abc", ", byte 1, 'a'").encode()),

@@ -31,6 +31,7 @@ PAIRS = (
     ("pack.py", "fixed", 3),
     ("arrays.py", "fixed", 3),
     ("taps.py", "fixed", 2),
+    ("modes.py", "fixed", 1),
 )
 
 

@@ -56,7 +56,7 @@ def patterns(library, widest):
         for number in range(low, high + 1):
             count += 1
             text, value = library.printed(number, shape), library.exact(number, shape)
-            right = [(0, shortest(number, shape[2]).encode()), (0, places_text(number, shape[2], shape[2]).encode())]
+            right = [(0, shortest(number, shape[2]).encode()), (0, places_text(number, shape[2], shape[2], "nearest").encode())]
             if [text, value] != right or any(library.read(it[1], shape) != (0, (number, 0)) for it in (text, value)):
                 wrong.append((shape, number, text, value))
     return count, wrong
@@ -71,7 +71,7 @@ def width_ends(library):
         shape = signed, width, frac
         for end, way in zip(ends(shape), (-1, 1)):
             for half_ulps in (0, 1, 2, 3, 2 << width):
-                text = places_text(2 * end + way * half_ulps, frac + 1, frac + 1).encode()
+                text = places_text(2 * end + way * half_ulps, frac + 1, frac + 1, "nearest").encode()
                 for policy in range(len(POLICIES)):
                     for mode in range(len(MODE_NAMES)):
                         count += 1
@@ -93,7 +93,7 @@ def seeded(library, pick, count):
             bits = found[1][0]
             number = number_of(bits, shape)
             is_right = (library.printed(bits, shape) == (0, shortest(number, shape[2]).encode())
-                        and library.exact(bits, shape) == (0, places_text(number, shape[2], shape[2]).encode())
+                        and library.exact(bits, shape) == (0, places_text(number, shape[2], shape[2], "nearest").encode())
                         and library.moved(bits, shape, target, policy, mode) == answered(
                             lambda: brought(policy, target, moved(number, shape[2], target[2], MODE_NAMES[mode]))))
         if not is_right:
