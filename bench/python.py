@@ -48,7 +48,8 @@ def contenders():
     bits = numpy.random.default_rng(1).integers(-32768, 32768, COUNT).astype(numpy.int16)
     texts = form.text(bits, dtype="S").astype("S16")
     letters, floats = texts.astype("U16"), bits / 32768 + 1e-6
-    listed, listed_bits = letters.tolist(), bits.tolist()
+    listed, listed_bits, listed_floats = letters.tolist(), bits.tolist(), floats.tolist()
+    objects, decimals, others = letters.astype(object), list(map(Decimal, listed)), bits[::-1].copy()
     ours, plain = "lomdeqash", "numpy, by floats"
 
     def as_floats(given):
@@ -67,13 +68,38 @@ def contenders():
             "int(round(..))": lambda: [int(round(float(text) * 32768)) for text in listed],
             "Decimal": lambda: [int((Decimal(text) * 32768).to_integral_value()) for text in listed],
         },
-        "reading floats": {ours: lambda: form.read(floats, policy="saturating"), plain: lambda: as_floats(floats)},
+        "reading an object array of str": {
+            ours: lambda: form.read(objects),
+            "int(round(..))": lambda: [int(round(float(text) * 32768)) for text in objects],
+        },
+        "reading a list of Decimal": {
+            ours: lambda: form.read(decimals),
+            "Decimal": lambda: [int((number * 32768).to_integral_value()) for number in decimals],
+        },
+        "reading a list of float": {
+            ours: lambda: form.read(listed_floats, policy="saturating"),
+            "int(round(..))": lambda: [int(round(number * 32768)) for number in listed_floats],
+        },
+        "reading floats": {
+            ours: lambda: form.read(floats, policy="saturating"),
+            "rint, astype": lambda: numpy.rint(floats * 32768).astype(numpy.int16),
+        },
+        "floats of bits": {ours: lambda: form.value(bits, float), plain: lambda: bits / 32768},
         "printing S8": {
             ours: lambda: form.text(bits, dtype="S"),
             plain: lambda: (bits / 32768).astype("S20"),
             "str(..)": lambda: [str(number / 32768).encode() for number in listed_bits],
             "Decimal": lambda: [str(Decimal(number) / 32768).encode() for number in listed_bits],
             "numpy's %.5f": lambda: numpy.char.mod(b"%.5f", bits / 32768),
+        },
+        "printing 2 places": {
+            ours: lambda: form.text(bits, places=2),
+            "f-string": lambda: [f"{number:.2f}" for number in (bits / 32768).tolist()],
+            "numpy's %.2f": lambda: numpy.char.mod("%.2f", bits / 32768),
+        },
+        "comparing with I8F8": {
+            ours: lambda: form.compare(bits, others, "I8F8"),
+            plain: lambda: numpy.sign(bits / 32768 - others / 256),
         },
         "printing U8": {ours: lambda: form.text(bits), plain: lambda: (bits / 32768).astype("U20")},
         "printing a list of str": {
@@ -86,6 +112,16 @@ def contenders():
             plain: lambda: numpy.rint(bits / 128).astype(numpy.int16),
         },
     }
+    try:
+        from pandas import Series
+    except ImportError:
+        print("pandas is missing")
+    else:
+        column = Series(objects, dtype="string")
+        rows["reading a column of pandas' string"] = {
+            ours: lambda: form.read(column),
+            plain: lambda: as_floats(column),
+        }
     try:
         from fxpmath import Fxp
     except ImportError:

@@ -46,7 +46,7 @@ _fixed_is_columns() {
       -*) ;;
       *)
         case ${COMP_WORDS[i - 1]} in
-          -d | --delimiter | -r | --radix | -p | --policy | -m | --mode | --target-mode | --from | --print | --places) ;;
+          -d | --delimiter | -r | --radix | -p | --policy | -m | --mode | --target-mode | --from | --print | --places | --places-mode) ;;
           *) [ "$i" -lt "$COMP_CWORD" ] && return 1 ;;
         esac
         ;;
@@ -56,7 +56,7 @@ _fixed_is_columns() {
 }
 _fixed() {
   local word=$2 previous=$3 command=${COMP_WORDS[1]}
-  local commands='convert column show bits format lines enclose least fit pack unpack constants sort help' words=''
+  local commands='convert column show bits format modes lines enclose least fit pack unpack constants sort help' words=''
   if [ "$COMP_CWORD" -eq 1 ]; then
     mapfile -t COMPREPLY < <(compgen -W "$commands --help --version" -- "$word")
     return
@@ -64,7 +64,7 @@ _fixed() {
   case $previous in
     --radix | -r) words='2 8 10 16' ;;
     --policy | -p) words='checked saturating wrapping' ;;
-    --mode | -m | --target-mode) words='nearest floor ceil zero' ;;
+    --mode | -m | --target-mode | --places-mode) words='nearest ties-away ties-zero ties-up ties-down floor ceil zero away' ;;
     --from) words='text bits' ;;
     --file | --output | -o)
       mapfile -t COMPREPLY < <(compgen -f -- "$word")
@@ -75,18 +75,18 @@ _fixed() {
     --empty) words='fault keep 0' ;;
     --endian) words='little big' ;;
     --numerals) words='I16F16 U16F16 I8F8 U8F8 I32F32 U32F32 I1F15 I1F31 I4F4 U0F8' ;;
-    --limit | --field | --delimiter | -d | --places | --guard | --name | --comments | --skip | --decimal | --thousands) return ;;
+    --limit | --field | --delimiter | -d | --places | --guard | --name | --comments | --skip | --decimal | --decimal-out | --thousands | --thousands-anywhere | --separators | --refused) return ;;
     *)
       case $command:$word in
-        convert:-*) words='--from --radix --policy --mode --target-mode --print --places --trim --skip-blank --comments --words --report --output --help --version' ;;
-        column:-*) words='--from --radix --policy --mode --target-mode --print --places --delimiter --all --header --skip --trim --decimal --thousands --empty --into --keep --report --help --version' ;;
+        convert:-*) words='--from --radix --policy --mode --target-mode --print --places --places-mode --trim --skip-blank --comments --words --separators --refused --keep --report --output --help --version' ;;
+        column:-*) words='--from --radix --policy --mode --target-mode --print --places --places-mode --delimiter --all --header --skip --trim --decimal --decimal-out --thousands --thousands-anywhere --empty --into --keep --report --help --version' ;;
         show:-*) words='--radix --policy --mode --json --file --output --help --version' ;;
         bits:-*) words='--radix --field --swap --json --file --output --help --version' ;;
         format:-*) words='--json --help --version' ;;
         lines:-* | sort:-*) words='--limit --help --version' ;;
         fit:-*) words='--width --error --any --signed --why --range --radix --help --version' ;;
         pack:-*) words='--endian --radix --policy --mode --help --version' ;;
-        unpack:-*) words='--endian --policy --target-mode --print --places --help --version' ;;
+        unpack:-*) words='--endian --policy --target-mode --print --places --places-mode --help --version' ;;
         constants:-*) words='--guard --numerals --name --radix --policy --mode --help --version' ;;
         *:-*) words='--help --version' ;;
         column:*)

@@ -13,4 +13,4 @@ show 'fixed show I16F16 3.14159 -1e-3'
 show 'fixed bits I16F16 0xfffc0000'
 show 'fixed format U8F8'
 show "printf '3.14159\\nabc\\n' | fixed convert I16F16 I8F8 --print all"
-show 'fixed column price U16F16 --header <tariff.csv'
+show 'fixed column celsius I16F16 --header <sensor.csv'

@@ -30,12 +30,13 @@ gcc -O1 example.c -l:libfixed.a -o static
 [ "$(./shared)" = "$(./static)" ]
 readelf -d shared | grep -q libfixed.so.1
 if readelf -d static | grep -q libfixed; then exit 1; fi
+test -f /usr/include/fixed.hpp -a -f /usr/share/lomdeqash/rust/Cargo.toml
 gcc -O1 edges.c -lfixed -o edges
 ./edges 2000 | tail -n 1
 python3 -c "import lomdeqash; f = lomdeqash.Format('I1F15'); print(lomdeqash.__file__, f.text(f.read(0.3333)))"
 LIBFIXED=libfixed.so.1 python3 fixed.py
 dpkg --purge $names >/dev/null
-if [ -e /usr/bin/fixed ] || [ -e /usr/include/fixed.h ] || [ -e /usr/lib/python3/dist-packages/lomdeqash ]; then
+if [ -e /usr/bin/fixed ] || [ -e /usr/include/fixed.hpp ] || [ -e /usr/share/lomdeqash ] || [ -e /usr/lib/python3/dist-packages/lomdeqash ]; then
   echo 'something was left behind' >&2
   exit 1
 fi

@@ -89,7 +89,8 @@ finish libfixed1 libs "$(needed "$folder/usr/lib/$triple/libfixed.so.1")" 'fixed
 
 begin libfixed-dev
 install -d "$folder/usr/include" "$folder/usr/lib/$triple/pkgconfig" "$folder/usr/share/man/man3"
-install -m 644 include/fixed.h "$folder/usr/include/fixed.h"
+install -m 644 include/fixed.h include/fixed.hpp "$folder/usr/include"
+for file in rust/Cargo.toml rust/build.rs rust/src/*.rs; do install -D -m 644 "$file" "$folder/usr/share/lomdeqash/$file"; done
 install -m 644 build/lib/libfixed.a "$folder/usr/lib/$triple/libfixed.a"
 strip --strip-debug --remove-section=.comment "$folder/usr/lib/$triple/libfixed.a"
 ln -s libfixed.so.1 "$folder/usr/lib/$triple/libfixed.so"
@@ -99,8 +100,8 @@ page man/fixed.3 "$folder/usr/share/man/man3"
 for call in $(sed -n 's/^uint32_t \(fixed_[a-z_]*\)(.*/\1/p' include/fixed.h); do
   ln -s fixed.3.gz "$folder/usr/share/man/man3/$call.3.gz"
 done
-finish libfixed-dev libdevel "libfixed1 (= $version)" 'fixed-point numbers as text: header and archive' \
-  'What is needed to build a program against libfixed: the header, the archive, the manual pages of the calls, and a file for pkg-config.'
+finish libfixed-dev libdevel "libfixed1 (= $version)" 'fixed-point numbers as text: headers and archive' \
+  'What is needed to build a program against libfixed: the headers for C and C++, the archive, the sources of a crate for Rust, the manual pages of the calls, and a file for pkg-config.'
 
 rm -rf build/deb/symbols
 [ -z "${PACKAGES_ONLY:-}" ] || exit 0

@@ -2,31 +2,39 @@
 
 VERSION := $(shell cat packaging/VERSION)
 CALLS := $(shell sed -n 's/^ *\(fixed_[a-z_]*\);$$/\1/p' packaging/fixed.map)
+LIBRARY := build/lib/libfixed.a build/lib/libfixed.so.1
 MANUALS := $(patsubst man/%,%,$(wildcard man/*.1)) fixed.3
+# The sources of the crate for Rust, which a Cargo.toml names by their folder.
+CRATE := rust/Cargo.toml rust/build.rs $(wildcard rust/src/*.rs)
 CC ?= cc
 
 .PHONY: library dist deb check-library install-library uninstall-library
 
-# Proves the library, and leaves it as an archive and as a shared library with the header's symbols alone.
+# Proves the library, and leaves it as an archive and as a shared library with the header's symbols alone. (The gate refuses a
+# link in any folder, and so the name without a number is a copy.)
 library:
 	@$(PROVE) fixed_c
 	@mkdir -p build/lib
 	cp build/libfixed_c.a build/lib/libfixed.a
 	@$(MAKE) --no-print-directory build/lib/libfixed.so.1
-	ln -sf libfixed.so.1 build/lib/libfixed.so
+	cp build/lib/libfixed.so.1 build/lib/libfixed.so
+	@echo "build/lib has libfixed.a and libfixed.so.1, proved and compiled for $(CPU)."
 
 build/lib/libfixed.so.1: build/lib/libfixed.a packaging/fixed.map
 	$(CC) -shared -o $@ -Wl,-soname,libfixed.so.1 -Wl,--version-script=packaging/fixed.map \
 	  -Wl,--gc-sections -Wl,-z,relro -Wl,-z,now $(CALLS:%=-Wl,-u,%) build/lib/libfixed.a -nostartfiles -lc
 
-# Compiles the callers in examples/ with what compilers there are, and runs them against the library.
+# Compiles the callers in examples/, the crate for Rust, the header for C++ and SQLite's extension with what compilers there are,
+# and runs them against the library.
 check-library: library
 	python3 .ci/library.py --built build
+	python3 .ci/wrappers.py --built build
 
 install-library:
-	@test -f build/lib/libfixed.so.1 || { echo 'The library is not built: make library' >&2; exit 1; }
+	@$(call need_files,$(LIBRARY),make library)
 	install -d "$(DESTDIR)$(PREFIX)/include" "$(DESTDIR)$(PREFIX)/lib/pkgconfig" "$(DESTDIR)$(PREFIX)/share/man/man1" "$(DESTDIR)$(PREFIX)/share/man/man3"
-	install -m 644 include/fixed.h "$(DESTDIR)$(PREFIX)/include/fixed.h"
+	install -m 644 include/fixed.h include/fixed.hpp "$(DESTDIR)$(PREFIX)/include/"
+	for file in $(CRATE); do install -D -m 644 "$$file" "$(DESTDIR)$(PREFIX)/share/lomdeqash/$$file" || exit 1; done
 	install -m 644 build/lib/libfixed.a "$(DESTDIR)$(PREFIX)/lib/libfixed.a"
 	install -m 755 build/lib/libfixed.so.1 "$(DESTDIR)$(PREFIX)/lib/libfixed.so.1"
 	ln -sf libfixed.so.1 "$(DESTDIR)$(PREFIX)/lib/libfixed.so"
@@ -41,7 +49,8 @@ install-library:
 	for file in completion/*.fish; do install -m 644 "$$file" "$(DESTDIR)$(PREFIX)/share/fish/vendor_completions.d/" || exit 1; done
 
 uninstall-library:
-	rm -f "$(DESTDIR)$(PREFIX)/include/fixed.h" "$(DESTDIR)$(PREFIX)/lib/pkgconfig/fixed.pc"
+	rm -f "$(DESTDIR)$(PREFIX)/include/fixed.h" "$(DESTDIR)$(PREFIX)/include/fixed.hpp" "$(DESTDIR)$(PREFIX)/lib/pkgconfig/fixed.pc"
+	rm -rf "$(DESTDIR)$(PREFIX)/share/lomdeqash"
 	for file in libfixed.a libfixed.so.1 libfixed.so; do rm -f "$(DESTDIR)$(PREFIX)/lib/$$file"; done
 	for page in $(MANUALS); do rm -f "$(DESTDIR)$(PREFIX)/share/man/man$${page##*.}/$$page"; done
 	for call in $(CALLS); do rm -f "$(DESTDIR)$(PREFIX)/share/man/man3/$$call.3"; done
@@ -53,7 +62,9 @@ uninstall-library:
 dist:
 	@mkdir -p build
 	git archive --format=tar.gz --prefix=lomdeqash-$(VERSION)/ -o build/lomdeqash-$(VERSION).tar.gz HEAD
+	@echo "build/lomdeqash-$(VERSION).tar.gz has what is committed."
 
 # Packages of the programs, of the library, and of what is needed to build against it.
 deb: build library
 	packaging/deb.sh $(VERSION) $(PROGRAMS)
+	@echo "The packages are in build/deb."

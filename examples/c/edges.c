@@ -64,9 +64,9 @@ static uint64_t round_and_convert(int64_t bits, fixed_format format, unsigned *s
 
 /* Prints bits in a style, good or bad, into a block of some size. */
 static uint64_t print_in_style(int64_t bits, fixed_format format, unsigned *seed) {
-  static const uint32_t fills[] = {' ', '*', 0xe9, 0x20ac, 0x1f600, 0xd800, 0x110000};
+  static const uint32_t fills[] = {0, ' ', '*', 0xe9, 0x20ac, 0x1f600, 0xd800, 0x110000};
   static const uint32_t precisions[] = {FIXED_NO_PRECISION, 0, 3, 70, 65536};
-  fixed_style style = {(uint32_t)rand_r(seed) % 8, precisions[rand_r(seed) % 5], (uint32_t)rand_r(seed) % 50, fills[rand_r(seed) % 7],
+  fixed_style style = {(uint32_t)rand_r(seed) % 8, precisions[rand_r(seed) % 5], (uint32_t)rand_r(seed) % 50, fills[rand_r(seed) % 8],
                        (uint32_t)rand_r(seed) % 4, (uint32_t)rand_r(seed) % 2, (uint32_t)rand_r(seed) % 2, (uint32_t)rand_r(seed) % 2};
   size_t size = (size_t)rand_r(seed) % 300, len = 999;
   char *out = block(size);
@@ -180,6 +180,18 @@ static void nothing_at_all(void) {
   CHECK(fixed_abi() == FIXED_ABI && fixed_version() == FIXED_VERSION);
 }
 
+/* A style of zeros fills with blanks; the default one is the shortest decimal, to the right. */
+static void styles(void) {
+  const fixed_format byte = {1, 8, 4};
+  fixed_style zeros = {0}, style = FIXED_STYLE_DEFAULT;
+  char out[9];
+  size_t len = 0;
+  CHECK(fixed_print_styled(51, byte, &style, out, sizeof out, &len) == FIXED_OK && strcmp(out, "3.2") == 0);
+  zeros.width = style.width = 8;
+  CHECK(fixed_print_styled(51, byte, &style, out, sizeof out, &len) == FIXED_OK && strcmp(out, "     3.2") == 0);
+  CHECK(fixed_print_styled(51, byte, &zeros, out, sizeof out, &len) == FIXED_OK && strcmp(out, "3       ") == 0);
+}
+
 static void *in_a_thread(void *at) {
   uint64_t *given = at;
   *given = some_calls((unsigned)*given, 5000);
@@ -190,6 +202,7 @@ int main(int argc, char **argv) {
   uint64_t sums[4] = {7, 7, 7, 8};
   pthread_t threads[4];
   nothing_at_all();
+  styles();
   printf("%llu\n", (unsigned long long)some_calls(1, argc > 1 ? atoi(argv[1]) : 100000));
   for (int i = 0; i < 4; i++) CHECK(pthread_create(&threads[i], NULL, in_a_thread, &sums[i]) == 0);
   for (int i = 0; i < 4; i++) CHECK(pthread_join(threads[i], NULL) == 0);
