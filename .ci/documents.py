@@ -4,8 +4,8 @@
     documents.py [--built build|out]
 
 The crates' table against crates.txt, definitions that docs/RULES.md and docs/PROVED.md name against specs/, the files
-that the headline needs against its clause, and every path and target of make that a document names. A block of commands
-is one that is run, or the words before it say that it is not run.
+that the headline needs against its clause, the crates without a wrong body in the gate, and every path and target of
+make that a document names. A block of commands is one that is run, or the words before it say that it is not run.
 
 With `--built` also the programs against what is said of them: README's answers, the commands of every document, and
 the lines of Python. What is not built or not installed is then named and passed over.
@@ -378,6 +378,16 @@ def crates_table():
     yield from (f"docs/ARCHITECTURE.md: no crate {name}" for name in rows if name not in crates)
 
 
+def outside_the_gate():
+    """docs/DECISIONS.md names just the crates whose wrong bodies are all left out of the gate."""
+    text = text_of("docs/DECISIONS.md").partition("have no wrong body in the gate")[2].partition(".")[0]
+    said = set(re.findall(r"`(\w+)`", text))
+    left_out = {path.split("/")[-3] for path in glob.glob(f"{TOP}/crates/*/wrong-bodies/*.edit")}
+    left_out -= {path.split("/")[-3] for path in glob.glob(f"{TOP}/crates/*/must-fail/*.edit")}
+    yield from (f"docs/DECISIONS.md: {it} has no wrong body in the gate" for it in sorted(left_out - said))
+    yield from (f"docs/DECISIONS.md: {it} has one in the gate" for it in sorted(said - left_out))
+
+
 def named(text):
     """Definitions that a text names as in `crate`: `File` (`name`, ..), by crate, file and names, in its order."""
     listed = r"[Ii]n `(\w+)`: ((?:`\w+`(?: \((?:`[\w'-]+`(?:, )?|[^`()]*)*\))?(?:, | and )?)+)"
@@ -500,7 +510,8 @@ def main():
     words.add_argument("--built", choices=("build", "out"))
     given = words.parse_args()
     toolchain()
-    wrong = [*unmarked(), *readme_shape(), *crates_table(), *definitions(), *unknown_names(), *headline(), *paths(), *targets(), *numbers_of_c()]
+    wrong = [*unmarked(), *readme_shape(), *crates_table(), *outside_the_gate(), *definitions(), *unknown_names(), *headline(), *paths()]
+    wrong += [*targets(), *numbers_of_c()]
     if given.built:
         wrong += [*readme_answers(given.built), *commands(given.built), *lines_of_python(given.built), *compiled(given.built)]
     for it in wrong:
