@@ -20,6 +20,8 @@ import subprocess
 import sys
 import tempfile
 
+from edits import parts
+
 TOP = os.path.dirname(os.path.dirname(os.path.abspath(__file__)))
 KEPT = f"{TOP}/build/logs/wrong-bodies"
 IN_GATE, LEFT_OUT = "must-fail", "wrong-bodies"
@@ -51,7 +53,8 @@ def try_left_out(crates):
             os.rename(path, f"{os.path.dirname(path)}/{IN_GATE}")
         print(f"Trying the wrong bodies that the gate leaves out, of {' '.join(crates)}", flush=True)
         lines = []
-        with subprocess.Popen(["rt", "must-fail", *crates], cwd=room, stdout=subprocess.PIPE, stderr=subprocess.STDOUT, text=True) as ran:
+        how = {"stdout": subprocess.PIPE, "stderr": subprocess.STDOUT, "text": True, "errors": "replace"}
+        with subprocess.Popen(["rt", "must-fail", *crates], cwd=room, **how) as ran:
             for line in ran.stdout:
                 print(line, end="", flush=True)
                 lines.append(line)
@@ -63,6 +66,7 @@ def function_at(path, line):
     """The function that a line of a source file belongs to."""
     with open(path, encoding="utf-8") as file:
         lines = file.read().split("\n")
+    line = min(line, len(lines))
     # (an item is named by the line on which its attributes begin)
     is_head = re.match(r"\s*(#\[|///|(pub(\(crate\))? )?(final )?fn )", lines[line - 1])
     for text in lines[line - 1:] if is_head else (*reversed(lines[:line]), *lines[line:]):
@@ -77,10 +81,8 @@ def function_at(path, line):
 
 def edited(crate, edit):
     """The path of the file that an edit changes, and the first text that it replaces."""
-    with open(edit, encoding="utf-8") as file:
-        text = file.read()
-    path, old = (re.search(rf"^{it}: (.*)$", text, re.M).group(1) for it in ("file", "old"))
-    return f"{TOP}/crates/{crate}/{path}", old
+    name, pairs, _ = parts(edit)
+    return f"{TOP}/crates/{crate}/{name}", pairs[0][0] if pairs else ""
 
 
 def edited_function(crate, edit):
@@ -95,8 +97,9 @@ def sum_of(crate, edit):
     """The sum of an edit and of the file that it changes."""
     found = hashlib.sha256()
     for path in (edit, edited(crate, edit)[0]):
-        with open(path, "rb") as file:
-            found.update(file.read())
+        if os.path.isfile(path):
+            with open(path, "rb") as file:
+                found.update(file.read())
     return found.hexdigest()[:32]
 
 
