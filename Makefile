@@ -8,6 +8,7 @@
 #   make check     every proof, test and program, without the wrong bodies
 #   make test      the gate: the same with the wrong bodies of must-fail/
 #   make wrong-bodies [CRATE=..]   the wrong bodies that the gate leaves out, of every crate or of these
+#   make wrong-bodies-table        prints every wrong body, and what refused it when it was tried
 #   make install   puts what make build and make library left below PREFIX (and DESTDIR); make uninstall removes it
 #   make library   the library for C, in build/lib; make check-library tries it; make deb makes packages, make dist an archive
 #   make doc       the reference, in build/doc: every public item with its clauses, every name in them a link
@@ -37,7 +38,7 @@ PROVE := python3 .ci/prove.py --jobs $(JOBS) --cpu $(CPU)
 need_files = (missing=; for file in $(1); do test -f "$$file" || missing="$$missing $$file"; done; \
   test -z "$$missing" || { echo "Not built:$$missing: run $(2)" >&2; exit 1; })
 
-.PHONY: build build/v2 try demo demo-command quick check test wrong-bodies install uninstall doc bench compare scale clean
+.PHONY: build build/v2 try demo demo-command quick check test wrong-bodies wrong-bodies-table install uninstall doc bench compare scale clean
 .DELETE_ON_ERROR:
 
 build:
@@ -77,6 +78,10 @@ test:
 wrong-bodies:
 	@python3 .ci/edits.py
 	@python3 .ci/wrong_bodies.py try $(CRATE)
+
+# Every wrong body, with what refused it in the last make test or make wrong-bodies that tried it as it is now.
+wrong-bodies-table:
+	@python3 .ci/wrong_bodies.py table
 
 # What was built: as root, nothing is proved or built anew. What is missing is named before anything is copied.
 install:

@@ -3,9 +3,9 @@
 
     documents.py [--built build|out]
 
-The crates' table against crates.txt, the wrong bodies that docs/WRONG_BODIES.md names against must-fail/ and
-wrong-bodies/, definitions that docs/RULES.md and docs/PROVED.md name against specs/, and every path and target of make
-that a document names. A block of commands is one that is run, or the words before it say that it is not run.
+The crates' table against crates.txt, definitions that docs/RULES.md and docs/PROVED.md name against specs/, the files
+that the headline needs against its clause, the crates without a wrong body in the gate, and every path and target of
+make that a document names. A block of commands is one that is run, or the words before it say that it is not run.
 
 With `--built` also the programs against what is said of them: README's answers, the commands of every document, and
 the lines of Python. What is not built or not installed is then named and passed over.
@@ -378,21 +378,14 @@ def crates_table():
     yield from (f"docs/ARCHITECTURE.md: no crate {name}" for name in rows if name not in crates)
 
 
-def wrong_bodies():
-    """Each edit is named in docs/WRONG_BODIES.md under its crate, and is in the gate where that says so."""
-    edits = {(path.split("/")[-3], os.path.basename(path)[:-5], path.split("/")[-2] == "must-fail")
-             for folder in ("must-fail", "wrong-bodies") for path in glob.glob(f"{TOP}/crates/*/{folder}/*.edit")}
-    named, crate = set(), None
-    for line in text_of("docs/WRONG_BODIES.md").split("\n"):
-        head = re.match(r"## `(\w+)`", line)
-        crate = head.group(1) if head else crate
-        row = re.match(r"\| `(\w+)` \| (yes|no) \|", line)
-        if row:
-            named.add((crate, row.group(1), row.group(2) == "yes"))
-    yield from (f"docs/WRONG_BODIES.md: no wrong body {crate}/{name} that is {'in' if gate else 'left out of'} the gate"
-                for crate, name, gate in sorted(edits - named))
-    yield from (f"docs/WRONG_BODIES.md: there is no {crate}/{name} that is {'in' if gate else 'left out of'} the gate"
-                for crate, name, gate in sorted(named - edits))
+def outside_the_gate():
+    """docs/DECISIONS.md names just the crates whose wrong bodies are all left out of the gate."""
+    text = text_of("docs/DECISIONS.md").partition("have no wrong body in the gate")[2].partition(".")[0]
+    said = set(re.findall(r"`(\w+)`", text))
+    left_out = {path.split("/")[-3] for path in glob.glob(f"{TOP}/crates/*/wrong-bodies/*.edit")}
+    left_out -= {path.split("/")[-3] for path in glob.glob(f"{TOP}/crates/*/must-fail/*.edit")}
+    yield from (f"docs/DECISIONS.md: {it} has no wrong body in the gate" for it in sorted(left_out - said))
+    yield from (f"docs/DECISIONS.md: {it} has one in the gate" for it in sorted(said - left_out))
 
 
 def named(text):
@@ -488,24 +481,16 @@ def needed():
 
 
 def headline():
-    """The headline's reading order has just the definitions that its clause needs, each file only those above it, and
-    the words of std in them."""
-    files, used, std = needed()
-    text = text_of("docs/PROVED.md").partition("## The headline")[2].partition("\n### ")[0]
-    listed = {(crate, file): set(names) for crate, file, names in named(text)}
-    for crate, file in sorted({*files, *listed}):
-        names, wanted = listed.get((crate, file), set()), files.get((crate, file), set())
-        said = f"of {file} in {crate}"
-        yield from (f"docs/PROVED.md: the headline needs {name} {said}" for name in sorted(wanted - names))
-        yield from (f"docs/PROVED.md: the headline does not need {name} {said}" for name in sorted(names - wanted))
-    order = list(listed)
+    """The headline's reading order has just the files whose definitions its clause needs, each only over those above it.
+    The definitions themselves, and the words of std, are on the reference's first page (reference.py)."""
+    files, used, _ = needed()
+    text = text_of("docs/PROVED.md").partition("## The headline")[2].partition("\n## ")[0].partition("\n### ")[0]
+    order = [(crate, file) for crate, file, _ in named(text)]
+    yield from (f"docs/PROVED.md: the headline needs {file} of {crate}" for crate, file in sorted(files.keys() - set(order)))
+    yield from (f"docs/PROVED.md: the headline does not need {file} of {crate}" for crate, file in sorted(set(order) - files.keys()))
     yield from (f"docs/PROVED.md: {above[1]} of {above[0]} uses {below[1]} of {below[0]}, which is listed after it"
                 for above, below in sorted(used)
-                if above in listed and below in listed and order.index(above) < order.index(below))
-    rows = re.findall(r"^- ((?:`[\wℕℤ]+`[,;:] ?)+)", text.partition("The words of std")[2], re.M)
-    words = set(re.findall(r"`([\wℕℤ]+)`", "".join(rows)))
-    yield from (f"docs/PROVED.md: the headline needs the word {word} of std" for word in sorted(std - words))
-    yield from (f"docs/PROVED.md: the headline does not need the word {word} of std" for word in sorted(words - std))
+                if above in order and below in order and order.index(above) < order.index(below))
 
 
 def paths():
@@ -525,9 +510,8 @@ def main():
     words.add_argument("--built", choices=("build", "out"))
     given = words.parse_args()
     toolchain()
-    for it in wrong_bodies():
-        print(f"{it} (which takes a proof to say, and fails nothing)")
-    wrong = [*unmarked(), *readme_shape(), *crates_table(), *definitions(), *unknown_names(), *headline(), *paths(), *targets(), *numbers_of_c()]
+    wrong = [*unmarked(), *readme_shape(), *crates_table(), *outside_the_gate(), *definitions(), *unknown_names(), *headline(), *paths()]
+    wrong += [*targets(), *numbers_of_c()]
     if given.built:
         wrong += [*readme_answers(given.built), *commands(given.built), *lines_of_python(given.built), *compiled(given.built)]
     for it in wrong:

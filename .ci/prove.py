@@ -24,7 +24,7 @@ from concurrent.futures import FIRST_COMPLETED, ThreadPoolExecutor, wait
 
 from crates import READ_BY_RUNS, TOP, above, below, keys, kit, lowest_first, read_crates, text_of, toolchain
 from store import Store
-from wrong_bodies import function_at
+from wrong_bodies import function_at, keep
 
 BUILD = f"{TOP}/build"
 # What a check is likely to take, in KiB.
@@ -325,12 +325,16 @@ def run_gate(bench):
     progress = Progress({it: weight for it, weight in tasks.items() if weight}, bench.lanes)
     env = os.environ | {"RT_JOBS": os.environ.get("RT_JOBS") or str(bench.lanes)}
     how = {"env": env, "stdin": subprocess.DEVNULL, "stdout": subprocess.PIPE, "text": True, "errors": "replace"}
+    tried = []
     with subprocess.Popen(["rt", "ci"], cwd=bench.top, **how) as ran:
         for line in ran.stdout:
             print(line, end="", flush=True)
+            tried += [line] if "must-fail" in line else []
             proved = re.match(r"rt: (\w+)(: its tests are)? proved$", line)
             if proved:
                 progress.done((proved[1], "tests" if proved[2] else "proof"), line.strip().removeprefix("rt: "))
+    if bench.top == TOP:
+        keep(tried)
     return ran.returncode
 
 

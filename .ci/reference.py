@@ -22,6 +22,7 @@ sys.path.insert(0, f"{TOP}/oracle")
 import documents  # noqa: E402
 from apidoc import test_reading  # noqa: E402
 from apidoc.__main__ import made  # noqa: E402
+from apidoc.std_words import MEANINGS  # noqa: E402
 
 # An item that is public by its own line. What a private module has is public if a `pub use` names it.
 PUBLIC = re.compile(r"^pub (?:(?:final|const|extern \"C\") )*(fn|struct|enum|trait|type|const|static) (\w+)", re.M)
@@ -103,15 +104,20 @@ def lacking(pages):
 
 
 def headline(pages):
-    """The first page has just the definitions and words of std that the headline needs, as documents.py finds them."""
+    """The first page has just the definitions that the headline needs, as documents.py finds them, and the words of std,
+    each of which apidoc/std_words.py explains."""
     files, _, std = documents.needed()
     wanted = {f"{crate}.{file}.{name}" for (crate, file), names in files.items() for name in names}
     first = pages["index.html"]
     listed = {it for it in first.anchors if it.count(".") >= 2}
     yield from (f"index.html: the headline needs {it}" for it in sorted(wanted - listed))
     yield from (f"index.html: the headline does not need {it}" for it in sorted(listed - wanted))
+    if "What the clause assumes" not in first.text:
+        yield "index.html: it does not say what the clause assumes"
     words = {it.rpartition(".")[2] for it in first.addresses if it.startswith("std.html#")}
     yield from (f"index.html: the headline needs the word {it} of std" for it in sorted(std - words))
+    yield from (f"apidoc/std_words.py does not say what {it} means" for it in sorted(std - MEANINGS.keys()))
+    yield from (f"apidoc/std_words.py: the headline does not need {it}" for it in sorted(MEANINGS.keys() - std))
 
 
 def browser():

@@ -1,15 +1,18 @@
 #!/usr/bin/env python3
-"""The wrong bodies: those that the gate leaves out are tried, or docs/WRONG_BODIES.md is written.
+"""The wrong bodies: tries those that the gate leaves out, or prints what refused each.
 
     wrong_bodies.py try [CRATE..]     tries those of wrong-bodies/, of every crate or of these (make wrong-bodies)
-    wrong_bodies.py table LOG..       writes the document from what the check said of each: the output of rt ci or rt must-fail, and
-                                      of this program
+    wrong_bodies.py table [LOG..]     prints a table of all of them (make wrong-bodies-table), also by these logs of rt must-fail
 
-`rt` tries what is in a crate's must-fail/. Those in wrong-bodies/ are tried in a copy of the crates in which they take its place.
-The document has for each the function whose contract refuses it, by which clause or condition, and whether the check stopped at a
-goal that is open or false, or inside an answer that was written for the right body, which shows less of the contract.
+`rt` tries the edits of a crate's must-fail/. Those of wrong-bodies/ are tried in a copy of the crates in which they take its place.
+Both ways of trying (make test, make wrong-bodies) keep what refused each edit in build/logs, for as long as the edit and the file that
+it edits stay the same.
+
+A row of the table names the function whose contract refuses the edit, the clause or condition, and where the check stopped: at a goal
+that is open or false, or inside a proof that was written for the right body, which shows less of the contract.
 """
 import glob
+import hashlib
 import os
 import re
 import shutil
@@ -17,10 +20,11 @@ import subprocess
 import sys
 import tempfile
 
+from edits import parts
+
 TOP = os.path.dirname(os.path.dirname(os.path.abspath(__file__)))
-DOCUMENT = f"{TOP}/docs/WRONG_BODIES.md"
+KEPT = f"{TOP}/build/logs/wrong-bodies"
 IN_GATE, LEFT_OUT = "must-fail", "wrong-bodies"
-ROW = re.compile(r"\| `(\w+)` \| (?:yes|no) \| (.*) \| (.*) \|")
 
 
 def edits_in(folder):
@@ -48,13 +52,21 @@ def try_left_out(crates):
         for path in glob.glob(f"{room}/crates/*/{LEFT_OUT}"):
             os.rename(path, f"{os.path.dirname(path)}/{IN_GATE}")
         print(f"Trying the wrong bodies that the gate leaves out, of {' '.join(crates)}", flush=True)
-        return subprocess.run(["rt", "must-fail", *crates], cwd=room, check=False).returncode
+        lines = []
+        how = {"stdout": subprocess.PIPE, "stderr": subprocess.STDOUT, "text": True, "errors": "replace"}
+        with subprocess.Popen(["rt", "must-fail", *crates], cwd=room, **how) as ran:
+            for line in ran.stdout:
+                print(line, end="", flush=True)
+                lines.append(line)
+    keep(lines)
+    return ran.returncode
 
 
 def function_at(path, line):
     """The function that a line of a source file belongs to."""
     with open(path, encoding="utf-8") as file:
         lines = file.read().split("\n")
+    line = min(line, len(lines))
     # (an item is named by the line on which its attributes begin)
     is_head = re.match(r"\s*(#\[|///|(pub(\(crate\))? )?(final )?fn )", lines[line - 1])
     for text in lines[line - 1:] if is_head else (*reversed(lines[:line]), *lines[line:]):
@@ -67,21 +79,34 @@ def function_at(path, line):
     return "?"
 
 
+def edited(crate, edit):
+    """The path of the file that an edit changes, and the first text that it replaces."""
+    name, pairs, _ = parts(edit)
+    return f"{TOP}/crates/{crate}/{name}", pairs[0][0] if pairs else ""
+
+
 def edited_function(crate, edit):
     """The function that an edit changes."""
-    with open(edit, encoding="utf-8") as file:
-        text = file.read()
-    path = re.search(r"^file: (.*)$", text, re.M).group(1)
-    old = re.search(r"^old: (.*)$", text, re.M).group(1)
-    with open(f"{TOP}/crates/{crate}/{path}", encoding="utf-8") as file:
+    path, old = edited(crate, edit)
+    with open(path, encoding="utf-8") as file:
         before = file.read().partition(old)[0]
-    return function_at(f"{TOP}/crates/{crate}/{path}", before.count("\n") + 1)
+    return function_at(path, before.count("\n") + 1)
+
+
+def sum_of(crate, edit):
+    """The sum of an edit and of the file that it changes."""
+    found = hashlib.sha256()
+    for path in (edit, edited(crate, edit)[0]):
+        if os.path.isfile(path):
+            with open(path, "rb") as file:
+                found.update(file.read())
+    return found.hexdigest()[:32]
 
 
 def refusal(crate, edit, message):
     """What refuses an edit, and where, from the first line that the check said of it."""
     if "proofs/" in message or "only because a proof file" in message:
-        return f"`{edited_function(crate, edit)}`", "inside a written answer"
+        return f"`{edited_function(crate, edit)}`", "inside a written proof"
     if "only by a limit of the prover" in message:
         return f"`{edited_function(crate, edit)}`", "at a limit of the prover"
     place = re.search(r"(src/\S+?\.rt):(\d+):\d+", message)
@@ -103,58 +128,53 @@ def refusal(crate, edit, message):
     return f"`{function}`: {other.group(1).strip() if other else 'a law'}", "at a goal"
 
 
-def refusals(log):
-    """Each edit's crate and name, with what refuses it."""
+def refusals(lines):
+    """What refused each edit that these lines of the check name, by its crate and name."""
     edits, found = every_edit(), {}
-    with open(log, encoding="utf-8", errors="replace") as lines:
-        for line in lines:
-            said = re.search(r"must-fail (\w+)/(\w+)\.edit: refused, as it must be(.*)", line)
-            if said and said.groups()[:2] in edits:
-                key = said.groups()[:2]
-                found[key] = refusal(key[0], edits[key], said.group(3))
+    for line in lines:
+        said = re.search(r"must-fail (\w+)/(\w+)\.edit: refused, as it must be(.*)", line)
+        if said and said.groups()[:2] in edits:
+            key = said.groups()[:2]
+            found[key] = refusal(key[0], edits[key], said.group(3))
     return found
 
 
-def documented():
-    """What the document says of each edit that there still is."""
-    edits, found, crate = every_edit(), {}, None
-    with open(DOCUMENT, encoding="utf-8") as file:
-        for line in file:
-            head, row = re.match(r"## `(\w+)`", line), ROW.match(line)
-            crate = head.group(1) if head else crate
-            if row and (crate, row.group(1)) in edits:
-                found[crate, row.group(1)] = row.groups()[1:]
+def kept():
+    """What refused each edit, as far as it was kept and the files are the same."""
+    edits, found = every_edit(), {}
+    if os.path.isfile(KEPT):
+        with open(KEPT, encoding="utf-8") as file:
+            for line in file:
+                crate, name, sum_then, *what = line.rstrip("\n").split("\t")
+                if (crate, name) in edits and sum_of(crate, edits[crate, name]) == sum_then:
+                    found[crate, name] = tuple(what)
     return found
 
 
-def document(found):
-    """The document's text, crate by crate as in crates.txt."""
-    gate = edits_in(IN_GATE)
-    stops = sum(where == "at a goal" for _, where in found.values())
-    text = ["# Wrong bodies", "",
-            "Each is a body that a reader might write in place of the right one, and that the check has to refuse. The gate tries",
-            f"those of each crate's `{IN_GATE}/`, and `make wrong-bodies` those of its `{LEFT_OUT}/`, where a crate that takes",
-            "long to check has all of them. One that stops inside an answer that was written for the right body shows less of",
-            "the contract than one that stops at a goal that is open or false.", "",
-            f"Of {len(found)} wrong bodies {sum(it in gate for it in found)} are in the gate; {stops} stop at a goal. This page is written by",
-            "`.ci/wrong_bodies.py`.", ""]
-    for crate in crates_in_order():
-        rows = sorted((name, *what) for (of, name), what in found.items() if of == crate)
-        if rows:
-            text += [f"## `{crate}`", "", "| Wrong body | In the gate | Refused by | Stops |", "|---|---|---|---|"]
-            text += [f"| `{name}` | {'yes' if (crate, name) in gate else 'no'} | {by} | {where} |" for name, by, where in rows] + [""]
-    return "\n".join(text)
+def keep(lines):
+    """Keeps what refused the edits that these lines of the check name."""
+    edits, found = every_edit(), kept() | refusals(lines)
+    os.makedirs(os.path.dirname(KEPT), exist_ok=True)
+    with open(KEPT, "w", encoding="utf-8") as file:
+        file.writelines("\t".join((*key, sum_of(key[0], edits[key]), *what)) + "\n" for key, what in sorted(found.items()))
 
 
-def write_table(logs):
-    """Writes the document over what it says already of the edits that no log names."""
-    found = documented()
+def table(logs):
+    """Prints all wrong bodies, crate by crate as in crates.txt; those that were not tried by the function that they edit."""
+    edits, gate, found = every_edit(), edits_in(IN_GATE), kept()
     for log in logs:
-        found |= refusals(log)
-    with open(DOCUMENT, "w", encoding="utf-8") as file:
-        file.write(document(found))
-    lacking = sorted(set(every_edit()) - set(found))
-    print(f"docs/WRONG_BODIES.md has {len(found)} wrong bodies; no log names {len(lacking)}: {' '.join('/'.join(it) for it in lacking)}")
+        with open(log, encoding="utf-8", errors="replace") as lines:
+            found |= refusals(lines)
+    for crate in crates_in_order():
+        rows = sorted(name for of, name in edits if of == crate)
+        if rows:
+            print(f"## `{crate}`\n\n| Wrong body | In the gate | Refused by | Stops |\n|---|---|---|---|")
+        for name in rows:
+            by, where = found.get((crate, name)) or (f"`{edited_function(crate, edits[crate, name])}`", "not tried yet")
+            print(f"| `{name}` | {'yes' if (crate, name) in gate else 'no'} | {by} | {where} |")
+        print(end="\n" if rows else "")
+    stops = sum(where == "at a goal" for _, where in found.values())
+    print(f"{len(edits)} wrong bodies, {len(gate)} in the gate. Tried for the files that there are: {len(found)}, of which {stops} stop at a goal.")
 
 
 def main():
@@ -162,7 +182,7 @@ def main():
     if verb == ["try"]:
         return try_left_out(given)
     if verb == ["table"]:
-        write_table(given)
+        table(given)
         return 0
     print(__doc__, file=sys.stderr)
     return 2

@@ -7,15 +7,15 @@ from apidoc.links import spec_name
 from apidoc.markup import code, link, listed
 from apidoc.repository import text_of
 from apidoc.site import Site
+from apidoc.std_words import MEANINGS
 
 
 def in_words(site: Site) -> tuple[str, str]:
-    """What docs/PROVED.md says of the headline: the sentence, and what follows the definitions."""
+    """What docs/PROVED.md says of the headline: the sentence, and what its clause assumes."""
     proved = text_of(f"{site.repository.top}/docs/PROVED.md")
     part = proved.partition("## The headline")[2].partition("\n## ")[0]
     quote = " ".join(re.findall(r"^> ?(.*)$", part, re.M))
-    rest = re.search(r"(By `answer_is_the_one`.*?)(?=\n###|\Z)", part, re.S)
-    return quote, rest[1] if rest else ""
+    return quote, part.partition("### What the clause assumes")[2].partition("\n### ")[0]
 
 
 def file_of_definitions(site: Site, name: str, path: str, names: list[str]) -> str:
@@ -47,7 +47,7 @@ def first_page(site: Site) -> None:
         *(file_of_definitions(site, name, path, names) for (name, path), names in needed.files.items()),
         f"<h3>Types of the code</h3>{listed(types)}",
         "<h3>Words of std</h3>",
-        listed([link(site.links.address(it), it.name) for it in needed.std], "list"),
+        listed([f"{link(site.links.address(it), it.name)} {markdown.inline(MEANINGS.get(it.name, ''), {})}" for it in needed.std]),
         f"<h2>What the clause assumes</h2>{markdown.page(rest, site.names)}" if rest else "",
     ]
     site.write("index.html", "The headline", "\n".join(body))

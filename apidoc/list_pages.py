@@ -8,6 +8,7 @@ from apidoc.links import spec_name, text_of_doc
 from apidoc.markup import code, dim, escaped, link, listed
 from apidoc.repository import text_of
 from apidoc.site import Site
+from apidoc.std_words import MEANINGS
 
 DOCUMENTS = ("README.md", "CONTRIBUTING.md", "CHANGELOG.md", "SECURITY.md")
 # How much of a definition of std is shown.
@@ -27,7 +28,8 @@ def std_page(site: Site) -> None:
     rows = []
     for (module, name), it in sorted(site.links.std.items(), key=lambda each: (each[0][1].lower(), each[0])):
         line = code(escaped(rust.one_line(it.text)[:LONGEST_TEXT])) if it else ""
-        comment = escaped(it.comment.split("\n\n")[0].replace("\n", " ")[:LONGEST_COMMENT]) if it else ""
+        comment = it.comment.split("\n\n")[0].replace("\n", " ")[:LONGEST_COMMENT] if it else ""
+        comment = markdown.inline(MEANINGS[name], {}) if name in MEANINGS else escaped(comment)
         rows.append(f'<li id="{module}.{name}"><b>{escaped(name)}</b> {dim(module)} {comment} {line}</li>')
     site.write("std.html", "Words of std", HOW_TO_READ + listed(rows))
 

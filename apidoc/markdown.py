@@ -6,11 +6,12 @@ from apidoc.links import inline as linked
 
 
 def local(text: str) -> str:
-    """The addresses of a document's own links among the pages of the reference."""
+    """The addresses of a document's own links among the pages of the reference, with their anchors."""
     def page(found: re.Match[str]) -> str:
         path = found[1].removeprefix("docs/").removesuffix(".md")
-        return f'href="{path if path in ("README", "CONTRIBUTING", "CHANGELOG", "SECURITY") else f"docs.{path}"}.html"'
-    text = re.sub(r'href="([\w/]+\.md)(?:#[^"]*)?"', page, text)
+        name = path if path in ("README", "CONTRIBUTING", "CHANGELOG", "SECURITY") else f"docs.{path}"
+        return f'href="{name}.html{found[2] or ""}"'
+    text = re.sub(r'href="(?:\.\./)?([\w/]+\.md)(#[^"]*)?"', page, text)
     return re.sub(r'src="docs/', 'src="', text)
 
 

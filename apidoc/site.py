@@ -12,7 +12,7 @@ NAVIGATION = (
     ("items.html", "All items"),
     ("definitions.html", "All definitions"),
     ("std.html", "Words of std"),
-    ("docs.PROVED.html", "What is not proved"),
+    ("docs.PROVED.html#what-is-not-proved", "What is not proved"),
     ("docs.EXTENDING.html", "Extending"),
     ("documents.html", "Documents"),
 )

@@ -134,9 +134,10 @@ class Definitions(unittest.TestCase):
 
 class Documents(unittest.TestCase):
     def test_blocks(self) -> None:
-        text = "## A `b`\n\ntext [x](docs/PROVED.md)\n\n- one\n  more\n- two\n\n    code\n\n    more\n\n"
+        text = "## A `b`\n\ntext [x](docs/PROVED.md) [y](../README.md#a-b)\n\n- one\n  more\n- two\n\n    code\n\n    more\n\n"
         shown = markdown.page(text + "| a | b |\n|---|---|\n| c | d |\n", {})
-        wanted = ('<h2 id="a-b">', 'href="docs.PROVED.html"', "<li>two</li>", "<pre>code\n\nmore</pre>", "<td>d</td>")
+        links = ('href="docs.PROVED.html"', 'href="README.html#a-b"')
+        wanted = ('<h2 id="a-b">', *links, "<li>two</li>", "<pre>code\n\nmore</pre>", "<td>d</td>")
         for part in wanted:
             self.assertIn(part, shown)
 

@@ -1,4 +1,7 @@
-"""Whole arrays of numpy, by the library's calls over rows."""
+"""Whole arrays of numpy, by the library's calls over rows.
+
+A zero byte within a text is refused, as in a ``str``: the calls end a text there, and numpy only at the last zeros.
+"""
 from __future__ import annotations
 
 from collections.abc import Callable, Iterator

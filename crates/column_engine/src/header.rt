@@ -1,4 +1,7 @@
 //! The columns that a header names.
+//!
+//! A word is a name before it is a number, so a column named `2024` is found. Of two columns with one name it is the
+//! first.
 
 ghost use Rattle.std.specs.Prelude.{◌≡◌, ◌≢◌, ◌≤◌, ◌<◌, ◌↔◌, IsTrue, MatchOption, length};
 ghost use Rattle.column_engine.specs.Answers.{HasNoNamed, IsFirstNamed, IsFound, IsMissing};

@@ -1,4 +1,6 @@
 //! Lines at the beginning of a text, before its records, which are passed through.
+//!
+//! They are read byte by byte, since the bytes after them belong to the records.
 
 ghost use Rattle.std.specs.Prelude.{◌≡◌, ◌==◌, ◌-◌, ◌<◌, [], ◌∷◌, List, ℕ, IfErr, IfOk, OnOk, OnErr};
 ghost use Rattle.std.specs.Prelude.{if◌then◌else◌};

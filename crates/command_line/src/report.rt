@@ -1,5 +1,8 @@
 //! What goes to standard output as it is, and what goes to standard error: one line each, with no control character
 //! in it.
+//!
+//! So the text of an input can neither move a terminal's cursor nor break a message. The byte that makes a numeral
+//! invalid is one byte, and so it is shown by its digits even if it is part of a longer character.
 
 use crate::device::Failure;
 use fixed_io::StdSink;

@@ -1,4 +1,7 @@
 //! The commands, one file each: what its help shows, and what its words ask for.
+//!
+//! The further programs keep their words as keywords: `least 16`, `constants rust`, `sort limit 7`. A keyword stands
+//! before the files and before `--`. The guard of a header is an option, so that no file is taken for one.
 
 pub mod bits;
 pub mod column;

@@ -1,4 +1,7 @@
 //! Where answers go: standard output, or the file that an option names.
+//!
+//! A file is not written beside itself and then renamed: that would turn a device into a file, and lose the owner and
+//! the links of a file.
 
 use crate::options::OUTPUT;
 use command_line::device::Output;

@@ -1,4 +1,6 @@
 //! One product of several files: they are read whole, one after another, before anything is written.
+//!
+//! So a name in two of them is a duplicate, and standard output never has a part of a header.
 
 use crate::inputs::refuse_file;
 use command_line::device::{Failure, Unmarked, Writer};

@@ -1,4 +1,7 @@
 //! Questions about words: those of the command line, or the lines of an input.
+//!
+//! An answer does not say which word it refuses, so standard error names the first one. To find it, the question is
+//! asked again of the words up to it.
 
 use crate::inputs::{Job, run_inputs_to};
 use crate::options::JSON;

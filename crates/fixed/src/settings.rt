@@ -1,4 +1,7 @@
 //! What the formats and the options of a conversion name.
+//!
+//! A second word is a target only if it has the shape of a format. Any other one is a file: `fixed convert I16F16
+//! data.txt` reads the file, and `I65F0` is refused as a format.
 
 ghost use Rattle.std.specs.Prelude.{◌≡◌, ◌≢◌, ◌+◌, ◌<◌, ◌≤◌, ◌^◌, ◌⊎◌, ℕ, IfErr, IfOk, MatchOption, None, Some};
 ghost use Rattle.std.specs.Prelude.{Option, codes, decimal, false, length, slice_index, true, unwrap_or};

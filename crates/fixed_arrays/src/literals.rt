@@ -1,4 +1,7 @@
 //! The constants of a file of named literals that have one format, and the text of their array.
+//!
+//! The elements of an array have one type, so a literal of another format than the first is refused and not converted.
+//! The names are in comments, where no language reserves any. COE has no comments on its lines, and so no names.
 
 ghost use Rattle.std.specs.Prelude.{◌≡◌, ◌↔◌, ◌++◌, ℕ, IfErr, IfOk, OnOk, IsTrue, MatchOption, length};
 ghost use Rattle.fixed_bits.specs.Formats.{FormatParts};

@@ -1,4 +1,9 @@
 //! How a list of numbers is written: in each form an opening, the line of an element, and a closing.
+//!
+//! A number of VHDL is a string of bits: an integer may have no more than 32 bits there, and before VHDL-2008 a
+//! hexadecimal string needs a width that is a multiple of four. The last choice, `others`, stands for no number, so
+//! each line ends with a comma, and a list of one number is no special case. A coefficient file has no comments beside
+//! its numbers, since the semicolon before one ends the vector.
 
 ghost use Rattle.std.specs.Prelude.{◌≡◌};
 ghost use Rattle.fixed_arrays.specs.Table.{closing, element, opening};

@@ -1,4 +1,7 @@
 //! Numbers of a format chosen at run time, and their order by value.
+//!
+//! Cells of equal value are ordered by width, sign rule and fraction length and not by `rank`. So the order covers all
+//! records of these parts, and its laws need no premise.
 
 ghost use Rattle.std.specs.Prelude.{◌≡◌, ◌↔◌, ◌≤◌, ℤ, IsSome, IfSome};
 ghost use Rattle.std.proofs.Common.{rules};

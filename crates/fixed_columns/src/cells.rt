@@ -1,4 +1,6 @@
 //! Lists of cells: read from a text, and sorted.
+//!
+//! A list in order is determined by how often it holds each cell, so a correct sort has one result.
 
 ghost use Rattle.std.specs.Prelude.{◌≡◌, ◌<◌, ℕ, List, length, slice_get, IfOk, IfErr};
 ghost use Rattle.fixed_columns.specs.Cells.{CellParts, HoldsAsOften, IsInOrder};

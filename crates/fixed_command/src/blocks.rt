@@ -1,4 +1,6 @@
 //! Questions about words, each answered with a block of lines or with an object of JSON.
+//!
+//! A block begins with the first 1,024 bytes of its word, also if the word is refused, so that it is found by its word.
 
 ghost use Rattle.std.specs.Prelude.{◌≡◌, ◌≤◌, ◌<◌, ◌+◌, ◌*◌, ◌++◌, ◌||◌, List, ℕ, length, map, take, IfOk, OnErr};
 ghost use Rattle.std.specs.Io.KnownBytes.{Appends};

@@ -1,4 +1,7 @@
 //! Numerals or words converted one a line: the words of a line are given once, and each line is a numeral or a word.
+//!
+//! No line is made of these words and a numeral: it exists in the clauses only. Its length counts, so a numeral is too
+//! long exactly if that line is.
 
 ghost use Rattle.std.specs.Prelude.{◌≡◌, ◌↔◌, ◌+◌, ◌*◌, ◌-◌, ◌≤◌, ◌<◌, ◌++◌, [], ◌||◌, IfErr, IfOk, IsTrue};
 ghost use Rattle.std.specs.Prelude.{MatchResult, false, length, true};

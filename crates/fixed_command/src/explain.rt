@@ -1,4 +1,7 @@
 //! What more there is to say of a numeral that a conversion refuses: where it goes wrong, or what the formats hold.
+//!
+//! An overflow names the one format that was exceeded and the number that did not fit it: the numeral rounded into the
+//! source, or that number rounded into the target. A number of more than 64 bits is not written out.
 
 ghost use Rattle.std.specs.Prelude.{◌≡◌, ◌≤◌, ◌+◌, ◌++◌, [], ℕ, IfSome, List, codes, false, length, true};
 ghost use Rattle.fixed_bits.specs.Ranges.{IsWide, greatest, lowest};

@@ -1,5 +1,11 @@
 //! Fields as people spell them: with blanks around a numeral, a decimal comma, separators of thousands, or without a
 //! byte.
+//!
+//! The decimal mark and the point change places, so that a point in a text with decimal commas is refused and not read
+//! as one. Separators of thousands must stand between groups of three digits: with points for thousands, `12.34` is
+//! more likely a fraction than 1,234. A separator may have several bytes, as a narrow no-break space has. A reply keeps
+//! the field's mark, unless another is requested, and its quotes: the readers of the file expect both. It has no
+//! separators, since few readers take them.
 
 ghost use Rattle.std.specs.Prelude.{◌≡◌, ◌≤◌, ◌<◌, ◌+◌, ◌++◌, [], List, ℕ, IsTrue, drop, length, flat_map, map};
 ghost use Rattle.column_engine.specs.declared.record_buffer.TheConstants.{MAX_RECORD};

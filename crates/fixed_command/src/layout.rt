@@ -1,4 +1,8 @@
 //! Lines as people have them: blanks around a numeral, blank lines, and comments.
+//!
+//! A skipped line is answered by an empty line. So line k of the output still answers line k of the input, and `paste`
+//! puts the two side by side. A comment is a whole line: what follows a numeral is part of it. A line of more than
+//! 1,048,576 bytes is too long, also a blank one: the bytes that are kept of a line must be answered as the line is.
 
 ghost use Rattle.std.specs.Prelude.{◌≡◌, ◌≤◌, ◌+◌, ◌*◌, MatchOption, ◌<◌, length};
 ghost use Rattle.fixed_command.specs.Layout.{after_blanks, blanks_before, is_skipped, numeral_of};

@@ -1,4 +1,7 @@
 //! Questions about the lines of an input, each answered with a block and an empty line after it, or with an object.
+//!
+//! An empty line follows each block, also the last, so that whoever reads the answers from a pipe knows that a block is
+//! whole. Between the blocks of a command line's words it only separates two.
 
 ghost use Rattle.std.specs.Prelude.{◌≡◌, ◌+◌, ◌*◌, ◌++◌, ◌≤◌, length};
 ghost use Rattle.line_engine.specs.Output.{AppendsAnswer};

@@ -1,4 +1,7 @@
 //! How numerals come through their conversion, and how many each way.
+//!
+//! A report reads each numeral once more, so a conversion without a report costs nothing. After a failed write there is
+//! no report, since some of the counted answers were not written.
 
 ghost use Rattle.std.specs.Prelude.{◌≡◌, ◌↔◌, ◌<◌, ◌≤◌, ◌+◌, ◌*◌, ◌^◌, ◌++◌, ◌&&◌, [], IsTrue, length, unsigned_abs};
 ghost use Rattle.std.specs.Fmt.{decimal};

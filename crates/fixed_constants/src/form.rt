@@ -1,4 +1,9 @@
 //! What a constants file can be written as, and which names a form reserves.
+//!
+//! Names are reserved only where a language is requested: a constants file may name a constant `int`. For C they are
+//! the names that `<stdint.h>` defines, one by one. The standard keeps more of them, such as any name from `INT` to
+//! `_MAX`, but people use names such as `INTERVAL_MAX`. Of the first fault and the first reserved name the earlier line
+//! is reported.
 
 ghost use Rattle.std.specs.Prelude.{◌≡◌, ◌↔◌, ◌≤◌, ◌+◌, ℕ, IsTrue, MatchOption, length};
 ghost use Rattle.fixed_constants.specs.Forms.{HasReserved, IsAmong, IsReserved, IsReservedOn, words_in};

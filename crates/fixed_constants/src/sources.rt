@@ -1,4 +1,8 @@
 //! Constants written as a C header and as Rust.
+//!
+//! A type of Rust has its whole path, so a file of constants needs no `use`. A negative constant of C is
+//! `(-INT8_C(0x33))`, since the macro takes a constant and a minus is not part of one. The lowest of a width is
+//! `(-INT8_C(0x7f) - 1)`, as in `<stdint.h>`, since its magnitude is out of the range of the type.
 
 ghost use Rattle.std.specs.Prelude.{◌≡◌, ◌<◌, ◌++◌, ◌-◌, ◌^◌, OnOk, IfOk, unsigned_abs};
 ghost use Rattle.fixed_bits.specs.Ranges.{IsWide};

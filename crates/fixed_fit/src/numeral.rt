@@ -1,4 +1,6 @@
 //! Whether a numeral is below zero.
+//!
+//! A list is signed if one of its numerals is below zero, even if that numeral rounds to zero. `-0` is not below zero.
 
 ghost use Rattle.std.specs.Prelude.{◌≡◌, ◌↔◌, IsTrue, true, false};
 ghost use Rattle.fixed_bits.specs.Formats.{IsFormat};

@@ -5,6 +5,9 @@
 //! Each `Err` of the reader or the writer counts as a failure, an interrupted call too: a program that sets no handler
 //! for signals meets none. What a writer keeps for itself, as a `BufWriter` does, is written only once its owner
 //! flushes it: the programs give a writer that hands its bytes on at once.
+//!
+//! A read or write that would block is a failure too. The programs may not wait, since they have no handle that blocks,
+//! and it is the caller who sets a stream not to block. Otherwise the system waits.
 
 ghost use Rattle.std.specs.Prelude.{◌≡◌, ◌+◌, ◌-◌, ◌^◌, min, None};
 

@@ -2,6 +2,10 @@
 //!
 //! A word is the bits of a number as bytes, in one of two orders (`endian`, `word`). `pack` has each line of an input
 //! packed into a word, and `unpack` has each word of an input written as a line.
+//!
+//! The bits above a format's width are zeros, also for a negative number. So a word has one number, and bytes of
+//! another format or order are recognized. A word whose sign is extended over whole bytes is one of the format of those
+//! bytes, such as `I12F4` for `I8F4`.
 #![tactic(auto)]
 
 mod chunk;

@@ -1,4 +1,8 @@
 //! What is kept of numerals that come one after another.
+//!
+//! The error is that of reading into the source format, as `show` gives it. Only the numeral with the greatest error is
+//! kept, and it may have 1,048,577 bytes, the most that a rule is given. So with a report the bound on the steps for a
+//! line is that much higher.
 
 ghost use Rattle.std.specs.Prelude.{◌≡◌, ◌≤◌, ◌+◌, ◌*◌, ◌++◌, ◌∷◌, [], List, false, length, true};
 ghost use Rattle.fixed_bits.specs.declared.format.Policy.TheVariants.{Checked};

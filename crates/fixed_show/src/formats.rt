@@ -1,4 +1,7 @@
 //! What there is to know of a format.
+//!
+//! Surviving digits are counted as whole digits and as places after the point. A count of significant digits has no
+//! meaning near zero, where a format holds only a few.
 
 ghost use Rattle.std.specs.Prelude.{◌≡◌, ◌+◌, ◌≤◌, ◌<◌, ◌^◌, ◌++◌, pos, length, codes, ◌≤ℤ◌};
 ghost use Rattle.fixed_bits.specs.Ranges.{IsWide};

@@ -1,4 +1,8 @@
 //! Texts and objects of JSON.
+//!
+//! Numbers are texts, since most readers of JSON take a number for a float. Errors are in full, since no screen is
+//! filled. `given` has for each byte the character of its number, so it holds bytes that are not UTF-8, and two words
+//! have two texts.
 
 ghost use Rattle.std.specs.Prelude.{◌≡◌, ◌+◌, ◌*◌, ◌≤◌, ◌++◌, flat_map, length, take, codes};
 ghost use Rattle.fixed_show.specs.Forms.{refusal};

@@ -1,4 +1,8 @@
 //! Parts of words: some bits of a longer word, perhaps after its bytes are put in reverse.
+//!
+//! A field has as many bits as the format, so the two cannot disagree. The bytes that are reversed are those that the
+//! digits write, in hexadecimal or binary, and not those of the format: a field is taken out of a longer word, and
+//! nothing else says how long it is.
 
 ghost use Rattle.std.specs.Prelude.{◌≡◌, ◌+◌, ◌*◌, ◌^◌, ◌≤◌, ◌<◌, ℕ, pos, false, IfOk, length};
 ghost use Rattle.std.specs.Prelude.{MatchOption, MatchResult};

@@ -1,4 +1,8 @@
 //! The names of a format in other tools.
+//!
+//! A signed format without whole bits has no name in Q notation: ARM's Q counts the sign bit as a whole bit, and TI's
+//! would need a count of -1. The name in MATLAB is that of a value, `fi(_,s,w,f)`, since that is what people type; the
+//! type alone is `numerictype(s,w,f)`.
 
 ghost use Rattle.std.specs.Prelude.{◌≡◌, ◌+◌, ◌≤◌, ◌++◌, ◌-ℤ◌, neg_ℤ, pos, codes, length};
 ghost use Rattle.fixed_bits.specs.Ranges.{IsWide};

@@ -1,6 +1,10 @@
 //! The error in ulps, and the facts that say an error.
 //!
 //! The error in ulps is the error times 2^f: the bits less the numeral times 2^f.
+//!
+//! The error in ulps has a line of its own, since a number alone in its line is easiest to read, for a program too. If
+//! the error is given by a power of ten, so are the ulps: by that power times 2^f, rounded up, which may be ten times
+//! the least. A number in range is less than an ulp off, so no line says more.
 
 ghost use Rattle.std.specs.Prelude.{◌≡◌, ◌+◌, ◌*◌, ◌^◌, ◌<◌, ◌≤◌, length, IsTrue, false, ℕ, ℤ, List};
 ghost use Rattle.std.specs.Int.Digits.{AllBelowBase};

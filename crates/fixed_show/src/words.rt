@@ -1,4 +1,8 @@
 //! Words: the bits of a register, as a person writes them.
+//!
+//! A sign makes a word the number itself, whatever its radix: `-0x180` is -384, as `-384` is. A word without a sign is
+//! in two's complement, so in `I8F8` `65152` is -384, and `+65152` is out of range. If words without a prefix are in
+//! radix 16, `0b10` is hexadecimal, as `--print readmemh` writes it.
 
 ghost use Rattle.std.specs.Prelude.{◌≡◌, ◌⊎◌, ◌+◌, ◌*◌, ◌^◌, ◌≤◌, ◌<◌, ◌↔◌, IsTrue, ℕ, pos, [], true, false, IfOk};
 ghost use Rattle.std.specs.Prelude.{MatchOption, MatchResult, length, min};

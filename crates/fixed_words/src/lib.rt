@@ -2,6 +2,8 @@
 //!
 //! `rule` says what separates words and what becomes of refused ones, `splitter` takes the bytes of a text and answers
 //! the words that end in them, and `convert` runs it over a source and a sink.
+//!
+//! The text is not cut into lines, so no byte is added, and a line has no greatest length.
 #![tactic(auto)]
 
 mod chunk;

@@ -1,4 +1,8 @@
 //! How the words of a text are converted: what separates them, and what becomes of those that are refused.
+//!
+//! A refused word becomes one token, so the columns after it stay where they are. A word that stays is written from
+//! memory that is taken before the first read and must hold the replies to 1,024 bytes as well, so it has at most
+//! 524,288 bytes. A byte of numerals separates nothing, since `0.5` would be two words.
 
 ghost use Rattle.std.specs.Prelude.{◌≡◌, ◌≤◌, ◌+◌, ◌++◌, length, min};
 ghost use Rattle.column_engine.specs.declared.record_buffer.TheConstants.{MAX_RECORD};
