@@ -11,6 +11,7 @@
 #   make install   puts what make build and make library left below PREFIX (and DESTDIR); make uninstall removes it
 #   make library   the library for C, in build/lib; make check-library tries it; make deb makes packages, make dist an archive
 #   make doc       the reference, in build/doc: every public item with its clauses, every name in them a link
+#   make options   prints the options of fixed, from the table that it reads them by, into completion/ and man/fixed.1
 #   make bench     times, memory and instructions; make compare: seeded inputs against the reference in oracle/
 #
 # JOBS=N: how many proofs are made at a time. If it is not given, processors and memory decide.
@@ -37,7 +38,7 @@ PROVE := python3 .ci/prove.py --jobs $(JOBS) --cpu $(CPU)
 need_files = (missing=; for file in $(1); do test -f "$$file" || missing="$$missing $$file"; done; \
   test -z "$$missing" || { echo "Not built:$$missing: run $(2)" >&2; exit 1; })
 
-.PHONY: build build/v2 try demo demo-command quick check test wrong-bodies install uninstall doc bench compare scale clean
+.PHONY: build build/v2 try demo demo-command quick check test wrong-bodies install uninstall doc bench compare scale options clean
 .DELETE_ON_ERROR:
 
 build:
@@ -93,6 +94,10 @@ uninstall: uninstall-library
 # The reference, made from the sources by python3 alone: static pages, which need no network and no script.
 doc:
 	@python3 -m apidoc --into build/doc
+
+# The completions and the lists of the manual page, from the rows in crates/fixed: after an option has changed.
+options:
+	@python3 .ci/options.py
 
 # Times, memory and instructions of the programs and of single calls, beside C, a reference in plain Rust, and PEER (see
 # bench/measure.py). What has no compiler here is left out.
