@@ -201,7 +201,7 @@ def bash_cases(name, rows, word="$1"):
 
 
 def joined(lines):
-    """Lines of which one that begins an `echo` follows the closing bracket of its case."""
+    """Lines, each `echo` on the line of the case before it."""
     return re.sub(r"\n      (echo )", r") \1", "\n".join(lines)) + "\n"
 
 
