@@ -84,9 +84,8 @@ def text_of(path):
 def unescaped(text):
     """A string of Rust, without its quotes."""
     text = re.sub(r"\\\n\s*", "", text)
-    known = {"n": "\n", "t": "\t"}
-    return re.sub(r"\\(x[0-9a-f]{2}|.)", lambda it: chr(int(it[1][1:], 16)) if it[1][0] == "x" and len(it[1]) == 3
-                  else known.get(it[1], it[1]), text)
+    text = re.sub(r"\\x([0-9a-f]{2})", lambda it: chr(int(it[1], 16)), text)
+    return re.sub(r"\\(.)", lambda it: {"n": "\n", "t": "\t"}.get(it[1], it[1]), text)
 
 
 STRING = r'"((?:[^"\\]|\\.|\\\n)*)"'
@@ -110,11 +109,10 @@ def named(path, name):
     found = re.search(rf"^\s*(?:pub )?const {name}: [^=]+ = ((?s:{STRING}|[^;\"])*?);", text, re.M)
     if found:
         return value_of(path, found[1])
-    for home, module, names in re.findall(r"^use (crate|command_line)((?:::\w+)+)::\{([^}]*)\}", text, re.M):
+    for home, module, names in re.findall(r"^use (crate|command_line)((?:::[a-z_]\w*)+)::(\{[^}]*\}|\w+);", text, re.M):
         if name in re.findall(r"\w+", names):
             return named(f"{HOMES[home]}{module.replace('::', '/')}.rt", name)
-    home, module = re.search(rf"^use (crate|command_line)((?:::\w+)+)::{name};", text, re.M).groups()
-    return named(f"{HOMES[home]}{module.replace('::', '/')}.rt", name)
+    raise SystemExit(f"{path} has no {name}, which its table of options names")
 
 
 def value_of(path, text):
@@ -165,7 +163,8 @@ def bash(table):
     yield f"_fixed_commands='{' '.join(names)}'"
     yield f"_fixed_formats='{FORMATS}'"
     yield "# The options of a command."
-    yield from bash_cases("_fixed_options", ((page.name, " ".join(f"--{it.name}" for it in page.options)) for page in table))
+    options_of = ((page.name, " ".join(f"--{it.name}" for it in page.options)) for page in table)
+    yield from bash_cases("_fixed_options", options_of)
     yield "# What may be typed after an option of a command, where it takes a value."
     yield from bash_cases("_fixed_value", bash_values(table), "$1:$2")
     yield "# What may be typed at the places of a command: the last takes all that are left."
@@ -270,7 +269,8 @@ def fish(table):
             words = " ".join(each for each in words.split() if not each.startswith("@"))
             if words:
                 operands.setdefault((words, "a format" if "@formats" in it.typed() else it.name), []).append(page.name)
-    yield from (f"{fish_seen(dict.fromkeys(commands))} -a '{words}' -d {fished(told)}" for (words, told), commands in operands.items())
+    for (words, told), commands in operands.items():
+        yield f"{fish_seen(dict.fromkeys(commands))} -a '{words}' -d {fished(told)}"
 
 
 def fish_seen(commands):
@@ -309,8 +309,7 @@ def synopsis(table):
 
 
 def called(text):
-    """The words of a usage, a macro each: what is in brackets may be left out, and words in capitals or small letters in
-    angles are for others."""
+    """The words of a usage, a macro each; what is in brackets may be left out."""
     for it in re.findall(r"\[[^]]*\](?:\.\.\.)?|\([^)]*\)|\S+", text):
         rest = " ..." if it.endswith("...") else ""
         inner = it.removesuffix("...")
@@ -325,10 +324,10 @@ def called(text):
 def marked(text):
     """Words with the macros that say what they are."""
     def macro(word):
-        if word == "|":
-            return "|"
         if word.startswith("--"):
-            return f"Fl -{word[2:]}"
+            return f"Fl {word[1:]}"
+        if word == "|":
+            return word
         return f"Ar {word}" if word.isupper() or word == "options" else f"Cm {word}"
     return " ".join(macro(it) for it in text.split())
 
@@ -342,7 +341,7 @@ def options(table):
         few = f"Cm {' | '.join(row.choices)}" if 0 < len(row.choices) < 7 else f"Ar {value}" if value else ""
         yield f".It {letter}Fl -{row.name} {'Op ' if row.value.startswith('[') else ''}{few}".rstrip()
         yield from prose(f"{row.help}.")
-        yield f".Pq {' , '.join(f'Cm {it}' for it in commands)}" if len(commands) == 1 else f".Pq Cm {' , '.join(commands)}"
+        yield f".Pq Cm {' , '.join(commands)}"
     yield ".El"
 
 
