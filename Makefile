@@ -38,7 +38,7 @@ PROVE := python3 .ci/prove.py --jobs $(JOBS) --cpu $(CPU)
 need_files = (missing=; for file in $(1); do test -f "$$file" || missing="$$missing $$file"; done; \
   test -z "$$missing" || { echo "Not built:$$missing: run $(2)" >&2; exit 1; })
 
-.PHONY: build build/v2 try demo demo-command quick check test wrong-bodies install uninstall doc bench compare scale options clean
+.PHONY: build build/v2 try demo demo-command quick check test wrong-bodies install uninstall doc bench compare scale clean
 .DELETE_ON_ERROR:
 
 build:
@@ -96,6 +96,7 @@ doc:
 	@python3 -m apidoc --into build/doc
 
 # The completions and the lists of the manual page, from the rows in crates/fixed: after an option has changed.
+.PHONY: options
 options:
 	@python3 .ci/options.py
 

@@ -48,7 +48,7 @@ def answers_of(path, lines):
     return ran.stdout.decode().split("\n")[:-1]
 
 
-def answers_shown(built):
+def readme_answers(built):
     """The lines of README and docs/RULES.md, and what these say that they are answered."""
     path = program("fixed_tool", built)
     if path is None:
@@ -507,6 +507,7 @@ def paths():
             for name in re.findall(rf"(?<![\w./-])((?:{FOLDERS})/[\w./*-]*)", quoted):
                 if not name.startswith(MADE) and not glob.glob(f"{TOP}/{name}"):
                     yield f"{document}: no {name}"
+    yield from links()
 
 
 def links():
@@ -530,9 +531,9 @@ def main():
     toolchain()
     for it in wrong_bodies():
         print(f"{it} (which takes a proof to say, and fails nothing)")
-    wrong = [*unmarked(), *readme_shape(), *crates_table(), *definitions(), *unknown_names(), *headline(), *paths(), *links(), *targets(), *numbers_of_c()]
+    wrong = [*unmarked(), *readme_shape(), *crates_table(), *definitions(), *unknown_names(), *headline(), *paths(), *targets(), *numbers_of_c()]
     if given.built:
-        wrong += [*answers_shown(given.built), *commands(given.built), *lines_of_python(given.built), *compiled(given.built)]
+        wrong += [*readme_answers(given.built), *commands(given.built), *lines_of_python(given.built), *compiled(given.built)]
     for it in wrong:
         print(it)
     print(f"documents: {len(wrong)} sentences that do not hold")
