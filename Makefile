@@ -12,6 +12,7 @@
 #   make install   puts what make build and make library left below PREFIX (and DESTDIR); make uninstall removes it
 #   make library   the library for C, in build/lib; make check-library tries it; make deb makes packages, make dist an archive
 #   make doc       the reference, in build/doc: every public item with its clauses, every name in them a link
+#   make options   prints the options of fixed, from the table that it reads them by, into completion/ and man/fixed.1
 #   make bench     times, memory and instructions; make compare: seeded inputs against the reference in oracle/
 #
 # JOBS=N: how many proofs are made at a time. If it is not given, processors and memory decide.
@@ -98,6 +99,11 @@ uninstall: uninstall-library
 # The reference, made from the sources by python3 alone: static pages, which need no network and no script.
 doc:
 	@python3 -m apidoc --into build/doc
+
+# The completions and the lists of the manual page, from the rows in crates/fixed: after an option has changed.
+.PHONY: options
+options:
+	@python3 .ci/options.py
 
 # Times, memory and instructions of the programs and of single calls, beside C, a reference in plain Rust, and PEER (see
 # bench/measure.py). What has no compiler here is left out.

@@ -7,8 +7,8 @@ The crates' table against crates.txt, definitions that docs/RULES.md and docs/PR
 that the headline needs against its clause, the crates without a wrong body in the gate, and every path and target of
 make that a document names. A block of commands is one that is run, or the words before it say that it is not run.
 
-With `--built` also the programs against what is said of them: README's answers, the commands of every document, and
-the lines of Python. What is not built or not installed is then named and passed over.
+With `--built` also the programs against what is said of them: the answers in docs/RULES.md, the commands of every
+document, and the lines of Python. What is not built or not installed is then named and passed over.
 """
 import argparse
 import glob
@@ -20,8 +20,10 @@ import sys
 import tempfile
 
 TOP = os.path.dirname(os.path.dirname(os.path.abspath(__file__)))
+sys.path.insert(0, TOP)
 sys.path.insert(0, f"{TOP}/oracle")
 
+from apidoc.markdown import slug  # noqa: E402
 from compare import program  # noqa: E402
 from pages import PAGES, examples_of  # noqa: E402
 from python import found_with, linked  # noqa: E402
@@ -29,7 +31,7 @@ from python import found_with, linked  # noqa: E402
 DOCUMENTS = ("README.md", "CONTRIBUTING.md", "CHANGELOG.md", "SECURITY.md",
              *sorted(f"docs/{os.path.basename(it)}" for it in glob.glob(f"{TOP}/docs/*.md")))
 PROGRAMS = ("fixed", "fixed_tool", "enclose_tool", "least_tool", "constants_tool", "columns_tool")
-LONGEST_README = 150
+MOST_WORDS_OF_README = 1000
 # What is made by building, and so is named and not there.
 MADE = ("build/", "crates/*/out", "crates/NAME", "DIR/")
 FOLDERS = r"apidoc|crates|docs|bench|oracle|scale|examples|include|man|packaging|completion|python|rust|\.ci"
@@ -50,19 +52,18 @@ def readme_answers(built):
     """The lines of README and docs/RULES.md, and what these say that they are answered."""
     path = program("fixed_tool", built)
     if path is None:
-        print("fixed_tool is not built, and so README's answers were not compared")
+        print("fixed_tool is not built, and so the answers in docs/RULES.md were not compared")
         return
-    readme = text_of("README.md")
-    said = re.findall(r"^ {4}(\S.*?) {2}-> {2}(.*)$", readme, re.M)
-    said += re.findall(r"`(\d+ \S+ \S+ \S+ [^`]+)` with `([^`]+)`", readme)
     rules = text_of("docs/RULES.md")
+    both = " ".join((text_of("README.md") + rules).split())
+    said = re.findall(r"`(\d+ \S+ \S+ \S+ [^`]+)` is answered with `([^`]+)`", both)
     said += [(line, f"error: {message}") for message, line in
              re.findall(r"^\|.*\| `([a-z ]*)` \|.*\| `([0-9]+ [^`]*)` \|$", rules, re.M)]
     said += [(f"10 U8F0 U8F0 checked {numeral}", f"error: {message}") for message, numeral in
              re.findall(r"^\|.*\| `([a-z ]*)` \| `([^` ]+)` \|$", rules, re.M)]
     said += [(f"10 U8F0 U16F0 {policy} 300", answer) for policy, answer in
              (("checked", "error: overflow"), ("saturating", "255 255 overflowed"), ("wrapping", "44 44 overflowed"))
-             if f"`{answer}`" in readme]
+             if f"`{answer}`" in both]
     if len(said) < 18:
         yield f"README.md and docs/RULES.md show {len(said)} answers only"
     for (line, answer), got in zip(said, answers_of(path, [line for line, _ in said])):
@@ -340,17 +341,16 @@ def targets():
 
 
 def readme_shape():
-    count = len(text_of("README.md").rstrip("\n").split("\n"))
-    if count > LONGEST_README:
-        yield f"README.md has {count} lines, and at most {LONGEST_README} are wanted"
+    """README is short, names a toolchain by its logic, and its example is one that is proved."""
+    count = len(text_of("README.md").split())
+    if count > MOST_WORDS_OF_README:
+        yield f"README.md has {count} words, and at most {MOST_WORDS_OF_README} are wanted"
+    if not re.search(r"`logic [0-9a-f]{16}`", text_of("README.md")):
+        yield "README.md does not name the logic of a toolchain"
     example = re.search(r"```rust\n(.*?)```", text_of("README.md"), re.S)
     source = "crates/fixed_example/src/main.rt"
     if os.path.isfile(f"{TOP}/{source}") and (not example or example.group(1).rstrip() not in text_of(source)):
         yield f"README.md's library example is not a part of {source}"
-    in_gate = len(glob.glob(f"{TOP}/crates/*/must-fail/*.edit"))
-    for count in re.findall(r"(\d+) wrong bodies", text_of("README.md")):
-        if int(count) != in_gate:
-            yield f"README.md says {count} wrong bodies, and the gate tries {in_gate}"
 
 
 def crates_of():
@@ -359,22 +359,11 @@ def crates_of():
     return {head.split()[0]: deps.split() for head, _, deps in lines}
 
 
-def reduced(crates):
-    """What each crate stands on, without what another crate that it stands on stands on already."""
-    def below(name):
-        return {it for dep in crates.get(name, ()) for it in (dep, *below(dep))}
-    return {name: [it for it in deps if not any(it in below(other) for other in deps)] for name, deps in crates.items()}
-
-
 def crates_table():
-    """The tables of crates in docs/ARCHITECTURE.md: `| name | does | stands on |`."""
-    crates = reduced(crates_of())
-    rows = dict(re.findall(r"^\| `(\w+)` \|[^|]*\|([^|]*)\|$", text_of("docs/ARCHITECTURE.md"), re.M))
-    for name, deps in crates.items():
-        if name not in rows:
-            yield f"docs/ARCHITECTURE.md: no row for the crate {name}"
-        elif sorted(re.findall(r"`(\w+)`", rows[name])) != sorted(deps):
-            yield f"docs/ARCHITECTURE.md: {name} stands on {' '.join(deps)}"
+    """The tables of docs/ARCHITECTURE.md have a row for each crate, and for nothing else."""
+    crates = crates_of()
+    rows = re.findall(r"^\| `(\w+)` \|", text_of("docs/ARCHITECTURE.md"), re.M)
+    yield from (f"docs/ARCHITECTURE.md: no row for the crate {name}" for name in crates if name not in rows)
     yield from (f"docs/ARCHITECTURE.md: no crate {name}" for name in rows if name not in crates)
 
 
@@ -503,6 +492,21 @@ def paths():
             for name in re.findall(rf"(?<![\w./-])((?:{FOLDERS})/[\w./*-]*)", quoted):
                 if not name.startswith(MADE) and not glob.glob(f"{TOP}/{name}"):
                     yield f"{document}: no {name}"
+    yield from links()
+
+
+def links():
+    """Links of the documents to files that are not there, and to headings that the file does not have."""
+    for document in DOCUMENTS:
+        for address in re.findall(r"\]\(([^)\s]+)\)", text_of(document)):
+            path, _, anchor = address.partition("#")
+            path = os.path.normpath(os.path.join(os.path.dirname(document), path)) if path else document
+            if re.match("https?:", address):
+                continue
+            if not os.path.isfile(f"{TOP}/{path}"):
+                yield f"{document}: no {address}"
+            elif anchor and anchor not in {slug(it) for it in re.findall(r"^#+ (.*)", text_of(path), re.M)}:
+                yield f"{document}: no heading {address}"
 
 
 def main():

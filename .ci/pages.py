@@ -1,11 +1,11 @@
 #!/usr/bin/env python3
-"""Checks the manual pages, the completions and the help of `fixed` against each other and against the programs.
+"""Checks the manual pages, the completions and the help of `fixed`.
 
     pages.py [--built build|out]
 
 Pages: mandoc and groff find nothing to warn of, and each example answers as the page says. Completions: each shell takes its
-own, and they name the commands and options that `fixed --help` names, and the names in a header. Help: at most 80 columns, with an example for each
-command. What is not installed or not built is named and passed over.
+own, and offers the names in a header. (What they offer of commands and options is printed: .ci/options.py.) Help: at most 80
+columns, with an example for each command. What is not installed or not built is named and passed over.
 """
 import argparse
 import glob
@@ -126,7 +126,7 @@ def helps_of(path):
 
 
 def helps(built):
-    """Help that is too wide or has no example, and commands and options that the page or a completion does not name."""
+    """Help that is too wide or has no example."""
     path = program("fixed", built)
     if path is None:
         print("fixed is not built, and so its help was not looked at")
@@ -134,21 +134,11 @@ def helps(built):
     texts = helps_of(path)
     if len(texts) < 10:
         yield f"fixed --help names {len(texts) - 1} commands only"
-    page = text_of(f"{TOP}/man/fixed.1").replace("\\", "")
-    completions = {name: text_of(f"{TOP}/completion/{name}") for name in ("fixed.bash", "_fixed", "fixed.fish")}
     for name, text in texts.items():
         said = f"fixed {name}".strip() + " --help"
         yield from (f"{said}: a line of {len(line)} columns" for line in text.split("\n") if len(line) > WIDEST)
         if not re.search(rf"^Example: .*\bfixed {name}", text, re.M):
             yield f"{said} has no example"
-        if name and not re.search(rf"^\.Cm {name}$", page, re.M):
-            yield f"man/fixed.1 does not name the command {name}"
-        yield from (f"completion/{file} does not name the command {name}" for file, it in completions.items() if not re.search(rf"\b{name}\b", it))
-        for option in set(re.findall(r"--([a-z][a-z-]*)", text)) - {"help", "version"}:
-            if f"Fl -{option}" not in page:
-                yield f"man/fixed.1 does not name the option --{option}"
-            yield from (f"completion/{file} does not name the option --{option}" for file, it in completions.items()
-                        if not re.search(rf"(--|-l ){option}\b", it))
 
 
 def main():

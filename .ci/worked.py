@@ -1,6 +1,6 @@
 """Worked runs of the programs, which `programs.py` tries: words, input, status and output of each.
 
-The expected texts were worked out by hand or by exact integer arithmetic on paper, after `docs/RULES.md`.
+The expected texts were worked out by hand or by exact integer arithmetic on paper, after `docs/RULES.md` and the pages in `man/`.
 """
 
 

@@ -1,19 +1,69 @@
 # bash completion for fixed
-# Files, and the words that a command has of its own before them.
-_fixed_words() {
-  local words='' formats='I16F16 U16F16 I8F8 U8F8 I32F32 U32F32 I1F15 I1F31 I4F4 U0F8'
-  case $1:$COMP_CWORD in
-    convert:2 | convert:3 | column:3 | column:4 | show:2 | bits:2 | pack:2 | unpack:2 | unpack:3 | format:*) words=$formats ;;
-    help:2) words='convert column show bits format lines enclose least fit pack unpack constants sort' ;;
+# printed by make options: completions
+_fixed_commands='convert column bits show format modes lines enclose least fit pack unpack constants sort'
+_fixed_formats='I16F16 U16F16 I8F8 U8F8 I32F32 U32F32 I1F15 I1F31 I4F4 U0F8'
+# The options of a command.
+_fixed_options() {
+  case $1 in
+    convert) echo '--from --radix --policy --mode --target-mode --print --places --places-mode --trim --skip-blank --comments --words --separators --refused --keep --report --output' ;;
+    column) echo '--from --radix --policy --mode --target-mode --print --places --places-mode --delimiter --all --header --skip --trim --decimal --decimal-out --thousands --thousands-anywhere --empty --into --keep --report' ;;
+    bits) echo '--radix --field --swap --json --file --output' ;;
+    show) echo '--radix --policy --mode --json --file --output' ;;
+    format) echo '--json' ;;
+    lines | sort) echo '--limit' ;;
+    fit) echo '--width --error --any --signed --why --range --radix' ;;
+    pack) echo '--endian --radix --policy --mode' ;;
+    unpack) echo '--endian --policy --target-mode --print --places --places-mode' ;;
+    constants) echo '--guard --numerals --name --radix --policy --mode' ;;
   esac
-  if [ "$COMP_CWORD" -eq 2 ]; then
-    case $1 in
-      least) words='2 8 10 16' ;;
-      constants) words='c rust array-c array-rust vhdl readmemh coe mif' ;;
-      sort) words='limit' ;;
-    esac
-  fi
-  mapfile -t COMPREPLY < <(compgen -f -W "$words" -- "$2")
+}
+# What may be typed after an option of a command, where it takes a value.
+_fixed_value() {
+  case $1:$2 in
+    *:--from) echo 'text bits' ;;
+    *:--radix | *:-r) echo '2 8 10 16' ;;
+    *:--policy | *:-p) echo 'checked saturating wrapping' ;;
+    *:--mode | *:-m | *:--target-mode | *:--places-mode) echo 'nearest ties-away ties-zero ties-up ties-down floor ceil zero away' ;;
+    *:--print) echo 'text bits hex readmemh value all' ;;
+    *:--places | *:--comments | *:--separators | *:--refused | *:--delimiter | *:-d | *:--skip | *:--decimal | \
+      *:--decimal-out | *:--thousands | *:--thousands-anywhere | *:--into | *:--field | *:--limit | \
+      *:--error | *:-e | *:--guard | *:--name) echo '@any' ;;
+    convert:--keep) echo 'text all' ;;
+    *:--output | *:-o | *:--file) echo '@files' ;;
+    *:--empty) echo 'fault keep 0' ;;
+    *:--width | *:-w) echo '8 16 32 64' ;;
+    *:--endian) echo 'little big' ;;
+    *:--numerals) echo '@formats' ;;
+  esac
+}
+# What may be typed at the places of a command: the last takes all that are left.
+_fixed_operands() {
+  case $1 in
+    convert | unpack) echo '@formats @formats+@files' ;;
+    column) echo '@columns @formats @formats+@files' ;;
+    bits | show) echo '@formats @any' ;;
+    format) echo '@formats' ;;
+    lines | enclose | fit) echo '@files' ;;
+    least) echo '2+8+10+16+@files' ;;
+    pack) echo '@formats @files' ;;
+    constants) echo 'c+rust+array-c+array-rust+vhdl+readmemh+coe+mif+@files' ;;
+    sort) echo 'limit+@files' ;;
+  esac
+}
+# end of completions
+# Offers what may be typed: words, or what @files, @formats or @any stands for.
+_fixed_offer() {
+  local words=''
+  case $1 in
+    @files)
+      mapfile -t COMPREPLY < <(compgen -f -- "$2")
+      return
+      ;;
+    @formats) words=$_fixed_formats ;;
+    @any) return ;;
+    *) words=$1 ;;
+  esac
+  mapfile -t COMPREPLY < <(compgen -W "$words" -- "$2")
 }
 # The names in the header of the first file among the words, one a line, each after the part of a list that is there.
 _fixed_names() {
@@ -37,70 +87,55 @@ _fixed_names() {
     printf '%s%s\n' "$before" "$word"
   done
 }
-# Whether the word is the columns of a command that has a header.
-_fixed_is_columns() {
-  local i has_header=false
-  for ((i = 2; i < ${#COMP_WORDS[@]}; i++)); do
+# How many operands of the command come before the current word.
+_fixed_place() {
+  local i count=0
+  for ((i = 2; i < COMP_CWORD; i++)); do
     case ${COMP_WORDS[i]} in
-      -H | --header) has_header=true ;;
       -*) ;;
-      *)
-        case ${COMP_WORDS[i - 1]} in
-          -d | --delimiter | -r | --radix | -p | --policy | -m | --mode | --target-mode | --from | --print | --places | --places-mode) ;;
-          *) [ "$i" -lt "$COMP_CWORD" ] && return 1 ;;
-        esac
-        ;;
+      *) [ -n "$(_fixed_value "$1" "${COMP_WORDS[i - 1]}")" ] || ((count++)) ;;
     esac
   done
-  $has_header
+  echo "$count"
+}
+# The operands that may be typed at the current place of the command.
+_fixed_words() {
+  local word words='' places place
+  read -ra places < <(_fixed_operands "$1")
+  place=$(_fixed_place "$1")
+  [ "${#places[@]}" -gt 0 ] || return
+  [ "$place" -lt "${#places[@]}" ] || place=$((${#places[@]} - 1))
+  for word in ${places[place]//+/ }; do
+    case $word in
+      @columns)
+        case " ${COMP_WORDS[*]} " in
+          *' -H '* | *' --header '*) mapfile -t COMPREPLY < <(IFS=$'\n'; compgen -W "$(_fixed_names "$2")" -- "$2") ;;
+        esac
+        return
+        ;;
+      @formats) words="$words $_fixed_formats" ;;
+      @any | @files) ;;
+      *) words="$words $word" ;;
+    esac
+  done
+  mapfile -t COMPREPLY < <(compgen -f -W "$words" -- "$2")
 }
 _fixed() {
-  local word=$2 previous=$3 command=${COMP_WORDS[1]}
-  local commands='convert column show bits format modes lines enclose least fit pack unpack constants sort help' words=''
+  local word=$2 previous=$3 command=${COMP_WORDS[1]} value
+  COMPREPLY=()
   if [ "$COMP_CWORD" -eq 1 ]; then
-    mapfile -t COMPREPLY < <(compgen -W "$commands --help --version" -- "$word")
+    _fixed_offer "$_fixed_commands help --help --version" "$word"
     return
   fi
-  case $previous in
-    --radix | -r) words='2 8 10 16' ;;
-    --policy | -p) words='checked saturating wrapping' ;;
-    --mode | -m | --target-mode | --places-mode) words='nearest ties-away ties-zero ties-up ties-down floor ceil zero away' ;;
-    --from) words='text bits' ;;
-    --file | --output | -o)
-      mapfile -t COMPREPLY < <(compgen -f -- "$word")
-      return
-      ;;
-    --print) words='text bits hex readmemh value all' ;;
-    --width | -w) words='8 16 32 64' ;;
-    --empty) words='fault keep 0' ;;
-    --endian) words='little big' ;;
-    --numerals) words='I16F16 U16F16 I8F8 U8F8 I32F32 U32F32 I1F15 I1F31 I4F4 U0F8' ;;
-    --limit | --field | --delimiter | -d | --places | --guard | --name | --comments | --skip | --decimal | --decimal-out | --thousands | --thousands-anywhere | --separators | --refused) return ;;
-    *)
-      case $command:$word in
-        convert:-*) words='--from --radix --policy --mode --target-mode --print --places --places-mode --trim --skip-blank --comments --words --separators --refused --keep --report --output --help --version' ;;
-        column:-*) words='--from --radix --policy --mode --target-mode --print --places --places-mode --delimiter --all --header --skip --trim --decimal --decimal-out --thousands --thousands-anywhere --empty --into --keep --report --help --version' ;;
-        show:-*) words='--radix --policy --mode --json --file --output --help --version' ;;
-        bits:-*) words='--radix --field --swap --json --file --output --help --version' ;;
-        format:-*) words='--json --help --version' ;;
-        lines:-* | sort:-*) words='--limit --help --version' ;;
-        fit:-*) words='--width --error --any --signed --why --range --radix --help --version' ;;
-        pack:-*) words='--endian --radix --policy --mode --help --version' ;;
-        unpack:-*) words='--endian --policy --target-mode --print --places --places-mode --help --version' ;;
-        constants:-*) words='--guard --numerals --name --radix --policy --mode --help --version' ;;
-        *:-*) words='--help --version' ;;
-        column:*)
-          if _fixed_is_columns; then
-            mapfile -t COMPREPLY < <(IFS=$'\n'; compgen -W "$(_fixed_names "$word")" -- "$word")
-            return
-          fi
-          _fixed_words "$command" "$word"
-          return
-          ;;
-        *) _fixed_words "$command" "$word"; return ;;
-      esac
-      ;;
+  value=$(_fixed_value "$command" "$previous")
+  if [ -n "$value" ]; then
+    _fixed_offer "$value" "$word"
+    return
+  fi
+  case $command:$word in
+    help:*) _fixed_offer "$_fixed_commands" "$word" ;;
+    *:-*) _fixed_offer "$(_fixed_options "$command") --help --version" "$word" ;;
+    *) _fixed_words "$command" "$word" ;;
   esac
-  mapfile -t COMPREPLY < <(compgen -W "$words" -- "$word")
 }
 complete -o filenames -F _fixed fixed

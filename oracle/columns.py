@@ -1,7 +1,7 @@
 #!/usr/bin/env python3
 """An independent sorter of columns of mixed formats, worked out with whole numbers alone.
 
-It follows the rules in docs/RULES.md and shares no code with the program: values are compared as fractions of whole numbers.
+It follows the rules in man/columns_tool.1 and shares no code with the program: values are compared as fractions of whole numbers.
 
     columns.py < column            writes the column in order, or its first fault
     columns.py --compare PROGRAM   makes seeded columns, hands them to PROGRAM one by one, and compares

@@ -1,7 +1,7 @@
 #!/usr/bin/env python3
 """An independent writer of constants files, worked out with whole numbers alone.
 
-It follows the rules in docs/RULES.md and shares no code with the program: a literal's value is a fraction of whole numbers
+It follows the rules in man/constants_tool.1 and shares no code with the program: a literal's value is a fraction of whole numbers
 without a bound, and its text is built digit by digit from the bits.
 
     constants.py [FORM [GUARD]] < file  writes the file in its one canonical form, as a C header (c) or as Rust (rust), or its

@@ -116,7 +116,7 @@ pub const TRIM: Row = Row {
     letter: None,
     value: "",
     choices: &[],
-    help: "Blanks around a numeral are no part of it",
+    help: "Blanks around a numeral are left out",
 };
 
 pub const SKIP_BLANK: Row = Row {
@@ -132,7 +132,7 @@ pub const COMMENTS: Row = Row {
     letter: None,
     value: "PREFIX",
     choices: &[],
-    help: "So is a line that begins with PREFIX, after blanks",
+    help: "A line that begins with PREFIX gives an empty one",
 };
 
 pub const WORDS: Row = Row {

@@ -73,7 +73,7 @@ pub const TRIM: Row = Row {
     letter: None,
     value: "",
     choices: &[],
-    help: "Blanks around a field are no part of it",
+    help: "Blanks around a field are left out",
 };
 
 pub const DECIMAL: Row = Row {
@@ -89,7 +89,7 @@ pub const DECIMAL_OUT: Row = Row {
     letter: None,
     value: "C",
     choices: &[],
-    help: "The same of answers: that of --decimal (default)",
+    help: "In answers: as --decimal (default)",
 };
 
 pub const THOUSANDS: Row = Row {
@@ -105,7 +105,7 @@ pub const THOUSANDS_ANYWHERE: Row = Row {
     letter: None,
     value: "C",
     choices: &[],
-    help: "The same wherever it stands: it is not read",
+    help: "C is left out wherever it stands",
 };
 
 pub const EMPTY: Row = Row {
