@@ -411,8 +411,8 @@ LONG = {
     "constants_tool": GROWING["constants_tool"],
     "columns_tool": GROWING["columns_tool"],
 }
-# How many bytes of stack a command has, with what the process itself takes before it reads its words.
-STACK = (512 + 32) * 1024
+# How many bytes of stack a process of `fixed` has, whatever its command.
+STACK = 256 * 1024
 LONG_NUMERAL = b"0." + b"1" * 1_000
 # Words and an input for each command of `fixed`, with what takes most of it.
 STACKS = (
@@ -805,7 +805,7 @@ class Runs:
             print(f"{self.name}: words of Q23 become other words of Q15 than the nearest")
 
     def stacks(self):
-        """Each command of `fixed` takes at most 512 KB of stack beside what the process takes to begin: it ends as without a limit."""
+        """Each command of `fixed` ends within 256 KB of stack as without a limit."""
         for words, given in STACKS:
             self.tried += 1
             how = {"input": given, "stdout": subprocess.PIPE, "stderr": subprocess.PIPE, "check": False, "timeout": 120}
