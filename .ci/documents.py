@@ -357,7 +357,7 @@ def readme_shape():
     if not re.search(r"`logic [0-9a-f]{16}`", text_of("README.md")):
         yield "README.md does not name the logic of a toolchain"
     example = re.search(r"```rust\n(.*?)```", text_of("README.md"), re.S)
-    source = "crates/fixed_example/src/main.rt"
+    source = "crates/fixed_uses/src/main.rt"
     if os.path.isfile(f"{TOP}/{source}") and (not example or example.group(1).rstrip() not in text_of(source)):
         yield f"README.md's library example is not a part of {source}"
 
