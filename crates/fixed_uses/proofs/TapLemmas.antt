@@ -8,12 +8,12 @@ use Rattle.fixed_numeral.specs.declared.radix.Radix.TheVariants.{Dec}
 use Rattle.fixed_point.specs.Readings.{IsPlainReading}
 use Rattle.fixed_uses.specs.Taps.{IsTap}
 
-tap_is : (text : List ℕ) (x : ℤ) → IsPlainReading {A = ℤ} (λ x. x) NearestEven Dec text 15 true 16 (Ok x) → IsTap text x
-tap_is text x a =
+tap_is : (frac width : ℕ) (text : List ℕ) (x : ℤ) → IsPlainReading {A = ℤ} (λ x. x) NearestEven Dec text frac true width (Ok x) → IsTap frac text x
+tap_is frac width text x a =
     let some = a.fits.0 refl in
     let read = a.read some.parts some.has in
     record { parts = some.parts; spelled = some.has; steps = read.ulps; near = read.rounded.near; tap_is = read.value }
 
-pub some_tap : (text : List ℕ) (answer : Result ℤ ParseErrorKind) (tap : Option ℤ) → IsPlainReading {A = ℤ} (λ x. x) NearestEven Dec text 15 true 16 answer → tap ≡ result_ok answer → IfSome tap (IsTap text)
-some_tap text (Ok x) tap a e = rw e (tap_is text x a)
-some_tap text (Err k) tap a e = rw e tt
+pub some_tap : (frac width : ℕ) (text : List ℕ) (answer : Result ℤ ParseErrorKind) (tap : Option ℤ) → IsPlainReading {A = ℤ} (λ x. x) NearestEven Dec text frac true width answer → tap ≡ result_ok answer → IfSome tap (IsTap frac text)
+some_tap frac width text (Ok x) tap a e = rw e (tap_is frac width text x a)
+some_tap frac width text (Err k) tap a e = rw e tt

@@ -1,6 +1,6 @@
 //! A tariff: what energy costs, and the sum of two amounts.
 
-ghost use Rattle.std.specs.Prelude.{◌≡◌, ◌↔◌, ◌+◌, ◌*◌, ◌^◌, ◌<◌, IsSome, IfSome};
+ghost use Rattle.std.specs.Prelude.{◌≡◌, ◌↔◌, ◌+◌, ◌-◌, ◌*◌, ◌/◌, ◌^◌, ◌<◌, ◌≤◌, IsSome, IfSome};
 
 use fixed_point::types::{U16F16, U48F16};
 
@@ -19,4 +19,13 @@ pub fn total(one: U16F16, other: U16F16) -> Option<U16F16>
 {
     let sum = one.to_bits().checked_add(other.to_bits())?;
     Some(U16F16::from_bits(sum))
+}
+
+/// The amount less a discount in percent, rounded down.
+pub fn discounted(amount: U16F16, percent: u8) -> U16F16
+    requires { percent ≤ 100 }
+    ensures { result ≡ amount * (100 - percent) / 100 }
+{
+    let kept = u64::from(amount.to_bits()) * u64::from(100 - percent) / 100;
+    U16F16::from_bits(kept as u32)
 }

@@ -6,8 +6,8 @@ use crate::limit::is_above;
 use crate::meter::{scaled, shown};
 use crate::money::amount_cell;
 use crate::saved::saved;
-use crate::taps::tap;
-use crate::tariff::{cost, total};
+use crate::taps::{small_tap, tap};
+use crate::tariff::{cost, discounted, total};
 use fixed_point::types::{I16F16, I24F8, U4F4, U16F16};
 use fixed_point::{ParseErrorKind, ParseFixedError};
 use std::test::Fail;
@@ -35,6 +35,7 @@ fn a_bill_is_exact_and_a_sum_may_not_fit(rt: HostRuntime) {
     assert_eq!(rt; sum, Some(4_058_087));
     let most = U16F16::from_bits(4_294_967_295);
     assert!(rt; total(most, U16F16::from_bits(1)).is_none());
+    assert_eq!(rt; discounted(standing, 15).to_bits(), 3_433_693);
 }
 
 #[test]
@@ -51,6 +52,7 @@ fn taps_are_the_nearest_and_one_is_refused(rt: HostRuntime) {
     for (text, bits) in &rows {
         assert!(rt; tap(text).map(|tap| tap.to_bits()) == *bits, "at {text}");
     }
+    assert!(rt; small_tap("0.3").map(|tap| tap.to_bits()) == Some(38));
 }
 
 #[test]
