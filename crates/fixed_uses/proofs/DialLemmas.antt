@@ -1,6 +1,6 @@
 -- A number moved down to whole degrees and saturated is what the dial shows.
 use Rattle.std.proofs.Common.{◌≡◌, ◌⊎◌, ℤ, pos, neg_ℤ, true, sym, subst, inl, inr, arith}
-use Rattle.std.specs.Prelude.{◌≤ℤ◌, ◌<ℤ◌}
+use Rattle.std.specs.Prelude.{◌<ℤ◌}
 use Rattle.std.proofs.lemmas.Int.{ints}
 use Rattle.fixed_bits.specs.Down.{IsDown}
 use Rattle.fixed_bits.specs.Images.{IsSaturated}

@@ -1,5 +1,5 @@
 -- A text rounded to two places shows hundredths.
-use Rattle.std.proofs.Common.{◌≡◌, ℕ, ℤ, false, List, [], ◌++◌, refl, sym, subst, ◌∙◌}
+use Rattle.std.proofs.Common.{◌≡◌, ℕ, ℤ, false, List, [], ◌++◌, sym, subst}
 use Rattle.fixed_bits.specs.declared.mode.ReadMode.TheVariants.{NearestEven}
 use Rattle.fixed_write.specs.Places.{IsRoundedText, rounded_text}
 use Rattle.fixed_write.specs.Texts.{decimal_text}

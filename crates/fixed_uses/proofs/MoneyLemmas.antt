@@ -1,6 +1,6 @@
 -- A text in the style of a column is a cell of it.
 use Rattle.std.proofs.Common.{◌≡◌, ℕ, zero, suc, ℤ, ◌+◌, ◌-◌, Bool, true, false, List, [], ◌∷◌, ◌++◌, length, replicate, Ok, Err, refl, sym, ap, subst, ◌∙◌, arith, length-append}
-use Rattle.std.specs.Prelude.{Result, Some, IfOk, unsigned_abs}
+use Rattle.std.specs.Prelude.{Result, Some, IfOk}
 use Rattle.std.specs.Char.{encode_utf8}
 use Rattle.std.specs.Fmt.{sign_text}
 use Rattle.std.specs.Int.{is_negative}

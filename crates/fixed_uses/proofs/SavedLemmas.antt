@@ -1,5 +1,5 @@
 -- The text of a number in range is read as that number.
-use Rattle.std.proofs.Common.{◌≡◌, ℕ, ℤ, true, List, Ok, Err, refl, ap, subst, arith}
+use Rattle.std.proofs.Common.{◌≡◌, ℕ, ℤ, true, List, Ok, Err, ap, subst, arith}
 use Rattle.std.specs.Prelude.{Result, IfOk}
 use Rattle.std.proofs.lemmas.Bool.{false≢true}
 use Rattle.fixed_bits.specs.Ranges.{IsInRange}
@@ -7,9 +7,7 @@ use Rattle.fixed_bits.specs.declared.mode.ReadMode.TheVariants.{NearestEven}
 use Rattle.fixed_bits.proofs.Public.{in_wide}
 use Rattle.fixed_laws.specs.Plain.{PlainTextReadsBack, ReadsAs}
 use Rattle.fixed_laws.specs.Radices.{decimal_radix}
-use Rattle.fixed_numeral.specs.Numeral.{Parts, HasNumeral}
 use Rattle.fixed_numeral.specs.declared.error.ParseErrorKind.{ParseErrorKind}
-use Rattle.fixed_read.specs.Reading.{IsReadNumber}
 use Rattle.fixed_read.proofs.Public.{read_unique}
 use Rattle.fixed_write.specs.Styled.{IsStyledText, plain_style}
 use Rattle.fixed_write.specs.declared.style.Notation.TheVariants.{Dec}
