@@ -340,6 +340,15 @@ def targets():
                 yield f"{document}: no make {name}"
 
 
+def quotes():
+    """Blocks for who is new to Rattle that do not stand in the file that the words right before them name last."""
+    for document in ("docs/READING.md", "docs/FIRST_CHANGE.md"):
+        for before, block in blocks(document):
+            paths = re.findall(r"`(crates/[\w./-]+)`", before.rstrip().rpartition("\n\n")[2])
+            if paths and block not in text_of(paths[-1]):
+                yield f"{document}: the block {block.splitlines()[0]!r} does not stand in {paths[-1]}"
+
+
 def readme_shape():
     """README is short, names a toolchain by its logic, and its example is one that is proved."""
     count = len(text_of("README.md").split())
@@ -348,7 +357,7 @@ def readme_shape():
     if not re.search(r"`logic [0-9a-f]{16}`", text_of("README.md")):
         yield "README.md does not name the logic of a toolchain"
     example = re.search(r"```rust\n(.*?)```", text_of("README.md"), re.S)
-    source = "crates/fixed_example/src/main.rt"
+    source = "crates/fixed_uses/src/main.rt"
     if os.path.isfile(f"{TOP}/{source}") and (not example or example.group(1).rstrip() not in text_of(source)):
         yield f"README.md's library example is not a part of {source}"
 
@@ -514,7 +523,7 @@ def main():
     words.add_argument("--built", choices=("build", "out"))
     given = words.parse_args()
     toolchain()
-    wrong = [*unmarked(), *readme_shape(), *crates_table(), *outside_the_gate(), *definitions(), *unknown_names(), *headline(), *paths()]
+    wrong = [*unmarked(), *readme_shape(), *quotes(), *crates_table(), *outside_the_gate(), *definitions(), *unknown_names(), *headline(), *paths()]
     wrong += [*targets(), *numbers_of_c()]
     if given.built:
         wrong += [*readme_answers(given.built), *commands(given.built), *lines_of_python(given.built), *compiled(given.built)]

@@ -1,5 +1,18 @@
-//! Reads settings such as `gain=2.75`, rounds and converts each number, and compares it with a limit.
+//! Small callers of the number library, one in each module: a function whose contract is in the caller's own words,
+//! proved from the library's contracts. As a program it reads settings such as `gain=2.75`, rounds and converts each
+//! number, and compares it with a limit.
 #![tactic(auto)]
+
+pub mod dial;
+pub mod gain;
+pub mod limit;
+pub mod meter;
+pub mod money;
+pub mod saved;
+pub mod taps;
+pub mod tariff;
+#[cfg(test)]
+mod tests;
 
 use fixed_point::{FixedI8, FixedI32, FixedU16};
 use std::io;

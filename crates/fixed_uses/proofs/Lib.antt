@@ -1,0 +1,5 @@
+mod DialLemmas
+mod MeterLemmas
+mod MoneyLemmas
+mod SavedLemmas
+mod TapLemmas
