@@ -1,3 +1,2 @@
-mod EndLemmas
-mod LawLemmas
+-- What no other crate can name
 mod WordLemmas

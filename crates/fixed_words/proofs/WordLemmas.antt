@@ -1,28 +1,28 @@
 -- Words that were converted, one byte after the other.
-use Rattle.std.proofs.Common.{◌≡◌, ◌∙◌, ◌||◌, ◌+◌, ◌<◌, ◌≤◌, ℕ, Bool, true, false, List, [], ◌∷◌, ◌++◌, length, take, get_or, min, nat_le, refl, sym, ap, subst, arith, append-nil, append_assoc, length-append, ⊎_elim, Option}
-use Rattle.std.proofs.KnownBytes.{Appends-trans}
+use Rattle.std.proofs.Common.{◌≡◌, ◌∙◌, ◌||◌, ◌<◌, ◌≤◌, ℕ, Bool, true, false, List, [], ◌∷◌, ◌++◌, length, nat_le, refl, sym, ap, subst, arith, append-nil, append_assoc, length-append, ⊎_elim}
 use Rattle.std.proofs.lemmas.Bool.{cases_lt}
 use Rattle.std.proofs.lemmas.Bool.Decides.{nat_tests}
-use Rattle.std.proofs.lemmas.List.{take_all, take_more}
-use Rattle.std.specs.Io.KnownBytes.{Appends}
+use Rattle.std.proofs.KnownBytes.{Appends-nil}
 use Rattle.line_engine.specs.AnswerText.{AnswerText}
-use Rattle.line_engine.specs.Appended.{AppendsPrefix}
 use Rattle.line_engine.specs.Output.{AppendsAnswer}
+use Rattle.run_engine.specs.Machines.{BreaksAmong, Goes, going, finished}
+use Rattle.run_engine.specs.Seen.{Breaks, Moment, Puts, Seen}
+use Rattle.run_engine.specs.Pieces.{HasNone}
 use Rattle.fixed_command.specs.Convert.{IsReply}
 use Rattle.fixed_command.specs.Lemmas.ReplyLemmas.{asking_longer, long_reply, reply_one}
-use Rattle.fixed_words.specs.declared.rule.Ending.{Ending}
-use Rattle.fixed_words.specs.declared.rule.Ending.TheVariants.{Converted, Left, Refused}
-use Rattle.fixed_words.specs.declared.rule.Leaving.{Leaving}
-use Rattle.fixed_words.specs.declared.rule.Leaving.TheVariants.{Everything, NoNumerals, Nothing}
-use Rattle.fixed_words.specs.declared.rule.TheConstants.{MAX_LEFT}
-use Rattle.fixed_words.specs.declared.rule.WordRule.{WordRule}
 use Rattle.fixed_respell.specs.Answer.{fault_message}
 use Rattle.fixed_respell.specs.Language.{fault_answer}
 use Rattle.fixed_respell.specs.LineWords.{longest_line}
 use Rattle.fixed_respell.specs.declared.fault.LineFault.TheVariants.{LineTooLong}
-use Rattle.fixed_words.specs.Inner.Progress.{EndsWord, HasWorded, HasWritten, IsKept}
-use Rattle.fixed_words.specs.Run.{BreaksWords}
-use Rattle.fixed_words.specs.Words.{AreEnded, Ended, HasNoSeparator, IsEnded, IsWordReply, answer_of, any_refused, bytes_of, is_left, is_refused, is_separator, shown, written_of}
+use Rattle.fixed_words.specs.Inner.Progress.{EndsWord, TakesByte}
+use Rattle.fixed_words.specs.Run.{GoesOn, IsKept, MakesBy, is_piece}
+use Rattle.fixed_words.specs.Words.{AreEnded, Ended, HasNoSeparator, IsEnded, IsWordReply, IsWorded, answer_of, any_refused, bytes_of, is_left, is_refused, is_separator, longest_left, shown, written_of}
+use Rattle.fixed_words.specs.declared.rule.Ending.{Ending}
+use Rattle.fixed_words.specs.declared.rule.Ending.TheVariants.{Converted, Left, Refused}
+use Rattle.fixed_words.specs.declared.rule.Leaving.{Leaving}
+use Rattle.fixed_words.specs.declared.rule.Leaving.TheVariants.{Everything, NoNumerals, Nothing}
+use Rattle.fixed_words.specs.declared.rule.WordRule.{WordRule}
+use Rattle.fixed_words.specs.declared.splitter.WordBytes.{WordBytes}
 use Rattle.fixed_words.specs.declared.splitter.Words.{Words}
 
 -- ---- one word more
@@ -101,7 +101,7 @@ of_answer s (b ∷ bytes) answer some h = (h.reply, h.replied, h.is)
 long : (s : WordRule) (word : List ℕ) → longest_line ≤ length word → IsReply s.rule word (fault_answer (fault_message LineTooLong))
 long s word many = long_reply s.rule word (omega (arith, many, asking_longer s.rule word))
 
-past_left : (n : ℕ) → longest_line ≤ n → nat_le n MAX_LEFT ≡ false
+past_left : (n : ℕ) → longest_line ≤ n → nat_le n longest_left ≡ false
 past_left n many = grind (arith, nat_tests)
 
 -- so long a word does not stay
@@ -131,138 +131,179 @@ reply_kept s word kept reply k h = ⊎_elim
     (λ (most : length word ≤ longest_line). subst (λ w. IsWordReply s w reply) (k.whole most) h)
     (cases_lt longest_line (length word))
 
+-- ---- a word
+shown_fault : (ending : Ending) (s : WordRule) (word reply : List ℕ) → (shown ending s word reply).fault ≡ is_refused ending
+shown_fault Converted s word reply = refl
+shown_fault Left s word reply = refl
+shown_fault Refused s word reply = refl
+
+-- with a byte was answered
+pub ends_word : (s : WordRule) (word ends : List ℕ) (old new : Words) (reply : List ℕ) (fault : Bool) (ending : Ending) (Sent : List ℕ → Type 0) → 0 < length word → AppendsAnswer (IsReply s.rule) 192 word [] reply fault
+    → answer_of s word (record { text = reply; fault = fault }) ≡ shown ending s word reply → new.has_fault ≡ (old.has_fault || is_refused ending) → Sent ((shown ending s word reply).text ++ ends) → EndsWord s word ends old new Sent
+ends_word s word ends old new reply fault ending Sent some a is faulty sent =
+    let made : List ℕ → AnswerText = λ (t : List ℕ). record { text = t; fault = fault } in
+    let replied : IsReply s.rule word (made reply) = subst (λ t. IsReply s.rule word (made t)) (sym a.appended) a.answer in
+    record {
+      reply = shown ending s word reply;
+      replied = of_answer s word (shown ending s word reply) some (record { reply = made reply; replied = replied; is = sym is });
+      fault = faulty ∙ ap (λ b. old.has_fault || b) (sym (shown_fault ending s word reply));
+      sent = sent;
+    }
+
+-- and one without a byte
+pub ends_none : (s : WordRule) (ends : List ℕ) (u : Words) (Sent : List ℕ → Type 0) → u.word ≡ [] → Sent ends → EndsWord s u.word ends u u Sent
+ends_none s ends u Sent none sent = record {
+  reply = record { text = []; fault = false };
+  replied = subst (λ w. IsWordReply s w (record { text = []; fault = false })) (sym none) refl;
+  fault = sym (or_false u.has_fault);
+  sent = sent;
+}
+
+pub ends_same : (s : WordRule) (word ends : List ℕ) (old mid new : Words) (Sent : List ℕ → Type 0) → new.has_fault ≡ mid.has_fault → EndsWord s word ends old mid Sent → EndsWord s word ends old new Sent
+ends_same s word ends old mid new Sent fault e = record { reply = e.reply; replied = e.replied; fault = fault ∙ e.fault; sent = e.sent }
+
 -- ---- one byte more
-pub worded_none : (s : WordRule) (u : Words) → u.word ≡ [] → u.out ≡ [] → u.has_fault ≡ false → HasWorded s [] [] u
-worded_none s u word out fault = record {
+pub worded_none : (s : WordRule) (u : Words) → u.word ≡ [] → u.has_fault ≡ false → GoesOn s [] [] u
+worded_none s u word fault = record {
   words = [];
   are = tt;
   rest = [];
   unbroken = tt;
   kept = record { whole = λ _. word; full = λ many. absurd (omega (arith, many)) };
   cut = refl;
-  held = sym out;
+  text_is = refl;
   faulty = fault;
 }
 
 -- that is part of a word
-pub worded_byte : (s : WordRule) (whole sent : List ℕ) (b : ℕ) (old new : Words) → HasWorded s whole sent old → is_separator s.separators.now b ≡ false → ((word : List ℕ) → IsKept word old.word → IsKept (word ++ b ∷ []) new.word)
-    → new.out ≡ old.out → new.has_fault ≡ old.has_fault → HasWorded s (whole ++ b ∷ []) sent new
-worded_byte s whole sent b old new h inner kept out fault = record {
-  words = h.words;
-  are = h.are;
-  rest = h.rest ++ b ∷ [];
-  unbroken = unbroken_more s.separators.now h.rest b h.unbroken inner;
-  kept = kept h.rest h.kept;
-  cut = ap (λ w. w ++ b ∷ []) h.cut ∙ append_assoc (bytes_of h.words) h.rest (b ∷ []);
-  held = h.held ∙ ap (λ l. sent ++ l) (sym out);
-  faulty = fault ∙ h.faulty;
+pub takes_part : (s : WordRule) (b : ℕ) (old new : Words) (Sent : List ℕ → Type 0) → is_separator s.separators.now b ≡ false → ((word : List ℕ) → IsKept word old.word → IsKept (word ++ b ∷ []) new.word) → new.has_fault ≡ old.has_fault
+    → Sent [] → TakesByte s b old new Sent
+takes_part s b old new Sent inner kept fault sent = record {
+  more = [];
+  goes = λ bytes made h. record {
+    words = h.words;
+    are = h.are;
+    rest = h.rest ++ b ∷ [];
+    unbroken = unbroken_more s.separators.now h.rest b h.unbroken inner;
+    kept = kept h.rest h.kept;
+    cut = ap (λ w. w ++ b ∷ []) h.cut ∙ append_assoc (bytes_of h.words) h.rest (b ∷ []);
+    text_is = append-nil made ∙ h.text_is;
+    faulty = fault ∙ h.faulty;
+  };
+  sent = sent;
 }
 
 -- that ends a word
-pub worded_end : (s : WordRule) (whole sent : List ℕ) (b : ℕ) (old mid new : Words) → HasWorded s whole sent old → is_separator s.separators.now b ≡ true → EndsWord s old.word old mid
-    → new.word ≡ [] → new.out ≡ mid.out ++ b ∷ [] → new.has_fault ≡ mid.has_fault → HasWorded s (whole ++ b ∷ []) sent new
-worded_end s whole sent b old mid new h ends e word out fault =
-    let ended : Ended = record { word = h.rest; separator = b; reply = e.reply } in
-    let text : List ℕ = e.reply.text in
-    let more : List Ended = h.words ++ ended ∷ [] in
-    record {
-      words = more;
-      are = are_more s h.words ended h.are (record { unbroken = h.unbroken; separates = ends; replied = reply_kept s h.rest old.word e.reply h.kept e.replied });
-      rest = [];
-      unbroken = tt;
-      kept = record { whole = λ _. word; full = λ many. absurd (omega (arith, many)) };
-      cut = ap (λ w. w ++ b ∷ []) h.cut ∙ (append_assoc (bytes_of h.words) h.rest (b ∷ []) ∙ (sym (bytes_more h.words ended) ∙ sym (append-nil (bytes_of more))));
-      held = written_more h.words ended ∙ (ap (λ l. l ++ (text ++ b ∷ [])) h.held ∙ (append_assoc sent old.out (text ++ b ∷ [])
-          ∙ ap (λ l. sent ++ l) (sym (append_assoc old.out text (b ∷ [])) ∙ (ap (λ l. l ++ b ∷ []) (sym e.out) ∙ sym out))));
-      faulty = fault ∙ (e.fault ∙ (ap (λ f. f || e.reply.fault) h.faulty ∙ sym (refused_more h.words ended)));
-    }
-
-pub worded_same : (s : WordRule) (whole sent : List ℕ) (old new : Words) → HasWorded s whole sent old → new.word ≡ old.word → new.out ≡ old.out → new.has_fault ≡ old.has_fault → HasWorded s whole sent new
-worded_same s whole sent old new h word out fault = record {
-  words = h.words;
-  are = h.are;
-  rest = h.rest;
-  unbroken = h.unbroken;
-  kept = subst (λ w. IsKept h.rest w) (sym word) h.kept;
-  cut = h.cut;
-  held = h.held ∙ ap (λ l. sent ++ l) (sym out);
-  faulty = fault ∙ h.faulty;
+pub takes_end : (s : WordRule) (b : ℕ) (old new : Words) (Sent : List ℕ → Type 0) → is_separator s.separators.now b ≡ true → new.word ≡ [] → EndsWord s old.word (b ∷ []) old new Sent → TakesByte s b old new Sent
+takes_end s b old new Sent ends word e = record {
+  more = e.reply.text ++ b ∷ [];
+  goes = λ bytes made h.
+      let ended : Ended = record { word = h.rest; separator = b; reply = e.reply } in
+      let more : List Ended = h.words ++ ended ∷ [] in
+      record {
+        words = more;
+        are = are_more s h.words ended h.are (record { unbroken = h.unbroken; separates = ends; replied = reply_kept s h.rest old.word e.reply h.kept e.replied });
+        rest = [];
+        unbroken = tt;
+        kept = record { whole = λ _. word; full = λ many. absurd (omega (arith, many)) };
+        cut = ap (λ w. w ++ b ∷ []) h.cut ∙ (append_assoc (bytes_of h.words) h.rest (b ∷ []) ∙ (sym (bytes_more h.words ended) ∙ sym (append-nil (bytes_of more))));
+        text_is = ap (λ l. l ++ (e.reply.text ++ b ∷ [])) h.text_is ∙ sym (written_more h.words ended);
+        faulty = e.fault ∙ (ap (λ f. f || e.reply.fault) h.faulty ∙ sym (refused_more h.words ended));
+      };
+  sent = e.sent;
 }
 
-shown_fault : (ending : Ending) (s : WordRule) (word reply : List ℕ) → (shown ending s word reply).fault ≡ is_refused ending
-shown_fault Converted s word reply = refl
-shown_fault Left s word reply = refl
-shown_fault Refused s word reply = refl
-
--- a word with a byte was answered
-pub ends_word : (s : WordRule) (old new : Words) (reply : List ℕ) (fault : Bool) (ending : Ending) → 0 < length old.word → AppendsAnswer (IsReply s.rule) 192 old.word [] reply fault
-    → answer_of s old.word (record { text = reply; fault = fault }) ≡ shown ending s old.word reply → new.out ≡ old.out ++ (shown ending s old.word reply).text
-    → length (shown ending s old.word reply).text ≤ min (length old.word) MAX_LEFT + 192 → new.has_fault ≡ (old.has_fault || is_refused ending) → EndsWord s old.word old new
-ends_word s old new reply fault ending some a is out short faulty =
-    let made : List ℕ → AnswerText = λ (t : List ℕ). record { text = t; fault = fault } in
-    let replied : IsReply s.rule old.word (made reply) = subst (λ t. IsReply s.rule old.word (made t)) (sym a.appended) a.answer in
-    record {
-      reply = shown ending s old.word reply;
-      replied = of_answer s old.word (shown ending s old.word reply) some (record { reply = made reply; replied = replied; is = sym is });
-      out = out;
-      short = short;
-      fault = faulty ∙ ap (λ b. old.has_fault || b) (sym (shown_fault ending s old.word reply));
-    }
-
--- and one without a byte
-pub ends_none : (s : WordRule) (u : Words) → u.word ≡ [] → EndsWord s u.word u u
-ends_none s u none = record {
-  reply = record { text = []; fault = false };
-  replied = subst (λ w. IsWordReply s w (record { text = []; fault = false })) (sym none) refl;
-  out = sym (append-nil u.out);
-  short = omega arith;
-  fault = sym (or_false u.has_fault);
+pub takes_same : (s : WordRule) (b : ℕ) (old mid new : Words) (Sent : List ℕ → Type 0) → new.word ≡ mid.word → new.has_fault ≡ mid.has_fault → TakesByte s b old mid Sent → TakesByte s b old new Sent
+takes_same s b old mid new Sent word fault t = record {
+  more = t.more;
+  goes = λ bytes made g.
+      let h = t.goes bytes made g in
+      record {
+        words = h.words;
+        are = h.are;
+        rest = h.rest;
+        unbroken = h.unbroken;
+        kept = subst (λ w. IsKept h.rest w) (sym word) h.kept;
+        cut = h.cut;
+        text_is = h.text_is;
+        faulty = fault ∙ h.faulty;
+      };
+  sent = t.sent;
 }
 
-pub ends_same : (s : WordRule) (word : List ℕ) (old mid new : Words) → EndsWord s word old mid → new.out ≡ mid.out → new.has_fault ≡ mid.has_fault → EndsWord s word old new
-ends_same s word old mid new e out fault = record { reply = e.reply; replied = e.replied; out = out ∙ e.out; short = e.short; fault = fault ∙ e.fault }
-
--- ---- the bytes of a chunk
-pub nothing_taken : (s : WordRule) (whole sent : List ℕ) (u : Words) → HasWorded s whole sent u → HasWorded s (whole ++ []) sent u
-nothing_taken s whole sent u h = let P : List ℕ → Type 0 = λ l. HasWorded s l sent u in subst P (sym (append-nil whole)) h
-
-pub one_taken : (s : WordRule) (whole sent bytes : List ℕ) (k : ℕ) (u : Words) → k < length bytes → HasWorded s ((whole ++ take k bytes) ++ get_or bytes k 0 ∷ []) sent u → HasWorded s (whole ++ take (k + 1) bytes) sent u
-one_taken s whole sent bytes k u less h =
-    let P : List ℕ → Type 0 = λ l. HasWorded s l sent u in
-    subst P (append_assoc whole (take k bytes) (get_or bytes k 0 ∷ []) ∙ ap (λ l. whole ++ l) (sym (take_more bytes k 0 less))) h
-
-pub all_taken : (s : WordRule) (whole sent bytes : List ℕ) (k : ℕ) (u : Words) → length bytes ≤ k → HasWorded s (whole ++ take k bytes) sent u → HasWorded s (whole ++ bytes) sent u
-all_taken s whole sent bytes k u done h = let P : List ℕ → Type 0 = λ l. HasWorded s (whole ++ l) sent u in subst P (take_all k bytes done) h
-
--- ---- what was held was written
-pub written_all : (s : WordRule) (whole sent : List ℕ) (a b c : Option (List ℕ)) (old new : Words) → HasWorded s whole sent old → Appends a b sent → Appends b c old.out → new.out ≡ [] → new.word ≡ old.word → new.has_fault ≡ old.has_fault
-    → HasWritten s whole a c new
-written_all s whole sent a b c old new h first last none word fault = record {
-  sent = sent ++ old.out;
-  worded = record {
-    words = h.words;
-    are = h.are;
-    rest = h.rest;
-    unbroken = h.unbroken;
-    kept = subst (λ w. IsKept h.rest w) (sym word) h.kept;
-    cut = h.cut;
-    held = h.held ∙ (sym (append-nil (sent ++ old.out)) ∙ ap (λ l. (sent ++ old.out) ++ l) (sym none));
-    faulty = fault ∙ h.faulty;
-  };
-  none = none;
-  output = Appends-trans a b c sent old.out first last;
+-- ---- the pieces of a run
+-- nothing was put
+pub puts_none : (a : Seen) (held : List ℕ) → Puts a a held held []
+puts_none a held = record {
+  gone = [];
+  split = append-nil held;
+  written = Appends-nil a.written;
+  failures = refl;
+  source = record { left = refl; asked = refl; failures = refl; same = record { source = refl; sink = refl } };
 }
 
-pub written_part : (s : WordRule) (whole sent : List ℕ) (a b c : Option (List ℕ)) (u : Words) → HasWorded s whole sent u → Appends a b sent → AppendsPrefix b c u.out → BreaksWords s whole a c
-written_part s whole sent a b c u h first last = record {
-  words = h.words;
-  are = h.are;
-  rest = h.rest;
-  cut = h.cut;
-  output = record {
-    prefix = sent ++ last.prefix;
-    rest = last.rest;
-    split = h.held ∙ (ap (λ l. sent ++ l) last.split ∙ sym (append_assoc sent last.prefix last.rest));
-    appends = Appends-trans a b c sent last.prefix first last.appends;
-  };
-}
+-- no byte is left before the end of a piece
+pub none_left : (part : List ℕ) → HasNone is_piece part → part ≡ []
+none_left [] none = refl
+none_left (b ∷ bytes) none = let no : true ≡ false = none.0 in absurd cc
+
+module _ (first old new : WordBytes) (bytes made : List ℕ) (spent : ℕ) (a b : Moment) (same : new.rule ≡ old.rule) (makes : MakesBy first bytes made spent going old) where
+  rule_of : new.rule ≡ first.rule
+  rule_of = same ∙ makes.0
+
+  -- a byte
+  byte_made : (byte : ℕ) (Sent : List ℕ → Type 0) (t : TakesByte old.rule.now byte old.words new.words Sent) → GoesOn first.rule.now (bytes ++ byte ∷ []) (made ++ t.more) new.words
+  byte_made byte Sent t =
+      let before : GoesOn old.rule.now bytes made old.words = subst (λ r. GoesOn r.now bytes made old.words) (sym makes.0) makes.1 in
+      subst (λ r. GoesOn r.now (bytes ++ byte ∷ []) (made ++ t.more) new.words) makes.0 (t.goes bytes made before)
+
+  pub byte_goes : (byte : ℕ) → TakesByte old.rule.now byte old.words new.words (Puts a.seen b.seen a.held b.held) → Goes (MakesBy first) bytes made spent (byte ∷ []) going new a b
+  byte_goes byte t = record { more = t.more; cost = b.steps; makes = (rule_of, byte_made byte (Puts a.seen b.seen a.held b.held) t); puts = t.sent; steps = omega arith }
+
+  pub byte_breaks : (byte : ℕ) → TakesByte old.rule.now byte old.words new.words (Breaks a.seen b.seen a.held) → BreaksAmong (MakesBy first) false bytes made spent (byte ∷ []) new a b
+  byte_breaks byte t = record {
+    some = byte ∷ [];
+    rest = [];
+    cut = refl;
+    how = going;
+    uses = tt;
+    more = t.more;
+    cost = b.steps;
+    makes = (rule_of, byte_made byte (Breaks a.seen b.seen a.held) t);
+    breaks = t.sent;
+    steps = omega arith;
+  }
+
+  -- the end
+  all_made : (Sent : List ℕ → Type 0) (e : EndsWord old.rule.now old.words.word [] old.words new.words Sent) → IsWorded first.rule.now (bytes ++ []) (record { text = made ++ (e.reply.text ++ []); fault = new.words.has_fault })
+  all_made Sent e =
+      let h : GoesOn first.rule.now bytes made old.words = makes.1 in
+      let replied : IsWordReply first.rule.now old.words.word e.reply = subst (λ r. IsWordReply r.now old.words.word e.reply) makes.0 e.replied in
+      record {
+        words = h.words;
+        are = h.are;
+        rest = h.rest;
+        unbroken = h.unbroken;
+        cut = append-nil bytes ∙ h.cut;
+        last = e.reply;
+        replied = reply_kept first.rule.now h.rest old.words.word e.reply h.kept replied;
+        text_is = ap (λ l. made ++ l) (append-nil e.reply.text) ∙ ap (λ l. l ++ e.reply.text) h.text_is;
+        fault_is = e.fault ∙ ap (λ f. f || e.reply.fault) h.faulty;
+      }
+
+  pub end_goes : EndsWord old.rule.now old.words.word [] old.words new.words (Puts a.seen b.seen a.held b.held) → Goes (MakesBy first) bytes made spent [] (finished new.words.has_fault) new a b
+  end_goes e = record { more = e.reply.text ++ []; cost = b.steps; makes = (rule_of, all_made (Puts a.seen b.seen a.held b.held) e); puts = e.sent; steps = omega arith }
+
+  pub end_breaks : EndsWord old.rule.now old.words.word [] old.words new.words (Breaks a.seen b.seen a.held) → BreaksAmong (MakesBy first) true bytes made spent [] new a b
+  end_breaks e = record {
+    some = [];
+    rest = [];
+    cut = refl;
+    how = finished new.words.has_fault;
+    uses = (refl, refl);
+    more = e.reply.text ++ [];
+    cost = b.steps;
+    makes = (rule_of, all_made (Breaks a.seen b.seen a.held) e);
+    breaks = e.sent;
+    steps = omega arith;
+  }

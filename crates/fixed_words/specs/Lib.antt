@@ -2,3 +2,4 @@ pub mod Words
 pub mod Run
 pub mod Laws
 pub mod Inner
+pub mod Lemmas

@@ -1,78 +1,67 @@
--- What a run over the words of an input leaves.
-use Rattle.std.specs.Prelude.{◌≡◌, ◌⊎◌, ◌≤◌, ◌^◌, ◌++◌, ℕ, Bool, true, false, List, length}
-use Rattle.std.specs.declared.option.Option.{Option}
-use Rattle.std.specs.Io.KnownBytes.{Appends, Consumes, IsAtEnd}
-use Rattle.line_engine.specs.AnswerText.{AnswerText}
-use Rattle.line_engine.specs.Appended.{AppendsPrefix}
+-- What is made of words, and what a run over the words of an input leaves.
+use Rattle.std.specs.Prelude.{◌≡◌, ◌≤◌, ◌-◌, ◌^◌, ◌++◌, ℕ, Bool, true, List, length}
+use Rattle.std.specs.declared.convert.Infallible.{Infallible}
+use Rattle.line_engine.specs.Program.{Outside, outside}
 use Rattle.line_engine.specs.declared.status.Status.{Status}
-use Rattle.line_engine.specs.declared.status.Status.TheVariants.{Done, Faults, Usage, ReadFault, WriteFault, NoMemory}
-use Rattle.line_engine.specs.declared.status.Status.TheVariants.{TooLong}
+use Rattle.run_engine.specs.LineStatus.{IsStatus}
+use Rattle.run_engine.specs.Machines.{How, going, finished, lacking, stopped}
+use Rattle.run_engine.specs.Run.{HasRun}
+use Rattle.run_engine.specs.Seen.{Moment}
+use Rattle.run_engine.specs.declared.engine.End.{End}
+use Rattle.run_engine.specs.declared.pieces.Cut.{Cut}
+use Rattle.fixed_respell.specs.LineWords.{longest_line}
+use Rattle.fixed_words.specs.Words.{AreEnded, Ended, HasNoSeparator, IsWorded, any_refused, bytes_of, written_of}
 use Rattle.fixed_words.specs.declared.rule.WordRule.{WordRule}
-use Rattle.fixed_words.specs.Words.{AreEnded, Ended, HasNoSeparator, IsWorded, bytes_of, written_of}
+use Rattle.fixed_words.specs.declared.splitter.WordBytes.{WordBytes}
+use Rattle.fixed_words.specs.declared.splitter.Words.{Words}
 
--- from how many bytes on an input is too long
+-- how many bytes an input has at most
 abbrev pub most_bytes : ℕ
-most_bytes = 2 ^ 62
+most_bytes = 2 ^ 62 - 1
 
--- ---- what is written
--- what is made of a text was written whole, and a word of it is refused or none is
-pub record WritesText (s : WordRule) (bytes : List ℕ) (written written' : Option (List ℕ)) (fault : Bool) : Type 0 where
-  pub answer : AnswerText
-  pub is : IsWorded s bytes answer
-  pub output : Appends written written' answer.text
-  pub faulty : answer.fault ≡ fault
+-- each byte is a piece
+abbrev pub is_piece : ℕ → Bool
+is_piece byte = true
 
--- what is made of the words that ended in these bytes was written
-pub record WritesEnded (s : WordRule) (bytes : List ℕ) (written written' : Option (List ℕ)) : Type 0 where
+-- what is kept of a word: all of it, or as much as a line may have
+pub record IsKept (word kept : List ℕ) : Type 0 where
+  pub whole : length word ≤ longest_line → kept ≡ word
+  pub full : longest_line ≤ length word → longest_line ≤ length kept
+
+-- the words that ended in these bytes were answered with this text, and the next one is kept
+pub record GoesOn (s : WordRule) (bytes text : List ℕ) (u : Words) : Type 0 where
   pub words : List Ended
   pub are : AreEnded s words
   pub rest : List ℕ
   pub unbroken : HasNoSeparator s.separators.now rest
+  pub kept : IsKept rest u.word
   pub cut : bytes ≡ bytes_of words ++ rest
-  pub output : Appends written written' (written_of words)
+  pub text_is : text ≡ written_of words
+  pub faulty : u.has_fault ≡ any_refused words
 
--- a prefix of what is made of words that ended in these bytes
-pub record BreaksWords (s : WordRule) (bytes : List ℕ) (written written' : Option (List ℕ)) : Type 0 where
-  pub words : List Ended
-  pub are : AreEnded s words
-  pub rest : List ℕ
-  pub cut : bytes ≡ bytes_of words ++ rest
-  pub output : AppendsPrefix written written' (written_of words)
+-- what is made of words, by how the machine stands with their text
+abbrev pub MakesWords : WordRule → List ℕ → List ℕ → How Infallible → Words → Type 0
+MakesWords s bytes text going u = GoesOn s bytes text u
+MakesWords s bytes text (finished fault) u = IsWorded s bytes (record { text = text; fault = fault })
+MakesWords s bytes text lacking u = ⊥
+MakesWords s bytes text (stopped late why) u = ⊥
 
--- a prefix of what is made of a text
-pub record BreaksAtEnd (s : WordRule) (bytes : List ℕ) (written written' : Option (List ℕ)) : Type 0 where
-  pub answer : AnswerText
-  pub is : IsWorded s bytes answer
-  pub output : AppendsPrefix written written' answer.text
+abbrev pub MakesBy : WordBytes → List ℕ → List ℕ → ℕ → How Infallible → WordBytes → Type 0
+MakesBy first bytes text spent how last = (last.rule ≡ first.rule) × MakesWords first.rule.now bytes text how last.words
 
--- ---- what a run leaves
--- an input was read to its end, and what is made of it was written
-pub record ConvertsAll (s : WordRule) (left left' written written' : Option (List ℕ)) (fault : Bool) : Type 0 where
-  pub input : List ℕ
-  pub taken : Consumes left left' input
-  pub at_end : IsAtEnd left'
-  pub writes : WritesText s input written written' fault
+-- what is seen of a run at one moment, without what is gathered
+abbrev pub outside_at : Moment → Outside
+outside_at m = outside m.seen.left m.seen.asked m.seen.read_failures m.seen.written m.seen.write_failures m.steps
 
--- what is made of the words that ended in the bytes taken, of which there are at least so many, was written
-pub record ConvertsEnded (s : WordRule) (least : ℕ) (left left' written written' : Option (List ℕ)) : Type 0 where
-  pub bytes : List ℕ
-  pub taken : Consumes left left' bytes
-  pub some : least ≤ length bytes
-  pub writes : WritesEnded s bytes written written'
-
--- a write failed, among the words that ended in the bytes taken, or at the end of the input
-pub record ConvertsInPart (s : WordRule) (left left' written written' : Option (List ℕ)) : Type 0 where
-  pub bytes : List ℕ
-  pub taken : Consumes left left' bytes
-  pub breaks : BreaksWords s bytes written written' ⊎ (IsAtEnd left' × BreaksAtEnd s bytes written written')
-
--- what a run that ended so has taken and written
-abbrev pub HasWordsRun : WordRule → Option (List ℕ) → Option (List ℕ) → Option (List ℕ) → Option (List ℕ) → Status
-    → Type 0
-HasWordsRun s left left' written written' Done = ConvertsAll s left left' written written' false
-HasWordsRun s left left' written written' Faults = ConvertsAll s left left' written written' true
-HasWordsRun s left left' written written' Usage = ⊥
-HasWordsRun s left left' written written' ReadFault = ConvertsEnded s 0 left left' written written'
-HasWordsRun s left left' written written' WriteFault = ConvertsInPart s left left' written written'
-HasWordsRun s left left' written written' NoMemory = (left' ≡ left) × (written' ≡ written)
-HasWordsRun s left left' written written' TooLong = ConvertsEnded s most_bytes left left' written written'
+-- what a run that ended so has taken, made and written
+pub record HasWordsRun (s : WordRule) (before after : Outside) (status : Status) : Type 0 where
+  pub first : WordBytes
+  pub last : Cut WordBytes
+  pub a : Moment
+  pub b : Moment
+  pub end : End Infallible
+  pub rule : first.rule.now ≡ s
+  pub is_before : outside_at a ≡ before
+  pub is_after : outside_at b ≡ after
+  pub ends : IsStatus end status
+  pub run : HasRun (λ bytes text spent how it. MakesBy first bytes text spent how it.0) last most_bytes a b end

@@ -6,7 +6,6 @@ use Rattle.std.specs.List.{list_any}
 use Rattle.std.specs.Str.{bytes_eq}
 use Rattle.line_engine.specs.AnswerText.{AnswerText}
 use Rattle.fixed_command.specs.Convert.{IsReply}
-use Rattle.fixed_words.specs.declared.rule.TheConstants.{MAX_LEFT}
 use Rattle.fixed_words.specs.declared.rule.Ending.{Ending}
 use Rattle.fixed_words.specs.declared.rule.Ending.TheVariants.{Converted, Left, Refused}
 use Rattle.fixed_words.specs.declared.rule.Leaving.{Leaving}
@@ -26,12 +25,16 @@ HasNoSeparator others (b ∷ bytes) = (is_separator others b ≡ false) × HasNo
 abbrev pub is_overflow : List ℕ → Bool
 is_overflow text = bytes_eq text (codes "error: overflow")
 
+-- the longest word that may stay, in bytes
+abbrev pub longest_left : ℕ
+longest_left = 524288
+
 -- whether a word that is refused with this text stays as it was: never, if it is no numeral, or always; but not a word
 -- that is longer than the longest that stays
 abbrev pub is_left : Leaving → List ℕ → List ℕ → Bool
 is_left Nothing word text = false
-is_left NoNumerals word text = nat_le (length word) MAX_LEFT && not (is_overflow text)
-is_left Everything word text = nat_le (length word) MAX_LEFT
+is_left NoNumerals word text = nat_le (length word) longest_left && not (is_overflow text)
+is_left Everything word text = nat_le (length word) longest_left
 
 -- what is written for a word with this reply, and whether it is refused: the reply, or for a refusal the word itself or
 -- a token

@@ -1,17 +1,18 @@
 //! How the words of a text are converted: what separates them, and what becomes of those that are refused.
 //!
-//! A refused word becomes one token, so the columns after it stay where they are. A word that stays is written from
-//! memory that is taken before the first read and must hold the replies to 1,024 bytes as well, so it has at most
-//! 524,288 bytes. A byte of numerals separates nothing, since `0.5` would be two words.
+//! A refused word becomes one token, so the columns after it stay where they are. A word that stays has at most 524,288
+//! bytes; it is kept in memory that is taken before the first read. A byte of numerals separates nothing, since `0.5`
+//! would be two words.
 
-ghost use Rattle.std.specs.Prelude.{◌≡◌, ◌≤◌, ◌+◌, ◌++◌, length, min};
-ghost use Rattle.column_engine.specs.declared.record_buffer.TheConstants.{MAX_RECORD};
-ghost use Rattle.fixed_words.specs.Words.{answer_of, is_left, is_overflow, is_separator, shown};
+ghost use Rattle.std.specs.Prelude.{◌≡◌, ◌≤◌, ◌+◌, ◌++◌, OnErr, OnOk, length};
+ghost use Rattle.fixed_words.specs.Words.{answer_of, is_left, is_overflow, is_separator, longest_left, shown};
 ghost use Rattle.fixed_words.specs.declared.rule.Ending.{Ending};
-ghost use Rattle.fixed_words.specs.declared.rule.TheConstants.{MAX_LEFT};
+ghost use Rattle.run_engine.specs.Seen.{Breaks, Puts};
 
 use column_engine::RecordBuffer;
 use fixed_command::ConvertRule;
+use line_engine::Failed;
+use run_engine::{Gathered, Streams};
 use text_buffer::TextBuffer;
 
 /// The longest token for refused words, in bytes.
@@ -84,7 +85,7 @@ fn is_left(leaves: Leaving, word: &[u8], reply: &[u8]) -> bool
 pub(crate) fn ending_of(rule: &WordRule<'_>, word: &[u8], reply: &[u8], is_fault: bool) -> Ending
     ensures shown { answer_of rule.now word.now (record { text = reply.now; fault = is_fault })
         ≡ shown result rule.now word.now reply.now }
-    ensures short { result ≡ Ending.Left → length word.now ≤ MAX_LEFT }
+    ensures short { result ≡ Ending.Left → length word.now ≤ longest_left }
 {
     if !is_fault {
         Ending::Converted
@@ -95,23 +96,42 @@ pub(crate) fn ending_of(rule: &WordRule<'_>, word: &[u8], reply: &[u8], is_fault
     }
 }
 
-/// Appends what is written for a word that ends so, with this reply.
-pub(crate) fn push_shown(
+/// Puts a text and what ends its word.
+fn put_ended<I: Streams>(text: &[u8], end: &[u8], out: &mut Gathered<I>) -> Result<(), Failed>
+    requires { length text.now + length end.now ≤ 193 }
+    ensures ok { OnOk result (Puts (I.seen out.old.io) (I.seen out.new.io) out.old.text out.new.text
+        (text.now ++ end.now)) }
+    ensures err { OnErr result (Breaks (I.seen out.old.io) (I.seen out.new.io) out.old.text (text.now ++ end.now)) }
+{
+    let mut ended: TextBuffer<193> = TextBuffer::new();
+    ended.push_bytes(text);
+    ended.push_bytes(end);
+    out.put(ended.as_bytes())
+}
+
+/// Puts what is written for a word that ends so, with this reply, and what ends it: a separator or nothing.
+pub(crate) fn put_shown<I: Streams>(
     rule: &WordRule<'_>,
     ending: Ending,
-    word: &[u8],
+    word: &mut RecordBuffer,
     reply: &[u8],
-    out: &mut RecordBuffer,
-)
-    requires room { length out.old + min (length word.now) MAX_LEFT + 192 ≤ MAX_RECORD }
+    end: &[u8],
+    out: &mut Gathered<I>,
+) -> Result<(), Failed>
+    requires short { ending ≡ Ending.Left → length word.old ≤ longest_left }
     requires reply { length reply.now ≤ 192 }
-    requires short { ending ≡ Ending.Left → length word.now ≤ MAX_LEFT }
-    ensures appended { out.new ≡ out.old ++ (shown ending rule.now word.now reply.now).text }
-    ensures short { length (shown ending rule.now word.now reply.now).text ≤ min (length word.now) MAX_LEFT + 192 }
+    requires end { length end.now ≤ 1 }
+    ensures ok { OnOk result (Puts (I.seen out.old.io) (I.seen out.new.io) out.old.text out.new.text
+        ((shown ending rule.now word.old reply.now).text ++ end.now)) }
+    ensures err { OnErr result (Breaks (I.seen out.old.io) (I.seen out.new.io) out.old.text
+        ((shown ending rule.now word.old reply.now).text ++ end.now)) }
 {
     match ending {
-        Ending::Converted => out.append(reply),
-        Ending::Left => out.append(word),
-        Ending::Refused => out.append(rule.token.as_bytes()),
+        Ending::Converted => put_ended(reply, end, out),
+        Ending::Left => {
+            word.append(end);
+            out.put(word.as_slice())
+        }
+        Ending::Refused => put_ended(rule.token.as_bytes(), end, out),
     }
 }

@@ -1,27 +1,24 @@
-//! Words that are converted as the bytes of their text come: the word that has not ended, and what is to be written.
+//! Words that are converted as the bytes of their text come: the word that has not ended, and the pieces of a run.
 
-ghost use Rattle.std.specs.Prelude.{◌≡◌, ◌≤◌, ◌<◌, ◌+◌, ◌*◌, ◌++◌, ◌∷◌, ◌||◌, [], List, ℕ, Option, OnOk, OnErr, length};
-ghost use Rattle.std.specs.Prelude.{min};
-ghost use Rattle.column_engine.specs.declared.record_buffer.TheConstants.{MAX_RECORD};
-ghost use Rattle.line_engine.specs.Failures.{FailsOnlyCounted};
+ghost use Rattle.std.specs.Prelude.{◌≡◌, ◌≤◌, ◌<◌, ◌++◌, ◌∷◌, ◌||◌, [], List, MatchOption, ℕ, OnOk, OnErr};
+ghost use Rattle.std.specs.Prelude.{get_or, length, take, true};
 ghost use Rattle.fixed_words.specs.Words.{is_refused};
-ghost use Rattle.fixed_words.specs.declared.rule.TheConstants.{MAX_LEFT};
+ghost use Rattle.fixed_words.specs.Run.{GoesOn, IsKept, is_piece};
+ghost use Rattle.fixed_words.specs.Inner.Progress.{EndsWord, TakesByte};
 ghost use Rattle.fixed_words.specs.declared.rule.WordRule.{WordRule};
-ghost use Rattle.fixed_words.specs.Run.{BreaksAtEnd, BreaksWords, WritesText};
-ghost use Rattle.fixed_words.specs.Inner.Progress.{EndsWord, HasWorded, HasWritten, IsKept};
+ghost use Rattle.run_engine.specs.Pieces.{HasNone};
+ghost use Rattle.run_engine.specs.Seen.{Breaks, Puts};
 
-use crate::chunk::send;
-use crate::rule::{Ending, WordRule, ending_of, is_overflow, is_separator, push_shown};
+use crate::rule::{Ending, WordRule, ending_of, is_overflow, is_separator, put_shown};
 use column_engine::{MAX_RECORD, RecordBuffer};
 use fixed_command::{ConvertRule, Outcome, RefusedLine, Tally, has_error, outcome_of};
 use fixed_report::ErrorReport;
 use fixed_steps::Steps;
-use line_engine::{Failed, MAX_ANSWER, Sink};
+use line_engine::{Failed, MAX_ANSWER};
+use run_engine::{Gathered, Halt, Pieces, Streams};
+use std::convert::Infallible;
 use std::sync::ledger::Ledger;
 use text_buffer::TextBuffer;
-
-/// How many bytes are read at a time at most.
-pub const CHUNK: usize = 1024;
 
 /// A word that is refused.
 #[derive(Drop)]
@@ -37,8 +34,6 @@ pub struct WordRefusal {
 pub struct Words {
     /// The first bytes of the word that has not ended.
     pub word: RecordBuffer,
-    /// What is to be written.
-    pub out: RecordBuffer,
     /// Whether a word was refused.
     pub has_fault: bool,
     /// The line of the next byte, from 1.
@@ -68,16 +63,13 @@ fn is_refused(ending: Ending) -> bool
 }
 
 impl Words {
-    /// No byte, with room for a word and for what is to be written.
-    pub fn new(word: RecordBuffer, out: RecordBuffer, errors: Option<ErrorReport>) -> Words
-        requires word { word ≡ [] }
-        requires out { out ≡ [] }
-        ensures none { (s : WordRule) → HasWorded s [] [] result }
-        ensures out { result.out ≡ [] }
+    /// No byte, with room for a word.
+    pub fn new(word: RecordBuffer, errors: Option<ErrorReport>) -> Words
+        requires { word ≡ [] }
+        ensures { (s : WordRule) → GoesOn s [] [] result }
     {
         Words {
             word,
-            out,
             has_fault: false,
             line: 1,
             byte: 1,
@@ -92,7 +84,6 @@ impl Words {
     /// Counts a word that ended so, with this reply.
     fn count(&mut self, ending: Ending, reply: &[u8])
         ensures word { self.new.word ≡ self.old.word }
-        ensures out { self.new.out ≡ self.old.out }
         ensures fault { self.new.has_fault ≡ (self.old.has_fault || is_refused ending) }
     {
         if is_refused(ending) {
@@ -117,7 +108,6 @@ impl Words {
         steps: &mut Steps<L>,
     )
         ensures word { self.new.word ≡ self.old.word }
-        ensures out { self.new.out ≡ self.old.out }
         ensures fault { self.new.has_fault ≡ self.old.has_fault }
     {
         if let Some(errors) = &mut self.errors {
@@ -138,8 +128,6 @@ impl Words {
     /// Goes on with a byte of a word. Those past the greatest length of a line are passed over.
     fn keep(&mut self, byte: u8)
         ensures word { (rest : List ℕ) → IsKept rest self.old.word → IsKept (rest ++ byte ∷ []) self.new.word }
-        ensures longer { length self.new.word ≤ length self.old.word + 1 }
-        ensures out { self.new.out ≡ self.old.out }
         ensures fault { self.new.has_fault ≡ self.old.has_fault }
     {
         if self.word.len() < MAX_RECORD {
@@ -147,56 +135,77 @@ impl Words {
         }
     }
 
-    /// Answers the word that ends, which has a byte.
-    fn answer_word<L: Ledger>(&mut self, rule: &WordRule<'_>, steps: &mut Steps<L>)
+    /// Answers the word that ends, which has a byte, and puts that and what ends the word: a separator or nothing.
+    fn answer_word<I: Streams, L: Ledger>(
+        &mut self,
+        rule: &WordRule<'_>,
+        end: &[u8],
+        out: &mut Gathered<I>,
+        steps: &mut Steps<L>,
+    ) -> Result<(), Failed>
         requires some { 0 < length self.old.word }
-        requires room { length self.old.out + min (length self.old.word) MAX_LEFT + 192 ≤ MAX_RECORD }
-        ensures { EndsWord rule.now self.old.word self.old self.new }
+        requires end { length end.now ≤ 1 }
+        ensures ok { OnOk result (EndsWord rule.now self.old.word end.now self.old self.new
+            (Puts (I.seen out.old.io) (I.seen out.new.io) out.old.text out.new.text)) }
+        ensures err { OnErr result (EndsWord rule.now self.old.word end.now self.old self.new
+            (Breaks (I.seen out.old.io) (I.seen out.new.io) out.old.text)) }
     {
         let mut reply: TextBuffer<MAX_ANSWER> = TextBuffer::new();
         let is_fault = rule
             .rule
             .push_reply(self.word.as_slice(), &mut reply, steps);
-        let word = self.word.as_slice();
-        let ending = ending_of(rule, word, reply.as_bytes(), is_fault);
-        push_shown(rule, ending, word, reply.as_bytes(), &mut self.out);
+        let ending = ending_of(rule, self.word.as_slice(), reply.as_bytes(), is_fault);
         self.count(ending, reply.as_bytes());
         self.note(&rule.rule, ending, reply.as_bytes(), steps);
+        put_shown(rule, ending, &mut self.word, reply.as_bytes(), end, out)
     }
 
-    /// Answers the word that ends, if it has a byte, and begins a new one.
-    fn end_word<L: Ledger>(&mut self, rule: &WordRule<'_>, steps: &mut Steps<L>)
-        requires room { length self.old.out + min (length self.old.word) MAX_LEFT + 192 ≤ MAX_RECORD }
+    /// Answers the word that ends, if it has a byte, puts what ends it, and begins a new one.
+    fn end_word<I: Streams, L: Ledger>(
+        &mut self,
+        rule: &WordRule<'_>,
+        end: &[u8],
+        out: &mut Gathered<I>,
+        steps: &mut Steps<L>,
+    ) -> Result<(), Failed>
+        requires { length end.now ≤ 1 }
         ensures word { self.new.word ≡ [] }
-        ensures ended { EndsWord rule.now self.old.word self.old self.new }
+        ensures ok { OnOk result (EndsWord rule.now self.old.word end.now self.old self.new
+            (Puts (I.seen out.old.io) (I.seen out.new.io) out.old.text out.new.text)) }
+        ensures err { OnErr result (EndsWord rule.now self.old.word end.now self.old self.new
+            (Breaks (I.seen out.old.io) (I.seen out.new.io) out.old.text)) }
     {
         if self.word.is_empty() {
-            return;
+            return out.put(end);
         }
-        self.answer_word(rule, steps);
+        let result = self.answer_word(rule, end, out, steps);
         self.word.clear();
+        result
     }
 
     /// Takes the next byte, and answers the word that ends with it.
-    fn take<L: Ledger>(&mut self, rule: &WordRule<'_>, byte: u8, steps: &mut Steps<L>)
-        requires room { length self.old.out + min (length self.old.word) MAX_LEFT + 193 ≤ MAX_RECORD }
-        ensures taken { (whole sent : List ℕ) → HasWorded rule.now whole sent self.old
-            → HasWorded rule.now (whole ++ byte ∷ []) sent self.new }
-        ensures room { length self.new.out + min (length self.new.word) MAX_LEFT
-            ≤ length self.old.out + min (length self.old.word) MAX_LEFT + 193 }
+    fn take<I: Streams, L: Ledger>(
+        &mut self,
+        rule: &WordRule<'_>,
+        byte: u8,
+        out: &mut Gathered<I>,
+        steps: &mut Steps<L>,
+    ) -> Result<(), Failed>
+        ensures ok { OnOk result (TakesByte rule.now byte self.old self.new
+            (Puts (I.seen out.old.io) (I.seen out.new.io) out.old.text out.new.text)) }
+        ensures err { OnErr result (TakesByte rule.now byte self.old self.new
+            (Breaks (I.seen out.old.io) (I.seen out.new.io) out.old.text)) }
     {
         if is_separator(rule.separators, byte) {
-            self.end_word(rule, steps);
-            self.out.push(byte);
-        } else {
-            self.keep(byte);
+            return self.end_word(rule, &[byte], out, steps);
         }
+        self.keep(byte);
+        Ok(())
     }
 
     /// Goes on to the place behind a byte.
     fn pass(&mut self, byte: u8)
         ensures word { self.new.word ≡ self.old.word }
-        ensures out { self.new.out ≡ self.old.out }
         ensures fault { self.new.has_fault ≡ self.old.has_fault }
     {
         if byte == b'\n' {
@@ -211,83 +220,88 @@ impl Words {
     }
 
     /// Takes the next byte, answers the word that ends with it, and goes on to the next place.
-    fn push<L: Ledger>(&mut self, rule: &WordRule<'_>, byte: u8, steps: &mut Steps<L>)
-        requires room { length self.old.out + min (length self.old.word) MAX_LEFT + 193 ≤ MAX_RECORD }
-        ensures taken { (whole sent : List ℕ) → HasWorded rule.now whole sent self.old
-            → HasWorded rule.now (whole ++ byte ∷ []) sent self.new }
-        ensures room { length self.new.out + min (length self.new.word) MAX_LEFT
-            ≤ length self.old.out + min (length self.old.word) MAX_LEFT + 193 }
+    fn push<I: Streams, L: Ledger>(
+        &mut self,
+        rule: &WordRule<'_>,
+        byte: u8,
+        out: &mut Gathered<I>,
+        steps: &mut Steps<L>,
+    ) -> Result<(), Failed>
+        ensures ok { OnOk result (TakesByte rule.now byte self.old self.new
+            (Puts (I.seen out.old.io) (I.seen out.new.io) out.old.text out.new.text)) }
+        ensures err { OnErr result (TakesByte rule.now byte self.old self.new
+            (Breaks (I.seen out.old.io) (I.seen out.new.io) out.old.text)) }
     {
-        self.take(rule, byte, steps);
+        self.take(rule, byte, out, steps)?;
         self.pass(byte);
+        Ok(())
     }
+}
 
-    /// Takes the next bytes, and answers the words that end in them.
-    fn push_all<L: Ledger>(&mut self, rule: &WordRule<'_>, bytes: &[u8], steps: &mut Steps<L>)
-        requires none { self.old.out ≡ [] }
-        requires chunk { length bytes.now ≤ CHUNK }
-        ensures { (whole sent : List ℕ) → HasWorded rule.now whole sent self.old
-            → HasWorded rule.now (whole ++ bytes.now) sent self.new }
+/// What converts the words of an input by a rule. It takes the input one byte after the other.
+#[derive(Drop)]
+pub struct WordBytes<'a> {
+    /// The rule.
+    pub rule: &'a WordRule<'a>,
+    /// The words so far.
+    pub words: Words,
+}
+
+impl<'a, L: Ledger> Pieces<L> for WordBytes<'a> {
+    ghost use Rattle.fixed_words.specs.Run.{MakesBy, is_piece};
+    ghost use Rattle.fixed_words.specs.Lemmas.WordLaws.{made_one};
+
+    type Stop = Infallible;
+
+    ghost Makes = { MakesBy };
+
+    ghost ends = { is_piece };
+
+    #[inline(always)]
+    fn find(bytes: &[u8]) -> Option<usize>
+        ensures { MatchOption result (HasNone is_piece bytes.now)
+            (λ end. (end < length bytes.now) × HasNone is_piece (take end bytes.now)
+            × (is_piece (get_or bytes.now end 0) ≡ true)) }
     {
-        for byte in bytes {
-            self.push(rule, *byte, steps);
-        }
+        if bytes.is_empty() { None } else { Some(0) }
     }
 
-    /// Takes the next bytes, and writes what there is to write for them.
-    ///
-    /// # Errors
-    ///
-    /// A write failed.
-    pub fn feed<K: Sink, L: Ledger>(
+    #[inline(always)]
+    fn end_piece<I: Streams>(
         &mut self,
-        rule: &WordRule<'_>,
-        bytes: &[u8],
-        sink: &mut K,
+        _part: &[u8],
+        byte: u8,
+        out: &mut Gathered<I>,
         steps: &mut Steps<L>,
-    ) -> Result<(), Failed>
-        requires none { self.old.out ≡ [] }
-        requires chunk { length bytes.now ≤ CHUNK }
-        ensures ok { OnOk result ((whole : List ℕ) (first : Option (List ℕ))
-            → HasWritten rule.now whole first (K.written sink.old) self.old
-            → HasWritten rule.now (whole ++ bytes.now) first (K.written sink.new) self.new) }
-        ensures none { OnOk result (self.new.out ≡ []) }
-        ensures err { OnErr result ((whole : List ℕ) (first : Option (List ℕ))
-            → HasWritten rule.now whole first (K.written sink.old) self.old
-            → BreaksWords rule.now (whole ++ bytes.now) first (K.written sink.new)) }
-        ensures failures { FailsOnlyCounted (K.failures sink.old) (K.failures sink.new) result }
-    {
-        self.push_all(rule, bytes, steps);
-        match send(&mut self.out, sink) {
+    ) -> Result<(), Halt<Infallible>> {
+        match self.words.push(self.rule, byte, out, steps) {
+            Err(_) => Err(Halt::WriteFault),
             Ok(()) => Ok(()),
-            Err(failed) => Err(failed),
         }
     }
 
-    /// Answers the last word at the end of a text, where it has no separator behind it.
-    ///
-    /// # Errors
-    ///
-    /// A write failed.
-    pub fn finish<K: Sink, L: Ledger>(
+    #[inline(always)]
+    fn keep<I: Streams>(
         &mut self,
-        rule: &WordRule<'_>,
-        sink: &mut K,
+        _part: &[u8],
+        _out: &mut Gathered<I>,
+        _steps: &mut Steps<L>,
+    ) -> Result<(), Halt<Infallible>> {
+        Ok(())
+    }
+
+    fn finish<I: Streams>(
+        &mut self,
+        out: &mut Gathered<I>,
         steps: &mut Steps<L>,
-    ) -> Result<(), Failed>
-        requires none { self.old.out ≡ [] }
-        ensures ok { OnOk result ((whole : List ℕ) (first : Option (List ℕ))
-            → HasWritten rule.now whole first (K.written sink.old) self.old
-            → WritesText rule.now whole first (K.written sink.new) self.new.has_fault) }
-        ensures err { OnErr result ((whole : List ℕ) (first : Option (List ℕ))
-            → HasWritten rule.now whole first (K.written sink.old) self.old
-            → BreaksAtEnd rule.now whole first (K.written sink.new)) }
-        ensures failures { FailsOnlyCounted (K.failures sink.old) (K.failures sink.new) result }
-    {
-        self.end_word(rule, steps);
-        match send(&mut self.out, sink) {
-            Ok(()) => Ok(()),
-            Err(failed) => Err(failed),
+    ) -> Result<bool, Halt<Infallible>> {
+        match self.words.end_word(self.rule, &[], out, steps) {
+            Err(_) => Err(Halt::WriteFault),
+            Ok(()) => Ok(self.words.has_fault),
         }
     }
+
+    ghost one_law = { made_one };
+
+    ghost stop_law = { λ first last bytes more text spent why stopped. stopped };
 }

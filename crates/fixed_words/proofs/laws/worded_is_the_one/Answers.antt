@@ -1,4 +1,4 @@
-use Rattle.fixed_words.proofs.LawLemmas.{worded_one}
+use Rattle.fixed_words.specs.Lemmas.WordLaws.{worded_one}
 use Rattle.fixed_words.proofs.laws.worded_is_the_one.Goals as goal
 
 pub returns : goal.returns

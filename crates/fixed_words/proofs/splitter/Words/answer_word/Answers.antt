@@ -1,36 +1,48 @@
-use Rattle.std.proofs.Common.{◌≡◌, ◌≤◌, ◌+◌, ◌++◌, ◌∙◌, List, ℕ, [], length, min, subst}
+use Rattle.std.proofs.Common.{◌≡◌, ◌<◌, ◌||◌, ◌++◌, ◌∙◌, Bool, List, ℕ, [], length, subst}
+use Rattle.std.proofs.lemmas.Result.{on_err_weaker, on_ok_weaker}
 use Rattle.line_engine.specs.AnswerText.{AnswerText}
 use Rattle.line_engine.specs.Output.{AppendsAnswer}
+use Rattle.run_engine.specs.Seen.{Breaks, Puts}
 use Rattle.fixed_command.specs.Convert.{IsReply}
-use Rattle.fixed_words.specs.Words.{answer_of, shown}
-use Rattle.fixed_words.specs.declared.rule.TheConstants.{MAX_LEFT}
+use Rattle.fixed_words.specs.Inner.Progress.{EndsWord}
+use Rattle.fixed_words.specs.Words.{answer_of, is_refused, shown}
+use Rattle.fixed_words.specs.declared.rule.Ending.{Ending}
+use Rattle.fixed_words.specs.declared.rule.WordRule.{WordRule}
+use Rattle.fixed_words.specs.declared.splitter.Words.{Words}
 use Rattle.fixed_words.proofs.WordLemmas.{ends_word}
 use Rattle.fixed_words.proofs.splitter.Words.answer_word.Goals as goal
 
-pub returns : goal.returns
-returns g c =
-    let s = c.args.rule.now in
-    let old = c.args.self.now in
-    let reply : List ℕ = c.push_reply-is_fault.new.out in
-    let fault = c.push_reply-is_fault.result in
-    let ending = c.ending_of-ending.result in
-    let word : List ℕ = c.as_slice-word.result.now in
+-- a word was answered by the reply to what is read of it
+told : (s : WordRule) (old new : Words) (ends first second third start seen shows reply : List ℕ) (fault : Bool) (ending : Ending) (Sent : List ℕ → Type 0) → 0 < length old.word → first ≡ old.word → second ≡ old.word → third ≡ old.word
+    → start ≡ [] → seen ≡ reply → shows ≡ reply → AppendsAnswer (IsReply s.rule) 192 first start reply fault → answer_of s second (record { text = seen; fault = fault }) ≡ shown ending s second seen → new.has_fault ≡ (old.has_fault || is_refused ending)
+    → Sent ((shown ending s third shows).text ++ ends) → EndsWord s old.word ends old new Sent
+told s old new ends first second third start seen shows reply fault ending Sent some first_is second_is third_is start_is seen_is shows_is replied is faulty sent =
     let made : List ℕ → AnswerText = λ (t : List ℕ). record { text = t; fault = fault } in
-    let replied : AppendsAnswer (IsReply s.rule) 192 old.word c.new-reply.result reply fault =
-    subst (λ (w : List ℕ). AppendsAnswer (IsReply s.rule) 192 w c.new-reply.result reply fault) c.as_slice.ensures.bytes c.push_reply-is_fault.ensures.reply in
-    let empty : AppendsAnswer (IsReply s.rule) 192 old.word [] reply fault =
-    subst (λ (l : List ℕ). AppendsAnswer (IsReply s.rule) 192 old.word l reply fault) c.new-reply.ensures replied in
-    let is : answer_of s word (made reply) ≡ shown ending s word reply =
-    subst (λ (r : List ℕ). answer_of s word (made r) ≡ shown ending s word r) c.as_bytes.ensures.value c.ending_of-ending.ensures.shown in
-    let is_word : answer_of s old.word (made reply) ≡ shown ending s old.word reply =
-    subst (λ (w : List ℕ). answer_of s w (made reply) ≡ shown ending s w reply) c.as_slice-word.ensures.bytes is in
-    let out : c.push_shown.new.out ≡ old.out ++ (shown ending s word reply).text =
-    subst (λ (r : List ℕ). c.push_shown.new.out ≡ old.out ++ (shown ending s word r).text) c.as_bytes-2.ensures.value c.push_shown.ensures.appended in
-    let out_word : c.push_shown.new.out ≡ old.out ++ (shown ending s old.word reply).text =
-    subst (λ (w : List ℕ). c.push_shown.new.out ≡ old.out ++ (shown ending s w reply).text) c.as_slice-word.ensures.bytes out in
-    let short : length (shown ending s word reply).text ≤ min (length word) MAX_LEFT + 192 =
-    subst (λ (r : List ℕ). length (shown ending s word r).text ≤ min (length word) MAX_LEFT + 192) c.as_bytes-2.ensures.value c.push_shown.ensures.short in
-    let short_word : length (shown ending s old.word reply).text ≤ min (length old.word) MAX_LEFT + 192 =
-    subst (λ (w : List ℕ). length (shown ending s w reply).text ≤ min (length w) MAX_LEFT + 192) c.as_slice-word.ensures.bytes short in
-    ends_word s old c.note.new.self reply fault ending c.requires.some empty is_word
-    (c.note.ensures.out ∙ (c.count.ensures.out ∙ out_word)) short_word (c.note.ensures.fault ∙ c.count.ensures.fault)
+    ends_word s old.word ends old new reply fault ending Sent some
+    (subst (λ w. AppendsAnswer (IsReply s.rule) 192 w [] reply fault) first_is (subst (λ l. AppendsAnswer (IsReply s.rule) 192 first l reply fault) start_is replied))
+    (subst (λ w. answer_of s w (made reply) ≡ shown ending s w reply) second_is (subst (λ r. answer_of s second (made r) ≡ shown ending s second r) seen_is is))
+    faulty (subst (λ w. Sent ((shown ending s w reply).text ++ ends)) third_is (subst (λ r. Sent ((shown ending s third r).text ++ ends)) shows_is sent))
+
+pub returns-clause-ok : goal.returns-clause-ok
+returns-clause-ok g c =
+    let old = c.args.self.now in
+    let mid = c.note.new.self in
+    let it = c.put_shown in
+    let new : Words = record { word = it.new.word; has_fault = mid.has_fault; line = mid.line; byte = mid.byte; start = mid.start; refused = mid.refused; first = mid.first; errors = mid.errors; tally = mid.tally } in
+    on_ok_weaker it.result
+    (told c.args.rule.now old new c.args.end.now c.as_slice.result.now c.as_slice-2.result.now mid.word c.new-reply.result c.as_bytes.result.now c.as_bytes-4.result.now c.push_reply-is_fault.new.out c.push_reply-is_fault.result c.ending_of-ending.result
+    (Puts (g.I.Streams.seen c.args.out.now.io) (g.I.Streams.seen it.new.out.io) c.args.out.now.text it.new.out.text)
+    c.requires.some c.as_slice.ensures.bytes c.as_slice-2.ensures.bytes (c.note.ensures.word ∙ c.count.ensures.word) c.new-reply.ensures c.as_bytes.ensures.value c.as_bytes-4.ensures.value c.push_reply-is_fault.ensures.reply c.ending_of-ending.ensures.shown
+    (c.note.ensures.fault ∙ c.count.ensures.fault)) it.ensures.ok
+
+pub returns-clause-err : goal.returns-clause-err
+returns-clause-err g c =
+    let old = c.args.self.now in
+    let mid = c.note.new.self in
+    let it = c.put_shown in
+    let new : Words = record { word = it.new.word; has_fault = mid.has_fault; line = mid.line; byte = mid.byte; start = mid.start; refused = mid.refused; first = mid.first; errors = mid.errors; tally = mid.tally } in
+    on_err_weaker it.result
+    (told c.args.rule.now old new c.args.end.now c.as_slice.result.now c.as_slice-2.result.now mid.word c.new-reply.result c.as_bytes.result.now c.as_bytes-4.result.now c.push_reply-is_fault.new.out c.push_reply-is_fault.result c.ending_of-ending.result
+    (Breaks (g.I.Streams.seen c.args.out.now.io) (g.I.Streams.seen it.new.out.io) c.args.out.now.text)
+    c.requires.some c.as_slice.ensures.bytes c.as_slice-2.ensures.bytes (c.note.ensures.word ∙ c.count.ensures.word) c.new-reply.ensures c.as_bytes.ensures.value c.as_bytes-4.ensures.value c.push_reply-is_fault.ensures.reply c.ending_of-ending.ensures.shown
+    (c.note.ensures.fault ∙ c.count.ensures.fault)) it.ensures.err
