@@ -13,6 +13,7 @@ import re
 import resource
 import shutil
 import signal
+import struct
 import subprocess
 import sys
 import tempfile
@@ -284,6 +285,21 @@ RUNS = {
         (["pack", "U8F0"], b"0" * 2_000_000 + b"7", 0, b"\x07"),
         (["pack", "U8F0"], b"", 0, b""),
         (["pack", "U8F0", "no file"], b"", 3, b""),
+        (["pack", "--from", "text", "Q15"], b"0.5\n", 0, b"\x00\x40"),
+        (["pack", "--from", "f64", "Q15"], struct.pack("<4d", 0.5, -1, -0.0, 5e-324), 0, b"\x00\x40\x00\x80\x00\x00\x00\x00"),
+        (["pack", "--from", "f32", "Q15", "--endian", "big"], struct.pack(">3f", 0.5, -1, 1e-45), 0, b"\x40\x00\x80\x00\x00\x00"),
+        (["pack", "--from", "f64", "Q15", "-m", "away"], struct.pack("<2d", 5e-324, -5e-324), 0, b"\x01\x00\xff\xff"),
+        (["pack", "--from=f64", "Q15", "-p", "saturating"], struct.pack("<2d", 1.7976931348623157e308, -2), 0, b"\xff\x7f\x00\x80"),
+        (["pack", "--from", "f64", "U8F0", "-p", "wrapping"], struct.pack("<3d", 257, -1, 2.5), 0, b"\x01\xff\x02"),
+        (["pack", "--from", "f64", "U8F0"], struct.pack("<3d", 1, 256, 2), 1, b"\x01"),
+        (["pack", "--from", "f64", "U8F0", "-p", "wrapping"], struct.pack("<3d", 1, math.nan, 2), 1, b"\x01"),
+        (["pack", "--from", "f32", "U8F0", "-p", "saturating"], struct.pack("<3f", 1, -math.inf, 2), 1, b"\x01"),
+        (["pack", "--from", "f64", "U8F0"], struct.pack("<d", 7) + b"\0" * 7, 1, b"\x07"),
+        (["pack", "--from", "f32", "U8F0"], struct.pack("<f", 7) + b"\0", 1, b"\x07"),
+        (["pack", "--from", "f64", "U8F0"], b"\0" * 80_008, 0, b"\0" * 10_001),
+        (["pack", "--from", "f32", "I64F0"], struct.pack("<f", -1) * 3_000, 0, b"\xff" * 24_000),
+        (["pack", "--from", "f64", "U8F0"], b"", 0, b""),
+        (["pack", "--from", "f64", "U8F0", "no file"], b"", 3, b""),
         (["unpack", "Q15"], b"\x00\x40\x00\x80", 0, b"0.5\n-1\n"),
         (["unpack", "Q15", "--endian", "big"], b"\x40\x00\x80\x00\x01", 1, b"0.5\n-1\n"),
         (["unpack", "I3F2", "--print", "value"], b"\x1f\x0f\x20", 1, b"-0.25\n3.75\nerror: word is wider than the format\n"),
@@ -385,6 +401,7 @@ BAD_WORDS = {
         [b"bits", b"U8F0", b"--radix", b"7", b"1"], [b"bits", b"U8F0", b"--field", b"8:0", b"1"], [b"bits", b"U8F0", b"--field", b"64:57"],
         [b"bits", b"U8F0", b"--field", b"0:7"], [b"bits", b"U8F0", b"--field", b"07:0"], [b"bits", b"U8F0", b"--field", b"7"], [b"bits", b"U8F0", b"--swap=1"],
         [b"pack"], [b"pack", b"U8F0", b"--endian", b"middle"], [b"pack", b"U8F0", b"--print", b"bits"], [b"pack", b"U60F5"],
+        [b"pack", b"U8F0", b"--from", b"f16"], [b"pack", b"U8F0", b"--from", b"f64", b"--radix", b"16"], [b"pack", b"U8F0", b"--report"],
         [b"unpack"], [b"unpack", b"U8F0", b"--radix", b"16"], [b"unpack", b"U8F0", b"U65F0"], [b"unpack", b"U8F0", b"--from", b"bits"],
         [b"show", b"U64F1", b"1"], [b"show"], [b"bits"], [b"bits", b"U8F0", b"--file", b"x", b"1"], [b"format", b"U8F0", b"X"],
     ),
@@ -435,6 +452,7 @@ STACKS = (
     (["fit", "--error", "2^-1000", "--any", "--why"], LONG_NUMERAL + b"\n-1\n"),
     (["fit", "--error", "0.001", "--range", "--why", "-10", "10"], b""),
     (["pack", "I16F16"], LONG_NUMERAL + b"\nx\n"),
+    (["pack", "--from", "f64", "I16F16", "--report", "-p", "saturating"], struct.pack("<4d", 1e-300, 1e300, 0.1, math.inf)),
     (["unpack", "U1F0"], b"\1\0" * 2_000 + b"\2"),
     (["constants"], b"A = 0x1.8 I4F4\n" * 2),
     (["constants", "c"], b"A = 0x1.8 I4F4\n"),

@@ -1,7 +1,9 @@
 """The command `fixed`: its words beside fixed_tool and beside what is asked of them, and how long it takes to start and end."""
 import os
 import random
+import struct
 import subprocess
+import sys
 import time
 
 from timing import VALGRIND, in_turn, instructions, peak, table
@@ -9,6 +11,19 @@ from timing import VALGRIND, in_turn, instructions, peak, table
 LINES = 200_000
 # How many raw words are timed: user time is told from the system's by the clock's ticks, of which a run has to have many.
 WORDS = 3_000_000
+# How many raw doubles are timed, and what is asked of `pack --from f64`, in megabytes of them a second of user time.
+FLOATS, FLOAT_MEGABYTES = 12_000_000, 500
+# The same words by numpy, whose numbers all are in range, and the seconds that it took from the bytes of the file to the words' bytes.
+BY_NUMPY = """
+import sys, time
+import numpy as np
+with open(sys.argv[1], "rb") as given:
+    start = time.process_time()
+    words = np.rint(np.frombuffer(given.read(), "<f8") * 32768).astype("<i2").tobytes()
+    print(time.process_time() - start)
+with open(sys.argv[2], "wb") as out:
+    out.write(words)
+"""
 # How many there are in two inputs whose instructions are subtracted, so that starting does not count.
 MORE, FEWER = 150_000, 50_000
 # What is asked of `pack` and of `unpack`, in megabytes of lines a second of user time.
@@ -57,6 +72,29 @@ def packing(programs, inputs, tries):
     table(rows, ["raw words", "bytes a line", "MB/s of user time", f"of {MEGABYTES}", "instructions a word"])
 
 
+def floats(programs, inputs, tries):
+    """Megabytes of raw doubles a second of user time, read into words of Q15 by `fixed pack --from f64` and by numpy's rint and astype."""
+    fixed, path, words = programs.built("fixed"), os.path.join(inputs.folder, "floats.bin"), os.path.join(inputs.folder, "floats.words")
+    some = random.Random(1)
+    part = struct.pack("<100000d", *(some.uniform(-0.99, 0.99) for _ in range(100_000)))
+    with open(path, "wb") as out:
+        for _ in range(FLOATS // 100_000):
+            out.write(part)
+    command = [fixed, "pack", "--from", "f64", "Q15"]
+    (seconds,) = in_turn([(command, path)], tries, is_user=True)
+    speed = 8 * FLOATS / seconds / 1e6
+    rows = [[" ".join(["fixed", *command[1:]]), f"{speed:.0f}", f"{speed / FLOAT_MEGABYTES:.0%}"]]
+    ran = [subprocess.run([sys.executable, "-c", BY_NUMPY, path, words], stdout=subprocess.PIPE, stderr=subprocess.DEVNULL, check=False) for _ in range(tries)]
+    if all(each.returncode == 0 for each in ran):
+        speed = 8 * FLOATS / min(float(each.stdout) for each in ran) / 1e6
+        rows.append(["numpy, rint and astype", f"{speed:.0f}", f"{speed / FLOAT_MEGABYTES:.0%}"])
+        with open(path, "rb") as given, open(words, "rb") as wanted:
+            if subprocess.run(command, stdin=given, stdout=subprocess.PIPE, check=True).stdout != wanted.read():
+                rows.append(["their words differ", "", ""])
+    os.remove(path)
+    table(rows, ["raw doubles to words", "MB/s of user time", f"of {FLOAT_MEGABYTES}"])
+
+
 def memory(programs, inputs):
     """Peak memory of each command that streams, over many short lines and over some that are as long as a line may be."""
     short = inputs.path("plain", "--lines", str(LINES))
@@ -100,5 +138,6 @@ def measure(programs, inputs, tries):
         return
     converting(programs, inputs, tries)
     packing(programs, inputs, tries)
+    floats(programs, inputs, tries)
     memory(programs, inputs)
     starting(programs)

@@ -12,7 +12,7 @@ _fixed_options() {
     format) echo '--json' ;;
     lines | sort) echo '--limit' ;;
     fit) echo '--width --error --any --signed --why --range --radix' ;;
-    pack) echo '--endian --radix --policy --mode' ;;
+    pack) echo '--from --endian --radix --policy --mode --report' ;;
     unpack) echo '--endian --policy --target-mode --print --places --places-mode' ;;
     constants) echo '--guard --numerals --name --radix --policy --mode' ;;
   esac
@@ -20,7 +20,7 @@ _fixed_options() {
 # What may be typed after an option of a command, where it takes a value.
 _fixed_value() {
   case $1:$2 in
-    *:--from) echo 'text bits' ;;
+    convert:--from | column:--from) echo 'text bits' ;;
     *:--radix | *:-r) echo '2 8 10 16' ;;
     *:--policy | *:-p) echo 'checked saturating wrapping' ;;
     *:--mode | *:-m | *:--target-mode | *:--places-mode) echo 'nearest ties-away ties-zero ties-up ties-down floor ceil zero away' ;;
@@ -32,6 +32,7 @@ _fixed_value() {
     *:--output | *:-o | *:--file) echo '@files' ;;
     *:--empty) echo 'fault keep 0' ;;
     *:--width | *:-w) echo '8 16 32 64' ;;
+    pack:--from) echo 'text f64 f32' ;;
     *:--endian) echo 'little big' ;;
     *:--numerals) echo '@formats' ;;
   esac

@@ -1,23 +1,29 @@
 #!/usr/bin/env python3
 """Independent answers to `fixed pack` and `fixed unpack`, in formats of any width.
 
-It works with whole numbers alone and shares no code with the program.
+It works with whole numbers alone and shares no code with the program. A float's value is that of Python's `struct` and `fractions`.
 
-    pack.py --compare PROGRAM [--count N] [--seed S]   runs PROGRAM on seeded lines and words, and compares
+    pack.py --compare PROGRAM [--count N] [--seed S]   runs PROGRAM on seeded lines, words and floats, and compares
+    pack.py --compare PROGRAM --floats N [--seed S]    on N floats: every exponent, extreme and random fractions, both signs
 """
 import argparse
 import random
+import struct
 import subprocess
 import sys
+from fractions import Fraction
 
 from convert import moved
-from reference import WORDS, Refused, image, numeral_for, read_number, shortest
+from reference import WORDS, Refused, image, numeral_for, read_number, rounded, shortest
 from show import WORD_REFUSALS
 
 # How many lines or words a run has at most.
 LINES = 400
 POLICIES = ("checked", "saturating", "wrapping")
 MODES = ("nearest", "floor", "ceil", "zero")
+ALL_MODES = (*MODES, "ties-away", "ties-zero", "ties-up", "ties-down", "away")
+# For each layout of floats: bytes, bits of the fraction and of the exponent, and how `struct` names it.
+LAYOUTS = {"f64": (8, 52, 11, "d"), "f32": (4, 23, 8, "f")}
 
 
 def length_of(shape):
@@ -135,11 +141,88 @@ def back_once(program, pick):
     return None if texts == data else f"{word_of(shape)} {endian}: {data[:80]!r} comes back as {texts[:80]!r}"
 
 
+def float_words(data, layout, shape, policy, mode, endian):
+    """The words of the floats before the first that is refused, that float's number and cause, or None, and the bytes left over."""
+    size, places, exponent_bits, real = LAYOUTS[layout]
+    words = bytearray()
+    for place, start in enumerate(range(0, len(data) - size + 1, size), 1):
+        part = data[start : start + size]
+        bits = int.from_bytes(part, endian)
+        if bits >> places & ((1 << exponent_bits) - 1) == (1 << exponent_bits) - 1:
+            return bytes(words), (place, "not a finite number"), 0
+        value = abs(Fraction(struct.unpack(("<" if endian == "little" else ">") + real, part)[0]))
+        is_negative = bits >> (places + exponent_bits) == 1
+        ulps = rounded(is_negative, value.numerator << shape[2], value.denominator, mode)
+        try:
+            word = image(policy, shape, -ulps if is_negative else ulps)[0]
+        except Refused as why:
+            return bytes(words), (place, WORDS[str(why)]), 0
+        words += (word % (1 << shape[1])).to_bytes(length_of(shape), endian)
+    return bytes(words), None, len(data) % size
+
+
+def float_for(pick, layout, exponent=None):
+    """The bits of a float with this exponent, or any, and a telling fraction."""
+    _, places, exponent_bits, _ = LAYOUTS[layout]
+    exponent = pick.randrange(1 << exponent_bits) if exponent is None else exponent
+    fraction = pick.choice((0, 1, (1 << places) - 1, 1 << (places - 1), 1 << pick.randrange(places), pick.getrandbits(places), pick.getrandbits(places)))
+    return (pick.getrandbits(1) << exponent_bits | exponent) << places | fraction
+
+
+def near_for(pick, layout, shape):
+    """The bits of a float near the range of a format, and near a half of a step of it."""
+    number = Fraction(pick.getrandbits(shape[1] + 1), 1 << (shape[2] + 1)) * pick.choice((1, -1))
+    return int.from_bytes(struct.pack("<" + LAYOUTS[layout][3], float(number)), "little")
+
+
+def floats_differ(program, pick, bits, layout, policy, mode, cut):
+    """A run of pack over these floats and `cut` bytes more, and a message where it differs."""
+    shape, endian = shape_for(pick), pick.choice(("little", "big"))
+    bits = bits(shape)
+    data = b"".join(each.to_bytes(LAYOUTS[layout][0], endian) for each in bits) + b"\0" * cut
+    words = ["pack", "--from", layout, word_of(shape), "-p", policy, "-m", mode, "--endian", endian]
+    ran = run(program, words, data)
+    wanted, refused, over = float_words(data, layout, shape, policy.encode(), mode, endian)
+    if (ran.stdout, ran.returncode) != (wanted, 1 if refused or over else 0):
+        return f"{' '.join(words)}, {data[:80]!r}: {ran.stdout[:40]!r}, status {ran.returncode}, not {wanted[:40]!r}"
+    if refused and not (f"float {refused[0]}, bytes ".encode() in ran.stderr and refused[1].encode() in ran.stderr):
+        return f"{' '.join(words)}: {ran.stderr!r} does not name float {refused[0]}: {refused[1]}"
+    if over and f"bytes left over: {over},".encode() not in ran.stderr:
+        return f"{' '.join(words)}: {ran.stderr!r} does not name {over} bytes"
+    return None
+
+
+def floats_once(program, pick):
+    """A run of pack over a few floats, some not finite, and a message where it differs."""
+    layout, policy, mode = pick.choice(tuple(LAYOUTS)), pick.choice(POLICIES), pick.choice(ALL_MODES)
+
+    def bits(shape):
+        return [float_for(pick, layout) if pick.random() < 0.02 else near_for(pick, layout, shape) for _ in range(pick.randrange(LINES))]
+
+    return floats_differ(program, pick, bits, layout, policy, mode, pick.randrange(LAYOUTS[layout][0]) if pick.random() < 0.3 else 0)
+
+
+def compare_floats(program, count, seed):
+    """Every exponent of both layouts in turn, in each mode, and in each policy that refuses no number."""
+    pick, wrong, tried = random.Random(seed), [], 0
+    runs = [(layout, policy, mode) for layout in LAYOUTS for policy in POLICIES[1:] for mode in ALL_MODES]
+    for layout, policy, mode in runs:
+        finite = (1 << LAYOUTS[layout][2]) - 1
+        bits = [float_for(pick, layout, i % finite) for i in range(-(-count // len(runs)))]
+        tried += len(bits)
+        wrong.append(floats_differ(program, pick, lambda shape, bits=bits: bits, layout, policy, mode, 0))
+    wrong = [message for message in wrong if message]
+    for message in wrong[:10]:
+        print(message)
+    print(f"{tried} floats packed in {len(runs)} runs, {len(wrong)} differ")
+    return 1 if wrong else 0
+
+
 def compare(program, count, seed):
     pick = random.Random(seed)
     wrong = []
     for i in range(count):
-        wrong.append((pack_once, unpack_once, back_once)[i % 3](program, pick))
+        wrong.append((pack_once, unpack_once, back_once, floats_once)[i % 4](program, pick))
     wrong = [message for message in wrong if message]
     for message in wrong[:10]:
         print(message)
@@ -150,9 +233,12 @@ def compare(program, count, seed):
 def main():
     words = argparse.ArgumentParser(description=__doc__.split("\n", maxsplit=1)[0])
     words.add_argument("--compare", metavar="PROGRAM", required=True)
-    words.add_argument("--count", type=int, default=600)
+    words.add_argument("--count", type=int, default=800)
+    words.add_argument("--floats", type=int, default=0)
     words.add_argument("--seed", type=int, default=1)
     given = words.parse_args()
+    if given.floats:
+        return compare_floats(given.compare, given.floats, given.seed)
     return compare(given.compare, given.count, given.seed)
 
 

@@ -7,6 +7,8 @@ use Rattle.fixed_bits.specs.declared.mode.ReadMode.TheVariants.{NearestEven}
 use Rattle.fixed_command.specs.Asked.{IsNamed, IsPrintNamed}
 use Rattle.fixed_command.specs.declared.print.Print.{Print}
 use Rattle.fixed_command.specs.declared.print.Print.TheVariants.{Places, Text}
+use Rattle.fixed_float.specs.declared.layout.FloatLayout.{FloatLayout}
+use Rattle.fixed_float.specs.declared.layout.FloatLayout.TheVariants.{Binary32, Binary64}
 use Rattle.fixed_pack.specs.declared.endian.Endian.{Endian}
 use Rattle.fixed_pack.specs.declared.endian.Endian.TheVariants.{Big, Little}
 use Rattle.fixed_respell.specs.Words.{mode_text}
@@ -26,6 +28,11 @@ IsPrintAsked part (Some word) mode_word print = IsPrintNamed part Text
     × (mode : ReadMode) × IsNamed ReadMode mode_text NearestEven mode_word mode × (print ≡ Places count mode)
 
 -- the word of an order of bytes
+abbrev pub floats_text : Option FloatLayout → List ℕ
+floats_text None = codes "text"
+floats_text (Some Binary64) = codes "f64"
+floats_text (Some Binary32) = codes "f32"
+
 abbrev pub endian_text : Endian → List ℕ
 endian_text Little = codes "little"
 endian_text Big = codes "big"

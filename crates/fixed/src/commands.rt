@@ -12,6 +12,7 @@ pub mod convert;
 pub mod convert_words;
 pub mod enclose;
 pub mod fit;
+pub mod floats;
 pub mod format;
 pub mod least;
 pub mod lines;

@@ -1,7 +1,7 @@
 //! What is done with each input, one after another.
 
 use crate::commands::column_report::{self, Known};
-use crate::commands::{fit, pack, unpack};
+use crate::commands::{fit, floats, pack, unpack};
 use column_engine::ColumnWatch;
 use command_line::device::{Failure, Output, Unmarked, Writer};
 use command_line::report::{Report, push_words, report_end};
@@ -10,7 +10,7 @@ use fixed_command::{
     convert_column, error_report, explanation, greater_end, place_name, run_task, tally_text,
 };
 use fixed_io::{StdSink, StdSource};
-use fixed_pack::{PackSettings, UnpackRule};
+use fixed_pack::{FloatWords, PackSettings, UnpackRule};
 use fixed_report::{ErrorReport, MAX_GREATEST};
 use fixed_steps::Steps;
 use fixed_words::{WordRefusal, WordRule, convert_words};
@@ -45,6 +45,13 @@ pub enum Job<'a> {
     Fit(fit::FitTask),
     /// Its numerals are packed into words.
     Pack(PackSettings),
+    /// Its floats are read into words.
+    PackFloats {
+        /// How.
+        floats: FloatWords,
+        /// Whether there is a report.
+        has_report: bool,
+    },
     /// Its words are unpacked into lines.
     Unpack(UnpackRule),
 }
@@ -292,6 +299,9 @@ fn run_reader<R: Read + Drop, L: Ledger>(
             fit::run_on(rt, task, file, &mut source, steps)
         }
         Job::Pack(settings) => pack::run_on(rt, settings, file, reader, steps),
+        Job::PackFloats { floats, has_report } => {
+            floats::pack_on(rt, floats, *has_report, file, reader, steps)
+        }
         Job::Unpack(rule) => unpack::run_on(rt, rule, file, reader, steps),
     }
 }

@@ -79,6 +79,14 @@ pub const FROM: Row = Row {
     help: "text (default): numerals; bits: words of SOURCE",
 };
 
+pub const PACK_FROM: Row = Row {
+    name: "from",
+    letter: None,
+    value: "WHAT",
+    choices: &["text", "f64", "f32"],
+    help: "text (default): numerals; f64, f32: raw floats",
+};
+
 pub const PRINT: Row = Row {
     name: "print",
     letter: None,
@@ -108,7 +116,7 @@ pub const ENDIAN: Row = Row {
     letter: None,
     value: "ORDER",
     choices: &["little", "big"],
-    help: "The order of a word's bytes: little (default), big",
+    help: "The order of bytes: little (default), big",
 };
 
 pub const TRIM: Row = Row {

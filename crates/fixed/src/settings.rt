@@ -11,6 +11,7 @@ ghost use Rattle.command_line.specs.Words.{keyword_at, value_of, word_at};
 ghost use Rattle.fixed.specs.Lines.{IsFormatAsked, IsPartAsked, IsTargetAsked, are_counts, is_count};
 ghost use Rattle.fixed.specs.Lines.{is_like_format};
 ghost use Rattle.fixed.specs.Settings.{IsPlacesWord, IsPrintAsked, endian_text};
+ghost use Rattle.fixed.specs.Settings.{floats_text};
 ghost use Rattle.fixed_bits.specs.Formats.{FormatParts};
 ghost use Rattle.fixed_bits.specs.declared.format.Policy.{Policy};
 ghost use Rattle.fixed_bits.specs.declared.mode.ReadMode.{ReadMode};
@@ -18,6 +19,7 @@ ghost use Rattle.fixed_command.specs.Asked.{IsNamed, spelling_text};
 ghost use Rattle.fixed_command.specs.Limits.{max_limit};
 ghost use Rattle.fixed_command.specs.declared.print.Print.{Print};
 ghost use Rattle.fixed_command.specs.declared.spelling.Spelling.{Spelling};
+ghost use Rattle.fixed_float.specs.declared.layout.FloatLayout.{FloatLayout};
 ghost use Rattle.fixed_numeral.specs.declared.radix.Radix.{Radix};
 ghost use Rattle.fixed_pack.specs.declared.endian.Endian.{Endian};
 ghost use Rattle.fixed_respell.specs.FormatNames.{IsFormatName};
@@ -26,7 +28,8 @@ ghost use Rattle.fixed_show.specs.declared.parts.Part.{Part};
 ghost use Rattle.line_engine.specs.Memory.{next_count};
 
 use crate::options::{
-    ENDIAN, FIELD, FROM, MODE, PLACES, PLACES_MODE, POLICY, PRINT, RADIX, SWAP, TARGET_MODE,
+    ENDIAN, FIELD, FROM, MODE, PACK_FROM, PLACES, PLACES_MODE, POLICY, PRINT, RADIX, SWAP,
+    TARGET_MODE,
 };
 use command_line::given::{Asked, Given, Refusal};
 use command_line::page::Row;
@@ -36,6 +39,7 @@ use fixed_command::{
     ConvertRule, Limit, Part, Places, Print, Settings, Spelling, field_named, mode_named,
     policy_named, print_named, radix_named, spelling_named, target_mode_named,
 };
+use fixed_float::FloatLayout;
 use fixed_numeral::Radix;
 use fixed_pack::Endian;
 use fixed_respell::{format_named, number_word};
@@ -283,6 +287,32 @@ pub fn endian_of<'a>(given: &Given<'_, 'a>) -> Asked<'a, Endian>
     match given.value(&ENDIAN) {
         None => Ok(Endian::Little),
         Some(word) => known(endian_named(word), given, &ENDIAN),
+    }
+}
+
+/// The floats that a word names. The outer None: it names neither floats nor text.
+fn floats_named(word: &str) -> Option<Option<FloatLayout>>
+    ensures { MatchOption result ((a : Option FloatLayout) → ¬ (word.now ≡ floats_text a))
+        (λ a. word.now ≡ floats_text a) }
+{
+    match word {
+        "text" => Some(None),
+        "f64" => Some(Some(FloatLayout::Binary64)),
+        "f32" => Some(Some(FloatLayout::Binary32)),
+        _ => None,
+    }
+}
+
+/// The floats that the option `from` of `pack` names. None for text, which is meant where the option is left out.
+pub fn floats_of<'a>(given: &Given<'_, 'a>) -> Asked<'a, Option<FloatLayout>>
+    ensures value { IfOk result (λ a. IsNamed (Option FloatLayout) floats_text None
+        (first_value (found_of given.now.matches.now) (codes "from")) a) }
+    ensures refused { IfErr result (λ _. (a : Option FloatLayout) → ¬ IsNamed (Option FloatLayout) floats_text None
+        (first_value (found_of given.now.matches.now) (codes "from")) a) }
+{
+    match given.value(&PACK_FROM) {
+        None => Ok(None),
+        Some(word) => known(floats_named(word), given, &PACK_FROM),
     }
 }
 

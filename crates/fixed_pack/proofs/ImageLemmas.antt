@@ -1,5 +1,5 @@
 -- A word whose source is its target: its bits are their own image.
-use Rattle.std.proofs.Common.{◌≡◌, ◌==◌, ◌&&◌, ◌∙◌, ◌*◌, ◌^◌, ◌<◌, ◌≤◌, ◌++◌, ℕ, ℤ, Bool, true, false, unsigned_abs, List, length, refl, sym, ap, subst, arith}
+use Rattle.std.proofs.Common.{◌≡◌, ◌==◌, ◌&&◌, ◌∙◌, ◌^◌, ◌≤◌, ◌++◌, ℕ, ℤ, Bool, true, false, unsigned_abs, List, length, refl, sym, ap, subst}
 use Rattle.std.specs.Bool.{beq}
 use Rattle.std.specs.Cmp.{booleans_Decides}
 use Rattle.std.specs.Int.{is_negative}

@@ -1,7 +1,9 @@
+mod FloatLemmas
 mod ImageLemmas
 mod LawLemmas
 mod LineLemmas
 mod PackLemmas
+mod RecodeLemmas
 mod ReplyLemmas
 mod TakenLemmas
 mod UnpackLawLemmas

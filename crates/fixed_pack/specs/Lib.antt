@@ -1,5 +1,9 @@
 pub mod Word
 pub mod Pack
 pub mod Unpack
+pub mod Part
+pub mod Recoded
+pub mod Floats
 pub mod Laws
 pub mod Inner
+pub mod Lemmas

@@ -1,3 +1,5 @@
+-- What the proofs of the crates above may cite
+pub mod Public
 -- What no other crate can name
 mod LineCountLemmas
 mod LineRunLemmas

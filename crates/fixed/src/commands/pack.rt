@@ -1,16 +1,17 @@
-//! `fixed pack`: numerals, one a line, to raw words.
+//! `fixed pack`: numerals, one a line, or raw floats to raw words.
 
 use crate::inputs::{Job, run_inputs};
-use crate::options::{ENDIAN, MODE, POLICY, RADIX};
-use crate::settings::{endian_of, format_at, mode_of, policy_of, radix_of};
+use crate::options::{ENDIAN, MODE, PACK_FROM, POLICY, RADIX, REPORT};
+use crate::settings::{endian_of, floats_of, format_at, mode_of, policy_of, radix_of};
 use command_line::device::{Failure, Unmarked, Writer};
-use command_line::given::{Asked, Given};
+use command_line::given::{Asked, Given, Refusal};
 use command_line::page::{FILES, Operand, Page};
 use command_line::report::{Report, is_broken_pipe, push_words};
 use fixed_bits::ReadMode;
 use fixed_command::{ConvertRule, Print, RefusedLine, Settings, Spelling, explanation};
+use fixed_float::FloatLayout;
 use fixed_io::{StdSink, StdSource};
-use fixed_pack::{PackEnd, PackSettings, run_pack};
+use fixed_pack::{FloatWords, PackEnd, PackSettings, run_pack};
 use fixed_steps::Steps;
 use line_engine::Status;
 use std::cell::Cell;
@@ -26,14 +27,18 @@ pub fn page() -> Page {
     Page {
         name: "pack",
         hidden_name: "",
-        about: "Pack numerals, one a line, into raw words",
+        about: "Pack numerals, one a line, or raw floats into raw words",
         usage: "fixed pack [OPTIONS] FORMAT [FILE]...",
         operands: &[FORMAT, FILES],
         has_numerals: false,
-        options: &[ENDIAN, RADIX, POLICY, MODE],
+        options: &[PACK_FROM, ENDIAN, RADIX, POLICY, MODE, REPORT],
         end: "A word is the bits of a numeral in two's complement, in the fewest bytes that\n\
               hold the width of FORMAT; bits above the width are 0. The first line that is\n\
               refused ends its input, and standard error says which it is and why.\n\
+              \n\
+              With --from f64 or f32 the input is floats of IEEE 754, one after another, each\n\
+              read by its exact value; an infinity or a NaN is refused. --report counts them\n\
+              and says which has the greatest error.\n\
               \n\
               A format is I (signed) or U (unsigned), its whole bits, F and its fraction bits,\n\
               as in I16F16, 1 to 64 bits in all; or as in Q15, Q8.8 and UQ8.8.\n\
@@ -44,9 +49,9 @@ pub fn page() -> Page {
 
 /// A writer that counts the bytes that are taken.
 #[derive(Drop)]
-struct Counted<'c, W> {
-    writer: W,
-    taken: &'c Cell<u64>,
+pub struct Counted<'c, W> {
+    pub writer: W,
+    pub taken: &'c Cell<u64>,
 }
 
 impl<'c, W: Write> Write for Counted<'c, W> {
@@ -145,7 +150,7 @@ pub fn run_on<R: Read + Drop, L: Ledger>(
     end.status()
 }
 
-/// Packs the numerals of each file.
+/// Packs the numerals or the floats of each file.
 pub fn run<'a, L: Ledger>(
     rt: &HostRuntime,
     given: &Given<'_, 'a>,
@@ -162,5 +167,38 @@ pub fn run<'a, L: Ledger>(
         mode: mode_of(given)?,
         endian: endian_of(given)?,
     };
-    Ok(run_inputs(rt, &Job::Pack(settings), given.from(1), steps))
+    let job = match floats_of(given)? {
+        None => numerals_job(given, settings)?,
+        Some(layout) => floats_job(given, settings, layout)?,
+    };
+    Ok(run_inputs(rt, &job, given.from(1), steps))
+}
+
+/// What is done with numerals.
+fn numerals_job<'a>(given: &Given<'_, 'a>, settings: PackSettings) -> Asked<'a, Job<'a>> {
+    if given.has(&REPORT) {
+        return Err(Refusal::Word("--report", "goes with '--from f64' or '--from f32' alone"));
+    }
+    Ok(Job::Pack(settings))
+}
+
+/// What is done with floats.
+fn floats_job<'a>(
+    given: &Given<'_, 'a>,
+    settings: PackSettings,
+    layout: FloatLayout,
+) -> Asked<'a, Job<'a>> {
+    if given.value(&RADIX).is_some() {
+        return Err(Refusal::Word("--radix", "goes with numerals alone, not with floats"));
+    }
+    Ok(Job::PackFloats {
+        floats: FloatWords {
+            layout,
+            format: settings.format,
+            policy: settings.policy,
+            mode: settings.mode,
+            endian: settings.endian,
+        },
+        has_report: given.has(&REPORT),
+    })
 }

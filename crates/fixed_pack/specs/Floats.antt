@@ -1,0 +1,53 @@
+-- Floats that become words of a format, and words that become floats.
+use Rattle.std.specs.Prelude.{◌≡◌, ℕ, ℤ, List, codes}
+use Rattle.fixed_bits.specs.Images.{IsImage}
+use Rattle.fixed_bits.specs.Ranges.{IsOutOfRange, IsWidth}
+use Rattle.fixed_bits.specs.declared.format.Policy.TheVariants.{Checked}
+use Rattle.fixed_float.specs.Floats.{IsFinite, IsReadFloat}
+use Rattle.fixed_float.specs.declared.layout.FloatLayout.{FloatLayout}
+use Rattle.fixed_float.specs.declared.layout.FloatLayout.TheVariants.{Binary32, Binary64}
+use Rattle.fixed_pack.specs.Word.{number_of, word_bytes}
+use Rattle.fixed_pack.specs.declared.float_words.FloatWords.{FloatWords}
+use Rattle.fixed_pack.specs.declared.float_words.WordRefusal.{WordRefusal}
+use Rattle.fixed_pack.specs.declared.float_words.WordRefusal.TheVariants.{NotFinite, Overflow, TooWide}
+
+-- how many bytes a float has
+abbrev pub float_size : FloatLayout → ℕ
+float_size Binary32 = 4
+float_size Binary64 = 8
+
+abbrev pub refusal_text : WordRefusal → List ℕ
+refusal_text NotFinite = codes "not a finite number"
+refusal_text Overflow = codes "overflow"
+refusal_text TooWide = codes "word is wider than the format"
+
+-- ---- floats
+-- the float is finite, and these bits are the image of its read number
+pub record AreFloatBits (s : FloatWords) (float : ℕ) (bits : ℤ) : Type 0 where
+  pub finite : IsFinite s.layout float
+  pub number : ℤ
+  pub read : IsReadFloat s.mode s.layout float s.format.frac number
+  pub image : IsImage s.policy s.format.signed s.format.width number bits
+
+-- its read number has no image
+pub record Overflows (s : FloatWords) (float : ℕ) : Type 0 where
+  pub finite : IsFinite s.layout float
+  pub number : ℤ
+  pub read : IsReadFloat s.mode s.layout float s.format.frac number
+  pub checked : s.policy ≡ Checked
+  pub out : IsOutOfRange s.format.signed s.format.width number
+
+abbrev pub IsFloatRefused : FloatWords → ℕ → WordRefusal → Type 0
+IsFloatRefused s float NotFinite = ¬ IsFinite s.layout float
+IsFloatRefused s float Overflow = Overflows s float
+IsFloatRefused s float TooWide = ⊥
+
+-- the bytes of a float become those of a word
+pub record IsFloatWord (s : FloatWords) (bytes made : List ℕ) : Type 0 where
+  pub bits : ℤ
+  pub are : AreFloatBits s (number_of s.endian bytes) bits
+  pub word_is : made ≡ word_bytes s.endian s.format bits
+  pub width : IsWidth s.format.width
+
+abbrev pub IsWordNot : FloatWords → List ℕ → WordRefusal → Type 0
+IsWordNot s bytes why = IsFloatRefused s (number_of s.endian bytes) why

@@ -1,0 +1,3 @@
+-- Lemmas that impls cite.
+pub mod FloatLaws
+pub mod RecodedLaws

@@ -1,0 +1,201 @@
+//! The machine of words that are recoded.
+
+ghost use Rattle.std.specs.Prelude.{◌≡◌, ◌<◌, ◌≤◌, ◌+◌, ◌++◌, [], List, ℕ, length};
+ghost use Rattle.fixed_pack.specs.Part.{part_of};
+ghost use Rattle.fixed_pack.specs.Recoded.{EndsWord, MakesWords, capped};
+ghost use Rattle.run_engine.specs.Machines.{Feeds, going};
+ghost use Rattle.run_engine.specs.Seen.{moment};
+
+use crate::part::Part;
+use crate::recode::{Recode, WordWatch};
+use fixed_steps::Steps;
+use line_engine::Output;
+use run_engine::{Gathered, Halt, Machine, Streams};
+use std::sync::ledger::Ledger;
+use text_buffer::TextBuffer;
+
+/// The word that is refused: its number, from 1, its bytes, and why.
+#[derive(Drop)]
+pub struct RefusedWord<C> {
+    pub number: u64,
+    pub word: TextBuffer<8>,
+    pub cause: C,
+}
+
+/// Words that are recoded by a rule, up to the first that it refuses: what becomes of them, one after another.
+#[derive(Drop)]
+pub struct Recoder<R, W> {
+    /// The rule.
+    pub rule: R,
+    /// The first bytes of the word that is not whole.
+    pub part: Part,
+    /// How many words were recoded; the count stays at the last value of u64.
+    pub words: u64,
+    /// The observer of the words.
+    pub watch: W,
+}
+
+/// The lesser of two counts.
+#[inline(always)]
+fn lesser(a: usize, b: usize) -> usize
+    ensures first { result ≤ a }
+    ensures second { result ≤ b }
+    ensures some { 0 < a → 0 < b → 0 < result }
+{
+    if a < b { a } else { b }
+}
+
+/// The word that is refused.
+#[cold]
+fn refused_word<C: Copy>(number: u64, word: &[u8], cause: C) -> RefusedWord<C>
+    requires { length word.now ≤ 8 }
+    ensures number { result.number ≡ number }
+    ensures word { result.word ≡ word.now }
+    ensures cause { result.cause ≡ cause }
+{
+    let mut bytes = TextBuffer::new();
+    bytes.push_bytes(word);
+    RefusedWord {
+        number,
+        word: bytes,
+        cause,
+    }
+}
+
+impl<R: Recode, W> Recoder<R, W> {
+    /// No word yet.
+    pub fn new(rule: R, watch: W) -> Recoder<R, W>
+        ensures rule { result.rule ≡ rule }
+        ensures part { result.part ≡ part_of [] (R.size rule) }
+        ensures words { result.words ≡ 0 }
+    {
+        let part = Part::new(rule.count());
+        Recoder {
+            rule,
+            part,
+            words: 0,
+            watch,
+        }
+    }
+
+    /// Recodes a whole word, and counts it.
+    #[inline(always)]
+    fn recode_word<L: Ledger>(
+        &mut self,
+        word: &[u8],
+        out: &mut Output,
+        steps: &mut Steps<L>,
+    ) -> Result<(), Halt<RefusedWord<R::Cause>>>
+    where
+        W: WordWatch<L>,
+        requires few { length word.now ≤ 8 }
+        requires room { length out.old + 8 ≤ 8192 }
+        ensures rule { self.new.rule ≡ self.old.rule }
+        ensures part { self.new.part ≡ self.old.part }
+        ensures words { self.new.words ≡ capped (self.old.words + 1) }
+        ensures ended { length word.now ≡ R.size self.old.rule → EndsWord (R.Recodes self.old.rule)
+            (R.Refuses self.old.rule) word.now (capped (self.old.words + 1)) out.old out.new result }
+    {
+        self.words = self.words.saturating_add(1);
+        let end = self.rule.recode(word, out);
+        self.watch.see(self.words, word, steps);
+        match end {
+            Ok(()) => Ok(()),
+            Err(cause) => Err(Halt::Stopped(refused_word(self.words, word, cause))),
+        }
+    }
+
+    /// Recodes the word that ends with this piece, and begins a new one. A word that is whole in it isn't copied.
+    #[inline(always)]
+    fn end_word<L: Ledger>(
+        &mut self,
+        piece: &[u8],
+        out: &mut Output,
+        steps: &mut Steps<L>,
+    ) -> Result<(), Halt<RefusedWord<R::Cause>>>
+    where
+        W: WordWatch<L>,
+        requires piece { length self.old.part.bytes + length piece.now ≡ self.old.part.size }
+        requires most { self.old.part.size ≤ 8 }
+        requires room { length out.old + 8 ≤ 8192 }
+        ensures rule { self.new.rule ≡ self.old.rule }
+        ensures part { self.new.part ≡ part_of [] self.old.part.size }
+        ensures words { self.new.words ≡ capped (self.old.words + 1) }
+        ensures ended { self.old.part.size ≡ R.size self.old.rule → EndsWord (R.Recodes self.old.rule)
+            (R.Refuses self.old.rule) (self.old.part.bytes ++ piece.now) (capped (self.old.words + 1)) out.old out.new
+            result }
+    {
+        if self.part.is_empty() {
+            return self.recode_word(piece, out, steps);
+        }
+        let word = self.part.take(piece);
+        self.recode_word(word.as_bytes(), out, steps)
+    }
+
+    /// Takes the next bytes, no more than the word lacks, and recodes it if it ends with them.
+    #[inline(always)]
+    fn push<I: Streams, L: Ledger>(
+        &mut self,
+        piece: &[u8],
+        out: &mut Gathered<I>,
+        steps: &mut Steps<L>,
+    ) -> Result<(), Halt<RefusedWord<R::Cause>>>
+    where
+        W: WordWatch<L>,
+        requires { length self.old.part.bytes + length piece.now ≤ self.old.part.size }
+        ensures { (rule : R) (bytes made : List ℕ) (spent : ℕ)
+            → MakesWords (R.size rule) (R.Recodes rule) (R.Refuses rule) rule bytes made spent going self.old
+            → Feeds (MakesWords (R.size rule) (R.Recodes rule) (R.Refuses rule) rule) bytes made spent piece.now
+            self.new (moment (I.seen out.old.io) out.old.text steps.old)
+            (moment (I.seen out.new.io) out.new.text steps.new) result }
+    {
+        if piece.len() < self.part.lacks() {
+            self.part.keep(piece);
+            return Ok(());
+        }
+        match out.make_room(8) {
+            Err(_) => Err(Halt::WriteFault),
+            Ok(()) => self.end_word(piece, &mut out.text, steps),
+        }
+    }
+}
+
+impl<R: Recode, W: WordWatch<L>, L: Ledger> Machine<L> for Recoder<R, W> {
+    ghost use Rattle.fixed_pack.specs.Recoded.{MakesWords};
+    ghost use Rattle.fixed_pack.specs.Lemmas.RecodedLaws.{recoded_one};
+
+    type Stop = RefusedWord<R::Cause>;
+
+    ghost Makes = { λ first bytes text spent how last. MakesWords (R.size first.rule) (R.Recodes first.rule)
+        (R.Refuses first.rule) first.rule bytes text spent how last };
+
+    #[inline]
+    fn feed<I: Streams>(
+        &mut self,
+        chunk: &[u8],
+        out: &mut Gathered<I>,
+        steps: &mut Steps<L>,
+    ) -> Result<(), Halt<RefusedWord<R::Cause>>> {
+        let mut rest = chunk;
+        while rest.len() > 0 {
+            let size = lesser(self.part.lacks(), rest.len());
+            match self.push(&rest[..size], out, steps) {
+                Err(halt) => return Err(halt),
+                Ok(()) => rest = &rest[size..],
+            }
+        }
+        Ok(())
+    }
+
+    fn finish<I: Streams>(
+        &mut self,
+        _out: &mut Gathered<I>,
+        _steps: &mut Steps<L>,
+    ) -> Result<bool, Halt<RefusedWord<R::Cause>>> {
+        Ok(!self.part.is_empty())
+    }
+
+    ghost one_law = { λ first a b bytes made other spent cost how then p q. recoded_one (R.size first.rule)
+        (R.Recodes first.rule) (R.Refuses first.rule) (R.one_law first.rule) (R.cause_law first.rule)
+        (R.never_law first.rule) first.rule a b bytes made other spent cost how then p q };
+}
