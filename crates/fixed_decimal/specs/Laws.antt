@@ -1,0 +1,21 @@
+-- What the laws of this crate say.
+use Rattle.std.specs.Prelude.{◌≡◌, ℕ, ℤ}
+use Rattle.fixed_bits.specs.declared.mode.ReadMode.{ReadMode}
+use Rattle.fixed_decimal.specs.Decimals.{IsReadDecimal, IsWholeUnits}
+use Rattle.fixed_decimal.specs.Texts.{decimal_format_text}
+use Rattle.fixed_numeral.specs.Numeral.{Parts, HasNumeral}
+use Rattle.fixed_numeral.specs.declared.radix.Radix.TheVariants.{Dec}
+
+-- a numeral has one read number, and no other, for each mode and count of places
+abbrev pub ReadDecimalIsTheOne : Type 0
+ReadDecimalIsTheOne = (mode : ReadMode) (p : Parts) (n : ℕ) → (v : ℤ) × IsReadDecimal mode p n v
+    × ((w : ℤ) → IsReadDecimal mode p n w → w ≡ v)
+
+-- the text of b is a decimal numeral; in each mode it reads as b, and nothing is rounded
+abbrev pub DecimalTextReadsBack : Type 0
+DecimalTextReadsBack = (mode : ReadMode) (b : ℤ) (n : ℕ) → (p : Parts) × HasNumeral Dec (decimal_format_text b n) p
+    × IsReadDecimal mode p n b × IsWholeUnits p n
+
+-- two numbers with the same text are the same number
+abbrev pub DecimalTextIsTheOne : Type 0
+DecimalTextIsTheOne = (b c : ℤ) (n : ℕ) → decimal_format_text b n ≡ decimal_format_text c n → b ≡ c
