@@ -8,7 +8,8 @@ use Rattle.fixed_numeral.specs.Numeral.{Parts, is_minus, signed}
 use Rattle.fixed_numeral.specs.Value.{magnitude}
 use Rattle.fixed_numeral.specs.declared.radix.Radix.TheVariants.{Dec}
 
--- v is the read number of a numeral with these parts: its magnitude in units of 10^-n, rounded in the mode, with its sign
+-- v is the read number of a numeral with these parts: its magnitude in units of 10^-n, rounded in the mode, with its
+-- sign
 pub record IsReadDecimal (mode : ReadMode) (p : Parts) (n : ℕ) (v : ℤ) : Type 0 where
   pub units : ℕ
   pub rounded : IsRounded mode (is_minus p.sign) ((magnitude Dec p).num * 10 ^ n) (magnitude Dec p).den units

@@ -16,4 +16,4 @@ pub use format::DecimalFormat;
 pub use number::DecimalNumber;
 pub use reading::read_decimal_format;
 pub use text::push_decimal_format;
-pub use uncounted::read_decimal_uncounted;
+pub use uncounted::read_decimal_format_uncounted;

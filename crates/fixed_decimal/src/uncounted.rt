@@ -15,7 +15,7 @@ use std::marker::Brand;
 use std::sync::ledger::{Blank, Ledger};
 
 /// `read_decimal_format` over a ledger that no other counter uses.
-fn read_over<L: Ledger>(
+fn read_format_over<L: Ledger>(
     s: &[u8],
     format: DecimalFormat,
     mode: ReadMode,
@@ -36,7 +36,7 @@ fn read_over<L: Ledger>(
 /// # Errors
 ///
 /// Other bytes than a numeral in radix 10 are refused with the kind of their cause.
-pub fn read_decimal_uncounted(
+pub fn read_decimal_format_uncounted(
     s: &[u8],
     format: DecimalFormat,
     mode: ReadMode,
@@ -44,5 +44,5 @@ pub fn read_decimal_uncounted(
     ensures reading { IsReadOrRefused Dec s.now (IsDecimalReading mode) result }
     ensures format { IfOk result (λ found. found.format ≡ format) }
 {
-    read_over::<Brand>(s, format, mode, Blank::new(1))
+    read_format_over::<Brand>(s, format, mode, Blank::new(1))
 }

@@ -123,8 +123,8 @@ module _ {C : Type 0} (size : ℕ) (R : List ℕ → List ℕ → Type 0) (F : L
   all_one : (bytes made other x y : List ℕ) (m n : ℕ) → AllRecoded size R bytes made x m
       → AllRecoded size R bytes other y n → (made ≡ other) × (x ≡ y)
   all_one bytes made other x y m n p q =
-      let same = cut_one size p.words q.words x y p.are_words.whole q.are_words.whole p.are_words.short q.are_words.short
-      (sym p.are_words.cut ∙ q.are_words.cut) in
+      let same = cut_one size p.words q.words x y p.are_words.whole q.are_words.whole p.are_words.short
+      q.are_words.short (sym p.are_words.cut ∙ q.are_words.cut) in
       (text_one p.words q.words made other same.0 p.recoded q.recoded, same.1)
 
   module _ {Q W : Type 0} (rule : Q) (a b : Recoder Q W) where
@@ -156,7 +156,8 @@ module _ {C : Type 0} (size : ℕ) (R : List ℕ → List ℕ → Type 0) (F : L
 
 -- a machine that stopped has stopped among more bytes too
 pub recoded_stays : {C : Type 0} (size : ℕ) (R : List ℕ → List ℕ → Type 0) (F : List ℕ → C → Type 0)
-    (bytes more text : List ℕ) (t : RefusedWord C) → StopsAt size R F bytes text t → StopsAt size R F (bytes ++ more) text t
+    (bytes more text : List ℕ) (t : RefusedWord C) → StopsAt size R F bytes text t
+    → StopsAt size R F (bytes ++ more) text t
 recoded_stays size R F bytes more text t p = record {
   before = p.before;
   more = p.more ++ more;

@@ -1,4 +1,0 @@
-use Rattle.fixed_decimal.proofs.uncounted.read_decimal_uncounted.Given as goal
-
-abbrev pub ghosts-read_over : goal.ghosts-read_over
-ghosts-read_over a = record { name = a.blank.name; parts = a.blank.parts }
