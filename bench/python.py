@@ -6,10 +6,14 @@ import os
 import shutil
 import subprocess
 import sys
+import sysconfig
+import tempfile
 import time
 
 HERE = os.path.dirname(os.path.abspath(__file__))
+PACKAGE = os.path.join(HERE, "..", "python", "lomdeqash")
 COUNT = 1_000_000
+OURS, PLAIN, IN_PYTHON = "lomdeqash", "numpy, by floats", "without the module in C"
 
 
 def measure(programs, _inputs, tries):
@@ -28,13 +32,36 @@ def measure(programs, _inputs, tries):
     if not library or not python:
         print("the package for Python is not timed: " + ("numpy is missing\n" if library else "make library\n"))
         return
-    env = os.environ | {
-        "LIBFIXED": library,
-        "PYTHONPATH": os.path.join(HERE, "..", "python"),
-        "PYTHONDONTWRITEBYTECODE": "1",
-    }
     sys.stdout.flush()
-    subprocess.run([python, os.path.abspath(__file__), str(tries)], env=env, check=True)
+    with tempfile.TemporaryDirectory() as folder:
+        shutil.copytree(PACKAGE, f"{folder}/lomdeqash", ignore=shutil.ignore_patterns("__pycache__"))
+        env = os.environ | {"LIBFIXED": library, "PYTHONPATH": folder, "PYTHONDONTWRITEBYTECODE": "1"}
+        subprocess.run([python, os.path.abspath(__file__), str(tries)], env=env, check=True)
+
+
+def compile_module():
+    """Compiles the package's module in C, as a wheel has it, beside the package that this interpreter finds."""
+    include, compiler = sysconfig.get_path("include"), shutil.which("cc")
+    if not compiler or not os.path.isfile(f"{include}/Python.h"):
+        print("the module in C is not timed: a compiler or Python.h is missing")
+        return
+    made = os.path.join(os.environ["PYTHONPATH"], "lomdeqash", "_packing.abi3.so")
+    source = os.path.join(PACKAGE, "_packing.c")
+    subprocess.run([compiler, "-O2", "-shared", "-fPIC", "-I", include, source, "-o", made], check=True)
+
+
+def unpacked(call):
+    """A call with lists packed in Python alone."""
+    from lomdeqash import _rows
+
+    def run():
+        module, _rows._packing = _rows._packing, None
+        try:
+            call()
+        finally:
+            _rows._packing = module
+
+    return run
 
 
 def contenders():
@@ -42,7 +69,7 @@ def contenders():
     from decimal import Decimal
 
     import numpy
-    from lomdeqash import Format
+    from lomdeqash import Format, fit
 
     form = Format("I1F15")
     bits = numpy.random.default_rng(1).integers(-32768, 32768, COUNT).astype(numpy.int16)
@@ -50,7 +77,7 @@ def contenders():
     letters, floats = texts.astype("U16"), bits / 32768 + 1e-6
     listed, listed_bits, listed_floats = letters.tolist(), bits.tolist(), floats.tolist()
     objects, decimals, others = letters.astype(object), list(map(Decimal, listed)), bits[::-1].copy()
-    ours, plain = "lomdeqash", "numpy, by floats"
+    ours, plain = OURS, PLAIN
 
     def as_floats(given):
         return numpy.rint(given.astype(float) * 32768).astype(numpy.int16)
@@ -65,15 +92,18 @@ def contenders():
         "reading U16": {ours: lambda: form.read(letters), plain: lambda: as_floats(letters)},
         "reading a list of str": {
             ours: lambda: form.read(listed),
+            IN_PYTHON: unpacked(lambda: form.read(listed)),
             "int(round(..))": lambda: [int(round(float(text) * 32768)) for text in listed],
             "Decimal": lambda: [int((Decimal(text) * 32768).to_integral_value()) for text in listed],
         },
         "reading an object array of str": {
             ours: lambda: form.read(objects),
+            IN_PYTHON: unpacked(lambda: form.read(objects)),
             "int(round(..))": lambda: [int(round(float(text) * 32768)) for text in objects],
         },
         "reading a list of Decimal": {
             ours: lambda: form.read(decimals),
+            IN_PYTHON: unpacked(lambda: form.read(decimals)),
             "Decimal": lambda: [int((number * 32768).to_integral_value()) for number in decimals],
         },
         "reading a list of float": {
@@ -83,6 +113,14 @@ def contenders():
         "reading floats": {
             ours: lambda: form.read(floats, policy="saturating"),
             "rint, astype": lambda: numpy.rint(floats * 32768).astype(numpy.int16),
+        },
+        "fit of floats, 16 bits": {
+            ours: lambda: fit(floats, 16),
+            plain: lambda: numpy.frexp(numpy.abs(floats).max()),
+        },
+        "greatest error of floats": {
+            ours: lambda: form.greatest_error(floats / 2),
+            plain: lambda: numpy.abs(floats / 2 - numpy.rint(floats * 16384) / 32768).max(),
         },
         "floats of bits": {ours: lambda: form.value(bits, float), plain: lambda: bits / 32768},
         "printing S8": {
@@ -135,6 +173,7 @@ def main():
     sys.path.insert(0, HERE)
     from timing import table
 
+    compile_module()
     rows = []
     for what, calls in contenders().items():
         best = dict.fromkeys(calls, float("inf"))

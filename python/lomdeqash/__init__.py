@@ -14,8 +14,9 @@ Decimal('0.33331298828125')
 Each method takes one item, an iterable, or a numpy array, and gives one value, a list, or an array.
 """
 from ._errors import Code, FixedError, FixedTypeError
+from ._fit import fit
 from ._format import Format
 from ._options import Errors, Mode, Policy
 
-__all__ = ["Code", "Errors", "FixedError", "FixedTypeError", "Format", "Mode", "Policy"]
+__all__ = ["Code", "Errors", "FixedError", "FixedTypeError", "Format", "Mode", "Policy", "fit"]
 __version__ = "1.1.0"

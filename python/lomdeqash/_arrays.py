@@ -6,15 +6,16 @@ from __future__ import annotations
 
 from collections.abc import Callable, Iterator
 from dataclasses import replace
+from fractions import Fraction
 from typing import TYPE_CHECKING, Any, NamedTuple, Protocol
 
 import numpy as np
 from numpy.typing import NDArray
 
-from . import _library, _lists, _pandas
+from . import _library, _lists, _numerals, _pandas
 from ._errors import Code, FixedError, Index, brief, placed
 from ._library import Reading
-from ._options import Errors
+from ._options import Errors, ModeLike
 
 if TYPE_CHECKING:
     from . import _calls
@@ -287,6 +288,28 @@ def read_long_floats(call: _calls.Read, flat: Array) -> Whole:
     for part, other in zip(whole.found, others.found):
         part[places] = other
     return Whole(whole.found, codes)
+
+
+def greatest_error(given: Any, form: Format, radix: int, mode: ModeLike) -> Fraction:
+    """The greatest distance of a numeral to the number that is read from it."""
+    items = _pandas.array_of(given, Errors.RAISE) if _pandas.is_column(given) else given
+    bits, data = (np.ma.compressed(each) for each in (form.read(items, radix=radix, mode=mode), items))  # type: ignore[no-untyped-call]
+    if data.dtype.kind == "f" and data.itemsize <= 8:
+        return greatest_distance(data.astype(np.float64), np.ldexp(bits.astype(np.float64), -form.frac))
+    return _numerals.greatest_distance(data if data.dtype.kind == "f" else data.tolist(), bits.tolist(), radix, form.frac)
+
+
+def greatest_distance(values: Array, others: Array) -> Fraction:
+    """The greatest distance of two floats, exactly. Their difference is a float and what it was rounded by, which a float
+    has as well (Knuth's sum of two). Numbers that are read from floats are floats: past 53 bits nothing is rounded."""
+    if not values.size:
+        return Fraction(0)
+    apart = values - others
+    shift = apart - values
+    rest = (values - (apart - shift)) - (others + shift)
+    far = np.abs(apart)
+    most = far.max()
+    return Fraction(float(most)) + Fraction(float(np.copysign(rest, rest * apart)[far == most].max()))
 
 
 def enclose(call: _calls.Enclose, flat: Array) -> Whole:

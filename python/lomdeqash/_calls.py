@@ -4,7 +4,6 @@ One refused item alone raises, whatever ``errors`` says: there is nothing to mas
 """
 from __future__ import annotations
 
-from collections.abc import Sequence
 from dataclasses import dataclass
 from decimal import Decimal
 from fractions import Fraction
@@ -68,13 +67,13 @@ class Read:
             is_out |= is_out_later
         return (own, is_out) if self.is_flagged else own
 
-    def many(self, kind: type[Any], items: Sequence[Any]) -> Found | None:
+    def many(self, kind: type[Any], items: list[Any]) -> Found | None:
         numbers, target = self.numbers(kind, items), self.form
         if numbers and self.move:
             numbers, target = numbers.then(self.move.numbers(numbers.words())), self.move.target
         return listed(numbers, target, self.is_flagged) if numbers else None
 
-    def numbers(self, kind: type[Any], items: Sequence[Any]) -> _rows.Numbers | None:
+    def numbers(self, kind: type[Any], items: list[Any]) -> _rows.Numbers | None:
         """What the library reads of items of one type; None where they cannot go over at once."""
         form, how = self.form.c_format, self.how
         if base_of(kind) in (str, bytes):
@@ -123,7 +122,7 @@ class Convert:
     def numbers(self, words: _rows.Words) -> _rows.Numbers:
         return _rows.convert(words, self.source.c_format, self.target.c_format, self.how)
 
-    def many(self, kind: type[Any], items: Sequence[Any]) -> Found | None:
+    def many(self, kind: type[Any], items: list[Any]) -> Found | None:
         words = _rows.words_of(items, self.source.is_signed)
         return listed(self.numbers(words), self.target, self.is_flagged) if words else None
 
@@ -159,7 +158,7 @@ class Text:
         expect(code, item)
         return text
 
-    def many(self, kind: type[Any], items: Sequence[Any]) -> Found | None:
+    def many(self, kind: type[Any], items: list[Any]) -> Found | None:
         words, size = _rows.words_of(items, self.form.is_signed), self.form.text_size(self.places)
         return coded(*_rows.texts_of(words, self.form.c_format, self.to_places, size)) if words else None
 
@@ -190,7 +189,7 @@ class Value:
         expect(code, item)
         return self.kind(found)
 
-    def many(self, kind: type[Any], items: Sequence[Any]) -> Found | None:
+    def many(self, kind: type[Any], items: list[Any]) -> Found | None:
         words = _rows.words_of(items, self.form.is_signed) if base_of(self.kind) is float else None
         if not words:
             return None
@@ -223,7 +222,7 @@ class Enclose:
         expect(code, item)
         return self.form.bits_of_c(low), self.form.bits_of_c(high)
 
-    def many(self, kind: type[Any], items: Sequence[Any]) -> Found | None:
+    def many(self, kind: type[Any], items: list[Any]) -> Found | None:
         lower, upper = self.down.numbers(kind, items), self.up.numbers(kind, items)
         if not lower or not upper:
             return None
@@ -253,7 +252,7 @@ class Compare:
         expect(code, pair)
         return order
 
-    def many(self, kind: type[Any], items: Sequence[Any]) -> Found | None:
+    def many(self, kind: type[Any], items: list[Any]) -> Found | None:
         left = _rows.words_of([pair[0] for pair in items], self.left.is_signed)
         right = _rows.words_of([pair[1] for pair in items], self.right.is_signed)
         return coded(*_rows.orders_of(left, self.left.c_format, right, self.right.c_format)) if left and right else None

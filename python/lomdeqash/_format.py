@@ -12,7 +12,7 @@ from typing import TYPE_CHECKING, Any, Literal, TypeVar, Union, overload
 from . import _library, _lists
 from ._calls import Compare, Convert, Enclose, Read, Text, Value, base_of, expect
 from ._errors import Code, FixedError, brief
-from ._numerals import Numeral, decimal_of
+from ._numerals import Numeral, decimal_of, greatest_distance
 from ._options import Errors, ErrorsLike, Mask, Mode, ModeLike, PolicyLike, Raise, mode_code, reading
 
 if TYPE_CHECKING:
@@ -330,14 +330,33 @@ class Format:
         (1, [-1, 0])
         """
         call, how = Compare(self, self if other is None else Format(other)), Errors(errors)
-        if _is_array(bits) or _is_array(others):
+        if is_array(bits) or is_array(others):
             from . import _arrays
 
             return _arrays.compare(bits, others, call, how)
-        if _is_one(bits) and _is_one(others):
+        if is_one(bits) and is_one(others):
             return call.one((bits, others))
         pairs = _pairs(bits, others)
         return _lists.over((None if None in pair else pair for pair in pairs) if how is Errors.MASK else pairs, call, how)
+
+    def greatest_error(self, numerals: Numeral | Iterable[Numeral] | Array, *, radix: int = 10,
+                       mode: ModeLike = "nearest") -> Fraction:
+        """The greatest distance of a numeral to the number that is read from it, exactly; 0 of no numerals.
+
+        What is masked has none. A numeral nearer to zero than 10 to the power of -1000 counts as that.
+
+        >>> Format("I4F4").greatest_error(["3.14", 0.5])
+        Fraction(3, 200)
+        """
+        if is_array(numerals):
+            from . import _arrays
+
+            return _arrays.greatest_error(numerals, self, radix, mode)
+        if is_one(numerals):
+            bits: Any = self.read(numerals, radix=radix, mode=mode)
+            return greatest_distance([numerals], [bits], radix, self.frac)
+        items: list[Any] = list(numerals)  # type: ignore[arg-type]
+        return greatest_distance(items, self.read(items, radix=radix, mode=mode), radix, self.frac)
 
     def text_size(self, places: int | None) -> int:
         """A length that no text of the format is above: so many places tell all its numbers apart."""
@@ -358,23 +377,23 @@ class Format:
         return bits
 
 
-def _is_array(given: Any) -> bool:
+def is_array(given: Any) -> bool:
     """Whether numpy takes it as an array; numbers and texts of numpy are single items."""
     return hasattr(given, "__array__") and not isinstance(given, (str, bytes, Number))
 
 
-def _is_one(given: Any) -> bool:
+def is_one(given: Any) -> bool:
     return isinstance(given, (str, bytes, bytearray)) or not isinstance(given, Iterable)
 
 
 def _apply(given: Any, call: _arrays.Call, errors: ErrorsLike) -> Any:
     """What a call finds for an item, an iterable or an array."""
     how = Errors(errors)
-    if _is_array(given):
+    if is_array(given):
         from . import _arrays
 
         return _arrays.over(given, call, how)
-    return call.one(given) if _is_one(given) else _lists.over(given, call, how)
+    return call.one(given) if is_one(given) else _lists.over(given, call, how)
 
 
 def _parted(found: Any, is_parted: bool) -> Any:
@@ -386,9 +405,9 @@ def _parted(found: Any, is_parted: bool) -> Any:
 
 def _pairs(left: Any, right: Any) -> Iterable[tuple[Any, Any]]:
     """The items of two iterables of one length, side by side; or of one, each with the one item that the other is."""
-    if _is_one(right):
+    if is_one(right):
         return ((each, right) for each in left)
-    if _is_one(left):
+    if is_one(left):
         return ((left, each) for each in right)
     lefts, rights = list(left), list(right)
     if len(lefts) != len(rights):

@@ -197,7 +197,9 @@ def read_rows(rows: int | bytes, size: int, count: int, form: CFormat, how: Read
     return _over_rows("fixed_read_rows", *given, numbers, count, codes, count)
 
 
-def read_floats(size: int, values: int, count: int, form: CFormat, how: Reading, numbers: int, codes: int) -> int:
+def read_floats(
+    size: int, values: int | bytes, count: int, form: CFormat, how: Reading, numbers: int, codes: int
+) -> int:
     """Reads each of some floats of 4 or 8 bytes."""
     name = "fixed_read_floats" if size == 4 else "fixed_read_doubles"
     return _over_rows(name, values, count, form, how.policy, how.mode, numbers, count, codes, count)

@@ -21,7 +21,7 @@ class Call(Protocol):
     """What is done with items: with one; and with those of one type at once, which is None where they cannot be."""
 
     def one(self, item: Any) -> Any: ...
-    def many(self, kind: type[Any], items: Sequence[Any]) -> Found | None: ...
+    def many(self, kind: type[Any], items: list[Any]) -> Found | None: ...
 
 
 def over(given: Iterable[Any], call: Call, errors: Errors) -> list[Any]:
@@ -42,7 +42,7 @@ def error_of(why: int | FixedError | TypeError, item: Any) -> FixedError | TypeE
     return FixedError(why, brief(item)) if isinstance(why, int) else why
 
 
-def found_in(items: Sequence[Any], call: Call, errors: Errors) -> Found:
+def found_in(items: list[Any], call: Call, errors: Errors) -> Found:
     """What a call finds for each item, None where it is refused; and what was refused, in the order of the items."""
     kinds = set(map(type, items))
     if len(kinds) == 1 and (errors is Errors.RAISE or type(None) not in kinds):
@@ -60,7 +60,7 @@ def found_in(items: Sequence[Any], call: Call, errors: Errors) -> Found:
     return found, sorted(refusals, key=operator.itemgetter(0))
 
 
-def of_a_kind(kind: type[Any], items: Sequence[Any], call: Call) -> Found:
+def of_a_kind(kind: type[Any], items: list[Any], call: Call) -> Found:
     """The same of items of one type: of all at once, or of halves, the smallest item by item."""
     found = call.many(kind, items)
     if found is not None:

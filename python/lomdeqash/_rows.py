@@ -15,6 +15,11 @@ from typing import TYPE_CHECKING, Any, NamedTuple
 from . import _library
 from ._library import CFormat, Places, Reading
 
+try:
+    from . import _packing
+except ImportError:  # these are the sources, or no compiler was there when the package was built
+    _packing = None  # type: ignore[assignment]
+
 if TYPE_CHECKING:
     Words = array[int]
 
@@ -66,28 +71,30 @@ def _room(count: int) -> tuple[Words, Words]:
 
 def words_of(items: Sequence[Any], is_signed: bool) -> Words | None:
     """Whole numbers as C takes those of a sign rule; None where one of them is another thing or longer than 64 bits."""
+    kind = "q" if is_signed else "Q"
     try:
-        return array("q" if is_signed else "Q", items)
-    except (OverflowError, TypeError):
+        return array(kind, struct.pack(f"{len(items)}{kind}", *items))
+    except struct.error:
         return None
 
 
-def read_texts(texts: Sequence[Any], form: CFormat, how: Reading) -> Numbers | None:
-    """Reads texts of str or of bytes. None where one of them cannot be a row: it is long, or has a zero byte or a
-    newline, or another character than ASCII's."""
-    pieces, count = _encoded(texts), len(texts)
-    size = max(map(len, pieces), default=0) or 1
-    if size > ROW_SIZE or len(pieces) != count:
+def read_texts(texts: list[Any], form: CFormat, how: Reading) -> Numbers | None:
+    """Reads texts of str or of bytes. None where one of them cannot be a row: it is long, or has a zero byte; without
+    the module in C also a newline, or another character than ASCII's."""
+    packed = _packing.rows_of(texts, ROW_SIZE) if _packing else rows_of(texts, ROW_SIZE)
+    if packed is None:
         return None
-    rows, (records, codes) = _packer(size, count).pack(*pieces), _room(count)
-    refused = _library.read_rows(rows, size, count, form, how, _address(records), _address(codes))
+    (rows, size), (records, codes) = packed, _room(len(texts))
+    refused = _library.read_rows(rows, size, len(texts), form, how, _address(records), _address(codes))
     return Numbers(records, codes, refused)
 
 
-def _encoded(texts: Sequence[Any]) -> list[bytes]:
-    """Texts as bytes; not as many, where one has a zero byte, a newline, or another character than ASCII's."""
+def rows_of(texts: list[Any], limit: int) -> tuple[bytes, int] | None:
+    """Texts as rows of one size, filled with zero bytes, and that size."""
     joined = b"\n".join(texts) if isinstance(texts[0], bytes) else "\n".join(texts).encode("utf-8", "replace")
-    return [] if b"\0" in joined or not joined.isascii() else joined.split(b"\n")
+    pieces = [] if b"\0" in joined or not joined.isascii() else joined.split(b"\n")
+    size = max(map(len, pieces), default=0) or 1
+    return None if size > limit or len(pieces) != len(texts) else (_packer(size, len(texts)).pack(*pieces), size)
 
 
 @functools.lru_cache(maxsize=64)
@@ -98,8 +105,8 @@ def _packer(size: int, count: int) -> struct.Struct:
 
 def read_floats(items: Sequence[Any], form: CFormat, how: Reading) -> Numbers:
     """Reads floats."""
-    values, (records, codes) = array("d", items), _room(len(items))
-    given = 8, _address(values), len(items), form, how
+    values, (records, codes) = struct.pack(f"{len(items)}d", *items), _room(len(items))
+    given = 8, values, len(items), form, how
     return Numbers(records, codes, _library.read_floats(*given, _address(records), _address(codes)))
 
 

@@ -1,0 +1,86 @@
+"""How far numerals are from the numbers that are read from them, and the format to choose for them."""
+from __future__ import annotations
+
+import operator
+from collections.abc import Iterable
+from decimal import Decimal
+from fractions import Fraction
+from typing import TYPE_CHECKING, Any, Union
+
+from ._errors import Code, FixedError
+from ._format import Format, is_array, is_one
+
+if TYPE_CHECKING:
+    from ._format import Array
+    from ._numerals import Numeral
+
+WIDTHS = 8, 16, 32, 64
+
+
+def fit(
+    numerals: Numeral | Iterable[Numeral] | Array,
+    width: int | None = None,
+    *,
+    error: Union[str, int, float, Decimal, Fraction, None] = None,
+    signed: bool = False,
+    radix: int = 10,
+) -> Format:
+    """The format for numerals: signed if one of them is below zero, or `signed` is true.
+
+    With a width alone it is the finest format of that width that holds each numeral, rounded to the nearest. With an
+    error it is the finest of the least width, of 8, 16, 32 and 64 or of the given one alone, that holds each and is off
+    by at most the error. If a format holds two numbers, it holds each between them.
+
+    `FixedError` names the first numeral that is too great for every format of the width; `ValueError` says that none
+    is within the error.
+
+    >>> from lomdeqash import fit
+    >>> fit(["0.5", "-3.2"], 16), fit([0.1, 100], error=0.01)
+    (Format('I3F13'), Format('U7F9'))
+    >>> fit(["0.5", "-3.2"], 16).greatest_error(["0.5", "-3.2"])
+    Fraction(1, 20480)
+    """
+    if width is None and error is None:
+        raise ValueError("a format is chosen by a width, an error or both")
+    given = numerals if is_array(numerals) or is_one(numerals) else list(numerals)  # type: ignore[arg-type]
+    is_signed, bound = signed or is_below_zero(given, radix), None if error is None else Fraction(error)
+    widths = WIDTHS if width is None else (operator.index(width),)
+    for each in widths:
+        try:
+            form = finest(given, is_signed, each, radix)
+        except FixedError as refused:
+            if refused.code is not Code.OVERFLOW or each == widths[-1]:
+                raise
+        else:
+            if bound is None or form.greatest_error(given, radix=radix) <= bound:
+                return form
+    raise ValueError(f"no format of {widths[-1]} bits is within {error}")
+
+
+def is_below_zero(given: Any, radix: int) -> bool:
+    """Whether a numeral is below zero, one that is nearer to it than any number as well."""
+    floors: Any = Format("I64F0").read(given, radix=radix, policy="saturating", mode="floor")
+    return min(floors, default=0) < 0 if isinstance(floors, list) else bool((floors < 0) if is_one(floors) else (floors < 0).any())
+
+
+def finest(given: Any, is_signed: bool, width: int, radix: int) -> Format:
+    """The format of the greatest fraction length that holds each numeral. What one holds, the shorter ones hold."""
+
+    def of(frac: int) -> Format:
+        return Format(f"{'I' if is_signed else 'U'}{width - frac}F{frac}")
+
+    def holds(frac: int) -> bool:
+        try:
+            of(frac).read(given, radix=radix)
+        except FixedError as refused:
+            if refused.code is not Code.OVERFLOW:
+                raise
+            return False
+        return True
+
+    of(0).read(given, radix=radix)
+    low, high = 0, width + 1
+    while high - low > 1:
+        middle = (low + high) // 2
+        low, high = (middle, high) if holds(middle) else (low, middle)
+    return of(low)

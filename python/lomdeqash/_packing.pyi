@@ -1,0 +1,3 @@
+from typing import Any
+
+def rows_of(items: list[Any], limit: int, /) -> tuple[bytes, int] | None: ...
