@@ -1,5 +1,6 @@
 #!/usr/bin/env python3
-"""Tries the package for Python: its tests and doctests, its types, without numpy, as a wheel, and its example.
+"""Tries the package for Python: its tests and doctests, its types, its module in C, without numpy, as a wheel, and its
+example.
 
     python.py [--built build|out]
 
@@ -26,6 +27,8 @@ sys.meta_path.insert(0, Hidden())
 import pytest
 sys.exit(pytest.main(sys.argv[1:]))
 """
+# Each compiler's shared sanitizer, which the interpreter loads first, and the options that call for it.
+SANITIZERS = {"gcc": ["libasan.so"], "clang": ["libclang_rt.asan-x86_64.so", "-shared-libsan"]}
 ALONE = "import lomdeqash as l, sys; sys.exit(l.Format('I1F15').text(l.Format('I1F15').read(0.3333)) != '0.3333')"
 
 
@@ -110,6 +113,37 @@ def check_sources(python, env):
         print("mypy is not on this machine")
 
 
+def written(words):
+    """What a command writes, without blanks around it."""
+    return subprocess.run(words, stdout=subprocess.PIPE, check=True).stdout.decode().strip()
+
+
+def check_module(python, env, folder):
+    """The module in C: no compiler warns, and its tests find nothing amiss under the sanitizers."""
+    include = written([python, "-c", "import sysconfig; print(sysconfig.get_path('include'))"])
+    compilers = [each for each in SANITIZERS if shutil.which(each)]
+    if not compilers or not os.path.isfile(f"{include}/Python.h"):
+        print("a compiler or Python.h is not on this machine, and so the module in C was not tried")
+        return
+    copy = f"{folder}/module"
+    shutil.copytree(PACKAGE, copy, ignore=shutil.ignore_patterns("__pycache__"))
+    source, made = f"{PACKAGE}/lomdeqash/_packing.c", f"{copy}/lomdeqash/_packing.abi3.so"
+    tests = [python, "-m", "pytest", "-q", "-p", "no:cacheprovider", "tests/test_packing.py", "tests/test_errors.py"]
+    for compiler in compilers:
+        words = [compiler, "-std=c11", "-O1", "-g", "-Wall", "-Wextra", "-Wpedantic", "-Werror", "-shared", "-fPIC"]
+        words += ["-isystem", include, source, "-o", made]
+        run(words, f"{compiler}, the module in C")
+        runtime, *options = SANITIZERS[compiler]
+        runtime = written([compiler, f"-print-file-name={runtime}"])
+        if not os.path.isfile(runtime):
+            print(f"{compiler} has no shared sanitizers here")
+            continue
+        words += ["-fsanitize=address,undefined", "-fno-sanitize-recover=all", *options]
+        run(words, f"{compiler}, the module in C with sanitizers")
+        inside = env | {"PYTHONPATH": copy, "LD_PRELOAD": runtime, "ASAN_OPTIONS": "detect_leaks=0"}
+        run(tests, f"{compiler}, the tests of the module in C", cwd=copy, env=inside)
+
+
 def check_wheel(python, library, folder):
     """The wheel, installed in an environment of its own."""
     if not has(python, "build", "setuptools", "wheel", "venv", "ensurepip"):
@@ -151,6 +185,7 @@ def main():
                 return 0
             env = os.environ | {"PYTHONPATH": PACKAGE, "LIBFIXED": library, "PYTHONDONTWRITEBYTECODE": "1"}
             check_sources(python, env)
+            check_module(python, env, folder)
             run([python, f"{TOP}/examples/python/filter.py", f"{folder}/filter.png"], "the filter", env=env)
             check_wheel(python, library, folder)
     except Failed as why:

@@ -290,18 +290,32 @@ def read_long_floats(call: _calls.Read, flat: Array) -> Whole:
     return Whole(whole.found, codes)
 
 
+def compressed(items: Any) -> Array:
+    """What is not masked, as a flat array."""
+    flat: Array = np.ma.compressed(items)  # type: ignore[no-untyped-call]
+    return flat
+
+
+def ends_of(given: Any) -> Any:
+    """The least and the greatest of numbers, between which are the others; other items as they are."""
+    items = _pandas.array_of(given, Errors.RAISE) if _pandas.is_column(given) else given
+    data = compressed(items)
+    return [data.min(), data.max()] if data.dtype.kind in "iuf" and data.size else given
+
+
 def greatest_error(given: Any, form: Format, radix: int, mode: ModeLike) -> Fraction:
     """The greatest distance of a numeral to the number that is read from it."""
     items = _pandas.array_of(given, Errors.RAISE) if _pandas.is_column(given) else given
-    bits, data = (np.ma.compressed(each) for each in (form.read(items, radix=radix, mode=mode), items))  # type: ignore[no-untyped-call]
+    bits, data = compressed(form.read(items, radix=radix, mode=mode)), compressed(items)
     if data.dtype.kind == "f" and data.itemsize <= 8:
         return greatest_distance(data.astype(np.float64), np.ldexp(bits.astype(np.float64), -form.frac))
-    return _numerals.greatest_distance(data if data.dtype.kind == "f" else data.tolist(), bits.tolist(), radix, form.frac)
+    flat = data if data.dtype.kind == "f" else data.tolist()
+    return _numerals.greatest_distance(flat, bits.tolist(), radix, form.frac)
 
 
 def greatest_distance(values: Array, others: Array) -> Fraction:
-    """The greatest distance of two floats, exactly. Their difference is a float and what it was rounded by, which a float
-    has as well (Knuth's sum of two). Numbers that are read from floats are floats: past 53 bits nothing is rounded."""
+    """The greatest distance of two floats, exactly: their difference as a float and, by Knuth's sum of two, what it was
+    rounded by. A number that is read from a float is a float: of one with bits above 2^53, reading rounds nothing."""
     if not values.size:
         return Fraction(0)
     apart = values - others

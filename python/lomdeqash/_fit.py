@@ -42,25 +42,40 @@ def fit(
     """
     if width is None and error is None:
         raise ValueError("a format is chosen by a width, an error or both")
-    given = numerals if is_array(numerals) or is_one(numerals) else list(numerals)  # type: ignore[arg-type]
-    is_signed, bound = signed or is_below_zero(given, radix), None if error is None else Fraction(error)
+    given: Any = numerals if is_array(numerals) or is_one(numerals) else list(numerals)  # type: ignore[arg-type]
+    bound = None if error is None else Fraction(error)
     widths = WIDTHS if width is None else (operator.index(width),)
-    for each in widths:
+    if is_array(given):
+        from . import _arrays
+
         try:
-            form = finest(given, is_signed, each, radix)
+            return chosen(_arrays.ends_of(given), given, bound, widths, signed, radix)
+        except FixedError:
+            pass  # the item is named below
+    return chosen(given, given, bound, widths, signed, radix)
+
+
+def chosen(ends: Any, given: Any, bound: Fraction | None, widths: tuple[int, ...], signed: bool, radix: int) -> Format:
+    """The format for numerals that is to hold two of them that the others are between, or all."""
+    is_signed = signed or is_below_zero(ends, radix)
+    for width in widths:
+        try:
+            form = finest(ends, is_signed, width, radix)
         except FixedError as refused:
-            if refused.code is not Code.OVERFLOW or each == widths[-1]:
+            if refused.code is not Code.OVERFLOW or width == widths[-1]:
                 raise
         else:
             if bound is None or form.greatest_error(given, radix=radix) <= bound:
                 return form
-    raise ValueError(f"no format of {widths[-1]} bits is within {error}")
+    raise ValueError(f"no format of {widths[-1]} bits is off by at most {float(bound or 0)}")
 
 
 def is_below_zero(given: Any, radix: int) -> bool:
-    """Whether a numeral is below zero, one that is nearer to it than any number as well."""
+    """Whether a numeral is below zero, though it may be nearer to it than any number."""
     floors: Any = Format("I64F0").read(given, radix=radix, policy="saturating", mode="floor")
-    return min(floors, default=0) < 0 if isinstance(floors, list) else bool((floors < 0) if is_one(floors) else (floors < 0).any())
+    if isinstance(floors, list):
+        return min(floors, default=0) < 0
+    return bool(floors < 0) if is_one(floors) else bool((floors < 0).any())
 
 
 def finest(given: Any, is_signed: bool, width: int, radix: int) -> Format:

@@ -1,5 +1,5 @@
-/* Rows for the library, packed in C: `lomdeqash._rows` has the same in Python, for an interpreter without this module.
- * It needs only Python's limited API, so that one file serves every version from 3.10 on. */
+/* Packs texts into rows for the library. `_rows.py` does the same in Python, for an interpreter without this module.
+ * Only the limited API is used, so that one file serves every version. (3.9 has all of it, though it does not say so.) */
 #define Py_LIMITED_API 0x030A0000
 #define PY_SSIZE_T_CLEAN
 #include <Python.h>
@@ -18,8 +18,8 @@ static const char *text_of(PyObject *item, Py_ssize_t *count) {
   return PyBytes_AsString(item);
 }
 
-/* The length of the longest text of a list, at least 1; 0 where some item cannot be a row: it is no text, longer than the
- * limit, or has a zero byte. */
+/* The length of the longest text of a list, at least 1. It is 0 if some item cannot be a row: it is no text, is longer
+ * than the limit, or has a zero byte. */
 static Py_ssize_t size_of_rows(PyObject *items, Py_ssize_t limit) {
   Py_ssize_t size = 1, length, count = PyList_Size(items);
   for (Py_ssize_t at = 0; at < count; at++) {
@@ -56,8 +56,8 @@ static PyObject *rows_of(PyObject *module, PyObject *arguments) {
 
 static PyMethodDef methods[] = {
   {"rows_of", rows_of, METH_VARARGS,
-   "rows_of(items, limit): texts of str or bytes as rows of one size, filled with zero bytes, and that size; None where\n"
-   "one of them is longer than the limit, has a zero byte, or is no text."},
+   "rows_of(items, limit): texts of str or bytes as rows of one size, filled with zero bytes, and that size;\n"
+   "None if one of them is longer than the limit, has a zero byte, or is no text."},
   {NULL, NULL, 0, NULL},
 };
 static struct PyModuleDef module = {PyModuleDef_HEAD_INIT, "_packing", NULL, 0, methods, NULL, NULL, NULL, NULL};

@@ -10,8 +10,8 @@ import model
 import pytest
 from hypothesis import given
 from hypothesis import strategies as st
-from lomdeqash import Code, FixedError, FixedTypeError, Format
-from model import ModeWord, PolicyWord, formats, numerals
+from lomdeqash import Code, FixedError, FixedTypeError, Format, fit
+from model import ModeWord, PolicyWord, formats, numerals, read, value
 
 np = pytest.importorskip("numpy")
 
@@ -357,3 +357,52 @@ def test_order_of_arrays() -> None:
     with pytest.raises(FixedError) as found:
         FORM.compare(left.astype(int) * 200, right)
     assert (found.value.code, found.value.index) == (Code.BAD_BITS, (0, 0))
+
+
+@given(st.data(), formats(), modes)
+def test_the_greatest_error_of_floats(data: st.DataObject, form: Format, mode: ModeWord) -> None:
+    span = float(form.max_bits) / 2**form.frac * 1.1
+    floats = st.floats(-span, span)
+    halves = st.integers(-200, 200).map(lambda half: half / (2 << form.frac))
+    drawn = data.draw(st.lists(st.one_of(floats, halves, halves.map(lambda half: half * (1 + 2**-52))), max_size=8))
+    items: list[float] = [item for item in drawn if read(form, Fraction(item), mode=mode) is not None]
+    wanted = form.greatest_error(items, mode=mode)
+    assert wanted == max((abs(Fraction(x) - value_of(form, x, mode)) for x in items), default=0)
+    for dtype in ("f8", ">f8", "longdouble", object):
+        array = np.array(items, dtype)
+        assert form.greatest_error(array, mode=mode) == wanted == form.greatest_error(array[::-1], mode=mode)
+        masked = np.ma.MaskedArray(np.append(array, [np.nan]), mask=[*[False] * len(items), True])
+        assert form.greatest_error(masked, mode=mode) == wanted
+
+
+def value_of(form: Format, item: float, mode: ModeWord) -> Fraction:
+    bits = read(form, Fraction(item), mode=mode)
+    assert bits is not None
+    return value(form, bits)
+
+
+@pytest.mark.parametrize("layout", LAYOUTS)
+@pytest.mark.parametrize("dtype", TYPES)
+def test_a_format_for_an_array(dtype: Any, layout: str) -> None:
+    given_ = LAYOUTS[layout](np.array(TEXTS).astype(dtype))
+    items = given_.reshape(-1).tolist()
+    form = fit(items, 16, signed=True)
+    assert fit(given_, 16, signed=True) == form and fit(given_, error=0.001) == fit(items, error=0.001)
+    assert form.greatest_error(given_) == form.greatest_error(items)
+
+
+@pytest.mark.parametrize("dtype", INTEGERS)
+def test_a_format_for_integers(dtype: Any) -> None:
+    form, given_ = Format("U7F9"), np.array([0, 100], dtype)
+    assert fit(given_, 16) == form and form.greatest_error(given_) == 0
+
+
+def test_what_a_fit_of_an_array_refuses() -> None:
+    with pytest.raises(FixedError) as found:
+        fit(np.array([[1.0, 2.0], [3.0, 300.0]]), 8)
+    assert (found.value.code, found.value.index) == (Code.OVERFLOW, (1, 1))
+    with pytest.raises(FixedError) as found:
+        FORM.greatest_error(np.array([1.0, np.nan]))
+    assert (found.value.code, found.value.index) == (Code.NOT_FINITE, 1)
+    assert fit(np.ma.MaskedArray([1.0, 300.0], mask=[False, True]), 8) == Format("U1F7")
+    assert fit(np.ma.MaskedArray([-1.0], mask=[True]), 8) == Format("U0F8") == fit(np.array([]), 8)

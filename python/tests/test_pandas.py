@@ -2,12 +2,13 @@
 from __future__ import annotations
 
 from decimal import Decimal
+from fractions import Fraction
 from typing import Any
 
 import pytest
 from hypothesis import given
 from hypothesis import strategies as st
-from lomdeqash import Code, FixedError, FixedTypeError, Format
+from lomdeqash import Code, FixedError, FixedTypeError, Format, fit
 from model import formats
 
 np = pytest.importorskip("numpy")
@@ -99,3 +100,14 @@ def test_a_column_is_read_as_a_list_is(form: Format, items: list[Any]) -> None:
     for dtype in (object, "category"):
         found = form.read(pandas.Series(items, dtype=dtype), policy="saturating", errors="mask")
         assert [None if item is pandas.NA else item for item in found] == wanted
+
+
+@pytest.mark.parametrize(("items", "dtype"), COLUMNS)
+def test_a_format_for_a_column(items: list[Any], dtype: Any) -> None:
+    column = series(items, dtype)
+    assert fit(column, 8) == Format("I3F5") and fit(column, error=0) == Format("I3F5")
+    assert Format("I8F0").greatest_error(column) == Fraction(1, 2)
+    with pytest.raises((FixedError, FixedTypeError)) as error:
+        fit(series([items[0], None, items[2]], dtype), 8)
+    refused: Any = error.value
+    assert refused.index == 1
