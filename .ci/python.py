@@ -27,6 +27,8 @@ sys.meta_path.insert(0, Hidden())
 import pytest
 sys.exit(pytest.main(sys.argv[1:]))
 """
+MODULE = "import lomdeqash._packing"
+WITH_MODULE = MODULE + ", pytest, sys; sys.exit(pytest.main(sys.argv[1:]))"
 # Each compiler's shared sanitizer, which the interpreter loads first, and the options that call for it.
 SANITIZERS = {"gcc": ["libasan.so"], "clang": ["libclang_rt.asan-x86_64.so", "-shared-libsan"]}
 ALONE = "import lomdeqash as l, sys; sys.exit(l.Format('I1F15').text(l.Format('I1F15').read(0.3333)) != '0.3333')"
@@ -128,7 +130,7 @@ def check_module(python, env, folder):
     copy = f"{folder}/module"
     shutil.copytree(PACKAGE, copy, ignore=shutil.ignore_patterns("__pycache__"))
     source, made = f"{PACKAGE}/lomdeqash/_packing.c", f"{copy}/lomdeqash/_packing.abi3.so"
-    tests = [python, "-m", "pytest", "-q", "-p", "no:cacheprovider", "tests/test_packing.py", "tests/test_errors.py"]
+    tests = [python, "-c", WITH_MODULE, "-q", "-p", "no:cacheprovider", "tests/test_packing.py", "tests/test_errors.py"]
     for compiler in compilers:
         words = [compiler, "-std=c11", "-O1", "-g", "-Wall", "-Wextra", "-Wpedantic", "-Werror", "-shared", "-fPIC"]
         words += ["-isystem", include, source, "-o", made]
@@ -140,7 +142,8 @@ def check_module(python, env, folder):
             continue
         words += ["-fsanitize=address,undefined", "-fno-sanitize-recover=all", *options]
         run(words, f"{compiler}, the module in C with sanitizers")
-        inside = env | {"PYTHONPATH": copy, "LD_PRELOAD": runtime, "ASAN_OPTIONS": "detect_leaks=0"}
+        inside = env | {"PYTHONPATH": copy, "LD_PRELOAD": runtime}
+        inside |= {"ASAN_OPTIONS": "detect_leaks=0", "PYTHONMALLOC": "malloc"}
         run(tests, f"{compiler}, the tests of the module in C", cwd=copy, env=inside)
 
 
@@ -164,6 +167,8 @@ def check_wheel(python, library, folder):
             env=env,
         )
         run([inside, "-c", ALONE], f"installed {name}, one number", cwd=folder, env=env)
+    if subprocess.run([inside, "-c", MODULE], env=env, cwd=folder, stderr=subprocess.DEVNULL, check=False).returncode:
+        print("the wheel was built without its module in C")
     run(
         [inside, "-m", "pytest", "-q", "-p", "no:cacheprovider", "tests"], "the tests of the wheel", cwd=folder, env=env
     )
