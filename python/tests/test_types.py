@@ -7,7 +7,7 @@ if TYPE_CHECKING:
     from decimal import Decimal
     from fractions import Fraction
 
-    from lomdeqash import Format
+    from lomdeqash import Format, fit
     from numpy import float64, int16, str_
     from numpy.typing import NDArray
     from typing_extensions import assert_type
@@ -38,6 +38,10 @@ if TYPE_CHECKING:
         assert_type(form.read(["1"], overflowed=True), Tuple[List[int], List[bool]])
         assert_type(form.convert(array, "I8F8", overflowed=True), Tuple[NDArray[Any], NDArray[Any]])
         assert_type(form.value([1], float64), List[float64])
+        assert_type(form.greatest_error(["1", 0.5]), Fraction)
+        assert_type(form.greatest_error(array, mode="floor"), Fraction)
+        assert_type(fit(texts, 16), Format)
+        assert_type(fit([0.5, "1"], error=2**-12, signed=True), Format)
 
     def words() -> None:
         """Words that are none: an ignored error that is not there would be an error."""
@@ -46,3 +50,5 @@ if TYPE_CHECKING:
         form.convert(1, "I8F8", target_mode="up")  # type: ignore[call-overload]
         form.text([1], errors="ignore")  # type: ignore[call-overload]
         form.text(1, dtype="O")  # type: ignore[call-overload]
+        form.greatest_error([1], mode="ties")  # type: ignore[arg-type]
+        fit([1], "16")  # type: ignore[arg-type]
