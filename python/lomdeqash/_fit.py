@@ -25,14 +25,14 @@ def fit(
     signed: bool = False,
     radix: int = 10,
 ) -> Format:
-    """The format for numerals: signed if one of them is below zero, or `signed` is true.
+    """Chooses a format for numerals. It is signed if one of them is below zero or `signed` is true.
 
-    With a width alone it is the finest format of that width that holds each numeral, rounded to the nearest. With an
-    error it is the finest of the least width, of 8, 16, 32 and 64 or of the given one alone, that holds each and is off
-    by at most the error. If a format holds two numbers, it holds each between them.
+    With a width it is the finest format of that width that holds each numeral, rounded to the nearest. With an error it
+    is the finest format of the least width (8, 16, 32 or 64, or only the given one) that is off by at most the error. A
+    format that holds two numbers holds each between them.
 
-    `FixedError` names the first numeral that is too great for every format of the width; `ValueError` says that none
-    is within the error.
+    `FixedError` names the first numeral that is too great for each format of the width. `ValueError`: no format is
+    within the error.
 
     >>> from lomdeqash import fit
     >>> fit(["0.5", "-3.2"], 16), fit([0.1, 100], error=0.01)
@@ -56,7 +56,7 @@ def fit(
 
 
 def chosen(ends: Any, given: Any, bound: Fraction | None, widths: tuple[int, ...], signed: bool, radix: int) -> Format:
-    """The format for numerals that is to hold two of them that the others are between, or all."""
+    """The format for the given numerals. `ends` are all of them, or two that the others are between."""
     is_signed = signed or is_below_zero(ends, radix)
     for width in widths:
         try:
@@ -71,7 +71,7 @@ def chosen(ends: Any, given: Any, bound: Fraction | None, widths: tuple[int, ...
 
 
 def is_below_zero(given: Any, radix: int) -> bool:
-    """Whether a numeral is below zero, though it may be nearer to it than any number."""
+    """Whether a numeral is below zero, also if it rounds to zero."""
     floors: Any = Format("I64F0").read(given, radix=radix, policy="saturating", mode="floor")
     if isinstance(floors, list):
         return min(floors, default=0) < 0
