@@ -183,8 +183,8 @@ uint32_t fixed_message(uint32_t code, char *out, size_t size, size_t *len);
 uint32_t fixed_print_places(int64_t bits, fixed_format format, uint32_t places, char *out, size_t size, size_t *len);
 
 /* The same, rounded in a mode. */
-uint32_t fixed_print_places_mode(int64_t bits, fixed_format format, uint32_t places, uint32_t mode, char *out, size_t size,
-                                 size_t *len);
+uint32_t fixed_print_places_mode(int64_t bits, fixed_format format, uint32_t places, FIXED_ENUM(fixed_mode) mode,
+                                 char *out, size_t size, size_t *len);
 
 /* Bits rounded to a whole number, as bits of the same format. */
 uint32_t fixed_round_bits(int64_t bits, fixed_format format, FIXED_ENUM(fixed_rounding) rounding,
