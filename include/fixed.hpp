@@ -9,8 +9,8 @@
 //   std::string text = lomdeqash::to_string(tap, q15);        // the shortest that reads back
 //
 // from_chars and to_chars have the shape of the standard's: they return a pointer and an error code, throw nothing and
-// allocate nothing. So do all functions here but the forms of to_string, which return a std::string and throw a
-// std::system_error for what they cannot print. An error code is 0 (`errc{}`) or the cause, as in fixed.h; as a
+// allocate nothing. Only the forms of to_string do: they return a std::string, and throw a std::system_error for what
+// they cannot print. An error code is 0 (`errc{}`) or the cause, as in fixed.h; as a
 // std::error_code it has the library's message, and equals std::errc::result_out_of_range for an overflow,
 // std::errc::value_too_large for a buffer that is too small, and std::errc::invalid_argument otherwise.
 //
@@ -43,7 +43,7 @@ namespace lomdeqash {
 
 enum class radix : std::uint32_t { binary = 2, octal = 8, decimal = 10, hexadecimal = 16 };
 
-// What becomes of a number that its format does not hold: refused, the nearer end, or without its high bits.
+// What to do with a number out of range: refuse it, take the nearer end of the range, or drop its high bits.
 enum class policy : std::uint32_t { checked = FIXED_CHECKED, saturating = FIXED_SATURATING, wrapping = FIXED_WRAPPING };
 
 // How a value between two numbers of a format is rounded. nearest: ties to even; ties_zero, zero: towards zero; ties_up,
@@ -161,14 +161,14 @@ inline std::error_code make_error_code(errc code) noexcept { return {static_cast
 // A format: signed or not, 1 to 64 bits wide, and how many of the bits are after the point.
 class format {
  public:
-  // Nothing unless the width is from 1 to 64 and frac at most the width.
+  // Returns nothing unless the width is from 1 to 64 and frac at most the width.
   static constexpr std::optional<format> make(bool is_signed, std::uint32_t width, std::uint32_t frac) noexcept {
     if (width < 1 || width > 64 || frac > width) return std::nullopt;
     return format(is_signed, width, frac);
   }
 
-  // The format that a name says, such as "I16F16", "u0f24", "Q15" or "UQ8.8". This is for constants; format_named asks
-  // the library, which may know further names.
+  // The format that a name says, such as "I16F16", "u0f24", "Q15" or "UQ8.8". This works in constants; format_named
+  // asks the library, which may know more names.
   static constexpr std::optional<format> parse(std::string_view name) noexcept {
     const bool is_signed = !has(name, 0, 'U');
     std::size_t at = is_signed ? 0 : 1;
@@ -234,8 +234,8 @@ class format {
 
 inline namespace literals {
 
-// "I16F16"_format. A wrong word does not compile. Before C++20 that is so only in a constant (`constexpr auto`);
-// elsewhere the program aborts.
+// "I16F16"_format. A wrong word does not compile, before C++20 only in a constant (`constexpr auto`): elsewhere the
+// program then aborts.
 #if defined(__cpp_consteval)
 consteval
 #else
@@ -249,7 +249,7 @@ format operator""_format(const char* name, std::size_t len) noexcept {
 
 }  // namespace literals
 
-// The format that a name says, by the library; nothing, if the word names none.
+// Asks the library for the format that a name says. Returns nothing if it names none.
 inline std::optional<format> format_named(std::string_view name) noexcept {
   fixed_format out = {0, 0, 0};
   if (fixed_format_of_word(name.data(), name.size(), &out) != FIXED_OK) return std::nullopt;
@@ -258,7 +258,7 @@ inline std::optional<format> format_named(std::string_view name) noexcept {
 
 class number;
 
-// -1, 0 or 1, as the value of a is less than that of b, equal to it, or greater.
+// Returns -1, 0 or 1 if the value of a is less than that of b, equal to it, or greater.
 int compare(const number& a, const number& b) noexcept;
 
 // A number: bits, and the format that gives them a value. Numbers are equal and in order by value, whatever their
@@ -268,7 +268,7 @@ class number {
   // Zero.
   constexpr explicit number(format in) noexcept : bits_(0), format_(in) {}
 
-  // Nothing, if the format does not have these bits.
+  // Returns nothing if the format does not have these bits.
   template <class Bits, detail::if_bits<Bits> = 0>
   static constexpr std::optional<number> make(Bits bits, format in) noexcept {
     const std::uint64_t ones = ~std::uint64_t{0} >> (64 - in.width());
@@ -306,7 +306,7 @@ inline int compare(const number& a, const number& b) noexcept {
   return order;
 }
 
-// A number, whether one on the way to it was out of its format, and the error code. The number is zero if there is an
+// A number, whether it or one on the way to it was out of range, and the error code. The number is zero if there is an
 // error.
 struct outcome {
   number value;
@@ -316,7 +316,7 @@ struct outcome {
   constexpr explicit operator bool() const noexcept { return ec == errc{}; }
 };
 
-// The numbers of a format between which a value lies.
+// The two numbers of a format around a value.
 struct enclosure {
   number low, high;
   errc ec;
@@ -324,7 +324,7 @@ struct enclosure {
   constexpr explicit operator bool() const noexcept { return ec == errc{}; }
 };
 
-// Where reading ended, the error code, and whether the number was out of its format.
+// Where reading ended, the error code, and whether the number was out of range.
 struct from_chars_result {
   const char* ptr;
   errc ec;
@@ -366,7 +366,7 @@ inline outcome outcome_of(std::uint32_t code, const fixed_number& out, format in
           static_cast<errc>(code)};
 }
 
-// What a call writes into a buffer of its own, of which it needs Size bytes at most, copied to [first, last).
+// Copies the text of a call, which needs at most Size bytes with its zero byte, to [first, last).
 template <std::size_t Size, class Call>
 to_chars_result copied(char* first, char* last, Call call) noexcept {
   char out[Size];
@@ -426,15 +426,15 @@ inline outcome round(const number& it, rounding way, policy range = policy::chec
   return detail::outcome_of(code, out, it.get_format());
 }
 
-// Where the numeral at the beginning of a text ends, or first if there is none.
+// Finds the end of the longest prefix that is a numeral, or returns first if there is none.
 inline from_chars_result scan(const char* first, const char* last, radix base = radix::decimal) noexcept {
   std::size_t count = 0;
   const auto code = fixed_scan_text(first, static_cast<std::size_t>(last - first), detail::raw(base), &count);
   return {first + count, static_cast<errc>(code), false};
 }
 
-// Reads the longest numeral at the beginning of a text into the format of `value`, and says where it ended. Without a
-// numeral that is first; if the number overflowed, the end of the numeral. `value` stays as it was in either case.
+// Reads the longest prefix that is a numeral into the format of `value`, and returns its end, also after an overflow.
+// Without a numeral it returns first. `value` stays as it was in both cases.
 inline from_chars_result from_chars(const char* first, const char* last, number& value, radix base = radix::decimal,
                                     policy range = policy::checked, mode round = mode::nearest) noexcept {
   const auto found = scan(first, last, base);
@@ -487,7 +487,8 @@ inline to_chars_result to_chars(char* first, char* last, const number& it, const
   return code == FIXED_OK ? to_chars_result{first + len, errc{}} : to_chars_result{last, static_cast<errc>(code)};
 }
 
-// The same for bits: the shortest decimal, or with `places`, `places` and a mode, or a style. `bad_bits`: the format does not have them.
+// The same for bits: the shortest decimal, or with `places`, `places` and a mode, or a style. `bad_bits`: the format
+// does not have them.
 template <class Bits, class... How, detail::if_bits<Bits> = 0>
 to_chars_result to_chars(char* first, char* last, Bits bits, format in, const How&... how) noexcept {
   const auto it = number::make(bits, in);
@@ -501,7 +502,7 @@ inline to_chars_result to_chars(char* first, char* last, format it) noexcept {
   });
 }
 
-// What fixed_tool answers to a line. 192 bytes are always enough.
+// Answers a line as fixed_tool does. 192 bytes are always enough.
 inline to_chars_result answer_line(char* first, char* last, std::string_view line, bool& is_fault) noexcept {
   std::uint32_t fault = 0;
   const auto answer = [&](char* out, std::size_t size, std::size_t* len) {

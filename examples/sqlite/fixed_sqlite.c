@@ -9,10 +9,11 @@
  *   fixed_round(bits, format [, rounding [, policy]])   to a whole number, as bits of the same format
  *   fixed_compare(a, a_format, b, b_format)        -1, 0 or 1, by value
  *
- * A format is a word such as 'I16F16' or 'Q15'; a policy is 'checked', 'saturating' or 'wrapping'; a mode is 'nearest', 'floor',
- * 'ceil', 'zero', 'ties-away', 'ties-zero', 'ties-up', 'ties-down' or 'away'; a rounding is 'ceil', 'floor', 'ties-away', 'ties-even' or 'zero'. Left out, they are 'checked', 'nearest' and
- * 'ties-even'. NULL among the arguments makes the answer NULL, and what cannot be done is an error. A numeral is a text or a whole
- * number: a REAL has lost its digits already. The bits of a format of 64 unsigned bits are the same 64 bits, as in C.
+ * A format is a word such as 'I16F16' or 'Q15'; a policy is 'checked' (the default), 'saturating' or 'wrapping'; a mode
+ * is 'nearest' (the default, also of fixed_convert), 'floor', 'ceil', 'zero', 'ties-away', 'ties-zero', 'ties-up',
+ * 'ties-down' or 'away'; a rounding is 'ceil', 'floor', 'ties-away', 'ties-even' (the default) or 'zero'. If an argument
+ * is NULL, the answer is NULL; what cannot be done is an error. A numeral is a text or a whole number: a REAL has lost
+ * its digits already. The bits of an unsigned format of 64 bits are the same 64 bits, as in C.
  *
  * The calls of libfixed are proved; this file is tested. */
 #include <string.h>
@@ -44,7 +45,7 @@ static void refuse(sqlite3_context *context, uint32_t code, sqlite3_value *argum
   refuse_as(context, message, argument);
 }
 
-/* Whether an argument is NULL; the answer is then NULL, too. */
+/* Whether an argument is NULL; the answer is then NULL too. */
 static int has_null(int count, sqlite3_value **given) {
   for (int i = 0; i < count; i++)
     if (sqlite3_value_type(given[i]) == SQLITE_NULL) return 1;
@@ -59,9 +60,9 @@ static int is_format(sqlite3_context *context, sqlite3_value *argument, fixed_fo
   return code == FIXED_OK;
 }
 
-/* The place of an argument among words: `otherwise` if it was left out, and an error with this code if it is none of them. */
-static int is_word(sqlite3_context *context, const char *const *words, uint32_t code, int otherwise, sqlite3_value *argument,
-                   int *out) {
+/* The index of an argument among words: `otherwise` if it was left out, and an error with this code if it is not there. */
+static int is_word(sqlite3_context *context, const char *const *words, uint32_t code, int otherwise,
+                   sqlite3_value *argument, int *out) {
   *out = otherwise;
   if (!argument) return 1;
   const char *text = (const char *)sqlite3_value_text(argument);

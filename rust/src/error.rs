@@ -6,7 +6,7 @@ use crate::{calls, text, Text};
 
 macro_rules! kinds {
     ($($(#[$doc:meta])* $name:ident = $code:literal,)*) => {
-        /// The causes of an [`Error`]. Those that types of this crate rule out are here for codes that come from C.
+        /// The causes of an [`Error`]. Some occur only in codes from C, since the types of this crate rule them out.
         #[derive(Clone, Copy, Debug, PartialEq, Eq, Hash)]
         #[non_exhaustive]
         pub enum ErrorKind {
@@ -39,7 +39,7 @@ macro_rules! kinds {
 kinds! {
     /// A character is not a digit of the radix.
     InvalidDigit = 1,
-    /// A sign is not at the beginning.
+    /// A sign is not at the start of the numeral or of its exponent.
     MisplacedSign = 2,
     /// In a literal, an underscore does not follow a digit.
     MisplacedUnderscore = 3,
@@ -55,7 +55,7 @@ kinds! {
     NoDigits = 8,
     /// The exponent has no digit.
     ExponentNoDigits = 9,
-    /// The format does not hold the number, and the policy is [`Policy::Checked`](crate::Policy::Checked).
+    /// The number is out of range, and the policy is [`Policy::Checked`](crate::Policy::Checked).
     Overflow = 10,
     /// Not a radix.
     BadRadix = 11,

@@ -47,7 +47,7 @@ impl Format {
 
     /// The format that a name says, in either case: `I16F16`, `U0F24`, `Q15` or `UQ8.8` (by ARM's counting).
     ///
-    /// This is for constants. `parse::<Format>()` asks the library, which may know further names.
+    /// This works in constants. `parse::<Format>()` asks the library, which may know more names.
     ///
     /// # Errors
     /// `BadWord`: the word does not name a format.
@@ -61,10 +61,10 @@ impl Format {
         }
     }
 
-    /// The same for a name that is known to be right.
+    /// The same without a `Result`, for constants.
     ///
     /// # Panics
-    /// The word does not name a format. In a constant, the compiler says so.
+    /// The word does not name a format. In a constant, this is an error of the compiler.
     pub const fn of(name: &str) -> Format {
         match Format::parse(name) {
             Ok(format) => format,
@@ -155,11 +155,10 @@ impl Format {
         Ok(out.of(target))
     }
 
-    /// The numbers of the format between which a numeral's value lies: the greatest not above it, and the least not
-    /// below it.
+    /// The two numbers of the format around a numeral's value: the greatest not above it, and the least not below it.
     ///
     /// # Errors
-    /// Why the text is not a numeral, or `Overflow`: one of the two does not exist.
+    /// Why the text is not a numeral, or `Overflow` if one of the two does not exist.
     pub fn enclose(self, text: impl AsRef<[u8]>, radix: Radix) -> Result<(Number, Number), Error> {
         let (text, mut out) = (text.as_ref(), Enclosure::default());
         // SAFETY: `text` is readable, and `out` writable

@@ -7,8 +7,8 @@
 //! - [`FixedText`] reads and prints types of your own, and by one line of [`text_trait!`] those of the crate `fixed`.
 //! - [`Format::read_rows`] and its sisters work on slices.
 //!
-//! A numeral is an optional sign, digits with at most one point, and after them an exponent or none: `3.14159`, `.5`,
-//! `-1.25e-3`; in radix 16, `f.8p-2`. The whole text is the numeral, without blanks around it.
+//! A numeral is an optional sign, digits with at most one point, and an optional exponent: `3.14159`, `.5`, `-1.25e-3`;
+//! in radix 16, `f.8p-2`. The whole text is the numeral, without blanks around it.
 //!
 //! Nothing allocates, and only `std::error::Error` for [`Error`] needs std: the feature `std`, which is on by default.
 //!
@@ -17,7 +17,8 @@
 //! # Finding the library
 //!
 //! The build links `libfixed.a`, else `libfixed.so`, of the folder that LIBFIXED_DIR names; without it, what
-//! `pkg-config` finds as `fixed`. The crate is used from its folder:
+//! `pkg-config` finds as `fixed`. A shared library must also be found when the program starts: by `ldconfig`, or in a
+//! folder of LD_LIBRARY_PATH. The crate is used from its folder:
 //!
 //! ```toml
 //! [dependencies]
@@ -51,10 +52,10 @@ pub use rows::{Code, Row};
 pub use style::Style;
 pub use text::Text;
 
-/// How many bytes the numeral at the beginning of a text takes: 3 for `1.5 m`, `1.5e` and `1.5.2`.
+/// Returns the length in bytes of the longest prefix that is a numeral: 3 for `1.5 m`, `1.5e` and `1.5.2`.
 ///
 /// # Errors
-/// No beginning is a numeral; the error says why the text is none.
+/// No prefix is a numeral; the error says why the text is not one.
 pub fn leading_numeral(text: impl AsRef<[u8]>, radix: Radix) -> Result<usize, Error> {
     let (text, mut count) = (text.as_ref(), 0);
     // SAFETY: `text` is readable, and `count` writable
@@ -62,8 +63,8 @@ pub fn leading_numeral(text: impl AsRef<[u8]>, radix: Radix) -> Result<usize, Er
     Ok(count)
 }
 
-/// What `fixed_tool` answers to a line without its newline, such as `10 U4F4 U8F0 checked 2.99`, and whether the answer
-/// is a fault.
+/// Answers a line without its newline, such as `10 U4F4 U8F0 checked 2.99`, as `fixed_tool` does. Returns the answer,
+/// and whether it is a fault.
 pub fn answer_line(line: impl AsRef<[u8]>) -> (Text, bool) {
     let (line, mut is_fault) = (line.as_ref(), 0);
     // SAFETY: `line` is readable, `text::written` hands over a writable buffer with its size and a writable length, and
@@ -74,14 +75,14 @@ pub fn answer_line(line: impl AsRef<[u8]>) -> (Text, bool) {
     (answer.expect("every line has an answer"), is_fault != 0)
 }
 
-/// The version of the library that is linked, such as `(1, 0, 0)`.
+/// The version of the linked library, such as `(1, 1, 0)`.
 pub fn library_version() -> (u32, u32, u32) {
     // SAFETY: the call takes nothing
     let version = unsafe { calls::fixed_version() };
     (version / 10000, version / 100 % 100, version % 100)
 }
 
-/// The layout of the calls of the library that is linked, which is 1.
+/// The layout of the linked library's calls, which is 1.
 pub fn library_abi() -> u32 {
     // SAFETY: the call takes nothing
     unsafe { calls::fixed_abi() }

@@ -39,7 +39,7 @@ options! {
         Hex = 16,
     }
 
-    /// What becomes of a number that its format does not hold.
+    /// What to do with a number out of range.
     Policy or BadPolicy {
         /// It is refused with [`ErrorKind::Overflow`].
         Checked = 0,
@@ -85,7 +85,7 @@ options! {
         Zero = 4,
     }
 
-    /// What a number is shown in.
+    /// How the digits of a number are written.
     Notation or BadNotation {
         /// Decimal.
         Decimal = 0,
@@ -103,7 +103,7 @@ options! {
         UpperHex = 6,
     }
 
-    /// Where a text is in a wider field.
+    /// Where a text stands in a wider field.
     Align or BadAlign {
         /// At its left end.
         Left = 0,

@@ -6,7 +6,7 @@ use crate::calls;
 use crate::error::{checked, Error};
 use crate::{Format, Mode, Number, Policy, Reading};
 
-/// What a call leaves for a row: its bits as in C, and whether it overflowed. It is zero where the row was refused.
+/// The result of a row: its bits as in C, and whether it overflowed. Both are zero if the row was refused.
 #[repr(C)]
 #[derive(Clone, Copy, Debug, Default, PartialEq, Eq)]
 pub struct Row {
@@ -31,13 +31,13 @@ impl Row {
     }
 }
 
-/// How a row came through: a code of `fixed.h`, 0 for a row that was not refused.
+/// Why a row was refused: a code of `fixed.h`, or 0 if it was not.
 #[repr(transparent)]
 #[derive(Clone, Copy, Debug, Default, PartialEq, Eq, Hash)]
 pub struct Code(pub u32);
 
 impl Code {
-    /// Nothing, or why the row was refused.
+    /// `Ok` if the row was not refused.
     ///
     /// # Errors
     /// The error of the single call for this row.
