@@ -28,8 +28,8 @@ def fit(
     """Chooses a format for numerals. It is signed if one of them is below zero or `signed` is true.
 
     With a width it is the finest format of that width that holds each numeral, rounded to the nearest. With an error it
-    is the finest format of the least width (8, 16, 32 or 64, or only the given one) that is off by at most the error. A
-    format that holds two numbers holds each between them.
+    is the finest format of the least width (8, 16, 32 or 64, or only the given one) in which each numeral is off by at
+    most the error. Numbers between two numerals then are in range too, but may be off by half an ulp.
 
     `FixedError` names the first numeral that is too great for each format of the width. `ValueError`: no format is
     within the error.
