@@ -11,7 +11,7 @@ use Rattle.column_engine.specs.declared.columns.Column.{Column}
 use Rattle.column_engine.specs.declared.columns.Keeping.{Keeping}
 use Rattle.column_engine.specs.declared.end.Stop.{Stop}
 use Rattle.column_engine.specs.declared.end.Stop.TheVariants.{Done, NoColumn, NoMemory, NoName, ReadFault, TooLong, Unclosed, WriteFault}
-use Rattle.column_engine.specs.declared.run.TheConstants.{MAX_TEXT}
+use Rattle.column_engine.specs.Limits.{longest_text}
 use Rattle.column_engine.proofs.EndLemmas.{IsCalm, calm_one, ends_by_failures, never_read, never_write}
 use Rattle.column_engine.proofs.UniqueLemmas.{head_is, left_cancel, run_one, tail_is}
 
@@ -116,7 +116,7 @@ module _ (A : List ℕ → AnswerText → Type 0) (one : (field : List ℕ) (a b
       run_one A one keeps d columns s t u next.rest left left' (before ++ next.bytes) a b
       (moved count Done Done s t u input before a b (Some left) (Some left') first next) next.run
 
-  not_lines : (count : ℕ) (stop : Stop) (input left : List ℕ) (written written' : Option (List ℕ)) → length input < MAX_TEXT → IsCalm stop
+  not_lines : (count : ℕ) (stop : Stop) (input left : List ℕ) (written written' : Option (List ℕ)) → length input < longest_text → IsCalm stop
       → StopsLines stop count (Some input) (Some left) written written' → ⊥
   not_lines count TooLong input left written written' short calm stops =
       absurd (omega (arith, short, stops.why.0, ap length stops.taken, length-append stops.bytes left))
@@ -128,18 +128,18 @@ module _ (A : List ℕ → AnswerText → Type 0) (one : (field : List ℕ) (a b
   not_lines count (NoColumn columns) input left written written' short calm stops = stops.why
   not_lines count NoName input left written written' short calm stops = stops.why
 
-  calm_after : (count : ℕ) (stop : Stop) (s u : State) (input left before a : List ℕ) → length input < MAX_TEXT → IsCalm stop
+  calm_after : (count : ℕ) (stop : Stop) (s u : State) (input left before a : List ℕ) → length input < longest_text → IsCalm stop
       → HasRunAfter count stop A keeps d columns s u (Some input) (Some left) (Some before) (Some a) → RunsAfter count stop s u input before a (Some left)
   calm_after count stop s u input left before a short calm (inl stops) = absurd (not_lines count stop input left (Some before) (Some a) short calm stops.0)
   calm_after count stop s u input left before a short calm (inr runs) = known count stop s u input before a (Some left) runs.0 runs.1 runs.2 runs.3
 
-  pub calm_both : (count : ℕ) (stop other : Stop) (s t u : State) (input left before a b : List ℕ) → length input < MAX_TEXT → IsCalm stop → IsCalm other
+  pub calm_both : (count : ℕ) (stop other : Stop) (s t u : State) (input left before a b : List ℕ) → length input < longest_text → IsCalm stop → IsCalm other
       → HasRunAfter count stop A keeps d columns s t (Some input) (Some left) (Some before) (Some a) → HasRunAfter count other A keeps d columns s u (Some input) (Some left) (Some before) (Some b)
       → stop ≡ other
   calm_both count stop other s t u input left before a b short calm calm' x y =
       let first = calm_after count stop s t input left before a short calm x in
       let next = calm_after count other s u input left before b short calm' y in
-      let fewer : length next.rest < MAX_TEXT = omega (arith, short, ap length next.cut, length-append next.bytes next.rest) in
+      let fewer : length next.rest < longest_text = omega (arith, short, ap length next.cut, length-append next.bytes next.rest) in
       calm_one A one keeps d columns stop other s t u next.rest left (before ++ next.bytes) a b fewer calm calm'
       (moved count stop other s t u input before a b (Some left) (Some left) first next) next.run
 

@@ -18,8 +18,7 @@ use Rattle.column_engine.specs.declared.end.Stop.{Stop}
 use Rattle.column_engine.specs.declared.end.Stop.TheVariants.{Done, NoColumn, NoMemory, NoName, ReadFault, TooLong, Unclosed, WriteFault}
 use Rattle.column_engine.specs.declared.place.Place.{Place}
 use Rattle.column_engine.specs.declared.place.Place.TheVariants.{Quoted, Start}
-use Rattle.column_engine.specs.declared.record_buffer.TheConstants.{MAX_RECORD}
-use Rattle.column_engine.specs.declared.run.TheConstants.{MAX_TEXT}
+use Rattle.column_engine.specs.Limits.{longest_record, longest_text}
 use Rattle.column_engine.proofs.UniqueLemmas.{all_found_one, first_row_one, last_unended, named_none, right_cancel, row_is, row_one, unended_row}
 
 -- ---- failures
@@ -75,11 +74,11 @@ long_row d p [] more byte m short ends unended = false≢true (sym unended.0 ∙
 long_row d p (b ∷ body) more byte zero short ends unended = absurd (omega (arith, short))
 long_row d p (b ∷ body) more byte (suc m) short ends unended = long_row d (place_after d p b) body more byte m (omega (arith, short)) ends unended.1
 
-long_ended : (d : ℕ) (row : Row) (rest more : List ℕ) → IsEnded d row → length row.body ≤ MAX_RECORD → rest ≡ row_text row ++ more → IsTooLong d rest → ⊥
+long_ended : (d : ℕ) (row : Row) (rest more : List ℕ) → IsEnded d row → length row.body ≤ longest_record → rest ≡ row_text row ++ more → IsTooLong d rest → ⊥
 long_ended d row rest more ended short is long =
     let text : rest ≡ row.body ++ ended.byte ∷ more = is ∙ append_assoc row.body row.end more ∙ ap (λ l. row.body ++ (l ++ more)) ended.is_end in
-    let count : MAX_RECORD + 1 ≡ suc MAX_RECORD = omega arith in
-    long_row d Start row.body more ended.byte MAX_RECORD short ended.ends (subst (λ l. IsUnended d Start (take (suc MAX_RECORD) l)) text (subst (λ n. IsUnended d Start (take n rest)) count long.unended))
+    let count : longest_record + 1 ≡ suc longest_record = omega arith in
+    long_row d Start row.body more ended.byte longest_record short ended.ends (subst (λ l. IsUnended d Start (take (suc longest_record) l)) text (subst (λ n. IsUnended d Start (take n rest)) count long.unended))
 
 -- ---- an answer, and why there is none
 missing_found : (names : List (List ℕ)) (column : Column) (found : Range) → IsFound names column found → IsMissing names column → ⊥
@@ -95,12 +94,12 @@ any_found names (column ∷ columns) (r ∷ rs) are (inr missing) = any_found na
 
 module _ (A : List ℕ → AnswerText → Type 0) (one : (field : List ℕ) (a b : AnswerText) → A field a → A field b → a ≡ b) (keeps : Keeping) (d : ℕ) (columns : List Column) where
   some_short : (s t : State) (row : Row) (text : List ℕ)
-      → PassesHeader d columns s row text t ⊎ (AnswersFields A keeps d s row text t ⊎ AppendsField A keeps d s row text t) → length row.body ≤ MAX_RECORD
+      → PassesHeader d columns s row text t ⊎ (AnswersFields A keeps d s row text t ⊎ AppendsField A keeps d s row text t) → length row.body ≤ longest_record
   some_short s t row text (inl header) = header.short
   some_short s t row text (inr (inl fields)) = fields.short
   some_short s t row text (inr (inr one)) = one.short
 
-  row_short : (s t : State) (row : Row) (text : List ℕ) → AnswersRow A keeps d columns s row text t → length row.body ≤ MAX_RECORD
+  row_short : (s t : State) (row : Row) (text : List ℕ) → AnswersRow A keeps d columns s row text t → length row.body ≤ longest_record
   row_short s t row text (inl empty) = omega (arith, ap length empty.empty)
   row_short s t row text (inr some) = some_short s t row text some.1
 
@@ -158,7 +157,7 @@ module _ (A : List ℕ → AnswerText → Type 0) (one : (field : List ℕ) (a b
       refused_answered NoName s t u row rest more text part left (missing_answered s t row text) ends ended is answers
 
   -- ---- two ends at one place
-  last_short : (s u : State) (rest part : List ℕ) → AnswersLast A keeps d columns s rest part u → length rest ≤ MAX_RECORD
+  last_short : (s u : State) (rest part : List ℕ) → AnswersLast A keeps d columns s rest part u → length rest ≤ longest_record
   last_short s u rest part (inl none) = omega (arith, ap length none.0)
   last_short s u rest part (inr some) = omega (arith, ap length some.1, row_short s some.3 some.0 part some.4)
 
@@ -309,12 +308,12 @@ module _ (A : List ℕ → AnswerText → Type 0) (one : (field : List ℕ) (a b
       (sym x.split ∙ ap strip_bom same ∙ y.split) x.ends y.ends
 
   -- a run over a text of fewer bytes than it takes has an end
-  not_endless : (stop : Stop) (s u : State) (input left : List ℕ) (written written' : Option (List ℕ)) → length input < MAX_TEXT
+  not_endless : (stop : Stop) (s u : State) (input left : List ℕ) (written written' : Option (List ℕ)) → length input < longest_text
       → IsEndless stop A keeps d columns s u (Some input) (Some left) written written' → ⊥
   not_endless stop s u input left written written' short endless =
       absurd (omega (arith, short, endless.many, ap length endless.so_far.taken, length-append endless.so_far.bytes left))
 
-  pub calm_one : (stop other : Stop) (s u v : State) (input left before a b : List ℕ) → length input < MAX_TEXT → IsCalm stop → IsCalm other
+  pub calm_one : (stop other : Stop) (s u v : State) (input left before a b : List ℕ) → length input < longest_text → IsCalm stop → IsCalm other
       → HasRun stop A keeps d columns s u (Some input) (Some left) (Some before) (Some a) → HasRun other A keeps d columns s v (Some input) (Some left) (Some before) (Some b) → stop ≡ other
   calm_one stop other s u v input left before a b short calm calm' (inl first) (inl next) = texts_one stop other s u v input left before a b calm calm' first next
   calm_one stop other s u v input left before a b short calm calm' (inl first) (inr next) = absurd (not_endless other s v input left (Some before) (Some b) short next)

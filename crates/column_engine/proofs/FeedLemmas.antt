@@ -15,7 +15,7 @@ use Rattle.column_engine.specs.Steps.{FailsRow, IsHeader, PassesRow, SameCounts,
 use Rattle.column_engine.specs.declared.columns.Range.{Range}
 use Rattle.column_engine.specs.declared.end.Stop.{Stop}
 use Rattle.column_engine.specs.declared.end.Stop.TheVariants.{Done, NoColumn, NoMemory, NoName, ReadFault, TooLong, Unclosed, WriteFault}
-use Rattle.column_engine.specs.declared.record_buffer.TheConstants.{MAX_RECORD}
+use Rattle.column_engine.specs.Limits.{longest_record}
 use Rattle.std.specs.Prelude.{◌≢◌, Result, Ok, Err, Some, None, IfErr, IfSome, OnErr}
 use Rattle.column_engine.specs.declared.columns.Column.{Column}
 use Rattle.column_engine.specs.declared.columns.Keeping.{Keeping}
@@ -122,17 +122,17 @@ module _ (A : List ℕ → AnswerText → Type 0) (keeps : Keeping) (d : ℕ) (c
   pub row_empty : (s : State) (row : Row) → row.body ≡ [] → AnswersRow A keeps d columns s row row.end s
   row_empty s row is = inl (record { empty = is; text_is = refl; after = refl })
 
-  pub row_header : (s : State) (row : Row) (found : List Range) → length row.body ≤ MAX_RECORD → s.headed ≡ true → row.body ≢ [] → IsHeader d columns row.body found
+  pub row_header : (s : State) (row : Row) (found : List Range) → length row.body ≤ longest_record → s.headed ≡ true → row.body ≢ [] → IsHeader d columns row.body found
       → AnswersRow A keeps d columns s row (row.body ++ new_name d s.into ++ row.end) (one_more (record s { headed = false; asked = found }) 0)
   row_header s row found short headed some is = inr (some, inl (record { next = headed; short = short; found = found; are_found = is.are_found; enough = is.enough; text_is = refl; after = refl }))
 
-  pub row_fields : (s : State) (row : Row) (refused : ℕ) (held mid : List ℕ) (a b : Option (List ℕ)) → length row.body ≤ MAX_RECORD → s.headed ≡ false → s.into ≡ None → row.body ≢ [] → needed s.asked ≤ length (raw_fields d Start row.body)
+  pub row_fields : (s : State) (row : Row) (refused : ℕ) (held mid : List ℕ) (a b : Option (List ℕ)) → length row.body ≤ longest_record → s.headed ≡ false → s.into ≡ None → row.body ≢ [] → needed s.asked ≤ length (raw_fields d Start row.body)
       → (fields : GathersFields A keeps d s.asked 0 (raw_fields d Start row.body) refused held mid a b)
       → AnswersRow A keeps d columns s row (answers_text d 0 fields.answers ++ row.end) (one_more s refused)
   row_fields s row refused held mid a b short known in_place some enough fields =
       inr (some, inr (inl (record { known = known; in_place = in_place; short = short; enough = enough; answers = fields.answers; are = fields.are; text_is = refl; after = ap (one_more s) fields.refused_is })))
 
-  pub passes_fields : (s : State) (row : Row) (refused : ℕ) (held mid new : List ℕ) (a b c : Option (List ℕ)) → length row.body ≤ MAX_RECORD → s.headed ≡ false → s.into ≡ None → row.body ≢ [] → needed s.asked ≤ length (raw_fields d Start row.body)
+  pub passes_fields : (s : State) (row : Row) (refused : ℕ) (held mid new : List ℕ) (a b c : Option (List ℕ)) → length row.body ≤ longest_record → s.headed ≡ false → s.into ≡ None → row.body ≢ [] → needed s.asked ≤ length (raw_fields d Start row.body)
       → GathersFields A keeps d s.asked 0 (raw_fields d Start row.body) refused held mid a b → Flushes mid row.end new b c
       → PassesRow A keeps d columns row s (one_more s refused) held new a c
   passes_fields s row refused held mid new a b c short known in_place some enough fields last = record {
@@ -142,7 +142,7 @@ module _ (A : List ℕ → AnswerText → Type 0) (keeps : Keeping) (d : ℕ) (c
   }
 
   -- a write failed after the fields, or among them
-  pub fails_fields : (s : State) (row : Row) (refused : ℕ) (held mid : List ℕ) (a b c : Option (List ℕ)) → length row.body ≤ MAX_RECORD → s.headed ≡ false → s.into ≡ None → row.body ≢ [] → needed s.asked ≤ length (raw_fields d Start row.body)
+  pub fails_fields : (s : State) (row : Row) (refused : ℕ) (held mid : List ℕ) (a b c : Option (List ℕ)) → length row.body ≤ longest_record → s.headed ≡ false → s.into ≡ None → row.body ≢ [] → needed s.asked ≤ length (raw_fields d Start row.body)
       → GathersFields A keeps d s.asked 0 (raw_fields d Start row.body) refused held mid a b → ((left : List ℕ) × Flushes mid row.end left b c)
       → FailsRow A keeps d columns row s held a c
   fails_fields s row refused held mid a b c short known in_place some enough fields last = record {
@@ -162,7 +162,7 @@ module _ (A : List ℕ → AnswerText → Type 0) (keeps : Keeping) (d : ℕ) (c
   }
 
   -- a record with a new column
-  pub row_longer : (s : State) (name : List ℕ) (row : Row) (refused : Bool) (held new : List ℕ) (a b : Option (List ℕ)) → length row.body ≤ MAX_RECORD → s.headed ≡ false → s.into ≡ Some name
+  pub row_longer : (s : State) (name : List ℕ) (row : Row) (refused : Bool) (held new : List ℕ) (a b : Option (List ℕ)) → length row.body ≤ longest_record → s.headed ≡ false → s.into ≡ Some name
       → row.body ≢ [] → needed s.asked ≤ length (raw_fields d Start row.body) → (one : GathersLonger A keeps d s.asked row refused held new a b)
       → AnswersRow A keeps d columns s row (row.body ++ d ∷ one.text ++ row.end) (one_more s (if refused then 1 else 0))
   row_longer s name row refused held new a b short known into some enough one = inr (
@@ -180,7 +180,7 @@ module _ (A : List ℕ → AnswerText → Type 0) (keeps : Keeping) (d : ℕ) (c
     })),
   )
 
-  pub passes_longer : (s : State) (name : List ℕ) (row : Row) (count : ℕ) (held new : List ℕ) (a b : Option (List ℕ)) → length row.body ≤ MAX_RECORD → s.headed ≡ false → s.into ≡ Some name
+  pub passes_longer : (s : State) (name : List ℕ) (row : Row) (count : ℕ) (held new : List ℕ) (a b : Option (List ℕ)) → length row.body ≤ longest_record → s.headed ≡ false → s.into ≡ Some name
       → row.body ≢ [] → needed s.asked ≤ length (raw_fields d Start row.body)
       → ((refused : Bool) × (count ≡ (if refused then 1 else 0)) × GathersLonger A keeps d s.asked row refused held new a b)
       → PassesRow A keeps d columns row s (one_more s count) held new a b
@@ -190,7 +190,7 @@ module _ (A : List ℕ → AnswerText → Type 0) (keeps : Keeping) (d : ℕ) (c
     gathered = one.2.gathered;
   })
 
-  pub fails_longer : (s : State) (name : List ℕ) (row : Row) (held : List ℕ) (a b : Option (List ℕ)) → length row.body ≤ MAX_RECORD → s.headed ≡ false → s.into ≡ Some name
+  pub fails_longer : (s : State) (name : List ℕ) (row : Row) (held : List ℕ) (a b : Option (List ℕ)) → length row.body ≤ longest_record → s.headed ≡ false → s.into ≡ Some name
       → row.body ≢ [] → needed s.asked ≤ length (raw_fields d Start row.body)
       → ((refused : Bool) × (left : List ℕ) × GathersLonger A keeps d s.asked row refused held left a b) → FailsRow A keeps d columns row s held a b
   fails_longer s name row held a b short known into some enough one = record {
@@ -233,7 +233,7 @@ module _ (A : List ℕ → AnswerText → Type 0) (keeps : Keeping) (d : ℕ) (c
       }
 
   pub fails_long : (bytes rest : List ℕ) (s t : State) (held mid : List ℕ) (a b : Option (List ℕ)) → FeedsRows A keeps d columns bytes rest s t held mid a b
-      → (MAX_RECORD < length rest) × IsUnended d Start (take (MAX_RECORD + 1) rest) → FailsFeed TooLong A keeps d columns bytes s t held mid a b
+      → (longest_record < length rest) × IsUnended d Start (take (longest_record + 1) rest) → FailsFeed TooLong A keeps d columns bytes s t held mid a b
   fails_long bytes rest s t held mid a b fed long = record {
     rest = rest;
     between = t;

@@ -20,7 +20,7 @@ use Rattle.column_engine.specs.declared.end.Stop.{Stop}
 use Rattle.column_engine.specs.declared.end.Stop.TheVariants.{Done, NoColumn, NoMemory, NoName, ReadFault, TooLong, Unclosed, WriteFault}
 use Rattle.column_engine.specs.declared.place.Place.{Place}
 use Rattle.column_engine.specs.declared.place.Place.TheVariants.{AfterQuote, Inside, Quoted, Start}
-use Rattle.column_engine.specs.declared.run.TheConstants.{MAX_TEXT}
+use Rattle.column_engine.specs.Limits.{longest_text}
 use Rattle.column_engine.specs.Begin.{IsPartOfMark}
 use Rattle.column_engine.proofs.FeedLemmas.{ended_append, feeds_both, feeds_none, rows_append}
 use Rattle.column_engine.proofs.RowLemmas.{from_never}
@@ -391,7 +391,7 @@ module _ (A : List ℕ → AnswerText → Type 0) (keeps : Keeping) (d : ℕ) (c
       (subst (λ l. StopsText stop A keeps d columns [] l t u left'' b c) (sym (append-nil rest)) stops)
 
   -- no more is read of a text without an end
-  pub runs_endless : (rest : List ℕ) (s t : State) (left left' a b : Option (List ℕ)) (on : RunsOn A keeps d columns rest s t left left' a b) → MAX_TEXT ≤ length on.so_far.bytes
+  pub runs_endless : (rest : List ℕ) (s t : State) (left left' a b : Option (List ℕ)) (on : RunsOn A keeps d columns rest s t left left' a b) → longest_text ≤ length on.so_far.bytes
       → IsEndless TooLong A keeps d columns s t left left' a b
   runs_endless rest s t left left' a b on many = record { is_long = refl; rest = rest; t = t; counts = same_counts t; so_far = on.so_far; many = many }
 

@@ -13,7 +13,7 @@ use Rattle.column_engine.specs.Steps.{SameCounts}
 use Rattle.column_engine.specs.declared.columns.Column.{Column}
 use Rattle.column_engine.specs.declared.columns.Keeping.{Keeping}
 use Rattle.column_engine.specs.declared.end.Stop.{Stop}
-use Rattle.column_engine.specs.declared.skip.TheConstants.{MAX_SKIPPED}
+use Rattle.column_engine.specs.Limits.{longest_text}
 use Rattle.line_engine.specs.AnswerText.{AnswerText}
 use Rattle.column_engine.proofs.RunLemmas.{run_counts}
 use Rattle.column_engine.specs.declared.end.Stop.TheVariants.{ReadFault, TooLong, WriteFault}
@@ -163,7 +163,7 @@ stops_read count lines held left left' left'' a b so_far kept = record {
 
 -- the lines have no end
 pub stops_long : (count lines : ℕ) (held : List ℕ) (left left' a b c : Option (List ℕ)) (so_far : IsPassing count lines held left left' a b)
-    → MAX_SKIPPED ≤ length so_far.bytes → Appends b c held → StopsLines TooLong count left left' a c
+    → longest_text ≤ length so_far.bytes → Appends b c held → StopsLines TooLong count left left' a c
 stops_long count lines held left left' a b c so_far many wrote = record {
   bytes = so_far.bytes;
   taken = so_far.taken;

@@ -12,7 +12,7 @@ use Rattle.column_engine.specs.declared.columns.Destination.TheVariants.{InPlace
 use Rattle.column_engine.specs.declared.columns.Keeping.{Keeping}
 use Rattle.column_engine.specs.declared.columns.Range.{Range}
 use Rattle.column_engine.specs.declared.place.Place.TheVariants.{Start}
-use Rattle.column_engine.specs.declared.record_buffer.TheConstants.{MAX_RECORD}
+use Rattle.column_engine.specs.Limits.{longest_record}
 
 -- ---- which columns are asked for
 
@@ -181,7 +181,7 @@ new_name delimiter (Some name) = delimiter ∷ as_field delimiter name
 pub record PassesHeader (delimiter : ℕ) (columns : List Column) (s : State) (row : Row) (text : List ℕ) (t : State) :
     Type 0 where
   pub next : s.headed ≡ true
-  pub short : length row.body ≤ MAX_RECORD
+  pub short : length row.body ≤ longest_record
   pub found : List Range
   pub are_found : AreFound (field_texts delimiter row.body) columns found
   pub enough : needed found ≤ length (raw_fields delimiter Start row.body)
@@ -193,7 +193,7 @@ pub record AnswersFields (A : List ℕ → AnswerText → Type 0) (keeps : Keepi
     (text : List ℕ) (t : State) : Type 0 where
   pub known : s.headed ≡ false
   pub in_place : s.into ≡ None
-  pub short : length row.body ≤ MAX_RECORD
+  pub short : length row.body ≤ longest_record
   pub enough : needed s.asked ≤ length (raw_fields delimiter Start row.body)
   pub answers : List FieldAnswer
   pub are : AreAnswers A keeps delimiter s.asked 0 (raw_fields delimiter Start row.body) answers
@@ -206,7 +206,7 @@ pub record AppendsField (A : List ℕ → AnswerText → Type 0) (keeps : Keepin
   pub known : s.headed ≡ false
   pub name : List ℕ
   pub into : s.into ≡ Some name
-  pub short : length row.body ≤ MAX_RECORD
+  pub short : length row.body ≤ longest_record
   pub enough : needed s.asked ≤ length (raw_fields delimiter Start row.body)
   pub answer : FieldAnswer
   pub is : IsAnswer A keeps delimiter true (get_or (raw_fields delimiter Start row.body) (first_asked s.asked) [])

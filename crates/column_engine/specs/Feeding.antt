@@ -13,7 +13,7 @@ use Rattle.column_engine.specs.declared.end.Stop.TheVariants.{Done, NoColumn, No
 use Rattle.column_engine.specs.declared.end.Stop.TheVariants.{Unclosed, WriteFault}
 use Rattle.column_engine.specs.declared.place.Place.{Place}
 use Rattle.column_engine.specs.declared.place.Place.TheVariants.{Start}
-use Rattle.column_engine.specs.declared.record_buffer.TheConstants.{MAX_RECORD}
+use Rattle.column_engine.specs.Limits.{longest_record}
 
 -- these bytes are kept of a record that has not ended, and this is the place after them
 pub record IsStanding (delimiter : ℕ) (kept : List ℕ) (place : Place) : Type 0 where
@@ -33,8 +33,8 @@ pub record FeedsRows (A : List ℕ → AnswerText → Type 0) (keeps : Keeping) 
 
 -- more bytes than a record has, and no record ends before those
 pub record IsTooLong (delimiter : ℕ) (bytes : List ℕ) : Type 0 where
-  pub many : MAX_RECORD < length bytes
-  pub unended : IsUnended delimiter Start (take (MAX_RECORD + 1) bytes)
+  pub many : longest_record < length bytes
+  pub unended : IsUnended delimiter Start (take (longest_record + 1) bytes)
 
 -- a record that ended, at the start of these bytes
 pub record BeginsWith (delimiter : ℕ) (row : Row) (bytes : List ℕ) : Type 0 where

@@ -16,7 +16,7 @@ use Rattle.column_engine.specs.declared.columns.Range.{Range}
 use Rattle.column_engine.specs.declared.end.Stop.{Stop}
 use Rattle.column_engine.specs.declared.end.Stop.TheVariants.{Done, NoMemory}
 use Rattle.column_engine.specs.declared.place.Place.TheVariants.{Start}
-use Rattle.column_engine.specs.declared.run.TheConstants.{MAX_TEXT}
+use Rattle.column_engine.specs.Limits.{longest_text}
 
 -- a byte that is no quote and no end of a line
 pub record IsDelimiter (delimiter : ℕ) : Type 0 where
@@ -133,7 +133,7 @@ OutputIsTheOne A = (skipped : ℕ) (keeps : Keeping) (delimiter : ℕ) (columns 
 -- for a text of fewer bytes than a run takes
 abbrev pub RunEndIsTheOne : (List ℕ → AnswerText → Type 0) → Type 0
 RunEndIsTheOne A = (skipped : ℕ) (keeps : Keeping) (delimiter : ℕ) (columns : List Column) (s t u : State)
-    (input left before a b : List ℕ) (read read' write write' : ℕ) (stop other : Stop) → length input < MAX_TEXT
+    (input left before a b : List ℕ) (read read' write write' : ℕ) (stop other : Stop) → length input < longest_text
     → read < 2 ^ 64 - 1 → write < 2 ^ 64 - 1 → stop ≢ NoMemory → other ≢ NoMemory
     → HasRunAfter skipped stop A keeps delimiter columns s t (Some input) (Some left) (Some before) (Some a)
     → HasFailures read read' write write' stop

@@ -21,8 +21,7 @@ use Rattle.column_engine.specs.declared.end.Stop.{Stop}
 use Rattle.column_engine.specs.declared.end.Stop.TheVariants.{Done, NoColumn, NoMemory, NoName, ReadFault, TooLong}
 use Rattle.column_engine.specs.declared.end.Stop.TheVariants.{Unclosed, WriteFault}
 use Rattle.column_engine.specs.declared.place.Place.TheVariants.{Quoted, Start}
-use Rattle.column_engine.specs.declared.record_buffer.TheConstants.{MAX_RECORD}
-use Rattle.column_engine.specs.declared.run.TheConstants.{MAX_TEXT}
+use Rattle.column_engine.specs.Limits.{longest_record, longest_text}
 
 -- the columns that a word means without a header; for a name that is no number the first one, until a header is read
 abbrev pub first_range : Column → Range
@@ -95,7 +94,7 @@ Ends NoMemory A keeps delimiter columns s rest left part u = ⊥
 Ends TooLong A keeps delimiter columns s rest left part u = IsTooLong delimiter rest × (part ≡ []) × SameCounts s u
 Ends Unclosed A keeps delimiter columns s rest left part u =
     IsAtEnd left × IsUnended delimiter Start rest × (places_after delimiter Start rest ≡ Quoted)
-    × (length rest ≤ MAX_RECORD) × (part ≡ []) × SameCounts s u
+    × (length rest ≤ longest_record) × (part ≡ []) × SameCounts s u
 Ends (NoColumn count) A keeps delimiter columns s rest left part u = RefusesNext (NoColumn count) delimiter columns s
     rest left part u
 Ends NoName A keeps delimiter columns s rest left part u = RefusesNext NoName delimiter columns s rest left part u
@@ -166,7 +165,7 @@ pub record IsEndless (stop : Stop) (A : List ℕ → AnswerText → Type 0) (kee
   pub t : State
   pub counts : SameCounts t u
   pub so_far : RunsSoFar A keeps delimiter columns rest s t left left' written written'
-  pub many : MAX_TEXT ≤ length so_far.bytes
+  pub many : longest_text ≤ length so_far.bytes
 
 -- what a run that ended so, with these counts, took and wrote
 abbrev pub HasRun : Stop → (List ℕ → AnswerText → Type 0) → Keeping → ℕ → List Column → State → State → Option (List ℕ)

@@ -12,7 +12,7 @@ use Rattle.column_engine.specs.declared.columns.Keeping.{Keeping}
 use Rattle.column_engine.specs.declared.end.Stop.{Stop}
 use Rattle.column_engine.specs.declared.end.Stop.TheVariants.{Done, NoColumn, NoMemory, NoName, ReadFault, TooLong}
 use Rattle.column_engine.specs.declared.end.Stop.TheVariants.{Unclosed, WriteFault}
-use Rattle.column_engine.specs.declared.skip.TheConstants.{MAX_SKIPPED}
+use Rattle.column_engine.specs.Limits.{longest_text}
 
 -- how many newlines there are
 abbrev pub newlines : List ℕ → ℕ
@@ -40,7 +40,7 @@ pub record PassesLines (count : ℕ) (left left' written written' : Option (List
 abbrev pub IsLineStop : Stop → List ℕ → List ℕ → Type 0
 IsLineStop ReadFault bytes shown = (rest : List ℕ) × (bytes ≡ shown ++ rest) × (newlines rest ≡ 0)
 IsLineStop WriteFault bytes shown = shown ≡ bytes
-IsLineStop TooLong bytes shown = (MAX_SKIPPED ≤ length bytes) × (shown ≡ bytes)
+IsLineStop TooLong bytes shown = (longest_text ≤ length bytes) × (shown ≡ bytes)
 IsLineStop Done bytes shown = ⊥
 IsLineStop NoMemory bytes shown = ⊥
 IsLineStop Unclosed bytes shown = ⊥

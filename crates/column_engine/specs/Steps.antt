@@ -15,7 +15,7 @@ use Rattle.column_engine.specs.declared.end.Stop.{Stop}
 use Rattle.column_engine.specs.declared.end.Stop.TheVariants.{Done, NoColumn, NoMemory, NoName, ReadFault, TooLong}
 use Rattle.column_engine.specs.declared.end.Stop.TheVariants.{Unclosed, WriteFault}
 use Rattle.column_engine.specs.declared.place.Place.TheVariants.{Start}
-use Rattle.column_engine.specs.declared.record_buffer.TheConstants.{MAX_RECORD}
+use Rattle.column_engine.specs.Limits.{longest_record}
 use Rattle.column_engine.specs.declared.row.Progress.{Progress}
 
 -- at a failed write the count of failures rose, and else it is as it was
@@ -49,7 +49,7 @@ pub record LacksColumn (delimiter : ℕ) (asked : List Range) (row : Row) (count
 -- no empty line, and at most as many bytes as a record has
 pub record IsRecord (row : Row) : Type 0 where
   pub some : row.body ≢ []
-  pub short : length row.body ≤ MAX_RECORD
+  pub short : length row.body ≤ longest_record
 
 -- why a record was not answered
 abbrev pub IsUnanswered : Stop → ℕ → List Column → State → Row → Type 0

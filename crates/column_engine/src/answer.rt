@@ -4,7 +4,7 @@ ghost use Rattle.std.specs.Prelude.{◌≡◌, ◌==◌, ◌≤◌, List, ℕ, i
 ghost use Rattle.column_engine.specs.Answers.{IsAnswer, as_field, in_quotes, keeps_quotes, stays};
 ghost use Rattle.column_engine.specs.Gathered.{shown_bytes};
 ghost use Rattle.column_engine.specs.Rows.{content};
-ghost use Rattle.column_engine.specs.declared.record_buffer.TheConstants.{MAX_RECORD};
+ghost use Rattle.column_engine.specs.Limits.{longest_record};
 
 use crate::columns::{Column, Destination, Keeping};
 use crate::field::{calls_for_quotes, plain_content, write_content, write_in_quotes};
@@ -57,7 +57,7 @@ fn reply_to<A: FieldRule<L>, L: Ledger>(
     work: &mut Work,
     steps: &mut Steps<L>,
 ) -> bool
-    requires { length raw.now ≤ MAX_RECORD }
+    requires { length raw.now ≤ longest_record }
     ensures reply { A.Answers rule.now (content Place.Start raw.now) (record {
       text = work.new.reply;
       fault = result;
@@ -173,7 +173,7 @@ pub(crate) fn answer_asked<A: FieldRule<L>, L: Ledger>(
     work: &mut Work,
     steps: &mut Steps<L>,
 ) -> Answered
-    requires { length raw.now ≤ MAX_RECORD }
+    requires { length raw.now ≤ longest_record }
     ensures answer { IsAnswer (A.Answers task.now.rule.now) task.now.keeps task.now.delimiter true raw.now (record {
       text = shown_bytes result.shown raw.now work.new.reply work.new.text;
       refused = result.is_refused;

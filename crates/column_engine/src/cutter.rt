@@ -3,7 +3,7 @@
 ghost use Rattle.std.specs.Prelude.{◌≡◌, ◌≤◌, ◌<◌, ◌+◌, ◌++◌, [], List, ℕ, IfErr, OnOk, OnErr, length};
 ghost use Rattle.column_engine.specs.Feeding.{FailsFeed, FeedsRows, IsStanding};
 ghost use Rattle.column_engine.specs.Steps.{PassesRow, RisesOnly, SameCounts, StopsRow, state_of};
-ghost use Rattle.column_engine.specs.declared.record_buffer.TheConstants.{MAX_RECORD};
+ghost use Rattle.column_engine.specs.Limits.{longest_record};
 
 use crate::answer::{ColumnTask, Work};
 use crate::end::Stop;
@@ -37,7 +37,7 @@ fn end_row<A: FieldRule<L>, K: Sink, L: Ledger>(
     sink: &mut K,
     steps: &mut Steps<L>,
 ) -> Result<(), Stop>
-    requires short { length cutter.old.kept + length part.now ≤ MAX_RECORD }
+    requires short { length cutter.old.kept + length part.now ≤ longest_record }
     requires as_many { length cutter.old.progress.asked.items ≡ length task.now.columns.now }
     ensures kept { OnOk result (cutter.new.kept ≡ []) }
     ensures place { OnOk result (cutter.new.place ≡ Place.Start) }

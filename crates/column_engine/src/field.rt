@@ -4,7 +4,7 @@ ghost use Rattle.std.specs.Prelude.{◌≡◌, ◌==◌, ◌<◌, ◌≤◌, ◌
 ghost use Rattle.csv.specs.Writing.{default_writer, needs_byte, needs_quotes, quoted};
 ghost use Rattle.column_engine.specs.Answers.{as_field, calls_for_quotes, in_quotes};
 ghost use Rattle.column_engine.specs.Rows.{content, is_dropped};
-ghost use Rattle.column_engine.specs.declared.record_buffer.TheConstants.{MAX_RECORD};
+ghost use Rattle.column_engine.specs.Limits.{longest_record};
 
 use crate::place::{Place, within_after};
 use crate::record_buffer::RecordBuffer;
@@ -39,7 +39,7 @@ pub(crate) fn plain_content(raw: &[u8]) -> Option<&[u8]>
 
 /// Goes on with a byte of a field, where it is of its text.
 fn push_kept(place: Place, byte: u8, text: &mut RecordBuffer)
-    requires { length text.old < MAX_RECORD }
+    requires { length text.old < longest_record }
     ensures text { text.new ≡ text.old ++ (if is_dropped place byte then [] else byte ∷ []) }
     ensures short { length text.new ≤ length text.old + 1 }
 {
@@ -50,7 +50,7 @@ fn push_kept(place: Place, byte: u8, text: &mut RecordBuffer)
 
 /// Writes out the text of a field.
 pub(crate) fn write_content(raw: &[u8], text: &mut RecordBuffer)
-    requires { length raw.now ≤ MAX_RECORD }
+    requires { length raw.now ≤ longest_record }
     ensures { text.new ≡ content Place.Start raw.now }
 {
     text.clear();
@@ -92,7 +92,7 @@ pub(crate) fn calls_for_quotes(delimiter: u8, text: &[u8]) -> bool
 
 /// Goes on with a byte between quotes.
 fn push_escaped(byte: u8, shown: &mut RecordBuffer)
-    requires { length shown.old + 2 ≤ MAX_RECORD }
+    requires { length shown.old + 2 ≤ longest_record }
     ensures text { shown.new ≡ shown.old ++ (if byte == 34 then 34 ∷ byte ∷ [] else byte ∷ []) }
     ensures short { length shown.new ≤ length shown.old + 2 }
 {
@@ -104,7 +104,7 @@ fn push_escaped(byte: u8, shown: &mut RecordBuffer)
 
 /// Goes on with a text in quotes, each quote in it twice.
 fn push_quoted(delimiter: u8, text: &[u8], shown: &mut RecordBuffer)
-    requires { length shown.old + 2 * length text.now + 2 ≤ MAX_RECORD }
+    requires { length shown.old + 2 * length text.now + 2 ≤ longest_record }
     ensures { shown.new ≡ shown.old ++ quoted (record default_writer { delimiter = delimiter }) text.now }
 {
     shown.push(b'"');
@@ -116,7 +116,7 @@ fn push_quoted(delimiter: u8, text: &[u8], shown: &mut RecordBuffer)
 
 /// Writes out a text as a field in quotes.
 pub(crate) fn write_in_quotes(delimiter: u8, text: &[u8], shown: &mut RecordBuffer)
-    requires { 2 * length text.now + 2 ≤ MAX_RECORD }
+    requires { 2 * length text.now + 2 ≤ longest_record }
     ensures { shown.new ≡ in_quotes delimiter text.now }
 {
     shown.clear();
@@ -125,7 +125,7 @@ pub(crate) fn write_in_quotes(delimiter: u8, text: &[u8], shown: &mut RecordBuff
 
 /// Writes out a text as a field.
 pub(crate) fn write_as_field(delimiter: u8, text: &[u8], shown: &mut RecordBuffer)
-    requires { 2 * length text.now + 2 ≤ MAX_RECORD }
+    requires { 2 * length text.now + 2 ≤ longest_record }
     ensures { shown.new ≡ as_field delimiter text.now }
 {
     if calls_for_quotes(delimiter, text) {

@@ -7,7 +7,7 @@ ghost use Rattle.column_engine.specs.Answers.{is_asked};
 ghost use Rattle.column_engine.specs.Gathered.{GathersAnswer, GathersField, GathersFields, GathersPart, IsFieldAt};
 ghost use Rattle.column_engine.specs.Gathered.{ahead, only};
 ghost use Rattle.column_engine.specs.Rows.{raw_fields};
-ghost use Rattle.column_engine.specs.declared.record_buffer.TheConstants.{MAX_RECORD};
+ghost use Rattle.column_engine.specs.Limits.{longest_record};
 
 use crate::answer::{ColumnTask, Work, answer_asked};
 use crate::columns::{Range, is_asked};
@@ -40,7 +40,7 @@ fn gather_answer<A: FieldRule<L>, K: Sink, L: Ledger>(
     sink: &mut K,
     steps: &mut Steps<L>,
 ) -> Result<bool, Failed>
-    requires { length raw.now ≤ MAX_RECORD }
+    requires { length raw.now ≤ longest_record }
     ensures ok { IfOk result (λ refused. GathersAnswer (A.Answers task.now.rule.now) task.now.keeps
         task.now.delimiter before.now raw.now refused work.old.out work.new.out (K.written sink.old)
         (K.written sink.new)) }
@@ -68,7 +68,7 @@ fn pass_field<A: FieldRule<L>, K: Sink, L: Ledger>(
     sink: &mut K,
     steps: &mut Steps<L>,
 ) -> Result<(usize, u64), Failed>
-    requires short { length body.now ≤ MAX_RECORD }
+    requires short { length body.now ≤ longest_record }
     requires before { from ≤ field.start }
     requires ordered { field.start ≤ field.end }
     requires within { field.end ≤ length body.now }
@@ -130,7 +130,7 @@ fn past_asked(asked: &[Range]) -> usize
 /// A field of a record by its column, or how many fields the record has where it has too few.
 #[inline(always)]
 pub(crate) fn find_field(delimiter: u8, body: &[u8], column: usize) -> Result<Field, usize>
-    requires { length body.now ≤ MAX_RECORD }
+    requires { length body.now ≤ longest_record }
     ensures ok { IfOk result (λ field. (field.column ≡ column)
         × IsFieldAt delimiter body.now field.column field.start field.end) }
     ensures err { IfErr result (λ count. (count ≡ length (raw_fields delimiter Place.Start body.now))
@@ -162,7 +162,7 @@ pub(crate) fn answer_field<A: FieldRule<L>, K: Sink, L: Ledger>(
     sink: &mut K,
     steps: &mut Steps<L>,
 ) -> Result<u64, Failed>
-    requires short { length body.now ≤ MAX_RECORD }
+    requires short { length body.now ≤ longest_record }
     requires field { IsFieldAt task.now.delimiter body.now field.column field.start field.end }
     ensures ok { IfOk result (λ refused. GathersFields (A.Answers task.now.rule.now) task.now.keeps
         task.now.delimiter (only field.column) 0 (raw_fields task.now.delimiter Place.Start body.now)
@@ -192,7 +192,7 @@ pub(crate) fn answer_fields<A: FieldRule<L>, K: Sink, L: Ledger>(
     sink: &mut K,
     steps: &mut Steps<L>,
 ) -> Result<u64, Failed>
-    requires { length body.now ≤ MAX_RECORD }
+    requires { length body.now ≤ longest_record }
     ensures ok { IfOk result (λ refused. GathersFields (A.Answers task.now.rule.now) task.now.keeps
         task.now.delimiter asked.now 0 (raw_fields task.now.delimiter Place.Start body.now)
         refused work.old.out work.new.out (K.written sink.old) (K.written sink.new)) }

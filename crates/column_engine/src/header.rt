@@ -6,7 +6,7 @@
 ghost use Rattle.std.specs.Prelude.{◌≡◌, ◌≢◌, ◌≤◌, ◌<◌, ◌↔◌, IsTrue, MatchOption, length};
 ghost use Rattle.column_engine.specs.Answers.{HasNoNamed, IsFirstNamed, IsFound, IsMissing};
 ghost use Rattle.column_engine.specs.Rows.{content, field_texts};
-ghost use Rattle.column_engine.specs.declared.record_buffer.TheConstants.{MAX_RECORD};
+ghost use Rattle.column_engine.specs.Limits.{longest_record};
 
 use crate::columns::{Column, Range};
 use crate::end::Stop;
@@ -16,7 +16,7 @@ use crate::record_buffer::RecordBuffer;
 
 /// Whether the text of a field is this name.
 fn is_named(raw: &[u8], name: &[u8], text: &mut RecordBuffer) -> bool
-    requires { length raw.now ≤ MAX_RECORD }
+    requires { length raw.now ≤ longest_record }
     ensures { IsTrue result ↔ (content Place.Start raw.now ≡ name.now) }
 {
     match plain_content(raw) {
@@ -35,7 +35,7 @@ fn place_of_name(
     name: &[u8],
     text: &mut RecordBuffer,
 ) -> Option<usize>
-    requires { length header.now ≤ MAX_RECORD }
+    requires { length header.now ≤ longest_record }
     ensures { MatchOption result (HasNoNamed name.now (field_texts delimiter header.now)) (IsFirstNamed name.now
         (field_texts delimiter header.now)) }
 {
@@ -61,7 +61,7 @@ pub(crate) fn found_column(
     column: &Column,
     text: &mut RecordBuffer,
 ) -> Option<Range>
-    requires { length header.now ≤ MAX_RECORD }
+    requires { length header.now ≤ longest_record }
     ensures { MatchOption result (IsMissing (field_texts delimiter header.now) column.now) (IsFound (field_texts
         delimiter header.now) column.now) }
 {

@@ -8,7 +8,7 @@ ghost use Rattle.column_engine.specs.Answers.{needed, one_more};
 ghost use Rattle.column_engine.specs.Gathered.{GathersFields, GathersLonger, GathersPart, IsFieldAt, only};
 ghost use Rattle.column_engine.specs.Rows.{raw_fields};
 ghost use Rattle.column_engine.specs.Steps.{FailsRow, PassesRow, RisesOnly, SameCounts, StopsRow, state_of};
-ghost use Rattle.column_engine.specs.declared.record_buffer.TheConstants.{MAX_RECORD};
+ghost use Rattle.column_engine.specs.Limits.{longest_record};
 
 use crate::answer::{ColumnTask, Work, answer_asked};
 use crate::columns::{Destination, Range, first_asked, needed, only_asked};
@@ -63,9 +63,9 @@ pub(crate) fn put_longer<K: Sink>(
 
 /// The field of a record in a column, without a byte where there is none.
 fn field_in(delimiter: u8, body: &[u8], column: usize) -> &[u8]
-    requires { length body.now ≤ MAX_RECORD }
+    requires { length body.now ≤ longest_record }
     ensures value { result.now ≡ get_or (raw_fields delimiter Place.Start body.now) column [] }
-    ensures short { length result.now ≤ MAX_RECORD }
+    ensures short { length result.now ≤ longest_record }
 {
     match find_field(delimiter, body, column) {
         Ok(field) => &body[field.start..field.end],
@@ -84,7 +84,7 @@ fn lengthen_record<A: FieldRule<L>, K: Sink, L: Ledger>(
     sink: &mut K,
     steps: &mut Steps<L>,
 ) -> Result<u64, Failed>
-    requires { length body.now ≤ MAX_RECORD }
+    requires { length body.now ≤ longest_record }
     ensures ok { IfOk result (λ count. (refused : Bool) × (count ≡ (if refused then 1 else 0)) × GathersLonger
         (A.Answers task.now.rule.now) task.now.keeps task.now.delimiter asked.now
         (record { body = body.now; end = end.now }) refused work.old.out work.new.out (K.written sink.old)
@@ -108,7 +108,7 @@ fn lengthen_record<A: FieldRule<L>, K: Sink, L: Ledger>(
 /// The one field of a record that is asked for, where it is known that there is no other, or how many fields the record
 /// has where it has too few.
 fn only_field(delimiter: u8, asked: &[Range], body: &[u8]) -> Result<Option<Field>, usize>
-    requires { length body.now ≤ MAX_RECORD }
+    requires { length body.now ≤ longest_record }
     ensures enough { OnOk result (needed asked.now ≤ length (raw_fields delimiter Place.Start body.now)) }
     ensures one { IfOk result (λ found. IfSome found (λ field. (asked.now ≡ only field.column)
         × IsFieldAt delimiter body.now field.column field.start field.end)) }
@@ -137,7 +137,7 @@ fn fill_record<A: FieldRule<L>, K: Sink, L: Ledger>(
     sink: &mut K,
     steps: &mut Steps<L>,
 ) -> Result<u64, Failed>
-    requires short { length body.now ≤ MAX_RECORD }
+    requires short { length body.now ≤ longest_record }
     requires one { IfSome found (λ field. (asked.now ≡ only field.column)
         × IsFieldAt task.now.delimiter body.now field.column field.start field.end) }
     ensures ok { IfOk result (λ refused. GathersFields (A.Answers task.now.rule.now) task.now.keeps
@@ -165,7 +165,7 @@ fn gather_record<A: FieldRule<L>, K: Sink, L: Ledger>(
     sink: &mut K,
     steps: &mut Steps<L>,
 ) -> Result<u64, Failed>
-    requires short { length body.now ≤ MAX_RECORD }
+    requires short { length body.now ≤ longest_record }
     requires some { body.now ≢ [] }
     requires known { progress.now.is_headed ≡ false }
     requires enough { needed progress.now.asked.items ≤ length (raw_fields task.now.delimiter Place.Start body.now) }
@@ -212,7 +212,7 @@ pub(crate) fn answer_record<A: FieldRule<L>, K: Sink, L: Ledger>(
     sink: &mut K,
     steps: &mut Steps<L>,
 ) -> Result<(), Stop>
-    requires short { length body.now ≤ MAX_RECORD }
+    requires short { length body.now ≤ longest_record }
     requires some { body.now ≢ [] }
     requires known { progress.old.is_headed ≡ false }
     requires as_many { length progress.old.asked.items ≡ length task.now.columns.now }

@@ -2,16 +2,13 @@
 
 ghost use Rattle.std.specs.Prelude.{◌≡◌, ◌≤◌, ◌<◌, ◌+◌, ◌↔◌, IsTrue, ◌++◌, [], ◌∷◌, List, ℕ, length, IfOk};
 ghost use Rattle.std.specs.Prelude.{vec_capacity};
-ghost use Rattle.column_engine.specs.declared.record_buffer.TheConstants.{MAX_RECORD};
+ghost use Rattle.column_engine.specs.Limits.{longest_record};
 
 use std::alloc::{AllocError, Global};
 use std::marker::Model;
 
 /// How many bytes a record has at most, with its quotes and without the byte that ends it.
 pub const MAX_RECORD: usize = 1_048_576;
-
-// Clauses cite the constant: this is what they promise.
-const _: () = prove!(MAX_RECORD == 1_048_576);
 
 /// At most as many bytes as a record has.
 #[derive(Drop)]
@@ -24,7 +21,7 @@ impl Model for RecordBuffer {
 
     ghost view = { λ b. b.bytes.items };
 
-    ghost invariant = { λ b. (MAX_RECORD ≤ vec_capacity b.bytes) × (length b.bytes.items ≤ MAX_RECORD) };
+    ghost invariant = { λ b. (longest_record ≤ vec_capacity b.bytes) × (length b.bytes.items ≤ longest_record) };
 }
 
 impl RecordBuffer {
@@ -38,7 +35,7 @@ impl RecordBuffer {
 
     /// Goes on with bytes, which must fit.
     pub fn append(&mut self, part: &[u8])
-        requires { length self.old + length part.now ≤ MAX_RECORD }
+        requires { length self.old + length part.now ≤ longest_record }
         ensures { self.new ≡ self.old ++ part.now }
     {
         self.bytes.extend_from_slice(part).unwrap();
@@ -46,7 +43,7 @@ impl RecordBuffer {
 
     /// Goes on with a byte, which must fit.
     pub fn push(&mut self, byte: u8)
-        requires { length self.old < MAX_RECORD }
+        requires { length self.old < longest_record }
         ensures { self.new ≡ self.old ++ byte ∷ [] }
     {
         self.bytes.push(byte).unwrap();
@@ -55,7 +52,7 @@ impl RecordBuffer {
     /// How many bytes there are.
     pub fn len(&self) -> usize
         ensures count { result ≡ length self.now }
-        ensures most { result ≤ MAX_RECORD }
+        ensures most { result ≤ longest_record }
     {
         self.bytes.len()
     }
@@ -63,7 +60,7 @@ impl RecordBuffer {
     /// Whether there is no byte.
     pub fn is_empty(&self) -> bool
         ensures none { IsTrue result ↔ (self.now ≡ []) }
-        ensures most { length self.now ≤ MAX_RECORD }
+        ensures most { length self.now ≤ longest_record }
     {
         self.bytes.is_empty()
     }
@@ -78,7 +75,7 @@ impl RecordBuffer {
     /// The bytes.
     pub fn as_slice(&self) -> &[u8]
         ensures bytes { result.now ≡ self.now }
-        ensures most { length self.now ≤ MAX_RECORD }
+        ensures most { length self.now ≤ longest_record }
     {
         self.bytes.as_slice()
     }

@@ -8,7 +8,7 @@ ghost use Rattle.column_engine.specs.Answers.{AnyMissing, AreFound, name_of, new
 ghost use Rattle.column_engine.specs.Rows.{field_texts, raw_fields};
 ghost use Rattle.column_engine.specs.Steps.{IsHeader, IsNoHeader, PassesRow, RisesOnly, SameButAsked, SameCounts};
 ghost use Rattle.column_engine.specs.Steps.{StopsRow, state_of};
-ghost use Rattle.column_engine.specs.declared.record_buffer.TheConstants.{MAX_RECORD};
+ghost use Rattle.column_engine.specs.Limits.{longest_record};
 
 use crate::answer::{ColumnTask, Work};
 use crate::columns::{Column, Destination, Range, needed};
@@ -55,7 +55,7 @@ pub(crate) fn count_record(progress: &mut Progress<'_>, refused: u64)
 
 /// How many fields a record has, where it has too few.
 pub(crate) fn lacking(delimiter: u8, body: &[u8], needed: usize) -> Option<usize>
-    requires { length body.now ≤ MAX_RECORD }
+    requires { length body.now ≤ longest_record }
     ensures { MatchOption result (needed ≤ length (raw_fields delimiter Place.Start body.now))
         (λ count. (count ≡ length (raw_fields delimiter Place.Start body.now)) × (count < needed)) }
 {
@@ -83,7 +83,7 @@ fn find_columns(
     text: &mut RecordBuffer,
     watch: &ColumnWatch,
 ) -> bool
-    requires short { length header.now ≤ MAX_RECORD }
+    requires short { length header.now ≤ longest_record }
     requires as_many { length asked.old ≡ length columns.now }
     ensures found { result ≡ true → AreFound (field_texts delimiter header.now) columns.now asked.new }
     ensures missing { result ≡ false → AnyMissing (field_texts delimiter header.now) columns.now }
@@ -105,7 +105,7 @@ fn read_header<A>(
     body: &[u8],
     text: &mut RecordBuffer,
 ) -> Result<(), Stop>
-    requires short { length body.now ≤ MAX_RECORD }
+    requires short { length body.now ≤ longest_record }
     requires as_many { length progress.old.asked.items ≡ length task.now.columns.now }
     ensures ok { OnOk result (IsHeader task.now.delimiter task.now.columns.now body.now progress.new.asked.items) }
     ensures stops { IfErr result (λ stop. IsNoHeader stop task.now.delimiter task.now.columns.now body.now) }
@@ -170,7 +170,7 @@ pub(crate) fn answer_row<A: FieldRule<L>, K: Sink, L: Ledger>(
     sink: &mut K,
     steps: &mut Steps<L>,
 ) -> Result<(), Stop>
-    requires short { length body.now ≤ MAX_RECORD }
+    requires short { length body.now ≤ longest_record }
     requires as_many { length progress.old.asked.items ≡ length task.now.columns.now }
     ensures ok { OnOk result (PassesRow (A.Answers task.now.rule.now) task.now.keeps task.now.delimiter
         task.now.columns.now (record { body = body.now; end = end.now })

@@ -1,7 +1,7 @@
 //! What answers a field.
 
 ghost use Rattle.std.specs.Prelude.{◌≡◌, ◌≤◌, [], List, ℕ, length};
-ghost use Rattle.column_engine.specs.declared.record_buffer.TheConstants.{MAX_RECORD};
+ghost use Rattle.column_engine.specs.Limits.{longest_record};
 ghost use Rattle.line_engine.specs.AnswerText.{AnswerText};
 
 use crate::record_buffer::RecordBuffer;
@@ -23,7 +23,7 @@ pub trait FieldRule<L: Ledger> {
         out: &mut Output,
         steps: &mut Steps<L>,
     ) -> bool
-        requires short { length field.now ≤ MAX_RECORD }
+        requires short { length field.now ≤ longest_record }
         requires empty { out.old ≡ [] }
         ensures { Answers self.now field.now (record { text = out.new; fault = result }) };
 

@@ -10,8 +10,8 @@ use Rattle.fixed_write.specs.Places.{exact_text}
 use Rattle.fixed_command.specs.Convert.{IsNoSource, IsSource}
 use Rattle.fixed_command.specs.Fields.{bare, field_numeral}
 use Rattle.fixed_command.specs.Layout.{after_blanks}
+use Rattle.fixed_command.specs.Limits.{longest_explanation}
 use Rattle.fixed_command.specs.declared.convert.Settings.{Settings}
-use Rattle.fixed_command.specs.declared.explain.TheConstants.{MAX_EXPLANATION}
 use Rattle.fixed_command.specs.declared.field.FieldForm.{FieldForm}
 
 -- what a format holds
@@ -90,7 +90,7 @@ field_place_text field place = codes ", byte " ++ (decimal place
 
 -- the numeral of a field, as far as it is looked at
 abbrev pub looked_at : FieldForm → List ℕ → List ℕ
-looked_at form field = take MAX_EXPLANATION (field_numeral form field)
+looked_at form field = take longest_explanation (field_numeral form field)
 
 -- text says which byte of a field is the first that makes its numeral none, where there is one
 abbrev pub ExplainsFieldDigit : Settings → FieldForm → List ℕ → List ℕ → Type 0

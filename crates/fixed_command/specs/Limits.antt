@@ -1,4 +1,4 @@
--- How many bytes an input has at most.
+-- How many bytes an input and an explanation have at most.
 use Rattle.std.specs.Prelude.{◌^◌, ℕ, None, Option, Some}
 
 -- the greatest limit in bytes
@@ -13,3 +13,7 @@ no_limit = 2 ^ 62
 abbrev pub limit_of : Option ℕ → ℕ
 limit_of None = no_limit
 limit_of (Some limit) = limit
+
+-- how long an explanation is at most, and how much of a field's numeral is looked at for it
+abbrev pub longest_explanation : ℕ
+longest_explanation = 640

@@ -8,7 +8,7 @@
 //! separators, since few readers take them.
 
 ghost use Rattle.std.specs.Prelude.{◌≡◌, ◌≤◌, ◌<◌, ◌+◌, ◌++◌, [], List, ℕ, IsTrue, drop, length, flat_map, map};
-ghost use Rattle.column_engine.specs.declared.record_buffer.TheConstants.{MAX_RECORD};
+ghost use Rattle.column_engine.specs.Limits.{longest_record};
 ghost use Rattle.fixed_command.specs.Convert.{IsLineReply};
 ghost use Rattle.fixed_command.specs.Fields.{IsEmptyReply, IsPointReply, IsReadReply, after_sign, bare};
 ghost use Rattle.fixed_command.specs.Fields.{digits_of, has_part, is_after_group, is_digit, is_grouped, is_misplaced};
@@ -77,7 +77,7 @@ pub(crate) fn swapped(decimal: u8, byte: u8) -> u8
 
 /// Goes on with what is read for a byte.
 fn push_read(form: &FieldForm<'_>, byte: u8, numeral: &mut RecordBuffer)
-    requires { length numeral.old < MAX_RECORD }
+    requires { length numeral.old < longest_record }
     ensures text { numeral.new ≡ numeral.old ++ read_for form.now.thousands.now form.now.decimal byte }
     ensures short { length numeral.new ≤ length numeral.old + 1 }
 {
@@ -88,7 +88,7 @@ fn push_read(form: &FieldForm<'_>, byte: u8, numeral: &mut RecordBuffer)
 
 /// Writes out what is read for bytes.
 pub(crate) fn write_read(form: &FieldForm<'_>, bytes: &[u8], numeral: &mut RecordBuffer)
-    requires { length bytes.now ≤ MAX_RECORD }
+    requires { length bytes.now ≤ longest_record }
     ensures { numeral.new ≡ flat_map (read_for form.now.thousands.now form.now.decimal) bytes.now }
 {
     numeral.clear();
@@ -257,7 +257,7 @@ impl<'a> FieldNumerals<'a> {
         out: &mut Output,
         steps: &mut Steps<L>,
     ) -> bool
-        requires short { length bytes.now ≤ MAX_RECORD }
+        requires short { length bytes.now ≤ longest_record }
         requires empty { out.old ≡ [] }
         ensures { (field : List ℕ) → bytes.now ≡ bare self.now.form.now field
             → IsReadReply (is_misplaced self.now.form.now self.now.rule.now.radix bytes.now) self.now.form.now
@@ -282,7 +282,7 @@ impl<'a> FieldNumerals<'a> {
         out: &mut Output,
         steps: &mut Steps<L>,
     ) -> bool
-        requires short { length field.now ≤ MAX_RECORD }
+        requires short { length field.now ≤ longest_record }
         requires empty { out.old ≡ [] }
         ensures { IsPointReply self.now.form.now self.now.rule.now field.now (record {
           text = out.new;

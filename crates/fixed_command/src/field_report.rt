@@ -2,7 +2,7 @@
 //! is the contract of a function; that a cell keeps it no contract can say, and so it is tested.
 
 ghost use Rattle.std.specs.Prelude.{◌≡◌, ◌==◌, ◌≤◌, ◌+◌, ◌*◌, ◌∷◌, [], if◌then◌else◌, length};
-ghost use Rattle.column_engine.specs.declared.record_buffer.TheConstants.{MAX_RECORD};
+ghost use Rattle.column_engine.specs.Limits.{longest_record};
 ghost use Rattle.fixed_command.specs.Fields.{IsEmptyOutcome, IsFieldOutcome, IsReadOutcome, bare};
 ghost use Rattle.fixed_command.specs.Convert.{without_return};
 ghost use Rattle.fixed_report.specs.Report.{add_extra, add_per_byte};
@@ -52,7 +52,7 @@ pub fn field_outcome<L: Ledger>(
     scratch: &mut RecordBuffer,
     steps: &mut Steps<L>,
 ) -> Option<Outcome>
-    requires { length field.now ≤ MAX_RECORD }
+    requires { length field.now ≤ longest_record }
     ensures { IsFieldOutcome form.now rule.now field.now result }
 {
     let bytes = bare(form, field);

@@ -2,7 +2,7 @@ use Rattle.std.proofs.Common.{◌+◌, ◌-◌, ◌++◌, length, arith, ap, sub
 use Rattle.column_engine.specs.Feeding.{FeedsRows}
 use Rattle.column_engine.specs.Rows.{Row}
 use Rattle.column_engine.specs.Steps.{state_of}
-use Rattle.column_engine.specs.declared.record_buffer.TheConstants.{MAX_RECORD}
+use Rattle.column_engine.specs.Limits.{longest_record}
 use Rattle.column_engine.proofs.FeedLemmas.{begins_with, ends_at, fails_long, fails_row, feeds_none, feeds_row, long_ended, long_standing, piece_one, standing_more, standing_start}
 use Rattle.column_engine.proofs.RowLemmas.{rest_is}
 use Rattle.column_engine.proofs.cutter.feed.Goals as goal
@@ -27,7 +27,7 @@ returns-then-rest-room-clause-err g c =
     fails_long (g.A.FieldRule.Answers c.args.task.now.rule.now) c.args.task.now.keeps c.args.task.now.delimiter c.args.task.now.columns.now
     (c.args.cutter.now.kept ++ c.args.chunk.now) (c.rows.cutter.kept ++ c.rows.rest.now) (state_of c.args.cutter.now.progress) (state_of c.rows.cutter.progress)
     c.args.work.now.out c.rows.work.out (g.K.Sink.written c.args.sink.now) (g.K.Sink.written c.rows.sink) c.rows.invariant.fed
-    (long_standing c.args.task.now.delimiter MAX_RECORD c.rows.cutter.kept c.rows.rest.now c.rows.cutter.place c.record_end-end.result.1 c.rows.invariant.standing fact.0 fact.1
+    (long_standing c.args.task.now.delimiter longest_record c.rows.cutter.kept c.rows.rest.now c.rows.cutter.place c.record_end-end.result.1 c.rows.invariant.standing fact.0 fact.1
     (omega (arith, c.if-rest-room.true, c.len-room.ensures.count, c.len-room.ensures.most)))
 
 pub returns-then-end-room-clause-err : goal.returns-then-end-room-clause-err
@@ -36,7 +36,7 @@ returns-then-end-room-clause-err g c =
     fails_long (g.A.FieldRule.Answers c.args.task.now.rule.now) c.args.task.now.keeps c.args.task.now.delimiter c.args.task.now.columns.now
     (c.args.cutter.now.kept ++ c.args.chunk.now) (c.rows.cutter.kept ++ c.rows.rest.now) (state_of c.args.cutter.now.progress) (state_of c.rows.cutter.progress)
     c.args.work.now.out c.rows.work.out (g.K.Sink.written c.args.sink.now) (g.K.Sink.written c.rows.sink) c.rows.invariant.fed
-    (long_ended c.args.task.now.delimiter MAX_RECORD c.rows.cutter.kept c.rows.rest.now c.in-Some.end c.rows.cutter.place c.record_end-end.result.1 c.rows.invariant.standing at
+    (long_ended c.args.task.now.delimiter longest_record c.rows.cutter.kept c.rows.rest.now c.in-Some.end c.rows.cutter.place c.record_end-end.result.1 c.rows.invariant.standing at
     (omega (arith, c.if-end-room.true, c.len-room.ensures.count, c.len-room.ensures.most)))
 
 pub returns-in-Err-clause-err : goal.returns-in-Err-clause-err

@@ -4,7 +4,7 @@ use Rattle.column_engine.specs.Answers.{before_field}
 use Rattle.column_engine.specs.Gathered.{GathersFields, ahead}
 use Rattle.column_engine.specs.Rows.{raw_fields}
 use Rattle.column_engine.specs.declared.place.Place.TheVariants.{Start}
-use Rattle.column_engine.specs.declared.record_buffer.TheConstants.{MAX_RECORD}
+use Rattle.column_engine.specs.Limits.{longest_record}
 use Rattle.column_engine.proofs.FieldsLemmas.{ahead_next, ahead_rest, field_at, fields_next, fields_rest, flushes_rest, none_after, part_next}
 use Rattle.column_engine.proofs.GatherLemmas.{before_later, fields_none, fields_on, on_err, part_all}
 use Rattle.column_engine.proofs.RowLemmas.{cut_more}
@@ -132,7 +132,7 @@ returns-in_err-put-2-clause-err g c =
     let part = c.in_err-put-2.ensures.err in
     let last = flushes_rest inv.before (before_field d c.fields.column) (drop start body) c.fields.work.out (take (length body - c.fields.from) (drop c.fields.from body)) part.0 b z
     (ap (λ l. l ++ drop start body) inv.held ∙ ahead_rest c.fields.work.out body c.fields.from start inv.low inv.fits) part.1 in
-    let none = none_after d asked body c.past_asked-past.result c.fields.column start MAX_RECORD (omega (arith, c.fields-test.false)) inv.span inv.fits c.requires (omega arith) c.past_asked-past.ensures in
+    let none = none_after d asked body c.past_asked-past.result c.fields.column start longest_record (omega (arith, c.fields-test.false)) inv.span inv.fits c.requires (omega arith) c.past_asked-past.ensures in
     let fields = fields_rest A keeps d asked c.fields.column c.fields.refused inv.some (drop start body) c.args.work.now.out inv.before part.0 a b z inv.many none inv.fields last in
     on_err c.from_residual-in_err-put-2.result (rw inv.cut (part_all A keeps d asked (inv.some ++ raw_fields d Start (drop start body)) c.fields.refused c.args.work.now.out part.0 a z fields))
 
@@ -150,5 +150,5 @@ returns-clause-ok g c =
     let z = g.K.Sink.written c.put-2.new.sink in
     let last = flushes_rest inv.before (before_field d c.fields.column) (drop start body) c.fields.work.out (take (length body - c.fields.from) (drop c.fields.from body)) c.put-2.new.out b z
     (ap (λ l. l ++ drop start body) inv.held ∙ ahead_rest c.fields.work.out body c.fields.from start inv.low inv.fits) c.in_ok-put-2.ensures.ok in
-    let none = none_after d asked body c.past_asked-past.result c.fields.column start MAX_RECORD (omega (arith, c.fields-test.false)) inv.span inv.fits c.requires (omega arith) c.past_asked-past.ensures in
+    let none = none_after d asked body c.past_asked-past.result c.fields.column start longest_record (omega (arith, c.fields-test.false)) inv.span inv.fits c.requires (omega arith) c.past_asked-past.ensures in
     rw inv.cut (fields_rest A keeps d asked c.fields.column c.fields.refused inv.some (drop start body) c.args.work.now.out inv.before c.put-2.new.out a b z inv.many none inv.fields last)

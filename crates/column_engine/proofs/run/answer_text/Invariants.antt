@@ -2,7 +2,7 @@ use Rattle.std.proofs.Common.{◌≡◌, ◌≤◌, ◌-◌, [], length}
 use Rattle.column_engine.specs.Feeding.{IsStanding}
 use Rattle.column_engine.specs.Run.{RunsOn}
 use Rattle.column_engine.specs.Steps.{state_of}
-use Rattle.column_engine.specs.declared.run.TheConstants.{MAX_TEXT}
+use Rattle.column_engine.specs.Limits.{longest_text}
 use Rattle.column_engine.proofs.run.answer_text.Given as goal
 
 abbrev pub invariant-chunks : goal.invariant-chunks
@@ -19,4 +19,4 @@ invariant-chunks g l = record {
 }
 
 abbrev pub decreases-chunks : goal.decreases-chunks
-decreases-chunks g l = MAX_TEXT - l.taken
+decreases-chunks g l = longest_text - l.taken
