@@ -2,13 +2,15 @@
 //! two are its FLOOR and CEILING of a number that is moved by half a unit.
 
 use fixed_bits::{Policy, ReadMode};
-use fixed_decimal::{DecimalFormat, DecimalNumber, push_decimal_format, read_decimal_uncounted};
+use fixed_decimal::{
+    DecimalFormat, DecimalNumber, push_decimal_format, read_decimal_format_uncounted,
+};
 use text_buffer::TextBuffer;
 
 /// A numeral read into a decimal format. `None` if one of them is none.
 fn read(text: &str, places: u32, mode: ReadMode) -> Option<DecimalNumber> {
     let format = DecimalFormat::new(places)?;
-    match read_decimal_uncounted(text.as_bytes(), format, mode) {
+    match read_decimal_format_uncounted(text.as_bytes(), format, mode) {
         Ok(found) => Some(found),
         Err(_) => None,
     }
