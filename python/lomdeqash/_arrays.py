@@ -223,6 +223,10 @@ def read(call: _calls.Read, flat: Array) -> Whole:
 
 def numerals(call: _calls.Read, flat: Array) -> Whole:
     form, how, kind = call.form, call.how, flat.dtype.kind
+    if form.places is not None and kind in "biuf":
+        if kind == "f":
+            return of_objects(list(flat), call, Errors.RAISE)
+        flat, kind = flat.astype(np.int8 if kind == "b" else flat.dtype).astype("S"), "S"
     if kind in "biu":
         words = flat.astype(np.int64 if kind == "i" else np.uint64).view(np.int64)
         return converted(words, _library.CFormat(kind == "i", 64, 0), form, how, call.is_flagged)
@@ -335,7 +339,7 @@ def text(call: _calls.Text, flat: Array) -> Whole:
 def value(call: _calls.Value, flat: Array) -> Whole:
     """The exact values of bits as objects, or the nearest floats."""
     words, codes = words_of(call.form, flat)
-    if not issubclass(call.kind, float):
+    if call.form.places is not None or not issubclass(call.kind, float):
         own = words if call.form.is_signed else words.view(np.uint64)
         return Whole((zeroed(of_objects(own.tolist(), call, Errors.RAISE).found[0], codes),), codes)
     found, ends = np.empty(flat.size), Gathered(flat.size)

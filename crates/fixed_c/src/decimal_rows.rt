@@ -1,6 +1,6 @@
 //! Decimals of rows, read as the single call reads them, and rows of the texts of their numbers.
 
-ghost use Rattle.std.specs.Prelude.{◌≡◌, ◌≢◌, ◌<◌, ◌≤◌, ◌+◌, ◌*◌, ◌↔◌, ℕ, IsTrue, length};
+ghost use Rattle.std.specs.Prelude.{◌≡◌, ◌≢◌, ◌≤◌, ◌+◌, ◌*◌, ℕ, length};
 ghost use Rattle.fixed_c.specs.DecimalRows.{AreDecimals, DecimalsEnd};
 ghost use Rattle.fixed_c.specs.Decimals.{NamesDecimal, PrintsDecimal, ReadsDecimalRow};
 ghost use Rattle.fixed_c.specs.Inner.Decimals.{ReadsDecimalAsked};

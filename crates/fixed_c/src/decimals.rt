@@ -1,6 +1,6 @@
 //! Texts read into decimal formats, and their numbers as texts, before they are handed over.
 
-ghost use Rattle.std.specs.Prelude.{◌≡◌, ◌≤◌, MatchResult, length};
+ghost use Rattle.std.specs.Prelude.{◌≡◌, MatchResult};
 ghost use Rattle.fixed_c.specs.Decimals.{DecimalIsRefused, DecimalTextIsRefused, IsDecimalPrinted, IsDecimalRead};
 ghost use Rattle.fixed_c.specs.Decimals.{NamesDecimal};
 ghost use Rattle.fixed_c.specs.Floats.{NamesBoth};
@@ -54,7 +54,8 @@ pub fn decimal_asked_of(places: u32, policy: u32, mode: u32) -> Result<DecimalAs
 /// A text, read as it is asked for.
 pub fn read_decimal(text: &[u8], asked: &DecimalAsked) -> Result<FixedNumber, Refusal>
     requires { NamesDecimal asked.now.format }
-    ensures { MatchResult result (IsDecimalReadAsAsked text.now asked.now) (IsDecimalNotReadAsAsked text.now asked.now) }
+    ensures { MatchResult result (IsDecimalReadAsAsked text.now asked.now)
+        (IsDecimalNotReadAsAsked text.now asked.now) }
 {
     let found = match read_decimal_format_uncounted(text, asked.format, asked.mode) {
         Ok(found) => found,

@@ -1,5 +1,5 @@
-//! Decimal formats, at numerals whose numbers are those of Python's `decimal`. It has seven of the nine modes; the other
-//! two are its FLOOR and CEILING of a number that is moved by half a unit.
+//! Decimal formats, at numerals whose numbers are those of Python's `decimal`. It has seven of the nine modes; the
+//! other two are its FLOOR and CEILING of a number that is moved by half a unit.
 
 use fixed_bits::{Policy, ReadMode};
 use fixed_decimal::{

@@ -20,7 +20,9 @@ pub record AreDecimalNamed (places policy mode : ℕ) (asked : DecimalAsked) : T
 -- the first of them that names nothing is refused
 abbrev pub IsDecimalUnnamed : ℕ → ℕ → ℕ → Refusal → Type 0
 IsDecimalUnnamed places policy mode =
-    Unless (NamesDecimal places) BadPlaces (Unless (NamesPolicy policy) BadPolicy (Unless (NamesMode mode) BadMode Never))
+    Unless (NamesDecimal places) BadPlaces
+    (Unless (NamesPolicy policy) BadPolicy
+    (Unless (NamesMode mode) BadMode Never))
 
 -- a text is read as it is asked for
 abbrev pub IsDecimalReadAsAsked : List ℕ → DecimalAsked → FixedNumber → Type 0
