@@ -229,6 +229,7 @@ def main():
             check_c(folder, library, program, given.lines)
             print(run([sys.executable, f"{TOP}/oracle/library.py", shared, "--count", str(given.calls)]), end="", flush=True)
             print(run([sys.executable, f"{TOP}/oracle/floats.py", shared]), end="", flush=True)
+            print(run([sys.executable, f"{TOP}/oracle/decimals.py", shared, "--numerals", str(given.calls)]), end="", flush=True)
             print(run([sys.executable, f"{TOP}/oracle/widths.py", shared]), end="", flush=True)
             check_others(folder, library, shared)
             check_processors(folder, shared)

@@ -237,6 +237,20 @@ uint32_t fixed_compare_rows(const int64_t *a, size_t a_count, fixed_format a_for
                             fixed_format b_format, int32_t *orders, size_t order_count, uint32_t *codes,
                             size_t code_count, size_t *refused);
 
+/* Decimal formats, for money: places is 0 to 18, more are FIXED_BAD_PLACES, and the bits count units of ten to the
+ * power of -places, cents for 2, in 64 bits with a sign. text[0..len) is a numeral in radix 10. The decimal is rounded
+ * as it is written, in any mode: FIXED_TIES_AWAY is commercial rounding. The text of bits has exactly so many places,
+ * and *len is its length, at most 21. The calls over rows are the single calls for each row, as fixed_read_rows and
+ * fixed_print_rows are. */
+uint32_t fixed_read_decimal(const char *text, size_t len, uint32_t places, FIXED_ENUM(fixed_policy) policy,
+                            FIXED_ENUM(fixed_mode) mode, fixed_number *out);
+uint32_t fixed_print_decimal(int64_t bits, uint32_t places, char *out, size_t size, size_t *len);
+uint32_t fixed_read_decimal_rows(const char *rows, size_t len, size_t size, uint32_t places,
+                                 FIXED_ENUM(fixed_policy) policy, FIXED_ENUM(fixed_mode) mode, fixed_number *out,
+                                 size_t out_count, uint32_t *codes, size_t code_count, size_t *refused);
+uint32_t fixed_print_decimal_rows(const int64_t *bits, size_t count, uint32_t places, char *rows, size_t len,
+                                  size_t size, uint32_t *codes, size_t code_count, size_t *refused);
+
 /* Floats. double and float are binary64 and binary32 of IEEE 754, in the byte order of the machine's whole numbers, as
  * on every amd64 processor: the library reads and writes arrays of them as their bits. A float is read by its exact
  * value, rounded in a mode as a numeral of that value is; a zero with a sign is 0. Infinities and NaNs are

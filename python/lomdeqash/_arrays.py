@@ -224,6 +224,10 @@ def read(call: _calls.Read, flat: Array) -> Whole:
 
 def numerals(call: _calls.Read, flat: Array) -> Whole:
     form, how, kind = call.form, call.how, flat.dtype.kind
+    if form.places is not None and kind in "biuf":
+        if kind == "f":
+            return of_objects(list(flat), call, Errors.RAISE)
+        flat, kind = flat.astype(np.int8 if kind == "b" else flat.dtype).astype("S"), "S"
     if kind in "biu":
         words = flat.astype(np.int64 if kind == "i" else np.uint64).view(np.int64)
         return converted(words, _library.CFormat(kind == "i", 64, 0), form, how, call.is_flagged)
@@ -307,10 +311,10 @@ def greatest_error(given: Any, form: Format, radix: int, mode: ModeLike) -> Frac
     """The greatest distance of a numeral to the number that is read from it."""
     items = _pandas.array_of(given, Errors.RAISE) if _pandas.is_column(given) else given
     bits, data = compressed(form.read(items, radix=radix, mode=mode)), compressed(items)
-    if data.dtype.kind == "f" and data.itemsize <= 8:
+    if data.dtype.kind == "f" and data.itemsize <= 8 and form.places is None:
         return greatest_distance(data.astype(np.float64), np.ldexp(bits.astype(np.float64), -form.frac))
     flat = data if data.dtype.kind == "f" else data.tolist()
-    return _numerals.greatest_distance(flat, bits.tolist(), radix, form.frac)
+    return _numerals.greatest_distance(flat, bits.tolist(), radix, form.scale)
 
 
 def greatest_distance(values: Array, others: Array) -> Fraction:
@@ -372,7 +376,7 @@ def text(call: _calls.Text, flat: Array) -> Whole:
 def value(call: _calls.Value, flat: Array) -> Whole:
     """The exact values of bits as objects, or the nearest floats."""
     words, codes = words_of(call.form, flat)
-    if not issubclass(call.kind, float):
+    if call.form.places is not None or not issubclass(call.kind, float):
         own = words if call.form.is_signed else words.view(np.uint64)
         return Whole((zeroed(of_objects(own.tolist(), call, Errors.RAISE).found[0], codes),), codes)
     found, ends = np.empty(flat.size), Gathered(flat.size)

@@ -13,7 +13,7 @@ from . import _library, _rows
 from ._errors import Code, FixedError, brief
 from ._library import Places, Reading
 from ._lists import Found, coded
-from ._numerals import decimal_of, float_of, numeral_of
+from ._numerals import float_of
 
 if TYPE_CHECKING:
     from . import _arrays
@@ -24,6 +24,13 @@ def expect(code: int, item: Any) -> None:
     """Raises what a code says of an item."""
     if code:
         raise FixedError(code, brief(item))
+
+
+def expect_binary(what: str, *forms: Format) -> None:
+    """Raises if one of the formats of a call is a decimal format."""
+    for form in forms:
+        if form.places is not None:
+            raise FixedError(Code.BAD_FORMAT, f"{form.word!r} is a decimal format, and {what} takes binary formats")
 
 
 def base_of(kind: type[Any]) -> type[Any] | None:
@@ -48,15 +55,19 @@ class Read:
     move: Convert | None
     is_flagged: bool
 
+    def __post_init__(self) -> None:
+        if self.form.places is not None and self.how.radix != 10:
+            raise FixedError(Code.BAD_RADIX, f"{self.how.radix}: {self.form.word!r} reads decimals, of radix 10")
+
     @property
     def dtypes(self) -> tuple[Any, ...]:
         target = self.move.target if self.move else self.form
         return (target.dtype, bool) if self.is_flagged else (target.dtype,)
 
     def one(self, item: Any) -> Any:
-        value = float_of(item)
+        value = float_of(item) if self.form.places is None else None
         if value is None:
-            text, base = numeral_of(item, self.how.radix, self.form.frac)
+            text, base = self.form.numeral_of(item, self.how.radix)
             code, bits, is_out = _library.read_text(text, self.form.c_format, self.how._replace(radix=base))
         else:
             code, bits, is_out = _library.read_double(value, self.form.c_format, self.how)
@@ -78,6 +89,9 @@ class Read:
         form, how = self.form.c_format, self.how
         if base_of(kind) in (str, bytes):
             return _rows.read_texts(items, form, how)
+        if kind is not Decimal and self.form.places is not None:
+            words = _rows.words_of(items, True) if hasattr(kind, "__index__") else None
+            return _rows.read_texts(list(map(str, words)), form, how) if words else None
         if base_of(kind) is float or float_of(items[0]) is not None:
             return _rows.read_floats(items, form, how)
         if kind is Decimal:
@@ -104,6 +118,9 @@ class Convert:
     target: Format
     how: Reading
     is_flagged: bool = False
+
+    def __post_init__(self) -> None:
+        expect_binary("a conversion", self.source, self.target)
 
     @property
     def dtypes(self) -> tuple[Any, ...]:
@@ -140,6 +157,10 @@ class Text:
     places: int | None
     mode: int
     dtype: str
+
+    def __post_init__(self) -> None:
+        if self.places is not None and self.form.places is not None:
+            raise ValueError(f"a text of {self.form.word!r} always has all of its places")
 
     @property
     def dtypes(self) -> tuple[Any, ...]:
@@ -182,15 +203,18 @@ class Value:
     def one(self, item: Any) -> Any:
         bits = self.form.own_bits(item)
         if self.kind is Decimal:
-            return decimal_of(bits, self.form.frac)
+            return self.form.decimal_of(bits)
         if self.kind is Fraction:
-            return Fraction(bits, 1 << self.form.frac)
+            return Fraction(bits, self.form.scale)
+        if self.form.places is not None:
+            return self.kind(bits / self.form.scale)
         code, found = _library.double_of_bits(bits, self.form.c_format)
         expect(code, item)
         return self.kind(found)
 
     def many(self, kind: type[Any], items: list[Any]) -> Found | None:
-        words = _rows.words_of(items, self.form.is_signed) if base_of(self.kind) is float else None
+        is_binary = self.form.places is None
+        words = _rows.words_of(items, self.form.is_signed) if is_binary and base_of(self.kind) is float else None
         if not words:
             return None
         values, codes, refused = _rows.floats_of(words, self.form.c_format)
@@ -210,6 +234,9 @@ class Enclose:
     down: Read
     up: Read
 
+    def __post_init__(self) -> None:
+        expect_binary("an enclosure", self.form)
+
     @property
     def dtypes(self) -> tuple[Any, ...]:
         return self.form.dtype, self.form.dtype
@@ -217,7 +244,7 @@ class Enclose:
     def one(self, item: Any) -> tuple[int, int]:
         if float_of(item) is not None:
             return self.down.one(item), self.up.one(item)
-        text, base = numeral_of(item, self.down.how.radix, self.form.frac)
+        text, base = self.form.numeral_of(item, self.down.how.radix)
         code, low, high = _library.enclose_text(text, base, self.form.c_format)
         expect(code, item)
         return self.form.bits_of_c(low), self.form.bits_of_c(high)
@@ -241,6 +268,9 @@ class Compare:
 
     left: Format
     right: Format
+
+    def __post_init__(self) -> None:
+        expect_binary("a comparison", self.left, self.right)
 
     @property
     def dtypes(self) -> tuple[Any, ...]:

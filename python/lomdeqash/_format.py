@@ -2,6 +2,7 @@
 from __future__ import annotations
 
 import operator
+import re
 from collections.abc import Iterable
 from dataclasses import dataclass, field
 from decimal import Decimal
@@ -12,7 +13,7 @@ from typing import TYPE_CHECKING, Any, Literal, TypeVar, Union, overload
 from . import _library, _lists
 from ._calls import Compare, Convert, Enclose, Read, Text, Value, base_of, expect
 from ._errors import Code, FixedError, brief
-from ._numerals import Numeral, decimal_of, greatest_distance
+from ._numerals import Numeral, decimal_of, greatest_distance, numeral_of, numeral_to_places
 from ._options import Errors, ErrorsLike, Mask, Mode, ModeLike, PolicyLike, Raise, mode_code, reading
 
 if TYPE_CHECKING:
@@ -24,6 +25,7 @@ if TYPE_CHECKING:
     Many = Union[Iterable[int], Array]
 
 FormatLike = Union["Format", str]
+_DECIMAL_WORD = re.compile("[Dd](0|[1-9]|1[0-8])")
 _Value = TypeVar("_Value", Decimal, Fraction, float, "float64")
 
 
@@ -36,10 +38,15 @@ class Format:
     ARM's names are taken as well, in which the sign bit is one of the whole bits: ``Q15`` is ``I1F15``, ``UQ8.8`` is
     ``U8F8``. Formats are hashable, and ordered by width, then unsigned before signed, then by fraction length.
 
+    ``D0`` to ``D18`` are decimal formats, for money: their bits count units of that many `places`, in 64 bits with a
+    sign. They have `read`, `text` and `value`, and are ordered among themselves.
+
     >>> Format("q15"), Format("I1F15").width, Format("I1F15").frac
     (Format('I1F15'), 16, 15)
     >>> Format("I4F4").min_bits, Format("I4F4").max_bits, Format("I4F4").ulp
     (-128, 127, Decimal('0.0625'))
+    >>> Format("D2").read("1.005", mode="ties-away"), Format("D2").text(-101), Format("D2").value(-110)
+    (101, '-1.01', Decimal('-1.10'))
 
     Each method takes one item and gives one value; or an iterable, and gives a list; or a numpy array, and gives an
     array of its shape. What is refused raises `FixedError`. With ``errors="mask"`` a refused item of many becomes None,
@@ -49,16 +56,23 @@ class Format:
     width: int
     is_signed: bool
     frac: int
+    places: int | None  #: of a decimal format
     c_format: _library.CFormat = field(compare=False)
 
+    def __new__(cls, word: FormatLike) -> Format:
+        if cls is Format and _DECIMAL_WORD.fullmatch(_text_of(word)):
+            return object.__new__(DecimalFormat)
+        return object.__new__(cls)
+
     def __init__(self, word: FormatLike) -> None:
-        text = word.word if isinstance(word, Format) else word
-        if not isinstance(text, str):
-            raise TypeError(f"a format is a word such as 'I1F15', not {type(text).__name__}")
+        text = _text_of(word)
         code, given = _library.format_of_word(text.encode("utf-8", "replace"))
         expect(code, word)
-        object.__setattr__(self, "c_format", given)
-        for name, value in (("width", given.width), ("is_signed", bool(given.is_signed)), ("frac", given.frac)):
+        self._set(c_format=given)
+        self._set(width=given.width, is_signed=bool(given.is_signed), frac=given.frac, places=None)
+
+    def _set(self, **fields: object) -> None:
+        for name, value in fields.items():
             object.__setattr__(self, name, value)
 
     def __reduce__(self) -> tuple[type[Format], tuple[str]]:
@@ -88,7 +102,12 @@ class Format:
     @property
     def ulp(self) -> Decimal:
         """The distance of two neighbours."""
-        return decimal_of(1, self.frac)
+        return self.decimal_of(1)
+
+    @property
+    def scale(self) -> int:
+        """The bits of 1, if the format has it: what bits are divided by."""
+        return 1 << self.frac
 
     @property
     def dtype(self) -> dtype[Any]:
@@ -354,9 +373,17 @@ class Format:
             return _arrays.greatest_error(numerals, self, radix, mode)
         if is_one(numerals):
             bits: Any = self.read(numerals, radix=radix, mode=mode)
-            return greatest_distance([numerals], [bits], radix, self.frac)
+            return greatest_distance([numerals], [bits], radix, self.scale)
         items: list[Any] = list(numerals)  # type: ignore[arg-type]
-        return greatest_distance(items, self.read(items, radix=radix, mode=mode), radix, self.frac)
+        return greatest_distance(items, self.read(items, radix=radix, mode=mode), radix, self.scale)
+
+    def decimal_of(self, bits: int) -> Decimal:
+        """The exact value of bits."""
+        return decimal_of(bits, self.frac)
+
+    def numeral_of(self, item: Any, radix: int) -> tuple[bytes, int]:
+        """The bytes and the radix of a numeral that the format reads as the given text or number."""
+        return numeral_of(item, radix, self.frac)
 
     def text_size(self, places: int | None) -> int:
         """A length that no text of the format is above: so many places tell all its numbers apart."""
@@ -375,6 +402,47 @@ class Format:
         if not self.min_bits <= bits <= self.max_bits:
             raise FixedError(code, brief(bits))
         return bits
+
+
+class DecimalFormat(Format):
+    """A decimal format. None of its bits is one of a binary fraction."""
+
+    places: int
+
+    def __init__(self, word: FormatLike) -> None:
+        places = int(_text_of(word)[1:])
+        self._set(width=64, is_signed=True, frac=0, places=places, c_format=_library.CDecimal(places))
+
+    @property
+    def word(self) -> str:
+        """The format's name."""
+        return f"D{self.places}"
+
+    @property
+    def scale(self) -> int:
+        """The bits of 1."""
+        return 10**self.places  # type: ignore[no-any-return]
+
+    def decimal_of(self, bits: int) -> Decimal:
+        """The exact value of bits, with all places."""
+        return Decimal(f"{bits}e-{self.places}")
+
+    def numeral_of(self, item: Any, radix: int) -> tuple[bytes, int]:
+        """The bytes and the radix of a numeral that the format reads as the given text or number."""
+        return numeral_to_places(item, self.places), 10
+
+    def text_size(self, places: int | None) -> int:
+        """A length that no text of the format is above."""
+        return len(str(self.min_bits)) + (self.places > 0)
+
+
+def _text_of(word: FormatLike) -> str:
+    """The word of a format."""
+    if isinstance(word, Format):
+        return word.word
+    if not isinstance(word, str):
+        raise TypeError(f"a format is a word such as 'I1F15', not {type(word).__name__}")
+    return word
 
 
 def is_array(given: Any) -> bool:

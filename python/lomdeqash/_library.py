@@ -21,6 +21,16 @@ class CFormat(ctypes.Structure):
     _fields_ = [("is_signed", c_uint32), ("width", c_uint32), ("frac", c_uint32)]
 
 
+class CDecimal(CFormat):
+    """A decimal format by its places. Its width is 0, so that a call for binary formats refuses it."""
+
+    places: int
+
+    def __init__(self, places: int) -> None:
+        super().__init__(0, 0, 0)
+        self.places = places
+
+
 class CNumber(ctypes.Structure):
     """Bits, and whether a number on the way was out of its format: ``fixed_number`` of the header."""
 
@@ -72,6 +82,10 @@ _CALLS: dict[str, tuple[Any, ...]] = {
     "fixed_double_of_bits": (c_int64, CFormat, POINTER(c_double)),
     "fixed_doubles_of_bits": (*_SLICE, CFormat, *_SLICE, *_SLICE, POINTER(c_size_t)),
     "fixed_print_places_rows": (*_SLICE, CFormat, c_uint32, c_uint32, *_TEXTS, *_SLICE, POINTER(c_size_t)),
+    "fixed_read_decimal": (c_char_p, c_size_t, c_uint32, c_uint32, c_uint32, POINTER(CNumber)),
+    "fixed_print_decimal": (c_int64, c_uint32, c_char_p, c_size_t, POINTER(c_size_t)),
+    "fixed_read_decimal_rows": (*_TEXTS, c_uint32, c_uint32, c_uint32, *_SLICE, *_SLICE, POINTER(c_size_t)),
+    "fixed_print_decimal_rows": (*_SLICE, c_uint32, *_TEXTS, *_SLICE, POINTER(c_size_t)),
     "fixed_compare_rows": (*_SLICE, CFormat, *_SLICE, CFormat, *_SLICE, *_SLICE, POINTER(c_size_t)),
 }
 
@@ -100,7 +114,10 @@ _C = _load()
 def read_text(text: bytes, form: CFormat, how: Reading) -> tuple[int, int, bool]:
     """The code and the bits of a numeral in a format, and whether it was out of range."""
     number = CNumber()
-    code = _C.fixed_read_text(text, len(text), how.radix, form, how.policy, how.mode, byref(number))
+    if isinstance(form, CDecimal):
+        code = _C.fixed_read_decimal(text, len(text), form.places, how.policy, how.mode, byref(number))
+    else:
+        code = _C.fixed_read_text(text, len(text), how.radix, form, how.policy, how.mode, byref(number))
     return code, number.bits, number.overflowed != 0
 
 
@@ -119,9 +136,12 @@ def double_of_bits(bits: int, form: CFormat) -> tuple[int, float]:
 
 
 def print_bits(bits: int, form: CFormat) -> tuple[int, str]:
-    """The code and the shortest decimal that reads back as the bits."""
+    """The code and the shortest decimal that reads back as the bits; in a decimal format, one with all places."""
     out, count = ctypes.create_string_buffer(TEXT_SIZE), c_size_t()
-    code = _C.fixed_print_bits(bits, form, out, TEXT_SIZE, byref(count))
+    if isinstance(form, CDecimal):
+        code = _C.fixed_print_decimal(bits, form.places, out, TEXT_SIZE, byref(count))
+    else:
+        code = _C.fixed_print_bits(bits, form, out, TEXT_SIZE, byref(count))
     return code, out.value.decode("ascii")
 
 
@@ -193,8 +213,10 @@ def _over_rows(name: str, *given: Any) -> int:
 
 def read_rows(rows: int | bytes, size: int, count: int, form: CFormat, how: Reading, numbers: int, codes: int) -> int:
     """Reads a numeral from each row."""
-    given = rows, size * count, size, how.radix, form, how.policy, how.mode
-    return _over_rows("fixed_read_rows", *given, numbers, count, codes, count)
+    texts, left = (rows, size * count, size), (how.policy, how.mode, numbers, count, codes, count)
+    if isinstance(form, CDecimal):
+        return _over_rows("fixed_read_decimal_rows", *texts, form.places, *left)
+    return _over_rows("fixed_read_rows", *texts, how.radix, form, *left)
 
 
 def read_floats(
@@ -211,8 +233,10 @@ def floats_of_rows(bits: int, count: int, form: CFormat, values: int, codes: int
 
 
 def print_rows(bits: int, count: int, form: CFormat, to_places: Places | None, rows: int, size: int, codes: int) -> int:
-    """Prints each of the bits into a row: the shortest decimal, or one with a count of places."""
+    """Prints each of the bits into a row: the shortest decimal, or one with a count of places; or all of a format's."""
     to = rows, size * count, size, codes, count
+    if isinstance(form, CDecimal):
+        return _over_rows("fixed_print_decimal_rows", bits, count, form.places, *to)
     if to_places is None:
         return _over_rows("fixed_print_rows", bits, count, form, *to)
     return _over_rows("fixed_print_places_rows", bits, count, form, *to_places, *to)

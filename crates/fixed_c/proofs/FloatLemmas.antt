@@ -1,5 +1,5 @@
 -- What a reading of a float gives, by what it is asked for.
-use Rattle.std.proofs.Common.{◌≡◌, ◌↔◌, inl, inr, subst, refl, ℕ, ℤ, Bool, List, Result, Ok, Err, IsOk, IsTrue}
+use Rattle.std.proofs.Common.{◌≡◌, ◌↔◌, inl, inr, subst, ℕ, ℤ, Bool, List, Result, Ok, Err, IsOk, IsTrue}
 use Rattle.std.specs.Prelude.{MatchResult, slice_index}
 use Rattle.fixed_bits.specs.Formats.{FormatParts}
 use Rattle.fixed_bits.specs.Images.{IsImage}

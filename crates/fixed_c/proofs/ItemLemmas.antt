@@ -1,5 +1,5 @@
 -- Rows that each leave an item, one after another.
-use Rattle.std.proofs.Common.{◌≡◌, ◌≢◌, ◌+◌, ◌<◌, ℕ, List, length, set, get_or, arith, below_more, get_or-set_other, get_or-set_same}
+use Rattle.std.proofs.Common.{◌≢◌, ◌+◌, ◌<◌, ℕ, List, length, set, get_or, arith, below_more, get_or-set_other, get_or-set_same}
 
 pub item_more : {T : Type 0} (Row : ℕ → T → ℕ → Type 0) (items : List T) (codes : List ℕ) (i : ℕ) (n : T) (c : ℕ) → i < length items → i < length codes
     → ((d : T) (k : ℕ) → k < i → Row k (get_or items k d) (get_or codes k 0)) → Row i n c

@@ -7,4 +7,5 @@ mod ScanEndLemmas
 mod StyleLemmas
 mod AskedLemmas
 mod FloatLemmas
+mod MoneyLemmas
 mod ItemLemmas

@@ -1,5 +1,5 @@
 -- What calls over rows give that leave a whole number or a text for each row.
-use Rattle.std.specs.Prelude.{◌≡◌, ◌⊎◌, ◌<◌, ◌*◌, ℕ, ℤ, List, length, pos, slice_index, slice_index_or}
+use Rattle.std.specs.Prelude.{◌≡◌, ◌⊎◌, ◌<◌, ℕ, ℤ, List, length, pos, slice_index, slice_index_or}
 use Rattle.fixed_bits.specs.Formats.{FormatParts}
 use Rattle.fixed_c.specs.Codes.{refusal_code}
 use Rattle.fixed_c.specs.Convert.{CompareIsRefused, IsCompared, IsPrintedTo, PlacesIsRefused}

@@ -2,6 +2,8 @@ pub mod Answer
 pub mod Arguments
 pub mod Codes
 pub mod Convert
+pub mod DecimalRows
+pub mod Decimals
 pub mod Enclose
 pub mod Floats
 pub mod Items

@@ -8,6 +8,9 @@ ghost use Rattle.fixed_c.specs.Codes.{IsMessage, mode_code};
 ghost use Rattle.fixed_c.specs.Convert.{CompareIsRefused, ConvertInIsRefused, ConvertIsRefused, IsCompared};
 ghost use Rattle.fixed_c.specs.Convert.{IsConverted, IsConvertedIn, IsPrinted, IsPrintedTo, PlacesIsRefused};
 ghost use Rattle.fixed_c.specs.Convert.{PrintIsRefused};
+ghost use Rattle.fixed_c.specs.DecimalRows.{DecimalsEnd};
+ghost use Rattle.fixed_c.specs.Decimals.{DecimalIsRefused, DecimalTextIsRefused, IsDecimalPrinted, IsDecimalRead};
+ghost use Rattle.fixed_c.specs.Decimals.{ReadsDecimalRow};
 ghost use Rattle.fixed_c.specs.Enclose.{EncloseIsRefused, IsEnclosedBy};
 ghost use Rattle.fixed_c.specs.Floats.{DoubleRow, FloatIsRefused, HaveDoubles, HaveFloats, IsDoubleOf, IsFloatRead};
 ghost use Rattle.fixed_c.specs.Floats.{NamesBoth, ReadsFloatRow};
@@ -27,6 +30,8 @@ ghost use Rattle.fixed_float.specs.declared.layout.FloatLayout.TheVariants.{Bina
 ghost use Rattle.std.specs.Float.{binary64};
 
 use crate::arguments::{FixedFormat, NEAREST_EVEN, given_text};
+use crate::decimal_rows::{DecimalReading, print_decimal_rows, read_decimal_rows};
+use crate::decimals::{decimal_read, print_decimal};
 use crate::float_rows::{FloatReading, doubles_of, read_doubles, read_floats};
 use crate::floats::{double_of, double_read};
 use crate::number::{FixedEnclosure, FixedNumber};
@@ -343,6 +348,73 @@ pub extern "C" fn fixed_convert_rows(
         mode,
     };
     convert_rows(bits, conversion, out, codes, refused)
+}
+
+/// A decimal numeral as a number of a decimal format: `fixed_read_decimal` of the header.
+#[unsafe(no_mangle)]
+pub extern "C" fn fixed_read_decimal(
+    text: &[u8],
+    places: u32,
+    policy: u32,
+    mode: u32,
+    out: &mut FixedNumber,
+) -> u32
+    ensures { EndsWith (λ n. NamesBoth policy mode (IsDecimalRead text.now places n))
+        (DecimalIsRefused text.now places policy mode) out.old out.new result }
+{
+    hand_over(decimal_read(given_text(text), places, policy, mode), out)
+}
+
+/// A number of a decimal format as a text with all of its places: `fixed_print_decimal` of the header.
+#[unsafe(no_mangle)]
+pub extern "C" fn fixed_print_decimal(
+    bits: i64,
+    places: u32,
+    out: &mut [u8],
+    len: &mut usize,
+) -> u32
+    ensures { TextEnds (IsDecimalPrinted bits places) (DecimalTextIsRefused places) out.old out.new len.old len.new
+        result }
+{
+    print_decimal(bits, places, out, len)
+}
+
+/// Decimal numerals of rows as numbers of a decimal format: `fixed_read_decimal_rows` of the header.
+#[unsafe(no_mangle)]
+pub extern "C" fn fixed_read_decimal_rows(
+    rows: &[u8],
+    size: usize,
+    places: u32,
+    policy: u32,
+    mode: u32,
+    out: &mut [FixedNumber],
+    codes: &mut [u32],
+    refused: &mut usize,
+) -> u32
+    ensures { RowsEnd (HaveRows rows.now size out.old codes.old) (ReadsDecimalRow rows.now size places policy mode)
+        out.old out.new codes.old codes.new refused.old refused.new result }
+{
+    let reading = DecimalReading {
+        places,
+        policy,
+        mode,
+    };
+    read_decimal_rows(given_text(rows), size, reading, out, codes, refused)
+}
+
+/// Numbers of a decimal format as texts of rows: `fixed_print_decimal_rows` of the header.
+#[unsafe(no_mangle)]
+pub extern "C" fn fixed_print_decimal_rows(
+    bits: &[i64],
+    places: u32,
+    rows: &mut [u8],
+    size: usize,
+    codes: &mut [u32],
+    refused: &mut usize,
+) -> u32
+    ensures { DecimalsEnd places bits.now size rows.old rows.new codes.old codes.new refused.old refused.new result }
+{
+    print_decimal_rows(bits, places, rows, size, codes, refused)
 }
 
 /// A double by its exact value, as a number of a format: `fixed_read_double` of the header. C passes its value.

@@ -7,6 +7,8 @@
 
 mod arguments;
 mod asked;
+mod decimal_rows;
+mod decimals;
 mod exports;
 mod float_rows;
 mod floats;

@@ -39,7 +39,7 @@ pub struct Conversion {
 }
 
 /// The bytes before the first zero byte.
-fn before_zero(row: &[u8]) -> &[u8]
+pub fn before_zero(row: &[u8]) -> &[u8]
     ensures { result.now ≡ before_zero row.now }
 {
     for (k, b) in row.iter().enumerate() {
@@ -109,7 +109,7 @@ fn convert_row(bits: &[i64], i: usize, conversion: Conversion) -> (FixedNumber, 
 }
 
 /// Whether there are as many rows as numbers and codes.
-fn have_rows(rows: &[u8], size: usize, out: &[FixedNumber], codes: &[u32]) -> bool
+pub fn have_rows(rows: &[u8], size: usize, out: &[FixedNumber], codes: &[u32]) -> bool
     ensures { IsTrue result ↔ HaveRows rows.now size out.now codes.now }
 {
     rows.len() as u128 == size as u128 * codes.len() as u128 && out.len() == codes.len()

@@ -1,4 +1,3 @@
-use Rattle.std.proofs.Common.{ap, subst}
 use Rattle.std.specs.Float.{binary64}
 use Rattle.std.specs.Prelude.{to_bits}
 use Rattle.fixed_float.specs.declared.layout.FloatLayout.TheVariants.{Binary64}

@@ -1,4 +1,4 @@
-use Rattle.std.proofs.Common.{rules, ◌≡◌, inl, inr, refl, subst, sym, FitsSigned, IsOk, IfOk, Result}
+use Rattle.std.proofs.Common.{rules, ◌≡◌, inl, inr, refl, subst, FitsSigned, IsOk}
 use Rattle.std.specs.Int.{w128}
 use Rattle.std.proofs.lemmas.Int.{to_z-of_z}
 use Rattle.fixed_bits.specs.Formats.{FormatParts}
