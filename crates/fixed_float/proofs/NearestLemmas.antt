@@ -10,7 +10,6 @@ use Rattle.fixed_float.specs.Inner.Fields.{HasLength, IsMagnitudeFloat, IsSignif
 use Rattle.fixed_float.specs.Nearest.{IsNearestMagnitude}
 use Rattle.fixed_float.specs.declared.layout.FloatLayout.{FloatLayout}
 use Rattle.fixed_float.specs.declared.layout.FloatLayout.TheVariants.{Binary32, Binary64}
-use Rattle.fixed_numeral.specs.Value.{Fraction}
 
 -- ---- powers of two
 joined : (m e f : ℕ) → m * 2 ^ e * 2 ^ f ≡ m * 2 ^ (e + f)

@@ -1,13 +1,13 @@
 -- At most one float is the nearest to a number: floats grow with their bits, and those of two neighbors differ in parity.
-use Rattle.std.proofs.Common.{◌≡◌, ◌≢◌, ℕ, zero, suc, ◌+◌, ◌-◌, ◌*◌, ◌/◌, ◌%◌, ◌^◌, ◌<◌, ◌≤◌, ◌==◌, Bool, true, false, if◌then◌else◌, refl, sym, ap, subst, ◌∙◌, arith, ⊎_elim, mul-le-mul_right, ℤ, unsigned_abs}
+use Rattle.std.proofs.Common.{◌≡◌, ℕ, zero, suc, ◌+◌, ◌-◌, ◌*◌, ◌/◌, ◌%◌, ◌^◌, ◌<◌, ◌≤◌, ◌==◌, Bool, true, false, if◌then◌else◌, refl, sym, ap, subst, ◌∙◌, arith, ⊎_elim, mul-le-mul_right, unsigned_abs}
 use Rattle.std.proofs.Math.Dec.{eqb-suc-zero}
 use Rattle.std.proofs.Math.Nat.{mod-lt}
 use Rattle.std.proofs.lemmas.Bool.{cases_lt, false≢true}
 use Rattle.std.proofs.lemmas.Nat.{pow_pos, pow-add}
-use Rattle.fixed_bits.specs.Nearest.{IsEven, distance}
+use Rattle.fixed_bits.specs.Nearest.{distance}
 use Rattle.fixed_float.specs.Floats.{IsFinite, bits_of_float, exponent_bits, exponent_field, fraction_bits, fraction_field, is_negative, magnitude, scale, significand, unit_scale}
 use Rattle.fixed_float.specs.Laws.{NearestFloatIsTheOne}
-use Rattle.fixed_float.specs.Nearest.{IsNearestFloat, IsNearestMagnitude}
+use Rattle.fixed_float.specs.Nearest.{IsNearestMagnitude}
 use Rattle.fixed_float.specs.declared.layout.FloatLayout.{FloatLayout}
 use Rattle.fixed_float.specs.declared.layout.FloatLayout.TheVariants.{Binary32, Binary64}
 use Rattle.fixed_numeral.specs.Value.{Fraction}

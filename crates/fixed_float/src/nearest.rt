@@ -93,8 +93,9 @@ fn sign_bit(layout: FloatLayout, negative: bool) -> u64
     ensures { result ≡ (if negative then 2 ^ (fraction_bits layout + exponent_bits layout) else 0) }
 {
     match layout {
-        FloatLayout::Binary32 => { if negative { 1 << 31 } else { 0 } }
-        FloatLayout::Binary64 => { if negative { 1 << 63 } else { 0 } }
+        FloatLayout::Binary32 if negative => 1 << 31,
+        FloatLayout::Binary64 if negative => 1 << 63,
+        _ => 0,
     }
 }
 
