@@ -300,6 +300,17 @@ RUNS = {
         (["pack", "--from", "f32", "I64F0"], struct.pack("<f", -1) * 3_000, 0, b"\xff" * 24_000),
         (["pack", "--from", "f64", "U8F0"], b"", 0, b""),
         (["pack", "--from", "f64", "U8F0", "no file"], b"", 3, b""),
+        (["unpack", "--to", "text", "Q15"], b"\x00\x40", 0, b"0.5\n"),
+        (["unpack", "--to", "f64", "Q15"], b"\x00\x40\x00\x80\x00\x00\x01\x00", 0, struct.pack("<4d", 0.5, -1, 0.0, 2.0**-15)),
+        (["unpack", "--to", "f32", "Q15", "--endian", "big"], b"\x40\x00\x80\x00\x7f\xff", 0, struct.pack(">3f", 0.5, -1, 32767 / 32768)),
+        (["unpack", "--to=f64", "I64F0"], struct.pack("<3q", 2**53 + 1, -(2**53) - 3, -(2**63)), 0, struct.pack("<3d", 2.0**53, -(2.0**53) - 4, -(2.0**63))),
+        (["unpack", "--to", "f32", "U0F64"], struct.pack("<3Q", 1, 2**64 - 1, 0), 0, struct.pack("<3f", 2.0**-64, 1.0, 0.0)),
+        (["unpack", "--to", "f32", "U32F0"], struct.pack("<3I", 2**24 + 1, 2**24 + 3, 2**25 - 1), 0, struct.pack("<3f", 2.0**24, 2.0**24 + 4, 2.0**25)),
+        (["unpack", "--to", "f64", "U1F0"], b"\0\1" * 5_000 + b"\2\1", 1, struct.pack("<2d", 0, 1) * 5_000),
+        (["unpack", "--to", "f32", "U12F0", "--endian", "big"], b"\x0f\xff\x10\x00\x00\x01", 1, struct.pack(">f", 4095)),
+        (["unpack", "--to", "f64", "I8F8"], b"\0\1\0", 1, struct.pack("<d", 1)),
+        (["unpack", "--to", "f64", "U8F0"], b"", 0, b""),
+        (["unpack", "--to", "f64", "U8F0", "no file"], b"", 3, b""),
         (["unpack", "Q15"], b"\x00\x40\x00\x80", 0, b"0.5\n-1\n"),
         (["unpack", "Q15", "--endian", "big"], b"\x40\x00\x80\x00\x01", 1, b"0.5\n-1\n"),
         (["unpack", "I3F2", "--print", "value"], b"\x1f\x0f\x20", 1, b"-0.25\n3.75\nerror: word is wider than the format\n"),
@@ -403,6 +414,8 @@ BAD_WORDS = {
         [b"pack"], [b"pack", b"U8F0", b"--endian", b"middle"], [b"pack", b"U8F0", b"--print", b"bits"], [b"pack", b"U60F5"],
         [b"pack", b"U8F0", b"--from", b"f16"], [b"pack", b"U8F0", b"--from", b"f64", b"--radix", b"16"], [b"pack", b"U8F0", b"--report"],
         [b"unpack"], [b"unpack", b"U8F0", b"--radix", b"16"], [b"unpack", b"U8F0", b"U65F0"], [b"unpack", b"U8F0", b"--from", b"bits"],
+        [b"unpack", b"U8F0", b"--to", b"f16"], [b"unpack", b"U8F0", b"U8F0", b"--to", b"f64"], [b"unpack", b"U8F0", b"--to", b"f32", b"-p", b"wrapping"],
+        [b"unpack", b"U8F0", b"--to", b"f64", b"--places", b"2"], [b"unpack", b"U8F0", b"--to", b"f64", b"--print", b"bits"],
         [b"show", b"U64F1", b"1"], [b"show"], [b"bits"], [b"bits", b"U8F0", b"--file", b"x", b"1"], [b"format", b"U8F0", b"X"],
     ),
     "fixed_tool": ([b"limits"], [b"limit"], [b"limit", b"05"], [b"limit", b"0"], [b"self", b"0"], [b"self", b"1000001"], [b"limit", b"5", b""]),
@@ -454,6 +467,7 @@ STACKS = (
     (["pack", "I16F16"], LONG_NUMERAL + b"\nx\n"),
     (["pack", "--from", "f64", "I16F16", "--report", "-p", "saturating"], struct.pack("<4d", 1e-300, 1e300, 0.1, math.inf)),
     (["unpack", "U1F0"], b"\1\0" * 2_000 + b"\2"),
+    (["unpack", "--to", "f32", "U63F0"], (b"\xff" * 7 + b"\x7f") * 2_000 + b"\xff" * 9),
     (["constants"], b"A = 0x1.8 I4F4\n" * 2),
     (["constants", "c"], b"A = 0x1.8 I4F4\n"),
     (["constants", "array-c", "--name", "h"], b"A = 0x1.8 I4F4\n"),
@@ -531,6 +545,7 @@ class Runs:
             self.beyond_a_limit()
             self.stacks()
             self.repacked()
+            self.float_devices()
         if self.name in GROWING:
             self.without_memory(*GROWING[self.name])
 
@@ -821,6 +836,22 @@ class Runs:
         if got != wanted:
             self.wrong += 1
             print(f"{self.name}: words of Q23 become other words of Q15 than the nearest")
+
+    def float_devices(self):
+        """Raw floats to words, and back, on devices that fail: at the first read, and at each write, after which the file has a prefix."""
+        numbers = [number / 32768 for number in range(-3000, 3000)]
+        floats, words = struct.pack("<6000d", *numbers), struct.pack("<6000h", *range(-3000, 3000))
+        for command, given, wanted in ((["pack", "--from", "f64", "Q15"], floats, words), (["unpack", "--to", "f64", "Q15"], words, floats)):
+            self.one(f"{command}, 6,000 numbers", command, 0, wanted, input=given)
+            folder = os.open(TOP, os.O_RDONLY)
+            self.one(f"{command}, a folder as input", command, 3, b"", stdin=folder)
+            os.close(folder)
+            with open("/dev/full", "wb") as full:
+                self.one(f"{command}, a full device", command, 4, None, input=given, stdout=full)
+            for most in (1, 7, 1023, 1024, 1025, 4096, 8192, len(wanted) - 1):
+                with tempfile.NamedTemporaryFile() as disk:
+                    self.one(f"{command}, a disk of {most} bytes", command, 4, None, input=given, stdout=disk, preexec_fn=on_disk_of(most))
+                    self.has(disk.name, wanted[:most], f"{command}, a disk of {most} bytes")
 
     def stacks(self):
         """Each command of `fixed` ends within 256 KB of stack as without a limit."""

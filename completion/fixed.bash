@@ -13,7 +13,7 @@ _fixed_options() {
     lines | sort) echo '--limit' ;;
     fit) echo '--width --error --any --signed --why --range --radix' ;;
     pack) echo '--from --endian --radix --policy --mode --report' ;;
-    unpack) echo '--endian --policy --target-mode --print --places --places-mode' ;;
+    unpack) echo '--to --endian --policy --target-mode --print --places --places-mode' ;;
     constants) echo '--guard --numerals --name --radix --policy --mode' ;;
   esac
 }
@@ -32,7 +32,7 @@ _fixed_value() {
     *:--output | *:-o | *:--file) echo '@files' ;;
     *:--empty) echo 'fault keep 0' ;;
     *:--width | *:-w) echo '8 16 32 64' ;;
-    pack:--from) echo 'text f64 f32' ;;
+    pack:--from | *:--to) echo 'text f64 f32' ;;
     *:--endian) echo 'little big' ;;
     *:--numerals) echo '@formats' ;;
   esac

@@ -4,7 +4,8 @@
 It works with whole numbers alone and shares no code with the program. A float's value is that of Python's `struct` and `fractions`.
 
     pack.py --compare PROGRAM [--count N] [--seed S]   runs PROGRAM on seeded lines, words and floats, and compares
-    pack.py --compare PROGRAM --floats N [--seed S]    on N floats: every exponent, extreme and random fractions, both signs
+    pack.py --compare PROGRAM --floats N [--seed S]    on N floats: every exponent, extreme and random fractions, both signs;
+                                                      and on N words of every width to floats and back
 """
 import argparse
 import random
@@ -202,6 +203,71 @@ def floats_once(program, pick):
     return floats_differ(program, pick, bits, layout, policy, mode, pick.randrange(LAYOUTS[layout][0]) if pick.random() < 0.3 else 0)
 
 
+def nearest_bits(number, layout):
+    """The bits of the float nearest to a fraction, ties to even. Python's own quotient of whole numbers is the nearest double; a float of
+    single precision is the nearest of its neighbors."""
+    size, _, _, real = LAYOUTS[layout]
+    near = number.numerator / number.denominator
+    if size == 8:
+        return int.from_bytes(struct.pack("<d", near), "little")
+    start = int.from_bytes(struct.pack("<f", near), "little")
+    some = {bits for bits in (start - 1, start, start + 1) if bits & 0x7FFFFFFF < 0x7F800000 and bits >= 0}
+    return min(some, key=lambda bits: (abs(Fraction(struct.unpack("<" + real, bits.to_bytes(4, "little"))[0]) - number), bits % 2))
+
+
+def words_differ(program, shape, layout, endian, words, cut):
+    """A run of unpack to floats over these words and `cut` bytes more, and of pack back if each is exact, and a message where one differs."""
+    signed, width, frac = shape
+    size = length_of(shape)
+    data = b"".join(each.to_bytes(size, endian) for each in words) + b"\0" * cut
+    wanted, refused = b"", None
+    for place, word in enumerate(words, 1):
+        if word >> width:
+            refused = place
+            break
+        number = word - (1 << width) if signed and word >> (width - 1) else word
+        wanted += nearest_bits(Fraction(number, 1 << frac), layout).to_bytes(LAYOUTS[layout][0], endian)
+    called = ["unpack", "--to", layout, word_of(shape), "--endian", endian]
+    ran = run(program, called, data)
+    if (ran.stdout, ran.returncode) != (wanted, 1 if refused or cut else 0):
+        return f"{' '.join(called)}, {data[:80]!r}: {ran.stdout[:40]!r}, status {ran.returncode}, not {wanted[:40]!r}"
+    if refused and f"word {refused}, bytes ".encode() not in ran.stderr:
+        return f"{' '.join(called)}: {ran.stderr!r} does not name word {refused}"
+    if cut and not refused and f"within a word, bytes left over: {cut},".encode() not in ran.stderr:
+        return f"{' '.join(called)}: {ran.stderr!r} does not name {cut} bytes"
+    if refused or cut or width > LAYOUTS[layout][1] + 1:
+        return None
+    back = run(program, ["pack", "--from", layout, word_of(shape), "--endian", endian], ran.stdout)
+    return None if (back.stdout, back.returncode) == (data, 0) else f"{' '.join(called)}: {data[:80]!r} comes back as {back.stdout[:80]!r}"
+
+
+def float_back_once(program, pick):
+    """A run of unpack to a few floats, and back, and a message where it differs."""
+    shape, layout, endian = shape_for(pick), pick.choice(tuple(LAYOUTS)), pick.choice(("little", "big"))
+    words = [pick.getrandbits(shape[1]) for _ in range(pick.randrange(LINES))]
+    if words and shape[1] % 8 and pick.random() < 0.3:
+        words[pick.randrange(len(words))] |= 1 << shape[1]
+    return words_differ(program, shape, layout, endian, words, pick.randrange(length_of(shape)) if pick.random() < 0.3 else 0)
+
+
+def compare_words(program, count, seed):
+    """Words of every width to floats and back: the ends of the range, ties of 53 and 24 bits, and random ones."""
+    pick, wrong, tried = random.Random(seed), [], 0
+    runs = [(width, layout) for width in range(1, 65) for layout in LAYOUTS]
+    for width, layout in runs:
+        ends = [0, 1, (1 << width) - 1, 1 << (width - 1), (1 << (width - 1)) - 1]
+        ties = [((pick.getrandbits(width) | 1 << (width - 1)) >> low | 1) << low & ((1 << width) - 1) for low in range(width)]
+        words = ends + ties + [pick.getrandbits(pick.randrange(1, width + 1)) for _ in range(-(-count // len(runs)))]
+        tried += len(words)
+        shape = (pick.random() < 0.5, width, pick.randrange(width + 1))
+        wrong.append(words_differ(program, shape, layout, pick.choice(("little", "big")), words, 0))
+    wrong = [message for message in wrong if message]
+    for message in wrong[:10]:
+        print(message)
+    print(f"{tried} words to floats in {len(runs)} runs, {len(wrong)} differ")
+    return 1 if wrong else 0
+
+
 def compare_floats(program, count, seed):
     """Every exponent of both layouts in turn, in each mode, and in each policy that refuses no number."""
     pick, wrong, tried = random.Random(seed), [], 0
@@ -222,7 +288,7 @@ def compare(program, count, seed):
     pick = random.Random(seed)
     wrong = []
     for i in range(count):
-        wrong.append((pack_once, unpack_once, back_once, floats_once)[i % 4](program, pick))
+        wrong.append((pack_once, unpack_once, back_once, floats_once, float_back_once)[i % 5](program, pick))
     wrong = [message for message in wrong if message]
     for message in wrong[:10]:
         print(message)
@@ -233,12 +299,12 @@ def compare(program, count, seed):
 def main():
     words = argparse.ArgumentParser(description=__doc__.split("\n", maxsplit=1)[0])
     words.add_argument("--compare", metavar="PROGRAM", required=True)
-    words.add_argument("--count", type=int, default=800)
+    words.add_argument("--count", type=int, default=1000)
     words.add_argument("--floats", type=int, default=0)
     words.add_argument("--seed", type=int, default=1)
     given = words.parse_args()
     if given.floats:
-        return compare_floats(given.compare, given.floats, given.seed)
+        return compare_floats(given.compare, given.floats, given.seed) or compare_words(given.compare, given.floats, given.seed)
     return compare(given.compare, given.count, given.seed)
 
 

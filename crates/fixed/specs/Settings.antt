@@ -27,12 +27,13 @@ IsPrintAsked part (Some word) mode_word print = IsPrintNamed part Text
     × (count : ℕ) × IsPlacesWord word count
     × (mode : ReadMode) × IsNamed ReadMode mode_text NearestEven mode_word mode × (print ≡ Places count mode)
 
--- the word of an order of bytes
+-- the word of the floats that are read or written in place of text
 abbrev pub floats_text : Option FloatLayout → List ℕ
 floats_text None = codes "text"
 floats_text (Some Binary64) = codes "f64"
 floats_text (Some Binary32) = codes "f32"
 
+-- the word of an order of bytes
 abbrev pub endian_text : Endian → List ℕ
 endian_text Little = codes "little"
 endian_text Big = codes "big"

@@ -10,7 +10,7 @@ use fixed_command::{
     convert_column, error_report, explanation, greater_end, place_name, run_task, tally_text,
 };
 use fixed_io::{StdSink, StdSource};
-use fixed_pack::{FloatWords, PackSettings, UnpackRule};
+use fixed_pack::{FloatWords, PackSettings, UnpackRule, WordFloats};
 use fixed_report::{ErrorReport, MAX_GREATEST};
 use fixed_steps::Steps;
 use fixed_words::{WordRefusal, WordRule, convert_words};
@@ -54,6 +54,8 @@ pub enum Job<'a> {
     },
     /// Its words are unpacked into lines.
     Unpack(UnpackRule),
+    /// Its words are written as floats.
+    UnpackFloats(WordFloats),
 }
 
 /// A report of how many lines of an input were refused, and which was the first, with its text and the cause.
@@ -303,6 +305,7 @@ fn run_reader<R: Read + Drop, L: Ledger>(
             floats::pack_on(rt, floats, *has_report, file, reader, steps)
         }
         Job::Unpack(rule) => unpack::run_on(rt, rule, file, reader, steps),
+        Job::UnpackFloats(words) => floats::unpack_on(rt, words, file, reader, steps),
     }
 }
 

@@ -87,6 +87,14 @@ pub const PACK_FROM: Row = Row {
     help: "text (default): numerals; f64, f32: raw floats",
 };
 
+pub const UNPACK_TO: Row = Row {
+    name: "to",
+    letter: None,
+    value: "WHAT",
+    choices: &["text", "f64", "f32"],
+    help: "text (default): lines; f64, f32: raw floats",
+};
+
 pub const PRINT: Row = Row {
     name: "print",
     letter: None,

@@ -29,7 +29,7 @@ ghost use Rattle.line_engine.specs.Memory.{next_count};
 
 use crate::options::{
     ENDIAN, FIELD, FROM, MODE, PACK_FROM, PLACES, PLACES_MODE, POLICY, PRINT, RADIX, SWAP,
-    TARGET_MODE,
+    TARGET_MODE, UNPACK_TO,
 };
 use command_line::given::{Asked, Given, Refusal};
 use command_line::page::Row;
@@ -313,6 +313,19 @@ pub fn floats_of<'a>(given: &Given<'_, 'a>) -> Asked<'a, Option<FloatLayout>>
     match given.value(&PACK_FROM) {
         None => Ok(None),
         Some(word) => known(floats_named(word), given, &PACK_FROM),
+    }
+}
+
+/// The floats that the option `to` of `unpack` names. None for text, which is meant where the option is left out.
+pub fn written_floats_of<'a>(given: &Given<'_, 'a>) -> Asked<'a, Option<FloatLayout>>
+    ensures value { IfOk result (λ a. IsNamed (Option FloatLayout) floats_text None
+        (first_value (found_of given.now.matches.now) (codes "to")) a) }
+    ensures refused { IfErr result (λ _. (a : Option FloatLayout) → ¬ IsNamed (Option FloatLayout) floats_text None
+        (first_value (found_of given.now.matches.now) (codes "to")) a) }
+{
+    match given.value(&UNPACK_TO) {
+        None => Ok(None),
+        Some(word) => known(floats_named(word), given, &UNPACK_TO),
     }
 }
 

@@ -3,7 +3,7 @@ use Rattle.std.proofs.Common.{◌≡◌, ℕ, ◌*◌, ◌^◌, ◌↔◌, IsTru
 use Rattle.fixed_bits.specs.Numbers.{with_sign}
 use Rattle.fixed_bits.specs.Rounded.{IsRounded}
 use Rattle.fixed_bits.specs.declared.mode.ReadMode.{ReadMode}
-use Rattle.fixed_float.specs.Floats.{IsFloatReading, is_negative, magnitude, scale, significand, unit_scale}
+use Rattle.fixed_float.specs.Floats.{IsFloatReading, magnitude, scale, significand, unit_scale}
 use Rattle.fixed_float.specs.Inner.Fields.{AreFields, IsScaledReading}
 use Rattle.fixed_float.specs.declared.layout.FloatFields.{FloatFields}
 use Rattle.fixed_float.specs.declared.layout.FloatLayout.{FloatLayout}

@@ -1,5 +1,5 @@
 -- A share of an ulp, rounded in a mode.
-use Rattle.std.proofs.Common.{◌≡◌, ℕ, ◌+◌, ◌-◌, ◌*◌, ◌<◌, ◌≤◌, false, ⊎_elim, arith, sym, subst}
+use Rattle.std.proofs.Common.{◌≡◌, ℕ, ◌+◌, ◌-◌, ◌*◌, ◌<◌, ◌≤◌, false, ⊎_elim, arith, subst}
 use Rattle.std.proofs.lemmas.Bool.{cases_lt}
 use Rattle.fixed_bits.proofs.Public.{rounded_close, rounded_exact, rounded_exists, rounded_unique, rounds_as_quarters}
 use Rattle.fixed_bits.specs.LostFractions.{IsLostFraction, quarters}

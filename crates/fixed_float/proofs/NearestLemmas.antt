@@ -1,15 +1,15 @@
--- The double nearest to a magnitude.
+-- The float nearest to a magnitude.
 use Rattle.std.proofs.Common.{◌≡◌, ◌≢◌, ℕ, zero, suc, ◌+◌, ◌-◌, ◌*◌, ◌/◌, ◌%◌, ◌^◌, ◌<◌, ◌≤◌, ◌==◌, Bool, true, false, if◌then◌else◌, refl, sym, ap, subst, ◌∙◌, arith, ⊎_elim, mul-le-mul_right, div-add-mod'}
 use Rattle.std.proofs.Math.Dec.{eqb-suc-zero}
 use Rattle.std.proofs.Math.Nat.{eq_of_mul-eq-mul_right, mod-lt, pow-le-pow_right}
 use Rattle.std.proofs.lemmas.Bool.{cases_lt}
 use Rattle.std.proofs.lemmas.Nat.{pow_pos, pow-add}
 use Rattle.fixed_bits.specs.Nearest.{IsEven, IsNearest, distance}
-use Rattle.fixed_float.specs.Floats.{IsFinite, exponent_field, fraction_field, is_negative, magnitude, scale, significand}
-use Rattle.fixed_float.specs.Inner.Fields.{HasLength, IsMagnitudeDouble, IsSignificand}
+use Rattle.fixed_float.specs.Floats.{IsFinite, exponent_bits, exponent_field, fraction_bits, fraction_field, is_negative, magnitude, precision, scale, significand, unit_scale}
+use Rattle.fixed_float.specs.Inner.Fields.{HasLength, IsMagnitudeFloat, IsSignificand}
 use Rattle.fixed_float.specs.Nearest.{IsNearestMagnitude}
-use Rattle.fixed_float.specs.declared.layout.FloatLayout.TheVariants.{Binary64}
-use Rattle.fixed_numeral.specs.Value.{Fraction}
+use Rattle.fixed_float.specs.declared.layout.FloatLayout.{FloatLayout}
+use Rattle.fixed_float.specs.declared.layout.FloatLayout.TheVariants.{Binary32, Binary64}
 
 -- ---- powers of two
 joined : (m e f : ℕ) → m * 2 ^ e * 2 ^ f ≡ m * 2 ^ (e + f)
@@ -56,115 +56,163 @@ positive : (n : ℕ) → 0 < n → (n == 0) ≡ false
 positive zero h = absurd (omega arith)
 positive (suc n) h = eqb-suc-zero n
 
-few_bits : (bits : ℕ) → significand Binary64 bits < 2 ^ 53
-few_bits bits = below (exponent_field Binary64 bits == 0)
+few_bits : (layout : FloatLayout) (bits : ℕ) → significand layout bits < 2 ^ precision layout
+few_bits layout bits = below (exponent_field layout bits == 0)
   where
-    rest : fraction_field Binary64 bits < 2 ^ 52
-    rest = mod-lt bits (omega arith)
+    rest : fraction_field layout bits < 2 ^ fraction_bits layout
+    rest = mod-lt bits (pow_pos (fraction_bits layout))
 
-    below : (b : Bool) → (if b then 0 else 2 ^ 52) + fraction_field Binary64 bits < 2 ^ 53
-    below true = omega (arith, rest)
-    below false = omega (arith, rest)
+    twice : 2 ^ precision layout ≡ 2 ^ fraction_bits layout * 2
+    twice = pow-add 2 (fraction_bits layout) 1
 
--- bits whose exponent and fraction are known
-module _ (bits s e r : ℕ) (sum : bits ≡ (s * 2 ^ 11 + e) * 2 ^ 52 + r) (some : 0 < e) (top : e < 2047) (low : r < 2 ^ 52) where
-  exponent_is : exponent_field Binary64 bits ≡ e
-  exponent_is = omega arith
+    below : (b : Bool) → (if b then 0 else 2 ^ fraction_bits layout) + fraction_field layout bits < 2 ^ precision layout
+    below true = omega (arith, rest, twice)
+    below false = omega (arith, rest, twice)
 
-  fraction_is : fraction_field Binary64 bits ≡ r
-  fraction_is = omega arith
+-- the exponents of a magnitude of this many bits, over 2^f, are those of normal floats
+abbrev lowest : FloatLayout → ℕ
+lowest layout = 2 ^ (exponent_bits layout - 1) - 2
 
-  pub finite_is : IsFinite Binary64 bits
-  finite_is = omega (arith, exponent_is)
+some_scale : (layout : FloatLayout) (x f len : ℕ) → x + f ≡ lowest layout + len → f ≤ 64 → 0 < x
+some_scale Binary32 x f len e few = omega arith
+some_scale Binary64 x f len e few = omega arith
 
-  zero_not : (exponent_field Binary64 bits == 0) ≡ false
-  zero_not = positive (exponent_field Binary64 bits) (omega (arith, exponent_is))
+top_scale : (layout : FloatLayout) (x f len : ℕ) → x + f ≡ lowest layout + len → len ≤ 64 → x + 1 < 2 ^ exponent_bits layout - 1
+top_scale Binary32 x f len e few = omega arith
+top_scale Binary64 x f len e few = omega arith
 
-  pub significand_is : significand Binary64 bits ≡ 2 ^ 52 + r
-  significand_is = rw zero_not (omega (arith, fraction_is))
+scale_of : (layout : FloatLayout) (f len : ℕ) → f ≤ 64 → (lowest layout + len - f) + f ≡ lowest layout + len
+scale_of Binary32 f len few = omega arith
+scale_of Binary64 f len few = omega arith
 
-  pub scale_is : scale Binary64 bits ≡ e
-  scale_is = rw zero_not exponent_is
+-- bits that are the sign s, the exponent e and the fraction r
+abbrev AreParts : FloatLayout → ℕ → ℕ → ℕ → ℕ → Type 0
+AreParts layout bits s e r = bits ≡ (s * 2 ^ exponent_bits layout + e) * 2 ^ fraction_bits layout + r
 
-  pub sign_is : s < 2 → is_negative Binary64 bits ≡ (s == 1)
-  sign_is one = ap (λ x. x == 1) (omega arith)
+parts_of : (layout : FloatLayout) (bits s part f x len q r d : ℕ) → bits ≡ s * 2 ^ (fraction_bits layout + exponent_bits layout) + part
+    → part + f * 2 ^ fraction_bits layout ≡ (2 ^ (exponent_bits layout - 1) - 3 + len) * 2 ^ fraction_bits layout + q
+    → x + f ≡ lowest layout + len → 0 < x → q ≡ (1 + d) * 2 ^ fraction_bits layout + r → AreParts layout bits s (x + d) r
+parts_of Binary32 bits s part f x len q r d sum are x_is some q_is = omega arith
+parts_of Binary64 bits s part f x len q r d sum are x_is some q_is = omega arith
+
+exponent_is : (layout : FloatLayout) (bits s e r : ℕ) → AreParts layout bits s e r → e < 2 ^ exponent_bits layout - 1 → r < 2 ^ fraction_bits layout → exponent_field layout bits ≡ e
+exponent_is Binary32 bits s e r sum top low = omega arith
+exponent_is Binary64 bits s e r sum top low = omega arith
+
+fraction_is : (layout : FloatLayout) (bits s e r : ℕ) → AreParts layout bits s e r → r < 2 ^ fraction_bits layout → fraction_field layout bits ≡ r
+fraction_is Binary32 bits s e r sum low = omega arith
+fraction_is Binary64 bits s e r sum low = omega arith
+
+sign_is : (layout : FloatLayout) (bits s e r : ℕ) → AreParts layout bits s e r → e < 2 ^ exponent_bits layout - 1 → r < 2 ^ fraction_bits layout → s < 2 → is_negative layout bits ≡ (s == 1)
+sign_is Binary32 bits s e r sum top low one = ap (λ x. x == 1) (omega arith)
+sign_is Binary64 bits s e r sum top low one = ap (λ x. x == 1) (omega arith)
+
+module _ (layout : FloatLayout) (bits s e r : ℕ) (sum : AreParts layout bits s e r) (some : 0 < e) (top : e < 2 ^ exponent_bits layout - 1) (low : r < 2 ^ fraction_bits layout) where
+  finite_is : IsFinite layout bits
+  finite_is = subst (λ (x : ℕ). x < 2 ^ exponent_bits layout - 1) (sym (exponent_is layout bits s e r sum top low)) top
+
+  zero_not : (exponent_field layout bits == 0) ≡ false
+  zero_not = positive (exponent_field layout bits) (subst (λ (x : ℕ). 0 < x) (sym (exponent_is layout bits s e r sum top low)) some)
+
+  significand_is : significand layout bits ≡ 2 ^ fraction_bits layout + r
+  significand_is = rw zero_not (ap (λ x. 2 ^ fraction_bits layout + x) (fraction_is layout bits s e r sum low))
+
+  scale_is : scale layout bits ≡ e
+  scale_is = rw zero_not (exponent_is layout bits s e r sum top low)
 
 -- what the bits of a magnitude say, whichever their sign
-pub record Shown (m f bits : ℕ) : Type 0 where
-  pub finite : IsFinite Binary64 bits
+pub record Shown (layout : FloatLayout) (m f bits : ℕ) : Type 0 where
+  pub finite : IsFinite layout bits
   pub length : ℕ
   pub has_length : HasLength m length
   pub q : ℕ
-  pub rounded : IsSignificand m length q
+  pub rounded : IsSignificand (precision layout) m length q
   pub exponent : ℕ
-  pub exponent_is : exponent + f ≡ 1022 + length
-  pub value : significand Binary64 bits * 2 ^ scale Binary64 bits ≡ q * 2 ^ exponent
-  pub even : IsEven q → IsEven (significand Binary64 bits)
+  pub exponent_is : exponent + f ≡ lowest layout + length
+  pub value : significand layout bits * 2 ^ scale layout bits ≡ q * 2 ^ exponent
+  pub even : IsEven q → IsEven (significand layout bits)
 
-pub shown : (m f part s bits : ℕ) → IsMagnitudeDouble m f part → f ≤ 64 → s < 2 → bits ≡ s * 2 ^ 63 + part → Shown m f bits × (is_negative Binary64 bits ≡ (s == 1))
-shown m f part s bits d few one sum = ⊎_elim carried plain (cases_lt d.significand (2 ^ 53))
+doubled : (h a b : ℕ) → b ≡ a * 2 → h * b ≡ h * 2 * a
+doubled h a b e = let g : h * b ≡ h * (a * 2) = ap (λ i. h * i) e in omega (arith, g)
+
+even_half : (layout : FloatLayout) → 2 ^ fraction_bits layout % 2 ≡ 0
+even_half Binary32 = refl
+even_half Binary64 = refl
+
+pub shown : (layout : FloatLayout) (m f part s bits : ℕ) → IsMagnitudeFloat layout m f part → f ≤ 64 → s < 2 → bits ≡ s * 2 ^ (fraction_bits layout + exponent_bits layout) + part → Shown layout m f bits × (is_negative layout bits ≡ (s == 1))
+shown layout m f part s bits d few one sum = ⊎_elim carried plain (cases_lt d.significand (2 ^ precision layout))
   where
+    half : ℕ
+    half = 2 ^ fraction_bits layout
+
+    twice : 2 ^ precision layout ≡ half * 2
+    twice = pow-add 2 (fraction_bits layout) 1
+
     len : d.length ≤ 64
     len = d.has_length.most
 
-    least : 2 ^ 52 ≤ d.significand
-    least = d.rounded.least
+    least : half ≤ d.significand
+    least = let e : precision layout - 1 ≡ fraction_bits layout = omega arith in subst (λ (i : ℕ). 2 ^ i ≤ d.significand) e d.rounded.least
 
-    most : d.significand ≤ 2 ^ 53
+    most : d.significand ≤ 2 ^ precision layout
     most = d.rounded.most
 
-    are : part + f * 2 ^ 52 ≡ (1021 + d.length) * 2 ^ 52 + d.significand
-    are = d.bits_are
-
     x : ℕ
-    x = 1022 + d.length - f
+    x = lowest layout + d.length - f
 
-    x_is : x + f ≡ 1022 + d.length
-    x_is = omega (arith, len)
+    x_is : x + f ≡ lowest layout + d.length
+    x_is = scale_of layout f d.length few
 
-    carried : d.significand < 2 ^ 53 → Shown m f bits × (is_negative Binary64 bits ≡ (s == 1))
+    some : 0 < x
+    some = some_scale layout x f d.length x_is few
+
+    top : x + 1 < 2 ^ exponent_bits layout - 1
+    top = top_scale layout x f d.length x_is len
+
+    carried : d.significand < 2 ^ precision layout → Shown layout m f bits × (is_negative layout bits ≡ (s == 1))
     carried l =
-        let r : ℕ = d.significand - 2 ^ 52 in
-        let fields : bits ≡ (s * 2 ^ 11 + x) * 2 ^ 52 + r = omega (arith, are, x_is, least) in
-        let some : 0 < x = omega (arith, x_is) in
-        let top : x < 2047 = omega (arith, x_is, len) in
-        let low : r < 2 ^ 52 = omega (arith, l) in
-        let sig : significand Binary64 bits ≡ d.significand = significand_is bits s x r fields some top low ∙ omega (arith, least) in (
+        let r : ℕ = d.significand - half in
+        let whole : d.significand ≡ (1 + 0) * half + r = omega (arith, least) in
+        let none : x + 0 ≡ x = omega arith in
+        let fields : AreParts layout bits s x r = subst (λ (n : ℕ). AreParts layout bits s n r) none (parts_of layout bits s part f x d.length d.significand r 0 sum d.bits_are x_is some whole) in
+        let below : x < 2 ^ exponent_bits layout - 1 = omega (arith, top) in
+        let low : r < half = omega (arith, l, least, twice) in
+        let sig : significand layout bits ≡ d.significand = significand_is layout bits s x r fields some below low ∙ omega (arith, least) in (
           record {
-            finite = finite_is bits s x r fields some top low;
+            finite = finite_is layout bits s x r fields some below low;
             length = d.length;
             has_length = d.has_length;
             q = d.significand;
             rounded = d.rounded;
             exponent = x;
             exponent_is = x_is;
-            value = rw (sig, scale_is bits s x r fields some top low) refl;
+            value = rw (sig, scale_is layout bits s x r fields some below low) refl;
             even = λ e. ap (λ n. n % 2) sig ∙ e;
           },
-          sign_is bits s x r fields some top low one,
+          sign_is layout bits s x r fields below low one,
         )
 
-    plain : 2 ^ 53 ≤ d.significand → Shown m f bits × (is_negative Binary64 bits ≡ (s == 1))
+    plain : 2 ^ precision layout ≤ d.significand → Shown layout m f bits × (is_negative layout bits ≡ (s == 1))
     plain l =
-        let q_is : d.significand ≡ 2 ^ 53 = omega (arith, most) in
-        let fields : bits ≡ (s * 2 ^ 11 + (x + 1)) * 2 ^ 52 + 0 = omega (arith, are, x_is, q_is) in
-        let some : 0 < x + 1 = omega arith in
-        let top : x + 1 < 2047 = omega (arith, x_is, len) in
-        let low : 0 < 2 ^ 52 = omega arith in
-        let sig : significand Binary64 bits ≡ 2 ^ 52 = significand_is bits s (x + 1) 0 fields some top low ∙ omega arith in
+        let q_is : d.significand ≡ half * 2 = omega (arith, most, twice, l) in
+        let whole : d.significand ≡ (1 + 1) * half + 0 = omega (arith, q_is) in
+        let fields : AreParts layout bits s (x + 1) 0 = parts_of layout bits s part f x d.length d.significand 0 1 sum d.bits_are x_is some whole in
+        let more : 0 < x + 1 = omega arith in
+        let low : 0 < half = pow_pos (fraction_bits layout) in
+        let sig : significand layout bits ≡ half = significand_is layout bits s (x + 1) 0 fields more top low ∙ omega arith in
         let grown : 2 ^ (x + 1) ≡ 2 ^ x * 2 = pow-add 2 x 1 in (
           record {
-            finite = finite_is bits s (x + 1) 0 fields some top low;
+            finite = finite_is layout bits s (x + 1) 0 fields more top low;
             length = d.length;
             has_length = d.has_length;
             q = d.significand;
             rounded = d.rounded;
             exponent = x;
             exponent_is = x_is;
-            value = rw (sig, scale_is bits s (x + 1) 0 fields some top low, q_is) (omega (arith, grown));
-            even = λ e. ap (λ n. n % 2) sig ∙ omega arith;
+            value = rw (sig, scale_is layout bits s (x + 1) 0 fields more top low, q_is) (doubled half (2 ^ x) (2 ^ (x + 1)) grown);
+            even = λ e. ap (λ n. n % 2) sig ∙ even_half layout;
           },
-          sign_is bits s (x + 1) 0 fields some top low one,
+          sign_is layout bits s (x + 1) 0 fields top low one,
         )
 
 -- ---- how many bits a magnitude has, and its significand
@@ -176,34 +224,35 @@ has_length m j l h few = record {
   high = h;
 }
 
-pub grown_is : (m len : ℕ) → HasLength m len → len ≤ 53 → IsSignificand m len (m * 2 ^ (53 - len) % 2 ^ 64)
-grown_is m len h short =
-    let k : ℕ = 53 - len in
+pub grown_is : (p m len : ℕ) → p ≤ 53 → HasLength m len → len ≤ p → IsSignificand p m len (m * 2 ^ (p - len) % 2 ^ 64)
+grown_is p m len most h short =
+    let k : ℕ = p - len in
     let some = h.some in
-    let fewer : (len - 1) + k ≡ 52 = omega arith in
-    let all : len + k ≡ 53 = omega arith in
-    let up : 2 ^ (len - 1) * 2 ^ k ≡ 2 ^ 52 = sym (pow-add 2 (len - 1) k) ∙ ap (λ x. 2 ^ x) fewer in
-    let over : 2 ^ len * 2 ^ k ≡ 2 ^ 53 = sym (pow-add 2 len k) ∙ ap (λ x. 2 ^ x) all in
+    let fewer : (len - 1) + k ≡ p - 1 = omega arith in
+    let all : len + k ≡ p = omega arith in
+    let up : 2 ^ (len - 1) * 2 ^ k ≡ 2 ^ (p - 1) = sym (pow-add 2 (len - 1) k) ∙ ap (λ x. 2 ^ x) fewer in
+    let over : 2 ^ len * 2 ^ k ≡ 2 ^ p = sym (pow-add 2 len k) ∙ ap (λ x. 2 ^ x) all in
     let low : 2 ^ (len - 1) * 2 ^ k ≤ m * 2 ^ k = mul-le-mul_right (2 ^ k) h.low in
     let next : (m + 1) * 2 ^ k ≤ 2 ^ len * 2 ^ k = mul-le-mul_right (2 ^ k) (let high = h.high in omega arith) in
     let unit = pow_pos k in
-    let same : m * 2 ^ k % 2 ^ 64 ≡ m * 2 ^ k = omega (arith, over, next) in
-    subst (λ (x : ℕ). IsSignificand m len x) (sym same) (record {
+    let bound : 2 ^ p ≤ 2 ^ 53 = pow-le-pow_right {n = 2} (omega arith) {i = p} {j = 53} most in
+    let same : m * 2 ^ k % 2 ^ 64 ≡ m * 2 ^ k = omega (arith, over, next, bound, unit) in
+    subst (λ (x : ℕ). IsSignificand p m len x) (sym same) (record {
       least = omega (arith, up, low);
       most = omega (arith, over, next);
       short = λ l. refl;
       long = λ l. absurd (omega arith);
     })
 
-pub rounded_is : (m len more : ℕ) → HasLength m len → 53 < len → IsNearest (m / 2 ^ (len - 53) * 2 ^ (len - 53) + m % 2 ^ (len - 53)) (2 ^ (len - 53)) (m / 2 ^ (len - 53) + more) → more ≤ 1 → IsSignificand m len (m / 2 ^ (len - 53) + more)
-rounded_is m len more h long nearest few = parts (2 ^ (len - 53)) (m / 2 ^ (len - 53)) (m % 2 ^ (len - 53)) (div-add-mod' m (2 ^ (len - 53))) (mod-lt m (pow_pos (len - 53)))
-    (let all : 52 + (len - 53) ≡ len - 1 = omega arith in sym (pow-add 2 52 (len - 53)) ∙ ap (λ x. 2 ^ x) all) (let all : 53 + (len - 53) ≡ len = omega arith in sym (pow-add 2 53 (len - 53)) ∙ ap (λ x. 2 ^ x) all)
-    (subst (λ (x : ℕ). IsNearest x (2 ^ (len - 53)) (m / 2 ^ (len - 53) + more)) (div-add-mod' m (2 ^ (len - 53))) nearest) refl
+pub rounded_is : (p m len more : ℕ) → 2 ≤ p → HasLength m len → p < len → IsNearest (m / 2 ^ (len - p) * 2 ^ (len - p) + m % 2 ^ (len - p)) (2 ^ (len - p)) (m / 2 ^ (len - p) + more) → more ≤ 1 → IsSignificand p m len (m / 2 ^ (len - p) + more)
+rounded_is p m len more two h long nearest few = parts (2 ^ (len - p)) (m / 2 ^ (len - p)) (m % 2 ^ (len - p)) (div-add-mod' m (2 ^ (len - p))) (mod-lt m (pow_pos (len - p)))
+    (let all : (p - 1) + (len - p) ≡ len - 1 = omega arith in sym (pow-add 2 (p - 1) (len - p)) ∙ ap (λ x. 2 ^ x) all) (let all : p + (len - p) ≡ len = omega arith in sym (pow-add 2 p (len - p)) ∙ ap (λ x. 2 ^ x) all)
+    (subst (λ (x : ℕ). IsNearest x (2 ^ (len - p)) (m / 2 ^ (len - p) + more)) (div-add-mod' m (2 ^ (len - p))) nearest) refl
   where
-    parts : (u w r : ℕ) → w * u + r ≡ m → r < u → 2 ^ 52 * u ≡ 2 ^ (len - 1) → 2 ^ 53 * u ≡ 2 ^ len → IsNearest m u (w + more) → u ≡ 2 ^ (len - 53) → IsSignificand m len (w + more)
+    parts : (u w r : ℕ) → w * u + r ≡ m → r < u → 2 ^ (p - 1) * u ≡ 2 ^ (len - 1) → 2 ^ p * u ≡ 2 ^ len → IsNearest m u (w + more) → u ≡ 2 ^ (len - p) → IsSignificand p m len (w + more)
     parts u w r sum small least most near unit = record {
-      least = ⊎_elim (λ (l : w < 2 ^ 52). absurd (let p : (w + 1) * u ≤ 2 ^ 52 * u = mul-le-mul_right u (omega arith) in let low = h.low in omega (arith, p, least, sum, small))) (λ (l : 2 ^ 52 ≤ w). omega arith) (cases_lt w (2 ^ 52));
-      most = ⊎_elim (λ (l : w < 2 ^ 53). omega arith) (λ (l : 2 ^ 53 ≤ w). absurd (let p : 2 ^ 53 * u ≤ w * u = mul-le-mul_right u l in let high = h.high in omega (arith, p, most, sum))) (cases_lt w (2 ^ 53));
+      least = ⊎_elim (λ (l : w < 2 ^ (p - 1)). absurd (let p : (w + 1) * u ≤ 2 ^ (p - 1) * u = mul-le-mul_right u (omega arith) in let low = h.low in omega (arith, p, least, sum, small))) (λ (l : 2 ^ (p - 1) ≤ w). omega arith) (cases_lt w (2 ^ (p - 1)));
+      most = ⊎_elim (λ (l : w < 2 ^ p). omega arith) (λ (l : 2 ^ p ≤ w). absurd (let p : 2 ^ p * u ≤ w * u = mul-le-mul_right u l in let high = h.high in omega (arith, p, most, sum))) (cases_lt w (2 ^ p));
       short = λ l. absurd (omega arith);
       long = λ l. subst (λ (x : ℕ). IsNearest m x (w + more)) unit near;
     }
@@ -222,113 +271,129 @@ module _ (m u q t : ℕ) (some : 0 < t) (h : IsNearest m u q) where
       beyond : (a b z d : ℕ) → b ≤ a → z < b → d ≤ distance a b → d < distance a z
       beyond a b z d l k e = omega arith
 
--- ---- of all finite doubles
--- t is the denominator of every double
-module _ (m f x len q t : ℕ) (some : 0 < t) (has : HasLength m len) (is : IsSignificand m len q) (place : 2 ^ 53 * (2 ^ x * 2 ^ f) ≡ 2 ^ len * t) where
+-- ---- of all finite floats
+-- t is the denominator of every float
+module _ (p m f x len q t : ℕ) (two : 2 ≤ p) (some : 0 < t) (has : HasLength m len) (is : IsSignificand p m len q) (place : 2 ^ p * (2 ^ x * 2 ^ f) ≡ 2 ^ len * t) where
   -- an exact one
-  module _ (short : len ≤ 53) where
+  module _ (short : len ≤ p) where
     same : q * 2 ^ x * 2 ^ f ≡ m * t
     same =
         let e = is.short short in
-        let all : len + (53 - len) ≡ 53 = omega arith in
-        let over : 2 ^ len * 2 ^ (53 - len) ≡ 2 ^ 53 = sym (pow-add 2 len (53 - len)) ∙ ap (λ i. 2 ^ i) all in
-        eq_of_mul-eq-mul_right (2 ^ len) (pow_pos len) (q * 2 ^ x * 2 ^ f) (m * t) (swapped q (2 ^ (53 - len)) (2 ^ len) (2 ^ x) (2 ^ f) e over place)
+        let all : len + (p - len) ≡ p = omega arith in
+        let over : 2 ^ len * 2 ^ (p - len) ≡ 2 ^ p = sym (pow-add 2 len (p - len)) ∙ ap (λ i. 2 ^ i) all in
+        eq_of_mul-eq-mul_right (2 ^ len) (pow_pos len) (q * 2 ^ x * 2 ^ f) (m * t) (swapped q (2 ^ (p - len)) (2 ^ len) (2 ^ x) (2 ^ f) e over place)
       where
-        swapped : (q g l a b : ℕ) → q ≡ m * g → l * g ≡ 2 ^ 53 → 2 ^ 53 * (a * b) ≡ l * t → q * a * b * l ≡ m * t * l
+        swapped : (q g l a b : ℕ) → q ≡ m * g → l * g ≡ 2 ^ p → 2 ^ p * (a * b) ≡ l * t → q * a * b * l ≡ m * t * l
         swapped q g l a b e over unit =
             let one : q * a * b * l ≡ m * g * a * b * l = ap (λ i. i * a * b * l) e in
             let two : m * g * a * b * l ≡ l * g * (a * b) * m = omega arith in
-            let three : l * g * (a * b) * m ≡ 2 ^ 53 * (a * b) * m = ap (λ i. i * (a * b) * m) over in
-            let four : 2 ^ 53 * (a * b) * m ≡ l * t * m = ap (λ i. i * m) unit in
+            let three : l * g * (a * b) * m ≡ 2 ^ p * (a * b) * m = ap (λ i. i * (a * b) * m) over in
+            let four : 2 ^ p * (a * b) * m ≡ l * t * m = ap (λ i. i * m) unit in
             let five : l * t * m ≡ m * t * l = omega arith in
             one ∙ two ∙ three ∙ four ∙ five
 
   -- a rounded one
-  module _ (long : 53 < len) where
-    unit : 2 ^ x * 2 ^ f ≡ 2 ^ (len - 53) * t
+  module _ (long : p < len) where
+    unit : 2 ^ x * 2 ^ f ≡ 2 ^ (len - p) * t
     unit =
-        let all : len ≡ 53 + (len - 53) = omega arith in
-        let over : 2 ^ len ≡ 2 ^ 53 * 2 ^ (len - 53) = ap (λ i. 2 ^ i) all ∙ pow-add 2 53 (len - 53) in
-        eq_of_mul-eq-mul_right (2 ^ 53) (omega arith) (2 ^ x * 2 ^ f) (2 ^ (len - 53) * t) (turned (2 ^ x * 2 ^ f) (2 ^ (len - 53)) (2 ^ len) over place)
+        let all : len ≡ p + (len - p) = omega arith in
+        let over : 2 ^ len ≡ 2 ^ p * 2 ^ (len - p) = ap (λ i. 2 ^ i) all ∙ pow-add 2 p (len - p) in
+        eq_of_mul-eq-mul_right (2 ^ p) (pow_pos p) (2 ^ x * 2 ^ f) (2 ^ (len - p) * t) (turned (2 ^ x * 2 ^ f) (2 ^ (len - p)) (2 ^ len) over place)
       where
-        turned : (w u l : ℕ) → l ≡ 2 ^ 53 * u → 2 ^ 53 * w ≡ l * t → w * 2 ^ 53 ≡ u * t * 2 ^ 53
-        turned w u l e p = let g : l * t ≡ 2 ^ 53 * u * t = ap (λ i. i * t) e in omega arith
+        turned : (w u l : ℕ) → l ≡ 2 ^ p * u → 2 ^ p * w ≡ l * t → w * 2 ^ p ≡ u * t * 2 ^ p
+        turned w u l e k = let g : l * t ≡ 2 ^ p * u * t = ap (λ i. i * t) e in omega arith
 
-    own : q * 2 ^ x * 2 ^ f ≡ q * 2 ^ (len - 53) * t
-    own = regrouped q (2 ^ x) (2 ^ f) (2 ^ (len - 53)) t unit
+    own : q * 2 ^ x * 2 ^ f ≡ q * 2 ^ (len - p) * t
+    own = regrouped q (2 ^ x) (2 ^ f) (2 ^ (len - p)) t unit
       where
         regrouped : (q a b u t : ℕ) → a * b ≡ u * t → q * a * b ≡ q * u * t
         regrouped q a b u t e = let g : q * (a * b) ≡ q * (u * t) = ap (λ i. q * i) e in omega arith
 
     -- a double of the same scale or a greater one
-    multiple : (w v : ℕ) → x ≤ v → w * 2 ^ v * 2 ^ f ≡ w * 2 ^ (v - x) * 2 ^ (len - 53) * t
-    multiple w v l = let all : v ≡ (v - x) + x = omega arith in regrouped w (2 ^ v) (2 ^ (v - x)) (2 ^ x) (2 ^ f) (2 ^ (len - 53)) (ap (λ i. 2 ^ i) all ∙ pow-add 2 (v - x) x) unit
+    multiple : (w v : ℕ) → x ≤ v → w * 2 ^ v * 2 ^ f ≡ w * 2 ^ (v - x) * 2 ^ (len - p) * t
+    multiple w v l = let all : v ≡ (v - x) + x = omega arith in regrouped w (2 ^ v) (2 ^ (v - x)) (2 ^ x) (2 ^ f) (2 ^ (len - p)) (ap (λ i. 2 ^ i) all ∙ pow-add 2 (v - x) x) unit
       where
         regrouped : (w p g a b u : ℕ) → p ≡ g * a → a * b ≡ u * t → w * p * b ≡ w * g * u * t
         regrouped w p g a b u e d = let one : w * p * b ≡ w * (g * a) * b = ap (λ i. w * i * b) e in let two : w * g * (a * b) ≡ w * g * (u * t) = ap (λ i. w * g * i) d in omega arith
 
     -- a double of a lesser scale
-    below : (w v : ℕ) → w < 2 ^ 53 → v < x → w * 2 ^ v * 2 ^ f < 2 ^ 52 * 2 ^ (len - 53) * t
-    below w v few l = bound (2 ^ v) (2 ^ x) (2 ^ f) (2 ^ (len - 53)) (pow_pos v) (pow_pos f) (let p : 2 ^ (v + 1) ≤ 2 ^ x = pow-le-pow_right {n = 2} (omega arith) {i = v + 1} {j = x} (omega arith) in let e : 2 ^ (v + 1) ≡ 2 ^ v * 2 = pow-add 2 v 1 in omega arith) unit
+    below : (w v : ℕ) → w < 2 ^ p → v < x → w * 2 ^ v * 2 ^ f < 2 ^ (p - 1) * 2 ^ (len - p) * t
+    below w v few l = bound (2 ^ v) (2 ^ x) (2 ^ f) (2 ^ (len - p)) (pow_pos v) (pow_pos f) (let p : 2 ^ (v + 1) ≤ 2 ^ x = pow-le-pow_right {n = 2} (omega arith) {i = v + 1} {j = x} (omega arith) in let e : 2 ^ (v + 1) ≡ 2 ^ v * 2 = pow-add 2 v 1 in omega arith) unit
       where
-        bound : (p a b u : ℕ) → 0 < p → 0 < b → 2 * p ≤ a → a * b ≡ u * t → w * p * b < 2 ^ 52 * u * t
-        bound p a b u p_some b_some d e =
-            let product : 1 * 1 ≤ p * b = mul-le-mul p b (omega arith) (omega arith) in
-            let one : (w + 1) * (p * b) ≤ 2 ^ 53 * (p * b) = mul-le-mul_right (p * b) (omega arith) in
-            let two : 2 * p * b ≤ a * b = mul-le-mul_right b d in
-            let three : 2 ^ 52 * (a * b) ≡ 2 ^ 52 * (u * t) = ap (λ i. 2 ^ 52 * i) e in
-            omega arith
+        twice : 2 ^ p ≡ 2 ^ (p - 1) * 2
+        twice = let all : p ≡ (p - 1) + 1 = omega arith in ap (λ i. 2 ^ i) all ∙ pow-add 2 (p - 1) 1
+
+        bound : (y a b u : ℕ) → 0 < y → 0 < b → 2 * y ≤ a → a * b ≡ u * t → w * y * b < 2 ^ (p - 1) * u * t
+        bound y a b u y_some b_some d e =
+            let h : ℕ = 2 ^ (p - 1) in
+            let product : 1 * 1 ≤ y * b = mul-le-mul y b (omega arith) (omega arith) in
+            let few_more : w + 1 ≤ h * 2 = omega (arith, few, twice) in
+            let one : (w + 1) * (y * b) ≤ h * 2 * (y * b) = mul-le-mul_right (y * b) few_more in
+            let two : 2 * y * b ≤ a * b = mul-le-mul_right b d in
+            let more : 2 * y * b * h ≤ a * b * h = mul-le-mul_right h two in
+            let three : h * (a * b) ≡ h * (u * t) = ap (λ i. h * i) e in
+            omega (arith, product, one, more, three)
           where
-            mul-le-mul : (p b : ℕ) → 1 ≤ p → 1 ≤ b → 1 * 1 ≤ p * b
-            mul-le-mul p b g h = let z : 1 * b ≤ p * b = mul-le-mul_right b g in omega arith
+            mul-le-mul : (y b : ℕ) → 1 ≤ y → 1 ≤ b → 1 * 1 ≤ y * b
+            mul-le-mul y b g h = let z : 1 * b ≤ y * b = mul-le-mul_right b g in omega arith
 
-    least : 2 ^ 52 * 2 ^ (len - 53) ≤ m
-    least = let all : 52 + (len - 53) ≡ len - 1 = omega arith in let e : 2 ^ 52 * 2 ^ (len - 53) ≡ 2 ^ (len - 1) = sym (pow-add 2 52 (len - 53)) ∙ ap (λ i. 2 ^ i) all in let low = has.low in omega arith
+    least : 2 ^ (p - 1) * 2 ^ (len - p) ≤ m
+    least = let all : (p - 1) + (len - p) ≡ len - 1 = omega arith in let e : 2 ^ (p - 1) * 2 ^ (len - p) ≡ 2 ^ (len - 1) = sym (pow-add 2 (p - 1) (len - p)) ∙ ap (λ i. 2 ^ i) all in let low = has.low in omega arith
 
-  pub is_nearest : (w v : ℕ) → w < 2 ^ 53 → distance (m * t) (q * 2 ^ x * 2 ^ f) ≤ distance (m * t) (w * 2 ^ v * 2 ^ f)
+  pub is_nearest : (w v : ℕ) → w < 2 ^ p → distance (m * t) (q * 2 ^ x * 2 ^ f) ≤ distance (m * t) (w * 2 ^ v * 2 ^ f)
   is_nearest w v few = ⊎_elim
-      (λ (long : 53 < len). rw (own long) (⊎_elim
-      (λ (l : v < x). let far = farther m (2 ^ (len - 53)) q t some (is.long long) (2 ^ 52) (w * 2 ^ v * 2 ^ f) (least long) (below long w v few l) in omega (arith, far))
-      (λ (l : x ≤ v). rw (multiple long w v l) (nearer m (2 ^ (len - 53)) q t some (is.long long) (w * 2 ^ (v - x))))
+      (λ (long : p < len). rw (own long) (⊎_elim
+      (λ (l : v < x). let far = farther m (2 ^ (len - p)) q t some (is.long long) (2 ^ (p - 1)) (w * 2 ^ v * 2 ^ f) (least long) (below long w v few l) in omega (arith, far))
+      (λ (l : x ≤ v). rw (multiple long w v l) (nearer m (2 ^ (len - p)) q t some (is.long long) (w * 2 ^ (v - x))))
       (cases_lt v x)))
-      (λ (short : len ≤ 53). rw (same short) (omega arith))
-      (cases_lt 53 len)
+      (λ (short : len ≤ p). rw (same short) (omega arith))
+      (cases_lt p len)
 
-  pub is_tie : (w v : ℕ) → w < 2 ^ 53 → distance (m * t) (q * 2 ^ x * 2 ^ f) ≡ distance (m * t) (w * 2 ^ v * 2 ^ f) → w * 2 ^ v ≢ q * 2 ^ x → IsEven q
+  pub is_tie : (w v : ℕ) → w < 2 ^ p → distance (m * t) (q * 2 ^ x * 2 ^ f) ≡ distance (m * t) (w * 2 ^ v * 2 ^ f) → w * 2 ^ v ≢ q * 2 ^ x → IsEven q
   is_tie w v few e differs = ⊎_elim
-      (λ (long : 53 < len). let there = rw (own long) at e in ⊎_elim
-      (λ (l : v < x). absurd (let far = farther m (2 ^ (len - 53)) q t some (is.long long) (2 ^ 52) (w * 2 ^ v * 2 ^ f) (least long) (below long w v few l) in omega (arith, far, there)))
+      (λ (long : p < len). let there = rw (own long) at e in ⊎_elim
+      (λ (l : v < x). absurd (let far = farther m (2 ^ (len - p)) q t some (is.long long) (2 ^ (p - 1)) (w * 2 ^ v * 2 ^ f) (least long) (below long w v few l) in omega (arith, far, there)))
       (λ (l : x ≤ v).
       let scaled : w * 2 ^ v ≡ w * 2 ^ (v - x) * 2 ^ x = split w v (v - x) x (omega arith) in
-      tied m (2 ^ (len - 53)) q t some (is.long long) (w * 2 ^ (v - x)) (λ k. differs (scaled ∙ ap (λ i. i * 2 ^ x) k)) (rw (multiple long w v l) at there))
+      tied m (2 ^ (len - p)) q t some (is.long long) (w * 2 ^ (v - x)) (λ k. differs (scaled ∙ ap (λ i. i * 2 ^ x) k)) (rw (multiple long w v l) at there))
       (cases_lt v x))
-      (λ (short : len ≤ 53).
+      (λ (short : len ≤ p).
       let none : distance (m * t) (q * 2 ^ x * 2 ^ f) ≡ 0 = rw (same short) (omega arith) in
       let equal : w * 2 ^ v * 2 ^ f ≡ q * 2 ^ x * 2 ^ f = sym (same short ∙ apart_none (m * t) (w * 2 ^ v * 2 ^ f) (sym e ∙ none)) in
       absurd (differs (eq_of_mul-eq-mul_right (2 ^ f) (pow_pos f) (w * 2 ^ v) (q * 2 ^ x) equal)))
-      (cases_lt 53 len)
+      (cases_lt p len)
     where
       apart_none : (a b : ℕ) → distance a b ≡ 0 → a ≡ b
       apart_none a b e = omega arith
 
--- ---- the double of a magnitude
-unit_is : (x f len : ℕ) → x + f ≡ 1022 + len → 2 ^ 53 * (2 ^ x * 2 ^ f) ≡ 2 ^ len * 2 ^ 1075
-unit_is x f len e = ap (λ i. 2 ^ 53 * i) (sym (pow-add 2 x f)) ∙ sym (pow-add 2 53 (x + f)) ∙ ap (λ i. 2 ^ i) (let s : 53 + (x + f) ≡ len + 1075 = omega arith in s) ∙ pow-add 2 len 1075
+-- ---- the float of a magnitude
+scales : (layout : FloatLayout) (x f len : ℕ) → x + f ≡ lowest layout + len → precision layout + (x + f) ≡ len + unit_scale layout
+scales Binary32 x f len e = omega arith
+scales Binary64 x f len e = omega arith
 
-pub nearest_is : (m f bits : ℕ) → Shown m f bits → IsNearestMagnitude Binary64 (record { num = m; den = 2 ^ f }) bits
+unit_is : (layout : FloatLayout) (x f len : ℕ) → x + f ≡ lowest layout + len → 2 ^ precision layout * (2 ^ x * 2 ^ f) ≡ 2 ^ len * 2 ^ unit_scale layout
+unit_is layout x f len e = ap (λ i. 2 ^ precision layout * i) (sym (pow-add 2 x f)) ∙ sym (pow-add 2 (precision layout) (x + f)) ∙ ap (λ i. 2 ^ i) (scales layout x f len e) ∙ pow-add 2 len (unit_scale layout)
+
+several : (layout : FloatLayout) → 2 ≤ precision layout
+several Binary32 = omega arith
+several Binary64 = omega arith
+
+pub nearest_is : (layout : FloatLayout) (m f bits : ℕ) → Shown layout m f bits → IsNearestMagnitude layout (record { num = m; den = 2 ^ f }) bits
 unfolding magnitude
-nearest_is m f bits h =
-    let unit = unit_is h.exponent f h.length h.exponent_is in
-    let some : 0 < 2 ^ 1075 = pow_pos 1075 in record {
+nearest_is layout m f bits h =
+    let unit = unit_is layout h.exponent f h.length h.exponent_is in
+    let t : ℕ = 2 ^ unit_scale layout in
+    let some : 0 < t = pow_pos (unit_scale layout) in record {
       finite = h.finite;
-      nearest = λ other fin. rw h.value (is_nearest m f h.exponent h.length h.q (2 ^ 1075) some h.has_length h.rounded unit (significand Binary64 other) (scale Binary64 other) (few_bits other));
-      tie = λ other fin e differs. h.even (is_tie m f h.exponent h.length h.q (2 ^ 1075) some h.has_length h.rounded unit (significand Binary64 other) (scale Binary64 other) (few_bits other) (rw h.value at e) (λ k. differs (k ∙ sym h.value)));
+      nearest = λ other fin. rw h.value (is_nearest (precision layout) m f h.exponent h.length h.q t (several layout) some h.has_length h.rounded unit (significand layout other) (scale layout other) (few_bits layout other));
+      tie = λ other fin e differs. h.even (is_tie (precision layout) m f h.exponent h.length h.q t (several layout) some h.has_length h.rounded unit (significand layout other) (scale layout other) (few_bits layout other) (rw h.value at e) (λ k. differs (k ∙ sym h.value)));
     }
 
-pub exact_is : (m f bits : ℕ) → Shown m f bits → m < 2 ^ 53 → m * (magnitude Binary64 bits).den ≡ (magnitude Binary64 bits).num * 2 ^ f
+pub exact_is : (layout : FloatLayout) (m f bits : ℕ) → Shown layout m f bits → m < 2 ^ precision layout → m * (magnitude layout bits).den ≡ (magnitude layout bits).num * 2 ^ f
 unfolding magnitude
-exact_is m f bits h few =
-    let unit = unit_is h.exponent f h.length h.exponent_is in
-    let some : 0 < 2 ^ 1075 = pow_pos 1075 in
-    let short : h.length ≤ 53 = ⊎_elim (λ (l : 53 < h.length). absurd (let p : 2 ^ 53 ≤ 2 ^ (h.length - 1) = pow-le-pow_right {n = 2} (omega arith) {i = 53} {j = h.length - 1} (omega arith) in let low = h.has_length.low in omega arith)) (λ (l : h.length ≤ 53). l) (cases_lt 53 h.length) in
-    sym (rw h.value (same m f h.exponent h.length h.q (2 ^ 1075) some h.has_length h.rounded unit short))
+exact_is layout m f bits h few =
+    let p : ℕ = precision layout in
+    let unit = unit_is layout h.exponent f h.length h.exponent_is in
+    let some : 0 < 2 ^ unit_scale layout = pow_pos (unit_scale layout) in
+    let short : h.length ≤ p = ⊎_elim (λ (l : p < h.length). absurd (let within : p ≤ h.length - 1 = omega arith in let y : 2 ^ p ≤ 2 ^ (h.length - 1) = pow-le-pow_right {n = 2} (omega arith) {i = p} {j = h.length - 1} within in let low = h.has_length.low in omega arith)) (λ (l : h.length ≤ p). l) (cases_lt p h.length) in
+    sym (rw h.value (same p m f h.exponent h.length h.q (2 ^ unit_scale layout) (several layout) some h.has_length h.rounded unit short))

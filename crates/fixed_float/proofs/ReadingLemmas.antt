@@ -1,5 +1,5 @@
 -- A significand, shifted and rounded.
-use Rattle.std.proofs.Common.{◌≡◌, ℕ, ◌+◌, ◌-◌, ◌*◌, ◌/◌, ◌%◌, ◌^◌, ◌<◌, ◌≤◌, ◌⊎◌, ◌↔◌, Bool, IsTrue, refl, sym, ap, subst, ◌∙◌, arith, inl, inr, ⊎_elim, div-add-mod', mod-lt, mul-le-mul_right}
+use Rattle.std.proofs.Common.{◌≡◌, ℕ, ◌+◌, ◌-◌, ◌*◌, ◌/◌, ◌%◌, ◌^◌, ◌<◌, ◌≤◌, ◌⊎◌, ◌↔◌, Bool, IsTrue, refl, sym, ap, subst, ◌∙◌, arith, inl, inr, ⊎_elim, div-add-mod', mul-le-mul_right}
 use Rattle.std.proofs.Math.Nat.{div-eq_of_lt, div-one, eq_of_mul-eq-mul_right, mod-eq_of_lt, mod-one, mul-mod_left, pow-le-pow_right}
 use Rattle.std.proofs.lemmas.Bool.{cases_lt}
 use Rattle.std.proofs.lemmas.Nat.{pow_pos, pow-add}

@@ -18,6 +18,9 @@ abbrev pub exponent_bits : FloatLayout → ℕ
 exponent_bits Binary32 = 8
 exponent_bits Binary64 = 11
 
+abbrev pub bits_of_float : FloatLayout → ℕ
+bits_of_float layout = fraction_bits layout + exponent_bits layout + 1
+
 abbrev pub fraction_field : FloatLayout → ℕ → ℕ
 fraction_field layout bits = bits % 2 ^ fraction_bits layout
 
@@ -36,6 +39,10 @@ IsFinite layout bits = exponent_field layout bits < 2 ^ exponent_bits layout - 1
 abbrev pub significand : FloatLayout → ℕ → ℕ
 significand layout bits = (if exponent_field layout bits == 0 then 0 else 2 ^ fraction_bits layout)
     + fraction_field layout bits
+
+-- how many bits a significand has
+abbrev pub precision : FloatLayout → ℕ
+precision layout = fraction_bits layout + 1
 
 -- zeros and subnormals have the scale of the least normal floats
 abbrev pub scale : FloatLayout → ℕ → ℕ

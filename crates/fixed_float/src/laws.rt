@@ -1,6 +1,6 @@
 //! Laws of the definitions, each the contract of a function that does nothing.
 
-ghost use Rattle.fixed_float.specs.Laws.{ExactIsReadBack, ReadFloatIsTheOne};
+ghost use Rattle.fixed_float.specs.Laws.{ExactIsReadBack, NearestFloatIsTheOne, ReadFloatIsTheOne};
 
 /// A float has exactly one read number for each fraction length and mode.
 #[tactic(auto, using(crate::proofs::LawLemmas::read_float_is_the_one))]
@@ -12,4 +12,9 @@ pub fn read_float_is_the_one()
 #[tactic(auto, using(crate::proofs::LawLemmas::exact_is_read_back))]
 pub fn exact_is_read_back()
     ensures { ExactIsReadBack }
+{}
+
+/// At most one float is the nearest to a number of a format.
+pub fn nearest_float_is_the_one()
+    ensures { NearestFloatIsTheOne }
 {}

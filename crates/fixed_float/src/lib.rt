@@ -8,5 +8,5 @@ mod nearest;
 mod reading;
 
 pub use layout::FloatLayout;
-pub use nearest::binary64_of;
+pub use nearest::{binary32_of, binary64_of};
 pub use reading::{NotFinite, read_binary32, read_binary64};

@@ -1,12 +1,14 @@
-//! The double nearest to a number of a format.
+//! The float nearest to a number of a format.
 
-ghost use Rattle.std.specs.Prelude.{◌≡◌, ◌^◌, ◌<◌, ◌≤◌, if◌then◌else◌};
+ghost use Rattle.std.specs.Prelude.{◌≡◌, ◌+◌, ◌^◌, ◌<◌, ◌≤◌, if◌then◌else◌};
 ghost use Rattle.fixed_bits.specs.Ranges.{IsInRange};
-ghost use Rattle.fixed_float.specs.Inner.Fields.{HasLength, IsMagnitudeDouble, IsSignificand};
+ghost use Rattle.fixed_float.specs.Floats.{bits_of_float, exponent_bits, fraction_bits, precision};
+ghost use Rattle.fixed_float.specs.Inner.Fields.{HasLength, IsMagnitudeFloat, IsSignificand};
 ghost use Rattle.fixed_float.specs.Nearest.{IsExactFloat, IsNearestFloat};
-ghost use Rattle.fixed_float.specs.declared.layout.FloatLayout.TheVariants.{Binary64};
+ghost use Rattle.fixed_float.specs.declared.layout.FloatLayout.TheVariants.{Binary32, Binary64};
 
 use crate::increment::mode_increment;
+use crate::layout::FloatLayout;
 use crate::reading::power_of_two;
 use fixed_bits::{Format, ReadMode, sign_and_magnitude};
 
@@ -19,14 +21,15 @@ fn length_of(magnitude: u64) -> u32
     64 - magnitude.leading_zeros()
 }
 
-/// A magnitude of more than 53 bits in 53 of them. Two to the power of 53 is possible.
+/// A magnitude of more bits than a significand, rounded to one. Two to the power of `precision` is possible.
 #[inline(always)]
-fn rounded_significand(magnitude: u64, length: u32) -> u64
+fn rounded_significand(magnitude: u64, length: u32, precision: u32) -> u64
     requires length { HasLength magnitude length }
-    requires long { 53 < length }
-    ensures { IsSignificand magnitude length result }
+    requires long { precision < length }
+    requires precision { 2 ≤ precision }
+    ensures { IsSignificand precision magnitude length result }
 {
-    let down = length - 53;
+    let down = length - precision;
     let ulp = power_of_two(down);
     let whole = magnitude >> down;
     whole
@@ -39,47 +42,76 @@ fn rounded_significand(magnitude: u64, length: u32) -> u64
         )
 }
 
-/// A magnitude of at most 53 bits in 53 bits.
+/// A magnitude of no more bits than a significand, made one.
 #[inline(always)]
-fn grown_significand(magnitude: u64, length: u32) -> u64
+fn grown_significand(magnitude: u64, length: u32, precision: u32) -> u64
     requires length { HasLength magnitude length }
-    requires short { length ≤ 53 }
-    ensures { IsSignificand magnitude length result }
+    requires short { length ≤ precision }
+    requires precision { precision ≤ 53 }
+    ensures { IsSignificand precision magnitude length result }
 {
-    magnitude << (53 - length)
+    magnitude << (precision - length)
 }
 
-/// A magnitude in 53 bits, rounded to the nearest, ties to even.
+/// A magnitude in `precision` bits, rounded to the nearest, ties to even.
 #[inline(always)]
-fn significand_of(magnitude: u64, length: u32) -> u64
-    requires { HasLength magnitude length }
-    ensures { IsSignificand magnitude length result }
+fn significand_of(magnitude: u64, length: u32, precision: u32) -> u64
+    requires length { HasLength magnitude length }
+    requires some { 2 ≤ precision }
+    requires most { precision ≤ 53 }
+    ensures { IsSignificand precision magnitude length result }
 {
-    if length <= 53 {
-        grown_significand(magnitude, length)
+    if length <= precision {
+        grown_significand(magnitude, length, precision)
     } else {
-        rounded_significand(magnitude, length)
+        rounded_significand(magnitude, length, precision)
     }
 }
 
-/// The bits of the double nearest to a magnitude over two to the power of `frac`. The highest bit of a significand adds
-/// one to the exponent before it, and a significand of two to the power of 53 adds two.
+/// The bits of the float nearest to a magnitude over two to the power of `frac`. The highest bit of a significand adds
+/// one to the exponent before it, and a significand of two to the power of the precision adds two.
 #[inline(always)]
-fn magnitude_bits(magnitude: u64, frac: u32) -> u64
+fn magnitude_bits(layout: FloatLayout, magnitude: u64, frac: u32) -> u64
     requires some { 0 < magnitude }
     requires frac { frac ≤ 64 }
-    ensures { IsMagnitudeDouble magnitude frac result }
+    ensures { IsMagnitudeFloat layout magnitude frac result }
 {
     let length = length_of(magnitude);
-    u64::from(1021 + length - frac) * (1 << 52) + significand_of(magnitude, length)
+    match layout {
+        FloatLayout::Binary32 => {
+            u64::from(125 + length - frac) * (1 << 23) + significand_of(magnitude, length, 24)
+        }
+        FloatLayout::Binary64 => {
+            u64::from(1021 + length - frac) * (1 << 52) + significand_of(magnitude, length, 53)
+        }
+    }
 }
 
-/// The place of a sign in the bits of a double.
+/// The place of a sign in the bits of a float.
 #[inline(always)]
-fn sign_bit(negative: bool) -> u64
-    ensures { result ≡ (if negative then 2 ^ 63 else 0) }
+fn sign_bit(layout: FloatLayout, negative: bool) -> u64
+    ensures { result ≡ (if negative then 2 ^ (fraction_bits layout + exponent_bits layout) else 0) }
 {
-    if negative { 1 << 63 } else { 0 }
+    match layout {
+        FloatLayout::Binary32 if negative => 1 << 31,
+        FloatLayout::Binary64 if negative => 1 << 63,
+        _ => 0,
+    }
+}
+
+/// The bits of the float nearest to the bits `number` of a format, ties to even.
+#[inline(always)]
+fn float_of(layout: FloatLayout, number: i128, format: Format) -> u64
+    requires { IsInRange format.signed format.width number }
+    ensures few { result < 2 ^ bits_of_float layout }
+    ensures nearest { IsNearestFloat layout number format.frac result }
+    ensures exact { format.width ≤ precision layout → IsExactFloat layout number format.frac result }
+{
+    let (negative, magnitude) = sign_and_magnitude(number);
+    if magnitude == 0 {
+        return 0;
+    }
+    sign_bit(layout, negative) + magnitude_bits(layout, magnitude, format.frac())
 }
 
 /// The bits of the double nearest to the bits `number` of a format, ties to even. It is exact for a format of at most
@@ -89,9 +121,15 @@ pub fn binary64_of(number: i128, format: Format) -> u64
     ensures nearest { IsNearestFloat Binary64 number format.frac result }
     ensures exact { format.width ≤ 53 → IsExactFloat Binary64 number format.frac result }
 {
-    let (negative, magnitude) = sign_and_magnitude(number);
-    if magnitude == 0 {
-        return 0;
-    }
-    sign_bit(negative) + magnitude_bits(magnitude, format.frac())
+    float_of(FloatLayout::Binary64, number, format)
+}
+
+/// The bits of the float of single precision nearest to the bits `number` of a format, ties to even. It is exact for a
+/// format of at most 24 bits, and that of 0 has no sign.
+pub fn binary32_of(number: i128, format: Format) -> u32
+    requires { IsInRange format.signed format.width number }
+    ensures nearest { IsNearestFloat Binary32 number format.frac result }
+    ensures exact { format.width ≤ 24 → IsExactFloat Binary32 number format.frac result }
+{
+    float_of(FloatLayout::Binary32, number, format) as u32
 }

@@ -1,15 +1,17 @@
 -- Floats that become words of a format, and words that become floats.
-use Rattle.std.specs.Prelude.{◌≡◌, ℕ, ℤ, List, codes}
+use Rattle.std.specs.Prelude.{◌≡◌, ◌^◌, ◌<◌, ◌≤◌, ℕ, ℤ, List, codes}
 use Rattle.fixed_bits.specs.Images.{IsImage}
 use Rattle.fixed_bits.specs.Ranges.{IsOutOfRange, IsWidth}
 use Rattle.fixed_bits.specs.declared.format.Policy.TheVariants.{Checked}
 use Rattle.fixed_float.specs.Floats.{IsFinite, IsReadFloat}
+use Rattle.fixed_float.specs.Nearest.{IsNearestFloat}
 use Rattle.fixed_float.specs.declared.layout.FloatLayout.{FloatLayout}
 use Rattle.fixed_float.specs.declared.layout.FloatLayout.TheVariants.{Binary32, Binary64}
-use Rattle.fixed_pack.specs.Word.{number_of, word_bytes}
+use Rattle.fixed_pack.specs.Word.{IsBitsOf, bytes_of, number_of, word_bytes}
 use Rattle.fixed_pack.specs.declared.float_words.FloatWords.{FloatWords}
 use Rattle.fixed_pack.specs.declared.float_words.WordRefusal.{WordRefusal}
 use Rattle.fixed_pack.specs.declared.float_words.WordRefusal.TheVariants.{NotFinite, Overflow, TooWide}
+use Rattle.fixed_pack.specs.declared.word_floats.WordFloats.{WordFloats}
 
 -- how many bytes a float has
 abbrev pub float_size : FloatLayout → ℕ
@@ -51,3 +53,19 @@ pub record IsFloatWord (s : FloatWords) (bytes made : List ℕ) : Type 0 where
 
 abbrev pub IsWordNot : FloatWords → List ℕ → WordRefusal → Type 0
 IsWordNot s bytes why = IsFloatRefused s (number_of s.endian bytes) why
+
+-- ---- words
+-- the bytes of a word become those of the float nearest to its number
+pub record IsWordFloat (s : WordFloats) (bytes made : List ℕ) : Type 0 where
+  pub bits : ℤ
+  pub are : IsBitsOf s.format (number_of s.endian bytes) bits
+  pub float : ℕ
+  pub few : float < 256 ^ float_size s.layout
+  pub nearest : IsNearestFloat s.layout bits s.format.frac float
+  pub float_is : made ≡ bytes_of s.endian (float_size s.layout) float
+
+-- the word has a bit above the width
+abbrev pub IsWordRefused : WordFloats → List ℕ → WordRefusal → Type 0
+IsWordRefused s bytes NotFinite = ⊥
+IsWordRefused s bytes Overflow = ⊥
+IsWordRefused s bytes TooWide = 2 ^ s.format.width ≤ number_of s.endian bytes

@@ -1,7 +1,7 @@
 -- Raw words: the bits of a number as bytes.
 use Rattle.std.specs.Prelude.{◌≡◌, ℕ, zero, suc, ◌+◌, ◌*◌, ◌/◌, ◌%◌, ℤ, List, [], ◌∷◌, ◌++◌, reverse}
 use Rattle.fixed_bits.specs.Formats.{FormatParts}
-use Rattle.fixed_bits.specs.Ranges.{IsInRange}
+use Rattle.fixed_bits.specs.Ranges.{IsInRange, IsWidth}
 use Rattle.fixed_command.specs.Hex.{word_of}
 use Rattle.fixed_pack.specs.declared.endian.Endian.{Endian}
 use Rattle.fixed_pack.specs.declared.endian.Endian.TheVariants.{Big, Little}
@@ -36,6 +36,7 @@ word_bytes endian f bits = bytes_of endian (word_length f.width) (word_of f.widt
 
 -- the bits of a format of which this is the word
 pub record IsBitsOf (f : FormatParts) (n : ℕ) (bits : ℤ) : Type 0 where
+  pub width : IsWidth f.width
   pub in_range : IsInRange f.signed f.width bits
   pub word_is : word_of f.width bits ≡ n
 

@@ -54,7 +54,7 @@ impl WordRefusal {
 }
 
 /// How many bytes a float has.
-fn float_length(layout: FloatLayout) -> usize
+pub fn float_length(layout: FloatLayout) -> usize
     ensures value { result ≡ float_size layout }
     ensures some { 0 < result }
     ensures most { result ≤ 8 }

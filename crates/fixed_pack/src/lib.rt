@@ -2,7 +2,8 @@
 //!
 //! A word is the bits of a number as bytes, in one of two orders (`endian`, `word`). `pack` has each line of an input
 //! packed into a word, and `unpack` has each word of an input written as a line. `recode` makes words of words, by a
-//! machine (`recoder`, `recoding`): floats read into words (`float_words`), with a report of them (`float_report`).
+//! machine (`recoder`, `recoding`): floats read into words (`float_words`), with a report of them (`float_report`), and
+//! words written as floats (`word_floats`).
 //!
 //! The bits above a format's width are zeros, also for a negative number. So a word has one number, and bytes of
 //! another format or order are recognized. A word whose sign is extended over whole bytes is one of the format of those
@@ -23,6 +24,7 @@ pub mod recoding;
 pub mod unpack;
 mod unpacker;
 pub mod word;
+pub mod word_floats;
 
 pub use endian::Endian;
 pub use float_report::FloatReport;
@@ -32,3 +34,4 @@ pub use recode::{Recode, WordWatch};
 pub use recoder::RefusedWord;
 pub use recoding::{RecodeEnd, run_recode};
 pub use unpack::{UnpackEnd, UnpackRule, run_unpack};
+pub use word_floats::WordFloats;

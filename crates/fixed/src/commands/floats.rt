@@ -6,7 +6,8 @@ use command_line::report::{Report, hex_digit, is_broken_pipe, push_words};
 use fixed_command::Tally;
 use fixed_io::{StdSink, StdSource};
 use fixed_pack::{
-    FloatReport, FloatWords, Recode, RecodeEnd, RefusedWord, WordRefusal, WordWatch, run_recode,
+    FloatReport, FloatWords, Recode, RecodeEnd, RefusedWord, WordFloats, WordRefusal, WordWatch,
+    run_recode,
 };
 use fixed_report::MAX_GREATEST;
 use fixed_steps::Steps;
@@ -185,4 +186,16 @@ pub fn pack_on<R: Read + Drop, L: Ledger>(
         report_floats(rt, file, &report, steps);
     }
     status
+}
+
+/// Writes the words of one input as floats, and says on standard error why it did not end well.
+#[inline(never)]
+pub fn unpack_on<R: Read + Drop, L: Ledger>(
+    rt: &HostRuntime,
+    words: &WordFloats,
+    file: Option<&str>,
+    reader: R,
+    steps: &mut Steps<L>,
+) -> Status {
+    recode_on(rt, *words, (), "word", file, reader, steps).0
 }

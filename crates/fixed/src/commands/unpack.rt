@@ -1,15 +1,15 @@
-//! `fixed unpack`: raw words to lines.
+//! `fixed unpack`: raw words to lines, or to raw floats.
 
 use crate::inputs::{Job, run_inputs};
-use crate::options::{ENDIAN, PLACES, PLACES_MODE, POLICY, PRINT, TARGET, TARGET_MODE};
-use crate::settings::{conversion, endian_of};
+use crate::options::{ENDIAN, PLACES, PLACES_MODE, POLICY, PRINT, TARGET, TARGET_MODE, UNPACK_TO};
+use crate::settings::{conversion, endian_of, written_floats_of};
 use command_line::device::{Failure, Writer};
-use command_line::given::{Asked, Given};
+use command_line::given::{Asked, Given, Refusal};
 use command_line::page::{Operand, Page};
 use command_line::report::{Report, hex_digit, report_end};
 use fixed_command::RefusedLine;
 use fixed_io::{StdSink, StdSource};
-use fixed_pack::{UnpackEnd, UnpackRule, run_unpack};
+use fixed_pack::{UnpackEnd, UnpackRule, WordFloats, run_unpack};
 use fixed_steps::Steps;
 use line_engine::Status;
 use std::io::Read;
@@ -24,11 +24,19 @@ pub fn page() -> Page {
     Page {
         name: "unpack",
         hidden_name: "",
-        about: "Write a line for each raw word",
+        about: "Write a line or a raw float for each raw word",
         usage: "fixed unpack [OPTIONS] FORMAT [TARGET] [FILE]...",
         operands: &[FORMAT, TARGET],
         has_numerals: false,
-        options: &[ENDIAN, POLICY, TARGET_MODE, PRINT, PLACES, PLACES_MODE],
+        options: &[
+            UNPACK_TO,
+            ENDIAN,
+            POLICY,
+            TARGET_MODE,
+            PRINT,
+            PLACES,
+            PLACES_MODE,
+        ],
         end: "A word is the fewest bytes that hold the width of FORMAT. Its line is what\n\
               'fixed convert --from bits' answers to its bits: a word that has a bit above\n\
               the width is refused. Standard error says how many bytes are left over at the\n\
@@ -37,6 +45,10 @@ pub fn page() -> Page {
               A text reads back in its own format only. Words of Q23 become the nearest words\n\
               of Q15 by 'fixed unpack Q23 Q15 --target-mode nearest | fixed pack Q15', with\n\
               '-p saturating' where a number may round out of range.\n\
+              \n\
+              With --to f64 or f32 each word becomes the nearest float of IEEE 754, ties to\n\
+              even: exact if FORMAT has at most 53 or 24 bits. The first word that is refused\n\
+              ends its input. There is no TARGET then, and --endian is the only other option.\n\
               \n\
               A format is I (signed) or U (unsigned), its whole bits, F and its fraction bits,\n\
               as in I16F16, 1 to 64 bits in all; or as in Q15, Q8.8 and UQ8.8.\n\
@@ -102,6 +114,33 @@ pub fn run<'a, L: Ledger>(
     steps: &mut Steps<L>,
 ) -> Asked<'a, Status> {
     let (rule, files) = conversion(given, 0)?;
-    let rule = UnpackRule::new(*rule.settings(), endian_of(given)?);
-    Ok(run_inputs(rt, &Job::Unpack(rule), given.from(files), steps))
+    let endian = endian_of(given)?;
+    let job = match written_floats_of(given)? {
+        None => Job::Unpack(UnpackRule::new(*rule.settings(), endian)),
+        Some(layout) => {
+            only_floats(given, files)?;
+            Job::UnpackFloats(WordFloats {
+                format: rule.settings().source,
+                layout,
+                endian,
+            })
+        }
+    };
+    Ok(run_inputs(rt, &job, given.from(files), steps))
+}
+
+/// Refuses what goes with lines alone. `files` is the place of the first file.
+fn only_floats<'a>(given: &Given<'_, 'a>, files: usize) -> Asked<'a, ()> {
+    if files > 1 {
+        return Err(Refusal::Word(
+            given.needed(1, "TARGET")?,
+            "is a TARGET, which goes with lines alone, not with floats",
+        ));
+    }
+    for row in [&POLICY, &TARGET_MODE, &PRINT, &PLACES, &PLACES_MODE] {
+        if given.value(row).is_some() {
+            return Err(Refusal::Option(row.name, "goes with lines alone, not with floats"));
+        }
+    }
+    Ok(())
 }

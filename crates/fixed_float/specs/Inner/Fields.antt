@@ -5,7 +5,7 @@ use Rattle.fixed_bits.specs.Numbers.{IsNumber, with_sign}
 use Rattle.fixed_bits.specs.Rounded.{IsRounded}
 use Rattle.fixed_bits.specs.declared.mode.ReadMode.{ReadMode}
 use Rattle.fixed_bits.specs.declared.number.Number.{Number}
-use Rattle.fixed_float.specs.Floats.{is_negative, scale, significand}
+use Rattle.fixed_float.specs.Floats.{exponent_bits, fraction_bits, is_negative, precision, scale, significand}
 use Rattle.fixed_float.specs.declared.layout.FloatFields.{FloatFields}
 use Rattle.fixed_float.specs.declared.layout.FloatLayout.{FloatLayout}
 use Rattle.fixed_read.specs.Reading.{IsMultipleOf, number_in}
@@ -46,17 +46,18 @@ pub record HasLength (magnitude length : ℕ) : Type 0 where
   pub low : 2 ^ (length - 1) ≤ magnitude
   pub high : magnitude < 2 ^ length
 
--- a magnitude of this many bits in 53 of them, rounded to the nearest, ties to even
-pub record IsSignificand (magnitude length significand : ℕ) : Type 0 where
-  pub least : 2 ^ 52 ≤ significand
-  pub most : significand ≤ 2 ^ 53
-  pub short : length ≤ 53 → significand ≡ magnitude * 2 ^ (53 - length)
-  pub long : 53 < length → IsNearest magnitude (2 ^ (length - 53)) significand
+-- a magnitude of this many bits in `precision` of them, rounded to the nearest, ties to even
+pub record IsSignificand (precision magnitude length significand : ℕ) : Type 0 where
+  pub least : 2 ^ (precision - 1) ≤ significand
+  pub most : significand ≤ 2 ^ precision
+  pub short : length ≤ precision → significand ≡ magnitude * 2 ^ (precision - length)
+  pub long : precision < length → IsNearest magnitude (2 ^ (length - precision)) significand
 
--- the bits of a double without its sign, for magnitude / 2^f
-pub record IsMagnitudeDouble (magnitude f bits : ℕ) : Type 0 where
+-- the bits of a float without its sign, for magnitude / 2^f
+pub record IsMagnitudeFloat (layout : FloatLayout) (magnitude f bits : ℕ) : Type 0 where
   pub length : ℕ
   pub has_length : HasLength magnitude length
   pub significand : ℕ
-  pub rounded : IsSignificand magnitude length significand
-  pub bits_are : bits + f * 2 ^ 52 ≡ (1021 + length) * 2 ^ 52 + significand
+  pub rounded : IsSignificand (precision layout) magnitude length significand
+  pub bits_are : bits + f * 2 ^ fraction_bits layout
+      ≡ (2 ^ (exponent_bits layout - 1) - 3 + length) * 2 ^ fraction_bits layout + significand

@@ -1,14 +1,24 @@
--- A float becomes one word, or is refused for one cause.
-use Rattle.std.proofs.Common.{◌≡◌, ◌∙◌, ℕ, ℤ, List, refl, sym, ap, subst}
+-- A float becomes one word, and a word one float, or it is refused for one cause.
+use Rattle.std.proofs.Common.{◌≡◌, ◌∙◌, ◌+◌, ◌-◌, ◌*◌, ◌^◌, ◌<◌, ℕ, suc, ℤ, pos, negsuc, Bool, true, false, List, refl, sym, ap, subst, arith}
+use Rattle.std.proofs.lemmas.Int.{ints}
+use Rattle.std.proofs.lemmas.Nat.{pow-add}
 use Rattle.fixed_bits.proofs.Public.{has_none, image_one}
 use Rattle.fixed_bits.specs.Images.{IsImage}
+use Rattle.fixed_bits.specs.Ranges.{IsInRange, IsWidth}
 use Rattle.fixed_bits.specs.declared.format.Policy.TheVariants.{Checked}
-use Rattle.fixed_float.proofs.Public.{read_float_unique}
-use Rattle.fixed_pack.specs.Floats.{AreFloatBits, IsFloatRefused, IsFloatWord, IsWordNot}
-use Rattle.fixed_pack.specs.Word.{number_of, word_bytes}
+use Rattle.fixed_command.proofs.Public.{word_fits}
+use Rattle.fixed_command.specs.Hex.{word_of}
+use Rattle.fixed_float.proofs.Public.{nearest_float_is_the_one, read_float_unique}
+use Rattle.fixed_float.specs.Floats.{bits_of_float}
+use Rattle.fixed_float.specs.Nearest.{IsNearestFloat}
+use Rattle.fixed_float.specs.declared.layout.FloatLayout.{FloatLayout}
+use Rattle.fixed_float.specs.declared.layout.FloatLayout.TheVariants.{Binary32, Binary64}
+use Rattle.fixed_pack.specs.Floats.{AreFloatBits, IsFloatRefused, IsFloatWord, IsWordFloat, IsWordNot, IsWordRefused, float_size}
+use Rattle.fixed_pack.specs.Word.{bytes_of, number_of, word_bytes}
 use Rattle.fixed_pack.specs.declared.float_words.FloatWords.{FloatWords}
 use Rattle.fixed_pack.specs.declared.float_words.WordRefusal.{WordRefusal}
 use Rattle.fixed_pack.specs.declared.float_words.WordRefusal.TheVariants.{NotFinite, Overflow, TooWide}
+use Rattle.fixed_pack.specs.declared.word_floats.WordFloats.{WordFloats}
 
 pub float_word_one : (s : FloatWords) (bytes a b : List ℕ) → IsFloatWord s bytes a → IsFloatWord s bytes b → a ≡ b
 float_word_one s bytes a b p q =
@@ -47,3 +57,49 @@ has_bits_or_not s float bits TooWide p q = q
 pub float_never : (s : FloatWords) (bytes made : List ℕ) (k : WordRefusal) → IsFloatWord s bytes made
     → IsWordNot s bytes k → ⊥
 float_never s bytes made k p q = has_bits_or_not s (number_of s.endian bytes) p.bits k p.are q
+
+-- ---- words
+-- numbers in range that have one word are one
+same_word : (signed : Bool) (n : ℕ) (a b : ℤ) → IsWidth n → IsInRange signed n a → IsInRange signed n b
+    → word_of n a ≡ word_of n b → a ≡ b
+same_word signed n a b width p q e = by signed a b p q e
+  where
+    twice : 2 ^ n ≡ 2 ^ (n - 1) * 2
+    twice = let all : n ≡ (n - 1) + 1 = omega (arith, width.some) in ap (λ i. 2 ^ i) all ∙ pow-add 2 (n - 1) 1
+
+    by : (s : Bool) (x y : ℤ) → IsInRange s n x → IsInRange s n y → word_of n x ≡ word_of n y → x ≡ y
+    by s (pos x) (pos y) l m same = ap pos same
+    by true (pos x) (negsuc y) l m same = absurd (omega (arith, ints, l.high, m.low, twice, same))
+    by false (pos x) (negsuc y) l m same = absurd (omega (arith, ints, m.low))
+    by true (negsuc x) (pos y) l m same = absurd (omega (arith, ints, l.low, m.high, twice, same))
+    by false (negsuc x) (pos y) l m same = absurd (omega (arith, ints, l.low))
+    by true (negsuc x) (negsuc y) l m same = ap negsuc (omega (arith, ints, l.low, m.low, twice, same))
+    by false (negsuc x) (negsuc y) l m same = absurd (omega (arith, ints, l.low))
+
+few_bits : (layout : FloatLayout) (float : ℕ) → float < 256 ^ float_size layout → float < 2 ^ bits_of_float layout
+few_bits Binary32 float few = omega (arith, few)
+few_bits Binary64 float few = omega (arith, few)
+
+pub word_float_one : (s : WordFloats) (bytes a b : List ℕ) → IsWordFloat s bytes a → IsWordFloat s bytes b → a ≡ b
+word_float_one s bytes a b p q =
+    let bits : p.bits ≡ q.bits = same_word s.format.signed s.format.width p.bits q.bits p.are.width p.are.in_range
+    q.are.in_range (p.are.word_is ∙ sym q.are.word_is) in
+    let float : p.float ≡ q.float = nearest_float_is_the_one s.layout q.bits s.format.frac p.float q.float
+    (few_bits s.layout p.float p.few) (few_bits s.layout q.float q.few)
+    (subst (λ v. IsNearestFloat s.layout v s.format.frac p.float) bits p.nearest) q.nearest in
+    p.float_is ∙ (ap (bytes_of s.endian (float_size s.layout)) float ∙ sym q.float_is)
+
+pub width_one : (s : WordFloats) (bytes : List ℕ) (k l : WordRefusal) → IsWordRefused s bytes k
+    → IsWordRefused s bytes l → k ≡ l
+width_one s bytes NotFinite l p q = absurd p
+width_one s bytes Overflow l p q = absurd p
+width_one s bytes TooWide NotFinite p q = absurd q
+width_one s bytes TooWide Overflow p q = absurd q
+width_one s bytes TooWide TooWide p q = refl
+
+pub word_never : (s : WordFloats) (bytes made : List ℕ) (k : WordRefusal) → IsWordFloat s bytes made
+    → IsWordRefused s bytes k → ⊥
+word_never s bytes made NotFinite p q = q
+word_never s bytes made Overflow p q = q
+word_never s bytes made TooWide p q =
+    omega (arith, word_fits s.format p.bits p.are.width p.are.in_range, p.are.word_is, q)

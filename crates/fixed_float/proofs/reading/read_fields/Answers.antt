@@ -1,4 +1,4 @@
-use Rattle.std.proofs.Common.{◌≡◌, ◌*◌, ◌+◌, ◌%◌, ◌↔◌, ℕ, IsTrue, Bool, arith, refl, ap, sym, subst}
+use Rattle.std.proofs.Common.{◌≡◌, ◌+◌, ◌%◌, ◌↔◌, ℕ, IsTrue, Bool, arith, ap, sym, subst}
 use Rattle.fixed_float.specs.Inner.Fields.{IsShift}
 use Rattle.fixed_float.proofs.ReadingLemmas.{reading_of}
 use Rattle.fixed_float.proofs.reading.read_fields.Goals as goal

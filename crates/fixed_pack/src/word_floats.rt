@@ -1,0 +1,74 @@
+//! Words of a format written as floats.
+
+ghost use Rattle.std.specs.Prelude.{◌^◌, ◌<◌};
+ghost use Rattle.fixed_bits.specs.Ranges.{IsInRange};
+ghost use Rattle.fixed_float.specs.Nearest.{IsNearestFloat};
+ghost use Rattle.fixed_pack.specs.Floats.{float_size};
+
+use crate::Endian;
+use crate::float_words::{WordRefusal, float_length};
+use crate::recode::Recode;
+use crate::word::{push_word, word_bits, word_length, word_number};
+use fixed_bits::Format;
+use fixed_float::{FloatLayout, binary32_of, binary64_of};
+use line_engine::Output;
+
+/// How words are written as floats.
+#[derive(Clone, Copy, Debug, PartialEq, Eq)]
+pub struct WordFloats {
+    /// The format of a word.
+    pub format: Format,
+    /// Which floats are written.
+    pub layout: FloatLayout,
+    /// The order of the bytes of a word, and of a float.
+    pub endian: Endian,
+}
+
+/// The bits of the float nearest to the bits `number` of a format, ties to even.
+#[inline(always)]
+fn nearest_float(layout: FloatLayout, number: i128, format: Format) -> u64
+    requires { IsInRange format.signed format.width number }
+    ensures few { result < 256 ^ float_size layout }
+    ensures nearest { IsNearestFloat layout number format.frac result }
+{
+    match layout {
+        FloatLayout::Binary32 => u64::from(binary32_of(number, format)),
+        FloatLayout::Binary64 => binary64_of(number, format),
+    }
+}
+
+impl Recode for WordFloats {
+    ghost use Rattle.fixed_pack.specs.Floats.{IsWordFloat, IsWordRefused};
+    ghost use Rattle.fixed_pack.specs.Lemmas.FloatLaws.{width_one, word_float_one, word_never};
+    ghost use Rattle.fixed_pack.specs.Word.{word_length};
+
+    type Cause = WordRefusal;
+
+    ghost size = { λ words. word_length words.format.width };
+
+    ghost Recodes = { IsWordFloat };
+
+    ghost Refuses = { IsWordRefused };
+
+    fn count(&self) -> usize {
+        word_length(self.format)
+    }
+
+    #[inline(always)]
+    fn recode(&self, word: &[u8], out: &mut Output) -> Result<(), WordRefusal> {
+        match word_bits(self.format, word_number(word, self.endian)) {
+            Some(bits) => {
+                let float = nearest_float(self.layout, bits, self.format);
+                push_word(out, self.endian, float_length(self.layout), float);
+                Ok(())
+            }
+            None => Err(WordRefusal::TooWide),
+        }
+    }
+
+    ghost one_law = { word_float_one };
+
+    ghost cause_law = { width_one };
+
+    ghost never_law = { word_never };
+}
