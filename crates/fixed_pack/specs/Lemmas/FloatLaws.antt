@@ -1,5 +1,6 @@
 -- A float becomes one word, and a word one float, or it is refused for one cause.
-use Rattle.std.proofs.Common.{◌≡◌, ◌∙◌, ◌+◌, ◌-◌, ◌*◌, ◌^◌, ◌<◌, ℕ, suc, ℤ, pos, negsuc, Bool, true, false, List, refl, sym, ap, subst, arith}
+use Rattle.std.proofs.Common.{◌≡◌, ◌∙◌, ◌+◌, ◌-◌, ◌*◌, ◌^◌, ◌<◌, ℕ, ℤ, pos, negsuc, Bool, true, false, List, refl}
+use Rattle.std.proofs.Common.{sym, ap, subst, arith}
 use Rattle.std.proofs.lemmas.Int.{ints}
 use Rattle.std.proofs.lemmas.Nat.{pow-add}
 use Rattle.fixed_bits.proofs.Public.{has_none, image_one}
@@ -13,7 +14,8 @@ use Rattle.fixed_float.specs.Floats.{bits_of_float}
 use Rattle.fixed_float.specs.Nearest.{IsNearestFloat}
 use Rattle.fixed_float.specs.declared.layout.FloatLayout.{FloatLayout}
 use Rattle.fixed_float.specs.declared.layout.FloatLayout.TheVariants.{Binary32, Binary64}
-use Rattle.fixed_pack.specs.Floats.{AreFloatBits, IsFloatRefused, IsFloatWord, IsWordFloat, IsWordNot, IsWordRefused, float_size}
+use Rattle.fixed_pack.specs.Floats.{AreFloatBits, IsFloatRefused, IsFloatWord, IsWordFloat, IsWordNot, IsWordRefused}
+use Rattle.fixed_pack.specs.Floats.{float_size}
 use Rattle.fixed_pack.specs.Word.{bytes_of, number_of, word_bytes}
 use Rattle.fixed_pack.specs.declared.float_words.FloatWords.{FloatWords}
 use Rattle.fixed_pack.specs.declared.float_words.WordRefusal.{WordRefusal}
