@@ -2,6 +2,7 @@
 pub mod Public
 -- What no other crate can name
 mod LawLemmas
+mod OrderLemmas
 mod UnitsLemmas
 mod WholeLemmas
 mod ReadingLemmas

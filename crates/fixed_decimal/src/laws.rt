@@ -1,11 +1,17 @@
 //! Laws of the definitions, each the contract of a function that does nothing.
 
 ghost use Rattle.fixed_decimal.specs.Laws.{DecimalTextIsTheOne, DecimalTextReadsBack, ReadDecimalIsTheOne};
+ghost use Rattle.fixed_decimal.specs.Laws.{ReadDecimalKeepsOrder};
 
 /// A numeral has exactly one read number for each decimal format and mode.
 #[tactic(auto, using(crate::proofs::LawLemmas::read_decimal_is_the_one))]
 pub fn read_decimal_is_the_one()
     ensures { ReadDecimalIsTheOne }
+{}
+
+/// Reading keeps the order of values, in each mode: of two numerals, the greater never reads as the lesser number.
+pub fn read_decimal_keeps_order()
+    ensures { ReadDecimalKeepsOrder }
 {}
 
 /// The text of a number is a decimal numeral that reads as this number in each mode, and exactly.
