@@ -5,5 +5,6 @@ pub mod Lines
 pub mod Constants
 pub mod Fit
 pub mod Words
+pub mod Convert
 pub mod Laws
 pub mod Inner

@@ -8,6 +8,7 @@ ghost use Rattle.std.specs.Prelude.{Option, codes, decimal, false, length, slice
 ghost use Rattle.std.specs.List.{list_all};
 ghost use Rattle.clap.specs.Words.{first_value, found_of};
 ghost use Rattle.command_line.specs.Words.{keyword_at, value_of, word_at};
+ghost use Rattle.fixed.specs.Convert.{IsConversionAsked};
 ghost use Rattle.fixed.specs.Lines.{IsFormatAsked, IsPartAsked, IsTargetAsked, are_counts, is_count};
 ghost use Rattle.fixed.specs.Lines.{is_like_format};
 ghost use Rattle.fixed.specs.Settings.{IsPlacesWord, IsPrintAsked, endian_text};
@@ -17,6 +18,7 @@ ghost use Rattle.fixed_bits.specs.declared.format.Policy.{Policy};
 ghost use Rattle.fixed_bits.specs.declared.mode.ReadMode.{ReadMode};
 ghost use Rattle.fixed_command.specs.Asked.{IsNamed, spelling_text};
 ghost use Rattle.fixed_command.specs.Limits.{max_limit};
+ghost use Rattle.fixed_command.specs.declared.convert.Settings.{Settings};
 ghost use Rattle.fixed_command.specs.declared.print.Print.{Print};
 ghost use Rattle.fixed_command.specs.declared.spelling.Spelling.{Spelling};
 ghost use Rattle.fixed_float.specs.declared.layout.FloatLayout.{FloatLayout};
@@ -25,7 +27,6 @@ ghost use Rattle.fixed_pack.specs.declared.endian.Endian.{Endian};
 ghost use Rattle.fixed_respell.specs.FormatNames.{IsFormatName};
 ghost use Rattle.fixed_respell.specs.Words.{mode_text, policy_text, radix_text};
 ghost use Rattle.fixed_show.specs.declared.parts.Part.{Part};
-ghost use Rattle.line_engine.specs.Memory.{next_count};
 
 use crate::options::{
     ENDIAN, FIELD, FROM, MODE, PACK_FROM, PLACES, PLACES_MODE, POLICY, PRINT, RADIX, SWAP,
@@ -356,22 +357,8 @@ pub fn part_of<'a>(given: &Given<'_, 'a>, format: Format) -> Asked<'a, Option<Pa
 
 /// The conversion that the words from a place on and the options name, and the place of the first file.
 pub fn conversion<'a>(given: &Given<'_, 'a>, place: usize) -> Asked<'a, (ConvertRule, usize)>
-    ensures source { IfOk result (λ found. IsFormatAsked (word_at given.now place) found.0.source) }
-    ensures target { IfOk result (λ found. IsTargetAsked (keyword_at given.now (next_count place)) found.0.source
-        (next_count place) found.0.target found.1) }
-    ensures spelling { IfOk result (λ found. IsNamed Spelling spelling_text Spelling.Numeral
-        (first_value (found_of given.now.matches.now) (codes "from")) found.0.spelling) }
-    ensures radix { IfOk result (λ found. IsNamed Radix radix_text Radix.Dec
-        (first_value (found_of given.now.matches.now) (codes "radix")) found.0.radix) }
-    ensures policy { IfOk result (λ found. IsNamed Policy policy_text Policy.Checked
-        (first_value (found_of given.now.matches.now) (codes "policy")) found.0.policy) }
-    ensures mode { IfOk result (λ found. IsNamed ReadMode mode_text ReadMode.NearestEven
-        (first_value (found_of given.now.matches.now) (codes "mode")) found.0.mode) }
-    ensures target_mode { IfOk result (λ found. IsNamed ReadMode mode_text ReadMode.Floor
-        (first_value (found_of given.now.matches.now) (codes "target-mode")) found.0.target_mode) }
-    ensures print { IfOk result (λ found. IsPrintAsked (first_value (found_of given.now.matches.now) (codes "print"))
-        (first_value (found_of given.now.matches.now) (codes "places"))
-        (first_value (found_of given.now.matches.now) (codes "places-mode")) found.0.print) }
+    ensures value { IfOk result (λ found. IsConversionAsked given.now place found.0 found.1) }
+    ensures refused { IfErr result (λ _. (s : Settings) (files : ℕ) → ¬ IsConversionAsked given.now place s files) }
 {
     let source = match format_at(given, place, "SOURCE") {
         Ok(source) => source,
