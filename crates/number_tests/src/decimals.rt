@@ -39,7 +39,7 @@ fn reads_in_each_mode(text: &str, places: u32, numbers: &[i64; 9]) -> bool {
 
 #[test]
 fn each_mode_rounds_the_written_decimal(rt: HostRuntime) {
-    let rows: [(&'static str, u32, [i64; 9]); 12] = [
+    let rows: [(&'static str, u32, [i64; 9]); 9] = [
         ("1.005", 2, [100, 100, 101, 100, 101, 100, 101, 100, 101]),
         (
             "-1.005",
@@ -51,24 +51,6 @@ fn each_mode_rounds_the_written_decimal(rt: HostRuntime) {
             "-1.015",
             2,
             [-102, -102, -101, -101, -102, -101, -101, -102, -102],
-        ),
-        (
-            "0.0050000000000000000000000000000000000000000000000000000000000000000000000000000000000000\
-             000000000000000",
-            2,
-            [0, 0, 1, 0, 1, 0, 1, 0, 1],
-        ),
-        (
-            "-0.005000000000000000000000000000000000000000000000000000000000000000000000000000000000000\
-             0000000000000000",
-            2,
-            [0, -1, 0, 0, -1, 0, 0, -1, -1],
-        ),
-        (
-            "-2.675000000000000000000000000000000000000000000000000000000000000000000000000000000000000\
-             00000000000000001",
-            2,
-            [-268, -268, -267, -267, -268, -268, -268, -268, -268],
         ),
         (
             "7.49999999999999999999999999999999999999999999999999999999999999",
@@ -89,13 +71,84 @@ fn each_mode_rounds_the_written_decimal(rt: HostRuntime) {
     }
 }
 
-/// Whether a numeral is out of range and exact as these say, and has these images.
-fn ends_as(text: &str, places: u32, is_out: bool, is_exact: bool, end: i64, wrapped: i64) -> bool {
+#[test]
+fn a_hundred_zeros_after_a_tie_change_nothing(rt: HostRuntime) {
+    let rows: [(&'static str, [i64; 9]); 3] = [
+        (
+            "0.0050000000000000000000000000000000000000000000000000000000000000000000000000000000000000\
+             000000000000000",
+            [0, 0, 1, 0, 1, 0, 1, 0, 1],
+        ),
+        (
+            "-0.005000000000000000000000000000000000000000000000000000000000000000000000000000000000000\
+             0000000000000000",
+            [0, -1, 0, 0, -1, 0, 0, -1, -1],
+        ),
+        (
+            "-2.675000000000000000000000000000000000000000000000000000000000000000000000000000000000000\
+             00000000000000001",
+            [-268, -268, -267, -267, -268, -268, -268, -268, -268],
+        ),
+    ];
+    for (text, numbers) in &rows {
+        assert!(rt; reads_in_each_mode(text, 2, numbers), "{text}");
+    }
+}
+
+/// The greatest number of 64 bits with a sign.
+const MOST: i64 = 9_223_372_036_854_775_807;
+
+/// The least number of 64 bits with a sign.
+const LEAST: i64 = -9_223_372_036_854_775_808;
+
+/// Whether a numeral is in range, is exact as this says, and has this number under each policy.
+fn is_within(text: &str, places: u32, is_exact: bool, number: i64) -> bool {
     match read(text, places, ReadMode::NearestEven) {
         Some(found) => {
-            found.is_out_of_range() == is_out
+            !found.is_out_of_range()
                 && found.is_exact() == is_exact
-                && found.image(Policy::Checked).is_none() == is_out
+                && found.image(Policy::Checked) == Some(number)
+                && found.image(Policy::Saturating) == Some(number)
+                && found.image(Policy::Wrapping) == Some(number)
+        }
+        None => false,
+    }
+}
+
+#[test]
+fn the_ends_of_64_bits_are_in_range(rt: HostRuntime) {
+    let rows: [(&'static str, u32, bool, i64); 6] = [
+        ("92233720368547758.07", 2, true, MOST),
+        (
+            "92233720368547758.074000000000000000000000000000000000000000000000000000000000000000000000\
+             0000000000000000000000000000000",
+            2,
+            false,
+            MOST,
+        ),
+        ("-92233720368547758.08", 2, true, LEAST),
+        (
+            "-92233720368547758.08500000000000000000000000000000000000000000000000000000000000000000000\
+             00000000000000000000000000000000",
+            2,
+            false,
+            LEAST,
+        ),
+        ("9.223372036854775807", 18, true, MOST),
+        ("-9.2233720368547758085", 18, false, LEAST),
+    ];
+    for (text, places, is_exact, number) in &rows {
+        assert!(rt; is_within(text, *places, *is_exact, *number), "{text}");
+    }
+}
+
+/// Whether a numeral is out of range, is exact as this says, and is clipped and wrapped to these numbers.
+fn is_beyond(text: &str, places: u32, is_exact: bool, end: i64, wrapped: i64) -> bool {
+    match read(text, places, ReadMode::NearestEven) {
+        Some(found) => {
+            found.is_out_of_range()
+                && found.is_exact() == is_exact
+                && found.image(Policy::Checked).is_none()
                 && found.image(Policy::Saturating) == Some(end)
                 && found.image(Policy::Wrapping) == Some(wrapped)
         }
@@ -104,120 +157,25 @@ fn ends_as(text: &str, places: u32, is_out: bool, is_exact: bool, end: i64, wrap
 }
 
 #[test]
-fn the_ends_of_64_bits_are_met_under_each_policy(rt: HostRuntime) {
-    let rows: [(&'static str, u32, bool, bool, i64, i64); 14] = [
-        (
-            "92233720368547758.07",
-            2,
-            false,
-            true,
-            9_223_372_036_854_775_807,
-            9_223_372_036_854_775_807,
-        ),
-        (
-            "92233720368547758.074000000000000000000000000000000000000000000000000000000000000000000000\
-             0000000000000000000000000000000",
-            2,
-            false,
-            false,
-            9_223_372_036_854_775_807,
-            9_223_372_036_854_775_807,
-        ),
-        (
-            "92233720368547758.08",
-            2,
-            true,
-            true,
-            9_223_372_036_854_775_807,
-            -9_223_372_036_854_775_808,
-        ),
-        (
-            "92233720368547758.075000000000000000000000000000000000000000000000000000000000000000000000\
-             0000000000000000000000000000000",
-            2,
-            true,
-            false,
-            9_223_372_036_854_775_807,
-            -9_223_372_036_854_775_808,
-        ),
-        (
-            "-92233720368547758.08",
-            2,
-            false,
-            true,
-            -9_223_372_036_854_775_808,
-            -9_223_372_036_854_775_808,
-        ),
-        (
-            "-92233720368547758.09",
-            2,
-            true,
-            true,
-            -9_223_372_036_854_775_808,
-            9_223_372_036_854_775_807,
-        ),
-        (
-            "-92233720368547758.08500000000000000000000000000000000000000000000000000000000000000000000\
-             00000000000000000000000000000000",
-            2,
-            false,
-            false,
-            -9_223_372_036_854_775_808,
-            -9_223_372_036_854_775_808,
-        ),
-        (
-            "184467440737095516.16",
-            2,
-            true,
-            true,
-            9_223_372_036_854_775_807,
-            0,
-        ),
-        (
-            "-1e40",
-            2,
-            true,
-            true,
-            -9_223_372_036_854_775_808,
-            6_640_025_486_929_952_768,
-        ),
-        (
-            "123456789123456789123456789123456789123456789123456789123456789123456789123456789",
-            0,
-            true,
-            true,
-            9_223_372_036_854_775_807,
-            -4_095_899_931_892_228_331,
-        ),
-        (
-            "-123456789123456789123456789123456789123456789123456789123456789123456789123456789.5",
-            1,
-            true,
-            true,
-            -9_223_372_036_854_775_808,
-            4_065_511_171_503_180_073,
-        ),
-        (
-            "9.223372036854775807",
-            18,
-            false,
-            true,
-            9_223_372_036_854_775_807,
-            9_223_372_036_854_775_807,
-        ),
-        (
-            "-9.2233720368547758085",
-            18,
-            false,
-            false,
-            -9_223_372_036_854_775_808,
-            -9_223_372_036_854_775_808,
-        ),
-        ("1e2000000000", 18, true, true, 9_223_372_036_854_775_807, 0),
+fn numbers_past_64_bits_are_refused_clipped_or_wrapped(rt: HostRuntime) {
+    let many = "123456789123456789123456789123456789123456789123456789123456789123456789123456789";
+    let fewer =
+        "-123456789123456789123456789123456789123456789123456789123456789123456789123456789.5";
+    let tie =
+        "92233720368547758.07500000000000000000000000000000000000000000000000000000000000000000000";
+    let rows: [(&str, u32, bool, i64, i64); 8] = [
+        ("92233720368547758.08", 2, true, MOST, LEAST),
+        (tie, 2, false, MOST, LEAST),
+        ("-92233720368547758.09", 2, true, LEAST, MOST),
+        ("184467440737095516.16", 2, true, MOST, 0),
+        ("-1e40", 2, true, LEAST, 6_640_025_486_929_952_768),
+        (many, 0, true, MOST, -4_095_899_931_892_228_331),
+        (fewer, 1, true, LEAST, 4_065_511_171_503_180_073),
+        ("1e2000000000", 18, true, MOST, 0),
     ];
-    for (text, places, is_out, is_exact, end, wrapped) in &rows {
+    for (text, places, is_exact, end, wrapped) in &rows {
         assert!(rt;
-            ends_as(text, *places, *is_out, *is_exact, *end, *wrapped),
+            is_beyond(text, *places, *is_exact, *end, *wrapped),
             "{text}"
         );
     }
