@@ -110,8 +110,8 @@ def refusal(crate, edit, message):
     if "only by a limit of the prover" in message:
         return f"`{edited_function(crate, edit)}`", "at a limit of the prover"
     place = re.search(r"(src/\S+?\.rt):(\d+):\d+", message)
-    path = f"{TOP}/crates/{crate}/{place.group(1)}" if place else None
-    function = function_at(path, int(place.group(2))) if place else edited_function(crate, edit)
+    path = f"{TOP}/crates/{crate}/{place.group(1)}" if place else ""
+    function = function_at(path, int(place.group(2))) if os.path.isfile(path) else edited_function(crate, edit)
     requires = re.search(r"what `(\w+)` requires holds at this call(?: \(`[^`]*?(?:-clause-(\w+))?[`)])?", message)
     if requires:
         clause = f"condition `{requires.group(2)}`" if requires.group(2) else "a condition"
