@@ -124,7 +124,7 @@ def refusal(crate, edit, message):
     fits = re.search(r"not proved that (the \w+) fits its type", message)
     if fits:
         return f"`{function}`: {fits.group(1)} fits its type", "at a goal"
-    other = re.search(r"not proved that ([^;(]*)", message)
+    other = re.search(r"not proved that ([^;(\t]*)", message)
     return f"`{function}`: {other.group(1).strip() if other else 'a law'}", "at a goal"
 
 
