@@ -139,7 +139,7 @@ pub fn is_kept(name: &[u8]) -> bool
     has_two_underscores(name) || begins_kept(name)
 }
 
-/// Whether C leaves a name free that is none of its words.
+/// Whether a name that is no keyword of C is free to use.
 fn is_open(name: &[u8]) -> bool
     requires { length name.now ≤ 64 }
     ensures { IsTrue result ↔ ((¬ IsAmong gnu_words name.now) × (¬ IsKept name.now)) }

@@ -304,7 +304,7 @@ fn push_count(out: &mut TextBuffer<MAX_TALLY>, count: u64)
     out.push_bytes(digits.format(count).as_bytes());
 }
 
-/// Appends where the first is: nothing where there is none.
+/// Appends the place of the first one, or nothing if there is none.
 fn push_first(out: &mut TextBuffer<MAX_TALLY>, first: u64, place: Place)
     requires room { length out.old + 45 ≤ 320 }
     ensures appended { out.new ≡ out.old ++ first_text place first }

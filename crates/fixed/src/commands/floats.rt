@@ -115,7 +115,7 @@ fn recode_on<
     (status_of(&end), watch)
 }
 
-/// Appends where the first is: nothing where there is none.
+/// Appends the place of the first one, or nothing if there is none.
 fn push_first(report: &mut Report, first: u64) {
     if first > 0 {
         report.text(" (the first in float ");
