@@ -1,6 +1,6 @@
 -- Images: what a wide number leaves, uniqueness, and the ends of a range.
 use Rattle.std.proofs.Common.{◌≡◌, ℕ, zero, suc, ◌+◌, ◌-◌, ◌*◌, ◌^◌, ◌<◌, ◌≤◌, Bool, true, false, ℤ, pos, ◌+ℤ◌, arith, refl, sym, ap, inl, inr, ⊎_elim, ◌∙◌}
-use Rattle.std.specs.Prelude.{◌<ℤ◌}
+use Rattle.std.specs.Prelude.{◌<ℤ◌, ◌↔◌}
 use Rattle.std.proofs.lemmas.Bool.{cases_lt}
 use Rattle.std.proofs.lemmas.Int.{ints, by_lt_z}
 use Rattle.std.proofs.lemmas.Nat.{pow_pos}
@@ -8,9 +8,9 @@ use Rattle.std.proofs.Math.Nat.{pow-succ'}
 use Rattle.std.proofs.Math.Pow.{pow_mono}
 use Rattle.fixed_bits.specs.Formats.{IsFormat, IsTypeFormat}
 use Rattle.fixed_bits.specs.Ranges.{IsInRange, IsOutOfRange, IsTypeWidth, IsWidth, IsWide, lowest, greatest}
-use Rattle.fixed_bits.specs.Images.{IsImage, IsSaturated, IsWrapped, DiffersByMultiple}
+use Rattle.fixed_bits.specs.Images.{IsImage, IsInRangeBy, IsOutOfRangeBy, IsSaturated, IsWrapped, DiffersByMultiple, lowest_by}
 use Rattle.fixed_bits.specs.declared.format.Policy.{Policy}
-use Rattle.fixed_bits.specs.declared.format.Policy.TheVariants.{Checked, Saturating, Wrapping}
+use Rattle.fixed_bits.specs.declared.format.Policy.TheVariants.{Checked, Saturating, Wrapping, Symmetric}
 
 -- ---- facts of widths
 twice_some : (n : ℕ) → 0 < n → 2 ^ n ≡ 2 * 2 ^ (n - 1)
@@ -34,19 +34,33 @@ type_least n (inr (inr (inl e))) = omega (arith, e)
 type_least n (inr (inr (inr e))) = omega (arith, e)
 
 pub type_format : (w f : ℕ) → IsTypeFormat w f → IsFormat w f
-type_format w f is = record { is_width = type_width w is.is_width; within = is.within }
+type_format w f is = let width = type_width w is.is_width in record { is_width = width; within = omega (arith, width.most, is.within) }
 
 -- ---- the last bits, and what has to be taken off
 
--- ---- a number in range is its own image
-pub image_same : (p : Policy) (s : Bool) (n : ℕ) (v : ℤ) → IsInRange s n v → IsImage p s n v v
-image_same Checked s n v h = record { in_range = h; same = refl }
+-- ---- the range that a policy leaves
+-- a number in it is in the format's range
+pub in_range_of : (p : Policy) (s : Bool) (n : ℕ) (v : ℤ) → IsInRangeBy p s n v → IsInRange s n v
+in_range_of Checked s n v h = record { low = h.low; high = h.high }
+in_range_of Saturating s n v h = record { low = h.low; high = h.high }
+in_range_of Wrapping s n v h = record { low = h.low; high = h.high }
+in_range_of Symmetric true n v h = record { low = omega (arith, ints, h.low); high = h.high }
+in_range_of Symmetric false n v h = record { low = h.low; high = h.high }
+
+-- ---- a number in it is its own image
+pub image_same : (p : Policy) (s : Bool) (n : ℕ) (v : ℤ) → IsInRangeBy p s n v → IsImage p s n v v
+image_same Checked s n v h = record { in_range = in_range_of Checked s n v h; same = refl }
 image_same Saturating s n v h = record {
   same = λ _. refl;
   below = λ l. absurd (let k = h.low in omega (arith, ints));
   above = λ l. absurd (let k = h.high in omega (arith, ints));
 }
-image_same Wrapping s n v h = record { in_range = h; near = (0, 0, refl) }
+image_same Wrapping s n v h = record { in_range = in_range_of Wrapping s n v h; near = (0, 0, refl) }
+image_same Symmetric s n v h = record {
+  same = λ _. refl;
+  below = λ l. absurd (let k = h.low in omega (arith, ints));
+  above = λ l. absurd (let k = h.high in omega (arith, ints));
+}
 
 -- ---- images are unique
 apart : (m k : ℕ) (c d : ℤ) → c <ℤ (d +ℤ pos m) → c ≡ d +ℤ pos (k * m) → c ≡ d
@@ -85,15 +99,24 @@ wrapped_unique s n v c d w a b =
 pub by_range : {P : Type 0} (s : Bool) (n : ℕ) (v : ℤ) → (IsInRange s n v → P) → (v <ℤ lowest s n → P) → (greatest s n <ℤ v → P) → P
 by_range s n v inside under over = by_lt_z v (lowest s n) under (λ l. by_lt_z (greatest s n) v over (λ h. inside (record { low = l; high = h })))
 
+-- and by the range that a policy leaves
+pub by_policy_range : {P : Type 0} (p : Policy) (s : Bool) (n : ℕ) (v : ℤ) → (IsInRangeBy p s n v → P) → (v <ℤ lowest_by p s n → P) → (greatest s n <ℤ v → P) → P
+by_policy_range p s n v inside under over = by_lt_z v (lowest_by p s n) under (λ l. by_lt_z (greatest s n) v over (λ h. inside (record { low = l; high = h })))
+
 pub image_unique : (p : Policy) (s : Bool) (n : ℕ) (v c d : ℤ) → IsWidth n → IsImage p s n v c → IsImage p s n v d → c ≡ d
 image_unique Checked s n v c d w a b = a.same ∙ sym b.same
 image_unique Saturating s n v c d w a b = by_range s n v (λ h. a.same h ∙ sym (b.same h)) (λ h. a.below h ∙ sym (b.below h)) (λ h. a.above h ∙ sym (b.above h))
 image_unique Wrapping s n v c d w a b = wrapped_unique s n v c d w a b
+image_unique Symmetric s n v c d w a b = by_policy_range Symmetric s n v (λ h. a.same h ∙ sym (b.same h)) (λ h. a.below h ∙ sym (b.below h)) (λ h. a.above h ∙ sym (b.above h))
 
 -- out of range is the contrary of in range
 pub out_not_in : (s : Bool) (n : ℕ) (v : ℤ) → IsOutOfRange s n v → IsInRange s n v → ⊥
 out_not_in s n v (inl l) h = let k = h.low in omega (arith, ints)
 out_not_in s n v (inr l) h = let k = h.high in omega (arith, ints)
+
+pub out_not_in_by : (p : Policy) (s : Bool) (n : ℕ) (v : ℤ) → IsOutOfRangeBy p s n v → IsInRangeBy p s n v → ⊥
+out_not_in_by p s n v (inl l) h = let k = h.low in omega (arith, ints)
+out_not_in_by p s n v (inr l) h = let k = h.high in omega (arith, ints)
 
 -- ---- what is in range is wide
 pub width_most : (n : ℕ) → IsWidth n → n ≤ 64
@@ -131,15 +154,45 @@ pub greatest_in : (s : Bool) (n : ℕ) → IsInRange s n (greatest s n)
 greatest_in true n = record { low = omega (arith, ints, pow_pos (n - 1)); high = omega (arith, ints) }
 greatest_in false n = record { low = omega (arith, ints, pow_pos n); high = omega (arith, ints) }
 
+-- the ends are in the range that Symmetric leaves
+symmetric_lowest : (s : Bool) (n : ℕ) → IsInRangeBy Symmetric s n (lowest_by Symmetric s n)
+symmetric_lowest true n = record { low = omega (arith, ints); high = omega (arith, ints, pow_pos (n - 1)) }
+symmetric_lowest false n = record { low = omega (arith, ints); high = omega (arith, ints, pow_pos n) }
+
+symmetric_greatest : (s : Bool) (n : ℕ) → IsInRangeBy Symmetric s n (greatest s n)
+symmetric_greatest true n = record { low = omega (arith, ints, pow_pos (n - 1)); high = omega (arith, ints) }
+symmetric_greatest false n = record { low = omega (arith, ints, pow_pos n); high = omega (arith, ints) }
+
+saturated_in : (s : Bool) (n : ℕ) (v c : ℤ) → IsSaturated s n v c → IsInRange s n c
+saturated_in s n v c i = by_range s n v (λ h. rw (i.same h) h) (λ h. rw (i.below h) (lowest_in s n)) (λ h. rw (i.above h) (greatest_in s n))
+
+pub image_in_by : (p : Policy) (s : Bool) (n : ℕ) (v c : ℤ) → IsImage p s n v c → IsInRangeBy p s n c
+image_in_by Checked s n v c i = let r = i.in_range in rw i.same (record { low = r.low; high = r.high })
+image_in_by Saturating s n v c i = let r = saturated_in s n v c i in record { low = r.low; high = r.high }
+image_in_by Wrapping s n v c i = let r = i.in_range in record { low = r.low; high = r.high }
+image_in_by Symmetric s n v c i = by_policy_range Symmetric s n v (λ h. rw (i.same h) h) (λ h. rw (i.below h) (symmetric_lowest s n)) (λ h. rw (i.above h) (symmetric_greatest s n))
+
 pub image_in : (p : Policy) (s : Bool) (n : ℕ) (v c : ℤ) → IsImage p s n v c → IsInRange s n c
-image_in Checked s n v c i = rw i.same i.in_range
-image_in Saturating s n v c i = by_range s n v (λ h. rw (i.same h) h) (λ h. rw (i.below h) (lowest_in s n)) (λ h. rw (i.above h) (greatest_in s n))
-image_in Wrapping s n v c i = i.in_range
+image_in p s n v c i = in_range_of p s n c (image_in_by p s n v c i)
+
+-- the lowest number that a policy leaves is wide
+pub lowest_left_wide : (p : Policy) (s : Bool) (n : ℕ) → n ≤ 64 → IsWide (lowest_by p s n)
+lowest_left_wide Checked s n w = lowest_wide s n w
+lowest_left_wide Saturating s n w = lowest_wide s n w
+lowest_left_wide Wrapping s n w = lowest_wide s n w
+lowest_left_wide Symmetric s n w = in_wide s n (lowest_by Symmetric s n) w (in_range_of Symmetric s n (lowest_by Symmetric s n) (symmetric_lowest s n))
+
+-- in an unsigned format Symmetric is Saturating
+pub unsigned_saturated : (n : ℕ) (v c : ℤ) → IsImage Symmetric false n v c ↔ IsSaturated false n v c
+unsigned_saturated n v c = (
+  λ i. record { same = λ h. i.same (record { low = h.low; high = h.high }); below = i.below; above = i.above },
+  λ i. record { same = λ h. i.same (record { low = h.low; high = h.high }); below = i.below; above = i.above },
+)
 
 -- a number in range is what is left of it
 pub wrapped_same : (s : Bool) (n : ℕ) (v r : ℤ) → IsWidth n → IsInRange s n v → IsWrapped s n v r → r ≡ v
-wrapped_same s n v r w h i = wrapped_unique s n v r v w i (image_same Wrapping s n v h)
+wrapped_same s n v r w h i = wrapped_unique s n v r v w i (image_same Wrapping s n v (record { low = h.low; high = h.high }))
 
 -- a number in range is its own Saturating image
 pub saturated_inside : (s : Bool) (n : ℕ) (v r : ℤ) → IsInRange s n v → r ≡ v → IsSaturated s n v r
-saturated_inside s n v r h e = rw e (image_same Saturating s n v h)
+saturated_inside s n v r h e = rw e (image_same Saturating s n v (record { low = h.low; high = h.high }))

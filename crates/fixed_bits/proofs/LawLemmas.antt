@@ -1,10 +1,10 @@
 -- The laws of this crate.
 use Rattle.std.proofs.Common.{inl, inr}
-use Rattle.fixed_bits.specs.Laws.{NearestIsTheOne, RoundedIsTheOne, EqualFractionsRoundAlike, RangeIsDecided, EndsAreWide, ImagesAgree, CheckedHasNone, ImageIsTheOne, ImageIsInRange, DownIsTheOne, DownKeepsOrder}
+use Rattle.fixed_bits.specs.Laws.{NearestIsTheOne, RoundedIsTheOne, EqualFractionsRoundAlike, RangeIsDecided, PolicyRangeIsDecided, UnsignedIsSaturated, EndsAreWide, ImagesAgree, CheckedHasNone, ImageIsTheOne, ImageIsInRange, DownIsTheOne, DownKeepsOrder}
 use Rattle.fixed_bits.specs.Down.{down}
 use Rattle.fixed_bits.proofs.NearestLemmas.{nearest_unique, nearest_exists}
 use Rattle.fixed_bits.proofs.RoundedLemmas.{rounded_unique, rounded_exists, rounded_same}
-use Rattle.fixed_bits.proofs.ImageLemmas.{image_same, image_unique, image_in, out_not_in, by_range, lowest_wide, greatest_wide}
+use Rattle.fixed_bits.proofs.ImageLemmas.{image_same, image_unique, image_in, image_in_by, out_not_in, out_not_in_by, by_range, by_policy_range, unsigned_saturated, lowest_wide, greatest_wide}
 use Rattle.fixed_bits.proofs.DownLemmas.{down_equal, down_is, down_order}
 
 pub nearest_one : NearestIsTheOne
@@ -23,6 +23,9 @@ rounded_alike mode negative n d n' d' q some some' e h = rounded_same mode negat
 pub range_decided : RangeIsDecided
 range_decided s n v = (by_range s n v (λ h. inl h) (λ l. inr (inl l)) (λ l. inr (inr l)), out_not_in s n v)
 
+pub policy_range_decided : PolicyRangeIsDecided
+policy_range_decided p s n v = (by_policy_range p s n v (λ h. inl h) (λ l. inr (inl l)) (λ l. inr (inr l)), out_not_in_by p s n v)
+
 pub ends_wide : EndsAreWide
 ends_wide s n l = (lowest_wide s n l, greatest_wide s n l)
 
@@ -36,7 +39,10 @@ pub image_one : ImageIsTheOne
 image_one p s n v c d w i j = image_unique p s n v c d w i j
 
 pub image_within : ImageIsInRange
-image_within p s n v c i = image_in p s n v c i
+image_within p s n v c i = (image_in p s n v c i, image_in_by p s n v c i)
+
+pub unsigned_saturates : UnsignedIsSaturated
+unsigned_saturates = unsigned_saturated
 
 pub down_one : DownIsTheOne
 down_one b f g d = ((λ h. down_equal b f g d h), (λ e. rw e (down_is b f g)))

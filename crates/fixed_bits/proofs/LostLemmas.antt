@@ -1,5 +1,5 @@
 -- A lost fraction is rounded as its quarters are.
-use Rattle.std.proofs.Common.{◌≡◌, ℕ, ◌+◌, ◌*◌, ◌%◌, ◌<◌, ◌≤◌, Bool, false, arith, ⊎_elim, subst, sym, ap}
+use Rattle.std.proofs.Common.{◌≡◌, ℕ, ◌+◌, ◌*◌, ◌%◌, ◌<◌, ◌≤◌, false, arith, ⊎_elim}
 use Rattle.std.proofs.lemmas.Bool.{cases_lt}
 use Rattle.fixed_bits.specs.declared.mode.ReadMode.{ReadMode}
 use Rattle.fixed_bits.specs.declared.mode.ReadMode.TheVariants.{NearestEven, TowardsZero, Floor, Ceil}
@@ -9,8 +9,8 @@ use Rattle.fixed_bits.specs.declared.rounding.LostFraction.TheVariants.{Zero, Le
 use Rattle.fixed_bits.specs.LostFractions.{IsLostFraction, quarters}
 use Rattle.fixed_bits.specs.Nearest.{IsNearest}
 use Rattle.fixed_bits.specs.Rounded.{IsRounded, IsNotAbove, IsNotBelow, IsNearestGreater, IsNearestLesser}
-use Rattle.fixed_bits.proofs.NearestLemmas.{Band, band, nearest_from_band}
-use Rattle.fixed_bits.proofs.RoundedLemmas.{GreaterBand, LesserBand, greater_band, greater_from_band, lesser_band, lesser_from_band}
+use Rattle.fixed_bits.proofs.NearestLemmas.{band, nearest_from_band}
+use Rattle.fixed_bits.proofs.RoundedLemmas.{greater_band, greater_from_band, lesser_band, lesser_from_band}
 
 -- the fraction s / den lies to nothing, half and one as r quarters do
 pub record IsLike (s den r : ℕ) : Type 0 where

@@ -9,17 +9,17 @@ use Rattle.std.proofs.lemmas.Int.{ints}
 use Rattle.std.proofs.lemmas.Nat.{div-mul-add, pow_pos, pow-add}
 use Rattle.fixed_bits.specs.Down.{IsDown, down}
 use Rattle.fixed_bits.specs.Formats.{FormatParts, IsFormat}
-use Rattle.fixed_bits.specs.Images.{IsImage, IsSaturated, IsWrapped, DiffersByMultiple}
-use Rattle.fixed_bits.specs.Numbers.{IsImageUnlessRefused, IsNumber, IsRefused, greatest_magnitude, number_of_image, with_sign}
+use Rattle.fixed_bits.specs.Images.{IsImage, IsInRangeBy, IsOutOfRangeBy, IsSaturated, IsSymmetric, IsWrapped, DiffersByMultiple}
+use Rattle.fixed_bits.specs.Numbers.{IsImageUnlessRefused, IsNumber, IsRefused, greatest_magnitude, greatest_magnitude_by, number_of_image, with_sign}
 use Rattle.fixed_bits.specs.Ranges.{IsInRange, IsOutOfRange, IsWide, IsWidth}
 use Rattle.fixed_bits.specs.declared.format.Policy.{Policy}
-use Rattle.fixed_bits.specs.declared.format.Policy.TheVariants.{Checked, Saturating, Wrapping}
+use Rattle.fixed_bits.specs.declared.format.Policy.TheVariants.{Checked, Saturating, Wrapping, Symmetric}
 use Rattle.fixed_bits.specs.declared.number.Image.{Image}
 use Rattle.fixed_bits.specs.declared.number.Number.{Number}
 use Rattle.fixed_bits.proofs.DownLemmas.{down_unique, grown, shortened}
-use Rattle.fixed_bits.proofs.ImageLemmas.{image_same, in_wide, out_not_in, twice, width_most}
+use Rattle.fixed_bits.proofs.ImageLemmas.{image_same, in_range_of, in_wide, out_not_in, twice, width_most}
 use Rattle.fixed_bits.proofs.Integers.{neg_times, next_times}
-use Rattle.fixed_bits.proofs.LawLemmas.{range_decided}
+use Rattle.fixed_bits.proofs.LawLemmas.{policy_range_decided, range_decided}
 
 -- ---- the greatest magnitude bounds the range
 greatest_below : (sign negative : Bool) (n : ℕ) → IsWidth n → greatest_magnitude sign negative n < 2 ^ n
@@ -34,8 +34,29 @@ out_by_magnitude true false n m = let p = pow_pos (n - 1) in (λ o. ⊎_elim (λ
 out_by_magnitude false true n m = let p = pow_pos n in (λ o. ⊎_elim (λ l. omega (arith, ints)) (λ h. absurd (omega (arith, ints))) o, λ l. inl (omega (arith, ints)))
 out_by_magnitude false false n m = let p = pow_pos n in (λ o. ⊎_elim (λ l. absurd (omega (arith, ints))) (λ h. omega (arith, ints)) o, λ l. inr (omega (arith, ints)))
 
+-- and the range that a policy leaves
+out_by_magnitude_of : (p : Policy) (sign negative : Bool) (n m : ℕ) → IsOutOfRangeBy p sign n (with_sign negative m) ↔ (greatest_magnitude_by p sign negative n < m)
+out_by_magnitude_of Checked sign negative n m = out_by_magnitude sign negative n m
+out_by_magnitude_of Saturating sign negative n m = out_by_magnitude sign negative n m
+out_by_magnitude_of Wrapping sign negative n m = out_by_magnitude sign negative n m
+out_by_magnitude_of Symmetric true true n m = let p = pow_pos (n - 1) in (λ o. ⊎_elim (λ l. omega (arith, ints)) (λ h. absurd (omega (arith, ints))) o, λ l. inl (omega (arith, ints)))
+out_by_magnitude_of Symmetric true false n m = let p = pow_pos (n - 1) in (λ o. ⊎_elim (λ l. absurd (omega (arith, ints))) (λ h. omega (arith, ints)) o, λ l. inr (omega (arith, ints)))
+out_by_magnitude_of Symmetric false negative n m = out_by_magnitude false negative n m
+
+within_greatest : (p : Policy) (sign negative : Bool) (n : ℕ) → greatest_magnitude_by p sign negative n ≤ greatest_magnitude sign negative n
+within_greatest Checked sign negative n = omega arith
+within_greatest Saturating sign negative n = omega arith
+within_greatest Wrapping sign negative n = omega arith
+within_greatest Symmetric true true n = omega arith
+within_greatest Symmetric true false n = omega arith
+within_greatest Symmetric false negative n = omega arith
+
 pub inside : (sign : Bool) (n : ℕ) (v : ℤ) (out : Bool) → out ≡ false → (IsTrue out ↔ IsOutOfRange sign n v) → IsInRange sign n v
 inside sign n v out o test = ⊎_elim (λ i. i) (λ past. let t = test.1 past in absurd (cc)) (range_decided sign n v).0
+
+-- what is not out of the range that a policy leaves is in it
+pub inside_by : (p : Policy) (sign : Bool) (n : ℕ) (v : ℤ) (out : Bool) → out ≡ false → (IsTrue out ↔ IsOutOfRangeBy p sign n v) → IsInRangeBy p sign n v
+inside_by p sign n v out o test = ⊎_elim (λ i. i) (λ past. let t = test.1 past in absurd (cc)) (policy_range_decided p sign n v).0
 
 small_in_range : (sign negative : Bool) (n m : ℕ) → m ≤ greatest_magnitude sign negative n → IsInRange sign n (with_sign negative m)
 small_in_range sign negative n m l = ⊎_elim (λ i. i) (λ out. let over = (out_by_magnitude sign negative n m).0 out in absurd (omega (arith, over, l))) (range_decided sign n (with_sign negative m)).0
@@ -45,6 +66,12 @@ end_saturates true true n m l = let p = pow_pos (n - 1) in record { same = λ h.
 end_saturates true false n m l = let p = pow_pos (n - 1) in record { same = λ h. absurd (omega (arith, ints, h.high)); below = λ b. absurd (omega (arith, ints)); above = λ a. omega (arith, ints) }
 end_saturates false true n m l = let p = pow_pos n in record { same = λ h. absurd (omega (arith, ints, h.low)); below = λ b. omega (arith, ints); above = λ a. absurd (omega (arith, ints)) }
 end_saturates false false n m l = let p = pow_pos n in record { same = λ h. absurd (omega (arith, ints, h.high)); below = λ b. absurd (omega (arith, ints)); above = λ a. omega (arith, ints) }
+
+end_is_symmetric : (sign negative : Bool) (n m : ℕ) → greatest_magnitude_by Symmetric sign negative n < m → IsSymmetric sign n (with_sign negative m) (with_sign negative (greatest_magnitude_by Symmetric sign negative n))
+end_is_symmetric true true n m l = let p = pow_pos (n - 1) in record { same = λ h. absurd (omega (arith, ints, h.low)); below = λ b. omega (arith, ints); above = λ a. absurd (omega (arith, ints)) }
+end_is_symmetric true false n m l = let p = pow_pos (n - 1) in record { same = λ h. absurd (omega (arith, ints, h.high)); below = λ b. absurd (omega (arith, ints)); above = λ a. omega (arith, ints) }
+end_is_symmetric false true n m l = let p = pow_pos n in record { same = λ h. absurd (omega (arith, ints, h.low)); below = λ b. omega (arith, ints); above = λ a. absurd (omega (arith, ints)) }
+end_is_symmetric false false n m l = let p = pow_pos n in record { same = λ h. absurd (omega (arith, ints, h.high)); below = λ b. absurd (omega (arith, ints)); above = λ a. omega (arith, ints) }
 
 pub not_negative : (n : ℕ) → is_negative (pos n) ≡ false
 not_negative zero = refl
@@ -104,24 +131,24 @@ module _ (f : FormatParts) (number : Number) (v : ℤ) (width : IsWidth f.width)
   most : 2 ^ f.width ≤ 2 ^ 64
   most = pow_mono (width_most f.width width)
 
-  below : greatest_magnitude f.signed number.negative f.width < 2 ^ f.width
-  below = greatest_below f.signed number.negative f.width width
+  below : (p : Policy) → greatest_magnitude_by p f.signed number.negative f.width < 2 ^ f.width
+  below p = omega (arith, greatest_below f.signed number.negative f.width width, within_greatest p f.signed number.negative f.width)
 
-  -- whether it is out of range, by its sign and magnitude
-  out_test : IsOutOfRange f.signed f.width v ↔ (greatest_magnitude f.signed number.negative f.width < is.high * 2 ^ 64 + number.low)
-  out_test = rw is.value (out_by_magnitude f.signed number.negative f.width (is.high * 2 ^ 64 + number.low))
+  -- whether it is out of the range that a policy leaves, by its sign and magnitude
+  out_test : (p : Policy) → IsOutOfRangeBy p f.signed f.width v ↔ (greatest_magnitude_by p f.signed number.negative f.width < is.high * 2 ^ 64 + number.low)
+  out_test p = rw is.value (out_by_magnitude_of p f.signed number.negative f.width (is.high * 2 ^ 64 + number.low))
 
-  pub out_tested : (out : Bool) (end : ℕ) → end ≡ greatest_magnitude f.signed number.negative f.width → (IsTrue out ↔ (IsTrue number.has_high_bits ⊎ (end < number.low))) → IsTrue out ↔ IsOutOfRange f.signed f.width v
-  out_tested out end e flag =
-      let test : IsTrue out ↔ (IsTrue number.has_high_bits ⊎ (greatest_magnitude f.signed number.negative f.width < number.low)) = rw e at flag in (
-        λ t. out_test.1 (⊎_elim (λ b. over _ is.high (2 ^ f.width) (2 ^ 64) number.low below most (is.over.0 b)) (λ l. large _ is.high (2 ^ 64) number.low l) (test.0 t)),
-        λ o. ⊎_elim (λ p. test.1 (inl (is.over.1 p))) (λ z. test.1 (inr (rw (none_high is.high (2 ^ 64) number.low z) at (out_test.0 o)))) (some_high is.high),
+  pub out_tested : (p : Policy) (out : Bool) (end : ℕ) → end ≡ greatest_magnitude_by p f.signed number.negative f.width → (IsTrue out ↔ (IsTrue number.has_high_bits ⊎ (end < number.low))) → IsTrue out ↔ IsOutOfRangeBy p f.signed f.width v
+  out_tested p out end e flag =
+      let test : IsTrue out ↔ (IsTrue number.has_high_bits ⊎ (greatest_magnitude_by p f.signed number.negative f.width < number.low)) = rw e at flag in (
+        λ t. (out_test p).1 (⊎_elim (λ b. over _ is.high (2 ^ f.width) (2 ^ 64) number.low (below p) most (is.over.0 b)) (λ l. large _ is.high (2 ^ 64) number.low l) (test.0 t)),
+        λ o. ⊎_elim (λ b. test.1 (inl (is.over.1 b))) (λ z. test.1 (inr (rw (none_high is.high (2 ^ 64) number.low z) at ((out_test p).0 o)))) (some_high is.high),
       )
 
   -- in range the number is that of the lowest bits
   pub low_number : IsInRange f.signed f.width v → v ≡ with_sign number.negative number.low
   low_number i = ⊎_elim
-      (λ p. absurd (out_not_in f.signed f.width v (out_test.1 (over _ is.high (2 ^ f.width) (2 ^ 64) number.low below most p)) i))
+      (λ p. absurd (out_not_in f.signed f.width v ((out_test Checked).1 (over _ is.high (2 ^ f.width) (2 ^ 64) number.low (below Checked) most p)) i))
       (λ z. is.value ∙ ap (with_sign number.negative) (none_high is.high (2 ^ 64) number.low z))
       (some_high is.high)
 
@@ -131,32 +158,39 @@ module _ (f : FormatParts) (number : Number) (v : ℤ) (width : IsWidth f.width)
       let value : is.high * 2 ^ 64 + number.low ≡ is.high * 2 ^ (64 - f.width) * 2 ^ f.width + number.low = multiple is.high (2 ^ 64) (2 ^ (64 - f.width)) (2 ^ f.width) number.low (wide_multiple f.width (width_most f.width width)) in
       rw (is.value, value) (record { in_range = image.in_range; near = differs_beyond number.negative (is.high * 2 ^ (64 - f.width)) (2 ^ f.width) number.low c image.near })
 
-  -- out of range the Saturating image is the end of the range on the number's side
-  end_image : IsOutOfRange f.signed f.width v → IsSaturated f.signed f.width v (with_sign number.negative (greatest_magnitude f.signed number.negative f.width))
-  end_image o = rw is.value (end_saturates f.signed number.negative f.width (is.high * 2 ^ 64 + number.low) (out_test.0 o))
+  -- out of range the image is the end on the number's side
+  end_image : (policy : Policy) → ((policy ≡ Saturating) ⊎ (policy ≡ Symmetric)) → IsOutOfRangeBy policy f.signed f.width v → IsImage policy f.signed f.width v (with_sign number.negative (greatest_magnitude_by policy f.signed number.negative f.width))
+  end_image Saturating to_end o = rw is.value (end_saturates f.signed number.negative f.width (is.high * 2 ^ 64 + number.low) ((out_test Saturating).0 o))
+  end_image Symmetric to_end o = rw is.value (end_is_symmetric f.signed number.negative f.width (is.high * 2 ^ 64 + number.low) ((out_test Symmetric).0 o))
+  end_image Checked (inl e) o = absurd (cc)
+  end_image Checked (inr e) o = absurd (cc)
+  end_image Wrapping (inl e) o = absurd (cc)
+  end_image Wrapping (inr e) o = absurd (cc)
 
   -- in range it is its own image, also where the lowest bits stay as they are
-  unchanged : (policy : Policy) (end low : ℕ) (negative : Bool) → end ≡ greatest_magnitude f.signed number.negative f.width → (IsTrue false ↔ (IsTrue number.has_high_bits ⊎ (end < number.low))) → (number.low ≤ end → (negative ≡ number.negative) × (low ≡ number.low)) → IsImage policy f.signed f.width v (with_sign negative low)
+  unchanged : (policy : Policy) (end low : ℕ) (negative : Bool) → end ≡ greatest_magnitude_by policy f.signed number.negative f.width → (IsTrue false ↔ (IsTrue number.has_high_bits ⊎ (end < number.low))) → (number.low ≤ greatest_magnitude f.signed number.negative f.width → (negative ≡ number.negative) × (low ≡ number.low)) → IsImage policy f.signed f.width v (with_sign negative low)
   unchanged policy end low negative e flag same =
       let within : number.low ≤ end = ⊎_elim (λ (past : end < number.low). let t : IsTrue false = flag.1 (inr past) in absurd (cc)) (λ (l : number.low ≤ end). l) (cases_lt end number.low) in
-      let kept = same within in
-      let i = inside f.signed f.width v false refl (out_tested false end e flag) in
-      rw (kept.0, kept.1, ← low_number i) (image_same policy f.signed f.width v i)
+      let kept = same (omega (arith, within, e, within_greatest policy f.signed number.negative f.width)) in
+      let i = inside_by policy f.signed f.width v false refl (out_tested policy false end e flag) in
+      rw (kept.0, kept.1, ← low_number (in_range_of policy f.signed f.width v i)) (image_same policy f.signed f.width v i)
 
   -- the image by a policy that neither refuses it nor brings it to an end
-  other_image : (policy : Policy) (out : Bool) (end low : ℕ) (negative : Bool) → end ≡ greatest_magnitude f.signed number.negative f.width → (IsTrue out ↔ (IsTrue number.has_high_bits ⊎ (end < number.low))) → ¬ IsRefused policy out → ¬ ((policy ≡ Saturating) × IsTrue out) → (number.low ≤ end → (negative ≡ number.negative) × (low ≡ number.low)) → IsWrapped f.signed f.width (with_sign number.negative number.low) (with_sign negative low) → IsImage policy f.signed f.width v (with_sign negative low)
+  other_image : (policy : Policy) (out : Bool) (end low : ℕ) (negative : Bool) → end ≡ greatest_magnitude_by policy f.signed number.negative f.width → (IsTrue out ↔ (IsTrue number.has_high_bits ⊎ (end < number.low))) → ¬ IsRefused policy out → ¬ (((policy ≡ Saturating) ⊎ (policy ≡ Symmetric)) × IsTrue out) → (number.low ≤ greatest_magnitude f.signed number.negative f.width → (negative ≡ number.negative) × (low ≡ number.low)) → IsWrapped f.signed f.width (with_sign number.negative number.low) (with_sign negative low) → IsImage policy f.signed f.width v (with_sign negative low)
   other_image Wrapping out end low negative e flag nc ns same image = low_wrapped (with_sign negative low) image
   other_image Checked true end low negative e flag nc ns same image = absurd (nc (refl, refl))
-  other_image Saturating true end low negative e flag nc ns same image = absurd (ns (refl, refl))
+  other_image Saturating true end low negative e flag nc ns same image = absurd (ns (inl refl, refl))
+  other_image Symmetric true end low negative e flag nc ns same image = absurd (ns (inr refl, refl))
   other_image Checked false end low negative e flag nc ns same image = unchanged Checked end low negative e flag same
   other_image Saturating false end low negative e flag nc ns same image = unchanged Saturating end low negative e flag same
+  other_image Symmetric false end low negative e flag nc ns same image = unchanged Symmetric end low negative e flag same
 
   -- the image by a policy that does not refuse it
-  pub chosen_image : (policy : Policy) (out is_end : Bool) (end low : ℕ) (negative : Bool) → end ≡ greatest_magnitude f.signed number.negative f.width → (IsTrue out ↔ (IsTrue number.has_high_bits ⊎ (end < number.low))) → (IsTrue is_end ↔ ((policy ≡ Saturating) × IsTrue out)) → (number.low ≤ end → (negative ≡ number.negative) × (low ≡ number.low)) → IsWrapped f.signed f.width (with_sign number.negative number.low) (with_sign negative low)
+  pub chosen_image : (policy : Policy) (out is_end : Bool) (end low : ℕ) (negative : Bool) → end ≡ greatest_magnitude_by policy f.signed number.negative f.width → (IsTrue out ↔ (IsTrue number.has_high_bits ⊎ (end < number.low))) → (IsTrue is_end ↔ (((policy ≡ Saturating) ⊎ (policy ≡ Symmetric)) × IsTrue out)) → (number.low ≤ greatest_magnitude f.signed number.negative f.width → (negative ≡ number.negative) × (low ≡ number.low)) → IsWrapped f.signed f.width (with_sign number.negative number.low) (with_sign negative low)
       → ¬ IsRefused policy out → IsImage policy f.signed f.width v (with_sign (if is_end then number.negative else negative) (if is_end then end else low))
   chosen_image policy out true end low negative e flag at_end same image nc =
-      let saturating = at_end.0 refl in
-      rw (saturating.0, e) (end_image ((out_tested out end e flag).0 saturating.1))
+      let ends = at_end.0 refl in
+      rw e (end_image policy ends.0 ((out_tested policy out end e flag).0 ends.1))
   chosen_image policy out false end low negative e flag at_end same image nc = other_image policy out end low negative e flag nc (λ w. let t : IsTrue false = at_end.1 w in absurd (cc)) same image
 
 -- what the policy does not refuse has the image, and what has none is refused
@@ -164,8 +198,15 @@ pub admitted_image : (policy : Policy) (f : FormatParts) (v : ℤ) (image : Imag
 admitted_image policy f v image None is answered = answered
 admitted_image policy f v image (Some c) is answered = rw answered.1 (is answered.0)
 
-pub admitted_none : (policy : Policy) (out : Bool) (N Out : Type 0) → N ↔ IsRefused policy out → (IsTrue out ↔ Out) → N ↔ ((policy ≡ Checked) × Out)
-admitted_none policy out N Out refused flag = (λ n. ((refused.0 n).0, flag.0 (refused.0 n).1), λ w. refused.1 (w.0, flag.1 w.1))
+-- a number that Checked refuses is out of the format's range
+pub refused_out : (policy : Policy) (s : Bool) (n : ℕ) (v : ℤ) → policy ≡ Checked → IsOutOfRangeBy policy s n v ↔ IsOutOfRange s n v
+refused_out policy s n v e = rw e ((λ o. o), (λ o. o))
+
+pub admitted_none : (policy : Policy) (s : Bool) (n : ℕ) (v : ℤ) (out : Bool) (N : Type 0) → N ↔ IsRefused policy out → (IsTrue out ↔ IsOutOfRangeBy policy s n v) → N ↔ ((policy ≡ Checked) × IsOutOfRange s n v)
+admitted_none policy s n v out N refused flag = (
+  λ w. let r = refused.0 w in (r.0, (refused_out policy s n v r.0).0 (flag.0 r.1)),
+  λ w. refused.1 (w.0, flag.1 ((refused_out policy s n v w.0).1 w.1)),
+)
 
 pub admitted_range : (policy : Policy) (f : FormatParts) (image : Image) (answer : Option ℤ) → IsInRange f.signed f.width (number_of_image image) → IfSome answer (λ c. ¬ IsRefused policy image.is_out_of_range × (c ≡ number_of_image image)) → IfSome answer (λ c. IsInRange f.signed f.width c)
 admitted_range policy f image None i answered = answered
@@ -176,9 +217,9 @@ admitted_wide policy f image None valid i answered = answered
 admitted_wide policy f image (Some c) valid i answered = in_wide f.signed f.width c (width_most f.width valid.is_width) (rw answered.1 i)
 
 -- either of the two that are chosen from is in range
-pub chosen_in_range : (f : FormatParts) (is_end negative other : Bool) (end low : ℕ) → end ≡ greatest_magnitude f.signed negative f.width → IsInRange f.signed f.width (with_sign other low) → IsInRange f.signed f.width (with_sign (if is_end then negative else other) (if is_end then end else low))
-chosen_in_range f true negative other end low e i = small_in_range f.signed negative f.width end (omega (arith, e))
-chosen_in_range f false negative other end low e i = i
+pub chosen_in_range : (f : FormatParts) (policy : Policy) (is_end negative other : Bool) (end low : ℕ) → end ≡ greatest_magnitude_by policy f.signed negative f.width → IsInRange f.signed f.width (with_sign other low) → IsInRange f.signed f.width (with_sign (if is_end then negative else other) (if is_end then end else low))
+chosen_in_range f policy true negative other end low e i = small_in_range f.signed negative f.width end (omega (arith, e, within_greatest policy f.signed negative f.width))
+chosen_in_range f policy false negative other end low e i = i
 
 -- ---- the ones of a width
 one_less : (m u t : ℕ) → m ≡ u * t → 0 < u → 0 < t → m - 1 ≡ (t - 1) * u + (u - 1)

@@ -3,8 +3,8 @@ use Rattle.std.specs.Prelude.{◌≡◌, ℕ, ◌+◌, ◌-◌, ◌*◌, ◌^◌
 use Rattle.std.specs.Int.{is_negative}
 use Rattle.fixed_bits.specs.Down.{IsDown, down}
 use Rattle.fixed_bits.specs.Formats.{FormatParts, IsFormat, IsTypeFormat}
-use Rattle.fixed_bits.specs.Images.{DiffersByMultiple, IsImage, IsWrapped}
-use Rattle.fixed_bits.specs.Laws.{RangeIsDecided, EndsAreWide, ImagesAgree, CheckedHasNone, ImageIsTheOne, ImageIsInRange, DownIsTheOne, RankIsOrder, RoundedIsTheOne, EqualFractionsRoundAlike}
+use Rattle.fixed_bits.specs.Images.{DiffersByMultiple, IsImage, IsInRangeBy, IsOutOfRangeBy, IsWrapped, lowest_by}
+use Rattle.fixed_bits.specs.Laws.{RangeIsDecided, PolicyRangeIsDecided, EndsAreWide, ImagesAgree, CheckedHasNone, ImageIsTheOne, ImageIsInRange, DownIsTheOne, RankIsOrder, RoundedIsTheOne, EqualFractionsRoundAlike}
 use Rattle.fixed_bits.specs.LostFractions.{IsLostFraction, quarters}
 use Rattle.fixed_bits.specs.Nearest.{IsNearest, IsEven}
 use Rattle.fixed_bits.specs.Numbers.{IsImageUnlessRefused, IsNumber, IsRefused, number_of_image, with_sign}
@@ -43,11 +43,21 @@ type_format = ImageLemmas.type_format
 pub in_wide : (s : Bool) (n : ℕ) (v : ℤ) → n ≤ 64 → IsInRange s n v → IsWide v
 in_wide = ImageLemmas.in_wide
 
+-- a number in the range that a policy leaves is in the format's
+pub in_range_of : (p : Policy) (s : Bool) (n : ℕ) (v : ℤ) → IsInRangeBy p s n v → IsInRange s n v
+in_range_of = ImageLemmas.in_range_of
+
+pub lowest_left_wide : (p : Policy) (s : Bool) (n : ℕ) → n ≤ 64 → IsWide (lowest_by p s n)
+lowest_left_wide = ImageLemmas.lowest_left_wide
+
 pub near_joined : (m : ℕ) (a b c : ℤ) → DiffersByMultiple m a b → DiffersByMultiple m b c → DiffersByMultiple m a c
 near_joined = ImageLemmas.near_joined
 
 pub range_decided : RangeIsDecided
 range_decided = LawLemmas.range_decided
+
+pub policy_range_decided : PolicyRangeIsDecided
+policy_range_decided = LawLemmas.policy_range_decided
 
 pub ends_wide : EndsAreWide
 ends_wide = LawLemmas.ends_wide
@@ -97,7 +107,11 @@ sign_and_magnitude = NumberLemmas.sign_and_magnitude
 pub admitted_image : (policy : Policy) (f : FormatParts) (v : ℤ) (image : Image) (answer : Option ℤ) → IsImageUnlessRefused policy f v image → IfSome answer (λ c. ¬ IsRefused policy image.is_out_of_range × (c ≡ number_of_image image)) → IfSome answer (λ c. IsImage policy f.signed f.width v c)
 admitted_image = NumberLemmas.admitted_image
 
-pub admitted_none : (policy : Policy) (out : Bool) (N Out : Type 0) → N ↔ IsRefused policy out → (IsTrue out ↔ Out) → N ↔ ((policy ≡ Checked) × Out)
+-- a number that Checked refuses is out of the format's range
+pub refused_out : (policy : Policy) (s : Bool) (n : ℕ) (v : ℤ) → policy ≡ Checked → IsOutOfRangeBy policy s n v ↔ IsOutOfRange s n v
+refused_out = NumberLemmas.refused_out
+
+pub admitted_none : (policy : Policy) (s : Bool) (n : ℕ) (v : ℤ) (out : Bool) (N : Type 0) → N ↔ IsRefused policy out → (IsTrue out ↔ IsOutOfRangeBy policy s n v) → N ↔ ((policy ≡ Checked) × IsOutOfRange s n v)
 admitted_none = NumberLemmas.admitted_none
 
 pub admitted_range : (policy : Policy) (f : FormatParts) (image : Image) (answer : Option ℤ) → IsInRange f.signed f.width (number_of_image image) → IfSome answer (λ c. ¬ IsRefused policy image.is_out_of_range × (c ≡ number_of_image image)) → IfSome answer (λ c. IsInRange f.signed f.width c)

@@ -1,7 +1,7 @@
 -- What the laws of this crate say.
-use Rattle.std.specs.Prelude.{◌≡◌, ℕ, ◌*◌, ◌<◌, ◌≤◌, ◌↔◌, ◌⊎◌, Bool, ℤ, ◌≤ℤ◌}
+use Rattle.std.specs.Prelude.{◌≡◌, ℕ, ◌*◌, ◌<◌, ◌≤◌, ◌↔◌, ◌⊎◌, Bool, false, ℤ, ◌≤ℤ◌}
 use Rattle.fixed_bits.specs.Ranges.{IsInRange, IsOutOfRange, IsWidth, IsWide, lowest, greatest}
-use Rattle.fixed_bits.specs.Images.{IsImage}
+use Rattle.fixed_bits.specs.Images.{IsImage, IsInRangeBy, IsOutOfRangeBy, IsSaturated}
 use Rattle.fixed_bits.specs.Down.{IsDown, down}
 use Rattle.fixed_bits.specs.Formats.{FormatParts, IsTypeFormat}
 use Rattle.fixed_bits.specs.Nearest.{IsNearest}
@@ -9,7 +9,7 @@ use Rattle.fixed_bits.specs.Order.{IsBefore, rank}
 use Rattle.fixed_bits.specs.Rounded.{IsRounded}
 use Rattle.fixed_bits.specs.declared.mode.ReadMode.{ReadMode}
 use Rattle.fixed_bits.specs.declared.format.Policy.{Policy}
-use Rattle.fixed_bits.specs.declared.format.Policy.TheVariants.{Checked}
+use Rattle.fixed_bits.specs.declared.format.Policy.TheVariants.{Checked, Symmetric}
 
 -- one number, and no other, has the property
 abbrev pub HasExactlyOne : (ℕ → Type 0) → Type 0
@@ -32,13 +32,18 @@ abbrev pub RangeIsDecided : Type 0
 RangeIsDecided = (s : Bool) (n : ℕ) (v : ℤ)
     → (IsInRange s n v ⊎ IsOutOfRange s n v) × (IsOutOfRange s n v → ¬ IsInRange s n v)
 
+-- and every number is in the range that a policy leaves or out of it
+abbrev pub PolicyRangeIsDecided : Type 0
+PolicyRangeIsDecided = (p : Policy) (s : Bool) (n : ℕ) (v : ℤ)
+    → (IsInRangeBy p s n v ⊎ IsOutOfRangeBy p s n v) × (IsOutOfRangeBy p s n v → ¬ IsInRangeBy p s n v)
+
 -- the ends of a range of at most 64 bits are wide
 abbrev pub EndsAreWide : Type 0
 EndsAreWide = (s : Bool) (n : ℕ) → n ≤ 64 → IsWide (lowest s n) × IsWide (greatest s n)
 
--- in range all policies give the number itself
+-- in the range that it leaves each policy gives the number itself; for all but Symmetric that is the format's range
 abbrev pub ImagesAgree : Type 0
-ImagesAgree = (p : Policy) (s : Bool) (n : ℕ) (v c : ℤ) → IsWidth n → IsInRange s n v → IsImage p s n v c ↔ (c ≡ v)
+ImagesAgree = (p : Policy) (s : Bool) (n : ℕ) (v c : ℤ) → IsWidth n → IsInRangeBy p s n v → IsImage p s n v c ↔ (c ≡ v)
 
 -- out of range Checked has no image
 abbrev pub CheckedHasNone : Type 0
@@ -50,7 +55,11 @@ ImageIsTheOne = (p : Policy) (s : Bool) (n : ℕ) (v c d : ℤ) → IsWidth n �
     → c ≡ d
 
 abbrev pub ImageIsInRange : Type 0
-ImageIsInRange = (p : Policy) (s : Bool) (n : ℕ) (v c : ℤ) → IsImage p s n v c → IsInRange s n c
+ImageIsInRange = (p : Policy) (s : Bool) (n : ℕ) (v c : ℤ) → IsImage p s n v c → IsInRange s n c × IsInRangeBy p s n c
+
+-- in an unsigned format Symmetric is Saturating
+abbrev pub UnsignedIsSaturated : Type 0
+UnsignedIsSaturated = (n : ℕ) (v c : ℤ) → IsImage Symmetric false n v c ↔ IsSaturated false n v c
 
 -- `down` is the one number that the definition names
 abbrev pub DownIsTheOne : Type 0

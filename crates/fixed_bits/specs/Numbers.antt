@@ -4,7 +4,7 @@ use Rattle.std.specs.Prelude.{if◌then◌else◌, IsTrue}
 use Rattle.fixed_bits.specs.Formats.{FormatParts}
 use Rattle.fixed_bits.specs.Images.{IsImage}
 use Rattle.fixed_bits.specs.declared.format.Policy.{Policy}
-use Rattle.fixed_bits.specs.declared.format.Policy.TheVariants.{Checked}
+use Rattle.fixed_bits.specs.declared.format.Policy.TheVariants.{Checked, Saturating, Wrapping, Symmetric}
 use Rattle.fixed_bits.specs.declared.number.Image.{Image}
 use Rattle.fixed_bits.specs.declared.number.Number.{Number}
 
@@ -24,6 +24,14 @@ greatest_magnitude true true n = 2 ^ (n - 1)
 greatest_magnitude true false n = 2 ^ (n - 1) - 1
 greatest_magnitude false true n = 0
 greatest_magnitude false false n = 2 ^ n - 1
+
+-- the greatest magnitude of those that the policy leaves in use
+abbrev pub greatest_magnitude_by : Policy → Bool → Bool → ℕ → ℕ
+greatest_magnitude_by Checked signed negative n = greatest_magnitude signed negative n
+greatest_magnitude_by Saturating signed negative n = greatest_magnitude signed negative n
+greatest_magnitude_by Wrapping signed negative n = greatest_magnitude signed negative n
+greatest_magnitude_by Symmetric true negative n = 2 ^ (n - 1) - 1
+greatest_magnitude_by Symmetric false negative n = greatest_magnitude false negative n
 
 -- the number of an image
 abbrev pub number_of_image : Image → ℤ

@@ -3,14 +3,15 @@
 ghost use Rattle.std.specs.Prelude.{◌≡◌, ◌↔◌, ◌≤◌, ◌<◌, ◌^◌, ◌-◌, ◌*◌, ◌/◌, ◌%◌, pos, false, IsTrue, IsSome, IsNone};
 ghost use Rattle.std.specs.Prelude.{IfSome, Option};
 ghost use Rattle.fixed_bits.specs.Ranges.{IsInRange, IsOutOfRange, IsWide, lowest, greatest};
-ghost use Rattle.fixed_bits.specs.Formats.{IsFormat, IsTypeFormat};
+ghost use Rattle.fixed_bits.specs.Formats.{IsFormat, IsTypeFormat, whole_length};
 ghost use Rattle.fixed_bits.specs.Images.{IsImage, IsWrapped};
 
 use crate::masks::mask;
 use crate::number::{Number, greatest_magnitude, signed_number};
 use std::marker::Model;
 
-/// A sign rule, a width of 1 to 64 bits, and a fraction length in bits of at most the width.
+/// A sign rule, a width of 1 to 64 bits, and a fraction length of 0 to 64 bits, whatever the width: the value of bits
+/// is bits / 2^frac.
 #[derive(Clone, Copy, Debug, PartialEq, Eq)]
 pub struct Format {
     signed: bool,
@@ -48,13 +49,13 @@ impl Format {
         }
     }
 
-    /// The format with these three parts, of any width. `None` exactly where the width isn't from 1 to 64, or the
-    /// fraction is longer than the width.
+    /// The format with these three parts, of any width, and with a fraction of any length up to 64 bits. `None` exactly
+    /// where the width isn't from 1 to 64, or the fraction is longer than 64 bits.
     pub fn of_any_width(signed: bool, width: u32, frac: u32) -> Option<Format>
         ensures exists { IsSome result ↔ IsFormat width frac }
         ensures parts { IfSome result (λ f. (f.signed ≡ signed) × (f.width ≡ width) × (f.frac ≡ frac)) }
     {
-        if width > 0 && width <= 64 && frac <= width {
+        if width > 0 && width <= 64 && frac <= 64 {
             Some(Format::of(signed, width, frac))
         } else {
             None
@@ -90,12 +91,21 @@ impl Format {
         u32::from(self.width)
     }
 
-    /// The fraction length: how many of the bits are after the point.
+    /// The fraction length: the values are whole multiples of 2^-frac.
     pub fn frac(self) -> u32
         ensures frac { result ≡ self.frac }
         ensures valid { IsFormat self.width self.frac }
     {
         u32::from(self.frac)
+    }
+
+    /// How many bits are before the point, the sign bit among them: below zero where the fraction is longer than the
+    /// width.
+    pub fn whole_length(self) -> i32
+        ensures length { result ≡ whole_length self }
+        ensures valid { IsFormat self.width self.frac }
+    {
+        self.width() as i32 - self.frac() as i32
     }
 
     /// The lowest bits, as a number.
@@ -131,11 +141,14 @@ pub enum Policy {
     Saturating,
     /// Its image is the number in range that differs from it by a multiple of two to the power of the width.
     Wrapping,
+    /// Its image is the nearer end of the range without its lowest number, which counts as out of range itself. In an
+    /// unsigned format, which has no number below zero, it is `Saturating`.
+    Symmetric,
 }
 
 impl Policy {
-    /// The image of a number in a format: the number itself where it is in range. `None` exactly where it is out of
-    /// range and the policy is `Checked`.
+    /// The image of a number in a format: the number itself if it is in the range that the policy leaves. `None`
+    /// exactly where it is out of range and the policy is `Checked`.
     pub fn image(self, format: Format, v: i128) -> Option<i128>
         ensures image { IfSome result (λ c. IsImage self format.signed format.width v c) }
         ensures none { IsNone result ↔ ((self ≡ Policy.Checked) × IsOutOfRange format.signed format.width v) }

@@ -5,11 +5,13 @@ ghost use Rattle.fixed_bits.specs.Laws.{
   RoundedIsTheOne,
   EqualFractionsRoundAlike,
   RangeIsDecided,
+  PolicyRangeIsDecided,
   EndsAreWide,
   ImagesAgree,
   CheckedHasNone,
   ImageIsTheOne,
   ImageIsInRange,
+  UnsignedIsSaturated,
   DownIsTheOne,
   DownKeepsOrder,
   RankIsOrder,
@@ -36,12 +38,17 @@ pub fn range_is_decided()
     ensures { RangeIsDecided }
 {}
 
+/// A number is either in the range that a policy leaves or out of it.
+pub fn policy_range_is_decided()
+    ensures { PolicyRangeIsDecided }
+{}
+
 /// The ends of a range of at most 64 bits lie within -2^63 and 2^64 - 1.
 pub fn ends_are_wide()
     ensures { EndsAreWide }
 {}
 
-/// In range all policies give the number itself.
+/// In the range that it leaves each policy gives the number itself.
 pub fn images_agree()
     ensures { ImagesAgree }
 {}
@@ -56,9 +63,14 @@ pub fn image_is_the_one()
     ensures { ImageIsTheOne }
 {}
 
-/// An image is in range.
+/// An image is in range, and in the range that the policy leaves.
 pub fn image_is_in_range()
     ensures { ImageIsInRange }
+{}
+
+/// In an unsigned format Symmetric is Saturating.
+pub fn unsigned_is_saturated()
+    ensures { UnsignedIsSaturated }
 {}
 
 /// The number moved down is the one that the definition names.

@@ -9,9 +9,9 @@ ghost use Rattle.std.specs.Prelude.{◌≡◌, ◌↔◌, ◌⊎◌, ◌≤◌, 
 ghost use Rattle.std.specs.Prelude.{if◌then◌else◌};
 ghost use Rattle.fixed_bits.specs.Down.{IsDown, down};
 ghost use Rattle.fixed_bits.specs.Formats.{IsFormat};
-ghost use Rattle.fixed_bits.specs.Images.{IsWrapped};
+ghost use Rattle.fixed_bits.specs.Images.{IsOutOfRangeBy, IsWrapped};
 ghost use Rattle.fixed_bits.specs.Numbers.{IsImageUnlessRefused, IsNumber, IsRefused, greatest_magnitude};
-ghost use Rattle.fixed_bits.specs.Numbers.{number_of_image, with_sign};
+ghost use Rattle.fixed_bits.specs.Numbers.{greatest_magnitude_by, number_of_image, with_sign};
 ghost use Rattle.fixed_bits.specs.Ranges.{IsInRange, IsOutOfRange, IsWide};
 
 use crate::format::{Format, Policy};
@@ -25,7 +25,8 @@ pub struct Number {
     pub has_high_bits: bool,
 }
 
-/// The image of a number in a format by its sign and magnitude, and whether the number was out of the format's range.
+/// The image of a number in a format by its sign and magnitude, and whether the number was out of the range that the
+/// policy leaves.
 #[derive(Clone, Copy, Debug, PartialEq, Eq)]
 pub struct Image {
     pub magnitude: u64,
@@ -63,6 +64,16 @@ impl Number {
         self.is_above(greatest_magnitude(format, self.negative))
     }
 
+    /// Whether the number is out of the range that a policy leaves of a format's.
+    #[inline(always)]
+    pub fn is_out_of_range_by(self, format: Format, policy: Policy) -> bool
+        ensures range { (v : ℤ) → IsNumber self v
+            → IsTrue result ↔ IsOutOfRangeBy policy format.signed format.width v }
+        ensures valid { IsFormat format.width format.frac }
+    {
+        self.is_above(greatest_magnitude_by(format, policy, self.negative))
+    }
+
     /// Whether the number's magnitude is above a limit.
     #[inline(always)]
     fn is_above(self, limit: u64) -> bool
@@ -71,21 +82,21 @@ impl Number {
         self.has_high_bits || self.low > limit
     }
 
-    /// The image of the number in a format, and whether the number is out of the format's range. A number that is, and
-    /// that the policy refuses, has no image, and any number in range is answered for it. The images are computed for
-    /// any number and one of them is chosen: whether a number is in range, and by which policy it is brought there,
-    /// changes from line to line, and a branch on it is mispredicted.
+    /// The image of the number in a format, and whether the number is out of the range that the policy leaves. A number
+    /// that is, and that the policy refuses, has no image, and any number in range is answered for it. The images are
+    /// computed for any number and one of them is chosen: whether a number is in range, and by which policy it is
+    /// brought there, changes from line to line, and a branch on it is mispredicted.
     #[inline(always)]
     pub fn image(self, format: Format, policy: Policy) -> Image
         ensures image { (v : ℤ) → IsNumber self v → IsImageUnlessRefused policy format v result }
         ensures flag { (v : ℤ) → IsNumber self v
-            → IsTrue result.is_out_of_range ↔ IsOutOfRange format.signed format.width v }
+            → IsTrue result.is_out_of_range ↔ IsOutOfRangeBy policy format.signed format.width v }
         ensures range { IsInRange format.signed format.width (number_of_image result) }
         ensures valid { IsFormat format.width format.frac }
     {
-        let end = greatest_magnitude(format, self.negative);
+        let end = greatest_magnitude_by(format, policy, self.negative);
         let is_out_of_range = self.is_above(end);
-        let (negative, magnitude) = wrapped(format, self.negative, self.low, end);
+        let (negative, magnitude) = wrapped(format, self.negative, self.low);
         let is_end = is_at_end(policy, is_out_of_range);
         Image {
             negative: choice(is_end, self.negative, negative),
@@ -164,6 +175,16 @@ pub(crate) fn greatest_magnitude(format: Format, negative: bool) -> u64
     }
 }
 
+/// The greatest magnitude of those numbers that a policy leaves in use. Its conditions are joined without a branch.
+#[inline(always)]
+fn greatest_magnitude_by(format: Format, policy: Policy, negative: bool) -> u64
+    ensures magnitude { result ≡ greatest_magnitude_by policy format.signed negative format.width }
+    ensures valid { IsFormat format.width format.frac }
+{
+    let is_short = format.signed() & negative & (policy == Policy::Symmetric);
+    greatest_magnitude(format, negative) - u64::from(is_short)
+}
+
 /// The lowest bits of a magnitude, as many as a format has.
 #[inline(always)]
 fn low_bits(format: Format, magnitude: u64) -> u64
@@ -176,11 +197,12 @@ fn low_bits(format: Format, magnitude: u64) -> u64
 /// The Wrapping image of the number with that sign and magnitude. Its lowest bits, with its sign, are in range up to
 /// the end of the range on that side; above it, what they lack of a whole turn is, with the other sign.
 #[inline(always)]
-fn wrapped(format: Format, negative: bool, magnitude: u64, end: u64) -> (bool, u64)
-    requires { end ≡ greatest_magnitude format.signed negative format.width }
+fn wrapped(format: Format, negative: bool, magnitude: u64) -> (bool, u64)
     ensures image { IsWrapped format.signed format.width (with_sign negative magnitude) (with_sign result.0 result.1) }
-    ensures same { magnitude ≤ end → (result.0 ≡ negative) × (result.1 ≡ magnitude) }
+    ensures same { magnitude ≤ greatest_magnitude format.signed negative format.width
+        → (result.0 ≡ negative) × (result.1 ≡ magnitude) }
 {
+    let end = greatest_magnitude(format, negative);
     let low = low_bits(format, magnitude);
     if low > end {
         (!negative, ones(format) - low + 1)
@@ -190,7 +212,7 @@ fn wrapped(format: Format, negative: bool, magnitude: u64, end: u64) -> (bool, u
 }
 
 /// How many of two numbers may be out of range, for each policy.
-const ADMITTED: [u8; 3] = [0, 2, 2];
+const ADMITTED: [u8; 4] = [0, 2, 2, 2];
 
 /// Whether a policy refuses two numbers one of which may be out of its range. It is one comparison with a table's
 /// entry: of three conditions each would be a branch, and often mispredicted.
@@ -204,12 +226,13 @@ pub fn is_refused(policy: Policy, is_first_out: bool, is_second_out: bool) -> bo
 /// Whether the image of a number by the policy is an end of the range, and not its Wrapping image.
 #[inline(always)]
 fn is_at_end(policy: Policy, is_out_of_range: bool) -> bool
-    ensures { IsTrue result ↔ ((policy ≡ Policy.Saturating) × IsTrue is_out_of_range) }
+    ensures { IsTrue result ↔ (((policy ≡ Policy.Saturating) ⊎ (policy ≡ Policy.Symmetric)) × IsTrue is_out_of_range) }
 {
     match policy {
         Policy::Checked => false,
         Policy::Saturating => is_out_of_range,
         Policy::Wrapping => false,
+        Policy::Symmetric => is_out_of_range,
     }
 }
 

@@ -18,12 +18,16 @@ const FIRST_OF_32: u32 = 52;
 const FIRST_OF_64: u32 = 118;
 
 impl Format {
-    /// The number of the format in the order, from 0 to 247. `None` exactly where the width isn't 8, 16, 32 or 64.
+    /// The number of the format in the order, from 0 to 247. `None` exactly where the width isn't 8, 16, 32 or 64, or
+    /// the fraction is longer than the width.
     pub fn rank(self) -> Option<usize>
         ensures exists { IsSome result ↔ IsTypeFormat self.width self.frac }
         ensures rank { IfSome result (λ i. (i ≡ rank self) × (i < FORMAT_COUNT)) }
     {
         let width = self.width();
+        if self.frac() > width {
+            return None;
+        }
         let before = first_of_width(width)?;
         let sign = if self.signed() { width + 1 } else { 0 };
         Some((before + sign + self.frac()) as usize)

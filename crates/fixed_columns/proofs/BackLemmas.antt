@@ -18,6 +18,7 @@ use Rattle.fixed_laws.specs.Laws.{DefaultTextReadsBack}
 use Rattle.fixed_respell.specs.Split.{count_of}
 use Rattle.fixed_respell.specs.Words.{format_text, sign_letter}
 use Rattle.fixed_bits.proofs.Public.{type_width}
+use Rattle.fixed_respell.specs.Lemmas.FormatLemmas.{counts_within}
 use Rattle.fixed_respell.specs.Lemmas.SplitLemmas.{count_cons}
 use Rattle.fixed_write.specs.Styled.{IsStyledText, padded_text, padding, sign_and_prefix}
 use Rattle.fixed_write.specs.Texts.{IsShortestText, decimal_text, point_text}
@@ -124,7 +125,8 @@ word_above : (f : FormatParts) → IsTypeFormat f.width f.frac → AreAbove 32 (
 word_above f is =
     let most = (type_width f.width is.is_width).most in
     let within = is.within in
-    (letter_above f.signed, above_append 32 (decimal (f.width - f.frac)) (70 ∷ decimal f.frac) (decimal_above (f.width - f.frac) (omega (arith, most))) (omega arith, decimal_above f.frac (omega (arith, most, within))))
+    let counts = above_append 32 (decimal (f.width - f.frac)) (70 ∷ decimal f.frac) (decimal_above (f.width - f.frac) (omega (arith, most))) (omega arith, decimal_above f.frac (omega (arith, most, within))) in
+    (letter_above f.signed, subst (AreAbove 32) (sym (counts_within 70 f within)) counts)
 
 -- ---- spaces before a number
 spaces : ℕ → List ℕ

@@ -12,6 +12,7 @@ use Rattle.fixed_bits.specs.Formats.{FormatParts, IsTypeFormat}
 use Rattle.fixed_bits.specs.Ranges.{IsTypeWidth}
 use Rattle.fixed_respell.specs.LineWords.{space}
 use Rattle.fixed_respell.specs.Split.{count_of}
+use Rattle.fixed_respell.specs.Lemmas.FormatLemmas.{counts_within}
 use Rattle.fixed_respell.specs.Lemmas.SplitLemmas.{count_cons}
 use Rattle.fixed_respell.specs.Words.{format_text, sign_letter}
 use Rattle.fixed_write.specs.Places.{exact_text}
@@ -58,7 +59,8 @@ visible_format : (f : FormatParts) → IsTypeFormat f.width f.frac → All IsVis
 visible_format f is =
     let small : f.width ≤ 64 = width_small f.width is.is_width in
     let within : f.frac ≤ f.width = is.within in
-    visible_letter f.signed _ (All-append IsVisible (decimal (f.width - f.frac)) (70 ∷ decimal f.frac) (visible_decimal (f.width - f.frac) (omega arith)) (visible_by 70 (decimal f.frac) (omega arith) (visible_decimal f.frac (omega arith))))
+    let counts = All-append IsVisible (decimal (f.width - f.frac)) (70 ∷ decimal f.frac) (visible_decimal (f.width - f.frac) (omega arith)) (visible_by 70 (decimal f.frac) (omega arith) (visible_decimal f.frac (omega arith))) in
+    visible_letter f.signed _ (subst (All IsVisible) (sym (counts_within 70 f within)) counts)
 
 name_byte_visible : (b : ℕ) → IsNameByte b → IsVisible b
 name_byte_visible b is = omega (arith, is)

@@ -5,10 +5,10 @@ use Rattle.std.proofs.lemmas.Int.{ints}
 use Rattle.std.proofs.lemmas.Nat.{pow-add}
 use Rattle.std.proofs.Math.Pow.{pow_mono}
 use Rattle.fixed_bits.specs.Ranges.{IsInRange, IsOutOfRange, IsWide, lowest, greatest}
-use Rattle.fixed_bits.specs.Images.{IsImage, DiffersByMultiple}
+use Rattle.fixed_bits.specs.Images.{IsImage, IsInRangeBy, DiffersByMultiple, lowest_by}
 use Rattle.fixed_bits.specs.declared.format.Policy.{Policy}
-use Rattle.fixed_bits.specs.declared.format.Policy.TheVariants.{Checked, Saturating, Wrapping}
-use Rattle.fixed_bits.proofs.Public.{near_joined, range_decided, ends_wide}
+use Rattle.fixed_bits.specs.declared.format.Policy.TheVariants.{Checked, Saturating, Wrapping, Symmetric}
+use Rattle.fixed_bits.proofs.Public.{in_range_of, lowest_left_wide, near_joined, range_decided, ends_wide}
 use Rattle.fixed_convert.specs.Moved.{shifted}
 use Rattle.fixed_convert.specs.Inner.Representative.{Represents, OnSameSide}
 
@@ -57,6 +57,13 @@ represents_image Saturating s n v w c l st h = record {
 represents_image Wrapping s n v w c l st h = record {
   in_range = h.in_range;
   near = near_joined (2 ^ n) c w v h.near (near_less n w v l st.near);
+}
+represents_image Symmetric s n v w c l st h = record {
+  same = λ x.
+      let one = side_same s n v w l st.side (in_range_of Symmetric s n v x) in
+      h.same (rw one x) ∙ one;
+  below = λ x. h.below (side_below v w (lowest_by Symmetric s n) st.side (lowest_left_wide Symmetric s n l) x);
+  above = λ x. h.above (side_above v w (greatest s n) st.side (ends_wide s n l).1 x);
 }
 
 -- ---- what represents a product

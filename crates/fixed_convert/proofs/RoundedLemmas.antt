@@ -6,9 +6,8 @@ use Rattle.std.proofs.lemmas.Int.{ints}
 use Rattle.std.proofs.lemmas.Nat.{pow_pos, pow-add}
 use Rattle.fixed_bits.proofs.Integers.{plus_times}
 use Rattle.fixed_bits.specs.Down.{IsDown, down}
-use Rattle.fixed_bits.specs.Images.{IsImage}
+use Rattle.fixed_bits.specs.Images.{IsImage, IsOutOfRangeBy}
 use Rattle.fixed_bits.specs.Numbers.{with_sign}
-use Rattle.fixed_bits.specs.Ranges.{IsOutOfRange}
 use Rattle.fixed_bits.specs.Rounded.{IsRounded}
 use Rattle.fixed_bits.specs.declared.format.Policy.TheVariants.{Checked}
 use Rattle.fixed_bits.specs.declared.mode.ReadMode.{ReadMode}
@@ -93,7 +92,7 @@ reformatted_is_the_one mode policy target b f c o format x = (
   λ d u y.
       let m : x.moved ≡ y.moved = moved_one mode b f target.frac x.moved y.moved x.is_moved y.is_moved in
       let Image : ℤ → Type 0 = λ v. IsImage policy target.signed target.width v c in
-      let Verdict : ℤ → Type 0 = λ v. IsTrue o ↔ IsOutOfRange target.signed target.width v in (
+      let Verdict : ℤ → Type 0 = λ v. IsTrue o ↔ IsOutOfRangeBy policy target.signed target.width v in (
         image_one policy target.signed target.width y.moved c d format.is_width (subst Image m x.image_is) y.image_is,
         same_from_decides o u (subst Verdict m x.verdict) y.verdict,
       ),

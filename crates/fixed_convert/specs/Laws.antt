@@ -2,8 +2,8 @@
 use Rattle.std.specs.Prelude.{◌≡◌, ℕ, ◌^◌, ◌≤◌, Bool, ℤ, pos, ◌*ℤ◌, ◌<ℤ◌}
 use Rattle.std.specs.Cmp.{IsTotalOrder}
 use Rattle.std.specs.Ordering.{MatchOrdering}
-use Rattle.fixed_bits.specs.Ranges.{IsInRange, IsWidth}
-use Rattle.fixed_bits.specs.Images.{IsImage}
+use Rattle.fixed_bits.specs.Ranges.{IsWidth}
+use Rattle.fixed_bits.specs.Images.{IsImage, IsInRangeBy}
 use Rattle.fixed_bits.specs.Down.{down}
 use Rattle.fixed_bits.specs.declared.format.Policy.{Policy}
 use Rattle.fixed_convert.specs.Order.{order_of, order}
@@ -18,8 +18,9 @@ FinerIsExact = (b : ℤ) (f g : ℕ) → f ≤ g → IsExact b f g
 -- a conversion that loses no fraction bits and fits, and the one back: c and e are what the two give, under any
 -- policies
 abbrev pub ConversionIsUndone : Type 0
-ConversionIsUndone = (p q : Policy) (s t : Bool) (m n f g : ℕ) (b c e : ℤ) → IsWidth m → IsWidth n → IsInRange s m b
-    → IsExact b f g → IsInRange t n (down b f g) → IsImage p t n (down b f g) c → IsImage q s m (down c g f) e → e ≡ b
+ConversionIsUndone = (p q : Policy) (s t : Bool) (m n f g : ℕ) (b c e : ℤ) → IsWidth m → IsWidth n
+    → IsInRangeBy q s m b → IsExact b f g → IsInRangeBy p t n (down b f g)
+    → IsImage p t n (down b f g) c → IsImage q s m (down c g f) e → e ≡ b
 
 -- one answer, and what it says of the two values
 abbrev pub OrderIsOfValues : Type 0

@@ -3,7 +3,7 @@ use Rattle.std.specs.Prelude.{◌≡◌, ◌↔◌, ◌*◌, ◌^◌, ℕ, ℤ, 
 use Rattle.std.specs.Int.{is_negative}
 use Rattle.fixed_bits.specs.Down.{down}
 use Rattle.fixed_bits.specs.Formats.{FormatParts, IsFormat}
-use Rattle.fixed_bits.specs.Images.{IsImage}
+use Rattle.fixed_bits.specs.Images.{IsImage, IsOutOfRangeBy}
 use Rattle.fixed_bits.specs.Numbers.{with_sign}
 use Rattle.fixed_bits.specs.Ranges.{IsOutOfRange}
 use Rattle.fixed_bits.specs.Rounded.{IsRounded}
@@ -18,13 +18,14 @@ pub record IsMovedIn (mode : ReadMode) (b : ℤ) (f g : ℕ) (v : ℤ) : Type 0 
   pub rounded : IsRounded mode (is_negative b) (unsigned_abs b * 2 ^ g) (2 ^ f) ulps
   pub value : v ≡ with_sign (is_negative b) ulps
 
--- image is that of the moved number in the target, and overflowed says whether the moved number is out of its range
+-- image is that of the moved number in the target, and overflowed says whether the moved number is out of the range
+-- that the policy leaves there
 pub record IsReformatted (mode : ReadMode) (policy : Policy) (target : FormatParts) (b : ℤ) (f : ℕ) (image : ℤ)
     (overflowed : Bool) : Type 0 where
   pub moved : ℤ
   pub is_moved : IsMovedIn mode b f target.frac moved
   pub image_is : IsImage policy target.signed target.width moved image
-  pub verdict : IsTrue overflowed ↔ IsOutOfRange target.signed target.width moved
+  pub verdict : IsTrue overflowed ↔ IsOutOfRangeBy policy target.signed target.width moved
 
 -- under Checked the moved number is out of the target's range, and so it has no image
 pub record IsNotReformatted (mode : ReadMode) (policy : Policy) (target : FormatParts) (b : ℤ) (f : ℕ) : Type 0 where

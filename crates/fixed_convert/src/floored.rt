@@ -3,7 +3,7 @@
 ghost use Rattle.std.specs.Prelude.{◌≡◌, ◌↔◌, ◌≤◌, ◌<◌, ◌-◌, IsTrue, IsNone, IfSome};
 ghost use Rattle.fixed_bits.specs.Ranges.{IsInRange, IsOutOfRange, IsWide};
 ghost use Rattle.fixed_bits.specs.Formats.{IsFormat};
-ghost use Rattle.fixed_bits.specs.Images.{IsImage};
+ghost use Rattle.fixed_bits.specs.Images.{IsImage, IsOutOfRangeBy};
 ghost use Rattle.fixed_bits.specs.Numbers.{IsImageUnlessRefused, number_of_image, with_sign};
 ghost use Rattle.fixed_bits.specs.Down.{IsDown, down};
 ghost use Rattle.fixed_bits.specs.declared.format.Policy.TheVariants.{Checked, Saturating, Wrapping};
@@ -110,8 +110,8 @@ fn shifted_out(b: i128, k: u32) -> i128
 }
 
 /// The image of the number with that sign and magnitude, moved down from fraction length `from` to that of the format,
-/// and whether the moved number was out of range. Where it was, under `Checked`, there is no image, and any number in
-/// range is answered for it.
+/// and whether the moved number was out of the range that the policy leaves. Where it was, under `Checked`, there is no
+/// image, and any number in range is answered for it.
 #[inline(always)]
 pub fn reformat_signed(
     format: Format,
@@ -123,7 +123,7 @@ pub fn reformat_signed(
     requires { from ≤ 64 }
     ensures image { IsImageUnlessRefused policy format (down (with_sign negative magnitude) from format.frac) result }
     ensures verdict { IsTrue result.is_out_of_range
-        ↔ IsOutOfRange format.signed format.width (down (with_sign negative magnitude) from format.frac) }
+        ↔ IsOutOfRangeBy policy format.signed format.width (down (with_sign negative magnitude) from format.frac) }
     ensures range { IsInRange format.signed format.width (number_of_image result) }
     ensures valid { IsFormat format.width format.frac }
 {
@@ -131,12 +131,12 @@ pub fn reformat_signed(
 }
 
 /// The image of the bits `b`, moved down from fraction length `from` to that of the format, and whether the moved
-/// number was out of range. `None` exactly where it was, under `Checked`.
+/// number was out of the range that the policy leaves. `None` exactly where it was, under `Checked`.
 pub fn reformat(format: Format, policy: Policy, b: i128, from: u32) -> Option<(i128, bool)>
     requires wide { IsWide b }
     requires from { from ≤ 64 }
     ensures image { IfSome result (λ r. IsImage policy format.signed format.width (down b from format.frac) r.0) }
-    ensures verdict { IfSome result (λ r. IsTrue r.1 ↔ IsOutOfRange format.signed format.width
+    ensures verdict { IfSome result (λ r. IsTrue r.1 ↔ IsOutOfRangeBy policy format.signed format.width
         (down b from format.frac)) }
     ensures none { IsNone result ↔ ((policy ≡ Checked) × IsOutOfRange format.signed format.width
         (down b from format.frac)) }

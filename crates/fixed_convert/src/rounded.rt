@@ -7,12 +7,12 @@ ghost use Rattle.fixed_convert.specs.Rounded.{IsMovedIn, IsNotReformatted, IsRef
 
 use crate::floored::reformat;
 use fixed_bits::{
-    Format, Policy, ReadMode, lost_fraction, magnitude_mode_of, rounding_increment,
+    Format, Number, Policy, ReadMode, lost_fraction, magnitude_mode_of, rounding_increment,
     sign_and_magnitude, signed_number,
 };
 
 /// The image of the bits `b`, moved in a mode from fraction length `from` to that of the format, and whether the moved
-/// number was out of range. `None` exactly where it was, under `Checked`.
+/// number was out of the range that the policy leaves. `None` exactly where it was, under `Checked`.
 pub fn reformat_mode(
     format: Format,
     policy: Policy,
@@ -33,9 +33,9 @@ pub fn reformat_mode(
             None => None,
         };
     }
-    let moved = moved_back(b, from, format.frac(), mode);
-    match policy.image(format, moved) {
-        Some(image) => Some((image, !format.contains(moved))),
+    let image = Number::of(moved_back(b, from, format.frac(), mode)).image(format, policy);
+    match image.admitted(policy) {
+        Some(c) => Some((c, image.is_out_of_range)),
         None => None,
     }
 }

@@ -6,7 +6,7 @@
 ghost use Rattle.std.specs.Prelude.{◌≡◌, ◌≢◌, ◌+◌, ◌*◌, ◌^◌, ◌<◌, ◌≤◌, ◌↔◌, ◌⊎◌, ℤ, pos, IsTrue, IsOk, IfOk, IfErr};
 ghost use Rattle.std.specs.Prelude.{IsNone, IfSome, drop, length};
 ghost use Rattle.fixed_bits.specs.Formats.{IsFormat};
-ghost use Rattle.fixed_bits.specs.Images.{IsImage};
+ghost use Rattle.fixed_bits.specs.Images.{IsImage, IsOutOfRangeBy};
 ghost use Rattle.fixed_bits.specs.Numbers.{IsNumber};
 ghost use Rattle.fixed_bits.specs.Ranges.{IsInRange, IsOutOfRange, IsWide};
 ghost use Rattle.fixed_bits.specs.declared.mode.ReadMode.TheVariants.{NearestEven};
@@ -119,8 +119,17 @@ impl ReadNumber {
         self.number().is_out_of_range(self.format)
     }
 
-    /// The image of the number in the format: the number itself where it is in range. `None` exactly where it is out of
-    /// range and the policy is `Checked`.
+    /// Whether the number is out of the range that a policy leaves of the format's.
+    pub fn is_out_of_range_by(&self, policy: Policy) -> bool
+        ensures range { (v : ℤ) → IsNumber (number_in self.now) v → IsTrue result
+            ↔ IsOutOfRangeBy policy self.now.format.signed self.now.format.width v }
+        ensures valid { IsFormat self.now.format.width self.now.format.frac }
+    {
+        self.number().is_out_of_range_by(self.format, policy)
+    }
+
+    /// The image of the number in the format: the number itself where it is in the range that the policy leaves. `None`
+    /// exactly where it is out of range and the policy is `Checked`.
     pub fn image(&self, policy: Policy) -> Option<i128>
         ensures image { (v : ℤ) → IsNumber (number_in self.now) v
             → IfSome result (λ c. IsImage policy self.now.format.signed self.now.format.width v c) }

@@ -9,4 +9,4 @@ returns-in-Ok-clause-range g c =
     let n = c.args.numerals.now in
     let read = c.in-Ok.ensures.read in
     let fits : FitsSigned w128 c.in-Ok.found.bits = search rules in
-    rw (to_z-of_z w128 c.in-Ok.found.bits fits) (image_within n.policy n.format.signed n.format.width read.number c.in-Ok.found.bits read.image)
+    rw (to_z-of_z w128 c.in-Ok.found.bits fits) (image_within n.policy n.format.signed n.format.width read.number c.in-Ok.found.bits read.image).0

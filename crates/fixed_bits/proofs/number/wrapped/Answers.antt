@@ -8,7 +8,7 @@ returns-then-low-end-clause-image c =
     let low = c.low_bits-low.result in
     let below : low < 2 ^ f.width = rw c.low_bits-low.ensures.bits (mod-lt c.args.magnitude (pow_pos f.width)) in
     let turn : c.ones.result - low + 1 ≡ 2 ^ f.width - low = omega (arith, c.ones.ensures.ones, below) in
-    rw turn (wrapped_turned f c.args.negative c.args.magnitude c.args.end low c.low_bits-low.ensures.valid.is_width c.requires c.low_bits-low.ensures.bits (omega (arith, c.if-low-end.true)))
+    rw turn (wrapped_turned f c.args.negative c.args.magnitude c.greatest_magnitude-end.result low c.low_bits-low.ensures.valid.is_width c.greatest_magnitude-end.ensures.magnitude c.low_bits-low.ensures.bits (omega (arith, c.if-low-end.true)))
 
 pub returns-else-low-end-clause-image : goal.returns-else-low-end-clause-image
-returns-else-low-end-clause-image c = wrapped_low c.args.format c.args.negative c.args.magnitude c.args.end c.low_bits-low.result c.requires c.low_bits-low.ensures.bits (omega (arith, c.if-low-end.false))
+returns-else-low-end-clause-image c = wrapped_low c.args.format c.args.negative c.args.magnitude c.greatest_magnitude-end.result c.low_bits-low.result c.greatest_magnitude-end.ensures.magnitude c.low_bits-low.ensures.bits (omega (arith, c.if-low-end.false))

@@ -1,5 +1,3 @@
-use Rattle.std.proofs.Common.{subst, ◌+◌, ◌*◌, ℕ, false}
-use Rattle.fixed_bits.specs.Rounded.{IsRounded}
 use Rattle.fixed_bits.proofs.LostLemmas.{rounds_as_quarters}
 use Rattle.fixed_bits.proofs.rounding.rounding_increment.Goals as goal
 

@@ -18,4 +18,4 @@ returns g c v is =
     let inside : IsInRange s n end = rw (c.format.ensures, c.requires.signed, c.requires.width) at c.image.ensures.range in
     let fit : FitsSigned w128 c.number-2.result = search rules in
     let wrapped : c.wrap.result ≡ g.I.Inner.wrapped end = c.wrap.ensures ∙ ap g.I.Inner.wrapped (to_z-of_z w128 c.number-2.result fit ∙ c.number-2.ensures) in
-    rw (ap g.I.Inner.number wrapped ∙ (images_agree Wrapping s n end _ (type_width g.I.Inner.BITS g.met.I.Inner.width_law) inside).0 (g.met.I.Inner.wrap_law end)) image
+    rw (ap g.I.Inner.number wrapped ∙ (images_agree Wrapping s n end _ (type_width g.I.Inner.BITS g.met.I.Inner.width_law) (record { low = inside.low; high = inside.high })).0 (g.met.I.Inner.wrap_law end)) image
