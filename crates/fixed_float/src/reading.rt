@@ -1,8 +1,9 @@
 //! Reading a float into a format: one shift and one rounding.
 
-ghost use Rattle.std.specs.Prelude.{◌≡◌, ◌↔◌, ◌<◌, ◌≤◌, ◌^◌, ◌*◌, ◌/◌, IsTrue, IsOk, IfOk};
+ghost use Rattle.std.specs.Prelude.{◌≡◌, ◌↔◌, ◌<◌, ◌≤◌, ◌^◌, ◌+◌, ◌*◌, ◌/◌, ℕ, IsTrue, IsOk, IfOk};
+ghost use Rattle.fixed_bits.specs.declared.mode.ReadMode.{ReadMode};
 ghost use Rattle.fixed_float.specs.Floats.{IsFinite, IsFloatReading};
-ghost use Rattle.fixed_float.specs.Inner.Fields.{IsLowOf, IsScaledReading, IsShift};
+ghost use Rattle.fixed_float.specs.Inner.Fields.{IsLowOf, IsScaledReading};
 ghost use Rattle.fixed_float.specs.declared.layout.FloatLayout.TheVariants.{Binary32, Binary64};
 
 use crate::increment::mode_increment;
@@ -19,15 +20,6 @@ const BINARY64_UNIT: u32 = 1075;
 
 /// The scale of a float of single precision that is its significand.
 const BINARY32_UNIT: u32 = 150;
-
-/// How far a scale is to be shifted down to another, but at most `most`.
-#[inline(always)]
-fn shift(from: u32, to: u32, most: u32) -> u32
-    ensures shift { IsShift from to most result }
-    ensures most { result ≤ most }
-{
-    from.saturating_sub(to).min(most)
-}
 
 /// Two to the power of `bits`.
 #[inline(always)]
@@ -83,10 +75,39 @@ fn is_nothing(rest: u64) -> bool
     rest == 0
 }
 
-/// The read number of a significand times two to the power of its scale less `unit`, the scale of one.
-///
-/// A magnitude shifted up by more than 64 bits has the same low bits as one shifted by 64, and one shifted down by 62
+/// The read number of a significand of whole ulps, each two to the power of `-up`. Shifted by more than 64 bits a
+/// magnitude has the same low bits as by 64.
+#[inline(always)]
+fn read_whole(fields: FloatFields, up: u32, format: Format) -> ReadNumber
+    requires few_bits { fields.significand < 2 ^ 53 }
+    ensures reading { (mode : ReadMode) (unit : ℕ) → up + unit ≡ fields.scale + format.frac
+        → IsScaledReading mode fields unit result }
+    ensures format { result.format ≡ format }
+{
+    let magnitude = multiple(fields.significand, up.min(64));
+    ReadNumber::new(signed(fields.negative, magnitude), format, true)
+}
+
+/// The read number of a significand in parts of an ulp, each two to the power of `-down`. One that is shifted by 62
 /// bits or more is less than half of an ulp.
+#[inline(always)]
+fn read_part(fields: FloatFields, down: u32, format: Format, mode: ReadMode) -> ReadNumber
+    requires few_bits { fields.significand < 2 ^ 53 }
+    ensures reading { (unit : ℕ) → down + (fields.scale + format.frac) ≡ unit
+        → IsScaledReading mode fields unit result }
+    ensures format { result.format ≡ format }
+{
+    let down = down.min(62);
+    let ulp = power_of_two(down);
+    let rest = fields.significand % ulp;
+    let whole = quotient(fields.significand, down);
+    let more = mode_increment(mode, fields.negative, rest, ulp, whole % 2);
+    let number = signed(fields.negative, u128::from(whole + more));
+    ReadNumber::new(number, format, is_nothing(rest))
+}
+
+/// The read number of a significand times two to the power of its scale less `unit`, the scale of one. Most floats have
+/// parts of an ulp, and for these 64 bits are enough.
 #[inline(always)]
 fn read_fields(fields: FloatFields, unit: u32, format: Format, mode: ReadMode) -> ReadNumber
     requires few_bits { fields.significand < 2 ^ 53 }
@@ -96,13 +117,11 @@ fn read_fields(fields: FloatFields, unit: u32, format: Format, mode: ReadMode) -
     ensures format { result.format ≡ format }
 {
     let scale = fields.scale + format.frac();
-    let down = shift(unit, scale, 62);
-    let ulp = power_of_two(down);
-    let rest = fields.significand % ulp;
-    let whole = multiple(quotient(fields.significand, down), shift(scale, unit, 64));
-    let more = mode_increment(mode, fields.negative, rest, ulp, (whole % 2) as u64);
-    let number = signed(fields.negative, whole + u128::from(more));
-    ReadNumber::new(number, format, is_nothing(rest))
+    if scale < unit {
+        read_part(fields, unit - scale, format, mode)
+    } else {
+        read_whole(fields, scale - unit, format)
+    }
 }
 
 /// Reads a double, given by its bits, into a format: its exact value rounded to ulps in a mode.

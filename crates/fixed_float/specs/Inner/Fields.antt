@@ -29,11 +29,6 @@ pub record IsScaledReading (mode : ReadMode) (fields : FloatFields) (unit : ℕ)
   pub exact : IsTrue found.exact
       ↔ IsMultipleOf (2 ^ unit) (fields.significand * 2 ^ fields.scale * 2 ^ found.format.frac)
 
--- a shift goes from one scale to another, but no farther than `most`
-pub record IsShift (from to most shift : ℕ) : Type 0 where
-  pub short : from - to ≤ most → shift ≡ from - to
-  pub long : most < from - to → shift ≡ most
-
 -- the number has the lowest 64 bits of a magnitude, and says whether there are more
 pub record IsLowOf (number : Number) (magnitude : ℕ) : Type 0 where
   pub low : number.low ≡ magnitude % 2 ^ 64
