@@ -12,13 +12,13 @@ use lib.Signed.{mag}
 use Rattle.fixed_bits.proofs.Public.{down_is, inside}
 use Rattle.fixed_bits.specs.Down.{down}
 use Rattle.fixed_bits.specs.Formats.{FormatParts}
-use Rattle.fixed_bits.specs.Images.{IsImage, IsSaturated, wrap_to_signed, wrap_to_unsigned}
+use Rattle.fixed_bits.specs.Images.{IsImage, IsOutOfRangeBy, IsSaturated, IsSymmetric, lowest_by, wrap_to_signed, wrap_to_unsigned}
 use Rattle.fixed_bits.specs.Lemmas.InnerLaws.{wrapped_signed, wrapped_unsigned}
 use Rattle.fixed_bits.specs.Nearest.{distance}
-use Rattle.fixed_bits.specs.Ranges.{IsOutOfRange, greatest, lowest}
+use Rattle.fixed_bits.specs.Ranges.{greatest}
 use Rattle.fixed_bits.specs.Rounded.{IsNearestGreater, IsNearestLesser, IsNotAbove, IsNotBelow, IsRounded}
 use Rattle.fixed_bits.specs.declared.format.Policy.{Policy}
-use Rattle.fixed_bits.specs.declared.format.Policy.TheVariants.{Checked, Saturating, Wrapping}
+use Rattle.fixed_bits.specs.declared.format.Policy.TheVariants.{Checked, Saturating, Wrapping, Symmetric}
 use Rattle.fixed_bits.specs.declared.mode.ReadMode.{ReadMode}
 use Rattle.fixed_bits.specs.declared.mode.ReadMode.TheVariants.{NearestEven, Floor, Ceil, TowardsZero}
 use Rattle.fixed_bits.specs.declared.mode.ReadMode.TheVariants.{AwayFromZero, NearestAway, NearestDown, NearestUp, NearestZero}
@@ -163,38 +163,45 @@ rounded TowardsZero negative num den q e = not_above num den q e
 rounded AwayFromZero negative num den q e = not_below num den q e
 
 -- ---- images
-abbrev is_out : Bool → ℕ → ℤ → Bool
-is_out s n v = int_lt v (lowest s n) || int_lt (greatest s n) v
+abbrev is_out : Policy → Bool → ℕ → ℤ → Bool
+is_out p s n v = int_lt v (lowest_by p s n) || int_lt (greatest s n) v
 
 decides_less : (a b : ℤ) → Decides (int_lt a b) (a <ℤ b)
 decides_less a b = ((λ e. grind (arith, ints, e)), (λ l. grind (arith, ints, l)))
 
-decides_out : (s : Bool) (n : ℕ) (v : ℤ) → Decides (is_out s n v) (IsOutOfRange s n v)
-decides_out s n v = Decides-or _ _ (decides_less v (lowest s n)) (decides_less (greatest s n) v)
+decides_out : (p : Policy) (s : Bool) (n : ℕ) (v : ℤ) → Decides (is_out p s n v) (IsOutOfRangeBy p s n v)
+decides_out p s n v = Decides-or _ _ (decides_less v (lowest_by p s n)) (decides_less (greatest s n) v)
 
-abbrev clamped : Bool → ℕ → ℤ → ℤ
-clamped s n v = cond (int_lt v (lowest s n)) (lowest s n) (cond (int_lt (greatest s n) v) (greatest s n) v)
+abbrev clamped : Policy → Bool → ℕ → ℤ → ℤ
+clamped p s n v = cond (int_lt v (lowest_by p s n)) (lowest_by p s n) (cond (int_lt (greatest s n) v) (greatest s n) v)
 
-saturated : (s : Bool) (n : ℕ) (v : ℤ) → IsSaturated s n v (clamped s n v)
+saturated : (s : Bool) (n : ℕ) (v : ℤ) → IsSaturated s n v (clamped Saturating s n v)
 saturated true n v = record { same = λ i. grind (arith, ints, i.low, i.high); below = λ l. grind (arith, ints, l); above = λ l. grind (arith, ints, l, pow_pos (n - 1)) }
 saturated false n v = record { same = λ i. grind (arith, ints, i.low, i.high); below = λ l. grind (arith, ints, l); above = λ l. grind (arith, ints, l, pow_pos n) }
 
+symmetric : (s : Bool) (n : ℕ) (v : ℤ) → IsSymmetric s n v (clamped Symmetric s n v)
+symmetric true n v = record { same = λ i. grind (arith, ints, i.low, i.high); below = λ l. grind (arith, ints, l); above = λ l. grind (arith, ints, l, pow_pos (n - 1)) }
+symmetric false n v = record { same = λ i. grind (arith, ints, i.low, i.high); below = λ l. grind (arith, ints, l); above = λ l. grind (arith, ints, l, pow_pos n) }
+
 abbrev image_of : Policy → Bool → ℕ → ℤ → ℤ
 image_of Checked s n v = v
-image_of Saturating s n v = clamped s n v
+image_of Saturating s n v = clamped Saturating s n v
 image_of Wrapping true n v = wrap_to_signed n v
 image_of Wrapping false n v = pos (wrap_to_unsigned n v)
+image_of Symmetric s n v = clamped Symmetric s n v
 
 abbrev has_image : Policy → Bool → ℕ → ℤ → Bool
-has_image Checked s n v = not (is_out s n v)
+has_image Checked s n v = not (is_out Checked s n v)
 has_image Saturating s n v = true
 has_image Wrapping s n v = eqb (2 ^ n) (2 * 2 ^ (n - 1))
+has_image Symmetric s n v = true
 
 image_is : (p : Policy) (s : Bool) (n : ℕ) (v : ℤ) → has_image p s n v ≡ true → IsImage p s n v (image_of p s n v)
-image_is Checked s n v e = record { in_range = inside s n v (is_out s n v) (not-true _ e) (decides_out s n v); same = refl }
+image_is Checked s n v e = record { in_range = inside s n v (is_out Checked s n v) (not-true _ e) (decides_out Checked s n v); same = refl }
 image_is Saturating s n v e = saturated s n v
 image_is Wrapping true n v e = wrapped_signed n (eqb-true _ _ e) v
 image_is Wrapping false n v e = wrapped_unsigned n v
+image_is Symmetric s n v e = symmetric s n v
 
 -- ---- what is reached from parts whose magnitude is so many ulps of the source
 abbrev is_read : ReadMode → Radix → Parts → ℕ → ℕ → Bool
@@ -213,7 +220,7 @@ abbrev bits : Policy → FormatParts → FormatParts → ℤ → ℤ
 bits policy s t v = image_of policy t.signed t.width (moved policy s t v)
 
 abbrev overflowed : Policy → FormatParts → FormatParts → ℤ → Bool
-overflowed policy s t v = is_out s.signed s.width v || is_out t.signed t.width (moved policy s t v)
+overflowed policy s t v = is_out policy s.signed s.width v || is_out policy t.signed t.width (moved policy s t v)
 
 abbrev is_reached : ReadMode → Radix → Policy → FormatParts → FormatParts → Parts → ℕ → Bool
 is_reached mode r policy s t p ulps = is_read mode r p s.frac ulps && (has_image policy s.signed s.width (signed p.sign ulps) && has_image policy t.signed t.width (moved policy s t (signed p.sign ulps)))
@@ -234,7 +241,7 @@ reached {mode} {r} {policy} {s} {t} p ulps e =
         source_image = image_is policy s.signed s.width v images.0;
         down = down_is (in_source policy s v) s.frac t.frac;
         target_image = image_is policy t.signed t.width (moved policy s t v) images.1;
-        flag = Decides-or _ _ (decides_out s.signed s.width v) (decides_out t.signed t.width (moved policy s t v));
+        flag = Decides-or _ _ (decides_out policy s.signed s.width v) (decides_out policy t.signed t.width (moved policy s t v));
       };
     }
 
@@ -251,7 +258,7 @@ overflows {mode} {r} {s} {t} p ulps e =
         checked = refl;
         read = read mode r p s.frac ulps all.0;
         down = down_is v s.frac t.frac;
-        out = (Decides-or _ _ (decides_out s.signed s.width v) (decides_out t.signed t.width (down v s.frac t.frac))).0 all.1;
+        out = (Decides-or _ _ (decides_out Checked s.signed s.width v) (decides_out Checked t.signed t.width (down v s.frac t.frac))).0 all.1;
       };
     }
 

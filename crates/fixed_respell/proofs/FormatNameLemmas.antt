@@ -1,17 +1,19 @@
 -- The names of formats: how counts are read, what follows the letters, and that a word names one format.
-use Rattle.std.proofs.Common.{◌≡◌, ℕ, ◌+◌, ◌-◌, ◌<◌, ◌⊎◌, ◌↔◌, Bool, true, false, IsTrue, List, [], ◌∷◌, ◌++◌, length, length-append, Option, Some, None, IsSome, IfSome, MatchOption, refl, sym, ap, ◌∙◌, subst, arith, inl, inr}
-use Rattle.std.specs.Fmt.{decimal}
+use Rattle.std.proofs.Common.{◌≡◌, ℕ, ◌+◌, ◌-◌, ◌<◌, ◌≤◌, ◌⊎◌, ◌↔◌, Bool, true, false, IsTrue, List, [], ◌∷◌, ◌++◌, length, length-append, Option, Some, None, IsSome, IfSome, MatchOption, refl, sym, ap, ◌∙◌, subst, arith, inl, inr, ⊎_elim, append_assoc}
+use Rattle.std.specs.Fmt.{decimal, signed_decimal}
 use Rattle.std.specs.Str.Parse.{AllDigits}
+use Rattle.std.proofs.lemmas.Bool.{cases_lt}
 use Rattle.std.proofs.lemmas.Fmt.{decimal_injective, decimal_is_IsNumeral}
 use Rattle.std.proofs.lemmas.Str.Parse.{digit_from_value}
-use Rattle.fixed_bits.specs.Formats.{FormatParts, IsFormat}
+use Rattle.fixed_bits.specs.Formats.{FormatParts, IsFormat, whole_length}
 use Rattle.fixed_bits.proofs.Public.{type_format}
+use Rattle.fixed_numeral.specs.Numeral.{minus}
 use Rattle.fixed_respell.specs.AnswerLaws.{FormatNameIsTheOne, FormatWordIsAName}
-use Rattle.fixed_respell.specs.FormatNames.{IsCountedName, IsFormatName, IsFractionName, IsLetter, IsPointedName, IsQ, counts_text, point, q_letter}
-use Rattle.fixed_respell.specs.Inner.NameParts.{IsAfterQ, IsAfterU, IsCounted, IsFraction, IsPointed, IsPointedByQ, two_counts}
+use Rattle.fixed_respell.specs.FormatNames.{IsCountedName, IsFormatName, IsFractionName, IsLetter, IsPointedName, IsQ, point, q_letter}
+use Rattle.fixed_respell.specs.Inner.NameParts.{IsAfterQ, IsAfterU, IsCounted, IsCountedBeyond, IsCountedWithin, IsFraction, IsPointed, IsPointedByQ, two_counts}
 use Rattle.fixed_respell.specs.Split.{IsSplit, count_of}
-use Rattle.fixed_respell.specs.Words.{format_text, fraction_letter, sign_letter}
-use Rattle.fixed_respell.specs.Lemmas.FormatLemmas.{IsNoDigit, decimal_without, no_digit_is}
+use Rattle.fixed_respell.specs.Words.{counts_text, format_text, fraction_letter, sign_letter}
+use Rattle.fixed_respell.specs.Lemmas.FormatLemmas.{IsNoDigit, counts_beyond, counts_within, decimal_without, no_digit_is}
 use Rattle.fixed_respell.specs.Lemmas.SplitLemmas.{IsSameSplit, split_has_one, split_is_one}
 
 -- ---- two counts around a byte that is no digit
@@ -49,6 +51,10 @@ letter_no_digit : (capital m : ℕ) → 57 < capital → IsLetter capital m → 
 letter_no_digit capital m high (inl e) = inr (omega (arith, high, e))
 letter_no_digit capital m high (inr e) = inr (omega (arith, high, e))
 
+no_minus : (capital m : ℕ) → 57 < capital → IsLetter capital m → m ≡ minus → ⊥
+no_minus capital m high (inl e) is = omega (arith, high, e, is)
+no_minus capital m high (inr e) is = omega (arith, high, e, is)
+
 -- ---- a format of two counts
 abbrev parts : Bool → ℕ → ℕ → FormatParts
 parts s w r = record { signed = s; width = w; frac = r }
@@ -68,22 +74,48 @@ found_by P s w r (Some f) exists are to back =
     let is = parts_are f s w r are.0 are.1 are.2 in
     subst P (sym is) (to (exists.0 refl))
 
-counted_to : (s : Bool) (w r mark : ℕ) (rest : List ℕ) → IsLetter fraction_letter mark → rest ≡ two_counts mark w r → IsFormat (w + r) r → IsCounted s rest (parts s (w + r) r)
-counted_to s w r mark rest letter is valid =
+within_to : (s : Bool) (w r mark : ℕ) (rest : List ℕ) → IsLetter fraction_letter mark → rest ≡ two_counts mark w r → IsFormat (w + r) r → IsCountedWithin s rest (parts s (w + r) r)
+within_to s w r mark rest letter is valid =
     let whole : w + r - r ≡ w = omega arith in
-    record { is = record { format = valid; signed_is = refl }; mark = mark; is_mark = letter; text = is ∙ ap (λ n. two_counts mark n r) (sym whole) }
+    record { is = record { format = valid; signed_is = refl }; within = omega arith; mark = mark; is_mark = letter; text = is ∙ ap (λ n. two_counts mark n r) (sym whole) }
 
-counted_back : (s : Bool) (w r mark : ℕ) (rest : List ℕ) → w < 100 → r < 100 → IsLetter fraction_letter mark → rest ≡ two_counts mark w r → (f : FormatParts) → IsCounted s rest f → IsFormat f.width f.frac × (f ≡ parts s (w + r) r)
-counted_back s w r mark rest few few' letter is f c =
+within_back : (s : Bool) (w r mark : ℕ) (rest : List ℕ) → w < 100 → r < 100 → IsLetter fraction_letter mark → rest ≡ two_counts mark w r → (f : FormatParts) → IsCountedWithin s rest f → IsFormat f.width f.frac × (f ≡ parts s (w + r) r)
+within_back s w r mark rest few few' letter is f c =
     let most = c.is.format.is_width.most in
-    let within = c.is.format.within in
+    let within = c.within in
     let same = counts_one mark c.mark w r (f.width - f.frac) f.frac (letter_no_digit fraction_letter mark (omega arith) letter) (letter_no_digit fraction_letter c.mark (omega arith) c.is_mark) few few' (omega (arith, most)) (omega (arith, most, within)) (sym is ∙ c.text) in
     (c.is.format, parts_are f s (w + r) r c.is.signed_is (omega (arith, same.0, same.2, within)) (sym same.2))
 
-pub counted_found : (s : Bool) (w r mark : ℕ) (rest : List ℕ) (o : Option FormatParts) → w < 100 → r < 100 → IsLetter fraction_letter mark → rest ≡ two_counts mark w r → (IsSome o ↔ IsFormat (w + r) r) → IfSome o (λ f. (f.signed ≡ s) × (f.width ≡ w + r) × (f.frac ≡ r))
-    → MatchOption o ((f : FormatParts) → ¬ IsCounted s rest f) (λ f. IsCounted s rest f)
-counted_found s w r mark rest o few few' letter is exists are =
-    found_by (IsCounted s rest) s (w + r) r o exists are (counted_to s w r mark rest letter is) (counted_back s w r mark rest few few' letter is)
+pub within_found : (s : Bool) (w r mark : ℕ) (rest : List ℕ) (o : Option FormatParts) → w < 100 → r < 100 → IsLetter fraction_letter mark → rest ≡ two_counts mark w r → (IsSome o ↔ IsFormat (w + r) r) → IfSome o (λ f. (f.signed ≡ s) × (f.width ≡ w + r) × (f.frac ≡ r))
+    → MatchOption o ((f : FormatParts) → ¬ IsCountedWithin s rest f) (λ f. IsCountedWithin s rest f)
+within_found s w r mark rest o few few' letter is exists are =
+    found_by (IsCountedWithin s rest) s (w + r) r o exists are (within_to s w r mark rest letter is) (within_back s w r mark rest few few' letter is)
+
+-- the counts after a minus: how many bits the fraction is longer than the width
+beyond_counts : (s : Bool) (missing r mark : ℕ) (rest : List ℕ) → missing < 100 → r < 100 → IsLetter fraction_letter mark → rest ≡ two_counts mark missing r → (f : FormatParts) → IsCountedBeyond s rest f → (missing ≡ f.frac - f.width) × (r ≡ f.frac)
+beyond_counts s missing r mark rest few few' letter is f c =
+    let within = c.is.format.within in
+    let same = counts_one mark c.mark missing r (f.frac - f.width) f.frac (letter_no_digit fraction_letter mark (omega arith) letter) (letter_no_digit fraction_letter c.mark (omega arith) c.is_mark) few few' (omega (arith, within)) (omega (arith, within)) (sym is ∙ c.text) in
+    (same.0, same.2)
+
+pub none_missing : (s : Bool) (missing r mark : ℕ) (rest : List ℕ) → missing ≡ 0 → missing < 100 → r < 100 → IsLetter fraction_letter mark → rest ≡ two_counts mark missing r → (f : FormatParts) → IsCountedBeyond s rest f → ⊥
+none_missing s missing r mark rest none few few' letter is f c =
+    let same = beyond_counts s missing r mark rest few few' letter is f c in
+    omega (arith, same.0, none, c.beyond)
+
+pub beyond_found : (s : Bool) (missing r w mark : ℕ) (rest : List ℕ) (o : Option FormatParts) → w ≡ r - missing → 0 < missing → missing < 100 → r < 100 → IsLetter fraction_letter mark → rest ≡ two_counts mark missing r → (IsSome o ↔ IsFormat w r) → IfSome o (λ f. (f.signed ≡ s) × (f.width ≡ w) × (f.frac ≡ r))
+    → MatchOption o ((f : FormatParts) → ¬ IsCountedBeyond s rest f) (λ f. IsCountedBeyond s rest f)
+beyond_found s missing r w mark rest o w_is some few few' letter is exists are = found_by (IsCountedBeyond s rest) s w r o exists are to back
+  where
+    to : IsFormat w r → IsCountedBeyond s rest (parts s w r)
+    to valid =
+        let same : missing ≡ r - w = omega (arith, w_is, valid.is_width.some) in
+        record { is = record { format = valid; signed_is = refl }; beyond = omega (arith, w_is, some, valid.is_width.some); mark = mark; is_mark = letter; text = is ∙ ap (λ n. two_counts mark n r) same }
+
+    back : (f : FormatParts) → IsCountedBeyond s rest f → IsFormat f.width f.frac × (f ≡ parts s w r)
+    back f c =
+        let same = beyond_counts s missing r mark rest few few' letter is f c in
+        (c.is.format, parts_are f s w r c.is.signed_is (omega (arith, same.0, same.1, w_is, c.beyond)) (sym same.1))
 
 other_point : IsNoDigit point
 other_point = inl (omega arith)
@@ -91,8 +123,8 @@ other_point = inl (omega arith)
 pointed_counts : (s : Bool) (w r : ℕ) (rest : List ℕ) → w < 100 → r < 100 → rest ≡ two_counts point w r → (f : FormatParts) → IsPointed s rest f → (f.width - f.frac ≡ w) × (f.frac ≡ r)
 pointed_counts s w r rest few few' is f c =
     let most = c.is.format.is_width.most in
-    let within = c.is.format.within in
-    let same = counts_one point point w r (f.width - f.frac) f.frac other_point other_point few few' (omega (arith, most)) (omega (arith, most, within)) (sym is ∙ c.text) in
+    let within = c.within in
+    let same = counts_one point point w r (f.width - f.frac) f.frac other_point other_point few few' (omega (arith, most)) (omega (arith, most, within)) (sym is ∙ (c.text ∙ counts_within point f within)) in
     (sym same.0, sym same.2)
 
 -- without whole bits there is no sign bit
@@ -108,12 +140,13 @@ pointed_found s w r rest o few few' some is exists are = found_by (IsPointed s r
     to : IsFormat (w + r) r → IsPointed s rest (parts s (w + r) r)
     to valid =
         let whole : w + r - r ≡ w = omega arith in
-        record { is = record { format = valid; signed_is = refl }; sign_bit = λ e. omega (arith, some e); text = is ∙ ap (λ n. two_counts point n r) (sym whole) }
+        let within : r ≤ w + r = omega arith in
+        record { is = record { format = valid; signed_is = refl }; within = within; sign_bit = λ e. omega (arith, some e); text = is ∙ (ap (λ n. two_counts point n r) (sym whole) ∙ sym (counts_within point (parts s (w + r) r) within)) }
 
     back : (f : FormatParts) → IsPointed s rest f → IsFormat f.width f.frac × (f ≡ parts s (w + r) r)
     back f c =
         let same = pointed_counts s w r rest few few' is f c in
-        let within = c.is.format.within in
+        let within = c.within in
         (c.is.format, parts_are f s (w + r) r c.is.signed_is (omega (arith, same.0, same.1, within)) same.1)
 
 pub fraction_found : (r : ℕ) (rest : List ℕ) (o : Option FormatParts) → r < 100 → rest ≡ decimal r → (IsSome o ↔ IsFormat (r + 1) r) → IfSome o (λ f. (f.signed ≡ true) × (f.width ≡ r + 1) × (f.frac ≡ r))
@@ -145,6 +178,53 @@ counts_begin w m r b rest few e other =
     let is = decimal_is_IsNumeral w (omega (arith, few)) in
     digit_first (decimal w) r m b rest is.0.0 is.0.1 e other
 
+-- counts of whole bits of zero or more, and those after a minus
+abbrev IsAfterMinus : Bool → List ℕ → FormatParts → Type 0
+IsAfterMinus s rest f = (counts : List ℕ) × (rest ≡ minus ∷ counts) × IsCountedBeyond s counts f
+
+counted_cases : (s : Bool) (rest : List ℕ) (f : FormatParts) → IsCounted s rest f → IsCountedWithin s rest f ⊎ IsAfterMinus s rest f
+counted_cases s rest f c = ⊎_elim
+    (λ (beyond : f.width < f.frac). inr (two_counts c.mark (f.frac - f.width) f.frac, c.text ∙ counts_beyond c.mark f beyond, record { is = c.is; beyond = beyond; mark = c.mark; is_mark = c.is_mark; text = refl }))
+    (λ (within : f.frac ≤ f.width). inl (record { is = c.is; within = within; mark = c.mark; is_mark = c.is_mark; text = c.text ∙ counts_within c.mark f within }))
+    (cases_lt f.width f.frac)
+
+counted_of_within : (s : Bool) (rest : List ℕ) (f : FormatParts) → IsCountedWithin s rest f → IsCounted s rest f
+counted_of_within s rest f c = record { is = c.is; mark = c.mark; is_mark = c.is_mark; text = c.text ∙ sym (counts_within c.mark f c.within) }
+
+counted_of_beyond : (s : Bool) (rest counts : List ℕ) (f : FormatParts) → rest ≡ minus ∷ counts → IsCountedBeyond s counts f → IsCounted s rest f
+counted_of_beyond s rest counts f is c = record { is = c.is; mark = c.mark; is_mark = c.is_mark; text = is ∙ (ap (λ t. minus ∷ t) c.text ∙ sym (counts_beyond c.mark f c.beyond)) }
+
+other_minus : IsNoDigit minus
+other_minus = inl (omega arith)
+
+within_begin : (s : Bool) (rest counts : List ℕ) (f : FormatParts) → rest ≡ minus ∷ counts → IsCountedWithin s rest f → ⊥
+within_begin s rest counts f is c = counts_begin (f.width - f.frac) c.mark (decimal f.frac) minus counts (omega (arith, c.is.format.is_width.most)) (sym c.text ∙ is) other_minus
+
+-- what follows I or U begins with a digit or a minus
+counted_begin : (s : Bool) (rest : List ℕ) (f : FormatParts) (b : ℕ) (more : List ℕ) → IsCounted s rest f → rest ≡ b ∷ more → IsNoDigit b → b ≡ minus
+counted_begin s rest f b more c is other = by_case (counted_cases s rest f c)
+  where
+    by_case : IsCountedWithin s rest f ⊎ IsAfterMinus s rest f → b ≡ minus
+    by_case (inl x) = absurd (counts_begin (f.width - f.frac) x.mark (decimal f.frac) b more (omega (arith, x.is.format.is_width.most)) (sym x.text ∙ is) other)
+    by_case (inr (counts, e, x)) = let both : b ∷ more ≡ minus ∷ counts = sym is ∙ e in cc
+
+pub counted_after_minus : (s : Bool) (rest counts : List ℕ) (o : Option FormatParts) → rest ≡ minus ∷ counts → MatchOption o ((f : FormatParts) → ¬ IsCountedBeyond s counts f) (λ f. IsCountedBeyond s counts f) → MatchOption o ((f : FormatParts) → ¬ IsCounted s rest f) (λ f. IsCounted s rest f)
+counted_after_minus s rest counts o is found = carried (IsCountedBeyond s counts) (IsCounted s rest) o (λ f c. counted_of_beyond s rest counts f is c) (λ f c. by_case f (counted_cases s rest f c)) found
+  where
+    by_case : (f : FormatParts) → IsCountedWithin s rest f ⊎ IsAfterMinus s rest f → IsCountedBeyond s counts f
+    by_case f (inl x) = absurd (within_begin s rest counts f is x)
+    by_case f (inr (other, e, x)) =
+        let both : minus ∷ other ≡ minus ∷ counts = sym e ∙ is in
+        let same : other ≡ counts = cc in
+        subst (λ t. IsCountedBeyond s t f) same x
+
+pub counted_without_minus : (s : Bool) (rest : List ℕ) (o : Option FormatParts) → ((counts : List ℕ) → rest ≡ minus ∷ counts → ⊥) → MatchOption o ((f : FormatParts) → ¬ IsCountedWithin s rest f) (λ f. IsCountedWithin s rest f) → MatchOption o ((f : FormatParts) → ¬ IsCounted s rest f) (λ f. IsCounted s rest f)
+counted_without_minus s rest o none found = carried (IsCountedWithin s rest) (IsCounted s rest) o (counted_of_within s rest) (λ f c. by_case f (counted_cases s rest f c)) found
+  where
+    by_case : (f : FormatParts) → IsCountedWithin s rest f ⊎ IsAfterMinus s rest f → IsCountedWithin s rest f
+    by_case f (inl x) = x
+    by_case f (inr (counts, e, x)) = absurd (none counts e)
+
 pub after_q_found : (rest : List ℕ) (first : ℕ) (counts : List ℕ) (o : Option FormatParts) → rest ≡ first ∷ counts → IsLetter q_letter first → MatchOption o ((f : FormatParts) → ¬ IsPointed false counts f) (λ f. IsPointed false counts f) → MatchOption o ((f : FormatParts) → ¬ IsAfterU rest f) (λ f. IsAfterU rest f)
 after_q_found rest first counts o is letter found = carried (IsPointed false counts) (IsAfterU rest) o to back found
   where
@@ -152,7 +232,7 @@ after_q_found rest first counts o is letter found = carried (IsPointed false cou
     to f p = inr (record { q = first; is_q = letter; counts = counts; head = is; pointed = p })
 
     back : (f : FormatParts) → IsAfterU rest f → IsPointed false counts f
-    back f (inl c) = absurd (counts_begin (f.width - f.frac) c.mark (decimal f.frac) first counts (omega (arith, c.is.format.is_width.most)) (sym c.text ∙ is) (letter_no_digit q_letter first (omega arith) letter))
+    back f (inl c) = absurd (no_minus q_letter first (omega arith) letter (counted_begin false rest f first counts c is (letter_no_digit q_letter first (omega arith) letter)))
     back f (inr p) =
         let e : first ∷ counts ≡ p.q ∷ p.counts = sym is ∙ p.head in
         let same : p.counts ≡ counts = cc in
@@ -204,13 +284,13 @@ counted_split : (s : Bool) (first : ℕ) (rest : List ℕ) (f : FormatParts) →
 counted_split true first rest f letter c = inl (letter, c)
 counted_split false first rest f letter c = inr (inr (letter, inl c))
 
-pointed_split : (s : Bool) (head : List ℕ) (first : ℕ) (rest : List ℕ) (f : FormatParts) → IsQ s head → first ∷ rest ≡ head ++ counts_text point f → IsFormat f.width f.frac → f.signed ≡ s → (f.signed ≡ true → f.frac < f.width) → IsLetterAndRest first rest f
-pointed_split true head first rest f (q, letter, is) e valid signed sign_bit =
+pointed_split : (s : Bool) (head : List ℕ) (first : ℕ) (rest : List ℕ) (f : FormatParts) → IsQ s head → first ∷ rest ≡ head ++ counts_text point f → IsFormat f.width f.frac → f.signed ≡ s → f.frac ≤ f.width → (f.signed ≡ true → f.frac < f.width) → IsLetterAndRest first rest f
+pointed_split true head first rest f (q, letter, is) e valid signed within sign_bit =
     let both : first ∷ rest ≡ q ∷ counts_text point f = e ∙ ap (λ h. h ++ counts_text point f) is in
     let same : q ≡ first = cc in
     let tail : rest ≡ counts_text point f = cc in
-    inr (inl (subst (IsLetter q_letter) same letter, inl (record { is = record { format = valid; signed_is = signed }; sign_bit = λ _. sign_bit signed; text = tail })))
-pointed_split false head first rest f (u, q, letter, is_q, is) e valid signed sign_bit =
+    inr (inl (subst (IsLetter q_letter) same letter, inl (record { is = record { format = valid; signed_is = signed }; within = within; sign_bit = λ _. sign_bit signed; text = tail })))
+pointed_split false head first rest f (u, q, letter, is_q, is) e valid signed within sign_bit =
     let both : first ∷ rest ≡ u ∷ q ∷ counts_text point f = e ∙ ap (λ h. h ++ counts_text point f) is in
     let same : u ≡ first = cc in
     let tail : rest ≡ q ∷ counts_text point f = cc in
@@ -221,7 +301,7 @@ pointed_split false head first rest f (u, q, letter, is_q, is) e valid signed si
         is_q = is_q;
         counts = counts_text point f;
         head = tail;
-        pointed = record { is = record { format = valid; signed_is = signed }; sign_bit = λ e. absurd (cc); text = refl };
+        pointed = record { is = record { format = valid; signed_is = signed }; within = within; sign_bit = λ e. absurd (cc); text = refl };
       }),
     ))
 
@@ -231,7 +311,7 @@ split_name word first rest f is valid (inl c) =
     let same : c.sign ≡ first = cc in
     let tail : rest ≡ counts_text c.mark f = cc in
     counted_split f.signed first rest f (subst (IsLetter (sign_letter f.signed)) same c.is_sign) (record { is = record { format = valid; signed_is = refl }; mark = c.mark; is_mark = c.is_mark; text = tail })
-split_name word first rest f is valid (inr (inl p)) = pointed_split f.signed p.head first rest f p.is_head (sym is ∙ p.text) valid refl p.sign_bit
+split_name word first rest f is valid (inr (inl p)) = pointed_split f.signed p.head first rest f p.is_head (sym is ∙ p.text) valid refl p.within p.sign_bit
 split_name word first rest f is valid (inr (inr n)) =
     let both : first ∷ rest ≡ n.q ∷ decimal f.frac = sym is ∙ n.text in
     let same : n.q ≡ first = cc in
@@ -257,6 +337,7 @@ join_name first rest f (inr (inl (letter, inl p))) = record {
   named = inr (inl (record {
     head = first ∷ [];
     is_head = subst (λ b. IsQ b (first ∷ [])) (sym p.is.signed_is) (first, letter, refl);
+    within = p.within;
     sign_bit = λ _. p.sign_bit refl;
     text = ap (λ t. first ∷ t) p.text;
   }));
@@ -271,6 +352,7 @@ join_name first rest f (inr (inr (letter, inr p))) = record {
   named = inr (inl (record {
     head = first ∷ p.q ∷ [];
     is_head = subst (λ b. IsQ b (first ∷ p.q ∷ [])) (sym p.pointed.is.signed_is) (first, p.q, letter, p.is_q, refl);
+    within = p.pointed.within;
     sign_bit = λ e. (let other : true ≡ false = sym e ∙ p.pointed.is.signed_is in absurd (cc));
     text = ap (λ t. first ∷ t) (p.head ∙ ap (λ t. p.q ∷ t) p.pointed.text);
   }));
@@ -299,19 +381,37 @@ not_q_first rest first counts is_q is test none q more letter e =
     absurd (cc)
 
 -- ---- a word names one format
-counted_same : (s : Bool) (rest : List ℕ) (f g : FormatParts) → IsCounted s rest f → IsCounted s rest g → f ≡ g
-counted_same s rest f g a b =
+within_same : (s : Bool) (rest : List ℕ) (f g : FormatParts) → IsCountedWithin s rest f → IsCountedWithin s rest g → f ≡ g
+within_same s rest f g a b =
     let most = b.is.format.is_width.most in
-    let within = b.is.format.within in
-    let found = counted_back s (g.width - g.frac) g.frac b.mark rest (omega (arith, most)) (omega (arith, most, within)) b.is_mark b.text f a in
+    let within = b.within in
+    let found = within_back s (g.width - g.frac) g.frac b.mark rest (omega (arith, most)) (omega (arith, most, within)) b.is_mark b.text f a in
     found.1 ∙ sym (parts_are g s (g.width - g.frac + g.frac) g.frac b.is.signed_is (omega (arith, within)) refl)
+
+beyond_same : (s : Bool) (rest : List ℕ) (f g : FormatParts) → IsCountedBeyond s rest f → IsCountedBeyond s rest g → f ≡ g
+beyond_same s rest f g a b =
+    let within = b.is.format.within in
+    let same = beyond_counts s (g.frac - g.width) g.frac b.mark rest (omega (arith, within)) (omega (arith, within)) b.is_mark b.text f a in
+    parts_are f s g.width g.frac a.is.signed_is (omega (arith, same.0, same.1, a.beyond, b.beyond)) (sym same.1) ∙ sym (parts_are g s g.width g.frac b.is.signed_is refl refl)
+
+counted_same : (s : Bool) (rest : List ℕ) (f g : FormatParts) → IsCounted s rest f → IsCounted s rest g → f ≡ g
+counted_same s rest f g a b = by_cases (counted_cases s rest f a) (counted_cases s rest g b)
+  where
+    by_cases : IsCountedWithin s rest f ⊎ IsAfterMinus s rest f → IsCountedWithin s rest g ⊎ IsAfterMinus s rest g → f ≡ g
+    by_cases (inl x) (inl y) = within_same s rest f g x y
+    by_cases (inl x) (inr (counts, e, y)) = absurd (within_begin s rest counts f e x)
+    by_cases (inr (counts, e, x)) (inl y) = absurd (within_begin s rest counts g e y)
+    by_cases (inr (counts, e, x)) (inr (other, e', y)) =
+        let both : minus ∷ counts ≡ minus ∷ other = sym e ∙ e' in
+        let same : counts ≡ other = cc in
+        beyond_same s other f g (subst (λ t. IsCountedBeyond s t f) same x) y
 
 pointed_same : (s : Bool) (rest : List ℕ) (f g : FormatParts) → IsPointed s rest f → IsPointed s rest g → f ≡ g
 pointed_same s rest f g a b =
     let most = b.is.format.is_width.most in
-    let within = b.is.format.within in
-    let same = pointed_counts s (g.width - g.frac) g.frac rest (omega (arith, most)) (omega (arith, most, within)) b.text f a in
-    parts_are f s g.width g.frac a.is.signed_is (omega (arith, same.0, same.1, within, a.is.format.within)) same.1 ∙ sym (parts_are g s g.width g.frac b.is.signed_is refl refl)
+    let within = b.within in
+    let same = pointed_counts s (g.width - g.frac) g.frac rest (omega (arith, most)) (omega (arith, most, within)) (b.text ∙ counts_within point g within) f a in
+    parts_are f s g.width g.frac a.is.signed_is (omega (arith, same.0, same.1, within, a.within)) same.1 ∙ sym (parts_are g s g.width g.frac b.is.signed_is refl refl)
 
 fraction_same : (rest : List ℕ) (f g : FormatParts) → IsFraction rest f → IsFraction rest g → f ≡ g
 fraction_same rest f g a b =
@@ -320,7 +420,7 @@ fraction_same rest f g a b =
 
 pointed_or_fraction : (rest : List ℕ) (f g : FormatParts) → IsPointed true rest f → IsFraction rest g → ⊥
 pointed_or_fraction rest f g a b =
-    split_has_one point rest (decimal (f.width - f.frac)) (decimal f.frac) a.text
+    split_has_one point rest (decimal (f.width - f.frac)) (decimal f.frac) (a.text ∙ counts_within point f a.within)
     (ap (count_of point) b.text ∙ decimal_without point g.frac other_point (omega (arith, b.is.format.is_width.most, b.is.format.within)))
 
 after_q_same : (rest : List ℕ) (f g : FormatParts) → IsAfterQ rest f → IsAfterQ rest g → f ≡ g
@@ -330,7 +430,7 @@ after_q_same rest f g (inr a) (inl b) = absurd (pointed_or_fraction rest g f b a
 after_q_same rest f g (inr a) (inr b) = fraction_same rest f g a b
 
 counted_or_pointed : (rest : List ℕ) (f g : FormatParts) → IsCounted false rest f → IsPointedByQ rest g → ⊥
-counted_or_pointed rest f g a b = counts_begin (f.width - f.frac) a.mark (decimal f.frac) b.q b.counts (omega (arith, a.is.format.is_width.most)) (sym a.text ∙ b.head) (letter_no_digit q_letter b.q (omega arith) b.is_q)
+counted_or_pointed rest f g a b = no_minus q_letter b.q (omega arith) b.is_q (counted_begin false rest f b.q b.counts a b.head (letter_no_digit q_letter b.q (omega arith) b.is_q))
 
 after_u_same : (rest : List ℕ) (f g : FormatParts) → IsAfterU rest f → IsAfterU rest g → f ≡ g
 after_u_same rest f g (inl a) (inl b) = counted_same false rest f g a b
@@ -348,7 +448,7 @@ same_rest first rest f g (inr (inr (letter, a))) b = after_u_same rest f g a (u_
 
 not_empty : (f : FormatParts) → IsCountedName [] f ⊎ IsPointedName [] f ⊎ IsFractionName [] f → ⊥
 not_empty f (inl c) = let e : [] ≡ c.sign ∷ counts_text c.mark f = c.text in cc
-not_empty f (inr (inl p)) = omega (arith, ap length p.text, length-append p.head (counts_text point f), length-append (decimal (f.width - f.frac)) (point ∷ decimal f.frac))
+not_empty f (inr (inl p)) = omega (arith, ap length p.text, length-append p.head (counts_text point f), length-append (signed_decimal (whole_length f)) (point ∷ decimal f.frac))
 not_empty f (inr (inr n)) = let e : [] ≡ n.q ∷ decimal f.frac = n.text in cc
 
 pub name_one : FormatNameIsTheOne
@@ -361,6 +461,16 @@ text_names f valid = record {
   format = valid;
   named = inl (record { sign = sign_letter f.signed; is_sign = inl refl; mark = fraction_letter; is_mark = inl refl; text = refl });
 }
+
+pub name_pushed : (f : FormatParts) (letter : ℕ) (a b d e : List ℕ) → IsFormat f.width f.frac → letter ≡ sign_letter f.signed → a ≡ letter ∷ [] → b ≡ a ++ signed_decimal (whole_length f) → d ≡ b ++ fraction_letter ∷ [] → e ≡ d ++ decimal f.frac → IsFormatName e f
+name_pushed f letter a b d e valid is pa pb pd pe =
+    let whole = signed_decimal (whole_length f) in
+    let two : b ≡ letter ∷ whole = pb ∙ ap (λ t. t ++ whole) pa in
+    let three : d ≡ letter ∷ (whole ++ fraction_letter ∷ []) = pd ∙ ap (λ t. t ++ fraction_letter ∷ []) two in
+    let four : e ≡ letter ∷ (whole ++ fraction_letter ∷ []) ++ decimal f.frac = pe ∙ ap (λ t. t ++ decimal f.frac) three in
+    let tail : (whole ++ fraction_letter ∷ []) ++ decimal f.frac ≡ counts_text fraction_letter f = append_assoc whole (fraction_letter ∷ []) (decimal f.frac) in
+    let same : e ≡ format_text f = four ∙ (ap (λ t. letter ∷ t) tail ∙ ap (λ l. l ∷ counts_text fraction_letter f) is) in
+    subst (λ t. IsFormatName t f) (sym same) (text_names f valid)
 
 pub word_names : FormatWordIsAName
 word_names word f is = subst (λ t. IsFormatName t f) (sym is.text) (text_names f (type_format f.width f.frac is.format))

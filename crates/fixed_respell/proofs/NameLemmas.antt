@@ -1,9 +1,9 @@
 -- Policies' names by their tables.
-use Rattle.std.proofs.Common.{◌≡◌, ℕ, zero, suc, ◌%◌, ◌≤◌, ◌++◌, List, [], ◌∷◌, length, get_or, drop, codes, refl, ap, ◌∙◌, arith}
+use Rattle.std.proofs.Common.{◌≡◌, ℕ, zero, suc, IsTrue, ◌%◌, ◌≤◌, ◌++◌, List, [], ◌∷◌, length, get_or, drop, codes, refl, ap, ◌∙◌, arith}
 use Rattle.std.specs.Int.Digits.{AllBelowBase}
 use Rattle.fixed_respell.proofs.KeyLemmas.{same_bytes}
 use Rattle.fixed_respell.specs.Inner.Places.{HasBytes, policy_of_place}
-use Rattle.fixed_respell.specs.Words.{policy_text}
+use Rattle.fixed_respell.specs.Words.{is_line_policy, policy_text}
 
 abbrev pub name_counts : List ℕ
 name_counts = 8 ∷ 0 ∷ 10 ∷ 7 ∷ []
@@ -23,6 +23,13 @@ count_most (suc zero) = omega arith
 count_most (suc (suc zero)) = omega arith
 count_most (suc (suc (suc zero))) = omega arith
 count_most (suc (suc (suc (suc p)))) = omega arith
+
+-- a line can name the policy of each place
+pub line_policy : (p : ℕ) → IsTrue (is_line_policy (policy_of_place p))
+line_policy zero = refl
+line_policy (suc zero) = refl
+line_policy (suc (suc zero)) = refl
+line_policy (suc (suc (suc p))) = refl
 
 -- a name with the bytes of its place
 pub name_sound : (word : List ℕ) (p : ℕ) → p ≡ length word % 4 → length word ≡ get_or name_counts p 0 → AllBelowBase 256 word → HasBytes word (get_or name_starts p 0) (get_or name_middles p 0) (get_or name_ends p 0) → word ≡ policy_text (policy_of_place p)

@@ -2,13 +2,13 @@
 use Rattle.std.proofs.Common.{◌≡◌, ℕ, ◌⊎◌, ◌↔◌, Bool, true, false, IsTrue, List, refl, subst, ⊎_elim, inl, inr, ℤ}
 use Rattle.fixed_bits.specs.Down.{down}
 use Rattle.fixed_bits.specs.Formats.{FormatParts}
-use Rattle.fixed_bits.specs.Images.{IsImage}
+use Rattle.fixed_bits.specs.Images.{IsImage, IsOutOfRangeBy}
 use Rattle.fixed_bits.specs.Numbers.{IsNumber, IsRefused}
 use Rattle.fixed_bits.specs.Ranges.{IsOutOfRange}
 use Rattle.fixed_bits.specs.declared.format.Policy.{Policy}
 use Rattle.fixed_bits.specs.declared.format.Policy.TheVariants.{Checked}
 use Rattle.fixed_bits.specs.declared.mode.ReadMode.{ReadMode}
-use Rattle.fixed_bits.proofs.Public.{down_is}
+use Rattle.fixed_bits.proofs.Public.{down_is, refused_out}
 use Rattle.fixed_numeral.specs.Numeral.{Parts, HasNumeral}
 use Rattle.fixed_numeral.specs.declared.error.ParseErrorKind.{ParseErrorKind}
 use Rattle.fixed_numeral.specs.declared.error.ParseErrorKind.TheVariants.{Overflow}
@@ -52,13 +52,13 @@ none mode r bytes policy source target found kind is overflow checked out =
 
 -- a number on the way is out of its format
 pub refused : (mode : ReadMode) (r : Radix) (bytes : List ℕ) (policy : Policy) (source target : FormatParts) (found : ReadNumber) (b : ℤ) (o u : Bool) (kind : ParseErrorKind) (is : IsRead mode r bytes source found) → kind ≡ Overflow
-    → (¬ IsRefused policy o → IsImage policy source.signed source.width is.number b) → (IsTrue o ↔ IsOutOfRange source.signed source.width is.number)
-    → (IsTrue u ↔ IsOutOfRange target.signed target.width (down b source.frac target.frac)) → (policy ≡ Checked) × (IsTrue o ⊎ IsTrue u) → IsRefusal mode r bytes policy source target kind
-refused mode r bytes policy source target found b true u kind is overflow image flag out why = none mode r bytes policy source target found kind is overflow why.0 (inl (flag.0 refl))
+    → (¬ IsRefused policy o → IsImage policy source.signed source.width is.number b) → (IsTrue o ↔ IsOutOfRangeBy policy source.signed source.width is.number)
+    → (IsTrue u ↔ IsOutOfRangeBy policy target.signed target.width (down b source.frac target.frac)) → (policy ≡ Checked) × (IsTrue o ⊎ IsTrue u) → IsRefusal mode r bytes policy source target kind
+refused mode r bytes policy source target found b true u kind is overflow image flag out why = none mode r bytes policy source target found kind is overflow why.0 (inl ((refused_out policy source.signed source.width is.number why.0).0 (flag.0 refl)))
 refused mode r bytes policy source target found b false u kind is overflow image flag out why =
     let image_is : IsImage policy source.signed source.width is.number b = image (λ w. let t : IsTrue false = w.1 in absurd (cc)) in
     let exact : IsImage Checked source.signed source.width is.number b = rw why.0 at image_is in
-    let past = out.0 (⊎_elim (λ (t : IsTrue false). absurd (cc)) (λ (t : IsTrue u). t) why.1) in
+    let past = (refused_out policy target.signed target.width (down b source.frac target.frac) why.0).0 (out.0 (⊎_elim (λ (t : IsTrue false). absurd (cc)) (λ (t : IsTrue u). t) why.1)) in
     none mode r bytes policy source target found kind is overflow why.0 (inr (subst (λ c. IsOutOfRange target.signed target.width (down c source.frac target.frac)) exact.same past))
 
 -- what is reached
@@ -69,8 +69,8 @@ either_out e o u A B w a b = (
 )
 
 pub respelled : (mode : ReadMode) (r : Radix) (bytes : List ℕ) (policy : Policy) (source target : FormatParts) (found : ReadNumber) (b c : ℤ) (o u e : Bool) (is : IsRead mode r bytes source found)
-    → IsImage policy source.signed source.width is.number b → (IsTrue o ↔ IsOutOfRange source.signed source.width is.number)
-    → IsImage policy target.signed target.width (down b source.frac target.frac) c → (IsTrue u ↔ IsOutOfRange target.signed target.width (down b source.frac target.frac)) → (IsTrue e ↔ (IsTrue o ⊎ IsTrue u)) → IsRespelled mode r bytes policy source target c e
+    → IsImage policy source.signed source.width is.number b → (IsTrue o ↔ IsOutOfRangeBy policy source.signed source.width is.number)
+    → IsImage policy target.signed target.width (down b source.frac target.frac) c → (IsTrue u ↔ IsOutOfRangeBy policy target.signed target.width (down b source.frac target.frac)) → (IsTrue e ↔ (IsTrue o ⊎ IsTrue u)) → IsRespelled mode r bytes policy source target c e
 respelled mode r bytes policy source target found b c o u e is image flag moved out or =
     let reached : IsReached mode r is.parts policy source target c e = record {
       number = is.number;

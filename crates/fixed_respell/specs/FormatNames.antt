@@ -1,7 +1,7 @@
--- The names of formats of any width.
-use Rattle.std.specs.Prelude.{◌≡◌, ◌⊎◌, ◌+◌, ◌-◌, ◌<◌, ℕ, Bool, true, false, List, [], ◌∷◌, ◌++◌, decimal}
+-- The names of formats of any width and fraction length.
+use Rattle.std.specs.Prelude.{◌≡◌, ◌⊎◌, ◌+◌, ◌<◌, ◌≤◌, ℕ, Bool, true, false, List, [], ◌∷◌, ◌++◌, decimal}
 use Rattle.fixed_bits.specs.Formats.{FormatParts, IsFormat}
-use Rattle.fixed_respell.specs.Words.{fraction_letter, sign_letter}
+use Rattle.fixed_respell.specs.Words.{counts_text, fraction_letter, sign_letter}
 
 -- a letter, by its capital, in either case
 abbrev pub IsLetter : ℕ → ℕ → Type 0
@@ -14,11 +14,7 @@ q_letter = 81
 abbrev pub point : ℕ
 point = 46
 
--- a count of whole bits, a byte, and a count of fraction bits
-abbrev pub counts_text : ℕ → FormatParts → List ℕ
-counts_text mark f = decimal (f.width - f.frac) ++ mark ∷ decimal f.frac
-
--- I or U, whole bits, F, fraction bits
+-- I or U, whole bits, with a minus where they are below zero, F, fraction bits
 pub record IsCountedName (word : List ℕ) (f : FormatParts) : Type 0 where
   pub sign : ℕ
   pub is_sign : IsLetter (sign_letter f.signed) sign
@@ -31,10 +27,12 @@ abbrev pub IsQ : Bool → List ℕ → Type 0
 IsQ true head = (q : ℕ) × IsLetter q_letter q × (head ≡ q ∷ [])
 IsQ false head = (u : ℕ) × (q : ℕ) × IsLetter (sign_letter false) u × IsLetter q_letter q × (head ≡ u ∷ q ∷ [])
 
--- Q or UQ, whole bits, a point, fraction bits, by ARM's counting: the sign bit is one of the whole bits
+-- Q or UQ, whole bits, a point, fraction bits, by ARM's counting: the sign bit is one of the whole bits, and they are
+-- not below zero
 pub record IsPointedName (word : List ℕ) (f : FormatParts) : Type 0 where
   pub head : List ℕ
   pub is_head : IsQ f.signed head
+  pub within : f.frac ≤ f.width
   pub sign_bit : f.signed ≡ true → f.frac < f.width
   pub text : word ≡ head ++ counts_text point f
 

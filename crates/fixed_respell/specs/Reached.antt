@@ -2,7 +2,7 @@
 use Rattle.std.specs.Prelude.{◌≡◌, ◌⊎◌, ◌↔◌, List, ℕ, ℤ, pos, Bool, true, false, IsTrue}
 use Rattle.fixed_bits.specs.Formats.{FormatParts}
 use Rattle.fixed_bits.specs.Ranges.{IsOutOfRange}
-use Rattle.fixed_bits.specs.Images.{IsImage}
+use Rattle.fixed_bits.specs.Images.{IsImage, IsOutOfRangeBy}
 use Rattle.fixed_bits.specs.Down.{IsDown}
 use Rattle.fixed_bits.specs.declared.format.Policy.{Policy}
 use Rattle.fixed_bits.specs.declared.format.Policy.TheVariants.{Checked}
@@ -18,7 +18,7 @@ use Rattle.fixed_respell.specs.declared.respelling.Bits.TheVariants.{Signed, Uns
 
 -- `number` is the read number of a numeral with these parts, `in_source` its image in the source, `moved` that rounded
 -- down (floor) to the target's fraction length, and `bits` the image of this in the target; the flag says whether one
--- of the two numbers was out of its format
+-- of the two numbers was out of the range that the policy leaves
 pub record IsReached (mode : ReadMode) (r : Radix) (p : Parts) (policy : Policy) (source target : FormatParts)
     (bits : ℤ) (overflowed : Bool) : Type 0 where
   pub number : ℤ
@@ -28,8 +28,8 @@ pub record IsReached (mode : ReadMode) (r : Radix) (p : Parts) (policy : Policy)
   pub source_image : IsImage policy source.signed source.width number in_source
   pub down : IsDown in_source source.frac target.frac moved
   pub target_image : IsImage policy target.signed target.width moved bits
-  pub flag : IsTrue overflowed ↔ (IsOutOfRange source.signed source.width number
-      ⊎ IsOutOfRange target.signed target.width moved)
+  pub flag : IsTrue overflowed ↔ (IsOutOfRangeBy policy source.signed source.width number
+      ⊎ IsOutOfRangeBy policy target.signed target.width moved)
 
 -- under Checked the read number is out of the source's range, or rounded down to the target's fraction length it is out
 -- of the target's, and so it has no image there and nothing is reached

@@ -1,10 +1,10 @@
 -- The self test ends in one way, words name one thing, and bytes are split in one way.
-use Rattle.std.specs.Prelude.{◌≡◌, ℕ, ◌-◌, ◌^◌, ◌<◌, List, Some, String}
+use Rattle.std.specs.Prelude.{◌≡◌, ℕ, ◌-◌, ◌^◌, ◌<◌, List, [], ◌∷◌, Some, String, codes}
 use Rattle.std.specs.declared.alloc.Global.{Global}
 use Rattle.fixed_bits.specs.declared.format.Policy.{Policy}
 use Rattle.fixed_bits.specs.declared.mode.ReadMode.{ReadMode}
 use Rattle.fixed_respell.specs.Command.{IsCommand}
-use Rattle.fixed_respell.specs.SelfMode.{HasSelfRun, IsSummary}
+use Rattle.fixed_respell.specs.SelfMode.{HasSelfRun, IsSummary, self_lines}
 use Rattle.fixed_respell.specs.Split.{IsSplit}
 use Rattle.fixed_respell.specs.Words.{IsPolicyWord}
 use Rattle.fixed_respell.specs.declared.command.Command.{Command}
@@ -35,3 +35,10 @@ abbrev pub SelfRunIsTheOne : Type 0
 SelfRunIsTheOne = (n : ℕ) (before a b : List ℕ) (failures failures' : ℕ) (s t : Status) → failures < 2 ^ 64 - 1
     → HasSelfRun n (Some before) (Some a) failures failures' s
     → HasSelfRun n (Some before) (Some b) failures failures' t → (s ≡ t) × (¬ (s ≡ WriteFault) → a ≡ b)
+
+-- the first lines of the self test
+abbrev pub SelfTestBegins : Type 0
+SelfTestBegins = self_lines 7 ≡ codes "2 U8F0 U8F0 checked 0.0" ∷ codes "8 U8F0 U8F0 saturating 1.17357"
+    ∷ codes "10 U8F0 U8F0 wrapping 2.15838" ∷ codes "16 U8F0 U8F0 checked 3.5ccd"
+    ∷ codes "2 I4F4 U8F0 saturating -100.111101110111100" ∷ codes "8 I4F4 U8F0 wrapping 5.115253"
+    ∷ codes "10 I4F4 U8F0 checked 6.47514@-3" ∷ []

@@ -1,8 +1,9 @@
 -- The words of a line.
-use Rattle.std.specs.Prelude.{◌≡◌, ℕ, ◌-◌, ◌⊎◌, Bool, true, false, IsTrue, List, ◌∷◌, ◌++◌, codes, decimal}
-use Rattle.fixed_bits.specs.Formats.{FormatParts, IsTypeFormat}
+use Rattle.std.specs.Prelude.{◌≡◌, ℕ, ◌⊎◌, Bool, true, false, IsTrue, List, ◌∷◌, ◌++◌, codes, decimal}
+use Rattle.std.specs.Fmt.{signed_decimal}
+use Rattle.fixed_bits.specs.Formats.{FormatParts, IsTypeFormat, whole_length}
 use Rattle.fixed_bits.specs.declared.format.Policy.{Policy}
-use Rattle.fixed_bits.specs.declared.format.Policy.TheVariants.{Checked, Saturating, Wrapping}
+use Rattle.fixed_bits.specs.declared.format.Policy.TheVariants.{Checked, Saturating, Wrapping, Symmetric}
 use Rattle.fixed_bits.specs.declared.mode.ReadMode.{ReadMode}
 use Rattle.fixed_bits.specs.declared.mode.ReadMode.TheVariants.{NearestEven, Floor, Ceil, TowardsZero}
 use Rattle.fixed_bits.specs.declared.mode.ReadMode.TheVariants.{NearestAway, NearestZero, NearestUp, NearestDown}
@@ -26,9 +27,13 @@ sign_letter false = 85
 abbrev pub fraction_letter : ℕ
 fraction_letter = 70
 
--- the word of a format
+-- the count of whole bits, a byte, and the count of fraction bits
+abbrev pub counts_text : ℕ → FormatParts → List ℕ
+counts_text mark f = signed_decimal (whole_length f) ++ mark ∷ decimal f.frac
+
+-- the word of a format: I16F16, U0F8, or I-9F25 with 16 bits
 abbrev pub format_text : FormatParts → List ℕ
-format_text f = sign_letter f.signed ∷ (decimal (f.width - f.frac) ++ fraction_letter ∷ decimal f.frac)
+format_text f = sign_letter f.signed ∷ counts_text fraction_letter f
 
 -- word is the word of the format f, of as many bits as an integer type
 pub record IsFormatWord (word : List ℕ) (f : FormatParts) : Type 0 where
@@ -40,6 +45,18 @@ abbrev pub policy_text : Policy → List ℕ
 policy_text Checked = codes "checked"
 policy_text Saturating = codes "saturating"
 policy_text Wrapping = codes "wrapping"
+policy_text Symmetric = codes "symmetric"
+
+-- whether a line can name the policy
+abbrev pub is_line_policy : Policy → Bool
+is_line_policy Checked = true
+is_line_policy Saturating = true
+is_line_policy Wrapping = true
+is_line_policy Symmetric = false
+
+-- word names the policy, in a line
+abbrev pub IsLinePolicy : List ℕ → Policy → Type 0
+IsLinePolicy word policy = (word ≡ policy_text policy) × IsTrue (is_line_policy policy)
 
 -- the word of a mode
 abbrev pub mode_text : ReadMode → List ℕ
@@ -73,15 +90,17 @@ IsModeWord word mode = (word ≡ mode_text mode) × IsTrue (is_line_mode mode)
 abbrev pub slash : ℕ
 slash = 47
 
--- word names the policy alone, and the mode is NearestEven: all that there would be without mode words
+-- word names the policy alone, in a line, and the mode is NearestEven: all that there would be without mode words
 abbrev pub IsPlainWord : List ℕ → Policy → ReadMode → Type 0
-IsPlainWord word policy mode = (word ≡ policy_text policy) × (mode ≡ NearestEven)
+IsPlainWord word policy mode = IsLinePolicy word policy × (mode ≡ NearestEven)
 
--- word names the policy and the mode, any of the nine; the mode is NearestEven where it names none
+-- word names the policy, any of the four, and the mode, any of the nine; the mode is NearestEven where it names none
 abbrev pub IsPolicyName : List ℕ → Policy → ReadMode → Type 0
-IsPolicyName word policy mode = IsPlainWord word policy mode ⊎ (word ≡ policy_text policy ++ slash ∷ mode_text mode)
+IsPolicyName word policy mode = ((word ≡ policy_text policy) × (mode ≡ NearestEven))
+    ⊎ (word ≡ policy_text policy ++ slash ∷ mode_text mode)
 
--- word does so in a line, which can name four of the modes
+-- word does so in a line, which can name three of the policies and four of the modes
 abbrev pub IsPolicyWord : List ℕ → Policy → ReadMode → Type 0
 IsPolicyWord word policy mode = IsPlainWord word policy mode
-    ⊎ ((word ≡ policy_text policy ++ slash ∷ mode_text mode) × IsTrue (is_line_mode mode))
+    ⊎ ((word ≡ policy_text policy ++ slash ∷ mode_text mode) × IsTrue (is_line_policy policy)
+    × IsTrue (is_line_mode mode))

@@ -1,10 +1,12 @@
-//! The names of formats of any width: whole bits and fraction bits after I or U, in either case, and ARM's Q notation.
+//! The names of formats of any width and fraction length: whole bits and fraction bits after I or U, in either case,
+//! and ARM's Q notation.
 
 ghost use Rattle.std.specs.Prelude.{◌≡◌, ◌⊎◌, ◌↔◌, ◌+◌, ◌/◌, ◌%◌, ◌<◌, ◌≤◌, ◌∷◌, []};
 ghost use Rattle.std.specs.Prelude.{ℕ, IsTrue, MatchOption, decimal};
 ghost use Rattle.fixed_bits.specs.Formats.{FormatParts};
 ghost use Rattle.fixed_respell.specs.FormatNames.{IsFormatName, IsLetter};
-ghost use Rattle.fixed_respell.specs.Inner.NameParts.{IsAfterQ, IsAfterU, IsCounted, IsFraction, IsPointed, two_counts};
+ghost use Rattle.fixed_respell.specs.Inner.NameParts.{IsAfterQ, IsAfterU, IsCounted, IsCountedBeyond};
+ghost use Rattle.fixed_respell.specs.Inner.NameParts.{IsCountedWithin, IsFraction, IsPointed, two_counts};
 ghost use Rattle.fixed_respell.specs.Words.{fraction_letter};
 
 use crate::decimal::number_word;
@@ -56,15 +58,42 @@ fn counts_around_letter(bytes: &[u8]) -> Option<(u32, u32)>
     }
 }
 
+/// The format with a sign rule whose whole bits, zero or more, F and fraction bits these are.
+fn counted_within(signed: bool, rest: &[u8]) -> Option<Format>
+    ensures { MatchOption result
+        ((f : FormatParts) → ¬ IsCountedWithin signed rest.now f)
+        (λ f. IsCountedWithin signed rest.now f) }
+{
+    match counts_around_letter(rest) {
+        Some((whole, frac)) => Format::of_any_width(signed, whole + frac, frac),
+        None => None,
+    }
+}
+
+/// The format with a sign rule whose whole bits, below zero and after their minus, F and fraction bits these are.
+fn counted_beyond(signed: bool, rest: &[u8]) -> Option<Format>
+    ensures { MatchOption result
+        ((f : FormatParts) → ¬ IsCountedBeyond signed rest.now f)
+        (λ f. IsCountedBeyond signed rest.now f) }
+{
+    let Some((missing, frac)) = counts_around_letter(rest) else {
+        return None;
+    };
+    if missing == 0 {
+        return None;
+    }
+    Format::of_any_width(signed, frac.saturating_sub(missing), frac)
+}
+
 /// The format with a sign rule whose whole bits, F and fraction bits these are.
 fn counted(signed: bool, rest: &[u8]) -> Option<Format>
     ensures { MatchOption result
         ((f : FormatParts) → ¬ IsCounted signed rest.now f)
         (λ f. IsCounted signed rest.now f) }
 {
-    match counts_around_letter(rest) {
-        Some((whole, frac)) => Format::of_any_width(signed, whole + frac, frac),
-        None => None,
+    match split_first(rest) {
+        Some((first, counts)) if first == b'-' => counted_beyond(signed, counts),
+        _ => counted_within(signed, rest),
     }
 }
 
@@ -133,11 +162,12 @@ fn after_u(rest: &[u8]) -> Option<Format>
     }
 }
 
-/// The format that a word names, of any width from 1 to 64 bits. `None` where it names none.
+/// The format that a word names, of any width from 1 to 64 bits, with a fraction of 0 to 64. `None` where it names
+/// none.
 ///
-/// It is I or U, whole bits, F, fraction bits; or Q or UQ, whole bits, a point, fraction bits, by ARM's counting, in
-/// which the sign bit is one of the whole bits; or Q and fraction bits, with one whole bit. Letters stand in either
-/// case.
+/// It is I or U, whole bits, F, fraction bits, where whole bits below zero have a minus: I-9F25 has 16 bits; or Q or
+/// UQ, whole bits, a point, fraction bits, by ARM's counting, in which the sign bit is one of the whole bits; or Q and
+/// fraction bits, with one whole bit. Letters stand in either case.
 pub fn format_named(word: &[u8]) -> Option<Format>
     ensures { MatchOption result ((f : FormatParts) → ¬ IsFormatName word.now f) (λ f. IsFormatName word.now f) }
 {

@@ -32,6 +32,7 @@ ghost use Rattle.fixed_respell.specs.SelfLaws.{
   CommandIsTheOne,
   PolicyWordIsTheOne,
   SelfRunIsTheOne,
+  SelfTestBegins,
   SplitIsTheOne,
   SummaryIsTheOne,
 };
@@ -205,6 +206,11 @@ pub fn split_is_the_one()
 /// The generated lines have one summary.
 pub fn summary_is_the_one()
     ensures { SummaryIsTheOne }
+{}
+
+/// The first seven lines of the self test, as texts.
+pub fn self_test_begins_with_these_lines()
+    ensures { SelfTestBegins }
 {}
 
 /// The count of failed writes says how a self test ended, and where none failed it wrote one text.

@@ -1,6 +1,8 @@
 //! The words of a line: radix, format, policy and mode.
 
-ghost use Rattle.std.specs.Prelude.{◌≡◌, ◌↔◌, ◌≤◌, ◌+◌, ◌/◌, ◌%◌, ◌++◌, length, Bool, IsTrue, MatchOption, decimal};
+ghost use Rattle.std.specs.Prelude.{◌≡◌, ◌↔◌, ◌≤◌, ◌≤ℤ◌, ◌+◌, ◌/◌, ◌%◌, ◌++◌, length, Bool, IsTrue, MatchOption};
+ghost use Rattle.std.specs.Prelude.{decimal, neg_ℤ, pos};
+ghost use Rattle.std.specs.Fmt.{signed_decimal};
 ghost use Rattle.fixed_bits.specs.Formats.{FormatParts, IsTypeFormat};
 ghost use Rattle.fixed_bits.specs.declared.format.Policy.{Policy};
 ghost use Rattle.fixed_bits.specs.declared.mode.ReadMode.{ReadMode};
@@ -8,7 +10,7 @@ ghost use Rattle.fixed_numeral.specs.declared.radix.Radix.{Radix};
 ghost use Rattle.fixed_respell.specs.Inner.Places.{HasBytes, IsBothNames, policy_of_place, radix_of_place};
 ghost use Rattle.fixed_respell.specs.FormatNames.{IsFormatName};
 ghost use Rattle.fixed_respell.specs.Words.{IsFormatWord, IsPolicyWord, format_text};
-ghost use Rattle.fixed_respell.specs.Words.{IsModeWord, policy_text, radix_text};
+ghost use Rattle.fixed_respell.specs.Words.{IsLinePolicy, IsModeWord, radix_text};
 ghost use Rattle.fixed_respell.specs.Words.{sign_letter};
 
 use crate::format_table::{counts_of_key, four_bytes, key_of};
@@ -108,11 +110,11 @@ fn has_bytes(name: &[u8], start: u64, middle: u64, end: u64) -> bool
         && four_bytes(name, name.len() - 4) == end
 }
 
-/// The policy of this name.
+/// The policy of this name, one of the three that a line can name.
 // By a table, since a branch on which policy it is would be mispredicted.
 #[inline(always)]
 fn named_policy(name: &[u8]) -> Option<Policy>
-    ensures { MatchOption result ((p : Policy) → ¬ (name.now ≡ policy_text p)) (λ p. name.now ≡ policy_text p) }
+    ensures { MatchOption result ((p : Policy) → ¬ IsLinePolicy name.now p) (λ p. IsLinePolicy name.now p) }
 {
     let place = name.len() % 4;
     if name.len() != NAME_COUNTS[place] {
@@ -238,18 +240,30 @@ fn push_count(bytes: &mut ArrayVec<u8, 8>, count: u32)
         .unwrap();
 }
 
-/// The word of a format, of any width.
+/// Appends a count of whole bits, with a minus where it is below zero.
+fn push_whole(bytes: &mut ArrayVec<u8, 8>, whole: i32)
+    requires least { neg_ℤ (pos 64) ≤ℤ whole }
+    requires most { whole ≤ℤ pos 64 }
+    requires room { length bytes.old.items ≤ 5 }
+    ensures text { bytes.new.items ≡ bytes.old.items ++ signed_decimal whole }
+    ensures short { length bytes.new.items ≤ length bytes.old.items + 3 }
+{
+    if whole < 0 {
+        bytes.push(b'-');
+    }
+    push_count(bytes, whole.unsigned_abs());
+}
+
+/// The word of a format, of any width and fraction length.
 pub fn format_name(format: Format) -> FormatName
     ensures text { result ≡ format_text format }
     ensures name { IsFormatName result format }
     ensures word { IsTypeFormat format.width format.frac → IsFormatWord result format }
 {
-    let width = format.width();
-    let frac = format.frac();
     let mut bytes = ArrayVec::new();
     bytes.push(if format.signed() { b'I' } else { b'U' });
-    push_count(&mut bytes, width - frac);
+    push_whole(&mut bytes, format.whole_length());
     bytes.push(b'F');
-    push_count(&mut bytes, frac);
+    push_count(&mut bytes, format.frac());
     FormatName { bytes }
 }

@@ -3,8 +3,8 @@ use Rattle.std.proofs.Common.{◌≡◌, ◌∙◌, ◌↔◌, ℕ, ℤ, List, B
 use Rattle.std.proofs.lemmas.Bool.{false≢true}
 use Rattle.std.specs.Prelude.{unsigned_abs}
 use Rattle.fixed_bits.specs.Formats.{FormatParts}
-use Rattle.fixed_bits.specs.Images.{IsImage}
-use Rattle.fixed_bits.specs.Ranges.{IsOutOfRange, IsWidth}
+use Rattle.fixed_bits.specs.Images.{IsImage, IsOutOfRangeBy}
+use Rattle.fixed_bits.specs.Ranges.{IsWidth}
 use Rattle.fixed_bits.specs.declared.format.Policy.{Policy}
 use Rattle.fixed_bits.specs.declared.format.Policy.TheVariants.{Checked, Wrapping}
 use Rattle.fixed_bits.specs.declared.mode.ReadMode.{ReadMode}
@@ -82,18 +82,18 @@ read_or_not mode r bytes f policy v o k a (inr b) =
 same_parts : (r : Radix) (bytes : List ℕ) (p q : Parts) → HasNumeral r bytes p → HasNumeral r bytes q → p ≡ q
 same_parts r bytes p q a b = parts_unique r bytes p q a.beginning b.beginning
 
-flag_one : (signed : Bool) (n : ℕ) (v w : ℤ) (o p : Bool) → v ≡ w → (IsTrue o ↔ IsOutOfRange signed n v) → (IsTrue p ↔ IsOutOfRange signed n w) → o ≡ p
-flag_one signed n v w true true e x y = refl
-flag_one signed n v w false false e x y = refl
-flag_one signed n v w true false e x y = absurd (false≢true (y.1 (subst (λ (u : ℤ). IsOutOfRange signed n u) e (x.0 refl))))
-flag_one signed n v w false true e x y = absurd (false≢true (x.1 (subst (λ (u : ℤ). IsOutOfRange signed n u) (sym e) (y.0 refl))))
+flag_one : (Out : ℤ → Type 0) (v w : ℤ) (o p : Bool) → v ≡ w → (IsTrue o ↔ Out v) → (IsTrue p ↔ Out w) → o ≡ p
+flag_one Out v w true true e x y = refl
+flag_one Out v w false false e x y = refl
+flag_one Out v w true false e x y = absurd (false≢true (y.1 (subst Out e (x.0 refl))))
+flag_one Out v w false true e x y = absurd (false≢true (x.1 (subst Out (sym e) (y.0 refl))))
 
 read_as_one : (mode : ReadMode) (r : Radix) (bytes : List ℕ) (f : FormatParts) (policy : Policy) (v w : ℤ) (o p : Bool) → IsWidth f.width → IsReadAs mode r bytes f policy v o → IsReadAs mode r bytes f policy w p → (v ≡ w) × (o ≡ p)
 read_as_one mode r bytes f policy v w o p width x y =
     let parts : x.parts ≡ y.parts = same_parts r bytes x.parts y.parts x.numeral y.numeral in
     let number : x.number ≡ y.number = read_unique mode r y.parts f.frac x.number y.number (subst (λ (q : Parts). IsReadNumber mode r q f.frac x.number) parts x.read) y.read in (
       image_one policy f.signed f.width y.number v w width (subst (λ (u : ℤ). IsImage policy f.signed f.width u v) number x.image) y.image,
-      flag_one f.signed f.width x.number y.number o p number x.flag y.flag,
+      flag_one (IsOutOfRangeBy policy f.signed f.width) x.number y.number o p number x.flag y.flag,
     )
 
 between_one : (form : Form) (r : Radix) (bytes : List ℕ) (f : FormatParts) (a b : List ℕ) → IsBetween form r bytes f a → IsBetween form r bytes f b → a ≡ b

@@ -1,5 +1,5 @@
 -- Texts and objects of JSON.
-use Rattle.std.proofs.Common.{◌≡◌, ℕ, suc, add-one, ◌+◌, ◌*◌, ◌<◌, ◌≤◌, List, [], ◌∷◌, ◌++◌, length, take, take_all, get_or, ap, ◌∙◌, sym, refl, arith, append_assoc, codes, Bool, true, false, ◌⊎◌, inl, inr, ◌/◌, ◌%◌, nat_lt}
+use Rattle.std.proofs.Common.{◌≡◌, ℕ, add-one, ◌+◌, ◌<◌, ◌≤◌, List, [], ◌∷◌, ◌++◌, length, take, take_all, get_or, ap, ◌∙◌, sym, refl, arith, append_assoc, codes, Bool, true, false, ◌⊎◌, inl, inr, ◌/◌, ◌%◌, nat_lt}
 use Rattle.std.specs.Prelude.{flat_map, ◌==◌, ◌&&◌, ◌||◌, nat_le, if◌then◌else◌}
 use Rattle.std.specs.Fmt.{digit_glyph}
 use Rattle.std.specs.Int.Digits.{AllBelowBase}

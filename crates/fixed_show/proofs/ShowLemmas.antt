@@ -2,7 +2,7 @@
 use Rattle.std.proofs.Common.{◌≡◌, inl, inr, ◌↔◌, ℕ, List, [], ◌∷◌, ◌++◌, Bool, IsTrue, ℤ, subst, ap, ◌∙◌, append_assoc, codes}
 use Rattle.std.specs.Fmt.{signed_decimal}
 use Rattle.fixed_bits.specs.Formats.{FormatParts}
-use Rattle.fixed_bits.specs.Images.{IsImage}
+use Rattle.fixed_bits.specs.Images.{IsImage, IsOutOfRangeBy}
 use Rattle.fixed_bits.specs.Ranges.{IsOutOfRange}
 use Rattle.fixed_bits.specs.declared.format.Policy.{Policy}
 use Rattle.fixed_bits.specs.declared.format.Policy.TheVariants.{Checked}
@@ -24,7 +24,7 @@ use Rattle.fixed_show.specs.ShowBlock.{IsReadAs, IsUnread, neighbours}
 pub read_as : (mode : ReadMode) (r : Radix) (bytes : List ℕ) (f : FormatParts) (policy : Policy) (p : Parts) (found : ReadNumber) (bits : ℤ) (flag : Bool)
     → HasNumeral r bytes p → IsReading mode r p found → found.format ≡ f
     → ((v : ℤ) → IsNumber (number_in found) v → IsImage policy found.format.signed found.format.width v bits)
-    → ((v : ℤ) → IsNumber (number_in found) v → IsTrue flag ↔ IsOutOfRange found.format.signed found.format.width v)
+    → ((v : ℤ) → IsNumber (number_in found) v → IsTrue flag ↔ IsOutOfRangeBy policy found.format.signed found.format.width v)
     → IsReadAs mode r bytes f policy bits flag
 read_as mode r bytes f policy p found bits flag numeral reading e image out = record {
   parts = p;
@@ -32,7 +32,7 @@ read_as mode r bytes f policy p found bits flag numeral reading e image out = re
   number = reading.number;
   read = subst (λ (t : FormatParts). IsReadNumber mode r p t.frac reading.number) e reading.read;
   image = subst (λ (t : FormatParts). IsImage policy t.signed t.width reading.number bits) e (image reading.number reading.holds);
-  flag = subst (λ (t : FormatParts). IsTrue flag ↔ IsOutOfRange t.signed t.width reading.number) e (out reading.number reading.holds);
+  flag = subst (λ (t : FormatParts). IsTrue flag ↔ IsOutOfRangeBy policy t.signed t.width reading.number) e (out reading.number reading.holds);
 }
 
 pub unread : (mode : ReadMode) (r : Radix) (bytes : List ℕ) (f : FormatParts) (policy : Policy) (p : Parts) (found : ReadNumber) (kind : ParseErrorKind)

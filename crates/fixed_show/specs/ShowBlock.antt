@@ -2,8 +2,7 @@
 use Rattle.std.specs.Prelude.{◌≡◌, ◌⊎◌, ◌↔◌, ℕ, List, ◌++◌, ℤ, Bool, true, false, IsTrue, codes}
 use Rattle.std.specs.Fmt.{signed_decimal}
 use Rattle.fixed_bits.specs.Formats.{FormatParts}
-use Rattle.fixed_bits.specs.Images.{IsImage}
-use Rattle.fixed_bits.specs.Ranges.{IsOutOfRange}
+use Rattle.fixed_bits.specs.Images.{IsImage, IsOutOfRangeBy}
 use Rattle.fixed_bits.specs.declared.format.Policy.{Policy}
 use Rattle.fixed_bits.specs.declared.format.Policy.TheVariants.{Checked}
 use Rattle.fixed_bits.specs.declared.mode.ReadMode.{ReadMode}
@@ -24,7 +23,8 @@ use Rattle.fixed_show.specs.declared.form.Form.TheVariants.{Lines, Members}
 use Rattle.fixed_show.specs.ErrorText.{IsErrorText}
 use Rattle.fixed_show.specs.ShortError.{AreFormUlps, IsFormError}
 
--- bytes are a numeral, bits are the image of its read number, and overflowed says whether that is out of range
+-- bytes are a numeral, bits are the image of its read number, and overflowed says whether that is out of the range
+-- that the policy leaves
 pub record IsReadAs (mode : ReadMode) (r : Radix) (bytes : List ℕ) (f : FormatParts) (policy : Policy) (bits : ℤ)
     (overflowed : Bool) : Type 0 where
   pub parts : Parts
@@ -32,7 +32,7 @@ pub record IsReadAs (mode : ReadMode) (r : Radix) (bytes : List ℕ) (f : Format
   pub number : ℤ
   pub read : IsReadNumber mode r parts f.frac number
   pub image : IsImage policy f.signed f.width number bits
-  pub flag : IsTrue overflowed ↔ IsOutOfRange f.signed f.width number
+  pub flag : IsTrue overflowed ↔ IsOutOfRangeBy policy f.signed f.width number
 
 -- kind says why there are no bits: bytes are no numeral, or under Checked the read number is out of range
 abbrev pub IsUnread : ReadMode → Radix → List ℕ → FormatParts → Policy → ParseErrorKind → Type 0

@@ -1,7 +1,8 @@
 -- The names of a format in other tools.
-use Rattle.std.specs.Prelude.{◌≡◌, ℕ, zero, suc, ◌-◌, ◌<◌, List, ◌++◌, ℤ, pos, ◌-ℤ◌, neg_ℤ, Bool, true, false, codes}
+use Rattle.std.specs.Prelude.{◌≡◌, ℕ, zero, suc, ◌-◌, ◌<◌, ◌≤◌, List, ◌++◌, ℤ, pos, ◌-ℤ◌, neg_ℤ, Bool, true, false}
+use Rattle.std.specs.Prelude.{codes, if◌then◌else◌, nat_le}
 use Rattle.std.specs.Fmt.{signed_decimal}
-use Rattle.fixed_bits.specs.Formats.{FormatParts, IsFormat}
+use Rattle.fixed_bits.specs.Formats.{FormatParts, IsFormat, whole_length}
 use Rattle.fixed_respell.specs.FormatNames.{IsFormatName}
 use Rattle.fixed_show.specs.Forms.{fact}
 use Rattle.fixed_show.specs.declared.form.Form.{Form}
@@ -31,13 +32,13 @@ ti_name true whole frac = q_text true (whole - 1) frac
 ti_name false whole frac = q_text false whole frac
 
 -- high-level synthesis in C++: the width, and the whole bits with the sign bit
-abbrev pub hls_name : Bool → ℕ → ℕ → List ℕ
+abbrev pub hls_name : Bool → ℕ → ℤ → List ℕ
 hls_name signed width whole = pair_text (head_text signed (codes "ap_fixed<") (codes "ap_ufixed<")) (pos width)
-    (codes ",") (pos whole) (codes ">")
+    (codes ",") whole (codes ">")
 
 -- VHDL's fixed_pkg: the power of two of the highest and of the lowest bit
-abbrev pub vhdl_name : Bool → ℕ → ℕ → List ℕ
-vhdl_name signed whole frac = pair_text (head_text signed (codes "sfixed(") (codes "ufixed(")) (pos whole -ℤ pos 1)
+abbrev pub vhdl_name : Bool → ℤ → ℕ → List ℕ
+vhdl_name signed whole frac = pair_text (head_text signed (codes "sfixed(") (codes "ufixed(")) (whole -ℤ pos 1)
     (codes " downto ") (neg_ℤ (pos frac)) (codes ")")
 
 -- MATLAB's fi, of any value: the sign, the word length and the fraction length
@@ -50,7 +51,7 @@ abbrev pub no_q_facts : Form → List ℕ
 no_q_facts Lines = fact Lines (codes "ARM") (codes "none") ++ fact Lines (codes "TI") (codes "none")
 no_q_facts Members = codes ",\"ARM\":null,\"TI\":null"
 
--- the names in Q, which a signed format without whole bits has not
+-- the names in Q with so many whole bits, which a signed format without whole bits has not
 abbrev pub q_facts : Form → Bool → ℕ → ℕ → List ℕ
 q_facts form true zero frac = no_q_facts form
 q_facts form true (suc above) frac = fact form (codes "ARM") (arm_name true (suc above) frac)
@@ -58,14 +59,19 @@ q_facts form true (suc above) frac = fact form (codes "ARM") (arm_name true (suc
 q_facts form false whole frac = fact form (codes "ARM") (arm_name false whole frac)
     ++ fact form (codes "TI") (ti_name false whole frac)
 
+-- the names of a format in Q, which one whose fraction is longer than its width has not
+abbrev pub format_q_facts : Form → FormatParts → List ℕ
+format_q_facts form f = if nat_le f.frac f.width then q_facts form f.signed (f.width - f.frac) f.frac
+    else no_q_facts form
+
 -- all names
 unfoldable pub name_facts : Form → FormatParts → List ℕ
-name_facts form f = q_facts form f.signed (f.width - f.frac) f.frac
-    ++ (fact form (codes "HLS") (hls_name f.signed f.width (f.width - f.frac))
-    ++ (fact form (codes "VHDL") (vhdl_name f.signed (f.width - f.frac) f.frac)
+name_facts form f = format_q_facts form f
+    ++ (fact form (codes "HLS") (hls_name f.signed f.width (whole_length f))
+    ++ (fact form (codes "VHDL") (vhdl_name f.signed (whole_length f) f.frac)
     ++ fact form (codes "MATLAB") (matlab_name f.signed f.width f.frac)))
 
 -- where there is an ARM's name, the command `fixed` takes it for the format
 abbrev pub ArmNameIsAName : Type 0
-ArmNameIsAName = (f : FormatParts) → IsFormat f.width f.frac → (f.signed ≡ true → f.frac < f.width)
+ArmNameIsAName = (f : FormatParts) → IsFormat f.width f.frac → f.frac ≤ f.width → (f.signed ≡ true → f.frac < f.width)
     → IsFormatName (arm_name f.signed (f.width - f.frac) f.frac) f

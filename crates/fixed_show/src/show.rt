@@ -29,12 +29,12 @@ use fixed_write::{push_integer, push_shortest};
 use std::sync::ledger::Ledger;
 use text_buffer::TextBuffer;
 
-/// The bits that a numeral is read as, and whether the read number was out of the format's range.
+/// The bits that a numeral is read as, and whether the read number was out of range.
 #[derive(Drop)]
 pub struct Shown {
     /// The bits.
     pub bits: i128,
-    /// Whether the read number was out of range.
+    /// Whether the read number was out of the range that the policy leaves.
     pub overflowed: bool,
 }
 
@@ -63,7 +63,7 @@ pub fn read_shown<L: Ledger>(
     match found.image(policy) {
         Some(bits) => Ok(Shown {
             bits,
-            overflowed: found.is_out_of_range(),
+            overflowed: found.is_out_of_range_by(policy),
         }),
         None => Err(ParseFixedError::new(ParseErrorKind::Overflow)),
     }

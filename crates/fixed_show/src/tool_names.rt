@@ -1,14 +1,14 @@
 //! The names of a format in other tools.
 //!
 //! A signed format without whole bits has no name in Q notation: ARM's Q counts the sign bit as a whole bit, and TI's
-//! would need a count of -1. The name in MATLAB is that of a value, `fi(_,s,w,f)`, since that is what people type; the
-//! type alone is `numerictype(s,w,f)`.
+//! would need a count of -1. Nor has a format with fewer than zero whole bits. The name in MATLAB is that of a value,
+//! `fi(_,s,w,f)`, since that is what people type; the type alone is `numerictype(s,w,f)`.
 
-ghost use Rattle.std.specs.Prelude.{◌≡◌, ◌+◌, ◌≤◌, ◌++◌, ◌-ℤ◌, neg_ℤ, pos, codes, length};
+ghost use Rattle.std.specs.Prelude.{◌≡◌, ◌+◌, ◌≤◌, ◌≤ℤ◌, ◌++◌, ◌-ℤ◌, neg_ℤ, pos, codes, length};
 ghost use Rattle.fixed_bits.specs.Ranges.{IsWide};
 ghost use Rattle.fixed_show.specs.Forms.{fact};
-ghost use Rattle.fixed_show.specs.ToolNames.{head_text, hls_name, matlab_name, name_facts, no_q_facts, pair_text};
-ghost use Rattle.fixed_show.specs.ToolNames.{q_facts, q_text, vhdl_name};
+ghost use Rattle.fixed_show.specs.ToolNames.{format_q_facts, head_text, hls_name, matlab_name, name_facts, no_q_facts};
+ghost use Rattle.fixed_show.specs.ToolNames.{pair_text, q_facts, q_text, vhdl_name};
 
 use crate::form::{Form, end_byte, push_label};
 use crate::lines::{frac_of, push_fact};
@@ -96,7 +96,7 @@ fn push_no_q_facts<const N: usize>(out: &mut TextBuffer<N>, form: Form)
     }
 }
 
-/// Appends the names in ARM's and in TI's Q.
+/// Appends the names in ARM's and in TI's Q, of a format with so many whole bits.
 fn push_q_facts<const N: usize>(
     out: &mut TextBuffer<N>,
     form: Form,
@@ -118,16 +118,31 @@ fn push_q_facts<const N: usize>(
     }
 }
 
+/// Appends the names of a format in ARM's and in TI's Q, or that there are none.
+fn push_format_q_facts<const N: usize>(out: &mut TextBuffer<N>, form: Form, format: Format)
+    requires room { length out.old + 176 ≤ N }
+    ensures appended { out.new ≡ out.old ++ format_q_facts form format }
+    ensures short { length out.new ≤ length out.old + 176 }
+{
+    let width = format.width();
+    let frac = frac_of(format);
+    if frac <= width {
+        push_q_facts(out, form, format.signed(), width - frac, frac);
+    } else {
+        push_no_q_facts(out, form);
+    }
+}
+
 /// Appends the name in C++ for high-level synthesis.
 fn push_hls_fact<const N: usize>(
     out: &mut TextBuffer<N>,
     form: Form,
     signed: bool,
     width: u32,
-    whole: u32,
+    whole: i32,
 )
     requires width { width ≤ 64 }
-    requires whole { whole ≤ 64 }
+    requires least { neg_ℤ (pos 64) ≤ℤ whole }
     requires room { length out.old + 88 ≤ N }
     ensures appended { out.new ≡ out.old ++ fact form (codes "HLS") (hls_name signed width whole) }
     ensures short { length out.new ≤ length out.old + 88 }
@@ -143,9 +158,9 @@ fn push_hls_fact<const N: usize>(
 }
 
 /// The power of two of the highest bit.
-fn highest_bit(whole: u32) -> i128
-    requires { whole ≤ 64 }
-    ensures value { result ≡ pos whole -ℤ pos 1 }
+fn highest_bit(whole: i32) -> i128
+    requires { neg_ℤ (pos 64) ≤ℤ whole }
+    ensures value { result ≡ whole -ℤ pos 1 }
     ensures wide { IsWide result }
 {
     i128::from(whole) - 1
@@ -165,10 +180,10 @@ fn push_vhdl_fact<const N: usize>(
     out: &mut TextBuffer<N>,
     form: Form,
     signed: bool,
-    whole: u32,
+    whole: i32,
     frac: u32,
 )
-    requires whole { whole ≤ 64 }
+    requires least { neg_ℤ (pos 64) ≤ℤ whole }
     requires frac { frac ≤ 64 }
     requires room { length out.old + 88 ≤ N }
     ensures appended { out.new ≡ out.old ++ fact form (codes "VHDL") (vhdl_name signed whole frac) }
@@ -216,8 +231,8 @@ pub(crate) fn push_names<const N: usize>(out: &mut TextBuffer<N>, form: Form, fo
 {
     let width = format.width();
     let frac = frac_of(format);
-    let whole = width - frac;
-    push_q_facts(out, form, format.signed(), whole, frac);
+    let whole = format.whole_length();
+    push_format_q_facts(out, form, format);
     push_hls_fact(out, form, format.signed(), width, whole);
     push_vhdl_fact(out, form, format.signed(), whole, frac);
     push_matlab_fact(out, form, format.signed(), width, frac);

@@ -1,8 +1,8 @@
 -- What is left of a format's name after its letters.
-use Rattle.std.specs.Prelude.{◌≡◌, ◌⊎◌, ◌+◌, ◌<◌, ℕ, Bool, true, false, List, ◌∷◌, ◌++◌, decimal}
+use Rattle.std.specs.Prelude.{◌≡◌, ◌⊎◌, ◌+◌, ◌-◌, ◌<◌, ◌≤◌, ℕ, Bool, true, false, List, ◌∷◌, ◌++◌, decimal}
 use Rattle.fixed_bits.specs.Formats.{FormatParts, IsFormat}
-use Rattle.fixed_respell.specs.FormatNames.{IsLetter, counts_text, point, q_letter}
-use Rattle.fixed_respell.specs.Words.{fraction_letter}
+use Rattle.fixed_respell.specs.FormatNames.{IsLetter, point, q_letter}
+use Rattle.fixed_respell.specs.Words.{counts_text, fraction_letter}
 
 -- two counts with a byte between them
 abbrev pub two_counts : ℕ → ℕ → ℕ → List ℕ
@@ -20,9 +20,26 @@ pub record IsCounted (signed : Bool) (rest : List ℕ) (f : FormatParts) : Type 
   pub is_mark : IsLetter fraction_letter mark
   pub text : rest ≡ counts_text mark f
 
+-- the same where there are no fewer than zero whole bits
+pub record IsCountedWithin (signed : Bool) (rest : List ℕ) (f : FormatParts) : Type 0 where
+  pub is : IsSigned signed f
+  pub within : f.frac ≤ f.width
+  pub mark : ℕ
+  pub is_mark : IsLetter fraction_letter mark
+  pub text : rest ≡ two_counts mark (f.width - f.frac) f.frac
+
+-- after a minus: by how many bits the fraction is longer than the width, F, fraction bits
+pub record IsCountedBeyond (signed : Bool) (rest : List ℕ) (f : FormatParts) : Type 0 where
+  pub is : IsSigned signed f
+  pub beyond : f.width < f.frac
+  pub mark : ℕ
+  pub is_mark : IsLetter fraction_letter mark
+  pub text : rest ≡ two_counts mark (f.frac - f.width) f.frac
+
 -- whole bits, a point, fraction bits
 pub record IsPointed (signed : Bool) (rest : List ℕ) (f : FormatParts) : Type 0 where
   pub is : IsSigned signed f
+  pub within : f.frac ≤ f.width
   pub sign_bit : signed ≡ true → f.frac < f.width
   pub text : rest ≡ counts_text point f
 

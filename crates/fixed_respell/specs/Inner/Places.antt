@@ -6,7 +6,7 @@ use Rattle.fixed_bits.specs.declared.format.Policy.TheVariants.{Checked, Saturat
 use Rattle.fixed_bits.specs.declared.mode.ReadMode.{ReadMode}
 use Rattle.fixed_numeral.specs.declared.radix.Radix.{Radix}
 use Rattle.fixed_numeral.specs.declared.radix.Radix.TheVariants.{Bin, Oct, Dec, Hex}
-use Rattle.fixed_respell.specs.Words.{is_line_mode, mode_text, policy_text, slash}
+use Rattle.fixed_respell.specs.Words.{is_line_mode, is_line_policy, mode_text, policy_text, slash}
 
 -- the radix whose word is at a place
 abbrev pub radix_of_place : ℕ → Radix
@@ -29,6 +29,7 @@ pub record HasBytes (name : List ℕ) (start middle end : ℕ) : Type 0 where
   pub next_two : number_l 256 (take 2 (drop 4 name)) ≡ middle
   pub last_four : number_l 256 (drop (length name - 4) name) ≡ end
 
--- word is the names of the policy and of a mode that a line can name, with a slash between them
+-- word is the names of a policy and of a mode that a line can name, with a slash between them
 abbrev pub IsBothNames : List ℕ → Policy → ReadMode → Type 0
-IsBothNames word policy mode = (word ≡ policy_text policy ++ slash ∷ mode_text mode) × IsTrue (is_line_mode mode)
+IsBothNames word policy mode = (word ≡ policy_text policy ++ slash ∷ mode_text mode) × IsTrue (is_line_policy policy)
+    × IsTrue (is_line_mode mode)

@@ -1,12 +1,13 @@
 -- A line has one answer.
-use Rattle.std.proofs.Common.{◌≡◌, ℕ, ◌-◌, ◌<◌, List, [], ◌∷◌, ◌++◌, Bool, length, get_or, refl, sym, ap, ◌∙◌, subst}
+use Rattle.std.proofs.Common.{◌≡◌, ℕ, ◌<◌, List, [], Bool, length, get_or, refl, sym, ap, ◌∙◌, subst}
 use Rattle.std.proofs.Common.{arith, inl, inr, if◌then◌else◌, ◌==◌}
-use Rattle.std.specs.Fmt.{decimal}
-use Rattle.std.proofs.lemmas.Fmt.{decimal_injective}
-use Rattle.fixed_bits.specs.Formats.{FormatParts, IsFormat}
+use Rattle.std.specs.Fmt.{decimal, signed_decimal}
+use Rattle.std.proofs.lemmas.Int.{ints}
+use Rattle.std.proofs.lemmas.Fmt.{decimal_injective, signed_decimal_injective}
+use Rattle.fixed_bits.specs.Formats.{FormatParts, IsFormat, whole_length}
 use Rattle.fixed_bits.proofs.Public.{type_format}
 use Rattle.fixed_bits.specs.declared.format.Policy.{Policy}
-use Rattle.fixed_bits.specs.declared.format.Policy.TheVariants.{Checked, Saturating, Wrapping}
+use Rattle.fixed_bits.specs.declared.format.Policy.TheVariants.{Checked, Saturating, Wrapping, Symmetric}
 use Rattle.fixed_bits.specs.declared.mode.ReadMode.{ReadMode}
 use Rattle.fixed_bits.specs.declared.mode.ReadMode.TheVariants.{NearestEven, Floor, Ceil, TowardsZero}
 use Rattle.fixed_bits.specs.declared.mode.ReadMode.TheVariants.{NearestAway, NearestZero, NearestUp, NearestDown}
@@ -24,11 +25,11 @@ use Rattle.fixed_respell.specs.LineWords.{longest_line}
 use Rattle.line_engine.specs.AnswerText.{AnswerText}
 use Rattle.fixed_respell.specs.Split.{count_of}
 use Rattle.fixed_respell.specs.Words.{radix_text, format_text, policy_text, mode_text, IsFormatWord, IsPolicyName}
-use Rattle.fixed_respell.specs.Words.{IsPolicyWord}
-use Rattle.fixed_respell.specs.Words.{slash, sign_letter, fraction_letter}
+use Rattle.fixed_respell.specs.Words.{IsPlainWord, IsPolicyWord}
+use Rattle.fixed_respell.specs.Words.{slash, sign_letter, fraction_letter, counts_text}
 use Rattle.fixed_respell.specs.declared.fault.LineFault.TheVariants.{LineTooLong}
 use Rattle.fixed_respell.specs.Lemmas.FaultLemmas.{faults_apart, first_long, no_fault}
-use Rattle.fixed_respell.specs.Lemmas.FormatLemmas.{letters_differ, decimal_no_letter}
+use Rattle.fixed_respell.specs.Lemmas.FormatLemmas.{letters_differ, signed_no_letter, whole_small}
 use Rattle.fixed_respell.specs.Lemmas.LanguageLemmas.{IsDefinite, answer_in_one, long_by_prefix}
 use Rattle.fixed_respell.specs.Lemmas.LineWordLemmas.{words_one}
 use Rattle.fixed_respell.specs.Lemmas.ReachedLemmas.{respelled_one, refusal_none, refusal_one}
@@ -59,13 +60,15 @@ pub radix_one : (r s : Radix) → radix_text r ≡ radix_text s → r ≡ s
 radix_one r s e = sym (radix_back r) ∙ (ap radix_at e ∙ radix_back s)
 
 policy_at : List ℕ → Policy
-policy_at word = if first_byte word == 99 then Checked else if first_byte word == 115 then Saturating else Wrapping
+policy_at word = if first_byte word == 99 then Checked else if first_byte word == 119 then Wrapping
+    else if second_byte word == 97 then Saturating else Symmetric
 
 policy_back : (p : Policy) → policy_at (policy_text p) ≡ p
-unfolding policy_at first_byte
+unfolding policy_at first_byte second_byte
 policy_back Checked = refl
 policy_back Saturating = refl
 policy_back Wrapping = refl
+policy_back Symmetric = refl
 
 pub policy_one : (p q : Policy) → policy_text p ≡ policy_text q → p ≡ q
 policy_one p q e = sym (policy_back p) ∙ (ap policy_at e ∙ policy_back q)
@@ -105,7 +108,7 @@ policy_name_one word p q m k (inr a) (inr b) =
 
 -- a word of a policy is a name of it
 pub word_is_name : (word : List ℕ) (p : Policy) (m : ReadMode) → IsPolicyWord word p m → IsPolicyName word p m
-word_is_name word p m (inl plain) = inl plain
+word_is_name word p m (inl plain) = inl (plain.0.0, plain.1)
 word_is_name word p m (inr named) = inr named.0
 
 pub policy_word_one : (word : List ℕ) (p q : Policy) (m k : ReadMode) → IsPolicyWord word p m → IsPolicyWord word q k
@@ -123,19 +126,17 @@ pub format_text_one : (f g : FormatParts) → IsFormat f.width f.frac → IsForm
     → format_text f ≡ format_text g → f ≡ g
 format_text_one f g a b e =
     let head : sign_letter f.signed ≡ sign_letter g.signed = cc in
-    let tail : decimal (f.width - f.frac) ++ fraction_letter ∷ decimal f.frac
-    ≡ decimal (g.width - g.frac) ++ fraction_letter ∷ decimal g.frac = cc in
-    let most_f = a.is_width.most in
-    let most_g = b.is_width.most in
-    let within_f = a.within in
-    let within_g = b.within in
-    let same = same_split fraction_letter (decimal (f.width - f.frac)) (decimal (g.width - g.frac)) (decimal f.frac)
-    (decimal g.frac) tail (decimal_no_letter (f.width - f.frac) (omega arith))
-    (decimal_no_letter (g.width - g.frac) (omega arith)) in
-    let whole : f.width - f.frac ≡ g.width - g.frac = decimal_injective (f.width - f.frac) (g.width - g.frac)
-    (omega arith) (omega arith) same.before in
-    let frac : f.frac ≡ g.frac = decimal_injective f.frac g.frac (omega arith) (omega arith) same.after in
-    parts_are f g (letters_differ f.signed g.signed head) (omega arith) frac
+    let tail : counts_text fraction_letter f ≡ counts_text fraction_letter g = cc in
+    let small_f = whole_small f a in
+    let small_g = whole_small g b in
+    let same = same_split fraction_letter (signed_decimal (whole_length f)) (signed_decimal (whole_length g))
+    (decimal f.frac) (decimal g.frac) tail (signed_no_letter (whole_length f) (omega (arith, small_f)))
+    (signed_no_letter (whole_length g) (omega (arith, small_g))) in
+    let whole : whole_length f ≡ whole_length g = signed_decimal_injective (whole_length f) (whole_length g)
+    (omega (arith, small_f)) (omega (arith, small_g)) same.before in
+    let frac : f.frac ≡ g.frac = decimal_injective f.frac g.frac (omega (arith, a.within)) (omega (arith, b.within))
+    same.after in
+    parts_are f g (letters_differ f.signed g.signed head) (omega (arith, ints, whole, frac)) frac
 
 pub format_word_one : (word : List ℕ) (f g : FormatParts) → IsFormatWord word f → IsFormatWord word g → f ≡ g
 format_word_one word f g a b = format_text_one f g (type_format f.width f.frac a.format)
@@ -227,9 +228,9 @@ long_by_its_prefix line reply long = long_by_prefix IsAnswer
 pub plain_word : PlainWordNamesNearest
 plain_word word p m none = (to, λ w. inl w)
   where
-    to : IsPolicyWord word p m → (word ≡ policy_text p) × (m ≡ NearestEven)
+    to : IsPolicyWord word p m → IsPlainWord word p m
     to (inl w) = w
     to (inr w) = absurd (split_has_one slash word (policy_text p) (mode_text m) w.0 none)
 
 pub plain_line : PlainLineAsksNearest
-plain_line line t asks none = (plain_word asks.policy_word t.policy t.mode none).0 asks.policy
+plain_line line t asks none = let w = (plain_word asks.policy_word t.policy t.mode none).0 asks.policy in (w.0.0, w.1)

@@ -1,13 +1,16 @@
 -- The word of a format, split at its letter.
-use Rattle.std.proofs.Common.{◌≡◌, ℕ, ◌<◌, ◌≤◌, ◌+◌, ◌^◌, ◌⊎◌, Bool, true, false, cond, eqb, List, [], ◌∷◌, refl, sym}
-use Rattle.std.proofs.Common.{ap, arith, inl, inr}
-use Rattle.std.specs.Fmt.{decimal}
-use Rattle.std.proofs.lemmas.Bool.{ne_eqb}
+use Rattle.std.proofs.Common.{◌≡◌, ℕ, ℤ, pos, negsuc, neg_ℤ, zero, suc, ◌<◌, ◌≤◌, ◌+◌, ◌-◌, ◌^◌, ◌⊎◌, ◌++◌, Bool}
+use Rattle.std.proofs.Common.{⊎_elim, true, false, cond, eqb, List, [], ◌∷◌, refl, sym, ap, ◌∙◌, arith, inl, inr}
+use Rattle.std.specs.Fmt.{decimal, signed_decimal}
+use lib.Signed.{mag}
+use Rattle.std.proofs.lemmas.Bool.{ne_eqb, cases_lt}
 use Rattle.std.specs.Str.Parse.{AllDigits}
+use Rattle.std.proofs.lemmas.Int.{ints}
 use Rattle.std.proofs.lemmas.Fmt.{decimal_is_IsNumeral}
 use Rattle.std.proofs.lemmas.Str.Parse.{digit_from_value}
+use Rattle.fixed_bits.specs.Formats.{FormatParts, IsFormat, whole_length}
 use Rattle.fixed_respell.specs.Split.{count_of}
-use Rattle.fixed_respell.specs.Words.{fraction_letter, sign_letter}
+use Rattle.fixed_respell.specs.Words.{counts_text, fraction_letter, sign_letter}
 use Rattle.fixed_respell.specs.Lemmas.SplitLemmas.{count_cons}
 
 -- a byte that is no digit
@@ -37,3 +40,48 @@ letters_differ true true e = refl
 letters_differ false false e = refl
 letters_differ true false e = absurd (omega (arith, e))
 letters_differ false true e = absurd (omega (arith, e))
+
+-- the counts of a format whose fraction is at most as long as its width, and of one whose fraction is longer
+pub counts_within : (mark : ℕ) (f : FormatParts) → f.frac ≤ f.width
+    → counts_text mark f ≡ decimal (f.width - f.frac) ++ mark ∷ decimal f.frac
+counts_within mark f within =
+    let whole : whole_length f ≡ pos (f.width - f.frac) = omega (arith, ints, within) in
+    ap (λ z. signed_decimal z ++ mark ∷ decimal f.frac) whole
+
+negated : (n : ℕ) → 0 < n → signed_decimal (neg_ℤ (pos n)) ≡ 45 ∷ decimal n
+negated zero some = absurd (omega (arith, some))
+negated (suc n) some = refl
+
+pub counts_beyond : (mark : ℕ) (f : FormatParts) → f.width < f.frac
+    → counts_text mark f ≡ 45 ∷ (decimal (f.frac - f.width) ++ mark ∷ decimal f.frac)
+counts_beyond mark f beyond =
+    let whole : whole_length f ≡ neg_ℤ (pos (f.frac - f.width)) = omega (arith, ints, beyond) in
+    ap (λ z. signed_decimal z ++ mark ∷ decimal f.frac) whole
+    ∙ ap (λ t. t ++ mark ∷ decimal f.frac) (negated (f.frac - f.width) (omega (arith, beyond)))
+
+-- a count of whole bits is small
+mag_pos : (z : ℤ) (n : ℕ) → z ≡ pos n → mag z ≡ n
+mag_pos z n e = ap mag e
+
+mag_neg : (z : ℤ) (n : ℕ) → z ≡ neg_ℤ (pos n) → mag z ≤ n
+mag_neg z zero e = let same : mag z ≡ 0 = ap mag e in omega (arith, same)
+mag_neg z (suc n) e = let same : mag z ≡ n = ap mag e in omega (arith, same)
+
+pub whole_small : (f : FormatParts) → IsFormat f.width f.frac → mag (whole_length f) ≤ 64
+whole_small f is = ⊎_elim
+    (λ (beyond : f.width < f.frac).
+    omega (arith, mag_neg (whole_length f) (f.frac - f.width) (below beyond), is.within))
+    (λ (within : f.frac ≤ f.width).
+    omega (arith, mag_pos (whole_length f) (f.width - f.frac) (not_below within), is.is_width.most))
+    (cases_lt f.width f.frac)
+  where
+    below : f.width < f.frac → whole_length f ≡ neg_ℤ (pos (f.frac - f.width))
+    below beyond = omega (arith, ints, beyond)
+
+    not_below : f.frac ≤ f.width → whole_length f ≡ pos (f.width - f.frac)
+    not_below within = omega (arith, ints, within)
+
+pub signed_no_letter : (z : ℤ) → mag z < 2 ^ 63 → count_of fraction_letter (signed_decimal z) ≡ 0
+signed_no_letter (pos n) small = decimal_no_letter n (omega (arith, small))
+signed_no_letter (negsuc n) small =
+    omega (arith, count_cons fraction_letter 45 (decimal (suc n)), decimal_no_letter (suc n) (omega (arith, small)))

@@ -85,20 +85,20 @@ no_radix Hex e = let first : 57 ≡ 49 = at_place 0 e in omega (arith, first)
 pub returns : goal.returns
 unfolding shortest_text decimal_text point_text whole_digits fraction_part last_digits shortest_number shortest_places least_places_from reads_back_at nearest_number digits down
 returns c = record {
-  respelled = answered NearestEven Dec Checked (unsigned_format 4 4) (unsigned_format 8 0) (codes "checked") (plain None (codes "2") (Some (codes "99"))) 48 (inl (refl, refl)) refl refl;
-  shortest_text = answered NearestEven Dec Checked (signed_format 4 4) (signed_format 4 4) (codes "checked") (plain None (codes "3") (Some (codes "1875"))) 51 (inl (refl, refl)) refl refl;
-  tie_of_texts = answered NearestEven Dec Checked (unsigned_format 6 2) (unsigned_format 6 2) (codes "checked") (plain None (codes "0") (Some (codes "25"))) 1 (inl (refl, refl)) refl refl;
-  octal = answered NearestEven Oct Checked (unsigned_format 0 8) (unsigned_format 0 8) (codes "checked") (by_two (codes "0") (codes "1") 49) 64 (inl (refl, refl)) refl refl;
-  hexadecimal = answered NearestEven Hex Wrapping (unsigned_format 8 8) (unsigned_format 8 8) (codes "wrapping") (plain None (codes "C0F") (Some (codes "FE"))) 790526 (inl (refl, refl)) refl refl;
-  mode_word = answered Floor Dec Checked (signed_format 8 0) (signed_format 8 0) (codes "checked/floor") (plain (Some 45) (codes "2") (Some (codes "5"))) 3 (inr (refl, refl)) refl refl;
+  respelled = answered NearestEven Dec Checked (unsigned_format 4 4) (unsigned_format 8 0) (codes "checked") (plain None (codes "2") (Some (codes "99"))) 48 (inl ((refl, refl), refl)) refl refl;
+  shortest_text = answered NearestEven Dec Checked (signed_format 4 4) (signed_format 4 4) (codes "checked") (plain None (codes "3") (Some (codes "1875"))) 51 (inl ((refl, refl), refl)) refl refl;
+  tie_of_texts = answered NearestEven Dec Checked (unsigned_format 6 2) (unsigned_format 6 2) (codes "checked") (plain None (codes "0") (Some (codes "25"))) 1 (inl ((refl, refl), refl)) refl refl;
+  octal = answered NearestEven Oct Checked (unsigned_format 0 8) (unsigned_format 0 8) (codes "checked") (by_two (codes "0") (codes "1") 49) 64 (inl ((refl, refl), refl)) refl refl;
+  hexadecimal = answered NearestEven Hex Wrapping (unsigned_format 8 8) (unsigned_format 8 8) (codes "wrapping") (plain None (codes "C0F") (Some (codes "FE"))) 790526 (inl ((refl, refl), refl)) refl refl;
+  mode_word = answered Floor Dec Checked (signed_format 8 0) (signed_format 8 0) (codes "checked/floor") (plain (Some 45) (codes "2") (Some (codes "5"))) 3 (inr (refl, refl, refl)) refl refl;
   overflow = inr (record {
     task = task_of Dec (unsigned_format 8 0) (unsigned_format 16 0) Checked NearestEven (codes "300");
-    asks = asks Dec (unsigned_format 8 0) (unsigned_format 16 0) (codes "checked") Checked NearestEven (codes "300") refl (inl (refl, refl));
+    asks = asks Dec (unsigned_format 8 0) (unsigned_format 16 0) (codes "checked") Checked NearestEven (codes "300") refl (inl ((refl, refl), refl));
     answered = inl (record { kind = Overflow; refusal = inr (refl, overflows (plain None (codes "300") None) 300 refl); answer_is = refl });
   });
   refused = inr (record {
     task = task_of Dec (unsigned_format 8 0) (unsigned_format 8 0) Checked NearestEven (codes "1_0");
-    asks = asks Dec (unsigned_format 8 0) (unsigned_format 8 0) (codes "checked") Checked NearestEven (codes "1_0") refl (inl (refl, refl));
+    asks = asks Dec (unsigned_format 8 0) (unsigned_format 8 0) (codes "checked") Checked NearestEven (codes "1_0") refl (inl ((refl, refl), refl));
     answered = inl (record { kind = InvalidDigit; refusal = inl cause_1_0; answer_is = refl });
   });
   line_fault = inl (record {

@@ -1,9 +1,8 @@
 use Rattle.std.proofs.Common.{ℤ, ◌↔◌, IsTrue, sym, ◌∙◌, inl, inr, refl, arith}
 use Rattle.std.proofs.lemmas.Bool.{false≢true}
 use Rattle.fixed_bits.specs.Down.{down}
-use Rattle.fixed_bits.specs.Images.{IsImage}
+use Rattle.fixed_bits.specs.Images.{IsImage, IsOutOfRangeBy}
 use Rattle.fixed_bits.specs.Numbers.{IsNumber, number_of_image}
-use Rattle.fixed_bits.specs.Ranges.{IsOutOfRange}
 use Rattle.fixed_bits.proofs.Public.{width_most}
 use Rattle.fixed_respell.specs.Lemmas.ReachedLemmas.{refusal_none}
 use Rattle.fixed_respell.proofs.ReachLemmas.{IsRead, read_of, refused, respelled}
@@ -19,7 +18,7 @@ returns-then-is_refused-clause-refused g c =
     let is : IsRead t.mode t.radix t.numeral.now t.source found.found = read_of t.mode t.radix t.numeral.now t.source found.found (read.numeral.0 refl) read.read found.ensures.format in
     let holds : IsNumber c.number.result is.number = rw c.number.ensures is.holds in
     let in_source : ℤ = number_of_image source.result in
-    let out : IsTrue target.result.is_out_of_range ↔ IsOutOfRange t.target.signed t.target.width (down in_source t.source.frac t.target.frac) = rw c.frac-source_frac.ensures.frac at target.ensures.verdict in
+    let out : IsTrue target.result.is_out_of_range ↔ IsOutOfRangeBy t.policy t.target.signed t.target.width (down in_source t.source.frac t.target.frac) = rw c.frac-source_frac.ensures.frac at target.ensures.verdict in
     refused t.mode t.radix t.numeral.now t.policy t.source t.target found.found in_source source.result.is_out_of_range target.result.is_out_of_range c.new.result is c.new.ensures (source.ensures.image is.number holds) (source.ensures.flag is.number holds) out (c.is_refused.ensures.0 c.if-is_refused.true)
 
 pub returns-then-is_refused-clause-ok : goal.returns-then-is_refused-clause-ok
@@ -37,7 +36,7 @@ returns-clause-reached g c =
     let is : IsRead t.mode t.radix t.numeral.now t.source found.found = read_of t.mode t.radix t.numeral.now t.source found.found (read.numeral.0 refl) read.read found.ensures.format in
     let holds : IsNumber c.number.result is.number = rw c.number.ensures is.holds in
     let in_source : ℤ = number_of_image source.result in
-    let out : IsTrue target.result.is_out_of_range ↔ IsOutOfRange t.target.signed t.target.width (down in_source t.source.frac t.target.frac) = rw c.frac-source_frac.ensures.frac at target.ensures.verdict in
+    let out : IsTrue target.result.is_out_of_range ↔ IsOutOfRangeBy t.policy t.target.signed t.target.width (down in_source t.source.frac t.target.frac) = rw c.frac-source_frac.ensures.frac at target.ensures.verdict in
     let source_image = source.ensures.image is.number holds (λ w. absurd (false≢true (sym c.if-is_refused.false ∙ c.is_refused.ensures.1 (w.0, inl w.1)))) in
     let target_image : IsImage t.policy t.target.signed t.target.width (down in_source t.source.frac t.target.frac) (number_of_image target.result) = rw c.frac-source_frac.ensures.frac at (target.ensures.image (λ w. absurd (false≢true (sym c.if-is_refused.false ∙ c.is_refused.ensures.1 (w.0, inr w.1))))) in
     respelled t.mode t.radix t.numeral.now t.policy t.source t.target found.found in_source (number_of_image target.result) source.result.is_out_of_range target.result.is_out_of_range c.is_either.result is source_image (source.ensures.flag is.number holds) target_image out c.is_either.ensures

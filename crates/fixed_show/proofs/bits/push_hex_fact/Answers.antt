@@ -1,4 +1,3 @@
-use Rattle.std.proofs.Common.{◌≡◌, ◌+◌, ◌/◌, ◌≤◌, ◌∙◌, length, length-append, codes, false, rules, arith, ap}
 use Rattle.fixed_show.proofs.HexLemmas.{hex_pushed}
 use Rattle.fixed_show.proofs.bits.push_hex_fact.Goals as goal
 

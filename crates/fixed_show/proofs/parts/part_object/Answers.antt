@@ -1,4 +1,4 @@
-use Rattle.std.proofs.Common.{◌≡◌, ◌++◌, ◌≤◌, ◌+◌, length, List, ℕ, arith, refl}
+use Rattle.std.proofs.Common.{◌≡◌, ◌++◌, List, ℕ, arith, refl}
 use Rattle.fixed_show.specs.JsonText.{object_text}
 use Rattle.fixed_show.proofs.JsonLemmas.{object_pushed, object_short}
 use Rattle.fixed_show.proofs.LineLemmas.{pushed_length, text_short}

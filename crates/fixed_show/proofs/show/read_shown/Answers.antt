@@ -9,7 +9,7 @@ returns-in-Some-clause-read g c =
     let b : ℤ = c.in-Some.bits in
     let fit : FitsSigned w128 b = search rules in
     let p = c.in-Ok.ensures.reading.numeral.0 refl in
-    rw (to_z-of_z w128 b fit) (read_as c.args.mode c.args.radix c.args.text.now c.args.format c.args.policy p.0 c.in-Ok.found b c.is_out_of_range.result p.1 (c.in-Ok.ensures.reading.read p.0 p.1) c.in-Ok.ensures.format c.in-Some.ensures.image c.is_out_of_range.ensures.range)
+    rw (to_z-of_z w128 b fit) (read_as c.args.mode c.args.radix c.args.text.now c.args.format c.args.policy p.0 c.in-Ok.found b c.is_out_of_range_by.result p.1 (c.in-Ok.ensures.reading.read p.0 p.1) c.in-Ok.ensures.format c.in-Some.ensures.image c.is_out_of_range_by.ensures.range)
 
 pub returns-in-None-clause-unread : goal.returns-in-None-clause-unread
 returns-in-None-clause-unread g c =

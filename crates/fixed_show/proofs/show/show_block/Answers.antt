@@ -1,6 +1,4 @@
-use Rattle.std.proofs.Common.{ℤ, FitsSigned, rules, arith}
-use Rattle.std.specs.Int.{w128}
-use Rattle.std.proofs.lemmas.Int.{to_z-of_z}
+use Rattle.std.proofs.Common.{rules, arith}
 use Rattle.fixed_show.specs.ShowBlock.{IsShown}
 use Rattle.fixed_show.specs.declared.form.Form.TheVariants.{Lines}
 use Rattle.fixed_show.proofs.JsonLemmas.{widened}

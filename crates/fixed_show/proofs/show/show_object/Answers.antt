@@ -1,4 +1,4 @@
-use Rattle.std.proofs.Common.{◌≡◌, List, ℕ, false, true, rules}
+use Rattle.std.proofs.Common.{List, ℕ}
 use Rattle.fixed_show.specs.Blocks.{Appends}
 use Rattle.fixed_show.specs.ShowBlock.{AreShowFacts}
 use Rattle.fixed_show.specs.declared.form.Form.TheVariants.{Members}

@@ -1,4 +1,4 @@
-use Rattle.std.proofs.Common.{◌≡◌, ◌*◌, ◌^◌, ◌<◌, ◌∙◌, ℕ, ℤ, ◌-ℤ◌, Bool, FitsSigned, ap, rules, subst, sym}
+use Rattle.std.proofs.Common.{◌≡◌, ◌*◌, ◌^◌, ◌<◌, ◌∙◌, ℕ, ℤ, ◌-ℤ◌, Bool, FitsSigned, ap, rules}
 use Rattle.std.specs.Prelude.{unsigned_abs}
 use Rattle.std.specs.Int.{w128, is_negative}
 use Rattle.std.proofs.lemmas.Int.{to_z-of_z}
