@@ -7,11 +7,7 @@ use Rattle.fixed_error.specs.Errors.{HasGreatestErrors}
 use Rattle.fixed_least.specs.Holding.{AllNumerals}
 use Rattle.fixed_numeral.specs.declared.radix.Radix.{Radix}
 use Rattle.line_engine.specs.AnswerText.{AnswerText}
-use Rattle.line_engine.specs.Output.{status_of}
-use Rattle.line_engine.specs.Run.{WritesText}
-use Rattle.line_engine.specs.declared.status.Status.{Status}
-use Rattle.std.specs.Io.KnownBytes.{Consumes, IsAtEnd}
-use Rattle.fixed_fit.specs.Answer.{HasFitRun, name_of}
+use Rattle.fixed_fit.specs.Answer.{name_of}
 use Rattle.fixed_fit.specs.Bounded.{IsBoundedFound, IsBoundedNone, IsWidthReason, at_width, none_line, width_line}
 use Rattle.fixed_fit.specs.ErrorWord.{entries_from}
 use Rattle.fixed_fit.specs.Fitting.{AllFit, HasBelowZero, IsFirstExceeding, IsSignRule}
@@ -196,13 +192,3 @@ plain_served q widths bound list reader h none at =
     let served = (h.within refl none).plain in
     let most : most_left reader.within.plain.lengths.items ≤ p.plain.count = most_within q.radix false w list reader.within.plain.lengths.items p.plain (served.serving at).lengths (λ n has. tried_most widths q.kind.width n (served.tried.only n has)) h.progress.plain_kind (subst (λ (r : Radix). AreLengths r list p.plain) h.radix known.plain) in
     (max p.plain.count p.signed.count, list, false, h.errors none, (served.serving at).lengths, omega (arith, most))
-
--- ---- a run
-pub run_by : (A : List ℕ → AnswerText → Type 0) (input : List ℕ) (left left' written written' : Option (List ℕ)) (failures failures' : ℕ) (answer : AnswerText) (status : Status) → Consumes left left' input → IsAtEnd left' → A input answer
-    → WritesText answer.text (status_of answer.fault) written written' failures failures' status → HasFitRun A left left' written written' status
-run_by A input left left' written written' failures failures' answer status taken end is (inl h) = subst (λ s. HasFitRun A left left' written written' s) (sym h.0) (by answer.fault refl)
-  where
-    by : (b : Bool) → answer.fault ≡ b → HasFitRun A left left' written written' (status_of b)
-    by true e = record { input = input; taken = taken; at_end = end; answer = answer; is_answer = is; output = h.1; faulty = e }
-    by false e = record { input = input; taken = taken; at_end = end; answer = answer; is_answer = is; output = h.1; faulty = e }
-run_by A input left left' written written' failures failures' answer status taken end is (inr h) = subst (λ s. HasFitRun A left left' written written' s) (sym h.0) (record { input = input; taken = taken; at_end = end; answer = answer; is_answer = is; output = h.1 })

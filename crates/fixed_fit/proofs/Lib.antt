@@ -1,5 +1,4 @@
 mod AnswerLemmas
-mod ByteLemmas
 mod FittingLemmas
 mod NumeralLemmas
 mod ProgressLemmas

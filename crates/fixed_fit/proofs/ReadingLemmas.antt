@@ -1,108 +1,66 @@
--- What more bytes make of what is kept of the bytes before them.
-use Rattle.std.proofs.Common.{◌≡◌, ℕ, ◌+◌, ◌<◌, ◌≤◌, true, eqb, eqb-true, List, [], ◌∷◌, ◌++◌, length, take, drop, get_or, append_assoc, append-nil, length-append, max, Option, None, Some, refl, sym, ap, ◌∙◌, subst, arith}
-use Rattle.std.proofs.KnownBytes.{Consumes-trans}
-use Rattle.std.proofs.lemmas.List.{drop_more, get_or-take, length-take, take-append-drop}
-use Rattle.memchr.specs.Find.{NoneBefore, Nowhere, Passes, is_byte}
-use Rattle.std.specs.Io.KnownBytes.{Consumes, Keeps}
-use Rattle.line_engine.specs.Lines.{ended_lines, lines}
+-- What more bytes make of a list, and what is made at its end.
+use Rattle.std.proofs.Common.{◌≡◌, ℕ, ◌+◌, true, List, [], ◌∷◌, ◌++◌, length, append-nil, max, Option, None, Some, Result, Ok, Err, is_some, refl, sym, ap, ◌∙◌, subst, arith}
+use Rattle.std.specs.Global.{Vec}
+use Rattle.std.specs.declared.convert.Infallible.{Infallible}
+use Rattle.line_engine.proofs.Public.{ended_lines_line, ended_lines_quiet, unended_line, unended_quiet}
+use Rattle.line_engine.specs.AnswerText.{AnswerText}
+use Rattle.line_engine.specs.Lines.{ended_lines, last_line, lines, unended}
+use Rattle.run_engine.proofs.Public.{puts_none}
+use Rattle.run_engine.specs.Machines.{Goes, How, going, finished, lacking}
+use Rattle.run_engine.specs.Seen.{Seen, moment}
 use Rattle.fixed_bits.specs.Ranges.{IsWidth}
 use Rattle.fixed_error.specs.Errors.{HasGreatestErrors}
 use Rattle.fixed_numeral.specs.declared.radix.Radix.{Radix}
 use Rattle.fixed_fit.specs.Inner.Progress.{HasProgress}
 use Rattle.fixed_fit.specs.Inner.Reading.{HasLines, HasRead}
 use Rattle.fixed_fit.specs.Inner.Serving.{AreServed, Asked}
+use Rattle.fixed_fit.specs.Run.{Answers, IsAnswerTo, MakesBy, asked_by}
+use Rattle.fixed_fit.specs.Unfit.{said, why_of}
+use Rattle.fixed_fit.specs.declared.answer.Unfit.{Unfit}
+use Rattle.fixed_fit.specs.declared.question.Question.{Question}
+use Rattle.fixed_fit.specs.declared.question.Widths.{Widths}
+use Rattle.fixed_fit.specs.declared.reader.FitList.{FitList}
 use Rattle.fixed_fit.specs.declared.reader.Reader.{Reader}
-use Rattle.fixed_fit.proofs.ByteLemmas.{AreOther, ended_by_others, ended_by_part, no_last_line, one_last_line, rest_by_others, rest_by_part}
-
--- the first newline of these bytes is at this place
-pub record EndsAt (bytes : List ℕ) (end : ℕ) : Type 0 where
-  pub fits : end < length bytes
-  pub cut : bytes ≡ take end bytes ++ 10 ∷ drop (end + 1) bytes
-  pub other : AreOther (take end bytes)
-
-ten : (b : ℕ) → eqb b 10 ≡ true → b ≡ 10
-ten b is = eqb-true b 10 is
-
-pub ends_at : (bytes : List ℕ) (end : ℕ) → NoneBefore (Passes (is_byte 10) bytes) 0 (length bytes) end → Passes (is_byte 10) bytes end → EndsAt bytes end
-ends_at bytes end first here = record {
-  fits = first.high;
-  cut = sym (take-append-drop end bytes) ∙ ap (λ l. take end bytes ++ l) (drop_more bytes end 0 first.high ∙ ap (λ b. b ∷ drop (end + 1) bytes) (ten (get_or bytes end 0) here));
-  other = λ k below is. first.before k (omega arith) (before k below) (place k below is);
-}
-  where
-    before : (k : ℕ) → k < length (take end bytes) → k < end
-    before k below = omega (arith, length-take end bytes)
-
-    place : (k : ℕ) → k < length (take end bytes) → eqb (get_or (take end bytes) k 0) 10 ≡ true → eqb (get_or bytes k 0) 10 ≡ true
-    place k below is = ap (λ b. eqb b 10) (sym (get_or-take end bytes k 0 (before k below))) ∙ is
-
-pub ends_nowhere : (bytes : List ℕ) → Nowhere (Passes (is_byte 10) bytes) 0 (length bytes) → AreOther bytes
-ends_nowhere bytes none = λ k below is. none k (omega arith) below is
+use Rattle.fixed_fit.proofs.BoundedUniqueLemmas.{bounded_answer_is_the_one}
+use Rattle.fixed_fit.proofs.UniqueLemmas.{answer_is_the_one}
 
 -- a line that ends with a part
-pub line_read : (r : Radix) (a : Asked) (whole part : List ℕ) (old new : Reader) → AreOther part → new.line.items ≡ []
+pub line_read : (r : Radix) (a : Asked) (whole part : List ℕ) (old new : Reader) → ended_lines part ≡ [] → new.line.items ≡ []
     → ((m : Asked) (done : List (List ℕ)) → HasLines r m done old → HasLines r m (done ++ (old.line.items ++ part) ∷ []) new) → HasRead r a whole old → HasRead r a (whole ++ (part ++ 10 ∷ [])) new
-line_read r a whole part old new other clear more h =
+line_read r a whole part old new quiet clear more h =
     let N : List (List ℕ) → Type 0 = λ l. HasLines r a l new in
-    let grown : ended_lines whole ++ (old.line.items ++ part) ∷ [] ≡ ended_lines (whole ++ (part ++ 10 ∷ [])) =
-    ap (λ l. ended_lines whole ++ (l ++ part) ∷ []) h.line ∙ sym (ended_by_part part whole other) in
-    record { line = clear ∙ sym (rest_by_part part whole); lines = subst N grown (more a (ended_lines whole) h.lines) }
-
--- and after the bytes before it
-pub next_read : (r : Radix) (a : Asked) (whole prefix part : List ℕ) (old new : Reader) → AreOther part → new.line.items ≡ []
-    → ((m : Asked) (done : List (List ℕ)) → HasLines r m done old → HasLines r m (done ++ (old.line.items ++ part) ∷ []) new) → HasRead r a (whole ++ prefix) old → HasRead r a (whole ++ (prefix ++ (part ++ 10 ∷ []))) new
-next_read r a whole prefix part old new other clear more h =
-    subst (λ l. HasRead r a l new) (append_assoc whole prefix (part ++ 10 ∷ [])) (line_read r a (whole ++ prefix) part old new other clear more h)
-
-pub next_cut : (bytes prefix rest part more : List ℕ) → bytes ≡ prefix ++ rest → rest ≡ part ++ 10 ∷ more → bytes ≡ (prefix ++ (part ++ 10 ∷ [])) ++ more
-next_cut bytes prefix rest part more split cut =
-    split ∙ (ap (λ l. prefix ++ l) (cut ∙ sym (append_assoc part (10 ∷ []) more)) ∙ sym (append_assoc prefix (part ++ 10 ∷ []) more))
+    let grown : ended_lines whole ++ (old.line.items ++ part) ∷ [] ≡ ended_lines (whole ++ (part ++ 10 ∷ [])) = ap (λ l. ended_lines whole ++ (l ++ part) ∷ []) h.line ∙ sym (ended_lines_line whole part [] quiet) in
+    record { line = clear ∙ sym (unended_line whole part [] quiet); lines = subst N grown (more a (ended_lines whole) h.lines) }
 
 -- bytes after which the line goes on
-pub rest_read : (r : Radix) (a : Asked) (whole bytes prefix rest : List ℕ) (old new : Reader) → bytes ≡ prefix ++ rest → AreOther rest → new.line.items ≡ old.line.items ++ rest
-    → ((m : Asked) (done : List (List ℕ)) → HasLines r m done old → HasLines r m done new) → HasRead r a (whole ++ prefix) old → HasRead r a (whole ++ bytes) new
-rest_read r a whole bytes prefix rest old new split other grown more h =
+pub part_read : (r : Radix) (a : Asked) (whole part : List ℕ) (old new : Reader) → ended_lines part ≡ [] → new.line.items ≡ old.line.items ++ part → (HasLines r a (ended_lines whole) old → HasLines r a (ended_lines whole) new) → HasRead r a whole old
+    → HasRead r a (whole ++ part) new
+part_read r a whole part old new quiet grown same h =
     let N : List (List ℕ) → Type 0 = λ l. HasLines r a l new in
-    let all : (whole ++ prefix) ++ rest ≡ whole ++ bytes = append_assoc whole prefix rest ∙ ap (λ l. whole ++ l) (sym split) in
-    let here : HasRead r a ((whole ++ prefix) ++ rest) new = record {
-      line = grown ∙ (ap (λ l. l ++ rest) h.line ∙ sym (rest_by_others rest (whole ++ prefix) other));
-      lines = subst N (sym (ended_by_others rest (whole ++ prefix) other)) (more a (ended_lines (whole ++ prefix)) h.lines);
-    } in
-    subst (λ l. HasRead r a l new) all here
+    record { line = grown ∙ ap (λ l. l ++ part) h.line ∙ sym (unended_quiet whole part quiet); lines = subst N (sym (ended_lines_quiet whole part quiet)) (same h.lines) }
 
 -- at the end of an input
+some_last : (rest : List ℕ) → (rest ≡ [] → ⊥) → last_line rest ≡ rest ∷ []
+some_last [] some = absurd (some refl)
+some_last (b ∷ bs) some = refl
+
 pub ends_empty : (r : Radix) (n : Asked) (whole : List ℕ) (reader : Reader) → reader.line.items ≡ [] → HasRead r n whole reader → HasLines r n (lines whole) reader
 ends_empty r n whole reader none h =
     let N : List (List ℕ) → Type 0 = λ l. HasLines r n l reader in
-    subst N (sym (no_last_line whole (sym h.line ∙ none))) h.lines
+    let same : lines whole ≡ ended_lines whole = ap (λ u. ended_lines whole ++ last_line u) (sym h.line ∙ none) ∙ append-nil (ended_lines whole) in
+    subst N (sym same) h.lines
 
 pub ends_line : (r : Radix) (a : Asked) (whole : List ℕ) (reader after : Reader) → (reader.line.items ≡ [] → ⊥)
     → ((m : Asked) (done : List (List ℕ)) → HasLines r m done reader → HasLines r m (done ++ (reader.line.items ++ []) ∷ []) after) → HasRead r a whole reader → HasLines r a (lines whole) after
 ends_line r a whole reader after some more h =
     let N : List (List ℕ) → Type 0 = λ l. HasLines r a l after in
-    let grown : ended_lines whole ++ (reader.line.items ++ []) ∷ [] ≡ lines whole = ap (λ l. ended_lines whole ++ l ∷ []) (append-nil reader.line.items ∙ h.line) ∙ sym (one_last_line whole (λ e. some (h.line ∙ e))) in
+    let last : last_line (unended whole) ≡ unended whole ∷ [] = some_last (unended whole) (λ e. some (h.line ∙ e)) in
+    let grown : ended_lines whole ++ (reader.line.items ++ []) ∷ [] ≡ lines whole = ap (λ l. ended_lines whole ++ l ∷ []) (append-nil reader.line.items ∙ h.line) ∙ sym (ap (λ l. ended_lines whole ++ l) last) in
     subst N grown (more a (ended_lines whole) h.lines)
 
 pub nil_of : (xs : List ℕ) → length xs ≡ 0 → xs ≡ []
 nil_of [] e = refl
 nil_of (x ∷ xs) e = absurd (omega (arith, e))
-
--- ---- bytes that were taken
-pub taken_kept : (a b c : Option (List ℕ)) (bytes : List ℕ) → Consumes a b bytes → Keeps b c → Consumes a c bytes
-taken_kept None b c bytes taken kept = tt
-taken_kept (Some xs) None c bytes taken kept = absurd taken
-taken_kept (Some xs) (Some ys) None bytes taken kept = absurd kept
-taken_kept (Some xs) (Some ys) (Some zs) bytes taken kept = taken ∙ ap (λ l. bytes ++ l) (sym kept)
-
-pub taken_none : (a b c : Option (List ℕ)) (bytes buf : List ℕ) (count : ℕ) → Consumes a b bytes → Consumes b c (take count buf) → count ≡ 0 → Consumes a c bytes
-taken_none a b c bytes buf count taken more none =
-    subst (Consumes a c) (append-nil bytes) (Consumes-trans a b c bytes [] taken (subst (λ n. Consumes b c (take n buf)) none more))
-
-pub counted_bytes : (bytes buf : List ℕ) (taken count : ℕ) → taken ≡ length bytes → count ≤ length buf → taken + count ≡ length (bytes ++ take count buf)
-counted_bytes bytes buf taken count is few = omega (arith, is, few, length-append bytes (take count buf), length-take count buf)
-
-pub few_lines : (buf : List ℕ) (count old new taken : ℕ) → count ≤ length buf → new ≤ old + length (take count buf) → old ≤ taken → new ≤ taken + count
-few_lines buf count old new taken few more before = omega (arith, few, more, before, length-take count buf)
 
 -- before the first byte
 pub fresh_reader : (r : Radix) (a : Asked) (reader : Reader) (count : ℕ) → IsWidth a.width → reader.line.items ≡ [] → HasProgress a.width [] reader.progress → reader.progress.radix ≡ r → count ≡ max reader.progress.plain.count reader.progress.signed.count
@@ -118,3 +76,62 @@ fresh_reader r a reader count width none progress radix is errors bounded served
     within = λ yes _. served yes;
   };
 }
+
+-- ---- the machine
+-- it makes nothing of some bytes
+pub silent : (first last : FitList) (bytes made next : List ℕ) (spent : ℕ) (how : How Infallible) (s : Seen) (held : List ℕ) (n m : ℕ) → MakesBy first (bytes ++ next) (made ++ []) (spent + m) how last → Goes (MakesBy first) bytes made spent next how last (moment s held n) (moment s held m)
+silent first last bytes made next spent how s held n m makes = record { more = []; cost = m; makes = makes; puts = puts_none s held; steps = omega arith }
+
+none_more : (made : List ℕ) → made ≡ [] → made ++ [] ≡ []
+none_more made none = append-nil made ∙ none
+
+pub makes_on : (first old new : FitList) (bytes made next : List ℕ) (spent cost : ℕ) → MakesBy first bytes made spent going old → new.question ≡ old.question → new.widths ≡ old.widths → new.bound ≡ old.bound
+    → (HasRead first.question.radix (asked_by first.question first.widths first.bound.items) bytes old.reader → HasRead first.question.radix (asked_by first.question first.widths first.bound.items) (bytes ++ next) new.reader)
+    → MakesBy first (bytes ++ next) (made ++ []) cost going new
+makes_on first old new bytes made next spent cost makes question widths bound more = (question ∙ makes.0, widths ∙ makes.1, bound ∙ makes.2, (none_more made makes.3.0, more makes.3.1))
+
+pub lacks : (first old new : FitList) (bytes made next : List ℕ) (spent cost : ℕ) → MakesBy first bytes made spent going old → new.question ≡ old.question → new.widths ≡ old.widths → new.bound ≡ old.bound → MakesBy first (bytes ++ next) (made ++ []) cost lacking new
+lacks first old new bytes made next spent cost makes question widths bound = (question ∙ makes.0, widths ∙ makes.1, bound ∙ makes.2, none_more made makes.3.0)
+
+-- what is known, by what it asks itself
+pub own : (first last : FitList) (bytes made : List ℕ) (spent : ℕ) → MakesBy first bytes made spent going last → HasRead last.question.radix (asked_by last.question last.widths last.bound.items) bytes last.reader
+own first last bytes made spent makes =
+    let Q : Question → Option Widths → List ℕ → Type 0 = λ q w b. HasRead q.radix (asked_by q w b) bytes last.reader in
+    let bound : last.bound.items ≡ first.bound.items = ap (λ (v : Vec ℕ). v.items) makes.2 in
+    subst (λ q. Q q last.widths last.bound.items) (sym makes.0) (subst (λ w. Q first.question w last.bound.items) (sym makes.1) (subst (λ b. Q first.question first.widths b) (sym bound) makes.3.1))
+
+-- at the end it makes the one answer
+answer_one : (q : Question) (widths : Option Widths) (bound input : List ℕ) (a b : AnswerText) → IsAnswerTo q widths bound input a → IsAnswerTo q widths bound input b → a ≡ b
+answer_one q None bound input a b x y = answer_is_the_one q input a b x y
+answer_one q (Some widths) bound input a b x y = bounded_answer_is_the_one q widths bound input a b x y
+
+faulty : (answer : Result (List ℕ) Unfit) → is_some (why_of answer) ≡ (said answer).fault
+faulty (Ok text) = refl
+faulty (Err unfit) = refl
+
+answers : (q : Question) (widths : Option Widths) (bound input made : List ℕ) (answer : Result (List ℕ) Unfit) (unfit : Option Unfit) → made ≡ [] → IsAnswerTo q widths bound input (said answer) → unfit ≡ why_of answer
+    → Answers q widths bound input (made ++ (said answer).text) (is_some unfit) unfit
+answers q widths bound input made answer unfit none is why = record {
+  answer = answer;
+  is = is;
+  one = λ other h. answer_one q widths bound input other (said answer) h is;
+  text_is = ap (λ l. l ++ (said answer).text) none;
+  fault_is = ap is_some why ∙ faulty answer;
+  unfit_is = why;
+}
+
+pub ends_by : (first old : FitList) (after : Reader) (bytes made : List ℕ) (spent cost : ℕ) (answer : Result (List ℕ) Unfit) (unfit : Option Unfit) → MakesBy first bytes made spent going old
+    → ((r : Radix) (a : Asked) (whole : List ℕ) → HasRead r a whole old.reader → HasLines r a (lines whole) after)
+    → ((input : List ℕ) → HasLines old.question.radix (asked_by old.question old.widths old.bound.items) (lines input) after → IsAnswerTo old.question old.widths old.bound.items input (said answer)) → unfit ≡ why_of answer
+    → MakesBy first (bytes ++ []) (made ++ (said answer).text) cost (finished (is_some unfit)) (record { question = old.question; widths = old.widths; bound = old.bound; reader = after; unfit = unfit })
+ends_by first old after bytes made spent cost answer unfit makes ended is why =
+    let lines_are = ended old.question.radix (asked_by old.question old.widths old.bound.items) bytes (own first old bytes made spent makes) in
+    let here = answers old.question old.widths old.bound.items bytes made answer unfit makes.3.0 (is bytes lines_are) why in
+    let A : Question → Option Widths → List ℕ → List ℕ → Type 0 = λ q w b input. Answers q w b input (made ++ (said answer).text) (is_some unfit) unfit in
+    let bound : old.bound.items ≡ first.bound.items = ap (λ (v : Vec ℕ). v.items) makes.2 in (
+      makes.0,
+      makes.1,
+      makes.2,
+      subst (λ input. A first.question first.widths first.bound.items input) (sym (append-nil bytes))
+          (subst (λ b. A first.question first.widths b bytes) bound (subst (λ w. A first.question w old.bound.items bytes) makes.1 (subst (λ q. A q old.widths old.bound.items bytes) makes.0 here))),
+    )

@@ -1,18 +1,12 @@
--- What is written about a list, and what a run leaves.
-use Rattle.std.specs.Prelude.{◌≡◌, ◌⊎◌, ◌+◌, ◌^◌, ◌<◌, ◌≤◌, ℕ, Bool}
-use Rattle.std.specs.Prelude.{true, false, List, [], ◌∷◌, ◌++◌, length, codes, decimal}
-use Rattle.std.specs.declared.option.Option.{Option}
-use Rattle.std.specs.Io.KnownBytes.{Appends, Consumes, IsAtEnd}
+-- What is written about a list.
+use Rattle.std.specs.Prelude.{◌≡◌, ◌⊎◌, ◌+◌, ◌<◌, ◌≤◌, ℕ, Bool}
+use Rattle.std.specs.Prelude.{true, false, List, [], ◌∷◌, ◌++◌, codes, decimal}
 use Rattle.fixed_bits.specs.Formats.{FormatParts}
 use Rattle.fixed_least.specs.Holding.{AllNumerals}
 use Rattle.fixed_least.specs.Least.{IsFaultAnswer}
 use Rattle.fixed_respell.specs.Words.{format_text}
 use Rattle.line_engine.specs.AnswerText.{AnswerText}
-use Rattle.line_engine.specs.Appended.{AppendsPrefix}
 use Rattle.line_engine.specs.Lines.{lines}
-use Rattle.line_engine.specs.declared.status.Status.{Status}
-use Rattle.line_engine.specs.declared.status.Status.TheVariants.{Done, Faults, Usage}
-use Rattle.line_engine.specs.declared.status.Status.TheVariants.{ReadFault, WriteFault, NoMemory, TooLong}
 use Rattle.fixed_fit.specs.ErrorWord.{IsErrorWord}
 use Rattle.fixed_fit.specs.Fitting.{IsFinest, IsFirstExceeding, IsSignRule}
 use Rattle.fixed_fit.specs.declared.question.Question.{Question}
@@ -65,45 +59,3 @@ pub record IsNoneAnswer (q : Question) (list : List (List ℕ)) (answer : Answer
 abbrev pub IsAnswer : Question → List ℕ → AnswerText → Type 0
 IsAnswer q input answer = IsFaultAnswer q.radix input answer
     ⊎ (IsFoundAnswer q (lines input) answer ⊎ IsNoneAnswer q (lines input) answer)
-
--- an input was read to its end and its answer written whole
-pub record AnswersInput (A : List ℕ → AnswerText → Type 0)
-    (left left' written written' : Option (List ℕ)) (fault : Bool) : Type 0 where
-  pub input : List ℕ
-  pub taken : Consumes left left' input
-  pub at_end : IsAtEnd left'
-  pub answer : AnswerText
-  pub is_answer : A input answer
-  pub output : Appends written written' answer.text
-  pub faulty : answer.fault ≡ fault
-
--- an input was read to its end and a prefix of its answer written
-pub record AnswersInPart (A : List ℕ → AnswerText → Type 0)
-    (left left' written written' : Option (List ℕ)) : Type 0 where
-  pub input : List ℕ
-  pub taken : Consumes left left' input
-  pub at_end : IsAtEnd left'
-  pub answer : AnswerText
-  pub is_answer : A input answer
-  pub output : AppendsPrefix written written' answer.text
-
--- at least this many bytes were taken
-pub record TakesBytes (least : ℕ) (left left' : Option (List ℕ)) : Type 0 where
-  pub bytes : List ℕ
-  pub taken : Consumes left left' bytes
-  pub some : least ≤ length bytes
-
--- from how many bytes on an input is too long: no machine can hand over so many
-abbrev pub most_bytes : ℕ
-most_bytes = 2 ^ 62
-
--- what a run that ended so has taken and written
-abbrev pub HasFitRun : (List ℕ → AnswerText → Type 0) → Option (List ℕ) → Option (List ℕ) → Option (List ℕ)
-    → Option (List ℕ) → Status → Type 0
-HasFitRun A left left' written written' Done = AnswersInput A left left' written written' false
-HasFitRun A left left' written written' Faults = AnswersInput A left left' written written' true
-HasFitRun A left left' written written' Usage = ⊥
-HasFitRun A left left' written written' ReadFault = TakesBytes 0 left left' × (written' ≡ written)
-HasFitRun A left left' written written' WriteFault = AnswersInPart A left left' written written'
-HasFitRun A left left' written written' NoMemory = TakesBytes 0 left left' × (written' ≡ written)
-HasFitRun A left left' written written' TooLong = TakesBytes most_bytes left left' × (written' ≡ written)

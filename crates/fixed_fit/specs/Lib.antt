@@ -4,5 +4,8 @@ pub mod Answer
 pub mod Range
 pub mod Within
 pub mod Bounded
+pub mod Unfit
+pub mod Run
 pub mod Laws
 pub mod Inner
+pub mod Lemmas

@@ -1,14 +1,17 @@
 //! What is written about a list.
 
-ghost use Rattle.std.specs.Prelude.{◌≡◌, ◌<◌, ◌≤◌, ◌+◌, ◌++◌, ◌∷◌, [], List, ℕ, length, true, false, codes, decimal};
+ghost use Rattle.std.specs.Prelude.{◌≡◌, ◌<◌, ◌≤◌, ◌+◌, ◌++◌, ◌∷◌, [], List};
+ghost use Rattle.std.specs.Prelude.{ℕ, OnErr, OnOk, length, true, false, codes, decimal};
 ghost use Rattle.fixed_least.specs.Least.{fault_line};
 ghost use Rattle.line_engine.specs.Lines.{lines};
+ghost use Rattle.run_engine.specs.Seen.{Breaks, Puts};
 ghost use Rattle.fixed_error.specs.Errors.{HasGreatestErrors};
 ghost use Rattle.fixed_show.specs.Blocks.{Appends};
 ghost use Rattle.fixed_fit.specs.Answer.{IsAnswer, format_of, name_of};
-ghost use Rattle.fixed_fit.specs.Bounded.{from_line, none_line};
+ghost use Rattle.fixed_fit.specs.Bounded.{from_line};
 ghost use Rattle.fixed_fit.specs.ErrorWord.{IsErrorWord, entries_from};
 ghost use Rattle.fixed_fit.specs.Fitting.{AllFit};
+ghost use Rattle.fixed_fit.specs.Unfit.{named, said, unfit_text, why_of};
 ghost use Rattle.fixed_fit.specs.Inner.Lengths.{AreLengths, IsLengthsAnswer, IsSomeAnswer, reason_of};
 ghost use Rattle.fixed_fit.specs.Inner.Reading.{HasLines};
 ghost use Rattle.fixed_fit.specs.Inner.Serving.{lesser_of, unbounded};
@@ -21,46 +24,36 @@ use crate::reader::Reader;
 use fixed_bits::Format;
 use fixed_error::GreatestErrors;
 use fixed_least::LeastFault;
+use fixed_numeral::ParseFixedError;
 use fixed_respell::format_name;
 use fixed_steps::Steps;
 use itoa::Buffer;
-use std::marker::Model;
+use line_engine::Failed;
+use run_engine::{Gathered, Streams};
 use std::sync::ledger::Ledger;
 use text_buffer::TextBuffer;
 
 /// How many bytes an answer has at most.
-const MOST: usize = 1536;
+pub const MOST: usize = 1536;
 
-/// The answer to an input, and whether it names a fault.
-#[derive(Drop)]
-pub struct FitAnswer {
-    text: TextBuffer<MOST>,
-    is_fault: bool,
+/// Why no format is named.
+#[derive(Clone, Copy, Debug, PartialEq, Eq)]
+pub enum Unfit {
+    /// The line at this place, from 1, is not a numeral, for this reason.
+    NotNumeral {
+        /// Which line.
+        place: u64,
+        /// Why.
+        error: ParseFixedError,
+    },
+    /// No format of the width fits the lines up to the one at this place.
+    NoneFits(u64),
+    /// No format fits within the error from the line at this place on; 0 where none does whatever the lines.
+    NoneServes(u64),
 }
 
-impl Model for FitAnswer {
-    ghost use Rattle.line_engine.specs.AnswerText.{AnswerText};
-
-    ghost Value = { AnswerText };
-
-    ghost view = { λ a. record { text = a.text; fault = a.is_fault } };
-}
-
-impl FitAnswer {
-    /// The bytes.
-    pub fn as_bytes(&self) -> &[u8]
-        ensures { result.now ≡ self.now.text }
-    {
-        self.text.as_bytes()
-    }
-
-    /// Whether they name a fault.
-    pub fn is_fault(&self) -> bool
-        ensures { result ≡ self.now.fault }
-    {
-        self.is_fault
-    }
-}
+/// The text that names a format, or why there is none.
+pub type Answer = Result<TextBuffer<MOST>, Unfit>;
 
 /// Appends the name of a format by its kind and its fraction length.
 fn push_name(out: &mut TextBuffer<MOST>, kind: Format, frac: u32)
@@ -119,56 +112,64 @@ fn push_reason(out: &mut TextBuffer<MOST>, kind: Format, frac: u32, place: u64, 
     }
 }
 
-/// The answer where a line is not a numeral.
-pub fn fault_answer(fault: LeastFault) -> FitAnswer
-    ensures text { result.text ≡ fault_line fault }
-    ensures fault { result.fault ≡ true }
+/// What is written where no format is named.
+pub fn unfit_text(unfit: Unfit) -> TextBuffer<MOST>
+    ensures { result ≡ unfit_text unfit }
+{
+    let mut text: TextBuffer<MOST> = TextBuffer::new();
+    match unfit {
+        Unfit::NotNumeral { place, error } => {
+            text.push_bytes(b"error: line ");
+            push_number(&mut text, place);
+            text.push_bytes(b": ");
+            text.push_bytes(error.message().as_bytes());
+            text.push(b'\n');
+        }
+        Unfit::NoneFits(place) => {
+            text.push_bytes(b"none line ");
+            push_place(&mut text, place);
+        }
+        Unfit::NoneServes(place) => {
+            text.push_bytes(b"none");
+            push_from(&mut text, place);
+            text.push(b'\n');
+        }
+    }
+    text
+}
+
+/// Why an answer names no format.
+pub fn why(answer: &Answer) -> Option<Unfit>
+    ensures { result ≡ why_of answer.now }
+{
+    match answer {
+        Ok(_) => None,
+        Err(unfit) => Some(*unfit),
+    }
+}
+
+/// Puts an answer.
+pub fn put_answer<I: Streams>(answer: &Answer, out: &mut Gathered<I>) -> Result<(), Failed>
+    ensures ok { OnOk result (Puts (I.seen out.old.io) (I.seen out.new.io) out.old.text out.new.text
+        (said answer.now).text) }
+    ensures err { OnErr result (Breaks (I.seen out.old.io) (I.seen out.new.io) out.old.text (said answer.now).text) }
+{
+    match answer {
+        Ok(text) => out.put(text.as_bytes()),
+        Err(unfit) => out.put(unfit_text(*unfit).as_bytes()),
+    }
+}
+
+/// Why no format is named where a line is not a numeral.
+pub fn no_numeral(fault: LeastFault) -> Unfit
+    ensures { unfit_text result ≡ fault_line fault }
 {
     let LeastFault::NotNumeral { place, error } = fault;
-    let mut digits = Buffer::new();
-    let mut text: TextBuffer<MOST> = TextBuffer::new();
-    text.push_bytes(b"error: line ");
-    text.push_bytes(digits.format(place).as_bytes());
-    text.push_bytes(b": ");
-    text.push_bytes(error.message().as_bytes());
-    text.push(b'\n');
-    FitAnswer {
-        text,
-        is_fault: true,
-    }
-}
-
-/// The answer where no fraction length is left.
-pub fn none_answer(place: u64) -> FitAnswer
-    ensures text { result.text ≡ codes "none line " ++ (decimal place ++ 10 ∷ []) }
-    ensures fault { result.fault ≡ true }
-{
-    let mut text: TextBuffer<MOST> = TextBuffer::new();
-    text.push_bytes(b"none line ");
-    push_place(&mut text, place);
-    FitAnswer {
-        text,
-        is_fault: true,
-    }
-}
-
-/// The answer where no format serves from a line on, or, where the place is 0, without a line.
-pub fn unserved_answer(place: u64) -> FitAnswer
-    ensures text { result.text ≡ none_line place }
-    ensures fault { result.fault ≡ true }
-{
-    let mut text: TextBuffer<MOST> = TextBuffer::new();
-    text.push_bytes(b"none");
-    push_from(&mut text, place);
-    text.push(b'\n');
-    FitAnswer {
-        text,
-        is_fault: true,
-    }
+    Unfit::NotNumeral { place, error }
 }
 
 /// Appends from which line on no format of the width next below serves, where one is tried and it is asked for.
-fn push_lesser(out: &mut TextBuffer<MOST>, below: u32, place: u64, is_asked: bool)
+pub fn push_lesser(out: &mut TextBuffer<MOST>, below: u32, place: u64, is_asked: bool)
     requires room { length out.old + 53 ≤ 1536 }
     ensures { out.new ≡ out.old ++ lesser_of is_asked below place }
 {
@@ -178,15 +179,6 @@ fn push_lesser(out: &mut TextBuffer<MOST>, below: u32, place: u64, is_asked: boo
         push_from(out, place);
         out.push(b'\n');
     }
-}
-
-/// Adds to an answer why no lesser width serves.
-pub fn add_lesser(answer: &mut FitAnswer, below: u32, place: u64, is_asked: bool)
-    requires room { length answer.old.text + 53 ≤ 1536 }
-    ensures text { answer.new.text ≡ answer.old.text ++ lesser_of is_asked below place }
-    ensures fault { answer.new.fault ≡ answer.old.fault }
-{
-    push_lesser(&mut answer.text, below, place, is_asked);
 }
 
 /// Appends the greatest error of a list in the format of a kind and a fraction length.
@@ -229,7 +221,7 @@ pub fn found_answer<L: Ledger>(
     place: u64,
     question: &Question,
     steps: &mut Steps<L>,
-) -> FitAnswer
+) -> TextBuffer<MOST>
     requires within { frac ≤ kind.width }
     requires kept { frac < length errors.now.errors.items }
     requires known { (count : ℕ) × (list : List (List ℕ))
@@ -237,8 +229,8 @@ pub fn found_answer<L: Ledger>(
         × AllFit question.now.radix kind.signed kind.width frac list }
     ensures some { (count : ℕ) (list : List (List ℕ))
         → HasGreatestErrors question.now.radix count (entries_from 1 list) errors.now
-        → IsSomeAnswer question.now list kind frac place result }
-    ensures short { length result.text ≤ 1447 }
+        → IsSomeAnswer question.now list kind frac place (named result) }
+    ensures short { length result ≤ 1447 }
 {
     let mut text: TextBuffer<MOST> = TextBuffer::new();
     push_name(&mut text, kind, frac);
@@ -246,10 +238,7 @@ pub fn found_answer<L: Ledger>(
     push_error(&mut text, errors, kind, frac, question, steps);
     text.push(b'\n');
     push_reason(&mut text, kind, frac, place, question.is_reason_asked);
-    FitAnswer {
-        text,
-        is_fault: false,
-    }
+    text
 }
 
 /// The answer by the fraction lengths that are left.
@@ -258,33 +247,33 @@ fn lengths_answer<L: Ledger>(
     errors: &GreatestErrors,
     question: &Question,
     steps: &mut Steps<L>,
-) -> FitAnswer
+) -> Answer
     requires known { (count : ℕ) × (list : List (List ℕ))
         × HasGreatestErrors question.now.radix count (entries_from 1 list) errors.now
         × AreLengths question.now.radix list lengths.now × lengths.now.count ≤ count }
     ensures { (count : ℕ) (list : List (List ℕ))
         → HasGreatestErrors question.now.radix count (entries_from 1 list) errors.now
-        → IsLengthsAnswer question.now list lengths.now result }
+        → IsLengthsAnswer question.now list lengths.now (said result) }
 {
     let all = *lengths;
     let count = all.count;
     if count == 0 {
-        return none_answer(all.place);
+        return Err(Unfit::NoneFits(all.place));
     }
-    found_answer(errors, all.kind, count - 1, all.place, question, steps)
+    Ok(found_answer(errors, all.kind, count - 1, all.place, question, steps))
 }
 
 /// The answer to an input, by what is known of its lines.
-pub fn answer_of<L: Ledger>(reader: &Reader, question: &Question, steps: &mut Steps<L>) -> FitAnswer
+pub fn answer_of<L: Ledger>(reader: &Reader, question: &Question, steps: &mut Steps<L>) -> Answer
     requires { (list : List (List ℕ))
         × HasLines question.now.radix (unbounded question.now.kind.width) list reader.now }
     ensures { (input : List ℕ)
         → HasLines question.now.radix (unbounded question.now.kind.width) (lines input) reader.now
-        → IsAnswer question.now input result }
+        → IsAnswer question.now input (said result) }
 {
     let known = reader.progress;
     match known.fault {
-        Some(fault) => fault_answer(fault),
+        Some(fault) => Err(no_numeral(fault)),
         None => {
             if is_either(question.kind.signed(), known.is_below) {
                 lengths_answer(&known.signed, &reader.errors, question, steps)

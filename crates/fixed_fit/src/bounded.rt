@@ -7,9 +7,10 @@ ghost use Rattle.fixed_fit.specs.Bounded.{IsBoundedAnswer, none_line};
 ghost use Rattle.fixed_fit.specs.ErrorWord.{entries_from};
 ghost use Rattle.fixed_fit.specs.Inner.Reading.{HasLines};
 ghost use Rattle.fixed_fit.specs.Inner.Serving.{AreAllLeft, IsBelow, IsServingAnswer, bounded, most_left};
+ghost use Rattle.fixed_fit.specs.Unfit.{said};
 ghost use Rattle.fixed_fit.specs.Within.{IsTried, most_width};
 
-use crate::answer::{FitAnswer, add_lesser, fault_answer, found_answer, unserved_answer};
+use crate::answer::{Answer, Unfit, found_answer, no_numeral, push_lesser};
 use crate::progress::is_either;
 use crate::question::{Question, Widths};
 use crate::reader::Reader;
@@ -38,21 +39,21 @@ fn serving_answer<L: Ledger>(
     question: &Question,
     widths: Widths,
     steps: &mut Steps<L>,
-) -> FitAnswer
+) -> Answer
     requires tried { serving.now.is_served ≡ true → IsTried widths question.now.kind.width serving.now.width }
     requires served { serving.now.is_served ≡ true → serving.now.low < most_left serving.now.lengths.items }
     requires known { serving.now.is_served ≡ true → (count : ℕ) × (list : List (List ℕ)) × (s : Bool)
         × HasGreatestErrors question.now.radix count (entries_from 1 list) errors.now
         × AreAllLeft question.now.radix s list serving.now.lengths.items
         × most_left serving.now.lengths.items ≤ count }
-    ensures none_text { serving.now.is_served ≡ false → result.text ≡ none_line serving.now.place }
-    ensures none_fault { serving.now.is_served ≡ false → result.fault ≡ true }
+    ensures none_text { serving.now.is_served ≡ false → (said result).text ≡ none_line serving.now.place }
+    ensures none_fault { serving.now.is_served ≡ false → (said result).fault ≡ true }
     ensures some { serving.now.is_served ≡ true → (count : ℕ) (list : List (List ℕ))
         → HasGreatestErrors question.now.radix count (entries_from 1 list) errors.now
-        → IsServingAnswer question.now widths list serving.now result }
+        → IsServingAnswer question.now widths list serving.now (said result) }
 {
     if !serving.is_served {
-        return unserved_answer(serving.place);
+        return Err(Unfit::NoneServes(serving.place));
     }
     let best = serving.best();
     let mut found = found_answer(
@@ -64,8 +65,8 @@ fn serving_answer<L: Ledger>(
         steps,
     );
     let below = width_below(widths, question.kind.width(), serving.width);
-    add_lesser(&mut found, below, serving.raised, question.is_reason_asked);
-    found
+    push_lesser(&mut found, below, serving.raised, question.is_reason_asked);
+    Ok(found)
 }
 
 /// The answer to an input, by what is known of its lines and of the formats that they fit within a bound.
@@ -74,18 +75,18 @@ pub fn bounded_answer<L: Ledger>(
     question: &Question,
     widths: Widths,
     steps: &mut Steps<L>,
-) -> FitAnswer
+) -> Answer
     requires { (bound : List ℕ) × (list : List (List ℕ))
         × HasLines question.now.radix (bounded question.now.is_range (most_width widths question.now.kind.width) bound
         widths question.now.kind.width) list reader.now }
     ensures { (bound : List ℕ) (input : List ℕ)
         → HasLines question.now.radix (bounded question.now.is_range (most_width widths question.now.kind.width) bound
         widths question.now.kind.width) (lines input) reader.now
-        → IsBoundedAnswer question.now widths bound input result }
+        → IsBoundedAnswer question.now widths bound input (said result) }
 {
     let known = reader.progress;
     match known.fault {
-        Some(fault) => fault_answer(fault),
+        Some(fault) => Err(no_numeral(fault)),
         None => {
             if is_either(question.kind.signed(), known.is_below) {
                 serving_answer(

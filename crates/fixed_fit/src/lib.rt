@@ -15,5 +15,6 @@ pub mod run;
 mod serving;
 mod short;
 
+pub use answer::Unfit;
 pub use question::{Question, Widths};
-pub use run::{run_bounded, run_fit};
+pub use run::{FitEnd, run_fit};

@@ -1,19 +1,24 @@
-//! The bytes of an input, one after another: the line whose end has not come, and what is kept of those before it.
+//! The machine of a list: it keeps what is known of the lines so far, and puts the answer at the end of the input.
 
-ghost use Rattle.std.specs.Prelude.{◌≡◌, ◌≤◌, ◌<◌, ◌+◌, ◌^◌, ◌++◌, ◌∷◌, []};
-ghost use Rattle.std.specs.Prelude.{List, ℕ, Bool, true, OnOk, OnErr, IfOk, IfErr, IfSome, length, take};
-ghost use Rattle.std.specs.Io.KnownBytes.{Consumes, IsAtEnd, Keeps};
-ghost use Rattle.line_engine.specs.Failures.{FailsOnlyCounted};
+ghost use Rattle.std.specs.Prelude.{◌≡◌, ◌<◌, ◌++◌, ◌∷◌, [], List, ℕ, Bool, true, OnOk, IfOk, IfSome, MatchOption};
+ghost use Rattle.std.specs.Prelude.{get_or, length, take};
+ghost use Rattle.line_engine.specs.Lines.{lines};
+ghost use Rattle.run_engine.specs.Machines.{Feeds, Finishes, IsGoing, going};
+ghost use Rattle.run_engine.specs.Pieces.{HasNone, is_newline};
+ghost use Rattle.run_engine.specs.Seen.{moment};
 ghost use Rattle.fixed_bits.specs.Ranges.{IsWidth};
 ghost use Rattle.fixed_numeral.specs.Numeral.{IsNumeral};
 ghost use Rattle.fixed_error.specs.Short.{IsShortRead};
-ghost use Rattle.line_engine.specs.Lines.{lines};
 ghost use Rattle.fixed_fit.specs.Inner.Lengths.{IsFlatRead};
 ghost use Rattle.fixed_fit.specs.Inner.Serving.{AreServed, Asked, asked_of, bounded, unbounded};
+ghost use Rattle.fixed_fit.specs.Run.{IsAnswerTo, asked_by};
+ghost use Rattle.fixed_fit.specs.Unfit.{said};
 ghost use Rattle.fixed_fit.specs.Within.{most_width};
 ghost use Rattle.fixed_fit.specs.declared.question.Widths.{Widths};
-ghost use Rattle.fixed_fit.specs.Inner.Reading.{AreKept, HasLines, HasRead, HasSomeRead, ReadsAll, StopsReading};
+ghost use Rattle.fixed_fit.specs.Inner.Reading.{AreKept, HasLines, HasRead, HasSomeRead};
 
+use crate::answer::{Answer, Unfit, answer_of, put_answer, why};
+use crate::bounded::bounded_answer;
 use crate::progress::Progress;
 use crate::question::{Question, Widths};
 use crate::serving::{Within, most_width};
@@ -21,16 +26,14 @@ use crate::short::{FlatDecimal, flat_decimal};
 use fixed_error::{GreatestErrors, read_short};
 use fixed_numeral::{Radix, ShortNumeral};
 use fixed_steps::Steps;
-use line_engine::{Failed, NoMemory, Source, Status};
-use memchr::memchr;
+use line_engine::NoMemory;
+use run_engine::{Gathered, Halt, Pieces, Streams, find_newline};
 use std::alloc::{AllocError, Global};
+use std::convert::Infallible;
 use std::sync::ledger::Ledger;
 
-/// How many bytes are read at a time at most.
-const CHUNK: usize = 4096;
-
-/// From how many bytes on an input is too long.
-const MOST_BYTES: u64 = 4_611_686_018_427_387_904;
+/// How many lines are counted: an input of fewer than 2^62 bytes has fewer.
+const MOST_LINES: u64 = 4_611_686_018_427_387_904;
 
 /// What is kept of the bytes so far.
 #[derive(Drop)]
@@ -65,14 +68,15 @@ fn add_line<L: Ledger>(
     line: &[u8],
     steps: &mut Steps<L>,
 ) -> Result<(), NoMemory>
-    requires room { progress.old.lines < 2 ^ 63 }
-    requires known { (r : Radix) × (a : Asked) × (done : List (List ℕ))
+    requires { (r : Radix) × (a : Asked) × (done : List (List ℕ))
         × AreKept r a done progress.old errors.old within.old }
-    ensures ended { OnOk result ((r : Radix) (a : Asked) (done : List (List ℕ))
+    ensures { OnOk result ((r : Radix) (a : Asked) (done : List (List ℕ))
         → AreKept r a done progress.old errors.old within.old
         → AreKept r a (done ++ line.now ∷ []) progress.new errors.new within.new) }
-    ensures lines { OnOk result (progress.new.lines ≡ progress.old.lines + 1) }
 {
+    if progress.lines >= MOST_LINES {
+        return Err(NoMemory);
+    }
     let short = read_short(line, progress.radix, steps);
     let flat = flat_of(short);
     progress.push(line, flat, steps);
@@ -102,12 +106,10 @@ fn extend(line: &mut Vec<u8>, part: &[u8]) -> Result<(), NoMemory>
 impl Reader {
     /// Ends the line with this part, and begins a new one. A line that is whole in the part is not copied.
     fn end_line<L: Ledger>(&mut self, part: &[u8], steps: &mut Steps<L>) -> Result<(), NoMemory>
-        requires room { self.old.progress.lines < 2 ^ 63 }
-        requires known { HasSomeRead self.old }
+        requires { HasSomeRead self.old }
         ensures line { OnOk result (self.new.line.items ≡ []) }
         ensures ended { OnOk result ((r : Radix) (a : Asked) (done : List (List ℕ)) → HasLines r a done self.old
             → HasLines r a (done ++ (self.old.line.items ++ part.now) ∷ []) self.new) }
-        ensures lines { OnOk result (self.new.progress.lines ≡ self.old.progress.lines + 1) }
     {
         if !self.line.is_empty() {
             return self.end_long_line(part, steps);
@@ -131,12 +133,10 @@ impl Reader {
         part: &[u8],
         steps: &mut Steps<L>,
     ) -> Result<(), NoMemory>
-        requires room { self.old.progress.lines < 2 ^ 63 }
-        requires known { HasSomeRead self.old }
+        requires { HasSomeRead self.old }
         ensures line { OnOk result (self.new.line.items ≡ []) }
         ensures ended { OnOk result ((r : Radix) (a : Asked) (done : List (List ℕ)) → HasLines r a done self.old
             → HasLines r a (done ++ (self.old.line.items ++ part.now) ∷ []) self.new) }
-        ensures lines { OnOk result (self.new.progress.lines ≡ self.old.progress.lines + 1) }
     {
         extend(&mut self.line, part)?;
         match add_line(
@@ -154,29 +154,9 @@ impl Reader {
         }
     }
 
-    /// Takes the next bytes.
-    fn push_all<L: Ledger>(&mut self, bytes: &[u8], steps: &mut Steps<L>) -> Result<(), NoMemory>
-        requires room { self.old.progress.lines + length bytes.now < 2 ^ 63 }
-        requires known { HasSomeRead self.old }
-        ensures read { OnOk result ((r : Radix) (a : Asked) (whole : List ℕ) → HasRead r a whole self.old
-            → HasRead r a (whole ++ bytes.now) self.new) }
-        ensures lines { OnOk result (self.new.progress.lines ≤ self.old.progress.lines + length bytes.now) }
-    {
-        let mut rest = bytes;
-        while let Some(end) = memchr(b'\n', rest) {
-            self.end_line(&rest[..end], steps)?;
-            rest = &rest[end + 1..];
-        }
-        match extend(&mut self.line, rest) {
-            Ok(()) => Ok(()),
-            Err(error) => Err(error),
-        }
-    }
-
-    /// Takes the end of an input.
+    /// Ends the last line, unless the input ended with a newline.
     fn finish<L: Ledger>(&mut self, steps: &mut Steps<L>) -> Result<(), NoMemory>
-        requires room { self.old.progress.lines < 2 ^ 63 }
-        requires known { HasSomeRead self.old }
+        requires { HasSomeRead self.old }
         ensures { OnOk result ((r : Radix) (a : Asked) (whole : List ℕ) → HasRead r a whole self.old
             → HasLines r a (lines whole) self.new) }
     {
@@ -190,25 +170,12 @@ impl Reader {
     }
 }
 
-/// Reads the next bytes into the start of a chunk.
-fn read_chunk<S: Source>(source: &mut S, chunk: &mut [u8]) -> Result<usize, Failed>
-    requires { 0 < length chunk.old }
-    ensures bound { IfOk result (λ count. count ≤ length chunk.old) }
-    ensures bytes { IfOk result (λ count. Consumes (S.left source.old) (S.left source.new) (take count chunk.new)) }
-    ensures end { IfOk result (λ count. count ≡ 0 → IsAtEnd (S.left source.new)) }
-    ensures err { OnErr result (Keeps (S.left source.old) (S.left source.new)) }
-    ensures failures { FailsOnlyCounted (S.failures source.old) (S.failures source.new) result }
-{
-    source.read(chunk)
-}
-
 /// No byte so far, of a list whose formats within a bound are kept so.
 fn new_reader(alloc: Global, radix: Radix, width: u32, within: Within) -> Result<Reader, AllocError>
     requires { IsWidth width }
-    ensures read { IfOk result (λ reader. (is range : Bool) (bound : List ℕ) (widths : Widths) (one : ℕ)
+    ensures { IfOk result (λ reader. (is range : Bool) (bound : List ℕ) (widths : Widths) (one : ℕ)
         → within.is_bounded ≡ is → (is ≡ true → AreServed radix (asked_of width is range bound widths one) [] within)
         → HasRead radix (asked_of width is range bound widths one) [] reader) }
-    ensures lines { IfOk result (λ reader. reader.progress.lines ≡ 0) }
 {
     let progress = Progress::new(radix, width);
     let errors = GreatestErrors::new(alloc, radix, progress.count())?;
@@ -223,8 +190,7 @@ fn new_reader(alloc: Global, radix: Radix, width: u32, within: Within) -> Result
 /// No byte so far, where no bound is asked for.
 fn plain_reader(alloc: Global, radix: Radix, width: u32) -> Result<Reader, AllocError>
     requires { IsWidth width }
-    ensures read { IfOk result (HasRead radix (unbounded width) []) }
-    ensures lines { IfOk result (λ reader. reader.progress.lines ≡ 0) }
+    ensures { IfOk result (HasRead radix (unbounded width) []) }
 {
     match new_reader(alloc, radix, width, Within::none(alloc)) {
         Ok(reader) => Ok(reader),
@@ -241,9 +207,8 @@ fn bounded_reader<L: Ledger>(
     steps: &mut Steps<L>,
 ) -> Result<Reader, AllocError>
     requires bound { IsNumeral question.now.radix bound.now }
-    ensures read { IfOk result (HasRead question.now.radix (bounded question.now.is_range
+    ensures { IfOk result (HasRead question.now.radix (bounded question.now.is_range
         (most_width widths question.now.kind.width) bound.now widths question.now.kind.width) []) }
-    ensures lines { IfOk result (λ reader. reader.progress.lines ≡ 0) }
 {
     let one = question.kind.width();
     let within = Within::new(alloc, question, bound, widths, steps)?;
@@ -253,97 +218,146 @@ fn bounded_reader<L: Ledger>(
     }
 }
 
-/// Reads an input to its end.
-///
-/// # Errors
-///
-/// The status says whether a read failed, there was no memory, or there were 2^62 bytes or more.
-fn read_all<S: Source, L: Ledger>(
-    reader: &mut Reader,
-    source: &mut S,
-    steps: &mut Steps<L>,
-) -> Result<(), Status>
-    requires known { HasSomeRead reader.old }
-    requires none { reader.old.progress.lines ≡ 0 }
-    ensures ok { OnOk result ((r : Radix) (a : Asked) → HasRead r a [] reader.old → ReadsAll r a (S.left source.old)
-        (S.left source.new) (S.failures source.old) (S.failures source.new) reader.new) }
-    ensures err { IfErr result (StopsReading (S.left source.old) (S.left source.new) (S.failures source.old)
-        (S.failures source.new)) }
-{
-    let mut chunk = [0u8; CHUNK];
-    let mut taken = 0u64;
-    while taken < MOST_BYTES {
-        match read_chunk(source, &mut chunk) {
-            Err(_) => return Err(Status::ReadFault),
-            Ok(0) => {
-                return match reader.finish(steps) {
-                    Ok(()) => Ok(()),
-                    Err(_) => Err(Status::NoMemory),
-                };
-            }
-            Ok(count) => match reader.push_all(&chunk[..count], steps) {
-                Err(_) => return Err(Status::NoMemory),
-                Ok(()) => taken += count as u64,
-            },
-        }
-    }
-    Err(Status::TooLong)
-}
-
-/// Reads an input to its end, and tells what is known of its lines.
-///
-/// # Errors
-///
-/// The status says whether a read failed, there was no memory, or there were 2^62 bytes or more.
-pub fn read_lines<S: Source, L: Ledger>(
-    alloc: Global,
-    radix: Radix,
-    width: u32,
-    source: &mut S,
-    steps: &mut Steps<L>,
-) -> Result<Reader, Status>
-    requires { IsWidth width }
-    ensures ok { IfOk result (ReadsAll radix (unbounded width) (S.left source.old) (S.left source.new)
-        (S.failures source.old) (S.failures source.new)) }
-    ensures err { IfErr result (StopsReading (S.left source.old) (S.left source.new) (S.failures source.old)
-        (S.failures source.new)) }
-{
-    let mut reader = match plain_reader(alloc, radix, width) {
-        Ok(reader) => reader,
-        Err(_) => return Err(Status::NoMemory),
-    };
-    match read_all(&mut reader, source, steps) {
-        Ok(()) => Ok(reader),
-        Err(status) => Err(status),
-    }
-}
-
-/// Reads an input to its end, and tells what is known of its lines and of the formats that they fit within a bound.
-///
-/// # Errors
-///
-/// The status says whether a read failed, there was no memory, or there were 2^62 bytes or more.
-pub fn read_bounded<S: Source, L: Ledger>(
+/// No byte so far, of a list of which this is asked.
+fn asked_reader<L: Ledger>(
     alloc: Global,
     question: &Question,
+    widths: Option<Widths>,
     bound: &[u8],
-    widths: Widths,
-    source: &mut S,
     steps: &mut Steps<L>,
-) -> Result<Reader, Status>
-    requires { IsNumeral question.now.radix bound.now }
-    ensures ok { IfOk result (ReadsAll question.now.radix (bounded question.now.is_range
-        (most_width widths question.now.kind.width) bound.now widths question.now.kind.width) (S.left source.old)
-        (S.left source.new) (S.failures source.old) (S.failures source.new)) }
-    ensures err { IfErr result (StopsReading (S.left source.old) (S.left source.new) (S.failures source.old)
-        (S.failures source.new)) }
+) -> Result<Reader, AllocError>
+    requires { IfSome widths (λ w. IsNumeral question.now.radix bound.now) }
+    ensures { IfOk result (HasRead question.now.radix (asked_by question.now widths bound.now) []) }
 {
-    let mut reader = match bounded_reader(alloc, question, bound, widths, steps) {
-        Ok(reader) => reader,
-        Err(_) => return Err(Status::NoMemory),
-    };
-    match read_all(&mut reader, source, steps) {
-        Ok(()) => Ok(reader),
-        Err(status) => Err(status),
+    match widths {
+        None => plain_reader(alloc, question.radix, question.kind.width()),
+        Some(some) => bounded_reader(alloc, question, bound, some, steps),
     }
+}
+
+/// A list that is read, and the format that is asked of it.
+#[derive(Drop)]
+pub struct FitList {
+    /// What is asked.
+    pub question: Question,
+    /// Of which widths the format is, where one within an error is asked for.
+    pub widths: Option<Widths>,
+    /// That error: the magnitude of a numeral.
+    pub bound: Vec<u8>,
+    /// What is kept of the bytes so far.
+    pub reader: Reader,
+    /// Why no format is named, once the list has ended.
+    pub unfit: Option<Unfit>,
+}
+
+impl FitList {
+    /// No byte so far.
+    pub fn new<L: Ledger>(
+        alloc: Global,
+        question: &Question,
+        widths: Option<Widths>,
+        bound: &[u8],
+        steps: &mut Steps<L>,
+    ) -> Result<FitList, AllocError>
+        requires { IfSome widths (λ w. IsNumeral question.now.radix bound.now) }
+        ensures question { IfOk result (λ list. list.question ≡ question.now) }
+        ensures widths { IfOk result (λ list. list.widths ≡ widths) }
+        ensures bound { IfOk result (λ list. list.bound.items ≡ bound.now) }
+        ensures read { IfOk result (λ list. HasRead question.now.radix (asked_by question.now widths bound.now) []
+            list.reader) }
+    {
+        let mut text = Vec::new(alloc);
+        text.extend_from_slice(bound)?;
+        let reader = asked_reader(alloc, question, widths, bound, steps)?;
+        Ok(FitList {
+            question: *question,
+            widths,
+            bound: text,
+            reader,
+            unfit: None,
+        })
+    }
+
+    /// The answer, by what is known of the lines.
+    fn answer<L: Ledger>(&self, steps: &mut Steps<L>) -> Answer
+        requires { (list : List (List ℕ)) × HasLines self.now.question.radix
+            (asked_by self.now.question self.now.widths self.now.bound.items) list self.now.reader }
+        ensures { (input : List ℕ) → HasLines self.now.question.radix
+            (asked_by self.now.question self.now.widths self.now.bound.items) (lines input) self.now.reader
+            → IsAnswerTo self.now.question self.now.widths self.now.bound.items input (said result) }
+    {
+        match self.widths {
+            None => answer_of(&self.reader, &self.question, steps),
+            Some(widths) => bounded_answer(&self.reader, &self.question, widths, steps),
+        }
+    }
+}
+
+impl<L: Ledger> Pieces<L> for FitList {
+    ghost use Rattle.run_engine.specs.Pieces.{is_newline};
+    ghost use Rattle.fixed_fit.specs.Run.{MakesBy};
+    ghost use Rattle.fixed_fit.specs.Lemmas.MadeLaws.{made_one};
+
+    type Stop = Infallible;
+
+    ghost Makes = { MakesBy };
+
+    ghost ends = { is_newline };
+
+    #[inline(always)]
+    fn find(bytes: &[u8]) -> Option<usize>
+        ensures { MatchOption result (HasNone is_newline bytes.now)
+            (λ end. (end < length bytes.now) × HasNone is_newline (take end bytes.now)
+            × (is_newline (get_or bytes.now end 0) ≡ true)) }
+    {
+        find_newline(bytes)
+    }
+
+    #[inline(always)]
+    fn end_piece<I: Streams>(
+        &mut self,
+        part: &[u8],
+        _byte: u8,
+        _out: &mut Gathered<I>,
+        steps: &mut Steps<L>,
+    ) -> Result<(), Halt<Infallible>> {
+        match self.reader.end_line(part, steps) {
+            Err(_) => Err(Halt::NoMemory),
+            Ok(()) => Ok(()),
+        }
+    }
+
+    fn keep<I: Streams>(
+        &mut self,
+        part: &[u8],
+        _out: &mut Gathered<I>,
+        _steps: &mut Steps<L>,
+    ) -> Result<(), Halt<Infallible>> {
+        match extend(&mut self.reader.line, part) {
+            Err(_) => Err(Halt::NoMemory),
+            Ok(()) => Ok(()),
+        }
+    }
+
+    fn finish<I: Streams>(
+        &mut self,
+        out: &mut Gathered<I>,
+        steps: &mut Steps<L>,
+    ) -> Result<bool, Halt<Infallible>> {
+        match self.reader.finish(steps) {
+            Err(_) => Err(Halt::NoMemory),
+            Ok(()) => {
+                let answer = self.answer(steps);
+                self.unfit = why(&answer);
+                match put_answer(&answer, out) {
+                    Err(_) => Err(Halt::WriteFault),
+                    Ok(()) => Ok(self.unfit.is_some()),
+                }
+            }
+        }
+    }
+
+    ghost one_law = { made_one };
+
+    ghost stop_law = { λ first last bytes more text spent why stopped. stopped };
 }

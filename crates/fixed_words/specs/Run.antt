@@ -1,7 +1,7 @@
 -- What is made of words, and what a run over the words of an input leaves.
 use Rattle.std.specs.Prelude.{◌≡◌, ◌≤◌, ◌-◌, ◌^◌, ◌++◌, ℕ, Bool, true, List, length}
 use Rattle.std.specs.declared.convert.Infallible.{Infallible}
-use Rattle.line_engine.specs.Program.{Outside, outside}
+use Rattle.line_engine.specs.Program.{Outside}
 use Rattle.line_engine.specs.declared.status.Status.{Status}
 use Rattle.run_engine.specs.LineStatus.{IsStatus}
 use Rattle.run_engine.specs.Machines.{How, going, finished, lacking, stopped}
@@ -10,6 +10,7 @@ use Rattle.run_engine.specs.Seen.{Moment}
 use Rattle.run_engine.specs.declared.engine.End.{End}
 use Rattle.run_engine.specs.declared.pieces.Cut.{Cut}
 use Rattle.fixed_respell.specs.LineWords.{longest_line}
+use Rattle.fixed_command.specs.Runs.{outside_at}
 use Rattle.fixed_words.specs.Words.{AreEnded, Ended, HasNoSeparator, IsWorded, any_refused, bytes_of, written_of}
 use Rattle.fixed_words.specs.declared.rule.WordRule.{WordRule}
 use Rattle.fixed_words.specs.declared.splitter.WordBytes.{WordBytes}
@@ -48,10 +49,6 @@ MakesWords s bytes text (stopped late why) u = ⊥
 
 abbrev pub MakesBy : WordBytes → List ℕ → List ℕ → ℕ → How Infallible → WordBytes → Type 0
 MakesBy first bytes text spent how last = (last.rule ≡ first.rule) × MakesWords first.rule.now bytes text how last.words
-
--- what is seen of a run at one moment, without what is gathered
-abbrev pub outside_at : Moment → Outside
-outside_at m = outside m.seen.left m.seen.asked m.seen.read_failures m.seen.written m.seen.write_failures m.steps
 
 -- what a run that ended so has taken, made and written
 pub record HasWordsRun (s : WordRule) (before after : Outside) (status : Status) : Type 0 where

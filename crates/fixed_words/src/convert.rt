@@ -3,19 +3,17 @@
 ghost use Rattle.std.specs.Prelude.{◌≡◌};
 ghost use Rattle.line_engine.specs.Program.{outside};
 ghost use Rattle.line_engine.specs.declared.status.Status.{Status};
-ghost use Rattle.run_engine.specs.LineStatus.{IsStatus};
 ghost use Rattle.fixed_words.specs.Run.{HasWordsRun};
 
 use crate::rule::WordRule;
 use crate::splitter::{WordBytes, WordRefusal, Words};
 use column_engine::RecordBuffer;
-use fixed_command::{Tally, error_report};
+use fixed_command::{Tally, error_report, status_of};
 use fixed_report::ErrorReport;
 use fixed_steps::Steps;
 use line_engine::{Sink, Source, Status};
-use run_engine::{Cut, Devices, End, Gathered, run};
+use run_engine::{Cut, Devices, Gathered, run};
 use std::alloc::Global;
-use std::convert::Infallible;
 use std::sync::ledger::Ledger;
 
 /// The most bytes of an input.
@@ -57,21 +55,6 @@ fn errors_of(alloc: Global, rule: &WordRule<'_>, has_report: bool) -> Option<Err
         Some(error_report(alloc, rule.rule.settings()))
     } else {
         None
-    }
-}
-
-/// The status of a run that ended so.
-fn status_of(end: End<Infallible>) -> Status
-    ensures { IsStatus end result }
-{
-    match end {
-        End::Done => Status::Done,
-        End::Faults => Status::Faults,
-        End::ReadFault => Status::ReadFault,
-        End::WriteFault => Status::WriteFault,
-        End::TooLong => Status::TooLong,
-        End::NoMemory => Status::NoMemory,
-        End::Stopped(never) => match never {},
     }
 }
 

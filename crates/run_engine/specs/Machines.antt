@@ -15,6 +15,11 @@ pub data How (T : Type 0) : Type 0 where
 -- The meaning of a machine is a relation `Makes bytes text spent how last`: of these bytes it has made this text in at
 -- most `spent` steps, it stands so with its input, and it is now `last`.
 
+-- it goes on, after some bytes
+abbrev pub IsGoing : {M T : Type 0} → (M → List ℕ → List ℕ → ℕ → How T → M → Type 0) → M → Type 0
+IsGoing {M = M} Makes m = (first : M) × (bytes : List ℕ) × (made : List ℕ) × (spent : ℕ)
+    × Makes first bytes made spent going m
+
 -- a machine that had made this text of these bytes made more of the next bytes, and put it
 pub record Goes {M T : Type 0} (Makes : List ℕ → List ℕ → ℕ → How T → M → Type 0)
     (bytes made : List ℕ) (spent : ℕ) (next : List ℕ) (how : How T) (last : M) (a b : Moment) : Type 0 where

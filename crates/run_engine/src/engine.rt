@@ -2,7 +2,7 @@
 
 ghost use Rattle.std.specs.Prelude.{◌≡◌, ◌≤◌, ◌<◌, ◌+◌, ◌^◌, [], true, ℕ, List, IfOk, length};
 ghost use Rattle.line_engine.specs.Asked.{longest_chunk};
-ghost use Rattle.run_engine.specs.Machines.{going};
+ghost use Rattle.run_engine.specs.Machines.{IsGoing, going};
 ghost use Rattle.run_engine.specs.Run.{HasRun};
 ghost use Rattle.run_engine.specs.Inner.Progress.{EndsBy, EndsFed, ReadsSome, Settles};
 ghost use Rattle.run_engine.specs.Seen.{moment};
@@ -81,7 +81,8 @@ fn feed_chunk<M: Machine<L>, I: Streams, L: Ledger>(
     out: &mut Gathered<I>,
     steps: &mut Steps<L>,
 ) -> Result<(), End<M::Stop>>
-    requires { out.old.text ≡ [] }
+    requires text { out.old.text ≡ [] }
+    requires known { IsGoing M.Makes machine.old }
     ensures { (first : M) (bytes made : List ℕ) (spent : ℕ) → M.Makes first bytes made spent going machine.old
         → EndsFed (M.Makes first) bytes made spent chunk.now machine.new
         (moment (I.seen out.old.io) out.old.text steps.old) (moment (I.seen out.new.io) out.new.text steps.new)
@@ -102,7 +103,8 @@ fn end_input<M: Machine<L>, I: Streams, L: Ledger>(
     out: &mut Gathered<I>,
     steps: &mut Steps<L>,
 ) -> End<M::Stop>
-    requires { out.old.text ≡ [] }
+    requires text { out.old.text ≡ [] }
+    requires known { IsGoing M.Makes machine.old }
     ensures { (first : M) (bytes made : List ℕ) (spent : ℕ) → M.Makes first bytes made spent going machine.old
         → EndsBy (M.Makes first) true bytes made spent [] machine.new
         (moment (I.seen out.old.io) out.old.text steps.old) (moment (I.seen out.new.io) out.new.text steps.new)

@@ -1,7 +1,7 @@
 //! What is fed with an input, piece by piece.
 
 ghost use Rattle.std.specs.Prelude.{◌≡◌, ℕ, List};
-ghost use Rattle.run_engine.specs.Machines.{Agree, Feeds, Finishes, How, going};
+ghost use Rattle.run_engine.specs.Machines.{Agree, Feeds, Finishes, How, IsGoing, going};
 ghost use Rattle.run_engine.specs.Seen.{moment};
 
 use crate::gathered::Gathered;
@@ -36,6 +36,7 @@ pub trait Machine<L: Ledger> {
         out: &mut Gathered<I>,
         steps: &mut Steps<L>,
     ) -> Result<(), Halt<Self::Stop>>
+        requires known { IsGoing Makes self.old }
         ensures { (first : Self) (bytes made : List ℕ) (spent : ℕ) → Makes first bytes made spent going self.old
             → Feeds (Makes first) bytes made spent chunk.now self.new
             (moment (I.seen out.old.io) out.old.text steps.old) (moment (I.seen out.new.io) out.new.text steps.new)
@@ -47,6 +48,7 @@ pub trait Machine<L: Ledger> {
         out: &mut Gathered<I>,
         steps: &mut Steps<L>,
     ) -> Result<bool, Halt<Self::Stop>>
+        requires known { IsGoing Makes self.old }
         ensures { (first : Self) (bytes made : List ℕ) (spent : ℕ) → Makes first bytes made spent going self.old
             → Finishes (Makes first) bytes made spent self.new
             (moment (I.seen out.old.io) out.old.text steps.old) (moment (I.seen out.new.io) out.new.text steps.new)

@@ -2,7 +2,7 @@
 
 ghost use Rattle.std.specs.Prelude.{◌≡◌, ◌<◌, ◌++◌, ◌∷◌, [], Bool, List, MatchOption, ℕ, get_or, length, take, false};
 ghost use Rattle.std.specs.Prelude.{true};
-ghost use Rattle.run_engine.specs.Machines.{Agree, Feeds, Finishes, How, going, stopped};
+ghost use Rattle.run_engine.specs.Machines.{Agree, Feeds, Finishes, How, IsGoing, going, stopped};
 ghost use Rattle.run_engine.specs.Pieces.{HasNone, is_newline};
 ghost use Rattle.run_engine.specs.Seen.{moment};
 
@@ -40,6 +40,7 @@ pub trait Pieces<L: Ledger> {
     ) -> Result<(), Halt<Self::Stop>>
         requires part { HasNone ends part.now }
         requires byte { ends byte ≡ true }
+        requires known { IsGoing Makes self.old }
         ensures { (first : Self) (bytes made : List ℕ) (spent : ℕ) → Makes first bytes made spent going self.old
             → Feeds (Makes first) bytes made spent (part.now ++ byte ∷ []) self.new
             (moment (I.seen out.old.io) out.old.text steps.old) (moment (I.seen out.new.io) out.new.text steps.new)
@@ -52,7 +53,8 @@ pub trait Pieces<L: Ledger> {
         out: &mut Gathered<I>,
         steps: &mut Steps<L>,
     ) -> Result<(), Halt<Self::Stop>>
-        requires { HasNone ends part.now }
+        requires part { HasNone ends part.now }
+        requires known { IsGoing Makes self.old }
         ensures { (first : Self) (bytes made : List ℕ) (spent : ℕ) → Makes first bytes made spent going self.old
             → Feeds (Makes first) bytes made spent part.now self.new
             (moment (I.seen out.old.io) out.old.text steps.old) (moment (I.seen out.new.io) out.new.text steps.new)
@@ -64,6 +66,7 @@ pub trait Pieces<L: Ledger> {
         out: &mut Gathered<I>,
         steps: &mut Steps<L>,
     ) -> Result<bool, Halt<Self::Stop>>
+        requires known { IsGoing Makes self.old }
         ensures { (first : Self) (bytes made : List ℕ) (spent : ℕ) → Makes first bytes made spent going self.old
             → Finishes (Makes first) bytes made spent self.new
             (moment (I.seen out.old.io) out.old.text steps.old) (moment (I.seen out.new.io) out.new.text steps.new)

@@ -1,16 +1,10 @@
 -- What is known while an input is read.
-use Rattle.std.specs.Prelude.{◌≡◌, ℕ, List, max, true, Option, None}
-use Rattle.std.specs.Io.KnownBytes.{Consumes, IsAtEnd}
+use Rattle.std.specs.Prelude.{◌≡◌, ℕ, List, max, true, None}
 use Rattle.fixed_bits.specs.Ranges.{IsWidth}
 use Rattle.fixed_error.specs.Errors.{HasGreatestErrors}
 use Rattle.fixed_error.specs.declared.errors.GreatestErrors.{GreatestErrors}
 use Rattle.fixed_numeral.specs.declared.radix.Radix.{Radix}
-use Rattle.line_engine.specs.Failures.{HasFailed}
-use Rattle.line_engine.specs.Lines.{ended_lines, lines, unended}
-use Rattle.line_engine.specs.declared.status.Status.{Status}
-use Rattle.line_engine.specs.declared.status.Status.TheVariants.{Done, Faults, Usage}
-use Rattle.line_engine.specs.declared.status.Status.TheVariants.{ReadFault, WriteFault, NoMemory, TooLong}
-use Rattle.fixed_fit.specs.Answer.{TakesBytes, most_bytes}
+use Rattle.line_engine.specs.Lines.{ended_lines, unended}
 use Rattle.fixed_fit.specs.ErrorWord.{entries_from}
 use Rattle.fixed_fit.specs.Inner.Progress.{HasProgress}
 use Rattle.fixed_fit.specs.Inner.Serving.{AreServed, Asked}
@@ -40,22 +34,3 @@ pub record HasRead (r : Radix) (a : Asked) (whole : List ℕ) (reader : Reader) 
 -- this is kept of some bytes
 abbrev pub HasSomeRead : Reader → Type 0
 HasSomeRead reader = (r : Radix) × (a : Asked) × (whole : List ℕ) × HasRead r a whole reader
-
--- an input was read to its end, and this is known of its lines
-pub record ReadsAll (r : Radix) (a : Asked) (left left' : Option (List ℕ)) (failures failures' : ℕ)
-    (reader : Reader) : Type 0 where
-  pub input : List ℕ
-  pub taken : Consumes left left' input
-  pub at_end : IsAtEnd left'
-  pub known : HasLines r a (lines input) reader
-  pub same : failures' ≡ failures
-
--- reading stopped before the end
-abbrev pub StopsReading : Option (List ℕ) → Option (List ℕ) → ℕ → ℕ → Status → Type 0
-StopsReading left left' failures failures' Done = ⊥
-StopsReading left left' failures failures' Faults = ⊥
-StopsReading left left' failures failures' Usage = ⊥
-StopsReading left left' failures failures' ReadFault = TakesBytes 0 left left' × HasFailed failures failures'
-StopsReading left left' failures failures' WriteFault = ⊥
-StopsReading left left' failures failures' NoMemory = TakesBytes 0 left left' × (failures' ≡ failures)
-StopsReading left left' failures failures' TooLong = TakesBytes most_bytes left left' × (failures' ≡ failures)

@@ -1,5 +1,6 @@
 use Rattle.std.proofs.Common.{◌≡◌, ◌-◌, ℕ, arith, subst}
 use Rattle.fixed_fit.specs.Inner.Lengths.{IsSomeAnswer}
+use Rattle.fixed_fit.specs.Unfit.{named}
 use Rattle.fixed_fit.proofs.answer.lengths_answer.Goals as goal
 
 pub found_answer-requires : goal.found_answer-requires
@@ -20,5 +21,5 @@ returns g c = λ count list h.
       none_fault = λ e. absurd (c.if-count-eq0.false e);
       some = λ f e.
           let same : all.count - 1 ≡ f = omega (arith, e) in
-          subst (λ (k : ℕ). IsSomeAnswer c.args.question.now list all.kind k all.place c.found_answer.result) same (c.found_answer.ensures.some count list h);
+          subst (λ (k : ℕ). IsSomeAnswer c.args.question.now list all.kind k all.place (named c.found_answer.result)) same (c.found_answer.ensures.some count list h);
     }

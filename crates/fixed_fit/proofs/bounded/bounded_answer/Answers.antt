@@ -1,7 +1,8 @@
-use Rattle.std.proofs.Common.{arith, inl, inr, refl}
+use Rattle.std.proofs.Common.{Err, arith, inl, inr, refl}
 use Rattle.std.proofs.lemmas.Grind.{common_steps}
 use Rattle.line_engine.specs.Lines.{lines}
 use Rattle.fixed_fit.specs.Bounded.{at_width}
+use Rattle.fixed_fit.specs.Unfit.{said}
 use Rattle.fixed_fit.specs.Within.{most_width}
 use Rattle.fixed_fit.proofs.AnswerLemmas.{fault_is_answer}
 use Rattle.fixed_fit.proofs.BoundedLemmas.{plain_bounded, plain_served, signed_bounded, signed_served}
@@ -32,14 +33,14 @@ serving_answer-requires-else-is_either g c =
 pub returns-in-Some : goal.returns-in-Some
 returns-in-Some g c = λ bound input h.
     let q = c.args.question.now in
-    inl (fault_is_answer (at_width q (most_width c.args.widths q.kind.width)) input c.args.reader.now.progress c.in-Some.fault c.fault_answer.result h.progress h.radix c.in-Some.is (grind (arith, common_steps, c.fault_answer.ensures.text, c.in-Some.is)) c.fault_answer.ensures.fault)
+    inl (fault_is_answer (at_width q (most_width c.args.widths q.kind.width)) input c.args.reader.now.progress c.in-Some.fault (said (Err c.no_numeral.result)) h.progress h.radix c.in-Some.is (grind (arith, common_steps, c.no_numeral.ensures, c.in-Some.is)) refl)
 
 pub returns-then-is_either : goal.returns-then-is_either
 returns-then-is_either g c = λ bound input h.
-    let said = c.serving_answer.ensures in
-    inr (signed_bounded c.args.question.now c.args.widths bound (lines input) c.args.reader.now c.serving_answer.result h c.in-None.is (grind (arith, common_steps, c.signed.ensures, c.is_either.ensures, c.if-is_either.true)) said.none_text said.none_fault (λ at. said.some at _ (lines input) (h.errors c.in-None.is)))
+    let its = c.serving_answer.ensures in
+    inr (signed_bounded c.args.question.now c.args.widths bound (lines input) c.args.reader.now (said c.serving_answer.result) h c.in-None.is (grind (arith, common_steps, c.signed.ensures, c.is_either.ensures, c.if-is_either.true)) its.none_text its.none_fault (λ at. its.some at _ (lines input) (h.errors c.in-None.is)))
 
 pub returns-else-is_either : goal.returns-else-is_either
 returns-else-is_either g c = λ bound input h.
-    let said = c.serving_answer-else-is_either.ensures in
-    inr (plain_bounded c.args.question.now c.args.widths bound (lines input) c.args.reader.now c.serving_answer-else-is_either.result h c.in-None.is (grind (arith, common_steps, c.signed.ensures, c.is_either.ensures, c.if-is_either.false)) said.none_text said.none_fault (λ at. said.some at _ (lines input) (h.errors c.in-None.is)))
+    let its = c.serving_answer-else-is_either.ensures in
+    inr (plain_bounded c.args.question.now c.args.widths bound (lines input) c.args.reader.now (said c.serving_answer-else-is_either.result) h c.in-None.is (grind (arith, common_steps, c.signed.ensures, c.is_either.ensures, c.if-is_either.false)) its.none_text its.none_fault (λ at. its.some at _ (lines input) (h.errors c.in-None.is)))

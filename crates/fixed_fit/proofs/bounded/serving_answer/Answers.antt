@@ -1,5 +1,6 @@
-use Rattle.std.proofs.Common.{◌≡◌, ◌∙◌, ◌-◌, ℕ, true, false, sym, subst, arith}
+use Rattle.std.proofs.Common.{◌≡◌, ◌∙◌, ◌-◌, ℕ, true, false, refl, sym, subst, arith}
 use Rattle.fixed_fit.specs.Inner.Serving.{IsBelow}
+use Rattle.fixed_fit.specs.Unfit.{named}
 use Rattle.fixed_fit.specs.Within.{IsTried}
 use Rattle.fixed_fit.proofs.ServingLemmas.{in_most, left_in}
 use Rattle.fixed_fit.proofs.bounded.serving_answer.Goals as goal
@@ -32,12 +33,12 @@ returns g c =
         is_best = c.best-best.ensures;
         frac = best.count - 1;
         last = omega (arith, longer);
-        before = c.found_answer-found.result;
+        before = named c.found_answer-found.result;
         some = c.found_answer-found.ensures.some count list h;
         below = c.width_below-below.result;
         is_below = subst (λ (n : ℕ). IsBelow c.args.widths n c.args.serving.now.width c.width_below-below.result) c.width.ensures.width c.width_below-below.ensures;
-        text = c.add_lesser.ensures.text;
-        fault = c.add_lesser.ensures.fault;
+        text = c.push_lesser.ensures;
+        fault = refl;
       };
     }
 

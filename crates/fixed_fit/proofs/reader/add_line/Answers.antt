@@ -16,10 +16,10 @@ pub add_read-requires : goal.add_read-requires
 add_read-requires g c =
     let old = c.args.progress.now in
     let new = c.push.new.self in
-    let r = c.requires.known.0 in
-    let n = c.requires.known.1 in
-    let done = c.requires.known.2 in
-    let h = c.requires.known.3 in
+    let r = c.requires.0 in
+    let n = c.requires.1 in
+    let done = c.requires.2 in
+    let h = c.requires.3 in
     let line : List ℕ = c.args.line.now in
     let none : new.fault ≡ None = is_none new.fault (grind (arith, common_steps, c.is_some.ensures, c.if-is_some.false)) in
     let errors = some_errors r n done c.count.result old c.args.errors.now c.shorten.new.self c.args.within.now h (c.push.ensures.sound none) c.shorten.ensures in
@@ -35,14 +35,14 @@ add_read-requires g c =
       short = subst (λ (x : Radix). IfSome c.read_short-short.result (IsShortRead x line)) (h.radix ∙ sym errors.radix) c.read_short-short.ensures;
     }
 
-pub returns-then-is_some-clause-ended : goal.returns-then-is_some-clause-ended
-returns-then-is_some-clause-ended g c = λ r n done h.
+pub returns-then-is_some : goal.returns-then-is_some
+returns-then-is_some g c = λ r n done h.
     let old = c.args.progress.now in
     let some : c.push.new.self.fault ≡ None → ⊥ = grind (arith, common_steps, c.is_some.ensures, c.if-is_some.true) in
     ended r n done c.args.line.now old c.push.new.self c.args.errors.now c.args.errors.now c.args.within.now c.args.within.now c.push.ensures.one_more c.push.ensures.radix (λ none. absurd (some none)) refl (λ is none. absurd (some none)) h
 
-pub returns-in-Ok-clause-ended : goal.returns-in-Ok-clause-ended
-returns-in-Ok-clause-ended g c = λ r n done h.
+pub returns-in-Ok : goal.returns-in-Ok
+returns-in-Ok g c = λ r n done h.
     let old = c.args.progress.now in
     let new = c.push.new.self in
     let line : List ℕ = c.args.line.now in
@@ -63,10 +63,10 @@ returns-in-Ok-clause-ended g c = λ r n done h.
 pub add-requires-clause-numeral : goal.add-requires-clause-numeral
 add-requires-clause-numeral g c =
     let new = c.push.new.self in
-    let r = c.requires.known.0 in
-    let n = c.requires.known.1 in
-    let done = c.requires.known.2 in
-    let h = c.requires.known.3 in
+    let r = c.requires.0 in
+    let n = c.requires.1 in
+    let done = c.requires.2 in
+    let h = c.requires.3 in
     let none : new.fault ≡ None = is_none new.fault (grind (arith, common_steps, c.is_some.ensures, c.if-is_some.false)) in
     let radix : new.radix ≡ r = c.push.ensures.radix ∙ h.radix in
     subst (λ (x : Radix). IsNumeral x c.args.line.now) (sym radix) (line_numeral r n.width done c.args.line.now new (c.push.ensures.one_more n.width done h.progress) radix none)
@@ -74,10 +74,10 @@ add-requires-clause-numeral g c =
 pub add-requires-clause-plain : goal.add-requires-clause-plain
 add-requires-clause-plain g c = λ is.
     let new = c.push.new.self in
-    let r = c.requires.known.0 in
-    let n = c.requires.known.1 in
-    let done = c.requires.known.2 in
-    let h = c.requires.known.3 in
+    let r = c.requires.0 in
+    let n = c.requires.1 in
+    let done = c.requires.2 in
+    let h = c.requires.3 in
     let none : new.fault ≡ None = is_none new.fault (grind (arith, common_steps, c.is_some.ensures, c.if-is_some.false)) in
     let served = some_served r n done c.args.progress.now c.args.errors.now c.args.within.now is (c.push.ensures.sound none) h in
     (n.is_range, false, n.widths, n.one, done, subst (λ (x : Radix). HasServing n.is_range x false n.widths n.one done c.args.within.now.plain) (sym (c.push.ensures.radix ∙ h.radix)) served.plain)
@@ -85,10 +85,10 @@ add-requires-clause-plain g c = λ is.
 pub add-requires-clause-signed : goal.add-requires-clause-signed
 add-requires-clause-signed g c = λ is.
     let new = c.push.new.self in
-    let r = c.requires.known.0 in
-    let n = c.requires.known.1 in
-    let done = c.requires.known.2 in
-    let h = c.requires.known.3 in
+    let r = c.requires.0 in
+    let n = c.requires.1 in
+    let done = c.requires.2 in
+    let h = c.requires.3 in
     let none : new.fault ≡ None = is_none new.fault (grind (arith, common_steps, c.is_some.ensures, c.if-is_some.false)) in
     let served = some_served r n done c.args.progress.now c.args.errors.now c.args.within.now is (c.push.ensures.sound none) h in
     (n.is_range, true, n.widths, n.one, done, subst (λ (x : Radix). HasServing n.is_range x true n.widths n.one done c.args.within.now.signed) (sym (c.push.ensures.radix ∙ h.radix)) served.signed)

@@ -4,11 +4,11 @@ use Rattle.fixed_fit.specs.Inner.Serving.{bounded}
 use Rattle.fixed_fit.specs.Within.{most_width}
 use Rattle.fixed_fit.proofs.reader.bounded_reader.Goals as goal
 
-pub returns-in-Ok-clause-read : goal.returns-in-Ok-clause-read
-returns-in-Ok-clause-read g c =
+pub returns-in-Ok : goal.returns-in-Ok
+returns-in-Ok g c =
     let q = c.args.question.now in
     let widths = c.args.widths in
     let bound = c.args.bound.now in
     let most = c.most_width.ensures.most ∙ ap (λ (n : ℕ). most_width widths n) c.width-one.ensures.width in
     subst (λ (n : ℕ). HasRead q.radix (bounded q.is_range n bound widths q.kind.width) [] c.in-Ok.reader) most
-    (c.in-Ok.ensures.read true q.is_range bound widths q.kind.width c.in_ok-within.ensures.is_bounded (λ _. c.in_ok-within.ensures.served c.most_width.result))
+    (c.in-Ok.ensures true q.is_range bound widths q.kind.width c.in_ok-within.ensures.is_bounded (λ _. c.in_ok-within.ensures.served c.most_width.result))

@@ -2,7 +2,7 @@ use Rattle.fixed_fit.specs.Inner.Serving.{asked_of}
 use Rattle.fixed_fit.proofs.ReadingLemmas.{fresh_reader}
 use Rattle.fixed_fit.proofs.reader.new_reader.Goals as goal
 
-pub returns-clause-read : goal.returns-clause-read
-returns-clause-read c = λ is range bound widths one same served.
+pub returns : goal.returns
+returns c = λ is range bound widths one same served.
     fresh_reader c.args.radix (asked_of c.args.width is range bound widths one) (record { line = c.new-2.result; progress = c.new-progress.result; errors = c.in_ok-errors.errors; within = c.args.within }) c.count.result
     c.requires c.new-2.ensures.items c.new-progress.ensures.none c.new-progress.ensures.radix c.count.ensures c.in_ok-errors.ensures same served

@@ -72,3 +72,9 @@ loop-taken-preserved g c =
       asked = asked_on limit (c.loop-taken.taken + c.in-Ok.count) a.seen.asked d.asked e.asked fed.0.puts.source.asked
           (so_far_more limit c.loop-taken.taken c.next_room-room.result a.seen.asked b.asked d.asked (Ok c.in-Ok.count) c.next_room-room.ensures.chunk c.next_room-room.ensures.within c.loop-taken.invariant.asked reads.asked);
     }
+
+pub end_input-requires-clause-known : goal.end_input-requires-clause-known
+end_input-requires-clause-known g c = let come = c.loop-taken.invariant.come in (c.args.machine.now, take c.args.limit come.bytes, come.text, come.spent, come.makes)
+
+pub feed_chunk-requires-clause-known : goal.feed_chunk-requires-clause-known
+feed_chunk-requires-clause-known g c = let come = c.loop-taken.invariant.come in (c.args.machine.now, take c.args.limit come.bytes, come.text, come.spent, come.makes)

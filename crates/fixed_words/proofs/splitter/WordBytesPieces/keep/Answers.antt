@@ -11,7 +11,7 @@ returns g c = λ first bytes made spent makes.
       cost = 0;
       makes = (
         makes.0,
-        subst (λ l. GoesOn first.rule.now l (made ++ []) self.words) (sym (ap (λ l. bytes ++ l) (none_left c.args._part.now c.requires) ∙ append-nil bytes))
+        subst (λ l. GoesOn first.rule.now l (made ++ []) self.words) (sym (ap (λ l. bytes ++ l) (none_left c.args._part.now c.requires.part) ∙ append-nil bytes))
             (subst (λ l. GoesOn first.rule.now bytes l self.words) (sym (append-nil made)) makes.1),
       );
       puts = puts_none (g.I.Streams.seen c.args._out.now.io) c.args._out.now.text;

@@ -1,0 +1,2 @@
+-- Lemmas that impls cite.
+pub mod MadeLaws

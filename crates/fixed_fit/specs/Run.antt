@@ -1,0 +1,77 @@
+-- What is made of a list, and what a run over it leaves.
+use Rattle.std.specs.Prelude.{◌≡◌, ◌-◌, ◌^◌, ℕ, Bool, List, [], Option, Some, None, Result}
+use Rattle.std.specs.declared.convert.Infallible.{Infallible}
+use Rattle.line_engine.specs.AnswerText.{AnswerText}
+use Rattle.line_engine.specs.declared.status.Status.{Status}
+use Rattle.run_engine.specs.LineStatus.{IsStatus}
+use Rattle.run_engine.specs.Machines.{How, going, finished, lacking, stopped}
+use Rattle.run_engine.specs.Run.{HasRun}
+use Rattle.run_engine.specs.Seen.{Seen, moment}
+use Rattle.run_engine.specs.declared.engine.End.{End}
+use Rattle.run_engine.specs.declared.pieces.Cut.{Cut}
+use Rattle.fixed_fit.specs.Answer.{IsAnswer}
+use Rattle.fixed_fit.specs.Bounded.{IsBoundedAnswer}
+use Rattle.fixed_fit.specs.Inner.Reading.{HasRead}
+use Rattle.fixed_fit.specs.Inner.Serving.{Asked, bounded, unbounded}
+use Rattle.fixed_fit.specs.Unfit.{said, why_of}
+use Rattle.fixed_fit.specs.Within.{most_width}
+use Rattle.fixed_fit.specs.declared.answer.Unfit.{Unfit}
+use Rattle.fixed_fit.specs.declared.question.Question.{Question}
+use Rattle.fixed_fit.specs.declared.question.Widths.{Widths}
+use Rattle.fixed_fit.specs.declared.reader.FitList.{FitList}
+
+-- how many bytes an input has at most
+abbrev pub most_bytes : ℕ
+most_bytes = 2 ^ 62 - 1
+
+-- the answer to an input: that of a width, or that of some widths within a bound
+abbrev pub IsAnswerTo : Question → Option Widths → List ℕ → List ℕ → AnswerText → Type 0
+IsAnswerTo q None bound input answer = IsAnswer q input answer
+IsAnswerTo q (Some widths) bound input answer = IsBoundedAnswer q widths bound input answer
+
+-- of which formats the lines are kept
+abbrev pub asked_by : Question → Option Widths → List ℕ → Asked
+asked_by q None bound = unbounded q.kind.width
+asked_by q (Some widths) bound = bounded q.is_range (most_width widths q.kind.width) bound widths q.kind.width
+
+-- the one answer to an input was made of it
+pub record Answers (q : Question) (widths : Option Widths) (bound input text : List ℕ) (fault : Bool)
+    (unfit : Option Unfit) : Type 0 where
+  pub answer : Result (List ℕ) Unfit
+  pub is : IsAnswerTo q widths bound input (said answer)
+  pub one : (other : AnswerText) → IsAnswerTo q widths bound input other → other ≡ said answer
+  pub text_is : text ≡ (said answer).text
+  pub fault_is : fault ≡ (said answer).fault
+  pub unfit_is : unfit ≡ why_of answer
+
+-- what is made of a list, by how the machine stands with it: nothing before its end
+abbrev pub MakesFit : Question → Option Widths → List ℕ → List ℕ → List ℕ → How Infallible → FitList → Type 0
+MakesFit q widths bound bytes text going list = (text ≡ []) × HasRead q.radix (asked_by q widths bound) bytes
+    list.reader
+MakesFit q widths bound bytes text (finished fault) list = Answers q widths bound bytes text fault list.unfit
+MakesFit q widths bound bytes text lacking list = text ≡ []
+MakesFit q widths bound bytes text (stopped late why) list = ⊥
+
+abbrev pub MakesBy : FitList → List ℕ → List ℕ → ℕ → How Infallible → FitList → Type 0
+MakesBy first bytes text spent how last = (last.question ≡ first.question) × (last.widths ≡ first.widths)
+    × (last.bound ≡ first.bound) × MakesFit first.question first.widths first.bound.items bytes text how last
+
+-- what a run that ended so has taken, made and written; a and b are what was seen of both devices before and after it,
+-- by names for them
+pub record HasFitRun (q : Question) (widths : Option Widths) (bound : List ℕ) (a b : ℕ → ℕ → Seen)
+    (unfit : Option Unfit) (status : Status) : Type 0 where
+  pub first : FitList
+  pub last : Cut FitList
+  pub steps : ℕ
+  pub steps' : ℕ
+  pub held : List ℕ
+  pub source : ℕ
+  pub sink : ℕ
+  pub end : End Infallible
+  pub question_is : first.question ≡ q
+  pub widths_are : first.widths ≡ widths
+  pub bound_is : first.bound.items ≡ bound
+  pub ends : IsStatus end status
+  pub run : HasRun (λ bytes text spent how it. MakesBy first bytes text spent how it.0) last most_bytes
+      (moment (a source sink) [] steps) (moment (b source sink) held steps') end
+  pub unfit_is : unfit ≡ last.0.unfit
