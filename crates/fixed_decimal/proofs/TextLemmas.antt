@@ -194,13 +194,13 @@ unfolding fraction_part
 fraction_none zero n e = refl
 fraction_none (suc k) n e = absurd (omega (arith, e))
 
-pub text_made : (b : ℤ) (k m whole : ℕ) (out signed_out whole_out all : List ℕ) → m ≡ unsigned_abs b → m < 2 ^ 64 → whole ≡ m / 10 ^ k → signed_out ≡ out ++ sign_text (is_negative b) → whole_out ≡ signed_out ++ signed_decimal (pos whole) → all ≡ whole_out ++ fraction_part 10 false k m → all ≡ out ++ decimal_format_text b k
-text_made b k m whole out signed_out whole_out all em small ew one two three =
+pub text_made : (negative : Bool) (k m whole : ℕ) (out signed_out whole_out all : List ℕ) → m < 2 ^ 64 → whole ≡ m / 10 ^ k → signed_out ≡ out ++ sign_text negative → whole_out ≡ signed_out ++ signed_decimal (pos whole) → all ≡ whole_out ++ fraction_part 10 false k m → all ≡ out ++ decimal_text negative m k
+text_made negative k m whole out signed_out whole_out all small ew one two three =
     let few : whole < 2 ^ 64 = rw ew (omega (arith, small, quotient_most m (10 ^ k))) in
     let digits : signed_decimal (pos whole) ≡ whole_digits 10 false (m / 10 ^ k) = decimal_is whole few ∙ ap (whole_digits 10 false) ew in
-    three ∙ ap (λ xs. xs ++ fraction_part 10 false k m) (two ∙ ap (λ xs. xs ++ signed_decimal (pos whole)) one ∙ ap (λ xs. (out ++ sign_text (is_negative b)) ++ xs) digits)
-    ∙ append_assoc (out ++ sign_text (is_negative b)) (whole_digits 10 false (m / 10 ^ k)) (fraction_part 10 false k m) ∙ append_assoc out (sign_text (is_negative b)) (whole_digits 10 false (m / 10 ^ k) ++ fraction_part 10 false k m)
-    ∙ ap (λ xs. out ++ xs) (sym (text_split (is_negative b) m k) ∙ ap (λ x. decimal_text (is_negative b) x k) em)
+    three ∙ ap (λ xs. xs ++ fraction_part 10 false k m) (two ∙ ap (λ xs. xs ++ signed_decimal (pos whole)) one ∙ ap (λ xs. (out ++ sign_text negative) ++ xs) digits)
+    ∙ append_assoc (out ++ sign_text negative) (whole_digits 10 false (m / 10 ^ k)) (fraction_part 10 false k m) ∙ append_assoc out (sign_text negative) (whole_digits 10 false (m / 10 ^ k) ++ fraction_part 10 false k m)
+    ∙ ap (λ xs. out ++ xs) (sym (text_split negative m k))
 
 pub sign_length : (negative : Bool) → length (sign_text negative) ≤ 1
 sign_length true = omega arith
@@ -214,7 +214,7 @@ fraction_short (suc k) n = let l = last_digits_length 10 false (suc k) n in omeg
 whole_short : (n : ℕ) → n < 2 ^ 64 → length (whole_digits 10 false n) ≤ 20
 whole_short n small = whole_digits_short 10 false 20 n (omega arith) (omega arith) (omega (arith, small))
 
-pub text_short : (b : ℤ) (k : ℕ) → unsigned_abs b < 2 ^ 64 → k ≤ 18 → length (decimal_format_text b k) ≤ 41
-text_short b k small few =
-    let whole : length (whole_digits 10 false (unsigned_abs b / 10 ^ k)) ≤ 20 = whole_short (unsigned_abs b / 10 ^ k) (omega (arith, small, quotient_most (unsigned_abs b) (10 ^ k))) in
-    rw (text_split (is_negative b) (unsigned_abs b) k) (omega (arith, few, whole, length-append (sign_text (is_negative b)) (whole_digits 10 false (unsigned_abs b / 10 ^ k) ++ fraction_part 10 false k (unsigned_abs b)), length-append (whole_digits 10 false (unsigned_abs b / 10 ^ k)) (fraction_part 10 false k (unsigned_abs b)), sign_length (is_negative b), fraction_short k (unsigned_abs b)))
+pub text_short : (negative : Bool) (m k : ℕ) → m < 2 ^ 64 → k ≤ 18 → length (decimal_text negative m k) ≤ 41
+text_short negative m k small few =
+    let whole : length (whole_digits 10 false (m / 10 ^ k)) ≤ 20 = whole_short (m / 10 ^ k) (omega (arith, small, quotient_most m (10 ^ k))) in
+    rw (text_split negative m k) (omega (arith, few, whole, length-append (sign_text negative) (whole_digits 10 false (m / 10 ^ k) ++ fraction_part 10 false k m), length-append (whole_digits 10 false (m / 10 ^ k)) (fraction_part 10 false k m), sign_length negative, fraction_short k m))

@@ -15,5 +15,5 @@ mod whole;
 pub use format::DecimalFormat;
 pub use number::DecimalNumber;
 pub use reading::read_decimal_format;
-pub use text::push_decimal_format;
+pub use text::{push_decimal_format, push_decimal_magnitude};
 pub use uncounted::read_decimal_format_uncounted;

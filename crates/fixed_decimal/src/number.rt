@@ -1,7 +1,7 @@
 //! A number that was read into a decimal format.
 
 ghost use Rattle.std.specs.Prelude.{◌≡◌, ◌↔◌, ◌≤◌, ℤ, true, IsTrue, IsNone, IfSome};
-ghost use Rattle.fixed_bits.specs.Images.{IsImage};
+ghost use Rattle.fixed_bits.specs.Images.{IsImage, IsOutOfRangeBy};
 ghost use Rattle.fixed_bits.specs.Numbers.{IsNumber};
 ghost use Rattle.fixed_bits.specs.Ranges.{IsOutOfRange};
 
@@ -69,7 +69,15 @@ impl DecimalNumber {
         self.number.is_out_of_range(words())
     }
 
-    /// The image of the number in 64 bits: the number itself if it is in range. `None` exactly if it is out of range
+    /// Whether the number is out of the range that a policy leaves of 64 bits.
+    pub fn is_out_of_range_by(&self, policy: Policy) -> bool
+        ensures { (v : ℤ) → IsNumber self.now.number v → IsTrue result ↔ IsOutOfRangeBy policy true 64 v }
+    {
+        self.number.is_out_of_range_by(words(), policy)
+    }
+
+    /// The image of the number in 64 bits: the number itself if it is in the range that the policy
+    /// leaves. `None` exactly if it is out of range
     /// and the policy is `Checked`.
     pub fn image(&self, policy: Policy) -> Option<i64>
         ensures image { (v : ℤ) → IsNumber self.now.number v → IfSome result (λ c. IsImage policy true 64 v c) }

@@ -2,8 +2,9 @@
 
 ghost use Rattle.std.specs.Prelude.{◌≡◌, ◌+◌, ◌<◌, ◌≤◌, ◌++◌, false, length, unsigned_abs};
 ghost use Rattle.std.specs.Fmt.{digit_glyph, sign_text};
+ghost use Rattle.std.specs.Int.{is_negative};
 ghost use Rattle.fixed_decimal.specs.Texts.{decimal_format_text};
-ghost use Rattle.fixed_write.specs.Texts.{fraction_part, last_digits};
+ghost use Rattle.fixed_write.specs.Texts.{decimal_text, fraction_part, last_digits};
 
 use crate::format::DecimalFormat;
 use crate::units::power;
@@ -50,6 +51,14 @@ fn push_sign<const N: usize>(out: &mut TextBuffer<N>, is_negative: bool)
     out.push_if(b'-', is_negative);
 }
 
+/// Whether a number is below zero.
+#[inline]
+fn is_negative(units: i64) -> bool
+    ensures { result ≡ is_negative units }
+{
+    units < 0
+}
+
 /// How far a number is from zero.
 #[inline]
 fn magnitude_of(units: i64) -> u64
@@ -58,8 +67,26 @@ fn magnitude_of(units: i64) -> u64
     units.unsigned_abs()
 }
 
-/// Appends a number of a decimal format exactly: `-` if it is negative, its whole part, and, unless the format has no
-/// places, a point and exactly as many digits as the format has places. There must be room for 41 bytes.
+/// Appends a number of units of a decimal format by its sign and magnitude, exactly: `-` if it is negative, its whole
+/// part, and, unless the format has no places, a point and exactly as many digits as the format has places. There must
+/// be room for 41 bytes.
+pub fn push_decimal_magnitude<const N: usize>(
+    out: &mut TextBuffer<N>,
+    negative: bool,
+    magnitude: u64,
+    format: DecimalFormat,
+)
+    requires room { length out.old + 41 ≤ N }
+    ensures appended { out.new ≡ out.old ++ decimal_text negative magnitude format }
+    ensures short { length (decimal_text negative magnitude format) ≤ 41 }
+{
+    let places = format.places();
+    push_sign(out, negative);
+    push_signed_integer(out, false, magnitude / power(places));
+    push_fraction(out, magnitude, places);
+}
+
+/// Appends a number of a decimal format exactly, as `push_decimal_magnitude` does. There must be room for 41 bytes.
 pub fn push_decimal_format<const N: usize>(
     out: &mut TextBuffer<N>,
     units: i64,
@@ -69,9 +96,5 @@ pub fn push_decimal_format<const N: usize>(
     ensures appended { out.new ≡ out.old ++ decimal_format_text units format }
     ensures short { length (decimal_format_text units format) ≤ 41 }
 {
-    let places = format.places();
-    let magnitude = magnitude_of(units);
-    push_sign(out, units < 0);
-    push_signed_integer(out, false, magnitude / power(places));
-    push_fraction(out, magnitude, places);
+    push_decimal_magnitude(out, is_negative(units), magnitude_of(units), format);
 }

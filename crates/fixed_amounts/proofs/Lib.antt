@@ -1,0 +1,2 @@
+-- What no other crate can name
+mod ReadingLemmas

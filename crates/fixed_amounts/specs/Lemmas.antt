@@ -1,0 +1,2 @@
+-- What the laws of rules need.
+pub mod ReplyLemmas

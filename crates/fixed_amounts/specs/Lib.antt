@@ -1,0 +1,6 @@
+pub mod Explained
+pub mod Names
+pub mod Reading
+pub mod Reply
+pub mod Laws
+pub mod Lemmas

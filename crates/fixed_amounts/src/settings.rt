@@ -1,0 +1,43 @@
+//! How a line says an amount, and what of it is written.
+
+use fixed_bits::{Policy, ReadMode};
+use fixed_decimal::DecimalFormat;
+
+/// How a line says an amount.
+#[derive(Clone, Copy, Debug, PartialEq, Eq)]
+pub enum AmountSpelling {
+    /// As a decimal numeral.
+    Numeral,
+    /// As a count of units, or a word of 64 bits.
+    Units,
+}
+
+/// What of an amount is written.
+#[derive(Clone, Copy, Debug, PartialEq, Eq)]
+pub enum AmountPrint {
+    /// Its text, with exactly the places of the format.
+    Text,
+    /// The count of units in decimal.
+    Units,
+    /// The count as a word of 64 bits in hexadecimal, after `0x`.
+    Hex,
+    /// The same without `0x`.
+    HexDigits,
+    /// Text, count, and whether the number was out of range.
+    All,
+}
+
+/// How lines that say amounts are answered.
+#[derive(Clone, Copy, Debug, PartialEq, Eq)]
+pub struct AmountSettings {
+    /// How a line says an amount.
+    pub spelling: AmountSpelling,
+    /// The decimal format that it is read into.
+    pub format: DecimalFormat,
+    /// What is done with a number that is out of range.
+    pub policy: Policy,
+    /// How a numeral is rounded.
+    pub mode: ReadMode,
+    /// What of an amount is written.
+    pub print: AmountPrint,
+}
