@@ -7,14 +7,14 @@ use Rattle.std.specs.Str.Parse.{AllDigits}
 use Rattle.std.proofs.lemmas.Fmt.{decimal_is_IsNumeral}
 use Rattle.std.proofs.lemmas.Int.{ints}
 use Rattle.std.proofs.lemmas.Str.Parse.{digit_from_value}
-use Rattle.fixed_bits.specs.Formats.{FormatParts, IsFormat}
+use Rattle.fixed_bits.specs.Formats.{FormatParts, IsFormat, whole_length}
 use Rattle.fixed_bits.specs.Ranges.{IsInRange, IsWide}
 use Rattle.fixed_bits.specs.declared.format.Policy.{Policy}
-use Rattle.fixed_bits.specs.declared.format.Policy.TheVariants.{Checked, Saturating, Wrapping}
+use Rattle.fixed_bits.specs.declared.format.Policy.TheVariants.{Checked, Saturating, Wrapping, Symmetric}
 use Rattle.fixed_bits.specs.declared.mode.ReadMode.{ReadMode}
 use Rattle.fixed_bits.specs.declared.mode.ReadMode.TheVariants.{NearestEven, Floor, Ceil, TowardsZero}
 use Rattle.fixed_bits.specs.declared.mode.ReadMode.TheVariants.{AwayFromZero, NearestAway, NearestDown, NearestUp, NearestZero}
-use Rattle.fixed_bits.proofs.Public.{image_within, width_most}
+use Rattle.fixed_bits.proofs.Public.{image_within}
 use Rattle.fixed_numeral.specs.Messages.{message_of}
 use Rattle.fixed_numeral.specs.declared.error.ParseErrorKind.{ParseErrorKind}
 use Rattle.fixed_numeral.specs.declared.radix.Radix.{Radix}
@@ -26,14 +26,14 @@ use Rattle.fixed_respell.specs.Language.{fault_answer}
 use Rattle.fixed_respell.specs.LineWords.{longest_line, space}
 use Rattle.fixed_respell.specs.Reached.{IsRefusal, IsRespelled}
 use Rattle.fixed_respell.specs.Split.{count_of}
-use Rattle.fixed_respell.specs.Words.{IsPolicyName, format_text, mode_text, policy_text, radix_text, sign_letter, slash}
+use Rattle.fixed_respell.specs.Words.{IsPolicyName, counts_text, format_text, mode_text, policy_text, radix_text, sign_letter, slash}
 use Rattle.fixed_respell.proofs.Public.{text_names}
 use Rattle.fixed_respell.specs.Lemmas.SplitLemmas.{count-append, count_cons}
 use Rattle.fixed_numeral.proofs.Public.{message_short}
 use Rattle.fixed_numeral.specs.declared.error.ParseErrorKind.TheVariants.{Overflow}
 use Rattle.fixed_respell.proofs.Public.{fault_appended}
 use Rattle.line_engine.specs.Output.{AppendsAnswer}
-use Rattle.fixed_command.specs.Inner.Moved.{HasPushed}
+use Rattle.fixed_command.specs.Moved.{HasPushed}
 use Rattle.fixed_command.specs.Convert.{AreFormats, IsAnswerBy, IsMovedAnswer, IsNoSource, IsReply, IsSource, asking_line, asks_a_line}
 use Rattle.fixed_command.specs.Printed.{printed}
 use Rattle.fixed_command.specs.declared.convert.Settings.{Settings}
@@ -114,6 +114,7 @@ policy_unspaced : (p : Policy) → count_of space (policy_text p) ≡ 0
 policy_unspaced Checked = refl
 policy_unspaced Saturating = refl
 policy_unspaced Wrapping = refl
+policy_unspaced Symmetric = refl
 
 mode_unspaced : (m : ReadMode) → count_of space (slash ∷ mode_text m) ≡ 0
 mode_unspaced NearestEven = refl
@@ -132,11 +133,12 @@ letter_high false = omega arith
 
 format_unspaced : (f : FormatParts) → IsFormat f.width f.frac → count_of space (format_text f) ≡ 0
 format_unspaced f is =
-    let most = width_most f.width is.is_width in
+    let most = is.is_width.most in
     let within = is.within in
+    let wide : IsWide (whole_length f) = record { low = omega (arith, ints, within); high = omega (arith, ints, most) } in
     let fraction : count_of space (70 ∷ decimal f.frac) ≡ 0 = other_byte 70 (decimal f.frac) (omega arith) ∙ decimal_unspaced f.frac (omega arith) in
-    other_byte (sign_letter f.signed) (decimal (f.width - f.frac) ++ 70 ∷ decimal f.frac) (letter_high f.signed)
-    ∙ both_unspaced (decimal (f.width - f.frac)) (70 ∷ decimal f.frac) (decimal_unspaced (f.width - f.frac) (omega arith)) fraction
+    other_byte (sign_letter f.signed) (counts_text 70 f) (letter_high f.signed)
+    ∙ both_unspaced (signed_decimal (whole_length f)) (70 ∷ decimal f.frac) (signed_unspaced (whole_length f) wide) fraction
 
 -- ---- what the line asks for
 asks : (s : Settings) (numeral : List ℕ) → AreFormats s → length (asking_line s numeral) ≤ longest_line → AsksBy IsFormatName IsPolicyName (asking_line s numeral) (task_of s.radix s.source s.target s.policy s.mode numeral)
@@ -167,7 +169,7 @@ asks s numeral formats short = record {
 
 -- ---- the replies
 pub respelled_range : (s : Settings) (numeral : List ℕ) (bits : ℤ) (o : Bool) → IsRespelled s.mode s.radix numeral s.policy s.source s.target bits o → IsInRange s.target.signed s.target.width bits
-respelled_range s numeral bits o is = image_within s.policy s.target.signed s.target.width is.reached.moved bits is.reached.target_image
+respelled_range s numeral bits o is = (image_within s.policy s.target.signed s.target.width is.reached.moved bits is.reached.target_image).0
 
 pub respelled_reply : (s : Settings) (numeral text : List ℕ) (bits : ℤ) (o : Bool) → asks_a_line s.spelling s.target_mode ≡ true → AreFormats s → length (asking_line s numeral) ≤ longest_line → IsRespelled s.mode s.radix numeral s.policy s.source s.target bits o → IsShortestText bits s.target.frac text → IsWide bits
     → IsReply s numeral (record { text = printed s.print s.target (respelled_answer text bits o).text text bits; fault = false })

@@ -4,7 +4,6 @@ use Rattle.std.specs.List.{flat_map, starts_with}
 use Rattle.std.proofs.lemmas.List.{drop_all, map_more}
 use Rattle.std.proofs.lemmas.Grind.{flat_map-append}
 use Rattle.line_engine.specs.AnswerText.{AnswerText}
-use Rattle.fixed_command.specs.Convert.{IsLineReply}
 use Rattle.fixed_numeral.specs.Numeral.{base}
 use Rattle.fixed_numeral.specs.declared.radix.Radix.{Radix}
 use Rattle.fixed_respell.specs.Language.{fault_answer}
@@ -47,39 +46,39 @@ none_misplaced form radix bytes none =
     let grouped : Bool = is_grouped (base radix == 16) form.thousands.now (after_sign bytes) in
     ap (λ (b : Bool). (form.has_groups && b) && not grouped) part ∙ and_none form.has_groups (not grouped)
 
-pub plain_reply : (form : FieldForm) (s : Settings) (field bytes : List ℕ) (reply : AnswerText) → bytes ≡ bare form field
-    → form.decimal ≡ 46 → form.thousands.now ≡ [] → IsLineReply s bytes reply → IsReadReply (is_misplaced form s.radix bytes) form s field reply
-plain_reply form s field bytes reply same decimal thousands answer =
+pub plain_reply : (form : FieldForm) (radix : Radix) (A : List ℕ → AnswerText → Type 0) (field bytes : List ℕ) (reply : AnswerText) → bytes ≡ bare form field
+    → form.decimal ≡ 46 → form.thousands.now ≡ [] → A bytes reply → IsReadReply (is_misplaced form radix bytes) form A field reply
+plain_reply form radix A field bytes reply same decimal thousands answer =
     let numeral : field_numeral form field ≡ bytes = ap (λ l. flat_map (read_for form.thousands.now form.decimal) l) (sym same)
     ∙ (ap (λ d. flat_map (read_for form.thousands.now d) bytes) decimal ∙ (ap (λ t. flat_map (read_for t 46) bytes) thousands ∙ plain_read bytes)) in
-    subst (λ b. IsReadReply b form s field reply) (sym (none_misplaced form s.radix bytes thousands)) (subst (λ l. IsLineReply s l reply) (sym numeral) answer)
+    subst (λ b. IsReadReply b form A field reply) (sym (none_misplaced form radix bytes thousands)) (subst (λ l. A l reply) (sym numeral) answer)
 
 faulty : List ℕ → AnswerText
 faulty text = record { text = text; fault = true }
 
-pub misplaced_reply : (form : FieldForm) (s : Settings) (field bytes out : List ℕ) → is_misplaced form s.radix bytes ≡ true
-    → out ≡ (fault_answer misplaced_message).text → IsReadReply (is_misplaced form s.radix bytes) form s field (record { text = out; fault = true })
+pub misplaced_reply : (form : FieldForm) (radix : Radix) (A : List ℕ → AnswerText → Type 0) (field bytes out : List ℕ) → is_misplaced form radix bytes ≡ true
+    → out ≡ (fault_answer misplaced_message).text → IsReadReply (is_misplaced form radix bytes) form A field (record { text = out; fault = true })
 unfolding faulty
-misplaced_reply form s field bytes out e is = subst (λ b. IsReadReply b form s field (faulty out)) (sym e) (ap faulty is)
+misplaced_reply form radix A field bytes out e is = subst (λ b. IsReadReply b form A field (faulty out)) (sym e) (ap faulty is)
 
-pub read_reply : (form : FieldForm) (s : Settings) (field bytes : List ℕ) (reply : AnswerText) → bytes ≡ bare form field → is_misplaced form s.radix bytes ≡ false
-    → IsLineReply s (flat_map (read_for form.thousands.now form.decimal) bytes) reply → IsReadReply (is_misplaced form s.radix bytes) form s field reply
-read_reply form s field bytes reply same e answer =
+pub read_reply : (form : FieldForm) (radix : Radix) (A : List ℕ → AnswerText → Type 0) (field bytes : List ℕ) (reply : AnswerText) → bytes ≡ bare form field → is_misplaced form radix bytes ≡ false
+    → A (flat_map (read_for form.thousands.now form.decimal) bytes) reply → IsReadReply (is_misplaced form radix bytes) form A field reply
+read_reply form radix A field bytes reply same e answer =
     let numeral : flat_map (read_for form.thousands.now form.decimal) bytes ≡ field_numeral form field = ap (λ l. flat_map (read_for form.thousands.now form.decimal) l) same in
-    subst (λ b. IsReadReply b form s field reply) (sym e) (subst (λ l. IsLineReply s l reply) numeral answer)
+    subst (λ b. IsReadReply b form A field reply) (sym e) (subst (λ l. A l reply) numeral answer)
 
 -- ---- by whether a field is empty
-pub empty_field : (form : FieldForm) (s : Settings) (field bytes : List ℕ) (reply : AnswerText) → bytes ≡ bare form field → (length bytes == 0) ≡ true
-    → IsEmptyReply form.empty s reply → IsPointReply form s field reply
-empty_field form s field bytes reply same none answer =
+pub empty_field : (form : FieldForm) (radix : Radix) (A : List ℕ → AnswerText → Type 0) (field bytes : List ℕ) (reply : AnswerText) → bytes ≡ bare form field → (length bytes == 0) ≡ true
+    → IsEmptyReply form.empty A reply → IsPointReply form radix A field reply
+empty_field form radix A field bytes reply same none answer =
     let empty : (length (bare form field) == 0) ≡ true = ap (λ (l : List ℕ). length l == 0) (sym same) ∙ none in
-    subst (λ b. IsFieldReplyBy b form s field reply) (sym empty) answer
+    subst (λ b. IsFieldReplyBy b form radix A field reply) (sym empty) answer
 
-pub some_field : (form : FieldForm) (s : Settings) (field bytes : List ℕ) (reply : AnswerText) → bytes ≡ bare form field → (length bytes == 0) ≡ false
-    → IsReadReply (is_misplaced form s.radix bytes) form s field reply → IsPointReply form s field reply
-some_field form s field bytes reply same some answer =
+pub some_field : (form : FieldForm) (radix : Radix) (A : List ℕ → AnswerText → Type 0) (field bytes : List ℕ) (reply : AnswerText) → bytes ≡ bare form field → (length bytes == 0) ≡ false
+    → IsReadReply (is_misplaced form radix bytes) form A field reply → IsPointReply form radix A field reply
+some_field form radix A field bytes reply same some answer =
     let empty : (length (bare form field) == 0) ≡ false = ap (λ (l : List ℕ). length l == 0) (sym same) ∙ some in
-    subst (λ b. IsFieldReplyBy b form s field reply) (sym empty) (subst (λ l. IsReadReply (is_misplaced form s.radix l) form s field reply) same answer)
+    subst (λ b. IsFieldReplyBy b form radix A field reply) (sym empty) (subst (λ l. IsReadReply (is_misplaced form radix l) form A field reply) same answer)
 
 -- ---- the mark of an answer
 pub marked_next : (mark : ℕ) (bytes out more : List ℕ) (k byte : ℕ) → k < length bytes → out ≡ map (marked mark) (take k bytes) → byte ≡ get_or bytes k 0
@@ -97,20 +96,20 @@ point_stays (byte ∷ rest) = ap (λ b. b ∷ map (marked 46) rest) (same_point 
 clean : List ℕ → AnswerText
 clean text = record { text = text; fault = false }
 
-pub refused_field : (form : FieldForm) (s : Settings) (field text : List ℕ) → IsPointReply form s field (record { text = text; fault = true })
-    → IsFieldReply form s field (record { text = text; fault = true })
-refused_field form s field text reply = (record { text = text; fault = true }, reply, refl)
+pub refused_field : (form : FieldForm) (radix : Radix) (A : List ℕ → AnswerText → Type 0) (field text : List ℕ) → IsPointReply form radix A field (record { text = text; fault = true })
+    → IsFieldReply form radix A field (record { text = text; fault = true })
+refused_field form radix A field text reply = (record { text = text; fault = true }, reply, refl)
 
-pub point_field : (form : FieldForm) (s : Settings) (field text : List ℕ) → form.mark ≡ 46 → IsPointReply form s field (record { text = text; fault = false })
-    → IsFieldReply form s field (record { text = text; fault = false })
+pub point_field : (form : FieldForm) (radix : Radix) (A : List ℕ → AnswerText → Type 0) (field text : List ℕ) → form.mark ≡ 46 → IsPointReply form radix A field (record { text = text; fault = false })
+    → IsFieldReply form radix A field (record { text = text; fault = false })
 unfolding clean
-point_field form s field text point reply =
+point_field form radix A field text point reply =
     (clean text, reply, ap clean (sym (ap (λ (m : ℕ). map (marked m) text) point ∙ point_stays text)))
 
-pub marked_field : (form : FieldForm) (s : Settings) (field text new : List ℕ) → new ≡ map (marked form.mark) text → IsPointReply form s field (record { text = text; fault = false })
-    → IsFieldReply form s field (record { text = new; fault = false })
+pub marked_field : (form : FieldForm) (radix : Radix) (A : List ℕ → AnswerText → Type 0) (field text new : List ℕ) → new ≡ map (marked form.mark) text → IsPointReply form radix A field (record { text = text; fault = false })
+    → IsFieldReply form radix A field (record { text = new; fault = false })
 unfolding clean
-marked_field form s field text new is reply = (clean text, reply, ap clean is)
+marked_field form radix A field text new is reply = (clean text, reply, ap clean is)
 
 -- ---- groups of digits
 pub no_digits : (hex : Bool) (bytes : List ℕ) (k : ℕ) → k < length bytes → is_digit hex (get_or bytes k 0) ≡ false → digits_of hex (drop k bytes) ≡ 0

@@ -1,6 +1,7 @@
 -- What the proofs of the crates above may cite
 pub mod Public
 -- What no other crate can name
+mod AmountLemmas
 mod AskingLemmas
 mod BlockLemmas
 mod ColonLemmas

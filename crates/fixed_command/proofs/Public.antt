@@ -3,8 +3,9 @@ use Rattle.std.specs.Prelude.{◌≡◌, ℕ, ℤ, Bool, List, ◌<◌, ◌≤�
 use Rattle.fixed_bits.specs.Formats.{FormatParts}
 use Rattle.fixed_bits.specs.Ranges.{IsInRange, IsWide, IsWidth}
 use Rattle.fixed_numeral.specs.declared.radix.Radix.{Radix}
-use Rattle.fixed_show.specs.WordText.{IsWord}
+use Rattle.fixed_show.specs.WordText.{IsWord, IsWordText}
 use Rattle.fixed_respell.specs.Answer.{respelled_answer}
+use Rattle.fixed_respell.specs.Language.{fault_answer}
 use Rattle.fixed_write.specs.Texts.{IsShortestText, last_digits}
 use Rattle.fixed_command.specs.Hex.{word_of}
 use Rattle.fixed_command.specs.Convert.{IsMovedAnswer, IsReply, asks_a_line}
@@ -20,6 +21,10 @@ use Rattle.fixed_command.proofs.OutcomeLemmas
 use Rattle.fixed_command.proofs.WordLemmas
 
 -- ---- words of bits
+-- a number in hexadecimal after `0x`, in digits enough for it
+pub spelled_number : (bare : Radix) (k n : ℕ) → 0 < k → n < 16 ^ k → IsWordText bare (codes "0x" ++ last_digits 16 false k n) n
+spelled_number = WordLemmas.spelled_number
+
 -- all bits of a word in hexadecimal after `0x`, in digits enough for them
 pub spelled_word : (f : FormatParts) (bare : Radix) (k : ℕ) (v : ℤ) → IsWidth f.width → IsInRange f.signed f.width v → 0 < k → 2 ^ f.width ≤ 16 ^ k → IsWord bare f (codes "0x" ++ last_digits 16 false k (word_of f.width v)) v
 spelled_word = WordLemmas.spelled_word
@@ -32,6 +37,10 @@ word_fits = WordLemmas.word_fits
 pub moved_reply : (s : Settings) (numeral text : List ℕ) (bits : ℤ) (o : Bool) → asks_a_line s.spelling s.target_mode ≡ false → IsMovedAnswer s numeral (respelled_answer text bits o) → IsShortestText bits s.target.frac text → IsWide bits
     → IsReply s numeral (record { text = printed s.print s.target (respelled_answer text bits o).text text bits; fault = false })
 moved_reply = AskingLemmas.moved_reply
+
+-- that of a fault
+pub fault_reply : (s : Settings) (numeral message : List ℕ) → asks_a_line s.spelling s.target_mode ≡ false → IsMovedAnswer s numeral (fault_answer message) → IsReply s numeral (fault_answer message)
+fault_reply = AskingLemmas.fault_reply
 
 -- ---- outcomes
 -- a numeral comes through in one way

@@ -204,6 +204,11 @@ printed_decimal f (negsuc n) width range =
       in_range = range;
     })
 
+-- a number in hexadecimal after `0x`, in digits enough for it
+pub spelled_number : (bare : Radix) (k n : ℕ) → 0 < k → n < 16 ^ k → IsWordText bare (codes "0x" ++ last_digits 16 false k n) n
+spelled_number bare k n some below =
+    hex_word bare (last_digits 16 false k n) n (last_all k n) (omega (arith, some, last_digits_length 16 false k n)) (last_value k n ∙ mod-eq_of_lt below)
+
 -- all bits of a word in hexadecimal after `0x`, in digits enough for them
 pub spelled_word : (f : FormatParts) (bare : Radix) (k : ℕ) (v : ℤ) → IsWidth f.width → IsInRange f.signed f.width v → 0 < k → 2 ^ f.width ≤ 16 ^ k → IsWord bare f (codes "0x" ++ last_digits 16 false k (word_of f.width v)) v
 spelled_word f bare k v width range some most =
@@ -213,7 +218,7 @@ spelled_word f bare k v width range some most =
     inl (record {
       plain = refl;
       word = w;
-      spells = hex_word bare (last_digits 16 false k w) w (last_all k w) (omega (arith, some, last_digits_length 16 false k w)) (last_value k w ∙ mod-eq_of_lt below);
+      spells = spelled_number bare k w some below;
       fits = word.fits;
       is = record { in_range = range; near = word.near };
     })

@@ -4,11 +4,13 @@ use Rattle.std.specs.Prelude.{None, Option, Some, drop, flat_map, if◌then◌el
 use Rattle.std.specs.Char.{is_ascii_digit, is_ascii_hexdigit}
 use Rattle.std.specs.List.{list_any, starts_with}
 use Rattle.column_engine.specs.declared.columns.Keeping.{Keeping}
+use Rattle.fixed_amounts.specs.declared.settings.AmountPrint.{AmountPrint}
+use Rattle.fixed_amounts.specs.declared.settings.AmountPrint.TheVariants as amounts
 use Rattle.fixed_numeral.specs.Numeral.{base}
 use Rattle.fixed_numeral.specs.declared.radix.Radix.{Radix}
 use Rattle.fixed_respell.specs.Language.{fault_answer}
 use Rattle.line_engine.specs.AnswerText.{AnswerText}
-use Rattle.fixed_command.specs.Convert.{IsLineReply, without_return}
+use Rattle.fixed_command.specs.Convert.{without_return}
 use Rattle.fixed_command.specs.Layout.{trimmed}
 use Rattle.fixed_command.specs.Outcome.{IsOutcome}
 use Rattle.fixed_command.specs.declared.convert.Settings.{Settings}
@@ -81,26 +83,27 @@ is_misplaced form radix bytes = (form.has_groups && has_part form.thousands.now 
 abbrev pub misplaced_message : List ℕ
 misplaced_message = codes "misplaced thousands separator"
 
--- ---- the reply to a field
+-- ---- the reply to a field, in a radix, by the meaning A of the reply to a line
 -- the reply to a field without a byte: none, which leaves it as it was; that to an empty line; or that to a zero
-abbrev pub IsEmptyReply : Empty → Settings → AnswerText → Type 0
-IsEmptyReply Kept s reply = reply ≡ record { text = []; fault = false }
-IsEmptyReply Refused s reply = IsLineReply s [] reply
-IsEmptyReply Zero s reply = IsLineReply s (48 ∷ []) reply
+abbrev pub IsEmptyReply : Empty → (List ℕ → AnswerText → Type 0) → AnswerText → Type 0
+IsEmptyReply Kept A reply = reply ≡ record { text = []; fault = false }
+IsEmptyReply Refused A reply = A [] reply
+IsEmptyReply Zero A reply = A (48 ∷ []) reply
 
 -- the reply to a field with a byte: a refusal if a separator is misplaced, or that to the line that its numeral is
-abbrev pub IsReadReply : Bool → FieldForm → Settings → List ℕ → AnswerText → Type 0
-IsReadReply true form s field reply = reply ≡ fault_answer misplaced_message
-IsReadReply false form s field reply = IsLineReply s (field_numeral form field) reply
+abbrev pub IsReadReply : Bool → FieldForm → (List ℕ → AnswerText → Type 0) → List ℕ → AnswerText → Type 0
+IsReadReply true form A field reply = reply ≡ fault_answer misplaced_message
+IsReadReply false form A field reply = A (field_numeral form field) reply
 
 -- the reply to a field that is empty or not
-abbrev pub IsFieldReplyBy : Bool → FieldForm → Settings → List ℕ → AnswerText → Type 0
-IsFieldReplyBy true form s field reply = IsEmptyReply form.empty s reply
-IsFieldReplyBy false form s field reply = IsReadReply (is_misplaced form s.radix (bare form field)) form s field reply
+abbrev pub IsFieldReplyBy : Bool → FieldForm → Radix → (List ℕ → AnswerText → Type 0) → List ℕ → AnswerText → Type 0
+IsFieldReplyBy true form radix A field reply = IsEmptyReply form.empty A reply
+IsFieldReplyBy false form radix A field reply = IsReadReply (is_misplaced form radix (bare form field)) form A field
+    reply
 
 -- the reply to a field, its number with a point
-abbrev pub IsPointReply : FieldForm → Settings → List ℕ → AnswerText → Type 0
-IsPointReply form s field reply = IsFieldReplyBy (length (bare form field) == 0) form s field reply
+abbrev pub IsPointReply : FieldForm → Radix → (List ℕ → AnswerText → Type 0) → List ℕ → AnswerText → Type 0
+IsPointReply form radix A field reply = IsFieldReplyBy (length (bare form field) == 0) form radix A field reply
 
 -- a byte of a number as it is written: the mark for a point
 abbrev pub marked : ℕ → ℕ → ℕ
@@ -111,9 +114,17 @@ abbrev pub in_mark : ℕ → AnswerText → AnswerText
 in_mark mark reply = if reply.fault then reply else record { text = map (marked mark) reply.text; fault = false }
 
 -- the reply to a field
-abbrev pub IsFieldReply : FieldForm → Settings → List ℕ → AnswerText → Type 0
-IsFieldReply form s field reply = (point : AnswerText) × IsPointReply form s field point
+abbrev pub IsFieldReply : FieldForm → Radix → (List ℕ → AnswerText → Type 0) → List ℕ → AnswerText → Type 0
+IsFieldReply form radix A field reply = (point : AnswerText) × IsPointReply form radix A field point
     × (reply ≡ in_mark form.mark point)
+
+-- whether a part of an amount has a point
+abbrev pub has_amount_point : AmountPrint → Bool
+has_amount_point amounts.Text = true
+has_amount_point amounts.Units = false
+has_amount_point amounts.Hex = false
+has_amount_point amounts.HexDigits = false
+has_amount_point amounts.All = true
 
 -- whether a part of an answer has a number with a point
 abbrev pub has_point : Print → Bool
@@ -125,10 +136,10 @@ has_point Readmemh = false
 has_point Value = true
 has_point All = true
 
--- what of a field is kept: refused fields, if that is asked for; and quotes, where numbers have another mark than a
--- point
-abbrev pub kept_of : Bool → ℕ → Print → Keeping
-kept_of refused mark print = record { refused = refused; quotes = not (mark == 46) && has_point print }
+-- what of a field is kept: refused fields, if that is asked for; and quotes, if what is written has a point, for which
+-- another mark stands
+abbrev pub kept_of : Bool → ℕ → Bool → Keeping
+kept_of refused mark point = record { refused = refused; quotes = not (mark == 46) && point }
 
 -- ---- how a field comes through
 

@@ -8,8 +8,7 @@ use Rattle.fixed_respell.specs.Language.{fault_answer}
 use Rattle.fixed_respell.specs.LineWords.{longest_line}
 use Rattle.fixed_respell.specs.declared.fault.LineFault.TheVariants.{LineTooLong}
 use Rattle.line_engine.specs.AnswerText.{AnswerText}
-use Rattle.fixed_command.specs.Convert.{IsReply, without_return}
-use Rattle.fixed_command.specs.declared.convert.Settings.{Settings}
+use Rattle.fixed_command.specs.Convert.{without_return}
 
 -- the bytes after the blanks at the beginning: ASCII's white space
 abbrev pub after_blanks : List ℕ → List ℕ
@@ -43,11 +42,11 @@ abbrev pub is_skipped : LineLayout → List ℕ → Bool
 is_skipped l line = (l.skips_blank && (length (trimmed line) == 0)) || has_prefix l.comments (after_blanks line)
 
 -- the reply to a line that is too long or not, and skipped or not
-abbrev pub IsReplyTo : Bool → Bool → LineLayout → Settings → List ℕ → AnswerText → Type 0
-IsReplyTo true skipped l s line reply = reply ≡ fault_answer (fault_message LineTooLong)
-IsReplyTo false true l s line reply = reply ≡ record { text = []; fault = false }
-IsReplyTo false false l s line reply = IsReply s (numeral_of l line) reply
+abbrev pub IsReplyTo : Bool → Bool → LineLayout → (List ℕ → AnswerText → Type 0) → List ℕ → AnswerText → Type 0
+IsReplyTo true skipped l A line reply = reply ≡ fault_answer (fault_message LineTooLong)
+IsReplyTo false true l A line reply = reply ≡ record { text = []; fault = false }
+IsReplyTo false false l A line reply = A (numeral_of l line) reply
 
--- the reply to a line: an empty one where it is skipped, and else that to its numeral
-abbrev pub IsLaidOut : LineLayout → Settings → List ℕ → AnswerText → Type 0
-IsLaidOut l s line reply = IsReplyTo (nat_lt longest_line (length line)) (is_skipped l line) l s line reply
+-- the reply to a line: an empty one where it is skipped, and else that to its numeral, by this meaning of it
+abbrev pub IsLaidOut : LineLayout → (List ℕ → AnswerText → Type 0) → List ℕ → AnswerText → Type 0
+IsLaidOut l A line reply = IsReplyTo (nat_lt longest_line (length line)) (is_skipped l line) l A line reply

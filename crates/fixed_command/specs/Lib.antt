@@ -1,14 +1,15 @@
+pub mod Amounts
 pub mod Asked
 pub mod Blocks
 pub mod Convert
 pub mod Explained
 pub mod Fields
 pub mod Hex
-pub mod Inner
 pub mod Laws
 pub mod Layout
 pub mod Lemmas
 pub mod Limits
+pub mod Moved
 pub mod LineBlocks
 pub mod NameLaws
 pub mod Outcome

@@ -10,12 +10,13 @@ use Rattle.line_engine.specs.Asked.{AskedWithin}
 use Rattle.line_engine.specs.Failures.{HasFailed}
 use Rattle.line_engine.specs.Lines.{lines}
 use Rattle.line_engine.specs.Output.{AppendsPrefix, AreAnswers, written_of}
-use Rattle.line_engine.specs.Program.{Outside}
+use Rattle.line_engine.specs.Program.{Outside, outside}
 use Rattle.line_engine.specs.Run.{HasFailures, HasRun, Spends, WritesOutput}
 use Rattle.line_engine.specs.WholeRun.{HasWholeRun, WritesAnswer}
 use Rattle.line_engine.specs.declared.status.Status.{Status}
 use Rattle.line_engine.specs.declared.status.Status.TheVariants.{NoMemory, TooLong, WriteFault}
-use Rattle.fixed_command.specs.Convert.{IsLineReply}
+use Rattle.run_engine.specs.Seen.{Moment}
+use Rattle.fixed_command.specs.Convert.{IsLineReply, IsReply}
 use Rattle.fixed_command.specs.Layout.{IsLaidOut}
 use Rattle.fixed_command.specs.Limits.{limit_of, max_limit, no_limit}
 use Rattle.fixed_command.specs.LineBlocks.{IsLineBlock}
@@ -23,6 +24,10 @@ use Rattle.fixed_command.specs.Products.{IsProduct}
 use Rattle.fixed_command.specs.declared.task.Task.{Task}
 use Rattle.fixed_command.specs.declared.task.Task.TheVariants.{Ask, Columns, Constants, Convert, Enclose, LaidOut}
 use Rattle.fixed_command.specs.declared.task.Task.TheVariants.{Least, Lines, Reported}
+
+-- what is seen of a run at one moment, without what is gathered
+abbrev pub outside_at : Moment → Outside
+outside_at m = outside m.seen.left m.seen.asked m.seen.read_failures m.seen.written m.seen.write_failures m.steps
 
 -- no read and no write failed
 abbrev pub Undisturbed : Outside → Outside → Type 0
@@ -82,8 +87,9 @@ reported_extra = 20973788
 abbrev pub TaskRuns : Task → Outside → Outside → Status → Type 0
 TaskRuns (Lines limit) = HasLineRun respell.IsAnswer (limit_of limit) 8 624
 TaskRuns (Convert settings) = HasLineRun (IsLineReply settings) no_limit 8 624
-TaskRuns (LaidOut laid) = HasLineRun (IsLaidOut laid.layout laid.rule) no_limit 8 624
-TaskRuns (Reported laid) = HasLineRun (IsLaidOut laid.layout laid.rule) no_limit reported_per_byte reported_extra
+TaskRuns (LaidOut laid) = HasLineRun (IsLaidOut laid.layout (IsReply laid.rule)) no_limit 8 624
+TaskRuns (Reported laid) = HasLineRun (IsLaidOut laid.layout (IsReply laid.rule)) no_limit reported_per_byte
+    reported_extra
 TaskRuns Enclose = HasLineRun enclose.IsAnswer no_limit 16 1248
 TaskRuns (Ask form question) = HasLineRun (IsLineBlock form question) no_limit 26 3307
 TaskRuns (Least radix) = IsWholeRun (least.IsWholeAnswer radix) max_limit

@@ -1,10 +1,13 @@
-//! Columns of a CSV text converted; every other byte stays as it was.
+//! Columns of a CSV text converted, also into amounts; every other byte stays as it was.
 
 ghost use Rattle.std.specs.Prelude.{◌≡◌, ◌⊎◌, List, ℕ};
 ghost use Rattle.column_engine.specs.Run.{HasFailures, counts_of, first_state};
 ghost use Rattle.column_engine.specs.Skip.{HasRunAfter};
 ghost use Rattle.column_engine.specs.declared.end.Stop.{Stop};
-ghost use Rattle.fixed_command.specs.Fields.{IsFieldReply, has_point, kept_of};
+ghost use Rattle.fixed_amounts.specs.Reply.{IsReply};
+ghost use Rattle.fixed_command.specs.Convert.{IsLineReply, without_return};
+ghost use Rattle.fixed_command.specs.Fields.{IsFieldReply, has_amount_point, has_point, kept_of};
+ghost use Rattle.fixed_numeral.specs.declared.radix.Radix.{Radix as RadixOf};
 
 use crate::ConvertRule;
 use crate::field::{FieldForm, FieldNumerals};
@@ -13,6 +16,8 @@ use crate::print::Print;
 use column_engine::{
     Column, ColumnEnd, ColumnTask, ColumnWatch, Destination, FieldRule, Keeping, Stop, run_column,
 };
+use fixed_amounts::{AmountPrint, AmountSettings};
+use fixed_numeral::Radix;
 use fixed_steps::Steps;
 use line_engine::{Sink, Source};
 use std::alloc::Global;
@@ -20,9 +25,9 @@ use std::sync::ledger::Ledger;
 
 /// The conversion of columns of a text.
 #[derive(Drop)]
-pub struct ColumnConversion<'a> {
+pub struct ColumnConversion<'a, R> {
     /// How the numeral of a field is converted.
-    pub rule: ConvertRule,
+    pub rule: R,
     /// How a field spells it.
     pub form: FieldForm<'a>,
     /// How many lines come before the records; they are passed through.
@@ -49,20 +54,31 @@ fn has_point(print: Print) -> bool
     }
 }
 
-/// What of a field is kept.
-fn kept_of(conversion: &ColumnConversion<'_>) -> Keeping
-    ensures { result ≡ kept_of conversion.now.is_kept conversion.now.form.mark conversion.now.rule.print }
+/// Whether a part of an amount has a point.
+fn has_amount_point(print: AmountPrint) -> bool
+    ensures { result ≡ has_amount_point print }
+{
+    match print {
+        AmountPrint::Text | AmountPrint::All => true,
+        AmountPrint::Units | AmountPrint::Hex | AmountPrint::HexDigits => false,
+    }
+}
+
+/// What of a field is kept, by whether what is written has a point.
+fn kept_of<R>(conversion: &ColumnConversion<'_, R>, has_point: bool) -> Keeping
+    ensures { result ≡ kept_of conversion.now.is_kept conversion.now.form.mark has_point }
 {
     Keeping {
         refused: conversion.is_kept,
-        quotes: conversion.form.mark != b'.' && has_point(conversion.rule.settings().print),
+        quotes: conversion.form.mark != b'.' && has_point,
     }
 }
 
 /// Converts columns of the records of a text by a rule.
-fn convert_by<A: FieldRule<L>, S: Source, K: Sink, L: Ledger>(
+fn convert_by<R, A: FieldRule<L>, S: Source, K: Sink, L: Ledger>(
     alloc: Global,
-    conversion: &ColumnConversion<'_>,
+    conversion: &ColumnConversion<'_, R>,
+    keeps: Keeping,
     rule: &A,
     watch: &ColumnWatch,
     source: &mut S,
@@ -70,8 +86,7 @@ fn convert_by<A: FieldRule<L>, S: Source, K: Sink, L: Ledger>(
     steps: &mut Steps<L>,
 ) -> ColumnEnd
     ensures run { (result.stop ≡ Stop.NoMemory)
-        ⊎ HasRunAfter conversion.now.skipped result.stop (A.Answers rule.now)
-        (kept_of conversion.now.is_kept conversion.now.form.mark conversion.now.rule.print)
+        ⊎ HasRunAfter conversion.now.skipped result.stop (A.Answers rule.now) keeps
         conversion.now.delimiter conversion.now.columns.items
         (first_state conversion.now.has_header conversion.now.destination conversion.now.columns.items)
         (counts_of result) (S.left source.old) (S.left source.new) (K.written sink.old) (K.written sink.new) }
@@ -85,7 +100,7 @@ fn convert_by<A: FieldRule<L>, S: Source, K: Sink, L: Ledger>(
         columns: &conversion.columns,
         destination: &conversion.destination,
         has_header: conversion.has_header,
-        keeps: kept_of(conversion),
+        keeps,
         delimiter: conversion.delimiter,
         watch,
     };
@@ -97,7 +112,7 @@ fn convert_by<A: FieldRule<L>, S: Source, K: Sink, L: Ledger>(
 /// fields that are refused is kept in the watch, and how they come through in the report where one is asked for.
 pub fn convert_column<S: Source, K: Sink, L: Ledger>(
     alloc: Global,
-    conversion: &ColumnConversion<'_>,
+    conversion: &ColumnConversion<'_, ConvertRule>,
     watch: &ColumnWatch,
     report: Option<&FieldReport<'_>>,
     source: &mut S,
@@ -106,8 +121,9 @@ pub fn convert_column<S: Source, K: Sink, L: Ledger>(
 ) -> ColumnEnd
     // What was taken and what was written, by how the run ended.
     ensures run { (result.stop ≡ Stop.NoMemory)
-        ⊎ HasRunAfter conversion.now.skipped result.stop (IsFieldReply conversion.now.form conversion.now.rule)
-        (kept_of conversion.now.is_kept conversion.now.form.mark conversion.now.rule.print)
+        ⊎ HasRunAfter conversion.now.skipped result.stop
+        (IsFieldReply conversion.now.form conversion.now.rule.radix (IsLineReply conversion.now.rule))
+        (kept_of conversion.now.is_kept conversion.now.form.mark (has_point conversion.now.rule.print))
         conversion.now.delimiter conversion.now.columns.items
         (first_state conversion.now.has_header conversion.now.destination conversion.now.columns.items)
         (counts_of result)
@@ -120,15 +136,58 @@ pub fn convert_column<S: Source, K: Sink, L: Ledger>(
     // Where there was no memory, nothing was read or written.
     ensures memory { result.stop ≡ Stop.NoMemory → (source.new ≡ source.old) × (sink.new ≡ sink.old) }
 {
+    let settings = conversion.rule.settings();
+    let keeps = kept_of(conversion, has_point(settings.print));
     let numerals = FieldNumerals {
         rule: &conversion.rule,
+        radix: settings.radix,
         form: &conversion.form,
     };
     match report {
-        None => convert_by(alloc, conversion, &numerals, watch, source, sink, steps),
+        None => convert_by(
+            alloc, conversion, keeps, &numerals, watch, source, sink, steps,
+        ),
         Some(report) => {
             let rule = ReportedNumerals { numerals, report };
-            convert_by(alloc, conversion, &rule, watch, source, sink, steps)
+            convert_by(alloc, conversion, keeps, &rule, watch, source, sink, steps)
         }
     }
+}
+
+/// Converts columns of the records of a text into amounts, and says how they ended. A field is answered as a line is
+/// that its numeral is; every other byte of the text is written as it was.
+pub fn convert_amounts<S: Source, K: Sink, L: Ledger>(
+    alloc: Global,
+    conversion: &ColumnConversion<'_, AmountSettings>,
+    watch: &ColumnWatch,
+    source: &mut S,
+    sink: &mut K,
+    steps: &mut Steps<L>,
+) -> ColumnEnd
+    // What was taken and what was written, by how the run ended.
+    ensures run { (result.stop ≡ Stop.NoMemory)
+        ⊎ HasRunAfter conversion.now.skipped result.stop
+        (IsFieldReply conversion.now.form RadixOf.Dec (λ line. IsReply conversion.now.rule (without_return line)))
+        (kept_of conversion.now.is_kept conversion.now.form.mark (has_amount_point conversion.now.rule.print))
+        conversion.now.delimiter conversion.now.columns.items
+        (first_state conversion.now.has_header conversion.now.destination conversion.now.columns.items)
+        (counts_of result)
+        (S.left source.old) (S.left source.new) (K.written sink.old) (K.written sink.new) }
+
+    // Which count of failures rose.
+    ensures failures { HasFailures (S.failures source.old) (S.failures source.new) (K.failures sink.old)
+        (K.failures sink.new) result.stop }
+
+    // Where there was no memory, nothing was read or written.
+    ensures memory { result.stop ≡ Stop.NoMemory → (source.new ≡ source.old) × (sink.new ≡ sink.old) }
+{
+    let keeps = kept_of(conversion, has_amount_point(conversion.rule.print));
+    let numerals = FieldNumerals {
+        rule: &conversion.rule,
+        radix: Radix::Dec,
+        form: &conversion.form,
+    };
+    convert_by(
+        alloc, conversion, keeps, &numerals, watch, source, sink, steps,
+    )
 }

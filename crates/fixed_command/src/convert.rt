@@ -8,7 +8,7 @@ ghost use Rattle.std.specs.Prelude.{MatchResult, false, length, true};
 ghost use Rattle.fixed_bits.specs.Formats.{IsFormat};
 ghost use Rattle.fixed_bits.specs.Ranges.{IsInRange, IsWide};
 ghost use Rattle.line_engine.specs.Output.{AppendsAnswer};
-ghost use Rattle.fixed_command.specs.Inner.Moved.{HasPushed};
+ghost use Rattle.fixed_command.specs.Moved.{HasPushed};
 ghost use Rattle.fixed_command.specs.declared.spelling.Spelling.{Spelling};
 ghost use Rattle.fixed_command.specs.Convert.{asks_a_line, IsNoSource, IsSource, IsLineReply, IsReply, asking_line};
 ghost use Rattle.fixed_command.specs.Convert.{without_return};
@@ -358,10 +358,9 @@ fn read_bits(settings: &Settings, word: &[u8]) -> Result<Shown, &'static str>
     }
 }
 
-/// Appends the part that is asked for of a number of the source, moved to the target, or that it has no image there,
-/// and
-/// answers whether that is so.
-fn push_image<const N: usize, L: Ledger>(
+/// Appends the part that is asked for of a number of the source, moved to the target; or, if it has no image there, the
+/// fault. Returns whether that is so.
+pub fn push_image<const N: usize, L: Ledger>(
     out: &mut TextBuffer<N>,
     settings: &Settings,
     found: &Shown,

@@ -27,7 +27,7 @@ fn push_looked_at(form: &FieldForm<'_>, byte: u8, numeral: &mut TextBuffer<MAX_E
 }
 
 /// The numeral of a field, as far as there is room for it.
-fn numeral_of(form: &FieldForm<'_>, field: &[u8]) -> TextBuffer<MAX_EXPLANATION>
+pub(crate) fn numeral_of(form: &FieldForm<'_>, field: &[u8]) -> TextBuffer<MAX_EXPLANATION>
     ensures { result ≡ looked_at form.now field.now }
 {
     let bytes = bare(form, field);

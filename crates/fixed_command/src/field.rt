@@ -9,10 +9,10 @@
 
 ghost use Rattle.std.specs.Prelude.{◌≡◌, ◌≤◌, ◌<◌, ◌+◌, ◌++◌, [], List, ℕ, IsTrue, drop, length, flat_map, map};
 ghost use Rattle.column_engine.specs.Limits.{longest_record};
-ghost use Rattle.fixed_command.specs.Convert.{IsLineReply};
 ghost use Rattle.fixed_command.specs.Fields.{IsEmptyReply, IsPointReply, IsReadReply, after_sign, bare};
 ghost use Rattle.fixed_command.specs.Fields.{digits_of, has_part, is_after_group, is_digit, is_grouped, is_misplaced};
 ghost use Rattle.fixed_command.specs.Fields.{marked, read_for, swapped};
+ghost use Rattle.line_engine.specs.AnswerText.{AnswerText};
 
 use crate::ConvertRule;
 use column_engine::{FieldRule, MAX_RECORD, RecordBuffer};
@@ -209,46 +209,63 @@ fn is_plain(form: &FieldForm<'_>) -> bool
     form.decimal == b'.' && form.thousands.is_empty()
 }
 
-/// Writes out the reply to a line.
-fn reply_to<L: Ledger>(
-    rule: &ConvertRule,
-    line: &[u8],
-    out: &mut Output,
-    steps: &mut Steps<L>,
-) -> bool
-    requires { out.old ≡ [] }
-    ensures { IsLineReply rule.now line.now (record { text = out.new; fault = result }) }
-{
-    rule.answer(line, out, steps)
+/// What replies to the numeral of a field, as to a line that it is.
+pub trait FieldReply<L: Ledger> {
+    /// Whether a text with its flag is the reply to a line.
+    ghost Replies: { Self → List ℕ → AnswerText → Type 0 };
+
+    /// Writes out the reply to a line, and returns whether it is a refusal.
+    fn reply_to(&self, line: &[u8], out: &mut Output, steps: &mut Steps<L>) -> bool
+        requires { out.old ≡ [] }
+        ensures { Replies self.now line.now (record { text = out.new; fault = result }) };
+
+    /// A line has at most one reply.
+    ghost one_law: { (rule : Self) (line : List ℕ) (a b : AnswerText) → Replies rule line a → Replies rule line b
+        → a ≡ b };
+}
+
+impl<L: Ledger> FieldReply<L> for ConvertRule {
+    ghost use Rattle.fixed_command.specs.Convert.{IsLineReply};
+    ghost use Rattle.fixed_command.specs.Lemmas.ReplyLemmas.{line_reply_one};
+
+    ghost Replies = { λ rule. IsLineReply rule };
+
+    fn reply_to(&self, line: &[u8], out: &mut Output, steps: &mut Steps<L>) -> bool {
+        self.answer(line, out, steps)
+    }
+
+    ghost one_law = { λ rule. line_reply_one rule };
 }
 
 /// Writes out the reply to a field without a byte.
-fn reply_to_empty<L: Ledger>(
+fn reply_to_empty<R: FieldReply<L>, L: Ledger>(
     empty: Empty,
-    rule: &ConvertRule,
+    rule: &R,
     out: &mut Output,
     steps: &mut Steps<L>,
 ) -> bool
     requires { out.old ≡ [] }
-    ensures { IsEmptyReply empty rule.now (record { text = out.new; fault = result }) }
+    ensures { IsEmptyReply empty (R.Replies rule.now) (record { text = out.new; fault = result }) }
 {
     match empty {
         Empty::Kept => false,
-        Empty::Refused => reply_to(rule, b"", out, steps),
-        Empty::Zero => reply_to(rule, b"0", out, steps),
+        Empty::Refused => rule.reply_to(b"", out, steps),
+        Empty::Zero => rule.reply_to(b"0", out, steps),
     }
 }
 
 /// The rule of a conversion of fields, spelled in a form.
-#[derive(Clone, Copy)]
-pub struct FieldNumerals<'a> {
+#[derive(Drop)]
+pub struct FieldNumerals<'a, R> {
     /// How the numeral of a field is converted.
-    pub rule: &'a ConvertRule,
+    pub rule: &'a R,
+    /// The radix of its digits.
+    pub radix: Radix,
     /// How a field spells it.
     pub form: &'a FieldForm<'a>,
 }
 
-impl<'a> FieldNumerals<'a> {
+impl<'a, R> FieldNumerals<'a, R> {
     /// Writes out the reply to a field that has a byte.
     fn reply_to_read<L: Ledger>(
         &self,
@@ -257,21 +274,23 @@ impl<'a> FieldNumerals<'a> {
         out: &mut Output,
         steps: &mut Steps<L>,
     ) -> bool
+    where
+        R: FieldReply<L>,
         requires short { length bytes.now ≤ longest_record }
         requires empty { out.old ≡ [] }
         ensures { (field : List ℕ) → bytes.now ≡ bare self.now.form.now field
-            → IsReadReply (is_misplaced self.now.form.now self.now.rule.now.radix bytes.now) self.now.form.now
-            self.now.rule.now field (record { text = out.new; fault = result }) }
+            → IsReadReply (is_misplaced self.now.form.now self.now.radix bytes.now) self.now.form.now
+            (R.Replies self.now.rule.now) field (record { text = out.new; fault = result }) }
     {
         if is_plain(self.form) {
-            return reply_to(self.rule, bytes, out, steps);
+            return self.rule.reply_to(bytes, out, steps);
         }
-        if is_misplaced(self.form, self.rule.settings().radix, bytes) {
+        if is_misplaced(self.form, self.radix, bytes) {
             push_fault(out, "misplaced thousands separator");
             return true;
         }
         write_read(self.form, bytes, scratch);
-        reply_to(self.rule, scratch.as_slice(), out, steps)
+        self.rule.reply_to(scratch.as_slice(), out, steps)
     }
 
     /// Writes out the reply to a field, its number with a point.
@@ -282,9 +301,11 @@ impl<'a> FieldNumerals<'a> {
         out: &mut Output,
         steps: &mut Steps<L>,
     ) -> bool
+    where
+        R: FieldReply<L>,
         requires short { length field.now ≤ longest_record }
         requires empty { out.old ≡ [] }
-        ensures { IsPointReply self.now.form.now self.now.rule.now field.now (record {
+        ensures { IsPointReply self.now.form.now self.now.radix (R.Replies self.now.rule.now) field.now (record {
           text = out.new;
           fault = result;
         }) }
@@ -297,11 +318,11 @@ impl<'a> FieldNumerals<'a> {
     }
 }
 
-impl<'a, L: Ledger> FieldRule<L> for FieldNumerals<'a> {
+impl<'a, R: FieldReply<L>, L: Ledger> FieldRule<L> for FieldNumerals<'a, R> {
     ghost use Rattle.fixed_command.specs.Fields.{IsFieldReply};
     ghost use Rattle.fixed_command.specs.Lemmas.FieldLemmas.{field_reply_one};
 
-    ghost Answers = { λ fields. IsFieldReply fields.form.now fields.rule.now };
+    ghost Answers = { λ fields. IsFieldReply fields.form.now fields.radix (R.Replies fields.rule.now) };
 
     fn answer(
         &self,
@@ -320,5 +341,6 @@ impl<'a, L: Ledger> FieldRule<L> for FieldNumerals<'a> {
         false
     }
 
-    ghost one_law = { λ fields. field_reply_one fields.form.now fields.rule.now };
+    ghost one_law = { λ fields. field_reply_one fields.form.now fields.radix (R.Replies fields.rule.now)
+        (R.one_law fields.rule.now) };
 }

@@ -147,19 +147,22 @@ impl<'w> FieldReport<'w> {
 }
 
 /// The rule of a conversion of fields that keeps how they come through.
-#[derive(Clone, Copy)]
+#[derive(Drop)]
 pub struct ReportedNumerals<'a> {
     /// The rule.
-    pub numerals: FieldNumerals<'a>,
+    pub numerals: FieldNumerals<'a, ConvertRule>,
     /// Where it is kept.
     pub report: &'a FieldReport<'a>,
 }
 
 impl<'a, L: Ledger> FieldRule<L> for ReportedNumerals<'a> {
+    ghost use Rattle.fixed_command.specs.Convert.{IsLineReply};
     ghost use Rattle.fixed_command.specs.Fields.{IsFieldReply};
     ghost use Rattle.fixed_command.specs.Lemmas.FieldLemmas.{field_reply_one};
+    ghost use Rattle.fixed_command.specs.Lemmas.ReplyLemmas.{line_reply_one};
 
-    ghost Answers = { λ reported. IsFieldReply reported.numerals.form.now reported.numerals.rule.now };
+    ghost Answers = { λ reported. IsFieldReply reported.numerals.form.now reported.numerals.radix
+        (IsLineReply reported.numerals.rule.now) };
 
     fn answer(
         &self,
@@ -188,5 +191,6 @@ impl<'a, L: Ledger> FieldRule<L> for ReportedNumerals<'a> {
         is_refused
     }
 
-    ghost one_law = { λ reported. field_reply_one reported.numerals.form.now reported.numerals.rule.now };
+    ghost one_law = { λ reported. field_reply_one reported.numerals.form.now reported.numerals.radix
+        (IsLineReply reported.numerals.rule.now) (line_reply_one reported.numerals.rule.now) };
 }

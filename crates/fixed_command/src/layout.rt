@@ -79,7 +79,7 @@ impl Layout {
     }
 
     /// The same layout once more.
-    fn same(&self) -> Layout
+    pub(crate) fn same(&self) -> Layout
         ensures { result ≡ self.now }
     {
         let mut comments = TextBuffer::new();
@@ -149,8 +149,10 @@ impl LaidOutRule {
 
 impl<L: Ledger> LineRule<L> for LaidOutRule {
     ghost use Rattle.std.proofs.Common.{lit<};
+    ghost use Rattle.fixed_command.specs.Convert.{IsReply};
     ghost use Rattle.fixed_command.specs.Layout.{IsLaidOut};
     ghost use Rattle.fixed_command.specs.Lemmas.LayoutLemmas.{laid_out_one, long_by_its_prefix};
+    ghost use Rattle.fixed_command.specs.Lemmas.ReplyLemmas.{reply_one};
 
     const PER_BYTE: u64 = 8;
 
@@ -164,7 +166,7 @@ impl<L: Ledger> LineRule<L> for LaidOutRule {
 
     ghost MAX_ANSWER = { 192 };
 
-    ghost Answers = { λ laid. IsLaidOut laid.layout laid.rule };
+    ghost Answers = { λ laid. IsLaidOut laid.layout (IsReply laid.rule) };
 
     fn answer(&self, line: &[u8], out: &mut Output, steps: &mut Steps<L>) -> bool {
         if line.len() > MAX_LINE {
@@ -180,7 +182,9 @@ impl<L: Ledger> LineRule<L> for LaidOutRule {
 
     ghost room_law = { lit< tt };
 
-    ghost one_law = { λ laid. laid_out_one laid.layout laid.rule };
+    ghost one_law = { λ laid. laid_out_one laid.layout (IsReply laid.rule)
+        (reply_one laid.rule) };
 
-    ghost kept_law = { λ laid. long_by_its_prefix laid.layout laid.rule };
+    ghost kept_law = { λ laid. long_by_its_prefix laid.layout (IsReply laid.rule)
+        (reply_one laid.rule) };
 }

@@ -4,6 +4,7 @@
 //! what its answers are made of.
 #![tactic(auto)]
 
+pub mod amounts;
 pub mod bit_field;
 pub mod blocks;
 pub mod column;
@@ -25,13 +26,14 @@ pub mod task;
 pub mod watch;
 pub mod words;
 
+pub use amounts::{AmountLines, AmountsEnd, amount_field_explanation, run_amounts, status_of};
 pub use bit_field::field_named;
 pub use blocks::{Question, run_blocks};
-pub use column::{ColumnConversion, convert_column};
-pub use convert::{ConvertRule, Settings, without_return};
+pub use column::{ColumnConversion, convert_amounts, convert_column};
+pub use convert::{ConvertRule, Settings, push_image, without_return};
 pub use explain::explanation;
 pub use explain_field::field_explanation;
-pub use field::{Empty, FieldForm, FieldNumerals};
+pub use field::{Empty, FieldForm, FieldNumerals, FieldReply};
 pub use field_report::{FieldReport, ReportedNumerals, field_outcome};
 pub use fixed_show::{Form, Part};
 pub use hex::{push_hex, word_of};

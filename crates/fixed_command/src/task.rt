@@ -8,7 +8,7 @@ ghost use Rattle.fixed_columns.specs.Answer as columns;
 ghost use Rattle.fixed_enclose.specs.Answer as enclose;
 ghost use Rattle.fixed_least.specs.Least as least;
 ghost use Rattle.fixed_respell.specs.Answer.{IsAnswer};
-ghost use Rattle.fixed_command.specs.Convert.{IsLineReply};
+ghost use Rattle.fixed_command.specs.Convert.{IsLineReply, IsReply};
 ghost use Rattle.fixed_command.specs.Layout.{IsLaidOut};
 ghost use Rattle.fixed_command.specs.Limits.{limit_of, max_limit, no_limit};
 ghost use Rattle.fixed_command.specs.LineBlocks.{IsLineBlock};
@@ -264,7 +264,7 @@ fn run_laid_out<S: Source, K: Sink, L: Ledger>(
     sink: &mut K,
     steps: &mut Steps<L>,
 ) -> Status
-    ensures run { HasLineRun (IsLaidOut laid.now.layout laid.now.rule) no_limit 8 624
+    ensures run { HasLineRun (IsLaidOut laid.now.layout (IsReply laid.now.rule)) no_limit 8 624
         (outside (S.left source.old) (S.asked source.old) (S.failures source.old)
         (K.written sink.old) (K.failures sink.old) steps.old)
         (outside (S.left source.new) (S.asked source.new) (S.failures source.new)
@@ -289,7 +289,8 @@ fn run_reported<S: Source, K: Sink, L: Ledger>(
     sink: &mut K,
     steps: &mut Steps<L>,
 ) -> Status
-    ensures run { HasLineRun (IsLaidOut laid.now.layout laid.now.rule) no_limit reported_per_byte reported_extra
+    ensures run { HasLineRun (IsLaidOut laid.now.layout (IsReply laid.now.rule)) no_limit reported_per_byte
+        reported_extra
         (outside (S.left source.old) (S.asked source.old) (S.failures source.old)
         (K.written sink.old) (K.failures sink.old) steps.old)
         (outside (S.left source.new) (S.asked source.new) (S.failures source.new)

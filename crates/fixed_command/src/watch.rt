@@ -423,8 +423,10 @@ impl<L: Ledger> LineRule<L> for WatchedNumerals {
 
 impl<L: Ledger> LineRule<L> for WatchedLaidOut {
     ghost use Rattle.std.proofs.Common.{lit<};
+    ghost use Rattle.fixed_command.specs.Convert.{IsReply};
     ghost use Rattle.fixed_command.specs.Layout.{IsLaidOut};
     ghost use Rattle.fixed_command.specs.Lemmas.LayoutLemmas.{laid_out_one, long_by_its_prefix};
+    ghost use Rattle.fixed_command.specs.Lemmas.ReplyLemmas.{reply_one};
 
     const PER_BYTE: u64 = 8;
 
@@ -438,7 +440,7 @@ impl<L: Ledger> LineRule<L> for WatchedLaidOut {
 
     ghost MAX_ANSWER = { 192 };
 
-    ghost Answers = { λ watched. IsLaidOut watched.laid.layout watched.laid.rule };
+    ghost Answers = { λ watched. IsLaidOut watched.laid.layout (IsReply watched.laid.rule) };
 
     fn answer(&self, line: &[u8], out: &mut Output, steps: &mut Steps<L>) -> bool {
         let start = self.watch.begin(out);
@@ -449,15 +451,19 @@ impl<L: Ledger> LineRule<L> for WatchedLaidOut {
 
     ghost room_law = { lit< tt };
 
-    ghost one_law = { λ watched. laid_out_one watched.laid.layout watched.laid.rule };
+    ghost one_law = { λ watched. laid_out_one watched.laid.layout (IsReply watched.laid.rule)
+        (reply_one watched.laid.rule) };
 
-    ghost kept_law = { λ watched. long_by_its_prefix watched.laid.layout watched.laid.rule };
+    ghost kept_law = { λ watched. long_by_its_prefix watched.laid.layout (IsReply watched.laid.rule)
+        (reply_one watched.laid.rule) };
 }
 
 impl<L: Ledger> LineRule<L> for ReportedLaidOut {
     ghost use Rattle.std.proofs.Common.{lit<};
+    ghost use Rattle.fixed_command.specs.Convert.{IsReply};
     ghost use Rattle.fixed_command.specs.Layout.{IsLaidOut};
     ghost use Rattle.fixed_command.specs.Lemmas.LayoutLemmas.{laid_out_one, long_by_its_prefix};
+    ghost use Rattle.fixed_command.specs.Lemmas.ReplyLemmas.{reply_one};
     ghost use Rattle.fixed_command.specs.Runs.{reported_extra, reported_per_byte};
 
     const PER_BYTE: u64 = 52;
@@ -472,7 +478,7 @@ impl<L: Ledger> LineRule<L> for ReportedLaidOut {
 
     ghost MAX_ANSWER = { 192 };
 
-    ghost Answers = { λ reported. IsLaidOut reported.laid.layout reported.laid.rule };
+    ghost Answers = { λ reported. IsLaidOut reported.laid.layout (IsReply reported.laid.rule) };
 
     fn answer(&self, line: &[u8], out: &mut Output, steps: &mut Steps<L>) -> bool {
         let start = self.watch.begin(out);
@@ -484,9 +490,11 @@ impl<L: Ledger> LineRule<L> for ReportedLaidOut {
 
     ghost room_law = { lit< tt };
 
-    ghost one_law = { λ reported. laid_out_one reported.laid.layout reported.laid.rule };
+    ghost one_law = { λ reported. laid_out_one reported.laid.layout (IsReply reported.laid.rule)
+        (reply_one reported.laid.rule) };
 
-    ghost kept_law = { λ reported. long_by_its_prefix reported.laid.layout reported.laid.rule };
+    ghost kept_law = { λ reported. long_by_its_prefix reported.laid.layout (IsReply reported.laid.rule)
+        (reply_one reported.laid.rule) };
 }
 
 impl<L: Ledger> LineRule<L> for WatchedEnclosures {

@@ -36,6 +36,7 @@ pub fn policy_name(policy: Policy) -> &'static str
         Policy::Checked => "checked",
         Policy::Saturating => "saturating",
         Policy::Wrapping => "wrapping",
+        Policy::Symmetric => "symmetric",
     }
 }
 
@@ -91,6 +92,7 @@ fn policy_of_word(word: &str) -> Option<Policy>
         "checked" => Some(Policy::Checked),
         "saturating" => Some(Policy::Saturating),
         "wrapping" => Some(Policy::Wrapping),
+        "symmetric" => Some(Policy::Symmetric),
         _ => None,
     }
 }

@@ -28,12 +28,12 @@ use Rattle.fixed_constants.specs.declared.form.Form.{Form}
 use Rattle.fixed_columns.specs.Answer as columns
 use Rattle.fixed_columns.specs.Lemmas.ColumnsLemmas.{answer_one as columns_one}
 use Rattle.fixed_columns.specs.Program.{AsksWithin, HasColumnsRun, usage_line as columns_usage}
-use Rattle.fixed_command.specs.Convert.{IsLineReply}
+use Rattle.fixed_command.specs.Convert.{IsLineReply, IsReply}
 use Rattle.fixed_command.specs.Layout.{IsLaidOut}
 use Rattle.fixed_command.specs.Lemmas.BlockLemmas.{line_block_one}
 use Rattle.fixed_command.specs.Lemmas.LayoutLemmas.{laid_out_one}
 use Rattle.fixed_command.specs.Lemmas.ProductLemmas.{product_one}
-use Rattle.fixed_command.specs.Lemmas.ReplyLemmas.{line_reply_one}
+use Rattle.fixed_command.specs.Lemmas.ReplyLemmas.{line_reply_one, reply_one}
 use Rattle.fixed_command.specs.Limits.{limit_of, max_limit, no_limit}
 use Rattle.fixed_command.specs.LineBlocks.{IsLineBlock}
 use Rattle.fixed_command.specs.Products.{IsProduct}
@@ -97,8 +97,8 @@ module _ (report : ReportIsTheOne) where
     pub task_runs_one : TaskRunsAreTheOnes
     task_runs_one (Lines limit) = by_line cut respell.IsAnswer respell_one (limit_of limit) 8 624 (TaskRuns (Lines limit)) (λ before after s x. x)
     task_runs_one (Convert settings) = by_line cut (IsLineReply settings) (line_reply_one settings) no_limit 8 624 (TaskRuns (Convert settings)) (λ before after s x. x)
-    task_runs_one (LaidOut laid) = by_line cut (IsLaidOut laid.layout laid.rule) (laid_out_one laid.layout laid.rule) no_limit 8 624 (TaskRuns (LaidOut laid)) (λ before after s x. x)
-    task_runs_one (Reported laid) = by_line cut (IsLaidOut laid.layout laid.rule) (laid_out_one laid.layout laid.rule) no_limit reported_per_byte reported_extra (TaskRuns (Reported laid)) (λ before after s x. x)
+    task_runs_one (LaidOut laid) = by_line cut (IsLaidOut laid.layout (IsReply laid.rule)) (laid_out_one laid.layout (IsReply laid.rule) (reply_one laid.rule)) no_limit 8 624 (TaskRuns (LaidOut laid)) (λ before after s x. x)
+    task_runs_one (Reported laid) = by_line cut (IsLaidOut laid.layout (IsReply laid.rule)) (laid_out_one laid.layout (IsReply laid.rule) (reply_one laid.rule)) no_limit reported_per_byte reported_extra (TaskRuns (Reported laid)) (λ before after s x. x)
     task_runs_one (Ask form question) = by_line cut (IsLineBlock form question) (line_block_one form question) no_limit 26 3307 (TaskRuns (Ask form question)) (λ before after s x. x)
     task_runs_one Enclose = by_line cut enclose.IsAnswer enclose_one no_limit 16 1248 (TaskRuns Enclose) (λ before after s x. x)
     task_runs_one (Least radix) = by_whole (least.IsWholeAnswer radix) (least_one radix) max_limit (TaskRuns (Least radix)) (λ before after s x. x)

@@ -5,8 +5,8 @@ use Rattle.std.specs.Int.{is_negative}
 use Rattle.std.proofs.lemmas.Nat.{pow_pos}
 use Rattle.fixed_bits.proofs.Public.{has_none, image_one, rounded_unique}
 use Rattle.fixed_bits.specs.Formats.{FormatParts}
-use Rattle.fixed_bits.specs.Images.{IsImage}
-use Rattle.fixed_bits.specs.Ranges.{IsOutOfRange, IsWidth}
+use Rattle.fixed_bits.specs.Images.{IsImage, IsOutOfRangeBy}
+use Rattle.fixed_bits.specs.Ranges.{IsWidth}
 use Rattle.fixed_bits.specs.declared.format.Policy.{Policy}
 use Rattle.fixed_bits.specs.declared.format.Policy.TheVariants.{Checked}
 use Rattle.fixed_bits.specs.declared.mode.ReadMode.{ReadMode}
@@ -63,7 +63,8 @@ pub source_by : (spelling : Spelling) (s : Settings) (line : List ℕ) (v w : �
 source_by Numeral s line v w o u formats a b =
     let n : a.number ≡ b.number = read_as_one s.mode s.radix line s.source s.policy v w o u a b in (
       read_bits_one s.mode s.radix line s.source s.policy v w o u formats.source.is_width a b,
-      same_flag o u _ (subst (λ x. IsTrue o ↔ IsOutOfRange s.source.signed s.source.width x) n a.flag) b.flag,
+      same_flag o u _ (subst (λ x. IsTrue o ↔ IsOutOfRangeBy s.policy s.source.signed s.source.width x) n a.flag)
+          b.flag,
     )
 source_by Word s line v w o u formats a b = (
   word_one s.radix s.source line v w formats.source.is_width a.0 b.0,
@@ -116,7 +117,8 @@ reformatted_one mode policy target b f v w o u is x y =
     let m : x.moved ≡ y.moved = moved_same mode b f target.frac x.moved y.moved x.is_moved y.is_moved in (
       image_one policy target.signed target.width y.moved v w is (subst (λ z. IsImage policy target.signed
           target.width z v) m x.image_is) y.image_is,
-      same_flag o u _ (subst (λ z. IsTrue o ↔ IsOutOfRange target.signed target.width z) m x.verdict) y.verdict,
+      same_flag o u _ (subst (λ z. IsTrue o ↔ IsOutOfRangeBy policy target.signed target.width z) m x.verdict)
+          y.verdict,
     )
 
 pub reformatted_or_not : (mode : ReadMode) (policy : Policy) (target : FormatParts) (b : ℤ) (f : ℕ) (v : ℤ) (o : Bool)

@@ -1,2 +1,0 @@
--- Contracts of private functions. Nothing that is public cites them.
-pub mod Moved
