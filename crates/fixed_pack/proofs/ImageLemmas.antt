@@ -1,20 +1,25 @@
 -- A word whose source is its target: its bits are their own image.
-use Rattle.std.proofs.Common.{◌≡◌, ◌==◌, ◌&&◌, ◌∙◌, ◌^◌, ◌≤◌, ◌++◌, ℕ, ℤ, Bool, true, false, unsigned_abs, List, length, refl, sym, ap, subst}
+use Rattle.std.proofs.Common.{◌≡◌, ◌==◌, ◌&&◌, ◌∙◌, ◌^◌, ◌≤◌, ◌++◌, ℕ, ℤ, Bool, true, false, unsigned_abs, List, length, refl, sym, ap, subst, arith, length-append}
 use Rattle.std.specs.Bool.{beq}
 use Rattle.std.specs.Cmp.{booleans_Decides}
 use Rattle.std.specs.Int.{is_negative}
 use Rattle.std.proofs.lemmas.Bool.{and_parts, false≢true}
 use Rattle.std.proofs.lemmas.Bool.Decides.{Decides-eqb}
 use Rattle.std.proofs.lemmas.Nat.{pow_pos}
-use Rattle.fixed_bits.proofs.Public.{images_agree, in_wide, range_decided, rounded_exact, sign_and_magnitude, width_most}
+use Rattle.fixed_bits.proofs.Public.{images_agree, in_wide, policy_range_decided, rounded_exact, sign_and_magnitude, width_most}
 use Rattle.fixed_bits.specs.Formats.{FormatParts, IsFormat}
+use Rattle.fixed_bits.specs.Images.{IsInRangeBy}
 use Rattle.fixed_bits.specs.Ranges.{IsInRange}
 use Rattle.fixed_bits.specs.declared.format.Policy.{Policy}
+use Rattle.fixed_bits.specs.declared.format.Policy.TheVariants.{Checked, Saturating, Wrapping, Symmetric}
 use Rattle.fixed_bits.specs.declared.mode.ReadMode.{ReadMode}
 use Rattle.fixed_convert.specs.Rounded.{IsReformatted}
 use Rattle.fixed_write.specs.Texts.{IsShortestText}
 use Rattle.fixed_command.specs.declared.convert.Settings.{Settings}
-use Rattle.fixed_pack.specs.Inner.Unpacking.{AppendsImage}
+use Rattle.fixed_command.specs.Moved.{HasPushedImage}
+use Rattle.fixed_command.specs.Printed.{printed}
+use Rattle.fixed_command.specs.declared.print.Print.TheVariants.{Text}
+use Rattle.fixed_respell.specs.Answer.{respelled_answer}
 
 -- ---- formats that `==` does not tell apart are one
 pub same_format : (f g : FormatParts) → (beq f.signed g.signed && ((f.width == g.width) && (f.frac == g.frac))) ≡ true → f ≡ g
@@ -26,7 +31,14 @@ same_format f g is =
     ∙ (ap (λ w. F g.signed w f.frac) ((Decides-eqb f.width g.width).0 inner.0) ∙ ap (λ k. F g.signed g.width k) ((Decides-eqb f.frac g.frac).0 inner.1))
 
 -- ---- bits of a format are their own image in it
-own_image : (m : ReadMode) (policy : Policy) (f : FormatParts) (b : ℤ) → IsFormat f.width f.frac → IsInRange f.signed f.width b → IsReformatted m policy f b f.frac b false
+-- in the range that a policy leaves, where it is not Symmetric or Symmetric leaves the number in
+pub range_by : (p : Policy) (s : Bool) (n : ℕ) (v : ℤ) → IsInRange s n v → (p ≡ Symmetric → IsInRangeBy Symmetric s n v) → IsInRangeBy p s n v
+range_by Checked s n v i symmetric = record { low = i.low; high = i.high }
+range_by Saturating s n v i symmetric = record { low = i.low; high = i.high }
+range_by Wrapping s n v i symmetric = record { low = i.low; high = i.high }
+range_by Symmetric s n v i symmetric = symmetric refl
+
+own_image : (m : ReadMode) (policy : Policy) (f : FormatParts) (b : ℤ) → IsFormat f.width f.frac → IsInRangeBy policy f.signed f.width b → IsReformatted m policy f b f.frac b false
 own_image m policy f b format range = record {
   moved = b;
   is_moved = record {
@@ -35,21 +47,19 @@ own_image m policy f b format range = record {
     value = sym (sign_and_magnitude b);
   };
   image_is = (images_agree policy f.signed f.width b b format.is_width range).1 refl;
-  verdict = (λ t. absurd (false≢true t), λ out. absurd ((range_decided f.signed f.width b).1 out range));
+  verdict = (λ t. absurd (false≢true t), λ out. absurd ((policy_range_decided policy f.signed f.width b).1 out range));
 }
 
--- and so their text is that of their image
-pub own_text : (s : Settings) (bits : ℤ) (frac : ℕ) (text old new : List ℕ) → s.source ≡ s.target → frac ≡ s.target.frac → IsFormat s.source.width s.source.frac → IsFormat s.target.width s.target.frac → IsInRange s.source.signed s.source.width bits
-    → IsShortestText bits frac text → length text ≤ 48 → new ≡ old ++ text → AppendsImage s bits old new
-own_text s bits frac text old new same is_frac source target range shortest short out = record {
-  source = source;
-  target = target;
-  image = bits;
-  overflowed = false;
-  moved = subst (λ f. IsReformatted s.target_mode s.policy f bits s.source.frac bits false) same (own_image s.target_mode s.policy s.source bits source range);
-  wide = in_wide s.source.signed s.source.width bits (width_most s.source.width source.is_width) range;
+-- and so their text is what is pushed of them
+pub own_text : (s : Settings) (bits : ℤ) (frac : ℕ) (text old new : List ℕ) → s.source ≡ s.target → ¬ (s.policy ≡ Symmetric) → frac ≡ s.target.frac → IsFormat s.source.width s.source.frac → s.print ≡ Text → IsInRange s.source.signed s.source.width bits
+    → IsShortestText bits frac text → length text ≤ 48 → new ≡ old ++ text → HasPushedImage s bits false old new
+own_text s bits frac text old new same other is_frac source print range shortest short out = record {
+  bits = bits;
+  target_out = false;
+  moved = subst (λ f. IsReformatted s.target_mode s.policy f bits s.source.frac bits false) same (own_image s.target_mode s.policy s.source bits source (range_by s.policy s.source.signed s.source.width bits range (λ e. absurd (other e))));
   text = text;
   shortest = subst (λ n. IsShortestText bits n text) is_frac shortest;
-  short = short;
-  out = out;
+  wide = in_wide s.source.signed s.source.width bits (width_most s.source.width source.is_width) range;
+  appended = out ∙ ap (λ p. old ++ printed p s.target (respelled_answer text bits false).text text bits) (sym print);
+  short = omega (arith, ap length out, length-append old text, short);
 }

@@ -1,11 +1,8 @@
 mod FloatLemmas
 mod ImageLemmas
 mod LawLemmas
-mod LineLemmas
 mod PackLemmas
 mod RecodeLemmas
 mod ReplyLemmas
-mod TakenLemmas
 mod UnpackLawLemmas
-mod UnpackLemmas
 mod WordLemmas

@@ -1,348 +1,191 @@
--- Lines that were packed, one after the other.
-use Rattle.std.proofs.Common.{◌≡◌, ◌∙◌, ◌+◌, ◌≤◌, ℕ, ℤ, Bool, List, [], ◌∷◌, ◌++◌, length, sym, ap, subst, arith, append-nil, append_assoc, length-append, Option}
-use Rattle.std.proofs.KnownBytes.{Appends-nil, Appends-trans}
-use Rattle.std.specs.Io.KnownBytes.{Appends}
-use Rattle.fixed_numeral.specs.declared.error.ParseErrorKind.{ParseErrorKind}
-use Rattle.line_engine.specs.Appended.{AppendsPrefix}
-use Rattle.line_engine.specs.Lines.{ended_lines, last_line, lines}
-use Rattle.fixed_pack.specs.Inner.Packing.{HasNoMemory, HasPacked, HasRefused, HasSent, HasStopped, IsQuiet, PushesWord, RefusesLine, TakesLine, ended_text}
-use Rattle.fixed_pack.specs.Pack.{ArePacked, IsPacked, IsRefused, RefusesOne, Sends, SendsInPart, StopsAmong, StopsShort, refused_line}
-use Rattle.fixed_command.specs.Convert.{without_return}
-use Rattle.fixed_command.specs.Hex.{word_of}
-use Rattle.fixed_command.specs.declared.watch.RefusedLine.{RefusedLine}
-use Rattle.fixed_show.specs.ShowBlock.{IsReadAs, IsUnread}
-use Rattle.fixed_pack.specs.Word.{bytes_of, joined, word_length}
-use Rattle.fixed_pack.specs.declared.pack.PackEnd.TheVariants as end
-use Rattle.fixed_pack.specs.declared.pack.PackSettings.{PackSettings}
+-- Lines that are packed, one after the other.
+use Rattle.std.proofs.Common.{Result, Ok, Err, OnOk, ◌≡◌, ◌∙◌, ◌+◌, ℕ, true, false, List, [], ◌∷◌, ◌++◌, length, refl, sym, ap, subst, arith, append-nil, length-append}
+use Rattle.line_engine.proofs.Public.{ended_lines_line, ended_lines_quiet, unended_line, unended_quiet}
+use Rattle.line_engine.specs.Lines.{ended_lines, last_line, lines, unended}
+use Rattle.run_engine.proofs.Public.{puts_both, puts_held, puts_none}
+use Rattle.run_engine.specs.LineRun.{one_more}
+use Rattle.run_engine.specs.Machines.{Feeds, Goes, Halts, How, going, finished, lacking, stopped}
+use Rattle.run_engine.specs.Seen.{Moment, moment, Puts, Seen}
+use Rattle.run_engine.specs.declared.machine.Halt.{Halt}
+use Rattle.run_engine.specs.declared.machine.Halt.TheVariants.{WriteFault, NoMemory, Stopped}
+use Rattle.run_engine.specs.declared.refusals.RefusedLine.{RefusedLine}
+use Rattle.fixed_pack.specs.Pack.{AreWordsOf}
+use Rattle.fixed_pack.specs.Packed.{Appends, EndsLine, GoesOn, IsRefusal, MakesPacked, Packs}
+use Rattle.fixed_pack.specs.Recoded.{capped}
 use Rattle.fixed_pack.specs.declared.packer.Packer.{Packer}
-use Rattle.fixed_pack.specs.declared.packer.Stop.{Stop}
-use Rattle.fixed_pack.specs.declared.packer.Stop.TheVariants.{NoMemory, Refused}
-use Rattle.fixed_pack.proofs.WordLemmas.{bytes_length}
-use Rattle.fixed_pack.proofs.LineLemmas.{all_lines, ended_text_more, ended_with, ended_without, last_some, quiet_both, quiet_more}
+use Rattle.fixed_pack.proofs.RecodeLemmas.{capped_more, joined_more}
 
-pub joined_more : (words : List (List ℕ)) (word : List ℕ) → joined (words ++ word ∷ []) ≡ joined words ++ word
-joined_more [] word = append-nil word
-joined_more (w ∷ ws) word = ap (λ l. w ++ l) (joined_more ws word) ∙ sym (append_assoc w (joined ws) word)
+-- the last line is there if some of it is
+some_last : (rest : List ℕ) → (rest ≡ [] → ⊥) → last_line rest ≡ rest ∷ []
+some_last [] some = absurd (some refl)
+some_last (b ∷ rest) some = refl
 
-pub packed_more : (s : PackSettings) (done words : List (List ℕ)) (line word : List ℕ) → ArePacked s done words → IsPacked s line word → ArePacked s (done ++ line ∷ []) (words ++ word ∷ [])
-packed_more s [] [] line word are one = (one, tt)
-packed_more s [] (w ∷ ws) line word are one = absurd are
-packed_more s (l ∷ ls) [] line word are one = absurd are
-packed_more s (l ∷ ls) (w ∷ ws) line word are one = (are.0, packed_more s ls ws line word are.1 one)
+module _ (P : List ℕ → List ℕ → Type 0) where
+  words_more : (ls ts : List (List ℕ)) (l t : List ℕ) → AreWordsOf P ls ts → P l t → AreWordsOf P (ls ++ l ∷ []) (ts ++ t ∷ [])
+  words_more [] [] l t are one = (one, tt)
+  words_more [] (u ∷ ts) l t are one = absurd are
+  words_more (k ∷ ls) [] l t are one = absurd are
+  words_more (k ∷ ls) (u ∷ ts) l t are one = (are.0, words_more ls ts l t are.1 one)
 
--- no byte came
-pub packed_none : (s : PackSettings) (p : Packer) → p.settings ≡ s → p.line.items ≡ [] → p.lines ≡ 0 → p.out ≡ [] → HasPacked s [] [] p
-packed_none s p settings line lines out = record {
-  settings = settings;
-  done = [];
-  quiet = tt;
-  rest = subst IsQuiet (sym line) tt;
-  cut = sym line;
-  words = [];
-  packed = tt;
-  held = sym out;
-  count = lines;
-}
+  packs_more : (ls : List (List ℕ)) (text l t : List ℕ) → Packs P ls text → P l t → Packs P (ls ++ l ∷ []) (text ++ t)
+  packs_more ls text l t p one = record { words = p.words ++ t ∷ []; are = words_more ls p.words l t p.are one; text_is = ap (λ x. x ++ t) p.text_is ∙ sym (joined_more p.words t) }
 
--- a line ended
-pub packed_line : (s : PackSettings) (whole sent part : List ℕ) (old new : Packer) → IsQuiet part → HasPacked s whole sent old → TakesLine part old new → HasPacked s (whole ++ (part ++ 10 ∷ [])) sent new
-packed_line s whole sent part old new quiet h t =
-    let line : List ℕ = old.line.items ++ part in
-    let more : List (List ℕ) = h.done ++ line ∷ [] in
-    let own : IsPacked s line t.word = subst (λ u. IsPacked u line t.word) h.settings t.packed in
-    record {
-      settings = t.settings ∙ h.settings;
-      done = more;
-      quiet = quiet_more h.done line h.quiet (quiet_both old.line.items part h.rest quiet);
-      rest = subst IsQuiet (sym t.line) tt;
-      cut = ap (λ w. w ++ (part ++ 10 ∷ [])) h.cut ∙ (append_assoc (ended_text h.done) old.line.items (part ++ 10 ∷ [])
-          ∙ (ap (λ l. ended_text h.done ++ l) (sym (append_assoc old.line.items part (10 ∷ [])))
-          ∙ (sym (ended_text_more h.done line) ∙ (sym (append-nil (ended_text more)) ∙ ap (λ l. ended_text more ++ l) (sym t.line)))));
-      words = h.words ++ t.word ∷ [];
-      packed = packed_more s h.done h.words line t.word h.packed own;
-      held = joined_more h.words t.word ∙ (ap (λ l. l ++ t.word) h.held ∙ (append_assoc sent old.out t.word ∙ ap (λ l. sent ++ l) (sym t.out)));
-      count = t.lines ∙ omega (arith, h.count, length-append h.done (line ∷ []));
-    }
+  packs_same : (ls : List (List ℕ)) (text : List ℕ) → Packs P ls text → Packs P ls (text ++ [])
+  packs_same ls text p = subst (Packs P ls) (sym (append-nil text)) p
 
--- bytes came in which no line ends
-pub packed_part : (s : PackSettings) (whole sent part : List ℕ) (old new : Packer) → IsQuiet part → HasPacked s whole sent old → new.line.items ≡ old.line.items ++ part
-    → new.settings ≡ old.settings → new.lines ≡ old.lines → new.out ≡ old.out → HasPacked s (whole ++ part) sent new
-packed_part s whole sent part old new quiet h line settings lines out = record {
-  settings = settings ∙ h.settings;
-  done = h.done;
-  quiet = h.quiet;
-  rest = subst IsQuiet (sym line) (quiet_both old.line.items part h.rest quiet);
-  cut = ap (λ w. w ++ part) h.cut ∙ (append_assoc (ended_text h.done) old.line.items part ∙ ap (λ l. ended_text h.done ++ l) (sym line));
-  words = h.words;
-  packed = h.packed;
-  held = h.held ∙ ap (λ l. sent ++ l) (sym out);
-  count = lines ∙ h.count;
-}
+  module _ {Q C : Type 0} (F : List ℕ → C → Type 0) (rule : Q) (old : Packer Q) (bytes made : List ℕ) (spent : ℕ) (makes : GoesOn P rule bytes made old) where
+    abbrev Makes : List ℕ → List ℕ → ℕ → How (RefusedLine C) → Packer Q → Type 0
+    Makes = MakesPacked P F rule
 
-pub ended_is : (s : PackSettings) (whole sent : List ℕ) (p : Packer) (h : HasPacked s whole sent p) → ended_lines whole ≡ h.done
-ended_is s whole sent p h = ap ended_lines h.cut ∙ ended_without h.done p.line.items h.quiet h.rest
+    -- a line that ends is packed
+    line_goes : (new : Packer Q) (part : List ℕ) (a b : Seen) (held held1 held2 : List ℕ) (steps steps' : ℕ) → ended_lines part ≡ [] → Puts a b held held1 [] → Appends (P (old.line.items ++ part)) held1 held2 → new.rule ≡ old.rule → new.line.items ≡ [] → new.lines ≡ one_more old.lines
+        → Goes Makes bytes made spent (part ++ 10 ∷ []) going new (moment a held steps) (moment b held2 steps')
+    line_goes new part a b held held1 held2 steps steps' quiet puts one rule_is none count =
+        let whole = ended_lines_line bytes part [] quiet in
+        let line : old.line.items ++ part ≡ unended bytes ++ part = ap (λ l. l ++ part) makes.line in
+        record {
+          more = one.word;
+          cost = steps';
+          makes = record {
+            packs = subst (λ ls. Packs P ls (made ++ one.word)) (sym whole) (packs_more (ended_lines bytes) made (unended bytes ++ part) one.word makes.packs (subst (λ l. P l one.word) line one.is));
+            rule_is = rule_is ∙ makes.rule_is;
+            line = none ∙ sym (unended_line bytes part [] quiet);
+            count = capped_more new.lines old.lines (length (ended_lines bytes)) count makes.count
+                ∙ (ap capped (sym (length-append (ended_lines bytes) ((unended bytes ++ part) ∷ []))) ∙ ap (λ ls. capped (length ls)) (sym whole));
+          };
+          puts = puts_both a b b held held1 held2 [] one.word puts (puts_held b held1 held2 one.word one.appended);
+          steps = omega arith;
+        }
 
--- the line that a part ends is among the lines that ended
-pub ended_more : (s : PackSettings) (whole sent part more : List ℕ) (p : Packer) (h : HasPacked s whole sent p) → IsQuiet part → ended_lines (whole ++ (part ++ 10 ∷ more)) ≡ h.done ++ (p.line.items ++ part) ∷ ended_lines more
-ended_more s whole sent part more p h quiet = ap (λ w. ended_lines (w ++ (part ++ 10 ∷ more))) h.cut ∙ ended_with h.done p.line.items part more h.quiet h.rest quiet
-
-pub lines_are : (s : PackSettings) (whole sent : List ℕ) (p : Packer) (h : HasPacked s whole sent p) → lines whole ≡ h.done ++ last_line p.line.items
-lines_are s whole sent p h = ap lines h.cut ∙ all_lines h.done p.line.items h.quiet h.rest
-
--- a line was refused, or there was no memory for it
-pub stopped_at : (s : PackSettings) (whole sent part : List ℕ) (all more : List (List ℕ)) (old new : Packer) (stop : Stop) (h : HasPacked s whole sent old) → all ≡ h.done ++ (old.line.items ++ part) ∷ more
-    → RefusesLine part old new stop → HasStopped s all sent new stop
-stopped_at s whole sent part all more old new (Refused kind) h cut refused = record {
-  some = h.done;
-  line = old.line.items ++ part;
-  more = more;
-  cut = cut;
-  words = h.words;
-  packed = h.packed;
-  held = h.held ∙ ap (λ l. sent ++ l) (sym refused.2);
-  refused = subst (λ u. IsRefused u (old.line.items ++ part) kind) h.settings refused.0;
-  kept_is = refused.1 ∙ ap (λ n. refused_line (n + 1) (old.line.items ++ part) kind) h.count;
-}
-stopped_at s whole sent part all more old new NoMemory h cut refused = record {
-  some = h.done;
-  more = (old.line.items ++ part) ∷ more;
-  cut = cut;
-  words = h.words;
-  packed = h.packed;
-  held = h.held ∙ ap (λ l. sent ++ l) (sym refused);
-}
-
--- there was no memory for the beginning of a line
-pub stopped_within : (s : PackSettings) (whole sent part : List ℕ) (old new : Packer) (stop : Stop) → stop ≡ NoMemory → IsQuiet part → new.out ≡ old.out → HasPacked s whole sent old → HasStopped s (ended_lines (whole ++ part)) sent new stop
-stopped_within s whole sent part old new stop is quiet same h =
-    let grown : List ℕ = old.line.items ++ part in
-    let cut : whole ++ part ≡ ended_text h.done ++ grown = ap (λ w. w ++ part) h.cut ∙ append_assoc (ended_text h.done) old.line.items part in
-    let all : HasNoMemory s (ended_lines (whole ++ part)) sent new.out = record {
-      some = h.done;
+    -- bytes of a line that hasn't ended
+    pub part_goes : (new : Packer Q) (part : List ℕ) (a : Moment) → ended_lines part ≡ [] → new.line.items ≡ old.line.items ++ part → new.lines ≡ old.lines → new.rule ≡ old.rule → Goes Makes bytes made spent part going new a a
+    part_goes new part a quiet line count rule_is = record {
       more = [];
-      cut = ap ended_lines cut ∙ (ended_without h.done grown h.quiet (quiet_both old.line.items part h.rest quiet) ∙ sym (append-nil h.done));
-      words = h.words;
-      packed = h.packed;
-      held = h.held ∙ ap (λ l. sent ++ l) (sym same);
-    } in
-    subst (λ t. HasStopped s (ended_lines (whole ++ part)) sent new t) (sym is) all
-
--- ---- what was held was written
-pub sent_all : (s : PackSettings) (some words : List (List ℕ)) (sent out : List ℕ) (a b c : Option (List ℕ)) → ArePacked s some words → joined words ≡ sent ++ out → Appends a b sent → Appends b c out → Sends s some a c
-sent_all s some words sent out a b c packed held first last = record {
-  words = words;
-  packed = packed;
-  output = subst (Appends a c) (sym held) (Appends-trans a b c sent out first last);
-}
-
-pub sent_part : (s : PackSettings) (some words : List (List ℕ)) (sent out : List ℕ) (a b c : Option (List ℕ)) → ArePacked s some words → joined words ≡ sent ++ out → Appends a b sent → AppendsPrefix b c out → SendsInPart s some a c
-sent_part s some words sent out a b c packed held first last = record {
-  words = words;
-  packed = packed;
-  output = record {
-    prefix = sent ++ last.prefix;
-    rest = last.rest;
-    split = held ∙ (ap (λ l. sent ++ l) last.split ∙ sym (append_assoc sent last.prefix last.rest));
-    appends = Appends-trans a b c sent last.prefix first last.appends;
-  };
-}
-
--- the words before the line at which packing stopped were written
-pub refuses_one : (s : PackSettings) (all : List (List ℕ)) (sent out : List ℕ) (a b c : Option (List ℕ)) (kept : RefusedLine) (kind : ParseErrorKind) → HasRefused s all sent out kept kind → Appends a b sent → Appends b c out → RefusesOne s all a c kind kept
-refuses_one s all sent out a b c kept kind h first last = record {
-  some = h.some;
-  line = h.line;
-  more = h.more;
-  cut = h.cut;
-  sent = sent_all s h.some h.words sent out a b c h.packed h.held first last;
-  refused = h.refused;
-  kept_is = h.kept_is;
-}
-
-pub stops_short : (s : PackSettings) (all : List (List ℕ)) (sent out : List ℕ) (a b c : Option (List ℕ)) → HasNoMemory s all sent out → Appends a b sent → Appends b c out → StopsShort s all a c
-stops_short s all sent out a b c h first last = record {
-  some = h.some;
-  more = h.more;
-  cut = h.cut;
-  sent = sent_all s h.some h.words sent out a b c h.packed h.held first last;
-}
-
--- or writing them failed
-pub breaks_off : (s : PackSettings) (all : List (List ℕ)) (sent : List ℕ) (a b c : Option (List ℕ)) (p : Packer) (stop : Stop) → HasStopped s all sent p stop → Appends a b sent → AppendsPrefix b c p.out → StopsAmong s all a c end.WriteFault
-breaks_off s all sent a b c p (Refused kind) h first last = record {
-  some = h.some;
-  more = h.line ∷ h.more;
-  cut = h.cut;
-  sent = sent_part s h.some h.words sent p.out a b c h.packed h.held first last;
-}
-breaks_off s all sent a b c p NoMemory h first last = record {
-  some = h.some;
-  more = h.more;
-  cut = h.cut;
-  sent = sent_part s h.some h.words sent p.out a b c h.packed h.held first last;
-}
-
--- ---- nothing is held
-pub first_sent : (s : PackSettings) (p : Packer) (a : Option (List ℕ)) → HasPacked s [] [] p → p.out ≡ [] → HasSent s [] a a p
-first_sent s p a h none = record { sent = []; packed = h; none = none; output = Appends-nil a }
-
-pub sent_on : (s : PackSettings) (whole sent : List ℕ) (a b c : Option (List ℕ)) (old new : Packer) → HasPacked s whole sent old → Appends a b sent → Appends b c old.out → new.out ≡ []
-    → new.settings ≡ old.settings → new.line.items ≡ old.line.items → new.lines ≡ old.lines → HasSent s whole a c new
-sent_on s whole sent a b c old new h first last none settings line lines = record {
-  sent = sent ++ old.out;
-  packed = record {
-    settings = settings ∙ h.settings;
-    done = h.done;
-    quiet = h.quiet;
-    rest = subst IsQuiet (sym line) h.rest;
-    cut = h.cut ∙ ap (λ l. ended_text h.done ++ l) (sym line);
-    words = h.words;
-    packed = h.packed;
-    held = h.held ∙ (sym (append-nil (sent ++ old.out)) ∙ ap (λ l. (sent ++ old.out) ++ l) (sym none));
-    count = lines ∙ h.count;
-  };
-  none = none;
-  output = Appends-trans a b c sent old.out first last;
-}
-
--- the words of the lines that ended were written
-pub ended_sent : (s : PackSettings) (whole : List ℕ) (a b : Option (List ℕ)) (p : Packer) → HasSent s whole a b p → Sends s (ended_lines whole) a b
-ended_sent s whole a b p h = record {
-  words = h.packed.words;
-  packed = subst (λ l. ArePacked s l h.packed.words) (sym (ended_is s whole h.sent p h.packed)) h.packed.packed;
-  output = subst (Appends a b) (sym (h.packed.held ∙ (ap (λ l. h.sent ++ l) h.none ∙ append-nil h.sent))) h.output;
-}
-
--- writing them failed
-pub feed_breaks : (s : PackSettings) (whole sent : List ℕ) (a b c : Option (List ℕ)) (p : Packer) → HasPacked s whole sent p → Appends a b sent → AppendsPrefix b c p.out → StopsAmong s (ended_lines whole) a c end.WriteFault
-feed_breaks s whole sent a b c p h first last = record {
-  some = h.done;
-  more = [];
-  cut = ended_is s whole sent p h ∙ sym (append-nil h.done);
-  sent = sent_part s h.done h.words sent p.out a b c h.packed h.held first last;
-}
-
--- ---- the end of an input
--- no line is without its end
-pub finished_none : (s : PackSettings) (whole : List ℕ) (a b : Option (List ℕ)) (p : Packer) → p.line.items ≡ [] → HasSent s whole a b p → Sends s (lines whole) a b
-finished_none s whole a b p empty h =
-    let same : lines whole ≡ ended_lines whole = lines_are s whole h.sent p h.packed ∙ (ap (λ l. h.packed.done ++ last_line l) empty ∙ (append-nil h.packed.done ∙ sym (ended_is s whole h.sent p h.packed))) in
-    subst (λ l. Sends s l a b) (sym same) (ended_sent s whole a b p h)
-
-last_is : (s : PackSettings) (whole sent : List ℕ) (p : Packer) (h : HasPacked s whole sent p) → (p.line.items ≡ [] → ⊥) → lines whole ≡ h.done ++ (p.line.items ++ []) ∷ []
-last_is s whole sent p h some = lines_are s whole sent p h ∙ (ap (λ l. h.done ++ l) (last_some p.line.items some) ∙ ap (λ l. h.done ++ l ∷ []) (sym (append-nil p.line.items)))
-
--- the last line was packed
-pub record HasLast (s : PackSettings) (whole sent out : List ℕ) : Type 0 where
-  pub words : List (List ℕ)
-  pub packed : ArePacked s (lines whole) words
-  pub held : joined words ≡ sent ++ out
-
-pub last_packed : (s : PackSettings) (whole sent : List ℕ) (old new : Packer) → (old.line.items ≡ [] → ⊥) → HasPacked s whole sent old → TakesLine [] old new → HasLast s whole sent new.out
-last_packed s whole sent old new some h t =
-    let line : List ℕ = old.line.items ++ [] in
-    let own : IsPacked s line t.word = subst (λ u. IsPacked u line t.word) h.settings t.packed in
-    record {
-      words = h.words ++ t.word ∷ [];
-      packed = subst (λ l. ArePacked s l (h.words ++ t.word ∷ [])) (sym (last_is s whole sent old h some)) (packed_more s h.done h.words line t.word h.packed own);
-      held = joined_more h.words t.word ∙ (ap (λ l. l ++ t.word) h.held ∙ (append_assoc sent old.out t.word ∙ ap (λ l. sent ++ l) (sym t.out)));
-    }
-
-pub finished_line : (s : PackSettings) (whole : List ℕ) (a b c : Option (List ℕ)) (old new : Packer) → (old.line.items ≡ [] → ⊥) → HasSent s whole a b old → TakesLine [] old new → Appends b c new.out → Sends s (lines whole) a c
-finished_line s whole a b c old new some h t last =
-    let l = last_packed s whole h.sent old new some h.packed t in
-    sent_all s (lines whole) l.words h.sent new.out a b c l.packed l.held h.output last
-
-pub finish_breaks : (s : PackSettings) (whole : List ℕ) (a b c : Option (List ℕ)) (old new : Packer) → (old.line.items ≡ [] → ⊥) → HasSent s whole a b old → TakesLine [] old new → AppendsPrefix b c new.out → StopsAmong s (lines whole) a c end.WriteFault
-finish_breaks s whole a b c old new some h t last =
-    let l = last_packed s whole h.sent old new some h.packed t in
-    record {
-      some = lines whole;
-      more = [];
-      cut = sym (append-nil (lines whole));
-      sent = sent_part s (lines whole) l.words h.sent new.out a b c l.packed l.held h.output last;
-    }
-
--- the last line was not packed
-pub finish_stopped : (s : PackSettings) (whole sent : List ℕ) (old new : Packer) (stop : Stop) → (old.line.items ≡ [] → ⊥) → HasPacked s whole sent old → RefusesLine [] old new stop → HasStopped s (lines whole) sent new stop
-finish_stopped s whole sent old new stop some h refused = stopped_at s whole sent [] (lines whole) [] old new stop h (last_is s whole sent old h some) refused
-
--- ---- one line
-pub takes_part : (part : List ℕ) (old new : Packer) → old.line.items ≡ [] → PushesWord old.settings part old.out new.out → new.line.items ≡ [] → new.lines ≡ old.lines + 1 → new.settings ≡ old.settings → TakesLine part old new
-takes_part part old new empty p line lines settings = record {
-  word = p.word;
-  packed = subst (λ l. IsPacked old.settings (l ++ part) p.word) (sym empty) p.packed;
-  out = p.out;
-  short = p.short;
-  line = line;
-  lines = lines;
-  settings = settings;
-}
-
-pub takes_long : (part whole : List ℕ) (old new : Packer) → whole ≡ old.line.items ++ part → PushesWord old.settings whole old.out new.out → new.line.items ≡ [] → new.lines ≡ old.lines + 1 → new.settings ≡ old.settings → TakesLine part old new
-takes_long part whole old new grown p line lines settings = record {
-  word = p.word;
-  packed = subst (λ l. IsPacked old.settings l p.word) grown p.packed;
-  out = p.out;
-  short = p.short;
-  line = line;
-  lines = lines;
-  settings = settings;
-}
-
-pub refuses_line : (part whole : List ℕ) (old new : Packer) (kind : ParseErrorKind) → whole ≡ old.line.items ++ part → IsRefused old.settings whole kind → new.refused ≡ refused_line (old.lines + 1) whole kind → new.out ≡ old.out
-    → RefusesLine part old new (Refused kind)
-refuses_line part whole old new kind grown refused kept same =
-    (subst (λ l. IsRefused old.settings l kind) grown refused, kept ∙ ap (λ l. refused_line (old.lines + 1) l kind) grown, same)
-
-pub refuses_memory : (part : List ℕ) (old new : Packer) (stop : Stop) → stop ≡ NoMemory → new.out ≡ old.out → RefusesLine part old new stop
-refuses_memory part old new stop is same = subst (λ t. RefusesLine part old new t) (sym is) same
-
--- ---- the lines of a chunk
--- the line that a part of the chunk ends was not packed
-pub stopped_in : (s : PackSettings) (whole sent bytes prefix rest part more : List ℕ) (old new : Packer) (stop : Stop) → bytes ≡ prefix ++ rest → rest ≡ part ++ 10 ∷ more → IsQuiet part → HasPacked s (whole ++ prefix) sent old
-    → RefusesLine part old new stop → HasStopped s (ended_lines (whole ++ bytes)) sent new stop
-stopped_in s whole sent bytes prefix rest part more old new stop split cut quiet h refused =
-    let flat : whole ++ bytes ≡ (whole ++ prefix) ++ (part ++ 10 ∷ more) = ap (λ b. whole ++ b) (split ∙ ap (λ r. prefix ++ r) cut) ∙ sym (append_assoc whole prefix (part ++ 10 ∷ more)) in
-    stopped_at s (whole ++ prefix) sent part (ended_lines (whole ++ bytes)) (ended_lines more) old new stop h (ap ended_lines flat ∙ ended_more s (whole ++ prefix) sent part more old h quiet) refused
-
-pub next_cut : (bytes prefix rest part more : List ℕ) → bytes ≡ prefix ++ rest → rest ≡ part ++ 10 ∷ more → bytes ≡ (prefix ++ (part ++ 10 ∷ [])) ++ more
-next_cut bytes prefix rest part more split cut =
-    split ∙ (ap (λ r. prefix ++ r) (cut ∙ sym (append_assoc part (10 ∷ []) more)) ∙ sym (append_assoc prefix (part ++ 10 ∷ []) more))
-
-pub next_packed : (s : PackSettings) (whole sent prefix part : List ℕ) (old new : Packer) → IsQuiet part → HasPacked s (whole ++ prefix) sent old → TakesLine part old new → HasPacked s (whole ++ (prefix ++ (part ++ 10 ∷ []))) sent new
-next_packed s whole sent prefix part old new quiet h t =
-    let P : List ℕ → Type 0 = λ l. HasPacked s l sent new in
-    subst P (append_assoc whole prefix (part ++ 10 ∷ [])) (packed_line s (whole ++ prefix) sent part old new quiet h t)
-
-pub rest_packed : (s : PackSettings) (whole sent bytes prefix rest : List ℕ) (old new : Packer) → bytes ≡ prefix ++ rest → IsQuiet rest → HasPacked s (whole ++ prefix) sent old → new.line.items ≡ old.line.items ++ rest
-    → new.settings ≡ old.settings → new.lines ≡ old.lines → new.out ≡ old.out → HasPacked s (whole ++ bytes) sent new
-rest_packed s whole sent bytes prefix rest old new split quiet h line settings lines out =
-    let P : List ℕ → Type 0 = λ l. HasPacked s l sent new in
-    let flat : (whole ++ prefix) ++ rest ≡ whole ++ bytes = append_assoc whole prefix rest ∙ ap (λ b. whole ++ b) (sym split) in
-    subst P flat (packed_part s (whole ++ prefix) sent rest old new quiet h line settings lines out)
-
-pub rest_stopped : (s : PackSettings) (whole sent bytes prefix rest : List ℕ) (old new : Packer) (stop : Stop) → bytes ≡ prefix ++ rest → IsQuiet rest → HasPacked s (whole ++ prefix) sent old → stop ≡ NoMemory → new.out ≡ old.out → HasStopped s (ended_lines (whole ++ bytes)) sent new stop
-rest_stopped s whole sent bytes prefix rest old new stop split quiet h is same =
-    let flat : (whole ++ prefix) ++ rest ≡ whole ++ bytes = append_assoc whole prefix rest ∙ ap (λ b. whole ++ b) (sym split) in
-    subst (λ l. HasStopped s (ended_lines l) sent new stop) flat (stopped_within s (whole ++ prefix) sent rest old new stop is quiet same h)
-
--- ---- the word of a line
-pub pushed_word : (s : PackSettings) (line numeral old new : List ℕ) (bits : ℤ) (overflowed : Bool) (count word : ℕ) → numeral ≡ without_return line → IsReadAs s.mode s.radix numeral s.format s.policy bits overflowed
-    → count ≡ word_length s.format.width → count ≤ 8 → word ≡ word_of s.format.width bits → new ≡ old ++ bytes_of s.endian count word → length new ≡ length old + count → PushesWord s line old new
-pushed_word s line numeral old new bits overflowed count word is read count_is most word_is appended size =
-    let bytes : List ℕ = bytes_of s.endian count word in
-    record {
-      word = bytes;
-      packed = record {
-        bits = bits;
-        overflowed = overflowed;
-        read = subst (λ n. IsReadAs s.mode s.radix n s.format s.policy bits overflowed) is read;
-        word_is = ap (λ n. bytes_of s.endian n word) count_is ∙ ap (bytes_of s.endian (word_length s.format.width)) word_is;
+      cost = 0;
+      makes = record {
+        packs = subst (λ ls. Packs P ls (made ++ [])) (sym (ended_lines_quiet bytes part quiet)) (packs_same (ended_lines bytes) made makes.packs);
+        rule_is = rule_is ∙ makes.rule_is;
+        line = line ∙ (ap (λ l. l ++ part) makes.line ∙ sym (unended_quiet bytes part quiet));
+        count = count ∙ (makes.count ∙ ap (λ ls. capped (length ls)) (sym (ended_lines_quiet bytes part quiet)));
       };
-      out = appended;
-      short = omega (arith, most, bytes_length s.endian count word);
+      puts = puts_none a.seen a.held;
+      steps = omega arith;
     }
 
-pub refused_word : (s : PackSettings) (line numeral : List ℕ) (kind : ParseErrorKind) → numeral ≡ without_return line → IsUnread s.mode s.radix numeral s.format s.policy kind → IsRefused s line kind
-refused_word s line numeral kind is unread = subst (λ n. IsUnread s.mode s.radix n s.format s.policy kind) is unread
+    -- there is no memory for a line
+    lines_same : Packs P (ended_lines (bytes ++ [])) (made ++ [])
+    lines_same = subst (λ l. Packs P (ended_lines l) (made ++ [])) (sym (append-nil bytes)) (packs_same (ended_lines bytes) made makes.packs)
+
+    pub line_lacks : (new : Packer Q) (a b : Seen) (held held1 held2 : List ℕ) (steps steps' : ℕ) → Puts a b held held1 [] → held2 ≡ held1 → Goes Makes bytes made spent [] lacking new (moment a held steps) (moment b held2 steps')
+    line_lacks new a b held held1 held2 steps steps' puts none = record {
+      more = [];
+      cost = steps';
+      makes = lines_same;
+      puts = subst (λ h. Puts a b held h []) (sym none) puts;
+      steps = omega arith;
+    }
+
+    -- the refusal of the line after those that ended
+    refusal : (part : List ℕ) (refused : RefusedLine C) → IsRefusal F (old.line.items ++ part) (one_more old.lines) refused → IsRefusal F (unended bytes ++ part) (capped (length (ended_lines bytes) + 1)) refused
+    refusal part refused one =
+        let line : old.line.items ++ part ≡ unended bytes ++ part = ap (λ l. l ++ part) makes.line in
+        subst (λ l. IsRefusal F l (capped (length (ended_lines bytes) + 1)) refused) line
+        (subst (λ n. IsRefusal F (old.line.items ++ part) n refused) (capped_more (one_more old.lines) old.lines (length (ended_lines bytes)) refl makes.count) one)
+
+    -- a line that ends is refused
+    line_stops : (new : Packer Q) (part : List ℕ) (refused : RefusedLine C) (a b : Seen) (held held1 held2 : List ℕ) (steps steps' : ℕ) → ended_lines part ≡ [] → Puts a b held held1 [] → IsRefusal F (old.line.items ++ part) (one_more old.lines) refused → held2 ≡ held1
+        → Goes Makes bytes made spent (part ++ 10 ∷ []) (stopped false refused) new (moment a held steps) (moment b held2 steps')
+    line_stops new part refused a b held held1 held2 steps steps' quiet puts one none = record {
+      more = [];
+      cost = steps';
+      makes = record {
+        before = ended_lines bytes;
+        line = unended bytes ++ part;
+        after = [];
+        stands = ended_lines_line bytes part [] quiet;
+        packs = packs_same (ended_lines bytes) made makes.packs;
+        is = refusal part refused one;
+      };
+      puts = subst (λ h. Puts a b held h []) (sym none) puts;
+      steps = omega arith;
+    }
+
+    -- a line that ends, whatever becomes of it
+    line_halts : (new : Packer Q) (part : List ℕ) (a b : Seen) (held held1 held2 : List ℕ) (steps steps' : ℕ) (halt : Halt (RefusedLine C)) → ended_lines part ≡ [] → Puts a b held held1 [] → EndsLine P F (old.line.items ++ part) (one_more old.lines) held1 held2 (Err halt)
+        → Halts Makes false bytes made spent (part ++ 10 ∷ []) new (moment a held steps) (moment b held2 steps') halt
+    line_halts new part a b held held1 held2 steps steps' WriteFault quiet puts e = absurd e
+    line_halts new part a b held held1 held2 steps steps' NoMemory quiet puts e = record { some = []; rest = part ++ 10 ∷ []; cut = refl; goes = line_lacks new a b held held1 held2 steps steps' puts e }
+    line_halts new part a b held held1 held2 steps steps' (Stopped r) quiet puts e = line_stops new part r a b held held1 held2 steps steps' quiet puts e.0 e.1
+
+    pub line_feeds : (new : Packer Q) (part : List ℕ) (byte : ℕ) (a b : Seen) (held held1 held2 : List ℕ) (steps steps' : ℕ) (result : Result (Unit {0}) (Halt (RefusedLine C))) → byte ≡ 10 → ended_lines part ≡ [] → Puts a b held held1 []
+        → EndsLine P F (old.line.items ++ part) (one_more old.lines) held1 held2 result → new.rule ≡ old.rule → OnOk result (new.line.items ≡ []) → OnOk result (new.lines ≡ one_more old.lines)
+        → Feeds Makes bytes made spent (part ++ byte ∷ []) new (moment a held steps) (moment b held2 steps') result
+    line_feeds new part byte a b held held1 held2 steps steps' (Ok u) is quiet puts e rule_is none count =
+        subst (λ n. Goes Makes bytes made spent (part ++ n ∷ []) going new (moment a held steps) (moment b held2 steps')) (sym is) (line_goes new part a b held held1 held2 steps steps' quiet puts e rule_is none count)
+    line_feeds new part byte a b held held1 held2 steps steps' (Err halt) is quiet puts e rule_is none count =
+        subst (λ n. Halts Makes false bytes made spent (part ++ n ∷ []) new (moment a held steps) (moment b held2 steps') halt) (sym is) (line_halts new part a b held held1 held2 steps steps' halt quiet puts e)
+
+    -- ---- the end of the input
+    pub last_none : (a : Moment) → old.line.items ≡ [] → Goes Makes bytes made spent [] (finished false) old a a
+    last_none a none = record {
+      more = [];
+      cost = 0;
+      makes = (
+        subst (λ l. Packs P (lines l) (made ++ [])) (sym (append-nil bytes))
+            (subst (λ ls. Packs P ls (made ++ [])) (sym (append-nil (ended_lines bytes)) ∙ ap (λ l. ended_lines bytes ++ last_line l) (sym (sym makes.line ∙ none))) (packs_same (ended_lines bytes) made makes.packs)),
+        refl,
+      );
+      puts = puts_none a.seen a.held;
+      steps = omega arith;
+    }
+
+    -- with a last line
+    module _ (some : old.line.items ≡ [] → ⊥) where
+      last_is : last_line (unended bytes) ≡ unended bytes ∷ []
+      last_is = some_last (unended bytes) (λ none. some (makes.line ∙ none))
+
+      line_is : unended bytes ++ [] ≡ unended bytes
+      line_is = append-nil (unended bytes)
+
+      pub last_goes : (new : Packer Q) (a b : Seen) (held held1 held2 : List ℕ) (steps steps' : ℕ) → Puts a b held held1 [] → Appends (P (old.line.items ++ [])) held1 held2
+          → Goes Makes bytes made spent [] (finished false) new (moment a held steps) (moment b held2 steps')
+      last_goes new a b held held1 held2 steps steps' puts one = record {
+        more = one.word;
+        cost = steps';
+        makes = (
+          subst (λ l. Packs P (lines l) (made ++ one.word)) (sym (append-nil bytes))
+              (subst (λ ls. Packs P (ended_lines bytes ++ ls) (made ++ one.word)) (sym last_is)
+              (packs_more (ended_lines bytes) made (unended bytes) one.word makes.packs (subst (λ l. P l one.word) (append-nil old.line.items ∙ makes.line) one.is))),
+          refl,
+        );
+        puts = puts_both a b b held held1 held2 [] one.word puts (puts_held b held1 held2 one.word one.appended);
+        steps = omega arith;
+      }
+
+      last_stops : (new : Packer Q) (refused : RefusedLine C) (a b : Seen) (held held1 held2 : List ℕ) (steps steps' : ℕ) → Puts a b held held1 [] → IsRefusal F (old.line.items ++ []) (one_more old.lines) refused → held2 ≡ held1
+          → Goes Makes bytes made spent [] (stopped true refused) new (moment a held steps) (moment b held2 steps')
+      last_stops new refused a b held held1 held2 steps steps' puts one none = record {
+        more = [];
+        cost = steps';
+        makes = record {
+          before = ended_lines (bytes ++ []);
+          line = unended bytes;
+          after = [];
+          stands = (refl, ap (λ l. last_line (unended l)) (append-nil bytes) ∙ last_is);
+          packs = lines_same;
+          is = subst (λ l. IsRefusal F (unended bytes) (capped (length (ended_lines l) + 1)) refused) (sym (append-nil bytes))
+              (subst (λ l. IsRefusal F l (capped (length (ended_lines bytes) + 1)) refused) line_is (refusal [] refused one));
+        };
+        puts = subst (λ h. Puts a b held h []) (sym none) puts;
+        steps = omega arith;
+      }
+
+      pub last_halts : (new : Packer Q) (a b : Seen) (held held1 held2 : List ℕ) (steps steps' : ℕ) (halt : Halt (RefusedLine C)) → Puts a b held held1 [] → EndsLine P F (old.line.items ++ []) (one_more old.lines) held1 held2 (Err halt)
+          → Halts Makes true bytes made spent [] new (moment a held steps) (moment b held2 steps') halt
+      last_halts new a b held held1 held2 steps steps' WriteFault puts e = absurd e
+      last_halts new a b held held1 held2 steps steps' NoMemory puts e = record { some = []; rest = []; cut = refl; goes = line_lacks new a b held held1 held2 steps steps' puts e }
+      last_halts new a b held held1 held2 steps steps' (Stopped r) puts e = last_stops new r a b held held1 held2 steps steps' puts e.0 e.1
+
+-- a machine that was just made
+pub nothing_packed : {Q : Type 0} (P : List ℕ → List ℕ → Type 0) (new : Packer Q) → new.line.items ≡ [] → new.lines ≡ 0 → GoesOn P new.rule [] [] new
+nothing_packed P new line count = record { packs = record { words = []; are = tt; text_is = refl }; rule_is = refl; line = line; count = count }

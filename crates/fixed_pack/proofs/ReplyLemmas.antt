@@ -1,38 +1,39 @@
 -- The replies to words.
-use Rattle.std.proofs.Common.{◌≡◌, ◌-◌, ◌*◌, ◌^◌, ◌<◌, ◌≤◌, ℕ, ℤ, Bool, true, false, List, ◌∷◌, ◌++◌, length, codes, refl, sym, ap, subst, arith, inr, length-append}
+use Rattle.std.proofs.Common.{◌≡◌, ◌∙◌, ◌*◌, ◌^◌, ◌<◌, ◌≤◌, ℕ, ℤ, false, List, [], ◌∷◌, ◌++◌, Some, None, length, refl, sym, ap, subst, arith, inl, inr, length-append}
 use Rattle.std.proofs.Math.Nat.{pow-le-pow_right}
-use Rattle.std.proofs.lemmas.Fmt.{length-decimal-le_succ}
-use Rattle.std.specs.Prelude.{decimal}
+use Rattle.std.proofs.lemmas.Fmt.{length-decimal-le_succ, length_signed_le}
+use Rattle.std.specs.Fmt.{decimal, signed_decimal}
 use Rattle.fixed_bits.proofs.Public.{width_most}
-use Rattle.fixed_bits.specs.Formats.{FormatParts, IsFormat}
-use Rattle.fixed_bits.specs.Ranges.{IsWide, IsWidth}
+use Rattle.fixed_bits.specs.Formats.{FormatParts, IsFormat, whole_length}
+use Rattle.fixed_bits.specs.Ranges.{IsWidth}
 use Rattle.fixed_bits.specs.declared.format.Policy.{Policy}
-use Rattle.fixed_bits.specs.declared.format.Policy.TheVariants.{Checked, Saturating, Wrapping}
+use Rattle.fixed_bits.specs.declared.format.Policy.TheVariants.{Checked, Saturating, Wrapping, Symmetric}
 use Rattle.fixed_bits.specs.declared.mode.ReadMode.{ReadMode}
 use Rattle.fixed_bits.specs.declared.mode.ReadMode.TheVariants.{Ceil, Floor, NearestEven, TowardsZero}
 use Rattle.fixed_bits.specs.declared.mode.ReadMode.TheVariants.{AwayFromZero, NearestAway, NearestDown, NearestUp, NearestZero}
-use Rattle.fixed_convert.specs.Rounded.{IsReformatted}
+use Rattle.fixed_convert.specs.Rounded.{IsNotReformatted}
 use Rattle.fixed_numeral.proofs.Public.{pow-mul}
 use Rattle.fixed_numeral.specs.declared.radix.Radix.{Radix}
 use Rattle.fixed_numeral.specs.declared.radix.Radix.TheVariants.{Bin, Dec, Hex, Oct}
 use Rattle.fixed_respell.specs.Answer.{respelled_answer}
+use Rattle.fixed_respell.specs.Language.{fault_answer}
+use Rattle.fixed_respell.specs.Lemmas.FormatLemmas.{whole_small}
 use Rattle.fixed_respell.specs.LineWords.{longest_line}
 use Rattle.fixed_respell.specs.Words.{format_text, fraction_letter, mode_text, policy_text, radix_text, slash}
-use Rattle.fixed_show.specs.WordText.{IsWord}
+use Rattle.fixed_show.specs.WordText.{IsTooWide, IsWord}
+use Rattle.fixed_show.specs.declared.words.WordFault.TheVariants as WordFaults
 use Rattle.fixed_write.proofs.Public.{last_digits_length}
-use Rattle.fixed_write.specs.Texts.{IsShortestText, last_digits}
-use Rattle.line_engine.specs.Output.{AppendsAnswer}
-use Rattle.fixed_command.proofs.Public.{moved_reply, spelled_word}
-use Rattle.fixed_command.specs.Convert.{IsMovedAnswer, IsReply, IsSource, asking_line, asks_a_line}
+use Rattle.fixed_command.proofs.Public.{fault_reply, moved_reply, spelled_number, spelled_word}
+use Rattle.fixed_command.specs.Convert.{IsMovedAnswer, asking_line}
 use Rattle.fixed_command.specs.Lemmas.ReplyLemmas.{spaced_sum}
+use Rattle.fixed_command.specs.Moved.{HasPushedImage}
 use Rattle.fixed_command.specs.Printed.{printed}
 use Rattle.fixed_command.specs.declared.convert.Settings.{Settings}
-use Rattle.fixed_command.specs.declared.print.Print.TheVariants.{Text}
-use Rattle.fixed_command.specs.declared.spelling.Spelling.TheVariants.{Word}
-use Rattle.fixed_pack.specs.Inner.Unpacking.{PushesImage, PushesText, RepliesAtOnce}
-use Rattle.fixed_pack.specs.Unpack.{IsWordReply, count_of, word_text}
-use Rattle.fixed_pack.specs.Word.{IsBitsOf, number_of, word_length}
-use Rattle.fixed_pack.specs.declared.unpack.UnpackRule.{UnpackRule}
+use Rattle.fixed_pack.specs.Floats.{refusal_text}
+use Rattle.fixed_pack.specs.Inner.Unpacking.{PushesReply}
+use Rattle.fixed_pack.specs.Unpack.{for_words, number_text}
+use Rattle.fixed_pack.specs.Word.{IsBitsOf, word_length}
+use Rattle.fixed_pack.specs.declared.float_words.WordRefusal.TheVariants.{Overflow, TooWide}
 
 -- ---- the text of a word
 -- the digits of a word have room for its bits
@@ -52,6 +53,9 @@ has_digits n width =
     let same : 2 ^ (4 * (2 * c)) ≡ 2 ^ (8 * c) = ap (λ k. 2 ^ k) (omega arith) in
     record { bytes = omega (arith, power, eight); digits = omega (arith, power, four, same); some = omega (arith, some) }
 
+same_power : (c : ℕ) → 256 ^ c ≡ 16 ^ (2 * c)
+same_power c = pow-mul 2 8 c ∙ (ap (λ k. 2 ^ k) (omega arith) ∙ sym (pow-mul 2 4 (2 * c)))
+
 -- ---- the line that asks for the conversion of the text is no longer than a line may be
 radix_length : (r : Radix) → length (radix_text r) ≤ 2
 radix_length Bin = omega arith
@@ -63,6 +67,7 @@ policy_length : (p : Policy) → length (policy_text p) ≤ 10
 policy_length Checked = omega arith
 policy_length Saturating = omega arith
 policy_length Wrapping = omega arith
+policy_length Symmetric = omega arith
 
 mode_length : (m : ReadMode) → length (mode_text m) ≤ 9
 mode_length NearestEven = omega arith
@@ -77,10 +82,10 @@ mode_length Ceil = omega arith
 
 format_length : (f : FormatParts) → IsFormat f.width f.frac → length (format_text f) ≤ 132
 format_length f format =
-    let most : f.width ≤ 64 = width_most f.width format.is_width in
-    let whole = length-decimal-le_succ (f.width - f.frac) (omega (arith, most)) in
-    let frac = length-decimal-le_succ f.frac (omega (arith, most, format.within)) in
-    omega (arith, most, format.within, whole, frac, length-append (decimal (f.width - f.frac)) (fraction_letter ∷ decimal f.frac))
+    let small = whole_small f format in
+    let whole = length_signed_le 2 (whole_length f) (omega (arith, small)) (omega (arith, small)) in
+    let frac = length-decimal-le_succ f.frac (omega (arith, format.within)) in
+    omega (arith, format.within, whole, frac, length-append (signed_decimal (whole_length f)) (fraction_letter ∷ decimal f.frac))
 
 pub line_short : (s : Settings) (text : List ℕ) → IsFormat s.source.width s.source.frac → IsFormat s.target.width s.target.frac → length text ≤ 1000 → length (asking_line s text) ≤ longest_line
 line_short s text source target short =
@@ -96,60 +101,65 @@ line_short s text source target short =
       spaced_sum (radix_text s.radix) (format_text s.source) (format_text s.target) (policy_text s.policy ++ slash ∷ mode_text s.mode) text,
     )
 
--- ---- a number whose shortest text is appended
-pub text_replied : (s : Settings) (number : ℕ) (bits image : ℤ) (o : Bool) (text old new : List ℕ) → s.spelling ≡ Word → s.print ≡ Text → IsFormat s.source.width s.source.frac → IsFormat s.target.width s.target.frac → IsBitsOf s.source number bits
-    → IsReformatted s.target_mode s.policy s.target bits s.source.frac image o → IsWide image → IsShortestText image s.target.frac text → length text ≤ 48 → new ≡ old ++ text → RepliesAtOnce s number old new
-text_replied s number bits image o text old new spelling print source target is moved wide shortest short appended = record {
-  format = source;
-  bits = bits;
-  is = is;
-  replies = λ word spelled few. record {
-    text = text;
-    answer = subst (λ t. IsReply s word (record { text = t; fault = false })) (ap (λ p. printed p s.target (respelled_answer text image o).text text image) print)
-        (moved_reply s word text image o (ap (λ p. asks_a_line p s.target_mode) spelling) (by word spelled few) shortest wide);
-    appended = appended;
-    short = omega (arith, short);
-  };
-}
-  where
-    by : (word : List ℕ) → IsWord s.radix s.source word bits → length word ≤ 1000 → IsMovedAnswer s word (respelled_answer text image o)
-    by word spelled few = inr (inr (inr (record {
-      short = line_short s word source target few;
-      formats = record { source = source; target = target };
-      number = bits;
-      out = false;
-      source = subst (λ p. IsSource p s word bits false) (sym spelling) (spelled, refl);
-      bits = image;
-      target_out = o;
-      moved = moved;
-      text = text;
-      shortest = shortest;
-      answer_is = refl;
-    })))
+-- ---- the reply to the text of a word
+pub text_short : (width number : ℕ) → width ≤ 64 → length (number_text (word_length width) number) ≤ 1000
+text_short width number most = omega (arith, most, last_digits_length 16 false (2 * word_length width) number)
 
--- by whether a text was appended
-pub text_pushed : (s : Settings) (number : ℕ) (bits : ℤ) (old new : List ℕ) (done : Bool) → s.spelling ≡ Word → s.print ≡ Text → IsBitsOf s.source number bits → PushesImage s bits old new done → PushesText s number old new done
-text_pushed s number bits old new true spelling print is p = text_replied s number bits p.image p.overflowed p.text old new spelling print p.source p.target is p.moved p.wide p.shortest p.short p.out
-text_pushed s number bits old new false spelling print is p = p
+module _ (s : Settings) (number : ℕ) (old new : List ℕ) (source : IsFormat s.source.width s.source.frac) (target : IsFormat s.target.width s.target.frac) where
+  abbrev text : List ℕ
+  text = number_text (word_length s.source.width) number
 
-pub at_once : (s t : Settings) (number : ℕ) (old new : List ℕ) (done : Bool) → s ≡ t → done ≡ true → PushesText s number old new done → RepliesAtOnce t number old new
-at_once s t number old new done same is p = subst (λ u. RepliesAtOnce u number old new) same (subst (PushesText s number old new) is p)
+  short : length (asking_line (for_words s) text) ≤ longest_line
+  short = line_short (for_words s) text source target (text_short s.source.width number (width_most s.source.width source.is_width))
 
-pub nothing_pushed : (s : Settings) (number : ℕ) (old new : List ℕ) (done : Bool) → done ≡ false → PushesText s number old new done → new ≡ old
-nothing_pushed s number old new done is p = subst (PushesText s number old new) is p
+  -- that spells too wide a number
+  pub wide_replied : 2 ^ s.source.width ≤ number → number < 256 ^ word_length s.source.width → new ≡ old ++ (fault_answer (refusal_text TooWide)).text → PushesReply s number old new (Some TooWide)
+  wide_replied wide few appended =
+      let c : ℕ = word_length s.source.width in
+      let room = has_digits s.source.width source.is_width in
+      let below : number < 16 ^ (2 * c) = omega (arith, few, same_power c) in
+      let fault : IsTooWide s.radix s.source text = record { plain = refl; number = number; spells = spelled_number s.radix (2 * c) number room.some below; wide = wide } in
+      record {
+        text = [];
+        reply = fault_reply (for_words s) text (refusal_text TooWide) refl (inr (inl (record { short = short; message = refusal_text TooWide; none = (WordFaults.TooWide, fault, refl); answer_is = refl })));
+        appended = appended;
+      }
 
--- the text of a word of bits is a word of them
-spelled : (r : UnpackRule) (word : List ℕ) (bits : ℤ) → IsFormat r.rule.source.width r.rule.source.frac → IsBitsOf r.rule.source (number_of r.endian word) bits → IsWord r.rule.radix r.rule.source (word_text r.endian (count_of r) word) bits
-spelled r word bits format is =
-    let f : FormatParts = r.rule.source in
-    let room = has_digits f.width format.is_width in
-    subst (λ n. IsWord r.rule.radix f (codes "0x" ++ last_digits 16 false (2 * count_of r) n) bits) is.word_is
-    (spelled_word f r.rule.radix (2 * count_of r) bits format.is_width is.in_range room.some room.digits)
+  module _ (bits : ℤ) (is : IsBitsOf s.source number bits) where
+    spelled : IsWord s.radix s.source text bits
+    spelled =
+        let room = has_digits s.source.width source.is_width in
+        subst (λ n. IsWord s.radix s.source (number_text (word_length s.source.width) n) bits) is.word_is
+        (spelled_word s.source s.radix (2 * word_length s.source.width) bits source.is_width is.in_range room.some room.digits)
 
-pub word_replied : (r : UnpackRule) (word old new : List ℕ) (number : ℕ) → number ≡ number_of r.endian word → RepliesAtOnce r.rule number old new → AppendsAnswer (IsWordReply r) 192 word old new false
-word_replied r word old new number is at_once =
-    let bits_of : IsBitsOf r.rule.source (number_of r.endian word) at_once.bits = subst (λ n. IsBitsOf r.rule.source n at_once.bits) is at_once.is in
-    let text : List ℕ = word_text r.endian (count_of r) word in
-    let few : length text ≤ 1000 = omega (arith, width_most r.rule.source.width at_once.format.is_width, last_digits_length 16 false (2 * count_of r) (number_of r.endian word)) in
-    let a = at_once.replies text (spelled r word at_once.bits at_once.format bits_of) few in
-    record { text = a.text; answer = a.answer; appended = a.appended; short = a.short }
+    -- of bits that have no image in the target
+    pub overflow_replied : IsNotReformatted s.target_mode s.policy s.target bits s.source.frac → new ≡ old ++ (fault_answer (refusal_text Overflow)).text → PushesReply s number old new (Some Overflow)
+    overflow_replied none appended = record {
+      text = [];
+      reply = fault_reply (for_words s) text (refusal_text Overflow) refl
+          (inr (inr (inl (record { short = short; formats = record { source = source; target = target }; number = bits; out = false; source = (spelled, refl); none = none; answer_is = refl }))));
+      appended = appended;
+    }
+
+    -- and of bits that have one
+    pub image_replied : HasPushedImage s bits false old new → PushesReply s number old new None
+    image_replied p = record {
+      text = printed s.print s.target (respelled_answer p.text p.bits p.target_out).text p.text p.bits;
+      reply = moved_reply (for_words s) text p.text p.bits p.target_out refl moved p.shortest p.wide;
+      appended = p.appended;
+    }
+      where
+        moved : IsMovedAnswer (for_words s) text (respelled_answer p.text p.bits p.target_out)
+        moved = inr (inr (inr (record {
+          short = short;
+          formats = record { source = source; target = target };
+          number = bits;
+          out = false;
+          source = (spelled, refl);
+          bits = p.bits;
+          target_out = p.target_out;
+          moved = p.moved;
+          text = p.text;
+          shortest = p.shortest;
+          answer_is = refl;
+        })))

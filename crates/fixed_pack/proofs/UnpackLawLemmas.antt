@@ -4,7 +4,7 @@ use Rattle.std.specs.Int.{is_negative}
 use Rattle.std.proofs.lemmas.Nat.{pow_pos}
 use Rattle.fixed_bits.proofs.Public.{image_within, images_agree, in_wide, range_decided, rounded_exact, rounded_unique, sign_and_magnitude, width_most}
 use Rattle.fixed_bits.specs.Formats.{FormatParts, IsFormat}
-use Rattle.fixed_bits.specs.Images.{IsImage}
+use Rattle.fixed_bits.specs.Images.{IsImage, IsInRangeBy}
 use Rattle.fixed_bits.specs.Numbers.{with_sign}
 use Rattle.fixed_bits.specs.Ranges.{IsInRange, IsOutOfRange, IsWide, IsWidth}
 use Rattle.fixed_bits.specs.declared.format.Policy.{Policy}
@@ -14,7 +14,6 @@ use Rattle.fixed_numeral.specs.declared.radix.Radix.{Radix}
 use Rattle.fixed_respell.specs.Answer.{respelled_answer}
 use Rattle.fixed_show.proofs.Public.{word_has_no_fault, word_one}
 use Rattle.fixed_show.specs.WordText.{IsWord}
-use Rattle.fixed_write.proofs.Public.{last_digits_length}
 use Rattle.fixed_write.specs.Texts.{IsShortestText, last_digits}
 use Rattle.line_engine.specs.AnswerText.{AnswerText}
 use Rattle.line_engine.specs.Output.{AreAnswers}
@@ -28,12 +27,13 @@ use Rattle.fixed_command.specs.declared.print.Print.TheVariants.{Text}
 use Rattle.fixed_command.specs.declared.spelling.Spelling.TheVariants.{Word}
 use Rattle.fixed_pack.specs.Laws.{HasItsText, PackedUnpacks, Undoes}
 use Rattle.fixed_pack.specs.Pack.{ArePacked, IsPacked}
-use Rattle.fixed_pack.specs.Unpack.{HaveLength, IsWordReply, count_of, word_text}
+use Rattle.fixed_pack.specs.Unpack.{HaveLength, IsWordReply, count_of, for_words, word_text}
 use Rattle.fixed_pack.specs.Word.{joined, number_of, word_bytes, word_length}
 use Rattle.fixed_pack.specs.declared.endian.Endian.{Endian}
 use Rattle.fixed_pack.specs.declared.pack.PackSettings.{PackSettings}
 use Rattle.fixed_pack.specs.declared.unpack.UnpackRule.{UnpackRule}
-use Rattle.fixed_pack.proofs.ReplyLemmas.{has_digits, line_short}
+use Rattle.fixed_pack.proofs.ImageLemmas.{range_by}
+use Rattle.fixed_pack.proofs.ReplyLemmas.{has_digits, line_short, text_short}
 use Rattle.fixed_pack.proofs.WordLemmas.{bytes_length, word_back}
 
 -- ---- a number that keeps its fraction length stays the same in every mode
@@ -44,8 +44,8 @@ stays m b f v moved =
     let same : moved.ulps ≡ k = rounded_unique m (is_negative b) (k * 2 ^ f) (2 ^ f) moved.ulps k some moved.rounded (rounded_exact m (is_negative b) k (2 ^ f) some) in
     moved.value ∙ (ap (with_sign (is_negative b)) same ∙ sign_and_magnitude b)
 
--- and so do its bits, which are in range
-kept : (m : ReadMode) (policy : Policy) (f : FormatParts) (b c : ℤ) (o : Bool) → IsWidth f.width → IsInRange f.signed f.width b → IsReformatted m policy f b f.frac c o → c ≡ b
+-- and so do its bits, which are in the range that the policy leaves
+kept : (m : ReadMode) (policy : Policy) (f : FormatParts) (b c : ℤ) (o : Bool) → IsWidth f.width → IsInRangeBy policy f.signed f.width b → IsReformatted m policy f b f.frac c o → c ≡ b
 kept m policy f b c o width range h =
     let same : h.moved ≡ b = stays m b f.frac h.moved h.is_moved in
     let image : IsImage policy f.signed f.width b c = subst (λ v. IsImage policy f.signed f.width v c) same h.image_is in
@@ -74,6 +74,7 @@ IsTextOf v f reply = IsShortestText v f reply.text × (reply.fault ≡ false)
 record Stays (s : Settings) (text : List ℕ) (v : ℤ) : Type 0 where
   format : IsFormat s.source.width s.source.frac
   range : IsInRange s.source.signed s.source.width v
+  left : IsInRangeBy s.policy s.source.signed s.source.width v
   target : s.target ≡ s.source
   spelling : s.spelling ≡ Word
   print : s.print ≡ Text
@@ -109,7 +110,7 @@ reply_is s text v reply k h = by (subst (λ b. IsAnswerBy b s text h.answer) ask
         let source : IsSource Word s text m.number m.out = subst (λ p. IsSource p s text m.number m.out) k.spelling m.source in
         let same : m.number ≡ v = word_one s.radix s.source text m.number v width source.0 k.word in
         let moved : IsReformatted s.target_mode s.policy s.source m.number s.source.frac m.bits m.target_out = subst (λ f. IsReformatted s.target_mode s.policy f m.number s.source.frac m.bits m.target_out) k.target m.moved in
-        let bits : m.bits ≡ v = kept s.target_mode s.policy s.source v m.bits m.target_out width k.range (subst (λ n. IsReformatted s.target_mode s.policy s.source n s.source.frac m.bits m.target_out) same moved) in
+        let bits : m.bits ≡ v = kept s.target_mode s.policy s.source v m.bits m.target_out width k.left (subst (λ n. IsReformatted s.target_mode s.policy s.source n s.source.frac m.bits m.target_out) same moved) in
         let wide : IsWide m.bits = subst IsWide (sym bits) (in_wide s.source.signed s.source.width v (width_most s.source.width width) k.range) in
         let o : Bool = m.out || m.target_out in
         let again : IsMovedAnswer s text (respelled_answer m.text m.bits o) = inr (inr (inr (record {
@@ -133,26 +134,30 @@ reply_is s text v reply k h = by (subst (λ b. IsAnswerBy b s text h.answer) ask
 
 -- ---- the words of lines
 in_format : (s : PackSettings) (line word : List ℕ) (p : IsPacked s line word) → IsInRange s.format.signed s.format.width p.bits
-in_format s line word p = image_within s.policy s.format.signed s.format.width p.read.number p.bits p.read.image
+in_format s line word p = (image_within s.policy s.format.signed s.format.width p.read.number p.bits p.read.image).0
 
-text_short : (endian : Endian) (width : ℕ) (word : List ℕ) → width ≤ 64 → length (word_text endian (word_length width) word) ≤ 1000
-text_short endian width word most = omega (arith, most, last_digits_length 16 false (2 * word_length width) (number_of endian word))
+left_in : (s : PackSettings) (u : UnpackRule) (line word : List ℕ) → Undoes s u → (p : IsPacked s line word) → IsInRangeBy u.settings.policy s.format.signed s.format.width p.bits
+left_in s u line word undoes p =
+    let within = image_within s.policy s.format.signed s.format.width p.read.number p.bits p.read.image in
+    range_by u.settings.policy s.format.signed s.format.width p.bits within.0 (λ e. subst (λ q. IsInRangeBy q s.format.signed s.format.width p.bits) (undoes.policy e) within.1)
 
 one_text : (s : PackSettings) (u : UnpackRule) (line word : List ℕ) (reply : AnswerText) → IsFormat s.format.width s.format.frac → Undoes s u → IsPacked s line word → IsWordReply u word reply → HasItsText s line reply
 one_text s u line word reply format undoes p h =
-    let source : IsFormat u.rule.source.width u.rule.source.frac = subst (λ f. IsFormat f.width f.frac) (sym undoes.source) format in
-    let range : IsInRange u.rule.source.signed u.rule.source.width p.bits = subst (λ f. IsInRange f.signed f.width p.bits) (sym undoes.source) (in_format s line word p) in
-    let word_there : word ≡ word_bytes u.endian u.rule.source p.bits = p.word_is ∙ (ap (λ e. word_bytes e s.format p.bits) (sym undoes.endian) ∙ ap (λ f. word_bytes u.endian f p.bits) (sym undoes.source)) in
+    let source : IsFormat u.settings.source.width u.settings.source.frac = subst (λ f. IsFormat f.width f.frac) (sym undoes.source) format in
+    let range : IsInRange u.settings.source.signed u.settings.source.width p.bits = subst (λ f. IsInRange f.signed f.width p.bits) (sym undoes.source) (in_format s line word p) in
+    let left : IsInRangeBy u.settings.policy u.settings.source.signed u.settings.source.width p.bits = subst (λ f. IsInRangeBy u.settings.policy f.signed f.width p.bits) (sym undoes.source) (left_in s u line word undoes p) in
+    let word_there : word ≡ word_bytes u.endian u.settings.source p.bits = p.word_is ∙ (ap (λ e. word_bytes e s.format p.bits) (sym undoes.endian) ∙ ap (λ f. word_bytes u.endian f p.bits) (sym undoes.source)) in
     let text : List ℕ = word_text u.endian (count_of u) word in
-    let spelled : IsWord u.rule.radix u.rule.source text p.bits = subst (λ w. IsWord u.rule.radix u.rule.source (word_text u.endian (count_of u) w) p.bits) (sym word_there) (word_is u.endian u.rule.source u.rule.radix p.bits source.is_width range) in
-    let found = reply_is u.rule text p.bits reply (record {
+    let spelled : IsWord u.settings.radix u.settings.source text p.bits = subst (λ w. IsWord u.settings.radix u.settings.source (word_text u.endian (count_of u) w) p.bits) (sym word_there) (word_is u.endian u.settings.source u.settings.radix p.bits source.is_width range) in
+    let found = reply_is (for_words u.settings) text p.bits reply (record {
       format = source;
       range = range;
+      left = left;
       target = undoes.target ∙ sym undoes.source;
-      spelling = undoes.spelling;
+      spelling = refl;
       print = undoes.print;
       word = spelled;
-      short = text_short u.endian u.rule.source.width word (width_most u.rule.source.width source.is_width);
+      short = text_short u.settings.source.width (number_of u.endian word) (width_most u.settings.source.width source.is_width);
     }) h in
     record {
       bits = p.bits;

@@ -1,10 +1,13 @@
 -- The bytes of words, and their number.
 use Rattle.std.proofs.Common.{◌≡◌, ◌∙◌, ◌+◌, ◌-◌, ◌*◌, ◌/◌, ◌%◌, ◌^◌, ◌<◌, ◌≤◌, ℕ, zero, suc, List, [], ◌∷◌, ◌++◌, length, take, drop, get_or, reverse, refl, sym, ap, arith, append-nil, append_assoc, pow-suc}
-use Rattle.std.proofs.Math.Nat.{pow-le-pow_right}
+use Rattle.std.proofs.Math.Nat.{div-div-eq-div-mul, div-one, pow-le-pow_right}
+use Rattle.std.proofs.Math.Seq.{drop-append_seam, take-append_seam}
 use Rattle.std.proofs.lemmas.Grind.{reverse_onto}
 use Rattle.std.proofs.lemmas.List.{length-drop, length-reverse, reverse-append, reverse-reverse, take_all, take_more, take_rest}
+use Rattle.std.proofs.lemmas.Nat.{be_bytes_2, be_bytes_4, be_bytes_8, le_bytes_2, le_bytes_4, le_bytes_8}
+use Rattle.std.specs.Int.{byte_at, bytes_low_first, from_be_bytes, from_le_bytes, to_be_bytes, to_le_bytes, w16, w32, w64}
 use Rattle.fixed_pack.specs.Laws.{WordReadsBack}
-use Rattle.fixed_pack.specs.Word.{bytes_of, low_bytes, low_number}
+use Rattle.fixed_pack.specs.Word.{bytes_of, low_bytes, low_number, number_of}
 use Rattle.fixed_pack.specs.declared.endian.Endian.{Endian}
 use Rattle.fixed_pack.specs.declared.endian.Endian.TheVariants.{Big, Little}
 
@@ -111,3 +114,75 @@ pub pushed_all : (start old : List ℕ) (count n i rest : ℕ) → count ≤ i �
 pushed_all start old count n i rest past before =
     let none : count - i ≡ 0 = omega (arith, past) in
     sym (before ∙ (ap (λ j. old ++ low_bytes j rest) none ∙ (ap (λ l. old ++ l) (low_none rest) ∙ append-nil old)))
+
+-- ---- eight bytes at once
+byte_is : (i n : ℕ) → n / 256 ^ i % 256 ≡ byte_at i n
+byte_is zero n = ap (λ m. m % 256) (div-one n)
+byte_is (suc i) n = refl
+
+next_byte : (i n : ℕ) → n / 256 ^ i / 256 ≡ n / 256 ^ suc i
+next_byte i n = div-div-eq-div-mul n (256 ^ i) 256 ∙ ap (λ d. n / d) (let power : 256 ^ i * 256 ≡ 256 ^ suc i = omega (arith, pow-suc 256 i) in power)
+
+low_is : (i k n : ℕ) → low_bytes k (n / 256 ^ i) ≡ bytes_low_first i k n
+low_is i zero n = low_none (n / 256 ^ i)
+low_is i (suc k) n =
+    low_more k (n / 256 ^ i) ∙ (ap (λ b. b ∷ low_bytes k (n / 256 ^ i / 256)) (byte_is i n)
+    ∙ ap (λ l. byte_at i n ∷ l) (ap (low_bytes k) (next_byte i n) ∙ low_is (suc i) k n))
+
+eight_low : (n : ℕ) → to_le_bytes w64 n ≡ low_bytes 8 n
+eight_low n = sym (low_is 0 8 n) ∙ ap (low_bytes 8) (div-one n)
+
+four_low : (n : ℕ) → to_le_bytes w32 n ≡ low_bytes 4 n
+four_low n = sym (low_is 0 4 n) ∙ ap (low_bytes 4) (div-one n)
+
+two_low : (n : ℕ) → to_le_bytes w16 n ≡ low_bytes 2 n
+two_low n = sym (low_is 0 2 n) ∙ ap (low_bytes 2) (div-one n)
+
+-- bytes that a number has are those of which it is the number
+number_back : (endian : Endian) (k n : ℕ) (bytes : List ℕ) → n < 256 ^ k → bytes_of endian k n ≡ bytes → n ≡ number_of endian bytes
+number_back endian k n bytes fits are = sym (word_back endian k n fits) ∙ ap (number_of endian) are
+
+module _ (bytes : List ℕ) (n : ℕ) (small : (i : ℕ) → get_or bytes i 0 < 256) where
+  pub two_little : length bytes ≡ 2 → n < 2 ^ 16 → n ≡ from_le_bytes w16 bytes → n ≡ low_number bytes
+  two_little whole fits is = number_back Little 2 n bytes (omega (arith, fits)) (sym (two_low n) ∙ le_bytes_2 bytes n whole small is)
+
+  pub two_big : length bytes ≡ 2 → n < 2 ^ 16 → n ≡ from_be_bytes w16 bytes → n ≡ low_number (reverse bytes)
+  two_big whole fits is = number_back Big 2 n bytes (omega (arith, fits)) (ap reverse (sym (two_low n)) ∙ be_bytes_2 bytes n whole small is)
+
+  pub four_little : length bytes ≡ 4 → n < 2 ^ 32 → n ≡ from_le_bytes w32 bytes → n ≡ low_number bytes
+  four_little whole fits is = number_back Little 4 n bytes (omega (arith, fits)) (sym (four_low n) ∙ le_bytes_4 bytes n whole small is)
+
+  pub four_big : length bytes ≡ 4 → n < 2 ^ 32 → n ≡ from_be_bytes w32 bytes → n ≡ low_number (reverse bytes)
+  four_big whole fits is = number_back Big 4 n bytes (omega (arith, fits)) (ap reverse (sym (four_low n)) ∙ be_bytes_4 bytes n whole small is)
+
+  pub eight_little : length bytes ≡ 8 → n < 2 ^ 64 → n ≡ from_le_bytes w64 bytes → n ≡ low_number bytes
+  eight_little whole fits is = number_back Little 8 n bytes (omega (arith, fits)) (sym (eight_low n) ∙ le_bytes_8 bytes n whole small is)
+
+  pub eight_big : length bytes ≡ 8 → n < 2 ^ 64 → n ≡ from_be_bytes w64 bytes → n ≡ low_number (reverse bytes)
+  eight_big whole fits is = number_back Big 8 n bytes (omega (arith, fits)) (ap reverse (sym (eight_low n)) ∙ be_bytes_8 bytes n whole small is)
+
+-- the first of a number's bytes, and others
+split_low : (j k n : ℕ) → j ≤ k → (rest : List ℕ) × (low_bytes k n ≡ low_bytes j n ++ rest) × (length rest ≡ k - j)
+split_low zero k n few = (low_bytes k n, ap (λ l. l ++ low_bytes k n) (sym (low_none n)), omega (arith, low_length k n))
+split_low (suc j) zero n few = absurd (omega (arith, few))
+split_low (suc j) (suc k) n few =
+    let found = split_low j k (n / 256) (omega (arith, few)) in (
+      found.0,
+      low_more k n ∙ (ap (λ l. n % 256 ∷ l) found.1 ∙ ap (λ l. l ++ found.0) (sym (low_more j n))),
+      omega (arith, found.2),
+    )
+
+pub few_little : (count n : ℕ) → count ≤ 8 → take count (to_le_bytes w64 n) ≡ low_bytes count n
+few_little count n few =
+    let found = split_low count 8 n few in
+    ap (take count) (eight_low n ∙ found.1) ∙ (ap (λ k. take k (low_bytes count n ++ found.0)) (sym (low_length count n)) ∙ take-append_seam (low_bytes count n) found.0)
+
+last_few : (count n : ℕ) → count ≤ 8 → drop (8 - count) (to_be_bytes w64 n) ≡ reverse (low_bytes count n)
+last_few count n few =
+    let found = split_low count 8 n few in
+    let turned : to_be_bytes w64 n ≡ reverse found.0 ++ reverse (low_bytes count n) = ap reverse (eight_low n ∙ found.1) ∙ reverse-append (low_bytes count n) found.0 in
+    let before : 8 - count ≡ length (reverse found.0) = omega (arith, found.2, length-reverse found.0) in
+    ap (drop (8 - count)) turned ∙ (ap (λ k. drop k (reverse found.0 ++ reverse (low_bytes count n))) before ∙ drop-append_seam (reverse found.0) (reverse (low_bytes count n)))
+
+pub few_big : (count n : ℕ) → count ≤ 8 → take (8 - (8 - count)) (drop (8 - count) (to_be_bytes w64 n)) ≡ reverse (low_bytes count n)
+few_big count n few = take_all (8 - (8 - count)) (drop (8 - count) (to_be_bytes w64 n)) (omega (arith, ap length (last_few count n few), length-reverse (low_bytes count n), low_length count n, few)) ∙ last_few count n few

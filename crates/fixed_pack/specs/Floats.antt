@@ -1,8 +1,9 @@
 -- Floats that become words of a format, and words that become floats.
-use Rattle.std.specs.Prelude.{◌≡◌, ◌^◌, ◌<◌, ◌≤◌, ℕ, ℤ, List, codes}
+use Rattle.std.specs.Prelude.{◌≡◌, ◌^◌, ◌<◌, ◌≤◌, ℕ, ℤ, List, codes, Option, None}
 use Rattle.fixed_bits.specs.Images.{IsImage}
 use Rattle.fixed_bits.specs.Ranges.{IsOutOfRange, IsWidth}
 use Rattle.fixed_bits.specs.declared.format.Policy.TheVariants.{Checked}
+use Rattle.fixed_command.specs.Hex.{word_of}
 use Rattle.fixed_float.specs.Floats.{IsFinite, IsReadFloat}
 use Rattle.fixed_float.specs.Nearest.{IsNearestFloat}
 use Rattle.fixed_float.specs.declared.layout.FloatLayout.{FloatLayout}
@@ -31,6 +32,12 @@ pub record AreFloatBits (s : FloatWords) (float : ℕ) (bits : ℤ) : Type 0 whe
   pub read : IsReadFloat s.mode s.layout float s.format.frac number
   pub image : IsImage s.policy s.format.signed s.format.width number bits
 
+-- the number of the word that the float becomes
+pub record IsFloatNumber (s : FloatWords) (float word : ℕ) : Type 0 where
+  pub bits : ℤ
+  pub are : AreFloatBits s float bits
+  pub word_is : word ≡ word_of s.format.width bits
+
 -- its read number has no image
 pub record Overflows (s : FloatWords) (float : ℕ) : Type 0 where
   pub finite : IsFinite s.layout float
@@ -44,8 +51,9 @@ IsFloatRefused s float NotFinite = ¬ IsFinite s.layout float
 IsFloatRefused s float Overflow = Overflows s float
 IsFloatRefused s float TooWide = ⊥
 
--- the bytes of a float become those of a word
-pub record IsFloatWord (s : FloatWords) (bytes made : List ℕ) : Type 0 where
+-- the bytes of a float become those of a word, with no cause for a refusal
+pub record IsFloatWord (s : FloatWords) (bytes made : List ℕ) (cause : Option WordRefusal) : Type 0 where
+  pub clean : cause ≡ None
   pub bits : ℤ
   pub are : AreFloatBits s (number_of s.endian bytes) bits
   pub word_is : made ≡ word_bytes s.endian s.format bits
@@ -55,8 +63,9 @@ abbrev pub IsWordNot : FloatWords → List ℕ → WordRefusal → Type 0
 IsWordNot s bytes why = IsFloatRefused s (number_of s.endian bytes) why
 
 -- ---- words
--- the bytes of a word become those of the float nearest to its number
-pub record IsWordFloat (s : WordFloats) (bytes made : List ℕ) : Type 0 where
+-- the bytes of a word become those of the float nearest to its number, with no cause for a refusal
+pub record IsWordFloat (s : WordFloats) (bytes made : List ℕ) (cause : Option WordRefusal) : Type 0 where
+  pub clean : cause ≡ None
   pub bits : ℤ
   pub are : IsBitsOf s.format (number_of s.endian bytes) bits
   pub float : ℕ

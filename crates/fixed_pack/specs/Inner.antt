@@ -1,3 +1,2 @@
 -- Contracts of private functions.
-pub mod Packing
 pub mod Unpacking

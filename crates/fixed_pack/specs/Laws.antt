@@ -1,9 +1,9 @@
 -- What the laws of this crate say.
 use Rattle.std.specs.Prelude.{◌≡◌, ◌^◌, ◌<◌, ℕ, ℤ, Bool, false, List, []}
 use Rattle.fixed_bits.specs.Formats.{IsFormat}
+use Rattle.fixed_bits.specs.declared.format.Policy.TheVariants.{Symmetric}
 use Rattle.fixed_command.specs.Convert.{without_return}
 use Rattle.fixed_command.specs.declared.print.Print.TheVariants.{Text}
-use Rattle.fixed_command.specs.declared.spelling.Spelling.TheVariants.{Word}
 use Rattle.fixed_numeral.specs.declared.error.ParseErrorKind.{ParseErrorKind}
 use Rattle.fixed_show.specs.ShowBlock.{IsReadAs}
 use Rattle.fixed_write.specs.Texts.{IsShortestText}
@@ -23,8 +23,7 @@ WordReadsBack = (endian : Endian) (count n : ℕ) → n < 256 ^ count → number
 
 -- lines have one list of words
 abbrev pub PackedIsTheOne : Type 0
-PackedIsTheOne = (s : PackSettings) (lines a b : List (List ℕ)) → IsFormat s.format.width s.format.frac
-    → ArePacked s lines a → ArePacked s lines b → a ≡ b
+PackedIsTheOne = (s : PackSettings) (lines a b : List (List ℕ)) → ArePacked s lines a → ArePacked s lines b → a ≡ b
 
 -- a line is refused for one kind, and never where it has a word
 pub record RefusalIsOne (s : PackSettings) (line : List ℕ) : Type 0 where
@@ -40,13 +39,14 @@ WordsAreTheOnes = (count : ℕ) (bytes : List ℕ) (a b : List (List ℕ)) (x y 
     → AreWords count bytes b y → (a ≡ b) × (x ≡ y)
 
 -- ---- what was packed is unpacked
--- the words of these settings are unpacked to the texts of their numbers
+-- the words of these settings are unpacked to the texts of their numbers: Symmetric is asked for only where it was when
+-- they were packed, since it leaves no lowest number
 pub record Undoes (s : PackSettings) (u : UnpackRule) : Type 0 where
   pub endian : u.endian ≡ s.endian
-  pub source : u.rule.source ≡ s.format
-  pub target : u.rule.target ≡ s.format
-  pub spelling : u.rule.spelling ≡ Word
-  pub print : u.rule.print ≡ Text
+  pub source : u.settings.source ≡ s.format
+  pub target : u.settings.target ≡ s.format
+  pub policy : u.settings.policy ≡ Symmetric → s.policy ≡ Symmetric
+  pub print : u.settings.print ≡ Text
 
 -- the reply is the shortest text of the number that the line was read as
 pub record HasItsText (s : PackSettings) (line : List ℕ) (reply : AnswerText) : Type 0 where

@@ -1,9 +1,11 @@
 pub mod Word
 pub mod Pack
+pub mod Packed
 pub mod Unpack
 pub mod Part
 pub mod Recoded
 pub mod Floats
+pub mod Repacked
 pub mod Laws
 pub mod Inner
 pub mod Lemmas

@@ -1,18 +1,19 @@
 //! Floats read into the words of a format.
 
 ghost use Rattle.std.specs.Prelude.{◌≡◌, ◌↔◌, ◌^◌, ◌<◌, ◌≤◌, ℕ, IfOk, IsOk, MatchResult};
-ghost use Rattle.fixed_bits.specs.Ranges.{IsInRange};
 ghost use Rattle.fixed_float.specs.Floats.{IsFinite, IsFloatReading};
-ghost use Rattle.fixed_pack.specs.Floats.{AreFloatBits, IsFloatRefused, float_size, refusal_text};
+ghost use Rattle.fixed_pack.specs.Floats.{IsFloatNumber, IsFloatRefused, float_size, refusal_text};
 
 use crate::Endian;
 use crate::recode::Recode;
-use crate::word::{push_word, word_length, word_number};
+use crate::word::{push_word, signed_word, word_length, word_number};
 use fixed_bits::{Format, Policy, ReadMode};
 use fixed_command::word_of;
 use fixed_float::{FloatLayout, NotFinite, read_binary32, read_binary64};
 use fixed_read::ReadNumber;
+use fixed_steps::Steps;
 use line_engine::Output;
+use std::sync::ledger::Ledger;
 
 /// How floats are read into words.
 #[derive(Clone, Copy, Debug, PartialEq, Eq)]
@@ -85,21 +86,25 @@ impl FloatWords {
     }
 }
 
-/// What was read of a float, brought into its format.
+/// The word of what was read of a float, brought into its format. Most numbers are in the range that the policy leaves,
+/// and are their own images.
 #[inline(always)]
-fn brought(found: Result<ReadNumber, NotFinite>, floats: &FloatWords) -> Result<i128, WordRefusal>
+fn brought(found: Result<ReadNumber, NotFinite>, floats: &FloatWords) -> Result<u64, WordRefusal>
     requires { IfOk found (λ n. n.format ≡ floats.now.format) }
-    ensures range { IfOk result (λ b. IsInRange floats.now.format.signed floats.now.format.width b) }
-    ensures brought { (float : ℕ) → (IsOk found ↔ IsFinite floats.now.layout float)
+    ensures { (float : ℕ) → (IsOk found ↔ IsFinite floats.now.layout float)
         → IfOk found (IsFloatReading floats.now.mode floats.now.layout float)
-        → MatchResult result (AreFloatBits floats.now float) (IsFloatRefused floats.now float) }
+        → MatchResult result (IsFloatNumber floats.now float) (IsFloatRefused floats.now float) }
 {
-    match found {
-        Ok(found) => match found.image(floats.policy) {
-            Some(bits) => Ok(bits),
-            None => Err(WordRefusal::Overflow),
-        },
-        Err(_) => Err(WordRefusal::NotFinite),
+    let found = match found {
+        Ok(found) => found,
+        Err(_) => return Err(WordRefusal::NotFinite),
+    };
+    if !found.is_out_of_range_by(floats.policy) {
+        return Ok(signed_word(floats.format, found.is_negative(), found.magnitude()));
+    }
+    match found.image(floats.policy) {
+        Some(bits) => Ok(word_of(floats.format, bits)),
+        None => Err(WordRefusal::Overflow),
     }
 }
 
@@ -120,13 +125,17 @@ impl Recode for FloatWords {
     }
 
     #[inline(always)]
-    fn recode(&self, word: &[u8], out: &mut Output) -> Result<(), WordRefusal> {
+    fn recode<L: Ledger>(
+        &self,
+        word: &[u8],
+        out: &mut Output,
+        _steps: &mut Steps<L>,
+    ) -> Result<Option<WordRefusal>, WordRefusal> {
         let found = self.read(word_number(word, self.endian));
         match brought(found, self) {
-            Ok(bits) => {
-                let number = word_of(self.format, bits);
+            Ok(number) => {
                 push_word(out, self.endian, word_length(self.format), number);
-                Ok(())
+                Ok(None)
             }
             Err(why) => Err(why),
         }

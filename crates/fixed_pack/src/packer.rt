@@ -1,288 +1,184 @@
-//! Lines packed as their bytes come: the line whose end has not come, and the words that are to be written.
+//! The machine of lines that are packed.
 
-ghost use Rattle.std.specs.Prelude.{◌≡◌, ◌≤◌, ◌<◌, ◌+◌, ◌*◌, ◌^◌, ◌++◌, ◌∷◌, []};
-ghost use Rattle.std.specs.Prelude.{List, ℕ, Option, OnOk, OnErr, IfOk, IfErr, length, take};
-ghost use Rattle.std.specs.Io.KnownBytes.{Appends};
-ghost use Rattle.line_engine.specs.Lines.{ended_lines, lines};
-ghost use Rattle.line_engine.specs.Run.{HasFailures};
-ghost use Rattle.fixed_pack.specs.Pack.{IsRefused, Sends, StopsAmong, refused_line, status_of};
-ghost use Rattle.fixed_pack.specs.Inner.Packing.{HasPacked, HasSent, HasStopped, RefusesLine, TakesLine};
-ghost use Rattle.fixed_pack.specs.Inner.Packing.{EndsAmong, PushesWord};
+ghost use Rattle.std.specs.Prelude.{◌≡◌, ◌+◌, ◌≤◌, ◌++◌, [], OnOk, length, take};
+ghost use Rattle.run_engine.specs.LineRun.{one_more};
+ghost use Rattle.fixed_pack.specs.Packed.{EndsLine};
 
-use crate::chunk::send;
-use crate::pack::{PackEnd, PackSettings};
-use crate::word::{push_word, word_length};
-use fixed_command::{RefusedLine, without_return, word_of};
-use fixed_numeral::ParseFixedError;
-use fixed_show::read_shown;
+use crate::pack_rule::Pack;
 use fixed_steps::Steps;
-use line_engine::Sink;
-use memchr::memchr;
+use line_engine::Output;
+use run_engine::{Gathered, Halt, Pieces, RefusedLine, Streams, find_newline};
 use std::alloc::Global;
-use std::mem;
 use std::sync::ledger::Ledger;
-use text_buffer::TextBuffer;
+use text_buffer::{NoMemory, TextBuffer};
 
-/// How many bytes are read at a time at most.
-pub const CHUNK: usize = 4096;
+/// The most bytes of a refused line that are kept.
+const KEPT: usize = 160;
 
-/// How many bytes the words of the lines that end in a chunk have at most.
-const HELD: usize = 32_768;
-
-/// The words that are to be written.
-type Held = TextBuffer<HELD>;
-
-/// Why a line has no word.
-#[derive(Clone, Copy, Debug, PartialEq, Eq)]
-pub enum Stop {
-    /// It is refused.
-    Refused(ParseFixedError),
-    /// There was no memory for it.
-    NoMemory,
-}
-
-/// Lines that are packed.
+/// Lines that are packed by a rule, up to the first that it refuses: their words, one after another.
 #[derive(Drop)]
-pub struct Packer {
-    /// How they are packed.
-    pub settings: PackSettings,
+pub struct Packer<R> {
+    /// The rule.
+    pub rule: R,
     /// The line whose end has not come.
     pub line: Vec<u8>,
-    /// How many lines were packed.
+    /// How many lines ended; the count stays at the last value of u64.
     pub lines: u64,
-    /// Their words that are to be written.
-    pub out: Held,
-    /// The line that was refused, where one was.
-    pub refused: RefusedLine,
 }
 
-/// Appends the word of a line.
-///
-/// # Errors
-///
-/// A line that has none is refused with the kind of its cause.
-fn push_line<L: Ledger>(
-    settings: &PackSettings,
-    line: &[u8],
-    out: &mut Held,
-    steps: &mut Steps<L>,
-) -> Result<(), ParseFixedError>
-    requires { length out.old + 8 ≤ HELD }
-    ensures ok { OnOk result (PushesWord settings.now line.now out.old out.new) }
-    ensures err { IfErr result (λ kind. IsRefused settings.now line.now kind) }
-    ensures same { OnErr result (out.new ≡ out.old) }
+/// Appends bytes.
+fn append(bytes: &mut Vec<u8>, part: &[u8]) -> Result<(), NoMemory>
+    ensures ok { OnOk result (bytes.new.items ≡ bytes.old.items ++ part.now) }
 {
-    let s = settings;
-    match read_shown(
-        without_return(line),
-        s.radix,
-        s.format,
-        s.policy,
-        s.mode,
-        steps,
-    ) {
-        Ok(found) => {
-            push_word(
-                out,
-                s.endian,
-                word_length(s.format),
-                word_of(s.format, found.bits),
-            );
-            Ok(())
-        }
-        Err(error) => Err(error),
-    }
-}
-
-/// The line of this number that is refused: its beginning, and why in words.
-#[cold]
-fn refused_line(number: u64, line: &[u8], error: ParseFixedError) -> RefusedLine
-    ensures { result ≡ refused_line number line.now error }
-{
-    RefusedLine::new(number, line, error.message().as_bytes())
-}
-
-/// Appends bytes to a line.
-fn extend(line: &mut Vec<u8>, part: &[u8]) -> Result<(), Stop>
-    ensures ok { OnOk result (line.new.items ≡ line.old.items ++ part.now) }
-    ensures err { IfErr result (λ stop. stop ≡ Stop.NoMemory) }
-{
-    match line.extend_from_slice(part) {
+    match bytes.extend_from_slice(part) {
         Ok(()) => Ok(()),
-        Err(_) => Err(Stop::NoMemory),
+        Err(_) => Err(NoMemory),
     }
 }
 
-impl Packer {
-    /// No line.
-    pub fn new(alloc: Global, settings: PackSettings) -> Packer
-        ensures none { (s : PackSettings) → settings ≡ s → HasPacked s [] [] result }
-        ensures out { result.out ≡ [] }
+/// The line that is refused.
+#[cold]
+fn refused_line<C: Copy>(number: u64, line: &[u8], cause: C) -> RefusedLine<C>
+    ensures number { result.number ≡ number }
+    ensures line { result.line ≡ take 160 line.now }
+    ensures cause { result.cause ≡ cause }
+{
+    let mut text = TextBuffer::new();
+    let count = KEPT.min(line.len());
+    text.push_bytes(&line[..count]);
+    RefusedLine {
+        number,
+        line: text,
+        cause,
+    }
+}
+
+impl<R: Pack> Packer<R> {
+    /// No line yet.
+    pub fn new(alloc: Global, rule: R) -> Packer<R>
+        ensures rule { result.rule ≡ rule }
+        ensures line { result.line.items ≡ [] }
         ensures lines { result.lines ≡ 0 }
     {
         Packer {
-            settings,
+            rule,
             line: Vec::new(alloc),
             lines: 0,
-            out: TextBuffer::new(),
-            refused: RefusedLine::new(0, &[], &[]),
         }
     }
 
-    /// Keeps the line that is refused, whose bytes are not those of the line whose end has not come.
-    #[cold]
-    fn refuse(&mut self, line: &[u8], error: ParseFixedError)
-        requires { self.old.lines < 2 ^ 63 }
-        ensures refused { self.new.refused ≡ refused_line (self.old.lines + 1) line.now error }
-        ensures out { self.new.out ≡ self.old.out }
+    /// Packs a line, and counts it.
+    #[inline(always)]
+    fn pack_line<L: Ledger>(
+        rule: &R,
+        number: u64,
+        line: &[u8],
+        out: &mut Output,
+        steps: &mut Steps<L>,
+    ) -> Result<(), Halt<RefusedLine<R::Cause>>>
+        requires { length out.old + 8 ≤ 8192 }
+        ensures { EndsLine (R.Packs rule.now) (R.Refuses rule.now) line.now number out.old out.new result }
     {
-        self.refused = refused_line(self.lines + 1, line, error);
+        match rule.pack(line, out, steps) {
+            Ok(()) => Ok(()),
+            Err(cause) => Err(Halt::Stopped(refused_line(number, line, cause))),
+        }
     }
 
     /// Packs the line that ends with this part, and begins a new one. A line that is whole in the part is not copied.
-    fn end_line<L: Ledger>(&mut self, part: &[u8], steps: &mut Steps<L>) -> Result<(), Stop>
-        requires lines { self.old.lines < 2 ^ 63 }
-        requires room { length self.old.out + 8 ≤ HELD }
-        ensures ok { OnOk result (TakesLine part.now self.old self.new) }
-        ensures err { IfErr result (RefusesLine part.now self.old self.new) }
+    #[inline(always)]
+    fn end_line<L: Ledger>(
+        &mut self,
+        part: &[u8],
+        out: &mut Output,
+        steps: &mut Steps<L>,
+    ) -> Result<(), Halt<RefusedLine<R::Cause>>>
+        requires { length out.old + 8 ≤ 8192 }
+        ensures rule { self.new.rule ≡ self.old.rule }
+        ensures line { OnOk result (self.new.line.items ≡ []) }
+        ensures lines { OnOk result (self.new.lines ≡ one_more self.old.lines) }
+        ensures ended { EndsLine (R.Packs self.old.rule) (R.Refuses self.old.rule) (self.old.line.items ++ part.now)
+            (one_more self.old.lines) out.old out.new result }
     {
+        self.lines = self.lines.saturating_add(1);
         if self.line.is_empty() {
-            return match push_line(&self.settings, part, &mut self.out, steps) {
-                Ok(()) => {
-                    self.lines += 1;
-                    Ok(())
-                }
-                Err(error) => {
-                    self.refuse(part, error);
-                    Err(Stop::Refused(error))
-                }
-            };
+            return Packer::pack_line(&self.rule, self.lines, part, out, steps);
         }
-        self.end_long_line(part, steps)
-    }
-
-    /// Packs the line that began before this part, with which it ends, and begins a new one.
-    #[cold]
-    fn end_long_line<L: Ledger>(&mut self, part: &[u8], steps: &mut Steps<L>) -> Result<(), Stop>
-        requires lines { self.old.lines < 2 ^ 63 }
-        requires room { length self.old.out + 8 ≤ HELD }
-        ensures ok { OnOk result (TakesLine part.now self.old self.new) }
-        ensures err { IfErr result (RefusesLine part.now self.old self.new) }
-    {
-        match extend(&mut self.line, part) {
-            Err(stop) => return Err(stop),
-            Ok(()) => {}
-        }
-        match push_line(&self.settings, &self.line, &mut self.out, steps) {
+        match append(&mut self.line, part) {
+            Err(_) => Err(Halt::NoMemory),
             Ok(()) => {
+                let end = Packer::pack_line(&self.rule, self.lines, &self.line, out, steps);
                 self.line.clear();
-                self.lines += 1;
-                Ok(())
-            }
-            Err(error) => {
-                self.refused = refused_line(self.lines + 1, &self.line, error);
-                Err(Stop::Refused(error))
+                end
             }
         }
     }
+}
 
-    /// Packs the lines that end in the next bytes.
-    fn push_all<L: Ledger>(&mut self, bytes: &[u8], steps: &mut Steps<L>) -> Result<(), Stop>
-        requires lines { self.old.lines + length bytes.now < 2 ^ 63 }
-        requires none { self.old.out ≡ [] }
-        requires few { length bytes.now ≤ 4096 }
-        ensures ok { OnOk result ((s : PackSettings) (whole sent : List ℕ) → HasPacked s whole sent self.old
-            → HasPacked s (whole ++ bytes.now) sent self.new) }
-        ensures lines { OnOk result (self.new.lines ≤ self.old.lines + length bytes.now) }
-        ensures err { IfErr result (λ stop. (s : PackSettings) (whole sent : List ℕ) → HasPacked s whole sent self.old
-            → HasStopped s (ended_lines (whole ++ bytes.now)) sent self.new stop) }
-    {
-        let mut rest = bytes;
-        while let Some(end) = memchr(b'\n', rest) {
-            match self.end_line(&rest[..end], steps) {
-                Err(stop) => return Err(stop),
-                Ok(()) => rest = &rest[end + 1..],
-            }
+impl<R: Pack, L: Ledger> Pieces<L> for Packer<R> {
+    ghost use Rattle.run_engine.specs.Pieces.{is_newline};
+    ghost use Rattle.fixed_pack.specs.Packed.{MakesPacked};
+    ghost use Rattle.fixed_pack.specs.Lemmas.PackedLaws.{packed_one, packed_stays};
+
+    type Stop = RefusedLine<R::Cause>;
+
+    ghost Makes = { λ first bytes text spent how last. MakesPacked (R.Packs first.rule) (R.Refuses first.rule)
+        first.rule bytes text spent how last };
+
+    ghost ends = { is_newline };
+
+    #[inline(always)]
+    fn find(bytes: &[u8]) -> Option<usize> {
+        find_newline(bytes)
+    }
+
+    #[inline(always)]
+    fn end_piece<I: Streams>(
+        &mut self,
+        part: &[u8],
+        _byte: u8,
+        out: &mut Gathered<I>,
+        steps: &mut Steps<L>,
+    ) -> Result<(), Halt<RefusedLine<R::Cause>>> {
+        match out.make_room(8) {
+            Err(_) => Err(Halt::WriteFault),
+            Ok(()) => self.end_line(part, &mut out.text, steps),
         }
-        match extend(&mut self.line, rest) {
-            Err(stop) => Err(stop),
+    }
+
+    fn keep<I: Streams>(
+        &mut self,
+        part: &[u8],
+        _out: &mut Gathered<I>,
+        _steps: &mut Steps<L>,
+    ) -> Result<(), Halt<RefusedLine<R::Cause>>> {
+        match append(&mut self.line, part) {
+            Err(_) => Err(Halt::NoMemory),
             Ok(()) => Ok(()),
         }
     }
 
-    /// Writes the words of the lines before the one at which packing stopped.
-    fn stop<K: Sink>(&mut self, stop: Stop, sink: &mut K) -> PackEnd
-        ensures stops { (s : PackSettings) (all : List (List ℕ)) (first : Option (List ℕ)) (sent : List ℕ)
-            → Appends first (K.written sink.old) sent → HasStopped s all sent self.old stop
-            → StopsAmong s all first (K.written sink.new) result }
-        ensures failures { (read : ℕ) → HasFailures read read (K.failures sink.old) (K.failures sink.new)
-            (status_of result) }
-    {
-        match send(&mut self.out, sink) {
-            Err(_) => PackEnd::WriteFault,
-            Ok(()) => match stop {
-                Stop::Refused(error) => {
-                    let line = mem::replace(&mut self.refused, RefusedLine::new(0, &[], &[]));
-                    PackEnd::Refused { error, line }
-                }
-                Stop::NoMemory => PackEnd::NoMemory,
+    fn finish<I: Streams>(
+        &mut self,
+        out: &mut Gathered<I>,
+        steps: &mut Steps<L>,
+    ) -> Result<bool, Halt<RefusedLine<R::Cause>>> {
+        if self.line.is_empty() {
+            return Ok(false);
+        }
+        match out.make_room(8) {
+            Err(_) => Err(Halt::WriteFault),
+            Ok(()) => match self.end_line(&[], &mut out.text, steps) {
+                Err(halt) => Err(halt),
+                Ok(()) => Ok(false),
             },
         }
     }
 
-    /// Packs the lines that end in the next bytes, and writes their words.
-    ///
-    /// # Errors
-    ///
-    /// How packing ended, where it did.
-    pub fn feed<K: Sink, L: Ledger>(
-        &mut self,
-        bytes: &[u8],
-        sink: &mut K,
-        steps: &mut Steps<L>,
-    ) -> Result<(), PackEnd>
-        requires lines { self.old.lines + length bytes.now < 2 ^ 63 }
-        requires none { self.old.out ≡ [] }
-        requires few { length bytes.now ≤ 4096 }
-        ensures ok { OnOk result ((s : PackSettings) (whole : List ℕ) (first : Option (List ℕ))
-            → HasSent s whole first (K.written sink.old) self.old
-            → HasSent s (whole ++ bytes.now) first (K.written sink.new) self.new) }
-        ensures lines { OnOk result (self.new.lines ≤ self.old.lines + length bytes.now) }
-        ensures same { OnOk result (K.failures sink.new ≡ K.failures sink.old) }
-        ensures err { IfErr result (λ end. (s : PackSettings) (whole : List ℕ) (first : Option (List ℕ))
-            → HasSent s whole first (K.written sink.old) self.old
-            → StopsAmong s (ended_lines (whole ++ bytes.now)) first (K.written sink.new) end) }
-        ensures failures { IfErr result (λ end. (read : ℕ) → HasFailures read read (K.failures sink.old)
-            (K.failures sink.new) (status_of end)) }
-    {
-        if let Err(stop) = self.push_all(bytes, steps) {
-            return Err(self.stop(stop, sink));
-        }
-        match send(&mut self.out, sink) {
-            Ok(()) => Ok(()),
-            Err(_) => Err(PackEnd::WriteFault),
-        }
-    }
+    ghost one_law = { λ first a b bytes made other spent cost how then p q. packed_one (R.Packs first.rule)
+        (R.Refuses first.rule) (R.one_law first.rule) (R.cause_law first.rule) (R.never_law first.rule) first.rule a b
+        bytes made other spent cost how then p q };
 
-    /// Packs a last line without a newline, where it is not empty, and says how packing ended.
-    pub fn finish<K: Sink, L: Ledger>(&mut self, sink: &mut K, steps: &mut Steps<L>) -> PackEnd
-        requires lines { self.old.lines < 2 ^ 63 }
-        requires none { self.old.out ≡ [] }
-        ensures ends { (s : PackSettings) (whole : List ℕ) (first : Option (List ℕ))
-            → HasSent s whole first (K.written sink.old) self.old
-            → EndsAmong s (lines whole) first (K.written sink.new) result }
-        ensures failures { (read : ℕ) → HasFailures read read (K.failures sink.old) (K.failures sink.new)
-            (status_of result) }
-    {
-        if self.line.is_empty() {
-            return PackEnd::Done;
-        }
-        if let Err(stop) = self.end_line(&[], steps) {
-            return self.stop(stop, sink);
-        }
-        match send(&mut self.out, sink) {
-            Ok(()) => PackEnd::Done,
-            Err(_) => PackEnd::WriteFault,
-        }
-    }
+    ghost stop_law = { λ first last bytes more text spent why p. packed_stays (R.Packs first.rule)
+        (R.Refuses first.rule) bytes more text why p };
 }

@@ -1,11 +1,15 @@
-//! What makes words of words: raw words of an input into those of another kind, each in its place.
+//! What makes words of words: raw words of an input into those of another kind, or into lines, each in its place.
 
-ghost use Rattle.std.specs.Prelude.{◌≡◌, ◌+◌, ◌<◌, ◌≤◌, ℕ, List, length};
+ghost use Rattle.std.specs.Prelude.{◌≡◌, ◌+◌, ◌<◌, ◌≤◌, ℕ, List, Option, is_some, length};
 ghost use Rattle.fixed_pack.specs.Recoded.{IsRecoded};
 
 use fixed_steps::Steps;
 use line_engine::Output;
+use run_engine::{Refusals, Watch};
 use std::sync::ledger::Ledger;
+
+/// The most bytes that a word becomes.
+pub const MAX_RECODED: usize = 193;
 
 /// A rule that makes other bytes of a word, or refuses it.
 pub trait Recode {
@@ -15,10 +19,10 @@ pub trait Recode {
     /// How many bytes a word of the input has.
     ghost size: { Self → ℕ };
 
-    /// Whether a word becomes these bytes.
-    ghost Recodes: { Self → List ℕ → List ℕ → Type 0 };
+    /// Whether a word becomes these bytes; with a cause, they report that it is refused.
+    ghost Recodes: { Self → List ℕ → List ℕ → Option Self.Cause → Type 0 };
 
-    /// Whether a word is refused for a cause.
+    /// Whether a word is refused for a cause, and ends the input.
     ghost Refuses: { Self → List ℕ → Self.Cause → Type 0 };
 
     /// How many bytes a word of the input has: at most 8.
@@ -27,34 +31,59 @@ pub trait Recode {
         ensures some { 0 < result }
         ensures most { result ≤ 8 };
 
-    /// Appends what becomes of a word, at most 8 bytes; nothing if it is refused.
-    fn recode(&self, word: &[u8], out: &mut Output) -> Result<(), Self::Cause>
+    /// Appends what becomes of a word, at most 193 bytes. `Some` is the cause that these report. `Err` is the cause of
+    /// one that ends the input; then nothing is appended.
+    fn recode<L: Ledger>(
+        &self,
+        word: &[u8],
+        out: &mut Output,
+        steps: &mut Steps<L>,
+    ) -> Result<Option<Self::Cause>, Self::Cause>
         requires few { length word.now ≤ 8 }
-        requires room { length out.old + 8 ≤ 8192 }
+        requires room { length out.old + 193 ≤ 8192 }
         ensures { length word.now ≡ size self.now
             → IsRecoded (Recodes self.now word.now) (Refuses self.now word.now) out.old out.new result };
 
-    /// A word becomes one list of bytes.
-    ghost one_law: { (rule : Self) (word a b : List ℕ) → Recodes rule word a → Recodes rule word b → a ≡ b };
+    /// A word becomes one list of bytes, which report a refusal or do not.
+    ghost one_law: { (rule : Self) (word a b : List ℕ) (c d : Option Self.Cause) → Recodes rule word a c
+        → Recodes rule word b d → (a ≡ b) × (is_some c ≡ is_some d) };
 
-    /// It is refused for one cause.
+    /// It ends the input for one cause.
     ghost cause_law: { (rule : Self) (word : List ℕ) (a b : Self.Cause) → Refuses rule word a → Refuses rule word b
         → a ≡ b };
 
     /// And never if it becomes bytes.
-    ghost never_law: { (rule : Self) (word made : List ℕ) (why : Self.Cause) → Recodes rule word made
-        → Refuses rule word why → ⊥ };
+    ghost never_law: { (rule : Self) (word made : List ℕ) (cause : Option Self.Cause) (why : Self.Cause)
+        → Recodes rule word made cause → Refuses rule word why → ⊥ };
 }
 
-/// An observer of words.
-pub trait WordWatch<L: Ledger> {
-    /// Notes that the word of this number, from 1, was recoded or refused.
-    fn see(&mut self, number: u64, word: &[u8], steps: &mut Steps<L>)
-        requires { length word.now ≤ 8 };
+/// An observer of words, told of each and of the cause for which it is refused.
+pub trait WordWatch<C, L: Ledger> {
+    /// What an observer becomes when it is told of a word: of its number, its bytes, and why it is refused, if it is.
+    ghost Saw: { Self → ℕ → List ℕ → Option C → Self → Type 0 };
+
+    /// Notes that the word of this number, from 1, was recoded, or refused for a cause.
+    fn see(&mut self, number: u64, word: &[u8], cause: &Option<C>, steps: &mut Steps<L>)
+        requires { length word.now ≤ 8 }
+        ensures { Saw self.old number word.now cause.now self.new };
 }
 
 /// No observer.
-impl<L: Ledger> WordWatch<L> for () {
+impl<C, L: Ledger> WordWatch<C, L> for () {
+    ghost Saw = { λ watch number word cause then. Unit {0} };
+
     #[inline(always)]
-    fn see(&mut self, _number: u64, _word: &[u8], _steps: &mut Steps<L>) {}
+    fn see(&mut self, _number: u64, _word: &[u8], _cause: &Option<C>, _steps: &mut Steps<L>) {}
+}
+
+/// The count of the refused words, and the first of them.
+impl<C: Copy, L: Ledger> WordWatch<C, L> for Refusals<C> {
+    ghost use Rattle.run_engine.specs.Refused.{Counts};
+
+    ghost Saw = { λ watch number word cause then. Counts watch number word cause then };
+
+    #[inline(always)]
+    fn see(&mut self, number: u64, word: &[u8], cause: &Option<C>, _steps: &mut Steps<L>) {
+        Watch::see(self, number, word, cause);
+    }
 }

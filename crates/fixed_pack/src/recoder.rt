@@ -1,20 +1,20 @@
 //! The machine of words that are recoded.
 
-ghost use Rattle.std.specs.Prelude.{◌≡◌, ◌<◌, ◌≤◌, ◌+◌, ◌++◌, [], List, ℕ, length};
+ghost use Rattle.std.specs.Prelude.{◌≡◌, ◌<◌, ◌≤◌, ◌+◌, ◌++◌, [], List, false, ℕ, length};
 ghost use Rattle.fixed_pack.specs.Part.{part_of};
-ghost use Rattle.fixed_pack.specs.Recoded.{EndsWord, MakesWords, capped};
+ghost use Rattle.fixed_pack.specs.Recoded.{EndsWord, MakesWords};
 ghost use Rattle.run_engine.specs.Machines.{Feeds, going};
 ghost use Rattle.run_engine.specs.Seen.{moment};
 
 use crate::part::Part;
-use crate::recode::{Recode, WordWatch};
+use crate::recode::{MAX_RECODED, Recode, WordWatch};
 use fixed_steps::Steps;
 use line_engine::Output;
 use run_engine::{Gathered, Halt, Machine, Streams};
 use std::sync::ledger::Ledger;
 use text_buffer::TextBuffer;
 
-/// The word that is refused: its number, from 1, its bytes, and why.
+/// The word that ended the input: its number, from 1, its bytes, and why.
 #[derive(Drop)]
 pub struct RefusedWord<C> {
     pub number: u64,
@@ -22,7 +22,7 @@ pub struct RefusedWord<C> {
     pub cause: C,
 }
 
-/// Words that are recoded by a rule, up to the first that it refuses: what becomes of them, one after another.
+/// Words that are recoded by a rule, up to the first that ends the input: what becomes of them, one after another.
 #[derive(Drop)]
 pub struct Recoder<R, W> {
     /// The rule.
@@ -31,6 +31,8 @@ pub struct Recoder<R, W> {
     pub part: Part,
     /// How many words were recoded; the count stays at the last value of u64.
     pub words: u64,
+    /// Whether a word was refused that did not end the input.
+    pub has_fault: bool,
     /// The observer of the words.
     pub watch: W,
 }
@@ -68,12 +70,16 @@ impl<R: Recode, W> Recoder<R, W> {
         ensures rule { result.rule ≡ rule }
         ensures part { result.part ≡ part_of [] (R.size rule) }
         ensures words { result.words ≡ 0 }
+        ensures none { result.has_fault ≡ false }
+        ensures watch { result.watch ≡ watch }
+        ensures some { 0 < R.size rule }
     {
         let part = Part::new(rule.count());
         Recoder {
             rule,
             part,
             words: 0,
+            has_fault: false,
             watch,
         }
     }
@@ -87,21 +93,27 @@ impl<R: Recode, W> Recoder<R, W> {
         steps: &mut Steps<L>,
     ) -> Result<(), Halt<RefusedWord<R::Cause>>>
     where
-        W: WordWatch<L>,
+        W: WordWatch<R::Cause, L>,
         requires few { length word.now ≤ 8 }
-        requires room { length out.old + 8 ≤ 8192 }
+        requires room { length out.old + 193 ≤ 8192 }
         ensures rule { self.new.rule ≡ self.old.rule }
         ensures part { self.new.part ≡ self.old.part }
-        ensures words { self.new.words ≡ capped (self.old.words + 1) }
         ensures ended { length word.now ≡ R.size self.old.rule → EndsWord (R.Recodes self.old.rule)
-            (R.Refuses self.old.rule) word.now (capped (self.old.words + 1)) out.old out.new result }
+            (R.Refuses self.old.rule) W.Saw word.now self.old.words self.old.has_fault self.old.watch self.new out.old
+            out.new result }
     {
         self.words = self.words.saturating_add(1);
-        let end = self.rule.recode(word, out);
-        self.watch.see(self.words, word, steps);
-        match end {
-            Ok(()) => Ok(()),
-            Err(cause) => Err(Halt::Stopped(refused_word(self.words, word, cause))),
+        match self.rule.recode(word, out, steps) {
+            Ok(cause) => {
+                let is_refused = cause.is_some();
+                self.has_fault = self.has_fault || is_refused;
+                self.watch.see(self.words, word, &cause, steps);
+                Ok(())
+            }
+            Err(cause) => {
+                self.watch.see(self.words, word, &Some(cause), steps);
+                Err(Halt::Stopped(refused_word(self.words, word, cause)))
+            }
         }
     }
 
@@ -114,16 +126,15 @@ impl<R: Recode, W> Recoder<R, W> {
         steps: &mut Steps<L>,
     ) -> Result<(), Halt<RefusedWord<R::Cause>>>
     where
-        W: WordWatch<L>,
+        W: WordWatch<R::Cause, L>,
         requires piece { length self.old.part.bytes + length piece.now ≡ self.old.part.size }
         requires most { self.old.part.size ≤ 8 }
-        requires room { length out.old + 8 ≤ 8192 }
+        requires room { length out.old + 193 ≤ 8192 }
         ensures rule { self.new.rule ≡ self.old.rule }
         ensures part { self.new.part ≡ part_of [] self.old.part.size }
-        ensures words { self.new.words ≡ capped (self.old.words + 1) }
         ensures ended { self.old.part.size ≡ R.size self.old.rule → EndsWord (R.Recodes self.old.rule)
-            (R.Refuses self.old.rule) (self.old.part.bytes ++ piece.now) (capped (self.old.words + 1)) out.old out.new
-            result }
+            (R.Refuses self.old.rule) W.Saw (self.old.part.bytes ++ piece.now) self.old.words self.old.has_fault
+            self.old.watch self.new out.old out.new result }
     {
         if self.part.is_empty() {
             return self.recode_word(piece, out, steps);
@@ -141,33 +152,34 @@ impl<R: Recode, W> Recoder<R, W> {
         steps: &mut Steps<L>,
     ) -> Result<(), Halt<RefusedWord<R::Cause>>>
     where
-        W: WordWatch<L>,
+        W: WordWatch<R::Cause, L>,
         requires { length self.old.part.bytes + length piece.now ≤ self.old.part.size }
-        ensures { (rule : R) (bytes made : List ℕ) (spent : ℕ)
-            → MakesWords (R.size rule) (R.Recodes rule) (R.Refuses rule) rule bytes made spent going self.old
-            → Feeds (MakesWords (R.size rule) (R.Recodes rule) (R.Refuses rule) rule) bytes made spent piece.now
-            self.new (moment (I.seen out.old.io) out.old.text steps.old)
+        ensures { (rule : R) (watch : W) (bytes made : List ℕ) (spent : ℕ)
+            → MakesWords (R.size rule) (R.Recodes rule) (R.Refuses rule) W.Saw rule watch bytes made spent going
+            self.old
+            → Feeds (MakesWords (R.size rule) (R.Recodes rule) (R.Refuses rule) W.Saw rule watch) bytes made spent
+            piece.now self.new (moment (I.seen out.old.io) out.old.text steps.old)
             (moment (I.seen out.new.io) out.new.text steps.new) result }
     {
         if piece.len() < self.part.lacks() {
             self.part.keep(piece);
             return Ok(());
         }
-        match out.make_room(8) {
+        match out.make_room(MAX_RECODED) {
             Err(_) => Err(Halt::WriteFault),
             Ok(()) => self.end_word(piece, &mut out.text, steps),
         }
     }
 }
 
-impl<R: Recode, W: WordWatch<L>, L: Ledger> Machine<L> for Recoder<R, W> {
+impl<R: Recode, W: WordWatch<R::Cause, L>, L: Ledger> Machine<L> for Recoder<R, W> {
     ghost use Rattle.fixed_pack.specs.Recoded.{MakesWords};
     ghost use Rattle.fixed_pack.specs.Lemmas.RecodedLaws.{recoded_one};
 
     type Stop = RefusedWord<R::Cause>;
 
     ghost Makes = { λ first bytes text spent how last. MakesWords (R.size first.rule) (R.Recodes first.rule)
-        (R.Refuses first.rule) first.rule bytes text spent how last };
+        (R.Refuses first.rule) W.Saw first.rule first.watch bytes text spent how last };
 
     #[inline]
     fn feed<I: Streams>(
@@ -192,10 +204,13 @@ impl<R: Recode, W: WordWatch<L>, L: Ledger> Machine<L> for Recoder<R, W> {
         _out: &mut Gathered<I>,
         _steps: &mut Steps<L>,
     ) -> Result<bool, Halt<RefusedWord<R::Cause>>> {
+        if self.has_fault {
+            return Ok(true);
+        }
         Ok(!self.part.is_empty())
     }
 
     ghost one_law = { λ first a b bytes made other spent cost how then p q. recoded_one (R.size first.rule)
         (R.Recodes first.rule) (R.Refuses first.rule) (R.one_law first.rule) (R.cause_law first.rule)
-        (R.never_law first.rule) first.rule a b bytes made other spent cost how then p q };
+        (R.never_law first.rule) W.Saw first.rule first.watch a b bytes made other spent cost how then p q };
 }

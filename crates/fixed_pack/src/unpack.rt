@@ -1,117 +1,146 @@
 //! Raw words unpacked into lines.
 
-ghost use Rattle.std.specs.Prelude.{◌≡◌, ◌<◌, ◌≤◌, length};
-ghost use Rattle.line_engine.specs.Run.{HasFailures};
-ghost use Rattle.fixed_command.specs.declared.spelling.Spelling.{Spelling};
-ghost use Rattle.fixed_pack.specs.Unpack.{HasUnpackRun, count_of};
+ghost use Rattle.std.specs.Prelude.{◌≡◌, ◌≢◌, ◌≤◌, ◌<◌, ◌+◌, ◌^◌, true, false, length};
+ghost use Rattle.fixed_bits.specs.Formats.{IsFormat};
+ghost use Rattle.fixed_bits.specs.Ranges.{IsInRange};
+ghost use Rattle.fixed_command.specs.Moved.{HasPushed};
+ghost use Rattle.fixed_pack.specs.Inner.Unpacking.{PushesReply};
+ghost use Rattle.fixed_pack.specs.Word.{word_length};
 
 use crate::Endian;
-use crate::chunk::{MOST_BYTES, read_chunk};
-use crate::unpacker::{CHUNK, Unpacker};
-use crate::word::word_length;
-use fixed_command::{ConvertRule, RefusedLine, Settings, Spelling};
+use crate::float_words::WordRefusal;
+use crate::recode::Recode;
+use crate::word::{word_bits, word_length, word_number};
+use fixed_bits::{Format, Policy};
+use fixed_command::{Print, Settings, push_image};
+use fixed_respell::push_fault;
+use fixed_show::Shown;
 use fixed_steps::Steps;
-use line_engine::{Sink, Source, Status};
+use fixed_write::push_shortest;
+use line_engine::Output;
 use std::sync::ledger::Ledger;
 
-/// How words are unpacked.
-#[derive(Drop)]
+/// How words are unpacked: each into the line that answers its text, in hexadecimal after `0x`. A word of more bits
+/// than the source has is refused, and so is one that has no image in the target; their lines say so.
+#[derive(Clone, Copy, Debug, PartialEq, Eq)]
 pub struct UnpackRule {
-    /// How a word is converted, as its text is.
-    pub rule: ConvertRule,
+    /// How a word is converted, as its text is. How a line spells a number does not matter.
+    pub settings: Settings,
     /// The order of a word's bytes.
     pub endian: Endian,
 }
 
-impl UnpackRule {
-    /// Words in this order are converted by these settings.
-    pub fn new(settings: Settings, endian: Endian) -> UnpackRule
-        ensures rule { result.rule ≡ record settings { spelling = Spelling.Word } }
-        ensures endian { result.endian ≡ endian }
-    {
-        let rule = ConvertRule::new(Settings {
-            spelling: Spelling::Word,
-            ..settings
-        });
-        UnpackRule { rule, endian }
-    }
-
-    /// How many bytes a word has.
-    pub fn count(&self) -> usize
-        ensures value { result ≡ count_of self.now }
-        ensures some { 0 < result }
-        ensures most { result ≤ 8 }
-    {
-        word_length(self.rule.settings().source)
-    }
-}
-
-/// How the unpacking of an input ended.
-#[derive(Drop)]
-pub struct UnpackEnd {
-    /// Its status: `Faults` where a word was refused, or bytes are left over.
-    pub status: Status,
-    /// How many bytes are left over at the end of the input.
-    pub left_over: usize,
-    /// How many words were refused.
-    pub refused: u64,
-    /// The first of those: its number among the words, its bytes, and why.
-    pub first: Option<RefusedLine>,
-}
-
-impl UnpackEnd {
-    /// The end of a run with this status and these bytes left over.
-    fn of(unpacker: Unpacker, status: Status) -> UnpackEnd
-        ensures status { result.status ≡ status }
-        ensures over { result.left_over ≡ length unpacker.part }
-        ensures refused { result.refused ≡ unpacker.answered.refused }
-        ensures first { result.first ≡ unpacker.answered.first }
-    {
-        UnpackEnd {
-            status,
-            left_over: unpacker.part.len(),
-            refused: unpacker.answered.refused,
-            first: unpacker.answered.first,
-        }
-    }
-}
-
-/// Unpacks the words of an input, one after another, and writes a line for each; and says how that ended.
-///
-/// A word is the fewest bytes that have the bits of the source format. Its line is the answer to its text, in
-/// hexadecimal after `0x`: a word of more bits than the format's is refused. Bytes that are fewer than a word at
-/// the end of the input are left over. The lines of the words that end in a chunk of 512 bytes are written before
-/// the next is read. It takes no memory.
-pub fn run_unpack<S: Source, K: Sink, L: Ledger>(
-    rule: &UnpackRule,
-    source: &mut S,
-    sink: &mut K,
-    steps: &mut Steps<L>,
-) -> UnpackEnd
-    // What was taken and what was written, and what is known of the words that were refused, by status.
-    ensures run { HasUnpackRun rule.now (S.left source.old) (S.left source.new) (K.written sink.old)
-        (K.written sink.new) result.left_over result.refused result.first result.status }
-
-    // Which count of failures rose, by status.
-    ensures failures { HasFailures (S.failures source.old) (S.failures source.new) (K.failures sink.old)
-        (K.failures sink.new) result.status }
+/// A format's fraction length.
+pub(crate) fn frac_of(format: Format) -> u32
+    ensures value { result ≡ format.frac }
+    ensures most { result ≤ 64 }
+    ensures valid { IsFormat format.width format.frac }
 {
-    let mut chunk = [0u8; CHUNK];
-    let mut unpacker = Unpacker::new();
-    let _count = rule.count();
-    let mut taken = 0u64;
-    while taken < MOST_BYTES {
-        match read_chunk(source, &mut chunk) {
-            Err(_) => return UnpackEnd::of(unpacker, Status::ReadFault),
-            Ok(0) => {
-                let status = unpacker.status();
-                return UnpackEnd::of(unpacker, status);
-            }
-            Ok(count) => match unpacker.feed(rule, &chunk[..count], sink, steps) {
-                Err(_) => return UnpackEnd::of(unpacker, Status::WriteFault),
-                Ok(()) => taken += count as u64,
-            },
+    format.frac()
+}
+
+/// Whether bits are their own image: those of a format in itself, but for the lowest number under `Symmetric`.
+fn keeps_bits(settings: &Settings) -> bool
+    ensures source { result ≡ true → settings.now.source ≡ settings.now.target }
+    ensures policy { result ≡ true → settings.now.policy ≢ Policy.Symmetric }
+{
+    settings.policy != Policy::Symmetric && settings.source == settings.target
+}
+
+/// Appends the part that is asked for of bits of the source, moved to the target; or, if they have no image there, the
+/// fault. Returns whether that is so. Bits of a format are their own image in it.
+#[inline]
+fn push_number<L: Ledger>(
+    out: &mut Output,
+    settings: &Settings,
+    bits: i128,
+    steps: &mut Steps<L>,
+) -> bool
+    requires range { IsInRange settings.now.source.signed settings.now.source.width bits }
+    requires room { length out.old + 130 ≤ 8192 }
+    ensures { HasPushed settings.now bits false out.old out.new result }
+{
+    let s = settings;
+    let _from = frac_of(s.source);
+    let to = frac_of(s.target);
+    if let Print::Text = s.print {
+        if keeps_bits(s) {
+            push_shortest(out, bits, to, steps);
+            return false;
         }
     }
-    UnpackEnd::of(unpacker, Status::TooLong)
+    push_image(
+        out,
+        s,
+        &Shown {
+            bits,
+            overflowed: false,
+        },
+        steps,
+    )
+}
+
+/// Appends the reply to the word that is this number, without a newline. Returns why it is refused, if it is.
+#[inline]
+fn push_reply<L: Ledger>(
+    settings: &Settings,
+    number: u64,
+    out: &mut Output,
+    steps: &mut Steps<L>,
+) -> Option<WordRefusal>
+    requires room { length out.old + 192 ≤ 8192 }
+    ensures reply { number < 256 ^ word_length settings.now.source.width
+        → PushesReply settings.now number out.old out.new result }
+    ensures short { length out.new ≤ length out.old + 192 }
+{
+    let _from = frac_of(settings.source);
+    let _to = frac_of(settings.target);
+    match word_bits(settings.source, number) {
+        Some(bits) => {
+            if push_number(out, settings, bits, steps) {
+                Some(WordRefusal::Overflow)
+            } else {
+                None
+            }
+        }
+        None => {
+            push_fault(out, WordRefusal::TooWide.message());
+            Some(WordRefusal::TooWide)
+        }
+    }
+}
+
+impl Recode for UnpackRule {
+    ghost use Rattle.fixed_pack.specs.Unpack.{IsWordLine, count_of};
+    ghost use Rattle.fixed_pack.specs.Lemmas.UnpackLaws.{line_one};
+
+    type Cause = WordRefusal;
+
+    ghost size = { count_of };
+
+    ghost Recodes = { IsWordLine };
+
+    ghost Refuses = { λ rule word why. ⊥ };
+
+    fn count(&self) -> usize {
+        word_length(self.settings.source)
+    }
+
+    #[inline(always)]
+    fn recode<L: Ledger>(
+        &self,
+        word: &[u8],
+        out: &mut Output,
+        steps: &mut Steps<L>,
+    ) -> Result<Option<WordRefusal>, WordRefusal> {
+        let cause = push_reply(&self.settings, word_number(word, self.endian), out, steps);
+        out.push(b'\n');
+        Ok(cause)
+    }
+
+    ghost one_law = { line_one };
+
+    ghost cause_law = { λ rule word a b p q. absurd p };
+
+    ghost never_law = { λ rule word made cause why p q. q };
 }

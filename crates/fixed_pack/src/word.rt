@@ -1,6 +1,9 @@
 //! The bytes of a word.
 
-ghost use Rattle.std.specs.Prelude.{◌≡◌, ◌+◌, ◌^◌, ◌<◌, ◌≤◌, ◌++◌, MatchOption, length, reverse};
+ghost use Rattle.std.specs.Prelude.{◌≡◌, ◌+◌, ◌^◌, ◌<◌, ◌≤◌, ◌++◌, MatchOption, if◌then◌else◌, length, reverse};
+ghost use Rattle.fixed_bits.specs.Numbers.{with_sign};
+ghost use Rattle.fixed_bits.specs.Ranges.{IsInRange};
+ghost use Rattle.fixed_command.specs.Hex.{word_of};
 ghost use Rattle.fixed_pack.specs.Word.{IsBitsOf, bytes_of, low_bytes, low_number, number_of, word_length};
 
 use crate::Endian;
@@ -31,6 +34,40 @@ pub fn word_bits(format: Format, number: u64) -> Option<i128>
     }
 }
 
+/// The first of two numbers, or the second, chosen without a branch.
+#[inline(always)]
+fn chosen(is_first: bool, first: u64, second: u64) -> u64
+    ensures { result ≡ (if is_first then first else second) }
+{
+    if is_first { first } else { second }
+}
+
+/// The word of a number in a format's range, by its sign and magnitude. The sign changes from word to word.
+#[inline(always)]
+pub fn signed_word(format: Format, negative: bool, magnitude: u64) -> u64
+    requires { IsInRange format.signed format.width (with_sign negative magnitude) }
+    ensures { result ≡ word_of format.width (with_sign negative magnitude) }
+{
+    let turn: u128 = 1 << format.width();
+    let turned = ((turn - u128::from(magnitude)) % (1 << 64)) as u64;
+    let is_below_zero = negative && magnitude > 0;
+    chosen(is_below_zero, turned, magnitude)
+}
+
+/// Appends the last bytes of a number, at most 8, in an order.
+#[inline(always)]
+fn push_few<const N: usize>(out: &mut TextBuffer<N>, endian: Endian, count: usize, number: u64)
+    requires few { count ≤ 8 }
+    requires room { length out.old + count ≤ N }
+    ensures appended { out.new ≡ out.old ++ bytes_of endian count number }
+    ensures length { length out.new ≡ length out.old + count }
+{
+    match endian {
+        Endian::Little => out.push_bytes(&number.to_le_bytes()[..count]),
+        Endian::Big => out.push_bytes(&number.to_be_bytes()[8 - count..]),
+    }
+}
+
 /// Appends the last bytes of a number, the least significant first.
 fn push_low<const N: usize>(out: &mut TextBuffer<N>, count: usize, number: u64)
     requires room { length out.old + count ≤ N }
@@ -56,15 +93,19 @@ fn push_high<const N: usize>(out: &mut TextBuffer<N>, count: usize, number: u64)
     }
 }
 
-/// Appends the last bytes of a number, in an order.
+/// Appends the last bytes of a number, in an order. Two, four or eight are one write.
+#[inline(always)]
 pub fn push_word<const N: usize>(out: &mut TextBuffer<N>, endian: Endian, count: usize, number: u64)
     requires room { length out.old + count ≤ N }
     ensures appended { out.new ≡ out.old ++ bytes_of endian count number }
     ensures length { length out.new ≡ length out.old + count }
 {
-    match endian {
-        Endian::Little => push_low(out, count, number),
-        Endian::Big => push_high(out, count, number),
+    match (count, endian) {
+        (2, _) => push_few(out, endian, 2, number),
+        (4, _) => push_few(out, endian, 4, number),
+        (8, _) => push_few(out, endian, 8, number),
+        (_, Endian::Little) => push_low(out, count, number),
+        (_, Endian::Big) => push_high(out, count, number),
     }
 }
 
@@ -92,14 +133,62 @@ fn high_number(bytes: &[u8]) -> u64
     }
 }
 
-/// The number of bytes, of which there are at most 8, in an order.
+/// The number of two bytes, in an order.
+#[inline(always)]
+fn number_of_two(bytes: &[u8], endian: Endian) -> u64
+    requires { length bytes.now ≡ 2 }
+    ensures value { result ≡ number_of endian bytes.now }
+    ensures below { result < 2 ^ 16 }
+{
+    let mut word = [0; 2];
+    word.copy_from_slice(bytes);
+    match endian {
+        Endian::Little => u64::from(u16::from_le_bytes(word)),
+        Endian::Big => u64::from(u16::from_be_bytes(word)),
+    }
+}
+
+/// The number of four bytes, in an order.
+#[inline(always)]
+fn number_of_four(bytes: &[u8], endian: Endian) -> u64
+    requires { length bytes.now ≡ 4 }
+    ensures value { result ≡ number_of endian bytes.now }
+    ensures below { result < 2 ^ 32 }
+{
+    let mut word = [0; 4];
+    word.copy_from_slice(bytes);
+    match endian {
+        Endian::Little => u64::from(u32::from_le_bytes(word)),
+        Endian::Big => u64::from(u32::from_be_bytes(word)),
+    }
+}
+
+/// The number of eight bytes, in an order.
+#[inline(always)]
+fn number_of_eight(bytes: &[u8], endian: Endian) -> u64
+    requires { length bytes.now ≡ 8 }
+    ensures { result ≡ number_of endian bytes.now }
+{
+    let mut word = [0; 8];
+    word.copy_from_slice(bytes);
+    match endian {
+        Endian::Little => u64::from_le_bytes(word),
+        Endian::Big => u64::from_be_bytes(word),
+    }
+}
+
+/// The number of bytes, of which there are at most 8, in an order. Two, four or eight are one read.
+#[inline(always)]
 pub fn word_number(bytes: &[u8], endian: Endian) -> u64
     requires { length bytes.now ≤ 8 }
     ensures value { result ≡ number_of endian bytes.now }
     ensures below { result < 256 ^ length bytes.now }
 {
-    match endian {
-        Endian::Little => low_number(bytes),
-        Endian::Big => high_number(bytes),
+    match (bytes.len(), endian) {
+        (2, _) => number_of_two(bytes, endian),
+        (4, _) => number_of_four(bytes, endian),
+        (8, _) => number_of_eight(bytes, endian),
+        (_, Endian::Little) => low_number(bytes),
+        (_, Endian::Big) => high_number(bytes),
     }
 }

@@ -11,7 +11,9 @@ use crate::recode::Recode;
 use crate::word::{push_word, word_bits, word_length, word_number};
 use fixed_bits::Format;
 use fixed_float::{FloatLayout, binary32_of, binary64_of};
+use fixed_steps::Steps;
 use line_engine::Output;
+use std::sync::ledger::Ledger;
 
 /// How words are written as floats.
 #[derive(Clone, Copy, Debug, PartialEq, Eq)]
@@ -55,12 +57,17 @@ impl Recode for WordFloats {
     }
 
     #[inline(always)]
-    fn recode(&self, word: &[u8], out: &mut Output) -> Result<(), WordRefusal> {
+    fn recode<L: Ledger>(
+        &self,
+        word: &[u8],
+        out: &mut Output,
+        _steps: &mut Steps<L>,
+    ) -> Result<Option<WordRefusal>, WordRefusal> {
         match word_bits(self.format, word_number(word, self.endian)) {
             Some(bits) => {
                 let float = nearest_float(self.layout, bits, self.format);
                 push_word(out, self.endian, float_length(self.layout), float);
-                Ok(())
+                Ok(None)
             }
             None => Err(WordRefusal::TooWide),
         }

@@ -1,6 +1,7 @@
 -- A float becomes one word, and a word one float, or it is refused for one cause.
 use Rattle.std.proofs.Common.{◌≡◌, ◌∙◌, ◌+◌, ◌-◌, ◌*◌, ◌^◌, ◌<◌, ℕ, ℤ, pos, negsuc, Bool, true, false, List, refl}
-use Rattle.std.proofs.Common.{sym, ap, subst, arith}
+use Rattle.std.proofs.Common.{sym, ap, subst, arith, Option}
+use Rattle.std.specs.Prelude.{is_some}
 use Rattle.std.proofs.lemmas.Int.{ints}
 use Rattle.std.proofs.lemmas.Nat.{pow-add}
 use Rattle.fixed_bits.proofs.Public.{has_none, image_one}
@@ -22,13 +23,14 @@ use Rattle.fixed_pack.specs.declared.float_words.WordRefusal.{WordRefusal}
 use Rattle.fixed_pack.specs.declared.float_words.WordRefusal.TheVariants.{NotFinite, Overflow, TooWide}
 use Rattle.fixed_pack.specs.declared.word_floats.WordFloats.{WordFloats}
 
-pub float_word_one : (s : FloatWords) (bytes a b : List ℕ) → IsFloatWord s bytes a → IsFloatWord s bytes b → a ≡ b
-float_word_one s bytes a b p q =
+pub float_word_one : (s : FloatWords) (bytes a b : List ℕ) (c d : Option WordRefusal) → IsFloatWord s bytes a c
+    → IsFloatWord s bytes b d → (a ≡ b) × (is_some c ≡ is_some d)
+float_word_one s bytes a b c d p q =
     let number : p.are.number ≡ q.are.number = read_float_unique s.mode s.layout (number_of s.endian bytes)
     s.format.frac p.are.number q.are.number p.are.read q.are.read in
     let bits : p.bits ≡ q.bits = image_one s.policy s.format.signed s.format.width q.are.number p.bits q.bits q.width
     (subst (λ v. IsImage s.policy s.format.signed s.format.width v p.bits) number p.are.image) q.are.image in
-    p.word_is ∙ (ap (word_bytes s.endian s.format) bits ∙ sym q.word_is)
+    (p.word_is ∙ (ap (word_bytes s.endian s.format) bits ∙ sym q.word_is), ap is_some (p.clean ∙ sym q.clean))
 
 refused_by : (s : FloatWords) (float : ℕ) (k l : WordRefusal) → IsFloatRefused s float k → IsFloatRefused s float l
     → k ≡ l
@@ -56,13 +58,13 @@ has_bits_or_not s float bits Overflow p q =
     (subst (λ v. IsImage Checked s.format.signed s.format.width v bits) number image)
 has_bits_or_not s float bits TooWide p q = q
 
-pub float_never : (s : FloatWords) (bytes made : List ℕ) (k : WordRefusal) → IsFloatWord s bytes made
-    → IsWordNot s bytes k → ⊥
-float_never s bytes made k p q = has_bits_or_not s (number_of s.endian bytes) p.bits k p.are q
+pub float_never : (s : FloatWords) (bytes made : List ℕ) (c : Option WordRefusal) (k : WordRefusal)
+    → IsFloatWord s bytes made c → IsWordNot s bytes k → ⊥
+float_never s bytes made c k p q = has_bits_or_not s (number_of s.endian bytes) p.bits k p.are q
 
 -- ---- words
 -- numbers in range that have one word are one
-same_word : (signed : Bool) (n : ℕ) (a b : ℤ) → IsWidth n → IsInRange signed n a → IsInRange signed n b
+pub same_word : (signed : Bool) (n : ℕ) (a b : ℤ) → IsWidth n → IsInRange signed n a → IsInRange signed n b
     → word_of n a ≡ word_of n b → a ≡ b
 same_word signed n a b width p q e = by signed a b p q e
   where
@@ -82,14 +84,17 @@ few_bits : (layout : FloatLayout) (float : ℕ) → float < 256 ^ float_size lay
 few_bits Binary32 float few = omega (arith, few)
 few_bits Binary64 float few = omega (arith, few)
 
-pub word_float_one : (s : WordFloats) (bytes a b : List ℕ) → IsWordFloat s bytes a → IsWordFloat s bytes b → a ≡ b
-word_float_one s bytes a b p q =
+pub word_float_one : (s : WordFloats) (bytes a b : List ℕ) (c d : Option WordRefusal) → IsWordFloat s bytes a c
+    → IsWordFloat s bytes b d → (a ≡ b) × (is_some c ≡ is_some d)
+word_float_one s bytes a b c d p q =
     let bits : p.bits ≡ q.bits = same_word s.format.signed s.format.width p.bits q.bits p.are.width p.are.in_range
     q.are.in_range (p.are.word_is ∙ sym q.are.word_is) in
     let float : p.float ≡ q.float = nearest_float_is_the_one s.layout q.bits s.format.frac p.float q.float
     (few_bits s.layout p.float p.few) (few_bits s.layout q.float q.few)
-    (subst (λ v. IsNearestFloat s.layout v s.format.frac p.float) bits p.nearest) q.nearest in
-    p.float_is ∙ (ap (bytes_of s.endian (float_size s.layout)) float ∙ sym q.float_is)
+    (subst (λ v. IsNearestFloat s.layout v s.format.frac p.float) bits p.nearest) q.nearest in (
+      p.float_is ∙ (ap (bytes_of s.endian (float_size s.layout)) float ∙ sym q.float_is),
+      ap is_some (p.clean ∙ sym q.clean),
+    )
 
 pub width_one : (s : WordFloats) (bytes : List ℕ) (k l : WordRefusal) → IsWordRefused s bytes k
     → IsWordRefused s bytes l → k ≡ l
@@ -99,9 +104,9 @@ width_one s bytes TooWide NotFinite p q = absurd q
 width_one s bytes TooWide Overflow p q = absurd q
 width_one s bytes TooWide TooWide p q = refl
 
-pub word_never : (s : WordFloats) (bytes made : List ℕ) (k : WordRefusal) → IsWordFloat s bytes made
-    → IsWordRefused s bytes k → ⊥
-word_never s bytes made NotFinite p q = q
-word_never s bytes made Overflow p q = q
-word_never s bytes made TooWide p q =
+pub word_never : (s : WordFloats) (bytes made : List ℕ) (c : Option WordRefusal) (k : WordRefusal)
+    → IsWordFloat s bytes made c → IsWordRefused s bytes k → ⊥
+word_never s bytes made c NotFinite p q = q
+word_never s bytes made c Overflow p q = q
+word_never s bytes made c TooWide p q =
     omega (arith, word_fits s.format p.bits p.are.width p.are.in_range, p.are.word_is, q)

@@ -1,0 +1,18 @@
+use Rattle.std.proofs.Common.{rules, ◌≡◌, ◌∙◌, ◌<◌, ◌^◌, ℕ, List, get_or, subst}
+use Rattle.std.specs.Int.{from_be_bytes, from_le_bytes, w32}
+use Rattle.fixed_pack.proofs.WordLemmas.{four_big, four_little}
+use Rattle.fixed_pack.proofs.word.number_of_four.Goals as goal
+
+pub returns-in-Little-clause-value : goal.returns-in-Little-clause-value
+returns-in-Little-clause-value c =
+    let small : (i : ℕ) → get_or c.args.bytes.now i 0 < 256 = search rules in
+    let fits : c.from_le_bytes.result < 2 ^ 32 = search rules in
+    let is = subst (λ (l : List ℕ). c.from_le_bytes.result ≡ from_le_bytes w32 l) c.copy_from_slice.ensures.after c.from_le_bytes.ensures in
+    rw c.in-Little.is (c.from.ensures ∙ four_little c.args.bytes.now c.from_le_bytes.result small c.requires fits is)
+
+pub returns-in-Big-clause-value : goal.returns-in-Big-clause-value
+returns-in-Big-clause-value c =
+    let small : (i : ℕ) → get_or c.args.bytes.now i 0 < 256 = search rules in
+    let fits : c.from_be_bytes.result < 2 ^ 32 = search rules in
+    let is = subst (λ (l : List ℕ). c.from_be_bytes.result ≡ from_be_bytes w32 l) c.copy_from_slice.ensures.after c.from_be_bytes.ensures in
+    rw c.in-Big.is (c.from-in-Big.ensures ∙ four_big c.args.bytes.now c.from_be_bytes.result small c.requires fits is)
