@@ -1,6 +1,6 @@
 # bash completion for fixed
 # printed by make options: completions
-_fixed_commands='convert column bits show format modes lines enclose least fit pack unpack constants sort'
+_fixed_commands='convert column bits show format modes lines enclose least fit pack unpack repack constants sort'
 _fixed_formats='I16F16 U16F16 I8F8 U8F8 I32F32 U32F32 I1F15 I1F31 I4F4 U0F8'
 # The options of a command.
 _fixed_options() {
@@ -14,6 +14,7 @@ _fixed_options() {
     fit) echo '--width --error --any --signed --why --range --radix' ;;
     pack) echo '--from --endian --radix --policy --mode --report' ;;
     unpack) echo '--to --endian --policy --target-mode --print --places --places-mode' ;;
+    repack) echo '--endian --endian-out --policy --target-mode --report' ;;
     constants) echo '--guard --numerals --name --radix --policy --mode' ;;
   esac
 }
@@ -22,7 +23,7 @@ _fixed_value() {
   case $1:$2 in
     convert:--from | column:--from) echo 'text bits' ;;
     *:--radix | *:-r) echo '2 8 10 16' ;;
-    *:--policy | *:-p) echo 'checked saturating wrapping' ;;
+    *:--policy | *:-p) echo 'checked saturating wrapping symmetric' ;;
     *:--mode | *:-m | *:--target-mode | *:--places-mode) echo 'nearest ties-away ties-zero ties-up ties-down floor ceil zero away' ;;
     *:--print) echo 'text bits hex readmemh value all' ;;
     *:--places | *:--comments | *:--separators | *:--refused | *:--delimiter | *:-d | *:--skip | *:--decimal | \
@@ -33,7 +34,7 @@ _fixed_value() {
     *:--empty) echo 'fault keep 0' ;;
     *:--width | *:-w) echo '8 16 32 64' ;;
     pack:--from | *:--to) echo 'text f64 f32' ;;
-    *:--endian) echo 'little big' ;;
+    *:--endian | *:--endian-out) echo 'little big' ;;
     *:--numerals) echo '@formats' ;;
   esac
 }
@@ -47,6 +48,7 @@ _fixed_operands() {
     lines | enclose | fit) echo '@files' ;;
     least) echo '2+8+10+16+@files' ;;
     pack) echo '@formats @files' ;;
+    repack) echo '@formats @formats+@files @files' ;;
     constants) echo 'c+rust+array-c+array-rust+vhdl+readmemh+coe+mif+@files' ;;
     sort) echo 'limit+@files' ;;
   esac

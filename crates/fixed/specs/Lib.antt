@@ -1,4 +1,5 @@
 -- What the words of a command line ask for.
+pub mod Amounts
 pub mod Settings
 pub mod Columns
 pub mod Lines

@@ -29,10 +29,15 @@ is_count one other byte = (is_ascii_digit byte || byte == one) || byte == other
 abbrev pub are_counts : ℕ → ℕ → List ℕ → Bool
 are_counts one other bytes = not (length bytes == 0) && list_all (is_count one other) bytes
 
--- the bytes after a first one: those of ARM's notation after Q, or digits and F after I or U
+-- the bytes after a minus, if they begin with one
+abbrev pub after_minus : List ℕ → List ℕ
+after_minus [] = []
+after_minus (byte ∷ bytes) = if byte == 45 then bytes else byte ∷ bytes
+
+-- the bytes after a first one: those of ARM's notation after Q, or digits and F after I or U, perhaps after a minus
 abbrev pub is_like_after : ℕ → List ℕ → Bool
 is_like_after first rest = if is_letter 81 first then are_counts 46 46 rest
-    else ((is_letter 73 first || is_letter 85 first) && are_counts 70 102 rest)
+    else ((is_letter 73 first || is_letter 85 first) && are_counts 70 102 (after_minus rest))
 
 -- a word has the shape of a format, and so is no file
 abbrev pub is_like_format : List ℕ → Bool

@@ -3,6 +3,7 @@
 //! The further programs keep their words as keywords: `least 16`, `constants rust`, `sort limit 7`. A keyword stands
 //! before the files and before `--`. The guard of a header is an option, so that no file is taken for one.
 
+pub mod amounts;
 pub mod bits;
 pub mod column;
 pub mod column_report;
@@ -18,6 +19,7 @@ pub mod least;
 pub mod lines;
 pub mod modes;
 pub mod pack;
+pub mod repack;
 pub mod show;
 pub mod sort;
 pub mod unpack;
@@ -31,7 +33,7 @@ use std::sync::ledger::Ledger;
 
 /// The pages of the commands, in the order of the help. Each is made by a function of its own: as parts of one constant
 /// they are more than the prover reads at once.
-pub fn pages() -> [Page; 14] {
+pub fn pages() -> [Page; 15] {
     [
         convert::page(),
         column::page(),
@@ -45,6 +47,7 @@ pub fn pages() -> [Page; 14] {
         fit::page(),
         pack::page(),
         unpack::page(),
+        repack::page(),
         constants::page(),
         sort::page(),
     ]
@@ -87,6 +90,7 @@ impl<L: Ledger> Commands<L> for AllCommands {
             "fit" => fit::run(rt, given, steps),
             "pack" => pack::run(rt, given, steps),
             "unpack" => unpack::run(rt, given, steps),
+            "repack" => repack::run(rt, given, steps),
             "constants" => constants::run(rt, given, steps),
             _ => sort::run(rt, given, steps),
         }

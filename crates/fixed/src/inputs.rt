@@ -1,16 +1,18 @@
 //! What is done with each input, one after another.
 
 use crate::commands::column_report::{self, Known};
-use crate::commands::{fit, floats, pack, unpack};
+use crate::commands::{amounts, fit, floats, pack, repack, unpack};
 use column_engine::ColumnWatch;
 use command_line::device::{Failure, Output, Unmarked, Writer};
 use command_line::report::{Report, push_words, report_end};
+use fixed_amounts::AmountSettings;
 use fixed_command::{
-    ColumnConversion, ConvertRule, FieldReport, MAX_TALLY, Place, RefusedLine, Tally, Task, Watch,
-    convert_column, error_report, explanation, greater_end, place_name, run_task, tally_text,
+    AmountLines, ColumnConversion, ConvertRule, FieldReport, MAX_TALLY, Place, RefusedLine, Tally,
+    Task, Watch, convert_column, error_report, explanation, greater_end, place_name, run_task,
+    tally_text,
 };
 use fixed_io::{StdSink, StdSource};
-use fixed_pack::{FloatWords, PackSettings, UnpackRule, WordFloats};
+use fixed_pack::{FloatWords, PackSettings, Repack, UnpackRule, WordFloats};
 use fixed_report::{ErrorReport, MAX_GREATEST};
 use fixed_steps::Steps;
 use fixed_words::{WordRefusal, WordRule, convert_words};
@@ -34,13 +36,17 @@ pub enum Job<'a> {
         /// Whether there is a report.
         has_report: bool,
     },
+    /// Each of its lines says an amount.
+    Amounts(AmountLines),
     /// Columns of it are converted.
     Column {
         /// How.
-        conversion: ColumnConversion<'a>,
+        conversion: ColumnConversion<'a, ConvertRule>,
         /// Whether there is a report.
         has_report: bool,
     },
+    /// Columns of it are converted into amounts.
+    AmountColumns(ColumnConversion<'a, AmountSettings>),
     /// A format is found that its numerals fit.
     Fit(fit::FitTask),
     /// Its numerals are packed into words.
@@ -56,19 +62,32 @@ pub enum Job<'a> {
     Unpack(UnpackRule),
     /// Its words are written as floats.
     UnpackFloats(WordFloats),
+    /// Its words are written as words of another format.
+    Repack {
+        /// How.
+        words: Repack,
+        /// Whether there is a report.
+        has_report: bool,
+    },
 }
 
-/// A report of how many lines of an input were refused, and which was the first, with its text and the cause.
-fn refusal_report(file: Option<&str>, count: u64, line: &RefusedLine) -> Report {
+/// A report of how many lines of an input were refused, and which was the first: its number, text and cause.
+pub fn refusal_report(
+    file: Option<&str>,
+    count: u64,
+    number: u64,
+    text: &[u8],
+    cause: &[u8],
+) -> Report {
     let mut report = Report::of(file);
     report.text("lines refused: ");
     report.number(count);
     report.text(", the first in line ");
-    report.number(line.number);
+    report.number(number);
     report.text(", '");
-    report.bytes(line.text.as_bytes(), MAX_TEXT);
+    report.bytes(text, MAX_TEXT);
     report.text("': ");
-    report.bytes(line.cause.as_bytes(), 160);
+    report.bytes(cause, 160);
     report
 }
 
@@ -83,7 +102,8 @@ fn report_refused<L: Ledger>(
 ) {
     let refusals = watch.refusals();
     if let Some(line) = &refusals.first {
-        let mut report = refusal_report(file, refusals.count, line);
+        let (text, cause) = (line.text.as_bytes(), line.cause.as_bytes());
+        let mut report = refusal_report(file, refusals.count, line.number, text, cause);
         match task {
             Task::Convert(rule) => {
                 let numeral = line.text.as_bytes();
@@ -186,7 +206,7 @@ fn asked_report<'r>(report: &'r FieldReport<'r>, has_report: bool) -> Option<&'r
 #[inline(never)]
 fn run_column_on<R: Read + Drop, L: Ledger>(
     rt: &HostRuntime,
-    conversion: &ColumnConversion<'_>,
+    conversion: &ColumnConversion<'_, ConvertRule>,
     has_report: bool,
     file: Option<&str>,
     reader: R,
@@ -292,10 +312,14 @@ fn run_reader<R: Read + Drop, L: Ledger>(
         Job::Words { rule, has_report } => {
             run_words_on(rt, rule, *has_report, file, reader, output, steps)
         }
+        Job::Amounts(lines) => amounts::run_on(rt, lines, file, reader, output, steps),
         Job::Column {
             conversion,
             has_report,
         } => run_column_on(rt, conversion, *has_report, file, reader, output, steps),
+        Job::AmountColumns(conversion) => {
+            amounts::run_columns_on(rt, conversion, file, reader, output, steps)
+        }
         Job::Fit(task) => {
             let mut source = StdSource::new(Unmarked::new(reader));
             fit::run_on(rt, task, file, &mut source, steps)
@@ -306,6 +330,9 @@ fn run_reader<R: Read + Drop, L: Ledger>(
         }
         Job::Unpack(rule) => unpack::run_on(rt, rule, file, reader, steps),
         Job::UnpackFloats(words) => floats::unpack_on(rt, words, file, reader, steps),
+        Job::Repack { words, has_report } => {
+            repack::run_on(rt, words, *has_report, file, reader, steps)
+        }
     }
 }
 
@@ -335,7 +362,7 @@ fn run_file<L: Ledger>(
 }
 
 /// Whether nothing more can be written after this end.
-fn is_last(status: Status) -> bool {
+pub fn is_last(status: Status) -> bool {
     matches!(status, Status::WriteFault | Status::NoMemory)
 }
 

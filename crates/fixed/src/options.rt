@@ -38,8 +38,8 @@ pub const POLICY: Row = Row {
     name: "policy",
     letter: Some('p'),
     value: "POLICY",
-    choices: &["checked", "saturating", "wrapping"],
-    help: "checked (default), saturating or wrapping",
+    choices: &["checked", "saturating", "wrapping", "symmetric"],
+    help: "default checked; saturating, wrapping, symmetric",
 };
 
 /// The words of the rounding modes.
@@ -125,6 +125,14 @@ pub const ENDIAN: Row = Row {
     value: "ORDER",
     choices: &["little", "big"],
     help: "The order of bytes: little (default), big",
+};
+
+pub const ENDIAN_OUT: Row = Row {
+    name: "endian-out",
+    letter: None,
+    value: "ORDER",
+    choices: &["little", "big"],
+    help: "Of words that are written: as --endian (default)",
 };
 
 pub const TRIM: Row = Row {

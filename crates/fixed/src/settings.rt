@@ -10,7 +10,7 @@ ghost use Rattle.clap.specs.Words.{first_value, found_of};
 ghost use Rattle.command_line.specs.Words.{keyword_at, value_of, word_at};
 ghost use Rattle.fixed.specs.Convert.{IsConversionAsked};
 ghost use Rattle.fixed.specs.Lines.{IsFormatAsked, IsPartAsked, IsTargetAsked, are_counts, is_count};
-ghost use Rattle.fixed.specs.Lines.{is_like_format};
+ghost use Rattle.fixed.specs.Lines.{after_minus, is_like_format};
 ghost use Rattle.fixed.specs.Settings.{IsPlacesWord, IsPrintAsked, endian_text};
 ghost use Rattle.fixed.specs.Settings.{floats_text};
 ghost use Rattle.fixed_bits.specs.Formats.{FormatParts};
@@ -29,12 +29,13 @@ ghost use Rattle.fixed_respell.specs.Words.{mode_text, policy_text, radix_text};
 ghost use Rattle.fixed_show.specs.declared.parts.Part.{Part};
 
 use crate::options::{
-    ENDIAN, FIELD, FROM, MODE, PACK_FROM, PLACES, PLACES_MODE, POLICY, PRINT, RADIX, SWAP,
-    TARGET_MODE, UNPACK_TO,
+    ENDIAN, ENDIAN_OUT, FIELD, FROM, MODE, PACK_FROM, PLACES, PLACES_MODE, POLICY, PRINT, RADIX,
+    SWAP, TARGET_MODE, UNPACK_TO,
 };
 use command_line::given::{Asked, Given, Refusal};
 use command_line::page::Row;
 use command_line::report::Report;
+use fixed_amounts::decimal_format_named;
 use fixed_bits::{Format, Policy, ReadMode};
 use fixed_command::{
     ConvertRule, Limit, Part, Places, Print, Settings, Spelling, field_named, mode_named,
@@ -53,10 +54,18 @@ pub fn format_of<'a>(word: &'a str) -> Asked<'a, Format>
 {
     match format_named(word.as_bytes()) {
         Some(format) => Ok(format),
-        None => Err(Refusal::Word(
-            word,
-            "is not a format: I or U, whole bits, F, fraction bits, 1 to 64 in all; or as Q15, UQ8.8",
-        )),
+        None => Err(Refusal::Word(word, why_no_format(word))),
+    }
+}
+
+/// Why a word names no binary format.
+fn why_no_format(word: &str) -> &'static str {
+    match decimal_format_named(word.as_bytes()) {
+        Some(_) =>
+            "is a decimal format, which stands in the place of SOURCE in convert and column alone",
+        None => {
+            "is not a format: I or U, whole bits, F, fraction bits, 1 to 64 in all; or as Q15, UQ8.8"
+        }
     }
 }
 
@@ -81,15 +90,25 @@ fn are_counts(bytes: &[u8], one: u8, other: u8) -> bool
     !bytes.is_empty() && are_all_counts(bytes, one, other)
 }
 
-/// Whether a word has the shape of a format: I or U, and then digits and F; or Q or UQ, and then digits and a point. A
-/// file of such a name is written `./I8F8`.
-fn is_like_format(word: &str) -> bool
+/// The bytes after a minus, if they begin with one.
+fn after_minus(bytes: &[u8]) -> &[u8]
+    ensures { result.now ≡ after_minus bytes.now }
+{
+    match bytes {
+        [b'-', rest @ ..] => rest,
+        _ => bytes,
+    }
+}
+
+/// Whether a word has the shape of a format: I or U, perhaps a minus, and then digits and F; or Q or UQ, and then digits
+/// and a point. A file of such a name is written `./I8F8`.
+pub fn is_like_format(word: &str) -> bool
     ensures { result ≡ is_like_format word.now }
 {
     match word.as_bytes() {
         [b'U' | b'u', b'Q' | b'q', rest @ ..] => are_counts(rest, b'.', b'.'),
         [b'Q' | b'q', rest @ ..] => are_counts(rest, b'.', b'.'),
-        [b'I' | b'U' | b'i' | b'u', rest @ ..] => are_counts(rest, b'F', b'f'),
+        [b'I' | b'U' | b'i' | b'u', rest @ ..] => are_counts(after_minus(rest), b'F', b'f'),
         _ => false,
     }
 }
@@ -149,7 +168,7 @@ pub fn mode_of<'a>(given: &Given<'_, 'a>) -> Asked<'a, ReadMode>
 }
 
 /// The mode that the option names for the way to the target.
-fn target_mode_of<'a>(given: &Given<'_, 'a>) -> Asked<'a, ReadMode>
+pub fn target_mode_of<'a>(given: &Given<'_, 'a>) -> Asked<'a, ReadMode>
     ensures value { IfOk result (λ a. IsNamed ReadMode mode_text ReadMode.Floor
         (first_value (found_of given.now.matches.now) (codes "target-mode")) a) }
     ensures refused { IfErr result (λ _. (a : ReadMode) → ¬ IsNamed ReadMode mode_text ReadMode.Floor
@@ -163,7 +182,7 @@ fn target_mode_of<'a>(given: &Given<'_, 'a>) -> Asked<'a, ReadMode>
 }
 
 /// How a line spells a number, as the option says.
-fn spelling_of<'a>(given: &Given<'_, 'a>) -> Asked<'a, Spelling>
+pub fn spelling_of<'a>(given: &Given<'_, 'a>) -> Asked<'a, Spelling>
     ensures value { IfOk result (λ a. IsNamed Spelling spelling_text Spelling.Numeral
         (first_value (found_of given.now.matches.now) (codes "from")) a) }
     ensures refused { IfErr result (λ _. (a : Spelling) → ¬ IsNamed Spelling spelling_text Spelling.Numeral
@@ -288,6 +307,20 @@ pub fn endian_of<'a>(given: &Given<'_, 'a>) -> Asked<'a, Endian>
     match given.value(&ENDIAN) {
         None => Ok(Endian::Little),
         Some(word) => known(endian_named(word), given, &ENDIAN),
+    }
+}
+
+/// The order of the bytes of a word that is written, which the option names. That of the words that are read is meant
+/// where the option is left out.
+pub fn endian_out_of<'a>(given: &Given<'_, 'a>, endian: Endian) -> Asked<'a, Endian>
+    ensures value { IfOk result (λ a. IsNamed Endian endian_text endian
+        (first_value (found_of given.now.matches.now) (codes "endian-out")) a) }
+    ensures refused { IfErr result (λ _. (a : Endian) → ¬ IsNamed Endian endian_text endian
+        (first_value (found_of given.now.matches.now) (codes "endian-out")) a) }
+{
+    match given.value(&ENDIAN_OUT) {
+        None => Ok(endian),
+        Some(word) => known(endian_named(word), given, &ENDIAN_OUT),
     }
 }
 

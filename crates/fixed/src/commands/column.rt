@@ -1,5 +1,6 @@
 //! `fixed column`: columns of CSV are converted.
 
+use crate::commands::amounts;
 use crate::commands::column_words::{
     columns_of, delimiter_of, destination_of, form_of, skipped_of,
 };
@@ -44,7 +45,7 @@ pub const HEADER: Row = Row {
     help: "The first record is a header with names",
 };
 
-const KEEP: Row = Row {
+pub const KEEP: Row = Row {
     name: "keep",
     letter: None,
     value: "",
@@ -148,7 +149,8 @@ pub fn page() -> Page {
             REPORT,
         ],
         end: "A format is I (signed) or U (unsigned), its whole bits, F and its fraction bits,\n\
-              as in I16F16, 1 to 64 bits in all; or as in Q15, Q8.8 and UQ8.8. A\n\
+              as in I16F16 or I-9F25, 1 to 64 bits in all; or as in Q15 and UQ8.8. D0 to D18\n\
+              are decimal SOURCEs, for money: D2 counts cents, and has two places. A\n\
               number is rounded down from SOURCE to TARGET, or by --target-mode.\n\
               \n\
               Example: fixed column celsius I16F16 --header <sensor.csv",
@@ -162,6 +164,10 @@ pub fn run<'a, L: Ledger>(
     steps: &mut Steps<L>,
 ) -> Asked<'a, Status> {
     let (columns, source) = columns_of(rt.alloc(), given)?;
+    if let Some(format) = amounts::decimal_at(given, source) {
+        return amounts::column(rt, given, columns, source, format, steps);
+    }
+    amounts::refuse_decimal_target(given, source.saturating_add(1))?;
     let (rule, files) = conversion(given, source)?;
     let form = match form_of(given) {
         Ok(form) => form,

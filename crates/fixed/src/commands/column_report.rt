@@ -6,8 +6,10 @@ use column_engine::place::field_end;
 use column_engine::{Column, ColumnEnd, ColumnWatch, FieldPlace, RefusedField, Stop};
 use command_line::device::Failure;
 use command_line::report::{Report, is_broken_pipe, push_words};
+use fixed_amounts::AmountSettings;
 use fixed_command::{
-    ColumnConversion, FieldReport, MAX_TALLY, Place, field_explanation, tally_text,
+    ColumnConversion, ConvertRule, FieldForm, FieldReport, MAX_TALLY, Place,
+    amount_field_explanation, field_explanation, tally_text,
 };
 use fixed_steps::Steps;
 use std::sync::ledger::Ledger;
@@ -24,6 +26,47 @@ const MAX_HEADER: usize = 4096;
 
 /// The bytes that are tried as delimiters of a header that lacks a name.
 const DELIMITERS: &[u8] = b";\t,|: ";
+
+/// What converts fields, and has more to say of a field that it refuses.
+pub trait Explains {
+    /// Appends what more there is to say of a field that is refused for this cause.
+    fn explain<L: Ledger>(
+        &self,
+        form: &FieldForm<'_>,
+        field: &[u8],
+        cause: &[u8],
+        report: &mut Report,
+        steps: &mut Steps<L>,
+    );
+}
+
+impl Explains for ConvertRule {
+    fn explain<L: Ledger>(
+        &self,
+        form: &FieldForm<'_>,
+        field: &[u8],
+        cause: &[u8],
+        report: &mut Report,
+        steps: &mut Steps<L>,
+    ) {
+        let more = field_explanation(self, form, field, cause, steps);
+        report.bytes(more.as_bytes(), 640);
+    }
+}
+
+impl Explains for AmountSettings {
+    fn explain<L: Ledger>(
+        &self,
+        form: &FieldForm<'_>,
+        field: &[u8],
+        cause: &[u8],
+        report: &mut Report,
+        steps: &mut Steps<L>,
+    ) {
+        let more = amount_field_explanation(self, form, field, cause, steps);
+        report.bytes(more.as_bytes(), 640);
+    }
+}
 
 /// A name of a header.
 type Name = TextBuffer<MAX_HEADER>;
@@ -110,9 +153,9 @@ fn push_column(report: &mut Report, column: usize, delimiter: u8, header: Option
 }
 
 /// Appends which field was refused first, its text and the cause.
-fn push_first<L: Ledger>(
+fn push_first<R: Explains, L: Ledger>(
     report: &mut Report,
-    conversion: &ColumnConversion<'_>,
+    conversion: &ColumnConversion<'_, R>,
     field: &RefusedField,
     header: Option<&[u8]>,
     steps: &mut Steps<L>,
@@ -130,8 +173,9 @@ fn push_first<L: Ledger>(
     report.bytes(cause, 160);
     // Of a text that may be cut no more is said.
     if text.len() < MAX_KEPT {
-        let more = field_explanation(&conversion.rule, &conversion.form, text, cause, steps);
-        report.bytes(more.as_bytes(), 640);
+        conversion
+            .rule
+            .explain(&conversion.form, text, cause, report, steps);
     }
 }
 
@@ -186,7 +230,7 @@ fn push_delimiter(report: &mut Report, delimiter: u8, header: &[u8], wanted: &[u
 }
 
 /// Appends what a header has that lacks a name.
-fn push_header(report: &mut Report, known: &Known<'_>, header: &[u8]) {
+fn push_header<R>(report: &mut Report, known: &Known<'_, R>, header: &[u8]) {
     let delimiter = known.conversion.delimiter;
     push_names(report, delimiter, header);
     if let Some(Column::Named(name, _)) = known.conversion.columns.get(known.watch.word()) {
@@ -225,10 +269,10 @@ fn push_record_fault(report: &mut Report, end: &ColumnEnd) {
 
 /// Says on standard error how many fields of a file were refused, and which was the first. Where a write failed it says
 /// nothing, since not all that was answered was written.
-fn report_refused<L: Ledger>(
+fn report_refused<R: Explains, L: Ledger>(
     rt: &HostRuntime,
     file: Option<&str>,
-    known: &Known<'_>,
+    known: &Known<'_, R>,
     header: Option<&[u8]>,
     steps: &mut Steps<L>,
 ) {
@@ -248,11 +292,11 @@ fn report_refused<L: Ledger>(
 }
 
 /// Appends the line and the column of a first field, where there is one.
-fn push_place(
+fn push_place<R>(
     report: &mut Report,
     what: &str,
     place: Option<FieldPlace>,
-    known: &Known<'_>,
+    known: &Known<'_, R>,
     header: Option<&[u8]>,
 ) {
     if let Some(place) = place {
@@ -265,10 +309,10 @@ fn push_place(
 
 /// Says on standard error how the fields of a file came through, where that is asked. Where a write failed it says
 /// nothing, since not all that was answered was written.
-fn report_fields<L: Ledger>(
+fn report_fields<R, L: Ledger>(
     rt: &HostRuntime,
     file: Option<&str>,
-    known: &Known<'_>,
+    known: &Known<'_, R>,
     header: Option<&[u8]>,
     steps: &mut Steps<L>,
 ) {
@@ -301,9 +345,9 @@ fn report_fields<L: Ledger>(
 
 /// What is known of a file whose columns were converted.
 #[derive(Drop)]
-pub struct Known<'a> {
+pub struct Known<'a, R> {
     /// How they were.
-    pub conversion: &'a ColumnConversion<'a>,
+    pub conversion: &'a ColumnConversion<'a, R>,
     /// What there is to report of its records.
     pub watch: &'a ColumnWatch,
     /// How its fields came through, where that is asked.
@@ -314,10 +358,10 @@ pub struct Known<'a> {
 
 /// Says on standard error how many fields of a file were refused, and which was the first; how they came through, where
 /// that is asked; and why its records ended before its end, with how many lines were written by then if a write failed.
-pub fn report_end<L: Ledger>(
+pub fn report_end<R: Explains, L: Ledger>(
     rt: &HostRuntime,
     file: Option<&str>,
-    known: &Known<'_>,
+    known: &Known<'_, R>,
     written: u64,
     failure: &Failure,
     steps: &mut Steps<L>,

@@ -4,6 +4,7 @@ ghost use Rattle.std.specs.Prelude.{IfErr, IfOk};
 ghost use Rattle.fixed.specs.Lines.{IsLayoutAsked};
 ghost use Rattle.fixed_command.specs.Layout.{LineLayout};
 
+use crate::commands::amounts;
 use crate::commands::convert_words::word_rule;
 use crate::inputs::{Job, run_inputs_to};
 use crate::options::{
@@ -47,7 +48,8 @@ pub fn page() -> Page {
             OUTPUT,
         ],
         end: "A format is I (signed) or U (unsigned), its whole bits, F and its fraction bits,\n\
-              as in I16F16, 1 to 64 bits in all; or as in Q15, Q8.8 and UQ8.8. A\n\
+              as in I16F16 or I-9F25, 1 to 64 bits in all; or as in Q15 and UQ8.8. D0 to D18\n\
+              are decimal SOURCEs, for money: D2 counts cents, and has two places. A\n\
               number is rounded down from SOURCE to TARGET, or by --target-mode. A text reads\n\
               back in its own format only: in another it may round to another number.\n\
               \n\
@@ -62,7 +64,7 @@ pub fn page() -> Page {
 }
 
 /// What the options say that a line may have beside its numeral.
-fn layout_of<'a>(given: &Given<'_, 'a>) -> Asked<'a, Layout>
+pub fn layout_of<'a>(given: &Given<'_, 'a>) -> Asked<'a, Layout>
     ensures value { IfOk result (λ layout. IsLayoutAsked given.now layout) }
     ensures refused { IfErr result (λ _. (layout : LineLayout) → ¬ IsLayoutAsked given.now layout) }
 {
@@ -116,7 +118,7 @@ fn job_of<'a>(given: &Given<'_, 'a>, rule: ConvertRule) -> Asked<'a, Job<'a>> {
 }
 
 /// Refuses options that mean something for words only.
-fn refuse_words<'a>(given: &Given<'_, 'a>) -> Asked<'a, ()> {
+pub fn refuse_words<'a>(given: &Given<'_, 'a>) -> Asked<'a, ()> {
     let option = if given.value(&SEPARATORS).is_some() {
         "--separators"
     } else if given.value(&REFUSED).is_some() {
@@ -149,6 +151,10 @@ pub fn run<'a, L: Ledger>(
     given: &Given<'_, 'a>,
     steps: &mut Steps<L>,
 ) -> Asked<'a, Status> {
+    if let Some(format) = amounts::decimal_at(given, 0) {
+        return amounts::convert(rt, given, format, steps);
+    }
+    amounts::refuse_decimal_target(given, 1)?;
     let (rule, place) = conversion(given, 0)?;
     let job = match job_of(given, rule) {
         Ok(job) => job,

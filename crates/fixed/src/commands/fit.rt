@@ -17,19 +17,16 @@ use crate::settings::radix_of;
 use command_line::device::{Failure, Writer};
 use command_line::given::{Asked, Given, Refusal};
 use command_line::page::{FILES, Page, Row};
-use command_line::report::{Report, report_end, report_no_memory};
+use command_line::report::{Report, report_end};
 use fixed_bits::Format;
-use fixed_fit::{Question, Widths, run_bounded, run_fit};
+use fixed_fit::{FitEnd, Question, Unfit, Widths, run_fit};
 use fixed_io::StdSink;
 use fixed_numeral::{Radix, scan};
 use fixed_respell::number_word;
 use fixed_steps::Steps;
-use line_engine::{MemorySink, MemorySource, Source, Status, write_text};
+use line_engine::{MemorySource, Sink, Source, Status};
 use std::alloc::{AllocError, Global};
 use std::sync::ledger::Ledger;
-
-/// How many bytes an answer has at most.
-const ANSWER: usize = 1536;
 
 /// The greatest K of an error 2^-K.
 const MOST_POWER: u32 = 1000;
@@ -302,74 +299,46 @@ fn error_of<'a, L: Ledger>(
 }
 
 /// Says on standard error which line is not a numeral, or rules out the last format.
-fn report_refused(rt: &HostRuntime, task: &FitTask, file: Option<&str>, answer: &[u8]) {
+fn report_unfit(rt: &HostRuntime, file: Option<&str>, unfit: &Unfit) {
     let mut report = Report::of(file);
-    match answer.strip_prefix(b"error: ") {
-        Some(fault) => report.bytes(fault, 160),
-        None => match answer.strip_prefix(b"none ") {
-            Some(line) => {
-                report.text(match task.error {
-                    Some(_) => "no format fits within the error from ",
-                    None => "no format of the width fits ",
-                });
-                report.bytes(line, 40);
-            }
-            None => report.text("half an ulp of each format is greater than the error"),
-        },
+    match unfit {
+        Unfit::NotNumeral { place, error } => {
+            report.text("line ");
+            report.number(*place);
+            report.text(": ");
+            report.text(error.message());
+        }
+        Unfit::NoneFits(place) => {
+            report.text("no format of the width fits line ");
+            report.number(*place);
+        }
+        Unfit::NoneServes(0) => report.text("half an ulp of each format is greater than the error"),
+        Unfit::NoneServes(place) => {
+            report.text("no format fits within the error from line ");
+            report.number(*place);
+        }
     }
     report.send(rt);
 }
 
-/// Writes an answer, and says on standard error why it is none, or why it could not be written.
-fn write_answer(
-    rt: &HostRuntime,
-    task: &FitTask,
-    file: Option<&str>,
-    answer: &[u8],
-    status: Status,
-) -> Status {
-    let failure = Failure::new(None);
-    let mut sink = StdSink::new(Writer {
-        writer: rt.stdout(),
-        failure: &failure,
-    });
-    let ended = write_text(answer, status, &mut sink);
-    if ended == Status::Faults {
-        report_refused(rt, task, file, answer);
-    }
-    report_end(rt, file, ended, sink.lines(), &failure);
-    ended
-}
-
-/// Room for an answer.
-fn room(alloc: Global) -> Result<Vec<u8>, AllocError> {
-    let mut room = Vec::new(alloc);
-    room.extend_from_slice(&[0; ANSWER])?;
-    Ok(room)
-}
-
-/// Answers the list of a source into memory.
-fn answer_list<S: Source, L: Ledger>(
+/// Answers the list of a source.
+fn answer_list<S: Source, K: Sink, L: Ledger>(
     rt: &HostRuntime,
     task: &FitTask,
     source: &mut S,
-    sink: &mut MemorySink,
+    sink: &mut K,
     steps: &mut Steps<L>,
-) -> Status {
+) -> FitEnd {
     let question = &task.question;
+    let widths = Some(task.widths);
     match &task.error {
-        None => run_fit(rt.alloc(), question, source, sink, steps),
+        None => run_fit(rt.alloc(), question, None, &[], source, sink, steps),
         Some(error) => match scan(error, question.radix, steps) {
-            Ok(_) => run_bounded(
-                rt.alloc(),
-                question,
-                error,
-                task.widths,
-                source,
-                sink,
-                steps,
-            ),
-            Err(_) => Status::Usage,
+            Ok(_) => run_fit(rt.alloc(), question, widths, error, source, sink, steps),
+            Err(_) => FitEnd {
+                status: Status::Usage,
+                unfit: None,
+            },
         },
     }
 }
@@ -383,13 +352,19 @@ pub fn run_on<S: Source, L: Ledger>(
     source: &mut S,
     steps: &mut Steps<L>,
 ) -> Status {
-    let room = match room(rt.alloc()) {
-        Ok(room) => room,
-        Err(_) => return report_no_memory(rt),
-    };
-    let mut sink = MemorySink::new(room, ANSWER, Vec::new(rt.alloc()));
-    let status = answer_list(rt, task, source, &mut sink, steps);
-    write_answer(rt, task, file, sink.written(), status)
+    let failure = Failure::new(None);
+    let mut sink = StdSink::new(Writer {
+        writer: rt.stdout(),
+        failure: &failure,
+    });
+    let end = answer_list(rt, task, source, &mut sink, steps);
+    if end.status == Status::Faults {
+        if let Some(unfit) = &end.unfit {
+            report_unfit(rt, file, unfit);
+        }
+    }
+    report_end(rt, file, end.status, sink.lines(), &failure);
+    end.status
 }
 
 /// The list of the two ends of a range.

@@ -1,24 +1,26 @@
 //! Raw floats: read into words by `fixed pack --from`, and written for words by `fixed unpack --to`.
 
+ghost use Rattle.std.specs.Prelude.{◌≤◌, length};
+
 use crate::commands::pack::Counted;
 use command_line::device::{Failure, Writer};
 use command_line::report::{Report, hex_digit, is_broken_pipe, push_words};
 use fixed_command::Tally;
 use fixed_io::{StdSink, StdSource};
 use fixed_pack::{
-    FloatReport, FloatWords, Recode, RecodeEnd, RefusedWord, WordFloats, WordRefusal, WordWatch,
-    run_recode,
+    FloatWords, Recode, RecodeEnd, RefusedWord, Rounds, WordFloats, WordRefusal, WordReport,
+    WordWatch, run_recode,
 };
 use fixed_report::MAX_GREATEST;
 use fixed_steps::Steps;
 use line_engine::Status;
 use run_engine::End;
 use std::cell::Cell;
-use std::io::Read;
+use std::io::{Error, Read};
 use std::sync::ledger::Ledger;
 
 /// The status of a run that ended so.
-fn status_of(end: &End<RefusedWord<WordRefusal>>) -> Status {
+pub fn status_of<T>(end: &End<T>) -> Status {
     match end {
         End::Done => Status::Done,
         End::Faults | End::Stopped(_) => Status::Faults,
@@ -29,17 +31,43 @@ fn status_of(end: &End<RefusedWord<WordRefusal>>) -> Status {
     }
 }
 
+/// Appends the bytes of a word that is refused, before the cause.
+pub fn push_bytes(report: &mut Report, word: &[u8]) {
+    report.text(", bytes");
+    for byte in word {
+        report.bytes(&[b' ', hex_digit(byte / 16), hex_digit(byte % 16)], 3);
+    }
+    report.text(": ");
+}
+
 /// Appends which word of the input is refused, its bytes, and why.
 fn push_refused(report: &mut Report, name: &str, refused: &RefusedWord<WordRefusal>) {
     report.text(name);
     report.text(" ");
     report.number(refused.number);
-    report.text(", bytes");
-    for byte in refused.word.as_bytes() {
-        report.bytes(&[b' ', hex_digit(byte / 16), hex_digit(byte % 16)], 3);
-    }
-    report.text(": ");
+    push_bytes(report, refused.word.as_bytes());
     report.text(refused.cause.message());
+}
+
+/// What is said of an end that is no refusal.
+pub fn end_text<T>(end: &End<T>) -> &'static str {
+    match end {
+        End::ReadFault => "a read failed",
+        End::WriteFault => "a write failed",
+        End::NoMemory => "there is no memory",
+        _ => "the input is longer than the limit",
+    }
+}
+
+/// Says a report on standard error, with a failed call's words and how many bytes were written.
+pub fn send_written(rt: &HostRuntime, mut report: Report, error: &Option<Error>, written: u64) {
+    if let Some(error) = error {
+        report.text(": ");
+        push_words(&mut report, rt.alloc(), error);
+    }
+    report.text(", bytes written: ");
+    report.number(written);
+    report.send(rt);
 }
 
 /// Says on standard error why an input did not end well, and how many bytes were written.
@@ -66,25 +94,16 @@ fn report_end(
             report.number(left_over as u64);
         }
         End::Stopped(refused) => push_refused(&mut report, name, refused),
-        End::ReadFault => report.text("a read failed"),
-        End::WriteFault => report.text("a write failed"),
-        End::NoMemory => report.text("there is no memory"),
-        End::TooLong => report.text("the input is longer than the limit"),
+        _ => report.text(end_text(end)),
     }
-    if let Some(error) = &error {
-        report.text(": ");
-        push_words(&mut report, rt.alloc(), error);
-    }
-    report.text(", bytes written: ");
-    report.number(written);
-    report.send(rt);
+    send_written(rt, report, &error, written);
 }
 
 /// Recodes one input by a rule, and says on standard error why it did not end well. `name` is that of a word of the
 /// input.
-fn recode_on<
+pub fn recode_on<
     Q: Recode<Cause = WordRefusal> + Drop,
-    W: WordWatch<L> + Drop,
+    W: WordWatch<WordRefusal, L> + Drop,
     R: Read + Drop,
     L: Ledger,
 >(
@@ -116,19 +135,22 @@ fn recode_on<
 }
 
 /// Appends the place of the first one, or nothing if there is none.
-fn push_first(report: &mut Report, first: u64) {
+fn push_first(report: &mut Report, name: &str, first: u64) {
     if first > 0 {
-        report.text(" (the first in float ");
+        report.text(" (the first in ");
+        report.text(name);
+        report.text(" ");
         report.number(first);
         report.text(")");
     }
 }
 
-/// Says on standard error how floats came through.
-fn report_tally(rt: &HostRuntime, file: Option<&str>, tally: &Tally) {
+/// Says on standard error how words came through.
+fn report_tally(rt: &HostRuntime, name: &str, file: Option<&str>, tally: &Tally) {
     let through = tally.exact.saturating_add(tally.rounded);
     let mut report = Report::of(file);
-    report.text("floats: ");
+    report.text(name);
+    report.text("s: ");
     report.number(
         through
             .saturating_add(tally.overflowed)
@@ -140,26 +162,34 @@ fn report_tally(rt: &HostRuntime, file: Option<&str>, tally: &Tally) {
     report.number(tally.rounded);
     report.text(", overflowed: ");
     report.number(tally.overflowed);
-    push_first(&mut report, tally.first_overflowed);
+    push_first(&mut report, name, tally.first_overflowed);
     report.text(", refused: ");
     report.number(tally.refused);
-    push_first(&mut report, tally.first_refused);
+    push_first(&mut report, name, tally.first_refused);
     report.send(rt);
 }
 
-/// Says on standard error how floats came through, and which has the greatest error.
-fn report_floats<L: Ledger>(
+/// Says on standard error how words came through, and which has the greatest error. If a write failed, not all that
+/// were counted were taken, and nothing is said.
+pub fn report_recoded<R: Rounds, L: Ledger>(
     rt: &HostRuntime,
+    name: &str,
     file: Option<&str>,
-    floats: &FloatReport,
+    status: Status,
+    words: &WordReport<R>,
     steps: &mut Steps<L>,
-) {
-    report_tally(rt, file, &floats.tally);
-    if floats.errors.is_lost() {
+)
+    requires short { length name.now ≤ 8 }
+{
+    if status == Status::WriteFault {
+        return;
+    }
+    report_tally(rt, name, file, &words.tally);
+    if words.errors.is_lost() {
         let mut report = Report::of(file);
         report.text("greatest error: there is no memory for it");
         report.send(rt);
-    } else if let Some(text) = floats.errors.text(b"float", steps) {
+    } else if let Some(text) = words.errors.text(name.as_bytes(), steps) {
         let mut report = Report::of(file);
         report.bytes(text.as_bytes(), MAX_GREATEST);
         report.send(rt);
@@ -179,12 +209,9 @@ pub fn pack_on<R: Read + Drop, L: Ledger>(
     if !has_report {
         return recode_on(rt, *floats, (), "float", file, reader, steps).0;
     }
-    let report = FloatReport::new(rt.alloc(), *floats);
+    let report = WordReport::new(rt.alloc(), *floats);
     let (status, report) = recode_on(rt, *floats, report, "float", file, reader, steps);
-    // If a write failed, not all words that were counted were taken.
-    if status != Status::WriteFault {
-        report_floats(rt, file, &report, steps);
-    }
+    report_recoded(rt, "float", file, status, &report, steps);
     status
 }
 

@@ -26,7 +26,7 @@ pub fn page() -> Page {
         has_numerals: false,
         options: &[JSON],
         end: "A format is I (signed) or U (unsigned), its whole bits, F and its fraction bits,\n\
-              as in I16F16, 1 to 64 bits in all; or as in Q15, Q8.8 and UQ8.8.\n\
+              as in I16F16 or I-9F25, 1 to 64 in all; or as in Q15 and UQ8.8.\n\
               \n\
               Example: fixed format I16F16 U0F8",
     }

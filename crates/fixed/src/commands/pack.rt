@@ -1,19 +1,22 @@
 //! `fixed pack`: numerals, one a line, or raw floats to raw words.
 
+use crate::commands::floats::{end_text, send_written, status_of};
 use crate::inputs::{Job, run_inputs};
 use crate::options::{ENDIAN, MODE, PACK_FROM, POLICY, RADIX, REPORT};
 use crate::settings::{endian_of, floats_of, format_at, mode_of, policy_of, radix_of};
 use command_line::device::{Failure, Unmarked, Writer};
 use command_line::given::{Asked, Given, Refusal};
 use command_line::page::{FILES, Operand, Page};
-use command_line::report::{Report, is_broken_pipe, push_words};
+use command_line::report::{Report, is_broken_pipe};
 use fixed_bits::ReadMode;
-use fixed_command::{ConvertRule, Print, RefusedLine, Settings, Spelling, explanation};
+use fixed_command::{ConvertRule, Print, Settings, Spelling, explanation};
 use fixed_float::FloatLayout;
 use fixed_io::{StdSink, StdSource};
-use fixed_pack::{FloatWords, PackEnd, PackSettings, run_pack};
+use fixed_numeral::ParseFixedError;
+use fixed_pack::{FloatWords, PackSettings, run_pack};
 use fixed_steps::Steps;
 use line_engine::Status;
+use run_engine::{End, RefusedLine};
 use std::cell::Cell;
 use std::io::{Read, Result, Write};
 use std::sync::ledger::Ledger;
@@ -41,7 +44,7 @@ pub fn page() -> Page {
               and says which has the greatest error.\n\
               \n\
               A format is I (signed) or U (unsigned), its whole bits, F and its fraction bits,\n\
-              as in I16F16, 1 to 64 bits in all; or as in Q15, Q8.8 and UQ8.8.\n\
+              as in I16F16 or I-9F25, 1 to 64 in all; or as in Q15 and UQ8.8.\n\
               \n\
               Example: printf '0.5\\n-1\\n' | fixed pack Q15 --endian big >words.bin",
     }
@@ -71,15 +74,16 @@ impl<'c, W: Write> Write for Counted<'c, W> {
 fn push_line<L: Ledger>(
     report: &mut Report,
     settings: &PackSettings,
-    line: &RefusedLine,
+    refused: &RefusedLine<ParseFixedError>,
     steps: &mut Steps<L>,
 ) {
+    let cause = refused.cause.message();
     report.text("line ");
-    report.number(line.number);
+    report.number(refused.number);
     report.text(", '");
-    report.bytes(line.text.as_bytes(), 40);
+    report.bytes(refused.line.as_bytes(), 40);
     report.text("': ");
-    report.bytes(line.cause.as_bytes(), 160);
+    report.text(cause);
     let rule = ConvertRule::new(Settings {
         spelling: Spelling::Numeral,
         radix: settings.radix,
@@ -90,7 +94,7 @@ fn push_line<L: Ledger>(
         target_mode: ReadMode::Floor,
         print: Print::Text,
     });
-    let more = explanation(&rule, line.text.as_bytes(), 0, line.cause.as_bytes(), steps);
+    let more = explanation(&rule, refused.line.as_bytes(), 0, cause.as_bytes(), steps);
     report.bytes(more.as_bytes(), 640);
 }
 
@@ -99,31 +103,21 @@ fn report_end<L: Ledger>(
     rt: &HostRuntime,
     settings: &PackSettings,
     file: Option<&str>,
-    end: &PackEnd,
+    end: &End<RefusedLine<ParseFixedError>>,
     written: u64,
     failure: &Failure,
     steps: &mut Steps<L>,
 ) {
     let error = failure.take();
-    if end.status() == Status::Done || is_broken_pipe(&error) {
+    if matches!(end, End::Done) || is_broken_pipe(&error) {
         return;
     }
     let mut report = Report::of(file);
     match end {
-        PackEnd::Done => (),
-        PackEnd::Refused { line, .. } => push_line(&mut report, settings, line, steps),
-        PackEnd::ReadFault => report.text("a read failed"),
-        PackEnd::WriteFault => report.text("a write failed"),
-        PackEnd::NoMemory => report.text("there is no memory"),
-        PackEnd::TooLong => report.text("the input is longer than the limit"),
+        End::Stopped(refused) => push_line(&mut report, settings, refused, steps),
+        _ => report.text(end_text(end)),
     }
-    if let Some(error) = &error {
-        report.text(": ");
-        push_words(&mut report, rt.alloc(), error);
-    }
-    report.text(", bytes written: ");
-    report.number(written);
-    report.send(rt);
+    send_written(rt, report, &error, written);
 }
 
 /// Packs one input, and says on standard error why it did not end well.
@@ -145,9 +139,9 @@ pub fn run_on<R: Read + Drop, L: Ledger>(
         },
         taken: &taken,
     });
-    let end = run_pack(rt.alloc(), settings, &mut source, &mut sink, steps);
+    let end = run_pack(rt.alloc(), *settings, &mut source, &mut sink, steps);
     report_end(rt, settings, file, &end, taken.get(), &failure, steps);
-    end.status()
+    status_of(&end)
 }
 
 /// Packs the numerals or the floats of each file.

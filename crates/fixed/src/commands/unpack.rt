@@ -1,17 +1,18 @@
 //! `fixed unpack`: raw words to lines, or to raw floats.
 
+use crate::commands::floats::{push_bytes, status_of};
 use crate::inputs::{Job, run_inputs};
 use crate::options::{ENDIAN, PLACES, PLACES_MODE, POLICY, PRINT, TARGET, TARGET_MODE, UNPACK_TO};
 use crate::settings::{conversion, endian_of, written_floats_of};
 use command_line::device::{Failure, Writer};
 use command_line::given::{Asked, Given, Refusal};
 use command_line::page::{Operand, Page};
-use command_line::report::{Report, hex_digit, report_end};
-use fixed_command::RefusedLine;
+use command_line::report::{Report, report_end};
 use fixed_io::{StdSink, StdSource};
-use fixed_pack::{UnpackEnd, UnpackRule, WordFloats, run_unpack};
+use fixed_pack::{UnpackRule, WordFloats, WordRefusal, run_recode};
 use fixed_steps::Steps;
 use line_engine::Status;
+use run_engine::{Refusals, RefusedLine};
 use std::io::Read;
 use std::sync::ledger::Ledger;
 
@@ -51,34 +52,35 @@ pub fn page() -> Page {
               ends its input. There is no TARGET then, and --endian is the only other option.\n\
               \n\
               A format is I (signed) or U (unsigned), its whole bits, F and its fraction bits,\n\
-              as in I16F16, 1 to 64 bits in all; or as in Q15, Q8.8 and UQ8.8.\n\
+              as in I16F16 or I-9F25, 1 to 64 in all; or as in Q15 and UQ8.8.\n\
               \n\
               Example: printf '\\x40\\x00' | fixed unpack Q15 --endian big",
     }
 }
 
 /// Says on standard error how many words were refused, and which was the first, with its bytes and the cause.
-fn report_refused(rt: &HostRuntime, file: Option<&str>, refused: u64, word: &RefusedLine) {
+fn report_refused(
+    rt: &HostRuntime,
+    file: Option<&str>,
+    refused: u64,
+    word: &RefusedLine<WordRefusal>,
+) {
     let mut report = Report::of(file);
     report.text("words refused: ");
     report.number(refused);
     report.text(", the first is word ");
     report.number(word.number);
-    report.text(", bytes");
-    for byte in word.text.as_bytes() {
-        report.bytes(&[b' ', hex_digit(byte / 16), hex_digit(byte % 16)], 3);
-    }
-    report.text(": ");
-    report.bytes(word.cause.as_bytes(), 160);
+    push_bytes(&mut report, word.line.as_bytes());
+    report.text(word.cause.message());
     report.send(rt);
 }
 
 /// Says on standard error how many bytes are left over at the end of an input, where there are any.
-fn report_left_over(rt: &HostRuntime, file: Option<&str>, end: &UnpackEnd) {
-    if end.status == Status::Faults && end.left_over > 0 {
+fn report_left_over(rt: &HostRuntime, file: Option<&str>, status: Status, left_over: usize) {
+    if status == Status::Faults && left_over > 0 {
         let mut report = Report::of(file);
         report.text("the input ends within a word, bytes left over: ");
-        report.number(end.left_over as u64);
+        report.number(left_over as u64);
         report.send(rt);
     }
 }
@@ -98,13 +100,14 @@ pub fn run_on<R: Read + Drop, L: Ledger>(
         writer: rt.stdout(),
         failure: &failure,
     });
-    let end = run_unpack(rule, &mut source, &mut sink, steps);
-    if let Some(word) = &end.first {
-        report_refused(rt, file, end.refused, word);
+    let end = run_recode(*rule, Refusals::new(), &mut source, &mut sink, steps);
+    let status = status_of(&end.end);
+    if let Some(word) = &end.watch.first {
+        report_refused(rt, file, end.watch.count, word);
     }
-    report_left_over(rt, file, &end);
-    report_end(rt, file, end.status, sink.lines(), &failure);
-    end.status
+    report_left_over(rt, file, status, end.left_over);
+    report_end(rt, file, status, sink.lines(), &failure);
+    status
 }
 
 /// Unpacks the words of each file.
@@ -116,7 +119,10 @@ pub fn run<'a, L: Ledger>(
     let (rule, files) = conversion(given, 0)?;
     let endian = endian_of(given)?;
     let job = match written_floats_of(given)? {
-        None => Job::Unpack(UnpackRule::new(*rule.settings(), endian)),
+        None => Job::Unpack(UnpackRule {
+            settings: *rule.settings(),
+            endian,
+        }),
         Some(layout) => {
             only_floats(given, files)?;
             Job::UnpackFloats(WordFloats {
