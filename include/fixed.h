@@ -41,7 +41,8 @@
 extern "C" {
 #endif
 
-/* A format: signed if is_signed is not 0; width bits, from 1 to 64; and frac of them after the point, at most width. */
+/* A format: signed if is_signed is not 0; width bits, from 1 to 64; and a fraction length from 0 to 64, whatever the
+ * width: the value of bits is bits / 2^frac. */
 typedef struct {
   uint32_t is_signed, width, frac;
 } fixed_format;
@@ -59,8 +60,9 @@ typedef struct {
   int64_t lo, hi;
 } fixed_enclosure;
 
-/* What to do with a number out of range: refuse it, take the nearer end of the range, or drop its high bits. */
-enum fixed_policy { FIXED_CHECKED = 0, FIXED_SATURATING = 1, FIXED_WRAPPING = 2 };
+/* What to do with a number out of range: refuse it, take the nearer end of the range, drop its high bits, or take the
+ * nearer end of the range without its lowest number, which then counts as out of range itself. */
+enum fixed_policy { FIXED_CHECKED = 0, FIXED_SATURATING = 1, FIXED_WRAPPING = 2, FIXED_SYMMETRIC = 3 };
 
 /* How a number between two numbers of a format is rounded: to the nearest with ties to even, down, up, towards zero; to
  * the nearest with ties away from zero, towards zero, up, down; away from zero. */
@@ -207,8 +209,9 @@ uint32_t fixed_convert_bits_mode(int64_t bits, fixed_format source, fixed_format
 uint32_t fixed_read_literal(const char *text, size_t len, fixed_format format, FIXED_ENUM(fixed_policy) policy,
                             fixed_number *out);
 
-/* Finds the format that word[0..len) names, such as I16F16, u0f24, Q15 or UQ8.8 (by ARM's counting); and writes the
- * word of a format, such as I16F16, with a zero byte: *len is its length, at most 8. */
+/* Finds the format that word[0..len) names, such as I16F16, u0f24, I-9F25 (16 bits, in steps of 2^-25), Q15 or UQ8.8
+ * (by ARM's counting); and writes the word of a format, such as I16F16, with a zero byte: *len is its length, at most
+ * 8. */
 uint32_t fixed_format_of_word(const char *word, size_t len, fixed_format *out);
 uint32_t fixed_word_of_format(fixed_format format, char *out, size_t size, size_t *len);
 

@@ -44,7 +44,12 @@ namespace lomdeqash {
 enum class radix : std::uint32_t { binary = 2, octal = 8, decimal = 10, hexadecimal = 16 };
 
 // What to do with a number out of range: refuse it, take the nearer end of the range, or drop its high bits.
-enum class policy : std::uint32_t { checked = FIXED_CHECKED, saturating = FIXED_SATURATING, wrapping = FIXED_WRAPPING };
+enum class policy : std::uint32_t {
+  checked = FIXED_CHECKED,
+  saturating = FIXED_SATURATING,
+  wrapping = FIXED_WRAPPING,
+  symmetric = FIXED_SYMMETRIC
+};
 
 // How a value between two numbers of a format is rounded. nearest: ties to even; ties_zero, zero: towards zero; ties_up,
 // ties_down: towards the greater and the lesser; away: away from zero.
@@ -158,16 +163,16 @@ inline const std::error_category& category() noexcept {
 
 inline std::error_code make_error_code(errc code) noexcept { return {static_cast<int>(code), category()}; }
 
-// A format: signed or not, 1 to 64 bits wide, and how many of the bits are after the point.
+// A format: signed or not, 1 to 64 bits wide, and a fraction length of 0 to 64: a value is bits / 2^frac.
 class format {
  public:
-  // Returns nothing unless the width is from 1 to 64 and frac at most the width.
+  // Returns nothing unless the width is from 1 to 64 and frac at most 64.
   static constexpr std::optional<format> make(bool is_signed, std::uint32_t width, std::uint32_t frac) noexcept {
-    if (width < 1 || width > 64 || frac > width) return std::nullopt;
+    if (width < 1 || width > 64 || frac > 64) return std::nullopt;
     return format(is_signed, width, frac);
   }
 
-  // The format that a name says, such as "I16F16", "u0f24", "Q15" or "UQ8.8". This works in constants; format_named
+  // The format that a name says, such as "I16F16", "u0f24", "I-9F25", "Q15" or "UQ8.8". This works in constants; format_named
   // asks the library, which may know more names.
   static constexpr std::optional<format> parse(std::string_view name) noexcept {
     const bool is_signed = !has(name, 0, 'U');
@@ -176,6 +181,8 @@ class format {
     if (is_q) ++at;
     else if (!is_signed || has(name, 0, 'I')) at = 1;
     else return std::nullopt;
+    const bool is_below = !is_q && has(name, at, '-');
+    if (is_below) ++at;
     std::uint32_t whole = 1, frac = 0;
     if (!count_at(name, at, frac)) return std::nullopt;
     if (at < name.size() || !is_q || !is_signed) {
@@ -183,6 +190,7 @@ class format {
       if (!has(name, at, is_q ? '.' : 'F') || !count_at(name, ++at, frac)) return std::nullopt;
     }
     if (at != name.size() || (is_q && is_signed && whole == 0)) return std::nullopt;
+    if (is_below) return whole == 0 || whole > frac ? std::nullopt : make(is_signed, frac - whole, frac);
     return make(is_signed, whole + frac, frac);
   }
 

@@ -25,7 +25,7 @@ static void *block(size_t size) {
 static fixed_format some_format(unsigned *seed) {
   static const uint32_t widths[] = {8, 16, 32, 64, 63, 24, 1, 0};
   fixed_format format = {(uint32_t)rand_r(seed) & 1u, widths[rand_r(seed) % 8], (uint32_t)rand_r(seed) % 70};
-  if (format.frac > format.width && rand_r(seed) % 8) format.frac = format.width;
+  if (format.frac > 64 && rand_r(seed) % 8) format.frac = format.width;
   return format;
 }
 

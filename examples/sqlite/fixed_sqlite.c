@@ -9,9 +9,9 @@
  *   fixed_round(bits, format [, rounding [, policy]])   to a whole number, as bits of the same format
  *   fixed_compare(a, a_format, b, b_format)        -1, 0 or 1, by value
  *
- * A format is a word such as 'I16F16' or 'Q15'; a policy is 'checked' (the default), 'saturating' or 'wrapping'; a mode
- * is 'nearest' (the default, also of fixed_convert), 'floor', 'ceil', 'zero', 'ties-away', 'ties-zero', 'ties-up',
- * 'ties-down' or 'away'; a rounding is 'ceil', 'floor', 'ties-away', 'ties-even' (the default) or 'zero'. If an argument
+ * A format is a word such as 'I16F16' or 'Q15'; a policy is 'checked' (the default), 'saturating', 'wrapping' or
+ * 'symmetric'; a mode is 'nearest' (the default, also of fixed_convert), 'floor', 'ceil', 'zero', 'ties-away',
+ * 'ties-zero', 'ties-up', 'ties-down' or 'away'; a rounding is 'ceil', 'floor', 'ties-away', 'ties-even' (the default) or 'zero'. If an argument
  * is NULL, the answer is NULL; what cannot be done is an error. A numeral is a text or a whole number: a REAL has lost
  * its digits already. The bits of an unsigned format of 64 bits are the same 64 bits, as in C.
  *
@@ -23,7 +23,7 @@ SQLITE_EXTENSION_INIT1
 
 #include "fixed.h"
 
-static const char *const policies[] = {"checked", "saturating", "wrapping", NULL};
+static const char *const policies[] = {"checked", "saturating", "wrapping", "symmetric", NULL};
 static const char *const modes[] = {"nearest",   "floor",   "ceil",      "zero", "ties-away",
                                     "ties-zero", "ties-up", "ties-down", "away", NULL};
 static const char *const roundings[] = {"ceil", "floor", "ties-away", "ties-even", "zero", NULL};

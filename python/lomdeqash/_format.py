@@ -33,7 +33,7 @@ _Value = TypeVar("_Value", Decimal, Fraction, float, "float64")
 @dataclass(frozen=True, init=False, repr=False, order=True)
 class Format:
     """A format: ``I`` (signed) or ``U`` (unsigned), the count of whole bits, ``F``, and the count of fraction bits,
-    together 1 to 64.
+    together 1 to 64. The whole bits may be fewer than zero: ``I-9F25`` has 16 bits, in steps of 2^-25.
 
     ARM's names are taken as well, in which the sign bit is one of the whole bits: ``Q15`` is ``I1F15``, ``UQ8.8`` is
     ``U8F8``. Formats are hashable, and ordered by width, then unsigned before signed, then by fraction length.

@@ -15,6 +15,7 @@ class Policy(enum.Enum):
     CHECKED = "checked"  #: it is refused
     SATURATING = "saturating"  #: it becomes the nearer end
     WRAPPING = "wrapping"  #: it loses its high bits
+    SYMMETRIC = "symmetric"  #: it becomes the nearer end but for the lowest number, which counts as out of range itself
 
 
 class Mode(enum.Enum):
@@ -54,7 +55,7 @@ _OF_DECIMAL = {
 }
 
 _Option = TypeVar("_Option", Policy, Mode, Errors)
-PolicyLike = Union[Policy, Literal["checked", "saturating", "wrapping"]]
+PolicyLike = Union[Policy, Literal["checked", "saturating", "wrapping", "symmetric"]]
 ModeWord = Literal["nearest", "ties-away", "ties-zero", "ties-up", "ties-down", "floor", "ceil", "zero", "away"]
 DecimalWord = Literal["ROUND_HALF_EVEN", "ROUND_HALF_UP", "ROUND_HALF_DOWN", "ROUND_FLOOR", "ROUND_CEILING",
                       "ROUND_DOWN", "ROUND_UP"]

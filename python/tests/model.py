@@ -10,7 +10,7 @@ from hypothesis import strategies as st
 from lomdeqash import FixedError, Format
 
 ModeWord = Literal["nearest", "ties-away", "ties-zero", "ties-up", "ties-down", "floor", "ceil", "zero", "away"]
-PolicyWord = Literal["checked", "saturating", "wrapping"]
+PolicyWord = Literal["checked", "saturating", "wrapping", "symmetric"]
 HALF = Fraction(1, 2)
 ROUND: dict[ModeWord, Callable[[Fraction], int]] = {
     "nearest": round,
@@ -23,7 +23,7 @@ ROUND: dict[ModeWord, Callable[[Fraction], int]] = {
     "ceil": math.ceil,
     "zero": math.trunc,
 }
-POLICIES: tuple[PolicyWord, ...] = ("checked", "saturating", "wrapping")
+POLICIES: tuple[PolicyWord, ...] = ("checked", "saturating", "wrapping", "symmetric")
 DIGITS = {2: "01", 8: "01234567", 10: "0123456789", 16: "0123456789abcdefABCDEF"}
 
 
@@ -45,7 +45,7 @@ def format_of(is_signed: bool, width: int, frac: int) -> Format:
 @st.composite
 def formats(draw: st.DrawFn) -> Format:
     width = draw(st.sampled_from(WIDTHS))
-    return format_of(draw(st.booleans()), width, draw(st.integers(0, width)))
+    return format_of(draw(st.booleans()), width, draw(st.integers(0, width) | st.integers(0, 64)))
 
 
 @st.composite
@@ -94,12 +94,13 @@ def values_near(draw: st.DrawFn, form: Format) -> Fraction:
 
 def image(form: Format, number: int, policy: PolicyWord) -> int | None:
     """What a policy makes of a number."""
-    if form.min_bits <= number <= form.max_bits:
+    low = -form.max_bits if policy == "symmetric" and form.min_bits < 0 else form.min_bits
+    if low <= number <= form.max_bits:
         return number
     if policy == "checked":
         return None
-    if policy == "saturating":
-        return form.min_bits if number < form.min_bits else form.max_bits
+    if policy in ("saturating", "symmetric"):
+        return low if number < low else form.max_bits
     return form.min_bits + (number - form.min_bits) % (1 << form.width)
 
 

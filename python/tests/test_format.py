@@ -3,6 +3,7 @@ from __future__ import annotations
 
 import copy
 import pickle
+from decimal import Decimal
 
 import lomdeqash
 import pytest
@@ -45,6 +46,10 @@ def test_names_of_other_tools(word: str, name: str) -> None:
         "I65F0",
         "I0F0",
         "U40F30",
+        "I-0F8",
+        "I-8F8",
+        "I-1F65",
+        "Q-1.9",
         "I1F15 ",
         "S1F15",
         "Q",
@@ -63,6 +68,15 @@ def test_a_word_that_is_none(word: str) -> None:
     with pytest.raises(FixedError) as found:
         Format(word)
     assert found.value.code is Code.BAD_WORD
+
+
+def test_a_fraction_longer_than_the_width() -> None:
+    form = Format("i-9f25")
+    assert (form.word, form.width, form.frac, form.min_bits, form.max_bits) == ("I-9F25", 16, 25, -32768, 32767)
+    assert (form.read("0.0005"), form.text(16777), form.value(-32768)) == (16777, "0.0005", Decimal("-0.0009765625"))
+    with pytest.raises(FixedError) as found:
+        form.read("0.0009765625")
+    assert found.value.code is Code.OVERFLOW
 
 
 def test_order() -> None:

@@ -1,6 +1,7 @@
 """Calls for one item and for iterables, against fractions."""
 from __future__ import annotations
 
+import itertools
 import math
 from collections.abc import Callable
 from decimal import Decimal
@@ -188,7 +189,23 @@ def test_whether_a_number_was_out_of_range(
     )
     wanted = model.read(form, numeral.value, policy, mode)
     held = model.read(form, numeral.value, "checked", mode)
-    assert (bits, is_out) == ([wanted], [None if wanted is None else held is None])
+    assert (bits, is_out) == ([wanted], [None if wanted is None else held != wanted])
+
+
+def test_symmetric_leaves_out_the_lowest_number() -> None:
+    for width, signed in itertools.product(range(1, 7), (True, False)):
+        for frac in range(width + 1):
+            form = Format(f"{'I' if signed else 'U'}{width - frac}F{frac}")
+            most = 2 ** (width - 1) - 1 if signed else 2**width - 1
+            least = -most if signed else 0
+            numbers = range(-2 * most - 3, 2 * most + 4)
+            wanted = [min(max(number, least), most) for number in numbers]
+            out = [not least <= number <= most for number in numbers]
+            values = [Fraction(number, 2**frac) for number in numbers]
+            assert form.read(values, policy="symmetric", overflowed=True) == (wanted, out)
+            bits = list(range(form.min_bits, form.max_bits + 1))
+            kept = [max(number, least) for number in bits]
+            assert form.convert(bits, form, policy="symmetric") == kept
 
 
 def test_overflows_of_either_step_are_told() -> None:

@@ -34,18 +34,18 @@ pub struct Format {
 }
 
 impl Format {
-    /// A format of `width` bits, `frac` of them after the point.
+    /// A format of `width` bits and of a fraction length of `frac`: a value is bits / 2^frac.
     ///
     /// # Errors
-    /// `BadFormat` unless the width is from 1 to 64 and `frac` at most the width.
+    /// `BadFormat` unless the width is from 1 to 64 and `frac` at most 64.
     pub const fn new(is_signed: bool, width: u32, frac: u32) -> Result<Format, Error> {
-        if width < 1 || width > 64 || frac > width {
+        if width < 1 || width > 64 || frac > 64 {
             return Err(Error::new(ErrorKind::BadFormat));
         }
         Ok(Format { is_signed: is_signed as u32, width, frac })
     }
 
-    /// The format that a name says, in either case: `I16F16`, `U0F24`, `Q15` or `UQ8.8` (by ARM's counting).
+    /// The format that a name says, in either case: `I16F16`, `U0F24`, `I-9F25`, `Q15` or `UQ8.8` (by ARM's counting).
     ///
     /// This works in constants. `parse::<Format>()` asks the library, which may know more names.
     ///
@@ -53,7 +53,7 @@ impl Format {
     /// `BadWord`: the word does not name a format.
     pub const fn parse(name: &str) -> Result<Format, Error> {
         match names::shape_of(name.as_bytes()) {
-            Some((is_signed, whole, frac)) => match Format::new(is_signed, whole + frac, frac) {
+            Some((is_signed, width, frac)) => match Format::new(is_signed, width, frac) {
                 Ok(format) => Ok(format),
                 Err(_) => Err(Error::new(ErrorKind::BadWord)),
             },
@@ -82,7 +82,7 @@ impl Format {
         self.width
     }
 
-    /// How many bits are after the point.
+    /// The fraction length: a value is bits / 2^frac.
     pub const fn frac(self) -> u32 {
         self.frac
     }
@@ -177,14 +177,14 @@ impl Format {
         self
     }
 
-    /// The format of all bits of integers of type `B`, `frac` of them after the point.
+    /// The format of all bits of integers of type `B`, with a fraction length of `frac`.
     ///
     /// # Panics
-    /// `B` has fewer bits. In a constant, the compiler says so.
+    /// `frac` is above 64. In a constant, the compiler says so.
     pub const fn of_bits<B: Bits>(frac: u32) -> Format {
         match Format::new(B::IS_SIGNED, B::WIDTH, frac) {
             Ok(format) => format,
-            Err(_) => panic!("more fraction bits than bits"),
+            Err(_) => panic!("a fraction of more than 64 bits"),
         }
     }
 }
@@ -246,7 +246,7 @@ mod names {
         }
     }
 
-    /// Whether a name says a signed format, its whole bits, and its fraction bits.
+    /// Whether a name says a signed format, its width, and its fraction length.
     pub const fn shape_of(name: &[u8]) -> Option<(bool, u32, u32)> {
         let is_signed = !has(name, 0, b'U');
         let letters = if is_signed { 0 } else { 1 };
@@ -256,10 +256,12 @@ mod names {
         if is_signed && !has(name, 0, b'I') {
             return None;
         }
-        match count_at(name, 1) {
+        let is_below = has(name, 1, b'-');
+        match count_at(name, if is_below { 2 } else { 1 }) {
             Some((whole, at)) => match count_after(name, at, b'F') {
-                Some(frac) => Some((is_signed, whole, frac)),
-                None => None,
+                Some(frac) if !is_below => Some((is_signed, whole + frac, frac)),
+                Some(frac) if 0 < whole && whole < frac => Some((is_signed, frac - whole, frac)),
+                _ => None,
             },
             None => None,
         }
@@ -268,9 +270,9 @@ mod names {
     /// The same after the letters of a Q name, from `at`. A signed format has its sign among its whole bits.
     const fn shape_of_q(name: &[u8], is_signed: bool, at: usize) -> Option<(bool, u32, u32)> {
         match count_at(name, at) {
-            Some((frac, end)) if is_signed && end == name.len() => Some((true, 1, frac)),
+            Some((frac, end)) if is_signed && end == name.len() => Some((true, frac + 1, frac)),
             Some((whole, end)) if !is_signed || whole > 0 => match count_after(name, end, b'.') {
-                Some(frac) => Some((is_signed, whole, frac)),
+                Some(frac) => Some((is_signed, whole + frac, frac)),
                 None => None,
             },
             _ => None,

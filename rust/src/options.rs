@@ -47,6 +47,8 @@ options! {
         Saturating = 1,
         /// It loses its high bits.
         Wrapping = 2,
+        /// It becomes the nearer end of the range without its lowest number, which counts as out of range itself.
+        Symmetric = 3,
     }
 
     /// How a value between two numbers of a format is rounded.

@@ -12,7 +12,7 @@ fn agrees(name: &str) {
 fn names_mean_the_same_in_constants_and_to_the_library() {
     for whole in 0..100 {
         for frac in 0..100 {
-            for pattern in ["I@F#", "u@f#", "Q@.#", "uQ@.#"] {
+            for pattern in ["I@F#", "u@f#", "i-@F#", "U-@f#", "Q@.#", "uQ@.#"] {
                 agrees(&pattern.replace('@', &whole.to_string()).replace('#', &frac.to_string()));
             }
         }
@@ -23,7 +23,7 @@ fn names_mean_the_same_in_constants_and_to_the_library() {
 
 #[test]
 fn what_is_nearly_a_name_is_none() {
-    let wrong = "I I8 I8F U8F08 I08F8 I8F8 .F8 I.F8 I8G8 I8F8F8 Q Q. Q1. Q.15 Q1.F5 Q001 UI8F8 U U8 U8F IQ8 QU8 I8F100 -I8F8 I-8F8 I8F8x";
+    let wrong = "I I8 I8F U8F08 I08F8 I8F8 .F8 I.F8 I8G8 I8F8F8 Q Q. Q1. Q.15 Q1.F5 Q001 UI8F8 U U8 U8F IQ8 QU8 I8F100 -I8F8 I-8F8 I-0F8 I-1F65 I--1F8 Q-1.9 I8F8x";
     for name in wrong.split(' ').filter(|name| *name != "I8F8") {
         assert_eq!(Format::parse(name).map_err(|error| error.kind()), Err(ErrorKind::BadWord), "{name}");
         agrees(name);
@@ -43,13 +43,16 @@ fn a_format_says_its_parts_and_its_ends() {
     assert_eq!((Format::of("U0F1").min().bits(), Format::of("U0F1").max().bits()), (0, 1));
     assert_eq!((format!("{Q15}|{Q15:>7}|{Q15:?}"), Q15.name().len()), ("I1F15|  I1F15|I1F15".into(), 5));
     assert_eq!(Format::of_bits::<u16>(4), Format::of("U12F4"));
+    let small = Format::of("I-9F25");
+    assert_eq!((small.width(), small.frac(), small.name().as_ref()), (16, 25, "I-9F25"));
+    assert_eq!((small.min().bits(), small.max().bits()), (-32768, 32767));
 }
 
 #[test]
 fn widths_of_1_to_64_are_formats() {
     for width in 0..70 {
         for frac in 0..70 {
-            let is_format = (1..=64).contains(&width) && frac <= width;
+            let is_format = (1..=64).contains(&width) && frac <= 64;
             assert_eq!(Format::new(false, width, frac).is_ok(), is_format);
             assert_eq!(Format::new(true, width, frac).map_err(|error| error.kind()).is_err(), !is_format);
         }

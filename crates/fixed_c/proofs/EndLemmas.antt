@@ -4,10 +4,10 @@ use Rattle.std.specs.Int.{w64}
 use Rattle.std.proofs.lemmas.Int.{ints}
 use Rattle.std.proofs.lemmas.List.{take-append-drop}
 use Rattle.fixed_bits.specs.Formats.{FormatParts, IsFormat}
-use Rattle.fixed_bits.specs.Ranges.{IsInRange, IsOutOfRange}
-use Rattle.fixed_bits.specs.Images.{IsImage}
+use Rattle.fixed_bits.specs.Ranges.{IsInRange}
+use Rattle.fixed_bits.specs.Images.{IsImage, IsOutOfRangeBy}
 use Rattle.fixed_bits.specs.declared.format.Policy.{Policy}
-use Rattle.fixed_bits.specs.declared.format.Policy.TheVariants.{Checked, Saturating, Wrapping}
+use Rattle.fixed_bits.specs.declared.format.Policy.TheVariants.{Checked, Saturating, Wrapping, Symmetric}
 use Rattle.fixed_bits.specs.declared.mode.ReadMode.{ReadMode}
 use Rattle.fixed_bits.specs.declared.mode.ReadMode.TheVariants.{NearestEven, Floor, Ceil, TowardsZero}
 use Rattle.fixed_bits.specs.declared.mode.ReadMode.TheVariants.{NearestAway, NearestZero, NearestUp, NearestDown}
@@ -80,16 +80,18 @@ radix_one Hex Bin n e g = absurd (omega arith)
 radix_one Hex Oct n e g = absurd (omega arith)
 radix_one Hex Dec n e g = absurd (omega arith)
 
+policy_at : ℕ → Policy
+policy_at n = if n == 0 then Checked else (if n == 1 then Saturating else (if n == 2 then Wrapping else Symmetric))
+
+policy_is : (p : Policy) → p ≡ policy_at (policy_code p)
+unfolding policy_at
+policy_is Checked = refl
+policy_is Saturating = refl
+policy_is Wrapping = refl
+policy_is Symmetric = refl
+
 pub policy_one : (p q : Policy) (n : ℕ) → n ≡ policy_code p → n ≡ policy_code q → p ≡ q
-policy_one Checked Checked n e g = refl
-policy_one Saturating Saturating n e g = refl
-policy_one Wrapping Wrapping n e g = refl
-policy_one Checked Saturating n e g = absurd (omega arith)
-policy_one Checked Wrapping n e g = absurd (omega arith)
-policy_one Saturating Checked n e g = absurd (omega arith)
-policy_one Saturating Wrapping n e g = absurd (omega arith)
-policy_one Wrapping Checked n e g = absurd (omega arith)
-policy_one Wrapping Saturating n e g = absurd (omega arith)
+policy_one p q n e g = policy_is p ∙ (ap policy_at (sym e ∙ g) ∙ sym (policy_is q))
 
 mode_at : ℕ → ReadMode
 mode_at n = if n == 0 then NearestEven else (if n == 1 then Floor else (if n == 2 then Ceil else (if n == 3 then TowardsZero else (if n == 4 then NearestAway else (if n == 5 then NearestZero else (if n == 6 then NearestUp else (if n == 7 then NearestDown else AwayFromZero)))))))
@@ -142,13 +144,14 @@ pub brought_one : (f : FormatParts) (p : Policy) (v a b : ℤ) (x y : ℕ) → I
 brought_one f p v a b x y format fa fb g h =
     let image : g.image ≡ h.image = image_one p f.signed f.width v g.image h.image format.is_width g.image_is h.image_is in
     let bits : has_bits f.signed b g.image = subst (λ (z : ℤ). has_bits f.signed b z) (sym image) h.bits_are in
-    let flag : g.overflowed ≡ h.overflowed = flag_one (IsOutOfRange f.signed f.width v) g.overflowed h.overflowed g.overflowed_is h.overflowed_is in
+    let flag : g.overflowed ≡ h.overflowed = flag_one (IsOutOfRangeBy p f.signed f.width v) g.overflowed h.overflowed g.overflowed_is h.overflowed_is in
     (bits_of_number f.signed a b g.image fa fb g.bits_are bits, g.flag_is ∙ ap flag_of flag ∙ sym h.flag_is)
 
 checked_in : (f : FormatParts) (p : Policy) (v c : ℤ) → p ≡ Checked → IsImage p f.signed f.width v c → IsInRange f.signed f.width v
 checked_in f Checked v c e h = h.in_range
 checked_in f Saturating v c e h = absurd (cc)
 checked_in f Wrapping v c e h = absurd (cc)
+checked_in f Symmetric v c e h = absurd (cc)
 
 pub brought_none : (f : FormatParts) (p : Policy) (v a : ℤ) (x : ℕ) → IsBrought f p v a x → IsNotBrought f p v → ⊥
 brought_none f p v a x g h = (range_decided f.signed f.width v).1 h.out (checked_in f p v g.image h.checked g.image_is)

@@ -2,7 +2,7 @@
 use Rattle.std.proofs.Common.{◌≡◌, ◌↔◌, inl, inr, subst, ℕ, ℤ, Bool, List, Result, Ok, Err, IsOk, IsTrue}
 use Rattle.std.specs.Prelude.{MatchResult, slice_index}
 use Rattle.fixed_bits.specs.Formats.{FormatParts}
-use Rattle.fixed_bits.specs.Images.{IsImage}
+use Rattle.fixed_bits.specs.Images.{IsImage, IsOutOfRangeBy}
 use Rattle.fixed_bits.specs.Numbers.{IsNumber}
 use Rattle.fixed_bits.specs.Ranges.{IsOutOfRange}
 use Rattle.fixed_bits.specs.declared.format.Policy.{Policy}
@@ -33,7 +33,7 @@ module _ (layout : FloatLayout) (float : ℕ) (f : FormatParts) (p : Policy) (m 
   read_is = subst (λ (g : FormatParts). IsReadFloat m layout float g.frac is.number) format is.read
 
   pub float_read : (n : FixedNumber) (image : ℤ) (out : Bool) → NamesFormat f → IsFinite layout float
-      → OfNumber found (λ g v. IsImage p g.signed g.width v image) → OfNumber found (λ g v. IsTrue out ↔ IsOutOfRange g.signed g.width v)
+      → OfNumber found (λ g v. IsImage p g.signed g.width v image) → OfNumber found (λ g v. IsTrue out ↔ IsOutOfRangeBy p g.signed g.width v)
       → has_bits f.signed n.bits image → n.overflowed ≡ flag_of out → IsFloatRead layout float f n p m
   float_read n image out named finite images range bits_are flag_is = record {
     format = named;
@@ -46,7 +46,7 @@ module _ (layout : FloatLayout) (float : ℕ) (f : FormatParts) (p : Policy) (m 
       bits_are = bits_are;
       overflowed = out;
       flag_is = flag_is;
-      overflowed_is = subst (λ (g : FormatParts). IsTrue out ↔ IsOutOfRange g.signed g.width is.number) format (range is.number is.holds);
+      overflowed_is = subst (λ (g : FormatParts). IsTrue out ↔ IsOutOfRangeBy p g.signed g.width is.number) format (range is.number is.holds);
     };
   }
 

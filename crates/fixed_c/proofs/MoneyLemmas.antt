@@ -1,7 +1,7 @@
 -- What a reading of a decimal gives, by what it is asked for.
 use Rattle.std.proofs.Common.{◌≡◌, ◌↔◌, inl, inr, subst, ℕ, ℤ, Bool, List, Result, Ok, Err, IsTrue, true}
 use Rattle.std.specs.Prelude.{MatchResult}
-use Rattle.fixed_bits.specs.Images.{IsImage}
+use Rattle.fixed_bits.specs.Images.{IsImage, IsOutOfRangeBy}
 use Rattle.fixed_bits.specs.Numbers.{IsNumber}
 use Rattle.fixed_bits.specs.Ranges.{IsOutOfRange}
 use Rattle.fixed_bits.specs.declared.format.Policy.{Policy}
@@ -27,7 +27,7 @@ module _ (text : List ℕ) (places : ℕ) (p : Policy) (m : ReadMode) (found : D
   units_are = record { parts = parts; has = has; read = subst (λ n. IsReadDecimal m parts n is.number) format is.read }
 
   pub decimal_read : (n : FixedNumber) (image : ℤ) (out : Bool) → NamesDecimal places
-      → ((v : ℤ) → IsNumber found.number v → IsImage p true 64 v image) → ((v : ℤ) → IsNumber found.number v → IsTrue out ↔ IsOutOfRange true 64 v)
+      → ((v : ℤ) → IsNumber found.number v → IsImage p true 64 v image) → ((v : ℤ) → IsNumber found.number v → IsTrue out ↔ IsOutOfRangeBy p true 64 v)
       → image ≡ n.bits → n.overflowed ≡ flag_of out → IsDecimalRead text places n p m
   decimal_read n image out named images range bits_are flag_is = record {
     format = named;

@@ -1,7 +1,7 @@
 -- What a reading into a format gives C.
 use Rattle.std.proofs.Common.{◌≡◌, ◌↔◌, subst, ℕ, ℤ, Bool, IsTrue}
 use Rattle.fixed_bits.specs.Formats.{FormatParts}
-use Rattle.fixed_bits.specs.Images.{IsImage}
+use Rattle.fixed_bits.specs.Images.{IsImage, IsOutOfRangeBy}
 use Rattle.fixed_bits.specs.Ranges.{IsOutOfRange}
 use Rattle.fixed_bits.specs.declared.format.Policy.{Policy}
 use Rattle.fixed_bits.specs.declared.format.Policy.TheVariants.{Checked}
@@ -22,7 +22,7 @@ OfNumber found P = (v : ℤ) → IsNumber (number_in found) v → P found.format
 module _ (Has : Parts → Type 0) (f : FormatParts) (r : Radix) (p : Policy) (m : ReadMode) (found : ReadNumber) (q : Parts) (has : Has q)
     (reading : (q : Parts) → Has q → IsReading m r q found) (format : found.format ≡ f) where
   pub read_as : (bits : ℤ) (flag : ℕ) (image : ℤ) (out : Bool) → NamesFormat f
-      → OfNumber found (λ g v. IsImage p g.signed g.width v image) → OfNumber found (λ g v. IsTrue out ↔ IsOutOfRange g.signed g.width v)
+      → OfNumber found (λ g v. IsImage p g.signed g.width v image) → OfNumber found (λ g v. IsTrue out ↔ IsOutOfRangeBy p g.signed g.width v)
       → has_bits f.signed bits image → flag ≡ flag_of out → IsReadBy Has f bits flag r p m
   read_as bits flag image out named images range bits_are flag_is =
       let is : IsReading m r q found = reading q has in
@@ -37,7 +37,7 @@ module _ (Has : Parts → Type 0) (f : FormatParts) (r : Radix) (p : Policy) (m 
           bits_are = bits_are;
           overflowed = out;
           flag_is = flag_is;
-          overflowed_is = subst (λ (g : FormatParts). IsTrue out ↔ IsOutOfRange g.signed g.width is.number) format (range is.number is.holds);
+          overflowed_is = subst (λ (g : FormatParts). IsTrue out ↔ IsOutOfRangeBy p g.signed g.width is.number) format (range is.number is.holds);
         };
       }
 

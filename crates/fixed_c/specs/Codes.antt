@@ -1,7 +1,7 @@
 -- The codes that calls return, and the numbers that stand for policies and modes.
 use Rattle.std.specs.Prelude.{◌≡◌, ◌⊎◌, ◌<◌, ℕ, List, codes}
 use Rattle.fixed_bits.specs.declared.format.Policy.{Policy}
-use Rattle.fixed_bits.specs.declared.format.Policy.TheVariants.{Checked, Saturating, Wrapping}
+use Rattle.fixed_bits.specs.declared.format.Policy.TheVariants.{Checked, Saturating, Wrapping, Symmetric}
 use Rattle.fixed_bits.specs.declared.mode.ReadMode.{ReadMode}
 use Rattle.fixed_bits.specs.declared.mode.ReadMode.TheVariants.{NearestEven, Floor, Ceil, TowardsZero}
 use Rattle.fixed_bits.specs.declared.mode.ReadMode.TheVariants.{NearestAway, NearestZero, NearestUp, NearestDown}
@@ -22,6 +22,7 @@ abbrev pub policy_code : Policy → ℕ
 policy_code Checked = 0
 policy_code Saturating = 1
 policy_code Wrapping = 2
+policy_code Symmetric = 3
 
 abbrev pub mode_code : ReadMode → ℕ
 mode_code NearestEven = 0

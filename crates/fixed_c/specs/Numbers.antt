@@ -2,7 +2,7 @@
 use Rattle.std.specs.Prelude.{◌≡◌, ◌⊎◌, ◌↔◌, ◌≤ℤ◌, ◌<ℤ◌, ℕ, ℤ, Bool, true, false, pos, ◌+ℤ◌, ◌^◌, ◌==◌, if◌then◌else◌}
 use Rattle.std.specs.Prelude.{IsTrue}
 use Rattle.fixed_bits.specs.Formats.{FormatParts}
-use Rattle.fixed_bits.specs.Images.{IsImage}
+use Rattle.fixed_bits.specs.Images.{IsImage, IsOutOfRangeBy}
 use Rattle.fixed_bits.specs.Ranges.{IsInRange, IsOutOfRange}
 use Rattle.fixed_bits.specs.declared.format.Policy.{Policy}
 use Rattle.fixed_bits.specs.declared.format.Policy.TheVariants.{Checked}
@@ -27,14 +27,15 @@ abbrev pub flag_of : Bool → ℕ
 flag_of true = 1
 flag_of false = 0
 
--- the bits are those of the number's image in the format, and the flag says whether the number is out of its range
+-- the bits are those of the number's image in the format, and the flag says whether the number is out of the range that
+-- the policy leaves
 pub record IsBrought (f : FormatParts) (p : Policy) (number bits : ℤ) (flag : ℕ) : Type 0 where
   pub image : ℤ
   pub image_is : IsImage p f.signed f.width number image
   pub bits_are : has_bits f.signed bits image
   pub overflowed : Bool
   pub flag_is : flag ≡ flag_of overflowed
-  pub overflowed_is : IsTrue overflowed ↔ IsOutOfRange f.signed f.width number
+  pub overflowed_is : IsTrue overflowed ↔ IsOutOfRangeBy p f.signed f.width number
 
 -- under Checked the number is out of the format's range
 pub record IsNotBrought (f : FormatParts) (p : Policy) (number : ℤ) : Type 0 where

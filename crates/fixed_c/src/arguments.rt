@@ -54,6 +54,7 @@ pub fn policy_of(code: u32) -> Result<Policy, Refusal>
         0 => Ok(Policy::Checked),
         1 => Ok(Policy::Saturating),
         2 => Ok(Policy::Wrapping),
+        3 => Ok(Policy::Symmetric),
         _ => Err(Refusal::BadPolicy),
     }
 }

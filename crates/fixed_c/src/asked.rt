@@ -50,7 +50,11 @@ pub fn read_from(text: &[u8], from: usize, asked: &Asked) -> Result<FixedNumber,
         Err(error) => return Err(Refusal::Numeral(error.kind())),
     };
     match found.image(asked.policy) {
-        Some(number) => Ok(number_for_c(asked.format, number, found.is_out_of_range())),
+        Some(number) => Ok(number_for_c(
+            asked.format,
+            number,
+            found.is_out_of_range_by(asked.policy),
+        )),
         None => Err(Refusal::Numeral(ParseErrorKind::Overflow)),
     }
 }

@@ -64,7 +64,7 @@ pub fn read_decimal(text: &[u8], asked: &DecimalAsked) -> Result<FixedNumber, Re
     match found.image(asked.policy) {
         Some(bits) => Ok(FixedNumber {
             bits,
-            overflowed: flag(found.is_out_of_range()),
+            overflowed: flag(found.is_out_of_range_by(asked.policy)),
         }),
         None => Err(Refusal::Numeral(ParseErrorKind::Overflow)),
     }

@@ -59,7 +59,7 @@ fn brought(
         Err(_) => return Err(Refusal::NotFinite),
     };
     match found.image(policy) {
-        Some(number) => Ok(number_for_c(format, number, found.is_out_of_range())),
+        Some(number) => Ok(number_for_c(format, number, found.is_out_of_range_by(policy))),
         None => Err(Refusal::Numeral(ParseErrorKind::Overflow)),
     }
 }

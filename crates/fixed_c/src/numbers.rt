@@ -189,7 +189,7 @@ pub fn literal(text: &[u8], format: FixedFormat, policy: u32) -> Result<FixedNum
         Err(error) => return Err(Refusal::Numeral(error.kind())),
     };
     match found.image(policy) {
-        Some(number) => Ok(number_for_c(format, number, found.is_out_of_range())),
+        Some(number) => Ok(number_for_c(format, number, found.is_out_of_range_by(policy))),
         None => Err(Refusal::Numeral(ParseErrorKind::Overflow)),
     }
 }

@@ -10,7 +10,7 @@ ghost use Rattle.fixed_numeral.specs.declared.error.ParseErrorKind.TheVariants.{
 use crate::arguments::{FixedFormat, format_of, policy_of};
 use crate::number::{FixedNumber, number_for_c, number_in};
 use crate::refusal::Refusal;
-use fixed_bits::{Format, Policy};
+use fixed_bits::{Format, Number, Policy};
 use fixed_numeral::ParseErrorKind;
 use fixed_round::{Rounding, towards_zero, whole_of};
 
@@ -56,8 +56,9 @@ fn brought(format: Format, policy: Policy, number: i128) -> Result<FixedNumber, 
         (λ n. IsBrought format policy number n.bits n.overflowed)
         (λ refusal. (refusal ≡ Numeral Overflow) × IsNotBrought format policy number) }
 {
+    let is_out = Number::of(number).is_out_of_range_by(format, policy);
     match policy.image(format, number) {
-        Some(image) => Ok(number_for_c(format, image, !format.contains(number))),
+        Some(image) => Ok(number_for_c(format, image, is_out)),
         None => Err(Refusal::Numeral(ParseErrorKind::Overflow)),
     }
 }

@@ -24,9 +24,9 @@ returns-in-Some c =
     let image : FitsSigned w128 c.in-Some.number = search rules in
     let are : has_bits f.signed c.number_for_c.result.bits c.in-Some.number = rw (to_z-of_z w128 c.in-Some.number image) at c.number_for_c.ensures.bits in
     let numeral = c.in-Ok.ensures.reading.numeral.0 refl in
-    let named : NamesFormat f = subst (λ (g : FormatParts). NamesFormat g) c.in-Ok.ensures.format c.is_out_of_range.ensures.valid in
+    let named : NamesFormat f = subst (λ (g : FormatParts). NamesFormat g) c.in-Ok.ensures.format c.is_out_of_range_by.ensures.valid in
     read_as (HasNumeral c.args.asked.now.radix text) f c.args.asked.now.radix c.args.asked.now.policy c.args.asked.now.mode c.in-Ok.found numeral.0 numeral.1 c.in-Ok.ensures.reading.read c.in-Ok.ensures.format
-    c.number_for_c.result.bits c.number_for_c.result.overflowed c.in-Some.number c.is_out_of_range.result named c.in-Some.ensures.image c.is_out_of_range.ensures.range are c.number_for_c.ensures.flag
+    c.number_for_c.result.bits c.number_for_c.result.overflowed c.in-Some.number c.is_out_of_range_by.result named c.in-Some.ensures.image c.is_out_of_range_by.ensures.range are c.number_for_c.ensures.flag
 
 pub returns-in-None : goal.returns-in-None
 returns-in-None c =

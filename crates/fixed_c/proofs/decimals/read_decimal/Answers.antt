@@ -17,7 +17,7 @@ pub returns-in-Some : goal.returns-in-Some
 returns-in-Some c =
     let fits : FitsSigned w64 c.in-Some.bits = search rules in
     let numeral = c.in-Ok.ensures.reading.numeral.0 refl in
-    decimal_read c.args.text.now c.args.asked.now.format c.args.asked.now.policy c.args.asked.now.mode c.in-Ok.found numeral.0 numeral.1 (c.in-Ok.ensures.reading.read numeral.0 numeral.1) c.in-Ok.ensures.format _ c.in-Some.bits c.is_out_of_range.result c.requires c.in-Some.ensures.image c.is_out_of_range.ensures (sym (to_z-of_z w64 c.in-Some.bits fits)) c.flag.ensures
+    decimal_read c.args.text.now c.args.asked.now.format c.args.asked.now.policy c.args.asked.now.mode c.in-Ok.found numeral.0 numeral.1 (c.in-Ok.ensures.reading.read numeral.0 numeral.1) c.in-Ok.ensures.format _ c.in-Some.bits c.is_out_of_range_by.result c.requires c.in-Some.ensures.image c.is_out_of_range_by.ensures (sym (to_z-of_z w64 c.in-Some.bits fits)) c.flag.ensures
 
 pub returns-in-None : goal.returns-in-None
 returns-in-None c =

@@ -17,10 +17,10 @@ returns-in-Some c layout float mode finite reading =
     let is : IsFloatReading mode layout float c.in-Ok.found = rw c.in-Ok.is at reading in
     let same : c.in-Ok.found.format ≡ c.args.format = rw c.in-Ok.is at c.requires.format in
     let ok : IsOk c.args.found = rw c.in-Ok.is refl in
-    let named : NamesFormat c.args.format = subst (λ (g : FormatParts). NamesFormat g) same c.is_out_of_range.ensures.valid in
+    let named : NamesFormat c.args.format = subst (λ (g : FormatParts). NamesFormat g) same c.is_out_of_range_by.ensures.valid in
     let image : FitsSigned w128 c.in-Some.number = search rules in
     let are : has_bits c.args.format.signed c.number_for_c.result.bits c.in-Some.number = rw (to_z-of_z w128 c.in-Some.number image) at c.number_for_c.ensures.bits in
-    float_read layout float c.args.format c.args.policy mode c.in-Ok.found is same c.number_for_c.result c.in-Some.number c.is_out_of_range.result named (finite.0 ok) c.in-Some.ensures.image c.is_out_of_range.ensures.range are c.number_for_c.ensures.flag
+    float_read layout float c.args.format c.args.policy mode c.in-Ok.found is same c.number_for_c.result c.in-Some.number c.is_out_of_range_by.result named (finite.0 ok) c.in-Some.ensures.image c.is_out_of_range_by.ensures.range are c.number_for_c.ensures.flag
 
 pub returns-in-None : goal.returns-in-None
 returns-in-None c layout float mode finite reading =

@@ -4,7 +4,7 @@ use Rattle.std.proofs.lemmas.Int.{to_z-of_z}
 use Rattle.std.proofs.lemmas.Result.{err_from_is_err_and}
 use Rattle.fixed_bits.specs.Down.{down}
 use Rattle.fixed_bits.specs.Formats.{FormatParts}
-use Rattle.fixed_bits.specs.Images.{IsImage}
+use Rattle.fixed_bits.specs.Images.{IsImage, IsOutOfRangeBy}
 use Rattle.fixed_bits.specs.Ranges.{IsOutOfRange}
 use Rattle.fixed_numeral.specs.declared.error.ParseErrorKind.TheVariants.{Overflow}
 use Rattle.fixed_c.specs.Arguments.{NamesFormat}
@@ -35,8 +35,8 @@ returns-in-Some c =
     let bits_are : has_bits g.signed c.number_for_c.result.bits c.in-Some.image = rw (to_z-of_z w128 c.in-Some.image moved) at c.number_for_c.ensures.bits in
     let image : IsImage c.in_ok-policy.policy g.signed g.width (down c.in_ok-number.number f.frac g.frac) c.in-Some.image =
     subst (λ (k : ℕ). IsImage c.in_ok-policy.policy g.signed g.width (down c.in_ok-number.number k g.frac) c.in-Some.image) c.frac.ensures.frac (rw (to_z-of_z w128 c.in_ok-number.number number) at c.in-Some.ensures.image) in
-    let over : IsTrue c.in-Some.overflowed ↔ IsOutOfRange g.signed g.width (down c.in_ok-number.number f.frac g.frac) =
-    subst (λ (k : ℕ). IsTrue c.in-Some.overflowed ↔ IsOutOfRange g.signed g.width (down c.in_ok-number.number k g.frac)) c.frac.ensures.frac (rw (to_z-of_z w128 c.in_ok-number.number number) at c.in-Some.ensures.verdict) in
+    let over : IsTrue c.in-Some.overflowed ↔ IsOutOfRangeBy c.in_ok-policy.policy g.signed g.width (down c.in_ok-number.number f.frac g.frac) =
+    subst (λ (k : ℕ). IsTrue c.in-Some.overflowed ↔ IsOutOfRangeBy c.in_ok-policy.policy g.signed g.width (down c.in_ok-number.number k g.frac)) c.frac.ensures.frac (rw (to_z-of_z w128 c.in_ok-number.number number) at c.in-Some.ensures.verdict) in
     let made : IsConverted f g c.args.policy c.args.bits c.number_for_c.result.bits c.number_for_c.result.overflowed = record {
       source_format = (subst (λ (h : FormatParts). NamesFormat h) (sym c.in_ok-source.ensures.0) c.in_ok-source.ensures.1);
       target_format = (subst (λ (h : FormatParts). NamesFormat h) (sym c.in_ok-target.ensures.0) c.in_ok-target.ensures.1);

@@ -44,7 +44,7 @@ returns-in-Some c =
       the_policy = c.in_ok-policy.policy;
       policy_is = c.in_ok-policy.ensures;
       read = read_as (HasLiteral c.in_ok-format.format.signed c.args.text.now) f (literal_radix c.in_ok-format.format.signed c.args.text.now) c.in_ok-policy.policy NearestEven c.in-Ok.found some.0 some.1 c.in-Ok.ensures.reading c.in-Ok.ensures.format
-          c.number_for_c.result.bits c.number_for_c.result.overflowed c.in-Some.number c.is_out_of_range.result (subst (λ (h : FormatParts). NamesFormat h) (sym c.in_ok-format.ensures.0) c.in_ok-format.ensures.1) c.in-Some.ensures.image c.is_out_of_range.ensures.range are c.number_for_c.ensures.flag;
+          c.number_for_c.result.bits c.number_for_c.result.overflowed c.in-Some.number c.is_out_of_range_by.result (subst (λ (h : FormatParts). NamesFormat h) (sym c.in_ok-format.ensures.0) c.in_ok-format.ensures.1) c.in-Some.ensures.image c.is_out_of_range_by.ensures.range are c.number_for_c.ensures.flag;
     } in
     subst (λ (h : FormatParts). IsLiteralReadAs c.args.text.now h c.args.policy c.number_for_c.result.bits c.number_for_c.result.overflowed) c.in_ok-format.ensures.0 made
 
