@@ -16,10 +16,11 @@
 #   make bench     times, memory and instructions; make compare: seeded inputs against the reference in oracle/
 #
 # JOBS=N: how many proofs are made at a time. If it is not given, processors and memory decide.
-# STORE=DIR: where what was proved is kept, for every target and every clone; by default lomdeqash in the user's cache.
+# STORE=DIR: where what was compiled is kept, for every target and every clone; by default lomdeqash in the user's cache.
+# ANEW=1: proves again what is kept beside the toolchain.
 
 PREFIX ?= /usr/local
-export STORE
+export STORE ANEW
 DESTDIR ?=
 JOBS ?= 0
 # How many seeded lines `make compare` hands over.
@@ -31,6 +32,8 @@ PROGRAMS := $(filter $(CRATES),fixed_tool enclose_tool least_tool constants_tool
 BENCH := $(filter $(CRATES),fixed_bench)
 # The programs that only answer the references in oracle/.
 VECTORS := $(filter $(CRATES),fixed_vectors)
+# What make test compiles for CPU after the gate, so that make build, make library and the packages find it.
+PRODUCTS := $(PROGRAMS) fixed_c
 # The processor that programs and the library for C are compiled for: x86-64 is any amd64.
 CPU ?= x86-64
 PROVE := python3 .ci/prove.py --jobs $(JOBS) --cpu $(CPU)
@@ -47,10 +50,11 @@ build:
 
 # A first look: the program as it is compiled for a try, with its conditions tested as it runs, and nothing proved.
 try:
-	@echo "Not proved: these answers come from a first compilation. make demo proves the program first."
+	@echo "This proves nothing: it compiles fixed_tool and answers ten lines. make demo proves it first."
 	@mkdir -p build
-	@cd crates/fixed_tool && rt try <../../examples/demo.txt >../../build/tried 2>../../build/try.log; test $$? -le 1 || { cat ../../build/try.log; exit 1; }
+	@cd crates/fixed_tool && rt try <../../examples/demo.txt >../../build/tried 2>../../build/try.log; test $$? -le 1 || { cat ../../build/try.log; echo "fixed_tool does not compile (above)."; exit 1; }
 	@paste -d '>' examples/demo.txt build/tried | sed 's/>/  ->  /'
+	@echo "These are the answers of a first compilation. Nothing was proved."
 
 # A status of 1 says that some line was refused, as two of these are meant to be.
 demo:
@@ -67,13 +71,14 @@ demo-command:
 quick:
 	@$(PROVE) --above $(or $(CRATE),$(error make quick CRATE=NAME))
 
-# Every proof, test and stored run that is not known to pass for these files.
+# Every proof, test and stored run that is not known to pass for these files. The gate takes what this proves.
 check:
 	@$(PROVE) --tests
 
-# The gate: every proof, every must-fail edit, every test and every program's stored run, from nothing, by rt ci. What it proved is kept.
+# The gate: every proof, every must-fail edit, every test and every program's stored run, by rt ci; and then what make build and
+# make library need beside it. Proofs and refusals of the same files that rt ci made before on this machine are taken.
 test:
-	@$(PROVE) --gate
+	@$(PROVE) --gate $(PRODUCTS)
 
 # Those in a crate's wrong-bodies/: a change of its public clauses, or of a body that one of them edits, calls for them.
 wrong-bodies:
@@ -104,6 +109,7 @@ doc:
 .PHONY: options
 options:
 	@python3 .ci/options.py
+	@echo "completion/ and man/fixed.1 are as the table of options."
 
 # Times, memory and instructions of the programs and of single calls, beside C, a reference in plain Rust, and PEER (see
 # bench/measure.py). What has no compiler here is left out.
@@ -113,6 +119,7 @@ bench: build
 	@if command -v cc >/dev/null; then $(MAKE) -s --no-print-directory build/bench_c library build/bench_library; fi
 	@if command -v valgrind >/dev/null; then $(MAKE) -s --no-print-directory build/v2; fi
 	python3 bench/measure.py
+	@echo "These are the figures of the programs in build/."
 
 # The same programs and library, compiled for x86-64-v2, which `make bench` compares: what every amd64 processor costs.
 build/v2:
@@ -132,6 +139,7 @@ build/bench_library: bench/library.c build/lib/libfixed.a
 compare:
 	@$(PROVE) $(PROGRAMS) $(VECTORS)
 	python3 oracle/compare.py --count $(COUNT)
+	@echo "The programs and the references agree on every input above."
 
 # The recipes of docs/SCALING.md, each compared byte for byte with one process.
 scale: build

@@ -38,10 +38,11 @@ def text_of(path):
 
 
 class Crate:
-    """A crate: the crates of the repository that it names, the libraries of the kit that it names, and its folder."""
+    """A crate: its line of crates.txt, the crates of the repository and the libraries of the kit that this names, its folder."""
 
-    def __init__(self, name, is_static, uses, of_kit, top=TOP):
-        self.name, self.is_static, self.uses, self.of_kit, self.top = name, is_static, uses, of_kit, top
+    def __init__(self, row, uses, of_kit, top=TOP):
+        name, is_static = row[1], bool(row[2])
+        self.row, self.name, self.is_static, self.uses, self.of_kit, self.top = row[0], name, is_static, uses, of_kit, top
         self.folder = f"{top}/crates/{name}"
         self.is_program = os.path.isfile(f"{self.folder}/src/main.rt")
         self.made = name if self.is_program else f"lib{name}.a" if is_static else None
@@ -64,10 +65,12 @@ class Crate:
 
 def read_crates(top=TOP):
     """The crates of crates.txt by their names, in its order."""
-    rows = [ROW.fullmatch(line.partition("#")[0].strip()) for line in text_of(f"{top}/crates.txt").split("\n")]
-    said = {row[1]: (bool(row[2]), (row[3] or "").split()) for row in rows if row}
-    return {name: Crate(name, is_static, [it for it in uses if it in said], [it for it in uses if it not in said], top)
-            for name, (is_static, uses) in said.items()}
+    lines = [line.partition("#")[0].strip() for line in text_of(f"{top}/crates.txt").split("\n")]
+    rows = [row for row in map(ROW.fullmatch, lines) if row]
+    names = {row[1] for row in rows}
+    uses = {row[1]: (row[3] or "").split() for row in rows}
+    return {row[1]: Crate(row, [it for it in uses[row[1]] if it in names], [it for it in uses[row[1]] if it not in names], top)
+            for row in rows}
 
 
 def below(crates, names):

@@ -75,7 +75,7 @@ def archive(built):
     if built == "build":
         return f"{TOP}/build/lib/libfixed.a"
     bench = Bench(into=f"{TOP}/crates/fixed_c/out")
-    if not bench.do([("fixed_c", "made")]):
+    if not bench.make(["fixed_c"]):
         raise Failed("fixed_c is not proved")
     bench.hand_out(["fixed_c"])
     return f"{bench.into}/libfixed_c.a"

@@ -1,7 +1,7 @@
-"""The store of what was proved: by a crate's key its statements, its programs, and whether its tests passed.
+"""The store of what was compiled: by a crate's key its statements, its programs, and whether its tests passed.
 
-It is the folder STORE, or `lomdeqash` in the user's cache, so that all clones share it. `rt ci` never reads it. Who can
-write to it is trusted as who can write to `build/` is.
+It is the folder STORE, or `lomdeqash` in the user's cache, so that all clones share it. `rt ci`, which keeps its own
+proofs, never reads it. Who can write to it is trusted as who can write to `build/` is.
 """
 import filecmp
 import json
@@ -61,7 +61,7 @@ class Store:
                     raise
 
     def note(self, key, what, **said):
-        """Writes what is known of a key: `proved` or `tested`, by what and when."""
+        """Writes what is known of a key, by what and when."""
         with tempfile.TemporaryDirectory(prefix=".part-", dir=self.folder) as room:
             with open(f"{room}/it", "w", encoding="utf-8") as file:
                 json.dump({"when": time.strftime("%Y-%m-%d %H:%M", time.gmtime()), **said}, file)

@@ -59,6 +59,8 @@ def try_left_out(crates):
                 print(line, end="", flush=True)
                 lines.append(line)
     keep(lines)
+    refused = len(refusals(lines))
+    print(f"{refused} wrong bodies were refused" + (", and others were not (above)" if ran.returncode else ""))
     return ran.returncode
 
 

@@ -29,6 +29,7 @@ build/lib/libfixed.so.1: build/lib/libfixed.a packaging/fixed.map
 check-library: library
 	python3 .ci/library.py --built build
 	python3 .ci/wrappers.py --built build
+	@echo "Every caller that could be compiled here agrees with the library in build/lib."
 
 install-library:
 	@$(call need_files,$(LIBRARY),make library)
