@@ -92,7 +92,7 @@ def is_installed(tool):
 
 class Room:
     """A folder in which commands are run: the programs that are built are on the path, and the files that documents
-    name are there: sensor.csv, numerals.txt, and meter.csv whose third column makes the lines of `lines`."""
+    name are there: sensor.csv, tariff.csv, numerals.txt, and meter.csv whose third column makes the lines of `lines`."""
 
     def __init__(self, folder, built):
         self.folder, self.missing = folder, set()
@@ -104,7 +104,8 @@ class Room:
                 os.makedirs(f"{folder}/bin", exist_ok=True)
                 os.symlink(path, f"{folder}/bin/{name}")
         os.symlink(f"{TOP}/scale", f"{folder}/scale")
-        shutil.copy(f"{TOP}/examples/sensor.csv", folder)
+        for name in ("sensor.csv", "tariff.csv"):
+            shutil.copy(f"{TOP}/examples/{name}", folder)
         numerals = [it for day in range(20)
                     for it in (f"{day}.14159", f"{day * 31}", f"1.{day}.5", f"-{day}", f"{day}e-3")]
         with open(f"{folder}/meter.csv", "w", encoding="ascii") as file:

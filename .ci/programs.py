@@ -139,6 +139,12 @@ RUNS = {
         (["convert", "I8F8", "--places", "3"], b"3.14159\n-2.5\n0\n", 0, b"3.141\n-2.500\n0.000\n"),
         (["convert", "I8F8", "--places", "0"], b"2.5\n3.5\n-0.25\n", 0, b"2\n4\n-0\n"),
         (["convert", "-r", "16", "-p", "saturating", "-m", "floor", "U8F0"], b"1ff\n-1\n", 0, b"255\n0\n"),
+        (["convert", "I8F0", "-p", "symmetric", "--print", "all"], b"-127\n-128\n-1e9\n128\n", 0,
+         b"-127 -127 fits\n-127 -127 overflowed\n-127 -127 overflowed\n127 127 overflowed\n"),
+        (["convert", "I16F0", "I8F0", "-p", "symmetric", "--from", "bits"], b"-128\n-129\n", 0, b"-127\n-127\n"),
+        (["convert", "U8F0", "-p", "symmetric", "--print", "all"], b"-1\n256\n0\n", 0, b"0 0 overflowed\n255 255 overflowed\n0 0 fits\n"),
+        (["unpack", "I8F0", "-p", "symmetric"], b"\x80\x81\x7f", 0, b"-127\n-127\n127\n"),
+        (["pack", "I1F0", "-p", "symmetric"], b"-1\n0\n", 0, b"\0\0"),
         (["convert", "U8F0"], b"\xef\xbb\xbf7\n8\n", 0, b"7\n8\n"),
         (["convert", "U8F0"], b"\xef\xbb", 1, b"error: invalid digit found in string\n"),
         (["constants", "rust"], b"A = 1.75 I4F4\n", 0, b"pub const A: fixed::types::I4F4 = fixed::types::I4F4::from_bits(0x1c);\n"),
@@ -321,6 +327,18 @@ RUNS = {
         (["unpack", "U8F0"], b"\n" * 5_000, 0, b"10\n" * 5_000),
         (["unpack", "U64F0"], b"\xff" * 15, 1, b"18446744073709551615\n"),
         (["unpack", "U8F0"], b"", 0, b""),
+        (["repack", "Q23", "Q15", "--target-mode", "nearest"], b"\x00\x00\x40\x80\x00\x00", 0, b"\x00\x40\x00\x00"),
+        (["repack", "Q23", "Q15"], b"\xff\xff\xff", 0, b"\xff\xff"),
+        (["repack", "I8F8", "I16F16", "--endian", "big"], b"\xff\x00", 0, b"\xff\xff\x00\x00"),
+        (["repack", "I8F8", "I16F16", "--endian", "big", "--endian-out", "little"], b"\xff\x00", 0, b"\x00\x00\xff\xff"),
+        (["repack", "U8F0", "U4F0"], b"\x0f\x10\x01", 1, b"\x0f"),
+        (["repack", "U8F0", "U4F0", "-p", "saturating"], b"\x0f\x10\x01", 0, b"\x0f\x0f\x01"),
+        (["repack", "U8F0", "U4F0", "-p", "wrapping"], b"\x0f\x12\x01", 0, b"\x0f\x02\x01"),
+        (["repack", "U12F0", "U8F0"], b"\x01\x00\x00\x10\x02\x00", 1, b"\x01"),
+        (["repack", "I64F0", "I1F63", "-p", "wrapping"], b"\x01" + b"\x00" * 8, 1, b"\x00" * 7 + b"\x80"),
+        (["repack", "U1F0", "U1F0"], b"\0\1" * 5_000, 0, b"\0\1" * 5_000),
+        (["repack", "U8F0", "U8F0"], b"", 0, b""),
+        (["repack", "U8F0", "U8F0", "no file"], b"", 3, b""),
         (["--version"], b"", 0, b"fixed " + VERSION + b"\n"),
         (["help"], b"", 0, None),
         (["help", "convert"], b"", 0, None),
@@ -416,6 +434,8 @@ BAD_WORDS = {
         [b"unpack"], [b"unpack", b"U8F0", b"--radix", b"16"], [b"unpack", b"U8F0", b"U65F0"], [b"unpack", b"U8F0", b"--from", b"bits"],
         [b"unpack", b"U8F0", b"--to", b"f16"], [b"unpack", b"U8F0", b"U8F0", b"--to", b"f64"], [b"unpack", b"U8F0", b"--to", b"f32", b"-p", b"wrapping"],
         [b"unpack", b"U8F0", b"--to", b"f64", b"--places", b"2"], [b"unpack", b"U8F0", b"--to", b"f64", b"--print", b"bits"],
+        [b"repack"], [b"repack", b"U8F0"], [b"repack", b"U8F0", b"U65F0"], [b"repack", b"U8F0", b"U8F0", b"--mode", b"floor"],
+        [b"repack", b"U8F0", b"U8F0", b"--endian-out", b"middle"], [b"repack", b"U8F0", b"file"],
         [b"show", b"U64F1", b"1"], [b"show"], [b"bits"], [b"bits", b"U8F0", b"--file", b"x", b"1"], [b"format", b"U8F0", b"X"],
     ),
     "fixed_tool": ([b"limits"], [b"limit"], [b"limit", b"05"], [b"limit", b"0"], [b"self", b"0"], [b"self", b"1000001"], [b"limit", b"5", b""]),
@@ -468,6 +488,7 @@ STACKS = (
     (["pack", "--from", "f64", "I16F16", "--report", "-p", "saturating"], struct.pack("<4d", 1e-300, 1e300, 0.1, math.inf)),
     (["unpack", "U1F0"], b"\1\0" * 2_000 + b"\2"),
     (["unpack", "--to", "f32", "U63F0"], (b"\xff" * 7 + b"\x7f") * 2_000 + b"\xff" * 9),
+    (["repack", "U63F0", "I1F63", "--report", "-p", "saturating"], (b"\xff" * 7 + b"\x7f") * 2_000 + b"\xff" * 9),
     (["constants"], b"A = 0x1.8 I4F4\n" * 2),
     (["constants", "c"], b"A = 0x1.8 I4F4\n"),
     (["constants", "array-c", "--name", "h"], b"A = 0x1.8 I4F4\n"),
@@ -825,7 +846,7 @@ class Runs:
             print(f"{self.name}, {what}: the file has {got!r:.200}, not {wanted!r:.200}")
 
     def repacked(self):
-        """Words of Q23 to the nearest words of Q15, ties to even, as the help says: by the text of Q15, not by that of Q23."""
+        """Words of Q23 to the nearest words of Q15, ties to even, as the help says: at once, or by the text of Q15."""
         self.tried += 1
         source = random_module.Random(3)
         words = [source.randrange(-(2**23), 2**23 - 128) for _ in range(20_000)] + [-(2**23), -129, -128, -127, 127, 128, 129, 383, 384, 385]
@@ -833,7 +854,8 @@ class Runs:
         texts = subprocess.run([self.path, "unpack", "Q23", "Q15", "--target-mode", "nearest"], input=given, stdout=subprocess.PIPE, check=False).stdout
         got = subprocess.run([self.path, "pack", "Q15"], input=texts, stdout=subprocess.PIPE, check=False).stdout
         wanted = b"".join((round(Fraction(word, 256)) % 2**16).to_bytes(2, "little") for word in words)
-        if got != wanted:
+        at_once = subprocess.run([self.path, "repack", "Q23", "Q15", "--target-mode", "nearest"], input=given, stdout=subprocess.PIPE, check=False).stdout
+        if got != wanted or at_once != wanted:
             self.wrong += 1
             print(f"{self.name}: words of Q23 become other words of Q15 than the nearest")
 

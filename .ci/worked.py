@@ -249,7 +249,7 @@ RUNS = {
 # Words that are no command.
 BAD_WORDS = {
     "fixed": tuple([b"format", word] for word in (
-        b"I0F0", b"I64F1", b"I1F07", b"I-1F9", b"IF8", b"I8F", b"I8F8 ", b"", b"Q64", b"Q0.15", b"UQ16", b"Q8F8", b"Q8.")),
+        b"I0F0", b"I64F1", b"I1F07", b"I-0F8", b"IF8", b"I8F", b"I8F8 ", b"", b"Q64", b"Q0.15", b"UQ16", b"Q8F8", b"Q8.")),
     "fixed_tool": ([b"limit", b"4294967297"], [b"limit", b"+5"], [b"limit", b"5", b"5"]),
     "enclose_tool": ([b"10"],),
     "constants_tool": ([b"9"],),

@@ -1,28 +1,31 @@
 """The command `fixed`: its words beside fixed_tool and beside what is asked of them, and how long it takes to start and end."""
+import filecmp
 import os
 import random
 import struct
 import subprocess
-import sys
 import time
 
-from timing import VALGRIND, in_turn, instructions, peak, table
+from timing import VALGRIND, in_turn, instructions, peak, python_with, table
 
 LINES = 200_000
 # How many raw words are timed: user time is told from the system's by the clock's ticks, of which a run has to have many.
 WORDS = 3_000_000
-# How many raw doubles are timed, and what is asked of `pack --from f64`, in megabytes of them a second of user time.
+# How many raw doubles are timed, and what is asked of both commands over them, in megabytes of doubles a second of user time.
 FLOATS, FLOAT_MEGABYTES = 12_000_000, 500
-# The same words by numpy, whose numbers all are in range, and the seconds that it took from the bytes of the file to the words' bytes.
+# The same by numpy, where all numbers are in range, and the seconds that it took from the bytes of a file to the other bytes.
 BY_NUMPY = """
 import sys, time
 import numpy as np
-with open(sys.argv[1], "rb") as given:
+with open(sys.argv[2], "rb") as given:
     start = time.process_time()
-    words = np.rint(np.frombuffer(given.read(), "<f8") * 32768).astype("<i2").tobytes()
+    if sys.argv[1] == "pack":
+        made = np.rint(np.frombuffer(given.read(), "<f8") * 32768).astype("<i2").tobytes()
+    else:
+        made = (np.frombuffer(given.read(), "<i2") / 32768).tobytes()
     print(time.process_time() - start)
-with open(sys.argv[2], "wb") as out:
-    out.write(words)
+with open(sys.argv[3], "wb") as out:
+    out.write(made)
 """
 # How many there are in two inputs whose instructions are subtracted, so that starting does not count.
 MORE, FEWER = 150_000, 50_000
@@ -44,6 +47,21 @@ def converting(programs, inputs, tries):
     each = [LINES / it / 1e6 for it in took]
     table([["fixed convert U16F16", f"{each[0]:.2f}", f"{each[0] / each[1]:.0%}"], ["fixed_tool", f"{each[1]:.2f}", ""]],
           ["the same numerals", "M lines/s", "of fixed_tool's"])
+
+
+def amounts(programs, inputs, tries):
+    """Lines a second of `fixed convert` into cents, and to two places through the format that holds most of the same numerals."""
+    fixed, plain = programs.built("fixed"), inputs.path("plain", "--lines", str(LINES))
+    commands = [[fixed, "convert", "D2"], [fixed, "convert", "I32F32", "--places", "2"]]
+    took = in_turn([(command, plain) for command in commands], tries)
+    rows = []
+    for command, seconds in zip(commands, took):
+        counted = ""
+        if VALGRIND:
+            more, fewer = (inputs.path("plain", "--lines", str(count)) for count in (MORE, FEWER))
+            counted = f"{(instructions(command, more) - instructions(command, fewer)) / (MORE - FEWER):.0f}"
+        rows.append([" ".join(["fixed", *command[1:]]), f"{LINES / seconds / 1e6:.2f}", f"{took[1] / seconds:.0%}", counted])
+    table(rows, ["numerals to cents", "M lines/s", "of the last", "instructions a line"])
 
 
 def raw_words(fixed, inputs, word, size, count):
@@ -72,27 +90,42 @@ def packing(programs, inputs, tries):
     table(rows, ["raw words", "bytes a line", "MB/s of user time", f"of {MEGABYTES}", "instructions a word"])
 
 
-def floats(programs, inputs, tries):
-    """Megabytes of raw doubles a second of user time, read into words of Q15 by `fixed pack --from f64` and by numpy's rint and astype."""
-    fixed, path, words = programs.built("fixed"), os.path.join(inputs.folder, "floats.bin"), os.path.join(inputs.folder, "floats.words")
+def raw_floats(inputs, count):
+    """The path of so many random doubles."""
     some = random.Random(1)
-    part = struct.pack("<100000d", *(some.uniform(-0.99, 0.99) for _ in range(100_000)))
+    part = struct.pack("<50000d", *(some.uniform(-0.99, 0.99) for _ in range(50_000)))
+    path = os.path.join(inputs.folder, f"{count}.floats")
     with open(path, "wb") as out:
-        for _ in range(FLOATS // 100_000):
+        for _ in range(count // 50_000):
             out.write(part)
-    command = [fixed, "pack", "--from", "f64", "Q15"]
-    (seconds,) = in_turn([(command, path)], tries, is_user=True)
-    speed = 8 * FLOATS / seconds / 1e6
-    rows = [[" ".join(["fixed", *command[1:]]), f"{speed:.0f}", f"{speed / FLOAT_MEGABYTES:.0%}"]]
-    ran = [subprocess.run([sys.executable, "-c", BY_NUMPY, path, words], stdout=subprocess.PIPE, stderr=subprocess.DEVNULL, check=False) for _ in range(tries)]
-    if all(each.returncode == 0 for each in ran):
-        speed = 8 * FLOATS / min(float(each.stdout) for each in ran) / 1e6
-        rows.append(["numpy, rint and astype", f"{speed:.0f}", f"{speed / FLOAT_MEGABYTES:.0%}"])
-        with open(path, "rb") as given, open(words, "rb") as wanted:
-            if subprocess.run(command, stdin=given, stdout=subprocess.PIPE, check=True).stdout != wanted.read():
-                rows.append(["their words differ", "", ""])
-    os.remove(path)
-    table(rows, ["raw doubles to words", "MB/s of user time", f"of {FLOAT_MEGABYTES}"])
+    return path
+
+
+def floats(programs, inputs, tries):
+    """Megabytes of raw doubles a second of user time, read into words of Q15 and made of them, by `fixed` and by numpy; instructions a double."""
+    fixed, numpy = programs.built("fixed"), python_with("numpy")
+    paths, rows = {count: raw_floats(inputs, count) for count in (FLOATS, MORE, FEWER)}, []
+    for it, option in (("pack", "--from"), ("unpack", "--to")):
+        command, made = [fixed, it, option, "f64", "Q15"], {count: f"{path}.{it}ed" for count, path in paths.items()}
+        (seconds,) = in_turn([(command, paths[FLOATS])], tries, is_user=True)
+        speed, counted = 8 * FLOATS / seconds / 1e6, ""
+        if VALGRIND:
+            counted = f"{(instructions(command, paths[MORE]) - instructions(command, paths[FEWER])) / (MORE - FEWER):.0f}"
+        rows.append([" ".join(["fixed", *command[1:]]), f"{speed:.0f}", f"{speed / FLOAT_MEGABYTES:.0%}", counted])
+        for count, path in paths.items():
+            with open(path, "rb") as given, open(made[count], "wb") as out:
+                subprocess.run(command, stdin=given, stdout=out, check=True)
+        if numpy:
+            words, wanted = [numpy, "-c", BY_NUMPY, it, paths[FLOATS]], os.path.join(inputs.folder, "by-numpy")
+            speed = 8 * FLOATS / min(float(subprocess.check_output([*words, wanted])) for _ in range(tries)) / 1e6
+            rows.append(["numpy" if filecmp.cmp(made[FLOATS], wanted, shallow=False) else "numpy, which differs", f"{speed:.0f}", f"{speed / FLOAT_MEGABYTES:.0%}", ""])
+            os.remove(wanted)
+        for path in paths.values():
+            os.remove(path)
+        paths = made
+    for path in paths.values():
+        os.remove(path)
+    table(rows, ["raw doubles to words, and back", "MB/s of user time", f"of {FLOAT_MEGABYTES}", "instructions a double"])
 
 
 def memory(programs, inputs):
@@ -137,6 +170,7 @@ def measure(programs, inputs, tries):
     if not programs.built("fixed") or not programs.tool:
         return
     converting(programs, inputs, tries)
+    amounts(programs, inputs, tries)
     packing(programs, inputs, tries)
     floats(programs, inputs, tries)
     memory(programs, inputs)

@@ -10,6 +10,8 @@ import sysconfig
 import tempfile
 import time
 
+import timing
+
 HERE = os.path.dirname(os.path.abspath(__file__))
 PACKAGE = os.path.join(HERE, "..", "python", "lomdeqash")
 COUNT = 1_000_000
@@ -18,17 +20,7 @@ OURS, PLAIN, IN_PYTHON = "lomdeqash", "numpy, by floats", "without the module in
 
 def measure(programs, _inputs, tries):
     library = programs.built("lib/libfixed.so.1")
-    candidates = [os.environ.get("PYTHON"), sys.executable, "/usr/bin/python3"]
-    python = next(
-        (
-            each
-            for each in candidates
-            if each
-            and shutil.which(each)
-            and not subprocess.run([each, "-c", "import numpy"], stderr=subprocess.DEVNULL, check=False).returncode
-        ),
-        None,
-    )
+    python = timing.python_with("numpy")
     if not library or not python:
         print("the package for Python is not timed: " + ("numpy is missing\n" if library else "make library\n"))
         return
@@ -170,9 +162,6 @@ def contenders():
 
 
 def main():
-    sys.path.insert(0, HERE)
-    from timing import table
-
     compile_module()
     rows = []
     for what, calls in contenders().items():
@@ -186,7 +175,7 @@ def main():
         rows += [[what, who, f"{spent:.3f}", f"{spent / first:.1f}"] for who, spent in best.items()]
     load = ", ".join(f"{each:.1f}" for each in os.getloadavg())
     print(f"the package for Python, 1,000,000 numbers of I1F15 (load {load} on {os.cpu_count()} processors)")
-    table(rows, ["", "by", "seconds", "/ ours"])
+    timing.table(rows, ["", "by", "seconds", "/ ours"])
 
 
 if __name__ == "__main__":

@@ -3,10 +3,19 @@ import os
 import re
 import shutil
 import subprocess
+import sys
 import tempfile
 import time
 
 VALGRIND = shutil.which("valgrind")
+
+
+def python_with(module):
+    """The first interpreter that finds a module, or None."""
+    for python in filter(None, (os.environ.get("PYTHON"), sys.executable, shutil.which("/usr/bin/python3"))):
+        if shutil.which(python) and not subprocess.run([python, "-c", f"import {module}"], stderr=subprocess.DEVNULL, check=False).returncode:
+            return python
+    return None
 
 
 def run_seconds(command, path, is_user=False):

@@ -229,6 +229,8 @@ def is_name(form, name, guard):
         return False
     if form == "vhdl":
         return "__" not in f"_{name}_" and name.lower() not in VHDL
+    if form == "array-c" and ("__" in name or re.match("_[A-Z]", name)):
+        return False
     return name not in RESERVED[form[6:]] and name != guard
 
 

@@ -28,6 +28,7 @@ PAIRS = (
     ("show.py", "fixed", 100),
     ("convert.py", "fixed", 100),
     ("column.py", "fixed", 50),
+    ("amounts.py", "fixed", 5000),
     ("pack.py", "fixed", 3),
     ("arrays.py", "fixed", 3),
     ("taps.py", "fixed", 2),

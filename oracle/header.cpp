@@ -27,7 +27,7 @@ static_assert(q15 == "i1f15"_format && q15 != "U1F15"_format);
 static_assert(q15.is_signed() && q15.width() == 16 && q15.frac() == 15);
 static_assert("UQ8.8"_format == "U8F8"_format && "I0F64"_format.width() == 64);
 static_assert(!format::parse("U8F08") && !format::parse("Q0.8") && !format::parse("UQ8") && !format::parse("") && !format::parse("I8F8 "));
-static_assert(!format::make(true, 0, 0) && !format::make(true, 65, 0) && !format::make(false, 8, 9));
+static_assert(!format::make(true, 0, 0) && !format::make(true, 65, 0) && !format::make(false, 8, 65) && format::make(false, 8, 9));
 static_assert(q15.fits<std::int16_t>() && q15.fits<std::int64_t>() && !q15.fits<std::uint16_t>() && !q15.fits<std::int8_t>());
 static_assert("U15F0"_format.fits<std::int16_t>() && !"U16F0"_format.fits<std::int16_t>() && u64f0.fits<std::uint64_t>());
 static_assert(!number::make(32768, q15) && number::make(-32768, q15)->bits() == -32768);

@@ -1,14 +1,15 @@
 #!/usr/bin/env python3
 """Every rounding mode of `fixed`, against fractions and against Python's own decimals.
 
-Every numeral of up to three digits and two places, with either sign, is read into every format of a width from 1 to 6; every bit
-pattern of widths 1 to 10 is printed to 0, 1 and 2 places; and ties, and one digit beside them, with 60 digits, into formats of any
-width. It shares no code with the program.
+Every numeral of up to three digits and two places, with either sign, is read into every format of a width from 1 to 6 and a
+fraction of 0 to 12 bits under each policy; every bit pattern of widths 1 to 10 is printed to 0, 1 and 2 places; and ties, and one
+digit beside them, with 60 digits, into formats of any width. It shares no code with the program.
 
     modes.py --compare PROGRAM [--count N] [--seed S]   runs PROGRAM convert, and compares; N ties
 """
 import argparse
 import decimal
+import itertools
 import math
 import random
 import subprocess
@@ -16,6 +17,7 @@ import sys
 from fractions import Fraction
 
 MODES = ("nearest", "ties-away", "ties-zero", "ties-up", "ties-down", "floor", "ceil", "zero", "away")
+POLICIES = ("checked", "saturating", "wrapping")
 # What Python's decimals call a mode; they have no ties-up and no ties-down.
 OF_DECIMAL = {
     "nearest": decimal.ROUND_HALF_EVEN, "ties-away": decimal.ROUND_HALF_UP, "ties-zero": decimal.ROUND_HALF_DOWN, "floor": decimal.ROUND_FLOOR,
@@ -49,8 +51,9 @@ def word_of(signed, width, frac):
     return f"{'I' if signed else 'U'}{width - frac}F{frac}"
 
 
-def formats(widths):
-    return [(signed, width, frac) for width in widths for signed in (False, True) for frac in range(width + 1)]
+def formats(widths, fracs=None):
+    """The formats of these widths with fractions of these lengths, up to the width if none are given."""
+    return [(signed, width, frac) for width in widths for signed in (False, True) for frac in fracs or range(width + 1)]
 
 
 def answers(program, words, lines):
@@ -79,16 +82,26 @@ def numerals():
                     yield sign + text, Fraction(sign + text)
 
 
+def image(policy, low, high, number):
+    """What a policy makes of a whole number, in bits."""
+    if low <= number <= high:
+        return str(number)
+    if policy == "checked":
+        return "error: overflow"
+    return str(max(low, min(high, number)) if policy == "saturating" else (number - low) % (high - low + 1) + low)
+
+
 def read_all(program):
-    """Every numeral into every format of widths 1 to 6, in every mode, saturating."""
-    lines, wrong, count = list(numerals()), 0, 0
-    for signed, width, frac in formats(range(1, 7)):
-        low, high = ends(signed, width)
-        for mode in MODES:
-            wanted = [str(max(low, min(high, whole(value * (1 << frac), mode)))) for _, value in lines]
-            words = [word_of(signed, width, frac), "--mode", mode, "--policy", "saturating", "--print", "bits"]
-            wrong += differing(program, words, [text for text, _ in lines], wanted)
-            count += len(lines)
+    """Every numeral into every format of widths 1 to 6 and fractions of 0 to 12 bits, in every mode, under every policy."""
+    texts, values = zip(*numerals())
+    wrong, count = 0, 0
+    for frac, mode in itertools.product(range(13), MODES):
+        numbers = [whole(value * (1 << frac), mode) for value in values]
+        for (signed, width, _), policy in itertools.product(formats(range(1, 7), [frac]), POLICIES):
+            low, high = ends(signed, width)
+            words = [word_of(signed, width, frac), "--mode", mode, "--policy", policy, "--print", "bits"]
+            wrong += differing(program, words, texts, [image(policy, low, high, number) for number in numbers])
+            count += len(texts)
     return count, wrong
 
 
@@ -123,7 +136,7 @@ def print_all(program):
 def ties(pick, count):
     """Numerals of 60 digits that are ties of a format, and one digit beside them."""
     frac = pick.randrange(46)
-    width = pick.randrange(max(frac, 1), 65)
+    width = pick.randrange(1, 65)
     signed = pick.random() < 0.5
     texts = []
     for _ in range(count):

@@ -1,5 +1,5 @@
 #!/usr/bin/env python3
-"""Independent answers to `fixed pack` and `fixed unpack`, in formats of any width.
+"""Independent answers to `fixed pack`, `fixed unpack` and `fixed repack`, in formats of any width.
 
 It works with whole numbers alone and shares no code with the program. A float's value is that of Python's `struct` and `fractions`.
 
@@ -20,7 +20,7 @@ from show import WORD_REFUSALS
 
 # How many lines or words a run has at most.
 LINES = 400
-POLICIES = ("checked", "saturating", "wrapping")
+POLICIES = ("checked", "saturating", "wrapping", "symmetric")
 MODES = ("nearest", "floor", "ceil", "zero")
 ALL_MODES = (*MODES, "ties-away", "ties-zero", "ties-up", "ties-down", "away")
 # For each layout of floats: bytes, bits of the fraction and of the exponent, and how `struct` names it.
@@ -71,9 +71,25 @@ def unpacked(data, shape, target, policy, target_mode, endian):
     return "".join(line + "\n" for line in lines).encode(), is_refused, len(data) % count
 
 
+def repacked(data, shape, target, policy, target_mode, endian, endian_out):
+    """The words of the target before the first word that is refused, that word's number and cause, or None, and the bytes left over."""
+    count, words = length_of(shape), bytearray()
+    for place, start in enumerate(range(0, len(data) - count + 1, count), 1):
+        number = int.from_bytes(data[start : start + count], endian)
+        if number >= 1 << shape[1]:
+            return bytes(words), (place, WORD_REFUSALS["wide"]), 0
+        signed = number - (1 << shape[1]) if shape[0] and number >> (shape[1] - 1) else number
+        try:
+            bits = image(policy, target, moved(signed, shape[2], target[2], target_mode))[0]
+        except Refused as why:
+            return bytes(words), (place, WORDS[str(why)]), 0
+        words += (bits % (1 << target[1])).to_bytes(length_of(target), endian_out)
+    return bytes(words), None, len(data) % count
+
+
 def shape_for(pick):
     width = pick.choice((8, 16, 32, 64, pick.randrange(1, 65)))
-    return pick.random() < 0.5, width, pick.choice((0, width, pick.randrange(width + 1)))
+    return pick.random() < 0.5, width, pick.choice((0, width, pick.randrange(width + 1), pick.randrange(65)))
 
 
 def word_of(shape):
@@ -113,24 +129,48 @@ def pack_once(program, pick):
     return None
 
 
-def unpack_once(program, pick):
-    """A run of unpack, and a message where it differs."""
-    shape, target, policy, mode = shape_for(pick), shape_for(pick), pick.choice(POLICIES), pick.choice(MODES)
-    endian = pick.choice(("little", "big"))
+def words_for(pick, shape, endian):
+    """Random bytes, mostly words of a format."""
     data = bytearray(pick.randbytes(pick.randrange(8 * LINES)))
     if pick.random() < 0.8:
         count, over = length_of(shape), 8 * length_of(shape) - shape[1]
         for place in range(0 if endian == "big" else count - 1, len(data), count):
             data[place] &= 255 >> over
         del data[len(data) - len(data) % count :]
+    return bytes(data)
+
+
+def unpack_once(program, pick):
+    """A run of unpack, and a message where it differs."""
+    shape, target, policy, mode = shape_for(pick), shape_for(pick), pick.choice(POLICIES), pick.choice(MODES)
+    endian = pick.choice(("little", "big"))
+    data = words_for(pick, shape, endian)
     words = ["unpack", word_of(shape), word_of(target), "-p", policy, "--target-mode", mode, "--endian", endian, "--print", "all"]
-    ran = run(program, words, bytes(data))
-    wanted, refused, over = unpacked(bytes(data), shape, target, policy.encode(), mode, endian)
+    ran = run(program, words, data)
+    wanted, refused, over = unpacked(data, shape, target, policy.encode(), mode, endian)
     if (ran.stdout, ran.returncode) != (wanted, 1 if refused or over else 0):
-        return f"{' '.join(words)}, {bytes(data[:40])!r}: {ran.stdout[:80]!r}, status {ran.returncode}, not {wanted[:80]!r}"
+        return f"{' '.join(words)}, {data[:40]!r}: {ran.stdout[:80]!r}, status {ran.returncode}, not {wanted[:80]!r}"
     if over and f"bytes left over: {over}\n".encode() not in ran.stderr:
         return f"{' '.join(words)}: {ran.stderr!r} does not name {over} bytes"
     return None
+
+
+def repack_once(program, pick):
+    """A run of repack, and of unpack and pack in its place, and a message where one differs."""
+    shape, target, policy, mode = shape_for(pick), shape_for(pick), pick.choice(POLICIES), pick.choice(MODES)
+    endian, endian_out = pick.choice(("little", "big")), pick.choice(("little", "big"))
+    data = words_for(pick, shape, endian)
+    named = [word_of(shape), word_of(target), "-p", policy, "--target-mode", mode, "--endian", endian]
+    words = ["repack", *named, "--endian-out", endian_out]
+    ran = run(program, words, data)
+    wanted, refused, over = repacked(data, shape, target, policy.encode(), mode, endian, endian_out)
+    if (ran.stdout, ran.returncode) != (wanted, 1 if refused or over else 0):
+        return f"{' '.join(words)}, {data[:40]!r}: {ran.stdout[:40]!r}, status {ran.returncode}, not {wanted[:40]!r}"
+    if refused and not (f"word {refused[0]}, ".encode() in ran.stderr and refused[1].encode() in ran.stderr):
+        return f"{' '.join(words)}: {ran.stderr!r} does not name word {refused[0]}: {refused[1]}"
+    texts = run(program, ["unpack", *named], data).stdout
+    by_text = run(program, ["pack", word_of(target), "--endian", endian_out], texts).stdout
+    return None if by_text == wanted else f"{' '.join(words)}: by texts the words are {by_text[:40]!r}, not {wanted[:40]!r}"
 
 
 def back_once(program, pick):
@@ -288,11 +328,11 @@ def compare(program, count, seed):
     pick = random.Random(seed)
     wrong = []
     for i in range(count):
-        wrong.append((pack_once, unpack_once, back_once, floats_once, float_back_once)[i % 5](program, pick))
+        wrong.append((pack_once, unpack_once, repack_once, back_once, floats_once, float_back_once)[i % 6](program, pick))
     wrong = [message for message in wrong if message]
     for message in wrong[:10]:
         print(message)
-    print(f"{count} inputs packed or unpacked, {len(wrong)} differ")
+    print(f"{count} inputs packed, unpacked or repacked, {len(wrong)} differ")
     return 1 if wrong else 0
 
 

@@ -29,7 +29,7 @@ def quoted(text):
 def some(pick):
     """A call as SQL, and what its reference answers."""
     shape, target = good(pick), good(pick)
-    bits, policy, mode = bits_for(pick, shape), pick.randrange(3), pick.randrange(len(MODE_WORDS))
+    bits, policy, mode = bits_for(pick, shape), pick.randrange(len(POLICIES)), pick.randrange(len(MODE_WORDS))
     word, other = (f"'{word_of_format(it).decode()}'" for it in (shape, target))
     how = f"'{POLICIES[policy].decode()}', '{MODE_WORDS[mode]}'"
     kind = pick.randrange(6)

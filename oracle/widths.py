@@ -3,9 +3,10 @@
 
     widths.py LIBRARY [--count N] [--seed N] [--widest N]
 
-LIBRARY is the path of libfixed.so. Every bit pattern of every format of up to N bits (12) reads back from its shortest text and
-from its exact one, and these are what the reference prints. At both ends of every width a numeral is read at the end, at half an
-ulp and an ulp past it, under each policy in each mode. And N seeded numerals are read, printed and moved over all 4,288 formats.
+LIBRARY is the path of libfixed.so. Every bit pattern of every format of up to N bits (12), and of up to 8 bits where the fraction
+is longer than the width, reads back from its shortest text and from its exact one, and these are what the reference prints. At both
+ends of every width a numeral is read at the end, at half an ulp and an ulp past it, under each policy in each mode. And N seeded
+numerals are read, printed and moved over all 8,320 formats.
 """
 import argparse
 import ctypes
@@ -17,7 +18,7 @@ from library import BAD_FORMAT, MODE_NAMES, POLICIES, Format, Library, answered,
 from reference import ends, numeral_for, read_number, shortest
 
 ROOM = 87
-ALL = [(signed, width, frac) for width in range(1, 65) for signed in (False, True) for frac in range(width + 1)]
+ALL = [(signed, width, frac) for width in range(1, 65) for signed in (False, True) for frac in range(65)]
 
 
 class Widths(Library):
@@ -50,7 +51,7 @@ def patterns(library, widest):
     """Every bit pattern of every format of up to so many bits: how many, and those that go wrong."""
     count, wrong = 0, []
     for shape in ALL:
-        if shape[1] > widest:
+        if shape[1] > (widest if shape[2] <= shape[1] else min(widest, 8)):
             continue
         low, high = ends(shape)
         for number in range(low, high + 1):
@@ -66,7 +67,7 @@ def width_ends(library):
     """Numerals at the ends of every width under each policy in each mode."""
     count, wrong = 0, []
     for signed, width, frac in ALL:
-        if frac not in (0, width // 2, width):
+        if frac not in (0, width // 2, width, (width + 64) // 2, 64):
             continue
         shape = signed, width, frac
         for end, way in zip(ends(shape), (-1, 1)):
@@ -85,7 +86,7 @@ def seeded(library, pick, count):
     wrong = []
     for i in range(count):
         shape, target = ALL[i % len(ALL)], pick.choice(ALL)
-        radix, policy, mode = pick.choice((2, 8, 10, 10, 16)), pick.randrange(3), pick.randrange(4)
+        radix, policy, mode = pick.choice((2, 8, 10, 10, 16)), pick.randrange(len(POLICIES)), pick.randrange(4)
         text = numeral_for(pick, radix, shape)
         found = library.read(text, shape, radix, policy, mode)
         is_right = found == read_right(text, shape, radix, policy, mode)
@@ -102,8 +103,8 @@ def seeded(library, pick, count):
 
 
 def none_past(library):
-    """Widths of 0 and of more than 64 bits are no formats, nor is a fraction longer than its width."""
-    shapes = [(True, 0, 0), (False, 65, 0), (True, 128, 8), *((False, width, width + 1) for width in range(1, 65))]
+    """Widths of 0 and of more than 64 bits are no formats, nor is a fraction of more than 64 bits."""
+    shapes = [(True, 0, 0), (True, 0, 25), (False, 65, 0), (True, 128, 8), *((False, width, 65) for width in range(1, 65))]
     return len(shapes), [shape for shape in shapes if library.printed(for_c(shape, 0), shape)[0] != BAD_FORMAT]
 
 

@@ -1,6 +1,6 @@
 //! Formats, their order, and the integer types of bits.
 
-use fixed_bits::{Format, Inner, Policy, format_at, mul10};
+use fixed_bits::{Format, Inner, Number, Policy, format_at, mul10};
 
 #[test]
 fn a_format_has_a_width_of_four_and_no_more_fraction_bits(rt: HostRuntime) {
@@ -21,7 +21,7 @@ fn a_format_has_a_width_of_four_and_no_more_fraction_bits(rt: HostRuntime) {
 }
 
 #[test]
-fn any_width_from_1_to_64_makes_a_format(rt: HostRuntime) {
+fn any_width_from_1_to_64_and_fraction_up_to_64_makes_a_format(rt: HostRuntime) {
     for (signed, width, frac, ends) in &[
         (true, 1, 0, (-1, 0)),
         (true, 1, 1, (-1, 0)),
@@ -31,18 +31,24 @@ fn any_width_from_1_to_64_makes_a_format(rt: HostRuntime) {
         (true, 48, 31, (-140_737_488_355_328, 140_737_488_355_327)),
         (false, 63, 0, (0, 9_223_372_036_854_775_807)),
         (false, 64, 64, (0, 18_446_744_073_709_551_615)),
+        (true, 16, 25, (-32_768, 32_767)),
+        (false, 1, 64, (0, 1)),
     ] {
         match Format::of_any_width(*signed, *width, *frac) {
             Some(format) => {
                 assert!(rt; (format.lowest(), format.greatest()) == *ends, "{width}");
                 assert!(rt; format.rank().is_some() == (*width == 64), "{width}");
+                assert!(rt;
+                    format.whole_length() == *width as i32 - *frac as i32,
+                    "{width}"
+                );
             }
             None => assert!(rt; false, "{width}"),
         }
     }
     assert!(rt; Format::of_any_width(true, 0, 0).is_none());
     assert!(rt; Format::of_any_width(false, 65, 0).is_none());
-    assert!(rt; Format::of_any_width(true, 12, 13).is_none());
+    assert!(rt; Format::of_any_width(true, 12, 65).is_none());
 }
 
 /// The sign rule, width and fraction length of the format with a rank, and its ends.
@@ -100,6 +106,31 @@ fn a_number_goes_through_three_policies(rt: HostRuntime) {
         );
         assert!(rt;
             Policy::Wrapping.image(byte, *number) == Some(*wrapping),
+            "{number}"
+        );
+    }
+}
+
+#[test]
+fn symmetric_leaves_out_the_lowest_number(rt: HostRuntime) {
+    for (signed, width, number, image) in &[
+        (true, 8, 127, 127),
+        (true, 8, 128, 127),
+        (true, 8, -127, -127),
+        (true, 8, -128, -127),
+        (true, 8, -1000, -127),
+        (true, 1, 1, 0),
+        (true, 1, -1, 0),
+        (false, 8, -1, 0),
+        (false, 8, 256, 255),
+    ] {
+        let format = Format::of_any_width(*signed, *width, 0).unwrap();
+        assert!(rt;
+            Policy::Symmetric.image(format, *number) == Some(*image),
+            "{number}"
+        );
+        assert!(rt;
+            Number::of(*number).is_out_of_range_by(format, Policy::Symmetric) == (number != image),
             "{number}"
         );
     }

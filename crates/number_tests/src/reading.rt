@@ -71,9 +71,31 @@ fn fine(
     }
 }
 
+/// A decimal case of I-9F25, of 16 bits.
+fn tiny(
+    text: &'static str,
+    policy: Policy,
+    image: Option<i128>,
+    is_out: bool,
+    is_exact: bool,
+) -> FormatCase {
+    FormatCase {
+        text,
+        radix: Radix::Dec,
+        signed: true,
+        width: 16,
+        frac: 25,
+        policy,
+        image,
+        is_out,
+        is_exact,
+    }
+}
+
 fn is_found(found: &ReadNumber, case: &FormatCase) -> bool {
     found.image(case.policy) == case.image
-        && found.is_out_of_range() == case.is_out
+        && found.is_out_of_range_by(case.policy) == case.is_out
+        && (case.policy == Policy::Symmetric || found.is_out_of_range() == case.is_out)
         && found.is_exact() == case.is_exact
 }
 
@@ -96,7 +118,7 @@ fn is_read_over<L: Ledger>(case: &FormatCase, format: Format, blank: Blank) -> b
 }
 
 fn is_read_into_its_format(case: &FormatCase) -> bool {
-    match Format::new(case.signed, case.width, case.frac) {
+    match Format::of_any_width(case.signed, case.width, case.frac) {
         Some(format) => is_read_over::<Brand>(case, format, Blank::new(1)),
         None => false,
     }
@@ -131,6 +153,7 @@ fn one_reading_into_a_format(rt: HostRuntime) {
         ),
         small("8", Radix::Dec, Policy::Checked, None, true, true),
         small("8", Radix::Dec, Policy::Wrapping, Some(-128), true, true),
+        small("-8", Radix::Dec, Policy::Symmetric, Some(-127), true, true),
         small("1e400", Radix::Dec, Policy::Wrapping, Some(0), true, true),
         small("-0.1", Radix::Oct, Policy::Checked, Some(-2), false, true),
         small("F.F8", Radix::Hex, Policy::Wrapping, Some(0), true, false),
@@ -183,6 +206,22 @@ fn one_reading_into_the_finest_format(rt: HostRuntime) {
         ),
         fine("-0", Policy::Checked, Some(0), false, true),
         fine("-1e-9", Policy::Saturating, Some(0), true, false),
+    ];
+    for case in &cases {
+        let text = case.text;
+        assert!(rt; is_read_into_its_format(case), "{text}");
+    }
+}
+
+#[test]
+fn one_reading_into_a_fraction_longer_than_the_width(rt: HostRuntime) {
+    let cases = [
+        tiny("0.0005", Policy::Checked, Some(16777), false, false),
+        tiny("-0.0009765625", Policy::Checked, Some(-32768), false, true),
+        tiny("0.0009765625", Policy::Checked, None, true, true),
+        tiny("0.0009765625", Policy::Wrapping, Some(-32768), true, true),
+        tiny("3", Policy::Wrapping, Some(0), true, true),
+        tiny("3", Policy::Saturating, Some(32767), true, true),
     ];
     for case in &cases {
         let text = case.text;

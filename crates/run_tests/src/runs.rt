@@ -39,11 +39,11 @@ fn expect_end(rt: &impl Abort, alloc: Global, case: &MemoryRun) -> Result<(), Al
 }
 
 /// Two lines that are answered and one that is not.
-const LINES: &str =
+pub const LINES: &str =
     "10 I4F4 I4F4 checked 3.1875\n10 U4F4 U8F0 checked 2.99\n9 U8F0 U8F0 checked 1\n";
 
 /// What is written for none of them, for one, for two and for all.
-const ANSWERS: [&str; 4] = [
+pub const ANSWERS: [&str; 4] = [
     "",
     "3.2 51 fits\n",
     "3.2 51 fits\n3 3 fits\n",

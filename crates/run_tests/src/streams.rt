@@ -1,10 +1,17 @@
-//! The adapters, over a reader and a writer that fail at one call and count their calls.
+//! The adapters, over a reader and a writer that fail at one call and count their calls, and in a run of lines.
 
+use crate::runs::{ANSWERS, LINES};
 use fixed_io::{StdSink, StdSource};
-use line_engine::{Failed, Sink, Source};
+use fixed_respell::run;
+use fixed_steps::Steps;
+use line_engine::{
+    Failed, MemoryProgram, MemoryRun, MemorySink, MemorySource, Sink, Source, Status,
+};
+use std::alloc::Global;
 use std::io;
 use std::io::{ErrorKind, Read, Write};
 use std::process::Abort;
+use std::sync::ledger::Ledger;
 use std::test::Fail;
 
 /// How many calls a test makes of a source or a sink.
@@ -113,5 +120,44 @@ fn each_write_is_one_call_of_the_writer(rt: HostRuntime) {
 fn a_failed_device_shows_its_words(rt: HostRuntime) -> Result<(), Fail> {
     let words = format!(in rt.alloc(); "{Failed}")?;
     assert!(rt; words.as_str() == "device failed");
+    Ok(())
+}
+
+/// The program of lines over the adapters. What it wrote is then handed to the sink in memory.
+#[derive(Drop)]
+struct Adapted;
+
+impl MemoryProgram for Adapted {
+    fn run<L: Ledger>(
+        &self,
+        alloc: Global,
+        args: &[String],
+        _source: &mut MemorySource,
+        sink: &mut MemorySink,
+        steps: &mut Steps<L>,
+    ) -> Status {
+        let mut written = Vec::new(alloc);
+        let mut source = StdSource::new(LINES.as_bytes());
+        let status = run(
+            alloc,
+            args,
+            &mut source,
+            &mut StdSink::new(&mut written),
+            steps,
+        );
+        match sink.write(written.as_slice()) {
+            Ok(_) => status,
+            Err(_) => Status::WriteFault,
+        }
+    }
+}
+
+#[test]
+fn lines_are_answered_through_the_adapters(rt: HostRuntime) -> Result<(), Fail> {
+    let alloc = rt.alloc();
+    let case = MemoryRun::unfailing(&[], LINES, ANSWERS[3], Status::Faults);
+    let (status, written) = case.of(alloc, &Adapted, Vec::new(alloc))?;
+    assert!(rt; status == case.status);
+    assert!(rt; written.as_slice() == case.written.as_bytes());
     Ok(())
 }
