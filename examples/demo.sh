@@ -14,3 +14,4 @@ show 'fixed bits I16F16 0xfffc0000'
 show 'fixed format U8F8'
 show "printf '3.14159\\nabc\\n' | fixed convert I16F16 I8F8 --print all"
 show 'fixed column celsius I16F16 --header <sensor.csv'
+show 'fixed column amount D2 --header --mode ties-away --into rounded <tariff.csv'
