@@ -100,8 +100,8 @@ fn after_minus(bytes: &[u8]) -> &[u8]
     }
 }
 
-/// Whether a word has the shape of a format: I or U, perhaps a minus, and then digits and F; or Q or UQ, and then digits
-/// and a point. A file of such a name is written `./I8F8`.
+/// Whether a word has the shape of a format: I or U, perhaps a minus, and then digits and F; or Q or UQ, and then
+/// digits and a point. A file of such a name is written `./I8F8`.
 pub fn is_like_format(word: &str) -> bool
     ensures { result ≡ is_like_format word.now }
 {
