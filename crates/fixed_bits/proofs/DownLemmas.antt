@@ -1,4 +1,4 @@
--- Moving down: shifts, uniqueness and order.
+-- Moving down to another fraction length: shifts, uniqueness and order.
 use Rattle.std.proofs.Common.{◌≡◌, ℕ, ◌+◌, ◌-◌, ◌*◌, ◌^◌, ◌≤◌, Bool, true, false, ℤ, pos, negsuc, neg_ℤ, ◌+ℤ◌, ◌*ℤ◌, ◌≤ℤ◌, arith, ap, sym, ◌∙◌, mod-lt, mul-le-mul_left}
 use Rattle.std.specs.Prelude.{◌<ℤ◌}
 use Rattle.std.specs.Int.{int_shr}
@@ -15,14 +15,14 @@ pub down_by_shift : (v : ℤ) (k : ℕ) → IsDown v k 0 (int_shr v k)
 down_by_shift (pos a) k = record { at_most = omega (arith, ints, div-add-mod a (2 ^ k)); above = omega (arith, ints, div-add-mod a (2 ^ k), mod-lt a (pow_pos k)) }
 down_by_shift (negsuc a) k = record { at_most = omega (arith, ints, div-add-mod a (2 ^ k), mod-lt a (pow_pos k)); above = rw next_times (omega (arith, ints, div-add-mod a (2 ^ k), mod-lt a (pow_pos k))) }
 
--- a shift by all bits or more leaves the sign alone
+-- a shift by at least `n` bits moves a number of `n` bits that is not negative down to zero
 pub down_past : (n k : ℕ) (v : ℤ) → n ≤ k → pos 0 ≤ℤ v → v <ℤ pos (2 ^ n) → IsDown v k 0 (pos 0)
 down_past n k v le low high = let p = pow_mono le in record { at_most = omega (arith, ints, low); above = omega (arith, ints, high, p) }
 
 pub down_past_below : (n k : ℕ) (v : ℤ) → n ≤ k → v <ℤ pos 0 → neg_ℤ (pos (2 ^ n)) ≤ℤ v → IsDown v k 0 (negsuc 0)
 down_past_below n k v le high low = let p = pow_mono le in record { at_most = omega (arith, ints, low, p); above = omega (arith, ints, high) }
 
--- moving down keeps order
+-- moving down keeps the order of values
 pub down_order : (b c : ℤ) (f g : ℕ) (d e : ℤ) → b ≤ℤ c → IsDown b f g d → IsDown c f g e → d ≤ℤ e
 down_order b c f g d e h x y =
     let grow = le_times b c (2 ^ g) h in
@@ -36,7 +36,7 @@ down_unique b f g d e x y =
     let ge : e ≤ℤ d = down_order b b f g e d (omega (arith, ints)) y x in
     omega (arith, ints)
 
--- ---- the number itself
+-- ---- the function `down`
 pub down_is : (b : ℤ) (f g : ℕ) → IsDown b f g (down b f g)
 unfolding down
 down_is b f g =
@@ -48,8 +48,8 @@ down_is b f g =
 pub down_equal : (b : ℤ) (f g : ℕ) (d : ℤ) → IsDown b f g d → d ≡ down b f g
 down_equal b f g d h = down_unique b f g d (down b f g) h (down_is b f g)
 
--- ---- the two ways of moving
--- both lengths grow by as much
+-- ---- moving to a shorter or a longer fraction length
+-- the result stays the same if both fraction lengths grow by `h`
 down_longer : (b : ℤ) (f g h : ℕ) (d : ℤ) → IsDown b f g d → IsDown b (f + h) (g + h) d
 down_longer b f g h d x =
     let p : (z : ℤ) (k : ℕ) → z *ℤ pos (2 ^ (k + h)) ≡ (z *ℤ pos (2 ^ k)) *ℤ pos (2 ^ h) = λ z k. ap (λ i. z *ℤ pos i) (pow-add 2 k h) ∙ sym (times_times z (2 ^ k) (2 ^ h)) in
@@ -58,7 +58,7 @@ down_longer b f g h d x =
       above = rw (p b g, p (d +ℤ pos 1) f) (lt_times (b *ℤ pos (2 ^ g)) ((d +ℤ pos 1) *ℤ pos (2 ^ f)) (2 ^ h) (pow_pos h) x.above);
     }
 
--- to a length that is no shorter nothing is lost
+-- moving to a longer fraction length loses nothing
 down_up : (b : ℤ) (f k : ℕ) → IsDown b f (f + k) (b *ℤ pos (2 ^ k))
 down_up b f k =
     let e : b *ℤ pos (2 ^ (f + k)) ≡ (b *ℤ pos (2 ^ k)) *ℤ pos (2 ^ f) = ap (λ i. b *ℤ pos i) (pow-add 2 f k ∙ omega arith) ∙ sym (times_times b (2 ^ k) (2 ^ f)) in
@@ -78,7 +78,7 @@ shortened b f g d l h =
     let j : 0 + g ≡ g = omega arith in
     down_equal b f g d (rw (i, j) at (down_longer b (f - g) 0 g d h))
 
--- zero lies between the ends of a range
+-- zero is not below the lowest number of a range
 lowest_not_above_zero : (s : Bool) (n : ℕ) → lowest s n ≤ℤ pos 0
 lowest_not_above_zero true n = omega (arith, ints)
 lowest_not_above_zero false n = omega (arith, ints)
@@ -87,7 +87,7 @@ before_zero : (s : Bool) (n : ℕ) → negsuc 0 ≤ℤ greatest s n
 before_zero true n = omega (arith, ints)
 before_zero false n = omega (arith, ints)
 
--- what a number leaves when its last bits are taken off is in its range
+-- a number in range stays in range if its last bits are shifted out
 pub shift_in : (s : Bool) (n k : ℕ) (v d : ℤ) → IsInRange s n v → IsDown v k 0 d → IsInRange s n d
 shift_in s n k v (pos a) r h =
     let grow : a * 1 ≤ a * 2 ^ k = mul-le-mul_left a (pow_pos k) in

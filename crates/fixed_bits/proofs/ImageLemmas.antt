@@ -1,4 +1,4 @@
--- Images: what a wide number leaves, uniqueness, and the ends of a range.
+-- Images of numbers: uniqueness, and the ranges of formats and policies.
 use Rattle.std.proofs.Common.{◌≡◌, ℕ, zero, suc, ◌+◌, ◌-◌, ◌*◌, ◌^◌, ◌<◌, ◌≤◌, Bool, true, false, ℤ, pos, ◌+ℤ◌, arith, refl, sym, ap, inl, inr, ⊎_elim, ◌∙◌}
 use Rattle.std.specs.Prelude.{◌<ℤ◌, ◌↔◌}
 use Rattle.std.proofs.lemmas.Bool.{cases_lt}
@@ -12,7 +12,7 @@ use Rattle.fixed_bits.specs.Images.{IsImage, IsInRangeBy, IsOutOfRangeBy, IsSatu
 use Rattle.fixed_bits.specs.declared.format.Policy.{Policy}
 use Rattle.fixed_bits.specs.declared.format.Policy.TheVariants.{Checked, Saturating, Wrapping, Symmetric}
 
--- ---- facts of widths
+-- ---- widths
 twice_some : (n : ℕ) → 0 < n → 2 ^ n ≡ 2 * 2 ^ (n - 1)
 twice_some zero some = absurd (omega (arith, some))
 twice_some (suc n) some = let e : suc n - 1 ≡ n = omega arith in rw e (omega (arith, pow-succ' 2 n))
@@ -20,7 +20,7 @@ twice_some (suc n) some = let e : suc n - 1 ≡ n = omega arith in rw e (omega (
 pub twice : (n : ℕ) → IsWidth n → 2 ^ n ≡ 2 * 2 ^ (n - 1)
 twice n w = twice_some n w.some
 
--- an integer type has as many bits as a format may have
+-- the width of an integer type is one that a format may have
 pub type_width : (n : ℕ) → IsTypeWidth n → IsWidth n
 type_width n (inl e) = record { some = omega (arith, e); most = omega (arith, e) }
 type_width n (inr (inl e)) = record { some = omega (arith, e); most = omega (arith, e) }
@@ -36,10 +36,9 @@ type_least n (inr (inr (inr e))) = omega (arith, e)
 pub type_format : (w f : ℕ) → IsTypeFormat w f → IsFormat w f
 type_format w f is = let width = type_width w is.is_width in record { is_width = width; within = omega (arith, width.most, is.within) }
 
--- ---- the last bits, and what has to be taken off
+-- ---- the policy's range
 
--- ---- the range that a policy leaves
--- a number in it is in the format's range
+-- a number in the policy's range is in the format's range
 pub in_range_of : (p : Policy) (s : Bool) (n : ℕ) (v : ℤ) → IsInRangeBy p s n v → IsInRange s n v
 in_range_of Checked s n v h = record { low = h.low; high = h.high }
 in_range_of Saturating s n v h = record { low = h.low; high = h.high }
@@ -47,7 +46,7 @@ in_range_of Wrapping s n v h = record { low = h.low; high = h.high }
 in_range_of Symmetric true n v h = record { low = omega (arith, ints, h.low); high = h.high }
 in_range_of Symmetric false n v h = record { low = h.low; high = h.high }
 
--- ---- a number in it is its own image
+-- ---- a number in the policy's range is its own image
 pub image_same : (p : Policy) (s : Bool) (n : ℕ) (v : ℤ) → IsInRangeBy p s n v → IsImage p s n v v
 image_same Checked s n v h = record { in_range = in_range_of Checked s n v h; same = refl }
 image_same Saturating s n v h = record {
@@ -95,11 +94,11 @@ wrapped_unique s n v c d w a b =
     near_same (2 ^ n) c d (range_short s n c d e a.in_range b.in_range) (range_short s n d c e b.in_range a.in_range)
     (near_joined (2 ^ n) c v d a.near (near_turned (2 ^ n) d v b.near))
 
--- a number is in range, or below it, or above it
+-- a number is in range, below it or above it
 pub by_range : {P : Type 0} (s : Bool) (n : ℕ) (v : ℤ) → (IsInRange s n v → P) → (v <ℤ lowest s n → P) → (greatest s n <ℤ v → P) → P
 by_range s n v inside under over = by_lt_z v (lowest s n) under (λ l. by_lt_z (greatest s n) v over (λ h. inside (record { low = l; high = h })))
 
--- and by the range that a policy leaves
+-- the same for the policy's range
 pub by_policy_range : {P : Type 0} (p : Policy) (s : Bool) (n : ℕ) (v : ℤ) → (IsInRangeBy p s n v → P) → (v <ℤ lowest_by p s n → P) → (greatest s n <ℤ v → P) → P
 by_policy_range p s n v inside under over = by_lt_z v (lowest_by p s n) under (λ l. by_lt_z (greatest s n) v over (λ h. inside (record { low = l; high = h })))
 
@@ -109,7 +108,7 @@ image_unique Saturating s n v c d w a b = by_range s n v (λ h. a.same h ∙ sym
 image_unique Wrapping s n v c d w a b = wrapped_unique s n v c d w a b
 image_unique Symmetric s n v c d w a b = by_policy_range Symmetric s n v (λ h. a.same h ∙ sym (b.same h)) (λ h. a.below h ∙ sym (b.below h)) (λ h. a.above h ∙ sym (b.above h))
 
--- out of range is the contrary of in range
+-- no number is both in range and out of range
 pub out_not_in : (s : Bool) (n : ℕ) (v : ℤ) → IsOutOfRange s n v → IsInRange s n v → ⊥
 out_not_in s n v (inl l) h = let k = h.low in omega (arith, ints)
 out_not_in s n v (inr l) h = let k = h.high in omega (arith, ints)
@@ -118,7 +117,7 @@ pub out_not_in_by : (p : Policy) (s : Bool) (n : ℕ) (v : ℤ) → IsOutOfRange
 out_not_in_by p s n v (inl l) h = let k = h.low in omega (arith, ints)
 out_not_in_by p s n v (inr l) h = let k = h.high in omega (arith, ints)
 
--- ---- what is in range is wide
+-- ---- numbers in range are wide
 pub width_most : (n : ℕ) → IsWidth n → n ≤ 64
 width_most n w = w.most
 
@@ -154,7 +153,7 @@ pub greatest_in : (s : Bool) (n : ℕ) → IsInRange s n (greatest s n)
 greatest_in true n = record { low = omega (arith, ints, pow_pos (n - 1)); high = omega (arith, ints) }
 greatest_in false n = record { low = omega (arith, ints, pow_pos n); high = omega (arith, ints) }
 
--- the ends are in the range that Symmetric leaves
+-- both ends of Symmetric's range are in it
 symmetric_lowest : (s : Bool) (n : ℕ) → IsInRangeBy Symmetric s n (lowest_by Symmetric s n)
 symmetric_lowest true n = record { low = omega (arith, ints); high = omega (arith, ints, pow_pos (n - 1)) }
 symmetric_lowest false n = record { low = omega (arith, ints); high = omega (arith, ints, pow_pos n) }
@@ -175,21 +174,21 @@ image_in_by Symmetric s n v c i = by_policy_range Symmetric s n v (λ h. rw (i.s
 pub image_in : (p : Policy) (s : Bool) (n : ℕ) (v c : ℤ) → IsImage p s n v c → IsInRange s n c
 image_in p s n v c i = in_range_of p s n c (image_in_by p s n v c i)
 
--- the lowest number that a policy leaves is wide
+-- the lowest number of the policy's range is wide
 pub lowest_left_wide : (p : Policy) (s : Bool) (n : ℕ) → n ≤ 64 → IsWide (lowest_by p s n)
 lowest_left_wide Checked s n w = lowest_wide s n w
 lowest_left_wide Saturating s n w = lowest_wide s n w
 lowest_left_wide Wrapping s n w = lowest_wide s n w
 lowest_left_wide Symmetric s n w = in_wide s n (lowest_by Symmetric s n) w (in_range_of Symmetric s n (lowest_by Symmetric s n) (symmetric_lowest s n))
 
--- in an unsigned format Symmetric is Saturating
+-- in an unsigned format, Symmetric and Saturating have the same images
 pub unsigned_saturated : (n : ℕ) (v c : ℤ) → IsImage Symmetric false n v c ↔ IsSaturated false n v c
 unsigned_saturated n v c = (
   λ i. record { same = λ h. i.same (record { low = h.low; high = h.high }); below = i.below; above = i.above },
   λ i. record { same = λ h. i.same (record { low = h.low; high = h.high }); below = i.below; above = i.above },
 )
 
--- a number in range is what is left of it
+-- a number in range is its own Wrapping image
 pub wrapped_same : (s : Bool) (n : ℕ) (v r : ℤ) → IsWidth n → IsInRange s n v → IsWrapped s n v r → r ≡ v
 wrapped_same s n v r w h i = wrapped_unique s n v r v w i (image_same Wrapping s n v (record { low = h.low; high = h.high }))
 

@@ -1,4 +1,4 @@
--- Products of an integer and a natural number, and order.
+-- Products of an integer and a natural number, and their order.
 use Rattle.std.proofs.Common.{◌≡◌, ℕ, ◌*◌, ◌<◌, ℤ, pos, neg_ℤ, ◌+ℤ◌, ◌*ℤ◌, ◌≤ℤ◌, arith, ap, mul-le-mul_right}
 use Rattle.std.specs.Prelude.{◌<ℤ◌}
 use Rattle.std.proofs.lemmas.Int.{ints, by_lt_z}

@@ -1,4 +1,4 @@
--- The laws of this crate.
+-- The laws of images, ranges and rounding.
 use Rattle.std.proofs.Common.{inl, inr}
 use Rattle.fixed_bits.specs.Laws.{NearestIsTheOne, RoundedIsTheOne, EqualFractionsRoundAlike, RangeIsDecided, PolicyRangeIsDecided, UnsignedIsSaturated, EndsAreWide, ImagesAgree, CheckedHasNone, ImageIsTheOne, ImageIsInRange, DownIsTheOne, DownKeepsOrder}
 use Rattle.fixed_bits.specs.Down.{down}

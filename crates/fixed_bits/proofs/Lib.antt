@@ -1,7 +1,7 @@
--- What the proofs of the crates above may cite
+-- For the proofs of dependent crates:
 pub mod Integers
 pub mod Public
--- What no other crate can name
+-- Private to this crate:
 mod DownLemmas
 mod ImageLemmas
 mod NearestLemmas

@@ -1,4 +1,4 @@
--- A lost fraction is rounded as its quarters are.
+-- A lost fraction rounds like its count of quarters.
 use Rattle.std.proofs.Common.{◌≡◌, ℕ, ◌+◌, ◌*◌, ◌%◌, ◌<◌, ◌≤◌, false, arith, ⊎_elim}
 use Rattle.std.proofs.lemmas.Bool.{cases_lt}
 use Rattle.fixed_bits.specs.declared.mode.ReadMode.{ReadMode}
@@ -12,7 +12,7 @@ use Rattle.fixed_bits.specs.Rounded.{IsRounded, IsNotAbove, IsNotBelow, IsNeares
 use Rattle.fixed_bits.proofs.NearestLemmas.{band, nearest_from_band}
 use Rattle.fixed_bits.proofs.RoundedLemmas.{greater_band, greater_from_band, lesser_band, lesser_from_band}
 
--- the fraction s / den lies to nothing, half and one as r quarters do
+-- s / den compares with zero and with a half as r quarters do
 pub record IsLike (s den r : ℕ) : Type 0 where
   pub quarter : r < 4
   pub nothing : r ≡ 0 → s ≡ 0

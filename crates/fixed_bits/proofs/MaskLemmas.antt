@@ -5,7 +5,7 @@ use Rattle.std.proofs.Math.Nat.{lt_of_mul-lt-mul_right}
 use Rattle.std.proofs.lemmas.Nat.{and_mask, mod-mul-add, pow_pos, pow-add}
 use Rattle.fixed_bits.specs.Images.{wrap_to_unsigned}
 
--- the bits of -1 - a are those of a turned over
+-- the last bits of -1 - a are the last bits of a, inverted
 turned_rest : (k m a : ℕ) → 0 < m → a < k * m → (k * m - suc a) % m ≡ m - 1 - a % m
 turned_rest k m a some h =
     let split : a / m * m + a % m ≡ a = div-add-mod' a m in

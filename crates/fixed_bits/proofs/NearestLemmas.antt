@@ -1,4 +1,4 @@
--- The nearest whole number: by sums alone, uniqueness, scaling, and by quotient and rest.
+-- The nearest whole number to a fraction: by sums, uniqueness, scaling, and by quotient and remainder.
 use Rattle.std.proofs.Common.{◌≡◌, ℕ, ◌+◌, ◌*◌, ◌/◌, ◌%◌, ◌<◌, ◌≤◌, ◌⊎◌, ◌↔◌, arith, mul-le-mul_right, mul-le-mul_left, sym, ap, ⊎_elim, div-add-mod', mod-lt}
 use Rattle.std.proofs.Math.Nat.{le_of_mul-le-mul_left, eq_of_mul-eq-mul_left}
 use Rattle.std.proofs.lemmas.Bool.{cases_lt}
@@ -7,7 +7,7 @@ use Rattle.fixed_bits.specs.Nearest.{IsNearest, distance, IsEven}
 far_apart : (num den p q : ℕ) → 0 < den → IsNearest num den p → IsNearest num den q → p + 2 ≤ q → ⊥
 far_apart num den p q pos a b h = omega (arith, mul-le-mul_right den h)
 
--- Nearest by sums alone
+-- `q` is nearest to num / den, by sums instead of distances
 pub record Band (num den q : ℕ) : Type 0 where
   pub lo : 2 * (q * den) ≤ 2 * num + den
   pub hi : 2 * num ≤ 2 * (q * den) + den
@@ -30,7 +30,7 @@ neighbours num den p q a b e =
     let even_q : q % 2 ≡ 0 = b.down (omega arith) in
     omega arith
 
--- exactly one q is nearest
+-- at most one `q` is nearest
 pub nearest_unique : (num den p q : ℕ) → 0 < den → IsNearest num den p → IsNearest num den q → p ≡ q
 nearest_unique num den p q pos a b =
     let a' = band num den p a in
@@ -54,7 +54,7 @@ scaled_band_back k num den q pos b = record {
   down = λ e. b.down (omega (arith, ap (λ x. k * x) e));
 }
 
--- the same fraction in other words has the same nearest number
+-- scaling both terms of a fraction keeps its nearest number
 pub nearest_scaled : (k num den q : ℕ) → 0 < k → IsNearest (k * num) (k * den) q ↔ IsNearest num den q
 nearest_scaled k num den q pos = (
   λ h. nearest_from_band _ _ _ (scaled_band_back k num den q pos (band _ _ _ h)),
@@ -73,7 +73,7 @@ nearest_same n d n' d' q some some' e h =
 parity : (q : ℕ) → (q % 2 ≡ 0) ⊎ ((q + 1) % 2 ≡ 0)
 parity q = grind arith
 
--- by quotient and rest
+-- the quotient is nearest if the remainder is at most half of the denominator
 pub nearest_by_rest : (num den q r : ℕ) → num ≡ q * den + r → 2 * r ≤ den → (2 * r ≡ den → IsEven q) → IsNearest num den q
 nearest_by_rest num den q r e small tie = nearest_from_band num den q (record {
   lo = omega arith;

@@ -1,4 +1,4 @@
--- Numbers by sign and magnitude: their images, and where they are moved.
+-- Numbers by sign and magnitude: their images, and how they are moved.
 use Rattle.std.proofs.Common.{◌≡◌, ℕ, zero, suc, ◌+◌, ◌-◌, ◌*◌, ◌/◌, ◌%◌, ◌^◌, ◌<◌, ◌≤◌, ◌⊎◌, ◌↔◌, Bool, true, false, not, if◌then◌else◌, IsTrue, IfSome, Option, Some, None, ⊎_elim, div-add-mod', refl, sym, ap, ◌∙◌, arith, inl, inr, ℤ, pos, negsuc, unsigned_abs, ◌+ℤ◌, ◌*ℤ◌, mod-lt, mul-le-mul_right}
 use Rattle.std.specs.Int.{is_negative}
 use mir.Val.{bool_byte}
@@ -21,7 +21,7 @@ use Rattle.fixed_bits.proofs.ImageLemmas.{image_same, in_range_of, in_wide, out_
 use Rattle.fixed_bits.proofs.Integers.{neg_times, next_times}
 use Rattle.fixed_bits.proofs.LawLemmas.{policy_range_decided, range_decided}
 
--- ---- the greatest magnitude bounds the range
+-- ---- the greatest magnitude in range
 greatest_below : (sign negative : Bool) (n : ℕ) → IsWidth n → greatest_magnitude sign negative n < 2 ^ n
 greatest_below true true n w = omega (arith, twice n w, pow_pos (n - 1))
 greatest_below true false n w = omega (arith, twice n w, pow_pos (n - 1))
@@ -34,7 +34,7 @@ out_by_magnitude true false n m = let p = pow_pos (n - 1) in (λ o. ⊎_elim (λ
 out_by_magnitude false true n m = let p = pow_pos n in (λ o. ⊎_elim (λ l. omega (arith, ints)) (λ h. absurd (omega (arith, ints))) o, λ l. inl (omega (arith, ints)))
 out_by_magnitude false false n m = let p = pow_pos n in (λ o. ⊎_elim (λ l. absurd (omega (arith, ints))) (λ h. omega (arith, ints)) o, λ l. inr (omega (arith, ints)))
 
--- and the range that a policy leaves
+-- the same for the policy's range
 out_by_magnitude_of : (p : Policy) (sign negative : Bool) (n m : ℕ) → IsOutOfRangeBy p sign n (with_sign negative m) ↔ (greatest_magnitude_by p sign negative n < m)
 out_by_magnitude_of Checked sign negative n m = out_by_magnitude sign negative n m
 out_by_magnitude_of Saturating sign negative n m = out_by_magnitude sign negative n m
@@ -54,7 +54,7 @@ within_greatest Symmetric false negative n = omega arith
 pub inside : (sign : Bool) (n : ℕ) (v : ℤ) (out : Bool) → out ≡ false → (IsTrue out ↔ IsOutOfRange sign n v) → IsInRange sign n v
 inside sign n v out o test = ⊎_elim (λ i. i) (λ past. let t = test.1 past in absurd (cc)) (range_decided sign n v).0
 
--- what is not out of the range that a policy leaves is in it
+-- a number that is not out of the policy's range is in it
 pub inside_by : (p : Policy) (sign : Bool) (n : ℕ) (v : ℤ) (out : Bool) → out ≡ false → (IsTrue out ↔ IsOutOfRangeBy p sign n v) → IsInRangeBy p sign n v
 inside_by p sign n v out o test = ⊎_elim (λ i. i) (λ past. let t = test.1 past in absurd (cc)) (policy_range_decided p sign n v).0
 
@@ -102,7 +102,7 @@ more_than high m low h = omega (arith, mul-le-mul_right m h)
 none_high : (high m low : ℕ) → high ≡ 0 → high * m + low ≡ low
 none_high high m low e = rw e (omega arith)
 
--- a multiple of 2^64 is one of 2^n
+-- 2^64 is a multiple of 2^n
 wide_multiple : (n : ℕ) → n ≤ 64 → 2 ^ 64 ≡ 2 ^ (64 - n) * 2 ^ n
 wide_multiple n l = ap (λ i. 2 ^ i) (let z : 64 ≡ (64 - n) + n = omega arith in z) ∙ pow-add 2 (64 - n) n
 
@@ -115,7 +115,7 @@ over end high n m low b l p = omega (arith, more_than high m low p)
 large : (end high m low : ℕ) → end < low → end < high * m + low
 large end high m low l = omega arith
 
--- a magnitude by its lowest 64 bits
+-- a number from its sign and the lowest 64 bits of its magnitude
 pub of_magnitude : (number : Number) (m : ℕ) → number.low ≡ m % 2 ^ 64 → (IsTrue number.has_high_bits ↔ (2 ^ 64 ≤ m)) → IsNumber number (with_sign number.negative m)
 of_magnitude number m low high =
     let parts : m ≡ m / 2 ^ 64 * 2 ^ 64 + number.low = omega (arith, div-add-mod m (2 ^ 64), low) in
@@ -134,7 +134,7 @@ module _ (f : FormatParts) (number : Number) (v : ℤ) (width : IsWidth f.width)
   below : (p : Policy) → greatest_magnitude_by p f.signed number.negative f.width < 2 ^ f.width
   below p = omega (arith, greatest_below f.signed number.negative f.width width, within_greatest p f.signed number.negative f.width)
 
-  -- whether it is out of the range that a policy leaves, by its sign and magnitude
+  -- out of the policy's range, by sign and magnitude
   out_test : (p : Policy) → IsOutOfRangeBy p f.signed f.width v ↔ (greatest_magnitude_by p f.signed number.negative f.width < is.high * 2 ^ 64 + number.low)
   out_test p = rw is.value (out_by_magnitude_of p f.signed number.negative f.width (is.high * 2 ^ 64 + number.low))
 
@@ -145,20 +145,20 @@ module _ (f : FormatParts) (number : Number) (v : ℤ) (width : IsWidth f.width)
         λ o. ⊎_elim (λ b. test.1 (inl (is.over.1 b))) (λ z. test.1 (inr (rw (none_high is.high (2 ^ 64) number.low z) at ((out_test p).0 o)))) (some_high is.high),
       )
 
-  -- in range the number is that of the lowest bits
+  -- a number in range is given by its sign and the lowest 64 bits of its magnitude
   pub low_number : IsInRange f.signed f.width v → v ≡ with_sign number.negative number.low
   low_number i = ⊎_elim
       (λ p. absurd (out_not_in f.signed f.width v ((out_test Checked).1 (over _ is.high (2 ^ f.width) (2 ^ 64) number.low (below Checked) most p)) i))
       (λ z. is.value ∙ ap (with_sign number.negative) (none_high is.high (2 ^ 64) number.low z))
       (some_high is.high)
 
-  -- the Wrapping image of the lowest bits is that of the number
+  -- a Wrapping image of the lowest 64 bits is a Wrapping image of the number
   pub low_wrapped : (c : ℤ) → IsWrapped f.signed f.width (with_sign number.negative number.low) c → IsWrapped f.signed f.width v c
   low_wrapped c image =
       let value : is.high * 2 ^ 64 + number.low ≡ is.high * 2 ^ (64 - f.width) * 2 ^ f.width + number.low = multiple is.high (2 ^ 64) (2 ^ (64 - f.width)) (2 ^ f.width) number.low (wide_multiple f.width (width_most f.width width)) in
       rw (is.value, value) (record { in_range = image.in_range; near = differs_beyond number.negative (is.high * 2 ^ (64 - f.width)) (2 ^ f.width) number.low c image.near })
 
-  -- out of range the image is the end on the number's side
+  -- out of range, the image is the end of the range on the number's side
   end_image : (policy : Policy) → ((policy ≡ Saturating) ⊎ (policy ≡ Symmetric)) → IsOutOfRangeBy policy f.signed f.width v → IsImage policy f.signed f.width v (with_sign number.negative (greatest_magnitude_by policy f.signed number.negative f.width))
   end_image Saturating to_end o = rw is.value (end_saturates f.signed number.negative f.width (is.high * 2 ^ 64 + number.low) ((out_test Saturating).0 o))
   end_image Symmetric to_end o = rw is.value (end_is_symmetric f.signed number.negative f.width (is.high * 2 ^ 64 + number.low) ((out_test Symmetric).0 o))
@@ -167,7 +167,7 @@ module _ (f : FormatParts) (number : Number) (v : ℤ) (width : IsWidth f.width)
   end_image Wrapping (inl e) o = absurd (cc)
   end_image Wrapping (inr e) o = absurd (cc)
 
-  -- in range it is its own image, also where the lowest bits stay as they are
+  -- a number in range that `negative` and `low` keep is its own image
   unchanged : (policy : Policy) (end low : ℕ) (negative : Bool) → end ≡ greatest_magnitude_by policy f.signed number.negative f.width → (IsTrue false ↔ (IsTrue number.has_high_bits ⊎ (end < number.low))) → (number.low ≤ greatest_magnitude f.signed number.negative f.width → (negative ≡ number.negative) × (low ≡ number.low)) → IsImage policy f.signed f.width v (with_sign negative low)
   unchanged policy end low negative e flag same =
       let within : number.low ≤ end = ⊎_elim (λ (past : end < number.low). let t : IsTrue false = flag.1 (inr past) in absurd (cc)) (λ (l : number.low ≤ end). l) (cases_lt end number.low) in
@@ -175,7 +175,7 @@ module _ (f : FormatParts) (number : Number) (v : ℤ) (width : IsWidth f.width)
       let i = inside_by policy f.signed f.width v false refl (out_tested policy false end e flag) in
       rw (kept.0, kept.1, ← low_number (in_range_of policy f.signed f.width v i)) (image_same policy f.signed f.width v i)
 
-  -- the image by a policy that neither refuses it nor brings it to an end
+  -- the image under a policy that neither refuses the number nor moves it to an end
   other_image : (policy : Policy) (out : Bool) (end low : ℕ) (negative : Bool) → end ≡ greatest_magnitude_by policy f.signed number.negative f.width → (IsTrue out ↔ (IsTrue number.has_high_bits ⊎ (end < number.low))) → ¬ IsRefused policy out → ¬ (((policy ≡ Saturating) ⊎ (policy ≡ Symmetric)) × IsTrue out) → (number.low ≤ greatest_magnitude f.signed number.negative f.width → (negative ≡ number.negative) × (low ≡ number.low)) → IsWrapped f.signed f.width (with_sign number.negative number.low) (with_sign negative low) → IsImage policy f.signed f.width v (with_sign negative low)
   other_image Wrapping out end low negative e flag nc ns same image = low_wrapped (with_sign negative low) image
   other_image Checked true end low negative e flag nc ns same image = absurd (nc (refl, refl))
@@ -185,7 +185,7 @@ module _ (f : FormatParts) (number : Number) (v : ℤ) (width : IsWidth f.width)
   other_image Saturating false end low negative e flag nc ns same image = unchanged Saturating end low negative e flag same
   other_image Symmetric false end low negative e flag nc ns same image = unchanged Symmetric end low negative e flag same
 
-  -- the image by a policy that does not refuse it
+  -- the image under a policy that does not refuse the number
   pub chosen_image : (policy : Policy) (out is_end : Bool) (end low : ℕ) (negative : Bool) → end ≡ greatest_magnitude_by policy f.signed number.negative f.width → (IsTrue out ↔ (IsTrue number.has_high_bits ⊎ (end < number.low))) → (IsTrue is_end ↔ (((policy ≡ Saturating) ⊎ (policy ≡ Symmetric)) × IsTrue out)) → (number.low ≤ greatest_magnitude f.signed number.negative f.width → (negative ≡ number.negative) × (low ≡ number.low)) → IsWrapped f.signed f.width (with_sign number.negative number.low) (with_sign negative low)
       → ¬ IsRefused policy out → IsImage policy f.signed f.width v (with_sign (if is_end then number.negative else negative) (if is_end then end else low))
   chosen_image policy out true end low negative e flag at_end same image nc =
@@ -193,12 +193,12 @@ module _ (f : FormatParts) (number : Number) (v : ℤ) (width : IsWidth f.width)
       rw e (end_image policy ends.0 ((out_tested policy out end e flag).0 ends.1))
   chosen_image policy out false end low negative e flag at_end same image nc = other_image policy out end low negative e flag nc (λ w. let t : IsTrue false = at_end.1 w in absurd (cc)) same image
 
--- what the policy does not refuse has the image, and what has none is refused
+-- an answer that is given only if the policy does not refuse the number is its image
 pub admitted_image : (policy : Policy) (f : FormatParts) (v : ℤ) (image : Image) (answer : Option ℤ) → IsImageUnlessRefused policy f v image → IfSome answer (λ c. ¬ IsRefused policy image.is_out_of_range × (c ≡ number_of_image image)) → IfSome answer (λ c. IsImage policy f.signed f.width v c)
 admitted_image policy f v image None is answered = answered
 admitted_image policy f v image (Some c) is answered = rw answered.1 (is answered.0)
 
--- a number that Checked refuses is out of the format's range
+-- under Checked, the policy's range is the format's range
 pub refused_out : (policy : Policy) (s : Bool) (n : ℕ) (v : ℤ) → policy ≡ Checked → IsOutOfRangeBy policy s n v ↔ IsOutOfRange s n v
 refused_out policy s n v e = rw e ((λ o. o), (λ o. o))
 
@@ -216,12 +216,12 @@ pub admitted_wide : (policy : Policy) (f : FormatParts) (image : Image) (answer 
 admitted_wide policy f image None valid i answered = answered
 admitted_wide policy f image (Some c) valid i answered = in_wide f.signed f.width c (width_most f.width valid.is_width) (rw answered.1 i)
 
--- either of the two that are chosen from is in range
+-- an end of the range and a number in range: the chosen one is in range
 pub chosen_in_range : (f : FormatParts) (policy : Policy) (is_end negative other : Bool) (end low : ℕ) → end ≡ greatest_magnitude_by policy f.signed negative f.width → IsInRange f.signed f.width (with_sign other low) → IsInRange f.signed f.width (with_sign (if is_end then negative else other) (if is_end then end else low))
 chosen_in_range f policy true negative other end low e i = small_in_range f.signed negative f.width end (omega (arith, e, within_greatest policy f.signed negative f.width))
 chosen_in_range f policy false negative other end low e i = i
 
--- ---- the ones of a width
+-- ---- all ones of a width
 one_less : (m u t : ℕ) → m ≡ u * t → 0 < u → 0 < t → m - 1 ≡ (t - 1) * u + (u - 1)
 one_less m u zero e some more = absurd (omega (arith, more))
 one_less m u (suc t) e some more = let f : suc t - 1 ≡ t = omega arith in rw f (omega (arith, e, some))
@@ -231,14 +231,14 @@ ones_are n w =
     let parts : 2 ^ 64 - 1 ≡ (2 ^ n - 1) * 2 ^ (64 - n) + (2 ^ (64 - n) - 1) = one_less (2 ^ 64) (2 ^ (64 - n)) (2 ^ n) (wide_multiple n w.most) (pow_pos (64 - n)) (pow_pos n) in
     ap (λ m. m / 2 ^ (64 - n)) parts ∙ div-mul-add (2 ^ n - 1) (2 ^ (64 - n)) (2 ^ (64 - n) - 1) (omega (arith, pow_pos (64 - n)))
 
--- the half of them is the greatest signed magnitude, and one more below zero
+-- half of all ones, plus one for a negative number, is the greatest signed magnitude
 pub half_of_ones : (signed negative : Bool) (n ones one : ℕ) → IsWidth n → signed ≡ true → ones ≡ 2 ^ n - 1 → one ≡ bool_byte negative → ones / 2 + one ≡ greatest_magnitude signed negative n
 half_of_ones false negative n ones one w t e f = absurd (cc)
 half_of_ones true true n ones one w t e f = omega (arith, twice n w, pow_pos (n - 1), e, f)
 half_of_ones true false n ones one w t e f = omega (arith, twice n w, pow_pos (n - 1), e, f)
 
--- ---- the Wrapping image by the lowest bits of a magnitude
--- the greatest magnitudes on both sides, and 0, make a turn
+-- ---- the Wrapping image from the lowest bits of a magnitude
+-- the greatest magnitudes of both signs, plus one for zero, add up to 2^n
 ends_together : (signed negative : Bool) (n : ℕ) → IsWidth n → greatest_magnitude signed negative n + greatest_magnitude signed (not negative) n + 1 ≡ 2 ^ n
 ends_together true true n w = omega (arith, twice n w, pow_pos (n - 1))
 ends_together true false n w = omega (arith, twice n w, pow_pos (n - 1))
@@ -267,12 +267,12 @@ wrapped_turned f negative m end low width e is l =
       near = turned_near negative m (2 ^ f.width) (m / 2 ^ f.width) low (rw is (div-add-mod' m (2 ^ f.width))) (omega (arith, below));
     }
 
--- ---- the last bits taken off
+-- ---- the last bits shifted out
 times_signed : (negative : Bool) (m d : ℕ) → with_sign negative m *ℤ pos d ≡ with_sign negative (m * d)
 times_signed true m d = neg_times m d
 times_signed false m d = refl
 
--- where nothing is lost, and where a number that is not negative is rounded down
+-- dropping the last bits rounds down if they are zero or the number is not negative
 pub floored : (negative : Bool) (m k q r : ℕ) → q ≡ m / 2 ^ k → r ≡ m % 2 ^ k → ((negative ≡ false) ⊎ (r ≡ 0)) → IsDown (with_sign negative m) k 0 (with_sign negative q)
 floored false m k q r e f either =
     let parts : q * 2 ^ k + r ≡ m = rw (e, f) (omega (arith, div-add-mod m (2 ^ k))) in
@@ -291,7 +291,7 @@ floored true m k q r e f (inr none) =
       above = rw next_times (omega (arith, ints, parts, some, times_signed true q (2 ^ k), times_signed true m (2 ^ 0)));
     }
 
--- where something of a negative number is lost
+-- dropping nonzero bits of a negative number and adding one to the magnitude rounds down
 pub floored_below : (m k q r : ℕ) → q ≡ m / 2 ^ k → r ≡ m % 2 ^ k → 0 < r → IsDown (with_sign true m) k 0 (with_sign true (q + 1))
 floored_below m k q r e f some =
     let parts : q * 2 ^ k + r ≡ m = rw (e, f) (omega (arith, div-add-mod m (2 ^ k))) in
@@ -303,7 +303,7 @@ floored_below m k q r e f some =
     }
 
 -- ---- the moved number
--- it is made shorter, then longer, and one of the two does nothing
+-- a move shortens, then lengthens; one of the two is by 0
 pub moved_either : (negative : Bool) (m whole from to : ℕ) → IsDown (with_sign negative m) (from - to) 0 (with_sign negative whole) → down (with_sign negative m) from to ≡ with_sign negative (whole * 2 ^ (to - from))
 moved_either negative m whole from to is = ⊎_elim up short (cases_lt from to)
   where

@@ -1,4 +1,4 @@
--- The order of formats.
+-- The order of formats, and their ranks.
 use Rattle.std.proofs.Common.{◌≡◌, ℕ, ◌+◌, ◌-◌, ◌*◌, ◌<◌, ◌≤◌, ◌⊎◌, Bool, true, false, refl, ap, ◌∙◌, arith, inl, inr, ⊎_elim}
 use Rattle.std.proofs.lemmas.Bool.{cases_lt}
 use Rattle.fixed_bits.specs.Formats.{FormatParts, IsTypeFormat}
@@ -6,7 +6,7 @@ use Rattle.fixed_bits.specs.Ranges.{IsTypeWidth}
 use Rattle.fixed_bits.specs.Laws.{RankIsOrder, RankIsTheOne}
 use Rattle.fixed_bits.specs.Order.{IsBefore, rank, rank_of_width, rank_of_sign}
 
--- formats of a lesser width have lesser numbers
+-- the ranks of a smaller width are smaller
 widths_apart : (v w : ℕ) → IsTypeWidth v → IsTypeWidth w → v < w → rank_of_width v + 2 * (v + 1) ≤ rank_of_width w
 widths_apart v w (inl e) (inl h) l = absurd (omega (arith, e, h, l))
 widths_apart v w (inl e) (inr (inl h)) l = rw (e, h) (omega arith)
@@ -42,7 +42,7 @@ same_back true false w f g fits l = absurd (omega (arith, l, fits))
 same_back false true w f g fits l = inl (refl, refl)
 same_back false false w f g fits l = inr (refl, omega (arith, l))
 
--- numbers of formats of one width
+-- the rank of a format of width `w`
 rank_at : (f : FormatParts) (w : ℕ) → f.width ≡ w → rank f ≡ rank_of_width w + (rank_of_sign f.signed w + f.frac)
 rank_at f w e = ap (λ n. rank_of_width n + (rank_of_sign f.signed n + f.frac)) e
 
@@ -69,7 +69,7 @@ rank_order f g x y = (to, back)
         (cases_lt g.width f.width))
         (cases_lt f.width g.width)
 
--- a number is that of one format
+-- equal ranks within one width belong to one format
 same_level : (s t : Bool) (w f g : ℕ) → f ≤ w → g ≤ w → rank_of_sign s w + f ≡ rank_of_sign t w + g → (s ≡ t) × (f ≡ g)
 same_level true true w f g x y e = (refl, omega (arith, e))
 same_level true false w f g x y e = absurd (omega (arith, e, y))
@@ -95,7 +95,7 @@ rank_unique f g x y e =
     (cases_lt g.width f.width))
     (cases_lt f.width g.width)
 
--- each format has a number below 248
+-- all ranks are below 248
 most_of : (w : ℕ) → IsTypeWidth w → rank_of_width w + 2 * (w + 1) ≤ 248
 most_of w (inl e) = rw e (omega arith)
 most_of w (inr (inl e)) = rw e (omega arith)
@@ -105,7 +105,7 @@ most_of w (inr (inr (inr e))) = rw e (omega arith)
 pub rank_below : (f : FormatParts) → IsTypeFormat f.width f.frac → rank f < 248
 rank_below f is = omega (arith, most_of f.width is.is_width, within_width f.signed f.width f.frac is.within)
 
--- each number below 248 is that of a format
+-- each number below 248 is the rank of a format
 in_width : (w base n : ℕ) → IsTypeWidth w → rank_of_width w ≡ base → base ≤ n → n < base + 2 * (w + 1) → (g : FormatParts) × IsTypeFormat g.width g.frac × (rank g ≡ n)
 in_width w base n is place low high =
     ⊎_elim

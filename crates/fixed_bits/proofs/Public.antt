@@ -1,4 +1,4 @@
--- What the proofs of the crates above may cite: the laws of this crate, and facts of its definitions. The proofs are in proofs/.
+-- The laws of this crate and facts about its definitions, for the proofs of dependent crates.
 use Rattle.std.specs.Prelude.{◌≡◌, ℕ, ◌+◌, ◌-◌, ◌*◌, ◌^◌, ◌<◌, ◌≤◌, ◌↔◌, Bool, false, IsTrue, ℤ, pos, ◌*ℤ◌, unsigned_abs, Option, IfSome}
 use Rattle.std.specs.Int.{is_negative}
 use Rattle.fixed_bits.specs.Down.{IsDown, down}
@@ -30,7 +30,7 @@ use Rattle.fixed_bits.proofs.RoundedLemmas
 pub width_most : (n : ℕ) → IsWidth n → n ≤ 64
 width_most = ImageLemmas.width_most
 
--- an integer type has as many bits as a format may have
+-- the width of an integer type is one that a format may have
 pub type_width : (n : ℕ) → IsTypeWidth n → IsWidth n
 type_width = ImageLemmas.type_width
 
@@ -43,7 +43,7 @@ type_format = ImageLemmas.type_format
 pub in_wide : (s : Bool) (n : ℕ) (v : ℤ) → n ≤ 64 → IsInRange s n v → IsWide v
 in_wide = ImageLemmas.in_wide
 
--- a number in the range that a policy leaves is in the format's
+-- a number in the policy's range is in the format's range
 pub in_range_of : (p : Policy) (s : Bool) (n : ℕ) (v : ℤ) → IsInRangeBy p s n v → IsInRange s n v
 in_range_of = ImageLemmas.in_range_of
 
@@ -103,11 +103,11 @@ not_negative = NumberLemmas.not_negative
 pub sign_and_magnitude : (v : ℤ) → with_sign (is_negative v) (unsigned_abs v) ≡ v
 sign_and_magnitude = NumberLemmas.sign_and_magnitude
 
--- what a policy does not refuse has the image, and what has none is refused
+-- an answer that is given only if the policy does not refuse the number is its image
 pub admitted_image : (policy : Policy) (f : FormatParts) (v : ℤ) (image : Image) (answer : Option ℤ) → IsImageUnlessRefused policy f v image → IfSome answer (λ c. ¬ IsRefused policy image.is_out_of_range × (c ≡ number_of_image image)) → IfSome answer (λ c. IsImage policy f.signed f.width v c)
 admitted_image = NumberLemmas.admitted_image
 
--- a number that Checked refuses is out of the format's range
+-- under Checked, the policy's range is the format's range
 pub refused_out : (policy : Policy) (s : Bool) (n : ℕ) (v : ℤ) → policy ≡ Checked → IsOutOfRangeBy policy s n v ↔ IsOutOfRange s n v
 refused_out = NumberLemmas.refused_out
 
@@ -127,11 +127,11 @@ nearest_exists = NearestLemmas.nearest_exists
 pub nearest_unique : (num den p q : ℕ) → 0 < den → IsNearest num den p → IsNearest num den q → p ≡ q
 nearest_unique = NearestLemmas.nearest_unique
 
--- the same fraction in other words has the same nearest number
+-- scaling both terms of a fraction keeps its nearest number
 pub nearest_scaled : (k num den q : ℕ) → 0 < k → IsNearest (k * num) (k * den) q ↔ IsNearest num den q
 nearest_scaled = NearestLemmas.nearest_scaled
 
--- by quotient and rest
+-- the quotient is nearest if the remainder is at most half of the denominator
 pub nearest_by_rest : (num den q r : ℕ) → num ≡ q * den + r → 2 * r ≤ den → (2 * r ≡ den → IsEven q) → IsNearest num den q
 nearest_by_rest = NearestLemmas.nearest_by_rest
 
@@ -151,19 +151,19 @@ rounded_one = LawLemmas.rounded_one
 pub rounded_same : EqualFractionsRoundAlike
 rounded_same = LawLemmas.rounded_alike
 
--- the magnitude in its mode
+-- the magnitude, rounded by its own mode, is the number rounded
 pub magnitude_rounded : (m : ReadMode) (negative : Bool) (num den q : ℕ) → IsRounded (magnitude_mode m negative) false num den q → IsRounded m negative num den q
 magnitude_rounded = RoundedLemmas.magnitude_rounded
 
--- a whole number is rounded to itself
+-- a whole number rounds to itself
 pub rounded_exact : (m : ReadMode) (negative : Bool) (q u : ℕ) → 0 < u → IsRounded m negative (q * u) u q
 rounded_exact = RoundedLemmas.rounded_exact
 
--- rounding moves a number by less than one
+-- rounding moves a value by less than one
 pub rounded_close : (m : ReadMode) (negative : Bool) (num den q : ℕ) → 0 < den → IsRounded m negative num den q → (q * den < num + den) × (num < q * den + den)
 rounded_close = RoundedLemmas.rounded_close
 
--- a lost fraction is rounded as its quarters are
+-- a lost fraction rounds like its count of quarters
 pub rounds_as_quarters : (mode : ReadMode) (lost : LostFraction) (q s den inc : ℕ) → 0 < den → IsLostFraction lost s den → IsRounded mode false (q * 4 + quarters lost) 4 (q + inc) → IsRounded mode false (q * den + s) den (q + inc)
 rounds_as_quarters = LostLemmas.rounds_as_quarters
 

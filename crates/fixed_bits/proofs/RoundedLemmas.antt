@@ -9,7 +9,7 @@ use Rattle.fixed_bits.specs.Nearest.{distance}
 use Rattle.fixed_bits.specs.Rounded.{IsRounded, IsNotAbove, IsNotBelow, IsNearestGreater, IsNearestLesser, magnitude_mode}
 use Rattle.fixed_bits.proofs.NearestLemmas.{nearest_by_rest, nearest_unique, nearest_exists, nearest_same}
 
--- ---- the nearest, of two equally near the greater or the lesser, by sums alone
+-- ---- nearest with ties to the greater or to the lesser, by sums instead of distances
 pub record GreaterBand (num den q : ℕ) : Type 0 where
   pub lo : 2 * (q * den) ≤ 2 * num + den
   pub hi : 2 * num < 2 * (q * den) + den
@@ -62,7 +62,7 @@ lesser_unique num den p q some a b =
     let y = lesser_band num den q some b in
     grind (arith, lesser_order num den p q, lesser_order num den q p, x, y)
 
--- ---- the greatest not above and the least not below
+-- ---- the greatest not above, and the least not below
 
 not_above_order : (num den p q : ℕ) → IsNotAbove num den p → IsNotAbove num den q → p < q → ⊥
 not_above_order num den p q a b l = omega (arith, mul-le-mul_right den l)
@@ -76,7 +76,7 @@ not_above_unique num den p q a b = grind (arith, not_above_order num den p q, no
 not_below_unique : (num den p q : ℕ) → IsNotBelow num den p → IsNotBelow num den q → p ≡ q
 not_below_unique num den p q a b = grind (arith, not_below_order num den p q, not_below_order num den q p)
 
--- no two numbers are the rounded one
+-- at most one number is the rounded one
 pub rounded_unique : (m : ReadMode) (negative : Bool) (num den p q : ℕ) → 0 < den → IsRounded m negative num den p → IsRounded m negative num den q → p ≡ q
 rounded_unique NearestEven n num den p q pos a b = nearest_unique num den p q pos a b
 rounded_unique NearestAway n num den p q pos a b = greater_unique num den p q pos a b
@@ -92,7 +92,7 @@ rounded_unique Floor true num den p q pos a b = not_below_unique num den p q a b
 rounded_unique Ceil false num den p q pos a b = not_below_unique num den p q a b
 rounded_unique Ceil true num den p q pos a b = not_above_unique num den p q a b
 
--- ---- some number is the rounded one
+-- ---- a rounded number exists
 not_above_exists : (num den : ℕ) → 0 < den → (q : ℕ) × IsNotAbove num den q
 not_above_exists num den some =
     let split : num ≡ num / den * den + num % den = sym (div-add-mod' num den) in
@@ -187,7 +187,7 @@ rounded_same Floor true n d n' d' q some some' e h = not_below_same n d n' d' q 
 rounded_same Ceil false n d n' d' q some some' e h = not_below_same n d n' d' q some some' e h
 rounded_same Ceil true n d n' d' q some some' e h = not_above_same n d n' d' q some some' e h
 
--- ---- the magnitude of a number
+-- ---- the rounded magnitude
 pub magnitude_rounded : (m : ReadMode) (negative : Bool) (num den q : ℕ) → IsRounded (magnitude_mode m negative) false num den q → IsRounded m negative num den q
 magnitude_rounded NearestEven false num den q h = h
 magnitude_rounded NearestEven true num den q h = h
@@ -208,7 +208,7 @@ magnitude_rounded TowardsZero true num den q h = h
 magnitude_rounded AwayFromZero false num den q h = h
 magnitude_rounded AwayFromZero true num den q h = h
 
--- ---- a whole number is rounded to itself
+-- ---- a whole number rounds to itself
 not_above_exact : (q u : ℕ) → 0 < u → IsNotAbove (q * u) u q
 not_above_exact q u h = record { at_most = omega arith; next = omega arith }
 
@@ -236,7 +236,7 @@ rounded_exact Ceil true q u h = not_above_exact q u h
 rounded_exact TowardsZero n q u h = not_above_exact q u h
 rounded_exact AwayFromZero n q u h = not_below_exact q u h
 
--- ---- rounding moves a number by less than one
+-- ---- rounding moves a value by less than one
 pub rounded_close : (m : ReadMode) (negative : Bool) (num den q : ℕ) → 0 < den → IsRounded m negative num den q → (q * den < num + den) × (num < q * den + den)
 rounded_close NearestEven n num den q some r = let near = r.near in (omega arith, omega arith)
 rounded_close NearestAway n num den q some r = let near = r.near in (omega arith, omega arith)

@@ -1,2 +1,2 @@
--- How the integer types meet the laws of `Inner`: proofs, which no contract cites.
+-- Proofs that the integer types satisfy the laws of `Inner`. No contract cites them.
 pub mod InnerLaws

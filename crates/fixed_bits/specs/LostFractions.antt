@@ -1,4 +1,4 @@
--- What is left of a unit after the whole ones.
+-- The fraction of a unit that rounding down loses.
 use Rattle.std.specs.Prelude.{◌≡◌, ℕ, ◌*◌, ◌<◌}
 use Rattle.fixed_bits.specs.declared.rounding.LostFraction.{LostFraction}
 use Rattle.fixed_bits.specs.declared.rounding.LostFraction.TheVariants.{Zero, LessThanHalf, Half, MoreThanHalf}
@@ -10,7 +10,7 @@ IsLostFraction LessThanHalf s den = (0 < s) × (2 * s < den)
 IsLostFraction Half s den = 2 * s ≡ den
 IsLostFraction MoreThanHalf s den = (den < 2 * s) × (s < den)
 
--- a count of quarters that is such a fraction
+-- a fraction of this kind, in quarters
 abbrev pub quarters : LostFraction → ℕ
 quarters Zero = 0
 quarters LessThanHalf = 1

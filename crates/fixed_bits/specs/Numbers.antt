@@ -1,4 +1,4 @@
--- Numbers on their way to a format, by sign and magnitude.
+-- Numbers to be converted to a format, as sign and magnitude.
 use Rattle.std.specs.Prelude.{◌≡◌, ℕ, ◌+◌, ◌-◌, ◌*◌, ◌^◌, ◌<◌, ◌↔◌, ℤ, pos, neg_ℤ, Bool, true, false}
 use Rattle.std.specs.Prelude.{if◌then◌else◌, IsTrue}
 use Rattle.fixed_bits.specs.Formats.{FormatParts}
@@ -8,24 +8,24 @@ use Rattle.fixed_bits.specs.declared.format.Policy.TheVariants.{Checked, Saturat
 use Rattle.fixed_bits.specs.declared.number.Image.{Image}
 use Rattle.fixed_bits.specs.declared.number.Number.{Number}
 
--- m, negated where negative
+-- m, negated if `negative`
 abbrev pub with_sign : Bool → ℕ → ℤ
 with_sign negative m = if negative then neg_ℤ (pos m) else pos m
 
--- v has the number's sign, the lowest 64 bits of its magnitude, and more bits exactly where the number says so
+-- v has the number's sign and the lowest 64 bits of its magnitude, and higher bits exactly if `has_high_bits`
 pub record IsNumber (number : Number) (v : ℤ) : Type 0 where
   pub high : ℕ
   pub value : v ≡ with_sign number.negative (high * 2 ^ 64 + number.low)
   pub over : IsTrue number.has_high_bits ↔ (0 < high)
 
--- the greatest magnitude of the numbers in range, by whether the format is signed and the number is negative
+-- the greatest magnitude in range, given whether the format is signed and whether the number is negative
 abbrev pub greatest_magnitude : Bool → Bool → ℕ → ℕ
 greatest_magnitude true true n = 2 ^ (n - 1)
 greatest_magnitude true false n = 2 ^ (n - 1) - 1
 greatest_magnitude false true n = 0
 greatest_magnitude false false n = 2 ^ n - 1
 
--- the greatest magnitude of those that the policy leaves in use
+-- the greatest magnitude that the policy allows
 abbrev pub greatest_magnitude_by : Policy → Bool → Bool → ℕ → ℕ
 greatest_magnitude_by Checked signed negative n = greatest_magnitude signed negative n
 greatest_magnitude_by Saturating signed negative n = greatest_magnitude signed negative n
@@ -33,11 +33,11 @@ greatest_magnitude_by Wrapping signed negative n = greatest_magnitude signed neg
 greatest_magnitude_by Symmetric true negative n = 2 ^ (n - 1) - 1
 greatest_magnitude_by Symmetric false negative n = greatest_magnitude false negative n
 
--- the number of an image
+-- the number that an image holds
 abbrev pub number_of_image : Image → ℤ
 number_of_image image = with_sign image.negative image.magnitude
 
--- the policy refuses a number that is out of range or not
+-- the policy refuses the number: it is Checked, and the number is out of range
 abbrev pub IsRefused : Policy → Bool → Type 0
 IsRefused policy is_out = (policy ≡ Checked) × IsTrue is_out
 

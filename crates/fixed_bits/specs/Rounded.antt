@@ -1,4 +1,4 @@
--- The whole number that a fraction is rounded to in each mode.
+-- The whole number that each mode rounds a fraction to.
 use Rattle.std.specs.Prelude.{◌≡◌, ℕ, ◌+◌, ◌*◌, ◌<◌, ◌≤◌, Bool, true, false}
 use Rattle.fixed_bits.specs.declared.mode.ReadMode.{ReadMode}
 use Rattle.fixed_bits.specs.declared.mode.ReadMode.TheVariants.{NearestEven, TowardsZero, Floor, Ceil}
@@ -6,27 +6,27 @@ use Rattle.fixed_bits.specs.declared.mode.ReadMode.TheVariants.{NearestAway, Nea
 use Rattle.fixed_bits.specs.declared.mode.ReadMode.TheVariants.{AwayFromZero}
 use Rattle.fixed_bits.specs.Nearest.{IsNearest, distance}
 
--- q is the greatest that is not above num / den
+-- q is the greatest whole number not above num / den
 pub record IsNotAbove (num den q : ℕ) : Type 0 where
   pub at_most : q * den ≤ num
   pub next : num < (q + 1) * den
 
--- q is the least that is not below num / den
+-- q is the least whole number not below num / den
 pub record IsNotBelow (num den q : ℕ) : Type 0 where
   pub at_least : num ≤ q * den
   pub before : q * den < num + den
 
--- q is nearest to num / den, and of two equally near it is the greater
+-- q is nearest to num / den, and the greater of two equally near
 pub record IsNearestGreater (num den q : ℕ) : Type 0 where
   pub near : 2 * distance num (q * den) ≤ den
   pub tie : 2 * distance num (q * den) ≡ den → num ≤ q * den
 
--- q is nearest to num / den, and of two equally near it is the lesser
+-- q is nearest to num / den, and the lesser of two equally near
 pub record IsNearestLesser (num den q : ℕ) : Type 0 where
   pub near : 2 * distance num (q * den) ≤ den
   pub tie : 2 * distance num (q * den) ≡ den → q * den ≤ num
 
--- q is the rounded magnitude num / den of a number that is negative or not
+-- q is the magnitude num / den rounded as `mode` rounds the number, which is negative if `negative`
 abbrev pub IsRounded : ReadMode → Bool → ℕ → ℕ → ℕ → Type 0
 IsRounded NearestEven negative num den q = IsNearest num den q
 IsRounded NearestAway negative num den q = IsNearestGreater num den q
@@ -42,7 +42,7 @@ IsRounded Ceil true num den q = IsNotAbove num den q
 IsRounded TowardsZero negative num den q = IsNotAbove num den q
 IsRounded AwayFromZero negative num den q = IsNotBelow num den q
 
--- the mode that rounds the magnitude of a number, negative or not, as the mode rounds the number
+-- the mode that rounds the magnitude of a number, negative or not, as `mode` rounds the number
 abbrev pub magnitude_mode : ReadMode → Bool → ReadMode
 magnitude_mode mode false = mode
 magnitude_mode Floor true = Ceil

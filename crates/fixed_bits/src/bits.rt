@@ -17,15 +17,15 @@ pub trait FixedBits: Copy {
     /// The bits of a value.
     ghost bits_of: { Self → Self.Inner };
 
-    /// The value of bits.
+    /// The value with these bits.
     ghost of_bits: { Self.Inner → Self };
 
-    /// The value of bits; `to_bits` undoes it.
+    /// Returns the value with these bits; `to_bits` undoes it.
     fn from_bits(bits: Self::Inner) -> Self
         ensures value { result ≡ of_bits bits }
         ensures back { bits_of result ≡ bits };
 
-    /// The bits of the value; `from_bits` undoes it.
+    /// Returns the bits of the value; `from_bits` undoes it.
     fn to_bits(self) -> Self::Inner
         ensures bits { result ≡ bits_of self }
         ensures back { of_bits result ≡ self };

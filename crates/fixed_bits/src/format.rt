@@ -1,4 +1,4 @@
-//! Formats chosen at run time, and what is done with a number that is out of range.
+//! Formats chosen at run time, and what happens to a number that is out of range.
 
 ghost use Rattle.std.specs.Prelude.{◌≡◌, ◌↔◌, ◌≤◌, ◌<◌, ◌^◌, ◌-◌, ◌*◌, ◌/◌, ◌%◌, pos, false, IsTrue, IsSome, IsNone};
 ghost use Rattle.std.specs.Prelude.{IfSome, Option};
@@ -10,12 +10,12 @@ use crate::masks::mask;
 use crate::number::{Number, greatest_magnitude, signed_number};
 use std::marker::Model;
 
-/// A sign rule, a width of 1 to 64 bits, and a fraction length of 0 to 64 bits, whatever the width: the value of bits
+/// A sign rule, a width of 1 to 64 bits, and a fraction length of 0 to 64 bits, whatever the width. The value of bits
 /// is bits / 2^frac.
 #[derive(Clone, Copy, Debug, PartialEq, Eq)]
 pub struct Format {
     signed: bool,
-    // Both in a byte, so that a format is handed on in a register.
+    // Each is one byte, so that a format is passed in a register.
     width: u8,
     frac: u8,
 }
@@ -33,8 +33,8 @@ impl Model for Format {
 }
 
 impl Format {
-    /// The format with these three parts, of as many bits as an integer type has. `None` exactly where the width isn't
-    /// 8, 16, 32 or 64, or the fraction is longer than the width.
+    /// Returns the format with these three parts, as wide as an integer type. `None` exactly if the width isn't 8, 16,
+    /// 32 or 64, or the fraction is longer than the width.
     pub fn new(signed: bool, width: u32, frac: u32) -> Option<Format>
         ensures exists { IsSome result ↔ IsTypeFormat width frac }
         ensures parts { IfSome result (λ f. (f.signed ≡ signed) × (f.width ≡ width) × (f.frac ≡ frac)) }
@@ -49,8 +49,8 @@ impl Format {
         }
     }
 
-    /// The format with these three parts, of any width, and with a fraction of any length up to 64 bits. `None` exactly
-    /// where the width isn't from 1 to 64, or the fraction is longer than 64 bits.
+    /// Returns the format with these three parts, of any width, and with a fraction of up to 64 bits. `None` exactly if
+    /// the width isn't from 1 to 64, or the fraction is longer than 64 bits.
     pub fn of_any_width(signed: bool, width: u32, frac: u32) -> Option<Format>
         ensures exists { IsSome result ↔ IsFormat width frac }
         ensures parts { IfSome result (λ f. (f.signed ≡ signed) × (f.width ≡ width) × (f.frac ≡ frac)) }
@@ -62,7 +62,7 @@ impl Format {
         }
     }
 
-    /// The format with these three parts, which a caller knows to make one.
+    /// Returns the format with these three parts, which must be valid.
     pub fn of(signed: bool, width: u32, frac: u32) -> Format
         requires valid { IsFormat width frac }
         ensures signed { result.signed ≡ signed }
@@ -99,8 +99,7 @@ impl Format {
         u32::from(self.frac)
     }
 
-    /// How many bits are before the point, the sign bit among them: below zero where the fraction is longer than the
-    /// width.
+    /// How many bits are before the point, including the sign bit: below zero if the fraction is longer than the width.
     pub fn whole_length(self) -> i32
         ensures length { result ≡ whole_length self }
         ensures valid { IsFormat self.width self.frac }
@@ -132,7 +131,7 @@ impl Format {
     }
 }
 
-/// What is done with a number that is out of range.
+/// What happens to a number that is out of range.
 #[derive(Clone, Copy, Debug, PartialEq, Eq)]
 pub enum Policy {
     /// It has no image.
@@ -141,14 +140,14 @@ pub enum Policy {
     Saturating,
     /// Its image is the number in range that differs from it by a multiple of two to the power of the width.
     Wrapping,
-    /// Its image is the nearer end of the range without its lowest number, which counts as out of range itself. In an
+    /// Its image is the nearer end of the range without the lowest number, which itself counts as out of range. In an
     /// unsigned format, which has no number below zero, it is `Saturating`.
     Symmetric,
 }
 
 impl Policy {
-    /// The image of a number in a format: the number itself if it is in the range that the policy leaves. `None`
-    /// exactly where it is out of range and the policy is `Checked`.
+    /// Returns the image of a number in a format: the number itself if it is in the policy's range. `None` exactly if
+    /// it is out of range and the policy is `Checked`.
     pub fn image(self, format: Format, v: i128) -> Option<i128>
         ensures image { IfSome result (λ c. IsImage self format.signed format.width v c) }
         ensures none { IsNone result ↔ ((self ≡ Policy.Checked) × IsOutOfRange format.signed format.width v) }
@@ -159,7 +158,8 @@ impl Policy {
     }
 }
 
-/// Ten times a fraction of `bits` bits: the digit before the point, and the fraction that is left, in the same unit.
+/// Multiplies a fraction of `bits` bits by ten. Returns the digit before the point and the remaining fraction, in the
+/// same unit.
 #[tactic(auto, using(std::proofs::lemmas::Nat::and_mask))]
 pub fn mul10(rest: u64, bits: u32) -> (u8, u64)
     requires width { bits ≤ 64 }

@@ -1,4 +1,4 @@
-//! What an integer type has to offer to hold the bits of a fixed-point number.
+//! The operations of an integer type that holds the bits of a fixed-point number.
 
 ghost use Rattle.std.specs.Prelude.{◌≡◌, ◌↔◌, ℕ, ℤ, pos, Bool, IsTrue};
 ghost use Rattle.std.specs.Ordering.{int_cmp};
@@ -36,20 +36,21 @@ pub trait Inner: Copy + Eq + Ord + Hash {
 
     ghost MAX: { Self };
 
-    /// The number of a value.
+    /// The number that a value stands for.
     ghost number: { Self → ℤ };
 
-    /// The value of the number in range that differs from a number by a multiple of two to the power of `BITS`.
+    /// The value whose number is in range and differs from a number by a multiple of two to the power of `BITS`.
     ghost wrapped: { ℤ → Self };
 
-    /// The number of the value, in the type's range.
+    /// Returns the number of the value, in the type's range.
     fn value(self) -> i128
         ensures number { result ≡ number self }
         ensures range { IsInRange SIGNED BITS (number self) }
         ensures wide { IsWide result }
         ensures back { wrapped (number self) ≡ self };
 
-    /// The Wrapping image of a number: in range, and different from it by a multiple of two to the power of `BITS`.
+    /// Returns the Wrapping image of a number: in range, and different from it by a multiple of two to the power of
+    /// `BITS`.
     fn wrap(v: i128) -> Self
         ensures { result ≡ wrapped v };
 
@@ -69,7 +70,7 @@ pub trait Inner: Copy + Eq + Ord + Hash {
 
     ghost eq_law: { (x y : Self) → IsTrue (Self.eq x y) ↔ (number x ≡ number y) };
 
-    /// The Saturating image of a number: itself in range, else the nearer end of the range.
+    /// Returns the Saturating image of a number: itself if it is in range, else the nearer end of the range.
     final fn saturate(v: i128) -> Self
         ensures { IsSaturated SIGNED BITS v (number result) }
     {
@@ -91,7 +92,7 @@ pub trait Inner: Copy + Eq + Ord + Hash {
         low <= v && v <= high
     }
 
-    /// The greatest whole number not above the value over two to the power of `k`, for any `k`.
+    /// Returns the greatest whole number not above the value over two to the power of `k`, for any `k`.
     final fn floor_shift(self, k: u32) -> Self
         ensures { IsDown (number self) k 0 (number result) }
     {
@@ -99,7 +100,7 @@ pub trait Inner: Copy + Eq + Ord + Hash {
     }
 }
 
-/// The lowest and the greatest number of the type's range.
+/// Returns the lowest and the greatest number of the type's range.
 fn ends<I: Inner>() -> (i128, i128)
     ensures low { result.0 ≡ lowest I.SIGNED I.BITS }
     ensures high { result.1 ≡ greatest I.SIGNED I.BITS }

@@ -38,17 +38,17 @@ pub fn range_is_decided()
     ensures { RangeIsDecided }
 {}
 
-/// A number is either in the range that a policy leaves or out of it.
+/// A number is either in a policy's range or out of it.
 pub fn policy_range_is_decided()
     ensures { PolicyRangeIsDecided }
 {}
 
-/// The ends of a range of at most 64 bits lie within -2^63 and 2^64 - 1.
+/// The ends of a range of at most 64 bits are from -2^63 to 2^64 - 1.
 pub fn ends_are_wide()
     ensures { EndsAreWide }
 {}
 
-/// In the range that it leaves each policy gives the number itself.
+/// In its range each policy gives the number itself.
 pub fn images_agree()
     ensures { ImagesAgree }
 {}
@@ -63,7 +63,7 @@ pub fn image_is_the_one()
     ensures { ImageIsTheOne }
 {}
 
-/// An image is in range, and in the range that the policy leaves.
+/// An image is in range, also in the policy's.
 pub fn image_is_in_range()
     ensures { ImageIsInRange }
 {}
@@ -73,7 +73,7 @@ pub fn unsigned_is_saturated()
     ensures { UnsignedIsSaturated }
 {}
 
-/// The number moved down is the one that the definition names.
+/// The number moved down is the one in the definition.
 pub fn down_is_the_one()
     ensures { DownIsTheOne }
 {}
@@ -83,7 +83,7 @@ pub fn down_keeps_order()
     ensures { DownKeepsOrder }
 {}
 
-/// The rank of a format is its place in the order.
+/// The rank of a format is its position in the order.
 pub fn rank_is_order()
     ensures { RankIsOrder }
 {}

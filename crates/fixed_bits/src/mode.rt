@@ -3,10 +3,10 @@
 ghost use Rattle.std.specs.Prelude.{◌≡◌};
 ghost use Rattle.fixed_bits.specs.Rounded.{magnitude_mode};
 
-/// To which of the two numbers of a format around it a number is rounded.
+/// To which of its two neighbours in a format a number is rounded.
 #[derive(Clone, Copy, Debug, PartialEq, Eq)]
 pub enum ReadMode {
-    /// The nearest one; of two equally near the one whose bits are even.
+    /// The nearest one; of two equally near ones, the one whose bits are even.
     NearestEven,
     /// The greatest one that is not above the number.
     Floor,
@@ -14,19 +14,19 @@ pub enum ReadMode {
     Ceil,
     /// The nearest one that is not farther from zero.
     TowardsZero,
-    /// The nearest one; of two equally near the one farther from zero.
+    /// The nearest one; of two equally near ones, the one farther from zero.
     NearestAway,
-    /// The nearest one; of two equally near the one nearer to zero.
+    /// The nearest one; of two equally near ones, the one nearer to zero.
     NearestZero,
-    /// The nearest one; of two equally near the greater one.
+    /// The nearest one; of two equally near ones, the greater one.
     NearestUp,
-    /// The nearest one; of two equally near the lesser one.
+    /// The nearest one; of two equally near ones, the lesser one.
     NearestDown,
     /// The nearest one that is not nearer to zero.
     AwayFromZero,
 }
 
-/// The mode that rounds the magnitude of a number, negative or not, as `mode` rounds the number.
+/// Returns the mode that rounds the magnitude of a number, negative or not, as `mode` rounds the number.
 pub fn magnitude_mode_of(mode: ReadMode, negative: bool) -> ReadMode
     ensures { result ≡ magnitude_mode mode negative }
 {

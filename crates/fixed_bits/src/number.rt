@@ -1,12 +1,13 @@
 //! Numbers on their way to a format, by sign and magnitude.
 //!
 //! A number in a format's range has a magnitude of at most 64 bits; one that was read, or moved to another fraction
-//! length, may have more. Whether it is in range, and what its image is, depends on three things alone: its sign, the
-//! lowest 64 bits of its magnitude, and whether there are more. These stay in registers, where a signed number of 128
+//! length, may have more. Whether it is in range, and what its image is, depends only on three things: its sign, the
+//! lowest 64 bits of its magnitude, and whether there are more. These stay in registers, while a signed number of 128
 //! bits takes two of them and two instructions for each step.
 
 ghost use Rattle.std.specs.Prelude.{◌≡◌, ◌↔◌, ◌⊎◌, ◌≤◌, ◌<◌, ◌-◌, ◌*◌, ◌^◌, ◌%◌, ◌/◌, ℤ, IsTrue, IsNone, IfSome};
 ghost use Rattle.std.specs.Prelude.{if◌then◌else◌};
+ghost use Rattle.std.specs.Int.{is_negative};
 ghost use Rattle.fixed_bits.specs.Down.{IsDown, down};
 ghost use Rattle.fixed_bits.specs.Formats.{IsFormat};
 ghost use Rattle.fixed_bits.specs.Images.{IsOutOfRangeBy, IsWrapped};
@@ -25,8 +26,7 @@ pub struct Number {
     pub has_high_bits: bool,
 }
 
-/// The image of a number in a format by its sign and magnitude, and whether the number was out of the range that the
-/// policy leaves.
+/// The image of a number in a format by its sign and magnitude, and whether the number was out of the policy's range.
 #[derive(Clone, Copy, Debug, PartialEq, Eq)]
 pub struct Image {
     pub magnitude: u64,
@@ -35,10 +35,11 @@ pub struct Image {
 }
 
 impl Number {
-    /// The number with that sign and magnitude.
+    /// Returns the number with this sign and magnitude.
     #[inline(always)]
     pub fn new(negative: bool, magnitude: u128) -> Number
-        ensures { IsNumber result (with_sign negative magnitude) }
+        ensures value { IsNumber result (with_sign negative magnitude) }
+        ensures sign { result.negative ≡ negative }
     {
         Number {
             negative,
@@ -47,10 +48,11 @@ impl Number {
         }
     }
 
-    /// A number as it is.
+    /// Returns the number `v`. Zero has no minus.
     #[inline(always)]
     pub fn of(v: i128) -> Number
-        ensures { IsNumber result v }
+        ensures value { IsNumber result v }
+        ensures sign { result.negative ≡ is_negative v }
     {
         Number::new(v < 0, v.unsigned_abs())
     }
@@ -64,7 +66,7 @@ impl Number {
         self.is_above(greatest_magnitude(format, self.negative))
     }
 
-    /// Whether the number is out of the range that a policy leaves of a format's.
+    /// Whether the number is out of the policy's part of a format's range.
     #[inline(always)]
     pub fn is_out_of_range_by(self, format: Format, policy: Policy) -> bool
         ensures range { (v : ℤ) → IsNumber self v
@@ -82,10 +84,10 @@ impl Number {
         self.has_high_bits || self.low > limit
     }
 
-    /// The image of the number in a format, and whether the number is out of the range that the policy leaves. A number
-    /// that is, and that the policy refuses, has no image, and any number in range is answered for it. The images are
-    /// computed for any number and one of them is chosen: whether a number is in range, and by which policy it is
-    /// brought there, changes from line to line, and a branch on it is mispredicted.
+    /// Returns the image of the number in a format, and whether the number is out of the policy's range. If it is, and
+    /// the policy refuses it, there is no image, and any number in range is returned for it. All images are computed
+    /// and one is chosen: whether a number is in range, and by which policy it is brought there, changes from line to
+    /// line, and a branch on it is mispredicted.
     #[inline(always)]
     pub fn image(self, format: Format, policy: Policy) -> Image
         ensures image { (v : ℤ) → IsNumber self v → IsImageUnlessRefused policy format v result }
@@ -115,7 +117,7 @@ impl Image {
         signed_number(self.negative, self.magnitude)
     }
 
-    /// The image as a number, or `None` where the policy refuses what it is the image of.
+    /// The image as a number, or `None` if the policy refuses the number.
     #[inline(always)]
     pub fn admitted(self, policy: Policy) -> Option<i128>
         ensures image { IfSome result (λ c. ¬ IsRefused policy self.is_out_of_range × (c ≡ number_of_image self)) }
@@ -129,7 +131,7 @@ impl Image {
     }
 }
 
-/// The number with that sign and magnitude.
+/// Returns the number with this sign and magnitude.
 #[inline(always)]
 pub fn signed_number(negative: bool, magnitude: u64) -> i128
     ensures { result ≡ with_sign negative magnitude }
@@ -141,16 +143,17 @@ pub fn signed_number(negative: bool, magnitude: u64) -> i128
     }
 }
 
-/// Whether a number is negative, and how far it is from zero.
+/// Returns whether a number is negative, and its magnitude.
 #[inline(always)]
 pub fn sign_and_magnitude(v: i128) -> (bool, u64)
     requires { IsWide v }
-    ensures { with_sign result.0 result.1 ≡ v }
+    ensures value { with_sign result.0 result.1 ≡ v }
+    ensures sign { result.0 ≡ is_negative v }
 {
     (v < 0, v.unsigned_abs() as u64)
 }
 
-/// A number of as many ones as a format has bits.
+/// Returns a number of as many ones as a format has bits.
 #[inline(always)]
 fn ones(format: Format) -> u64
     ensures ones { result ≡ 2 ^ format.width - 1 }
@@ -159,7 +162,7 @@ fn ones(format: Format) -> u64
     u64::MAX >> (64 - format.width())
 }
 
-/// The greatest magnitude of a format's numbers with that sign.
+/// Returns the greatest magnitude of a format's numbers with this sign.
 #[inline(always)]
 pub(crate) fn greatest_magnitude(format: Format, negative: bool) -> u64
     ensures magnitude { result ≡ greatest_magnitude format.signed negative format.width }
@@ -175,7 +178,7 @@ pub(crate) fn greatest_magnitude(format: Format, negative: bool) -> u64
     }
 }
 
-/// The greatest magnitude of those numbers that a policy leaves in use. Its conditions are joined without a branch.
+/// Returns the greatest magnitude in the policy's range. Its conditions are joined without a branch.
 #[inline(always)]
 fn greatest_magnitude_by(format: Format, policy: Policy, negative: bool) -> u64
     ensures magnitude { result ≡ greatest_magnitude_by policy format.signed negative format.width }
@@ -185,7 +188,7 @@ fn greatest_magnitude_by(format: Format, policy: Policy, negative: bool) -> u64
     greatest_magnitude(format, negative) - u64::from(is_short)
 }
 
-/// The lowest bits of a magnitude, as many as a format has.
+/// Returns the lowest bits of a magnitude, as many as a format has.
 #[inline(always)]
 fn low_bits(format: Format, magnitude: u64) -> u64
     ensures bits { result ≡ magnitude % 2 ^ format.width }
@@ -194,8 +197,8 @@ fn low_bits(format: Format, magnitude: u64) -> u64
     magnitude & ones(format)
 }
 
-/// The Wrapping image of the number with that sign and magnitude. Its lowest bits, with its sign, are in range up to
-/// the end of the range on that side; above it, what they lack of a whole turn is, with the other sign.
+/// Returns the Wrapping image of the number with this sign and magnitude. Its lowest bits, with its sign, are in range
+/// up to the end of the range on that side; above it, the image is what they lack of a whole turn, with the other sign.
 #[inline(always)]
 fn wrapped(format: Format, negative: bool, magnitude: u64) -> (bool, u64)
     ensures image { IsWrapped format.signed format.width (with_sign negative magnitude) (with_sign result.0 result.1) }
@@ -214,8 +217,8 @@ fn wrapped(format: Format, negative: bool, magnitude: u64) -> (bool, u64)
 /// How many of two numbers may be out of range, for each policy.
 const ADMITTED: [u8; 4] = [0, 2, 2, 2];
 
-/// Whether a policy refuses two numbers one of which may be out of its range. It is one comparison with a table's
-/// entry: of three conditions each would be a branch, and often mispredicted.
+/// Whether a policy refuses two numbers, of which one may be out of its range. It is one comparison with a table's
+/// entry: each of three conditions would be a branch, and often mispredicted.
 #[inline(always)]
 pub fn is_refused(policy: Policy, is_first_out: bool, is_second_out: bool) -> bool
     ensures { IsTrue result ↔ ((policy ≡ Policy.Checked) × (IsTrue is_first_out ⊎ IsTrue is_second_out)) }
@@ -223,7 +226,7 @@ pub fn is_refused(policy: Policy, is_first_out: bool, is_second_out: bool) -> bo
     u8::from(is_first_out) + u8::from(is_second_out) > ADMITTED[policy as usize]
 }
 
-/// Whether the image of a number by the policy is an end of the range, and not its Wrapping image.
+/// Whether the policy's image of a number is an end of the range, and not its Wrapping image.
 #[inline(always)]
 fn is_at_end(policy: Policy, is_out_of_range: bool) -> bool
     ensures { IsTrue result ↔ (((policy ≡ Policy.Saturating) ⊎ (policy ≡ Policy.Symmetric)) × IsTrue is_out_of_range) }
@@ -236,7 +239,7 @@ fn is_at_end(policy: Policy, is_out_of_range: bool) -> bool
     }
 }
 
-/// The first of two, or the second. A call of its own for each of two choices lets each be made without a branch.
+/// Chooses the first or the second value. A separate call for each of two choices lets each be made without a branch.
 #[inline(always)]
 fn choice<T: Copy>(is_first: bool, first: T, second: T) -> T
     ensures { result ≡ (if is_first then first else second) }
@@ -244,7 +247,7 @@ fn choice<T: Copy>(is_first: bool, first: T, second: T) -> T
     if is_first { first } else { second }
 }
 
-/// The magnitude over two to the power of `k`, rounded down, and what is left of it.
+/// Returns the magnitude over two to the power of `k`, rounded down, and the rest.
 #[inline(always)]
 fn split_low_bits(magnitude: u64, k: u32) -> (u64, u64)
     requires { k ≤ 64 }
@@ -258,7 +261,7 @@ fn split_low_bits(magnitude: u64, k: u32) -> (u64, u64)
     }
 }
 
-/// The magnitude of the number that is left where the last `k` bits are taken off and the number is rounded down.
+/// Returns the magnitude of a number without its last `k` bits. The number is rounded down.
 #[inline(always)]
 fn floored_magnitude(negative: bool, magnitude: u64, k: u32) -> u64
     requires { k ≤ 64 }
@@ -272,7 +275,7 @@ fn floored_magnitude(negative: bool, magnitude: u64, k: u32) -> u64
     }
 }
 
-/// The magnitude times two to the power of `k`.
+/// Returns the magnitude times two to the power of `k`.
 #[inline(always)]
 fn grown_magnitude(magnitude: u64, k: u32) -> u128
     requires { k ≤ 64 }
@@ -281,13 +284,14 @@ fn grown_magnitude(magnitude: u64, k: u32) -> u128
     u128::from(magnitude) << k
 }
 
-/// The number with that sign and magnitude moved from fraction length `from` to `to`, rounded down (floor). It is made
-/// shorter, then longer, and at least one of the two does nothing; which of them does changes from line to line.
+/// Moves the number with this sign and magnitude from fraction length `from` to `to`, rounded down (floor). It is made
+/// shorter, then longer, and at least one of the two does nothing; which one changes from line to line.
 #[inline(always)]
 pub fn moved(negative: bool, magnitude: u64, from: u32, to: u32) -> Number
     requires from { from ≤ 64 }
     requires to { to ≤ 64 }
-    ensures { IsNumber result (down (with_sign negative magnitude) from to) }
+    ensures value { IsNumber result (down (with_sign negative magnitude) from to) }
+    ensures sign { result.negative ≡ negative }
 {
     let whole = floored_magnitude(negative, magnitude, from.saturating_sub(to));
     Number::new(negative, grown_magnitude(whole, to.saturating_sub(from)))

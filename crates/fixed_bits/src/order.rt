@@ -7,7 +7,7 @@ ghost use Rattle.fixed_bits.specs.Order.{rank, rank_in_width, rank_of_width};
 
 use crate::format::Format;
 
-/// How many formats there are with as many bits as an integer type has.
+/// How many formats are as wide as an integer type, with a fraction that is not longer.
 pub const FORMAT_COUNT: usize = 248;
 
 /// The rank of the first format with 16 bits, and of those with 32 and 64.
@@ -18,8 +18,8 @@ const FIRST_OF_32: u32 = 52;
 const FIRST_OF_64: u32 = 118;
 
 impl Format {
-    /// The number of the format in the order, from 0 to 247. `None` exactly where the width isn't 8, 16, 32 or 64, or
-    /// the fraction is longer than the width.
+    /// The number of the format in the order, from 0 to 247. `None` exactly if the width isn't 8, 16, 32 or 64, or the
+    /// fraction is longer than the width.
     pub fn rank(self) -> Option<usize>
         ensures exists { IsSome result ↔ IsTypeFormat self.width self.frac }
         ensures rank { IfSome result (λ i. (i ≡ rank self) × (i < FORMAT_COUNT)) }
@@ -34,7 +34,7 @@ impl Format {
     }
 }
 
-/// The rank of the first format with this many bits. `None` exactly where it isn't the width of an integer type.
+/// Returns the rank of the first format with this many bits. `None` exactly if no integer type has this width.
 fn first_of_width(width: u32) -> Option<u32>
     ensures exists { IsSome result ↔ IsTypeWidth width }
     ensures rank { IfSome result (λ i. (i ≡ rank_of_width width) × (i + 2 * (width + 1) ≤ FORMAT_COUNT)) }
@@ -48,7 +48,7 @@ fn first_of_width(width: u32) -> Option<u32>
     }
 }
 
-/// The format with number `i` in the order, from 0; `None` exactly where `i` is 248 or more.
+/// Returns the format with number `i` in the order, from 0; `None` exactly if `i` is 248 or more.
 pub fn format_at(i: usize) -> Option<Format>
     ensures exists { IsSome result ↔ (i < FORMAT_COUNT) }
     ensures rank { IfSome result (λ f. IsTypeFormat f.width f.frac × (rank f ≡ i)) }
@@ -68,7 +68,7 @@ pub fn format_at(i: usize) -> Option<Format>
     }
 }
 
-/// The format with number `i` among those with this many bits.
+/// Returns the format with number `i` among those with this many bits.
 fn format_of_width(width: u32, i: u32) -> Option<Format>
     requires width { IsTypeWidth width }
     requires below { i < 2 * (width + 1) }

@@ -1,4 +1,4 @@
-//! Rounding a magnitude to whole units: the one table of modes, for what is left of a unit after the whole ones.
+//! Rounding a magnitude to whole units: the one table of modes, by what remains of a unit after the whole ones.
 
 ghost use Rattle.std.specs.Prelude.{◌≡◌, ◌+◌, ◌*◌, ◌%◌, ◌^◌, ◌<◌, ◌≤◌, ℕ, false};
 ghost use Rattle.fixed_bits.specs.LostFractions.{IsLostFraction, quarters};
@@ -6,7 +6,7 @@ ghost use Rattle.fixed_bits.specs.Rounded.{IsRounded};
 
 use crate::mode::ReadMode;
 
-/// What is left of a unit after the whole ones.
+/// What remains of a unit after the whole ones.
 #[derive(Clone, Copy, Debug, PartialEq, Eq)]
 pub enum LostFraction {
     /// Nothing.
@@ -19,7 +19,7 @@ pub enum LostFraction {
     MoreThanHalf,
 }
 
-/// What a rest is of its unit.
+/// Compares a rest to its unit.
 pub fn lost_fraction(rest: u128, unit: u128) -> LostFraction
     requires rest { rest < unit }
     requires unit { unit ≤ 2 ^ 64 }
@@ -36,9 +36,9 @@ pub fn lost_fraction(rest: u128, unit: u128) -> LostFraction
     }
 }
 
-/// How many units the rounding adds to a magnitude of whole units and `rest / unit` of one: none or one. `odd` is 1 if
-/// the count of whole units is odd. The mode is that of a magnitude, see `magnitude_mode_of`.
-// One comparison decides in each mode, since a branch on what is left cannot be predicted.
+/// How many units rounding adds to a magnitude of whole units and `rest / unit` of one: none or one. `odd` is 1 if the
+/// count of whole units is odd. The mode is that of a magnitude, see `magnitude_mode_of`.
+// One comparison decides in each mode, because a branch on the rest cannot be predicted.
 #[inline(always)]
 pub fn share_increment(rest: u64, unit: u64, odd: u64, mode: ReadMode) -> u64
     requires small { rest < unit }
@@ -56,7 +56,7 @@ pub fn share_increment(rest: u64, unit: u64, odd: u64, mode: ReadMode) -> u64
     }
 }
 
-/// As many quarters of a unit as a lost fraction is like.
+/// Returns how many quarters of a unit stand for a lost fraction.
 fn quarters_of(lost: LostFraction) -> u64
     ensures { result ≡ quarters lost }
 {
@@ -68,7 +68,7 @@ fn quarters_of(lost: LostFraction) -> u64
     }
 }
 
-/// How many units the rounding adds where this is lost: none or one. A lost fraction is rounded as its quarters are.
+/// How many units rounding adds for a lost fraction: none or one. It is rounded as its quarters are.
 #[inline]
 pub fn rounding_increment(lost: LostFraction, odd: u64, mode: ReadMode) -> u64
     requires { odd < 2 }

@@ -21,7 +21,7 @@ ranked_as P Q R P' Q' R' Less p q r h = p h
 ranked_as P Q R P' Q' R' Equal p q r h = q h
 ranked_as P Q R P' Q' R' Greater p q r h = r h
 
--- two pairs that stand alike are ordered alike
+-- pairs in the same relation compare the same
 pub alike : (a b c d : ℤ) → (a <ℤ b → c <ℤ d) → (a ≡ b → c ≡ d) → (b <ℤ a → d <ℤ c) → int_cmp a b ≡ int_cmp c d
 alike a b c d p q r = int_cmp_is c d (int_cmp a b) (ranked_as (a <ℤ b) (a ≡ b) (b <ℤ a) (c <ℤ d) (c ≡ d) (d <ℤ c) (int_cmp a b) p q r (int_ranks a b))
 
@@ -36,7 +36,7 @@ pub of_values : OrderIsOfValues
 unfolding order_of
 of_values b f c g = int_ranks (b *ℤ pos (2 ^ g)) (c *ℤ pos (2 ^ f))
 
--- equal cross products
+-- numbers with equal cross products compare the same with any other number
 congr : (b : ℤ) (f : ℕ) (c : ℤ) (g : ℕ) (d : ℤ) (h : ℕ) → b *ℤ pos (2 ^ g) ≡ c *ℤ pos (2 ^ f) → order_of b f d h ≡ order_of c g d h
 unfolding order_of
 congr b f c g d h e =
@@ -77,7 +77,7 @@ total = record {
 pub exact_alike : ExactIsEqual
 exact_alike b f g c h e = congr (down b f g) g b f c h e
 
--- ---- what represents a product is ordered like it
+-- ---- the representative of a product compares like the product
 side_cmp : (v w e : ℤ) → OnSameSide v w → IsWide e → int_cmp v e ≡ int_cmp w e
 side_cmp v w e o x = alike v e w e (side_below v w e o x) (λ q. at_side o (rw q x) ∙ q) (side_above v w e o x)
   where
@@ -86,7 +86,7 @@ side_cmp v w e o x = alike v e w e (side_below v w e o x) (λ q. at_side o (rw q
     at_side (inr (inl q)) y = absurd (let a = q.0 in let b = y.high in omega (arith, ints))
     at_side (inr (inr q)) y = absurd (let a = q.0 in let b = y.low in omega (arith, ints))
 
--- the side with the shorter fraction grows
+-- the number with the shorter fraction is shifted
 grow : (b : ℤ) (f : ℕ) (c : ℤ) (g : ℕ) → f ≤ g → int_cmp (shifted b (g - f)) c ≡ order_of b f c g
 unfolding order_of
 grow b f c g l =
@@ -105,5 +105,5 @@ turned b f c g = int_cmp_total.antisymm (b *ℤ pos (2 ^ g)) (c *ℤ pos (2 ^ f)
 pub compare_right : (b : ℤ) (f : ℕ) (c : ℤ) (g : ℕ) (w : ℤ) → g ≤ f → IsWide b → Represents (shifted c (f - g)) w → int_cmp b w ≡ order_of b f c g
 compare_right b f c g w l x st = int_cmp_total.antisymm b w ∙ ap ordering_reverse (compare_left c g b f w l x st) ∙ sym (turned b f c g)
 
--- what is used of a comparison of the code's numbers
+-- rules for comparisons of the code's numbers
 pub ruleset comparing = (to_z-of_z, compare_left, compare_right)

@@ -1,4 +1,4 @@
--- What the proofs of the crates above may cite.
+-- Lemmas for the proofs of dependent crates.
 use Rattle.std.specs.Prelude.{◌≡◌, ℕ, ◌<◌, ℤ, pos, ◌*ℤ◌}
 use Rattle.std.specs.Ordering.{int_cmp}
 use Rattle.fixed_convert.specs.Laws.{OrderIsTotal}
@@ -13,7 +13,7 @@ moved_in_is_the_one = RoundedLemmas.moved_in_is_the_one
 pub reformatted_is_the_one : ReformattedIsTheOne
 reformatted_is_the_one = RoundedLemmas.reformatted_is_the_one
 
--- ---- the order
+-- ---- the order of values
 
 pub cmp_times : (a b : ℤ) (m : ℕ) → 0 < m → int_cmp a b ≡ int_cmp (a *ℤ pos m) (b *ℤ pos m)
 cmp_times = OrderLemmas.cmp_times

@@ -1,4 +1,4 @@
--- Numbers that represent others: the same images, the same side of every range.
+-- Representatives of numbers: the same images, and the same side of every range.
 use Rattle.std.proofs.Common.{IsTrue, not, ◌≡◌, ℕ, suc, ◌+◌, ◌-◌, ◌*◌, ◌^◌, ◌≤◌, Bool, true, false, ℤ, pos, negsuc, neg_ℤ, arith, refl, sym, ap, inl, inr, ⊎_elim, ◌∙◌, mul-le-mul_right}
 use Rattle.std.specs.Prelude.{◌<ℤ◌, ◌↔◌}
 use Rattle.std.proofs.lemmas.Int.{ints}
@@ -12,7 +12,7 @@ use Rattle.fixed_bits.proofs.Public.{in_range_of, lowest_left_wide, near_joined,
 use Rattle.fixed_convert.specs.Moved.{shifted}
 use Rattle.fixed_convert.specs.Inner.Representative.{Represents, OnSameSide}
 
--- ---- both are on the same side of each wide number
+-- ---- the same side of each wide number
 pub side_turned : (v w : ℤ) → OnSameSide v w → OnSameSide w v
 side_turned v w (inl e) = inl (sym e)
 side_turned v w (inr (inl h)) = inr (inl (h.1, h.0))
@@ -66,7 +66,7 @@ represents_image Symmetric s n v w c l st h = record {
   above = λ x. h.above (side_above v w (greatest s n) st.side (ends_wide s n l).1 x);
 }
 
--- ---- what represents a product
+-- ---- the representative of a product
 split_power : (k : ℕ) → 64 ≤ k → 2 ^ k ≡ 2 ^ (k - 64) * 2 ^ 64
 split_power k l = let i : k ≡ (k - 64) + 64 = omega arith in ap (λ x. 2 ^ x) i ∙ pow-add 2 (k - 64) 64
 
@@ -94,7 +94,7 @@ represents_below (negsuc a) k l h =
       side = inr (inr (omega (arith, ints, p, q), omega (arith, ints)));
     }
 
--- the contrary of "in range"
+-- the negated test of "in range" tests "out of range"
 pub flag_out : (t : Bool) (s : Bool) (n : ℕ) (v : ℤ) → (IsTrue t ↔ IsInRange s n v) → IsTrue (not t) ↔ IsOutOfRange s n v
 flag_out true s n v e = ((λ x. absurd (let y : false ≡ true = x in cc)), (λ o. absurd ((range_decided s n v).1 o (e.0 refl))))
 flag_out false s n v e = ((λ x. ⊎_elim (λ h. absurd (let y : false ≡ true = e.1 h in cc)) (λ o. o) (range_decided s n v).0), (λ o. refl))

@@ -23,7 +23,7 @@ moved_by mode b v f g q negative e rounded value = record {
   value = value ∙ ap (λ (n : Bool). with_sign n q) (sym e);
 }
 
--- ---- to a fraction length that is not shorter
+-- ---- to an equal or longer fraction length
 powers_joined : (a f g : ℕ) → f ≤ g → a * 2 ^ (g - f) * 2 ^ f ≡ a * 2 ^ g
 powers_joined a f g h =
     let i : (g - f) + f ≡ g = omega arith in
@@ -38,11 +38,11 @@ moved_longer mode (negsuc a) f g h =
     moved_by mode (negsuc a) (shifted (negsuc a) (g - f)) f g (suc a * 2 ^ (g - f)) true refl
     (subst (λ (x : ℕ). IsRounded mode true x (2 ^ f) (suc a * 2 ^ (g - f))) (powers_joined (suc a) f g h) (rounded_exact mode true (suc a * 2 ^ (g - f)) (2 ^ f) (pow_pos f))) (omega (arith, ints))
 
--- the number is moved as it is moved down
+-- moving in any mode to an equal or longer fraction length is moving down
 pub moved_exact : (mode : ReadMode) (b : ℤ) (f g : ℕ) → f ≤ g → IsMovedIn mode b f g (down b f g)
 moved_exact mode b f g h = subst (λ (v : ℤ). IsMovedIn mode b f g v) (grown b f g h) (moved_longer mode b f g h)
 
--- ---- to a shorter one
+-- ---- to an equal or shorter fraction length
 pub moved_shorter : (mode : ReadMode) (b v : ℤ) (f g q : ℕ) → g ≤ f → IsRounded mode (is_negative b) (unsigned_abs b) (2 ^ (f - g)) q
     → v ≡ with_sign (is_negative b) q → IsMovedIn mode b f g v
 moved_shorter mode b v f g q h rounded value =
@@ -54,7 +54,7 @@ nothing_rounded mode negative u h =
     let e : 0 * u ≡ 0 = omega arith in
     subst (λ (k : ℕ). IsRounded mode negative k u 0) e (rounded_exact mode negative 0 u h)
 
--- by sign and magnitude, where zero may have either sign
+-- by sign and magnitude; zero may have either sign
 pub moved_parts : (mode : ReadMode) (negative : Bool) (m f g q : ℕ) → g ≤ f → IsRounded mode negative m (2 ^ (f - g)) q → IsMovedIn mode (with_sign negative m) f g (with_sign negative q)
 moved_parts mode false m f g q h rounded = moved_shorter mode (pos m) (pos q) f g q h (rw (not_negative m) rounded) (rw (not_negative m) refl)
 moved_parts mode true (suc m) f g q h rounded = moved_shorter mode (negsuc m) (with_sign true q) f g q h rounded refl
@@ -64,7 +64,7 @@ moved_parts mode true zero f g q h rounded =
     let zero_is : IsMovedIn mode (pos 0) f g (pos 0) = moved_shorter mode (pos 0) (pos 0) f g 0 h (rw (not_negative 0) (nothing_rounded mode false (2 ^ (f - g)) unit)) refl in
     subst (λ (k : ℕ). IsMovedIn mode (pos 0) f g (with_sign true k)) (sym none) zero_is
 
--- half of 64 bits at most are left where a magnitude is shortened
+-- a magnitude of 64 bits shifted down by at least one bit is below 2^63
 pub half_at_most : (m bits : ℕ) → 0 < bits → m < 2 ^ 64 → m / 2 ^ bits < 2 ^ 63
 half_at_most m zero some few = absurd (omega arith)
 half_at_most m (suc bits) some few =

@@ -6,11 +6,11 @@ use Rattle.fixed_bits.specs.Ranges.{IsTypeWidth}
 abbrev pub shifted : ℤ → ℕ → ℤ
 shifted b k = b *ℤ pos (2 ^ k)
 
--- how many bits a number has: one where it is a truth value, else those of a format
+-- the width of a number in bits: 1 for a truth value, else that of an integer type
 abbrev pub IsNumWidth : ℕ → Type 0
 IsNumWidth n = (n ≡ 1) ⊎ IsTypeWidth n
 
--- the whole bits of the source are enough for the target: their sign rules and counts
+-- the target has room for the source's whole bits: the sign rules of source and target, and their counts of whole bits
 abbrev pub HasRoom : Bool → Bool → ℕ → ℕ → Type 0
 HasRoom true true s t = s ≤ t
 HasRoom false false s t = s ≤ t

@@ -3,7 +3,7 @@ use Rattle.std.specs.Prelude.{ℕ, ◌^◌, ℤ, pos, ◌*ℤ◌}
 use Rattle.std.specs.declared.cmp.Ordering.{Ordering}
 use Rattle.std.specs.Ordering.{int_cmp}
 
--- a number by its bits b and its fraction length f: its value is b / 2^f
+-- a number, as its bits b and its fraction length f: its value is b / 2^f
 pub record Number : Type 0 where
   pub bits : ℤ
   pub frac : ℕ

@@ -18,8 +18,8 @@ pub record IsMovedIn (mode : ReadMode) (b : ℤ) (f g : ℕ) (v : ℤ) : Type 0 
   pub rounded : IsRounded mode (is_negative b) (unsigned_abs b * 2 ^ g) (2 ^ f) ulps
   pub value : v ≡ with_sign (is_negative b) ulps
 
--- image is that of the moved number in the target, and overflowed says whether the moved number is out of the range
--- that the policy leaves there
+-- image is that of the moved number in the target, and overflowed says whether the moved number is out of the policy's
+-- range there
 pub record IsReformatted (mode : ReadMode) (policy : Policy) (target : FormatParts) (b : ℤ) (f : ℕ) (image : ℤ)
     (overflowed : Bool) : Type 0 where
   pub moved : ℤ
@@ -27,14 +27,14 @@ pub record IsReformatted (mode : ReadMode) (policy : Policy) (target : FormatPar
   pub image_is : IsImage policy target.signed target.width moved image
   pub verdict : IsTrue overflowed ↔ IsOutOfRangeBy policy target.signed target.width moved
 
--- under Checked the moved number is out of the target's range, and so it has no image
+-- the moved number is out of the target's range under Checked, so it has no image
 pub record IsNotReformatted (mode : ReadMode) (policy : Policy) (target : FormatParts) (b : ℤ) (f : ℕ) : Type 0 where
   pub moved : ℤ
   pub is_moved : IsMovedIn mode b f target.frac moved
   pub checked : policy ≡ Checked
   pub out : IsOutOfRange target.signed target.width moved
 
--- each number is moved to exactly one in each mode
+-- each number moves to exactly one number in each mode
 abbrev pub MovedInIsTheOne : Type 0
 MovedInIsTheOne = (mode : ReadMode) (b : ℤ) (f g : ℕ) → (v : ℤ) × IsMovedIn mode b f g v
     × ((w : ℤ) → IsMovedIn mode b f g w → w ≡ v)
@@ -43,7 +43,7 @@ MovedInIsTheOne = (mode : ReadMode) (b : ℤ) (f g : ℕ) → (v : ℤ) × IsMov
 abbrev pub FloorIsDown : Type 0
 FloorIsDown = (b : ℤ) (f g : ℕ) → IsMovedIn Floor b f g (down b f g)
 
--- a number has one image in a format and one verdict, or it has none
+-- a number has one image and one verdict in a format, or none
 abbrev pub ReformattedIsTheOne : Type 0
 ReformattedIsTheOne = (mode : ReadMode) (policy : Policy) (target : FormatParts) (b : ℤ) (f : ℕ) (c : ℤ) (o : Bool)
     → IsFormat target.width target.frac → IsReformatted mode policy target b f c o

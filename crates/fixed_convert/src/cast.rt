@@ -12,15 +12,15 @@ use crate::to_number::{
     checked_number, overflowing_number, plain_number, saturating_number, wrapping_number,
 };
 
-/// A cast that gives the moved number, which fits.
+/// A cast that returns the moved number, which must fit.
 pub trait Cast<D> {
-    /// What has to hold before the call.
+    /// What must hold before the call.
     ghost can_cast: { Self → Type 0 };
 
-    /// What the answer is.
+    /// What the call returns.
     ghost cast_gives: { Self → D → Type 0 };
 
-    /// Gives the moved number, which fits.
+    /// Returns the moved number, which must fit.
     fn cast(self) -> D
         requires { can_cast self }
         ensures { cast_gives self result };
@@ -37,15 +37,15 @@ impl<S: Num, D: NumTarget> Cast<D> for S {
     }
 }
 
-/// A cast that gives the moved number, where it fits.
+/// A cast that returns the moved number if it fits.
 pub trait CheckedCast<D> {
-    /// What has to hold before the call.
+    /// What must hold before the call.
     ghost can_checked_cast: { Self → Type 0 };
 
-    /// What the answer is.
+    /// What the call returns.
     ghost checked_cast_gives: { Self → Option D → Type 0 };
 
-    /// Gives the moved number; `None` exactly where it does not fit.
+    /// Returns the moved number; `None` exactly if it does not fit.
     fn checked_cast(self) -> Option<D>
         requires { can_checked_cast self }
         ensures { checked_cast_gives self result };
@@ -62,15 +62,15 @@ impl<S: Num, D: NumTarget> CheckedCast<D> for S {
     }
 }
 
-/// A cast that gives the Saturating image of the moved number.
+/// A cast that returns the Saturating image of the moved number.
 pub trait SaturatingCast<D> {
-    /// What has to hold before the call.
+    /// What must hold before the call.
     ghost can_saturating_cast: { Self → Type 0 };
 
-    /// What the answer is.
+    /// What the call returns.
     ghost saturating_cast_gives: { Self → D → Type 0 };
 
-    /// Gives the Saturating image of the moved number.
+    /// Returns the Saturating image of the moved number.
     fn saturating_cast(self) -> D
         requires { can_saturating_cast self }
         ensures { saturating_cast_gives self result };
@@ -87,15 +87,15 @@ impl<S: Num, D: NumTarget> SaturatingCast<D> for S {
     }
 }
 
-/// A cast that gives the Wrapping image of the moved number.
+/// A cast that returns the Wrapping image of the moved number.
 pub trait WrappingCast<D> {
-    /// What has to hold before the call.
+    /// What must hold before the call.
     ghost can_wrapping_cast: { Self → Type 0 };
 
-    /// What the answer is.
+    /// What the call returns.
     ghost wrapping_cast_gives: { Self → D → Type 0 };
 
-    /// Gives the Wrapping image of the moved number.
+    /// Returns the Wrapping image of the moved number.
     fn wrapping_cast(self) -> D
         requires { can_wrapping_cast self }
         ensures { wrapping_cast_gives self result };
@@ -111,15 +111,15 @@ impl<S: Num, D: NumTarget> WrappingCast<D> for S {
     }
 }
 
-/// A cast that gives the Wrapping image of the moved number, and whether it does not fit.
+/// A cast that returns the Wrapping image of the moved number, and whether it does not fit.
 pub trait OverflowingCast<D> {
-    /// What has to hold before the call.
+    /// What must hold before the call.
     ghost can_overflowing_cast: { Self → Type 0 };
 
-    /// What the answer is.
+    /// What the call returns.
     ghost overflowing_cast_gives: { Self → D → Bool → Type 0 };
 
-    /// Gives the Wrapping image of the moved number, and whether it does not fit.
+    /// Returns the Wrapping image of the moved number, and whether it does not fit.
     fn overflowing_cast(self) -> (D, bool)
         requires { can_overflowing_cast self }
         ensures { overflowing_cast_gives self result.0 result.1 };
@@ -137,15 +137,15 @@ impl<S: Num, D: NumTarget> OverflowingCast<D> for S {
     }
 }
 
-/// A cast that gives the moved number, which fits.
+/// A cast that returns the moved number, which must fit.
 pub trait StrictCast<D> {
-    /// What has to hold before the call.
+    /// What must hold before the call.
     ghost can_strict_cast: { Self → Type 0 };
 
-    /// What the answer is.
+    /// What the call returns.
     ghost strict_cast_gives: { Self → D → Type 0 };
 
-    /// Gives the moved number, which fits.
+    /// Returns the moved number, which must fit.
     fn strict_cast(self) -> D
         requires { can_strict_cast self }
         ensures { strict_cast_gives self result };
@@ -162,15 +162,15 @@ impl<S: Num, D: NumTarget> StrictCast<D> for S {
     }
 }
 
-/// A cast that gives the moved number, which fits.
+/// A cast that returns the moved number, which must fit.
 pub trait UnwrappedCast<D> {
-    /// What has to hold before the call.
+    /// What must hold before the call.
     ghost can_unwrapped_cast: { Self → Type 0 };
 
-    /// What the answer is.
+    /// What the call returns.
     ghost unwrapped_cast_gives: { Self → D → Type 0 };
 
-    /// Gives the moved number, which fits.
+    /// Returns the moved number, which must fit.
     fn unwrapped_cast(self) -> D
         requires { can_unwrapped_cast self }
         ensures { unwrapped_cast_gives self result };

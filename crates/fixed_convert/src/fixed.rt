@@ -16,14 +16,14 @@ use fixed_bits::{FixedBits, Inner};
 
 /// A number that can be moved into a type of fixed-point numbers.
 pub trait ToFixed: Num {
-    /// Gives the moved number, which fits.
+    /// Returns the moved number, which must fit.
     fn to_fixed<F: FixedBits>(self) -> F
         requires source { Self.FRAC ≤ Self.WIDTH }
         requires target { F.FRAC_NBITS ≤ F.Inner.BITS }
         requires fits { IsInRange F.Inner.SIGNED F.Inner.BITS (down (Self.wide self) Self.FRAC F.FRAC_NBITS) }
         ensures { F.Inner.number (F.bits_of result) ≡ down (Self.wide self) Self.FRAC F.FRAC_NBITS };
 
-    /// Gives the moved number; `None` exactly where it does not fit.
+    /// Returns the moved number; `None` exactly if it does not fit.
     fn checked_to_fixed<F: FixedBits>(self) -> Option<F>
         requires source { Self.FRAC ≤ Self.WIDTH }
         requires target { F.FRAC_NBITS ≤ F.Inner.BITS }
@@ -31,21 +31,21 @@ pub trait ToFixed: Num {
             (down (Self.wide self) Self.FRAC F.FRAC_NBITS) }
         ensures same { IfSome result (λ x. F.Inner.number (F.bits_of x) ≡ down (Self.wide self) Self.FRAC F.FRAC_NBITS) };
 
-    /// Gives the Saturating image of the moved number.
+    /// Returns the Saturating image of the moved number.
     fn saturating_to_fixed<F: FixedBits>(self) -> F
         requires source { Self.FRAC ≤ Self.WIDTH }
         requires target { F.FRAC_NBITS ≤ F.Inner.BITS }
         ensures { IsImage Saturating F.Inner.SIGNED F.Inner.BITS (down (Self.wide self) Self.FRAC F.FRAC_NBITS)
             (F.Inner.number (F.bits_of result)) };
 
-    /// Gives the Wrapping image of the moved number.
+    /// Returns the Wrapping image of the moved number.
     fn wrapping_to_fixed<F: FixedBits>(self) -> F
         requires source { Self.FRAC ≤ Self.WIDTH }
         requires target { F.FRAC_NBITS ≤ F.Inner.BITS }
         ensures { IsImage Wrapping F.Inner.SIGNED F.Inner.BITS (down (Self.wide self) Self.FRAC F.FRAC_NBITS)
             (F.Inner.number (F.bits_of result)) };
 
-    /// Gives the Wrapping image of the moved number, and whether it does not fit.
+    /// Returns the Wrapping image of the moved number, and whether it does not fit.
     fn overflowing_to_fixed<F: FixedBits>(self) -> (F, bool)
         requires source { Self.FRAC ≤ Self.WIDTH }
         requires target { F.FRAC_NBITS ≤ F.Inner.BITS }
@@ -54,7 +54,7 @@ pub trait ToFixed: Num {
         ensures verdict { IsTrue result.1 ↔ IsOutOfRange F.Inner.SIGNED F.Inner.BITS
             (down (Self.wide self) Self.FRAC F.FRAC_NBITS) };
 
-    /// Gives the moved number, which fits.
+    /// Returns the moved number, which must fit.
     fn strict_to_fixed<F: FixedBits>(self) -> F
         requires source { Self.FRAC ≤ Self.WIDTH }
         requires target { F.FRAC_NBITS ≤ F.Inner.BITS }
@@ -92,16 +92,16 @@ impl<T: Num> ToFixed for T {
     }
 }
 
-/// A number that can be made of a fixed-point number.
+/// A number that can be made from a fixed-point number.
 pub trait FromFixed: NumTarget {
-    /// Gives the moved number, which fits.
+    /// Returns the moved number, which must fit.
     fn from_fixed<F: FixedBits>(src: F) -> Self
         requires source { F.FRAC_NBITS ≤ F.Inner.BITS }
         requires target { Self.FRAC ≤ Self.WIDTH }
         requires fits { IsInRange Self.SIGNED Self.WIDTH (down (F.Inner.number (F.bits_of src)) F.FRAC_NBITS Self.FRAC) }
         ensures { Self.wide result ≡ down (F.Inner.number (F.bits_of src)) F.FRAC_NBITS Self.FRAC };
 
-    /// Gives the moved number; `None` exactly where it does not fit.
+    /// Returns the moved number; `None` exactly if it does not fit.
     fn checked_from_fixed<F: FixedBits>(src: F) -> Option<Self>
         requires source { F.FRAC_NBITS ≤ F.Inner.BITS }
         requires target { Self.FRAC ≤ Self.WIDTH }
@@ -109,21 +109,21 @@ pub trait FromFixed: NumTarget {
             (down (F.Inner.number (F.bits_of src)) F.FRAC_NBITS Self.FRAC) }
         ensures same { IfSome result (λ x. Self.wide x ≡ down (F.Inner.number (F.bits_of src)) F.FRAC_NBITS Self.FRAC) };
 
-    /// Gives the Saturating image of the moved number.
+    /// Returns the Saturating image of the moved number.
     fn saturating_from_fixed<F: FixedBits>(src: F) -> Self
         requires source { F.FRAC_NBITS ≤ F.Inner.BITS }
         requires target { Self.FRAC ≤ Self.WIDTH }
         ensures { IsImage Saturating Self.SIGNED Self.WIDTH (down
             (F.Inner.number (F.bits_of src)) F.FRAC_NBITS Self.FRAC) (Self.wide result) };
 
-    /// Gives the Wrapping image of the moved number.
+    /// Returns the Wrapping image of the moved number.
     fn wrapping_from_fixed<F: FixedBits>(src: F) -> Self
         requires source { F.FRAC_NBITS ≤ F.Inner.BITS }
         requires target { Self.FRAC ≤ Self.WIDTH }
         ensures { IsImage Wrapping Self.SIGNED Self.WIDTH (down (F.Inner.number (F.bits_of src)) F.FRAC_NBITS Self.FRAC)
             (Self.wide result) };
 
-    /// Gives the Wrapping image of the moved number, and whether it does not fit.
+    /// Returns the Wrapping image of the moved number, and whether it does not fit.
     fn overflowing_from_fixed<F: FixedBits>(src: F) -> (Self, bool)
         requires source { F.FRAC_NBITS ≤ F.Inner.BITS }
         requires target { Self.FRAC ≤ Self.WIDTH }
@@ -132,7 +132,7 @@ pub trait FromFixed: NumTarget {
         ensures verdict { IsTrue result.1 ↔ IsOutOfRange Self.SIGNED Self.WIDTH
             (down (F.Inner.number (F.bits_of src)) F.FRAC_NBITS Self.FRAC) };
 
-    /// Gives the moved number, which fits.
+    /// Returns the moved number, which must fit.
     fn strict_from_fixed<F: FixedBits>(src: F) -> Self
         requires source { F.FRAC_NBITS ≤ F.Inner.BITS }
         requires target { Self.FRAC ≤ Self.WIDTH }

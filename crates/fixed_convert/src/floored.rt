@@ -15,9 +15,9 @@ use fixed_bits::{Format, Image, Inner, Policy, moved, sign_and_magnitude};
 /// The whole number `bits` times two to the power of `shift`.
 #[derive(Clone, Copy, Debug, PartialEq, Eq)]
 pub struct Floored {
-    /// A number within -2^63 and 2^64 - 1 wherever `floor_into` made it.
+    /// A number from -2^63 to 2^64 - 1 if `floor_into` made it.
     pub bits: i128,
-    /// How many zero bits are to follow, at most 64 wherever `floor_into` made it.
+    /// How many zero bits follow, at most 64 if `floor_into` made it.
     pub shift: u32,
 }
 
@@ -49,7 +49,7 @@ impl Floored {
         I::fits(self.representative())
     }
 
-    /// The number itself, or where it may be longer than 127 bits one with the same images.
+    /// Returns the number itself or, if it may be longer than 127 bits, one with the same images.
     pub(crate) fn representative(self) -> i128
         requires { IsWide self.bits }
         ensures { Represents (shifted self.bits self.shift) result }
@@ -66,7 +66,7 @@ impl Floored {
     }
 }
 
-/// A number times two to the power of `shift`.
+/// Returns a number times two to the power of `shift`.
 fn times_power(b: i128, shift: u32) -> i128
     requires wide { IsWide b }
     requires shift { shift < 64 }
@@ -75,8 +75,8 @@ fn times_power(b: i128, shift: u32) -> i128
     b << shift
 }
 
-/// The bits `b` moved down from fraction length `from` to fraction length `g`: the greatest whole number that is not
-/// above `b` times two to the power of `g`, over two to the power of `from`.
+/// Moves the bits `b` down from fraction length `from` to fraction length `g`. Returns the greatest whole number that
+/// is not above `b` · 2^`g` / 2^`from`.
 pub fn floor_into(b: i128, from: u32, g: u32) -> Floored
     requires wide { IsWide b }
     requires from { from ≤ 64 }
@@ -99,7 +99,7 @@ pub fn floor_into(b: i128, from: u32, g: u32) -> Floored
     }
 }
 
-/// The bits without the last `k`.
+/// Returns the bits without the last `k`.
 fn shifted_out(b: i128, k: u32) -> i128
     requires wide { IsWide b }
     requires shift { k ≤ 64 }
@@ -109,9 +109,9 @@ fn shifted_out(b: i128, k: u32) -> i128
     b >> k
 }
 
-/// The image of the number with that sign and magnitude, moved down from fraction length `from` to that of the format,
-/// and whether the moved number was out of the range that the policy leaves. Where it was, under `Checked`, there is no
-/// image, and any number in range is answered for it.
+/// Returns the image of the number with this sign and magnitude, moved down from fraction length `from` to that of the
+/// format, and whether the moved number was out of the policy's range. If it was, under `Checked`, there is no image,
+/// and any number in range is returned for it.
 #[inline(always)]
 pub fn reformat_signed(
     format: Format,
@@ -130,8 +130,8 @@ pub fn reformat_signed(
     moved(negative, magnitude, from, format.frac()).image(format, policy)
 }
 
-/// The image of the bits `b`, moved down from fraction length `from` to that of the format, and whether the moved
-/// number was out of the range that the policy leaves. `None` exactly where it was, under `Checked`.
+/// Returns the image of the bits `b`, moved down from fraction length `from` to that of the format, and whether the
+/// moved number was out of the policy's range. `None` exactly if it was, under `Checked`.
 pub fn reformat(format: Format, policy: Policy, b: i128, from: u32) -> Option<(i128, bool)>
     requires wide { IsWide b }
     requires from { from ≤ 64 }

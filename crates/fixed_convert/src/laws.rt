@@ -4,7 +4,7 @@ ghost use Rattle.fixed_convert.specs.Rounded.{FloorIsDown, MovedInIsTheOne, Refo
 ghost use Rattle.fixed_convert.specs.Laws.{FinerIsExact, ConversionIsUndone, OrderIsOfValues, OrderIsTotal};
 ghost use Rattle.fixed_convert.specs.Laws.{ExactIsEqual};
 
-/// Moving to a length that is no shorter loses nothing.
+/// Moving to a fraction length that is not shorter loses nothing.
 #[tactic(auto, using(crate::proofs::MovedLemmas::finer))]
 pub fn finer_is_exact()
     ensures { FinerIsExact }
@@ -34,7 +34,7 @@ pub fn exact_is_equal()
     ensures { ExactIsEqual }
 {}
 
-/// Each number is moved in each mode to exactly one.
+/// In each mode each number moves to exactly one number.
 pub fn moved_in_is_the_one()
     ensures { MovedInIsTheOne }
 {}
@@ -44,7 +44,7 @@ pub fn floor_is_down()
     ensures { FloorIsDown }
 {}
 
-/// A number moved in a mode has one image and one verdict in a format under a policy, or it is refused.
+/// A number moved in a mode has one image and one verdict in a format under a policy, or is refused.
 pub fn reformatted_is_the_one()
     ensures { ReformattedIsTheOne }
 {}

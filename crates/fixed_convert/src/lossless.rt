@@ -1,4 +1,4 @@
-//! Conversions that lose nothing, or fraction bits alone.
+//! Conversions that lose nothing, or only fraction bits.
 
 ghost use Rattle.std.specs.Prelude.{◌≡◌, ◌↔◌, ◌≤◌, ◌-◌, ◌^◌, ℤ, pos, ◌*ℤ◌, IsSome, IfSome, Option};
 ghost use Rattle.fixed_bits.specs.Ranges.{IsInRange};
@@ -8,15 +8,15 @@ ghost use Rattle.fixed_convert.specs.Moved.{HasRoom};
 use crate::num::{Num, NumTarget};
 use crate::to_number::{checked_number, plain_number};
 
-/// A conversion that loses fraction bits alone: the target has enough whole bits for every value of the source.
+/// A conversion that loses only fraction bits: the target has enough whole bits for every value of the source.
 pub trait LossyFrom<S> {
-    /// What has to hold before the call: both fraction lengths are at most the widths, and there are enough whole bits.
+    /// What must hold before the call: both fraction lengths are at most the widths, and there are enough whole bits.
     ghost can_lose: { Type 0 };
 
-    /// What the answer is.
+    /// What the call returns.
     ghost lossy_gives: { S → Self → Type 0 };
 
-    /// Gives the moved number, which fits.
+    /// Returns the moved number, which must fit.
     fn lossy_from(src: S) -> Self
         requires { can_lose }
         ensures { lossy_gives src result };
@@ -33,7 +33,7 @@ impl<S: Num, D: NumTarget> LossyFrom<S> for D {
     }
 }
 
-/// The moved number, for which there are enough whole bits.
+/// Returns the moved number. The target has enough whole bits.
 fn moved_with_room<S: Num, D: NumTarget>(src: S) -> D
     requires source { S.FRAC ≤ S.WIDTH }
     requires target { D.FRAC ≤ D.WIDTH }
@@ -43,16 +43,15 @@ fn moved_with_room<S: Num, D: NumTarget>(src: S) -> D
     plain_number(src.to_wide(), S::FRAC)
 }
 
-/// A conversion that loses nothing, where the value fits: the target has no shorter fraction than the source.
+/// A conversion that loses nothing if the value fits: the target's fraction is not shorter than the source's.
 pub trait LosslessTryFrom<S>: Sized {
-    /// What has to hold before the call: both fraction lengths are at most the widths, and that of the target is no
-    /// shorter.
+    /// What must hold before the call: both fraction lengths are at most the widths, and the target's is not shorter.
     ghost can_try: { Type 0 };
 
-    /// What the answer is.
+    /// What the call returns.
     ghost try_gives: { S → Option Self → Type 0 };
 
-    /// Gives the same value; `None` exactly where it does not fit.
+    /// Returns the same value; `None` exactly if it does not fit.
     fn lossless_try_from(src: S) -> Option<Self>
         requires { can_try }
         ensures { try_gives src result };
@@ -69,7 +68,7 @@ impl<S: Num, D: NumTarget> LosslessTryFrom<S> for D {
     }
 }
 
-/// The same value, exactly: the target has enough whole bits and no shorter fraction.
+/// Returns the same value, exactly: the target has enough whole bits, and its fraction is not shorter.
 pub fn lossless_from<S: Num, D: NumTarget>(src: S) -> D
     requires source { S.FRAC ≤ S.WIDTH }
     requires target { D.FRAC ≤ D.WIDTH }

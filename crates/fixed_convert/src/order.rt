@@ -7,8 +7,8 @@ ghost use Rattle.fixed_convert.specs.Order.{order_of};
 use crate::floored::Floored;
 use std::cmp::Ordering;
 
-/// The order of `b` over two to the power of `f` and `c` over two to the power of `g`, for fraction lengths `f` and `g`
-/// of any size.
+/// Compares `b` over two to the power of `f` with `c` over two to the power of `g`. The fraction lengths `f` and `g`
+/// may have any size.
 #[tactic(auto, using(crate::proofs::OrderLemmas::comparing))]
 pub fn compare(b: i128, f: u32, c: i128, g: u32) -> Ordering
     requires left { IsWide b }

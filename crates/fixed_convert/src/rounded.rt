@@ -11,8 +11,8 @@ use fixed_bits::{
     sign_and_magnitude, signed_number,
 };
 
-/// The image of the bits `b`, moved in a mode from fraction length `from` to that of the format, and whether the moved
-/// number was out of the range that the policy leaves. `None` exactly where it was, under `Checked`.
+/// Returns the image of the bits `b`, moved in a mode from fraction length `from` to that of the format, and whether
+/// the moved number was out of the policy's range. `None` exactly if it was, under `Checked`.
 pub fn reformat_mode(
     format: Format,
     policy: Policy,
@@ -40,7 +40,7 @@ pub fn reformat_mode(
     }
 }
 
-/// The bits `b` moved in a mode from fraction length `from` to a shorter one.
+/// Moves the bits `b` in a mode from fraction length `from` to a shorter one.
 fn moved_back(b: i128, from: u32, to: u32, mode: ReadMode) -> i128
     requires wide { IsWide b }
     requires from { from ≤ 64 }
@@ -52,7 +52,7 @@ fn moved_back(b: i128, from: u32, to: u32, mode: ReadMode) -> i128
     signed_number(negative, ulps)
 }
 
-/// A magnitude over two to the power of `bits`, rounded in a mode.
+/// Divides a magnitude by two to the power of `bits`, rounded in a mode.
 fn rounded_quotient(magnitude: u64, bits: u32, mode: ReadMode, negative: bool) -> u64
     requires low { 0 < bits }
     requires high { bits ≤ 64 }
@@ -63,7 +63,7 @@ fn rounded_quotient(magnitude: u64, bits: u32, mode: ReadMode, negative: bool) -
     whole + rounding_increment(lost, whole % 2, magnitude_mode_of(mode, negative))
 }
 
-/// A magnitude in units of two to the power of `bits`, and what is left.
+/// Returns a magnitude in units of two to the power of `bits`, and the rest.
 #[tactic(auto, using(crate::proofs::RoundedLemmas::half_at_most))]
 fn parts(magnitude: u64, bits: u32) -> (u64, u128)
     requires low { 0 < bits }
@@ -77,7 +77,7 @@ fn parts(magnitude: u64, bits: u32) -> (u64, u128)
     ((magnitude / unit) as u64, magnitude % unit)
 }
 
-/// Two to the power of `bits`.
+/// Returns two to the power of `bits`.
 fn power_of_two(bits: u32) -> u128
     requires { bits ≤ 64 }
     ensures { result ≡ 2 ^ bits }

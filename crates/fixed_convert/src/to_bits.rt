@@ -9,7 +9,7 @@ ghost use Rattle.fixed_bits.specs.declared.format.Policy.TheVariants.{Saturating
 use crate::floored::floor_into;
 use fixed_bits::Inner;
 
-/// The moved number, which fits.
+/// Returns the moved number, which must fit.
 pub(crate) fn plain_bits<I: Inner>(b: i128, from: u32, g: u32) -> I
     requires wide { IsWide b }
     requires from { from ≤ 64 }
@@ -20,7 +20,7 @@ pub(crate) fn plain_bits<I: Inner>(b: i128, from: u32, g: u32) -> I
     floor_into(b, from, g).clamp()
 }
 
-/// The moved number, where it fits.
+/// Returns the moved number if it fits.
 pub(crate) fn checked_bits<I: Inner>(b: i128, from: u32, g: u32) -> Option<I>
     requires wide { IsWide b }
     requires from { from ≤ 64 }

@@ -9,7 +9,7 @@ ghost use Rattle.fixed_bits.specs.declared.format.Policy.TheVariants.{Saturating
 use crate::num::NumTarget;
 use crate::to_bits::{checked_bits, overflowing_bits, plain_bits, saturating_bits, wrapping_bits};
 
-/// The moved number, which fits.
+/// Returns the moved number, which must fit.
 pub(crate) fn plain_number<D: NumTarget>(b: i128, from: u32) -> D
     requires wide { IsWide b }
     requires from { from ≤ 64 }
@@ -20,7 +20,7 @@ pub(crate) fn plain_number<D: NumTarget>(b: i128, from: u32) -> D
     D::from_holder(plain_bits(b, from, D::FRAC))
 }
 
-/// The moved number, where it fits.
+/// Returns the moved number if it fits.
 pub(crate) fn checked_number<D: NumTarget>(b: i128, from: u32) -> Option<D>
     requires wide { IsWide b }
     requires from { from ≤ 64 }

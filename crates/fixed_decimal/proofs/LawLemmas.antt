@@ -1,4 +1,4 @@
--- A numeral has one read number.
+-- A numeral is read as at most one number of units.
 use Rattle.std.proofs.Common.{◌≡◌, ℕ, ◌*◌, ◌^◌, ℤ, refl, sym, ap, ◌∙◌}
 use Rattle.fixed_bits.proofs.Public.{rounded_exists, rounded_unique}
 use Rattle.fixed_bits.specs.declared.mode.ReadMode.{ReadMode}

@@ -14,7 +14,7 @@ use Rattle.fixed_numeral.specs.Numeral.{is_minus, signed}
 use Rattle.fixed_numeral.specs.Value.{magnitude}
 use Rattle.fixed_numeral.specs.declared.radix.Radix.TheVariants.{Dec}
 
--- ---- of two fractions with one denominator the lesser is not rounded to more
+-- ---- fractions with one denominator: the smaller one does not round to more
 near_below : (a b d p q : ℕ) → 2 * distance a (p * d) ≤ d → 2 * distance b (q * d) ≤ d → a < b → q < p → ⊥
 near_below a b d p q x y l k = omega (arith, mul-le-mul_right d k)
 
@@ -39,7 +39,7 @@ rounded_below Floor true a b d p q x y l k = not_below_below a b d p q x y l k
 rounded_below Ceil false a b d p q x y l k = not_below_below a b d p q x y l k
 rounded_below Ceil true a b d p q x y l k = not_above_below a b d p q x y l k
 
--- ---- of any two fractions
+-- ---- any two fractions
 rounded_order : (m : ReadMode) (s : Bool) (a b d p q : ℕ) → 0 < d → a ≤ b → IsRounded m s a d p → IsRounded m s b d q → p ≤ q
 rounded_order m s a b d p q some h x y = ⊎_elim
     (λ (k : q < p). absurd (⊎_elim
@@ -59,7 +59,7 @@ fraction_order m s n d n' d' k p q some some' h x y =
     let order : n * d' * k ≤ n' * d * k = mul-le-mul_right k h in
     rounded_order m s (n * d' * k) (n' * d * k) (d * d') p q both order left right
 
--- ---- nothing is rounded to nothing
+-- ---- zero rounds to zero
 no_factor : (n d : ℕ) → 0 < d → n * d ≤ 0 → n ≡ 0
 no_factor n d some h = ⊎_elim
     (λ (l : 0 < n). absurd (let more : 0 < n * d = mul-pos l some in omega arith))

@@ -1,4 +1,4 @@
--- What the proofs of the crates above may cite: a numeral has one read number.
+-- For the proofs of dependent crates: a numeral is read as at most one number of units.
 use Rattle.std.specs.Prelude.{◌≡◌, ℕ, ℤ}
 use Rattle.fixed_bits.specs.declared.mode.ReadMode.{ReadMode}
 use Rattle.fixed_decimal.specs.Decimals.{IsReadDecimal}

@@ -1,4 +1,4 @@
--- The read number of a numeral in units.
+-- The number of units that a numeral is read as.
 use Rattle.std.proofs.Common.{◌≡◌, ℕ, zero, suc, ◌+◌, ◌*◌, ◌^◌, Bool, false, List, length, refl, ap, subst, ◌∙◌, arith, ℤ, pos, negsuc, ◌-ℤ◌, Option, Some, None, IfSome}
 use Rattle.std.proofs.lemmas.Int.{ints}
 use Rattle.std.proofs.Math.Nat.{one-le-pow}
@@ -9,7 +9,7 @@ use Rattle.fixed_bits.specs.declared.mode.ReadMode.{ReadMode}
 use Rattle.fixed_bits.specs.declared.number.Number.{Number}
 use Rattle.fixed_decimal.proofs.UnitsLemmas.{counted_same}
 use Rattle.fixed_decimal.specs.Decimals.{IsDecimalReading}
-use Rattle.fixed_decimal.specs.Inner.Units.{AreUnits, IsCounted, IsSplitDecimal}
+use Rattle.fixed_decimal.specs.Inner.Units.{AreUnits, IsCounted}
 use Rattle.fixed_decimal.specs.declared.number.DecimalNumber.{DecimalNumber}
 use Rattle.fixed_decimal.specs.declared.count.Count.{Count}
 use Rattle.fixed_decimal.specs.declared.count.Units.{Units}
@@ -20,12 +20,12 @@ use Rattle.fixed_numeral.specs.Spelled.{spelled, IsSameNumber}
 use Rattle.fixed_numeral.specs.Value.{magnitude, scaled}
 use Rattle.fixed_numeral.specs.declared.radix.Radix.TheVariants.{Dec}
 
--- ---- an option's cases
+-- ---- cases of an option
 pub if_some : {T : Type 0} (P Q : T → Type 0) (o : Option T) → ((x : T) → P x → Q x) → IfSome o P → IfSome o Q
 if_some P Q None f h = h
 if_some P Q (Some x) f h = f x h
 
--- the reading of a numeral whose magnitude was rounded
+-- the number with this sign and these units
 abbrev number_of_units : Bool → Units → Number
 number_of_units negative units = record { low = units.low; negative = negative; has_high_bits = units.has_high_bits }
 
@@ -56,11 +56,6 @@ short_counted p negative whole fraction places n exponent two count none h count
     rw value (counted_same (record { num = whole * 10 ^ places + fraction; den = 10 ^ places }) (scaled (whole * 10 ^ places + fraction) 1 10 (pos 0 -ℤ pos places)) n count (one-le-pow places 10 (omega arith)) (plain_same whole fraction places) counted)
 
 -- ---- a scanned numeral
-pub split_decimal : (Has : Parts → Type 0) (negative : Bool) (w f : List ℕ) (shift : ℕ) → ((p : Parts) × Has p) → ((p : Parts) → Has p → IsScanned Dec p negative w f shift) → IsSplitDecimal w f
-split_decimal Has negative w f shift (p, h) scanned =
-    let s = scanned p h in
-    record { whole_digits = s.whole_digits; leading = s.leading; fraction_digits = s.fraction_digits; trailing = s.trailing }
-
 pub scanned_counted : (p : Parts) (negative : Bool) (w f : List ℕ) (shift n : ℕ) (count : Count) → IsScanned Dec p negative w f shift → IsCounted (spelled 10 w f 0) n count → IsCounted (magnitude Dec p) n count
 scanned_counted p negative w f shift n count h counted =
     let none : shift ≡ 0 = omega (arith, h.small) in

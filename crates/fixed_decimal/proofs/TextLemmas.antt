@@ -26,7 +26,7 @@ use Rattle.fixed_write.specs.Texts.{decimal_text, whole_digits, last_digits, fra
 glyph_value : (d : ℕ) → d < 10 → digit_value (digit_glyph false d) ≡ d
 glyph_value d h = grind arith
 
--- ---- the last digits
+-- ---- the digits of the fraction
 last_all : (k n : ℕ) → AllDigits 10 (last_digits 10 false k n)
 last_all zero n = rw last_digits_none tt
 last_all (suc k) n =
@@ -43,7 +43,7 @@ last_value (suc k) n =
     let split = mod-mul n {m = 10 ^ k} {c = 10} some ten in
     rw last_digits_suc (digits_value_push 10 (last_digits 10 false k (n / 10)) (digit_glyph false (n % 10)) ∙ rw (last_value k (n / 10), value, pow-suc 10 k) (sym split))
 
--- ---- the whole digits
+-- ---- the digits of the whole part
 record IsWholeText (n : ℕ) (ds : List ℕ) : Type 0 where
   pub value : digits_value 10 ds ≡ n
   pub digits : AllDigits 10 ds
@@ -113,7 +113,7 @@ text_is_numeral negative n k =
       exponent = tt;
     }
 
--- ---- their number
+-- ---- the number of these parts
 fraction_length : (k n : ℕ) → length (fractional_digits (fraction_of k n)) ≡ k
 fraction_length zero n = refl
 fraction_length (suc k) n = last_digits_length 10 false (suc k) n
@@ -180,7 +180,7 @@ text_is_the_one b c n e =
     let same : one.0 ≡ other.0 = parts_unique Dec (decimal_format_text c n) one.0 other.0 has.beginning other.1.beginning in
     read_decimal_unique NearestEven other.0 n b c (rw same at one.2) other.2
 
--- ---- the text as it is made
+-- ---- the text, written piece by piece
 quotient_most : (n d : ℕ) → n / d ≤ n
 quotient_most n zero = omega arith
 quotient_most n (suc d) = let least : n / suc d * 1 ≤ n / suc d * suc d = mul-le-mul_left (n / suc d) (omega arith) in omega (arith, least, div-add-mod' n (suc d))

@@ -1,4 +1,4 @@
--- How many units a number is, and what is lost.
+-- The count of units in a number, and the fraction of a unit that is lost.
 use Rattle.std.proofs.Common.{◌≡◌, ℕ, zero, suc, ◌+◌, ◌-◌, ◌*◌, ◌/◌, ◌%◌, ◌^◌, ◌<◌, ◌≤◌, ◌⊎◌, ◌↔◌, Bool, true, false, IsTrue, List, [], ◌∷◌, ◌++◌, length, take, drop, refl, sym, ap, subst, ◌∙◌, arith, inl, inr, ⊎_elim, mul-pos, mul-le-mul_right, mul-le-mul_left, div-add-mod', length-drop, take-append-drop}
 use Rattle.std.proofs.lemmas.Bool.{cases_lt}
 use Rattle.std.proofs.lemmas.Int.Digits.{number_lt}
@@ -21,7 +21,7 @@ use Rattle.fixed_numeral.specs.Place.{NoTrailingZero}
 use Rattle.fixed_numeral.specs.Spelled.{spelled, IsSameNumber}
 use Rattle.fixed_numeral.specs.Value.{Fraction}
 
--- ---- a positive factor goes
+-- ---- a positive factor cancels
 cancel_eq : (a b d : ℕ) → 0 < d → a * d ≡ b * d → a ≡ b
 cancel_eq a b d p e = ⊎_elim
     (λ (l : a < b). absurd (omega (arith, mul-le-mul_right d (let z : a + 1 ≤ b = omega arith in z))))
@@ -31,7 +31,7 @@ cancel_eq a b d p e = ⊎_elim
     (cases_lt b a))
     (cases_lt a b)
 
--- what is left of a division is nothing if there is a quotient
+-- a / x = q + s / d is whole if and only if s is zero
 exact_rest : (a x q d s : ℕ) → 0 < x → 0 < d → s < d → a * d ≡ (q * d + s) * x → (s ≡ 0) ↔ IsWhole a x
 exact_rest a x q d s px pd small e = (
   λ z. (q, cancel_eq a (q * x) d pd (let one : (q * d + s) * x ≡ q * x * d = rw z (omega arith) in e ∙ one)),
@@ -70,7 +70,7 @@ rounded_units mode number n count more above units some h to low high over none 
       exact = (λ t. test.0 ((none h.rest h.unit h.some h.left).0 t), λ m. (none h.rest h.unit h.some h.left).1 (test.1 m));
     }
 
--- the same number in other words
+-- equal fractions have the same count of units
 pub counted_same : (a b : Fraction) (n : ℕ) (count : Count) → 0 < a.den → IsSameNumber a b → IsCounted a n count → IsCounted b n count
 counted_same a b n count some same h = record {
   high = h.high;
@@ -128,7 +128,7 @@ counted_few w f p n part rest count e left units over =
 number_cons : (d : ℕ) (ds : List ℕ) → number_from_digits 10 (d ∷ ds) ≡ d * 10 ^ length ds + number_from_digits 10 ds
 number_cons d ds = let e = number_append 10 (d ∷ []) ds in omega (arith, e)
 
--- digits without a zero at their end are no zero
+-- digits without a trailing zero are not the number zero, if there is a digit
 some_number : (ds : List ℕ) → NoTrailingZero ds → (ds ≡ [] → ⊥) → 0 < number_from_digits 10 ds
 some_number [] n e = absurd (e refl)
 some_number (zero ∷ []) n e = absurd (n [] refl)
@@ -140,18 +140,6 @@ some_number (d ∷ c ∷ ds) n e =
 no_digits : (ds : List ℕ) → NoTrailingZero ds → number_from_digits 10 ds ≡ 0 → ds ≡ []
 no_digits [] n e = refl
 no_digits (d ∷ ds) n e = let more = some_number (d ∷ ds) n (λ z. absurd (omega (arith, ap length z))) in absurd (omega (arith, more, e))
-
-pub lost_low : (first d y : ℕ) → first < 5 → y < d → 0 < first * d + y → (0 < first * d + y) × (2 * (first * d + y) < 10 * d)
-lost_low first d y l k some = (some, let most : first * d ≤ 4 * d = mul-le-mul_right d (omega arith) in omega (arith, most))
-
-pub lost_half : (first d y : ℕ) → first ≡ 5 → y ≡ 0 → 2 * (first * d + y) ≡ 10 * d
-lost_half first d y e z = rw (e, z) (omega arith)
-
-pub lost_high : (first d y : ℕ) → first < 10 → y < d → (5 < first) ⊎ ((first ≡ 5) × (0 < y)) → (10 * d < 2 * (first * d + y)) × (first * d + y < 10 * d)
-lost_high first d y l k more = (
-  ⊎_elim (λ (g : 5 < first). let least : 6 * d ≤ first * d = mul-le-mul_right d (omega arith) in omega (arith, least)) (λ (g : (first ≡ 5) × (0 < y)). let same : first * d ≡ 5 * d = ap (λ x. x * d) g.0 in omega (arith, same, g.1)) more,
-  let most : first * d ≤ 9 * d = mul-le-mul_right d (omega arith) in omega (arith, most),
-)
 
 pub lost_digits : (ds others : List ℕ) (d : ℕ) (last : Bool) (lost : LostFraction) → ds ≡ d ∷ others → AllBelowBase 10 ds → NoTrailingZero ds → (IsTrue last ↔ (others ≡ [])) → ((y k : ℕ) → y < k → (IsTrue last ↔ (y ≡ 0)) → 0 < d * k + y → IsLostFraction lost (d * k + y) (10 * k)) → IsLostFraction lost (number_from_digits 10 ds) (10 ^ length ds)
 lost_digits ds others d last lost e below none el h =
@@ -166,10 +154,7 @@ lost_digits ds others d last lost e below none el h =
     let left : IsLostFraction lost (d * 10 ^ length others + number_from_digits 10 others) (10 * 10 ^ length others) = h (number_from_digits 10 others) (10 ^ length others) small end (rw cons at some) in
     rw e (subst (λ s. IsLostFraction lost s (10 ^ suc (length others))) (sym cons) (subst (λ m. IsLostFraction lost (d * 10 ^ length others + number_from_digits 10 others) m) power left))
 
-pub lost_none : (ds : List ℕ) → ds ≡ [] → number_from_digits 10 ds ≡ 0
-lost_none ds e = rw e refl
-
--- the first digits of a fraction as units
+-- the first digits of a fraction, as units, fit in 64 bits
 pub part_room : (f : List ℕ) (n more : ℕ) → n ≤ 18 → AllBelowBase 10 f → more ≡ number_from_digits 10 (take n f) → more < 10 ^ n → more * 10 ^ (n - length f) < 2 ^ 64
 part_room f n more l below e small = ⊎_elim
     (λ (k : n < length f). let z : 10 ^ (n - length f) ≡ 1 = ap (λ i. 10 ^ i) (let none : n - length f ≡ 0 = omega arith in none) in rw z (omega (arith, small, ten_most n l)))

@@ -1,4 +1,4 @@
--- The number that the last digits spell, modulo two to the power of 64.
+-- The number that the last digits spell, modulo 2^64.
 use Rattle.std.proofs.Common.{◌≡◌, ℕ, zero, suc, ◌+◌, ◌-◌, ◌*◌, ◌%◌, ◌/◌, ◌^◌, ◌<◌, ◌≤◌, ◌⊎◌, ◌↔◌, Bool, IsTrue, List, [], ◌∷◌, ◌++◌, length, take, drop, refl, sym, ap, ◌∙◌, arith, append_assoc, append-nil, take-append-drop, length-drop, length-take, mul-le-mul_right, div-add-mod', min, inl, inr, ⊎_elim}
 use Rattle.std.proofs.lemmas.List.{length-take-le}
 use Rattle.std.proofs.lemmas.Bool.{cases_lt}
@@ -12,7 +12,7 @@ use Rattle.fixed_numeral.specs.Place.{NoLeadingZero}
 abbrev pub number : List ℕ → ℕ
 number ds = number_from_digits 10 ds
 
--- the digits that were taken off the last ones; long says that there are others before these
+-- the last digits taken so far; `long` states that other digits come before the last ones
 pub record Trailing (last rest : List ℕ) (value : ℕ) (long : Type 0) (over : Bool) (before now : ℕ) : Type 0 where
   pub taken : List ℕ
   pub split : last ≡ taken ++ rest
@@ -69,12 +69,12 @@ first_some [] back l n = absurd (omega arith)
 first_some (zero ∷ ds) back l n = absurd (n (ds ++ back) refl)
 first_some (suc d ∷ ds) back l n = omega (arith, number_after_ge 10 (0 * 10 + suc d) ds (omega arith))
 
--- the lowest 64 bits of the number of all digits
+-- the lowest 64 bits of the number that all digits spell
 pub record Ends (ds : List ℕ) (value : ℕ) (over : Bool) : Type 0 where
   pub low : value ≡ number ds % 2 ^ 64
   pub full : IsTrue over ↔ (2 ^ 64 ≤ number ds)
 
--- ten to the power of 64 is a multiple of two to it
+-- 10^64 is a multiple of 2^64
 ten_of_two : (x : ℕ) → x * 10 ^ 64 ≡ x * 5 ^ 64 * 2 ^ 64
 ten_of_two x = omega arith
 

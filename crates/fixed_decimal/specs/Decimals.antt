@@ -23,8 +23,7 @@ IsWhole num den = (k : ℕ) × (num ≡ k * den)
 abbrev pub IsWholeUnits : Parts → ℕ → Type 0
 IsWholeUnits p n = IsWhole ((magnitude Dec p).num * 10 ^ n) (magnitude Dec p).den
 
--- the answer holds the read number of a numeral with these parts, and says whether the numeral was a whole number of
--- units
+-- `found` holds the read number of a numeral with these parts, and says whether the numeral is a whole number of units
 pub record IsDecimalReading (mode : ReadMode) (p : Parts) (found : DecimalNumber) : Type 0 where
   pub number : ℤ
   pub read : IsReadDecimal mode p found.format number

@@ -1,2 +1,2 @@
--- Contracts of private functions. Nothing that is public cites them.
+-- Contracts of private functions. No public contract cites them.
 pub mod Units

@@ -1,4 +1,4 @@
--- What the laws of this crate say.
+-- Statements of this crate's laws.
 use Rattle.std.specs.Prelude.{◌≡◌, ℕ, ◌*◌, ℤ, ◌≤ℤ◌}
 use Rattle.fixed_bits.specs.declared.mode.ReadMode.{ReadMode}
 use Rattle.fixed_decimal.specs.Decimals.{IsReadDecimal, IsWholeUnits}
@@ -7,7 +7,7 @@ use Rattle.fixed_numeral.specs.Numeral.{Parts, HasNumeral, signed}
 use Rattle.fixed_numeral.specs.Value.{magnitude}
 use Rattle.fixed_numeral.specs.declared.radix.Radix.TheVariants.{Dec}
 
--- a numeral has one read number, and no other, for each mode and count of places
+-- a numeral has exactly one read number for each mode and number of places
 abbrev pub ReadDecimalIsTheOne : Type 0
 ReadDecimalIsTheOne = (mode : ReadMode) (p : Parts) (n : ℕ) → (v : ℤ) × IsReadDecimal mode p n v
     × ((w : ℤ) → IsReadDecimal mode p n w → w ≡ v)
@@ -21,12 +21,12 @@ DecimalTextReadsBack = (mode : ReadMode) (b : ℤ) (n : ℕ) → (p : Parts) × 
 abbrev pub DecimalTextIsTheOne : Type 0
 DecimalTextIsTheOne = (b c : ℤ) (n : ℕ) → decimal_format_text b n ≡ decimal_format_text c n → b ≡ c
 
--- the value of one numeral is at most that of another: their magnitudes are brought to one denominator
+-- the value of one numeral is at most that of another, compared over a common denominator
 abbrev pub IsAtMost : Parts → Parts → Type 0
 IsAtMost p q = signed p.sign ((magnitude Dec p).num * (magnitude Dec q).den)
     ≤ℤ signed q.sign ((magnitude Dec q).num * (magnitude Dec p).den)
 
--- in each mode the order of values is that of the read numbers
+-- a numeral that is at most another has a read number that is at most the other's, in each mode
 abbrev pub ReadDecimalKeepsOrder : Type 0
 ReadDecimalKeepsOrder = (mode : ReadMode) (p q : Parts) (n : ℕ) (v w : ℤ) → IsAtMost p q → IsReadDecimal mode p n v
     → IsReadDecimal mode q n w → v ≤ℤ w

@@ -27,7 +27,7 @@ fn words() -> Format
 }
 
 impl DecimalNumber {
-    /// A number that was read into a format, and whether what was read was a whole number of units.
+    /// Returns a number that was read into a format, and whether the numeral was a whole number of units.
     #[inline(always)]
     pub fn new(number: Number, format: DecimalFormat, exact: bool) -> DecimalNumber
         ensures number { result.number ≡ number }
@@ -69,16 +69,15 @@ impl DecimalNumber {
         self.number.is_out_of_range(words())
     }
 
-    /// Whether the number is out of the range that a policy leaves of 64 bits.
+    /// Whether the number is out of the policy's part of the range of 64 bits.
     pub fn is_out_of_range_by(&self, policy: Policy) -> bool
         ensures { (v : ℤ) → IsNumber self.now.number v → IsTrue result ↔ IsOutOfRangeBy policy true 64 v }
     {
         self.number.is_out_of_range_by(words(), policy)
     }
 
-    /// The image of the number in 64 bits: the number itself if it is in the range that the policy
-    /// leaves. `None` exactly if it is out of range
-    /// and the policy is `Checked`.
+    /// Returns the image of the number in 64 bits: the number itself if it is in the policy's range. `None` exactly if
+    /// it is out of range and the policy is `Checked`.
     pub fn image(&self, policy: Policy) -> Option<i64>
         ensures image { (v : ℤ) → IsNumber self.now.number v → IfSome result (λ c. IsImage policy true 64 v c) }
         ensures none { (v : ℤ) → IsNumber self.now.number v → IsNone result

@@ -1,7 +1,7 @@
 //! Reading decimal numerals into decimal formats.
 //!
 //! A short numeral without an exponent is read from the numbers of its parts. Any other is scanned, and its digits are
-//! looked at.
+//! read.
 
 ghost use Rattle.std.specs.Prelude.{◌≡◌, ◌+◌, ◌*◌, ◌^◌, ◌<◌, ◌≤◌, IfOk, IfSome, length};
 ghost use Rattle.fixed_bits.specs.Rounded.{magnitude_mode};
@@ -24,7 +24,7 @@ use fixed_numeral::{ParseFixedError, Radix, Scanned, ShortNumeral, scan, short_d
 use fixed_steps::Steps;
 use std::sync::ledger::Ledger;
 
-/// A magnitude in units as a number of the format.
+/// Returns a magnitude in units as a number of the format.
 #[inline(always)]
 fn number_from(format: DecimalFormat, negative: bool, units: Units) -> DecimalNumber
     ensures reading { (mode : ReadMode) (p : Parts) → negative ≡ is_minus p.sign
@@ -39,7 +39,7 @@ fn number_from(format: DecimalFormat, negative: bool, units: Units) -> DecimalNu
     DecimalNumber::new(number, format, units.is_exact)
 }
 
-/// The number that a short numeral reads as. `None` if its digits have to be looked at.
+/// Returns the number that a short numeral reads as. `None`: its digits must be read.
 #[inline(always)]
 fn number_of_short(
     found: ShortNumeral,
@@ -64,7 +64,7 @@ fn number_of_short(
     Some(number_from(format, found.negative, units))
 }
 
-/// Reads a short numeral. `None` only means: try the next way.
+/// Reads a short numeral. `None` only means that another way must be tried.
 #[inline(always)]
 fn read_short<L: Ledger>(
     s: &[u8],
@@ -81,7 +81,7 @@ fn read_short<L: Ledger>(
     number_of_short(found, format, mode)
 }
 
-/// The number that a scanned numeral reads as.
+/// Returns the number that a scanned numeral reads as.
 fn number_of<'a, L: Ledger>(
     found: &Scanned<'a>,
     format: DecimalFormat,
@@ -125,12 +125,12 @@ fn read_scanned<L: Ledger>(
     }
 }
 
-/// Reads a decimal numeral into a decimal format in a mode: the numeral's magnitude in units of the format, rounded in
-/// the mode, with the numeral's sign. It takes at most eight steps for each byte, and 128.
+/// Reads a decimal numeral into a decimal format in a mode. Returns the numeral's magnitude in units of the format,
+/// rounded in the mode, with the numeral's sign. It takes at most eight steps for each byte, and 128.
 ///
 /// # Errors
 ///
-/// Other bytes than a numeral in radix 10 are refused with the kind of their cause.
+/// Refuses bytes that are not a numeral in radix 10 with the kind of their cause.
 #[inline]
 pub fn read_decimal_format<L: Ledger>(
     s: &[u8],

@@ -11,7 +11,7 @@ use crate::units::power;
 use fixed_write::push_signed_integer;
 use text_buffer::TextBuffer;
 
-/// The character of a digit.
+/// Returns the character of a digit.
 #[inline]
 fn glyph(digit: u8) -> u8
     requires { digit < 10 }
@@ -42,7 +42,7 @@ fn push_fraction<const N: usize>(out: &mut TextBuffer<N>, number: u64, places: u
     }
 }
 
-/// Appends `-` if a number is negative, else nothing.
+/// Appends `-` if a number is negative.
 #[inline]
 fn push_sign<const N: usize>(out: &mut TextBuffer<N>, is_negative: bool)
     requires { length out.old < N }
@@ -59,7 +59,7 @@ fn is_negative(units: i64) -> bool
     units < 0
 }
 
-/// How far a number is from zero.
+/// Returns the magnitude of a number.
 #[inline]
 fn magnitude_of(units: i64) -> u64
     ensures { result ≡ unsigned_abs units }

@@ -1,4 +1,4 @@
-//! The reader with a counter of steps of its own.
+//! The reader with its own counter of steps.
 
 ghost use Rattle.std.specs.Prelude.{◌≡◌, ◌<◌, IfOk};
 ghost use Rattle.fixed_decimal.specs.Decimals.{IsDecimalReading};
@@ -14,7 +14,7 @@ use fixed_steps::Steps;
 use std::marker::Brand;
 use std::sync::ledger::{Blank, Ledger};
 
-/// `read_decimal_format` over a ledger that no other counter uses.
+/// `read_decimal_format` with a ledger that no other counter uses.
 fn read_format_over<L: Ledger>(
     s: &[u8],
     format: DecimalFormat,
@@ -31,11 +31,11 @@ fn read_format_over<L: Ledger>(
     read_decimal_format(s, format, mode, &mut steps)
 }
 
-/// `read_decimal_format` with a counter of its own.
+/// `read_decimal_format` with its own counter.
 ///
 /// # Errors
 ///
-/// Other bytes than a numeral in radix 10 are refused with the kind of their cause.
+/// Refuses bytes that are not a numeral in radix 10 with the kind of their cause.
 pub fn read_decimal_format_uncounted(
     s: &[u8],
     format: DecimalFormat,

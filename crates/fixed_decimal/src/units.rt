@@ -1,4 +1,4 @@
-//! How many units the magnitude of a numeral is, and what is left of one.
+//! How many units the magnitude of a numeral is, and what remains of one more.
 
 ghost use Rattle.std.specs.Prelude.{◌≡◌, ◌+◌, ◌-◌, ◌*◌, ◌^◌, ◌<◌, ◌≤◌, ◌↔◌, ℕ, false, IsTrue, length};
 ghost use Rattle.std.specs.Int.Digits.{number_from_digits, AllBelowBase};
@@ -28,7 +28,7 @@ fn is_nothing(lost: LostFraction) -> bool
     }
 }
 
-/// A magnitude rounded to whole units. The mode is that of a magnitude.
+/// Rounds a magnitude to whole units. The mode is that of a magnitude.
 #[inline(always)]
 pub fn rounded(count: Count, mode: ReadMode) -> Units
     ensures { (number : Fraction) (n : ℕ) → 0 < number.den → IsCounted number n count
@@ -44,7 +44,7 @@ pub fn rounded(count: Count, mode: ReadMode) -> Units
     }
 }
 
-/// Ten to the power of a few places.
+/// Returns ten to the power of a few places.
 #[inline(always)]
 pub fn power(places: u32) -> u64
     requires { places ≤ 18 }
@@ -55,7 +55,7 @@ pub fn power(places: u32) -> u64
     power_of_ten(places)
 }
 
-/// The quotient of two numbers, and the rest.
+/// Returns the quotient of two numbers, and the rest.
 #[inline(always)]
 fn divided(number: u64, unit: u64) -> (u64, u64)
     requires { 0 < unit }
@@ -65,7 +65,7 @@ fn divided(number: u64, unit: u64) -> (u64, u64)
     (number / unit, number % unit)
 }
 
-/// A number with zeros after it.
+/// Appends zeros to a number.
 #[inline(always)]
 fn with_zeros(number: u64, zeros: u32) -> u64
     requires few { zeros ≤ 18 }
@@ -75,7 +75,7 @@ fn with_zeros(number: u64, zeros: u32) -> u64
     number * power_of_ten(zeros)
 }
 
-/// A fraction of few places in units of 10^-n, and what is lost.
+/// Returns a fraction of few places in units of 10^-n, and the lost fraction.
 #[inline(always)]
 fn part_of_few_places(fraction: u64, places: u32, n: u32) -> (u64, LostFraction)
     requires fraction { fraction < 10 ^ places }
@@ -89,7 +89,7 @@ fn part_of_few_places(fraction: u64, places: u32, n: u32) -> (u64, LostFraction)
     (part, lost_fraction(u128::from(rest), u128::from(unit)))
 }
 
-/// A decimal of few places in units of 10^-n.
+/// Returns a decimal of few places in units of 10^-n.
 #[inline(always)]
 pub fn count_of_few_places(whole: u64, fraction: u64, places: u32, n: u32) -> Count
     requires fraction { fraction < 10 ^ places }
@@ -105,7 +105,7 @@ pub fn count_of_few_places(whole: u64, fraction: u64, places: u32, n: u32) -> Co
     }
 }
 
-/// What is lost, by its first digit and whether this is the last.
+/// Returns the lost fraction by its first digit and whether this is the last.
 fn lost_by_digit(first: u8, is_last: bool) -> LostFraction
     requires { first < 10 }
     ensures { (y d : ℕ) → y < d → (IsTrue is_last ↔ (y ≡ 0)) → 0 < first * d + y
@@ -122,7 +122,7 @@ fn lost_by_digit(first: u8, is_last: bool) -> LostFraction
     }
 }
 
-/// What is lost, by the digits that are not read.
+/// Returns the lost fraction by the digits that are not read.
 fn lost_by_digits<'a, L: Ledger>(rest: &DigitView<'a>, steps: &mut Steps<L>) -> LostFraction
     requires digits { AllBelowBase 10 rest.now }
     requires trailing { NoTrailingZero rest.now }
@@ -147,7 +147,7 @@ fn missing_digits(view: &DigitView, count: u32) -> u32
     }
 }
 
-/// The digits of a numeral in units of 10^-n.
+/// Returns the digits of a numeral in units of 10^-n.
 pub fn count_of_digits<'a, L: Ledger>(
     whole: &DigitView<'a>,
     fraction: &DigitView<'a>,

@@ -17,7 +17,7 @@ pub fn split_word(number: u128) -> (u64, bool)
     ((number % (1 << 64)) as u64, number >= 1 << 64)
 }
 
-/// Whether one of two holds.
+/// Whether one of two conditions holds.
 #[inline(always)]
 pub fn either(one: bool, other: bool) -> bool
     ensures { IsTrue result ↔ (IsTrue one ⊎ IsTrue other) }
@@ -25,7 +25,7 @@ pub fn either(one: bool, other: bool) -> bool
     one || other
 }
 
-/// How many digits are taken at once: 16, or all if there are fewer.
+/// How many digits are read at once: 16, or all if there are fewer.
 fn next_count(view: &DigitView) -> u32
     ensures most { result ≤ 16 }
     ensures within { result ≤ length view.now }
@@ -41,7 +41,7 @@ fn is_long(view: &DigitView) -> bool
     view.len() > 64
 }
 
-/// A number times ten to the power of `places`, and `more`.
+/// Returns a number times ten to the power of `places`, plus `more`.
 #[inline(always)]
 pub fn raised(number: u64, places: u32, more: u64) -> u128
     requires { places ≤ 18 }
@@ -51,8 +51,8 @@ pub fn raised(number: u64, places: u32, more: u64) -> u128
     u128::from(number) * u128::from(power_of_ten(places)) + u128::from(more)
 }
 
-/// The lowest 64 bits of the number that decimal digits spell, and whether it has more. Of many digits only the last 64
-/// are read: ten to the power of 64 is a multiple of two to that power.
+/// Returns the lowest 64 bits of the number that decimal digits spell, and whether it has more. Of many digits only the
+/// last 64 are read: ten to the power of 64 is a multiple of two to that power.
 pub fn low_word<'a, L: Ledger>(view: &DigitView<'a>, steps: &mut Steps<L>) -> (u64, bool)
     requires digits { AllBelowBase 10 view.now }
     requires leading { NoLeadingZero view.now }

@@ -1,4 +1,4 @@
--- An error and a bound.
+-- Whether the error of a numeral is above a bound.
 use Rattle.std.proofs.Common.{◌≡◌, ℕ, zero, suc, ◌+◌, ◌-◌, ◌*◌, ◌^◌, ◌<◌, ◌≤◌, Bool, true, false, List, [], ◌∷◌, length, refl, ap, subst, arith, mul-le-mul_right, mul-le-mul_left, pow_pos}
 use Rattle.std.specs.Int.Digits.{number_from_digits}
 use Rattle.std.proofs.Math.Nat.{one-le-pow, pow-le-pow_right}
@@ -65,7 +65,7 @@ whole_bound mode r f bytes bound negative (x ∷ xs) fraction s w n scanned some
     }
 
 -- ---- a bound below 1
--- the bound in ulps by places
+-- the bound is `t` / `b` ulps
 record IsBoundBy (num den b t : ℕ) : Type 0 where
   same : num * b ≡ t * den
 
@@ -106,7 +106,7 @@ above_of d den m e u h = omega (arith, h)
 within_of : (d den m e u : ℕ) → d * (1 * e) ≤ m * u * (1 * den) → d * e ≤ m * (u * den)
 within_of d den m e u h = omega (arith, h)
 
--- what was found of the two
+-- the comparison of both sums decides whether the error is above the bound or within it
 pub error_above : (mode : ReadMode) (r : Radix) (f : ℕ) (bytes bound ones fraction : List ℕ) (g : Gap) (negative : Bool) (whole : List ℕ) (s : ℕ) (result : Bool) → IsGap mode r f bytes ones g → (n : IsNumeral r bound) → ((p : Parts) → HasNumeral r bound p → IsScanned r p negative whole fraction s)
     → whole ≡ [] → Decides (base r) ones fraction (sum_of (greater_part g) (record { whole = 0; factor = 0 })) (sum_of (less_part g) (record { whole = 0; factor = 2 ^ (f + s) })) result → result ≡ true → HasErrorAbove mode r f bytes bound
 error_above mode r f bytes bound ones fraction g negative whole s result x n scanned none d is =

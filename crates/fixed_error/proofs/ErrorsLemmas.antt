@@ -1,5 +1,5 @@
--- One numeral more at each fraction length.
-use Rattle.std.proofs.Common.{◌≡◌, ℕ, zero, suc, ◌+◌, ◌-◌, ◌*◌, ◌^◌, ◌<◌, ◌≤◌, Bool, true, false, List, [], ◌∷◌, ◌++◌, length, take, drop, get_or, length-append, refl, sym, ap, ◌∙◌, subst, arith, mul-le-mul_right}
+-- The greatest errors at all fraction lengths, after one more numeral.
+use Rattle.std.proofs.Common.{◌≡◌, ℕ, zero, suc, ◌+◌, ◌-◌, ◌*◌, ◌^◌, ◌<◌, ◌≤◌, Bool, true, false, List, [], ◌∷◌, ◌++◌, length, take, drop, get_or, length-append, refl, sym, ap, ◌∙◌, subst, arith, mul-le-mul_right, pow_pos}
 use Rattle.std.specs.Prelude.{min, max}
 use Rattle.fixed_bits.specs.Nearest.{distance}
 use Rattle.fixed_bits.specs.declared.mode.ReadMode.{ReadMode}
@@ -7,7 +7,7 @@ use Rattle.fixed_bits.specs.declared.mode.ReadMode.TheVariants.{NearestEven}
 use Rattle.fixed_numeral.proofs.Public.{magnitude_pos}
 use Rattle.fixed_numeral.specs.Value.{Fraction, magnitude}
 use Rattle.fixed_numeral.specs.declared.radix.Radix.{Radix}
-use Rattle.fixed_error.specs.ErrorSize.{HasNoGreaterError, IsAtMost, IsReadWithin, error_size}
+use Rattle.fixed_error.specs.ErrorSize.{HasGreaterError, HasNoGreaterError, IsAtMost, IsReadWithin, error_size}
 use Rattle.fixed_error.specs.Errors.{AreLengthErrors, IsErrorAtLeast, IsLengthError, parts}
 use Rattle.fixed_error.specs.Greatest.{Entry, HasGreatest, IsKept}
 use Rattle.fixed_error.specs.Inner.Rest.{IsRest}
@@ -15,10 +15,10 @@ use Rattle.fixed_error.specs.declared.errors.LengthError.{LengthError}
 use Rattle.fixed_error.specs.declared.greatest.GreatestError.{GreatestError}
 use Rattle.fixed_error.specs.declared.rest.Rest.{Rest}
 use Rattle.fixed_error.proofs.GreatestLemmas.{den_some, kept_old, size_unique}
-use Rattle.fixed_error.proofs.NearLemmas.{greatest_of, least_error, least_moved, most_error, no_greater_by}
+use Rattle.fixed_error.proofs.NearLemmas.{greater_by_near, greatest_of, least_error, least_moved, most_error, no_greater_by}
 use Rattle.fixed_error.proofs.RestLemmas.{parts_pos}
 
--- ---- by how far a numeral is above a whole number
+-- ---- the error of a numeral, from how far it is above a whole number
 most_at : (r : Radix) (f : ℕ) (bytes : List ℕ) (x : Rest) (w : IsReadWithin NearestEven r f bytes) → IsRest r f bytes x
     → distance ((magnitude r w.parts).num * 2 ^ f) (w.read.ulps * (magnitude r w.parts).den) * parts r ≤ (min x.rest (parts r - x.rest) + x.slack) * (magnitude r w.parts).den
 most_at r f bytes x w h =
@@ -41,12 +41,31 @@ no_greater_near r f bytes kept x least w h order low =
       at_most = no_greater_by (distance (m.num * 2 ^ f) (w.read.ulps * m.den)) m.den (distance (n.num * 2 ^ f) (k.read.ulps * n.den)) n.den (parts r) (2 ^ f) (min x.rest (parts r - x.rest) + x.slack) least (parts_pos r) (most_at r f bytes x w h) order' at;
     }
 
+low_at : (r : Radix) (f : ℕ) (bytes : List ℕ) (x : Rest) (w : IsReadWithin NearestEven r f bytes) → IsRest r f bytes x
+    → (min x.rest (parts r - x.rest) - x.slack) * (magnitude r w.parts).den ≤ distance ((magnitude r w.parts).num * 2 ^ f) (w.read.ulps * (magnitude r w.parts).den) * parts r
+low_at r f bytes x w h =
+    let b = h.behind w.parts w.numeral in
+    least_error ((magnitude r w.parts).num * 2 ^ f) (magnitude r w.parts).den (parts r) b.ulps x.rest x.slack w.read.ulps (let below = h.below in omega (arith, below, h.one)) b.at_least b.at_most
+
+pub greater_near : (r : Radix) (f : ℕ) (one other : List ℕ) (x y : Rest) → IsReadWithin NearestEven r f one → IsReadWithin NearestEven r f other → IsRest r f one x → IsRest r f other y
+    → min y.rest (y.one - y.rest) + y.slack < min x.rest (x.one - x.rest) - x.slack → HasGreaterError NearestEven r f one other
+greater_near r f one other x y w k h i order =
+    let m = magnitude r w.parts in
+    let n = magnitude r k.parts in
+    let order' : min y.rest (parts r - y.rest) + y.slack < min x.rest (parts r - x.rest) - x.slack = omega (arith, order, h.one, i.one) in
+    record {
+      one_size = error_size m f w.read.ulps;
+      has_one = record { parts = w.parts; numeral = w.numeral; number = w.number; read = w.read; size_is = refl };
+      other_size = error_size n f k.read.ulps;
+      has_other = record { parts = k.parts; numeral = k.numeral; number = k.number; read = k.read; size_is = refl };
+      greater = greater_by_near (distance (m.num * 2 ^ f) (w.read.ulps * m.den)) m.den (distance (n.num * 2 ^ f) (k.read.ulps * n.den)) n.den (parts r) (2 ^ f) (min x.rest (parts r - x.rest) - x.slack) (min y.rest (parts r - y.rest) + y.slack) (magnitude_pos r w.parts) (magnitude_pos r k.parts) (pow_pos f) (low_at r f one x w h) order' (most_at r f other y k i);
+    }
+
 pub least_at : (r : Radix) (f : ℕ) (bytes : List ℕ) (x : Rest) → IsReadWithin NearestEven r f bytes → IsRest r f bytes x → IsErrorAtLeast r f bytes (min x.rest (x.one - x.rest) - x.slack)
 least_at r f bytes x w h =
     let m = magnitude r w.parts in
-    let b = h.behind w.parts w.numeral in
     let d : ℕ = distance (m.num * 2 ^ f) (w.read.ulps * m.den) in
-    let low : (min x.rest (parts r - x.rest) - x.slack) * m.den ≤ d * parts r = least_error (m.num * 2 ^ f) m.den (parts r) b.ulps x.rest x.slack w.read.ulps (let below = h.below in omega (arith, below, h.one)) b.at_least b.at_most in
+    let low : (min x.rest (parts r - x.rest) - x.slack) * m.den ≤ d * parts r = low_at r f bytes x w h in
     let scaled : (min x.rest (parts r - x.rest) - x.slack) * m.den * 2 ^ f ≤ d * parts r * 2 ^ f = mul-le-mul_right (2 ^ f) low in
     let P : ℕ → Type 0 = λ t. IsErrorAtLeast r f bytes (min x.rest (t - x.rest) - x.slack) in
     subst P (sym h.one) (record {
@@ -72,7 +91,7 @@ least_moves r f one other least x h =
 none_least : (r : Radix) (f : ℕ) (bytes : List ℕ) (least : ℕ) → IsErrorAtLeast r f bytes least → IsErrorAtLeast r f bytes 0
 none_least r f bytes least x = record { size = x.size; has_size = x.has_size; at_least = omega arith }
 
--- ---- one numeral more at a fraction length
+-- ---- one more numeral at a fraction length
 moved : (mode mode' : ReadMode) (r r' : Radix) (f f' : ℕ) (one other : List ℕ) → mode ≡ mode' → r ≡ r' → f ≡ f' → HasNoGreaterError mode r f one other → HasNoGreaterError mode' r' f' one other
 moved mode mode' r r' f f' one other a b c h =
     subst (λ m. HasNoGreaterError m r' f' one other) a (subst (λ q. HasNoGreaterError mode q f' one other) b (subst (λ k. HasNoGreaterError mode r k one other) c h))

@@ -1,4 +1,4 @@
--- How many digits of a scanned numeral after its point may be other than 0: no more than its text has bytes, and one.
+-- For a numeral of n bytes, all scanned digits after the point are zeros except the last n + 1.
 use Rattle.std.proofs.Common.{◌≡◌, ℕ, suc, ◌+◌, ◌-◌, ◌*◌, ◌^◌, ◌<◌, ◌≤◌, Bool, true, false, List, [], ◌∷◌, ◌++◌, length, take, drop, refl, sym, ap, ◌∙◌, subst, arith, ⊎_elim, append_assoc, length-append, length-drop, mul-le-mul_right, mul-le-mul_left, if◌then◌else◌}
 use Rattle.std.specs.Prelude.{Option, Some, None, IfSome, option_to_list, ℤ, pos, negsuc, ◌-ℤ◌}
 use Rattle.std.specs.Int.Digits.{AllBelowBase, number_from_digits}
@@ -19,7 +19,7 @@ use Rattle.fixed_error.proofs.GapLemmas.{base_least}
 use Rattle.fixed_error.proofs.RestLemmas.{cancel_eq}
 use Rattle.fixed_error.proofs.SumLemmas.{one_digit, power_split}
 
--- ---- a number without a zero at its end
+-- ---- a number that does not end with a zero
 no_multiple : (b k q x : ℕ) → 0 < x → x < b → k * b + x ≡ q * b → ⊥
 no_multiple b k q x some less e = ⊎_elim
     (λ (h : k < q). let m : (k + 1) * b ≤ q * b = mul-le-mul_right b (omega (arith, h)) in absurd (omega (arith, m, e, less)))
@@ -52,7 +52,7 @@ no_zero_last b whole fraction all trailing some q e =
     (λ (none : x ≤ 0). let none_is : x ≡ 0 = omega (arith, none) in trailing prefix (split ∙ ap (λ d. prefix ++ d ∷ []) none_is))
     (cases_lt 0 x)
 
--- ---- numbers that are equal but for powers
+-- ---- numbers that are equal except for powers
 few_by : (g u i j n m : ℕ) → 1 ≤ g → n * g ^ i ≡ m * g ^ j → ((q : ℕ) → n ≡ q * g ^ u → ⊥) → n ≤ m * g ^ u
 few_by g u i j n m some e never = ⊎_elim
     (λ (less : j < i).
@@ -74,8 +74,8 @@ few_by g u i j n m some e never = ⊎_elim
     (cases_lt (j - i) u))
     (cases_lt j i)
 
--- ---- a magnitude by powers
--- num over den is m times a power of h over powers of b and h
+-- ---- a magnitude as a product of powers
+-- num / den is m times a power of h, over powers of b and h
 record HasPowers (b h m num den : ℕ) : Type 0 where
   up : ℕ
   places : ℕ
@@ -83,7 +83,7 @@ record HasPowers (b h m num den : ℕ) : Type 0 where
   num_is : num ≡ m * h ^ up
   den_is : den ≡ b ^ places * h ^ down
 
--- and h is a power of g
+-- the same, and h is a power of g
 record IsScale (g b m : ℕ) (f : Fraction) : Type 0 where
   h : ℕ
   v : ℕ
@@ -110,7 +110,7 @@ scale_of_ten : (m s : ℕ) (x : Option Exponent) → IsScale 10 10 m (scaled_by 
 scale_of_ten m s None = record { h = 10; v = 1; h_is = omega arith; powers = scaled_powers 10 10 m 0 1 (pos 0 -ℤ pos s) (omega arith) }
 scale_of_ten m s (Some x) = record { h = 10; v = 1; h_is = omega arith; powers = scaled_powers 10 10 m 0 1 (exponent_number x -ℤ pos s) (omega arith) }
 
--- as powers of g alone
+-- all powers as powers of g
 one_power : (g u k x : ℕ) → x ≡ g ^ u → x ^ k ≡ g ^ (u * k)
 one_power g u k x e = ap (λ t. t ^ k) e ∙ pow-mul g u k
 
@@ -135,8 +135,8 @@ few_scaled g u b s x m n places f some b_is x_is scale e never =
     let few : n ≤ m * g ^ u = few_by g u i j n m some (products n m x (b ^ w.places) (scale.h ^ w.down) (scale.h ^ w.up) (b ^ places) (g ^ i) (g ^ j) same left right) (λ k t. never k (t ∙ ap (λ v. k * v) (sym b_is))) in
     subst (λ t. n ≤ m * t) (sym b_is) few
 
--- ---- what is scanned
--- the number of the digits is at most that of the mantissa, with one zero more
+-- ---- the digits of a scanned numeral
+-- all digits spell at most the number of the mantissa with a zero appended
 number_most : (r : Radix) (p : Parts) (negative : Bool) (whole fraction : List ℕ) (s : ℕ) → IsScanned r p negative whole fraction s → 0 < length fraction
     → number_from_digits (base r) (whole ++ fraction) ≤ digits_value (base r) (mantissa p) * base r
 number_most Bin p negative whole fraction s x some = few_scaled 2 1 2 s (2 ^ s) (digits_value 2 (mantissa p)) (number_from_digits 2 (whole ++ fraction)) (length fraction) (magnitude Bin p) (omega arith) (omega arith) refl (scale_of_two Bin 1 (digits_value 2 (mantissa p)) (length (fractional_digits p.fraction)) p.exponent (omega arith)) x.value (no_zero_last 2 whole fraction x.fraction_digits x.trailing some)

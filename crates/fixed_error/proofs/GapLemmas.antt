@@ -1,4 +1,4 @@
--- The gap between a numeral and what it is rounded to, and which of two errors is the greater.
+-- The gap between a numeral and its rounded number, and the greater of two errors.
 use Rattle.std.proofs.Common.{◌≡◌, ℕ, ◌+◌, ◌-◌, ◌*◌, ◌%◌, ◌^◌, ◌<◌, ◌≤◌, ◌↔◌, Bool, true, false, IsTrue, List, ◌++◌, length, refl, sym, ap, ◌∙◌, subst, arith, nat_eq, not, ⊎_elim, mul-le-mul_right, mul-le-mul_left, ℤ, pow_pos}
 use Rattle.std.specs.Int.Digits.{number_from_digits}
 use Rattle.std.proofs.Math.Nat.{one-le-pow, pow-le-pow_right}
@@ -28,7 +28,7 @@ use Rattle.fixed_error.specs.Inner.Sums.{Decides, padded, sum_value}
 use Rattle.fixed_error.specs.declared.gap.Gap.{Gap}
 use Rattle.fixed_error.proofs.SumLemmas.{power_split}
 
--- ---- the number of ulps that was read
+-- ---- the number of ulps of the rounded number
 same_magnitude : (minus : Bool) (m n : ℕ) → with_sign minus m ≡ with_sign minus n → m ≡ n
 same_magnitude false m n e = omega (arith, ints, e)
 same_magnitude true m n e = omega (arith, ints, e)
@@ -48,7 +48,7 @@ steps_read mode r p f found number at x read small =
     let steps = steps_whole mode r p f found number at x read in
     steps ∙ none_high x.holds.high found.low (omega (arith, steps, small))
 
--- whether there are more than 64 bits
+-- the number of ulps fits in 64 bits if and only if it has no high bits
 few_bits : (b : Bool) (high : ℕ) → (IsTrue b ↔ (0 < high)) → not b ≡ true → high ≡ 0
 few_bits b high = grind (arith, nat_tests)
 
@@ -79,7 +79,7 @@ pub record IsClose (num den q : ℕ) : Type 0 where
 pub close : (mode : ReadMode) (negative : Bool) (num den q : ℕ) → 0 < den → IsRounded mode negative num den q → IsClose num den q
 close mode negative num den q h x = let near = rounded_close mode negative num den q h x in record { above = near.1; below = near.0 }
 
--- what is rounded is the whole number below or the next
+-- a rounded number is the whole number below or the next one
 record IsNextTo (num den k q : ℕ) : Type 0 where
   least : k ≤ q
   most : q ≤ k + 1
@@ -96,7 +96,7 @@ next_to num den k q h x c = record {
       (cases_lt (k + 1) q);
 }
 
--- a numeral with fewer than 2^64 ulps in a mode has fewer below it
+-- if a numeral rounds to fewer than 2^64 ulps in some mode, it does so in mode TowardsZero
 pub within_below : (mode : ReadMode) (r : Radix) (f : ℕ) (bytes : List ℕ) → IsReadWithin mode r f bytes → IsReadWithin TowardsZero r f bytes
 within_below mode r f bytes w =
     let v = read_number_is_the_one TowardsZero r w.parts f in
@@ -107,7 +107,7 @@ within_below mode r f bytes w =
     record { parts = w.parts; numeral = w.numeral; number = v.0; read = v.1; within = omega (arith, n.least, w.within) }
 
 -- ---- the gap
--- a scanned numeral in ulps: w, n and power are its whole digits, those after the point, and what those are over
+-- num / den is (w + n / power) * unit: a numeral in ulps, with whole digits w and the fraction n / power
 pub record IsInUlps (num den w n power unit : ℕ) : Type 0 where
   pub number : num * power ≡ (w * power + n) * unit * den
   pub less : n < power
@@ -118,7 +118,7 @@ cancel_le a b t h e = ⊎_elim (λ (less : b < a). let m : (b + 1) * t ≤ a * t
 pub cancel_lt : (a b t : ℕ) → a * t < b * t → a < b
 cancel_lt a b t e = ⊎_elim (λ (less : a < b). less) (λ (more : b ≤ a). let m : b * t ≤ a * t = mul-le-mul_right t more in absurd (omega (arith, m, e))) (cases_lt a b)
 
--- the number of ulps below, without those of the whole digits
+-- k is the whole number of ulps below; k - w * unit of them belong to the fraction n / power
 record IsBelow (w n power unit k : ℕ) : Type 0 where
   least : w * unit ≤ k
   low : (k - w * unit) * power ≤ n * unit
@@ -177,7 +177,7 @@ unit_most Hex = omega arith
 pub shift_small : (r : Radix) (f s : ℕ) → f ≤ 64 → s < exponent_unit r → f + s ≤ 67
 shift_small r f s h k = omega (arith, h, k, unit_most r)
 
--- the digits of a scanned numeral give it in ulps
+-- a scanned numeral in ulps of 2^-f, from its digits
 pub in_ulps_of : (r : Radix) (p : Parts) (f : ℕ) (negative : Bool) (whole fraction : List ℕ) (s : ℕ) → IsScanned r p negative whole fraction s
     → IsInUlps ((magnitude r p).num * 2 ^ f) (magnitude r p).den (number_from_digits (base r) whole) (number_from_digits (base r) fraction) (base r ^ length fraction) (2 ^ (f + s))
 in_ulps_of r p f negative whole fraction s x =
@@ -193,8 +193,8 @@ in_ulps_of r p f negative whole fraction s x =
     let spread : m * 2 ^ (f + s) * den ≡ (number_from_digits b whole * power + number_from_digits b fraction) * 2 ^ (f + s) * den = ap (λ t. t * 2 ^ (f + s) * den) append in
     record { number = omega (arith, up, unit, spread); less = number_lt b fraction x.fraction_digits }
 
--- ---- which error is the greater
--- the size of an error in ulps, by n digits
+-- ---- the size of an error
+-- size / power is the error in ulps, and size the difference of the gap's two parts
 record HasSize (num den q power n : ℕ) (gap : Gap) (size : ℕ) : Type 0 where
   high : size + (less_part gap).whole * power + (less_part gap).factor * n ≡ (greater_part gap).whole * power + (greater_part gap).factor * n
   error : distance num (q * den) * power ≡ size * den
@@ -234,7 +234,7 @@ size_by num den q power n unit whole true h g = up_size num den q power n unit w
 size_of : (num den q power n : ℕ) (gap : Gap) → 0 < power → IsGapOf num den q power n gap → (size : ℕ) × HasSize num den q power n gap size
 size_of num den q power n gap h g = size_by num den q power n gap.unit gap.whole gap.is_rounded_up h g
 
--- ---- a numeral's gap
+-- ---- the gap of a numeral
 pub steps_for : (mode : ReadMode) (r : Radix) (f : ℕ) (bytes : List ℕ) (n : ℕ) → HasSteps mode r f bytes n → (p : Parts) → HasNumeral r bytes p → (v : ℤ) (read : IsReadNumber mode r p f v) → read.ulps ≡ n
 steps_for mode r f bytes n h p numeral v read =
     let same : h.parts ≡ p = parts_unique r bytes h.parts p h.numeral.beginning numeral.beginning in
@@ -244,7 +244,7 @@ steps_for mode r f bytes n h p numeral v read =
     let one : v ≡ h.number = read_unique mode r p f v h.number read found in
     same_magnitude (is_minus p.sign) read.ulps n (sym read.value ∙ (one ∙ moved))
 
--- k ulps are below a numeral, and q are what it is rounded to
+-- k is the number of whole ulps below a numeral, and q the number of ulps that it rounds to
 pub record AreAround (mode : ReadMode) (r : Radix) (f : ℕ) (p : Parts) (v : ℤ) (read : IsReadNumber mode r p f v) (k q : ℕ) : Type 0 where
   pub floor : IsNotAbove ((magnitude r p).num * 2 ^ f) (magnitude r p).den k
   pub near : IsClose ((magnitude r p).num * 2 ^ f) (magnitude r p).den q
@@ -334,8 +334,8 @@ gap_found mode r f bytes negative whole fraction s k q unit more w hf hs scanned
       whole_small = omega (arith, more_by, rest_small, unit_small, a.least, a.most);
     }
 
--- ---- two errors
--- by places of both: b is the power of all places, x is what the digits spell, and size is the error in ulps
+-- ---- the sizes of two errors
+-- the same over b, the power of the places of both errors; x is the number that the padded digits spell
 pub record HasSizeBy (num den q b x : ℕ) (gap : Gap) (size : ℕ) : Type 0 where
   pub high : size + (less_part gap).whole * b + (less_part gap).factor * x ≡ (greater_part gap).whole * b + (greater_part gap).factor * x
   pub error : distance num (q * den) * b ≡ size * den
@@ -351,7 +351,7 @@ size_by_places num den q power n c b x gap size h eb ex =
     let db : distance num (q * den) * b ≡ distance num (q * den) * (power * c) = ap (λ t. distance num (q * den) * t) eb in
     record { high = omega (arith, high, lb, lx, gb, gx); error = omega (arith, error, db) }
 
--- of two errors by the same places
+-- left - right = s - t
 record AreSizes (s t left right : ℕ) : Type 0 where
   same : left + t ≡ s + right
 
@@ -392,7 +392,7 @@ base_least Oct = omega arith
 base_least Dec = omega arith
 base_least Hex = omega arith
 
--- the size of one error by the places of both
+-- the size of one error, over the places of both
 pub places_of : (mode : ReadMode) (r : Radix) (f n : ℕ) (bytes digits : List ℕ) (gap : Gap) (x : IsGap mode r f bytes digits gap) → length digits ≤ n
     → (size : ℕ) × HasSizeBy ((magnitude r x.parts).num * 2 ^ f) (magnitude r x.parts).den x.read.ulps (base r ^ n) (padded (base r) n digits) gap size
 unfolding padded

@@ -1,4 +1,4 @@
--- The first of the numerals with the greatest error, and one numeral more.
+-- The first numeral with the greatest error, before and after one more numeral.
 use Rattle.std.proofs.Common.{◌≡◌, ℕ, ◌+◌, ◌*◌, ◌^◌, ◌<◌, ◌≤◌, Bool, true, false, List, [], ◌∷◌, ◌++◌, append_assoc, refl, sym, ap, ◌∙◌, subst, arith, mul-le-mul_right, pow_pos}
 use Rattle.fixed_bits.specs.declared.mode.ReadMode.{ReadMode}
 use Rattle.fixed_numeral.proofs.Public.{magnitude_pos, parts_unique}
@@ -10,7 +10,7 @@ use Rattle.fixed_error.specs.Greatest.{Entry, IsAboveAll, IsFirstGreatest, IsKep
 use Rattle.fixed_error.specs.Inner.Gap.{HasSteps}
 
 -- ---- sizes
--- a numeral's error has one size
+-- the error of a numeral has only one size
 pub size_unique : (mode : ReadMode) (r : Radix) (f : ℕ) (bytes : List ℕ) (d e : Fraction) → HasErrorSize mode r f bytes d → HasErrorSize mode r f bytes e → d ≡ e
 size_unique mode r f bytes d e h k =
     let steps : HasSteps mode r f bytes h.read.ulps = record { parts = h.parts; numeral = h.numeral; number = h.number; read = h.read; steps_are = refl } in
@@ -33,7 +33,7 @@ less_joined a b c d e f some less most =
     let n : a * d * f ≤ c * b * f = mul-le-mul_right f most in
     cancel_lt (a * f) (e * b) d (omega (arith, m, n, some))
 
--- what is not above another is below what is above that
+-- an error greater than `best` is greater than one that is at most `best`
 joined : (mode : ReadMode) (r : Radix) (f : ℕ) (new best low : List ℕ) → HasGreaterError mode r f new best → HasNoGreaterError mode r f low best → HasGreaterError mode r f new low
 joined mode r f new best low h k =
     let same : k.other_size ≡ h.other_size = size_unique mode r f best k.other_size h.other_size k.has_other h.has_other in
@@ -66,7 +66,7 @@ not_below_more : (mode : ReadMode) (r : Radix) (f : ℕ) (best : List ℕ) (entr
 not_below_more mode r f best [] entry all h = (h, tt)
 not_below_more mode r f best (first ∷ entries) entry all h = (all.0, not_below_more mode r f best entries entry all.1 h)
 
--- ---- one numeral more
+-- ---- one more numeral
 pub kept_new : (mode : ReadMode) (r : Radix) (f : ℕ) (entries : List Entry) (is : Bool) (place : ℕ) (old : List ℕ) (at : ℕ) (new : List ℕ) → IsReadWithin mode r f new → IsKept mode r f entries is place old
     → (is ≡ true → HasGreaterError mode r f new old) → IsFirstGreatest mode r f (entries ++ record { place = at; numeral = new } ∷ []) at new
 kept_new mode r f entries false place old at new within none greater = subst P (sym none) (record { before = []; after = []; split = refl; within = within; above = tt; not_below = tt })
@@ -94,7 +94,7 @@ kept_old mode r f entries true place old at new some k not = record {
   not_below = not_below_more mode r f old k.after (record { place = at; numeral = new }) k.not_below not;
 }
 
--- ---- what is kept and a numeral more
+-- ---- the kept numeral and one more
 pub self_not_greater : (mode : ReadMode) (r : Radix) (f : ℕ) (bytes : List ℕ) → IsReadWithin mode r f bytes → HasNoGreaterError mode r f bytes bytes
 self_not_greater mode r f bytes w =
     let size : Fraction = error_size (magnitude r w.parts) f w.read.ulps in

@@ -12,7 +12,7 @@ use Rattle.fixed_error.specs.Laws.{AboveNotWithin, ErrorNeverGrows, WithinEachLo
 use Rattle.fixed_error.proofs.GreatestLemmas.{den_some, size_unique}
 use Rattle.fixed_error.proofs.NearLemmas.{least_moved}
 
--- no multiple is nearer than the nearest
+-- no multiple is closer than the nearest
 nearest_least : (a b q w : ℕ) → 2 * distance a (q * b) ≤ b → distance a (q * b) ≤ distance a (w * b)
 nearest_least a b q w near =
     ⊎_elim

@@ -1,4 +1,4 @@
--- Binary digits near a half.
+-- Binary digits that are near a half at some fraction length.
 use Rattle.std.proofs.Common.{◌≡◌, ◌⊎◌, ℕ, ◌+◌, ◌-◌, ◌*◌, ◌/◌, ◌%◌, ◌^◌, ◌<◌, ◌≤◌, sym, ap, ◌∙◌, subst, arith, ⊎_elim, inl, inr, bit_and, w64, mul-le-mul_right, mul-le-mul_left, div-add-mod', mod-lt}
 use Rattle.std.specs.Prelude.{max, min}
 use Rattle.std.specs.Int.{bit_at}
@@ -49,7 +49,7 @@ half_of n low high = ⊎_elim
     (λ (more : 2 ^ 63 ≤ n). let e : 256 * 2 ^ 55 + (n - 256 * 2 ^ 55) ≡ n = omega (arith, more) in subst IsHalf e (just_above (n - 256 * 2 ^ 55) (omega (arith, high))))
     (cases_lt n (2 ^ 63))
 
--- ---- where digits differ from those after them
+-- ---- digits that differ from the next one
 far_by : (digits changes after near f : ℕ) → f < 53 → ((i : ℕ) → 1 ≤ i → i < 64 → bit_at changes i ≡ (bit_at digits i + bit_at digits (i - 1)) % 2)
     → ((i : ℕ) → 7 ≤ i → i < 64 → ((k : ℕ) → k < 7 → bit_at changes (i - 1 - k) ≡ 0) → bit_at after i ≡ 0)
     → bit_at near (63 - f) ≡ min (bit_at changes (63 - f)) (1 - bit_at after (63 - f)) → bit_at near (63 - f) ≡ 0 → IsFarFromHalf digits f
@@ -93,7 +93,7 @@ far_place digits changes after f small change any few is =
     let both = bit_at_and changes other i ∙ ap (λ t. min (bit_at changes i) t) turned in
     far_by digits changes after (bit_and changes other) f few change any both is
 
--- the next place with a one
+-- the digits between one place and the next place with a one are zeros
 pub none_before : (n moved from f : ℕ) → moved < 2 ^ 64 → ((i : ℕ) → from ≤ i → i < 64 → bit_at moved i ≡ bit_at n (i - from)) → from ≤ f → f < 64 → f < from + count_leading_zeros 64 moved → bit_at n (63 - f) ≡ 0
 none_before n moved from f small at order below less =
     let m = leading_length 64 moved small in
@@ -124,7 +124,7 @@ none_of_seven digits two four seven moved i from below at_two at_four at_seven a
     first : i - 1 ≡ i - 1 - 0
     first = omega arith
 
--- ---- parts of 10^-18
+-- ---- binary digits of parts of 10^-18
 pub digits_fit : (word : ℕ) → word < 10 ^ 18 → word * 10633823966279326983 / 2 ^ 59 < 2 ^ 64
 digits_fit word below = omega (arith, below)
 
@@ -159,7 +159,7 @@ far_near word digits f below few least most far =
     let split' : y ≡ y / 2 ^ 64 * 2 ^ 64 + y % 2 ^ 64 = omega arith in
     near_by (x % 10 ^ 18) (x / 10 ^ 18) (y % 2 ^ 64) (y / 2 ^ 64) (m * power) (omega arith) (omega arith) (omega (arith, a, b)) (omega (arith, scaled, split, split')) far
 
--- ---- the word at a length
+-- ---- the word at a fraction length
 quotient_is : (word digits f quotient : ℕ) → f < 64 → digits * 10 ^ 18 ≤ word * 2 ^ 64 → word * 2 ^ 64 < (digits + 3) * 10 ^ 18 → quotient ≡ digits / 2 / 2 ^ (63 - f) → (quotient * 10 ^ 18 ≤ word * 2 ^ f) × (word * 2 ^ f < (quotient + 2) * 10 ^ 18)
 quotient_is word digits f quotient few least most is =
     let up : ℕ = 2 ^ f in

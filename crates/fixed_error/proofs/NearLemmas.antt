@@ -1,11 +1,11 @@
--- How great an error is, by how far the numeral is above a whole number of ulps.
+-- The size of an error, from how far the numeral is above a whole number of ulps.
 use Rattle.std.proofs.Common.{◌≡◌, ℕ, ◌+◌, ◌-◌, ◌*◌, ◌<◌, ◌≤◌, ◌⊎◌, ap, subst, arith, ⊎_elim, inl, inr, mul-le-mul_right}
 use Rattle.std.specs.Prelude.{min, max}
 use Rattle.std.proofs.lemmas.Bool.{cases_lt}
 use Rattle.fixed_bits.specs.Nearest.{distance}
-use Rattle.fixed_error.proofs.GapLemmas.{cancel_le}
+use Rattle.fixed_error.proofs.GapLemmas.{cancel_le, cancel_lt}
 
--- ---- a number and a whole number near it
+-- ---- a number and a nearby whole number
 apart : (a x : ℕ) → (a ≡ x + distance a x) ⊎ (a + distance a x ≡ x)
 apart a x = ⊎_elim (λ (less : a < x). inr (omega (arith, less))) (λ (more : x ≤ a). inl (omega (arith, more))) (cases_lt a x)
 
@@ -36,7 +36,7 @@ below_high a b t q d some high near (inr e) =
     (λ (more : q ≤ t). let m : q * b ≤ t * b = mul-le-mul_right b more in omega (arith, m, e))
     (cases_lt t q)
 
--- ---- an error is at most this many parts
+-- ---- bounds of an error, in parts
 most_above : (a b one w r s q d : ℕ) → 0 < b → 0 < one → (w * one + r) * b ≤ a * one → a * one ≤ (w * one + r + s) * b → 2 * d ≤ b → (a ≡ q * b + d) ⊎ (a + d ≡ q * b) → d * one ≤ (r + s) * b
 most_above a b one w r s q d some some' low high near far =
     let under : w * b ≤ a = cancel_le (w * b) a one some' (omega (arith, low)) in
@@ -102,13 +102,22 @@ least_error a b one w r s q less low high =
         (λ (more : s ≤ one - r). let e : one - r ≡ (one - r - s) + s = omega (arith, more) in let m : (one - r) * b ≡ ((one - r - s) + s) * b = ap (λ t. t * b) e in omega (arith, y, m, h))
         (cases_lt (one - r) s)
 
--- ---- two errors, with the sizes d and dd over the denominators b and bb
+-- ---- two errors, of sizes d and dd over the denominators b and bb
 pub no_greater_by : (d b dd bb one t most least : ℕ) → 0 < one → d * one ≤ most * b → most ≤ least → least * (t * bb) ≤ dd * (t * one) → d * (t * bb) ≤ dd * (t * b)
 no_greater_by d b dd bb one t most least some high order low =
     let x : d * one * (t * bb) ≤ most * b * (t * bb) = mul-le-mul_right (t * bb) high in
     let y : most * (b * (t * bb)) ≤ least * (b * (t * bb)) = mul-le-mul_right (b * (t * bb)) order in
     let z : least * (t * bb) * b ≤ dd * (t * one) * b = mul-le-mul_right b low in
     cancel_le (d * (t * bb)) (dd * (t * b)) one some (omega (arith, x, y, z))
+
+pub greater_by_near : (d b dd bb one t least most : ℕ) → 0 < b → 0 < bb → 0 < t → least * b ≤ d * one → most < least → dd * one ≤ most * bb → dd * (t * b) < d * (t * bb)
+greater_by_near d b dd bb one t least most some some' unit low order high =
+    let x : dd * one * (t * b) ≤ most * bb * (t * b) = mul-le-mul_right (t * b) high in
+    let y : (most + 1) * (b * (t * bb)) ≤ least * (b * (t * bb)) = mul-le-mul_right (b * (t * bb)) (omega (arith, order)) in
+    let z : least * b * (t * bb) ≤ d * one * (t * bb) = mul-le-mul_right (t * bb) low in
+    let p : 1 * bb ≤ t * bb = mul-le-mul_right bb (omega (arith, unit)) in
+    let q : 1 * (t * bb) ≤ b * (t * bb) = mul-le-mul_right (t * bb) (omega (arith, some)) in
+    cancel_lt (dd * (t * b)) (d * (t * bb)) one (omega (arith, x, y, z, p, q, some'))
 
 pub least_moved : (num den num' den' unit least : ℕ) → 0 < den → least * den ≤ num * unit → num * den' ≤ num' * den → least * den' ≤ num' * unit
 least_moved num den num' den' unit least some low order =

@@ -1,4 +1,4 @@
--- What the proofs of the crates above may cite.
+-- Lemmas for the proofs of dependent crates.
 use Rattle.fixed_error.specs.Laws.{AboveNotWithin, FirstGreatestIsTheOne, WithinEachLonger}
 use Rattle.fixed_error.proofs.GrowthLemmas
 use Rattle.fixed_error.proofs.UniqueLemmas

@@ -1,4 +1,4 @@
--- How far a numeral is above a whole number of ulps, by its digits after the point.
+-- How far a numeral is above a whole number of ulps, from its digits after the point.
 use Rattle.std.proofs.Common.{◌≡◌, ℕ, suc, ◌+◌, ◌-◌, ◌*◌, ◌/◌, ◌%◌, ◌^◌, ◌<◌, ◌≤◌, ◌⊎◌, ◌↔◌, IsTrue, not, Bool, true, false, List, [], ◌∷◌, length, take, drop, refl, sym, ap, ◌∙◌, subst, arith, ⊎_elim, inl, inr, mul-le-mul_right, length-drop, mod-eq_of_lt, if◌then◌else◌}
 use Rattle.std.specs.Prelude.{min}
 use Rattle.std.specs.Int.Digits.{AllBelowBase, number_from_digits}
@@ -103,7 +103,7 @@ two_blocks n p g a m f k c z some one two =
     let y : m * p * k * f ≡ (c * k + z) * g * f = ap (λ t. t * f) two in
     cancel_eq (n * (p * p) * k) (((a * p + c) * k + z) * f) g some (omega (arith, x, y))
 
--- ---- digits in parts
+-- ---- n / f is v of d parts, or up to `more` parts more
 record IsCut (n d v more f : ℕ) : Type 0 where
   at_least : v * f ≤ n * d
   at_most : n * d ≤ (v + more) * f
@@ -158,7 +158,7 @@ shift_most Oct s h = let m : 2 ^ s ≤ 2 ^ 3 = power_within 2 s 3 (omega arith) 
 shift_most Dec s h = let m : 2 ^ s ≤ 2 ^ 3 = power_within 2 s 3 (omega arith) (omega (arith, h)) in omega (arith, m)
 shift_most Hex s h = let m : 2 ^ s ≤ 2 ^ 3 = power_within 2 s 3 (omega arith) (omega (arith, h)) in omega (arith, m)
 
--- how many parts there are more at most
+-- one more part at most if digits were cut
 abbrev more_of : Bool → ℕ
 more_of b = if b then 1 else 0
 
@@ -209,7 +209,7 @@ rest_found r text negative whole fraction s cut x all small scanned none one res
       few = omega (arith, slack, slack_few cut (2 ^ s) (shift_most r s small));
     }
 
--- ---- half an ulp
+-- ---- the next fraction length
 double_low : (a aa den d u r s rr : ℕ) → aa ≡ 2 * a → (u * d + r) * den ≤ a * d → rr ≡ 2 * r → (2 * u * d + rr) * den ≤ aa * d
 double_low a aa den d u r s rr e low f = let x : aa * d ≡ 2 * a * d = ap (λ t. t * d) e in let y : rr * den ≡ 2 * r * den = ap (λ t. t * den) f in omega (arith, x, y, low)
 

@@ -15,7 +15,7 @@ use Rattle.fixed_error.proofs.GapLemmas.{cancel_lt}
 use Rattle.fixed_error.proofs.RestLemmas.{cancel_eq, parts_pos}
 
 -- ---- powers of ten
--- what places leave of two blocks
+-- the places of a decimal and those left in two blocks make up all parts
 pub places_left : (s h : ℕ) → s ≤ 27 → h ≡ min s 18 → 10 ^ (18 - h) * 10 ^ (18 - (s - h)) * 10 ^ s ≡ parts Dec
 unfolding parts
 places_left s h few is =
@@ -31,14 +31,14 @@ pub unit_parts : (unit : ℕ) → unit ≡ 10 ^ 18 → unit * unit ≡ parts Dec
 unfolding parts
 unit_parts unit e = ap (λ t. t * t) e
 
--- a fraction's parts fit
+-- a fraction has at most all parts
 pub parts_fit : (fraction power t p : ℕ) → fraction < t → power * t ≡ p → fraction * power ≤ p
 parts_fit fraction power t p less e = let m : fraction * power ≤ t * power = mul-le-mul_right power (omega (arith, less)) in omega (arith, m, e)
 
 pub parts_are : (fraction power t p : ℕ) → power * t ≡ p → fraction * power * t ≡ fraction * p
 parts_are fraction power t p e = let m : fraction * (power * t) ≡ fraction * p = ap (λ x. fraction * x) e in omega (arith, m)
 
--- ---- the magnitude by its places
+-- ---- a magnitude by its decimal places
 by_places : (m b s : ℕ) (z : ℤ) → z ≡ pos 0 -ℤ pos s → (scaled m 1 b z).num * b ^ s ≡ m * (scaled m 1 b z).den
 by_places m b s (pos x) e =
     let none : x ≡ 0 = omega (arith, ints, e) in
@@ -90,8 +90,8 @@ decimal_rest text negative whole fraction places exponent two x short flat less 
       few = omega (arith, slack);
     }
 
--- ---- by a word
--- the parts of 10^-18 of a short decimal
+-- ---- the word of a short decimal
+-- the parts of 10^-18 of its fraction
 pub word_fits : (fraction s : ℕ) → s ≤ 18 → fraction < 10 ^ s → (fraction * 10 ^ (18 - s) * 10 ^ s ≡ fraction * 10 ^ 18) × (fraction * 10 ^ (18 - s) < 10 ^ 18)
 word_fits fraction s few less =
     let all : 18 - s + s ≡ 18 = omega (arith, few) in
@@ -101,7 +101,7 @@ word_fits fraction s few less =
     let same : fraction * (10 ^ (18 - s) * 10 ^ s) ≡ fraction * 10 ^ 18 = ap (λ t. fraction * t) power in
     (omega (arith, same), omega (arith, m, power, some))
 
--- in parts of 10^-36
+-- the same in parts of 10^-36
 pub word_parts : (word fraction t : ℕ) → word * t ≡ fraction * 10 ^ 18 → word * 10 ^ 18 * t ≡ fraction * parts Dec
 unfolding parts
 word_parts word fraction t e =

@@ -1,4 +1,4 @@
--- Of numerals one is the first with the greatest error.
+-- Only one of some numerals is the first with the greatest error.
 use Rattle.std.proofs.Common.{◌≡◌, ℕ, List, [], ◌∷◌, ◌++◌, sym, ap, ◌∙◌, subst, arith}
 use Rattle.fixed_bits.specs.declared.mode.ReadMode.{ReadMode}
 use Rattle.fixed_numeral.specs.declared.radix.Radix.{Radix}

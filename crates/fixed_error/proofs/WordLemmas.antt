@@ -1,21 +1,22 @@
--- Errors of a numeral that is above a whole number by a word.
+-- The errors of a numeral that is `word` parts of 10^-18 above a whole number.
 use Rattle.std.proofs.Common.{Vec, Global, ◌≡◌, ◌⊎◌, ℕ, suc, ◌+◌, ◌-◌, ◌*◌, ◌%◌, ◌^◌, ◌<◌, ◌≤◌, zero, List, [], ◌∷◌, ◌++◌, length, replicate, set, take, drop, get_or, refl, sym, ap, ◌∙◌, subst, arith, ⊎_elim, inl, inr, drop-cons}
 use Rattle.std.specs.Prelude.{min}
 use Rattle.std.specs.Int.{bit_at}
 use Rattle.std.proofs.lemmas.Bool.{cases_lt}
 use Rattle.std.proofs.lemmas.List.{drop_all, set-get_or, take-append-le, take_all}
+use Rattle.fixed_bits.specs.declared.mode.ReadMode.{ReadMode}
 use Rattle.fixed_bits.specs.declared.mode.ReadMode.TheVariants.{NearestEven}
 use Rattle.fixed_numeral.specs.declared.radix.Radix.{Radix}
-use Rattle.fixed_error.specs.ErrorSize.{IsReadWithin}
+use Rattle.fixed_error.specs.ErrorSize.{HasGreaterError, HasNoGreaterError, IsReadWithin}
 use Rattle.fixed_error.specs.Errors.{AreBoundsNearHalf, ArePassed, AreLengthErrors, AreWordsWithin, HasGreatestErrors, near_half}
 use Rattle.fixed_error.specs.Greatest.{Entry}
-use Rattle.fixed_error.specs.Inner.Rest.{IsRest, rest_of_word}
+use Rattle.fixed_error.specs.Inner.Rest.{IsNear, IsRest, rest_of_word}
 use Rattle.fixed_error.specs.declared.errors.GreatestErrors.{GreatestErrors}
 use Rattle.fixed_error.specs.declared.errors.LengthError.{LengthError}
-use Rattle.fixed_error.proofs.ErrorsLemmas.{nothing_greater}
+use Rattle.fixed_error.proofs.ErrorsLemmas.{greater_near, least_at, no_greater_near, nothing_greater}
 use Rattle.fixed_error.proofs.RestLemmas.{rest_halved, twice_power}
 
--- ---- the loop over the lengths
+-- ---- the loop over the fraction lengths
 pub words_more : (word k : ℕ) (errors : List LengthError) (d : LengthError) → k < length errors → min word (10 ^ 18 - word) < (get_or errors k d).bound → AreWordsWithin (2 * word % 10 ^ 18) (drop (k + 1) errors) → AreWordsWithin word (drop k errors)
 words_more word k errors d less near rest =
     let next : k + 1 ≡ suc k = omega arith in
@@ -26,7 +27,7 @@ words_more word k errors d less near rest =
 pub words_end : (word k : ℕ) (errors : List LengthError) → length errors ≤ k → AreWordsWithin word (drop k errors)
 words_end word k errors h = let none : drop k errors ≡ [] = drop_all k errors h in subst (AreWordsWithin word) (sym none) tt
 
--- ---- passed over
+-- ---- a numeral that is passed over
 order : (word bound least : ℕ) → word < 10 ^ 18 → min word (10 ^ 18 - word) < bound → (bound - 1) * 10 ^ 18 ≤ least
     → min (rest_of_word word).rest ((rest_of_word word).one - (rest_of_word word).rest) + (rest_of_word word).slack ≤ least
 unfolding rest_of_word
@@ -44,6 +45,44 @@ next_rest r f numeral word below h =
     let less : 2 * word % 10 ^ 18 < 10 ^ 18 = omega arith in
     let small : 2 * word % 10 ^ 18 * 10 ^ 18 < 10 ^ 18 * 10 ^ 18 = omega (arith, less) in
     rest_halved r f numeral (rest_of_word word) (rest_of_word (2 * word % 10 ^ 18)) h refl (halved word below) small refl
+
+pub twice_rest : (word f : ℕ) → 2 * (word * 2 ^ f % 10 ^ 18) % 10 ^ 18 ≡ word * 2 ^ suc f % 10 ^ 18
+twice_rest word f =
+    let x : ℕ = word * 2 ^ f in
+    let next : word * 2 ^ suc f ≡ 2 * x = twice_power word f in
+    let same : 2 * (x % 10 ^ 18) % 10 ^ 18 ≡ 2 * x % 10 ^ 18 = omega arith in
+    same ∙ ap (λ t. t % 10 ^ 18) (sym next)
+
+-- the word of the numeral in ulps of 2^-f
+pub rest_at : (r : Radix) (f : ℕ) (numeral : List ℕ) (word : ℕ) → word < 10 ^ 18 → IsRest r 0 numeral (rest_of_word word) → IsRest r f numeral (rest_of_word (word * 2 ^ f % 10 ^ 18))
+rest_at r zero numeral word below h = let same : word * 2 ^ 0 % 10 ^ 18 ≡ word = omega (arith, below) in subst (λ (t : ℕ). IsRest r 0 numeral (rest_of_word t)) (sym same) h
+rest_at r (suc f) numeral word below h =
+    let less : word * 2 ^ f % 10 ^ 18 < 10 ^ 18 = omega arith in
+    subst (λ (t : ℕ). IsRest r (suc f) numeral (rest_of_word t)) (twice_rest word f) (next_rest r f numeral (word * 2 ^ f % 10 ^ 18) less (rest_at r f numeral word below h))
+
+-- ---- two errors by their words
+near_order : (a b : ℕ) → min a (10 ^ 18 - a) ≤ min b (10 ^ 18 - b)
+    → min (rest_of_word a).rest ((rest_of_word a).one - (rest_of_word a).rest) + (rest_of_word a).slack ≤ min (rest_of_word b).rest ((rest_of_word b).one - (rest_of_word b).rest) - (rest_of_word b).slack
+unfolding rest_of_word
+near_order a b h = omega (arith, h)
+
+near_below : (a b : ℕ) → min a (10 ^ 18 - a) < min b (10 ^ 18 - b)
+    → min (rest_of_word a).rest ((rest_of_word a).one - (rest_of_word a).rest) + (rest_of_word a).slack < min (rest_of_word b).rest ((rest_of_word b).one - (rest_of_word b).rest) - (rest_of_word b).slack
+unfolding rest_of_word
+near_below a b h = omega (arith, h)
+
+pub near_no_greater : (mode : ReadMode) (r : Radix) (f : ℕ) (one other : List ℕ) (a b : ℕ) → mode ≡ NearestEven → IsReadWithin mode r f one → IsReadWithin mode r f other → IsNear r f one a → IsNear r f other b → a ≤ b → HasNoGreaterError mode r f one other
+near_no_greater mode r f one other a b nearest w k x y order =
+    let at : ℕ = min (rest_of_word y.word).rest ((rest_of_word y.word).one - (rest_of_word y.word).rest) - (rest_of_word y.word).slack in
+    let W : List ℕ → ReadMode → Type 0 = λ bytes m. IsReadWithin m r f bytes in
+    subst (λ m. HasNoGreaterError m r f one other) (sym nearest)
+    (no_greater_near r f one other (rest_of_word x.word) at (subst (W one) nearest w) x.rest (near_order x.word y.word (omega (arith, order, x.near_is, y.near_is))) (least_at r f other (rest_of_word y.word) (subst (W other) nearest k) y.rest))
+
+pub near_greater : (mode : ReadMode) (r : Radix) (f : ℕ) (one other : List ℕ) (a b : ℕ) → mode ≡ NearestEven → IsReadWithin mode r f one → IsReadWithin mode r f other → IsNear r f one a → IsNear r f other b → b < a → HasGreaterError mode r f one other
+near_greater mode r f one other a b nearest w k x y order =
+    let W : List ℕ → ReadMode → Type 0 = λ bytes m. IsReadWithin m r f bytes in
+    subst (λ m. HasGreaterError m r f one other) (sym nearest)
+    (greater_near r f one other (rest_of_word x.word) (rest_of_word y.word) (subst (W one) nearest w) (subst (W other) nearest k) x.rest y.rest (near_below y.word x.word (omega (arith, order, x.near_is, y.near_is))))
 
 pub passed_over : (r : Radix) (f : ℕ) (entries : List Entry) (errors : List LengthError) (place : ℕ) (numeral : List ℕ) (word : ℕ) → word < 10 ^ 18 → ((k : ℕ) → k < length errors → IsReadWithin NearestEven r (f + k) numeral) → IsRest r f numeral (rest_of_word word)
     → AreWordsWithin word errors → AreLengthErrors r f entries errors → AreLengthErrors r f (entries ++ record { place = place; numeral = numeral } ∷ []) errors
@@ -70,7 +109,7 @@ get_or_zeros (suc n) (suc k) = get_or_zeros n k
 pub none_passed : (n : ℕ) (errors : List LengthError) → ArePassed (replicate n 0) errors
 none_passed n errors k word is = absurd (omega (arith, is, get_or_zeros n k))
 
--- ---- all near half an ulp
+-- ---- bounds near half an ulp
 pub near_taken : (errors : List LengthError) (k : ℕ) → AreBoundsNearHalf errors → AreBoundsNearHalf (take k errors)
 near_taken errors zero h = tt
 near_taken [] (suc k) h = tt
@@ -86,14 +125,7 @@ near_more k errors d less near rest =
 pub near_end : (k : ℕ) (errors : List LengthError) → length errors ≤ k → AreBoundsNearHalf (drop k errors)
 near_end k errors h = let none : drop k errors ≡ [] = drop_all k errors h in subst AreBoundsNearHalf (sym none) tt
 
-twice_rest : (word f : ℕ) → 2 * (word * 2 ^ f % 10 ^ 18) % 10 ^ 18 ≡ word * 2 ^ suc f % 10 ^ 18
-twice_rest word f =
-    let x : ℕ = word * 2 ^ f in
-    let next : word * 2 ^ suc f ≡ 2 * x = twice_power word f in
-    let same : 2 * (x % 10 ^ 18) % 10 ^ 18 ≡ 2 * x % 10 ^ 18 = omega arith in
-    same ∙ ap (λ t. t % 10 ^ 18) (sym next)
-
--- the error at the length f is below its bound
+-- the error at the fraction length f is below its bound
 abbrev pub IsWordWithinAt : ℕ → List LengthError → ℕ → LengthError → Type 0
 IsWordWithinAt word errors f d = min (word * 2 ^ f % 10 ^ 18) (10 ^ 18 - word * 2 ^ f % 10 ^ 18) < (get_or errors f d).bound
 
@@ -118,7 +150,7 @@ near_at [] k d less all = absurd (omega (arith, less))
 near_at (e ∷ errors) zero d less all = all.0
 near_at (e ∷ errors) (suc k) d less all = near_at errors k d (omega (arith, less)) all.1
 
--- a length at which the binary digits say that a numeral is not near the middle
+-- the error is below its bound at a length where the binary digits are far from a half
 pub far_at : (word near f : ℕ) (errors : List LengthError) (d : LengthError) → length errors ≤ 53 → f < length errors → AreBoundsNearHalf errors
     → ((k : ℕ) → k < 53 → bit_at near (63 - k) ≡ 0 → min (word * 2 ^ k % 10 ^ 18) (10 ^ 18 - word * 2 ^ k % 10 ^ 18) < near_half) → bit_at near (63 - f) ≡ 0 → IsWordWithinAt word errors f d
 far_at word near f errors d few less all far is =
@@ -131,7 +163,7 @@ near_dropped zero errors h = h
 near_dropped (suc k) [] h = h
 near_dropped (suc k) (e ∷ errors) h = near_dropped k errors h.1
 
--- the lengths below one and those from it on
+-- the first n lengths, and the others
 joined_from : (word f n : ℕ) (errors : List LengthError) → AreWordsWithin (word * 2 ^ f % 10 ^ 18) (take n errors) → AreWordsWithin (word * 2 ^ (f + n) % 10 ^ 18) (drop n errors) → AreWordsWithin (word * 2 ^ f % 10 ^ 18) errors
 joined_from word f zero errors before after = let same : f + 0 ≡ f = omega arith in subst (λ (k : ℕ). AreWordsWithin (word * 2 ^ k % 10 ^ 18) errors) same after
 joined_from word f (suc n) [] before after = tt
@@ -146,7 +178,7 @@ words_joined word n errors below before after =
     let start : 0 + n ≡ n = omega arith in
     subst (λ (t : ℕ). AreWordsWithin t errors) same (joined_from word 0 n errors (subst (λ (t : ℕ). AreWordsWithin t (take n errors)) (sym same) before) (subst (λ (k : ℕ). AreWordsWithin (word * 2 ^ k % 10 ^ 18) (drop n errors)) (sym start) after))
 
--- ---- words kept
+-- ---- a record with the same errors
 pub words_kept : (r : Radix) (count : ℕ) (entries : List Entry) (old new : GreatestErrors) → new.radix ≡ old.radix → new.errors ≡ old.errors → new.are_near_half ≡ old.are_near_half → ArePassed new.passed old.errors.items → HasGreatestErrors r count entries old
     → HasGreatestErrors r count entries new
 words_kept r count entries old new radix errors near passed h =
@@ -163,7 +195,7 @@ words_kept r count entries old new radix errors near passed h =
     items_of : Vec LengthError Global → List LengthError
     items_of v = v.items
 
--- one numeral more
+-- one more numeral
 pub word_added : (r : Radix) (count : ℕ) (entries : List Entry) (g : GreatestErrors) (place : ℕ) (numeral : List ℕ) (word : ℕ) → word < 10 ^ 18 → ((f : ℕ) → f < length g.errors.items → IsReadWithin NearestEven g.radix f numeral) → IsRest g.radix 0 numeral (rest_of_word word)
     → AreWordsWithin word g.errors.items → HasGreatestErrors r count entries g → HasGreatestErrors r count (entries ++ record { place = place; numeral = numeral } ∷ []) g
 word_added r count entries g place numeral word below within rest near h =
@@ -177,10 +209,10 @@ word_added r count entries g place numeral word below within rest near h =
       passed = h.passed;
     }
 
--- the elements of a vector that were all written
+-- all elements of a vector were overwritten
 pub all_written : (n : ℕ) (xs ys : List LengthError) → length xs ≡ n → take n (xs ++ drop (length xs) ys) ≡ xs
 all_written n xs ys long = take-append-le n xs (drop (length xs) ys) (omega (arith, long)) ∙ take_all n xs (omega (arith, long))
 
--- an element that stays the same
+-- setting an element to its own value changes nothing
 pub unchanged : (xs initial : List LengthError) (k : ℕ) (d new : LengthError) → new ≡ get_or xs k d → xs ≡ initial → set xs k new ≡ initial
 unchanged xs initial k d new same old = ap (λ e. set xs k e) same ∙ set-get_or xs k d ∙ old

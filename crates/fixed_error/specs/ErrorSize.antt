@@ -1,4 +1,4 @@
--- The size of the error of a rounded numeral, and which of two is the greater.
+-- The size of a rounded numeral's error, and the greater of two errors.
 use Rattle.std.specs.Prelude.{◌≡◌, ℕ, ◌*◌, ◌^◌, ◌<◌, ◌≤◌, List, ℤ}
 use Rattle.fixed_bits.specs.Nearest.{distance}
 use Rattle.fixed_bits.specs.declared.mode.ReadMode.{ReadMode}
@@ -7,11 +7,11 @@ use Rattle.fixed_numeral.specs.Value.{Fraction, magnitude}
 use Rattle.fixed_numeral.specs.declared.radix.Radix.{Radix}
 use Rattle.fixed_read.specs.Reading.{IsReadNumber}
 
--- how far a magnitude is from a whole number of ulps of 2^-f
+-- the distance between a magnitude and a whole number of ulps of 2^-f
 abbrev pub error_size : Fraction → ℕ → ℕ → Fraction
 error_size m f ulps = record { num = distance (m.num * 2 ^ f) (ulps * m.den); den = 2 ^ f * m.den }
 
--- bytes are a numeral, and size is that of its error where it is rounded in the mode to a whole number of ulps of 2^-f
+-- bytes are a numeral, and size is that of its error if it is rounded in the mode to a whole number of ulps of 2^-f
 pub record HasErrorSize (mode : ReadMode) (r : Radix) (f : ℕ) (bytes : List ℕ) (size : Fraction) : Type 0 where
   pub parts : Parts
   pub numeral : HasNumeral r bytes parts
@@ -35,7 +35,7 @@ pub record HasGreaterError (mode : ReadMode) (r : Radix) (f : ℕ) (one other : 
   pub has_other : HasErrorSize mode r f other other_size
   pub greater : IsLess other_size one_size
 
--- it is at most that
+-- the error of one numeral is at most that of another in size
 pub record HasNoGreaterError (mode : ReadMode) (r : Radix) (f : ℕ) (one other : List ℕ) : Type 0 where
   pub one_size : Fraction
   pub has_one : HasErrorSize mode r f one one_size
@@ -51,7 +51,7 @@ pub record HasErrorAbove (mode : ReadMode) (r : Radix) (f : ℕ) (bytes bound : 
   pub bound_numeral : HasNumeral r bound bound_parts
   pub above : IsLess (magnitude r bound_parts) size
 
--- it is at most that
+-- the error of a numeral is at most the magnitude of another in size
 pub record HasErrorWithin (mode : ReadMode) (r : Radix) (f : ℕ) (bytes bound : List ℕ) : Type 0 where
   pub size : Fraction
   pub has_size : HasErrorSize mode r f bytes size

@@ -1,4 +1,4 @@
--- The greatest errors of numerals at many fraction lengths, where they are rounded to nearest.
+-- The greatest errors of numerals that are rounded to nearest, at many fraction lengths.
 use Rattle.std.specs.Prelude.{◌≡◌, ℕ, suc, ◌+◌, ◌-◌, ◌*◌, ◌%◌, ◌^◌, ◌<◌, ◌≤◌, true, false, List, [], ◌∷◌}
 use Rattle.std.specs.Prelude.{length, get_or, min}
 use Rattle.fixed_bits.specs.declared.mode.ReadMode.TheVariants.{NearestEven}
@@ -12,21 +12,21 @@ use Rattle.fixed_error.specs.declared.errors.GreatestErrors.{GreatestErrors}
 use Rattle.fixed_error.specs.declared.errors.LengthError.{LengthError}
 use Rattle.fixed_error.specs.declared.greatest.GreatestError.{GreatestError}
 
--- this is kept of numerals at a fraction length
+-- g holds the greatest error of the entries at fraction length f, rounded to nearest
 pub record IsGreatestAt (r : Radix) (f : ℕ) (entries : List Entry) (g : GreatestError) : Type 0 where
   pub radix : g.radix ≡ r
   pub frac : g.frac ≡ f
   pub mode : g.mode ≡ NearestEven
   pub greatest : HasGreatest entries g
 
--- how many digits are taken at a time: those whose power fits 60 bits
+-- the number of digits taken at a time: as many as fit 60 bits
 abbrev pub block : Radix → ℕ
 block Bin = 60
 block Oct = 20
 block Dec = 18
 block Hex = 15
 
--- how many parts of an ulp are told apart: two blocks of digits
+-- the number of parts of an ulp that are told apart: two blocks of digits
 unfoldable pub parts : Radix → ℕ
 parts r = base r ^ block r * base r ^ block r
 
@@ -36,7 +36,7 @@ pub record IsErrorAtLeast (r : Radix) (f : ℕ) (bytes : List ℕ) (least : ℕ)
   pub has_size : HasErrorSize NearestEven r f bytes size
   pub at_least : IsAtMost (record { num = least; den = 2 ^ f * parts r }) size
 
--- the greatest error at a fraction length, and how great it is at least
+-- e is the greatest error at a fraction length, with lower bounds of its size
 pub record IsLengthError (r : Radix) (f : ℕ) (entries : List Entry) (e : LengthError) : Type 0 where
   pub is_greatest : IsGreatestAt r f entries e.greatest
   pub none : e.greatest.is_some ≡ false → e.least ≡ 0
@@ -51,25 +51,25 @@ abbrev pub AreLengthErrors : Radix → ℕ → List Entry → List LengthError �
 AreLengthErrors r f entries [] = Unit {0}
 AreLengthErrors r f entries (e ∷ errors) = IsLengthError r f entries e × AreLengthErrors r (suc f) entries errors
 
--- half an ulp in parts of 10^-18, less the 2^10th of an ulp
+-- half an ulp less 2^-10 of an ulp, in parts of 10^-18
 abbrev pub near_half : ℕ
 near_half = 499023437500000000
 
--- each error may be that great
+-- the bound of each error is at least that
 abbrev pub AreBoundsNearHalf : List LengthError → Type 0
 AreBoundsNearHalf [] = Unit {0}
 AreBoundsNearHalf (e ∷ errors) = (near_half ≤ e.bound) × AreBoundsNearHalf errors
 
--- the error of a numeral that is this many parts of 10^-18 above a whole number is below each bound
+-- a numeral that is `word` parts of 10^-18 above a whole number has an error below each bound
 abbrev pub AreWordsWithin : ℕ → List LengthError → Type 0
 AreWordsWithin word [] = Unit {0}
 AreWordsWithin word (e ∷ errors) = (min word (10 ^ 18 - word) < e.bound) × AreWordsWithin (2 * word % 10 ^ 18) errors
 
--- each of these is 0, or one more than such a word
+-- each of the words is 0, or one more than such a word
 abbrev pub ArePassed : List ℕ → List LengthError → Type 0
 ArePassed words errors = (k word : ℕ) → get_or words k 0 ≡ word + 1 → AreWordsWithin word errors
 
--- the greatest errors at the fraction lengths below a count
+-- g holds the greatest errors of the entries at the fraction lengths below `count`
 pub record HasGreatestErrors (r : Radix) (count : ℕ) (entries : List Entry) (g : GreatestErrors) : Type 0 where
   pub radix : g.radix ≡ r
   pub most : count ≤ 65
@@ -78,6 +78,6 @@ pub record HasGreatestErrors (r : Radix) (count : ℕ) (entries : List Entry) (g
   pub near : g.are_near_half ≡ true → AreBoundsNearHalf g.errors.items
   pub passed : ArePassed g.passed g.errors.items
 
--- this is kept of some numerals
+-- g holds the greatest errors of some numerals
 abbrev pub HasSomeGreatestErrors : GreatestErrors → Type 0
 HasSomeGreatestErrors g = (r : Radix) × (count : ℕ) × (entries : List Entry) × HasGreatestErrors r count entries g

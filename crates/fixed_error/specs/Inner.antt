@@ -1,4 +1,4 @@
--- Contracts of private functions. Nothing that is public cites them.
+-- Contracts of private functions. No public contract cites them.
 pub mod Sums
 pub mod Gap
 pub mod Greatest

@@ -6,7 +6,7 @@ use Rattle.fixed_numeral.specs.declared.radix.Radix.{Radix}
 use Rattle.fixed_numeral.specs.declared.radix.Radix.TheVariants.{Dec}
 use Rattle.fixed_numeral.specs.declared.short.ShortNumeral.{ShortNumeral}
 
--- a numeral is a decimal, and these are the numbers of its parts
+-- bytes are a decimal numeral, and n holds the numbers of its parts
 pub record IsShortRead (r : Radix) (bytes : List ℕ) (n : ShortNumeral) : Type 0 where
   pub decimal : r ≡ Dec
   pub numeral : IsNumeral Dec bytes

@@ -1,10 +1,10 @@
-//! The greatest error of numerals at each of many fraction lengths, where they are rounded to nearest.
+//! The greatest error of numerals, rounded to nearest, at each of many fraction lengths.
 //!
 //! A numeral rarely has a greater error than those before it. So its error is first bounded by its first digits, at
-//! each length from that at the one before, and compared exactly only where the bound is above what is known. For a
-//! decimal of at most 18 places a word holds all of them. Once each error is nearly half an ulp, one look at a
-//! numeral's binary digits tells at which lengths its own may be as near to that (module `half`), and it is compared at
-//! those alone. And the words that were passed over are kept, since many lists have few.
+//! each length from the bound at the length before, and compared exactly only if the bound is above the known error.
+//! For a decimal of at most 18 places a word holds all digits. Once each error is nearly half an ulp, a numeral's
+//! binary digits tell at which lengths its own may be as near to that (module `half`), and it is compared only at
+//! those. The words that were passed over are kept, since many lists have few words.
 
 ghost use Rattle.std.specs.Prelude.{◌≡◌, ◌<◌, ◌≤◌, ◌+◌, ◌-◌, ◌^◌, ◌++◌, ◌∷◌, [], List, ℕ, OnOk, IfOk, IfSome};
 ghost use Rattle.std.specs.Prelude.{length, replicate, true, false, min, ◌||◌};
@@ -34,16 +34,16 @@ use std::sync::ledger::Ledger;
 /// The greatest error at one fraction length.
 #[derive(Drop)]
 pub struct LengthError {
-    /// The numeral that has it.
+    /// The numeral with the greatest error.
     pub greatest: GreatestError,
-    /// How great it is at least, in parts of an ulp.
+    /// A lower bound of that error, in parts of an ulp.
     pub least: u128,
-    /// Below how many parts of 10^-18 an error is surely no greater: 0 where there is none.
+    /// An error below this many parts of 10^-18 is surely not greater. 0 if there is no numeral.
     pub bound: u64,
 }
 
 impl LengthError {
-    /// Whether a numeral has surely no greater error than one before it.
+    /// Whether a numeral surely has no greater error than one before it.
     fn is_surely_within(&self, rest: Rest) -> bool
         requires below { rest.rest < rest.one }
         requires one { rest.one ≤ 2 ^ 120 }
@@ -54,7 +54,7 @@ impl LengthError {
         self.greatest.is_some() && most_of(rest) <= self.least
     }
 
-    /// Takes one more numeral, which is that far above a whole number of ulps, and says whether that changed anything.
+    /// Takes one more numeral, which is `rest` above a whole number of ulps. Returns whether that changed anything.
     fn add<L: Ledger>(
         &mut self,
         numeral: &[u8],
@@ -79,29 +79,28 @@ impl LengthError {
     }
 }
 
-/// Of the numerals so far, for each fraction length below a count, the first that has the greatest error where they are
-/// rounded to nearest.
+/// For each fraction length below a count, the first numeral so far with the greatest error, rounded to nearest.
 #[derive(Drop)]
 pub struct GreatestErrors {
     radix: Radix,
     errors: Vec<LengthError>,
     /// Whether each of the errors is nearly half an ulp.
     are_near_half: bool,
-    /// One more than words that were passed over, each in its slot: 0 where there is none.
+    /// Words that were passed over, each plus 1 and in its slot. 0 if there is none.
     passed: [u64; SLOTS],
 }
 
-/// How many of the words that were passed over are kept.
+/// The number of slots for words that were passed over.
 const SLOTS: usize = 1024;
 
-/// No word that was passed over.
+/// Returns empty slots.
 fn no_words() -> [u64; SLOTS]
     ensures { result ≡ replicate 1024 0 }
 {
     [0; SLOTS]
 }
 
-/// The slot of a word: its first ten binary digits, so that no two decimals of at most three places have the same.
+/// Returns the slot of a word: its first ten binary digits. No two decimals of at most three places share a slot.
 fn slot_of(word: u64) -> usize
     requires { word < 10 ^ 18 }
     ensures { result < 1024 }
@@ -116,7 +115,7 @@ fn is_either(one: bool, other: bool) -> bool
     one || other
 }
 
-/// No numeral so far, at a fraction length.
+/// Returns the error at a fraction length before the first numeral.
 fn no_error(alloc: Global, radix: Radix, frac: u32) -> LengthError
     requires { frac ≤ 64 }
     ensures { IsLengthError radix frac [] result }
@@ -128,7 +127,7 @@ fn no_error(alloc: Global, radix: Radix, frac: u32) -> LengthError
     }
 }
 
-/// How near to half an ulp an error is that is nearly that, in parts of 10^-18.
+/// The least bound of an error that is nearly half an ulp, in parts of 10^-18.
 const NEAR_HALF: u64 = 499_023_437_500_000_000;
 
 /// Whether each of the errors is nearly half an ulp.
@@ -143,7 +142,7 @@ fn are_near_half(errors: &[LengthError]) -> bool
     true
 }
 
-/// Whether a numeral that is above a whole number by a word has surely no greater error than those before it, at any
+/// Whether a numeral that is `word` above a whole number surely has no greater error than those before it, at any
 /// fraction length.
 fn are_surely_within(errors: &[LengthError], word: u64) -> bool
     requires { word < 10 ^ 18 }
@@ -159,8 +158,8 @@ fn are_surely_within(errors: &[LengthError], word: u64) -> bool
     true
 }
 
-/// Whether a numeral that is above a whole number by a word has surely no greater error than those before it, each of
-/// which is nearly half an ulp, at any of some fraction lengths: it is compared at those alone that its binary digits
+/// Whether a numeral that is `word` above a whole number surely has no greater error than those before it, each of
+/// which is nearly half an ulp, at any of some fraction lengths. It is compared only at those that its binary digits
 /// leave.
 fn are_within_by_digits(errors: &[LengthError], word: u64) -> bool
     requires word { word < 10 ^ 18 }
@@ -180,7 +179,7 @@ fn are_within_by_digits(errors: &[LengthError], word: u64) -> bool
 }
 
 impl GreatestErrors {
-    /// No numeral so far, for the fraction lengths below a count, of which there are at most 65.
+    /// Returns the errors before the first numeral, for the fraction lengths below `count`, which is at most 65.
     ///
     /// # Errors
     ///
@@ -201,14 +200,14 @@ impl GreatestErrors {
         })
     }
 
-    /// How many fraction lengths there are.
+    /// Counts the fraction lengths.
     pub fn count(&self) -> usize
         ensures { result ≡ length self.now.errors.items }
     {
         self.errors.len()
     }
 
-    /// Leaves the fraction lengths below a count.
+    /// Keeps only the fraction lengths below `count`.
     pub fn shorten(&mut self, count: u32)
         ensures { (r : Radix) (old : ℕ) (entries : List Entry) → HasGreatestErrors r old entries self.old
             → HasGreatestErrors r (min count old) entries self.new }
@@ -216,9 +215,8 @@ impl GreatestErrors {
         self.errors.truncate(count as usize);
     }
 
-    /// Whether the binary digits of a numeral that is above a whole number by a word say that it has surely no greater
-    /// error than those before it, at any fraction length. Once there were many numerals, nearly all are passed over
-    /// so.
+    /// Whether the binary digits of a numeral that is `word` above a whole number say that it surely has no greater
+    /// error than those before it, at any fraction length. After many numerals, nearly all are passed over by this.
     fn is_passed_by_digits(&self, word: u64) -> bool
         requires word { word < 10 ^ 18 }
         requires few { length self.now.errors.items ≤ 65 }
@@ -238,8 +236,8 @@ impl GreatestErrors {
             )
     }
 
-    /// Whether a numeral that is above a whole number by a word has surely no greater error than those before it, at
-    /// any fraction length. Its word is kept where it is found so.
+    /// Whether a numeral that is `word` above a whole number surely has no greater error than those before it, at any
+    /// fraction length. If a comparison finds this, the word is kept.
     fn pass_word(&mut self, word: u64) -> bool
         requires word { word < 10 ^ 18 }
         requires few { length self.old.errors.items ≤ 65 }
@@ -265,7 +263,7 @@ impl GreatestErrors {
         true
     }
 
-    /// Takes one more numeral, which is that far above a whole number, and compares it at each length.
+    /// Takes one more numeral, which is `rest` above a whole number, and compares it at each length.
     fn add_rest<L: Ledger>(
         &mut self,
         numeral: &[u8],
@@ -296,8 +294,7 @@ impl GreatestErrors {
         Ok(())
     }
 
-    /// Takes one more numeral, which comes with a place. Memory is taken for the numerals with the greatest errors
-    /// alone.
+    /// Takes one more numeral and its place. Memory is taken only for the numerals with the greatest errors.
     ///
     /// # Errors
     ///
@@ -320,7 +317,7 @@ impl GreatestErrors {
         self.add_read(numeral, place, short, steps)
     }
 
-    /// `add` of a numeral that was read: the numbers of its parts are given where it was read as a short decimal.
+    /// `add` of a numeral that was read. `short` has the numbers of its parts if it was read as a short decimal.
     ///
     /// # Errors
     ///
@@ -353,7 +350,7 @@ impl GreatestErrors {
         }
     }
 
-    /// The greatest error at a fraction length.
+    /// Returns the greatest error at a fraction length.
     pub fn at(&self, frac: u32) -> &GreatestError
         requires { frac < length self.now.errors.items }
         ensures { (r : Radix) (count : ℕ) (entries : List Entry) → HasGreatestErrors r count entries self.now

@@ -12,19 +12,20 @@ use fixed_read::read_format;
 use fixed_steps::Steps;
 use std::sync::ledger::Ledger;
 
-/// The gap between a numeral and the whole number of ulps that it is rounded to, in ulps: a factor of the digits after
-/// the numeral's point and a whole number, one less the other.
+/// The gap between a numeral and the whole number of ulps that it is rounded to, in ulps: the difference of a multiple
+/// of the digits after the numeral's point and a whole number.
 #[derive(Clone, Copy, Debug, PartialEq, Eq)]
 pub struct Gap {
     /// The factor of the digits.
     pub unit: u128,
     /// The whole number.
     pub whole: u128,
-    /// Whether the whole number is the greater of the two.
+    /// Whether the whole number is the greater.
     pub is_rounded_up: bool,
 }
 
-/// The whole number of ulps that a numeral is rounded to in a mode, in at most eight steps for each byte, and 128.
+/// Returns the whole number of ulps that a numeral is rounded to in a mode, in at most four steps for each byte, and
+/// 119.
 fn steps_in<L: Ledger>(
     text: &[u8],
     radix: Radix,
@@ -34,7 +35,7 @@ fn steps_in<L: Ledger>(
 ) -> u64
     requires { frac ≤ 64 }
     ensures rounded { IsReadWithin mode radix frac text.now → HasSteps mode radix frac text.now result }
-    ensures cost { steps.new ≤ steps.old + 8 * length text.now + 128 }
+    ensures cost { steps.new ≤ steps.old + 4 * length text.now + 119 }
 {
     match read_format(text, radix, Format::of(false, 64, frac), mode, steps) {
         Ok(found) => found.magnitude(),
@@ -42,7 +43,7 @@ fn steps_in<L: Ledger>(
     }
 }
 
-/// Two to a power.
+/// Returns two to a power.
 pub fn power_of_two(exponent: u32) -> u128
     requires { exponent ≤ 67 }
     ensures { result ≡ 2 ^ exponent }
@@ -50,7 +51,7 @@ pub fn power_of_two(exponent: u32) -> u128
     1u128 << exponent
 }
 
-/// The remainder of a number of 64 bits at a power of two, and what is added.
+/// Returns the remainder of a number of 64 bits by a power of two, plus `more`.
 fn whole_of(below: u64, unit: u128, more: u64) -> u128
     requires some { 0 < unit }
     requires more { more ≤ 1 }
@@ -59,8 +60,8 @@ fn whole_of(below: u64, unit: u128, more: u64) -> u128
     u128::from(below) % unit + u128::from(more)
 }
 
-/// The gap between a scanned numeral and the whole number of ulps of 2^-`frac` that it is rounded to in a mode. It
-/// takes at most sixteen steps for each byte, and 256.
+/// Returns the gap between a scanned numeral and the whole number of ulps of 2^-`frac` that it is rounded to in a mode.
+/// It takes at most eight steps for each byte, and 238.
 pub fn gap_of<'a, L: Ledger>(
     text: &[u8],
     found: &Scanned<'a>,
@@ -75,7 +76,7 @@ pub fn gap_of<'a, L: Ledger>(
         found.now.fraction found.now.bit_shift }
     requires bits { found.now.bit_shift < exponent_unit radix }
     ensures gap { IsGap mode radix frac text.now found.now.fraction result }
-    ensures cost { steps.new ≤ steps.old + 16 * length text.now + 256 }
+    ensures cost { steps.new ≤ steps.old + 8 * length text.now + 238 }
 {
     let below = steps_in(text, radix, frac, ReadMode::TowardsZero, steps);
     let rounded = steps_in(text, radix, frac, mode, steps);
@@ -87,8 +88,8 @@ pub fn gap_of<'a, L: Ledger>(
     }
 }
 
-/// Whether a text is a numeral that is rounded in a mode to fewer than 2^64 ulps of 2^-`frac`. Each numeral that is in
-/// range in a format of that fraction length is. It takes at most eight steps for each byte, and 128.
+/// Whether a text is a numeral that is rounded in a mode to fewer than 2^64 ulps of 2^-`frac`. This holds for each
+/// numeral in range of a format of that fraction length. It takes at most eight steps for each byte, and 128.
 pub fn is_read_within<L: Ledger>(
     text: &[u8],
     radix: Radix,

@@ -1,21 +1,25 @@
-//! Which of two numerals has the greater error.
+//! Compares the errors of two numerals.
 
-ghost use Rattle.std.specs.Prelude.{◌≡◌, ◌<◌, ◌≤◌, ◌+◌, ◌*◌, true, false, ◌^◌, length};
+ghost use Rattle.std.specs.Prelude.{◌≡◌, ◌<◌, ◌≤◌, ◌+◌, ◌*◌, true, false, ◌^◌, IfSome, length};
 ghost use Rattle.std.specs.Int.Digits.{AllBelowBase};
 ghost use Rattle.fixed_numeral.specs.Numeral.{IsNumeral, base};
 ghost use Rattle.fixed_numeral.specs.Scanned.{exponent_unit};
 ghost use Rattle.fixed_error.specs.ErrorSize.{HasErrorAbove, HasErrorWithin, HasGreaterError, HasNoGreaterError};
 ghost use Rattle.fixed_error.specs.ErrorSize.{IsReadWithin};
 ghost use Rattle.fixed_error.specs.Inner.Gap.{IsGap, greater_part, less_part, sum_of};
+ghost use Rattle.fixed_error.specs.Inner.Rest.{IsNear};
 
 use crate::gap::{Gap, gap_of, power_of_two};
+use crate::half::word_in_ulps;
+use crate::rest::{near_word, word_of_decimal};
+use crate::short::read_short;
 use crate::sums::{Sum, TextLengths, is_sum_greater};
 use fixed_bits::ReadMode;
 use fixed_numeral::{Radix, Scanned, scan};
 use fixed_steps::Steps;
 use std::sync::ledger::Ledger;
 
-/// A whole number, and a factor of digits.
+/// A whole number, and a factor of the digits.
 #[derive(Clone, Copy, Debug, PartialEq, Eq)]
 pub struct Part {
     /// The whole number.
@@ -24,7 +28,7 @@ pub struct Part {
     pub factor: u128,
 }
 
-/// The greater of the two that a gap lies between.
+/// Returns the greater of the two parts that a gap lies between.
 fn greater_part(gap: Gap) -> Part
     ensures { result ≡ greater_part gap }
 {
@@ -41,7 +45,7 @@ fn greater_part(gap: Gap) -> Part
     }
 }
 
-/// The less of the two.
+/// Returns the lesser of the two parts that a gap lies between.
 fn less_part(gap: Gap) -> Part
     ensures { result ≡ less_part gap }
 {
@@ -58,7 +62,7 @@ fn less_part(gap: Gap) -> Part
     }
 }
 
-/// A part of the one's digits and a part of the other's.
+/// Returns the sum of a part of the first numeral's digits and a part of the second's.
 fn sum_of(one: Part, other: Part) -> Sum
     requires one { one.whole ≤ 2 ^ 67 }
     requires other { other.whole ≤ 2 ^ 67 }
@@ -71,7 +75,7 @@ fn sum_of(one: Part, other: Part) -> Sum
     }
 }
 
-/// The lengths of two numerals' texts.
+/// Returns the lengths of two numerals' texts.
 fn lengths_of(one: &[u8], other: &[u8]) -> TextLengths
     ensures { result ≡ record { one = length one.now; other = length other.now } }
 {
@@ -82,9 +86,8 @@ fn lengths_of(one: &[u8], other: &[u8]) -> TextLengths
 }
 
 /// Whether the error of a numeral, rounded in a mode to a whole number of ulps of 2^-`frac`, is greater in size than
-/// that of another. No length is too great, and no memory is taken. It takes at most twenty steps for each byte of
-/// both, and 792.
-pub fn is_error_greater<L: Ledger>(
+/// that of another, by the gaps of both.
+fn is_gap_greater<L: Ledger>(
     one: &[u8],
     other: &[u8],
     radix: Radix,
@@ -97,7 +100,7 @@ pub fn is_error_greater<L: Ledger>(
     requires other { IsReadWithin mode radix frac other.now }
     ensures greater { result ≡ true → HasGreaterError mode radix frac one.now other.now }
     ensures not { result ≡ false → HasNoGreaterError mode radix frac one.now other.now }
-    ensures cost { steps.new ≤ steps.old + 20 * (length one.now + length other.now) + 792 }
+    ensures cost { steps.new ≤ steps.old + 12 * (length one.now + length other.now) + 756 }
 {
     let one_scanned = scan(one, radix, steps);
     let other_scanned = scan(other, radix, steps);
@@ -119,7 +122,52 @@ pub fn is_error_greater<L: Ledger>(
     }
 }
 
-/// No whole number and no digits.
+/// Returns how far a numeral is from the nearest whole number of ulps of 2^-`frac`, in parts of 10^-18, if it is a
+/// short decimal of at most 18 places without an exponent. It takes at most a step for each byte.
+#[inline(always)]
+fn near_parts<L: Ledger>(text: &[u8], radix: Radix, frac: u32, steps: &mut Steps<L>) -> Option<u64>
+    requires frac { frac ≤ 64 }
+    ensures near { IfSome result (IsNear radix frac text.now) }
+    ensures cost { steps.new ≤ steps.old + length text.now }
+{
+    let found = read_short(text, radix, steps)?;
+    if found.exponent != 0 || found.places > 18 {
+        return None;
+    }
+    Some(near_word(word_in_ulps(word_of_decimal(found), frac)))
+}
+
+/// Whether the error of a numeral, rounded in a mode to a whole number of ulps of 2^-`frac`, is greater in size than
+/// that of another. The texts may have any length, and it takes no memory. It takes at most twenty steps for each byte
+/// of both, and 792.
+///
+/// Two short decimals that are rounded to nearest are compared by words.
+pub fn is_error_greater<L: Ledger>(
+    one: &[u8],
+    other: &[u8],
+    radix: Radix,
+    frac: u32,
+    mode: ReadMode,
+    steps: &mut Steps<L>,
+) -> bool
+    requires frac { frac ≤ 64 }
+    requires one { IsReadWithin mode radix frac one.now }
+    requires other { IsReadWithin mode radix frac other.now }
+    ensures greater { result ≡ true → HasGreaterError mode radix frac one.now other.now }
+    ensures not { result ≡ false → HasNoGreaterError mode radix frac one.now other.now }
+    ensures cost { steps.new ≤ steps.old + 20 * (length one.now + length other.now) + 792 }
+{
+    if mode == ReadMode::NearestEven {
+        if let Some(near) = near_parts(one, radix, frac, steps) {
+            if let Some(other_near) = near_parts(other, radix, frac, steps) {
+                return near > other_near;
+            }
+        }
+    }
+    is_gap_greater(one, other, radix, frac, mode, steps)
+}
+
+/// Returns the part 0: no whole number and no digits.
 fn nothing() -> Part
     ensures { result ≡ record { whole = 0; factor = 0 } }
 {
@@ -129,7 +177,7 @@ fn nothing() -> Part
     }
 }
 
-/// A bound below 1 in ulps of 2^-`frac`: a factor of its digits after the point.
+/// Returns a bound below 1 in ulps of 2^-`frac`, as a factor of its digits after the point.
 fn bound_part<'a>(found: &Scanned<'a>, radix: Radix, frac: u32) -> Part
     requires frac { frac ≤ 64 }
     requires bits { found.now.bit_shift < exponent_unit radix }

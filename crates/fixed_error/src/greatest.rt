@@ -1,4 +1,4 @@
-//! The greatest error of numerals that come one after another.
+//! The greatest error of a sequence of numerals.
 
 ghost use Rattle.std.specs.Prelude.{◌≡◌, ◌⊎◌, ◌≤◌, ◌+◌, ◌*◌, ◌++◌, ◌∷◌, [], List, OnErr, OnOk, length, true};
 ghost use Rattle.fixed_error.specs.ErrorSize.{HasNoGreaterError, IsReadWithin};
@@ -12,8 +12,7 @@ use fixed_steps::Steps;
 use std::alloc::{AllocError, Global};
 use std::sync::ledger::Ledger;
 
-/// Of the numerals so far the first that has the greatest error, where they are rounded in a mode to whole numbers of
-/// ulps of 2^-`frac`.
+/// The first numeral so far with the greatest error, rounded in a mode to a whole number of ulps of 2^-`frac`.
 #[derive(Drop)]
 pub struct GreatestError {
     radix: Radix,
@@ -25,7 +24,7 @@ pub struct GreatestError {
 }
 
 impl GreatestError {
-    /// No numeral so far.
+    /// Returns the greatest error before the first numeral.
     pub fn new(alloc: Global, radix: Radix, frac: u32, mode: ReadMode) -> GreatestError
         requires { frac ≤ 64 }
         ensures radix { result.radix ≡ radix }
@@ -51,14 +50,14 @@ impl GreatestError {
         self.is_some
     }
 
-    /// The numeral with the greatest error.
+    /// Returns the numeral with the greatest error.
     pub fn numeral(&self) -> &[u8]
         ensures { result.now ≡ self.now.numeral.items }
     {
         &self.numeral
     }
 
-    /// The place that it came with.
+    /// Returns the place of that numeral.
     pub fn place(&self) -> u64
         ensures { result ≡ self.now.place }
     {
@@ -83,12 +82,12 @@ impl GreatestError {
             )
     }
 
-    /// Takes one more numeral, which comes with a place. Memory is taken for the numeral with the greatest error alone.
-    /// It takes at most twenty steps for each byte of the numeral and of the one that was kept, and 792.
+    /// Takes one more numeral and its place. Memory is taken only for the numeral with the greatest error. It takes at
+    /// most twenty steps for each byte of the numeral and of the kept one, and 792.
     ///
     /// # Errors
     ///
-    /// There is no memory for it. The numeral that was kept is then lost.
+    /// There is no memory for it. The kept numeral is then lost.
     pub fn add<L: Ledger>(
         &mut self,
         numeral: &[u8],

@@ -1,8 +1,8 @@
-//! Laws of errors, each the contract of a function that does nothing.
+//! Laws of errors. Each is the contract of a function that does nothing.
 
 ghost use Rattle.fixed_error.specs.Laws.{AboveNotWithin, ErrorNeverGrows, FirstGreatestIsTheOne, WithinEachLonger};
 
-/// Of numerals one is the first with the greatest error.
+/// At most one numeral is the first with the greatest error.
 pub fn first_greatest_is_the_one()
     ensures { FirstGreatestIsTheOne }
 {}

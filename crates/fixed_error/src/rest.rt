@@ -18,27 +18,27 @@ use std::sync::ledger::Ledger;
 /// How far a numeral is above a whole number of ulps.
 #[derive(Clone, Copy, Debug, PartialEq, Eq)]
 pub struct Rest {
-    /// How many parts an ulp has.
+    /// The number of parts in an ulp.
     pub one: u128,
-    /// How many parts the numeral is above a whole number, at least.
+    /// The least number of parts that the numeral is above a whole number.
     pub rest: u128,
-    /// How many parts more it is at most.
+    /// The most parts that it is above that.
     pub slack: u128,
 }
 
 /// How far a numeral is above a whole number.
 #[derive(Clone, Copy, Debug, PartialEq, Eq)]
 pub enum Behind {
-    /// By this many parts, each the 10^18th of an ulp, and no more.
+    /// By exactly this many parts, each 10^-18 of an ulp.
     ByWord(u64),
     /// By the parts of a `Rest`, and at most its slack more.
     ByParts(Rest),
 }
 
-/// How many parts a whole number has where a numeral is above one by a word.
+/// The number of parts in a whole number if a numeral is above one by a word.
 pub const WORD_PARTS: u64 = 1_000_000_000_000_000_000;
 
-/// How many digits are taken at a time.
+/// Returns the number of digits that are taken at a time.
 fn block_of(radix: Radix) -> u32
     ensures { result ≡ block radix }
 {
@@ -50,7 +50,7 @@ fn block_of(radix: Radix) -> u32
     }
 }
 
-/// The radix to a power.
+/// Returns the radix to a power.
 fn power_of(radix: Radix, count: u32) -> u128
     requires { count ≤ block radix }
     ensures value { result ≡ base radix ^ count }
@@ -64,7 +64,7 @@ fn power_of(radix: Radix, count: u32) -> u128
     }
 }
 
-/// What the first digits spell, with zeros where there are fewer, and the other digits.
+/// Returns the number that the first digits spell, padded with zeros if there are fewer, and the other digits.
 fn take_block<'a, L: Ledger>(
     digits: &DigitView<'a>,
     radix: Radix,
@@ -82,7 +82,7 @@ fn take_block<'a, L: Ledger>(
     (u128::from(number) * power, rest)
 }
 
-/// A remainder. A division of 128 bits is slow, and most numbers are below the divisor.
+/// Returns a remainder. A division of 128 bits is slow, and most numbers are below the divisor.
 #[tactic(auto, using(crate::proofs::RestLemmas::rest_of_small))]
 fn remainder(number: u128, divisor: u128) -> u128
     requires { 0 < divisor }
@@ -94,7 +94,7 @@ fn remainder(number: u128, divisor: u128) -> u128
     number % divisor
 }
 
-/// How far a number of parts is above a whole number of ulps, where `is_cut` says whether there is more than that.
+/// Returns how far a number of parts is above a whole number of ulps. `is_cut` says whether there is more than that.
 fn rest_by(number: u128, unit: u128, one: u128, is_cut: bool) -> Rest
     requires number { number < 2 ^ 121 }
     requires unit { unit ≤ 8 }
@@ -110,7 +110,7 @@ fn rest_by(number: u128, unit: u128, one: u128, is_cut: bool) -> Rest
     }
 }
 
-/// How far a scanned numeral is above a whole number.
+/// Returns how far a scanned numeral is above a whole number.
 fn rest_of_scanned<'a, L: Ledger>(found: &Scanned<'a>, radix: Radix, steps: &mut Steps<L>) -> Rest
     requires fraction { AllBelowBase (base radix) found.now.fraction }
     requires bits { found.now.bit_shift < exponent_unit radix }
@@ -124,7 +124,7 @@ fn rest_of_scanned<'a, L: Ledger>(found: &Scanned<'a>, radix: Radix, steps: &mut
     rest_by(high * unit + low, shift, unit * unit, !last.is_empty())
 }
 
-/// How many parts of an ulp a unit of the last of some decimal places has.
+/// Returns the parts of an ulp in a unit of the last of `places` decimal places.
 fn parts_of_place(places: u32) -> u128
     requires { places ≤ 27 }
     ensures { result * 10 ^ places ≡ parts Dec }
@@ -135,8 +135,8 @@ fn parts_of_place(places: u32) -> u128
     first * second
 }
 
-/// How far a short decimal of at most 18 places is above a whole number, in parts of 10^-18.
-fn word_of_decimal(found: ShortNumeral) -> u64
+/// Returns how far a short decimal of at most 18 places is above a whole number, in parts of 10^-18.
+pub fn word_of_decimal(found: ShortNumeral) -> u64
     requires below { found.fraction < 10 ^ found.places }
     requires few { found.places ≤ 18 }
     ensures parts { result * 10 ^ found.places ≡ found.fraction * 10 ^ 18 }
@@ -145,7 +145,7 @@ fn word_of_decimal(found: ShortNumeral) -> u64
     found.fraction as u64 * power_of_ten(18 - found.places)
 }
 
-/// How far a short decimal is above a whole number, to 36 places.
+/// Returns how far a short decimal is above a whole number, to 36 places.
 fn parts_of_decimal(found: ShortNumeral) -> Rest
     requires below { found.fraction < 10 ^ found.places }
     requires few { found.places ≤ 27 }
@@ -161,7 +161,7 @@ fn parts_of_decimal(found: ShortNumeral) -> Rest
     }
 }
 
-/// How far a short decimal without an exponent is above a whole number.
+/// Returns how far a short decimal without an exponent is above a whole number.
 fn behind_by_decimal(found: ShortNumeral) -> Behind
     requires below { found.fraction < 10 ^ found.places }
     requires few { found.places ≤ 27 }
@@ -174,7 +174,7 @@ fn behind_by_decimal(found: ShortNumeral) -> Behind
     Behind::ByParts(parts_of_decimal(found))
 }
 
-/// How far a numeral is above a whole number, by its digits.
+/// Returns how far a numeral is above a whole number, by its digits.
 fn behind_by_digits<L: Ledger>(text: &[u8], radix: Radix, steps: &mut Steps<L>) -> Behind
     requires { IsNumeral radix text.now }
     ensures { IsBehindBy radix text.now result }
@@ -186,7 +186,7 @@ fn behind_by_digits<L: Ledger>(text: &[u8], radix: Radix, steps: &mut Steps<L>) 
     }
 }
 
-/// How far a numeral is above a whole number, by the numbers of its parts where it was read as a short decimal.
+/// Returns how far a numeral is above a whole number, by the numbers of its parts if it was read as a short decimal.
 pub fn behind_by<L: Ledger>(
     text: &[u8],
     radix: Radix,
@@ -205,7 +205,7 @@ pub fn behind_by<L: Ledger>(
     behind_by_digits(text, radix, steps)
 }
 
-/// How far a numeral that is above a whole number by a word is above it, in parts of 10^-36.
+/// Returns a word, by which a numeral is above a whole number, in parts of 10^-36.
 pub fn rest_of_word(word: u64) -> Rest
     ensures { result ≡ rest_of_word word }
 {
@@ -217,7 +217,7 @@ pub fn rest_of_word(word: u64) -> Rest
     }
 }
 
-/// The word by which a numeral that is above a whole number by a word is above one of ulps half as great.
+/// Returns the word by which a numeral that is `word` above a whole number of ulps is above one of ulps half as great.
 pub fn halved_word(word: u64) -> u64
     requires { word < 10 ^ 18 }
     ensures { result ≡ 2 * word % 10 ^ 18 }
@@ -230,7 +230,7 @@ pub fn halved_word(word: u64) -> u64
     }
 }
 
-/// How far a numeral that is above a whole number of ulps by a word is from the nearest, in parts of 10^-18.
+/// Returns how far a numeral that is `word` above a whole number of ulps is from the nearest, in parts of 10^-18.
 pub fn near_word(word: u64) -> u64
     requires { word < 10 ^ 18 }
     ensures { result ≡ min word (10 ^ 18 - word) }
@@ -238,7 +238,8 @@ pub fn near_word(word: u64) -> u64
     word.min(WORD_PARTS - word)
 }
 
-/// One more than the greatest whole number of parts of 10^-18 within some of 10^-36, of those up to 2^63.
+/// Returns one more than the greatest whole number of parts of 10^-18 within `least` parts of 10^-36, or than 2^63 if
+/// that is less.
 pub fn bound_of(least: u128) -> u64
     ensures some { 0 < result }
     ensures within { (result - 1) * 10 ^ 18 ≤ least }
@@ -247,7 +248,7 @@ pub fn bound_of(least: u128) -> u64
     most.min(1 << 63) as u64 + 1
 }
 
-/// How far a numeral is above a whole number of ulps half as great.
+/// Returns how far a numeral is above a whole number of ulps half as great.
 pub fn halved(rest: Rest) -> Rest
     requires below { rest.rest < rest.one }
     requires one { rest.one ≤ 2 ^ 120 }
@@ -269,7 +270,7 @@ pub fn halved(rest: Rest) -> Rest
     }
 }
 
-/// How far a numeral is from the nearest whole number of ulps, in parts.
+/// Returns how far a numeral is from the nearest whole number of ulps, in parts.
 fn near(rest: Rest) -> u128
     requires { rest.rest ≤ rest.one }
     ensures { result ≡ min rest.rest (rest.one - rest.rest) }
@@ -277,7 +278,7 @@ fn near(rest: Rest) -> u128
     rest.rest.min(rest.one - rest.rest)
 }
 
-/// How far a numeral is from the nearest whole number of ulps at most, in parts.
+/// Returns how far a numeral is at most from the nearest whole number of ulps, in parts.
 pub fn most_of(rest: Rest) -> u128
     requires below { rest.rest < rest.one }
     requires one { rest.one ≤ 2 ^ 120 }
@@ -287,7 +288,7 @@ pub fn most_of(rest: Rest) -> u128
     near(rest) + rest.slack
 }
 
-/// How far a numeral is from the nearest whole number of ulps at least, in parts.
+/// Returns how far a numeral is at least from the nearest whole number of ulps, in parts.
 pub fn least_of(rest: Rest) -> u128
     requires { rest.rest < rest.one }
     ensures { result ≡ min rest.rest (rest.one - rest.rest) - rest.slack }

@@ -1,4 +1,4 @@
--- From the parts of a float to the float.
+-- A reading of the fields of a float is a reading of the float.
 use Rattle.std.proofs.Common.{◌≡◌, ℕ, ◌*◌, ◌^◌, ◌↔◌, IsTrue, Bool, refl, ap, subst, ◌∙◌}
 use Rattle.fixed_bits.specs.Numbers.{with_sign}
 use Rattle.fixed_bits.specs.Rounded.{IsRounded}

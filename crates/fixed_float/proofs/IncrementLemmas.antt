@@ -1,19 +1,19 @@
--- A share of an ulp, rounded in a mode.
+-- A part of an ulp, rounded in a mode.
 use Rattle.std.proofs.Common.{◌≡◌, ◌∙◌, ℕ, ◌+◌, ◌-◌, ◌*◌, ◌<◌, ◌≤◌, Bool, false, true, if◌then◌else◌, ⊎_elim, arith, subst}
 use Rattle.std.proofs.lemmas.Bool.{cases_lt}
-use Rattle.fixed_bits.proofs.Public.{rounded_close, rounded_exact, rounded_exists, rounded_unique, rounds_as_quarters}
+use Rattle.fixed_bits.proofs.Public.{rounded_close, rounded_exists, rounded_unique, rounds_as_quarters}
 use Rattle.fixed_bits.specs.LostFractions.{IsLostFraction, quarters}
 use Rattle.fixed_bits.specs.Rounded.{IsRounded, magnitude_mode}
 use Rattle.fixed_bits.specs.declared.mode.ReadMode.{ReadMode}
 use Rattle.fixed_bits.specs.declared.rounding.LostFraction.{LostFraction}
 use Rattle.fixed_bits.specs.declared.rounding.LostFraction.TheVariants.{Zero, LessThanHalf}
 
--- ---- a mode by the sign of a number
+-- ---- the mode of a magnitude by the sign of its number
 pub own_mode : (mode : ReadMode) (negative : Bool) (below own : ReadMode) → below ≡ magnitude_mode mode true → own ≡ (if negative then below else mode) → own ≡ magnitude_mode mode negative
 own_mode mode false below own e h = h
 own_mode mode true below own e h = h ∙ e
 
--- ---- less than half is rounded alike in any greater unit
+-- ---- a rest below half a unit is rounded alike in any greater unit
 module _ (mode : ReadMode) (q rest unit den r : ℕ) (below : 2 * rest < unit) (wider : unit ≤ den) (h : IsRounded mode false (q * unit + rest) unit (q + r)) where
   alike : (lost : LostFraction) → IsLostFraction lost rest unit → IsLostFraction lost rest den → IsRounded mode false (q * den + rest) den (q + r)
   alike lost at_unit at_den =

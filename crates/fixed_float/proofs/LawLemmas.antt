@@ -1,4 +1,4 @@
--- A float has one read number, and an exact one is read back.
+-- A float reads as just one number. A float that is exactly a number reads as that number.
 use Rattle.std.proofs.Common.{◌≡◌, ℕ, ◌*◌, ◌^◌, ◌<◌, refl, sym, ap, subst, ◌∙◌, ℤ, unsigned_abs}
 use Rattle.std.proofs.lemmas.Nat.{pow_pos}
 use Rattle.fixed_bits.specs.Numbers.{with_sign}

@@ -1,10 +1,13 @@
--- What the proofs of the crates above may cite
+-- For the proofs of dependent crates:
 pub mod Public
--- What no other crate can name
+-- Private to this crate:
+mod BiasLemmas
 mod FieldLemmas
 mod IncrementLemmas
+mod KeptLemmas
 mod LawLemmas
 mod NearestLemmas
 mod ReadingLemmas
+mod ShortLemmas
 mod SignLemmas
 mod UniqueLemmas

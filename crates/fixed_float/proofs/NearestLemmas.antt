@@ -31,7 +31,7 @@ distance_times a b t = ⊎_elim
     (λ (l : b ≤ a). let e : b + (a - b) ≡ a = omega arith in let d : distance a b ≡ a - b = omega arith in subst (λ (x : ℕ). distance (x * t) (b * t) ≡ distance a b * t) e (apart_above b (a - b) t ∙ ap (λ x. x * t) (sym d)))
     (cases_lt a b)
 
--- no multiple is nearer than the nearest one, and one that is as near is a tie
+-- no multiple of u is nearer to a than q * u; if another one is as near, q is even
 module _ (a u q : ℕ) (h : IsNearest a u q) where
   apart : (j k : ℕ) → j < k → j * u + u ≤ k * u
   apart j k l = let more : (j + 1) * u ≤ k * u = mul-le-mul_right u (omega arith) in omega arith
@@ -51,7 +51,7 @@ module _ (a u q : ℕ) (h : IsNearest a u q) where
       (λ (l : q ≤ k). let m : q < k = omega arith in let gap = apart q k m in let near = h.near in omega arith)
       (cases_lt k q))
 
--- ---- the fields of bits
+-- ---- the fields of a float's bits
 positive : (n : ℕ) → 0 < n → (n == 0) ≡ false
 positive zero h = absurd (omega arith)
 positive (suc n) h = eqb-suc-zero n
@@ -69,7 +69,7 @@ few_bits layout bits = below (exponent_field layout bits == 0)
     below true = omega (arith, rest, twice)
     below false = omega (arith, rest, twice)
 
--- the exponents of a magnitude of this many bits, over 2^f, are those of normal floats
+-- a magnitude of `len` bits over 2^f has the scale x with x + f = lowest + len, which is that of a normal float
 abbrev lowest : FloatLayout → ℕ
 lowest layout = 2 ^ (exponent_bits layout - 1) - 2
 
@@ -85,7 +85,7 @@ scale_of : (layout : FloatLayout) (f len : ℕ) → f ≤ 64 → (lowest layout 
 scale_of Binary32 f len few = omega arith
 scale_of Binary64 f len few = omega arith
 
--- bits that are the sign s, the exponent e and the fraction r
+-- `bits` consist of the sign s, the exponent e and the fraction r
 abbrev AreParts : FloatLayout → ℕ → ℕ → ℕ → ℕ → Type 0
 AreParts layout bits s e r = bits ≡ (s * 2 ^ exponent_bits layout + e) * 2 ^ fraction_bits layout + r
 
@@ -120,7 +120,7 @@ module _ (layout : FloatLayout) (bits s e r : ℕ) (sum : AreParts layout bits s
   scale_is : scale layout bits ≡ e
   scale_is = rw zero_not (exponent_is layout bits s e r sum top low)
 
--- what the bits of a magnitude say, whichever their sign
+-- the bits, of either sign, are those of a finite float of the size q * 2 ^ exponent, and q is m rounded
 pub record Shown (layout : FloatLayout) (m f bits : ℕ) : Type 0 where
   pub finite : IsFinite layout bits
   pub length : ℕ
@@ -215,7 +215,7 @@ shown layout m f part s bits d few one sum = ⊎_elim carried plain (cases_lt d.
           sign_is layout bits s (x + 1) 0 fields top low one,
         )
 
--- ---- how many bits a magnitude has, and its significand
+-- ---- the length of a magnitude in bits, and its significand
 pub has_length : (m j : ℕ) → 2 ^ j ≤ m → m < 2 ^ suc j → suc j ≤ 64 → HasLength m (suc j)
 has_length m j l h few = record {
   some = omega arith;
@@ -271,10 +271,10 @@ module _ (m u q t : ℕ) (some : 0 < t) (h : IsNearest m u q) where
       beyond : (a b z d : ℕ) → b ≤ a → z < b → d ≤ distance a b → d < distance a z
       beyond a b z d l k e = omega arith
 
--- ---- of all finite floats
+-- ---- the nearest of all finite floats
 -- t is the denominator of every float
 module _ (p m f x len q t : ℕ) (two : 2 ≤ p) (some : 0 < t) (has : HasLength m len) (is : IsSignificand p m len q) (place : 2 ^ p * (2 ^ x * 2 ^ f) ≡ 2 ^ len * t) where
-  -- an exact one
+  -- a magnitude of at most p bits is exact
   module _ (short : len ≤ p) where
     same : q * 2 ^ x * 2 ^ f ≡ m * t
     same =
@@ -292,7 +292,7 @@ module _ (p m f x len q t : ℕ) (two : 2 ≤ p) (some : 0 < t) (has : HasLength
             let five : l * t * m ≡ m * t * l = omega arith in
             one ∙ two ∙ three ∙ four ∙ five
 
-  -- a rounded one
+  -- a longer magnitude is rounded
   module _ (long : p < len) where
     unit : 2 ^ x * 2 ^ f ≡ 2 ^ (len - p) * t
     unit =
@@ -309,14 +309,14 @@ module _ (p m f x len q t : ℕ) (two : 2 ≤ p) (some : 0 < t) (has : HasLength
         regrouped : (q a b u t : ℕ) → a * b ≡ u * t → q * a * b ≡ q * u * t
         regrouped q a b u t e = let g : q * (a * b) ≡ q * (u * t) = ap (λ i. q * i) e in omega arith
 
-    -- a double of the same scale or a greater one
+    -- a float of the same scale or a greater one is a multiple of the unit
     multiple : (w v : ℕ) → x ≤ v → w * 2 ^ v * 2 ^ f ≡ w * 2 ^ (v - x) * 2 ^ (len - p) * t
     multiple w v l = let all : v ≡ (v - x) + x = omega arith in regrouped w (2 ^ v) (2 ^ (v - x)) (2 ^ x) (2 ^ f) (2 ^ (len - p)) (ap (λ i. 2 ^ i) all ∙ pow-add 2 (v - x) x) unit
       where
         regrouped : (w p g a b u : ℕ) → p ≡ g * a → a * b ≡ u * t → w * p * b ≡ w * g * u * t
         regrouped w p g a b u e d = let one : w * p * b ≡ w * (g * a) * b = ap (λ i. w * i * b) e in let two : w * g * (a * b) ≡ w * g * (u * t) = ap (λ i. w * g * i) d in omega arith
 
-    -- a double of a lesser scale
+    -- a float of a lesser scale is below 2^(len - 1), the least magnitude of this length
     below : (w v : ℕ) → w < 2 ^ p → v < x → w * 2 ^ v * 2 ^ f < 2 ^ (p - 1) * 2 ^ (len - p) * t
     below w v few l = bound (2 ^ v) (2 ^ x) (2 ^ f) (2 ^ (len - p)) (pow_pos v) (pow_pos f) (let p : 2 ^ (v + 1) ≤ 2 ^ x = pow-le-pow_right {n = 2} (omega arith) {i = v + 1} {j = x} (omega arith) in let e : 2 ^ (v + 1) ≡ 2 ^ v * 2 = pow-add 2 v 1 in omega arith) unit
       where

@@ -1,4 +1,4 @@
--- What the proofs of the crates above may cite: a float has one read number, and a number one nearest float.
+-- For the proofs of dependent crates: a float reads as one number, and a number has one nearest float.
 use Rattle.std.specs.Prelude.{◌≡◌, ℕ, ℤ}
 use Rattle.fixed_bits.specs.declared.mode.ReadMode.{ReadMode}
 use Rattle.fixed_float.specs.Floats.{IsReadFloat}

@@ -1,6 +1,6 @@
--- A significand, shifted and rounded.
+-- The number that a significand reads as: shifted and rounded.
 use Rattle.std.proofs.Common.{◌≡◌, ℕ, ◌+◌, ◌-◌, ◌*◌, ◌/◌, ◌%◌, ◌^◌, ◌<◌, ◌≤◌, ◌⊎◌, ◌↔◌, Bool, IsTrue, refl, sym, ap, subst, ◌∙◌, arith, inl, inr, ⊎_elim, div-add-mod', min, mul-le-mul_right, true}
-use Rattle.std.proofs.Math.Nat.{div-eq_of_lt, div-one, eq_of_mul-eq-mul_right, mod-eq_of_lt, mod-one, mul-mod_left, pow-le-pow_right}
+use Rattle.std.proofs.Math.Nat.{div-eq_of_lt, eq_of_mul-eq-mul_right, mod-eq_of_lt, mul-mod_left, pow-le-pow_right}
 use Rattle.std.proofs.lemmas.Bool.{cases_lt}
 use Rattle.std.proofs.lemmas.Nat.{pow_pos, pow-add}
 use Rattle.fixed_bits.proofs.Public.{rounded_exact, rounded_same}
@@ -20,7 +20,7 @@ joined m e f = omega (arith, ap (λ x. m * x) (pow-add 2 e f))
 split : (m a d b : ℕ) → d + b ≡ a → m * 2 ^ a ≡ m * 2 ^ d * 2 ^ b
 split m a d b e = ap (λ x. m * 2 ^ x) (sym e) ∙ sym (joined m d b)
 
--- ---- a number of which the low bits are known
+-- ---- a number from its low 64 bits
 low_of : (number : Number) (negative : Bool) (a b : ℕ) → number.negative ≡ negative → IsLowOf number a → a % 2 ^ 64 ≡ b % 2 ^ 64 → (2 ^ 64 ≤ a) ↔ (2 ^ 64 ≤ b) → IsNumber number (with_sign negative b)
 low_of number negative a b sign low same over = record {
   high = b / 2 ^ 64;
@@ -30,7 +30,7 @@ low_of number negative a b sign low same over = record {
   over = (λ t. let l : 2 ^ 64 ≤ b = over.0 (low.over.0 t) in omega arith, λ (p : 0 < b / 2 ^ 64). let l : 2 ^ 64 ≤ b = omega arith in low.over.1 (over.1 l));
 }
 
--- what a significand reads as
+-- the number that m * 2^s reads as at fraction length f, if an ulp is 2^u; it is exact if `rest` is 0
 pub record Scaled (mode : ReadMode) (negative : Bool) (m s f u rest : ℕ) (number : Number) : Type 0 where
   pub ulps : ℕ
   pub rounded : IsRounded mode negative (m * 2 ^ s * 2 ^ f) (2 ^ u) ulps
@@ -69,7 +69,7 @@ module _ (mode : ReadMode) (negative : Bool) (m s f u : ℕ) (number : Number) (
       exact = (λ e. (m * 2 ^ d, exactly), λ e. refl);
     }
 
-  -- ---- a significand of which something may be left
+  -- ---- a significand that may be rounded
   module _ (few : m < 2 ^ 53) (k right more : ℕ) (part : k + (s + f) ≡ u) (right_is : right ≡ min k 62)
       (rounds : (q den : ℕ) → q % 2 ≡ m / 2 ^ right % 2 → (2 ^ right ≡ den) ⊎ ((2 * (m % 2 ^ right) < 2 ^ right) × (2 ^ right ≤ den)) → IsRounded mode negative (q * den + m % 2 ^ right) den (q + more))
       (low : IsLowOf number (m / 2 ^ right + more)) where
@@ -142,7 +142,7 @@ module _ (mode : ReadMode) (negative : Bool) (m s f u : ℕ) (number : Number) (
       exact = exact_part;
     }
 
--- ---- in the words of the code
+-- ---- restated for the goals
 reading_from : (mode : ReadMode) (fields : FloatFields) (f u rest : ℕ) (number : Number) (found : ReadNumber) → Scaled mode fields.negative fields.significand fields.scale f u rest number
     → number.negative ≡ fields.negative → number_in found ≡ number → found.format.frac ≡ f → IsTrue found.exact ↔ (rest ≡ 0) → IsScaledReading mode fields u found
 reading_from mode fields f u rest number found scaled sign held frac exact =

@@ -36,7 +36,7 @@ pub none_is : (negative : Bool) (m : ℕ) (v : ℤ) → with_sign negative m ≡
 none_is true m v e z = sym e ∙ ap (λ x. with_sign true x) z
 none_is false m v e z = sym e ∙ ap (λ x. with_sign false x) z
 
--- ---- the other numbers
+-- ---- numbers other than zero
 sign_of : (negative : Bool) (m : ℕ) → 0 < m → Int.is_negative (with_sign negative m) ≡ negative
 sign_of false m h = not_negative m
 sign_of true zero h = absurd (omega arith)
@@ -47,7 +47,7 @@ size_of false m = refl
 size_of true zero = refl
 size_of true (suc m) = refl
 
--- the place of a sign
+-- the sign bit of a float, in its position
 abbrev pub sign_bit : FloatLayout → Bool → ℕ
 sign_bit layout negative = if negative then 2 ^ (fraction_bits layout + exponent_bits layout) else 0
 
@@ -55,7 +55,7 @@ shown_by : (layout : FloatLayout) (negative : Bool) (m f part bits : ℕ) → Is
 shown_by layout true m f part bits d few e = shown layout m f part 1 bits d few (omega arith) (e ∙ omega arith)
 shown_by layout false m f part bits d few e = shown layout m f part 0 bits d few (omega arith) (e ∙ omega arith)
 
--- the bits are those of a float
+-- the bits fit the width of the float
 few_of : (layout : FloatLayout) (sign part f len q : ℕ) → sign ≤ 2 ^ (fraction_bits layout + exponent_bits layout) → len ≤ 64 → q ≤ 2 ^ precision layout
     → part + f * 2 ^ fraction_bits layout ≡ (2 ^ (exponent_bits layout - 1) - 3 + len) * 2 ^ fraction_bits layout + q → sign + part < 2 ^ bits_of_float layout
 few_of Binary32 sign part f len q s l most are = omega arith
@@ -84,7 +84,7 @@ module _ (layout : FloatLayout) (negative : Bool) (m f part bits : ℕ) (v : ℤ
   pub float_exact : m < 2 ^ precision layout → IsExactFloat layout v f bits
   float_exact low = record { finite = parts.0.finite; sign = sign_is; same = rw (sym size_is) (exact_is layout m f bits parts.0 low) }
 
--- a number of at most p bits
+-- the magnitude of a number of at most p bits is below 2^p
 pub small : (signed negative : Bool) (p n m : ℕ) (v : ℤ) → 0 < p → with_sign negative m ≡ v → IsInRange signed n v → n ≤ p → m < 2 ^ p
 small signed negative p n m v some is range few = bounded signed negative (subst (λ (x : ℤ). IsInRange signed n x) (sym is) range)
   where

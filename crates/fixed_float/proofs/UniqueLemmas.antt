@@ -1,4 +1,4 @@
--- At most one float is the nearest to a number: floats grow with their bits, and those of two neighbors differ in parity.
+-- At most one float is nearest to a number: floats grow with their bits, and the parities of two neighbours differ.
 use Rattle.std.proofs.Common.{◌≡◌, ℕ, zero, suc, ◌+◌, ◌-◌, ◌*◌, ◌/◌, ◌%◌, ◌^◌, ◌<◌, ◌≤◌, ◌==◌, Bool, true, false, if◌then◌else◌, refl, sym, ap, subst, ◌∙◌, arith, ⊎_elim, mul-le-mul_right, unsigned_abs}
 use Rattle.std.proofs.Math.Dec.{eqb-suc-zero}
 use Rattle.std.proofs.Math.Nat.{mod-lt}
@@ -12,11 +12,11 @@ use Rattle.fixed_float.specs.declared.layout.FloatLayout.{FloatLayout}
 use Rattle.fixed_float.specs.declared.layout.FloatLayout.TheVariants.{Binary32, Binary64}
 use Rattle.fixed_numeral.specs.Value.{Fraction}
 
--- ---- a float and the next one
+-- ---- a float and its successor
 abbrev size : FloatLayout → ℕ → ℕ
 size layout bits = significand layout bits * 2 ^ scale layout bits
 
--- the size of the float with an exponent and a fraction, h being two to the power of the bits of a fraction
+-- the size of the float with exponent e and fraction r, if h is 2 ^ fraction_bits
 abbrev sized : ℕ → ℕ → ℕ → ℕ
 sized h e r = ((if e == 0 then 0 else h) + r) * 2 ^ (if e == 0 then 1 else e)
 
@@ -36,7 +36,7 @@ exponent_grows (suc e) r =
     let plain : (suc r + r) * 2 ^ suc e < (suc r + 0) * 2 ^ suc (suc e) = carried r (2 ^ suc e) (2 ^ suc (suc e)) some twice in
     rw (eqb-suc-zero e, eqb-suc-zero (suc e)) plain
 
--- the bits above the exponent
+-- the bits above the exponent: the sign
 abbrev above : FloatLayout → ℕ → ℕ
 above layout bits = bits / 2 ^ (fraction_bits layout + exponent_bits layout)
 
@@ -154,7 +154,7 @@ no_other layout number x y some same less p q = ⊎_elim beyond neighbor (cases_
         let odd : significand layout y % 2 ≡ 0 = q.tie x p.finite (sym alike) (λ (e : size layout x ≡ size layout y). absurd (omega (arith, e, differs))) in
         omega (arith, next, even, odd, parity layout x, parity layout y)
 
--- ---- and one sign
+-- ---- nor two of different signs
 same_bit : (a b : ℕ) → a < 2 → b < 2 → (a == 1) ≡ (b == 1) → a ≡ b
 same_bit zero zero l m e = refl
 same_bit zero (suc zero) l m e = absurd (false≢true e)

@@ -1,4 +1,4 @@
--- The number that the bits of a float are, and its read number.
+-- The number that a float's bits stand for, and its read number.
 use Rattle.std.specs.Prelude.{◌≡◌, ◌↔◌, ℕ, ◌+◌, ◌-◌, ◌*◌, ◌/◌, ◌%◌, ◌^◌, ◌<◌, ◌==◌, ℤ, Bool, IsTrue, if◌then◌else◌}
 use Rattle.fixed_bits.specs.Numbers.{IsNumber, with_sign}
 use Rattle.fixed_bits.specs.Rounded.{IsRounded}
@@ -31,16 +31,16 @@ abbrev pub is_negative : FloatLayout → ℕ → Bool
 is_negative layout bits = bits / 2 ^ (fraction_bits layout + exponent_bits layout) % 2 == 1
 
 -- ---- their number
--- an exponent of ones is that of the infinities and the NaNs
+-- only infinities and NaNs have an exponent of all ones
 abbrev pub IsFinite : FloatLayout → ℕ → Type 0
 IsFinite layout bits = exponent_field layout bits < 2 ^ exponent_bits layout - 1
 
--- before the fraction stands a one, but in zeros and subnormals, whose exponent is 0
+-- a one stands before the fraction, except in zeros and subnormals, whose exponent is 0
 abbrev pub significand : FloatLayout → ℕ → ℕ
 significand layout bits = (if exponent_field layout bits == 0 then 0 else 2 ^ fraction_bits layout)
     + fraction_field layout bits
 
--- how many bits a significand has
+-- the number of bits of a significand
 abbrev pub precision : FloatLayout → ℕ
 precision layout = fraction_bits layout + 1
 
@@ -48,7 +48,7 @@ precision layout = fraction_bits layout + 1
 abbrev pub scale : FloatLayout → ℕ → ℕ
 scale layout bits = if exponent_field layout bits == 0 then 1 else exponent_field layout bits
 
--- the scale at which a significand is the number itself: the bias of the exponent and the bits of the fraction
+-- the scale at which a significand is the number itself: the exponent's bias plus the fraction's bits
 abbrev pub unit_scale : FloatLayout → ℕ
 unit_scale layout = 2 ^ (exponent_bits layout - 1) - 1 + fraction_bits layout
 
@@ -68,7 +68,7 @@ pub record IsReadFloat (mode : ReadMode) (layout : FloatLayout) (bits f : ℕ) (
 abbrev pub IsWholeFloat : FloatLayout → ℕ → ℕ → Type 0
 IsWholeFloat layout bits f = IsMultipleOf (magnitude layout bits).den ((magnitude layout bits).num * 2 ^ f)
 
--- the answer holds the read number of a float, and says whether the float was a whole number of ulps
+-- `found` holds the read number of a float, and says whether the float is a whole number of ulps
 pub record IsFloatReading (mode : ReadMode) (layout : FloatLayout) (bits : ℕ) (found : ReadNumber) : Type 0 where
   pub number : ℤ
   pub read : IsReadFloat mode layout bits found.format.frac number

@@ -1,2 +1,3 @@
--- Contracts of private functions. Nothing that is public cites them.
+-- Contracts of private functions. No public contract cites them.
 pub mod Fields
+pub mod Bias

@@ -1,11 +1,11 @@
--- What the laws of this crate say.
+-- Statements of this crate's laws.
 use Rattle.std.specs.Prelude.{◌≡◌, ◌<◌, ◌^◌, ℕ, ℤ}
 use Rattle.fixed_bits.specs.declared.mode.ReadMode.{ReadMode}
 use Rattle.fixed_float.specs.Floats.{IsReadFloat, bits_of_float}
 use Rattle.fixed_float.specs.Nearest.{IsExactFloat, IsNearestFloat}
 use Rattle.fixed_float.specs.declared.layout.FloatLayout.{FloatLayout}
 
--- one number, and no other, is the read number of a float
+-- a float has exactly one read number
 abbrev pub ReadFloatIsTheOne : Type 0
 ReadFloatIsTheOne = (mode : ReadMode) (layout : FloatLayout) (bits f : ℕ) → (v : ℤ) × IsReadFloat mode layout bits f v
     × ((w : ℤ) → IsReadFloat mode layout bits f w → w ≡ v)

@@ -6,11 +6,11 @@ use Rattle.fixed_float.specs.Floats.{IsFinite, is_negative, magnitude, significa
 use Rattle.fixed_float.specs.declared.layout.FloatLayout.{FloatLayout}
 use Rattle.fixed_numeral.specs.Value.{Fraction}
 
--- how far apart two numbers that aren't negative are, times both denominators
+-- the distance between two non-negative numbers, times both denominators
 abbrev pub fraction_distance : Fraction → Fraction → ℕ
 fraction_distance a b = distance (a.num * b.den) (b.num * a.den)
 
--- the float is a nearest one to a number that isn't negative, and of two equally near the one of even significand
+-- the float is nearest to a non-negative number, and of two equally near it is the one with an even significand
 pub record IsNearestMagnitude (layout : FloatLayout) (number : Fraction) (bits : ℕ) : Type 0 where
   pub finite : IsFinite layout bits
   pub nearest : (other : ℕ) → IsFinite layout other
@@ -19,7 +19,7 @@ pub record IsNearestMagnitude (layout : FloatLayout) (number : Fraction) (bits :
       → fraction_distance number (magnitude layout bits) ≡ fraction_distance number (magnitude layout other)
       → (magnitude layout other).num ≢ (magnitude layout bits).num → IsEven (significand layout bits)
 
--- the float is the one nearest to b / 2^f, with its sign; that of 0 has none
+-- the float is nearest to b / 2^f and has its sign; the float for 0 has none
 pub record IsNearestFloat (layout : FloatLayout) (b : ℤ) (f bits : ℕ) : Type 0 where
   pub sign : is_negative layout bits ≡ Int.is_negative b
   pub nearest : IsNearestMagnitude layout (record { num = unsigned_abs b; den = 2 ^ f }) bits

@@ -1,11 +1,11 @@
-//! The rounding of a share of an ulp in a mode.
+//! Rounds a share of an ulp in a mode.
 
 ghost use Rattle.std.specs.Prelude.{◌≡◌, ◌⊎◌, ◌+◌, ◌*◌, ◌%◌, ◌^◌, ◌<◌, ◌≤◌, ℕ, if◌then◌else◌};
 ghost use Rattle.fixed_bits.specs.Rounded.{IsRounded};
 
 use fixed_bits::{ReadMode, magnitude_mode_of, share_increment};
 
-/// The mode for the sign of a number, chosen without a branch: the sign changes from float to float.
+/// Returns the mode for the sign of a number, without a branch: the sign changes from float to float.
 #[inline(always)]
 fn by_sign(negative: bool, below: ReadMode, above: ReadMode) -> ReadMode
     ensures { result ≡ (if negative then below else above) }
@@ -13,9 +13,9 @@ fn by_sign(negative: bool, below: ReadMode, above: ReadMode) -> ReadMode
     if negative { below } else { above }
 }
 
-/// How many ulps rounding in a mode adds to the whole ulps of a magnitude if rest / unit of an ulp is left: none or
-/// one. `negative` is the sign of the number, and `odd` is 1 if the whole number of ulps is odd. Less than half of a
-/// unit is rounded alike in any greater unit.
+/// Returns how many ulps, 0 or 1, rounding in a mode adds to a magnitude's whole ulps if rest / unit of an ulp is left.
+/// `negative` is the sign of the number, and `odd` is 1 if the whole number of ulps is odd. Less than half of a unit is
+/// rounded alike in any greater unit.
 #[inline(always)]
 pub fn mode_increment(mode: ReadMode, negative: bool, rest: u64, unit: u64, odd: u64) -> u64
     requires small { rest < unit }

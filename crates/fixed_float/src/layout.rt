@@ -1,11 +1,11 @@
-//! The bits of a float of IEEE 754, and the parts of the number that they are.
+//! The bits of an IEEE 754 float, and the parts of its number.
 
 ghost use Rattle.std.specs.Prelude.{◌≡◌, ◌↔◌, ◌+◌, ◌-◌, ◌<◌, ◌^◌, ◌==◌, if◌then◌else◌, IsNone, IfSome};
 ghost use Rattle.fixed_float.specs.Floats.{IsFinite};
 ghost use Rattle.fixed_float.specs.Inner.Fields.{AreFields};
 ghost use Rattle.fixed_float.specs.declared.layout.FloatLayout.TheVariants.{Binary32, Binary64};
 
-/// Which float some bits are.
+/// The layout of a float's bits.
 #[derive(Clone, Copy, Debug, PartialEq, Eq)]
 pub enum FloatLayout {
     /// Single precision: from the lowest up 23 bits of fraction, 8 of exponent, and the sign.
@@ -22,7 +22,7 @@ pub struct FloatFields {
     pub negative: bool,
 }
 
-/// The bit before the fraction: none in zeros and subnormals, whose exponent is 0.
+/// Returns the bit before the fraction: 0 in zeros and subnormals, whose exponent is 0.
 #[inline(always)]
 fn leading_bit(exponent: u64, bit: u64) -> u64
     ensures { result ≡ (if exponent == 0 then 0 else bit) }
@@ -30,7 +30,7 @@ fn leading_bit(exponent: u64, bit: u64) -> u64
     if exponent == 0 { 0 } else { bit }
 }
 
-/// The scale of an exponent: zeros and subnormals have that of the least normal floats.
+/// Returns the scale of an exponent. Zeros and subnormals have the scale of the least normal floats.
 #[inline(always)]
 fn scale_of(exponent: u64) -> u64
     ensures { result ≡ (if exponent == 0 then 1 else exponent) }
@@ -38,7 +38,7 @@ fn scale_of(exponent: u64) -> u64
     if exponent == 0 { 1 } else { exponent }
 }
 
-/// The parts of a double. `None` exactly if it is an infinity or a NaN.
+/// Returns the parts of a double. `None` exactly if it is an infinity or a NaN.
 #[inline(always)]
 pub fn binary64_fields(bits: u64) -> Option<FloatFields>
     ensures none { IsNone result ↔ (¬ IsFinite Binary64 bits) }
@@ -55,7 +55,7 @@ pub fn binary64_fields(bits: u64) -> Option<FloatFields>
     })
 }
 
-/// The parts of a float of single precision. `None` exactly if it is an infinity or a NaN.
+/// Returns the parts of a single-precision float. `None` exactly if it is an infinity or a NaN.
 #[inline(always)]
 pub fn binary32_fields(bits: u32) -> Option<FloatFields>
     ensures none { IsNone result ↔ (¬ IsFinite Binary32 bits) }

@@ -12,7 +12,7 @@ use crate::layout::FloatLayout;
 use crate::reading::power_of_two;
 use fixed_bits::{Format, ReadMode, sign_and_magnitude};
 
-/// How many bits a magnitude has.
+/// Counts the bits of a magnitude.
 #[inline(always)]
 fn length_of(magnitude: u64) -> u32
     requires { 0 < magnitude }
@@ -21,7 +21,7 @@ fn length_of(magnitude: u64) -> u32
     64 - magnitude.leading_zeros()
 }
 
-/// A magnitude of more bits than a significand, rounded to one. Two to the power of `precision` is possible.
+/// Rounds a magnitude of more than `precision` bits to a significand. Two to the power of `precision` is possible.
 #[inline(always)]
 fn rounded_significand(magnitude: u64, length: u32, precision: u32) -> u64
     requires length { HasLength magnitude length }
@@ -42,7 +42,7 @@ fn rounded_significand(magnitude: u64, length: u32, precision: u32) -> u64
         )
 }
 
-/// A magnitude of no more bits than a significand, made one.
+/// Shifts a magnitude of at most `precision` bits up to a significand.
 #[inline(always)]
 fn grown_significand(magnitude: u64, length: u32, precision: u32) -> u64
     requires length { HasLength magnitude length }
@@ -53,7 +53,7 @@ fn grown_significand(magnitude: u64, length: u32, precision: u32) -> u64
     magnitude << (precision - length)
 }
 
-/// A magnitude in `precision` bits, rounded to the nearest, ties to even.
+/// Returns a magnitude in `precision` bits, rounded to the nearest, ties to even.
 #[inline(always)]
 fn significand_of(magnitude: u64, length: u32, precision: u32) -> u64
     requires length { HasLength magnitude length }
@@ -68,8 +68,8 @@ fn significand_of(magnitude: u64, length: u32, precision: u32) -> u64
     }
 }
 
-/// The bits of the float nearest to a magnitude over two to the power of `frac`. The highest bit of a significand adds
-/// one to the exponent before it, and a significand of two to the power of the precision adds two.
+/// Returns the bits of the float nearest to a magnitude over two to the power of `frac`. The highest bit of a
+/// significand adds one to the exponent before it, and a significand of two to the power of the precision adds two.
 #[inline(always)]
 fn magnitude_bits(layout: FloatLayout, magnitude: u64, frac: u32) -> u64
     requires some { 0 < magnitude }
@@ -87,7 +87,7 @@ fn magnitude_bits(layout: FloatLayout, magnitude: u64, frac: u32) -> u64
     }
 }
 
-/// The place of a sign in the bits of a float.
+/// Returns the sign bit of a float, or 0 if the float is not negative.
 #[inline(always)]
 fn sign_bit(layout: FloatLayout, negative: bool) -> u64
     ensures { result ≡ (if negative then 2 ^ (fraction_bits layout + exponent_bits layout) else 0) }
@@ -99,7 +99,7 @@ fn sign_bit(layout: FloatLayout, negative: bool) -> u64
     }
 }
 
-/// The bits of the float nearest to the bits `number` of a format, ties to even.
+/// Returns the bits of the float nearest to the bits `number` of a format, ties to even.
 #[inline(always)]
 fn float_of(layout: FloatLayout, number: i128, format: Format) -> u64
     requires { IsInRange format.signed format.width number }
@@ -114,8 +114,8 @@ fn float_of(layout: FloatLayout, number: i128, format: Format) -> u64
     sign_bit(layout, negative) + magnitude_bits(layout, magnitude, format.frac())
 }
 
-/// The bits of the double nearest to the bits `number` of a format, ties to even. It is exact for a format of at most
-/// 53 bits, and that of 0 has no sign.
+/// Returns the bits of the double nearest to the bits `number` of a format, ties to even. It is exact for a format of
+/// at most 53 bits, and the double of 0 has no sign.
 pub fn binary64_of(number: i128, format: Format) -> u64
     requires { IsInRange format.signed format.width number }
     ensures nearest { IsNearestFloat Binary64 number format.frac result }
@@ -124,8 +124,8 @@ pub fn binary64_of(number: i128, format: Format) -> u64
     float_of(FloatLayout::Binary64, number, format)
 }
 
-/// The bits of the float of single precision nearest to the bits `number` of a format, ties to even. It is exact for a
-/// format of at most 24 bits, and that of 0 has no sign.
+/// Returns the bits of the single-precision float nearest to the bits `number` of a format, ties to even. It is exact
+/// for a format of at most 24 bits, and the float of 0 has no sign.
 pub fn binary32_of(number: i128, format: Format) -> u32
     requires { IsInRange format.signed format.width number }
     ensures nearest { IsNearestFloat Binary32 number format.frac result }

@@ -15,13 +15,13 @@ use fixed_read::ReadNumber;
 #[derive(Clone, Copy, Debug, PartialEq, Eq)]
 pub struct NotFinite;
 
-/// The scale of a double that is its significand.
-const BINARY64_UNIT: u32 = 1075;
+/// The scale at which a double is its significand.
+pub const BINARY64_UNIT: u32 = 1075;
 
-/// The scale of a float of single precision that is its significand.
-const BINARY32_UNIT: u32 = 150;
+/// The scale at which a single-precision float is its significand.
+pub const BINARY32_UNIT: u32 = 150;
 
-/// Two to the power of `bits`.
+/// Returns two to the power of `bits`.
 #[inline(always)]
 pub fn power_of_two(bits: u32) -> u64
     requires { bits ≤ 62 }
@@ -32,7 +32,7 @@ pub fn power_of_two(bits: u32) -> u64
     1 << bits
 }
 
-/// A significand over two to the power of `bits`, rounded down.
+/// Returns a significand over two to the power of `bits`, rounded down.
 #[inline(always)]
 fn quotient(significand: u64, bits: u32) -> u64
     requires bits { bits ≤ 62 }
@@ -43,7 +43,7 @@ fn quotient(significand: u64, bits: u32) -> u64
     significand >> bits
 }
 
-/// A significand times two to the power of `bits`.
+/// Returns a significand times two to the power of `bits`.
 #[inline(always)]
 fn multiple(significand: u64, bits: u32) -> u128
     requires bits { bits ≤ 64 }
@@ -54,7 +54,7 @@ fn multiple(significand: u64, bits: u32) -> u128
     u128::from(significand) << bits
 }
 
-/// The number with that sign and magnitude. Its sign is kept where the magnitude is 0.
+/// Returns the number with this sign and magnitude. The sign is kept even if the magnitude is 0.
 #[inline(always)]
 fn signed(negative: bool, magnitude: u128) -> Number
     ensures sign { result.negative ≡ negative }
@@ -75,8 +75,8 @@ fn is_nothing(rest: u64) -> bool
     rest == 0
 }
 
-/// The read number of a significand of whole ulps, each two to the power of `-up`. Shifted by more than 64 bits a
-/// magnitude has the same low bits as by 64.
+/// Returns the read number of a significand of whole ulps, each two to the power of `-up`. A magnitude shifted by more
+/// than 64 bits has the same low bits as one shifted by 64.
 #[inline(always)]
 fn read_whole(fields: FloatFields, up: u32, format: Format) -> ReadNumber
     requires few_bits { fields.significand < 2 ^ 53 }
@@ -88,8 +88,8 @@ fn read_whole(fields: FloatFields, up: u32, format: Format) -> ReadNumber
     ReadNumber::new(signed(fields.negative, magnitude), format, true)
 }
 
-/// The read number of a significand in parts of an ulp, each two to the power of `-down`. One that is shifted by 62
-/// bits or more is less than half of an ulp.
+/// Returns the read number of a significand in parts of an ulp, each two to the power of `-down`. A significand shifted
+/// by 62 bits or more is less than half of an ulp.
 #[inline(always)]
 fn read_part(fields: FloatFields, down: u32, format: Format, mode: ReadMode) -> ReadNumber
     requires few_bits { fields.significand < 2 ^ 53 }
@@ -106,8 +106,8 @@ fn read_part(fields: FloatFields, down: u32, format: Format, mode: ReadMode) -> 
     ReadNumber::new(number, format, is_nothing(rest))
 }
 
-/// The read number of a significand times two to the power of its scale less `unit`, the scale of one. Most floats have
-/// parts of an ulp, and for these 64 bits are enough.
+/// Returns the read number of a significand times two to the power of its scale less `unit`, the scale of one. Most
+/// floats have parts of an ulp, for which 64 bits are enough.
 #[inline(always)]
 fn read_fields(fields: FloatFields, unit: u32, format: Format, mode: ReadMode) -> ReadNumber
     requires few_bits { fields.significand < 2 ^ 53 }
@@ -128,7 +128,7 @@ fn read_fields(fields: FloatFields, unit: u32, format: Format, mode: ReadMode) -
 ///
 /// # Errors
 ///
-/// Infinities and NaNs are refused.
+/// Refuses infinities and NaNs.
 #[inline(always)]
 pub fn read_binary64(bits: u64, format: Format, mode: ReadMode) -> Result<ReadNumber, NotFinite>
     ensures finite { IsOk result ↔ IsFinite Binary64 bits }
@@ -141,11 +141,11 @@ pub fn read_binary64(bits: u64, format: Format, mode: ReadMode) -> Result<ReadNu
     }
 }
 
-/// Reads a float of single precision, given by its bits, into a format: its exact value rounded to ulps in a mode.
+/// Reads a single-precision float, given by its bits, into a format: its exact value rounded to ulps in a mode.
 ///
 /// # Errors
 ///
-/// Infinities and NaNs are refused.
+/// Refuses infinities and NaNs.
 #[inline(always)]
 pub fn read_binary32(bits: u32, format: Format, mode: ReadMode) -> Result<ReadNumber, NotFinite>
     ensures finite { IsOk result ↔ IsFinite Binary32 bits }

@@ -1,4 +1,4 @@
--- The decade of a value and its figures: they exist and are the only ones.
+-- The decade of a value and its figures exist and are unique.
 use Rattle.std.proofs.Common.{◌≡◌, ℕ, zero, suc, ◌+◌, ◌-◌, ◌*◌, ◌/◌, ◌%◌, ◌^◌, ◌<◌, ◌≤◌, ◌⊎◌, length, false, ℤ, pos, negsuc, ◌+ℤ◌, ◌-ℤ◌, refl, sym, ap, ◌∙◌, ⊎_elim, arith, pow-suc, pow_pos, mul-le-mul_left, mul-le-mul_right, le_antisymm}
 use Rattle.std.proofs.lemmas.Nat.{pow-add}
 use Rattle.std.proofs.lemmas.Bool.{cases_lt}
@@ -13,7 +13,7 @@ use Rattle.fixed_write.proofs.Public.{shortest_unique, shortest_exists}
 ten_pos : (k : ℕ) → 0 < 10 ^ k
 ten_pos k = one-le-pow k 10 (omega arith)
 
--- ---- the decade is one
+-- ---- the decade is unique
 power_less : (a b u c : ℕ) → 0 < u → 10 ^ a * u ≤ c → c < 10 * 10 ^ b * u → a ≤ b
 power_less a b u c some low high = ⊎_elim (λ (l : b < a).
     let more : 10 ^ suc b ≤ 10 ^ a = pow-le-pow_right (omega arith) l in
@@ -47,7 +47,7 @@ decade_unique c g (negsuc a) (pos b) h i = absurd (mixed b a (2 ^ g) c i.low h.h
 decade_unique c g (negsuc a) (negsuc b) h i =
     ap negsuc (le_antisymm (shift_less b a (2 ^ g) c i.low h.high) (shift_less a b (2 ^ g) c h.low i.high))
 
--- ---- and exists
+-- ---- the decade exists
 up_from : (fuel t u c : ℕ) → 0 < u → c < fuel + t → 10 ^ t * u ≤ c → (s : ℕ) × (10 ^ s * u ≤ c) × (c < 10 * 10 ^ s * u)
 up_from zero t u c some l low =
     let small : t < 10 ^ t = grows t in
@@ -88,7 +88,7 @@ decade_exists c g some = ⊎_elim
     (pos t, record { low = omega (arith, low); high = omega (arith, high) }))
     (cases_lt (c * 10 ^ 0) (1 * 2 ^ g))
 
--- ---- figures without trailing zeros
+-- ---- figures without trailing zeros are unique
 zeros_less : (m n y z : ℕ) → m * 10 ^ y ≡ n * 10 ^ z → (m % 10 ≡ 0 → ⊥) → y < z → ⊥
 zeros_less m n y z e last l =
     let all : z ≡ suc (z - y - 1) + y = omega arith in

@@ -33,7 +33,7 @@ exponent_digits (negsuc n) = whole_digits 10 false (suc n)
 abbrev exponent_of : ℕ → ℤ → Exponent
 exponent_of mark e = record { separator = mark; sign = exponent_sign e; digits = exponent_digits e }
 
--- an exponent that is not large
+-- an exponent of at most 1000 in size
 pub record IsShortExponent (e : ℤ) : Type 0 where
   pub low : neg_ℤ (pos 1000) ≤ℤ e
   pub high : e ≤ℤ pos 1000
@@ -131,7 +131,7 @@ read_power m z k c g h = ⊎_elim below above (cases_lt z k)
         let h' : IsNearest (10 ^ k * (m * 10 ^ (z - k) * 2 ^ g)) (10 ^ k * 1) c = nearest_of _ _ _ _ c num den h in
         rw e ((nearest_scaled (10 ^ k) (m * 10 ^ (z - k) * 2 ^ g) 1 c (one-le-pow k 10 (omega arith))).0 h')
 
--- the figures m of a number m·10^z with k places, and its exponent
+-- the text with the figures of m * 10^z over 10^k, a mark and the exponent e is a numeral that reads back
 pub exponent_reads : (mark : ℕ) (c : ℤ) (g m z k : ℕ) (e : ℤ) (text : List ℕ) → (mark ≡ 101) ⊎ (mark ≡ 69) → IsShortExponent e → ReadsBack (m * 10 ^ z) k (unsigned_abs c) g → e ≡ pos (length (whole_digits 10 false m) + z) -ℤ pos (k + 1) → text ≡ sign_text (is_negative c) ++ (pointed (whole_digits 10 false m) ++ mark ∷ signed_decimal e) → (p : Parts) × HasNumeral decimal_radix text p × IsReadNumber NearestEven decimal_radix p g c
 exponent_reads mark c g m z k e text ok h reads ee et = by_figures (whole_digits 10 false m) (whole_text_is 10 false m (omega arith) (omega arith)) ee et
   where

@@ -40,7 +40,7 @@ decimal_is_text : (negative : Bool) (n k : ℕ) → sign_text negative ++ point_
 unfolding decimal_text
 decimal_is_text negative n k = refl
 
--- ---- how long an exponent is
+-- ---- the length of an exponent
 nearest_small : (num den q : ℕ) → 0 < den → IsNearest num den q → q ≤ num + 1
 nearest_small num den q some h = ⊎_elim (λ (a : num + 1 < q).
     let far : (num + 2) * den ≤ q * den = mul-le-mul_right den (omega arith) in

@@ -1,4 +1,4 @@
--- What the proofs of the crates above may cite.
+-- Lemmas for the proofs of dependent crates.
 use Rattle.fixed_laws.specs.Styling.{StyledTextIsTheOne}
 use Rattle.fixed_laws.proofs.StyledLemmas
 

@@ -1,4 +1,4 @@
--- What is read from a numeral is the one.
+-- A numeral reads as just one number, image or refusal.
 use Rattle.std.proofs.Common.{◌≡◌, ◌↔◌, ◌+◌, ◌*◌, ◌^◌, ◌<◌, ℕ, zero, suc, ℤ, Bool, true, false, IsTrue, Ok, Err, unsigned_abs, refl, sym, ap, subst, ◌∙◌, arith}
 use Rattle.fixed_bits.specs.Formats.{FormatParts}
 use Rattle.fixed_bits.specs.Numbers.{IsNumber, with_sign}
@@ -18,7 +18,7 @@ same_flag true false P f g = sym (g.1 (f.0 refl))
 same_flag false true P f g = f.1 (g.0 refl)
 same_flag false false P f g = refl
 
--- ---- a number by its sign, its low part and whether there is more
+-- ---- a number is determined by its sign, its low part and its flag of high bits
 size : (negative : Bool) (m : ℕ) → unsigned_abs (with_sign negative m) ≡ m
 size false m = refl
 size true zero = refl
@@ -52,7 +52,7 @@ reading_one mode r p f a b in_a in_b x y =
     let exact : a.exact ≡ b.exact = same_flag a.exact b.exact (IsWholeUlps r p b.format.frac) (rw frac at x.exact) y.exact in
     found_made a b number format exact
 
--- ---- bytes
+-- ---- readings of bytes
 pub read_answer_one : ReadAnswerIsTheOne
 read_answer_one mode r bytes f (Ok a) (Ok b) in_a in_b x y =
     let has = x.numeral.0 refl in

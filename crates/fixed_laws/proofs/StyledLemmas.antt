@@ -1,4 +1,4 @@
--- Styled texts exist and are the only ones.
+-- Each number has just one text in a style.
 use Rattle.std.proofs.Common.{◌≡◌, ℕ, zero, suc, ◌*◌, ◌%◌, ◌^◌, ◌<◌, false, List, ◌++◌, replicate, ℤ, pos, unsigned_abs, refl, sym, ap, ◌∙◌, arith, pow_pos, le_antisymm}
 use Rattle.std.specs.Prelude.{Option, Some, None, unwrap_or}
 use Rattle.std.specs.Int.{is_negative}
@@ -13,7 +13,7 @@ use Rattle.fixed_write.specs.Styled.{IsShown, IsPointBody, IsBody, IsExponentBod
 use Rattle.fixed_write.proofs.Public.{shortest_unique, shortest_exists, exact_text_is}
 use Rattle.fixed_laws.proofs.DecadeLemmas.{short_unique, short_exists, rounded_unique, rounded_exists}
 
--- ---- what is shown with a point
+-- ---- the number written with a point
 exact_one : (base c g k n j m : ℕ) → IsExact base c g k n → IsExact base c g j m → (k ≡ j) × (n ≡ m)
 exact_one base c g k n j m a b =
     let e : k ≡ j = le_antisymm (a.least m j b.same) (b.least n k a.same) in
@@ -53,7 +53,7 @@ point_some notation precision c g =
     let (n, k, shown) = shown_some notation precision c g in
     (point_text (base_of notation) (is_upper notation) k n, record { number = n; places = k; shown = shown; body_is = refl })
 
--- ---- what is shown with an exponent
+-- ---- the figures and the exponent of a text
 figures_one : (precision : Option ℕ) (c g m n : ℕ) (e f : ℤ) → IsFigures precision c g m e → IsFigures precision c g n f → (m ≡ n) × (e ≡ f)
 figures_one None c g m n e f h i = short_unique c g m n e f h i
 figures_one (Some p) c g m n e f h i = rounded_unique p c g m n e f h i
@@ -74,7 +74,7 @@ exponent_some notation precision (suc c) g =
     let (m, e, are) = figures_some precision (suc c) g (omega arith) in
     (pointed (whole_digits 10 false m) ++ exponent_text notation e, record { figures = m; exponent = e; are_figures = are; body_is = refl })
 
--- ---- any body
+-- ---- the body in any notation
 body_one : (notation : Notation) (precision : Option ℕ) (c g : ℕ) (a b : List ℕ) → IsBody notation precision c g a → IsBody notation precision c g b → a ≡ b
 body_one Dec precision c g a b h i = point_one Dec precision c g a b h i
 body_one LowerExp precision c g a b h i = exponent_one LowerExp precision c g a b h i

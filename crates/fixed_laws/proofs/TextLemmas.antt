@@ -90,7 +90,7 @@ whole_is (suc fuel) b u n two q l = ⊎_elim
           some = omega (arith, length-append (whole_digits b u (n / b)) (digit_glyph u (n % b) ∷ []));
         })
 
--- a number is less than some power
+-- n is less than a power of the base
 power_above : (b n : ℕ) → 2 ≤ b → n < b ^ suc n
 power_above b zero two = omega (arith, one-le-pow 1 b (omega arith))
 power_above b (suc n) two =
@@ -158,7 +158,7 @@ fraction_length : (b : ℕ) (u : Bool) (k n : ℕ) → length (fractional_digits
 fraction_length b u zero n = refl
 fraction_length b u (suc k) n = last_digits_length b u (suc k) n
 
--- digits after digits
+-- the value of digits after n
 value_after : (b n : ℕ) (ys : List ℕ) → digits_value_after b n ys ≡ n * b ^ length ys + digits_value b ys
 value_after b n [] = rw pow-zero (omega arith)
 value_after b n (y ∷ ys) = value_after b (n * b + digit_value y) ys ∙ rw (value_after b (0 * b + digit_value y) ys, pow-suc) (joined n b (b ^ length ys) (digit_value y) (digits_value b ys))

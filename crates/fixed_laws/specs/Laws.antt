@@ -1,4 +1,4 @@
--- Texts read back.
+-- Texts that are read back.
 use Rattle.std.specs.Prelude.{ℕ, Bool, List, ℤ}
 use Rattle.fixed_bits.specs.declared.mode.ReadMode.TheVariants.{NearestEven}
 use Rattle.fixed_numeral.specs.declared.radix.Radix.{Radix}
@@ -19,7 +19,7 @@ abbrev pub ExactTextReadsBack : Type 0
 ExactTextReadsBack = (r : Radix) (upper : Bool) (c : ℤ) (g : ℕ) (text : List ℕ) → IsExactText (base r) upper c g text
     → (p : Parts) × HasNumeral r text p × IsReadNumber NearestEven r p g c
 
--- the text to any count of places, in any mode, is a numeral of the base
+-- the text rounded to any number of places, in any mode, is a numeral of the base
 abbrev pub RoundedTextIsNumeral : Type 0
 RoundedTextIsNumeral = (mode : ReadMode) (r : Radix) (upper : Bool) (c : ℤ) (g k : ℕ) (text : List ℕ)
     → IsRoundedText mode (base r) upper k c g text → IsNumeral r text

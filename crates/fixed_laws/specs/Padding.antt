@@ -16,12 +16,12 @@ align_number Right = 3
 abbrev pub flags_number : Bool → Bool → Bool → ℕ
 flags_number plus prefix zero_pad = (if plus then 1 else 0) + (if prefix then 2 else 0) + (if zero_pad then 4 else 0)
 
--- what the toolchain's `pad_integral` writes of sign, prefix and body under the options of a style
+-- the text that the toolchain's `pad_integral` writes for a sign, a prefix and a body under the options of a style
 abbrev pub toolchain_text : Style → ℕ → Bool → List ℕ → List ℕ
 toolchain_text s precision negative body = padded_integral (format_spec s.fill (align_number s.align)
     (flags_number s.plus s.prefix s.zero_pad) s.width precision) negative (prefix_of s.notation) body
 
--- it is the padded text of the style
+-- the toolchain's text is the padded text of the style
 abbrev pub PaddingIsTheToolchains : Type 0
 PaddingIsTheToolchains = (s : Style) (precision : ℕ) (negative : Bool) (body : List ℕ)
     → toolchain_text s precision negative body ≡ padded_text s (sign_and_prefix s negative) body

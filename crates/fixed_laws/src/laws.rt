@@ -12,12 +12,12 @@ ghost use Rattle.fixed_laws.specs.Readings.{
 };
 ghost use Rattle.fixed_laws.specs.Styling.{StyledTextExists, StyledTextIsTheOne};
 
-/// The default text of a value is a decimal numeral, and is read as the bits that it came from.
+/// The default text of a value is a decimal numeral, and reads as the bits that it came from.
 pub fn default_text_reads_back()
     ensures { DefaultTextReadsBack }
 {}
 
-/// The exact text of a value in a base is a numeral of that base, and is read as the bits that it came from.
+/// The exact text of a value in a base is a numeral of that base, and reads as the bits that it came from.
 pub fn exact_text_reads_back()
     ensures { ExactTextReadsBack }
 {}
@@ -27,7 +27,7 @@ pub fn rounded_text_is_numeral()
     ensures { RoundedTextIsNumeral }
 {}
 
-/// The plain text of a value in any of the seven notations is a numeral of its radix, and is read as the bits that it
+/// The plain text of a value in any of the seven notations is a numeral of its radix, and reads as the bits that it
 /// came from.
 pub fn plain_text_reads_back()
     ensures { PlainTextReadsBack }
@@ -53,7 +53,7 @@ pub fn reading_is_the_one()
     ensures { ReadingIsTheOne }
 {}
 
-/// Bytes have one answer of a reader: the number, or the kind of their cause.
+/// Bytes have one result of a reader: the number, or the kind of their cause.
 pub fn read_answer_is_the_one()
     ensures { ReadAnswerIsTheOne }
 {}
@@ -63,12 +63,12 @@ pub fn image_read_is_the_one()
     ensures { ImageReadIsTheOne }
 {}
 
-/// A numeral has one Wrapping image, and one verdict whether its number is out of range.
+/// A numeral has one Wrapping image, and one verdict on whether its number is out of range.
 pub fn overflowing_read_is_the_one()
     ensures { OverflowingReadIsTheOne }
 {}
 
-/// No numeral is in a range and out of it.
+/// The number of a numeral is never both in a range and out of it.
 pub fn read_range_is_decided()
     ensures { ReadRangeIsDecided }
 {}

@@ -12,7 +12,7 @@ use Rattle.std.specs.Simd.Lanes.{mask_l}
 use borrow.Author.Tests.{ltb-false}
 use Rattle.fixed_numeral.proofs.ByteLemmas.{low_value_is, near_zero}
 
--- the low halves of decimal digits are their values
+-- the value of a decimal digit is the low four bits of its byte
 small_digit : (b : ℕ) → digit_value b < 10 → (b < 64) × (b % 16 ≡ digit_value b)
 small_digit b h = let small : b < 64 = below b h in (small, low_value_is b h)
   where
@@ -64,7 +64,7 @@ digits_after (suc n) ds h = digits_after n ds h.1
 pub last_count : (r : ℕ) (ds : List ℕ) → r ≤ 8 → length ds ≡ 8 → length (replicate (8 - r) 48 ++ drop (8 - r) ds) ≡ 8
 last_count r ds s l = omega (arith, length-append (replicate (8 - r) 48) (drop (8 - r) ds), length-replicate {A = ℕ} (8 - r) 48, length-drop (8 - r) ds)
 
--- a mask of the last bytes keeps them where they are
+-- the mask keeps the last r bytes in their lanes
 kept_last : (r n : ℕ) → r ≤ 8 → n < 2 ^ 64 → bit_and n (get_or last_bytes r 0) ≡ n / 2 ^ (64 - 8 * r) * 2 ^ (64 - 8 * r)
 kept_last zero n s h = and_high_mask 64 64 (omega arith) n h
 kept_last (suc zero) n s h = and_high_mask 64 56 (omega arith) n h
@@ -106,7 +106,7 @@ below_first zero k ds h = tt
 pub first_count : (r : ℕ) (ds : List ℕ) → r ≤ 8 → length ds ≡ 8 → length (replicate (8 - r) 48 ++ take r ds) ≡ 8
 first_count r ds s l = omega (arith, length-append (replicate (8 - r) 48) (take r ds), length-replicate {A = ℕ} (8 - r) 48, length-take r ds)
 
--- ---- many bytes that are decimal digits
+-- ---- bytes that are all decimal digits
 no_marks : (c : Bool) (n : ℕ) → cond c 1 0 + 2 * n ≡ 0 → (c ≡ false) × (n ≡ 0)
 no_marks true n h = absurd (omega arith)
 no_marks false n h = (refl, omega arith)

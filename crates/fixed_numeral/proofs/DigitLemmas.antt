@@ -18,7 +18,7 @@ unfolding digits_in
 digits_in_append [] ys = refl
 digits_in_append (x ∷ xs) ys = rw (digits_in_append xs ys) (sym (cons_prefix (nat_lt (digit_value x) 16) (digit_value x) (digits_in xs) (digits_in ys)))
 
--- a digit before others, or another byte
+-- a digit adds its value before the digits of the other bytes; another byte adds nothing
 pub digit_before : (b d : ℕ) (bs : List ℕ) → d ≡ digit_value b → d < 16 → digits_in (b ∷ bs) ≡ d ∷ digits_in bs
 unfolding digits_in
 digit_before b d bs e h =
@@ -30,7 +30,7 @@ unfolding digits_in
 other_before b bs h =
     rw (le-ltb _ _ h) refl
 
--- at a place
+-- the digits of a text are those before an index and those from it on
 pub cut : (bs : List ℕ) (i : ℕ) → i < length bs → digits_in bs ≡ digits_in (take i bs) ++ digits_in (get_or bs i 0 ∷ drop (i + 1) bs)
 cut bs i l = ap digits_in (sym (take-append-drop i bs)) ∙ digits_in_append (take i bs) (drop i bs) ∙ ap (λ ys. digits_in (take i bs) ++ digits_in ys) (drop_more bs i 0 l)
 
@@ -52,14 +52,14 @@ digits_le (b ∷ bs) = shorter (nat_lt (digit_value b) 16) (digit_value b) (digi
     shorter true x ds bs h = omega arith
     shorter false x ds bs h = omega arith
 
--- a prefix of the digits
+-- the digits of a prefix are the first digits of the text
 pub split_prefix : (bs : List ℕ) (k i : ℕ) → length (digits_in (take k bs)) ≡ i → digits_in (take k bs) ≡ take i (digits_in bs)
 split_prefix bs k i e = sym (ap (take i) (ap digits_in (sym (take-append-drop k bs)) ∙ digits_in_append (take k bs) (drop k bs)) ∙ take_at (digits_in (take k bs)) (digits_in (drop k bs)) i e)
 
 pub split_back : (bs : List ℕ) (k i : ℕ) → length (digits_in (take k bs)) ≡ i → digits_in (drop k bs) ≡ drop i (digits_in bs)
 split_back bs k i e = sym (ap (drop i) (ap digits_in (sym (take-append-drop k bs)) ∙ digits_in_append (take k bs) (drop k bs)) ∙ drop_at (digits_in (take k bs)) (digits_in (drop k bs)) i e)
 
--- where every byte is a digit
+-- a prefix has as many digits as bytes if every byte of the text is a digit
 pub all_counted : (bs : List ℕ) (k : ℕ) → length (digits_in bs) ≡ length bs → k ≤ length bs → length (digits_in (take k bs)) ≡ k
 all_counted bs k e l =
     let whole : length (digits_in bs) ≡ length (digits_in (take k bs)) + length (digits_in (drop k bs)) = ap length (ap digits_in (sym (take-append-drop k bs)) ∙ digits_in_append (take k bs) (drop k bs)) ∙ length-append (digits_in (take k bs)) (digits_in (drop k bs)) in
@@ -71,7 +71,7 @@ count_more bs i n d l e v h = ap length (ap digits_in (take_more bs i 0 l) ∙ d
 pub count_same : (bs : List ℕ) (i n : ℕ) → i < length bs → length (digits_in (take i bs)) ≡ n → 16 ≤ digit_value (get_or bs i 0) → length (digits_in (take (i + 1) bs)) ≡ n
 count_same bs i n l e h = ap length (ap digits_in (take_more bs i 0 l) ∙ digits_in_append (take i bs) (get_or bs i 0 ∷ [])) ∙ (rw (one_alone (get_or bs i 0) h) (ap length (append-nil (digits_in (take i bs))))) ∙ e
 
--- ---- as the code has them
+-- ---- restated for the goals
 pub rest_is : (bs ds : List ℕ) (i d : ℕ) → digits_in bs ≡ ds → i < length bs → digits_in (take i bs) ≡ [] → d ≡ digit_value (get_or bs i 0) → d < 16 → ds ≡ d ∷ digits_in (take (length bs - (i + 1)) (drop (i + 1) bs))
 rest_is bs ds i d same l none e h = sym same ∙ first_is bs i d l none e h ∙ rw (take_rest bs (i + 1)) refl
 

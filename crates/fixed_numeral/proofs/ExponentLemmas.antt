@@ -1,4 +1,4 @@
--- What the scanner knows after many exponent digits.
+-- The scanner's state after several exponent digits.
 use Rattle.std.proofs.Common.{◌≡◌, ℕ, ◌+◌, ◌-◌, ◌*◌, ◌^◌, ◌<◌, ◌≤◌, Bool, true, false, List, [], ◌++◌, length, take, drop, Option, Some, None, is_none, refl, sym, ap, ◌∙◌, arith, append_assoc, append-nil}
 use Rattle.std.proofs.Math.Seq.{take-add}
 use Rattle.std.specs.Str.Parse.{AllDigits, digits_value}
@@ -56,7 +56,7 @@ eight_more r st bs ds m a k d eight e l =
 pub max_most : (c : Bool) (m : ℕ) → m ≤ max_magnitude c → m ≤ max_magnitude true
 max_most c m h = omega (arith, most_at_most c)
 
--- ---- as the loops have them
+-- ---- restated for the loops
 pub taken_eight : (bs : List ℕ) (at : ℕ) (r : Radix) (next : State) → IsAfter r (take at bs ++ take 8 (drop at bs)) next → IsAfter r (take (at + 8) bs) next
 taken_eight bs at r next a = rw (take-add at 8 bs) a
 

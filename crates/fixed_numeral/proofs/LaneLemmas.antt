@@ -1,4 +1,4 @@
--- Digits in the places of a word.
+-- Digits in the lanes of a word.
 use Rattle.std.proofs.Common.{◌≡◌, ℕ, zero, suc, ◌+◌, ◌-◌, ◌*◌, ◌/◌, ◌%◌, ◌^◌, ◌<◌, ◌≤◌, List, [], ◌∷◌, ◌++◌, length, take, drop, get_or, replicate, refl, sym, ap, subst, ◌∙◌, ⊎_elim, arith, mul-le-mul_right, length-append, length-take, length-drop}
 use Rattle.std.specs.Int.Bits.{bit_and}
 use Rattle.std.proofs.Math.Nat.{zero-div, mod-eq_of_lt}
@@ -15,13 +15,13 @@ use Rattle.fixed_numeral.proofs.ByteLemmas.{letter_is, near_zero}
 use Rattle.fixed_numeral.proofs.PlaceLemmas.{below_append, below_zeros, below_split}
 use Rattle.fixed_numeral.proofs.DigitLemmas.{digits_in_none, digit_before, digits_le, other_before}
 
--- ---- two neighbours as one digit of the base squared
+-- ---- two neighbouring digits as one digit of the base squared
 abbrev pub paired : ℕ → List ℕ → List ℕ
 paired m [] = []
 paired m (a ∷ []) = a ∷ []
 paired m (a ∷ b ∷ ds) = (a * m + b) ∷ paired m ds
 
--- a word times the base, and the next place
+-- the word times the base, plus the word moved down by one lane
 abbrev pub spread : ℕ → ℕ → ℕ → ℕ
 spread m w n = n * m + n / w
 
@@ -35,7 +35,7 @@ base_le m w a s p =
     let t : 1 * m ≤ m * m = mul-le-mul_right m (omega arith) in
     omega arith
 
--- the lowest place
+-- the lowest lane holds a digit below the base
 lead : (m w a : ℕ) (ds : List ℕ) → a < m → m ≤ w → AllBelowBase m ds → number_l w ds % w < m
 lead m w a [] p s h = let e : 0 * w + 0 ≡ 0 = omega arith in let z : (0 * w + 0) % w ≡ 0 = digits_mod 0 (omega arith) in let z' : 0 % w ≡ 0 = rw e at z in omega (arith, z')
 lead m w a (c ∷ ds) p s h =
@@ -43,7 +43,7 @@ lead m w a (c ∷ ds) p s h =
     let z : (number_l w ds * w + c) % w ≡ c = digits_mod (number_l w ds) (omega (arith, h.0)) in
     rw e (omega (arith, z, h.0))
 
--- the lowest two places, and what is above them
+-- the lowest two lanes of a spread word, and the lanes above them
 pub record IsSpread (m w v a b n : ℕ) : Type 0 where
   pub split : spread m w (a + w * (b + w * n)) ≡ spread m w n * v + ((b * m + n % w) * w + (a * m + b))
   pub low : (b * m + n % w) * w + (a * m + b) < v
@@ -64,7 +64,7 @@ spread_is m w v a b n e s p q l =
       first = digits_mod (b * m + n % w) under;
     }
 
--- ---- every two places under the mask
+-- ---- every second lane under the mask
 masked : (k m w v pairs : ℕ) (ds : List ℕ) → w ≡ 2 ^ k → v ≡ 2 ^ (k + k) → v ≡ w * w → m * m ≤ w → length ds ≡ pairs + pairs → AllBelowBase m ds → bit_and (spread m w (number_l w ds)) (number_l v (replicate pairs (w - 1))) ≡ number_l v (paired m ds)
 masked k m w v zero [] p q e s l h =
     let nothing : 0 * m + 0 / w ≡ 0 = omega (arith, zero-div w) in
@@ -84,7 +84,7 @@ masked k m w v (suc n) (a ∷ b ∷ ds) p q e s l h =
     ap (λ x. bit_and x ((w - 1) + v * mask)) t.split ∙ ap (λ y. bit_and (above * v + low) y) order ∙ here ∙ omega (arith, kept, ap (λ x. x * v) rest)
 masked k m w v x y p q e s l h = absurd (omega arith)
 
--- one multiplication gives the digits times the base and the next place, one place higher
+-- one multiplication gives the spread word, one lane higher
 raised : (k j m w n : ℕ) → w ≡ 2 ^ k → 0 < w → n * (m * w + 1) % 2 ^ (j + k) / w ≡ spread m w n % 2 ^ j
 raised k j m w n p some =
     let rest : n % w < w = omega arith in
@@ -92,7 +92,7 @@ raised k j m w n p some =
     let down : n * (m * w + 1) / w ≡ n * m + n / w = ap (λ x. x / w) whole ∙ digits_div (n * m + n / w) rest in
     ap (λ x. x / w) (subst (λ x. n * (m * w + 1) % 2 ^ (j + k) ≡ (n * (m * w + 1) / x % 2 ^ j) * x + n * (m * w + 1) % x) (sym p) (mod-pow-add (n * (m * w + 1)) j k)) ∙ digits_div (n * (m * w + 1) / w % 2 ^ j) (omega arith) ∙ ap (λ x. x % 2 ^ j) down
 
--- the mask needs no more of the number than it has bits itself
+-- a mask of j bits needs only the low j bits of a number
 cut_masked : (j n mask : ℕ) → mask < 2 ^ j → bit_and (n % 2 ^ j) mask ≡ bit_and n mask
 cut_masked j n mask s =
     sym (sym (mod-eq_of_lt (omega (arith, and_le_r n mask))) ∙ and_mod n mask j ∙ ap (λ x. bit_and (n % 2 ^ j) x) (mod-eq_of_lt s))
@@ -103,7 +103,7 @@ paired_below m (a ∷ []) h = (omega (arith, h.0, base_le m (m * m) a (omega ari
 paired_below m (a ∷ b ∷ ds) h = (pair_lt m (m * m) a b (omega arith) h.0 h.1.0, paired_below m ds h.1.1)
 
 -- ---- eight digits, each in a byte
--- the powers of the base
+-- the powers of the base fit their lanes
 pub record IsSmallBase (m : ℕ) : Type 0 where
   pub two : m * m ≤ 2 ^ 8
   pub four : m * m * (m * m) ≤ 2 ^ 16
@@ -162,7 +162,7 @@ upper_half b =
     let block : bit_and (b / 16 * 2 ^ 4 + b % 16) (15 * 2 ^ 4 + 0) ≡ bit_and (b / 16) 15 * 2 ^ 4 + bit_and (b % 16) 0 = and_block 4 (b / 16) 15 (b % 16) 0 (omega arith) (omega arith) in
     omega (arith, ap (λ x. bit_and x (15 * 2 ^ 4 + 0)) split ∙ block, and_mask (b / 16) 4, and_le_r (b % 16) 0)
 
--- the lowest byte under a mask, and those above it
+-- the lowest byte under its mask, and the bytes above it
 lowest : (n mask b : ℕ) → b < 256 → bit_and (n * 256 + b) (240 + 256 * mask) ≡ bit_and n mask * 256 + b / 16 * 16
 lowest n mask b s =
     let order : 240 + 256 * mask ≡ mask * 2 ^ 8 + 240 = omega arith in
@@ -185,7 +185,7 @@ decimal_lanes (b ∷ bs) h p q =
     let rest_more : bit_and (n + more) mask ≡ wanted = omega (arith, raised) in
     (near_zero b 10 (omega arith) (omega arith) (omega arith), decimal_lanes bs h.1 rest rest_more)
 
--- the sum of the second test fits, where the first holds
+-- the sum of the second test fits 64 bits if the first test holds
 pub sixes_fit : (word : ℕ) → word < 2 ^ 64 → bit_and word 0xf0f0_f0f0_f0f0_f0f0 ≡ 0x3030_3030_3030_3030 → word + 0x0606_0606_0606_0606 < 2 ^ 64
 sixes_fit word s h =
     let high : ℕ = word / 2 ^ 60 in

@@ -1,4 +1,4 @@
--- A numeral or one cause.
+-- A text is a numeral or has just one cause of refusal.
 use Rattle.std.proofs.Common.{◌≡◌, ℕ, ◌⊎◌, Bool, true, false, List, [], ◌∷◌, ◌++◌, length, take, get_or, Option, Some, None, refl, sym, ap, ◌∙◌, inl, inr, arith, append_assoc, append-nil, length-append}
 use Rattle.std.proofs.lemmas.List.{take_at}
 use Rattle.fixed_numeral.specs.declared.radix.Radix.{Radix}
@@ -12,7 +12,7 @@ use Rattle.fixed_numeral.proofs.NumeralLemmas.{parts, nothing, step, one_more, p
 use Rattle.fixed_numeral.proofs.ScanLemmas.{stuck, stuck_cause, end_cause, nil_length, length_nil}
 use Rattle.fixed_numeral.proofs.LiteralScanLemmas.{no_literal}
 
--- ---- at most one
+-- ---- at most one cause, and one literal
 pub one_cause : (r : Radix) (bs : List ℕ) (kind other : ParseErrorKind) → HasCause r bs kind → HasCause r bs other → kind ≡ other
 one_cause r bs kind other g h =
     let count : g.count ≡ h.count = omega (arith, g.prefix.longest h.count h.prefix.within (h.parts, h.prefix.beginning), h.prefix.longest g.count g.prefix.within (g.parts, g.prefix.beginning)) in
@@ -34,7 +34,7 @@ one_literal s bs p q g h =
     let sign : p.sign ≡ q.sign = g.sign ∙ sym h.sign in
     ap (λ (o : Option ℕ). record p { sign = o }) sign ∙ ap (λ (x : Parts). record x { sign = q.sign }) same
 
--- ---- at least one
+-- ---- a numeral or a cause
 missing_mantissa : (r : Radix) (bs : List ℕ) (p : Parts) → HasParts r bs p → is_nil (mantissa p) ≡ true → IsNumeral r bs → ⊥
 missing_mantissa r bs p h e (q, g) =
     let same = parts_unique r bs q p g.beginning h in

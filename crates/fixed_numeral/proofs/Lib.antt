@@ -1,6 +1,6 @@
--- What the proofs of the crates above may cite
+-- For the proofs of dependent crates:
 pub mod Public
--- What no other crate can name
+-- Private to this crate:
 mod NumeralLemmas
 mod SpelledLemmas
 mod ByteLemmas
@@ -13,6 +13,7 @@ mod ScanLemmas
 mod ValueLemmas
 mod LiteralLemmas
 mod LiteralScanLemmas
+mod ShortLiteralLemmas
 mod LawLemmas
 mod StripLemmas
 mod LaneLemmas
@@ -23,3 +24,4 @@ mod MarkLemmas
 mod ExponentLemmas
 mod MessageLemmas
 mod LeadingLemmas
+mod CopyLemmas

@@ -28,7 +28,7 @@ point_passed (Some ds) = other_before 46 ds (omega arith)
 pub unsigned_digits : (w : List ℕ) (f : Option (List ℕ)) (ys : List ℕ) → digits_in (w ++ (fraction_text f ++ ys)) ≡ digits_in w ++ (digits_in (fractional_digits f) ++ digits_in ys)
 unsigned_digits w f ys = digits_in_append w (fraction_text f ++ ys) ∙ ap (λ ds. digits_in w ++ ds) (digits_in_append (fraction_text f) ys ∙ ap (λ ds. ds ++ digits_in ys) (point_passed f))
 
--- the whole digits are the first ones of the text, underscores and all
+-- the first digits of the text, with its underscores, are the whole digits
 pub literal_whole : (r : Radix) (bs : List ℕ) (p : Parts) (n : ℕ) → HasParts r (without_underscores bs) p → p.sign ≡ None → n ≡ length p.whole → take n (digits_in bs) ≡ digits_in p.whole
 literal_whole r bs p n h s e =
     let text : without_underscores bs ≡ p.whole ++ (fraction_text p.fraction ++ exponent_text p.exponent) = h.text ∙ ap (λ t. option_to_list t ++ (p.whole ++ (fraction_text p.fraction ++ exponent_text p.exponent))) s in

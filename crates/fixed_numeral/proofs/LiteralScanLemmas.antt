@@ -1,4 +1,4 @@
--- One byte more of a literal.
+-- The scanner's state after one more byte of a literal.
 use Rattle.std.proofs.Common.{◌≡◌, ℕ, ◌+◌, ◌<◌, ◌≤◌, ◌⊎◌, Bool, true, false, cond, not, ◌&&◌, ◌==◌, List, [], ◌∷◌, ◌++◌, length, take, drop, get_or, Option, Some, None, IfSome, IsTrue, refl, sym, ap, subst, ◌∙◌, inl, inr, ⊎_elim, arith, append-nil, length-take}
 use Rattle.std.proofs.lemmas.List.{take_more, take_all}
 use Rattle.std.specs.Prelude.{Result, Ok, Err, MatchResult}
@@ -22,7 +22,7 @@ some_inside : (xs ys : List ℕ) (c : ℕ) → [] ≡ xs ++ c ∷ ys → ⊥
 some_inside [] ys c e = absurd (cc)
 some_inside (x ∷ xs) ys c e = absurd (cc)
 
--- a byte of a list with one more is that one, or is before it
+-- a byte of a list that grew by one byte is that byte or stands before it
 push_cases : (bs xs ys : List ℕ) (b c : ℕ) → bs ++ b ∷ [] ≡ xs ++ c ∷ ys → ((bs ≡ xs) × (b ≡ c)) ⊎ ((zs : List ℕ) × (bs ≡ xs ++ c ∷ zs))
 push_cases [] [] ys b c e = inl (refl, cc)
 push_cases [] (x ∷ xs) ys b c e = let k : [] ≡ xs ++ c ∷ ys = cc in absurd (some_inside xs ys c k)
@@ -123,7 +123,7 @@ literal_prefix r xs ys (q, h) =
       },
     )
 
--- nothing was read, or something was
+-- a state that allows a sign and has no separator was reached without a byte; any other state was not
 prefix_nil : (r : Radix) (ws : List ℕ) (st : State) (s : Option ℕ) (w : List ℕ) (f : Option (List ℕ)) (x : Option Exponent) → HasParts r ws (parts s w f x) → Agrees r st (parts s w f x) → st.sign_allowed ≡ true → st.has_separator ≡ false → ws ≡ []
 prefix_nil r ws st s w f (Some e) h a t k = let clash = a.separator in absurd (cc)
 prefix_nil r ws st None [] None None h a t k = h.text
@@ -173,7 +173,7 @@ literal_all r bs i st l a = rw (take_all i bs l) at a
 abbrev pub as_after : (r : Radix) (bs : List ℕ) (st : State) → IsLiteralAfter r bs st → IsAfter r (without_underscores bs) st
 as_after r bs st a = record { parts = a.parts; beginning = a.beginning.beginning; agrees = a.agrees; room = a.room }
 
-without_shorter : (bs : List ℕ) → length (without_underscores bs) ≤ length bs
+pub without_shorter : (bs : List ℕ) → length (without_underscores bs) ≤ length bs
 without_shorter [] = omega arith
 without_shorter (b ∷ bs) = by_test (b == underscore) (without_shorter bs)
   where
@@ -206,7 +206,7 @@ end_rest r bs p kind h k none = record {
   is_kind = rw (slice_get_past bs) k;
 }
 
--- what is missing at the end of a rest is what is missing without its underscores
+-- a rest that ends too early has the cause that it has without its underscores
 pub incomplete_rest : (r : Radix) (bs : List ℕ) (st : State) (kind : ParseErrorKind) → IsLiteralAfter r bs st → IsIncomplete st kind → HasRestCause r bs kind
 incomplete_rest r bs st kind a i =
     end_rest r bs a.parts kind a.beginning (kind_at_end r (without_underscores bs) st kind (as_after r bs st a) i) (incomplete_cause r (without_underscores bs) st kind (as_after r bs st a) i).none
@@ -214,8 +214,8 @@ incomplete_rest r bs st kind a i =
 pub has_rest : (r : Radix) (bs : List ℕ) (st : State) (a : IsLiteralAfter r bs st) → IsComplete st → HasRest r bs a.parts
 has_rest r bs st a k = record { literal = a.beginning; numeral = has_numeral r (without_underscores bs) st (as_after r bs st a) k.digits k.exponent }
 
--- no sign was read
-no_sign : (r : Radix) (ws : List ℕ) (s : Option ℕ) (w : List ℕ) (f : Option (List ℕ)) (x : Option Exponent) → HasParts r ws (parts s w f x) → begins_signed ws ≡ false → s ≡ None
+-- a text that does not begin with a sign has no sign
+pub no_sign : (r : Radix) (ws : List ℕ) (s : Option ℕ) (w : List ℕ) (f : Option (List ℕ)) (x : Option Exponent) → HasParts r ws (parts s w f x) → begins_signed ws ≡ false → s ≡ None
 no_sign r ws None w f x h u = refl
 no_sign r ws (Some c) w f x h u =
     absurd (cc)
@@ -229,23 +229,23 @@ prefix_whole r bs st a = literal_whole r bs a.parts st.whole_len a.beginning.beg
 pub prefix_fraction : (r : Radix) (bs : List ℕ) (st : State) (a : IsLiteralAfter r bs st) → take st.fraction_len (drop st.whole_len (digits_in bs)) ≡ digits_in (fractional_digits a.parts.fraction)
 prefix_fraction r bs st a = literal_fraction r bs a.parts st.whole_len st.fraction_len a.beginning.beginning (unsigned_parts r bs st a) a.agrees.whole a.agrees.fraction
 
--- how many digits there are
+-- a state counts at most the digits of the text
 pub prefix_fits : (r : Radix) (bs : List ℕ) (st : State) (a : IsLiteralAfter r bs st) → st.whole_len ≤ length (digits_in bs)
 prefix_fits r bs st a = omega (arith, ap length (prefix_whole r bs st a), whole_count r a.parts a.beginning.beginning.parts, a.agrees.whole, length-take st.whole_len (digits_in bs))
 
 pub back_fits : (r : Radix) (bs : List ℕ) (st : State) (a : IsLiteralAfter r bs st) → st.fraction_len ≤ length (drop st.whole_len (digits_in bs))
 back_fits r bs st a = omega (arith, ap length (prefix_fraction r bs st a), after_count r a.parts a.beginning.beginning.parts, a.agrees.fraction, length-take st.fraction_len (drop st.whole_len (digits_in bs)))
 
--- the parts of the rest with the sign that was taken first
+-- the parts in the state, with the sign that was taken first, are the parts of the literal
 pub parts_of_rest : (r : Radix) (bs : List ℕ) (st : State) (a : IsLiteralAfter r bs st) (p : Parts) → HasRest r bs (record p { sign = None }) → record a.parts { sign = p.sign } ≡ p
 parts_of_rest r bs st a p h = let same = parts_unique r (without_underscores bs) a.parts (record p { sign = None }) a.beginning.beginning h.numeral.beginning in ap (λ (q : Parts). record q { sign = p.sign }) same
 
--- ---- as the code has them
+-- ---- restated for the goals
 pub step_result : (r : Radix) (bs : List ℕ) (p : Parts) (st : State) (b : ℕ) (o : Result State ParseErrorKind) → HasLiteralParts r bs p → Agrees r st p → (b ≡ underscore → ⊥) → (b == underscore) ≡ false → (is_sign b && (st.sign_allowed && not st.has_separator)) ≡ false → MatchResult o (λ next. Extends r (without_underscores bs) b next) (λ kind. CannotExtend r (without_underscores bs) p b kind) → MatchResult o (λ next. LiteralExtends r bs b next) (λ kind. LiteralCannotExtend r bs p b kind)
 step_result r bs p st b (Ok next) h a ne e l m = step_goes_on r bs p st next b h a ne e l m
 step_result r bs p st b (Err kind) h a ne e l m = other_stuck r bs p b kind e m
 
--- the parts of a rest with a sign before it are those of a numeral
+-- the parts of a numeral stay valid with a sign before them
 pub signed_parts : (r : Radix) (p : Parts) (s : Option ℕ) → IfSome s (λ b. IsTrue (is_sign b)) → IsPartsOf r p → IsPartsOf r (record p { sign = s })
 signed_parts r p s k h = record { sign = k; whole = h.whole; fraction = h.fraction; exponent = h.exponent }
 

@@ -27,7 +27,7 @@ digits_in_all b (d ∷ ds) l h =
     let t : nat_lt (digit_value d) 16 ≡ true = lt-ltb _ _ (omega (arith, h.0)) in
     rw t (ap (λ xs. digit_value d ∷ xs) (digits_in_all b ds l h.1))
 
--- ---- how the exponent moves the point: n is what the views spell, m the mantissa, f the base's power after the point
+-- ---- the exponent moves the point: the views spell n, the mantissa is m, f is the base's power after the point
 abbrev pub Moves : ℕ → ℕ → ℕ → ℕ → ℕ → ℕ → ℕ → Type 0
 Moves b n m f s up down = (u d : ℕ) → u + (s + down) ≡ d + up → n * 2 ^ 0 * b ^ d ≡ m * b ^ u * f
 
@@ -61,7 +61,7 @@ two_base : (r : Radix) (b : ℕ) → is_two_separator r b ≡ true → base r �
 two_base Dec b h = absurd (cc)
 two_base x b h = refl
 
--- the number by the kind of separator
+-- the scaled number, by the kind of separator
 abbrev scaled_in : Bool → ℕ → ℕ → ℕ → ℤ → Fraction
 scaled_in two b m s x = cond two (scaled m (b ^ s) 2 x) (scaled m 1 b (x -ℤ pos s))
 

@@ -1,4 +1,4 @@
--- Marks of bytes that are no digits, and the digits of a numeral that a text ends with.
+-- Marks of the bytes that are not digits, and the digits at the end of a text.
 use Rattle.std.proofs.Common.{◌≡◌, ℕ, zero, suc, ◌+◌, ◌-◌, ◌*◌, ◌/◌, ◌%◌, ◌^◌, ◌<◌, ◌≤◌, inl, inr, ⊎_elim, Bool, true, false, cond, nat_lt, List, [], ◌∷◌, ◌++◌, length, take, drop, get_or, map, replicate, refl, sym, ap, subst, ◌∙◌, arith, length-drop, min, max}
 use Rattle.std.specs.Int.{bit_at, w64}
 use Rattle.std.specs.Int.Bits.{bit_and}
@@ -53,7 +53,7 @@ marked_lanes xs least most m n k em en l z =
       ltb-false most (get_or xs k 0) (sym (get_or-map (λ x. nat_lt most x) xs k 0 false l) ∙ unmarked _ (bit_at n k) high (omega (arith, both))),
     )
 
--- a digit is below ten, or a capital or a small letter
+-- a byte is a digit if it is unmarked as a decimal digit, as a capital or as a small letter
 pub digit_by_marks : (b digits x m n o k : ℕ) → digits ≡ min b 10 → b ≤ 16 → (bit_at m k ≡ 0 → (48 ≤ x) × (x ≤ 47 + digits)) → (bit_at n k ≡ 0 → (65 ≤ x) × (x ≤ 64 + (b - digits))) → (bit_at o k ≡ 0 → (97 ≤ x) × (x ≤ 96 + (b - digits))) → bit_at (bit_and (bit_and m n) o) k ≡ 0 → digit_value x < b
 digit_by_marks b digits x m n o k e l p q r z =
     let all : min (min (bit_at m k) (bit_at n k)) (bit_at o k) ≡ 0 = ap (λ i. min i (bit_at o k)) (sym (bit_at_and m n k)) ∙ sym (bit_at_and (bit_and m n) o k) ∙ z in

@@ -78,7 +78,7 @@ first_number b count n ds prefix number e f g = g ∙ ap (number_from_digits b) 
 pub first_rest : (count n : ℕ) (ds back : List ℕ) → n ≡ min count (length ds) → back ≡ drop n ds → back ≡ drop count ds
 first_rest count n ds back e f = f ∙ ap (λ i. drop i ds) e ∙ drop_min count ds
 
--- ---- as the code has them
+-- ---- restated for the goals
 pub left_digits : (b before : ℕ) (l r : List ℕ) (after : ℕ) (v : List ℕ) → between_zeros before l r after ≡ v → AllBelowBase b v → AllBelowBase b l
 left_digits b before l r after v e h = (view_below b before l r after (subst (AllBelowBase b) (sym e) h)).0
 

@@ -1,4 +1,4 @@
--- A byte at a time: what the next byte may be, and that the bytes before it determine it.
+-- Numerals byte by byte: which byte may come next, and that the bytes determine the parts.
 use Rattle.std.proofs.Common.{◌≡◌, ℕ, ◌+◌, ◌*◌, ◌^◌, ◌<◌, ◌≤◌, ◌⊎◌, Bool, true, false, cond, ◌&&◌, ◌||◌, nat_lt, ◌==◌, IsTrue, List, [], ◌∷◌, ◌++◌, Option, Some, None, IfSome, is_none, option_to_list, option_and_then, pos, neg_ℤ, FitsSigned, refl, sym, ◌∙◌, inl, inr, ⊎_elim, arith, w32, append_assoc, append-nil}
 use Rattle.std.specs.Char.{digit_value}
 use Rattle.std.specs.Str.Parse.{AllDigits, digits_value}
@@ -14,7 +14,7 @@ use Rattle.std.proofs.Common.{subst, lt-ltb, eqb-true, ltb-true, le_refl}
 abbrev pub is_digit : Radix → ℕ → Bool
 is_digit r b = nat_lt (digit_value b) (base r)
 
--- a number that a sign leaves in i32
+-- the number fits i32 with this sign
 abbrev pub is_in_range : Option ℕ → ℕ → Bool
 is_in_range s n = cond (is_minus s) (nat_lt n (2 ^ 31 + 1)) (nat_lt n (2 ^ 31))
 
@@ -27,7 +27,7 @@ parts s w f x = record { sign = s; whole = w; fraction = f; exponent = x }
 abbrev pub with_exponent : Option ℕ → List ℕ → Option (List ℕ) → Exponent → Option Parts
 with_exponent s w f e = Some (parts s w f (Some e))
 
--- the parts with one more byte, where it fits
+-- the parts with one more byte of the exponent, if it may stand there
 abbrev pub step_exponent : Option ℕ → List ℕ → Option (List ℕ) → ℕ → Option ℕ → List ℕ → ℕ → Option Parts
 step_exponent s w f k t ds b =
     cond (is_digit Dec b)
@@ -63,7 +63,7 @@ run_append : (r : Radix) (p : Parts) (xs ys : List ℕ) → run r p (xs ++ ys) �
 run_append r p [] ys = refl
 run_append r p (x ∷ xs) ys = and_then_twice r xs ys (λ q. run_append r q xs ys) (step r p x)
 
--- ---- which bytes are which
+-- ---- digits, separators, signs and the point exclude each other
 
 pub or_cases : (x y : Bool) → IsTrue (x || y) → IsTrue x ⊎ IsTrue y
 or_cases true y h = inl refl
@@ -100,7 +100,7 @@ point_is_none r = (refl, refl)
 digit_true : (r : Radix) (d : ℕ) → digit_value d < base r → is_digit r d ≡ true
 digit_true r d h = lt-ltb _ _ h
 
--- ---- the parts are read back
+-- ---- the parts are read back from their text
 
 run_whole : (r : Radix) (s : Option ℕ) (w ds ys : List ℕ) → AllDigits (base r) ds → run r (parts s w None None) (ds ++ ys) ≡ run r (parts s (w ++ ds) None None) ys
 run_whole r s w [] ys h = rw (append-nil w) refl
@@ -172,11 +172,11 @@ run_from_sign r (Some b) ys h =
     let plain = plain_sign r b h in
     rw (plain.no_digit, plain.no_separator, plain.no_point, h) refl
 
--- a run over the bytes of parts finds the parts
+-- a run over the text of some parts finds them
 pub run_text : (r : Radix) (p : Parts) → IsPartsOf r p → run r nothing (text_of p) ≡ Some p
 run_text r p h = run_from_sign r p.sign _ h.sign ∙ run_whole r p.sign [] p.whole _ h.whole ∙ run_after r p.sign p.whole p.fraction p.exponent h.fraction h.exponent
 
--- the parts are determined by the bytes
+-- the bytes determine the parts
 pub parts_unique : (r : Radix) (bs : List ℕ) (p q : Parts) → HasParts r bs p → HasParts r bs q → p ≡ q
 parts_unique r bs p q g h =
     let a : run r nothing bs ≡ Some p = rw g.text (run_text r p g.parts) in
@@ -187,14 +187,14 @@ and_then_some : (o : Option Parts) → option_and_then (λ q. Some q) o ≡ o
 and_then_some None = refl
 and_then_some (Some q) = refl
 
--- a beginning with one more byte is a step on
+-- a beginning that is one byte longer is one step further
 pub step_from_longer : (r : Radix) (bs : List ℕ) (b : ℕ) (p q : Parts) → HasParts r bs p → HasParts r (bs ++ b ∷ []) q → step r p b ≡ Some q
 step_from_longer r bs b p q g h =
     let a : run r nothing bs ≡ Some p = rw g.text (run_text r p g.parts) in
     let c : run r nothing (bs ++ b ∷ []) ≡ Some q = rw h.text (run_text r q h.parts) in
     sym (rw a (and_then_some (step r p b))) ∙ sym (run_append r nothing bs (b ∷ [])) ∙ c
 
--- ---- one byte more
+-- ---- one more byte
 
 digits_more_than : (r : Radix) (ds : List ℕ) (b : ℕ) → AllDigits (base r) ds → is_digit r b ≡ true → AllDigits (base r) (ds ++ b ∷ [])
 digits_more_than r ds b h d = digits_push (base r) ds b h (ltb-true _ _ d)
@@ -319,7 +319,7 @@ one_more_at r bs s w None None b q h k = taken (is_digit r b) _ _ q k
     (λ i e3. let two = and_true (is_sign b) _ i in let none = only_nothing r bs s w two.1 h in same_parts r _ _ q e3 (rw none (more_sign r b two.0)))
     (λ i e3. none_taken q e3))))
 
--- a step on from a beginning is a beginning
+-- one step from a beginning leads to a beginning
 pub one_more : (r : Radix) (bs : List ℕ) (b : ℕ) (p q : Parts) → HasParts r bs p → step r p b ≡ Some q → HasParts r (bs ++ b ∷ []) q
 one_more r bs b p q h e = one_more_at r bs p.sign p.whole p.fraction p.exponent b q h e
 
@@ -336,7 +336,7 @@ run_sound r bs (y ∷ ys) p q h e =
     let (m, s, e') = more_taken r p y ys q e in
     rw (append_assoc bs (y ∷ []) ys) at (run_sound r (bs ++ y ∷ []) ys m q (one_more r bs y p m h s) e')
 
--- each prefix of a beginning is a beginning
+-- a prefix of a beginning is a beginning
 pub beginning_prefix : (r : Radix) (xs ys : List ℕ) → IsBeginning r (xs ++ ys) → IsBeginning r xs
 beginning_prefix r xs ys (q, h) =
     by_run (run r nothing xs) refl (sym (run_append r nothing xs ys) ∙ (rw h.text (run_text r q h.parts)))

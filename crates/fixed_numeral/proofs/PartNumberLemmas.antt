@@ -1,4 +1,4 @@
--- The numbers of the parts of a numeral that was read.
+-- The numbers of a numeral's parts.
 use Rattle.std.proofs.Common.{◌≡◌, ℕ, ◌+◌, ◌*◌, ◌^◌, ◌≤◌, Bool, true, false, cond, List, ◌++◌, map, length, Option, Some, None, ℤ, pos, neg_ℤ, ◌-ℤ◌, FitsSigned, w32, refl, ap, ◌∙◌, arith}
 use Rattle.std.proofs.lemmas.Int.{ints}
 use Rattle.std.proofs.lemmas.Int.Digits.{digits_value_is}

@@ -76,7 +76,7 @@ zeros_prefix b k ds = number_append b (zeros k) ds ∙ omega (arith, ap (λ i. i
 zeros_end : (b k : ℕ) (ds : List ℕ) → number_from_digits b (ds ++ zeros k) ≡ number_from_digits b ds * b ^ k
 zeros_end b k ds = number_append b ds (zeros k) ∙ omega (arith, number_zeros b k, ap (λ i. number_from_digits b ds * b ^ i) (length-replicate {A = ℕ} k 0))
 
--- the digits are those of core between zeros
+-- `ds` are the digits of `core` between zeros
 pub record IsTrimmed (ds core : List ℕ) (k j : ℕ) : Type 0 where
   pub split : ds ≡ zeros k ++ (core ++ zeros j)
 
@@ -110,21 +110,21 @@ placed_inside b w r core k j up down u d q t h l m =
     same_moved b (number_from_digits b core) (number_from_digits b (w ++ r)) (number_from_digits b (take q core ++ drop q core)) d u (length (drop q core)) 0 j
     (trimmed_number b (w ++ r) core k j t) (ap (number_from_digits b) (take-append-drop q core) ∙ omega (arith, ap (λ i. number_from_digits b core * i) (pow-zero b))) (omega (arith, length-append w r, length-drop q core))
 
--- and where all digits are zeros
+-- if all digits are zeros
 pub placed_nothing : (b : ℕ) (w r core : List ℕ) (k j u d : ℕ) → IsTrimmed (w ++ r) core k j → core ≡ [] → IsSameNumber (spelled b [] [] 0) (moved b w r u d)
 placed_nothing b w r core k j u d t e =
     let zero_core : number_from_digits b core ≡ 0 = ap (number_from_digits b) e in
     let none : number_from_digits b (w ++ r) ≡ 0 = trimmed_number b (w ++ r) core k j t ∙ omega (arith, ap (λ x. x * b ^ j) zero_core) in
     rw none (omega arith)
 
--- ---- as the code has them
+-- ---- restated for the goals
 pub view_before : (v l' r' l r : List ℕ) (n b a : ℕ) → between_zeros b l r a ≡ v → l' ≡ l → r' ≡ r → between_zeros (n + b) l' r' a ≡ zeros n ++ v
 view_before v l' r' l r n b a e f g = rw (f, g) (zeros_before n b l r a ∙ ap (λ ds. zeros n ++ ds) e)
 
 pub view_after : (v l' r' l r : List ℕ) (n b a : ℕ) → between_zeros b l r a ≡ v → l' ≡ l → r' ≡ r → between_zeros b l' r' (a + n) ≡ v ++ zeros n
 view_after v l' r' l r n b a e f g = rw (f, g) (zeros_after n b l r a ∙ ap (λ ds. ds ++ zeros n) e)
 
--- core is w and r without k leading zeros, and without trailing ones
+-- `core` is `w ++ r` without its k leading zeros and without its trailing zeros
 pub record Cored (w r core : List ℕ) (k : ℕ) : Type 0 where
   pub count : ℕ
   pub trimmed : IsTrimmed (w ++ r) core k count
@@ -235,7 +235,7 @@ pub trailed_both : (w f r g : List ℕ) → IsWithoutTrailing w f → length g �
 trailed_both w f r (d ∷ ds) a l b = absurd (omega arith)
 trailed_both w f r [] a l b = record { count = a.count + b.count; split = rw (a.split, b.split) (append_assoc f (zeros a.count) (zeros b.count) ∙ ap (λ xs. f ++ xs) (replicate-append-replicate a.count b.count 0) ∙ ap (λ xs. xs ++ zeros (a.count + b.count)) (sym (append-nil f))); none = λ xs e. a.none xs (sym (append-nil f) ∙ e) }
 
--- ---- a number of zero has no digits
+-- ---- the number zero has no digits other than zeros
 zero_product : (x y : ℕ) → 0 < y → x * y ≡ 0 → x ≡ 0
 zero_product zero y p e = refl
 zero_product (suc x) y p e = absurd (omega arith)
@@ -267,7 +267,7 @@ led_shorter w r f g a = omega (arith, ap length a.split, length-append w r, leng
 pub trailed_shorter : (w r f g : List ℕ) → IsWithoutTrailing (w ++ r) (f ++ g) → length f + length g ≤ length w + length r
 trailed_shorter w r f g a = omega (arith, ap length a.split, length-append w r, length-append f g, length-append (f ++ g) (zeros a.count))
 
--- what is left of two pieces as one view
+-- the core of two pieces, as one view
 pub core_length : (l r core : List ℕ) → core ≡ between_zeros 0 l r 0 → length core ≡ length l + length r
 core_length l r core e = ap length e ∙ length_between 0 l r 0 ∙ omega arith
 
@@ -275,8 +275,8 @@ pub core_is : (w r f g l m core : List ℕ) (k : ℕ) → IsWithoutLeading (w ++
 core_is w r f g l m core k a b n e =
     cored w r (f ++ g) core k a (rw (e ∙ between_alone l m) b) (omega (arith, length-append f g))
 
--- without trailing zeros
+-- digits without trailing zeros
 pub ruleset trailed = (trailed_fraction, trailed_both, trailed_shorter)
 
--- without leading zeros
+-- digits without leading zeros
 pub ruleset led = (led_whole, led_both, led_shorter)

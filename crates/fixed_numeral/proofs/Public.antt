@@ -1,4 +1,4 @@
--- What the proofs of the crates above may cite.
+-- Lemmas for the proofs of dependent crates.
 use Rattle.std.specs.Prelude.{◌≡◌, ℕ, ◌+◌, ◌*◌, ◌^◌, ◌<◌, List, ◌++◌, length, take, drop}
 use Rattle.std.specs.Int.Digits.{number_from_digits, AllBelowBase}
 use Rattle.fixed_numeral.specs.declared.radix.Radix.{Radix}

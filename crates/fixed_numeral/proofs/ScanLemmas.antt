@@ -1,4 +1,4 @@
--- What the scanner knows after one more byte.
+-- The scanner's state after one more byte.
 use Rattle.std.proofs.Common.{◌≡◌, ℕ, ◌+◌, ◌-◌, ◌*◌, ◌^◌, ◌<◌, ◌≤◌, ◌⊎◌, Bool, true, false, cond, not, ◌&&◌, nat_lt, ◌==◌, IsTrue, List, [], ◌∷◌, ◌++◌, length, Option, Some, None, IfSome, is_none, refl, sym, ap, ◌∙◌, ⊎_elim, arith, append_assoc, append-nil, length-append, option_to_list, ltb-true, lt-ltb, le-ltb}
 use Rattle.std.proofs.Common.{take, drop, get_or, slice_get, take-append-drop, get_or-drop, length-drop, length-take, ◌%◌}
 use Rattle.std.proofs.lemmas.List.{drop-drop, take_more, take-take, take_all, take_at, drop_at, length_push}
@@ -406,7 +406,7 @@ pub is_on : (c : Bool) → not c ≡ false → c ≡ true
 is_on true e = refl
 is_on false e = sym e
 
--- ---- the parts, as slices
+-- ---- the parts as slices of the text
 text_length : (r : Radix) (bs : List ℕ) (s : Option ℕ) (w : List ℕ) (f : Option (List ℕ)) (x : Option Exponent) → HasParts r bs (parts s w f x) → length (option_to_list s) + length w + length (fraction_text f) ≤ length bs
 text_length r bs s w f x h = omega (arith, ap length h.text, length-append (option_to_list s) (w ++ (fraction_text f ++ exponent_text x)), length-append w (fraction_text f ++ exponent_text x), length-append (fraction_text f) (exponent_text x))
 
@@ -435,7 +435,7 @@ fraction_is r bs st a =
         let c' : length (xs ++ 46 ∷ []) ≡ n + 1 = length_push xs 46 ∙ omega arith in
         ap (λ zs. take l (drop (n + 1) zs)) e' ∙ ap (take l) (drop_at (xs ++ 46 ∷ []) (ds ++ ys) (n + 1) c') ∙ take_at ds ys l (sym k)
 
--- ---- as the code has them
+-- ---- restated for the goals
 pub whole_digits : (r : Radix) (bs ds : List ℕ) (st : State) (a : IsAfter r bs st) → ds ≡ take st.whole_len (drop st.sign_len bs) → digits_in ds ≡ digits_in a.parts.whole
 whole_digits r bs ds st a e = ap digits_in (e ∙ whole_is r bs st a)
 
@@ -451,7 +451,7 @@ fraction_counted r bs ds st a e = a.agrees.fraction ∙ sym (after_count r a.par
 pub is_scanned : (r : Radix) (bs : List ℕ) (p : Parts) (st : State) (a : IsAfter r bs st) (neg : Bool) (whole fraction : List ℕ) (bits : ℕ) → HasParts r bs p → IsScanned r a.parts neg whole fraction bits → IsScanned r p neg whole fraction bits
 is_scanned r bs p st a neg whole fraction bits n h = let same = parts_unique r bs p a.parts n a.beginning in rw same h
 
--- ---- digits from a place on
+-- ---- digits from an index on
 pub run_more : (b : ℕ) (bs : List ℕ) (from at : ℕ) → IsRun b bs from at → at < length bs → digit_value (get_or bs at 0) < b → IsRun b bs from (at + 1)
 run_more b bs from at h l d =
     let e : at + 1 - from ≡ at - from + 1 = omega (arith, h.prefix) in
@@ -459,7 +459,7 @@ run_more b bs from at h l d =
     let same : get_or (drop from bs) (at - from) 0 ≡ get_or bs at 0 = get_or-drop from bs (at - from) 0 ∙ ap (λ i. get_or bs i 0) there in
     record { prefix = omega (arith, h.prefix); within = omega arith; digits = rw e (digits_more b (drop from bs) (at - from) (omega (arith, length-drop from bs, h.prefix)) h.digits (rw same d)) }
 
--- more of them
+-- several more digits
 pub run_on : (b : ℕ) (bs : List ℕ) (from at n : ℕ) → IsRun b bs from at → at + n ≤ length bs → AllDigits b (take n (drop at bs)) → IsRun b bs from (at + n)
 run_on b bs from at n h l d =
     let e : at + n - from ≡ at - from + n = omega (arith, h.prefix) in
@@ -467,11 +467,11 @@ run_on b bs from at n h l d =
     let next : take n (drop (at - from) (drop from bs)) ≡ take n (drop at bs) = ap (take n) (drop-drop (at - from) from bs ∙ ap (λ i. drop i bs) there) in
     record { prefix = omega (arith, h.prefix); within = l; digits = rw (e, take-add (at - from) n (drop from bs), next) (digits_append b (take (at - from) (drop from bs)) (take n (drop at bs)) h.digits d) }
 
--- a byte that is so near after '0'
+-- a byte less than n after '0' is a digit below n
 pub low_digit : (b n : ℕ) → b < 256 → n ≤ 10 → (b + (256 - 48)) % 256 < n → digit_value b < n
 low_digit b n h s l = ⊎_elim (λ (k : b < 48). absurd (omega arith)) (λ (k : 48 ≤ b). near_zero b n s k (omega arith)) (cases_lt b 48)
 
--- ---- what the loop keeps
+-- ---- what the loop keeps true
 pub record IsRead (r : Radix) (bs : List ℕ) (at : ℕ) (st : State) (old new : ℕ) : Type 0 where
   pub within : at ≤ length bs
   pub after : IsAfter r (take at bs) st
@@ -497,7 +497,7 @@ incomplete_cause r bs st kind a i = ⊎_elim
     (λ (t : (0 < st.whole_len + st.fraction_len) × (st.has_separator ≡ true) × (st.has_exponent_digit ≡ false) × (kind ≡ ExpNoDigits)). rw t.3 (exponent_no_digits r bs st a t.0 t.1 t.2))
     i
 
--- the kind that the parts give at the end of the text
+-- the kind of an incomplete state is the one that its parts give at the end of the text
 pub kind_at_end : (r : Radix) (bs : List ℕ) (st : State) (kind : ParseErrorKind) (a : IsAfter r bs st) → IsIncomplete st kind → kind ≡ kind_of r a.parts None
 kind_at_end r bs st kind a i = ⊎_elim
     (λ (t : (st.whole_len + st.fraction_len ≡ 0) × (kind ≡ NoDigits)).
@@ -508,5 +508,5 @@ kind_at_end r bs st kind a i = ⊎_elim
     rw (t.3, some) refl)
     i
 
--- after some digits more
+-- the state after some more digits
 pub ruleset passed = (passed_none, passed_whole, passed_fraction)

@@ -93,7 +93,7 @@ mantissa_parted b bs from point to whole fraction places h l dot k p some = reco
 }
 
 -- ---- exponents
--- where the text ends there is no exponent
+-- at the end of a text the exponent is 0
 pub exponent_ended : (r : Radix) (bs : List ℕ) (from : ℕ) (x : ℤ) (two : Bool) → from ≡ length bs → IsExponentAt r bs from x two → x ≡ pos 0
 exponent_ended r bs from x two end h = by_cases h.exponent h.is_number (sym h.text ∙ at_end bs from end)
   where
@@ -111,7 +111,7 @@ exponent_stands r bs from after first to number minus l k a s d e some most = re
   is_by_two = refl;
 }
 
--- ---- all of them
+-- ---- sign, mantissa and exponent together
 pub short_at : (r : Radix) (bs : List ℕ) (first mid whole fraction places : ℕ) (negative two : Bool) (x : ℤ) → IsSignAt bs 0 first negative → IsMantissaAt (base r) bs first mid whole fraction places → IsExponentAt r bs mid x two → whole < base r ^ 16 → places ≤ 27 → IsShortAt r bs negative whole fraction places x two
 short_at r bs first mid whole fraction places negative two x s m e fits few = record {
   parts = parts s.sign m.whole m.fraction e.exponent;
@@ -170,14 +170,14 @@ few_digits b bs from to whole fraction places least most place h late = by_cases
         let fits = spelled_fits (length h.whole) (length ds) (omega (arith, count, h.within, late, place)) whole_below under in
         (record { few = omega (arith, p, count, h.within, late, place); fits = rw p fits.0 }, fits.1)
 
--- ---- as the code has them
+-- ---- restated for the goals
 pub exponent_at : (r : Radix) (bs : List ℕ) (from first to number : ℕ) (minus : Bool) (x : ℤ) (two : Bool) → from < length bs → is_separator r (get_or bs from 0) ≡ true → IsSignAt bs (from + 1) first minus → IsDigitRun 10 bs first to number → to ≡ length bs → (to ≡ first → ⊥) → number ≤ max_magnitude minus → x ≡ cond minus (neg_ℤ (pos number)) (pos number) → two ≡ is_two_separator r (get_or bs from 0) → IsExponentAt r bs from (to_z w32 (of_z w32 x)) two
 exponent_at r bs from first to number minus x two l k s d e ne most ex et =
     let h = exponent_stands r bs from (from + 1) first to number minus l k refl s d e (omega (arith, d.count, ne)) most in
     let same : to_z w32 (of_z w32 x) ≡ x = to_z-of_z w32 x (rw ex (signed_fits minus number most)) in
     rw (same, ex, et) h
 
--- ---- digits that were looked at as words
+-- ---- digits that were read eight at once, as a word
 pub run_in : (b : ℕ) (bs : List ℕ) (from k to n : ℕ) → from + k ≡ to → to ≤ length bs → AllDigits b (take k (drop from bs)) → n ≡ digits_value b (take k (drop from bs)) → IsDigitRun b bs from to n
 run_in b bs from k to n e l h v =
     let count : length (take k (drop from bs)) ≡ k = length-take k (drop from bs) ∙ omega (arith, length-drop from bs) in
@@ -210,7 +210,7 @@ run_of_last bs from count to n word l within t few e w h =
     let rest : drop (8 - count) (take 8 (drop (to - 8) bs)) ≡ take count (drop from bs) = ap (λ i. drop (8 - count) (take i (drop (to - 8) bs))) left ∙ drop-take (8 - count) count (drop (to - 8) bs) ∙ ap (take count) (drop-drop (8 - count) (to - 8) bs ∙ ap (λ i. drop i bs) there) in
     run_in 10 bs from count to n e within (rw rest at found.0) (rw rest at found.1)
 
--- a part of the bytes of a word
+-- the last bytes of a word are bytes of the text
 last_of_word : (bs : List ℕ) (from count to : ℕ) → 8 ≤ to → count ≤ 8 → from + count ≡ to → drop (8 - count) (take 8 (drop (to - 8) bs)) ≡ take count (drop from bs)
 last_of_word bs from count to l few e =
     let there : (to - 8) + (8 - count) ≡ from = omega arith in
@@ -279,7 +279,7 @@ sixteen_fits bs from to n h few =
     let most : 10 ^ (to - from) ≤ 10 ^ 16 = pow-le-pow_right (omega arith) room in
     omega (arith, run_below 10 bs from to n h, most)
 
--- ---- a text that is the end of another
+-- ---- a text that ends another
 pub sign_dropped : (bs : List ℕ) (from to : ℕ) (negative : Bool) → from ≤ to → IsSignAt bs from to negative → IsSignAt (drop from bs) 0 (to - from) negative
 sign_dropped bs from to negative l h = record {
   sign = h.sign;
@@ -289,7 +289,7 @@ sign_dropped bs from to negative l h = record {
   is_negative = h.is_negative;
 }
 
--- ---- places, from the lengths of what is between them
+-- ---- the order of indexes, from the parts between them
 pub sign_place : (bs : List ℕ) (from to : ℕ) (negative : Bool) → from ≤ length bs → IsSignAt bs from to negative → from ≤ to
 sign_place bs from to negative l h = omega (arith, ap length h.text, length-append (option_to_list h.sign) (drop to bs), length-drop from bs, length-drop to bs, h.within)
 
@@ -325,7 +325,7 @@ exponent_dropped r bs k from x two l h = record {
   is_by_two = h.is_by_two;
 }
 
--- ---- a numeral that a text ends with
+-- ---- a numeral at the end of a text
 pub ending_short : (r : Radix) (bs : List ℕ) (from first mid whole fraction places : ℕ) (negative two : Bool) (x : ℤ) → from ≤ length bs → IsSignAt bs from first negative → IsMantissaAt (base r) bs first mid whole fraction places → IsExponentAt r bs mid x two → whole < base r ^ 16 → places ≤ 27 → IsShortAt r (drop from bs) negative whole fraction places x two
 ending_short r bs from first mid whole fraction places negative two x l s m e fits few =
     let one = sign_place bs from first negative l s in

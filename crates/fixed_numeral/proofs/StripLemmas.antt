@@ -47,7 +47,7 @@ led_other bs i z h l e = record {
   few = omega (arith, h.few);
 }
 
--- the digits from the first other one on
+-- `rest` are the digits from the first nonzero digit on
 pub record IsStripped (ds rest : List ℕ) (z : ℕ) : Type 0 where
   pub leading : IsWithoutLeading ds rest
   pub count : z + length rest ≡ length ds
@@ -116,7 +116,7 @@ trailed_end bs ds rest end z same h l e =
     rw e (record { count = z; split = sym same ∙ (rw nothing at h.digits); none = none_trailing [] refl })
 
 -- ---- numbers
--- the number of the digits among the first i bytes
+-- the digits among the first i bytes spell `number` after `start`
 abbrev pub IsNumberOf : ℕ → ℕ → List ℕ → ℕ → ℕ → Type 0
 IsNumberOf base start bs i number = number ≡ number_from_digits_after base start (digits_in (take i bs))
 
@@ -143,7 +143,7 @@ number_fits base start bs i number h below two room =
     let product : base ^ length (digits_in (take i bs)) * (start + 1) ≤ base ^ length (digits_in bs) * (start + 1) = mul-le-mul_right (start + 1) powers in
     omega arith
 
--- where each byte is a digit
+-- a byte is a digit if the text has as many digits as bytes
 pub plain_at : (bs : List ℕ) (i : ℕ) → length (digits_in bs) ≡ length bs → i < length bs → digit_value (get_or bs i 0) < 16
 plain_at bs i plain l = ⊎_elim (λ s. s) (λ (big : 16 ≤ digit_value (get_or bs i 0)).
     let same : length (digits_in (take (i + 1) bs)) ≡ length (digits_in (take i bs)) = count_same bs i (length (digits_in (take i bs))) l refl big in
@@ -154,12 +154,12 @@ digit_below base bs i below l s =
     let here : digits_in bs ≡ digits_in (take i bs) ++ digit_value (get_or bs i 0) ∷ digits_in (drop (i + 1) bs) = cut bs i l ∙ ap (λ xs. digits_in (take i bs) ++ xs) (digit_before (get_or bs i 0) _ (drop (i + 1) bs) refl s) in
     (below_parts base (digits_in (take i bs)) (digit_value (get_or bs i 0) ∷ digits_in (drop (i + 1) bs)) (rw here at below)).1.0
 
--- the next digit leaves the number within the word
+-- the number with its next digit fits 64 bits
 pub number_next_fits : (base start : ℕ) (bs : List ℕ) (i number d : ℕ) → IsNumberOf base start bs i number → i < length bs → d ≡ digit_value (get_or bs i 0) → d < 16 → AllBelowBase base (digits_in bs) → 2 ≤ base → (start + 1) * base ^ length (digits_in bs) ≤ 2 ^ 64 → number * base + d < 2 ^ 64
 number_next_fits base start bs i number d h l e s below two room = number_fits base start bs (i + 1) (number * base + d) (number_step base start bs i number d h l e s) below two room
 
 -- ---- eight digits at once
--- eight digits that stand from a place on
+-- eight digits stand from index `at` on
 pub record IsEightAt (base : ℕ) (bs : List ℕ) (at : ℕ) : Type 0 where
   pub count : length (digits_in (take 8 (drop at bs))) ≡ 8
   pub below : AllBelowBase base (digits_in (take 8 (drop at bs)))
@@ -178,7 +178,7 @@ eight_stand base bs at plain below l =
 pub spelled_eight : (base start : ℕ) (bs : List ℕ) (at number n : ℕ) → IsEightAt base bs at → IsNumberOf base start bs at number → n ≡ number_from_digits base (digits_in (take 8 (drop at bs))) → IsNumberOf base start bs (at + 8) (number * (base * base * (base * base) * (base * base * (base * base))) + n)
 spelled_eight base start bs at number n t h e = sym (ap (number_from_digits_after base start) t.split ∙ number_after_append base start (digits_in (take at bs)) (digits_in (take 8 (drop at bs))) ∙ rw (e, h) (after_eight base _ (digits_in (take 8 (drop at bs))) t.count))
 
--- the digits before a place after which a multiple of eight are left
+-- the digits before `at` spell `number`, and a multiple of eight bytes is left
 pub record IsAligned (base : ℕ) (bs : List ℕ) (at number : ℕ) : Type 0 where
   pub within : at ≤ length bs
   pub left : (length bs - at) % 8 ≡ 0

@@ -37,7 +37,7 @@ pub between_left : (l r : List ℕ) → r ≡ [] → between_zeros 0 l r 0 ≡ l
 unfolding between_zeros
 between_left l r e = rw e (append-nil l)
 
--- ---- a place
+-- ---- a cut at an index
 pub take_over : (i : ℕ) (xs ys : List ℕ) → take i (xs ++ ys) ≡ take i xs ++ take (i - length xs) ys
 take_over zero [] ys = refl
 take_over zero (x ∷ xs) ys = let e : 0 - length (x ∷ xs) ≡ 0 = omega arith in rw e refl
@@ -55,7 +55,7 @@ first_zeros i b b' e =
     let m : min i (length (zeros b)) ≡ b' = omega (arith, length-replicate {A = ℕ} b 0) in
     sym (take_min i (zeros b)) ∙ ap (λ n. take n (zeros b)) m ∙ take-replicate b' b 0 (omega arith)
 
--- where the place falls in each part
+-- the cut at index i takes this many zeros and digits of each part
 pub record SplitAt (i b l r a b' l' r' a' : ℕ) : Type 0 where
   pub before : b' ≡ min i b
   pub left : l' ≡ min (i - b') l
@@ -86,14 +86,14 @@ split_back i b l r a b' l' r' a' s =
     let last : drop (i - b - length l - length r) (zeros a) ≡ zeros (a - a') = ap (λ n. drop n (zeros a)) ea ∙ drop-replicate a' a 0 in
     sym (drop_over i (zeros b) (l ++ (r ++ zeros a)) ∙ rw (length-replicate {A = ℕ} b 0, drop_over (i - b) l (r ++ zeros a), drop_over (i - b - length l) r (zeros a), first, left, right, last) refl)
 
--- ---- as the code has them
+-- ---- restated for the goals
 pub view_prefix : (v lf rf l r : List ℕ) (i b a b' l' r' a' : ℕ) → between_zeros b l r a ≡ v → SplitAt i b (length l) (length r) a b' l' r' a' → lf ≡ take l' l → rf ≡ take r' r → between_zeros b' lf rf a' ≡ take i v
 view_prefix v lf rf l r i b a b' l' r' a' e s p q = rw (p, q) (split_prefix i b l r a b' l' r' a' s ∙ ap (take i) e)
 
 pub view_back : (v lb rb l r : List ℕ) (i b a b' l' r' a' : ℕ) → between_zeros b l r a ≡ v → SplitAt i b (length l) (length r) a b' l' r' a' → lb ≡ drop l' l → rb ≡ drop r' r → between_zeros (b - b') lb rb (a - a') ≡ drop i v
 view_back v lb rb l r i b a b' l' r' a' e s p q = rw (p, q) (split_back i b l r a b' l' r' a' s ∙ ap (drop i) e)
 
--- a place within the first piece, where no zeros stand before it
+-- a cut within the first piece, if no zeros stand before it
 pub left_prefix : (v lf l r : List ℕ) (i b a : ℕ) → between_zeros b l r a ≡ v → b ≡ 0 → i ≤ length l → lf ≡ take i l → lf ≡ take i v
 unfolding between_zeros
 left_prefix v lf l r i zero a e z h f =

@@ -1,4 +1,4 @@
--- Laws of numerals and literals, and of the messages of errors.
+-- Laws of numerals, literals and error messages.
 use Rattle.std.specs.Prelude.{◌≡◌, ℕ, ◌≤◌, ◌⊎◌, Bool, List, ◌++◌, length}
 use Rattle.fixed_numeral.specs.declared.radix.Radix.{Radix}
 use Rattle.fixed_numeral.specs.declared.error.ParseErrorKind.{ParseErrorKind}
@@ -16,7 +16,7 @@ PartsAreDetermined = (r : Radix) (bs : List ℕ) (p q : Parts) → HasParts r bs
 abbrev pub PrefixIsBeginning : Type 0
 PrefixIsBeginning = (r : Radix) (xs ys : List ℕ) → IsBeginning r (xs ++ ys) → IsBeginning r xs
 
--- bytes are a numeral, or have a cause
+-- bytes are a numeral, or have a cause why they are not
 abbrev pub NumeralOrCause : Type 0
 NumeralOrCause = (r : Radix) (bs : List ℕ) → IsNumeral r bs ⊎ ((kind : ParseErrorKind) × HasCause r bs kind)
 
@@ -34,7 +34,7 @@ abbrev pub LiteralIsDetermined : Type 0
 LiteralIsDetermined = (of_signed : Bool) (bs : List ℕ) (p q : Parts) → HasLiteral of_signed bs p
     → HasLiteral of_signed bs q → p ≡ q
 
--- there is at most one cause why bytes are no literal, and a literal has none
+-- there is at most one cause why bytes are not a literal, and a literal has none
 abbrev pub OneLiteralCause : Type 0
 OneLiteralCause = (of_signed : Bool) (bs : List ℕ) (kind other : ParseErrorKind) → HasLiteralCause of_signed bs kind
     → (HasLiteralCause of_signed bs other → kind ≡ other) × (IsLiteral of_signed bs → ⊥)

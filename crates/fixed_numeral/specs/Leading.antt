@@ -13,7 +13,7 @@ pub record IsLeadingNumeral (r : Radix) (bs : List ℕ) (n : ℕ) : Type 0 where
 abbrev pub HasNoLeading : Radix → List ℕ → Type 0
 HasNoLeading r bs = (m : ℕ) → m ≤ length bs → IsNumeral r (take m bs) → ⊥
 
--- at most one length is that of the numeral at the beginning, and none where no prefix is a numeral
+-- at most one length is that of a leading numeral, and none if no prefix is a numeral
 abbrev pub LeadingIsTheOne : Type 0
 LeadingIsTheOne = (r : Radix) (bs : List ℕ) (m : ℕ) → IsLeadingNumeral r bs m
     → ((n : ℕ) → IsLeadingNumeral r bs n → m ≡ n) × (HasNoLeading r bs → ⊥)

@@ -47,7 +47,7 @@ pub record IsLongestLiteral (r : Radix) (bs : List ℕ) (n : ℕ) (p : Parts) : 
   pub beginning : HasLiteralParts r (take n bs) p
   pub longest : (m : ℕ) → m ≤ length bs → IsLiteralBeginning r (take m bs) → m ≤ n
 
--- the kind for a longest beginning and the byte after it
+-- the kind for a longest beginning and the byte after it, if any
 abbrev pub literal_kind : Radix → Parts → Option ℕ → ParseErrorKind
 literal_kind r p (Some b) = if b == underscore then MisplacedUnderscore else kind_of r p (Some b)
 literal_kind r p None = kind_of r p None
@@ -57,7 +57,7 @@ pub record HasRest (r : Radix) (bs : List ℕ) (p : Parts) : Type 0 where
   pub literal : HasLiteralParts r bs p
   pub numeral : HasNumeral r (without_underscores bs) p
 
--- bs is no literal's rest, and kind says why
+-- bs is not a literal's rest, and kind says why
 pub record HasRestCause (r : Radix) (bs : List ℕ) (kind : ParseErrorKind) : Type 0 where
   pub none : (p : Parts) → HasRest r bs p → ⊥
   pub count : ℕ
@@ -65,7 +65,7 @@ pub record HasRestCause (r : Radix) (bs : List ℕ) (kind : ParseErrorKind) : Ty
   pub prefix : IsLongestLiteral r bs count parts
   pub is_kind : kind ≡ literal_kind r parts (slice_get bs count)
 
--- the sign that is taken first: one '-', where the type is signed
+-- the leading sign: one '-', if the type is signed
 abbrev pub sign_of : Bool → List ℕ → Option ℕ
 sign_of of_signed [] = None
 sign_of of_signed (b ∷ bs) = if of_signed && (b == minus) then Some minus else None
@@ -79,7 +79,7 @@ after_sign of_signed (b ∷ bs) = if of_signed && (b == minus) then bs else b �
 abbrev pub radix_named : ℕ → Option Radix
 radix_named b = if b == 98 then Some Bin else (if b == 111 then Some Oct else (if b == 120 then Some Hex else None))
 
--- the radix of a prefix, which is '0' and a letter
+-- the radix that a prefix names, which is '0' and a letter
 abbrev pub prefix_of : List ℕ → Option Radix
 prefix_of [] = None
 prefix_of (a ∷ []) = None
@@ -90,7 +90,7 @@ abbrev pub after_underscores : List ℕ → List ℕ
 after_underscores [] = []
 after_underscores (b ∷ bs) = if b == underscore then after_underscores bs else b ∷ bs
 
--- the radix is 10 where there is no prefix
+-- the radix is 10 without a prefix
 abbrev pub radix_by : Option Radix → Radix
 radix_by None = Dec
 radix_by (Some r) = r
@@ -106,7 +106,7 @@ literal_radix of_signed bs = radix_by (prefix_of (after_sign of_signed bs))
 abbrev pub literal_rest : Bool → List ℕ → List ℕ
 literal_rest of_signed bs = rest_by (prefix_of (after_sign of_signed bs)) (after_sign of_signed bs)
 
--- bs is a literal, with these parts: those of its rest, and the sign that was taken first
+-- bs is a literal, with these parts: those of its rest, and its leading sign
 pub record HasLiteral (of_signed : Bool) (bs : List ℕ) (p : Parts) : Type 0 where
   pub sign : p.sign ≡ sign_of of_signed bs
   pub rest : HasRest (literal_radix of_signed bs) (literal_rest of_signed bs) (record p { sign = None })
@@ -114,6 +114,6 @@ pub record HasLiteral (of_signed : Bool) (bs : List ℕ) (p : Parts) : Type 0 wh
 abbrev pub IsLiteral : Bool → List ℕ → Type 0
 IsLiteral of_signed bs = (p : Parts) × HasLiteral of_signed bs p
 
--- bs is no literal, and kind says why
+-- bs is not a literal, and kind says why
 abbrev pub HasLiteralCause : Bool → List ℕ → ParseErrorKind → Type 0
 HasLiteralCause of_signed bs kind = HasRestCause (literal_radix of_signed bs) (literal_rest of_signed bs) kind

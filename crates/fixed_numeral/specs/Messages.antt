@@ -5,7 +5,7 @@ use Rattle.fixed_numeral.specs.declared.error.ParseErrorKind.TheVariants.{Mispla
 use Rattle.fixed_numeral.specs.declared.error.ParseErrorKind.TheVariants.{TooManyExp, ExpInvalidDigit, ExpOverflow}
 use Rattle.fixed_numeral.specs.declared.error.ParseErrorKind.TheVariants.{NoDigits, ExpNoDigits, Overflow}
 
--- the words of a kind
+-- the message of a kind
 abbrev pub message_of : ParseErrorKind → List ℕ
 message_of InvalidDigit = codes "invalid digit found in string"
 message_of MisplacedSign = codes "misplaced sign found in string"

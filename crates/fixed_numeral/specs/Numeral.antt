@@ -61,7 +61,7 @@ abbrev pub exponent_text : Option Exponent → List ℕ
 exponent_text None = []
 exponent_text (Some e) = e.separator ∷ (option_to_list e.sign ++ e.digits)
 
--- the bytes that the parts are written with
+-- the text that the parts write
 abbrev pub text_of : Parts → List ℕ
 text_of p = option_to_list p.sign ++ (p.whole ++ (fraction_text p.fraction ++ exponent_text p.exponent))
 

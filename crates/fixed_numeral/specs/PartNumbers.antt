@@ -6,7 +6,7 @@ use Rattle.fixed_numeral.specs.Numeral.{Parts, Exponent, base, is_minus, is_two_
 use Rattle.fixed_numeral.specs.Numeral.{fractional_digits}
 use Rattle.fixed_numeral.specs.Value.{Fraction, scaled, magnitude}
 
--- the number of an exponent, which is 0 without one
+-- the number of an exponent, or 0 without one
 abbrev pub exponent_value : Option Exponent → ℤ
 exponent_value None = pos 0
 exponent_value (Some e) = exponent_number e
@@ -16,7 +16,7 @@ abbrev pub is_power_of_two : Radix → Option Exponent → Bool
 is_power_of_two r None = false
 is_power_of_two r (Some e) = is_two_separator r e.separator
 
--- the magnitude by the number of all mantissa digits, the count of fraction digits, and the exponent
+-- the magnitude, from the number of all mantissa digits, the count of fraction digits, and the exponent
 abbrev pub placed_magnitude : Radix → ℕ → ℕ → ℤ → Bool → Fraction
 placed_magnitude r digits places exponent false = scaled digits 1 (base r) (exponent -ℤ pos places)
 placed_magnitude r digits places exponent true = scaled digits (base r ^ places) 2 exponent
@@ -32,7 +32,7 @@ pub record IsShortNumeral (r : Radix) (p : Parts) (negative : Bool) (whole fract
   pub separator : scales_by_two ≡ is_power_of_two r p.exponent
   pub value : magnitude r p ≡ placed_magnitude r (whole * base r ^ places + fraction) places exponent scales_by_two
 
--- the digits before a point and after it are at most sixteen together
+-- the mantissa fits in sixteen digits, with fewer than sixteen after the point
 pub record HasFewDigits (b whole fraction places : ℕ) : Type 0 where
   pub few : places < 16
   pub fits : whole * b ^ places + fraction < b ^ 16

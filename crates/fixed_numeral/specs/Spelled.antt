@@ -10,6 +10,6 @@ spelled base whole fraction shift = record {
   den = base ^ length fraction;
 }
 
--- two fractions are one number
+-- two fractions are the same number
 abbrev pub IsSameNumber : Fraction → Fraction → Type 0
 IsSameNumber a b = a.num * b.den ≡ b.num * a.den

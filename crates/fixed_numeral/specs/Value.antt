@@ -1,11 +1,11 @@
--- What a numeral is worth.
+-- The value of a numeral.
 use Rattle.std.specs.Prelude.{ℕ, suc, ◌*◌, ◌^◌, if◌then◌else◌, length, Option, Some, None, ℤ, pos, negsuc, ◌-ℤ◌}
 use Rattle.std.specs.Str.Parse.{digits_value}
 use Rattle.fixed_numeral.specs.declared.radix.Radix.{Radix}
 use Rattle.fixed_numeral.specs.Numeral.{Parts, Exponent, base, is_two_separator, exponent_number, mantissa}
 use Rattle.fixed_numeral.specs.Numeral.{fractional_digits}
 
--- a number that isn't negative, as a fraction
+-- a non-negative number, as a fraction
 pub record Fraction : Type 0 where
   pub num : ℕ
   pub den : ℕ

@@ -1,6 +1,6 @@
-//! Decimals that are a text of their own, with no bytes before them to reach back over.
+//! Decimals that fill their text, with no bytes before them to reach back over.
 //!
-//! The digits before the point are looked at one by one, those after it by words, where the text has a word.
+//! The digits before the point are read one by one, the digits after it by words if the text has a word.
 
 ghost use Rattle.std.specs.Prelude.{◌≡◌, ◌≢◌, ◌+◌, ◌-◌, ◌^◌, ◌<◌, ◌≤◌, ◌⊎◌, IfSome, length, pos};
 ghost use Rattle.fixed_numeral.specs.declared.radix.Radix.TheVariants.{Dec};
@@ -13,19 +13,19 @@ use crate::radix::Radix;
 use crate::segment::{decimals_at, decimals_between, decimals_to, sign_at};
 use crate::short::{LANES, ShortNumeral};
 
-/// How many digits a decimal has at most after its point.
+/// The most digits after a decimal's point.
 const MAX_PLACES: usize = 27;
 
 /// The digits after a point.
 #[derive(Clone, Copy)]
 struct Fraction {
-    /// The number that they spell.
+    /// The number that the digits spell.
     number: u128,
-    /// The place after them.
+    /// The index after the digits.
     end: usize,
 }
 
-/// The digits after a point, 17 to 27, where they end with the text.
+/// Reads 17 to 27 digits after a point if they end the text.
 #[tactic(auto, using(crate::proofs::SegmentLemmas::run_of_sixteen))]
 fn wide_fraction_at(bytes: &[u8], from: usize) -> Option<Fraction>
     requires { from + 16 < length bytes.now }
@@ -45,7 +45,7 @@ fn wide_fraction_at(bytes: &[u8], from: usize) -> Option<Fraction>
     })
 }
 
-/// The digits after a point. `None` where there are more than 27, or a text of more than 16 bytes goes on after them.
+/// Reads the digits after a point. `None`: there are more than 27, or a text of more than 16 bytes goes on after them.
 #[inline(always)]
 fn fraction_at(bytes: &[u8], from: usize) -> Option<Fraction>
     requires { from ≤ length bytes.now }
@@ -75,7 +75,8 @@ fn fraction_at(bytes: &[u8], from: usize) -> Option<Fraction>
     })
 }
 
-/// The mantissa from a place on. `None` where it has no digit, and as in `fraction_at`.
+/// Reads the mantissa at `from`. `None`: it has no digit, or in a text of more than 16 bytes no point, or as in
+/// `fraction_at`.
 #[inline(always)]
 fn mantissa_at(bytes: &[u8], from: usize) -> Option<Mantissa>
     requires place { from ≤ length bytes.now }
@@ -110,8 +111,8 @@ fn mantissa_at(bytes: &[u8], from: usize) -> Option<Mantissa>
     })
 }
 
-/// The numbers of a decimal of at most 16 bytes, or of one without an exponent, whose point is among its first 17 bytes
-/// and has at most 27 digits after it. `None` otherwise.
+/// Reads a decimal of at most 16 bytes, or one without an exponent whose point is among its first 17 bytes and has at
+/// most 27 digits after it. `None` otherwise.
 #[inline(always)]
 pub(crate) fn decimal_of(s: &[u8]) -> Option<ShortNumeral>
     ensures short { IfSome result

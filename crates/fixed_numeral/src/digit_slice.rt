@@ -1,4 +1,4 @@
-//! A slice of a text, seen as its digits.
+//! A slice of a text as digits.
 
 ghost use Rattle.std.specs.Prelude.{◌≡◌, ◌+◌, ◌*◌, ◌^◌, ◌<◌, ◌≤◌, [], ◌∷◌, nat_lt, length, take, drop, MatchOption};
 ghost use Rattle.std.specs.Int.Digits.{AllBelowBase, number_from_digits, number_from_digits_after};
@@ -9,7 +9,7 @@ ghost use Rattle.fixed_numeral.specs.Digits.{digits_in};
 use crate::swar::long_number;
 use std::marker::Model;
 
-/// The digits of a slice, whose other bytes are passed over, and their count.
+/// The digits of a slice and their count. Other bytes of the slice are skipped.
 #[derive(Drop)]
 pub struct DigitSlice<'a> {
     bytes: &'a [u8],
@@ -37,7 +37,7 @@ pub(crate) fn is_digit(b: u8) -> bool
     }
 }
 
-/// The value of a byte that is a digit of radix 16. The low half of a letter's byte is 9 less than its value.
+/// Returns the value of a digit of radix 16. The low half of a letter's byte is 9 less than its value.
 #[tactic(auto, using(crate::proofs::ByteLemmas::value_is))]
 pub(crate) fn value_of_digit(b: u8) -> u8
     requires { digit_value b < 16 }
@@ -46,7 +46,7 @@ pub(crate) fn value_of_digit(b: u8) -> u8
     b % 16 + b / 64 * 9
 }
 
-/// The value of a digit's byte.
+/// Returns the value of a byte, if it is a digit.
 fn digit_of_byte(b: u8) -> Option<u8>
     ensures { MatchOption result (16 ≤ digit_value b) (λ d. (d ≡ digit_value b) × (d < 16)) }
 {
@@ -57,7 +57,7 @@ fn digit_of_byte(b: u8) -> Option<u8>
     }
 }
 
-/// The number that bytes spell in a base after the digits of `start`, where each byte is a digit.
+/// Returns the number that the digits of `start` and then `bytes` spell in a base. Each byte is a digit.
 fn plain_number(bytes: &[u8], base: u64, start: u64) -> u64
     requires plain { length (digits_in bytes.now) ≡ length bytes.now }
     requires digits { AllBelowBase base (digits_in bytes.now) }
@@ -73,7 +73,7 @@ fn plain_number(bytes: &[u8], base: u64, start: u64) -> u64
     number
 }
 
-/// The number that bytes spell in a base, where each byte is a digit.
+/// Returns the number that bytes spell in a base. Each byte is a digit.
 #[inline(always)]
 fn whole_number(bytes: &[u8], base: u64) -> u64
     requires plain { length (digits_in bytes.now) ≡ length bytes.now }
@@ -90,7 +90,7 @@ fn whole_number(bytes: &[u8], base: u64) -> u64
     }
 }
 
-/// The number that the digits among bytes spell in a base after the digits of `start`.
+/// Returns the number that the digits of `start` and then the digits in `bytes` spell in a base.
 fn mixed_number(bytes: &[u8], base: u64, start: u64) -> u64
     requires digits { AllBelowBase base (digits_in bytes.now) }
     requires least { 2 ≤ base }
@@ -108,7 +108,7 @@ fn mixed_number(bytes: &[u8], base: u64, start: u64) -> u64
 }
 
 impl<'a> DigitSlice<'a> {
-    /// No digits.
+    /// Returns no digits.
     #[tactic(auto, using(crate::proofs::DigitLemmas::digits_in_none))]
     pub fn none() -> DigitSlice<'a>
         ensures { result ≡ [] }
@@ -119,7 +119,7 @@ impl<'a> DigitSlice<'a> {
         }
     }
 
-    /// The digits of a slice, of which there are this many.
+    /// Returns the digits of a slice, which has `count` digits.
     pub fn of(bytes: &'a [u8], count: u64) -> DigitSlice<'a>
         requires { count ≡ length (digits_in bytes.now) }
         ensures { result ≡ digits_in bytes.now }
@@ -127,7 +127,7 @@ impl<'a> DigitSlice<'a> {
         DigitSlice { bytes, count }
     }
 
-    /// The first i digits of a slice, and the bytes after them.
+    /// Returns the first `i` digits of a slice, and the bytes after them.
     #[tactic(auto, using(crate::proofs::DigitLemmas::back_is, crate::proofs::DigitLemmas::prefix_is))]
     pub fn split_at_digit(bytes: &'a [u8], i: u64) -> (DigitSlice<'a>, &'a [u8])
         requires { i ≤ length (digits_in bytes.now) }
@@ -146,7 +146,7 @@ impl<'a> DigitSlice<'a> {
         )
     }
 
-    /// The same digits.
+    /// Returns the same digits.
     #[inline]
     pub fn same(&self) -> DigitSlice<'a>
         ensures { result ≡ self.now }
@@ -164,7 +164,7 @@ impl<'a> DigitSlice<'a> {
         self.count
     }
 
-    /// The first digit, and the others.
+    /// Returns the first digit and the others.
     pub fn first(&self) -> Option<(u8, DigitSlice<'a>)>
         ensures { MatchOption result (self.now ≡ []) (λ r. (self.now ≡ r.0 ∷ r.1) × (r.0 < 16)) }
     {
@@ -184,7 +184,7 @@ impl<'a> DigitSlice<'a> {
         None
     }
 
-    /// The digits without leading zeros.
+    /// Returns the digits without leading zeros.
     #[inline(always)]
     pub fn without_leading(&self) -> DigitSlice<'a>
         ensures { IsWithoutLeading self.now result }
@@ -205,7 +205,7 @@ impl<'a> DigitSlice<'a> {
         DigitSlice::none()
     }
 
-    /// The digits without trailing zeros.
+    /// Returns the digits without trailing zeros.
     #[inline(always)]
     pub fn without_trailing(&self) -> DigitSlice<'a>
         ensures { IsWithoutTrailing self.now result }
@@ -229,7 +229,7 @@ impl<'a> DigitSlice<'a> {
         DigitSlice::none()
     }
 
-    /// The number that these digits spell in a base after the digits of `start`.
+    /// Returns the number that the digits of `start` and then these digits spell in a base.
     #[inline(always)]
     pub fn number_onto(&self, base: u64, start: u64) -> u64
         requires digits { AllBelowBase base self.now }
@@ -246,7 +246,7 @@ impl<'a> DigitSlice<'a> {
         }
     }
 
-    /// The number that the first i digits spell in a base.
+    /// Returns the number that the first `i` digits spell in a base.
     #[inline(always)]
     pub fn prefix_number(&self, base: u64, i: u64) -> u64
         requires within { i ≤ length self.now }
@@ -263,7 +263,7 @@ impl<'a> DigitSlice<'a> {
         whole_number(&bytes[..i as usize], base)
     }
 
-    /// The digits after the first i.
+    /// Returns the digits after the first `i`.
     #[inline(always)]
     pub fn suffix(&self, i: u64) -> DigitSlice<'a>
         requires { i ≤ length self.now }
@@ -278,7 +278,7 @@ impl<'a> DigitSlice<'a> {
         }
     }
 
-    /// The first i digits, and the others.
+    /// Returns the first `i` digits and the others.
     #[inline]
     pub fn split_at(&self, i: u64) -> (DigitSlice<'a>, DigitSlice<'a>)
         requires { i ≤ length self.now }
@@ -302,7 +302,7 @@ impl<'a> DigitSlice<'a> {
     }
 }
 
-/// The place in the bytes, which hold this many digits, with i digits before it.
+/// Returns the index with `i` digits before it, in bytes that hold `count` digits.
 #[tactic(auto, using(crate::proofs::DigitLemmas::all_counted))]
 #[inline(always)]
 fn byte_index(bytes: &[u8], count: u64, i: u64) -> usize
@@ -317,7 +317,7 @@ fn byte_index(bytes: &[u8], count: u64, i: u64) -> usize
     byte_index_by_search(bytes, i)
 }
 
-/// The place in the bytes with i digits before it, by looking at them.
+/// Finds the index with `i` digits before it by reading the bytes.
 fn byte_index_by_search(bytes: &[u8], i: u64) -> usize
     requires { i ≤ length (digits_in bytes.now) }
     ensures within { result ≤ length bytes.now }

@@ -34,7 +34,7 @@ impl<'a> Model for DigitView<'a> {
 }
 
 impl<'a> DigitView<'a> {
-    /// Digits between two counts of zeros.
+    /// Returns digits between two counts of zeros.
     #[inline(always)]
     pub(crate) fn between(
         before: u64,
@@ -53,7 +53,7 @@ impl<'a> DigitView<'a> {
         }
     }
 
-    /// The digits of a slice.
+    /// Returns the digits of a slice.
     #[tactic(auto, using(crate::proofs::ViewLemmas::between_left))]
     fn of(piece: DigitSlice<'a>) -> DigitView<'a>
         requires { length piece < 2 ^ 64 }
@@ -67,7 +67,7 @@ impl<'a> DigitView<'a> {
         }
     }
 
-    /// No digits.
+    /// Returns no digits.
     #[tactic(auto, using(crate::proofs::ViewLemmas::between_none))]
     pub(crate) fn none() -> DigitView<'a>
         ensures { result ≡ [] }
@@ -80,7 +80,7 @@ impl<'a> DigitView<'a> {
         }
     }
 
-    /// The same digits.
+    /// Returns the same digits.
     #[inline]
     pub fn same(&self) -> DigitView<'a>
         ensures { result ≡ self.now }
@@ -93,7 +93,7 @@ impl<'a> DigitView<'a> {
         }
     }
 
-    /// How many digits there are.
+    /// Counts the digits.
     #[tactic(auto, using(crate::proofs::ViewLemmas::length_between))]
     #[inline]
     pub fn len(&self) -> u64
@@ -102,7 +102,7 @@ impl<'a> DigitView<'a> {
         self.before + self.left.len() + self.right.len() + self.after
     }
 
-    /// Whether there is no digit.
+    /// Whether there are no digits.
     #[inline]
     pub fn is_empty(&self) -> bool
         ensures { IsTrue result ↔ (self.now ≡ []) }
@@ -110,7 +110,7 @@ impl<'a> DigitView<'a> {
         self.len() == 0
     }
 
-    /// The first digit, 0 to 15, and the others, for one step. `None`, for no step, where there is no digit.
+    /// Returns the first digit, 0 to 15, and the others, for one step. `None`, for no step: there are no digits.
     #[tactic(auto, using(crate::proofs::ViewLemmas::take_before, crate::proofs::ViewLemmas::take_left, crate::proofs::ViewLemmas::take_right, crate::proofs::ViewLemmas::take_after, crate::proofs::ViewLemmas::between_none))]
     pub fn take<L: Ledger>(&self, steps: &mut Steps<L>) -> Option<(u8, DigitView<'a>)>
         ensures { MatchOption result ((self.now ≡ []) × (steps.new ≡ steps.old))
@@ -144,7 +144,7 @@ impl<'a> DigitView<'a> {
         None
     }
 
-    /// The number that the first `count` digits spell in the base, or all where there are fewer, and the digits
+    /// Returns the number that the first `count` digits spell in the base, or all if there are fewer, and the digits
     /// after them, for a step a digit.
     #[tactic(auto, using(crate::proofs::ViewLemmas::left_back, crate::proofs::NumberLemmas::first_rest))]
     #[inline(always)]
@@ -166,7 +166,7 @@ impl<'a> DigitView<'a> {
         let number = self.first_number(base, count, steps);
         let taken = u64::from(count).min(self.len());
         if self.before == 0 && taken <= self.left.len() {
-            // All of them lay in one slice, as they nearly always do.
+            // All of them lie in one slice, as they nearly always do.
             return (
                 number,
                 DigitView {
@@ -177,11 +177,12 @@ impl<'a> DigitView<'a> {
                 },
             );
         }
-        // A copy, so that `self` can be kept in registers; and in `prefix_number`.
+        // A copy lets `self` stay in registers, here and in `prefix_number`.
         (number, self.same().suffix_by_split(taken))
     }
 
-    /// The number that the first `count` digits spell in the base, or all where there are fewer, for a step a digit.
+    /// Returns the number that the first `count` digits spell in the base, or all if there are fewer, for a step a
+    /// digit.
     #[inline(always)]
     pub fn first_number<L: Ledger>(&self, base: u32, count: u32, steps: &mut Steps<L>) -> u64
         requires digits { AllBelowBase base self.now }
@@ -197,7 +198,7 @@ impl<'a> DigitView<'a> {
         self.prefix_number(u64::from(base), wanted)
     }
 
-    /// The number that the first i digits spell in a base. There are at least i.
+    /// Returns the number that the first `i` digits spell in a base. There are at least `i`.
     #[inline(always)]
     fn prefix_number(&self, base: u64, i: u64) -> u64
         requires { HasPrefixNumber base i self.now }
@@ -209,7 +210,7 @@ impl<'a> DigitView<'a> {
         self.same().prefix_number_by_parts(base, i)
     }
 
-    /// The number that the first i digits spell, where all of them lie in the second slice, or in any other case.
+    /// Returns the number that the first `i` digits spell, with a short way if all of them lie in the second slice.
     #[inline(never)]
     fn prefix_number_by_parts(&self, base: u64, i: u64) -> u64
         requires { HasPrefixNumber base i self.now }
@@ -224,7 +225,7 @@ impl<'a> DigitView<'a> {
         self.prefix_number_by_split(base, i)
     }
 
-    /// The number that the first i digits spell, by splitting the view after them.
+    /// Returns the number that the first `i` digits spell, by splitting the view after them.
     #[tactic(auto, using(crate::proofs::PlaceLemmas::below_split, crate::proofs::NumberLemmas::first_room))]
     #[inline(never)]
     fn prefix_number_by_split(&self, base: u64, i: u64) -> u64
@@ -235,7 +236,7 @@ impl<'a> DigitView<'a> {
         prefix.number(base)
     }
 
-    /// The digits after the first i, wherever they lie. There are at least i.
+    /// Returns the digits after the first `i`, wherever they lie. There are at least `i`.
     #[inline(never)]
     fn suffix_by_split(&self, i: u64) -> DigitView<'a>
         requires { i ≤ length self.now }
@@ -245,7 +246,7 @@ impl<'a> DigitView<'a> {
         back
     }
 
-    /// The number that the digits spell in a base.
+    /// Returns the number that the digits spell in a base.
     fn number(&self, base: u64) -> u64
         requires digits { AllBelowBase base self.now }
         requires least { 2 ≤ base }
@@ -258,7 +259,7 @@ impl<'a> DigitView<'a> {
         times_power(right, base, self.after)
     }
 
-    /// The first i digits, and the others. There are at least i.
+    /// Returns the first `i` digits and the others. There are at least `i`.
     pub fn split_at(&self, i: u64) -> (DigitView<'a>, DigitView<'a>)
         requires { i ≤ length self.now }
         ensures prefix { result.0 ≡ take i self.now }
@@ -287,7 +288,7 @@ impl<'a> DigitView<'a> {
         )
     }
 
-    /// The last n digits, or all where there are fewer.
+    /// Returns the last `n` digits, or all if there are fewer.
     pub fn last_n(&self, n: u64) -> DigitView<'a>
         ensures { result ≡ drop (length self.now - n) self.now }
     {
@@ -295,7 +296,7 @@ impl<'a> DigitView<'a> {
         back
     }
 
-    /// This many zeros, and these digits.
+    /// Returns `n` zeros and then these digits.
     #[tactic(auto, using(crate::proofs::ViewLemmas::length_between, crate::proofs::PlaceLemmas::view_before))]
     fn with_zeros_before(&self, n: u64) -> DigitView<'a>
         requires { n + length self.now < 2 ^ 64 }
@@ -309,7 +310,7 @@ impl<'a> DigitView<'a> {
         }
     }
 
-    /// These digits, and this many zeros.
+    /// Returns these digits and then `n` zeros.
     #[tactic(auto, using(crate::proofs::ViewLemmas::length_between, crate::proofs::PlaceLemmas::view_after))]
     fn with_zeros_after(&self, n: u64) -> DigitView<'a>
         requires { n + length self.now < 2 ^ 64 }
@@ -324,7 +325,7 @@ impl<'a> DigitView<'a> {
     }
 }
 
-/// A number times a power of a base.
+/// Returns a number times a power of a base.
 #[tactic(auto, using(crate::proofs::NumberLemmas::powers))]
 fn times_power(number: u64, base: u64, count: u64) -> u64
     requires least { 2 ≤ base }
@@ -338,7 +339,7 @@ fn times_power(number: u64, base: u64, count: u64) -> u64
     product
 }
 
-/// The digits of two slices without leading zeros.
+/// Returns the digits of two slices without leading zeros.
 #[tactic(auto, using(crate::proofs::PlaceLemmas::led))]
 fn without_leading<'a>(
     whole: &DigitSlice<'a>,
@@ -355,7 +356,7 @@ fn without_leading<'a>(
     }
 }
 
-/// The digits of two slices without trailing zeros.
+/// Returns the digits of two slices without trailing zeros.
 #[tactic(auto, using(crate::proofs::PlaceLemmas::trailed))]
 fn without_trailing<'a>(
     whole: &DigitSlice<'a>,
@@ -372,8 +373,8 @@ fn without_trailing<'a>(
     }
 }
 
-/// The digits before the point and after it, where the point stays.
-/// The steps are the bytes that are looked at: the zeros at the two ends, and one more at each.
+/// Returns the digits before and after the point, which does not move. The steps are the bytes that are read: the zeros
+/// at the two ends, and one more at each.
 #[inline(always)]
 pub(crate) fn views_at_point<'a, L: Ledger>(
     whole: &DigitSlice<'a>,
@@ -391,7 +392,7 @@ pub(crate) fn views_at_point<'a, L: Ledger>(
     (DigitView::of(left), DigitView::of(right))
 }
 
-/// The digits before the point and after it, where it moves `up` digits to the right and `down` digits to the left.
+/// Returns the digits before and after the point, which moves `up` digits to the right and `down` digits to the left.
 /// The steps are those of `views_at_point`.
 #[inline(always)]
 pub(crate) fn views_at_moved_point<'a, L: Ledger>(

@@ -1,9 +1,8 @@
-//! Numerals in any radix that a text ends with.
+//! Numerals in any radix at the end of a text.
 //!
-//! At least 16 bytes come before a numeral here, and it has at most 16 itself. So the last 16 bytes of the text are
-//! looked at together: the first byte that is not a digit ends the digits, and whole words that reach back over the
-//! numeral's beginning give their number. No branch depends on how many digits there are, nor on which of them are
-//! letters.
+//! A numeral here has at most 16 bytes, and at least 16 bytes come before it. So the last 16 bytes of the text are
+//! tested together: the first byte that is not a digit ends the digits, and whole words that reach back over the
+//! numeral's start give their number. No branch depends on the number of digits or on which of them are letters.
 
 ghost use Rattle.std.specs.Prelude.{◌≡◌, ◌+◌, ◌-◌, ◌<◌, ◌≤◌, ℕ, IfSome, drop, length, slice_index, take, pos, neg_ℤ};
 ghost use Rattle.std.specs.Prelude.{if◌then◌else◌};
@@ -20,7 +19,7 @@ use crate::segment::{number_between, sign_at};
 use crate::short::{LANES, ShortNumeral};
 use std::simd::prelude::*;
 
-/// The marks of those of the last 16 bytes that are below one byte or above another; the first has the lowest bit.
+/// Marks each of the last 16 bytes that is below `least` or above `most`. The first byte has the lowest bit.
 #[inline(always)]
 fn marks_outside(text: &[u8], least: u8, most: u8) -> u64
     requires { LANES ≤ length text.now }
@@ -34,7 +33,7 @@ fn marks_outside(text: &[u8], least: u8, most: u8) -> u64
     below | above
 }
 
-/// The marks of those of the last 16 bytes that are not digits of a radix.
+/// Marks each of the last 16 bytes that is not a digit of a radix.
 #[inline(always)]
 fn other_marks(text: &[u8], radix: Radix) -> u64
     requires { LANES ≤ length text.now }
@@ -49,7 +48,7 @@ fn other_marks(text: &[u8], radix: Radix) -> u64
     no_digit & no_capital & no_small
 }
 
-/// The end of the bytes without a mark from a place on.
+/// Returns the end of the unmarked bytes from index `from` on.
 #[tactic(auto, using(crate::proofs::MarkLemmas::clear_digits))]
 #[inline(always)]
 fn unmarked_end(text: &[u8], marks: u64, from: usize) -> usize
@@ -68,17 +67,17 @@ fn unmarked_end(text: &[u8], marks: u64, from: usize) -> usize
 /// The digits of a mantissa.
 #[derive(Clone, Copy)]
 pub(crate) struct Mantissa {
-    /// The number that those before the point spell.
+    /// The number that the digits before the point spell.
     pub whole: u64,
-    /// The number that those after the point spell.
+    /// The number that the digits after the point spell.
     pub fraction: u128,
-    /// How many there are after the point.
+    /// The number of digits after the point.
     pub places: u32,
-    /// The place after them.
+    /// The index after the mantissa.
     pub end: usize,
 }
 
-/// The mantissa from a place on. `None` where it has no digit.
+/// Reads the mantissa at index `from`. `None`: it has no digit.
 #[inline(always)]
 fn mantissa_at(text: &[u8], radix: Radix, from: usize) -> Option<Mantissa>
     requires least { LANES ≤ from }
@@ -113,7 +112,7 @@ fn mantissa_at(text: &[u8], radix: Radix, from: usize) -> Option<Mantissa>
     })
 }
 
-/// The numbers of a numeral's sign, mantissa and exponent.
+/// Returns the numeral with this sign, mantissa and exponent.
 #[inline(always)]
 pub(crate) fn numeral_of(negative: bool, mantissa: Mantissa, power: Power) -> ShortNumeral
     ensures negative { result.negative ≡ negative }
@@ -133,8 +132,7 @@ pub(crate) fn numeral_of(negative: bool, mantissa: Mantissa, power: Power) -> Sh
     }
 }
 
-/// The numbers of a numeral of at most 16 bytes that a text ends with, with at least as many bytes before it. `None`
-/// otherwise.
+/// Reads a numeral of at most 16 bytes at the end of a text, with at least 16 bytes before it. `None` otherwise.
 #[inline(always)]
 pub(crate) fn ending_numeral(text: &[u8], from: usize, radix: Radix) -> Option<ShortNumeral>
     requires least { LANES ≤ from }

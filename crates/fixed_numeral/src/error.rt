@@ -1,4 +1,4 @@
-//! Why a text is refused.
+//! The reasons why a text is refused.
 
 ghost use Rattle.std.specs.Prelude.{◌≡◌};
 
@@ -50,21 +50,21 @@ impl Model for ParseFixedError {
 impl ParseFixedError {
     ghost use Rattle.fixed_numeral.specs.Messages.{message_of};
 
-    /// The error of that kind.
+    /// Returns the error of a kind.
     pub fn new(kind: ParseErrorKind) -> ParseFixedError
         ensures { result ≡ kind }
     {
         ParseFixedError { kind }
     }
 
-    /// Why the text is refused.
+    /// Returns the reason why the text is refused.
     pub fn kind(self) -> ParseErrorKind
         ensures { result ≡ self }
     {
         self.kind
     }
 
-    /// The words of the kind, which Display writes too.
+    /// Returns the message of the kind, which `Display` writes too.
     pub fn message(self) -> &'static str
         ensures { result.now ≡ message_of self }
     {

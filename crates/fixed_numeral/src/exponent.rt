@@ -1,4 +1,4 @@
-//! The exponent that a short numeral ends with.
+//! The exponent at the end of a short numeral.
 
 ghost use Rattle.std.specs.Prelude.{◌≡◌, ◌+◌, ◌<◌, ◌≤◌, IfSome, length, pos, neg_ℤ, if◌then◌else◌};
 ghost use Rattle.fixed_numeral.specs.Inner.Scan.{max_magnitude};
@@ -18,7 +18,7 @@ pub(crate) struct Power {
     pub by_two: bool,
 }
 
-/// An exponent by its sign and its magnitude.
+/// Returns the exponent with this sign and magnitude.
 fn signed_exponent(minus: bool, magnitude: u64) -> i32
     requires { magnitude ≤ max_magnitude minus }
     ensures { result ≡ (if minus then neg_ℤ (pos magnitude) else pos magnitude) }
@@ -30,8 +30,8 @@ fn signed_exponent(minus: bool, magnitude: u64) -> i32
     }
 }
 
-/// The exponent from its separator on, up to the end of the text. `None` where it has no digit, its number is not an
-/// i32, or something else is there.
+/// Reads the exponent from its separator to the end of the text. `None`: it has no digit, its number is not an i32, or
+/// other bytes are there.
 fn exponent_at(text: &[u8], radix: Radix, from: usize) -> Option<Power>
     requires late { length text.now ≤ from + LANES }
     requires place { from < length text.now }
@@ -55,7 +55,8 @@ fn exponent_at(text: &[u8], radix: Radix, from: usize) -> Option<Power>
     })
 }
 
-/// The exponent from a place on, up to the end of the text, or 0 where the text ends there. `None` as in `exponent_at`.
+/// Reads the exponent from index `from` to the end of the text, or 0 if the text ends there. `None` as in
+/// `exponent_at`.
 #[inline(always)]
 pub(crate) fn power_at(text: &[u8], radix: Radix, from: usize) -> Option<Power>
     requires late { length text.now ≤ from + LANES }

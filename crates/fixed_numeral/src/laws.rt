@@ -1,4 +1,4 @@
-//! Laws of numerals and literals and of the messages of errors, each the contract of a function that does nothing.
+//! Laws of numerals, literals and error messages. Each is the contract of a function that does nothing.
 
 ghost use Rattle.fixed_numeral.specs.Leading.{LeadingIsTheOne};
 ghost use Rattle.fixed_numeral.specs.Laws.{
@@ -12,7 +12,7 @@ ghost use Rattle.fixed_numeral.specs.Laws.{
   MessageIsShort,
 };
 
-/// The parts of a beginning, and so those of a numeral, are determined by its bytes.
+/// The bytes of a beginning, and so of a numeral, determine its parts.
 pub fn parts_are_determined()
     ensures { PartsAreDetermined }
 {}
@@ -22,7 +22,7 @@ pub fn prefix_is_beginning()
     ensures { PrefixIsBeginning }
 {}
 
-/// Bytes are a numeral, or there is a cause why they are not one.
+/// Bytes are a numeral, or have a cause why they are not.
 pub fn numeral_or_cause()
     ensures { NumeralOrCause }
 {}
@@ -38,7 +38,7 @@ pub fn denominator_is_positive()
     ensures { DenominatorIsPositive }
 {}
 
-/// The parts of a literal are determined by its bytes.
+/// The bytes of a literal determine its parts.
 #[tactic(auto, using(crate::proofs::LawLemmas::one_literal))]
 pub fn literal_is_determined()
     ensures { LiteralIsDetermined }
@@ -55,7 +55,7 @@ pub fn message_is_short()
     ensures { MessageIsShort }
 {}
 
-/// The numeral at the beginning of a text is the one, and there is none where no prefix is a numeral.
+/// A text has at most one leading numeral, and none if no prefix is a numeral.
 pub fn leading_is_the_one()
     ensures { LeadingIsTheOne }
 {}

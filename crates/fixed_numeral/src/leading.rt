@@ -1,17 +1,18 @@
-//! The numeral at the beginning of a text: a walk that keeps the last place at which nothing was missing.
+//! The numeral at the start of a text: a walk that keeps the last index at which nothing was missing. Digits are passed
+//! together, and then the byte after them.
 
-ghost use Rattle.std.specs.Prelude.{◌≡◌, ◌+◌, ◌<◌, ◌≤◌, length, MatchResult};
+ghost use Rattle.std.specs.Prelude.{◌≡◌, ◌+◌, ◌<◌, ◌≤◌, ◌⊎◌, length, MatchResult};
 ghost use Rattle.fixed_numeral.specs.Cause.{HasCause};
 ghost use Rattle.fixed_numeral.specs.Leading.{IsLeadingNumeral, HasNoLeading};
 ghost use Rattle.fixed_numeral.specs.Inner.LastNumeral.{IsLastAfter};
 
 use crate::error::{ParseErrorKind, ParseFixedError};
 use crate::radix::Radix;
-use crate::scanner::{State, check_complete, transition};
+use crate::scanner::{State, after_digits, check_complete, mantissa_digits, transition};
 use fixed_steps::Steps;
 use std::sync::ledger::Ledger;
 
-/// The place of the last numeral: this one where nothing is missing here, and else the one before.
+/// Returns the end of the last numeral: this index if nothing is missing here, else the one before.
 fn last_after(state: State, at: usize, last: usize) -> usize
     ensures { IsLastAfter state at last result }
 {
@@ -21,7 +22,15 @@ fn last_after(state: State, at: usize, last: usize) -> usize
     }
 }
 
-/// The numeral that was passed, or where there was none the error.
+/// Returns the end of the last numeral after digits: this index if there were any, else the one before.
+#[inline(always)]
+fn last_after_digits(count: usize, at: usize, last: usize) -> usize
+    ensures { ((0 < count) × (result ≡ at)) ⊎ ((count ≡ 0) × (result ≡ last)) }
+{
+    if count > 0 { at } else { last }
+}
+
+/// Returns the end of the numeral that was passed, or the error if there was none.
 fn passed(last: usize, kind: ParseErrorKind) -> Result<usize, ParseFixedError>
     ensures { MatchResult result (λ n. (0 < last) × (n ≡ last)) (λ k. (last ≡ 0) × (k ≡ kind)) }
 {
@@ -32,10 +41,10 @@ fn passed(last: usize, kind: ParseErrorKind) -> Result<usize, ParseFixedError>
     }
 }
 
-/// How many bytes the numeral at the beginning of a text takes: the length of the longest prefix that is a numeral of
-/// the radix. Where no prefix is one, the error says why the text is not a numeral.
+/// Counts the bytes of the numeral at the start of a text: the longest prefix that is a numeral of the radix. If no
+/// prefix is one, the error says why the text is not a numeral.
 ///
-/// At most one step a byte is taken.
+/// It takes at most one step a byte.
 pub fn leading_numeral<L: Ledger>(
     bytes: &[u8],
     radix: Radix,
@@ -51,13 +60,20 @@ pub fn leading_numeral<L: Ledger>(
     let mut last: usize = 0;
     let mut at: usize = 0;
     while at < bytes.len() {
-        steps.tick();
-        match transition(state, radix, bytes[at]) {
-            Ok(next) => state = next,
-            Err(kind) => return passed(last, kind),
+        let count = mantissa_digits(state, bytes, radix, at);
+        steps.advance(count as u64);
+        state = after_digits(state, count as u64);
+        at += count;
+        last = last_after_digits(count, at, last);
+        if at < bytes.len() {
+            steps.tick();
+            match transition(state, radix, bytes[at]) {
+                Ok(next) => state = next,
+                Err(kind) => return passed(last, kind),
+            }
+            at += 1;
+            last = last_after(state, at, last);
         }
-        at += 1;
-        last = last_after(state, at, last);
     }
     match check_complete(state) {
         Ok(_) => Ok(at),

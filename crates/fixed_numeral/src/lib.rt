@@ -21,7 +21,7 @@ mod swar;
 pub use digit_view::DigitView;
 pub use error::{ParseErrorKind, ParseFixedError};
 pub use leading::leading_numeral;
-pub use literal::scan_lit;
+pub use literal::{scan_lit, short_literal};
 pub use powers::power_of_ten;
 pub use radix::Radix;
 pub use scanned::Scanned;

@@ -1,15 +1,18 @@
 //! Reading a literal: its sign, its prefix, and a numeral that may have underscores.
 
-ghost use Rattle.std.specs.Prelude.{◌≡◌, ◌+◌, ◌*◌, ◌^◌, ◌<◌, ◌≤◌, ℕ, ◌&&◌, not, true, IsTrue, IfSome, None, List};
-ghost use Rattle.std.specs.Prelude.{length, MatchResult, IsOk, IfOk, IfErr, ◌↔◌};
+ghost use Rattle.std.specs.Prelude.{◌≡◌, ◌≢◌, ◌+◌, ◌*◌, ◌^◌, ◌<◌, ◌≤◌, ◌⊎◌, ℕ, ◌&&◌, not, true, IsTrue, IfSome, None};
+ghost use Rattle.std.specs.Prelude.{List, length, pos, MatchResult, IsOk, IfOk, IfErr, ◌↔◌};
 ghost use Rattle.fixed_numeral.specs.declared.radix.Radix.{Radix as TheRadix};
-ghost use Rattle.fixed_numeral.specs.Numeral.{Parts, is_minus, is_sign};
+ghost use Rattle.fixed_numeral.specs.declared.radix.Radix.TheVariants.{Dec};
+ghost use Rattle.fixed_numeral.specs.Numeral.{Parts, base, is_minus, is_sign};
+ghost use Rattle.fixed_numeral.specs.PartNumbers.{IsShortNumeral, HasFewDigits};
 ghost use Rattle.fixed_numeral.specs.Cause.{is_nil};
 ghost use Rattle.fixed_numeral.specs.Inner.Scan.{Agrees, max_magnitude};
 ghost use Rattle.fixed_numeral.specs.Scanned.{IsScanned};
 ghost use Rattle.fixed_numeral.specs.Literal.{HasLiteralParts, HasRest, HasRestCause, HasLiteral, IsLiteral};
-ghost use Rattle.fixed_numeral.specs.Literal.{HasLiteralCause, last_part, sign_of, after_sign, prefix_of};
-ghost use Rattle.fixed_numeral.specs.Literal.{after_underscores, radix_by, rest_by, literal_radix, literal_rest};
+ghost use Rattle.fixed_numeral.specs.Literal.{HasLiteralCause, begins_signed, last_part, sign_of, after_sign};
+ghost use Rattle.fixed_numeral.specs.Literal.{after_underscores, prefix_of, radix_by, rest_by, literal_radix};
+ghost use Rattle.fixed_numeral.specs.Literal.{literal_rest};
 ghost use Rattle.fixed_numeral.specs.Inner.LiteralScan.{LiteralExtends, LiteralCannotExtend, IsLiteralAfter};
 
 use crate::digit_slice::DigitSlice;
@@ -17,6 +20,7 @@ use crate::error::{ParseErrorKind, ParseFixedError};
 use crate::radix::Radix;
 use crate::scanned::Scanned;
 use crate::scanner::{State, check_complete, is_sign, same_bytes, transition};
+use crate::short::{ShortNumeral, short_numeral};
 use fixed_steps::Steps;
 use std::sync::ledger::Ledger;
 
@@ -46,7 +50,7 @@ fn is_leading_sign(state: State, b: u8) -> bool
     is_sign(b) && state.sign_allowed && !state.has_separator
 }
 
-/// The next byte of a literal's rest.
+/// Reads the next byte of a literal's rest.
 fn literal_byte(state: State, radix: Radix, b: u8) -> Result<State, ParseErrorKind>
     requires room { state.magnitude ≤ max_magnitude true }
     requires counts { state.whole_len + state.fraction_len + 1 < 2 ^ 64 }
@@ -66,7 +70,7 @@ fn literal_byte(state: State, radix: Radix, b: u8) -> Result<State, ParseErrorKi
     }
 }
 
-/// The state after all bytes of a literal's rest.
+/// Returns the state after all bytes of a literal's rest.
 fn read_rest<L: Ledger>(
     bytes: &[u8],
     radix: Radix,
@@ -88,7 +92,7 @@ fn read_rest<L: Ledger>(
     Ok(state)
 }
 
-/// The views of a literal's rest that was read, with the sign that was taken first.
+/// Returns the views of a literal's rest that was read, with the sign that was taken first.
 fn rest_views<'a, L: Ledger>(
     bytes: &'a [u8],
     radix: Radix,
@@ -118,7 +122,7 @@ fn rest_views<'a, L: Ledger>(
     )
 }
 
-/// Whether a sign is taken first, and the bytes after it.
+/// Returns whether a sign is taken first, and the bytes after it.
 fn after_sign(bytes: &[u8], signed: bool) -> (bool, &[u8])
     ensures sign { result.0 ≡ is_minus (sign_of signed bytes.now) }
     ensures rest { result.1.now ≡ after_sign signed bytes.now }
@@ -131,7 +135,7 @@ fn after_sign(bytes: &[u8], signed: bool) -> (bool, &[u8])
     }
 }
 
-/// The radix of the prefix.
+/// Returns the radix of the prefix.
 fn prefix(bytes: &[u8]) -> Option<Radix>
     ensures { result ≡ prefix_of bytes.now }
 {
@@ -146,7 +150,7 @@ fn prefix(bytes: &[u8]) -> Option<Radix>
     }
 }
 
-/// The bytes without leading underscores.
+/// Returns the bytes without leading underscores.
 fn after_underscores(bytes: &[u8]) -> &[u8]
     ensures rest { result.now ≡ after_underscores bytes.now }
     ensures shorter { length result.now ≤ length bytes.now }
@@ -159,7 +163,7 @@ fn after_underscores(bytes: &[u8]) -> &[u8]
     &[]
 }
 
-/// The radix by the prefix, and the bytes after the prefix and its underscores.
+/// Returns the radix by the prefix, and the bytes after the prefix and its underscores.
 fn after_prefix(bytes: &[u8]) -> (Radix, &[u8])
     ensures radix { result.0 ≡ radix_by (prefix_of bytes.now) }
     ensures rest { result.1.now ≡ rest_by (prefix_of bytes.now) bytes.now }
@@ -171,11 +175,61 @@ fn after_prefix(bytes: &[u8]) -> (Radix, &[u8])
     }
 }
 
-/// The radix and the views of a literal, or why the bytes are not one.
+/// Whether bytes begin with a sign.
+fn begins_signed(bytes: &[u8]) -> bool
+    ensures { result ≡ begins_signed bytes.now }
+{
+    !bytes.is_empty() && is_sign(bytes[0])
+}
+
+/// Returns a numeral's numbers with another sign.
+#[inline(always)]
+fn with_sign(found: ShortNumeral, negative: bool) -> ShortNumeral
+    ensures negative { result.negative ≡ negative }
+    ensures whole { result.whole ≡ found.whole }
+    ensures fraction { result.fraction ≡ found.fraction }
+    ensures places { result.places ≡ found.places }
+    ensures exponent { result.exponent ≡ found.exponent }
+    ensures by_two { result.scales_by_two ≡ found.scales_by_two }
+{
+    ShortNumeral { negative, ..found }
+}
+
+/// Returns the radix of a literal whose rest is a short numeral without underscores, and the numbers of its parts.
+/// `None` otherwise, or if the bytes are not a literal; `scan_lit` then says more. It takes a step a byte, or none.
+#[inline(always)]
+pub fn short_literal<L: Ledger>(
+    bytes: &[u8],
+    signed: bool,
+    steps: &mut Steps<L>,
+) -> Option<(Radix, ShortNumeral)>
+    ensures literal { IfSome result (λ r. IsLiteral signed bytes.now) }
+    ensures radix { IfSome result (λ r. r.0 ≡ literal_radix signed bytes.now) }
+    ensures parts { IfSome result (λ r. (p : Parts) → HasLiteral signed bytes.now p
+        → IsShortNumeral r.0 p r.1.negative r.1.whole r.1.fraction r.1.places r.1.exponent r.1.scales_by_two) }
+    ensures fraction { IfSome result (λ r. r.1.fraction < base r.0 ^ r.1.places) }
+    ensures whole { IfSome result (λ r. r.1.whole < base r.0 ^ 16) }
+    ensures places { IfSome result (λ r. r.1.places ≤ 27) }
+    ensures few { IfSome result (λ r. ((r.0 ≢ Dec) ⊎ (r.1.exponent ≢ pos 0))
+        → HasFewDigits (base r.0) r.1.whole r.1.fraction r.1.places) }
+    ensures cost { steps.new ≤ steps.old + length bytes.now }
+{
+    let (negative, unsigned) = after_sign(bytes, signed);
+    let (radix, rest) = after_prefix(unsigned);
+    if begins_signed(rest) {
+        return None;
+    }
+    match short_numeral(rest, 0, radix, steps) {
+        Some(found) => Some((radix, with_sign(found, negative))),
+        None => None,
+    }
+}
+
+/// Returns the radix and the views of a literal, or the reason why the bytes are not one.
 ///
-/// Where `signed`, one leading `-` is the literal's sign. A prefix `0b`, `0o` or `0x` names the radix, which is 10
-/// without one. Underscores are allowed after a prefix and after a digit of their part. The views pass over them. The
-/// error is never `Overflow`. At most 2 steps a byte and 2 more are taken, and none for the bytes before the rest.
+/// If `signed`, one leading `-` is the literal's sign. A prefix `0b`, `0o` or `0x` names the radix, which is 10 without
+/// one. Underscores are allowed after a prefix and after a digit of their part. The views skip them. The error is never
+/// `Overflow`. It takes at most 2 steps a byte and 2 more, and none for the bytes before the rest.
 pub fn scan_lit<'a, L: Ledger>(
     bytes: &'a [u8],
     signed: bool,

@@ -2,7 +2,7 @@
 
 ghost use Rattle.std.specs.Prelude.{◌≡◌, ◌<◌, ◌^◌};
 
-/// 10^n.
+/// Returns 10^n.
 #[inline(always)]
 pub fn power_of_ten(n: u32) -> u64
     requires { n < 20 }

@@ -17,7 +17,7 @@ pub enum Radix {
 }
 
 impl Radix {
-    /// The radix as a number.
+    /// Returns the radix as a number.
     pub fn base(self) -> u32
         ensures { result ≡ base self }
     {

@@ -1,4 +1,4 @@
-//! The views of a numeral, by its parts.
+//! The views of a numeral's parts.
 
 ghost use Rattle.std.specs.Prelude.{◌≡◌, ◌+◌, ◌*◌, ◌<◌, ◌≤◌, ◌^◌, length};
 ghost use Rattle.fixed_numeral.specs.Numeral.{Parts, IsPartsOf, is_minus, fractional_digits};
@@ -12,8 +12,8 @@ use crate::radix::Radix;
 use fixed_steps::Steps;
 use std::sync::ledger::Ledger;
 
-/// A numeral's sign, the digits before its point and after it once the exponent has moved the point, and the
-/// power of two, 0 to 3, that is left of the exponent.
+/// A numeral's sign, its digits before and after the point as the exponent moved it, and the power of two, 0 to 3, that
+/// is left of the exponent.
 #[derive(Drop)]
 pub struct Scanned<'a> {
     neg: bool,
@@ -22,7 +22,7 @@ pub struct Scanned<'a> {
     bit_shift: u32,
 }
 
-/// How far the point goes, and the bits that are left.
+/// How far the point moves, and the bits that are left.
 #[derive(Clone, Copy)]
 struct Shift {
     up: u64,
@@ -70,7 +70,7 @@ fn shift_of(unit: u64, minus: bool, magnitude: u64) -> Shift
 }
 
 impl<'a> Scanned<'a> {
-    /// The views of a numeral with these parts.
+    /// Returns the views of a numeral with these parts.
     #[inline(always)]
     pub(crate) fn of<L: Ledger>(
         radix: Radix,
@@ -120,7 +120,7 @@ impl<'a> Scanned<'a> {
         self.neg
     }
 
-    /// The digits before the point.
+    /// Returns the digits before the point.
     #[inline]
     pub fn whole(&self) -> DigitView<'a>
         ensures { result ≡ self.now.whole }
@@ -128,7 +128,7 @@ impl<'a> Scanned<'a> {
         self.whole.same()
     }
 
-    /// The digits after the point.
+    /// Returns the digits after the point.
     #[inline]
     pub fn fraction(&self) -> DigitView<'a>
         ensures { result ≡ self.now.fraction }
@@ -136,7 +136,7 @@ impl<'a> Scanned<'a> {
         self.fraction.same()
     }
 
-    /// The digits before the point, without a copy.
+    /// Returns the digits before the point, without a copy.
     #[inline]
     pub fn whole_view(&self) -> &DigitView<'a>
         ensures { result.now ≡ self.now.whole }
@@ -144,7 +144,7 @@ impl<'a> Scanned<'a> {
         &self.whole
     }
 
-    /// The digits after the point, without a copy.
+    /// Returns the digits after the point, without a copy.
     #[inline]
     pub fn fraction_view(&self) -> &DigitView<'a>
         ensures { result.now ≡ self.now.fraction }
@@ -152,7 +152,7 @@ impl<'a> Scanned<'a> {
         &self.fraction
     }
 
-    /// The exponent s, 0 to 3: the digits are to be multiplied by 2^s.
+    /// Returns the exponent s, 0 to 3. The digits must be multiplied by 2^s.
     #[inline]
     pub fn bit_shift(&self) -> u32
         ensures { result ≡ self.now.bit_shift }

@@ -28,11 +28,11 @@ use std::sync::ledger::Ledger;
 /// What the scanner knows of the bytes so far.
 #[derive(Clone, Copy)]
 pub struct State {
-    /// How many bytes the sign has.
+    /// The number of bytes of the sign.
     pub sign_len: u64,
-    /// How many digits there are before the point.
+    /// The number of digits before the point.
     pub whole_len: u64,
-    /// How many digits there are after the point.
+    /// The number of digits after the point.
     pub fraction_len: u64,
     /// The magnitude of the exponent so far.
     pub magnitude: u64,
@@ -53,7 +53,7 @@ pub struct State {
 }
 
 impl State {
-    /// Nothing was read yet.
+    /// Returns the state before the first byte.
     #[tactic(auto, using(crate::proofs::ScanLemmas::after_nothing))]
     pub fn start() -> State
         ensures { (radix : TheRadix) → IsAfter radix [] result }
@@ -86,7 +86,7 @@ pub(crate) fn is_sign(b: u8) -> bool
     b == b'+' || b == b'-'
 }
 
-/// The separators of a radix: the bit of the byte '@' is the lowest.
+/// Returns the separators of a radix as bits. The bit of the byte '@' is the lowest.
 fn separator_bits(radix: Radix) -> u64
     ensures { (k : ℕ) → k < 64 → (bit_at result k == 1) ≡ is_separator radix (64 + k) }
 {
@@ -98,8 +98,8 @@ fn separator_bits(radix: Radix) -> u64
     }
 }
 
-/// Whether a byte is a separator of a radix. By a bit of a word, since the separators of four radices by branches are
-/// hard to predict.
+/// Whether a byte is a separator of a radix. It is found by a bit of a word, since branches on the separators of four
+/// radices are hard to predict.
 pub(crate) fn is_separator(radix: Radix, b: u8) -> bool
     ensures { result ≡ is_separator radix b }
 {
@@ -121,7 +121,7 @@ pub(crate) fn max_magnitude(minus: bool) -> u64
     if minus { 0x8000_0000 } else { 0x7fff_ffff }
 }
 
-/// The next byte, where there is no separator yet.
+/// Reads the next byte before a separator.
 fn mantissa_byte(state: State, radix: Radix, b: u8) -> Result<State, ParseErrorKind>
     requires separator { state.has_separator ≡ false }
     requires room { state.magnitude ≤ max_magnitude true }
@@ -167,7 +167,7 @@ fn mantissa_byte(state: State, radix: Radix, b: u8) -> Result<State, ParseErrorK
     }
 }
 
-/// The next byte after a separator.
+/// Reads the next byte after a separator.
 fn exponent_byte(state: State, radix: Radix, b: u8) -> Result<State, ParseErrorKind>
     requires separator { state.has_separator ≡ true }
     requires room { state.magnitude ≤ max_magnitude true }
@@ -203,7 +203,7 @@ fn exponent_byte(state: State, radix: Radix, b: u8) -> Result<State, ParseErrorK
     }
 }
 
-/// The next byte.
+/// Reads the next byte.
 pub(crate) fn transition(state: State, radix: Radix, b: u8) -> Result<State, ParseErrorKind>
     requires room { state.magnitude ≤ max_magnitude true }
     requires counts { state.whole_len + state.fraction_len + 1 < 2 ^ 64 }
@@ -217,7 +217,7 @@ pub(crate) fn transition(state: State, radix: Radix, b: u8) -> Result<State, Par
     }
 }
 
-/// How many digits of a base of at most 10 there are from a place on, before some other byte.
+/// Counts the digits of a base of at most 10 from index `from` on, before some other byte.
 fn low_digits(bytes: &[u8], base: u8, from: usize) -> usize
     requires base { base ≤ 10 }
     requires place { from ≤ length bytes.now }
@@ -231,11 +231,11 @@ fn low_digits(bytes: &[u8], base: u8, from: usize) -> usize
     at - from
 }
 
-/// Shortest text for which testing eight bytes at a time pays: with as many bytes there are mostly eight digits on one
+/// The shortest text for which testing eight bytes at a time pays: a text of this length mostly has eight digits on one
 /// side of the point.
 const LONG: usize = 16;
 
-/// Whether the sixteen bytes from a place on are decimal digits.
+/// Whether the sixteen bytes from index `at` on are decimal digits.
 #[inline(always)]
 fn are_sixteen_decimal(bytes: &[u8], at: usize) -> bool
     requires { at + 16 ≤ length bytes.now }
@@ -250,7 +250,7 @@ fn are_sixteen_decimal(bytes: &[u8], at: usize) -> bool
     true
 }
 
-/// The place after the decimal digits from a place on that come in sixteens.
+/// Returns the index after the decimal digits from index `from` on that come in sixteens.
 #[inline(always)]
 fn after_decimal_sixteens(bytes: &[u8], from: usize) -> usize
     requires { from ≤ length bytes.now }
@@ -263,7 +263,7 @@ fn after_decimal_sixteens(bytes: &[u8], from: usize) -> usize
     at
 }
 
-/// How many decimal digits there are from a place on, before some other byte.
+/// Counts the decimal digits from index `from` on, before some other byte.
 fn decimal_digits(bytes: &[u8], from: usize) -> usize
     requires place { from ≤ length bytes.now }
     ensures within { from + result ≤ length bytes.now }
@@ -280,7 +280,7 @@ fn decimal_digits(bytes: &[u8], from: usize) -> usize
     at - from
 }
 
-/// How many digits of radix 16 there are from a place on, before some other byte.
+/// Counts the digits of radix 16 from index `from` on, before some other byte.
 fn hex_digits(bytes: &[u8], from: usize) -> usize
     requires place { from ≤ length bytes.now }
     ensures within { from + result ≤ length bytes.now }
@@ -293,7 +293,7 @@ fn hex_digits(bytes: &[u8], from: usize) -> usize
     at - from
 }
 
-/// How many digits of the radix there are from a place on, before some other byte.
+/// Counts the digits of the radix from index `from` on, before some other byte.
 fn digits_at(bytes: &[u8], radix: Radix, from: usize) -> usize
     requires place { from ≤ length bytes.now }
     ensures within { from + result ≤ length bytes.now }
@@ -307,8 +307,8 @@ fn digits_at(bytes: &[u8], radix: Radix, from: usize) -> usize
     }
 }
 
-/// How many mantissa digits there are from a place on.
-fn mantissa_digits(state: State, bytes: &[u8], radix: Radix, from: usize) -> usize
+/// Counts the mantissa digits from index `from` on.
+pub(crate) fn mantissa_digits(state: State, bytes: &[u8], radix: Radix, from: usize) -> usize
     requires place { from ≤ length bytes.now }
     ensures within { from + result ≤ length bytes.now }
     ensures digits { AllDigits (base radix) (take result (drop from bytes.now)) }
@@ -321,13 +321,15 @@ fn mantissa_digits(state: State, bytes: &[u8], radix: Radix, from: usize) -> usi
     }
 }
 
-/// The state after this many mantissa digits more.
+/// Returns the state after `count` more mantissa digits.
 #[tactic(auto, using(crate::proofs::ScanLemmas::passed))]
-fn after_digits(state: State, count: u64) -> State
+pub(crate) fn after_digits(state: State, count: u64) -> State
     requires separator { 0 < count → state.has_separator ≡ false }
     requires counts { state.whole_len + state.fraction_len + count < 2 ^ 64 }
-    ensures { (radix : TheRadix) (bs ds : List ℕ) → IsAfter radix bs state → AllDigits (base radix) ds
+    ensures after { (radix : TheRadix) (bs ds : List ℕ) → IsAfter radix bs state → AllDigits (base radix) ds
         → length ds ≡ count → IsAfter radix (bs ++ ds) result }
+    ensures counts { result.whole_len + result.fraction_len ≡ state.whole_len + state.fraction_len + count }
+    ensures separator { result.has_separator ≡ state.has_separator }
 {
     if count == 0 {
         state
@@ -346,7 +348,8 @@ fn after_digits(state: State, count: u64) -> State
     }
 }
 
-/// The state after eight exponent digits more. `None` where they are not all digits, or the exponent leaves its range.
+/// Returns the state after eight more exponent digits. `None`: they are not all digits, or the exponent leaves its
+/// range.
 #[tactic(auto, using(crate::proofs::ExponentLemmas::eight_more, crate::proofs::ExponentLemmas::max_most))]
 #[inline(always)]
 fn after_eight_exponent_digits(state: State, word: u64) -> Option<State>
@@ -371,7 +374,7 @@ fn after_eight_exponent_digits(state: State, word: u64) -> Option<State>
     })
 }
 
-/// The state after the exponent digits from a place on, eight at a time, and the place after them.
+/// Returns the state after the exponent digits from index `from` on, eight at a time, and the index after them.
 #[inline(always)]
 fn after_exponent_digits(state: State, bytes: &[u8], from: usize) -> (State, usize)
     requires place { from ≤ length bytes.now }
@@ -393,7 +396,7 @@ fn after_exponent_digits(state: State, bytes: &[u8], from: usize) -> (State, usi
     (next, at)
 }
 
-/// The state after all bytes. Digits are taken together, and then the byte after them.
+/// Returns the state after all bytes. Digits are taken together, and then the byte after them.
 pub(crate) fn read<L: Ledger>(
     bytes: &[u8],
     radix: Radix,
@@ -426,7 +429,7 @@ pub(crate) fn read<L: Ledger>(
     Ok(state)
 }
 
-/// The state at the end of the text, where nothing is missing.
+/// Returns the state at the end of the text, if nothing is missing.
 pub(crate) fn check_complete(state: State) -> Result<State, ParseErrorKind>
     ensures { MatchResult result (λ s. (s ≡ state) × IsComplete state) (λ kind. IsIncomplete state kind) }
 {
@@ -439,7 +442,7 @@ pub(crate) fn check_complete(state: State) -> Result<State, ParseErrorKind>
     }
 }
 
-/// This many bytes from a place on; where there are none, the place may lie past the end.
+/// Returns `count` bytes from index `from` on. If `count` is 0, `from` may lie past the end.
 pub(crate) fn slice_at(bytes: &[u8], from: usize, count: usize) -> &[u8]
     requires { 0 < count → from + count ≤ length bytes.now }
     ensures { result.now ≡ take count (drop from bytes.now) }
@@ -451,14 +454,14 @@ pub(crate) fn slice_at(bytes: &[u8], from: usize, count: usize) -> &[u8]
     }
 }
 
-/// Identity. Calling it gives the proof the bound on the slice's length.
+/// Returns the same bytes. The call gives the proof the bound on the slice's length.
 pub(crate) fn same_bytes(bytes: &[u8]) -> &[u8]
     ensures { result.now ≡ bytes.now }
 {
     bytes
 }
 
-/// The views of the numeral that was read.
+/// Returns the views of the numeral that was read.
 #[inline(always)]
 fn digit_views<'a, L: Ledger>(
     bytes: &'a [u8],
@@ -488,7 +491,7 @@ fn digit_views<'a, L: Ledger>(
     )
 }
 
-/// What `digit_views` answers, apart from the path of most numerals, which have no exponent.
+/// Returns what `digit_views` returns, away from the path of most numerals, which have no exponent.
 #[inline(never)]
 fn moved_digit_views<'a, L: Ledger>(
     bytes: &'a [u8],
@@ -505,10 +508,10 @@ fn moved_digit_views<'a, L: Ledger>(
     digit_views(bytes, radix, state, steps)
 }
 
-/// The views of a numeral, or why the bytes are not one.
+/// Returns the views of a numeral, or the reason why the bytes are not one.
 ///
-/// `bytes` is a numeral of the radix whole: an optional sign, digits with an optional point, and an optional exponent.
-/// The error is never `MisplacedUnderscore` or `Overflow`. At most 2 steps a byte and 2 more are taken.
+/// All of `bytes` is a numeral of the radix: an optional sign, digits with an optional point, and an optional exponent.
+/// The error is never `MisplacedUnderscore` or `Overflow`. It takes at most 2 steps a byte and 2 more.
 pub fn scan<'a, L: Ledger>(
     bytes: &'a [u8],
     radix: Radix,

@@ -10,13 +10,13 @@ use crate::swar::{first_decimals, last_decimals, last_number, word_at};
 /// Digits whose number fits a word.
 #[derive(Clone, Copy)]
 pub(crate) struct Few {
-    /// The number that they spell.
+    /// The number that the digits spell.
     pub number: u64,
-    /// The place after them.
+    /// The index after the digits.
     pub end: usize,
 }
 
-/// Whether the sign at a place is a minus, and the place after the sign.
+/// Returns whether the sign at `from`, if any, is a minus, and the index after the sign.
 #[tactic(auto, using(crate::proofs::SegmentLemmas::sign_by_sums))]
 #[inline(always)]
 pub(crate) fn sign_at(bytes: &[u8], from: usize) -> (bool, usize)
@@ -26,7 +26,7 @@ pub(crate) fn sign_at(bytes: &[u8], from: usize) -> (bool, usize)
     if from == bytes.len() {
         return (false, from);
     }
-    // Sums in place of branches, which are hard to predict.
+    // Sums instead of branches, which are hard to predict.
     let is_minus = bytes[from] == b'-';
     let is_plus = bytes[from] == b'+';
     (
@@ -35,7 +35,7 @@ pub(crate) fn sign_at(bytes: &[u8], from: usize) -> (bool, usize)
     )
 }
 
-/// The value of a byte that is a decimal digit; of any other byte something above 9.
+/// Returns the value of a decimal digit, or a number above 9 for any other byte.
 #[inline(always)]
 fn decimal_digit(b: u8) -> u64
     ensures { result < 10 → digit_value b ≡ result }
@@ -43,7 +43,7 @@ fn decimal_digit(b: u8) -> u64
     u64::from(b.wrapping_sub(b'0'))
 }
 
-/// The decimal digits from a place on and before another place, at most 16.
+/// Reads the decimal digits from index `from` on, before index `limit`, which is at most 16.
 #[inline(always)]
 pub(crate) fn decimals_at(bytes: &[u8], from: usize, limit: usize) -> Few
     requires few { limit ≤ 16 }
@@ -65,8 +65,8 @@ pub(crate) fn decimals_at(bytes: &[u8], from: usize, limit: usize) -> Few
     Few { number, end: at }
 }
 
-/// The number of the bytes between two places, at most 16, where they are decimal digits. The second place is at least
-/// 8.
+/// Returns the number that the bytes from `from` to `to`, at most 16, spell if they are decimal digits. `to` is at
+/// least 8.
 #[inline(always)]
 pub(crate) fn decimals_between(bytes: &[u8], from: usize, to: usize) -> Option<u64>
     requires long { 8 ≤ to }
@@ -86,7 +86,7 @@ pub(crate) fn decimals_between(bytes: &[u8], from: usize, to: usize) -> Option<u
     Some(high * 100_000_000 + low)
 }
 
-/// The number of the bytes between two places, at most 16, where each is a digit. The second place is at least 16.
+/// Returns the number that the bytes from `from` to `to`, at most 16, spell. Each is a digit. `to` is at least 16.
 #[inline(always)]
 pub(crate) fn number_between(bytes: &[u8], base: u64, from: usize, to: usize) -> u64
     requires long { 16 ≤ to }
@@ -110,7 +110,7 @@ pub(crate) fn number_between(bytes: &[u8], base: u64, from: usize, to: usize) ->
     high * (fourth * fourth) + low
 }
 
-/// The number of the bytes between two places, at most 16, where they are decimal digits.
+/// Returns the number that the bytes from `from` to `to`, at most 16, spell if they are decimal digits.
 #[inline(always)]
 pub(crate) fn decimals_to(bytes: &[u8], from: usize, to: usize) -> Option<u64>
     requires place { from ≤ to }

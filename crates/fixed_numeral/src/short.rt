@@ -1,7 +1,7 @@
 //! Short numerals: from bytes straight to numbers.
 //!
-//! This is the one place that knows which numerals are short: those of at most 16 bytes, in any radix, and decimals of
-//! at most 44 bytes with a point. Any other is scanned (`scan`).
+//! Only this module knows which numerals are short: numerals of at most 16 bytes, in any radix, and decimals of at most
+//! 44 bytes with a point. Any other is scanned (`scan`).
 
 ghost use Rattle.std.specs.Prelude.{◌≡◌, ◌≢◌, ◌+◌, ◌*◌, ◌^◌, ◌<◌, ◌≤◌, ◌⊎◌, ◌++◌, IfSome, drop, length, pos, replicate};
 ghost use Rattle.std.specs.Prelude.{take};
@@ -16,8 +16,8 @@ use crate::radix::Radix;
 use fixed_steps::Steps;
 use std::sync::ledger::Ledger;
 
-/// The numbers of a short numeral's parts. Its magnitude is `whole`, and `fraction` divided by the radix to the power
-/// `places`, times the radix, or two, to the power `exponent`.
+/// The numbers of a short numeral's parts. Its magnitude is the sum of `whole` and of `fraction` divided by the radix
+/// to the power `places`, times the radix, or two, to the power `exponent`.
 #[derive(Clone, Copy, PartialEq, Eq)]
 pub struct ShortNumeral {
     /// Whether the sign is a minus.
@@ -26,21 +26,21 @@ pub struct ShortNumeral {
     pub whole: u64,
     /// The number that the digits after the point spell.
     pub fraction: u128,
-    /// How many digits there are after the point.
+    /// The number of digits after the point.
     pub places: u32,
-    /// The exponent, which is 0 without a separator.
+    /// The exponent, 0 without a separator.
     pub exponent: i32,
     /// Whether the exponent counts powers of two, and not of the radix.
     pub scales_by_two: bool,
 }
 
-/// How many bytes are looked at together, and how many a short numeral has at most that may be in any radix.
+/// The number of bytes tested together, and the longest short numeral of any radix, in bytes.
 pub(crate) const LANES: usize = 16;
 
-/// How many bytes a decimal has at most that is looked at for a point.
+/// The longest short decimal with a point, in bytes.
 const WIDE: usize = 44;
 
-/// How many bytes a short numeral has at most.
+/// Returns the length in bytes of the longest short numeral of a radix.
 #[inline(always)]
 fn most_bytes(radix: Radix) -> usize
     ensures { (radix ≢ Dec) → result ≡ LANES }
@@ -51,7 +51,7 @@ fn most_bytes(radix: Radix) -> usize
     }
 }
 
-/// The bytes of a text from a place on.
+/// Returns the bytes of a text from index `from` on.
 #[inline(always)]
 fn bytes_from(text: &[u8], from: usize) -> &[u8]
     requires { from ≤ length text.now }
@@ -60,20 +60,38 @@ fn bytes_from(text: &[u8], from: usize) -> &[u8]
     &text[from..]
 }
 
-/// A copy of a few bytes with 16 zeros before it.
+/// Copies bytes behind the first 16 of a text by two copies of `N` bytes, which may overlap: neither is a call.
+#[inline(always)]
+fn copy_ends<const N: usize>(bytes: &mut [u8; 32], s: &[u8])
+    requires least { N ≤ length s.now }
+    requires most { length s.now ≤ 2 * N }
+    requires room { length s.now ≤ LANES }
+    ensures { take (LANES + length s.now) bytes.new ≡ take LANES bytes.old ++ s.now }
+{
+    let end = LANES + s.len();
+    let all = &mut bytes[..];
+    all[LANES..LANES + N].copy_from_slice(&s[..N]);
+    all[end - N..end].copy_from_slice(&s[s.len() - N..]);
+}
+
+/// Returns a copy of a few bytes with 16 zeros before it.
 #[inline(always)]
 fn padded(s: &[u8]) -> [u8; 32]
     requires { length s.now ≤ LANES }
     ensures { take (LANES + length s.now) result ≡ replicate LANES 48 ++ s.now }
 {
     let mut bytes = [b'0'; 32];
-    let end = LANES + s.len();
-    let all = &mut bytes[..];
-    all[LANES..end].copy_from_slice(s);
+    match s.len() {
+        0 => {}
+        1 => copy_ends::<1>(&mut bytes, s),
+        2..=3 => copy_ends::<2>(&mut bytes, s),
+        4..=7 => copy_ends::<4>(&mut bytes, s),
+        _ => copy_ends::<8>(&mut bytes, s),
+    }
     bytes
 }
 
-/// The numbers of a numeral of at most 16 bytes, from a copy of it that has as many bytes before it.
+/// Reads a numeral of at most 16 bytes from a copy with 16 bytes before it.
 #[inline]
 fn padded_numeral(s: &[u8], radix: Radix) -> Option<ShortNumeral>
     requires { length s.now ≤ LANES }
@@ -85,8 +103,8 @@ fn padded_numeral(s: &[u8], radix: Radix) -> Option<ShortNumeral>
     ending_numeral(&bytes[..LANES + s.len()], LANES, radix)
 }
 
-/// The numbers of a short numeral without 16 bytes before it, or with more than 16 itself. Apart from where it is used,
-/// which is the colder way of two.
+/// Reads a short numeral of more than 16 bytes, or without 16 bytes before it. It is not inlined, since it is the
+/// colder of two ways.
 #[inline(never)]
 fn numeral_alone(s: &[u8], radix: Radix) -> Option<ShortNumeral>
     requires { (radix ≢ Dec) → length s.now ≤ LANES }
@@ -101,8 +119,8 @@ fn numeral_alone(s: &[u8], radix: Radix) -> Option<ShortNumeral>
     }
 }
 
-/// What `numeral_alone` answers, matched by reference and copied here, and not where it is used: the answer of a call
-/// has room in memory, which is cleared where a function begins.
+/// Returns what `numeral_alone` returns, matched by reference and copied here and not in its caller: the result of a
+/// call has room in memory, which is cleared when a function begins.
 #[inline(always)]
 fn copy_alone(s: &[u8], radix: Radix) -> Option<ShortNumeral>
     requires { (radix ≢ Dec) → length s.now ≤ LANES }
@@ -117,10 +135,10 @@ fn copy_alone(s: &[u8], radix: Radix) -> Option<ShortNumeral>
     }
 }
 
-/// The numbers of a numeral that a text ends with from a place on: of one with at most 16 bytes, or of a decimal with
-/// at most 44, without an exponent, whose point is among its first 17 bytes and has at most 27 digits after it. `None`
-/// otherwise, and where the bytes are not a numeral; `scan` then says more. It is quickest where the text has 16 bytes
-/// before the numeral, and the radix is a constant. A step a byte of the numeral is taken, or none.
+/// Reads the numeral from index `from` to the end of a text: one of at most 16 bytes, or a decimal of at most 44,
+/// without an exponent, whose point is among its first 17 bytes and has at most 27 digits after it. `None` otherwise,
+/// or if the bytes are not a numeral; `scan` then says more. It is quickest if the text has 16 bytes before the numeral
+/// and the radix is a constant. It takes a step a byte of the numeral, or none.
 #[inline(always)]
 pub fn short_numeral<L: Ledger>(
     text: &[u8],
@@ -151,7 +169,7 @@ pub fn short_numeral<L: Ledger>(
     copy_alone(bytes_from(text, from), radix)
 }
 
-/// `short_numeral` of a text that is a decimal, whose code is where it is used.
+/// `short_numeral` of a text that is a decimal, inlined in its caller.
 #[inline(always)]
 pub fn short_decimal<L: Ledger>(s: &[u8], steps: &mut Steps<L>) -> Option<ShortNumeral>
     ensures numeral { IfSome result (λ n. IsNumeral Dec s.now) }

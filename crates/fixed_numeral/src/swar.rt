@@ -7,7 +7,7 @@ ghost use Rattle.std.specs.Simd.Lanes.{number_l};
 ghost use Rattle.std.specs.Str.Parse.{AllDigits, digits_value};
 ghost use Rattle.fixed_numeral.specs.Digits.{digits_in};
 
-/// Eight bytes from a place on, the first of them in the lowest byte.
+/// Returns the eight bytes from index `at` on, with the first in the lowest byte.
 #[tactic(auto, using(crate::proofs::LaneLemmas::eight_bytes))]
 #[inline(always)]
 pub(crate) fn word_at(bytes: &[u8], at: usize) -> u64
@@ -26,8 +26,8 @@ pub(crate) fn word_at(bytes: &[u8], at: usize) -> u64
     ])
 }
 
-/// Whether each of the eight bytes of a word is a decimal digit. The upper half of each is 3 from '0' on to the
-/// sixth byte after '9', and with 6 added it is still 3 for the digits alone.
+/// Whether each of the eight bytes of a word is a decimal digit. The upper half of a byte is 3 from '0' to the sixth
+/// byte after '9'. With 6 added it is still 3 only for the digits.
 #[tactic(auto, using(crate::proofs::LaneLemmas::sixes_fit, crate::proofs::LaneLemmas::eight_decimal))]
 #[inline(always)]
 pub(crate) fn are_decimal(word: u64) -> bool
@@ -38,8 +38,8 @@ pub(crate) fn are_decimal(word: u64) -> bool
         && ((word + 0x0606_0606_0606_0606) & 0xf0f0_f0f0_f0f0_f0f0) == 0x3030_3030_3030_3030
 }
 
-/// The values of eight digits, each in the byte of its digit. A letter has the bit 64, and the low half of its byte is
-/// 9 less than its value.
+/// Returns the values of eight digits, each in the byte of its digit. A letter has the bit 64, and the low half of its
+/// byte is 9 less than its value.
 #[inline(always)]
 fn digit_values(word: u64) -> u64
     ensures { (bs : List ℕ) → length bs ≡ 8 → length (digits_in bs) ≡ length bs → word ≡ number_l 256 bs
@@ -48,8 +48,8 @@ fn digit_values(word: u64) -> u64
     (word & 0x0f0f_0f0f_0f0f_0f0f) + ((word >> 6) & 0x0101_0101_0101_0101) * 9
 }
 
-/// The number that eight digits, each in a byte, spell in a base. Neighbours are joined to pairs, pairs to fours, and
-/// the two fours to the number, each with one multiplication for all.
+/// Returns the number that eight digits, each in a byte, spell in a base. Digits are joined to pairs, pairs to fours,
+/// and the two fours to the number, with one multiplication each time.
 #[tactic(auto, using(crate::proofs::LaneLemmas::eight_is))]
 #[inline(always)]
 fn number_of_eight(digits: u64, base: u64) -> u64
@@ -65,7 +65,7 @@ fn number_of_eight(digits: u64, base: u64) -> u64
     fours.wrapping_mul(fourth * 0x1_0000_0000 + 1) >> 32
 }
 
-/// The number that eight decimal digits spell.
+/// Returns the number that eight decimal digits spell.
 #[inline(always)]
 pub(crate) fn number_of_decimals(word: u64) -> u64
     ensures number { (bs : List ℕ) → length bs ≡ 8 → AllDigits 10 bs → word ≡ number_l 256 bs
@@ -75,8 +75,8 @@ pub(crate) fn number_of_decimals(word: u64) -> u64
     number_of_eight(word & 0x0f0f_0f0f_0f0f_0f0f, 10)
 }
 
-/// The number that the first bytes of a word spell, one to eight, where they are decimal digits. Zeros are put before
-/// them.
+/// Returns the number that the first `count` bytes of a word, one to eight, spell if they are decimal digits. Zeros are
+/// put before them.
 #[inline(always)]
 pub(crate) fn first_decimals(word: u64, count: usize) -> Option<u64>
     requires some { 0 < count }
@@ -93,7 +93,7 @@ pub(crate) fn first_decimals(word: u64, count: usize) -> Option<u64>
     }
 }
 
-/// The last bytes of a word, by their count.
+/// Masks for the last bytes of a word, by their count.
 const LAST_BYTES: [u64; 9] = [
     0,
     0xff00_0000_0000_0000,
@@ -106,7 +106,7 @@ const LAST_BYTES: [u64; 9] = [
     0xffff_ffff_ffff_ffff,
 ];
 
-/// A zero for each byte before them.
+/// The digit 0 for each byte before the last ones, by their count.
 const ZEROS_BEFORE: [u64; 9] = [
     0x3030_3030_3030_3030,
     0x0030_3030_3030_3030,
@@ -119,7 +119,7 @@ const ZEROS_BEFORE: [u64; 9] = [
     0,
 ];
 
-/// The last bytes of a word after zeros. Tables, so that no byte at all is no case of its own.
+/// Returns the last `count` bytes of a word after zeros. With tables, a count of 0 needs no case of its own.
 #[tactic(auto, using(crate::proofs::DecimalLemmas::padded_is))]
 #[inline(always)]
 fn after_zeros(word: u64, count: usize) -> u64
@@ -130,8 +130,8 @@ fn after_zeros(word: u64, count: usize) -> u64
     (word & LAST_BYTES[count]) + ZEROS_BEFORE[count]
 }
 
-/// The number that the last bytes of a word spell, at most eight, where they are decimal digits. The bytes before them
-/// are made zeros.
+/// Returns the number that the last `count` bytes of a word, at most eight, spell if they are decimal digits. The bytes
+/// before them are made zeros.
 #[tactic(auto, using(crate::proofs::DecimalLemmas::last_digits))]
 #[inline(always)]
 pub(crate) fn last_decimals(word: u64, count: usize) -> Option<u64>
@@ -147,8 +147,8 @@ pub(crate) fn last_decimals(word: u64, count: usize) -> Option<u64>
     }
 }
 
-/// The number that the last bytes of a word spell in a base, at most eight, where they are digits. Base 10 has no
-/// letters.
+/// Returns the number that the last `count` bytes of a word, at most eight, spell in a base if they are digits. Base 10
+/// has no letters.
 #[inline(always)]
 pub(crate) fn last_number(word: u64, count: usize, base: u64) -> u64
     requires few { count ≤ 8 }
@@ -165,8 +165,8 @@ pub(crate) fn last_number(word: u64, count: usize, base: u64) -> u64
     number_of_eight(digit_values(padded), base)
 }
 
-/// The number that the first digits of a slice spell in a base, fewer than eight, where each of its bytes is a digit,
-/// and there are at least eight. The word is moved up until there are zeros before them.
+/// Returns the number that the first `count` digits of a slice, fewer than eight, spell in a base. The slice has at
+/// least eight bytes, all of them digits. The word is shifted up until zeros come before the digits.
 #[inline(always)]
 fn number_of_first(bytes: &[u8], count: usize, base: u64) -> u64
     requires long { 8 ≤ length bytes.now }
@@ -183,8 +183,8 @@ fn number_of_first(bytes: &[u8], count: usize, base: u64) -> u64
     number_of_eight(digit_values(word_at(bytes, 0)) << (64 - 8 * count), base)
 }
 
-/// The number that eight digits or more spell in a base, where each byte is a digit. Eight are taken at a time, after
-/// the first few that are left over.
+/// Returns the number that eight or more bytes spell in a base. Each byte is a digit. Eight are taken at a time, after
+/// the few left over at the front.
 #[inline(always)]
 fn number_by_eights(bytes: &[u8], base: u64) -> u64
     requires long { 8 ≤ length bytes.now }
@@ -207,7 +207,7 @@ fn number_by_eights(bytes: &[u8], base: u64) -> u64
     number
 }
 
-/// What `number_by_eights` answers. The powers of base 10 are constants.
+/// Returns what `number_by_eights` returns. The powers of base 10 are constants.
 pub(crate) fn long_number(bytes: &[u8], base: u64) -> u64
     requires long { 8 ≤ length bytes.now }
     requires plain { length (digits_in bytes.now) ≡ length bytes.now }

@@ -22,7 +22,7 @@ same_flag true false P f g = sym (g.1 (f.0 refl))
 same_flag false true P f g = f.1 (g.0 refl)
 same_flag false false P f g = refl
 
--- one kind: that of the cause, or Overflow where there is none
+-- two kinds are equal if each is that of the cause or, without a cause, Overflow
 kinds : (Cause : ParseErrorKind → Type 0) (Out : Type 0) → ((k l : ParseErrorKind) → Cause k → Cause l → k ≡ l) → ((k : ParseErrorKind) → Cause k → Out → ⊥)
     → (k l : ParseErrorKind) → Cause k ⊎ ((k ≡ Overflow) × Out) → Cause l ⊎ ((l ≡ Overflow) × Out) → k ≡ l
 kinds Cause Out one none k l (inl c) (inl d) = one k l c d

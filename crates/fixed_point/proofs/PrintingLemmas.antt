@@ -1,4 +1,4 @@
--- What is written is what the definitions say.
+-- The written text is the one in the definitions.
 use Rattle.std.proofs.Common.{◌≡◌, ℕ, ◌+◌, ◌≤◌, ◌++◌, List, [], ◌∷◌, ap, ℤ, pos, refl, sym, ◌∙◌, arith, append-nil, append_assoc, length-append, subst}
 use Rattle.std.proofs.lemmas.List.{length-replicate}
 use Rattle.std.proofs.lemmas.List.Folds.{concat-append}
@@ -34,7 +34,7 @@ rounded_text_split : (k : ℕ) (c : ℤ) (f : ℕ) → rounded_text NearestEven 
 unfolding rounded_text
 rounded_text_split k c f = rw (not_negative (unsigned_abs c)) refl
 
--- ---- a formatter without a width, `+` and `#` adds nothing but the sign
+-- ---- without a width, `+` and `#`, a formatter adds only the sign
 either : (t : Bool) (x y z : ℕ) → x ≡ z → y ≡ z → (if t then x else y) ≡ z
 either true x y z a b = a
 either false x y z a b = b
@@ -111,7 +111,7 @@ written_on took f a g b h p q = record {
   flush = q.flush;
 }
 
--- ---- digits and zeros, as the options have them padded
+-- ---- digits and zeros, padded by the options
 repeat_one : (n b : ℕ) → repeat n (b ∷ []) ≡ replicate n b
 repeat_one zero b = refl
 repeat_one (suc n) b = ap (λ (t : List ℕ). b ∷ t) (repeat_one n b)

@@ -1,5 +1,5 @@
--- Numerals that are known where a call is written: what a caller of a strict reading call names in its `using`.
--- They have an optional sign, digits, and optionally a point and digits, without an exponent.
+-- Numerals that are known when a call is written: a caller of a strict reading call cites these lemmas in its `using`.
+-- Such a numeral has an optional sign, digits, and optionally a point and digits, but no exponent.
 use Rattle.std.proofs.Common.{◌≡◌, ℕ, ◌+◌, ◌*◌, ◌/◌, ◌%◌, ◌^◌, ◌<◌, ◌==◌, ◌&&◌, ◌++◌, Bool, true, false, IsTrue, List, [], ◌∷◌, length, ℤ, arith, refl, sym, ap, ◌∙◌, mod-lt, div-add-mod'}
 use Rattle.std.specs.Prelude.{if◌then◌else◌, nat_lt, Option, Some, None, IfSome, option_to_list}
 use Rattle.std.specs.Char.{digit_value}
@@ -48,7 +48,7 @@ is_plain_numeral r bs = are_digits (base r) (whole_of (after_sign bs)) && (are_d
 abbrev pub nearest_of : ℕ → ℕ → ℕ
 nearest_of num den = if nat_lt den (2 * (num % den)) then num / den + 1 else (if (2 * (num % den) == den) && (num / den % 2 == 1) then num / den + 1 else num / den)
 
--- the read number of a plain numeral for a fraction length f
+-- the number that a plain numeral reads as at fraction length f
 abbrev pub number_of : Radix → List ℕ → ℕ → ℤ
 number_of r bs f = signed (sign_of bs) (nearest_of ((magnitude r (parts_of bs)).num * 2 ^ f) (magnitude r (parts_of bs)).den)
 
@@ -74,7 +74,7 @@ text_is bs =
     let e : (fraction_text (fraction_of (after_sign bs)) ++ []) ≡ fraction_text (fraction_of (after_sign bs)) = append-nil _ in
     sign_split bs ∙ ap (λ xs. option_to_list (sign_of bs) ++ xs) (split_is (after_sign bs) ∙ ap (λ xs. whole_of (after_sign bs) ++ xs) (sym e))
 
--- ---- the tests say what they are called
+-- ---- the tests mean what their names say
 sign_by : (t : Bool) (b : ℕ) → is_sign b ≡ t → IfSome (if t then Some b else None) (λ c. IsTrue (is_sign c))
 sign_by true b e = e
 sign_by false b e = tt
@@ -130,7 +130,7 @@ number_is r bs f = record {
   value = refl;
 }
 
--- a plain numeral whose number is in range: what a strict reading call requires
+-- a plain numeral reads in range, as a strict reading call requires, if its number is in range
 pub reads_in_range : (r : Radix) (bs : List ℕ) (f : ℕ) (s : Bool) (n : ℕ) → IsTrue (is_plain_numeral r bs) → IsInRange s n (number_of r bs f) → IsReadInRange NearestEven r (HasNumeral r bs) f s n
 reads_in_range r bs f s n e h = record {
   parts = parts_of bs;

@@ -8,7 +8,7 @@ use Rattle.fixed_numeral.specs.declared.radix.Radix.{Radix}
 use Rattle.fixed_point.specs.Readings.{IsImageReading, IsLiteralReading, IsOverflowingReading, IsPlainReading}
 use Rattle.fixed_point.specs.Readings.{IsRefusing}
 
--- two answers are one: bits of one number, with one verdict where there is one, or one kind
+-- two answers are the same: both Ok with values that `Same` relates, or both Err of the same kind
 abbrev pub AreSame : {A : Type 0} → (A → A → Type 0) → Result A ParseErrorKind → Result A ParseErrorKind → Type 0
 AreSame Same (Ok x) (Ok y) = Same x y
 AreSame Same (Ok x) (Err l) = ⊥

@@ -14,6 +14,10 @@ use fixed_bits::Inner;
 use fixed_convert::{Floored, FromFixed, Num, NumTarget, ToFixed, floor_into};
 
 impl<I: Inner, const FRAC: u32> Num for Fixed<I, FRAC> {
+    const SIGNED: bool = I::SIGNED;
+
+    const WIDTH: u32 = I::BITS;
+
     const FRAC: u32 = FRAC;
 
     ghost SIGNED = { I.SIGNED };
@@ -47,7 +51,7 @@ impl<I: Inner, const FRAC: u32> NumTarget for Fixed<I, FRAC> {
 
 /// From the integers, `bool` and every `Fixed`.
 impl<I: Inner, const FRAC: u32> Fixed<I, FRAC> {
-    /// The moved number, which has to fit.
+    /// The moved number, which must fit.
     #[inline]
     pub fn from_num<S: ToFixed>(src: S) -> Self
         requires source { S.FRAC ≤ S.WIDTH }
@@ -58,7 +62,7 @@ impl<I: Inner, const FRAC: u32> Fixed<I, FRAC> {
         src.to_fixed()
     }
 
-    /// The moved number; `None` exactly where it does not fit.
+    /// The moved number; `None` exactly if it does not fit.
     #[inline]
     pub fn checked_from_num<S: ToFixed>(src: S) -> Option<Self>
         requires source { S.FRAC ≤ S.WIDTH }
@@ -69,7 +73,7 @@ impl<I: Inner, const FRAC: u32> Fixed<I, FRAC> {
         src.checked_to_fixed()
     }
 
-    /// The moved number; the nearer end of the range where it does not fit.
+    /// The moved number; the nearer end of the range if it does not fit.
     #[inline]
     pub fn saturating_from_num<S: ToFixed>(src: S) -> Self
         requires source { S.FRAC ≤ S.WIDTH }
@@ -79,7 +83,7 @@ impl<I: Inner, const FRAC: u32> Fixed<I, FRAC> {
         src.saturating_to_fixed()
     }
 
-    /// The moved number; its bits wrap around where it does not fit.
+    /// The moved number; its bits wrap around if it does not fit.
     #[inline]
     pub fn wrapping_from_num<S: ToFixed>(src: S) -> Self
         requires source { S.FRAC ≤ S.WIDTH }
@@ -89,7 +93,7 @@ impl<I: Inner, const FRAC: u32> Fixed<I, FRAC> {
         src.wrapping_to_fixed()
     }
 
-    /// The moved number, which has to fit.
+    /// The moved number, which must fit.
     #[inline]
     pub fn strict_from_num<S: ToFixed>(src: S) -> Self
         requires source { S.FRAC ≤ S.WIDTH }
@@ -111,7 +115,7 @@ impl<I: Inner, const FRAC: u32> Fixed<I, FRAC> {
         src.overflowing_to_fixed()
     }
 
-    /// The moved number of another fraction length of the same integer type, which has to fit.
+    /// The moved number of another fraction length of the same integer type, which must fit.
     #[inline]
     pub fn const_from_fixed<const SRC: u32>(src: Fixed<I, SRC>) -> Self
         requires source { SRC ≤ I.BITS }
@@ -122,7 +126,7 @@ impl<I: Inner, const FRAC: u32> Fixed<I, FRAC> {
         Self::from_num(src)
     }
 
-    /// The whole number `src`, whose bits `src` · 2^`FRAC` have to fit.
+    /// The whole number `src`, whose bits `src` · 2^`FRAC` must fit.
     #[inline]
     pub fn const_from_int(src: I) -> Self
         requires target { FRAC ≤ I.BITS }
@@ -135,7 +139,7 @@ impl<I: Inner, const FRAC: u32> Fixed<I, FRAC> {
 
 /// To the integers and every `Fixed`.
 impl<I: Inner, const FRAC: u32> Fixed<I, FRAC> {
-    /// The moved number, which has to fit.
+    /// The moved number, which must fit.
     #[inline]
     pub fn to_num<D: FromFixed>(self) -> D
         requires source { FRAC ≤ I.BITS }
@@ -146,7 +150,7 @@ impl<I: Inner, const FRAC: u32> Fixed<I, FRAC> {
         D::from_fixed(self)
     }
 
-    /// The moved number; `None` exactly where it does not fit.
+    /// The moved number; `None` exactly if it does not fit.
     #[inline]
     pub fn checked_to_num<D: FromFixed>(self) -> Option<D>
         requires source { FRAC ≤ I.BITS }
@@ -157,7 +161,7 @@ impl<I: Inner, const FRAC: u32> Fixed<I, FRAC> {
         D::checked_from_fixed(self)
     }
 
-    /// The moved number; the nearer end of the target's range where it does not fit.
+    /// The moved number; the nearer end of the target's range if it does not fit.
     #[inline]
     pub fn saturating_to_num<D: FromFixed>(self) -> D
         requires source { FRAC ≤ I.BITS }
@@ -167,7 +171,7 @@ impl<I: Inner, const FRAC: u32> Fixed<I, FRAC> {
         D::saturating_from_fixed(self)
     }
 
-    /// The moved number; its bits wrap around where it does not fit.
+    /// The moved number; its bits wrap around if it does not fit.
     #[inline]
     pub fn wrapping_to_num<D: FromFixed>(self) -> D
         requires source { FRAC ≤ I.BITS }
@@ -177,7 +181,7 @@ impl<I: Inner, const FRAC: u32> Fixed<I, FRAC> {
         D::wrapping_from_fixed(self)
     }
 
-    /// The moved number, which has to fit.
+    /// The moved number, which must fit.
     #[inline]
     pub fn strict_to_num<D: FromFixed>(self) -> D
         requires source { FRAC ≤ I.BITS }

@@ -3,8 +3,8 @@
 use crate::number::Fixed;
 use fixed_bits::Inner;
 
-/// Zero and the ends of the range, as `Ends::ZERO`, `Ends::MIN` and `Ends::MAX` of a type. A trait has them, since
-/// proofs know nothing of the value of a constant of a generic type itself.
+/// Zero and the ends of the range, as `Ends::ZERO`, `Ends::MIN` and `Ends::MAX` of a type. They are in a trait because
+/// proofs know nothing about the value of a constant of a generic type itself.
 pub trait Ends: Sized {
     /// The number with the bits 0.
     const ZERO: Self;

@@ -114,7 +114,7 @@ fn write_in_base<W: fmt::Write>(
     f.pad_integral(value >= 0, prefix(base), text.as_ascii_str())
 }
 
-/// What `#` puts before the digits.
+/// Returns the prefix that `#` puts before the digits.
 fn prefix(base: Base) -> &'static str
     ensures { result.now ≡ prefix_of base }
 {

@@ -2,8 +2,8 @@
 //!
 //! `Fixed<I, FRAC>` holds bits of the integer type `I`, 8 to 64 of them, and is the number bits · 2^-FRAC. So its ulp,
 //! the distance between two neighbouring numbers, is 2^-FRAC. Contracts see a `Fixed` as its bits: `I.number x` is the
-//! whole number of ulps of `x`. The types of other crates that calls take and answer are handed on from here, so that a
-//! program lists this crate alone.
+//! whole number of ulps of `x`. Types of other crates that calls take and return are re-exported from here, so that a
+//! program lists only this crate.
 #![tactic(auto)]
 
 pub mod conversion;

@@ -1,5 +1,5 @@
-//! Conversions that lose nothing, as `From`: between integers and numbers without fraction bits, and to a wider type
-//! with the same fraction length. `lossless_from` of fixed_convert serves every other pair of types.
+//! Lossless conversions, as `From`: between integers and numbers without fraction bits, and to a wider type with the
+//! same fraction length. `lossless_from` of fixed_convert serves every other pair of types.
 
 ghost use Rattle.std.specs.Prelude.{◌≡◌, pos};
 

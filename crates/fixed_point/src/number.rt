@@ -7,8 +7,8 @@ use std::marker::Model;
 
 /// A fixed-point number: `bits` ulps of 2^-`FRAC`. Equality, order and hash are those of the bits.
 ///
-/// `FRAC` may be above the width of `I` where a call does not require otherwise; such a number has leading zeros after
-/// the point and is shown as `(bits >> FRAC)`.
+/// `FRAC` may be above the width of `I` unless a call requires otherwise; such a number has leading zeros after the
+/// point and is shown as `(bits >> FRAC)`.
 #[derive(Clone, Copy, PartialEq, Eq, PartialOrd, Ord, Hash)]
 pub struct Fixed<I, const FRAC: u32> {
     pub(crate) bits: I,
@@ -63,7 +63,7 @@ impl<I: Inner, const FRAC: u32> Fixed<I, FRAC> {
         self.bits
     }
 
-    /// The number with these bits, if there are any.
+    /// The number with these bits, if any.
     #[inline]
     pub(crate) fn from_some(bits: Option<I>) -> Option<Self>
         ensures { result ≡ bits }

@@ -1,7 +1,7 @@
 //! Reading numbers from text and from bytes: 40 calls that round to the nearest ulp with ties to even, by form and
-//! radix, and four with a radix and a mode of the caller's.
+//! radix, and four that take a radix and a mode.
 //!
-//! A text is read as a numeral of its radix. Where it is none, each call but the strict ones answers the kind of its
+//! A text is read as a numeral of its radix. If it is not one, each call except the strict ones returns the kind of its
 //! cause, a `ParseErrorKind` other than Overflow.
 
 ghost use Rattle.std.specs.Prelude.{◌≤◌};
@@ -19,7 +19,7 @@ use fixed_numeral::{ParseFixedError, Radix};
 
 /// Plain: a number out of range is refused as Overflow.
 impl<I: Inner, const FRAC: u32> Fixed<I, FRAC> {
-    /// Reads a decimal numeral; Overflow where the number is out of range.
+    /// Reads a decimal numeral; Overflow if the number is out of range.
     #[inline]
     pub fn from_str(src: &str) -> Result<Self, ParseFixedError>
         requires { FRAC ≤ I.BITS }
@@ -28,7 +28,7 @@ impl<I: Inner, const FRAC: u32> Fixed<I, FRAC> {
         read(src.as_bytes(), Radix::Dec, ReadMode::NearestEven)
     }
 
-    /// Reads a binary numeral; Overflow where the number is out of range.
+    /// Reads a binary numeral; Overflow if the number is out of range.
     #[inline]
     pub fn from_str_binary(src: &str) -> Result<Self, ParseFixedError>
         requires { FRAC ≤ I.BITS }
@@ -37,7 +37,7 @@ impl<I: Inner, const FRAC: u32> Fixed<I, FRAC> {
         read(src.as_bytes(), Radix::Bin, ReadMode::NearestEven)
     }
 
-    /// Reads an octal numeral; Overflow where the number is out of range.
+    /// Reads an octal numeral; Overflow if the number is out of range.
     #[inline]
     pub fn from_str_octal(src: &str) -> Result<Self, ParseFixedError>
         requires { FRAC ≤ I.BITS }
@@ -46,7 +46,7 @@ impl<I: Inner, const FRAC: u32> Fixed<I, FRAC> {
         read(src.as_bytes(), Radix::Oct, ReadMode::NearestEven)
     }
 
-    /// Reads a hexadecimal numeral; Overflow where the number is out of range.
+    /// Reads a hexadecimal numeral; Overflow if the number is out of range.
     #[inline]
     pub fn from_str_hex(src: &str) -> Result<Self, ParseFixedError>
         requires { FRAC ≤ I.BITS }
@@ -55,7 +55,7 @@ impl<I: Inner, const FRAC: u32> Fixed<I, FRAC> {
         read(src.as_bytes(), Radix::Hex, ReadMode::NearestEven)
     }
 
-    /// Reads a decimal numeral; Overflow where the number is out of range.
+    /// Reads a decimal numeral; Overflow if the number is out of range.
     #[inline]
     pub fn from_ascii(src: &[u8]) -> Result<Self, ParseFixedError>
         requires { FRAC ≤ I.BITS }
@@ -64,7 +64,7 @@ impl<I: Inner, const FRAC: u32> Fixed<I, FRAC> {
         read(src, Radix::Dec, ReadMode::NearestEven)
     }
 
-    /// Reads a binary numeral; Overflow where the number is out of range.
+    /// Reads a binary numeral; Overflow if the number is out of range.
     #[inline]
     pub fn from_ascii_binary(src: &[u8]) -> Result<Self, ParseFixedError>
         requires { FRAC ≤ I.BITS }
@@ -73,7 +73,7 @@ impl<I: Inner, const FRAC: u32> Fixed<I, FRAC> {
         read(src, Radix::Bin, ReadMode::NearestEven)
     }
 
-    /// Reads an octal numeral; Overflow where the number is out of range.
+    /// Reads an octal numeral; Overflow if the number is out of range.
     #[inline]
     pub fn from_ascii_octal(src: &[u8]) -> Result<Self, ParseFixedError>
         requires { FRAC ≤ I.BITS }
@@ -82,7 +82,7 @@ impl<I: Inner, const FRAC: u32> Fixed<I, FRAC> {
         read(src, Radix::Oct, ReadMode::NearestEven)
     }
 
-    /// Reads a hexadecimal numeral; Overflow where the number is out of range.
+    /// Reads a hexadecimal numeral; Overflow if the number is out of range.
     #[inline]
     pub fn from_ascii_hex(src: &[u8]) -> Result<Self, ParseFixedError>
         requires { FRAC ≤ I.BITS }
@@ -244,7 +244,7 @@ impl<I: Inner, const FRAC: u32> Fixed<I, FRAC> {
 
 /// Overflowing: the Wrapping image, and whether the number is out of range.
 impl<I: Inner, const FRAC: u32> Fixed<I, FRAC> {
-    /// Reads a decimal numeral; the Wrapping image, and whether the number is out of range.
+    /// Reads a decimal numeral. Returns the Wrapping image, and whether the number is out of range.
     #[inline]
     pub fn overflowing_from_str(src: &str) -> Result<(Self, bool), ParseFixedError>
         requires { FRAC ≤ I.BITS }
@@ -253,7 +253,7 @@ impl<I: Inner, const FRAC: u32> Fixed<I, FRAC> {
         overflowing_read(src.as_bytes(), Radix::Dec, ReadMode::NearestEven)
     }
 
-    /// Reads a binary numeral; the Wrapping image, and whether the number is out of range.
+    /// Reads a binary numeral. Returns the Wrapping image, and whether the number is out of range.
     #[inline]
     pub fn overflowing_from_str_binary(src: &str) -> Result<(Self, bool), ParseFixedError>
         requires { FRAC ≤ I.BITS }
@@ -262,7 +262,7 @@ impl<I: Inner, const FRAC: u32> Fixed<I, FRAC> {
         overflowing_read(src.as_bytes(), Radix::Bin, ReadMode::NearestEven)
     }
 
-    /// Reads an octal numeral; the Wrapping image, and whether the number is out of range.
+    /// Reads an octal numeral. Returns the Wrapping image, and whether the number is out of range.
     #[inline]
     pub fn overflowing_from_str_octal(src: &str) -> Result<(Self, bool), ParseFixedError>
         requires { FRAC ≤ I.BITS }
@@ -271,7 +271,7 @@ impl<I: Inner, const FRAC: u32> Fixed<I, FRAC> {
         overflowing_read(src.as_bytes(), Radix::Oct, ReadMode::NearestEven)
     }
 
-    /// Reads a hexadecimal numeral; the Wrapping image, and whether the number is out of range.
+    /// Reads a hexadecimal numeral. Returns the Wrapping image, and whether the number is out of range.
     #[inline]
     pub fn overflowing_from_str_hex(src: &str) -> Result<(Self, bool), ParseFixedError>
         requires { FRAC ≤ I.BITS }
@@ -280,7 +280,7 @@ impl<I: Inner, const FRAC: u32> Fixed<I, FRAC> {
         overflowing_read(src.as_bytes(), Radix::Hex, ReadMode::NearestEven)
     }
 
-    /// Reads a decimal numeral; the Wrapping image, and whether the number is out of range.
+    /// Reads a decimal numeral. Returns the Wrapping image, and whether the number is out of range.
     #[inline]
     pub fn overflowing_from_ascii(src: &[u8]) -> Result<(Self, bool), ParseFixedError>
         requires { FRAC ≤ I.BITS }
@@ -289,7 +289,7 @@ impl<I: Inner, const FRAC: u32> Fixed<I, FRAC> {
         overflowing_read(src, Radix::Dec, ReadMode::NearestEven)
     }
 
-    /// Reads a binary numeral; the Wrapping image, and whether the number is out of range.
+    /// Reads a binary numeral. Returns the Wrapping image, and whether the number is out of range.
     #[inline]
     pub fn overflowing_from_ascii_binary(src: &[u8]) -> Result<(Self, bool), ParseFixedError>
         requires { FRAC ≤ I.BITS }
@@ -298,7 +298,7 @@ impl<I: Inner, const FRAC: u32> Fixed<I, FRAC> {
         overflowing_read(src, Radix::Bin, ReadMode::NearestEven)
     }
 
-    /// Reads an octal numeral; the Wrapping image, and whether the number is out of range.
+    /// Reads an octal numeral. Returns the Wrapping image, and whether the number is out of range.
     #[inline]
     pub fn overflowing_from_ascii_octal(src: &[u8]) -> Result<(Self, bool), ParseFixedError>
         requires { FRAC ≤ I.BITS }
@@ -307,7 +307,7 @@ impl<I: Inner, const FRAC: u32> Fixed<I, FRAC> {
         overflowing_read(src, Radix::Oct, ReadMode::NearestEven)
     }
 
-    /// Reads a hexadecimal numeral; the Wrapping image, and whether the number is out of range.
+    /// Reads a hexadecimal numeral. Returns the Wrapping image, and whether the number is out of range.
     #[inline]
     pub fn overflowing_from_ascii_hex(src: &[u8]) -> Result<(Self, bool), ParseFixedError>
         requires { FRAC ≤ I.BITS }
@@ -317,9 +317,9 @@ impl<I: Inner, const FRAC: u32> Fixed<I, FRAC> {
     }
 }
 
-/// Strict: the text has to be a numeral whose number is in range.
+/// Strict: the text must be a numeral whose number is in range.
 impl<I: Inner, const FRAC: u32> Fixed<I, FRAC> {
-    /// Reads a decimal numeral, which the text has to be, with a number in range.
+    /// Reads a text that must be a decimal numeral with a number in range.
     #[inline]
     pub fn strict_from_str(src: &str) -> Self
         requires frac { FRAC ≤ I.BITS }
@@ -329,7 +329,7 @@ impl<I: Inner, const FRAC: u32> Fixed<I, FRAC> {
         strict_read(src.as_bytes(), Radix::Dec)
     }
 
-    /// Reads a binary numeral, which the text has to be, with a number in range.
+    /// Reads a text that must be a binary numeral with a number in range.
     #[inline]
     pub fn strict_from_str_binary(src: &str) -> Self
         requires frac { FRAC ≤ I.BITS }
@@ -339,7 +339,7 @@ impl<I: Inner, const FRAC: u32> Fixed<I, FRAC> {
         strict_read(src.as_bytes(), Radix::Bin)
     }
 
-    /// Reads an octal numeral, which the text has to be, with a number in range.
+    /// Reads a text that must be an octal numeral with a number in range.
     #[inline]
     pub fn strict_from_str_octal(src: &str) -> Self
         requires frac { FRAC ≤ I.BITS }
@@ -349,7 +349,7 @@ impl<I: Inner, const FRAC: u32> Fixed<I, FRAC> {
         strict_read(src.as_bytes(), Radix::Oct)
     }
 
-    /// Reads a hexadecimal numeral, which the text has to be, with a number in range.
+    /// Reads a text that must be a hexadecimal numeral with a number in range.
     #[inline]
     pub fn strict_from_str_hex(src: &str) -> Self
         requires frac { FRAC ≤ I.BITS }
@@ -359,7 +359,7 @@ impl<I: Inner, const FRAC: u32> Fixed<I, FRAC> {
         strict_read(src.as_bytes(), Radix::Hex)
     }
 
-    /// Reads a decimal numeral, which the text has to be, with a number in range.
+    /// Reads a text that must be a decimal numeral with a number in range.
     #[inline]
     pub fn strict_from_ascii(src: &[u8]) -> Self
         requires frac { FRAC ≤ I.BITS }
@@ -369,7 +369,7 @@ impl<I: Inner, const FRAC: u32> Fixed<I, FRAC> {
         strict_read(src, Radix::Dec)
     }
 
-    /// Reads a binary numeral, which the text has to be, with a number in range.
+    /// Reads a text that must be a binary numeral with a number in range.
     #[inline]
     pub fn strict_from_ascii_binary(src: &[u8]) -> Self
         requires frac { FRAC ≤ I.BITS }
@@ -379,7 +379,7 @@ impl<I: Inner, const FRAC: u32> Fixed<I, FRAC> {
         strict_read(src, Radix::Bin)
     }
 
-    /// Reads an octal numeral, which the text has to be, with a number in range.
+    /// Reads a text that must be an octal numeral with a number in range.
     #[inline]
     pub fn strict_from_ascii_octal(src: &[u8]) -> Self
         requires frac { FRAC ≤ I.BITS }
@@ -389,7 +389,7 @@ impl<I: Inner, const FRAC: u32> Fixed<I, FRAC> {
         strict_read(src, Radix::Oct)
     }
 
-    /// Reads a hexadecimal numeral, which the text has to be, with a number in range.
+    /// Reads a text that must be a hexadecimal numeral with a number in range.
     #[inline]
     pub fn strict_from_ascii_hex(src: &[u8]) -> Self
         requires frac { FRAC ≤ I.BITS }
@@ -400,9 +400,9 @@ impl<I: Inner, const FRAC: u32> Fixed<I, FRAC> {
     }
 }
 
-/// With a radix and a rounding mode of the caller's.
+/// With the caller's radix and rounding mode.
 impl<I: Inner, const FRAC: u32> Fixed<I, FRAC> {
-    /// Reads a numeral in a mode; the Wrapping image, and whether the number is out of range.
+    /// Reads a numeral in a mode. Returns the Wrapping image, and whether the number is out of range.
     #[inline]
     pub fn overflowing_from_ascii_mode(
         src: &[u8],
@@ -441,7 +441,7 @@ impl<I: Inner, const FRAC: u32> Fixed<I, FRAC> {
         saturating_read(src, radix, mode)
     }
 
-    /// Reads a numeral in a mode; Overflow where the number is out of range.
+    /// Reads a numeral in a mode; Overflow if the number is out of range.
     #[inline]
     pub fn from_ascii_mode(
         src: &[u8],

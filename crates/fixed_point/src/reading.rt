@@ -15,7 +15,7 @@ use fixed_read::{
     wrapping_from_str_radix_mode,
 };
 
-/// The number itself; Overflow where it is out of range.
+/// Reads the number itself; Overflow if it is out of range.
 #[inline]
 pub(crate) fn read<I: Inner, const FRAC: u32>(
     src: &[u8],
@@ -31,7 +31,7 @@ pub(crate) fn read<I: Inner, const FRAC: u32>(
     }
 }
 
-/// The Saturating image.
+/// Reads the Saturating image.
 #[inline]
 pub(crate) fn saturating_read<I: Inner, const FRAC: u32>(
     src: &[u8],
@@ -47,7 +47,7 @@ pub(crate) fn saturating_read<I: Inner, const FRAC: u32>(
     }
 }
 
-/// The Wrapping image.
+/// Reads the Wrapping image.
 #[inline]
 pub(crate) fn wrapping_read<I: Inner, const FRAC: u32>(
     src: &[u8],
@@ -63,7 +63,7 @@ pub(crate) fn wrapping_read<I: Inner, const FRAC: u32>(
     }
 }
 
-/// The Wrapping image, and whether the number is out of range.
+/// Reads the Wrapping image, and whether the number is out of range.
 #[inline]
 pub(crate) fn overflowing_read<I: Inner, const FRAC: u32>(
     src: &[u8],
@@ -79,7 +79,7 @@ pub(crate) fn overflowing_read<I: Inner, const FRAC: u32>(
     }
 }
 
-/// The number itself, of bytes that are a numeral with a number in range.
+/// Reads bytes that must be a numeral with a number in range.
 #[inline]
 pub(crate) fn strict_read<I: Inner, const FRAC: u32>(src: &[u8], radix: Radix) -> Fixed<I, FRAC>
     requires frac { FRAC ≤ I.BITS }

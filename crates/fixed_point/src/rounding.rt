@@ -14,9 +14,9 @@ use fixed_round::{
     Rounding, checked_whole, overflowing_whole, plain_whole, saturating_whole, wrapping_whole,
 };
 
-/// The whole part, the fraction part and rounding towards zero, none of which overflows.
+/// The whole part, the fraction part and rounding towards zero, which cannot overflow.
 impl<I: Inner, const FRAC: u32> Fixed<I, FRAC> {
-    /// The greatest whole number that is not above the number; zero where the format has no whole bits.
+    /// The greatest whole number that is not above the number; zero if the format has no whole bits.
     #[inline]
     pub fn int(self) -> Self
         requires { FRAC ≤ I.BITS }
@@ -25,7 +25,7 @@ impl<I: Inner, const FRAC: u32> Fixed<I, FRAC> {
         Fixed::from_bits(fixed_round::int(self.to_bits(), FRAC))
     }
 
-    /// The number less its whole part. It is never negative where the format has whole bits.
+    /// The number less its whole part. It is never negative if the format has whole bits.
     #[inline]
     pub fn frac(self) -> Self
         requires { FRAC ≤ I.BITS }
@@ -46,7 +46,7 @@ impl<I: Inner, const FRAC: u32> Fixed<I, FRAC> {
 
 /// The least whole number that is not below the number.
 impl<I: Inner, const FRAC: u32> Fixed<I, FRAC> {
-    /// The least whole number that is not below the number, which has to fit.
+    /// The least whole number that is not below the number, which must fit.
     #[inline]
     pub fn ceil(self) -> Self
         requires frac { FRAC ≤ I.BITS }
@@ -56,7 +56,7 @@ impl<I: Inner, const FRAC: u32> Fixed<I, FRAC> {
         Fixed::from_bits(plain_whole(self.to_bits(), FRAC, Rounding::Ceil))
     }
 
-    /// The least whole number that is not below the number; `None` exactly where it does not fit.
+    /// The least whole number that is not below the number; `None` exactly if it does not fit.
     #[inline]
     pub fn checked_ceil(self) -> Option<Self>
         requires { FRAC ≤ I.BITS }
@@ -66,7 +66,7 @@ impl<I: Inner, const FRAC: u32> Fixed<I, FRAC> {
         Self::from_some(checked_whole(self.to_bits(), FRAC, Rounding::Ceil))
     }
 
-    /// The least whole number that is not below the number; the nearer end of the range where it does not fit.
+    /// The least whole number that is not below the number; the nearer end of the range if it does not fit.
     #[inline]
     pub fn saturating_ceil(self) -> Self
         requires { FRAC ≤ I.BITS }
@@ -75,7 +75,7 @@ impl<I: Inner, const FRAC: u32> Fixed<I, FRAC> {
         Fixed::from_bits(saturating_whole(self.to_bits(), FRAC, Rounding::Ceil))
     }
 
-    /// The least whole number that is not below the number; its bits wrap around where it does not fit.
+    /// The least whole number that is not below the number; its bits wrap around if it does not fit.
     #[inline]
     pub fn wrapping_ceil(self) -> Self
         requires { FRAC ≤ I.BITS }
@@ -84,7 +84,7 @@ impl<I: Inner, const FRAC: u32> Fixed<I, FRAC> {
         Fixed::from_bits(wrapping_whole(self.to_bits(), FRAC, Rounding::Ceil))
     }
 
-    /// The least whole number that is not below the number, which has to fit.
+    /// The least whole number that is not below the number, which must fit.
     #[inline]
     pub fn strict_ceil(self) -> Self
         requires frac { FRAC ≤ I.BITS }
@@ -108,7 +108,7 @@ impl<I: Inner, const FRAC: u32> Fixed<I, FRAC> {
 
 /// The greatest whole number that is not above the number.
 impl<I: Inner, const FRAC: u32> Fixed<I, FRAC> {
-    /// The greatest whole number that is not above the number, which has to fit.
+    /// The greatest whole number that is not above the number, which must fit.
     #[inline]
     pub fn floor(self) -> Self
         requires frac { FRAC ≤ I.BITS }
@@ -118,7 +118,7 @@ impl<I: Inner, const FRAC: u32> Fixed<I, FRAC> {
         Fixed::from_bits(plain_whole(self.to_bits(), FRAC, Rounding::Floor))
     }
 
-    /// The greatest whole number that is not above the number; `None` exactly where it does not fit.
+    /// The greatest whole number that is not above the number; `None` exactly if it does not fit.
     #[inline]
     pub fn checked_floor(self) -> Option<Self>
         requires { FRAC ≤ I.BITS }
@@ -128,7 +128,7 @@ impl<I: Inner, const FRAC: u32> Fixed<I, FRAC> {
         Self::from_some(checked_whole(self.to_bits(), FRAC, Rounding::Floor))
     }
 
-    /// The greatest whole number that is not above the number; the nearer end of the range where it does not fit.
+    /// The greatest whole number that is not above the number; the nearer end of the range if it does not fit.
     #[inline]
     pub fn saturating_floor(self) -> Self
         requires { FRAC ≤ I.BITS }
@@ -137,7 +137,7 @@ impl<I: Inner, const FRAC: u32> Fixed<I, FRAC> {
         Fixed::from_bits(saturating_whole(self.to_bits(), FRAC, Rounding::Floor))
     }
 
-    /// The greatest whole number that is not above the number; its bits wrap around where it does not fit.
+    /// The greatest whole number that is not above the number; its bits wrap around if it does not fit.
     #[inline]
     pub fn wrapping_floor(self) -> Self
         requires { FRAC ≤ I.BITS }
@@ -146,7 +146,7 @@ impl<I: Inner, const FRAC: u32> Fixed<I, FRAC> {
         Fixed::from_bits(wrapping_whole(self.to_bits(), FRAC, Rounding::Floor))
     }
 
-    /// The greatest whole number that is not above the number, which has to fit.
+    /// The greatest whole number that is not above the number, which must fit.
     #[inline]
     pub fn strict_floor(self) -> Self
         requires frac { FRAC ≤ I.BITS }
@@ -168,9 +168,9 @@ impl<I: Inner, const FRAC: u32> Fixed<I, FRAC> {
     }
 }
 
-/// The nearest whole number, halfway between two the one farther from zero.
+/// The nearest whole number, ties away from zero.
 impl<I: Inner, const FRAC: u32> Fixed<I, FRAC> {
-    /// The nearest whole number, halfway between two the one farther from zero, which has to fit.
+    /// The nearest whole number, ties away from zero, which must fit.
     #[inline]
     pub fn round(self) -> Self
         requires frac { FRAC ≤ I.BITS }
@@ -180,7 +180,7 @@ impl<I: Inner, const FRAC: u32> Fixed<I, FRAC> {
         Fixed::from_bits(plain_whole(self.to_bits(), FRAC, Rounding::Round))
     }
 
-    /// The nearest whole number, halfway between two the one farther from zero; `None` exactly where it does not fit.
+    /// The nearest whole number, ties away from zero; `None` exactly if it does not fit.
     #[inline]
     pub fn checked_round(self) -> Option<Self>
         requires { FRAC ≤ I.BITS }
@@ -190,8 +190,7 @@ impl<I: Inner, const FRAC: u32> Fixed<I, FRAC> {
         Self::from_some(checked_whole(self.to_bits(), FRAC, Rounding::Round))
     }
 
-    /// The nearest whole number, halfway between two the one farther from zero; the nearer end of the range where it
-    /// does not fit.
+    /// The nearest whole number, ties away from zero; the nearer end of the range if it does not fit.
     #[inline]
     pub fn saturating_round(self) -> Self
         requires { FRAC ≤ I.BITS }
@@ -200,8 +199,7 @@ impl<I: Inner, const FRAC: u32> Fixed<I, FRAC> {
         Fixed::from_bits(saturating_whole(self.to_bits(), FRAC, Rounding::Round))
     }
 
-    /// The nearest whole number, halfway between two the one farther from zero; its bits wrap around where it does not
-    /// fit.
+    /// The nearest whole number, ties away from zero; its bits wrap around if it does not fit.
     #[inline]
     pub fn wrapping_round(self) -> Self
         requires { FRAC ≤ I.BITS }
@@ -210,7 +208,7 @@ impl<I: Inner, const FRAC: u32> Fixed<I, FRAC> {
         Fixed::from_bits(wrapping_whole(self.to_bits(), FRAC, Rounding::Round))
     }
 
-    /// The nearest whole number, halfway between two the one farther from zero, which has to fit.
+    /// The nearest whole number, ties away from zero, which must fit.
     #[inline]
     pub fn strict_round(self) -> Self
         requires frac { FRAC ≤ I.BITS }
@@ -220,8 +218,7 @@ impl<I: Inner, const FRAC: u32> Fixed<I, FRAC> {
         self.round()
     }
 
-    /// The nearest whole number, halfway between two the one farther from zero: its Wrapping image, and whether it does
-    /// not fit.
+    /// The nearest whole number, ties away from zero: its Wrapping image, and whether it does not fit.
     #[inline]
     pub fn overflowing_round(self) -> (Self, bool)
         requires { FRAC ≤ I.BITS }
@@ -233,9 +230,9 @@ impl<I: Inner, const FRAC: u32> Fixed<I, FRAC> {
     }
 }
 
-/// The nearest whole number, halfway between two the even one.
+/// The nearest whole number, ties to even.
 impl<I: Inner, const FRAC: u32> Fixed<I, FRAC> {
-    /// The nearest whole number, halfway between two the even one, which has to fit.
+    /// The nearest whole number, ties to even, which must fit.
     #[inline]
     pub fn round_ties_even(self) -> Self
         requires frac { FRAC ≤ I.BITS }
@@ -245,7 +242,7 @@ impl<I: Inner, const FRAC: u32> Fixed<I, FRAC> {
         Fixed::from_bits(plain_whole(self.to_bits(), FRAC, Rounding::RoundTiesEven))
     }
 
-    /// The nearest whole number, halfway between two the even one; `None` exactly where it does not fit.
+    /// The nearest whole number, ties to even; `None` exactly if it does not fit.
     #[inline]
     pub fn checked_round_ties_even(self) -> Option<Self>
         requires { FRAC ≤ I.BITS }
@@ -255,7 +252,7 @@ impl<I: Inner, const FRAC: u32> Fixed<I, FRAC> {
         Self::from_some(checked_whole(self.to_bits(), FRAC, Rounding::RoundTiesEven))
     }
 
-    /// The nearest whole number, halfway between two the even one; the nearer end of the range where it does not fit.
+    /// The nearest whole number, ties to even; the nearer end of the range if it does not fit.
     #[inline]
     pub fn saturating_round_ties_even(self) -> Self
         requires { FRAC ≤ I.BITS }
@@ -264,7 +261,7 @@ impl<I: Inner, const FRAC: u32> Fixed<I, FRAC> {
         Fixed::from_bits(saturating_whole(self.to_bits(), FRAC, Rounding::RoundTiesEven))
     }
 
-    /// The nearest whole number, halfway between two the even one; its bits wrap around where it does not fit.
+    /// The nearest whole number, ties to even; its bits wrap around if it does not fit.
     #[inline]
     pub fn wrapping_round_ties_even(self) -> Self
         requires { FRAC ≤ I.BITS }
@@ -273,7 +270,7 @@ impl<I: Inner, const FRAC: u32> Fixed<I, FRAC> {
         Fixed::from_bits(wrapping_whole(self.to_bits(), FRAC, Rounding::RoundTiesEven))
     }
 
-    /// The nearest whole number, halfway between two the even one, which has to fit.
+    /// The nearest whole number, ties to even, which must fit.
     #[inline]
     pub fn strict_round_ties_even(self) -> Self
         requires frac { FRAC ≤ I.BITS }
@@ -283,7 +280,7 @@ impl<I: Inner, const FRAC: u32> Fixed<I, FRAC> {
         self.round_ties_even()
     }
 
-    /// The nearest whole number, halfway between two the even one: its Wrapping image, and whether it does not fit.
+    /// The nearest whole number, ties to even: its Wrapping image, and whether it does not fit.
     #[inline]
     pub fn overflowing_round_ties_even(self) -> (Self, bool)
         requires { FRAC ≤ I.BITS }

@@ -9,7 +9,7 @@ use fixed_write::{NoMemory, Style, Text};
 use std::alloc::Global;
 
 impl<I: Inner, const FRAC: u32> Fixed<I, FRAC> {
-    /// The text of the number in a style, in memory that is taken once. The one refusal is that there is no memory.
+    /// Writes the number in a style, in memory that is allocated once. Fails only if there is no memory.
     pub fn to_text(self, alloc: Global, style: &Style) -> Result<Text, NoMemory>
         requires { FRAC ≤ I.BITS }
         ensures { IfOk result (λ text. IsStyledText style.now (I.number self) FRAC text) }

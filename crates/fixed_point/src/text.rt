@@ -1,4 +1,4 @@
-//! The texts of a number, in buffers that take no memory.
+//! The texts of a number, in buffers that do not allocate.
 
 ghost use Rattle.std.specs.Prelude.{◌≡◌};
 ghost use Rattle.std.specs.Str.{IsAscii};

@@ -1,5 +1,5 @@
 //! A name for each type of 8, 16, 32 and 64 bits: `I16F16` is `Fixed<i32, 16>`. A name says the sign rule, the whole
-//! bits and the fraction bits, and is the word of the type's format. `.ci/types.py` writes this file.
+//! bits and the fraction bits, and is the word of the type's format. `.ci/rules.py --write` writes this file.
 
 use crate::number::Fixed;
 

@@ -39,8 +39,7 @@ block_room block count bits most s l =
     plain : (ten a m : ℕ) → 0 < a → block < ten → a ≤ m → block * a < ten * m
     plain ten a m p h k = omega (arith, mul-le-mul_right a h, mul-le-mul_left ten k)
 
--- what is left of the room, over plain numbers: p = 2^frac, a = 2^bits, ten = 10^count
--- an ulp is at least twice what the digits after the block can make
+-- 5^count · 2^frac = 2^(frac - count) · 10^count
 scale_up : (count frac fives : ℕ) → fives ≡ 5 ^ count → count ≤ frac → fives * 2 ^ frac ≡ 2 ^ (frac - count) * 10 ^ count
 scale_up count frac fives e l =
     rw ((ap (λ i. 2 ^ i) (let z : frac ≡ (frac - count) + count = omega arith in z) ∙ pow-add 2 (frac - count) count), e, ten_is count) (omega arith)
@@ -54,7 +53,7 @@ candidate_steps block count frac q rest unit bits s c = cancel_lt unit q (2 ^ fr
     plain : (p a ten : ℕ) → 0 < a → q * unit + rest ≡ block * a → unit * p ≡ a * ten → block < ten → unit * q < unit * p
     plain p a ten pos e f l = omega (arith, e, f, mul-le-mul_left a l)
 
--- ---- against a half, or a scaled_unit step
+-- ---- the three cases of a comparison
 pub order_map : (r : Ordering) (P Q R P2 Q2 R2 : Type 0) → (P → P2) → (Q → Q2) → (R → R2) → MatchOrdering r P Q R → MatchOrdering r P2 Q2 R2
 order_map Less P Q R P2 Q2 R2 f g h x = f x
 order_map Equal P Q R P2 Q2 R2 f g h x = g x
@@ -75,7 +74,7 @@ mark_room start bits l s =
     let most = ten_up bits 38 l in
     omega (arith, mul-le-mul_right (5 ^ bits) s, ten, most, five_pos bits)
 
--- ---- a block against the digits of start / 2^bits: n / l is 0.DIGITS, t and w what is after the block, two · five = 10^bits
+-- ---- a block against the digits of start / 2^bits: n / l is 0.DIGITS, w / t follows the block, two · five = 10^bits
 module _ (block t w n l two five start : ℕ) (led : (block * t + w) * l ≡ n * (five * two * t)) (some_five : 0 < five) (some_t : 0 < t) (some_l : 0 < l) (small : w < t) where
   block_less : block < start * five → n * two < start * l
   block_less h = cancel_lt (five * t) (n * two) (start * l) (omega (arith, led, mul-le-mul_right l (inside (start * five) h)))
@@ -112,7 +111,7 @@ block_order r ds rest block start mark bits longer below led em el m =
         (λ (k : (block ≡ mark) × IsTrue longer). let same : block ≡ start * 5 ^ bits = k.0 ∙ em in let more = (some_digits 10 rest (omega arith) led.trailing).0 (el.0 k.1) in omega (arith, ap (λ x. x * 10 ^ length rest) same, more))
         h
 
--- k = 2^halves, a = 2^bits, t = 10^length, w what the digits spell
+-- k = 2^halves, a = 2^bits, t = 10^length, and the digits spell w
 plain_stands : (r : Ordering) (k a t w rest unit share start : ℕ) → share ≡ rest * k → share + start ≡ unit → MatchOrdering r (w * (a * k) < start * t) (w * (a * k) ≡ start * t) (start * t < w * (a * k)) → MatchOrdering r (k * (rest * t + w * a) < unit * t) (k * (rest * t + w * a) ≡ unit * t) (unit * t < k * (rest * t + w * a))
 plain_stands r k a t w rest unit share start e f m =
     let e' = ap (λ x. x * t) e in
@@ -134,14 +133,14 @@ stands_above ds halves bits rest unit share e l = plain_more (2 ^ halves) (2 ^ b
 pub stands_beyond : (ds : List ℕ) (halves bits rest unit share : ℕ) → NoTrailingZero ds → share ≡ rest * 2 ^ halves → unit ≡ share → (ds ≡ [] → ⊥) → scaled_unit unit ds < 2 ^ halves * scaled_rest rest bits ds
 stands_beyond ds halves bits rest unit share n e l some = plain_some (2 ^ halves) (2 ^ bits) (10 ^ length ds) (number_from_digits 10 ds) rest unit share (pow_pos halves) (pow_pos bits) (some_number 10 ds (omega arith) n some) e l
 
--- ---- a scaled_unit step is not met by the digits' share alone
+-- ---- the digits after the block do not reach a start of at least 2^bits
 pub far_below : (ds : List ℕ) (start bits : ℕ) → AllBelowBase 10 ds → 2 ^ bits ≤ start → number_from_digits 10 ds * 2 ^ bits < start * 10 ^ length ds
 far_below ds start bits b l = plain (number_from_digits 10 ds) (10 ^ length ds) (2 ^ bits) (pow_pos bits) (number_lt 10 ds b) l
   where
     plain : (w t a : ℕ) → 0 < a → w < t → a ≤ start → w * a < start * t
     plain w t a p h k = omega (arith, mul-le-mul_right a h, mul-le-mul_right t k)
 
--- ---- less than one and a half
+-- ---- the scaled rest is less than one and a half units
 pub part_near : (ds : List ℕ) (rest unit bits : ℕ) → AllBelowBase 10 ds → rest < unit → 2 * 2 ^ bits ≤ unit → 2 * scaled_rest rest bits ds < 3 * scaled_unit unit ds
 part_near ds rest unit bits b l h = plain (number_from_digits 10 ds) (10 ^ length ds) (2 ^ bits) (ten_pos (length ds)) (pow_pos bits) (number_lt 10 ds b) l h
   where
@@ -157,7 +156,7 @@ part_some ds rest bits l = let m = mul-pos l (ten_pos (length ds)) in omega (ari
 pub part_beyond : (ds : List ℕ) (rest bits : ℕ) → NoTrailingZero ds → (ds ≡ [] → ⊥) → 0 < scaled_rest rest bits ds
 part_beyond ds rest bits n some = let m = mul-pos (some_number 10 ds (omega arith) n some) (pow_pos bits) in omega (arith, m)
 
--- ---- where no digits after the block matter
+-- ---- if the digits after the block do not matter
 plain_under : (w t a rest half unit : ℕ) → 0 < a → w < t → rest + a ≤ half → 2 * half ≤ unit → 2 * (rest * t + w * a) < unit * t
 plain_under w t a rest half unit p k l h = omega (arith, mul-le-mul_right a k, mul-le-mul_right t l, mul-le-mul_right t h)
 
@@ -182,7 +181,7 @@ over_half ds rest bits unit gap e b h l = (
     two_some : 0 < 2
     two_some = omega arith
 
--- ---- the candidate's number is the fraction's
+-- ---- the number of the candidate is that of the fraction
 plain_same : (b w t den v ten p a unit q r o : ℕ) → q * unit + r ≡ b * a → unit * p ≡ a * ten → (b * t + w) * den ≡ v * (ten * t) → (o * (unit * t) + (q * (unit * t) + (r * t + w * a))) * den ≡ (o * den + v * p) * (unit * t)
 plain_same b w t den v ten p a unit q r o e f g = omega (arith, ap (λ x. x * (t * den)) e, ap (λ x. x * (v * t)) f, ap (λ x. x * a) g)
 
@@ -201,7 +200,7 @@ module _ (ds rest : List ℕ) (block count frac q left unit bits : ℕ) (below :
   led_at : (block * 10 ^ length rest + number_from_digits 10 rest) * 10 ^ length ds ≡ number_from_digits 10 ds * (10 ^ count * 10 ^ length rest)
   led_at = led.same ∙ ap (λ x. number_from_digits 10 ds * x) (pow-add 10 count (length rest))
 
-  -- all steps fit a word
+  -- the ulps fit 64 bits
   pub candidate_word : frac ≤ 64 → q * scaled_unit unit rest + scaled_rest left bits rest < 2 ^ 64 * scaled_unit unit rest
   candidate_word most =
       let few = mul-le-mul_right (scaled_unit unit rest) (two_up frac 64 most) in
@@ -209,7 +208,7 @@ module _ (ds rest : List ℕ) (block count frac q left unit bits : ℕ) (below :
       let below_all = all_few (number_from_digits 10 ds) (10 ^ length ds) (2 ^ frac) (scaled_unit unit rest) (q * scaled_unit unit rest + scaled_rest left bits rest) (pow_pos frac) (whole_pos rest left unit candidate.small) (number_lt 10 ds below) same in
       omega (arith, below_all, few)
 
-  -- what the candidate and the digits after it settle to is the fraction's scaled_rest
+  -- if the candidate and the digits after it settle to p ulps and a lost fraction, so does the fraction
   pub part_settled : (p : ℕ) (lost : LostFraction) → IsSettled (q * scaled_unit unit rest + scaled_rest left bits rest) (scaled_unit unit rest) p lost → IsFractionUlps 10 ds frac p lost
   part_settled p lost settled =
       let some = whole_pos rest left unit candidate.small in
@@ -222,8 +221,8 @@ module _ (ds rest : List ℕ) (block count frac q left unit bits : ℕ) (below :
 pub room_of : (bits : ℕ) → bits ≤ 37 → 2 * 2 ^ bits ≤ 7450580596923828125
 room_of bits l = let most = two_up bits 37 l in omega (arith, most)
 
--- ---- what is left after the candidate, by its comparisons
--- the ulp after the candidate's fits a word
+-- ---- the rest after the candidate, by its comparisons
+-- the ulp after the candidate's is in range too
 pub next_room : (q s den n : ℕ) → q * den + s < n * den → den ≤ s → q + 1 < n
 next_room q s den n h l = cancel_lt den (q + 1) n (omega (arith, h, l))
 
@@ -234,12 +233,12 @@ settled_over q s den l near =
 pub settled_tail : (q s den : ℕ) (lost : LostFraction) → IsLostFraction lost s den → IsSettled (q * den + s) den q lost
 settled_tail q s den lost h = record { rest = s; split = refl; left = h }
 
--- ---- no digit is left
+-- ---- if no digit is left
 pub settled_share : (rest : List ℕ) (q left unit bits : ℕ) (lost : LostFraction) → rest ≡ [] → IsLostFraction lost left unit → IsSettled (q * scaled_unit unit rest + scaled_rest left bits rest) (scaled_unit unit rest) q lost
 settled_share rest q left unit bits lost e h =
     let one : left * 10 ^ 0 + 0 * 2 ^ bits ≡ left = omega arith in
     let all : unit * 10 ^ 0 ≡ unit = omega arith in
     rw e (record { rest = left * 10 ^ 0 + 0 * 2 ^ bits; split = refl; left = rw (one, all) h })
 
--- past the candidate's next ulp
+-- one ulp more than the candidate's
 pub ruleset past_ulp = (next_room, part_near, room_of)

@@ -1,4 +1,4 @@
--- Digits one by one, and the first of them as a block.
+-- Digits one by one, and the first digits as a block.
 use Rattle.std.proofs.Common.{Bool, false, IsTrue, ◌≡◌, ℕ, zero, suc, ◌+◌, ◌-◌, ◌*◌, ◌^◌, ◌<◌, ◌≤◌, ◌↔◌, List, [], ◌∷◌, length, take, drop, refl, sym, ap, ◌∙◌, arith, mul-le-mul_right, mul-le-mul_left, length-drop, take-append-drop, ⊎_elim}
 use Rattle.std.proofs.Math.Nat.{one-le-pow, pow-zero, eq_of_mul-eq-mul_left}
 use Rattle.std.proofs.lemmas.Bool.{cases_lt}
@@ -19,7 +19,7 @@ trailing_rest d ds n = λ rest e. n (d ∷ rest) (ap (λ xs. d ∷ xs) e)
 pub cancel_lt : (k a b : ℕ) → k * a < k * b → a < b
 cancel_lt k a b h = ⊎_elim (λ (l : a < b). l) (λ (l : b ≤ a). absurd (omega (arith, mul-le-mul_left k l))) (cases_lt a b)
 
--- digits without a zero at their end are no zero
+-- digits without a trailing zero spell a positive number if the list is not empty
 pub some_number : (b : ℕ) (ds : List ℕ) → 0 < b → NoTrailingZero ds → (ds ≡ [] → ⊥) → 0 < number_from_digits b ds
 some_number b [] p n e = absurd (e refl)
 some_number b (zero ∷ []) p n e = absurd (n [] refl)
@@ -35,7 +35,7 @@ some_digits b ds p n = (λ l. some_number b ds p n (λ e. absurd (omega (arith, 
     back [] l = absurd (omega arith)
     back (x ∷ xs) l = omega arith
 
--- ---- whether digits are left after the first
+-- ---- whether digits are left after the first ones
 pub longer_some : (ds : List ℕ) (count : ℕ) (longer : Bool) → (IsTrue longer ↔ (count < length ds)) → IsTrue longer ↔ (0 < length (drop count ds))
 longer_some ds count longer e = (λ t. let l = e.0 t in omega (arith, l, length-drop count ds), λ l. e.1 (omega (arith, l, length-drop count ds)))
 
@@ -95,7 +95,7 @@ led_join b ds middle rest b1 b2 i j p h k =
       trailing = k.trailing;
     }
 
--- zeros after all digits
+-- zeros after the last digit
 zeros_same : (block n x i z t : ℕ) → (block * z + 0) * x ≡ n * i → (block * t * z + 0) * x ≡ n * (i * t)
 zeros_same block n x i z t e = omega (arith, ap (λ y. y * t) e)
 

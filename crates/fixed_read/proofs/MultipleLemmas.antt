@@ -3,7 +3,7 @@ use Rattle.std.proofs.Common.{◌≡◌, ℕ, ◌+◌, ◌*◌, ◌<◌, ◌≤�
 use Rattle.std.proofs.lemmas.Bool.{cases_lt}
 use Rattle.fixed_read.specs.Reading.{IsMultipleOf}
 
--- ---- a positive factor goes
+-- ---- a positive factor cancels
 pub cancel_eq : (a b d : ℕ) → 0 < d → a * d ≡ b * d → a ≡ b
 cancel_eq a b d p e = ⊎_elim
     (λ (l : a < b). absurd (omega (arith, mul-le-mul_right d (let z : a + 1 ≤ b = omega arith in z))))
@@ -13,7 +13,7 @@ cancel_eq a b d p e = ⊎_elim
     (cases_lt b a))
     (cases_lt a b)
 
--- ---- what is left of a division is nothing where there is a quotient
+-- ---- the rest of a division is 0 exactly for multiples of the divisor
 pub exact_rest : (a x q d s : ℕ) → 0 < x → 0 < d → s < d → a * d ≡ (q * d + s) * x → (s ≡ 0) ↔ IsMultipleOf x a
 exact_rest a x q d s px pd small e = (
   λ z. (q, cancel_eq a (q * x) d pd (let one : (q * d + s) * x ≡ q * x * d = rw z (omega arith) in e ∙ one)),
@@ -26,6 +26,6 @@ exact_rest a x q d s px pd small e = (
         (λ (l : k ≤ q). omega (arith, mul-le-mul_right d l))
         (cases_lt q k)
 
--- ---- equal fractions are whole numbers together
+-- ---- two equal fractions are both whole numbers or neither is
 pub multiple_same : (n d m k : ℕ) → 0 < d → n * k ≡ m * d → IsMultipleOf d n → IsMultipleOf k m
 multiple_same n d m k p e (q, h) = (q, cancel_eq m (q * k) d p (let one : n * k ≡ q * k * d = omega (arith, ap (λ x. x * k) h) in sym e ∙ one))

@@ -13,7 +13,7 @@ use Rattle.fixed_numeral.specs.Place.{NoLeadingZero}
 base_pow : (b n : ℕ) → b % 2 ≡ 0 → b ^ n ≡ (b / 2) ^ n * 2 ^ n
 base_pow b n e = ap (λ x. x ^ n) (let k : b ≡ b / 2 * 2 = omega arith in k) ∙ mul-pow (b / 2) 2 n
 
--- the digits that were taken off the last ones; long says that there are others before these
+-- some digits were taken from the front of `last`; `long` says that others stand before `last`
 pub record Trailing (b m : ℕ) (last rest : List ℕ) (value : ℕ) (long : Type 0) (over : Bool) (before now : ℕ) : Type 0 where
   pub taken : List ℕ
   pub split : last ≡ taken ++ rest
@@ -47,7 +47,7 @@ over_more m n b v d long over next pos e h k = (
     kept : n < m → m ≤ n * b + d → m ≤ v * b + d
     kept s l = let same : v ≡ n = e ∙ mod-eq_of_lt s in rw same l
 
--- a quotient is something where the divisor is not more
+-- a quotient is positive if the divisor is at most the number
 pub quotient_some : (x d : ℕ) → 0 < d → d ≤ x → 0 < x / d
 quotient_some x d pos l = ⊎_elim (λ (k : 0 < x / d). k) (λ (k : x / d ≤ 0). let z : x / d ≡ 0 = omega arith in absurd (omega (arith, div-add-mod' x d, mod-lt x pos, ap (λ i. i * d) z))) (cases_lt 0 (x / d))
 
@@ -72,19 +72,18 @@ trailing_more b m last rest others value count number whole high less long over 
       cost = omega (arith, h.cost, c, ap length eo, length-drop count rest);
     }
 
--- 15 digits fit a word
+-- up to 15 digits of a base up to 16 fit 64 bits
 pub chunk_room : (b count : ℕ) → b ≤ 16 → count ≤ 15 → b ^ count < 2 ^ 64
 chunk_room b count small few = omega (arith, pow-le-pow_left {m = 16} small count, pow-le-pow_right {n = 16} (omega arith) few)
 
--- exponents of powers that fit a word
+-- the exponents of powers that fit 64 bits
 pub two_exponent : (k : ℕ) → 2 ^ k < 2 ^ 64 → k < 64
 two_exponent k h = ⊎_elim (λ (l : k < 64). l) (λ (l : 64 ≤ k). absurd (omega (arith, h, pow-le-pow_right {n = 2} (omega arith) l))) (cases_lt k 64)
 
 pub ten_exponent : (k : ℕ) → 10 ^ k < 2 ^ 64 → k < 20
 ten_exponent k h = ⊎_elim (λ (l : k < 20). l) (λ (l : 20 ≤ k). absurd (omega (arith, h, pow-le-pow_right {n = 10} (omega arith) l))) (cases_lt k 20)
 
--- the parts of a word
--- at the end
+-- 2^w is at most b^w if b is at least 2
 pow_two_small : (b w : ℕ) → 2 ≤ b → 2 ^ w ≤ b ^ w
 pow_two_small b w h = pow-le-pow_left h w
 
@@ -123,7 +122,7 @@ trailing_all b w ds last rest value over before now two even none el er h =
           full = (λ t. large, λ g. h.full.1 (inl l));
         }
 
--- no digits spell 0
+-- an empty list of digits spells 0
 pub nothing : (b : ℕ) (ds : List ℕ) → ds ≡ [] → 0 ≡ number_from_digits b ds
 nothing b ds e = rw e refl
 

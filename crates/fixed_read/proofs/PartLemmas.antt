@@ -1,4 +1,4 @@
--- The first digits of a fraction, in steps.
+-- The first digits of a fraction, in ulps.
 use Rattle.std.proofs.Common.{◌≡◌, ℕ, ◌+◌, ◌-◌, ◌*◌, ◌/◌, ◌%◌, ◌^◌, ◌<◌, ◌≤◌, ◌↔◌, Bool, IsTrue, List, [], length, refl, ap, ◌∙◌, arith, pow_pos, mul-pos, mul-le-mul_right, div-add-mod', mod-lt}
 use Rattle.std.proofs.lemmas.Nat.{pow-add}
 use Rattle.std.proofs.lemmas.Int.Digits.{number_lt}
@@ -12,7 +12,7 @@ use Rattle.fixed_bits.specs.LostFractions.{IsLostFraction}
 use Rattle.fixed_read.specs.Inner.Rounding.{IsFractionUlps}
 use Rattle.fixed_read.proofs.DigitLemmas.{cancel_lt, some_digits}
 
--- ---- the block in ulps, over plain numbers: x and w the powers of the base for all digits and for those after the block
+-- ---- the block in ulps, over plain numbers: x and w are the base's powers for all digits and for the digits after it
 plain_split : (n p r unit t w y x block : ℕ) → p * unit + r ≡ block → (block * w + y) * x ≡ n * (unit * t * w) → n * t * (unit * w) ≡ (p * (unit * w) + (r * w + y)) * x
 plain_split n p r unit t w y x block e k = omega (arith, k, ap (λ z. z * (w * x)) e)
 
@@ -46,7 +46,7 @@ base_least bits p = pow-le-pow_right {n = 2} (omega arith) (let z : 1 ≤ bits =
 pub base_most : (bits : ℕ) → bits ≤ 4 → 2 ^ bits ≤ 16
 base_most bits p = pow-le-pow_right {n = 2} (omega arith) p
 
--- half of the block's digits fit a word
+-- half of the block's digits fit 64 bits
 pub word_room : (bits t c : ℕ) → 0 < bits → bits ≤ 4 → t ≤ 68 → c + c ≤ t / bits + 2 → (2 ^ bits) ^ c ≤ 2 ^ 64
 word_room bits t c some few l h =
     let most = count_most bits t some in
@@ -54,7 +54,7 @@ word_room bits t c some few l h =
     let z : bits * c ≤ 64 = omega (arith, most, twice) in
     rw (pow-mul 2 bits c) (pow-le-pow_right {n = 2} (omega arith) z)
 
--- and all of them where there are at most 60 bits
+-- all of the block's digits fit 64 bits if the fraction has at most 60 bits
 pub block_room : (bits t c : ℕ) → 0 < bits → bits ≤ 4 → t ≤ 60 → c ≡ t / bits + 1 → (2 ^ bits) ^ c ≤ 2 ^ 64
 block_room bits t c some few l e =
     let most = count_most bits t some in
@@ -65,7 +65,7 @@ block_room bits t c some few l e =
 pub spare_half : (bits t : ℕ) → 0 < bits → 2 ^ ((t / bits + 1) * bits - t) ≡ 2 * 2 ^ ((t / bits + 1) * bits - t - 1)
 spare_half bits t some = ap (λ i. 2 ^ i) (let z : (t / bits + 1) * bits - t ≡ ((t / bits + 1) * bits - t - 1) + 1 = omega (arith, count_enough bits t some) in z) ∙ pow-add 2 ((t / bits + 1) * bits - t - 1) 1 ∙ omega arith
 
--- as the body computes it
+-- restated for the body
 pub part_at : (bits t c block p r half base : ℕ) (ds rest : List ℕ) (more : Bool) (lost : LostFraction) → 0 < bits → c ≡ t / bits + 1 → base ≡ 2 ^ bits → half ≡ 2 ^ (c * bits - t - 1) → p ≡ block / 2 ^ (c * bits - t) → r ≡ block % 2 ^ (c * bits - t) → IsBlockOf base ds rest block c → (IsTrue more ↔ (0 < length rest)) → ((d y : ℕ) → y < d → (IsTrue more ↔ (0 < y)) → IsLostFraction lost (r * d + y) (2 * half * d)) → IsFractionUlps base ds t p lost
 part_at bits t c block p r half base ds rest more lost some ec eb eh ep er h em left =
     let enough : t + 1 ≤ c * bits = rw ec (count_enough bits t some) in
@@ -77,6 +77,6 @@ part_at bits t c block p r half base ds rest more lost some ec eb eh ep er h em 
     part_is base c t half block p r ds rest lost positive some_base power (rw two at split) h
     (λ d y low e. left d y low (λ m. e.0 (em.0 m), λ q. em.1 (e.1 q)))
 
--- no digits are no steps
+-- a fraction without digits is 0 ulps
 pub part_none : (b t : ℕ) (ds : List ℕ) → ds ≡ [] → IsFractionUlps b ds t 0 Zero
 part_none b t ds e = rw e (record { ulps = record { rest = 0; unit = 1; some = omega arith; split = omega arith; left = refl }; small = pow_pos t })

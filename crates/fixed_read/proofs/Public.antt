@@ -1,4 +1,4 @@
--- What the proofs of the crates above may cite: a numeral has one read number.
+-- For the proofs of dependent crates: a numeral reads as one number.
 use Rattle.std.specs.Prelude.{◌≡◌, ℕ, ℤ}
 use Rattle.fixed_bits.specs.declared.mode.ReadMode.{ReadMode}
 use Rattle.fixed_numeral.specs.declared.radix.Radix.{Radix}

@@ -24,12 +24,12 @@ use Rattle.fixed_read.proofs.MultipleLemmas.{cancel_eq, exact_rest, multiple_sam
 use Rattle.fixed_bits.proofs.Public.{rounded_exact, rounded_same}
 use Rattle.fixed_read.proofs.LostLemmas.{tail_within}
 
--- ---- an option's cases
+-- ---- the cases of an option
 pub if_some : {T : Type 0} (P Q : T → Type 0) (o : Option T) → ((x : T) → P x → Q x) → IfSome o P → IfSome o Q
 if_some P Q None f h = h
 if_some P Q (Some x) f h = f x h
 
--- ---- ulps, and what is left of one
+-- ---- ulps, and the rest of one ulp
 pub candidate_split : (block count frac q rest unit bits : ℕ) (lost : LostFraction) → IsCandidate block count frac q rest unit bits → IsLostFraction lost rest unit → IsSplitUlps block (10 ^ count) frac q lost
 candidate_split block count frac q rest unit bits lost c left = record {
   rest = rest;
@@ -66,7 +66,7 @@ split_coarser num den frac bits ulps w low half lost coarse two e h left = recor
   left = left h.unit h.rest (tail_within lost h.rest h.unit h.some h.left) h.some h.left;
 }
 
--- ---- a fraction with zeros at its end
+-- ---- a fraction with trailing zeros
 pub ten_split : (p n : ℕ) → p ≤ n → 10 ^ n ≡ 10 ^ p * 10 ^ (n - p)
 ten_split p n l = ap (λ i. 10 ^ i) (let z : n ≡ p + (n - p) = omega arith in z) ∙ pow-add 10 p (n - p)
 
@@ -97,7 +97,7 @@ magnitude_is_rounded mode num den frac q more high lost ulps some h to none e ov
       exact = (λ t. test.0 ((none h.rest h.unit h.some h.left).0 t), λ m. (none h.rest h.unit h.some h.left).1 (test.1 m));
     }
 
--- as the body computes it
+-- restated for the body
 pub split_high : (total high low m : ℕ) → high ≡ total / m → low ≡ total % m → total ≡ high * m + low
 split_high total high low m eh el = rw (eh, el) (sym (div-add-mod' total m))
 
@@ -189,7 +189,7 @@ cross_down digits up down num den frac l e =
 pub cross_frac : (digits up down num den frac : ℕ) → digits * 2 ^ up * den ≡ num * 2 ^ down → digits * 2 ^ (up + frac) * den ≡ num * 2 ^ frac * 2 ^ down
 cross_frac digits up down num den frac e = rw (pow-add 2 up frac) (omega (arith, ap (λ x. x * (2 ^ frac)) e))
 
--- up and down as one number
+-- a shift up and a shift down as one
 pub net_up : (digits up down num den frac by : ℕ) → digits * 2 ^ up * den ≡ num * 2 ^ down → by + down ≡ up + frac → digits * 2 ^ by * den ≡ num * 2 ^ frac
 net_up digits up down num den frac by e k =
     let same : up + frac - down ≡ by = omega arith in
@@ -235,7 +235,7 @@ pub placed_value : (r : Radix) (bits digits places : ℕ) (exponent : ℤ) (two 
 placed_value r bits digits places exponent false e = scaled_two digits bits (base r) (exponent -ℤ pos places) e
 placed_value r bits digits places exponent true e = placed_two digits bits (base r) places exponent e
 
--- ---- a decimal numeral has no power of two
+-- ---- a decimal numeral has no separator of powers of two
 never_two : (e : Option Exponent) → is_power_of_two Dec e ≡ false
 never_two None = refl
 never_two (Some e) = refl
@@ -245,7 +245,7 @@ decimal_value r p negative whole fraction places exponent two e h =
     let none : two ≡ false = h.separator ∙ subst (λ x. is_power_of_two x p.exponent ≡ false) (sym e) (never_two p.exponent) in
     h.value ∙ ap (placed_magnitude r (whole * base r ^ places + fraction) places exponent) none ∙ ap (λ x. placed_magnitude x (whole * base x ^ places + fraction) places exponent false) e
 
--- ---- digits that fit a word
+-- ---- digits that fit 64 bits
 pub word_room : (bits places whole fraction : ℕ) → bits ≤ 4 → whole * (2 ^ bits) ^ places + fraction < (2 ^ bits) ^ 16 → whole * 2 ^ (bits * places) + fraction < 2 ^ 64
 word_room bits places whole fraction l h =
     let most : bits * 16 ≤ 64 = omega arith in
@@ -253,7 +253,7 @@ word_room bits places whole fraction l h =
     let fits : whole * 2 ^ (bits * places) + fraction < 2 ^ (bits * 16) = rw (pow-mul 2 bits places, pow-mul 2 bits 16) at h in
     omega (arith, fits, room)
 
--- x is above n / d exactly where x * d is above n
+-- n / d is below x exactly if n is below x * d
 pub above_quotient : (x n d : ℕ) → 0 < d → (n / d < x) ↔ (n < x * d)
 above_quotient x n d some =
     let parts : n ≡ n / d * d + n % d = sym (div-add-mod' n d) in

@@ -1,4 +1,4 @@
--- Whole steps modulo a power of two.
+-- Whole ulps modulo a power of two.
 use Rattle.std.proofs.Common.{false, ◌≡◌, ℕ, ◌+◌, ◌-◌, ◌*◌, ◌/◌, ◌%◌, ◌^◌, ◌<◌, ◌≤◌, ◌⊎◌, ◌↔◌, Bool, IsTrue, List, ◌++◌, length, sym, ap, ◌∙◌, arith, pow_pos, mul-le-mul_right, div-add-mod', mod-lt, ⊎_elim, inl, inr}
 use Rattle.std.proofs.lemmas.Bool.{cases_lt}
 use Rattle.std.proofs.lemmas.Nat.{pow-add}
@@ -17,7 +17,7 @@ use Rattle.fixed_bits.proofs.Public.{rounded_same}
 use Rattle.fixed_read.proofs.LostLemmas.{tail_within}
 use Rattle.fixed_read.proofs.MultipleLemmas.{exact_rest}
 
--- the low whole bits, moved up
+-- the low bits of the whole part, moved up, have room
 pub moved_room : (w m t n : ℕ) → m ≡ n - t → w < 2 ^ m → w * 2 ^ t < 2 ^ n + 2 ^ t
 moved_room w m t n e l = ⊎_elim
     (λ (k : n < t). let z : m ≡ 0 = omega arith in low z)
@@ -29,7 +29,7 @@ moved_room w m t n e l = ⊎_elim
     low : m ≡ 0 → w * 2 ^ t < 2 ^ n + 2 ^ t
     low z = let one : w < 1 = rw z at l in let none : w ≡ 0 = omega arith in rw none (omega (arith, pow_pos t))
 
--- high and low bits of the steps
+-- the high and the low bits of the ulps
 pub record Cut (number n total : ℕ) (over beyond : Bool) : Type 0 where
   pub high : ℕ
   pub split : number ≡ high * 2 ^ n + total % 2 ^ n
@@ -64,7 +64,7 @@ cut w m t n more over beyond e o f =
     right_some : (a k h : ℕ) → a ≤ 0 → 0 < a * k + h → 0 < h
     right_some a k h z l = let none : a ≡ 0 = omega arith in let l2 : 0 < 0 * k + h = rw none at l in omega arith
 
--- the parity of the steps is that of their low bits
+-- the parity of the ulps is that of their low bits
 pub parity : (w m t n p : ℕ) → 0 < n → m ≡ n - t → (w * 2 ^ t + p) % 2 ≡ (w % 2 ^ m * 2 ^ t + p) % 2
 parity w m t n p pos e =
     let two : 2 ^ m * 2 ^ t ≡ 2 ^ (m + t - 1) * 2 = sym (pow-add 2 m t) ∙ ap (λ i. 2 ^ i) (let z : m + t ≡ (m + t - 1) + 1 = omega arith in z) ∙ pow-add 2 (m + t - 1) 1 in
@@ -96,7 +96,7 @@ rounded r b w f s frac t p more lost exact pos et h to none =
         let one : a * v * u ≡ (w * x + n) * t = rw (e1, e2) (omega arith) in
         rw one (omega (arith, e3))
 
--- as the body computes it
+-- restated for the body
 pub low_is : (m t n w low : ℕ) → m ≡ n - t → low ≡ w % 2 ^ m → low * 2 ^ t < 2 ^ n + 2 ^ t
 low_is m t n w low e k = rw k (moved_room (w % 2 ^ m) m t n e (mod-lt w (pow_pos m)))
 

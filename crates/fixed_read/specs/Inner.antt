@@ -1,4 +1,4 @@
--- What private functions keep: no public clause cites these.
+-- Contracts of private functions. No public contract cites them.
 pub mod Blocks
 pub mod Rounding
 pub mod BinaryPower

@@ -26,12 +26,11 @@ IsMultipleOf d m = (k : ℕ) × (m ≡ k * d)
 abbrev pub IsWholeUlps : Radix → Parts → ℕ → Type 0
 IsWholeUlps r p f = IsMultipleOf (magnitude r p).den ((magnitude r p).num * 2 ^ f)
 
--- the number that an answer holds
+-- the number that `found` holds
 abbrev pub number_in : ReadNumber → Number
 number_in found = record { low = found.low; negative = found.negative; has_high_bits = found.has_high_bits }
 
--- the answer holds the read number of a numeral with these parts, and says whether the numeral was a whole number of
--- ulps
+-- `found` holds the read number of a numeral with these parts, and says whether the numeral is a whole number of ulps
 pub record IsReading (mode : ReadMode) (r : Radix) (p : Parts) (found : ReadNumber) : Type 0 where
   pub number : ℤ
   pub read : IsReadNumber mode r p found.format.frac number
@@ -54,7 +53,7 @@ pub record IsImageRead (policy : Policy) (mode : ReadMode) (r : Radix) (p : Part
   pub read : IsReadNumber mode r p f number
   pub image : IsImage policy sign n number bits
 
--- parts that the bytes have, by HasNumeral or HasLiteral, give a read number in range
+-- the bytes have parts, by HasNumeral or HasLiteral, whose read number is in range
 pub record IsReadInRange (mode : ReadMode) (r : Radix) (Has : Parts → Type 0) (f : ℕ) (sign : Bool)
     (n : ℕ) : Type 0 where
   pub parts : Parts
@@ -63,7 +62,7 @@ pub record IsReadInRange (mode : ReadMode) (r : Radix) (Has : Parts → Type 0) 
   pub read : IsReadNumber mode r parts f number
   pub in_range : IsInRange sign n number
 
--- and out of range
+-- the bytes have parts whose read number is out of range
 pub record IsReadOutOfRange (mode : ReadMode) (r : Radix) (Has : Parts → Type 0) (f : ℕ) (sign : Bool)
     (n : ℕ) : Type 0 where
   pub parts : Parts

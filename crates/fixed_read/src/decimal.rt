@@ -1,23 +1,22 @@
-//! How many ulps a decimal fraction of any length is, and what is lost.
+//! Counts the ulps in a decimal fraction of any length, and finds what is lost.
 //!
-//! The first 27 digits, with zeros at their end where there are fewer, are a block F. In ulps of 2^-f it makes F * 2^f
-//! / 10^27 = F * 2^b / 5^27 with b = f - 27, so one division gives the whole ulps and `rest / 5^27` of one. Let d be
-//! the number below 1 that the digits after the block spell as 0.DIGITS. What is lost is then exactly (rest + d * 2^b)
-//! / 5^27.
+//! The first 27 digits, padded with zeros if there are fewer, are a block F. In ulps of 2^-f that is F * 2^f / 10^27 =
+//! F * 2^b / 5^27 with b = f - 27, so one division gives the whole ulps and `rest / 5^27` of one. Let d be the number
+//! below 1 that the digits after the block spell as 0.DIGITS. What is lost is then exactly (rest + d * 2^b) / 5^27.
 //!
 //! This is below one and a half, since 2^b <= 2^37 is less than half of 5^27. Nearly always `rest` and `rest + 2^b` lie
 //! both below half of 5^27, or both between half and all of it, and d does not matter. Else comparisons decide: what is
-//! lost is less than 1/2^h of an ulp, with h = 1 for the half and h = 0 for the next ulp, exactly where d < (5^27 -
-//! rest * 2^h) / 2^(b + h). The right side, start / 2^n, has exactly n = b + h decimal digits, which spell start * 5^n,
-//! at most 38 and so in 128 bits. They are compared with as many digits of d; where these are equal, any further digit
-//! makes d more, as the last is never 0.
+//! lost is less than 1/2^h of an ulp, with h = 1 for the half and h = 0 for the next ulp, exactly if d < (5^27 - rest *
+//! 2^h) / 2^(b + h). The right side, start / 2^n, has exactly n = b + h decimal digits, which spell start * 5^n. There
+//! are at most 38, so they fit 128 bits. They are compared with as many digits of d; if these are equal, any further
+//! digit makes d greater, as the last is never 0.
 //!
 //! The same with a block of 2 digits and f = 4, so 5^2 = 25 and b = 2: 0.99 makes 99 * 4 = 15 * 25 + 21, that is 15
 //! ulps and 21/25 of one, more than half; digits after the block add less than 4/25 and change nothing. 0.96875 has the
 //! block 96, and 96 * 4 = 15 * 25 + 9: between 9/25 and 13/25 is lost. Its other digits, d = 0.875, are compared with
 //! (25 - 9 * 2) / 2^3 = 7/8, which is 0.875 as well: half is lost.
 //!
-//! Ulps coarser than 2^-32 are made of those of 2^-32.
+//! Ulps coarser than 2^-32 are made from ulps of 2^-32.
 
 ghost use Rattle.std.specs.Prelude.{◌≡◌, ◌+◌, ◌-◌, ◌*◌, ◌^◌, ◌<◌, ◌≤◌, ◌⊎◌, [], IsTrue, List, ℕ, drop, false, length};
 ghost use Rattle.std.specs.Prelude.{MatchOption};
@@ -39,7 +38,7 @@ use fixed_steps::Steps;
 use std::cmp::Ordering;
 use std::sync::ledger::Ledger;
 
-/// 5^n.
+/// Returns 5^n.
 #[tactic(auto, using(crate::proofs::DecimalLemmas::five_is))]
 fn power_of_five(n: u32) -> u64
     requires { n < 20 }
@@ -48,7 +47,7 @@ fn power_of_five(n: u32) -> u64
     power_of_ten(n) >> n
 }
 
-/// The number that the digits of start / 2^bits spell, one for each bit.
+/// Returns the number that the digits of start / 2^bits spell, one digit for each bit.
 fn mark_of(start: u64, bits: u32) -> u128
     requires bits { bits ≤ 38 }
     requires start { start < 2 ^ bits }
@@ -58,7 +57,7 @@ fn mark_of(start: u64, bits: u32) -> u128
     u128::from(start) * u128::from(power_of_five(first)) * u128::from(power_of_five(bits - first))
 }
 
-/// The number that the first `count` digits spell, with zeros at their end where there are fewer.
+/// Returns the number that the first `count` digits spell, padded with zeros if there are fewer.
 fn prefix_number<'a, L: Ledger>(view: &DigitView<'a>, count: u32, steps: &mut Steps<L>) -> u128
     requires digits { AllBelowBase 10 view.now }
     requires trailing { NoTrailingZero view.now }
@@ -74,7 +73,7 @@ fn prefix_number<'a, L: Ledger>(view: &DigitView<'a>, count: u32, steps: &mut St
     }
 }
 
-/// The order of a block to a mark, where more digits after the block make it more.
+/// Compares a block with a mark. More digits after the block make it greater.
 fn block_order(block: u128, mark: u128, longer: bool) -> Ordering
     ensures { MatchOrdering result (block < mark) ((block ≡ mark) × (longer ≡ false))
         ((mark < block) ⊎ ((block ≡ mark) × IsTrue longer)) }
@@ -88,7 +87,7 @@ fn block_order(block: u128, mark: u128, longer: bool) -> Ordering
     }
 }
 
-/// The order of 0.DIGITS to start / 2^bits, which has as many digits as bits.
+/// Compares 0.DIGITS with start / 2^bits, which has `bits` digits.
 fn order_to_mark<'a, L: Ledger>(
     view: &DigitView<'a>,
     start: u64,
@@ -111,7 +110,7 @@ fn order_to_mark<'a, L: Ledger>(
     block_order(block, mark_of(start, bits), is_longer(view, bits))
 }
 
-/// The order of what is lost after the whole ulps of a candidate to 1 / 2^halves of an ulp.
+/// Compares what is lost after a candidate's whole ulps with 1 / 2^halves of an ulp.
 fn order_to_share<'a, L: Ledger>(
     view: &DigitView<'a>,
     found: Candidate,
@@ -137,7 +136,7 @@ fn order_to_share<'a, L: Ledger>(
     }
 }
 
-/// What less than half of an ulp is: zero where the block leaves nothing and no digit comes after it.
+/// Returns a lost fraction below half an ulp: zero if the block leaves nothing and no digit comes after it.
 #[tactic(auto, using(crate::proofs::DecimalLemmas::part_some, crate::proofs::DecimalLemmas::part_beyond))]
 fn less_than_half(view: &DigitView, rest: u64) -> LostFraction
     ensures { (bits unit : ℕ) → 0 < unit → AllBelowBase 10 view.now → NoTrailingZero view.now
@@ -151,7 +150,7 @@ fn less_than_half(view: &DigitView, rest: u64) -> LostFraction
     }
 }
 
-/// The ulps where the digits go past the candidate's next one: that, and less than half of one more.
+/// Returns the ulps of digits that pass the candidate's next ulp: that ulp, and less than half of one more.
 #[tactic(auto, using(crate::proofs::DecimalLemmas::settled_over))]
 fn past_next_ulp(ulps: u64) -> (u64, LostFraction)
     requires { ulps + 1 < 2 ^ 64 }
@@ -160,7 +159,7 @@ fn past_next_ulp(ulps: u64) -> (u64, LostFraction)
     (ulps + 1, LostFraction::LessThanHalf)
 }
 
-/// The whole ulps of a candidate and the digits after its block, and what is lost, by comparing these digits.
+/// Returns the whole ulps of a candidate and the digits after its block, and what is lost, by comparing these digits.
 #[tactic(auto, using(crate::proofs::DecimalLemmas::past_ulp))]
 fn settle_exactly<'a, L: Ledger>(
     view: &DigitView<'a>,
@@ -187,7 +186,7 @@ fn settle_exactly<'a, L: Ledger>(
     }
 }
 
-/// What is lost where digits after the block, whichever they are, do not change it, as is nearly always so.
+/// Returns what is lost if no digits after the block can change it, as is nearly always so.
 fn lost_fraction_if_certain(found: Candidate) -> Option<LostFraction>
     ensures { MatchOption result (Unit {0}) (λ lost. (ds : List ℕ) → AllBelowBase 10 ds → NoTrailingZero ds
         → (ds ≡ [] → ⊥) → IsLostFraction lost (scaled_rest found.rest found.bits ds)
@@ -204,7 +203,7 @@ fn lost_fraction_if_certain(found: Candidate) -> Option<LostFraction>
     }
 }
 
-/// The whole ulps of the candidate of the first 27 digits and the digits after these, and what is lost.
+/// Returns the whole ulps of the candidate of the first 27 digits and the digits after these, and what is lost.
 fn ulps_and_lost_fraction<'a, L: Ledger>(
     view: &DigitView<'a>,
     found: Candidate,
@@ -231,7 +230,7 @@ fn ulps_and_lost_fraction<'a, L: Ledger>(
     }
 }
 
-/// The ulps of 2^-frac in 0.DIGITS, and what is lost, for ulps of at most 2^-32.
+/// Returns the ulps of 2^-frac in 0.DIGITS, and what is lost, for ulps of at most 2^-32.
 fn fine_decimal_ulps<'a, L: Ledger>(
     view: &DigitView<'a>,
     frac: u32,
@@ -248,7 +247,7 @@ fn fine_decimal_ulps<'a, L: Ledger>(
     ulps_and_lost_fraction(view, candidate_of(block, frac), steps)
 }
 
-/// The ulps of 2^-frac in 0.DIGITS, and what is lost.
+/// Returns the ulps of 2^-frac in 0.DIGITS, and what is lost.
 #[tactic(auto, using(crate::proofs::ShortNumeralLemmas::coarser_small))]
 pub fn decimal_ulps<'a, L: Ledger>(
     view: &DigitView<'a>,

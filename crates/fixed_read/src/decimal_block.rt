@@ -1,9 +1,9 @@
-//! How many ulps a block of decimal digits makes.
+//! Counts the ulps in a block of decimal digits.
 //!
 //! A block of n digits spells a number F below 10^n, and the fraction is F / 10^n. In ulps of 2^-frac that is F *
 //! 2^frac / 10^n, which is F * 2^(frac - n) / 5^n: one division by a constant finds the whole ulps, and its rest over
 //! 5^n is what is lost. With 13 digits all of this fits 64 bits, with 27 it fits 128. Ulps coarser than 2^-32 are made
-//! of those.
+//! from ulps of 2^-32.
 
 ghost use Rattle.std.specs.Prelude.{◌≡◌, ◌+◌, ◌-◌, ◌*◌, ◌/◌, ◌^◌, ◌<◌, ◌≤◌, ℕ};
 ghost use Rattle.fixed_read.specs.Inner.Blocks.{IsCandidate};
@@ -27,15 +27,15 @@ pub const FIVE_TO_27: u64 = 7450580596923828125;
 pub struct Candidate {
     /// The whole ulps.
     pub ulps: u64,
-    /// What is left of an ulp, over 5^27.
+    /// The rest of an ulp, over 5^27.
     pub rest: u64,
-    /// A digit after the block counts at most 2^bits / 5^27 of an ulp, as do all digits after it together.
+    /// All digits after the block together count at most 2^bits / 5^27 of an ulp.
     pub bits: u32,
     ghost small: { rest < 7450580596923828125 },
     ghost few: { bits ≤ 37 },
 }
 
-/// What a share of an ulp is.
+/// Returns the lost fraction for rest / unit of an ulp.
 #[inline]
 pub fn lost_fraction_of_share(rest: u64, unit: u64) -> LostFraction
     requires small { rest < unit }
@@ -54,7 +54,7 @@ pub fn lost_fraction_of_share(rest: u64, unit: u64) -> LostFraction
     }
 }
 
-/// Ulps and what is lost, in ulps that are 2^bits times as coarse.
+/// Converts ulps and what is lost to ulps that are 2^bits times as coarse.
 #[inline]
 pub fn coarser_ulps(ulps: u64, lost: LostFraction, bits: u32) -> (u64, LostFraction)
     requires some { 0 < bits }
@@ -70,7 +70,7 @@ pub fn coarser_ulps(ulps: u64, lost: LostFraction, bits: u32) -> (u64, LostFract
     )
 }
 
-/// A number divided by 5^13, and the rest.
+/// Divides a number by 5^13. Returns the quotient and the rest.
 #[inline]
 fn divided_by_five_to_13(number: u64) -> (u64, u64)
     ensures split { result.0 * 1220703125 + result.1 ≡ number }
@@ -80,18 +80,18 @@ fn divided_by_five_to_13(number: u64) -> (u64, u64)
     (quotient, number - quotient * FIVE_TO_13)
 }
 
-/// Whole ulps, and what is left of one over a unit.
+/// Whole ulps, and the rest of an ulp over a unit.
 #[derive(Clone, Copy)]
 pub struct SharedUlps {
     /// The whole ulps.
     pub ulps: u64,
-    /// What is left of an ulp, over the unit.
+    /// The rest of an ulp, over the unit.
     pub rest: u64,
-    /// What makes an ulp.
+    /// The unit, which makes an ulp.
     pub unit: u64,
 }
 
-/// The ulps of 2^-(32 + finer) in a block of 13 digits, and the rest over 5^13 of one.
+/// Returns the ulps of 2^-(32 + finer) in a block of 13 digits, and the rest over 5^13 of one.
 #[inline(always)]
 fn fine_block_of_13(block: u64, finer: u32) -> (u64, u64)
     requires block { block < 10 ^ 13 }
@@ -105,9 +105,8 @@ fn fine_block_of_13(block: u64, finer: u32) -> (u64, u64)
     (shl_u64(ulps, finer) + more, left)
 }
 
-/// The ulps of 2^-frac in a block of 13 digits. They are made of ulps of 2^-32: finer ones first, then coarser ones,
-/// and at least one of the two steps does nothing. Which of them it is is not tested, since it changes from numeral to
-/// numeral.
+/// Returns the ulps of 2^-frac in a block of 13 digits. They are made from ulps of 2^-32: first finer, then coarser
+/// ones. At least one of the two steps does nothing. Which one is not tested, since it changes from numeral to numeral.
 #[inline(always)]
 fn block_of_13(block: u64, frac: u32) -> SharedUlps
     requires block { block < 10 ^ 13 }
@@ -127,7 +126,7 @@ fn block_of_13(block: u64, frac: u32) -> SharedUlps
     }
 }
 
-/// The candidate of a block of 27 digits, for ulps of at most 2^-32.
+/// Returns the candidate of a block of 27 digits, for ulps of at most 2^-32.
 #[inline]
 pub fn candidate_of(block: u128, frac: u32) -> Candidate
     requires block { block < 10 ^ 27 }
@@ -141,7 +140,7 @@ pub fn candidate_of(block: u128, frac: u32) -> Candidate
     Candidate { ulps, rest, bits }
 }
 
-/// The ulps of 2^-frac in a block of 27 digits, and what is lost, for ulps of at most 2^-32.
+/// Returns the ulps of 2^-frac in a block of 27 digits, and what is lost, for ulps of at most 2^-32.
 #[inline]
 fn fine_block_of_27(block: u128, frac: u32) -> (u64, LostFraction)
     requires block { block < 10 ^ 27 }
@@ -154,7 +153,7 @@ fn fine_block_of_27(block: u128, frac: u32) -> (u64, LostFraction)
     (found.ulps, lost_fraction_of_share(found.rest, FIVE_TO_27))
 }
 
-/// The ulps of 2^-frac in a block of 27 digits, and what is lost.
+/// Returns the ulps of 2^-frac in a block of 27 digits, and what is lost.
 #[tactic(auto, using(crate::proofs::ShortNumeralLemmas::coarser_small))]
 #[inline]
 fn block_of_27(block: u128, frac: u32) -> (u64, LostFraction)
@@ -170,7 +169,7 @@ fn block_of_27(block: u128, frac: u32) -> (u64, LostFraction)
     coarser_ulps(ulps, lost, 32 - frac)
 }
 
-/// The ulps of 2^-frac in fraction / 10^places, and what is left, for at most 13 places.
+/// Returns the ulps of 2^-frac in fraction / 10^places, and what is left, for at most 13 places.
 #[tactic(auto, using(crate::proofs::ShortNumeralLemmas::padded_room, crate::proofs::ShareLemmas::padded_share))]
 #[inline(always)]
 pub fn ulps_of_few_places(fraction: u64, places: u32, frac: u32) -> SharedUlps
@@ -184,7 +183,7 @@ pub fn ulps_of_few_places(fraction: u64, places: u32, frac: u32) -> SharedUlps
     block_of_13(fraction * power_of_ten(13 - places), frac)
 }
 
-/// The ulps of 2^-frac in fraction / 10^places, and what is lost.
+/// Returns the ulps of 2^-frac in fraction / 10^places, and what is lost.
 #[tactic(auto, using(crate::proofs::ShortNumeralLemmas::padded_room, crate::proofs::ShortNumeralLemmas::padded_split))]
 #[inline]
 pub fn ulps_of_many_places(fraction: u128, places: u32, frac: u32) -> (u64, LostFraction)

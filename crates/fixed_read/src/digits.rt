@@ -10,7 +10,7 @@ use fixed_numeral::{DigitView, power_of_ten};
 use fixed_steps::Steps;
 use std::sync::ledger::Ledger;
 
-/// base^n, where a digit of the base has so many bits.
+/// Returns base^n for a base whose digits have `bits` bits.
 fn power_by_bits(base: u32, bits: u32, n: u32) -> u64
     requires base { base ≡ 2 ^ bits }
     requires room { base ^ n < 2 ^ 64 }
@@ -19,7 +19,7 @@ fn power_by_bits(base: u32, bits: u32, n: u32) -> u64
     power_of_two(bits * n)
 }
 
-/// base^n: by a table or a shift where the base is that of a radix.
+/// Returns base^n, by a table or a shift if the base is 8, 10 or 16.
 #[tactic(auto, using(crate::proofs::NumberLemmas::ten_exponent))]
 fn power_of(base: u32, n: u32) -> u64
     requires { base ^ n < 2 ^ 64 }
@@ -33,7 +33,7 @@ fn power_of(base: u32, n: u32) -> u64
     }
 }
 
-/// number * base^count.
+/// Returns number * base^count.
 fn with_zeros(number: u64, base: u32, count: u32) -> u64
     requires least { 2 ≤ base }
     requires room { number * base ^ count < 2 ^ 64 }
@@ -45,7 +45,7 @@ fn with_zeros(number: u64, base: u32, count: u32) -> u64
     number * power_of(base, count)
 }
 
-/// By how many digits a view is shorter than `count`.
+/// Returns how many digits a view is shorter than `count`.
 fn missing_digits(view: &DigitView, count: u32) -> u32
     ensures { result ≡ count - length view.now }
 {
@@ -57,7 +57,7 @@ fn missing_digits(view: &DigitView, count: u32) -> u32
     }
 }
 
-/// The number that the first `count` digits spell, with zeros at their end where there are fewer.
+/// Returns the number that the first `count` digits spell, padded with zeros if there are fewer.
 #[inline(always)]
 pub fn leading_number<'a, L: Ledger>(
     view: &DigitView<'a>,
@@ -80,7 +80,7 @@ pub fn leading_number<'a, L: Ledger>(
     with_zeros(number, base, missing_digits(view, count))
 }
 
-/// high * power + low.
+/// Returns high * power + low.
 fn high_low(high: u64, power: u64, low: u64) -> u128
     ensures { result ≡ high * power + low }
 {
@@ -94,8 +94,8 @@ pub fn is_longer(view: &DigitView, count: u32) -> bool
     view.len() > u64::from(count)
 }
 
-/// The number that the first digits spell, with zeros at their end where there are fewer, in two words of digits:
-/// `power` is the base to the power of the second count.
+/// Returns the number that the first `prefix + back` digits spell, padded with zeros if there are fewer, from two words
+/// of digits. `power` is base^back.
 pub fn leading_number_u128<'a, L: Ledger>(
     view: &DigitView<'a>,
     base: u32,
@@ -131,7 +131,7 @@ pub fn is_over(over: bool, high: u128) -> bool
     over || high != 0
 }
 
-/// How many digits are taken at once: 15, or all where there are fewer.
+/// Counts the digits that are taken at once: 15, or all if there are fewer.
 fn next_count(view: &DigitView) -> u32
     ensures most { result ≤ 15 }
     ensures within { result ≤ length view.now }
@@ -140,7 +140,7 @@ fn next_count(view: &DigitView) -> u32
     view.len().min(15) as u32
 }
 
-/// low * base^count + number.
+/// Returns low * base^count + number.
 #[tactic(auto, using(crate::proofs::NumberLemmas::chunk_room))]
 fn with_digits(low: u64, base: u32, count: u32, number: u64) -> u128
     requires least { 2 ≤ base }
@@ -154,7 +154,7 @@ fn with_digits(low: u64, base: u32, count: u32, number: u64) -> u128
     high_low(low, power_of(base, count), number)
 }
 
-/// The number that the digits spell modulo 2^width, and whether it is 2^width or more.
+/// Returns the number that the digits spell modulo 2^width, and whether the number is 2^width or more.
 fn number_mod_power_long<'a, L: Ledger>(
     view: &DigitView<'a>,
     base: u32,
@@ -185,7 +185,7 @@ fn number_mod_power_long<'a, L: Ledger>(
     (low, over)
 }
 
-/// The lowest bits of a word, and whether it has more.
+/// Returns the lowest `width` bits of a word, and whether it has more.
 pub fn low_bits_and_rest(value: u64, width: u32) -> (u64, bool)
     requires { width ≤ 64 }
     ensures low { result.0 ≡ value % 2 ^ width }
@@ -198,7 +198,7 @@ pub fn low_bits_and_rest(value: u64, width: u32) -> (u64, bool)
     (value - (high << width), value >= power_of_two(width))
 }
 
-/// The number that at most 15 digits spell modulo 2^width, and whether it is 2^width or more.
+/// Returns the number that at most 15 digits spell modulo 2^width, and whether the number is 2^width or more.
 #[tactic(auto, using(crate::proofs::NumberLemmas::chunk_room))]
 fn number_mod_power_short<'a, L: Ledger>(
     view: &DigitView<'a>,
@@ -218,7 +218,7 @@ fn number_mod_power_short<'a, L: Ledger>(
     low_bits_and_rest(view.first_number(base, 15, steps), width)
 }
 
-/// The number that the digits spell modulo 2^width, and whether it is 2^width or more.
+/// Returns the number that the digits spell modulo 2^width, and whether the number is 2^width or more.
 #[tactic(auto, using(crate::proofs::NumberLemmas::nothing_low, crate::proofs::NumberLemmas::nothing_over))]
 pub fn number_mod_power<'a, L: Ledger>(
     view: &DigitView<'a>,

@@ -12,14 +12,14 @@ use crate::uncounted::read_literal;
 use fixed_bits::Inner;
 use fixed_numeral::ParseFixedError;
 
-/// The bits that a literal reads as, rounded to the nearest ulp, ties to even.
+/// Returns the bits that a literal reads as, rounded to the nearest ulp, ties to even.
 ///
 /// One minus may come first for a signed type. A prefix `0b`, `0o` or `0x` names the radix, which is 10 without
 /// one. Underscores may follow a prefix and a digit of their part.
 ///
 /// # Errors
 ///
-/// A literal whose read number is out of range is refused as Overflow, other bytes with the kind of their cause.
+/// Refuses a literal whose read number is out of range as `Overflow`, and other bytes with the kind of their cause.
 pub fn lit<I: Inner>(s: &[u8], frac_nbits: u32) -> Result<I, ParseFixedError>
     requires { frac_nbits ≤ I.BITS }
     ensures fits { IsOk result ↔ IsReadInRange NearestEven (literal_radix I.SIGNED s.now)

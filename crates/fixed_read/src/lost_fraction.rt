@@ -1,4 +1,4 @@
-//! What rounding to whole ulps loses, as far as it matters: none, less than half, half or more than half of an ulp.
+//! What rounding to whole ulps loses, as far as it matters: nothing, less than half, half or more than half of an ulp.
 
 ghost use Rattle.std.specs.Prelude.{◌≡◌, ◌+◌, ◌*◌, ◌%◌, ◌^◌, ◌<◌, ◌≤◌, ◌↔◌, ℕ, IsTrue};
 ghost use Rattle.fixed_bits.specs.LostFractions.{IsLostFraction};
@@ -29,7 +29,8 @@ pub fn is_above_zero(lost: LostFraction) -> bool
     }
 }
 
-/// What is lost where `rest` of two halves are left, and where `more`, a positive part of one of these as well.
+/// Returns what is lost if `rest` of the `2 * half` parts of an ulp are left and, if `more`, a positive share of one
+/// part as well.
 #[tactic(auto, using(crate::proofs::LostLemmas::tail_above))]
 pub fn lost_fraction_of(rest: u64, half: u64, more: bool) -> LostFraction
     requires { rest < 2 * half }

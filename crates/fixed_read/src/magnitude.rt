@@ -1,4 +1,4 @@
-//! How many ulps the magnitude of a numeral is.
+//! Counts the ulps in a numeral's magnitude.
 
 ghost use Rattle.std.specs.Prelude.{◌≡◌, ◌+◌, ◌-◌, ◌*◌, ◌/◌, ◌%◌, ◌^◌, ◌<◌, ◌≤◌, ℕ, List};
 ghost use Rattle.std.specs.Int.Digits.{AllBelowBase};
@@ -25,11 +25,11 @@ pub struct Ulps {
     pub low: u64,
     /// Whether there are more bits.
     pub has_high_bits: bool,
-    /// Whether it was a whole number of ulps before it was rounded.
+    /// Whether the magnitude was a whole number of ulps before rounding.
     pub is_exact: bool,
 }
 
-/// The magnitude of `count` ulps and a lost fraction, rounded.
+/// Rounds the magnitude of `count` ulps and a lost fraction.
 #[inline]
 pub fn rounded_ulps(count: u128, lost: LostFraction, mode: ReadMode) -> Ulps
     requires { count + 1 < 2 ^ 128 }
@@ -45,7 +45,7 @@ pub fn rounded_ulps(count: u128, lost: LostFraction, mode: ReadMode) -> Ulps
     }
 }
 
-/// The magnitude of `count` ulps and rest / unit of one, rounded.
+/// Rounds the magnitude of `count` ulps and rest / unit of one.
 #[inline(always)]
 pub fn rounded_share(count: u128, rest: u64, unit: u64, mode: ReadMode) -> Ulps
     requires count { count + 1 < 2 ^ 128 }
@@ -63,7 +63,7 @@ pub fn rounded_share(count: u128, rest: u64, unit: u64, mode: ReadMode) -> Ulps
     }
 }
 
-/// The magnitude of whole digits and of `more` ulps of 2^-fraction_bits, for each base.
+/// Rounds the magnitude of whole digits and `more` ulps of 2^-fraction_bits, for each base.
 fn rounded_magnitude<'a, L: Ledger>(
     whole: &DigitView<'a>,
     base: u32,
@@ -96,7 +96,7 @@ fn rounded_magnitude<'a, L: Ledger>(
     }
 }
 
-/// The ulps of 2^-(frac + bit_shift) in 0.DIGITS, and what is lost.
+/// Returns the ulps of 2^-(frac + bit_shift) in 0.DIGITS, and what is lost.
 #[tactic(auto, using(crate::proofs::PartLemmas::part_none))]
 fn fraction_ulps<'a, L: Ledger>(
     view: &DigitView<'a>,
@@ -126,7 +126,7 @@ fn fraction_ulps<'a, L: Ledger>(
     }
 }
 
-/// The magnitude of a scanned numeral in ulps of 2^-frac.
+/// Returns the magnitude of a scanned numeral in ulps of 2^-frac.
 pub fn magnitude<'a, L: Ledger>(
     found: &Scanned<'a>,
     radix: Radix,

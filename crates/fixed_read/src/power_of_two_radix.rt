@@ -1,7 +1,7 @@
-//! How many ulps a fraction in radix 2, 8 or 16 of any length is, and what is lost.
+//! Counts the ulps in a fraction of any length in radix 2, 8 or 16, and finds what is lost.
 //!
-//! A block of digits that has at least one bit more than the fraction decides: its lowest bits and whether a digit
-//! comes after it say what is lost.
+//! A block of digits with at least one bit more than the fraction decides: its lowest bits, and whether a digit comes
+//! after it, say what is lost.
 
 ghost use Rattle.std.specs.Prelude.{◌≡◌, ◌+◌, ◌*◌, ◌/◌, ◌^◌, ◌<◌, ◌≤◌, drop};
 ghost use Rattle.std.specs.Int.Digits.{AllBelowBase};
@@ -17,7 +17,7 @@ use fixed_numeral::DigitView;
 use fixed_steps::Steps;
 use std::sync::ledger::Ledger;
 
-/// The base whose digits have n bits.
+/// Returns the base whose digits have n bits.
 fn base_of_bits(n: u32) -> u32
     requires { n ≤ 4 }
     ensures { result ≡ 2 ^ n }
@@ -25,8 +25,8 @@ fn base_of_bits(n: u32) -> u32
     1 << n
 }
 
-/// The number that the first `count` digits spell, one more than the fraction bits fill, with zeros at their end where
-/// there are fewer. Up to 60 fraction bits it fits 64 bits.
+/// Returns the number that the first `count` digits spell, padded with zeros if there are fewer. `count` is one more
+/// than the fraction bits fill. Up to 60 fraction bits the number fits 64 bits.
 fn leading_block<'a, L: Ledger>(
     view: &DigitView<'a>,
     bits: u32,
@@ -57,7 +57,7 @@ fn leading_block<'a, L: Ledger>(
     )
 }
 
-/// The ulps of 2^-fraction_bits in 0.DIGITS, whose digits have `bits` bits each, and what is lost.
+/// Returns the ulps of 2^-fraction_bits in 0.DIGITS, whose digits have `bits` bits each, and what is lost.
 pub fn bit_fraction_ulps<'a, L: Ledger>(
     view: &DigitView<'a>,
     bits: u32,

@@ -20,7 +20,7 @@ use fixed_numeral::{ParseErrorKind, ParseFixedError, Radix};
 use fixed_steps::Steps;
 use std::sync::ledger::Ledger;
 
-/// The format of an integer type with a fraction length.
+/// Returns the format of an integer type with a fraction length.
 pub fn format_of<I: Inner>(frac: u32) -> Format
     requires { frac ≤ I.BITS }
     ensures signed { result.signed ≡ I.SIGNED }
@@ -30,7 +30,7 @@ pub fn format_of<I: Inner>(frac: u32) -> Format
     Format::of(I::SIGNED, I::BITS, frac)
 }
 
-/// The Wrapping image of a read number.
+/// Returns the Wrapping image of a read number.
 fn wrapped<I: Inner>(found: &ReadNumber) -> I
     ensures { (v : ℤ) → IsNumber (number_in found.now) v → IsWrapped I.SIGNED I.BITS v (I.number result) }
 {
@@ -38,7 +38,7 @@ fn wrapped<I: Inner>(found: &ReadNumber) -> I
     I::wrap(signed_number(number.negative, number.low))
 }
 
-/// The Saturating image of a read number.
+/// Returns the Saturating image of a read number.
 fn saturated<I: Inner>(found: &ReadNumber) -> I
     requires signed { found.now.format.signed ≡ I.SIGNED }
     requires width { found.now.format.width ≡ I.BITS }
@@ -52,11 +52,11 @@ fn saturated<I: Inner>(found: &ReadNumber) -> I
     )
 }
 
-/// A read number where it is in range.
+/// Returns a read number if it is in range.
 ///
 /// # Errors
 ///
-/// One that is out of range is refused as Overflow.
+/// Refuses a number that is out of range as `Overflow`.
 pub fn in_range<I: Inner>(found: &ReadNumber) -> Result<I, ParseFixedError>
     requires signed { found.now.format.signed ≡ I.SIGNED }
     requires width { found.now.format.width ≡ I.BITS }
@@ -71,15 +71,15 @@ pub fn in_range<I: Inner>(found: &ReadNumber) -> Result<I, ParseFixedError>
     }
 }
 
-/// The bits that a numeral reads as in a mode, brought into the type's range by a multiple of two to the power of its
-/// width, and whether that was needed.
+/// Returns the bits that a numeral reads as in a mode, brought into the type's range by a multiple of two to the power
+/// of its width, and whether that was needed.
 ///
 /// The number read is the numeral's magnitude in ulps of two to the power of `-frac_nbits`, rounded in the mode, with
 /// the numeral's sign. It takes at most eight steps for each byte and each bit, and 64.
 ///
 /// # Errors
 ///
-/// Other bytes than a numeral of the radix are refused with the kind of their cause.
+/// Refuses bytes that are not a numeral of the radix with the kind of their cause.
 pub fn overflowing_from_str_radix_mode_counted<I: Inner, L: Ledger>(
     s: &[u8],
     radix: Radix,
@@ -98,13 +98,13 @@ pub fn overflowing_from_str_radix_mode_counted<I: Inner, L: Ledger>(
     }
 }
 
-/// The bits that a numeral reads as, rounded to the nearest ulp, ties to even, brought into the type's range by a
-/// multiple of two to the power of its width, and whether that was needed. It takes at most eight steps for each byte
+/// Returns the bits that a numeral reads as, rounded to the nearest ulp, ties to even, brought into the type's range by
+/// a multiple of two to the power of its width, and whether that was needed. It takes at most eight steps for each byte
 /// and each bit, and 64.
 ///
 /// # Errors
 ///
-/// Other bytes than a numeral of the radix are refused with the kind of their cause.
+/// Refuses bytes that are not a numeral of the radix with the kind of their cause.
 pub fn overflowing_from_str_radix_counted<I: Inner, L: Ledger>(
     s: &[u8],
     radix: Radix,
@@ -119,12 +119,12 @@ pub fn overflowing_from_str_radix_counted<I: Inner, L: Ledger>(
     overflowing_from_str_radix_mode_counted(s, radix, frac_nbits, ReadMode::NearestEven, steps)
 }
 
-/// The bits that a numeral reads as in a mode, brought into the type's range by a multiple of two to the power of its
-/// width, and whether that was needed.
+/// Returns the bits that a numeral reads as in a mode, brought into the type's range by a multiple of two to the power
+/// of its width, and whether that was needed.
 ///
 /// # Errors
 ///
-/// Other bytes than a numeral of the radix are refused with the kind of their cause.
+/// Refuses bytes that are not a numeral of the radix with the kind of their cause.
 pub fn overflowing_from_str_radix_mode<I: Inner>(
     s: &[u8],
     radix: Radix,
@@ -141,12 +141,12 @@ pub fn overflowing_from_str_radix_mode<I: Inner>(
     }
 }
 
-/// The bits that a numeral reads as, rounded to the nearest ulp, ties to even, brought into the type's range by a
-/// multiple of two to the power of its width, and whether that was needed.
+/// Returns the bits that a numeral reads as, rounded to the nearest ulp, ties to even, brought into the type's range by
+/// a multiple of two to the power of its width, and whether that was needed.
 ///
 /// # Errors
 ///
-/// Other bytes than a numeral of the radix are refused with the kind of their cause.
+/// Refuses bytes that are not a numeral of the radix with the kind of their cause.
 pub fn overflowing_from_str_radix<I: Inner>(
     s: &[u8],
     radix: Radix,
@@ -159,12 +159,12 @@ pub fn overflowing_from_str_radix<I: Inner>(
     overflowing_from_str_radix_mode(s, radix, frac_nbits, ReadMode::NearestEven)
 }
 
-/// The bits that a numeral reads as in a mode, brought into the type's range by a multiple of two to the power of its
-/// width.
+/// Returns the bits that a numeral reads as in a mode, brought into the type's range by a multiple of two to the power
+/// of its width.
 ///
 /// # Errors
 ///
-/// Other bytes than a numeral of the radix are refused with the kind of their cause.
+/// Refuses bytes that are not a numeral of the radix with the kind of their cause.
 pub fn wrapping_from_str_radix_mode<I: Inner>(
     s: &[u8],
     radix: Radix,
@@ -181,12 +181,12 @@ pub fn wrapping_from_str_radix_mode<I: Inner>(
     }
 }
 
-/// The bits that a numeral reads as, rounded to the nearest ulp, ties to even, brought into the type's range by a
-/// multiple of two to the power of its width.
+/// Returns the bits that a numeral reads as, rounded to the nearest ulp, ties to even, brought into the type's range by
+/// a multiple of two to the power of its width.
 ///
 /// # Errors
 ///
-/// Other bytes than a numeral of the radix are refused with the kind of their cause.
+/// Refuses bytes that are not a numeral of the radix with the kind of their cause.
 pub fn wrapping_from_str_radix<I: Inner>(
     s: &[u8],
     radix: Radix,
@@ -199,11 +199,11 @@ pub fn wrapping_from_str_radix<I: Inner>(
     wrapping_from_str_radix_mode(s, radix, frac_nbits, ReadMode::NearestEven)
 }
 
-/// The bits that a numeral reads as in a mode, or the nearer end of the type's range.
+/// Returns the bits that a numeral reads as in a mode, or the nearer end of the type's range.
 ///
 /// # Errors
 ///
-/// Other bytes than a numeral of the radix are refused with the kind of their cause.
+/// Refuses bytes that are not a numeral of the radix with the kind of their cause.
 pub fn saturating_from_str_radix_mode<I: Inner>(
     s: &[u8],
     radix: Radix,
@@ -220,11 +220,12 @@ pub fn saturating_from_str_radix_mode<I: Inner>(
     }
 }
 
-/// The bits that a numeral reads as, rounded to the nearest ulp, ties to even, or the nearer end of the type's range.
+/// Returns the bits that a numeral reads as, rounded to the nearest ulp, ties to even, or the nearer end of the type's
+/// range.
 ///
 /// # Errors
 ///
-/// Other bytes than a numeral of the radix are refused with the kind of their cause.
+/// Refuses bytes that are not a numeral of the radix with the kind of their cause.
 pub fn saturating_from_str_radix<I: Inner>(
     s: &[u8],
     radix: Radix,
@@ -237,11 +238,11 @@ pub fn saturating_from_str_radix<I: Inner>(
     saturating_from_str_radix_mode(s, radix, frac_nbits, ReadMode::NearestEven)
 }
 
-/// The bits that a numeral reads as in a mode.
+/// Returns the bits that a numeral reads as in a mode.
 ///
 /// # Errors
 ///
-/// A numeral whose read number is out of range is refused as Overflow, other bytes with the kind of their cause.
+/// Refuses a numeral whose read number is out of range as `Overflow`, and other bytes with the kind of their cause.
 pub fn from_str_radix_mode<I: Inner>(
     s: &[u8],
     radix: Radix,
@@ -263,11 +264,11 @@ pub fn from_str_radix_mode<I: Inner>(
     }
 }
 
-/// The bits that a numeral reads as, rounded to the nearest ulp, ties to even.
+/// Returns the bits that a numeral reads as, rounded to the nearest ulp, ties to even.
 ///
 /// # Errors
 ///
-/// A numeral whose read number is out of range is refused as Overflow, other bytes with the kind of their cause.
+/// Refuses a numeral whose read number is out of range as `Overflow`, and other bytes with the kind of their cause.
 pub fn from_str_radix<I: Inner>(
     s: &[u8],
     radix: Radix,

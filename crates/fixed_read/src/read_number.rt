@@ -1,7 +1,7 @@
 //! The core of reading: one reading of a numeral into a format chosen at run time.
 //!
 //! A short numeral is read from the numbers of its parts (`short_numeral`). Any other is scanned, and its digits are
-//! looked at (`magnitude`). All other readers are shells over this.
+//! read (`magnitude`). All other readers are shells over this.
 
 ghost use Rattle.std.specs.Prelude.{◌≡◌, ◌≢◌, ◌+◌, ◌*◌, ◌^◌, ◌<◌, ◌≤◌, ◌↔◌, ◌⊎◌, ℤ, pos, IsTrue, IsOk, IfOk, IfErr};
 ghost use Rattle.std.specs.Prelude.{IsNone, IfSome, drop, length};
@@ -28,7 +28,8 @@ use crate::magnitude::{Ulps, magnitude};
 use crate::short_numeral::short_ulps;
 use fixed_bits::{Format, Number, Policy, ReadMode, magnitude_mode_of};
 use fixed_numeral::{
-    ParseFixedError, Radix, Scanned, ShortNumeral, scan, scan_lit, short_decimal, short_numeral,
+    ParseFixedError, Radix, Scanned, ShortNumeral, scan, scan_lit, short_decimal, short_literal,
+    short_numeral,
 };
 use fixed_steps::Steps;
 use std::sync::ledger::Ledger;
@@ -36,7 +37,7 @@ use std::sync::ledger::Ledger;
 /// The number that a numeral reads as in a format: a whole number of the format's ulps with a sign, which may be out of
 /// the format's range.
 ///
-/// It has a `Number` in its parts: bytes between the fields of a record in it would be moved wherever it is.
+/// It holds the parts of a `Number` and not a `Number`: the padding of an inner record would be moved with it.
 #[derive(Clone, Copy, Debug, PartialEq, Eq)]
 pub struct ReadNumber {
     low: u64,
@@ -47,7 +48,7 @@ pub struct ReadNumber {
 }
 
 impl ReadNumber {
-    /// A number that was read into a format, and whether what was read was a whole number of ulps.
+    /// Returns a number that was read into a format, and whether the numeral was a whole number of ulps.
     #[inline(always)]
     pub fn new(number: Number, format: Format, exact: bool) -> ReadNumber
         ensures number { number_in result ≡ number }
@@ -63,14 +64,14 @@ impl ReadNumber {
         }
     }
 
-    /// The format that the numeral was read into.
+    /// Returns the format that the numeral was read into.
     pub fn format(&self) -> Format
         ensures { result ≡ self.now.format }
     {
         self.format
     }
 
-    /// The number, in ulps: negative where the numeral has a minus, also where it is 0.
+    /// Returns the number, in ulps. It is negative if the numeral has a minus, even if it is 0.
     #[inline(always)]
     pub fn number(&self) -> Number
         ensures { result ≡ number_in self.now }
@@ -82,14 +83,14 @@ impl ReadNumber {
         }
     }
 
-    /// Whether the numeral has a minus, also where the number is 0.
+    /// Whether the numeral has a minus, even if the number is 0.
     pub fn is_negative(&self) -> bool
         ensures { result ≡ self.now.negative }
     {
         self.negative
     }
 
-    /// The lowest 64 bits of the magnitude in ulps.
+    /// Returns the lowest 64 bits of the magnitude in ulps.
     pub fn magnitude(&self) -> u64
         ensures { result ≡ self.now.low }
     {
@@ -119,7 +120,7 @@ impl ReadNumber {
         self.number().is_out_of_range(self.format)
     }
 
-    /// Whether the number is out of the range that a policy leaves of the format's.
+    /// Whether the number is out of the policy's part of the format's range.
     pub fn is_out_of_range_by(&self, policy: Policy) -> bool
         ensures range { (v : ℤ) → IsNumber (number_in self.now) v → IsTrue result
             ↔ IsOutOfRangeBy policy self.now.format.signed self.now.format.width v }
@@ -128,8 +129,8 @@ impl ReadNumber {
         self.number().is_out_of_range_by(self.format, policy)
     }
 
-    /// The image of the number in the format: the number itself where it is in the range that the policy leaves. `None`
-    /// exactly where it is out of range and the policy is `Checked`.
+    /// Returns the image of the number in the format: the number itself if it is in the policy's range. `None` exactly
+    /// if it is out of range and the policy is `Checked`.
     pub fn image(&self, policy: Policy) -> Option<i128>
         ensures image { (v : ℤ) → IsNumber (number_in self.now) v
             → IfSome result (λ c. IsImage policy self.now.format.signed self.now.format.width v c) }
@@ -142,7 +143,7 @@ impl ReadNumber {
     }
 }
 
-/// The number that a scanned numeral reads as.
+/// Returns the number that a scanned numeral reads as.
 fn number_of<'a, L: Ledger>(
     found: &Scanned<'a>,
     radix: Radix,
@@ -168,7 +169,7 @@ fn number_of<'a, L: Ledger>(
     number_from(format, negative, ulps)
 }
 
-/// A magnitude as the number of a format.
+/// Returns a magnitude as the number of a format.
 #[inline]
 fn number_from(format: Format, negative: bool, ulps: Ulps) -> ReadNumber
     ensures reading { (mode : ReadMode) (r : Radix) (p : Parts) (number : Fraction) → negative ≡ is_minus p.sign
@@ -185,7 +186,7 @@ fn number_from(format: Format, negative: bool, ulps: Ulps) -> ReadNumber
     }
 }
 
-/// The number that a short numeral reads as. `None` where its digits have to be looked at.
+/// Returns the number that a short numeral reads as. `None`: its digits must be read.
 #[inline(always)]
 fn number_of_short(
     found: ShortNumeral,
@@ -210,7 +211,7 @@ fn number_of_short(
     }
 }
 
-/// Reads a short numeral that a text ends with. `None` only means: try the next way.
+/// Reads a short numeral at the end of a text. `None` only means that another way must be tried.
 #[tactic(auto, using(crate::proofs::ShortNumeralLemmas::if_some))]
 #[inline(always)]
 fn read_short<L: Ledger>(
@@ -234,7 +235,7 @@ fn read_short<L: Ledger>(
     }
 }
 
-/// Reads a text that is a short decimal. `None` only means: try the next way.
+/// Reads a text that is a short decimal. `None` only means that another way must be tried.
 #[inline(always)]
 fn read_decimal<L: Ledger>(
     s: &[u8],
@@ -257,7 +258,7 @@ fn read_decimal<L: Ledger>(
     }
 }
 
-/// Reads any numeral, by its digits.
+/// Reads any numeral by its digits.
 #[tactic(auto, using(crate::proofs::ReadLemmas::split_numeral))]
 fn read_scanned<L: Ledger>(
     s: &[u8],
@@ -278,8 +279,8 @@ fn read_scanned<L: Ledger>(
     }
 }
 
-/// Reads a numeral that a text ends with: a short one in radix 2, 8 or 16, else by its digits. Apart, so that a short
-/// decimal pays for no room of theirs.
+/// Reads a numeral at the end of a text: a short one in radix 2, 8 or 16, else by its digits. It is not inlined, so
+/// that a short decimal does not pay for its memory.
 #[inline(never)]
 fn read_apart<L: Ledger>(
     text: &[u8],
@@ -302,8 +303,8 @@ fn read_apart<L: Ledger>(
     read_scanned(&text[from..], radix, format, mode, steps)
 }
 
-/// What `read_apart` answers, matched by reference and copied here, and not where it is used: the answer of a call has
-/// room in memory, which is cleared where a function begins.
+/// Returns what `read_apart` returns, matched by reference and copied here and not in its caller: the result of a call
+/// has room in memory, which is cleared when a function begins.
 #[inline(always)]
 fn copy_apart<L: Ledger>(
     text: &[u8],
@@ -324,12 +325,12 @@ fn copy_apart<L: Ledger>(
     }
 }
 
-/// Reads the numeral that a text ends with, from a place on, as `read_format` reads it alone. It is quickest where
-/// there are 16 bytes before it: then a short numeral is read by whole words, whatever the counts of its digits.
+/// Reads the numeral from index `from` to the end of a text, as `read_format` reads it alone. It is quickest if there
+/// are 16 bytes before it: then a short numeral is read by whole words, whatever the counts of its digits.
 ///
 /// # Errors
 ///
-/// Other bytes than a numeral of the radix are refused with the kind of their cause.
+/// Refuses bytes that are not a numeral of the radix with the kind of their cause.
 #[inline(always)]
 pub fn read_ending<L: Ledger>(
     text: &[u8],
@@ -353,11 +354,11 @@ pub fn read_ending<L: Ledger>(
 }
 
 /// Reads a numeral into a format in a mode: the numeral's magnitude in ulps of the format, rounded in the mode, with
-/// the numeral's sign. It takes at most eight steps for each byte, and 128.
+/// the numeral's sign. It takes at most four steps for each byte, and 119.
 ///
 /// # Errors
 ///
-/// Other bytes than a numeral of the radix are refused with the kind of their cause.
+/// Refuses bytes that are not a numeral of the radix with the kind of their cause.
 #[inline]
 pub fn read_format<L: Ledger>(
     s: &[u8],
@@ -368,12 +369,30 @@ pub fn read_format<L: Ledger>(
 ) -> Result<ReadNumber, ParseFixedError>
     ensures reading { IsReadOrRefused radix s.now (IsReading mode radix) result }
     ensures format { IfOk result (λ found. found.format ≡ format) }
-    ensures cost { steps.new ≤ steps.old + 8 * length s.now + 128 }
+    ensures cost { steps.new ≤ steps.old + 4 * length s.now + 119 }
 {
     if let Some(found) = read_decimal(s, radix, format, mode, steps) {
         return Ok(found);
     }
     copy_apart(s, 0, radix, format, mode, steps)
+}
+
+/// Reads a literal whose rest is a short numeral. `None` only means that another way must be tried.
+#[inline(always)]
+fn read_short_literal<L: Ledger>(
+    s: &[u8],
+    format: Format,
+    steps: &mut Steps<L>,
+) -> Option<ReadNumber>
+    ensures literal { IfSome result (λ found. IsLiteral format.signed s.now) }
+    ensures reading { IfSome result (λ found. (p : Parts) → HasLiteral format.signed s.now p
+        → IsReading NearestEven (literal_radix format.signed s.now) p found) }
+    ensures format { IfSome result (λ found. found.format ≡ format) }
+{
+    match short_literal(s, format.signed(), steps) {
+        Some((radix, found)) => number_of_short(found, radix, format, ReadMode::NearestEven),
+        None => None,
+    }
 }
 
 /// `read_literal` with its steps on this counter.
@@ -389,6 +408,9 @@ pub fn read_literal_counted<L: Ledger>(
         → IsReading NearestEven (literal_radix format.signed s.now) p found) }
     ensures format { IfOk result (λ found. found.format ≡ format) }
 {
+    if let Some(found) = read_short_literal(s, format, steps) {
+        return Ok(found);
+    }
     match scan_lit(s, format.signed(), steps) {
         Ok((radix, found)) => Ok(number_of(&found, radix, format, ReadMode::NearestEven, steps)),
         Err(error) => Err(error),

@@ -2,7 +2,7 @@
 //!
 //! `RECIPROCAL` is 2^126 / 5^27 rounded down. So `number * RECIPROCAL / 2^126` is at most `number / 5^27`, and for the
 //! numbers that a block of 27 digits makes it is less than one below that. Its whole part is therefore the quotient or
-//! one less, and one look at the rest says which. A division of 128 bits would take six times as long.
+//! one less, and the rest says which. A division of 128 bits would take six times as long.
 
 ghost use Rattle.std.specs.Prelude.{◌≡◌, ◌+◌, ◌*◌, ◌^◌, ◌<◌, ◌≤◌};
 
@@ -12,7 +12,7 @@ use crate::shifts::{split_bits, to_u64};
 /// 2^126 / 5^27, rounded down.
 const RECIPROCAL: u64 = 11417981541647679048;
 
-/// The whole part of `number * RECIPROCAL / 2^126`.
+/// Returns the whole part of `number * RECIPROCAL / 2^126`.
 #[inline]
 fn estimated_quotient(number: u128) -> u64
     requires { number < 10 ^ 27 * 2 ^ 37 }
@@ -25,7 +25,7 @@ fn estimated_quotient(number: u128) -> u64
     to_u64((upper + lower) >> 62)
 }
 
-/// A number divided by 5^27, and the rest.
+/// Divides a number by 5^27. Returns the quotient and the rest.
 #[inline]
 pub fn divided_by_five_to_27(number: u128) -> (u64, u64)
     requires { number < 10 ^ 27 * 2 ^ 37 }

@@ -2,7 +2,7 @@
 
 ghost use Rattle.std.specs.Prelude.{◌≡◌, ◌*◌, ◌/◌, ◌%◌, ◌^◌, ◌<◌, ◌≤◌, ◌↔◌, IsTrue};
 
-/// 2^bits.
+/// Returns 2^bits.
 pub fn power_of_two(bits: u32) -> u64
     requires { bits < 64 }
     ensures { result ≡ 2 ^ bits }
@@ -10,7 +10,7 @@ pub fn power_of_two(bits: u32) -> u64
     1 << bits
 }
 
-/// value * 2^bits.
+/// Returns value * 2^bits.
 pub fn shl(value: u128, bits: u32) -> u128
     requires bits { bits < 128 }
     requires room { value * 2 ^ bits < 2 ^ 128 }
@@ -19,7 +19,7 @@ pub fn shl(value: u128, bits: u32) -> u128
     value << bits
 }
 
-/// value * 2^bits in 64 bits.
+/// Returns value * 2^bits in 64 bits.
 pub fn shl_u64(value: u64, bits: u32) -> u64
     requires bits { bits < 64 }
     requires room { value * 2 ^ bits < 2 ^ 64 }
@@ -28,7 +28,7 @@ pub fn shl_u64(value: u64, bits: u32) -> u64
     value << bits
 }
 
-/// A number that fits 64 bits.
+/// Returns a number that fits 64 bits as a `u64`.
 pub fn to_u64(value: u128) -> u64
     requires { value < 2 ^ 64 }
     ensures { result ≡ value }
@@ -36,7 +36,7 @@ pub fn to_u64(value: u128) -> u64
     value as u64
 }
 
-/// A number without its lowest bits, and these.
+/// Returns a number without its lowest bits, and these bits.
 pub fn split_bits(value: u128, bits: u32) -> (u128, u64)
     requires { bits ≤ 64 }
     ensures high { result.0 ≡ value / 2 ^ bits }

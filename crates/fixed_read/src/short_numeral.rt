@@ -31,7 +31,7 @@ pub struct Decimal {
     ghost few: { places ≤ 27 },
 }
 
-/// The magnitude of a decimal in ulps of 2^-frac. Up to 13 places all but the sum fits a word.
+/// Returns the magnitude of a decimal in ulps of 2^-frac. Up to 13 places all but the sum fits a word.
 #[tactic(auto, using(crate::proofs::ShareLemmas::with_whole))]
 #[inline(always)]
 fn ulps_of_decimal(decimal: Decimal, frac: u32, mode: ReadMode) -> Ulps
@@ -50,7 +50,7 @@ fn ulps_of_decimal(decimal: Decimal, frac: u32, mode: ReadMode) -> Ulps
     rounded_share(count, shared.rest, shared.unit, mode)
 }
 
-/// digits * 10^up as a decimal. `None` where it is too large for one.
+/// Returns digits * 10^up as a decimal. `None`: it is too large.
 fn whole_decimal(digits: u64, up: u64) -> Option<Decimal>
     ensures { IfSome result (λ d. (d.whole ≡ digits * 10 ^ up) × (d.fraction ≡ 0) × (d.places ≡ 0)) }
 {
@@ -68,7 +68,7 @@ fn whole_decimal(digits: u64, up: u64) -> Option<Decimal>
     })
 }
 
-/// digits / 10^down as a decimal. `None` where it has more than 27 places.
+/// Returns digits / 10^down as a decimal. `None`: it has more than 27 places.
 fn fraction_decimal(digits: u64, down: u64) -> Option<Decimal>
     requires { digits < 10 ^ 16 }
     ensures { IfSome result (λ d. (d.whole * 10 ^ down + d.fraction ≡ digits) × (d.places ≡ down)) }
@@ -93,14 +93,14 @@ fn fraction_decimal(digits: u64, down: u64) -> Option<Decimal>
     })
 }
 
-/// A number where it is not negative, else 0.
+/// Returns a number if it is not negative, else 0.
 fn up_of(net: i64) -> u64
     ensures { result ≡ up_of net }
 {
     if net < 0 { 0 } else { net as u64 }
 }
 
-/// The magnitude of a negative number, else 0.
+/// Returns the magnitude of a negative number, else 0.
 fn down_of(net: i64) -> u64
     requires { (pos 0 -ℤ pos (2 ^ 40)) ≤ℤ net }
     ensures { result ≡ down_of net }
@@ -108,7 +108,7 @@ fn down_of(net: i64) -> u64
     if net < 0 { (-net) as u64 } else { 0 }
 }
 
-/// A number times a power of ten as a decimal. `None` where it has more than 27 places, or is too large.
+/// Returns a number times a power of ten as a decimal. `None`: it has more than 27 places, or is too large.
 fn scaled_decimal(digits: u64, power: i64) -> Option<Decimal>
     requires digits { digits < 10 ^ 16 }
     requires least { (pos 0 -ℤ pos (2 ^ 40)) ≤ℤ power }
@@ -122,7 +122,7 @@ fn scaled_decimal(digits: u64, power: i64) -> Option<Decimal>
     }
 }
 
-/// All digits of a short numeral as one number.
+/// Returns all digits of a short numeral as one number.
 #[inline(always)]
 fn decimal_digits(found: ShortNumeral) -> u64
     requires { HasFewDigits 10 found.whole found.fraction found.places }
@@ -132,7 +132,7 @@ fn decimal_digits(found: ShortNumeral) -> u64
     found.whole * power_of_ten(found.places) + to_u64(found.fraction)
 }
 
-/// A short numeral in radix 10 as a decimal. `None` where its digits have to be looked at.
+/// Returns a short numeral in radix 10 as a decimal. `None`: its digits must be read.
 #[inline(always)]
 fn decimal_of(found: ShortNumeral) -> Option<Decimal>
     requires { HasFewDigits 10 found.whole found.fraction found.places }
@@ -146,8 +146,8 @@ fn decimal_of(found: ShortNumeral) -> Option<Decimal>
     )
 }
 
-/// The magnitude of a short numeral in radix 10 and with an exponent in ulps of 2^-frac. `None` where its digits have
-/// to be looked at. Apart from `decimal_ulps`, so that the answer of a call has room in memory only where there is an
+/// Returns the magnitude of a short numeral in radix 10 with an exponent in ulps of 2^-frac. `None`: its digits must be
+/// read. It is not part of `decimal_ulps`, so that the result of a call has room in memory only if there is an
 /// exponent.
 #[inline(always)]
 fn scaled_ulps(found: ShortNumeral, frac: u32, mode: ReadMode) -> Option<Ulps>
@@ -163,7 +163,7 @@ fn scaled_ulps(found: ShortNumeral, frac: u32, mode: ReadMode) -> Option<Ulps>
     }
 }
 
-/// The magnitude of a short numeral in radix 10 in ulps of 2^-frac. `None` where its digits have to be looked at.
+/// Returns the magnitude of a short numeral in radix 10 in ulps of 2^-frac. `None`: its digits must be read.
 #[inline(always)]
 fn decimal_ulps(found: ShortNumeral, frac: u32, mode: ReadMode) -> Option<Ulps>
     requires fraction { found.fraction < 10 ^ found.places }
@@ -186,7 +186,7 @@ fn decimal_ulps(found: ShortNumeral, frac: u32, mode: ReadMode) -> Option<Ulps>
     Some(ulps_of_decimal(decimal, frac, mode))
 }
 
-/// What is lost where `rest` of two halves are left.
+/// Returns what is lost if `rest` of the `2 * half` parts of an ulp are left.
 #[inline(always)]
 fn lost_fraction_of_bits(rest: u64, half: u64) -> LostFraction
     requires { rest < 2 * half }
@@ -203,7 +203,7 @@ fn lost_fraction_of_bits(rest: u64, half: u64) -> LostFraction
     }
 }
 
-/// What is lost of digits / 2^by, where that is less than one.
+/// Returns what is lost of digits / 2^by, which is less than one.
 fn lost_far_down(digits: u64, by: u64) -> LostFraction
     requires { 64 ≤ by }
     ensures { IsLostFraction result digits (2 ^ by) }
@@ -218,7 +218,7 @@ fn lost_far_down(digits: u64, by: u64) -> LostFraction
     }
 }
 
-/// The whole number in digits / 2^by, and what is lost.
+/// Returns the whole part of digits / 2^by, and what is lost.
 #[inline(always)]
 fn shifted_down(digits: u64, by: u64) -> (u64, LostFraction)
     requires some { 0 < by }
@@ -233,7 +233,7 @@ fn shifted_down(digits: u64, by: u64) -> (u64, LostFraction)
     (count, lost_fraction_of_bits(rest, power_of_two(bits - 1)))
 }
 
-/// The magnitude of digits / 2^by ulps.
+/// Rounds the magnitude of digits / 2^by ulps.
 #[tactic(auto, using(crate::proofs::ShortNumeralLemmas::lowered_split))]
 #[inline(always)]
 fn lowered_ulps(digits: u64, by: u64, mode: ReadMode) -> Ulps
@@ -252,7 +252,7 @@ fn exceeds(number: u64, limit: u64) -> bool
     number > limit
 }
 
-/// The magnitude of digits * 2^by ulps.
+/// Returns the magnitude of digits * 2^by ulps.
 #[inline(always)]
 fn raised_ulps(digits: u64, by: u64) -> Ulps
     ensures { (mode : ReadMode) (num den frac : ℕ) → 0 < den → digits * 2 ^ by * den ≡ num * 2 ^ frac
@@ -273,7 +273,7 @@ fn raised_ulps(digits: u64, by: u64) -> Ulps
     }
 }
 
-/// A few times a number.
+/// Returns a number times `count`, which is at most 4.
 #[inline(always)]
 fn times(count: u64, number: i64) -> i64
     requires few { count ≤ 4 }
@@ -286,7 +286,7 @@ fn times(count: u64, number: i64) -> i64
     count as i64 * number
 }
 
-/// The power of two by which the digits of a numeral are multiplied; where it is negative, they are divided.
+/// Returns the power of two that multiplies the digits of a numeral, or divides them if it is negative.
 #[inline(always)]
 fn net_power(bits: u64, places: u32, exponent: i32, scales_by_two: bool) -> i64
     requires { bits ≤ 4 }
@@ -299,7 +299,7 @@ fn net_power(bits: u64, places: u32, exponent: i32, scales_by_two: bool) -> i64
     times(unit, i64::from(exponent)) - times(bits, i64::from(places))
 }
 
-/// How many bits a digit of radix 2, 8 or 16 has. A sum, since a `match` becomes a jump that is hard to predict.
+/// Counts the bits of a digit of radix 2, 8 or 16. It is a sum, since a `match` becomes a jump that is hard to predict.
 #[inline(always)]
 fn bits_of(radix: Radix) -> u64
     requires { radix ≢ Dec }
@@ -309,7 +309,7 @@ fn bits_of(radix: Radix) -> u64
     1 + 2 * u64::from(radix == Radix::Oct) + 3 * u64::from(radix == Radix::Hex)
 }
 
-/// All digits of a short numeral as one number, where each has that many bits.
+/// Returns all digits of a short numeral as one number. Each digit has `bits` bits.
 #[inline(always)]
 fn binary_digits(found: ShortNumeral, bits: u64) -> u64
     requires bits { bits ≤ 4 }
@@ -319,7 +319,7 @@ fn binary_digits(found: ShortNumeral, bits: u64) -> u64
     shl_u64(found.whole, bits as u32 * found.places) + to_u64(found.fraction)
 }
 
-/// The magnitude of digits / 2^(bits * places), times the exponent's power, in ulps of 2^-frac.
+/// Returns the magnitude of digits / 2^(bits * places), times the exponent's power, in ulps of 2^-frac.
 #[inline(always)]
 fn binary_ulps(
     digits: u64,
@@ -344,7 +344,7 @@ fn binary_ulps(
     }
 }
 
-/// The magnitude of a short numeral in ulps of 2^-frac. `None` where its digits have to be looked at.
+/// Returns the magnitude of a short numeral in ulps of 2^-frac. `None`: its digits must be read.
 #[inline(always)]
 pub fn short_ulps(found: ShortNumeral, radix: Radix, frac: u32, mode: ReadMode) -> Option<Ulps>
     requires fraction { found.fraction < base radix ^ found.places }

@@ -1,4 +1,4 @@
-//! The readers with a counter of steps of their own.
+//! Readers with their own counters of steps.
 
 ghost use Rattle.std.specs.Prelude.{◌≡◌, ◌<◌, ◌↔◌, IsOk, IfOk, IfErr};
 ghost use Rattle.fixed_bits.specs.declared.mode.ReadMode.TheVariants.{NearestEven};
@@ -32,7 +32,7 @@ fn read_over<L: Ledger>(
     read_format(s, radix, format, mode, &mut steps)
 }
 
-/// `read_format` with a counter of its own.
+/// `read_format` with its own counter.
 pub fn read_uncounted(
     s: &[u8],
     radix: Radix,
@@ -71,7 +71,7 @@ fn read_literal_over<L: Ledger>(
 ///
 /// # Errors
 ///
-/// Other bytes than a literal are refused with the kind of their cause.
+/// Refuses bytes that are not a literal with the kind of their cause.
 pub fn read_literal(s: &[u8], format: Format) -> Result<ReadNumber, ParseFixedError>
     ensures literal { IsOk result ↔ IsLiteral format.signed s.now }
     ensures cause { IfErr result (λ kind. HasLiteralCause format.signed s.now kind) }

@@ -1,4 +1,4 @@
--- Each value has exactly one whole number in each rounding.
+-- Each value has exactly one whole number for each rounding.
 use Rattle.std.proofs.Common.{◌≡◌, ℕ, ◌+◌, ◌-◌, ◌*◌, ◌%◌, ◌^◌, ◌≤◌, ◌<◌, ◌==◌, ℤ, pos, negsuc, neg_ℤ, ◌+ℤ◌, ◌*ℤ◌, ◌≤ℤ◌, arith, refl, sym, ap, ◌∙◌, Bool, true, false, inl, inr}
 use Rattle.std.specs.Prelude.{◌<ℤ◌, ◌-ℤ◌, unsigned_abs, ◌⊎◌, nat_lt, nat_le, cond, if◌then◌else◌}
 use Rattle.std.specs.Int.{is_negative}
@@ -17,7 +17,7 @@ use Rattle.fixed_round.proofs.WholeLemmas.{floor_at_most, floor_next}
 pub before_times : (a : ℤ) (m : ℕ) → (a -ℤ pos 1) *ℤ pos m ≡ (a *ℤ pos m) -ℤ pos m
 before_times a m = let e : (a -ℤ pos 1) +ℤ pos 1 ≡ a = omega (arith, ints) in omega (arith, ints, rw e at (next_times (a -ℤ pos 1) m))
 
--- ---- which side of the half a rest is on
+-- ---- the side of the half on which a rest lies
 half_low : (stays : Bool) (unit rest : ℕ) → (if stays then nat_lt unit (2 * rest) else nat_le unit (2 * rest)) ≡ false → (2 * rest ≤ unit) × (2 * rest ≡ unit → stays ≡ true)
 half_low true unit rest e = (grind (arith, nat_tests, e), λ t. refl)
 half_low false unit rest e = let l : 2 * rest < unit = grind (arith, nat_tests, e) in (omega arith, λ t. absurd (omega (arith, t)))
@@ -38,7 +38,7 @@ even_is m e = grind (arith, nat_tests, e)
 odd_is : (m : ℕ) → (m % 2 == 0) ≡ false → m % 2 ≡ 1
 odd_is m e = grind (arith, nat_tests, e)
 
--- ---- the floor is the one
+-- ---- the value rounds to the floor
 is_low : (r : Rounding) (b : ℤ) (f : ℕ) (w : ℤ) → IsDown b f 0 w → is_up r (is_negative b) w (whole_distance b f w) (2 ^ f) ≡ false → IsWhole r b f w
 is_low Ceil b f w h e =
     let l = floor_at_most b w f h in
@@ -53,7 +53,7 @@ is_low RoundTiesEven b f w h e =
     let k = half_low (unsigned_abs w % 2 == 0) (2 ^ f) (whole_distance b f w) e in
     record { near = k.0; tie = λ t. even_is (unsigned_abs w) (k.1 t) }
 
--- ---- the next whole number is the one
+-- ---- the value rounds to the next whole number
 next_even : (w : ℤ) → unsigned_abs w % 2 ≡ 1 → unsigned_abs (w +ℤ pos 1) % 2 ≡ 0
 next_even (pos a) e = omega (arith, ints, e)
 next_even (negsuc a) e = omega (arith, ints, e)
@@ -78,7 +78,7 @@ is_next RoundTiesEven b f w h e =
     let s = up_whole_distance b f w h in
     record { near = omega (arith, k.0, s); tie = λ t. let same : 2 * whole_distance b f w ≡ 2 ^ f = omega (arith, t, s) in next_even w (odd_is (unsigned_abs w) (k.1 same)) }
 
--- the function by the two cases of its test
+-- the rounded number by the two cases of its test
 by_test : (t : Bool) (P : ℤ → Type 0) (w : ℤ) → (t ≡ true → P (w +ℤ pos 1)) → (t ≡ false → P w) → P (w +ℤ cond t (pos 1) (pos 0))
 by_test true P w x y = x refl
 by_test false P w x y = let z : w +ℤ pos 0 ≡ w = omega (arith, ints) in rw z (y refl)
@@ -90,12 +90,12 @@ whole_is r b f =
     let h = down_is b f 0 in
     by_test (is_up r (is_negative b) w (whole_distance b f w) (2 ^ f)) (IsWhole r b f) w (is_next r b f w h) (is_low r b f w h)
 
--- ---- no other
--- the next multiple
+-- ---- a value does not round to another number
+-- the multiple of a greater number is at least one unit greater
 apart : (v w : ℤ) (u : ℕ) → v <ℤ w → ((v *ℤ pos u) +ℤ pos u) ≤ℤ (w *ℤ pos u)
 apart v w u l = let m : (v +ℤ pos 1) ≤ℤ w = omega (arith, ints, l) in rw (sym (next_times v u)) (le_times (v +ℤ pos 1) w u m)
 
--- two multiples that are one unit apart
+-- two numbers are neighbours if their multiples are at most one unit apart
 neighbours : (v w : ℤ) (u : ℕ) → 0 < u → v <ℤ w → (w *ℤ pos u) ≤ℤ ((v *ℤ pos u) +ℤ pos u) → w ≡ v +ℤ pos 1
 neighbours v w u some l h = by_lt_z (v +ℤ pos 1) w
     (λ m. absurd (let a = apart (v +ℤ pos 1) w u m in omega (arith, ints, a, next_times v u, h, some)))
@@ -152,7 +152,7 @@ unique r b f v w x y = by_lt_z v w (λ l. absurd (not_less r b f v w x y l)) (λ
 pub whole_one : WholeIsTheOne
 whole_one r b f w = ((λ h. unique r b f w (whole r b f) h (whole_is r b f)), (λ e. rw e (whole_is r b f)))
 
--- ---- a whole number is its own
+-- ---- a whole number rounds to itself
 its_own : (r : Rounding) (w : ℤ) (f : ℕ) → IsWhole r (w *ℤ pos (2 ^ f)) f w
 its_own Ceil w f = record { before = rw (before_times w (2 ^ f)) (omega (arith, ints, pow_pos f)); at_least = omega (arith, ints) }
 its_own Floor w f = record { at_most = omega (arith, ints); next = rw (next_times w (2 ^ f)) (omega (arith, ints, pow_pos f)) }

@@ -1,4 +1,4 @@
--- The whole part and the towards_zero number fit.
+-- The whole part and the number rounded towards zero fit.
 use Rattle.std.proofs.Common.{◌≡◌, ℕ, zero, suc, ◌+◌, ◌-◌, ◌*◌, ◌/◌, ◌%◌, ◌^◌, ◌≤◌, ◌<◌, ◌==◌, ℤ, pos, negsuc, neg_ℤ, ◌+ℤ◌, ◌*ℤ◌, ◌≤ℤ◌, arith, refl, sym, ap, ◌∙◌, Bool, true, false, inl, inr, mod-lt}
 use Rattle.std.specs.Prelude.{◌<ℤ◌, ◌-ℤ◌, cond, if◌then◌else◌}
 use Rattle.std.proofs.Math.Nat.{div-add-mod}
@@ -14,12 +14,12 @@ use Rattle.fixed_round.specs.Parts.{int_bits, round_to_zero_bits}
 use Rattle.fixed_round.specs.declared.rounding.Rounding.TheVariants.{Ceil, Floor}
 use Rattle.fixed_round.proofs.LawLemmas.{whole_is, whole_one, before_times}
 
--- the floor's bits around the number
+-- the value lies between its floor and the next whole number
 pub floor_bits : (b : ℤ) (f : ℕ) → (whole_bits Floor b f ≤ℤ b) × (b <ℤ (whole_bits Floor b f +ℤ pos (2 ^ f)))
 unfolding whole_bits
 floor_bits b f = let h = whole_is Floor b f in (h.at_most, rw (sym (next_times (whole Floor b f) (2 ^ f))) h.next)
 
--- a multiple that is above another less one unit is not below it
+-- a multiple is at most another one if it is less than one unit above it
 multiple : (v w : ℤ) (u : ℕ) → (v *ℤ pos u) <ℤ ((w *ℤ pos u) +ℤ pos u) → (v *ℤ pos u) ≤ℤ (w *ℤ pos u)
 multiple v w u h = by_lt_z w v
     (λ l. absurd (let m : (w +ℤ pos 1) ≤ℤ v = omega (arith, ints, l) in let k = le_times (w +ℤ pos 1) v u m in omega (arith, ints, k, next_times w u, h)))
@@ -52,7 +52,7 @@ frac_fits false n b f l =
     let p : 2 ^ f ≤ 2 ^ n = pow_mono i in
     record { low = omega (arith, ints, k.0); high = omega (arith, ints, k.1, p) }
 
--- by the two cases of the definition
+-- the two cases of the test in the definition
 same_test : (f n : ℕ) → f ≡ n → (f == n) ≡ true
 same_test f n e = grind (arith, nat_tests, e)
 
@@ -80,7 +80,7 @@ pub rest_fits : (s : Bool) (n : ℕ) (b : ℤ) (f : ℕ) → f ≤ n → IsInRan
 unfolding int_bits
 rest_fits s n b f l h = rest_by s n b f (f == n) refl l h
 
--- ---- cutting
+-- ---- rounding towards zero
 pub to_zero_of_positive : (b : ℤ) (f : ℕ) → pos 0 ≤ℤ b → whole_bits Floor b f ≡ round_to_zero_bits b f
 unfolding whole_bits round_to_zero_bits
 to_zero_of_positive (pos a) f l =

@@ -1,4 +1,4 @@
--- The floor, what the value is above it, and which of the two whole numbers around a value is the one.
+-- The floor, the distance of a value from it, and the choice between the two whole numbers around a value.
 use Rattle.std.proofs.Common.{◌≡◌, ℕ, ◌+◌, ◌*◌, ◌^◌, ◌≤◌, ◌<◌, ℤ, pos, negsuc, neg_ℤ, ◌+ℤ◌, ◌*ℤ◌, ◌≤ℤ◌, arith, refl, sym, ap, ◌∙◌, true, false}
 use Rattle.std.specs.Prelude.{◌<ℤ◌, ◌-ℤ◌, unsigned_abs}
 use Rattle.std.specs.Int.{is_negative}
@@ -21,7 +21,7 @@ floor_next b w f h = omega (arith, ints, h.above, next_times w (2 ^ f))
 pub distance_below : (b w : ℤ) (f : ℕ) → IsDown b f 0 w → whole_distance b f w < 2 ^ f
 distance_below b w f h = omega (arith, ints, floor_at_most b w f h, floor_next b w f h)
 
--- the two results
+-- the result for each case of the test
 pub up_is : (r : Rounding) (b : ℤ) (f : ℕ) (w : ℤ) → w ≡ down b f 0 → is_up r (is_negative b) w (whole_distance b f w) (2 ^ f) ≡ true → (w +ℤ pos 1) *ℤ pos (2 ^ f) ≡ whole_bits r b f
 unfolding whole_bits whole
 up_is r b f w e t =

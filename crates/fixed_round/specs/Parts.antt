@@ -3,11 +3,11 @@ use Rattle.std.specs.Prelude.{ℕ, zero, suc, ◌+◌, ◌*◌, ◌/◌, ◌^◌
 use Rattle.fixed_round.specs.Whole.{whole_bits}
 use Rattle.fixed_round.specs.declared.rounding.Rounding.TheVariants.{Floor}
 
--- 0 where the format has no whole bits, else the bits of the floor
+-- 0 if the format has no whole bits, else the bits of the floor
 unfoldable pub int_bits : ℕ → ℤ → ℕ → ℤ
 int_bits n b f = if f == n then pos 0 else whole_bits Floor b f
 
--- the magnitude toward_zero to whole numbers, with the sign
+-- the bits of the magnitude rounded down to a whole number, with the sign
 unfoldable pub round_to_zero_bits : ℤ → ℕ → ℤ
 round_to_zero_bits (pos a) f = pos (a / 2 ^ f * 2 ^ f)
 round_to_zero_bits (negsuc a) f = neg_ℤ (pos (suc a / 2 ^ f * 2 ^ f))

@@ -1,4 +1,4 @@
-//! The five forms of a rounding, which differ in what they answer where the rounded number does not fit its type.
+//! The five forms of a rounding, which differ in what they return if the rounded number does not fit its type.
 
 ghost use Rattle.std.specs.Prelude.{◌≡◌, ◌↔◌, ◌≤◌, IsTrue, IsSome, IfSome};
 ghost use Rattle.fixed_bits.specs.Ranges.{IsInRange, IsOutOfRange};
@@ -10,7 +10,7 @@ use crate::rounding::Rounding;
 use crate::whole::whole_of;
 use fixed_bits::Inner;
 
-/// The bits of the rounded number, which has to fit.
+/// Returns the bits of the rounded number, which must fit.
 #[inline]
 pub fn plain_whole<I: Inner>(bits: I, frac_nbits: u32, rounding: Rounding) -> I
     requires frac { frac_nbits ≤ I.BITS }
@@ -20,7 +20,7 @@ pub fn plain_whole<I: Inner>(bits: I, frac_nbits: u32, rounding: Rounding) -> I
     saturating_whole(bits, frac_nbits, rounding)
 }
 
-/// The bits of the rounded number; `None` exactly where it does not fit.
+/// Returns the bits of the rounded number; `None` exactly if it does not fit.
 #[inline]
 pub fn checked_whole<I: Inner>(bits: I, frac_nbits: u32, rounding: Rounding) -> Option<I>
     requires { frac_nbits ≤ I.BITS }
@@ -35,7 +35,7 @@ pub fn checked_whole<I: Inner>(bits: I, frac_nbits: u32, rounding: Rounding) -> 
     }
 }
 
-/// The Saturating image of the bits of the rounded number: the nearer end of the range where it does not fit.
+/// Returns the Saturating image of the bits of the rounded number: the nearer end of the range if it does not fit.
 #[inline]
 pub fn saturating_whole<I: Inner>(bits: I, frac_nbits: u32, rounding: Rounding) -> I
     requires { frac_nbits ≤ I.BITS }
@@ -44,8 +44,8 @@ pub fn saturating_whole<I: Inner>(bits: I, frac_nbits: u32, rounding: Rounding) 
     I::saturate(whole_of(bits.value(), frac_nbits, rounding))
 }
 
-/// The Wrapping image of the bits of the rounded number: reduced modulo two to the power of the width where it does not
-/// fit.
+/// Returns the Wrapping image of the bits of the rounded number: reduced modulo two to the power of the width if it
+/// does not fit.
 #[inline]
 pub fn wrapping_whole<I: Inner>(bits: I, frac_nbits: u32, rounding: Rounding) -> I
     requires { frac_nbits ≤ I.BITS }
@@ -54,7 +54,7 @@ pub fn wrapping_whole<I: Inner>(bits: I, frac_nbits: u32, rounding: Rounding) ->
     wrapping_image(whole_of(bits.value(), frac_nbits, rounding))
 }
 
-/// The Wrapping image of the bits of the rounded number, and whether it does not fit.
+/// Returns the Wrapping image of the bits of the rounded number, and whether it does not fit.
 #[inline]
 pub fn overflowing_whole<I: Inner>(bits: I, frac_nbits: u32, rounding: Rounding) -> (I, bool)
     requires { frac_nbits ≤ I.BITS }

@@ -1,7 +1,7 @@
 //! Rounding of fixed-point numbers to whole numbers.
 //!
 //! A number is its bits over two to the power of its fraction length. Each call takes the bits and the fraction length
-//! and answers bits of the same length: those of the whole number that the value is rounded to.
+//! and returns bits of the same length: those of the whole number that the value is rounded to.
 #![tactic(auto)]
 
 mod forms;

@@ -1,4 +1,4 @@
-//! The whole part and the fraction part of a number, and rounding towards zero. None of the three overflows.
+//! The whole part and the fraction part of a number, and rounding towards zero. None of the three can overflow.
 
 ghost use Rattle.std.specs.Prelude.{◌≡◌, ◌≤◌, ◌-ℤ◌};
 ghost use Rattle.fixed_bits.specs.Ranges.{IsInRange, IsWide};
@@ -8,7 +8,7 @@ use crate::rounding::Rounding;
 use crate::whole::whole_of;
 use fixed_bits::Inner;
 
-/// The bits of the greatest whole number that is not above the number; 0 where the format has no whole bits.
+/// Returns the bits of the greatest whole number that is not above the number; 0 if the format has no whole bits.
 #[inline]
 pub fn int<I: Inner>(bits: I, frac_nbits: u32) -> I
     requires { frac_nbits ≤ I.BITS }
@@ -17,7 +17,7 @@ pub fn int<I: Inner>(bits: I, frac_nbits: u32) -> I
     in_range(whole_part(bits, frac_nbits))
 }
 
-/// The bits less those of the whole part. They are never negative where the format has whole bits.
+/// Returns the bits less those of the whole part. They are never negative if the format has whole bits.
 #[inline]
 pub fn frac<I: Inner>(bits: I, frac_nbits: u32) -> I
     requires { frac_nbits ≤ I.BITS }
@@ -26,7 +26,7 @@ pub fn frac<I: Inner>(bits: I, frac_nbits: u32) -> I
     in_range(bits.value() - whole_part(bits, frac_nbits))
 }
 
-/// The bits of the nearest whole number whose magnitude is not above that of the number.
+/// Returns the bits of the nearest whole number whose magnitude is not above that of the number.
 #[inline]
 pub fn round_to_zero<I: Inner>(bits: I, frac_nbits: u32) -> I
     requires { frac_nbits ≤ I.BITS }
@@ -35,7 +35,7 @@ pub fn round_to_zero<I: Inner>(bits: I, frac_nbits: u32) -> I
     in_range(towards_zero(bits.value(), frac_nbits))
 }
 
-/// The number of the whole part, which leaves a fraction part in the type's range.
+/// Returns the number of the whole part, which leaves a fraction part in the type's range.
 #[inline]
 fn whole_part<I: Inner>(bits: I, frac_nbits: u32) -> i128
     requires { frac_nbits ≤ I.BITS }
@@ -52,8 +52,7 @@ fn whole_part<I: Inner>(bits: I, frac_nbits: u32) -> i128
     }
 }
 
-/// The bits of `b` over two to the power of `f`, rounded towards zero: the ceil of a negative number, the floor of any
-/// other.
+/// Rounds the bits of `b` over two to the power of `f` towards zero: the ceil of a negative number, else the floor.
 #[inline]
 pub fn towards_zero(b: i128, f: u32) -> i128
     requires wide { IsWide b }
@@ -67,7 +66,7 @@ pub fn towards_zero(b: i128, f: u32) -> i128
     }
 }
 
-/// The value of a number that is in its type's range.
+/// Returns the value of a number in its type's range.
 #[inline]
 fn in_range<I: Inner>(v: i128) -> I
     requires { IsInRange I.SIGNED I.BITS v }

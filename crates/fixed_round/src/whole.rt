@@ -1,8 +1,8 @@
-//! The one core of rounding: the bits of the whole number that a value is rounded to.
+//! The core of all roundings: the bits of the whole number that a value is rounded to.
 //!
-//! The value lies between two neighbouring whole numbers, its floor and the next one. Their bits are `unit` apart, the
-//! bits of the number one, and `rest` says how far the value's bits are above those of the floor. The four roundings
-//! differ only in which of the two they choose.
+//! The value lies between two neighbouring whole numbers, its floor and the next one. Their bits are `unit` apart,
+//! which is the bits of the number one, and `rest` says how far the value's bits are above those of the floor. The four
+//! roundings differ only in which of the two they choose.
 
 ghost use Rattle.std.specs.Prelude.{◌≡◌, ◌*◌, ◌≤◌, ◌<◌, ◌^◌, pos, neg_ℤ, ◌*ℤ◌, ◌≤ℤ◌, if◌then◌else◌, nat_lt, nat_le};
 ghost use Rattle.fixed_bits.specs.Ranges.{IsWide};
@@ -11,8 +11,8 @@ ghost use Rattle.fixed_round.specs.Whole.{is_up, whole_bits};
 
 use crate::rounding::Rounding;
 
-/// The bits of the whole number that `b` over two to the power of `f` is rounded to. They may be out of the range of
-/// `b`.
+/// Returns the bits of the whole number that `b` over two to the power of `f` is rounded to. They may be out of the
+/// range of `b`.
 #[inline]
 pub fn whole_of(b: i128, f: u32, rounding: Rounding) -> i128
     requires wide { IsWide b }
@@ -30,7 +30,7 @@ pub fn whole_of(b: i128, f: u32, rounding: Rounding) -> i128
     }
 }
 
-/// The greatest whole number that is not above a value.
+/// Returns the greatest whole number that is not above a value.
 #[inline]
 fn floor_of(b: i128, f: u32) -> i128
     requires wide { IsWide b }
@@ -61,7 +61,7 @@ fn unit(f: u32) -> i128
     1 << f
 }
 
-/// Whether a value is rounded to the whole number above its floor, for what its bits are above those of the floor.
+/// Whether a value is rounded to the whole number above its floor, given how far its bits are above those of the floor.
 #[inline]
 fn is_rounded_up(rounding: Rounding, negative: bool, floor: i128, rest: u128, unit: u128) -> bool
     requires { rest < 2 ^ 66 }
@@ -75,7 +75,7 @@ fn is_rounded_up(rounding: Rounding, negative: bool, floor: i128, rest: u128, un
     }
 }
 
-/// Whether twice a rest is above the unit, or equal to it where a tie is not rounded down.
+/// Whether twice a rest is above the unit, or equal to it and a tie is not rounded down.
 #[inline]
 fn is_past_half(rest: u128, unit: u128, is_tie_down: bool) -> bool
     requires { rest < 2 ^ 66 }

@@ -1,4 +1,4 @@
-//! A counter of steps that takes no bytes.
+//! A counter of steps of size zero.
 #![tactic(auto)]
 
 ghost use Rattle.std.specs.Prelude.{◌≡◌, ◌+◌, ◌<◌};
@@ -6,7 +6,7 @@ ghost use Rattle.std.specs.Prelude.{◌≡◌, ◌+◌, ◌<◌};
 use std::marker::Model;
 use std::sync::ledger::{Blank, Book, Ledger, Share};
 
-/// How many steps were taken. It takes no bytes, and only `tick` and `advance` change it.
+/// The number of steps taken. It has size zero, and only `tick` and `advance` change it.
 #[derive(Drop)]
 pub struct Steps<L: Ledger> {
     book: Book<L>,
@@ -24,7 +24,7 @@ impl<L: Ledger> Model for Steps<L> {
 }
 
 impl<L: Ledger> Steps<L> {
-    /// A counter of no steps, over a ledger that no other counter uses.
+    /// A counter at zero, over a ledger that no other counter uses.
     pub fn new(blank: Blank) -> Steps<L>
         requires name { blank.name ≡ L.name }
         requires parts { blank.parts ≡ L.parts }
@@ -42,7 +42,7 @@ impl<L: Ledger> Steps<L> {
         self.book.add(&mut self.share, 1);
     }
 
-    /// Takes this many steps at once.
+    /// Takes `count` steps at once.
     pub fn advance(&mut self, count: u64)
         ensures { self.new ≡ self.old + count }
     {

@@ -9,7 +9,7 @@ use Rattle.std.proofs.Math.Nat.{pow-zero, one-le-pow, pow-le-pow_right, pow-le-p
 use Rattle.fixed_write.specs.Texts.{whole_digits, last_digits, zero_digit}
 use Rattle.fixed_write.proofs.DigitLemmas.{whole_digits_digit, whole_digits_more, last_digits_none, last_digits_suc, last_digits_joined, last_digits_same, last_digits_length}
 
--- ---- decimal digits have no capitals
+-- ---- decimal digits are the same in capitals
 glyph_case : (u : Bool) (d : ℕ) → d < 10 → digit_glyph u d ≡ digit_glyph false d
 glyph_case true d l = grind arith
 glyph_case false d l = refl
@@ -46,7 +46,7 @@ leading_none b n = record {
   scale = rw pow-zero (omega arith);
 }
 
--- the digit before the last ones
+-- the last k + 1 digits are one digit and the last k
 last_digits_first : (b : ℕ) (u : Bool) (k n : ℕ) → 0 < b → last_digits b u (suc k) n ≡ digit_glyph u (n / b ^ k % b) ∷ last_digits b u k n
 last_digits_first b u k n p =
     let some : 0 < b ^ k = omega (arith, one-le-pow k b p) in

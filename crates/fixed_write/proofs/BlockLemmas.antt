@@ -1,4 +1,4 @@
--- Places of a value, in one block, in digits and a block, or exactly.
+-- The places of a value: in one block, in digits and a block, or exactly.
 use Rattle.std.proofs.Common.{false, ◌≡◌, ℕ, zero, suc, ◌+◌, ◌-◌, ◌*◌, ◌/◌, ◌%◌, ◌^◌, ◌<◌, ◌≤◌, ◌⊎◌, Bool, List, [], ◌∷◌, ◌++◌, length, inl, inr, ⊎_elim, refl, sym, ap, ◌∙◌, arith, pow-suc, append-nil, append_assoc, mul_assoc, mul-le-mul_right, sub-one}
 use Rattle.std.proofs.Math.Nat.{pow-zero, pow-le-pow_left, pow-le-pow_right, one-le-pow}
 use Rattle.std.proofs.lemmas.Nat.{pow-add, mul-pow, div_below}
@@ -61,7 +61,7 @@ block_places_some mode b u c k w d s before text dot after p e l h t some f a =
     block_places mode b u c k w d s before text after p e l h t (a ∙ rw (f, fraction_some b u k d some) (append_assoc text (point ∷ []) (last_digits b u k d)))
 
 -- ---- digits and a block
--- a rest after at least one digit ends in as many zeros as the block needs: it never comes as near to one
+-- a rest in whole steps is at least one step below 2^64
 multiple_left : (x step rest n : ℕ) → 2 ^ 64 ≡ rest * step → n ≡ x * step % 2 ^ 64 → n + step ≤ 2 ^ 64
 multiple_left x step rest n e is =
     let some : 0 < step = ⊎_elim (λ a. a) (λ (a : step ≤ 0). let none : step ≡ 0 = omega arith in let e' : 2 ^ 64 ≡ rest * 0 = rw none at e in absurd (omega arith)) (cases_lt 0 step) in
@@ -102,7 +102,7 @@ from_none mode left s f h =
     let b : 0 * s + f ≡ f = omega arith in
     rw (a, b) at h
 
--- the last block is never one whole
+-- the last block never rounds up to a whole unit
 pub block_below : (mode : ReadMode) (b block a r left f s : ℕ) → IsBlock b block → 0 < a → s ≡ b ^ block → left ≡ r * b ^ a % 2 ^ 64 → IsRounded mode false ((0 * 2 ^ 64 + left) * s) (2 ^ 64) (0 * s + f) → f ≤ s → f < b ^ block
 block_below mode b block a r left f s block_is some e left_is h most =
     let steps : b ^ a ≡ b ^ (a - 1) * block_is.others * block_is.step = split_power a b block_is.others block_is.step some block_is.divides in
@@ -151,7 +151,7 @@ long_places mode b block u w r a left f k s before text dot digits after block_i
     regroup : (a b c d : List ℕ) → (((a ++ b) ++ point ∷ []) ++ c) ++ d ≡ a ++ (b ++ point ∷ (c ++ d))
     regroup a b c d = simp append_assoc
 
--- ---- exactly
+-- ---- exact digits
 pub record Exactly (b : ℕ) (u : Bool) (rest : ℕ) (before text : List ℕ) (left : ℕ) : Type 0 where
   pub count : ℕ
   pub digits : Digits b u rest count before text left

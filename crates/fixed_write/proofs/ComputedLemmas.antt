@@ -1,4 +1,4 @@
--- The computed pair is the pair.
+-- The computed pair is the shortest decimal.
 use Rattle.std.proofs.Common.{◌≡◌, ℕ, zero, suc, ◌+◌, ◌*◌, ◌/◌, ◌%◌, ◌^◌, ◌<◌, ◌≤◌, ◌⊎◌, ◌==◌, true, false, sym, ◌∙◌, inl, inr, ⊎_elim, refl, arith, pow_pos, div-add-mod', mod-lt, add-zero}
 use Rattle.std.specs.Prelude.{nat_lt, if◌then◌else◌}
 use Rattle.std.proofs.lemmas.Bool.{cases_Bool, cases_lt, eqb-true, lt-ltb, le-ltb}
@@ -33,7 +33,7 @@ nearest_number_is num den some = ⊎_elim below not_below (cases_lt (2 * (num % 
         (λ a. rw (le-ltb den (2 * (num % den)) a) (half (num / den) split (omega arith) (parity (num / den))))
         (cases_lt den (2 * (num % den))))
 
--- ---- whether any decimal with k digits reads back
+-- ---- decimals with k digits that read back
 nearest_reads_back : (c g k m : ℕ) → k ≤ g → ReadsBack m k c g → ReadsBack (nearest_number (c * 10 ^ k) (2 ^ g)) k c g
 nearest_reads_back c g k m l h =
     let near = nearest_number_is (c * 10 ^ k) (2 ^ g) (pow_pos g) in

@@ -21,7 +21,7 @@ use Rattle.fixed_write.proofs.ScaleLemmas.{in_units, whole_power}
 use Rattle.fixed_write.proofs.PrintingLemmas.{whole_shortest}
 use Rattle.fixed_write.proofs.LeadingLemmas.{whole_zeros}
 
--- ---- the powers of ten of a difference of places, one of which is 0
+-- ---- the powers of ten for t - s, if t or s is 0
 tens_pos : (x : ℤ) (t : ℕ) → x ≡ pos t → (ten_up x ≡ 10 ^ t) × (ten_down x ≡ 10 ^ 0)
 tens_pos x t e = let P : ℤ → Type 0 = λ y. (ten_up y ≡ 10 ^ t) × (ten_down y ≡ 10 ^ 0) in subst P (sym e) (refl, sym (pow-zero 10))
 
@@ -147,7 +147,7 @@ short_fraction c g number places digit digits e h ed ee =
       digits_are = ed';
     }
 
--- a whole number: its trailing zeros are taken off
+-- n is m with z trailing zeros
 pub record Stripped (n m z : ℕ) : Type 0 where
   pub value : n ≡ m * 10 ^ z
   pub some : 0 < m

@@ -1,4 +1,4 @@
--- Whole numbers in std's words.
+-- Whole numbers as std writes them.
 use Rattle.std.proofs.Common.{◌≡◌, ℕ, zero, suc, ◌+◌, ◌^◌, ◌<◌, ◌≤◌, Bool, true, false, List, [], ◌∷◌, ◌++◌, map, length, ℤ, pos, negsuc, unsigned_abs, refl, sym, ap, ◌∙◌, arith, length-append, append_assoc}
 use Rattle.std.specs.Fmt.{digit_glyph, digits, decimal, signed_decimal, sign_text}
 use Rattle.std.specs.Int.{is_negative}
@@ -32,7 +32,7 @@ decimal_is zero l = decimal_zero
 decimal_is (suc n) l =
     decimal-digits_of (suc n) (omega arith) l ∙ (glyphs_are (digits_of 10 (suc n)) (all_below_base_digits_of 10 (suc n) (omega arith)) ∙ sym (whole_digits_some 10 false (suc n) (omega arith)))
 
--- how far the number with a sign and a magnitude is from zero
+-- the magnitude of a number with a sign and a magnitude
 pub signed_abs : (negative : Bool) (m : ℕ) → unsigned_abs (with_sign negative m) ≡ m
 signed_abs true zero = refl
 signed_abs true (suc m) = refl
@@ -57,7 +57,7 @@ signed_decimal_short v l =
 pub signed_decimal_ascii : (v : ℤ) → unsigned_abs v < 2 ^ 64 → IsAscii (signed_decimal v)
 signed_decimal_ascii v l = rw (signed_decimal_is v l) (IsAscii-append (sign_text (is_negative v)) (whole_digits 10 false (unsigned_abs v)) (sign_ascii (is_negative v)) (whole_digits_ascii 10 false (unsigned_abs v) (omega arith) (omega arith)))
 
--- what is pushed in two parts
+-- a number pushed in two parts
 pub integer_of_parts : (v : ℤ) (m : ℕ) (old mid new : List ℕ) → m < 2 ^ 64 → m ≡ unsigned_abs v → mid ≡ old ++ sign_text (is_negative v) → new ≡ mid ++ whole_digits 10 false m → new ≡ old ++ signed_decimal v
 integer_of_parts v m old mid new l e f h =
     let small : unsigned_abs v < 2 ^ 64 = rw e at l in

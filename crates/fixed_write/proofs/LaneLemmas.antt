@@ -62,7 +62,7 @@ added (x ∷ xs) (suc n) e h =
     let one : wrapped_add 48 x ≡ 48 + x = omega (arith, h.0) in
     λ i. one i ∷ added xs n (omega arith) h.1 i
 
--- the characters that are not the digit zero
+-- the characters other than '0'
 abbrev differs : ℕ → ℕ → Bool
 differs a b = not (eqb a b)
 

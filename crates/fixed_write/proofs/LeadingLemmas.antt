@@ -60,7 +60,7 @@ pub record Below (r s d l : ℕ) : Type 0 where
 pub below_starts : (r d l : ℕ) → r < 2 ^ 64 → d ≡ r * 10 / 2 ^ 64 → l ≡ r * 10 % 2 ^ 64 → Below r 1 d l
 below_starts r d l small e f = record { scaled = omega arith; digit = omega arith; left = omega arith; few = omega arith }
 
--- a digit that is zero is not the last one
+-- the digit at place s is zero only if s is below 20
 pub below_few : (r s d l : ℕ) → 0 < r → Below r s d l → d ≡ 0 → s < 20
 below_few r s d l some h e = ⊎_elim (λ a. a) (λ (a : 20 ≤ s).
     let big : 10 ^ 20 ≤ 10 ^ s = pow-le-pow_right (omega arith) a in
@@ -104,9 +104,8 @@ leading_below w r s d l z h some = record {
   one = inr refl;
 }
 
--- ---- one division
+-- ---- figures after a single division
 
--- ---- figures after one division
 pub ten_more : (k : ℕ) → 0 < k → 2 ≤ 10 ^ k
 ten_more zero p = absurd (omega arith)
 ten_more (suc k) p = rw pow-suc (omega (arith, ten_pos k))
@@ -153,7 +152,7 @@ nearest_at_most num den q b some h l = ⊎_elim (λ (a : b < q).
 full_length : (x t : ℕ) → 10 ^ t ≤ x → x < 10 ^ suc t → length (whole_digits 10 false x) ≡ suc t
 full_length x t low high = ap length (whole_digits_full 10 false t x (omega arith) low high) ∙ last_digits_length 10 false (suc t) x
 
--- the number at k places, where the value has its first digit at 10^t
+-- n is the value at k places, and the first digit of the value stands at 10^t
 pub record AtPlaces (c t k n : ℕ) : Type 0 where
   pub near : IsNearest (c * 10 ^ k) (2 ^ 64) n
   pub low : 10 ^ t * 10 ^ k ≤ n
@@ -176,7 +175,7 @@ at_places a b t k n small low high h = record {
         let l' : (a * 2 ^ 64 + b) * s ≤ x * 2 ^ 64 * s = mul-le-mul_right s (omega arith) in
         omega (arith, l')
 
--- the length of the whole part tells whether the next power of ten is reached
+-- the length of the whole part tells whether rounding reached the next power of ten
 part_low : (c t k n : ℕ) → AtPlaces c t k n → 10 ^ t ≤ n / 10 ^ k
 part_low c t k n h = by_parts (10 ^ t) (10 ^ k) (ten_pos k) h.low
   where
@@ -204,7 +203,7 @@ reached c t k n h other = ⊎_elim (λ (a : n < 10 ^ suc t * 10 ^ k).
     let long : length (whole_digits 10 false (n / 10 ^ k)) ≡ suc t = full_length (n / 10 ^ k) t (part_low c t k n h) below in
     absurd (other (omega arith))) (λ a. omega (arith, h.high)) (cases_lt n (10 ^ suc t * 10 ^ k))
 
--- more zeros
+-- a number times a power of ten has zeros after its digits
 pub whole_zeros : (n z : ℕ) → 0 < n → whole_digits 10 false (n * 10 ^ z) ≡ whole_digits 10 false n ++ replicate z zero_digit
 whole_zeros n z some =
     let same : n * 10 ^ z ≡ n * 10 ^ z + 0 = omega arith in
@@ -231,7 +230,7 @@ near_at c t k z n p (inr full) e h =
     moved : (c a b d n : ℕ) → c * b ≡ n * 2 ^ 64 → c * (a * (b * d)) ≡ n * d * (2 ^ 64 * a)
     moved c a b d n e = let f : c * b * (a * d) ≡ n * 2 ^ 64 * (a * d) = ap (λ x. x * (a * d)) e in omega arith
 
--- the digits of a text with the point taken out
+-- the digits of a text without its point
 text_parts : (k n : ℕ) (text : List ℕ) → text ≡ [] ++ point_text 10 false k n → text ≡ whole_digits 10 false (n / 10 ^ k) ++ fraction_part 10 false k n
 unfolding point_text
 text_parts k n text e = e
@@ -331,7 +330,7 @@ places_raised a b t k z n p whole text digits small low high full e near et ew o
         let all : suc p ≡ suc t + k + z = omega arith in
         ap (λ i. 10 ^ i) all ∙ (pow-add 10 (suc t + k) z ∙ ap (λ x. x * 10 ^ z) (pow-add 10 (suc t) k))
 
--- ---- some digit is there
+-- ---- texts with at least one digit
 pub whole_nonempty : (n : ℕ) → 0 < length (whole_digits 10 false n)
 whole_nonempty n = by_size n (cases_lt n 10)
   where

@@ -1,4 +1,4 @@
--- The digits after the point with zeros after them: one scale decides which digits are needed.
+-- The digits after the point, padded with zeros: one scale decides which digits are needed.
 use Rattle.std.proofs.Common.{◌≡◌, ℕ, zero, suc, ◌+◌, ◌-◌, ◌*◌, ◌/◌, ◌%◌, ◌^◌, ◌<◌, ◌≤◌, ◌⊎◌, ◌↔◌, ◌&&◌, leb, List, ◌++◌, Bool, true, false, not, IsTrue, sym, ap, ◌∙◌, inl, inr, ⊎_elim, arith, refl, pow_pos, pow-suc, add_assoc, mul-le-mul_right, mod-lt, mod-eq_of_lt, div-add-mod'}
 use mir.Val.{bool_byte}
 use Rattle.std.proofs.lemmas.Nat.{pow-add, div-mul-add}
@@ -17,7 +17,7 @@ use Rattle.fixed_write.proofs.PrintingLemmas.{digits_are, left_is, unit_is, low_
 ten_pos : (k : ℕ) → 0 < 10 ^ k
 ten_pos k = one-le-pow k 10 (omega arith)
 
--- ---- the same decimal with more or fewer zeros at its end
+-- ---- the same decimal with more or fewer trailing zeros
 moved : (a b n m : ℕ) → a ≤ b → n * 10 ^ b ≡ m * 10 ^ a → m ≡ n * 10 ^ (b - a)
 moved a b n m l e =
     let all : (b - a) + a ≡ b = omega arith in
@@ -28,7 +28,7 @@ ends_in_zero : (n d : ℕ) → 0 < d → n * 10 ^ d % 10 ≡ 0
 ends_in_zero n zero p = absurd (omega arith)
 ends_in_zero n (suc d) p = rw pow-suc (omega arith)
 
--- a number that does not end in zero is reduced as it is
+-- a number that does not end in zero is already reduced
 pub reduced_once : (x q m k : ℕ) → 0 < q → (x % 10 ≡ 0 → ⊥) → IsReduced x q m k → (k ≡ q) × (m ≡ x)
 reduced_once x q m k p last h = by_order (cases_order k q)
   where
@@ -52,7 +52,7 @@ same_decimal n p m k c g e h =
     let den : 10 ^ k * 10 ^ p ≡ 10 ^ p * 10 ^ k = omega arith in
     (nearest_scaled (10 ^ p) (m * 2 ^ g) (10 ^ k) c (ten_pos p)).0 (rw (num, den) at up)
 
--- ---- where a digit is an ulp or more, at most one number reads back, and it is the nearest
+-- ---- if a digit is at least an ulp, at most one number reads back, and it is the nearest
 one_reads_back : (n m p c g : ℕ) → p ≤ g → 10 ^ p ≤ 2 ^ g → ReadsBack n p c g → ReadsBack m p c g → n ≡ m
 one_reads_back n m p c g l wide h i =
     let near = (reads_back_without_tie n p c g l).0 h in
@@ -78,7 +78,7 @@ last_of : (w m k : ℕ) → 0 < k → (w * 10 ^ k + m) % 10 ≡ 0 → m % 10 ≡
 last_of w m zero p e = absurd (omega arith)
 last_of w m (suc k) p e = let e' : (w * (10 ^ k * 10) + m) % 10 ≡ 0 = rw pow-suc at e in omega arith
 
--- so what reads back there is the shortest one without the zeros at its end
+-- so that number is the shortest decimal without its trailing zeros
 pub reduced_is_shortest : (c g w p n : ℕ) → p ≤ g → 10 ^ p ≤ 2 ^ g → ReadsBack (w * 10 ^ p + n) p c g → (m k : ℕ) → IsReduced (n * 10 + 0) (suc p) m k → IsShortest c g (w * 10 ^ k + m) k
 reduced_is_shortest c g w p n l wide h m k r = shortest_from_least c g k (w * 10 ^ k + m) (w * 10 ^ k + m) (omega (arith, few)) reads none (nearest_of (w * 10 ^ k + m) k c g (omega (arith, few)) narrow reads)
   where
@@ -102,12 +102,12 @@ reduced_is_shortest c g w p n l wide h m k r = shortest_from_least c g k (w * 10
         let one : w * 10 ^ k + m ≡ i * 10 ^ (k - j) = one_reads_back (w * 10 ^ k + m) (i * 10 ^ (k - j)) k c g (omega (arith, few)) narrow reads here in
         ⊎_elim (λ z. omega arith) (λ f. f (last_of w m k (omega arith) (rw one (ends_in_zero i (k - j) (omega arith))))) r.ends
 
--- ---- what the digit after those of the scale is, nearest to the value
+-- ---- the digit after those of the scale, nearest to the value
 pub record IsNearer (digit rest nearer : ℕ) : Type 0 where
   pub near : (above : ℕ) → (2 * rest ≡ 2 ^ 64 → IsEven above) → IsNearest ((above + digit) * 2 ^ 64 + rest) (2 ^ 64) (above + nearer)
   pub below : nearer ≤ digit + 1
 
--- c ulps of 2^-g to p digits after the point: they spell a, and b ulps are left, which is `left` in units of 2^-64
+-- c ulps of 2^-g cut to p digits after the point, which spell a; the rest is b, and `left` in units of 2^-64
 pub record IsCut (c g p a left : ℕ) : Type 0 where
   pub b : ℕ
   pub digits : a ≡ c % 2 ^ g * 10 ^ p / 2 ^ g
@@ -125,7 +125,7 @@ cut_is c g p scale first number left l s f d e = record {
 rest_small : (c g p a left : ℕ) → (h : IsCut c g p a left) → h.b < 2 ^ g
 rest_small c g p a left h = rw h.rest (mod-lt (c % 2 ^ g * 10 ^ p) (pow_pos g))
 
--- the scale: p digits after the point are steps of an ulp or more, and p + 1 are steps of an ulp or less
+-- the scale: p digits after the point are steps of at least an ulp, and p + 1 digits of at most an ulp
 pub record IsScale (g p : ℕ) : Type 0 where
   pub within : p ≤ g
   pub few : p ≤ 19
@@ -171,7 +171,7 @@ padded_above c g p a left half l s h e near = record {
 halves : (x u : ℕ) → (2 * x ≤ u) ⊎ (u < 2 * x)
 halves x u = ⊎_elim (λ o. inr o) (λ o. inl o) (cases_lt u (2 * x))
 
--- neither does, and one digit more is enough
+-- neither reads back, and one more digit is enough
 padded_far : (c g p a left half digit rest nearer : ℕ) → g ≤ 64 → IsScale g p → IsCut c g p a left → 2 * half ≡ 10 ^ p * 2 ^ (64 - g) → (half < left) × (half ≤ 2 ^ 64 - 1 - left) → digit ≡ left * 10 / 2 ^ 64 → rest ≡ left * 10 % 2 ^ 64 → IsNearer digit rest nearer → IsPaddedFraction c g a p nearer
 padded_far c g p a left half digit rest nearer l s h e (low, high) d r n = record {
   shortest = λ m k i. (let (same, is) = reduced_once (a * 10 + nearer) (suc p) m k (omega arith) last i in rw (same, is) pair);
@@ -227,7 +227,7 @@ yes b x y w e = w.0 e
 no' : (b : Bool) (x y : ℕ) → IsTrue b ↔ (x < y) → b ≡ false → y ≤ x
 no' b x y w e = ⊎_elim (λ a. absurd (let clash : true ≡ false = sym (w.1 a) ∙ e in cc)) (λ a. a) (cases_lt x y)
 
--- all three at once
+-- all three cases at once
 pub padded : (c g p a left half digit rest nearer : ℕ) (above short : Bool) → g ≤ 64 → IsScale g p → IsCut c g p a left → 2 * half ≡ 10 ^ p * 2 ^ (64 - g) → digit ≡ left * 10 / 2 ^ 64 → rest ≡ left * 10 % 2 ^ 64 → IsNearer digit rest nearer → IsTrue above ↔ (2 ^ 64 - 1 - left < half) → IsTrue short ↔ ((left ≤ half) ⊎ (2 ^ 64 - 1 - left < half)) → IsPaddedFraction c g (a + bool_byte above) p (nearer * bool_byte (not short))
 padded c g p a left half digit rest nearer above short l s h e d r n wa ws = by_cases above short wa ws
   where
@@ -274,8 +274,8 @@ scale_low g l = leb-true (10 ^ (g * 1233 / 4096)) (2 ^ g) (and_parts (leb (10 ^ 
 pub scale_high : (g : ℕ) → g ≤ 64 → 2 ^ g ≤ 10 ^ (g * 1233 / 4096 + 1)
 scale_high g l = leb-true (2 ^ g) (10 ^ (g * 1233 / 4096 + 1)) (and_parts (leb (10 ^ (g * 1233 / 4096)) (2 ^ g)) (leb (2 ^ g) (10 ^ (g * 1233 / 4096 + 1))) (scale_at 64 g refl l)).1
 
--- ---- zeros at the end, one by one
--- where something is left after the point, not all digits are zeros
+-- ---- trailing zeros, one by one
+-- if the fraction is not zero, not all its digits are zeros
 padded_some : (c g n p d : ℕ) → IsPaddedFraction c g n p d → (c % 2 ^ g ≡ 0 → ⊥) → 0 < n * 10 + d
 padded_some c g n p d h some = ⊎_elim (λ a. a) (λ (a : n * 10 + d ≤ 0).
     let none : n * 10 + d ≡ 0 = omega arith in
@@ -351,14 +351,14 @@ fraction_appended c g number places digit before after h a =
 places_are : (a b n : ℕ) (before after : List ℕ) → a ≡ b → AppendsReduced n a before after → AppendsReduced n b before after
 places_are a b n before after e h = rw e at h
 
--- sixteen digits, where at most sixteen places are asked for
+-- sixteen digits, for at most sixteen places
 pub short_appended : (n p moved : ℕ) (before after : List ℕ) → p ≤ 16 → moved ≡ n * 10 ^ (16 - p) → AppendsReduced moved 16 before after → AppendsReduced n p before after
 short_appended n p moved before after l e h =
     let all : 16 ≡ p + (16 - p) = omega arith in
     let more : AppendsReduced (n * 10 ^ (16 - p)) 16 before after = rw e at h in
     appends_narrower n p (16 - p) before after (places_are 16 (p + (16 - p)) (n * 10 ^ (16 - p)) before after all more)
 
--- twenty digits, where more than sixteen are
+-- twenty digits, for more than sixteen places
 pub record IsTwenty (n d p s : ℕ) : Type 0 where
   pub scaled : n * s < 2 ^ 64
   pub nineteen : n * s + d * s / 10 < 10 ^ 19

@@ -1,4 +1,4 @@
--- Rounded and exact texts: the computed one is the text, its length, and that it is ASCII.
+-- Rounded and exact texts: that they are the computed ones, how long they are, and that they are ASCII.
 use Rattle.std.proofs.Common.{◌≡◌, ℕ, zero, suc, ◌+◌, ◌-◌, ◌*◌, ◌/◌, ◌%◌, ◌^◌, ◌<◌, ◌≤◌, ◌==◌, Bool, true, false, List, ◌++◌, length, ℤ, unsigned_abs, refl, sym, ap, ◌∙◌, ⊎_elim, arith, pow_pos, le_antisymm, length-append, append_assoc, div-add-mod', mod-lt, nat_lt, subst, pos, negsuc, mul-le-mul_right, mul-le-mul_left}
 use Rattle.std.proofs.lemmas.Bool.{cases_Bool, cases_lt, eqb-true}
 use Rattle.std.proofs.lemmas.Bool.Decides.{nat_tests}
@@ -27,7 +27,7 @@ use Rattle.fixed_write.proofs.ScaleLemmas.{places_of, exact_places_of}
 use Rattle.fixed_write.proofs.ComputedLemmas.{nearest_number_is}
 use Rattle.fixed_write.proofs.AsciiLemmas.{sign_ascii, point_text_ascii}
 
--- ---- rounded
+-- ---- rounded texts
 number_below_is : (num den : ℕ) → 0 < den → IsNotAbove num den (number_below num den)
 unfolding number_below
 number_below_is num den some =
@@ -94,7 +94,7 @@ pub rounded_text_ascii : (mode : ReadMode) (base : ℕ) (upper : Bool) (k : ℕ)
 unfolding rounded_text
 rounded_text_ascii mode base upper k c g two small = IsAscii-append (sign_text (is_negative c)) _ (sign_ascii (is_negative c)) (point_text_ascii base upper k _ two small)
 
--- ---- exact
+-- ---- exact texts
 exact_unique : (base c g k n j m : ℕ) → IsExact base c g k n → IsExact base c g j m → (k ≡ j) × (n ≡ m)
 exact_unique base c g k n j m a b =
     let e : k ≡ j = le_antisymm (a.least m j b.same) (b.least n k a.same) in
@@ -188,7 +188,7 @@ pub exact_text_ascii : (base : ℕ) (upper : Bool) (c : ℤ) (g : ℕ) → 2 ≤
 unfolding exact_text
 exact_text_ascii base upper c g two small = IsAscii-append (sign_text (is_negative c)) _ (sign_ascii (is_negative c)) (point_text_ascii base upper _ _ two small)
 
--- ---- what is printed in parts
+-- ---- texts printed in parts
 regroup : (old sign start text : List ℕ) → start ≡ old ++ sign → start ++ text ≡ old ++ (sign ++ text)
 regroup old sign start text e = ap (λ (t : List ℕ). t ++ text) e ∙ append_assoc old sign text
 
@@ -254,7 +254,7 @@ unfolding point_text
 text_short negative b u k n most two some l =
     omega (arith, length-append (sign_text negative) (whole_digits b u (n / b ^ k) ++ fraction_part b u k n), length-append (whole_digits b u (n / b ^ k)) (fraction_part b u k n), sign_short negative, fraction_short b u k n, whole_digits_short b u most (n / b ^ k) two some l)
 
--- the rounded number is hardly above the number
+-- the rounded number is at most one more than the numerator
 rounded_small : (mode : ReadMode) (negative : Bool) (num den q : ℕ) → 0 < den → IsRounded mode negative num den q → q ≤ num + 1
 rounded_small mode negative num den q some h =
     let close = (rounded_close mode negative num den q some h).0 in

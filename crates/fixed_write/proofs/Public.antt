@@ -1,4 +1,4 @@
--- What the proofs of the crates above may cite.
+-- Lemmas for the proofs of dependent crates.
 use Rattle.std.specs.Prelude.{◌≡◌, ℕ, suc, ◌+◌, ◌-◌, ◌*◌, ◌/◌, ◌%◌, ◌^◌, ◌<◌, ◌≤◌, Bool, false, List, [], ◌∷◌, ◌++◌, length, replicate, ℤ, unsigned_abs}
 use Rattle.std.specs.Fmt.{decimal, digit_glyph}
 use Rattle.fixed_bits.specs.Nearest.{IsEven}
@@ -27,7 +27,7 @@ shortest_unique = ShortestLemmas.shortest_unique
 pub shortest_is_nearest : PairIsNearest
 shortest_is_nearest = ShortestLemmas.shortest_is_nearest
 
--- at most g digits, and at most 20 where g is at most 64
+-- a shortest decimal has at most g digits, and at most 20 if g is at most 64
 pub shortest_at_most : (c g n k : ℕ) → IsShortest c g n k → (k ≤ g) × (g ≤ 64 → k ≤ 20)
 shortest_at_most = ShortestLemmas.shortest_at_most
 
@@ -44,7 +44,7 @@ exact_text_unique = PlacesLemmas.exact_text_unique
 pub exact_text_is : (base : ℕ) (upper : Bool) (c : ℤ) (g : ℕ) → IsEven base → IsExactText base upper c g (exact_text base upper c g)
 exact_text_is = PlacesLemmas.exact_text_is
 
--- a value to more than 64 places ends in zeros
+-- a value with more than 64 places ends in zeros
 pub rounded_zeros : (z : ℕ) (c : ℤ) (g : ℕ) → g ≤ 64 → rounded_text NearestEven 10 false (64 + z) c g ≡ rounded_text NearestEven 10 false 64 c g ++ replicate z zero_digit
 rounded_zeros = StyledLemmas.rounded_zeros
 
@@ -82,10 +82,10 @@ whole_digits_more = DigitLemmas.whole_digits_more
 pub whole_digits_short : (b : ℕ) (u : Bool) (k n : ℕ) → 2 ≤ b → 0 < k → n < b ^ k → length (whole_digits b u n) ≤ k
 whole_digits_short = DigitLemmas.whole_digits_short
 
--- a number that fills k + 1 digits is its last k + 1 digits
+-- a number of k + 1 digits is its last k + 1 digits
 pub whole_digits_full : (b : ℕ) (u : Bool) (k n : ℕ) → 2 ≤ b → b ^ k ≤ n → n < b ^ suc k → whole_digits b u n ≡ last_digits b u (suc k) n
 whole_digits_full = DigitLemmas.whole_digits_full
 
--- more zeros
+-- a number times a power of ten has zeros after its digits
 pub whole_zeros : (n z : ℕ) → 0 < n → whole_digits 10 false (n * 10 ^ z) ≡ whole_digits 10 false n ++ replicate z zero_digit
 whole_zeros = LeadingLemmas.whole_zeros

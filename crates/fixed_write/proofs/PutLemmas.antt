@@ -1,4 +1,4 @@
--- Parts that are put into bytes one after another.
+-- Parts put into bytes one after another.
 use Rattle.std.proofs.Common.{◌≡◌, ℕ, zero, suc, ◌+◌, ◌-◌, ◌*◌, ◌≤◌, List, [], ◌∷◌, ◌++◌, length, take, drop, replicate, refl, sym, ap, subst, ◌∙◌, arith, add-one, append_assoc, append-nil, length-append, take-append-drop}
 use borrow.Rule.Slice.PartMut.{put_mid}
 use Rattle.std.proofs.lemmas.List.{drop-drop, length-replicate}
@@ -6,9 +6,6 @@ use Rattle.std.proofs.lemmas.Slice.{drop-put_mid, take-put_mid}
 use Rattle.std.specs.List.{repeat}
 use Rattle.fixed_write.specs.Inner.Styling.{IsPut, laid_out, body_text}
 use Rattle.fixed_write.proofs.PaddingLemmas.{repeat_more, repeat_one}
-
-pub put_nothing : (xs : List ℕ) (at : ℕ) → IsPut [] xs xs at at
-put_nothing xs at = record { place = omega arith; text = sym (append-nil (take at xs)); rest = refl }
 
 pub put_part : (part xs ys : List ℕ) (at end : ℕ) → ys ≡ part → end ≡ at + length part → end ≤ length xs → IsPut part xs (put_mid at (end - at) xs ys) at end
 put_part part xs ys at end same e l = rw same (record {
@@ -31,13 +28,13 @@ put_more p q a b c i j k h g =
 pub put_again : (p a b c : List ℕ) (n i j k : ℕ) → IsPut (repeat n p) a b i j → IsPut p b c j k → IsPut (repeat (n + 1) p) a c i k
 put_again p a b c n i j k h g = rw (add-one, repeat_more) (put_more (repeat n p) p a b c i j k h g)
 
--- a text that is put at the beginning
+-- a text put at the start
 pub put_all : (text a b : List ℕ) (end : ℕ) → IsPut text a b 0 end → b ≡ text ++ drop (length text) a
 put_all text a b end h =
     let e : end ≡ length text = omega (arith, h.place) in
     sym (take-append-drop end b) ∙ (ap (λ (t : List ℕ). t ++ drop end b) h.text ∙ ap (λ (t : List ℕ). text ++ t) (h.rest ∙ rw e refl))
 
--- ---- a text that is laid out
+-- ---- the text as it is laid out
 pub repeat_length : (n : ℕ) (xs : List ℕ) → length (repeat n xs) ≡ n * length xs
 repeat_length zero xs = omega arith
 repeat_length (suc n) xs = length-append xs (repeat n xs) ∙ omega (arith, repeat_length n xs)

@@ -1,4 +1,4 @@
--- The point and digits without the zeros at their end.
+-- The point and digits without trailing zeros.
 use Rattle.std.proofs.Common.{◌≡◌, ℕ, zero, suc, ◌+◌, ◌-◌, ◌*◌, ◌/◌, ◌%◌, ◌^◌, ◌<◌, ◌≤◌, ◌⊎◌, Bool, true, false, List, [], ◌∷◌, ◌++◌, map, take, length, sym, ap, ◌∙◌, inl, inr, ⊎_elim, arith, refl, pow_pos, pow-suc, append_assoc, length-append, length-take, min}
 use Rattle.std.specs.Prelude.{if◌then◌else◌, nat_lt}
 use mir.Val.{bool_byte}
@@ -17,7 +17,7 @@ use Rattle.fixed_write.proofs.DigitLemmas.{last_digits_none, last_digits_suc, la
 use Rattle.fixed_write.proofs.SixteenLemmas.{moved_digits}
 use Rattle.fixed_write.proofs.PaddedLemmas.{reduced_few}
 
--- ---- the last bit that is set
+-- ---- the highest bit that is set
 pub record IsTop (mask count : ℕ) : Type 0 where
   pub below : mask < 2 ^ count
   pub set : (count ≡ 0) ⊎ (2 ^ (count - 1) ≤ mask)
@@ -77,7 +77,7 @@ mask_below k n =
     let many : length (map is_other_digit (last_digits 10 false k n)) ≡ k = length-map (last_digits 10 false k n) is_other_digit ∙ last_digits_length 10 false k n in
     rw many at (mask_l-lt (map is_other_digit (last_digits 10 false k n)))
 
--- k digits of n up to the last that is not zero
+-- the first k of q digits of n, up to the last one that is not zero
 pub record UpTo (q n k : ℕ) : Type 0 where
   pub number : ℕ
   pub zeros : ℕ
@@ -127,7 +127,7 @@ up_to (suc q) n k l h = ⊎_elim ends (λ z. goes_on z (up_to q (n / 10) k (less
       reduced = record { same = rw pow-suc (tens (r.number) (10 ^ q) (n * 10 ^ k) (longer (n / 10) (10 ^ k) (r.number * 10 ^ q) r.reduced.same (omega arith))); ends = r.reduced.ends };
     }
 
--- ---- the text of them
+-- ---- the text of these digits
 taken : (q n k : ℕ) (r : UpTo q n k) → take k (last_digits 10 false q n) ≡ last_digits 10 false k r.number
 taken q n k r = ap (take k) (ap (λ i. last_digits 10 false i n) (sym r.all) ∙ ap (last_digits 10 false (k + r.zeros)) r.value) ∙ moved_digits k r.zeros r.number
 
@@ -151,14 +151,13 @@ dot_length (suc k) before dot e =
     let one : dot ≡ before ++ point ∷ [] = rw (lt-ltb 0 (suc k) (omega arith)) at e in
     omega (arith, ap length one, length-append before (point ∷ []))
 
--- and a beginning of a text at most as long as is said
+-- a prefix of k bytes has at most k bytes
 pub beginning_length : (k : ℕ) (xs before after : List ℕ) → after ≡ before ++ take k xs → length after ≤ length before + k
 beginning_length k xs before after e = omega (arith, ap length e, length-append before (take k xs), length-take k xs)
 
 top_at : (mask m k : ℕ) → mask ≡ m → IsTop mask k → IsTop m k
 top_at mask m k e h = rw e at h
 
--- sixteen digits
 pub sixteen_up_to : (n mask : ℕ) (text : List ℕ) → n < 10 ^ 16 → text ≡ last_digits 10 false 16 n → mask ≡ mask_l (map is_other_digit text) → mask < 2 ^ 16 → UpTo 16 n (64 - count_leading_zeros 64 mask)
 sixteen_up_to n mask text l e f small =
     let is : mask ≡ mask_of 16 n = rw e at f in
@@ -167,7 +166,7 @@ sixteen_up_to n mask text l e f small =
 pub up_to_few : (q n k : ℕ) → UpTo q n k → k ≤ q
 up_to_few q n k r = omega (arith, r.all)
 
--- thirty-two, of which the last twelve are zeros
+-- thirty-two digits, the last twelve of them zeros
 pub record InHalves (high low mask : ℕ) (first others : List ℕ) : Type 0 where
   pub up : UpTo 32 (high * 10 ^ 16 + low * 10 ^ 12) (64 - count_leading_zeros 64 mask)
   pub joined : first ++ others ≡ last_digits 10 false 32 (high * 10 ^ 16 + low * 10 ^ 12)

@@ -6,7 +6,7 @@ use Rattle.fixed_write.specs.Texts.{last_digits}
 use Rattle.fixed_write.proofs.DigitLemmas.{last_digits_none, last_digits_length, last_digits_push}
 use Rattle.fixed_write.proofs.NearLemmas.{digits_step, left_step, digit_below}
 
--- after k digits of a rest: they follow the text, and `left` is left
+-- k digits of a rest follow the text, and `left` is the rest after them
 pub record Digits (b : ℕ) (u : Bool) (rest k : ℕ) (before after : List ℕ) (left : ℕ) : Type 0 where
   pub text : after ≡ before ++ last_digits b u k (rest * b ^ k / 2 ^ 64)
   pub left_is : left ≡ rest * b ^ k % 2 ^ 64

@@ -33,7 +33,7 @@ fits_moved k n l h =
 glyph_is : (d : ℕ) → d < 10 → digit_glyph false d ≡ 48 + d
 glyph_is d l = grind arith
 
--- two digits of a number below a hundred
+-- the last two digits of a number are those of n % 100
 two_digits : (k n : ℕ) → last_digits 10 false (suc (suc k)) n ≡ last_digits 10 false k (n / 100) ++ (48 + n % 100 / 10) ∷ (48 + n % 100 % 10) ∷ []
 two_digits k n =
     let hundreds : n / 10 / 10 ≡ n / 100 = omega arith in
@@ -43,7 +43,6 @@ two_digits k n =
     let one : n % 100 % 10 < 10 = omega arith in
     last_digits_suc 10 false (suc k) n ∙ rw (last_digits_suc 10 false k (n / 10), hundreds, tens, ones, glyph_is (n % 100 / 10) ten, glyph_is (n % 100 % 10) one) (append_assoc (last_digits 10 false k (n / 100)) ((48 + n % 100 / 10) ∷ []) ((48 + n % 100 % 10) ∷ []))
 
--- a pair
 pub pair_pushed : (n : ℕ) (old mid new : List ℕ) → n < 100 → mid ≡ old ++ (48 + n / 10) ∷ [] → new ≡ mid ++ (48 + n % 10) ∷ [] → new ≡ old ++ last_digits 10 false 2 n
 pair_pushed n old mid new l e f =
     let same : n % 100 ≡ n = omega arith in
@@ -87,8 +86,8 @@ pushed_twice a k n old mid new l e f =
     let whole : last_digits 10 false k n ≡ last_digits 10 false (k - a) (n / 10 ^ a) ++ last_digits 10 false a (n % 10 ^ a) = rw (all, parts) at joined in
     f ∙ rw (e, whole) (append_assoc old (last_digits 10 false (k - a) (n / 10 ^ a)) (last_digits 10 false a (n % 10 ^ a)))
 
--- ---- how many digits a number of b bits has
--- with b · log10(2) of them, rounded down, it has as many or one more
+-- ---- the number of digits of a number with b bits
+-- it is b · log10(2), rounded down, or one more
 abbrev fits_bits : ℕ → Bool
 fits_bits b = leb (2 ^ b) (10 ^ (b * 1233 / 4096 + 1)) && leb (10 ^ (b * 1233 / 4096)) (10 * 2 ^ (b - 1))
 
@@ -108,7 +107,7 @@ few_bits b n l h = ⊎_elim (λ (more : 54 < b).
     let big : 2 ^ 54 ≤ 2 ^ (b - 1) = pow-le-pow_right (omega arith) more' in
     absurd (omega arith)) (λ a. a) (cases_lt 54 b)
 
--- a number of b bits and fewer than seventeen digits
+-- n has t or t + 1 digits, and t is at most 16
 pub record HasFewest (n t : ℕ) : Type 0 where
   pub high : n < 10 ^ (t + 1)
   pub low : 10 ^ t ≤ 10 * n
@@ -131,7 +130,7 @@ fewer_low n (suc t) p h l =
     let low : 10 ^ t * 10 ≤ 10 * n = rw pow-suc at h.low in
     (omega arith, rw same (omega arith))
 
--- the count of a number's digits
+-- n has k digits
 pub record IsCount (n k : ℕ) : Type 0 where
   pub some : 0 < k
   pub most : k ≤ 16

@@ -119,7 +119,7 @@ zeros_last b u (suc z) p =
     let parts = parts_are 0 b 0 0 p (omega arith) in
     last_digits_suc b u z 0 ∙ rw (parts.0, parts.1, zeros_last b u z p, glyph_none u) (zeros_push z zero_digit)
 
--- zeros more
+-- a common factor cancels in a quotient
 scaled_whole : (n t s : ℕ) → 0 < t → 0 < s → n * s / (t * s) ≡ n / t
 scaled_whole n t s p q =
     let low : n % t < t = mod-lt n p in
@@ -145,7 +145,7 @@ more_places b u n k z p some =
 moved_places : (c x y n u : ℕ) → c * x ≡ n * u → c * (x * y) ≡ n * y * u
 moved_places c x y n u e = let f : c * x * y ≡ n * u * y = ap (λ t. t * y) e in omega arith
 
--- a value to more than 64 places ends in zeros
+-- a value with more than 64 places ends in zeros
 pub rounded_zeros : (z : ℕ) (c : ℤ) (g : ℕ) → g ≤ 64 → rounded_text NearestEven 10 false (64 + z) c g ≡ rounded_text NearestEven 10 false 64 c g ++ replicate z zero_digit
 unfolding rounded_text
 rounded_zeros z c g l =

@@ -40,7 +40,7 @@ in_parts : (negative : Bool) (n k w : ℕ) → n / 10 ^ k ≡ w → sign_text ne
 unfolding decimal_text point_text
 in_parts negative n k w e = rw e refl
 
--- what was printed in three parts is the text
+-- a text that was printed in three parts is the shortest text
 pub text_of_parts : (c : ℤ) (g m w : ℕ) (old start before after : List ℕ) → m ≡ unsigned_abs c → w ≡ m / 2 ^ g → start ≡ old ++ sign_text (is_negative c) → before ≡ start ++ whole_digits 10 false w → AppendsFraction m g before after → after ≡ old ++ shortest_text c g
 text_of_parts c g m w old start before after e f s b h =
     let whole : h.number / 10 ^ h.places ≡ w = h.whole ∙ sym f in
@@ -55,7 +55,7 @@ text_of_parts c g m w old start before after e f s b h =
     regroup : (o s w f : List ℕ) → ((o ++ s) ++ w) ++ f ≡ o ++ (s ++ (w ++ f))
     regroup o s w f = simp append_assoc
 
--- its length, by what was printed
+-- the length of the text, by its parts
 pub appended_fraction_length : (c g : ℕ) (before after : List ℕ) → g ≤ 64 → AppendsFraction c g before after → length after ≤ length before + 21
 appended_fraction_length c g before after l h =
     let few : h.places ≤ 20 = (shortest_at_most c g h.number h.places h.shortest).1 l in

@@ -1,4 +1,4 @@
--- What private functions promise each other. No public clause cites these.
+-- Contracts of private functions. No public contract cites them.
 pub mod Digits
 pub mod Lanes
 pub mod Fraction

@@ -1,4 +1,4 @@
--- A value to a count of places in a base, rounded or exactly.
+-- The text of a value in a base, rounded to a number of places or exact.
 use Rattle.std.specs.Prelude.{◌≡◌, ℕ, zero, suc, ◌+◌, ◌*◌, ◌/◌, ◌%◌, ◌^◌, ◌≤◌, ◌==◌, Bool, true, false, List, ◌++◌, ℤ}
 use Rattle.std.specs.Prelude.{if◌then◌else◌, nat_lt}
 use Rattle.std.specs.Prelude.{unsigned_abs}
@@ -19,21 +19,21 @@ pub record IsRoundedText (mode : ReadMode) (base : ℕ) (upper : Bool) (k : ℕ)
   pub rounded : IsRounded mode (is_negative c) (unsigned_abs c * base ^ k) (2 ^ g) number
   pub text_is : text ≡ sign_text (is_negative c) ++ point_text base upper k number
 
--- the greatest number that is not above num / den, and the least that is not below it
+-- the greatest whole number not above num / den, and the least not below it
 unfoldable pub number_below : ℕ → ℕ → ℕ
 number_below num den = num / den
 
 unfoldable pub number_above : ℕ → ℕ → ℕ
 number_above num den = if num % den == 0 then num / den else num / den + 1
 
--- the nearest number, and of two equally near the greater, or the lesser
+-- the nearest whole number, and the greater or the lesser of two equally near
 unfoldable pub nearest_greater : ℕ → ℕ → ℕ
 nearest_greater num den = if nat_lt (2 * (num % den)) den then num / den else num / den + 1
 
 unfoldable pub nearest_lesser : ℕ → ℕ → ℕ
 nearest_lesser num den = if nat_lt den (2 * (num % den)) then num / den + 1 else num / den
 
--- the rounded magnitude num / den of a number that is negative or not, computed
+-- the magnitude num / den rounded as the mode rounds the number, negative or not: computed
 abbrev pub rounded_number : ReadMode → Bool → ℕ → ℕ → ℕ
 rounded_number NearestEven negative num den = nearest_number num den
 rounded_number NearestAway negative num den = nearest_greater num den
@@ -49,7 +49,7 @@ rounded_number Ceil true num den = number_below num den
 rounded_number TowardsZero negative num den = number_below num den
 rounded_number AwayFromZero negative num den = number_above num den
 
--- that text, computed
+-- the rounded text, computed
 unfoldable pub rounded_text : ReadMode → ℕ → Bool → ℕ → ℤ → ℕ → List ℕ
 rounded_text mode base upper k c g = sign_text (is_negative c) ++ point_text base upper k
     (rounded_number mode (is_negative c) (unsigned_abs c * base ^ k) (2 ^ g))
@@ -67,7 +67,7 @@ pub record IsExactText (base : ℕ) (upper : Bool) (c : ℤ) (g : ℕ) (text : L
   pub exact : IsExact base (unsigned_abs c) g places number
   pub text_is : text ≡ sign_text (is_negative c) ++ point_text base upper places number
 
--- the least count of places from k on that is exact, of at most `more` places more
+-- the least number of places from k on that is exact, or else k + more
 unfoldable pub exact_places_from : ℕ → ℕ → ℕ → ℕ → ℕ → ℕ
 exact_places_from zero k base c g = k
 exact_places_from (suc more) k base c g = if c * base ^ k % 2 ^ g == 0 then k
@@ -77,7 +77,7 @@ exact_places_from (suc more) k base c g = if c * base ^ k % 2 ^ g == 0 then k
 unfoldable pub exact_places : ℕ → ℕ → ℕ → ℕ
 exact_places base c g = exact_places_from g 0 base c g
 
--- that text, computed
+-- the exact text in an even base, computed
 unfoldable pub exact_text : ℕ → Bool → ℤ → ℕ → List ℕ
 exact_text base upper c g = sign_text (is_negative c) ++ point_text base upper (exact_places base (unsigned_abs c) g)
     (unsigned_abs c * base ^ exact_places base (unsigned_abs c) g / 2 ^ g)

@@ -17,7 +17,7 @@ use Rattle.fixed_write.specs.Texts.{point, zero_digit, point_text, whole_digits}
 use Rattle.fixed_write.specs.Places.{IsExact}
 
 -- ---- notations
--- a notation and nothing else
+-- the style of a notation without options
 abbrev pub plain_style : Notation → Style
 plain_style n = record {
   notation = n;
@@ -51,7 +51,7 @@ prefix_of UpperHex = 48 ∷ 120 ∷ []
 prefix_of _ = []
 
 -- ---- digits
--- n / base^k is what is shown: with a precision the nearest number to this many places, ties to even; without one
+-- n / base^k is the number shown: with a precision, the nearest number to that many places, ties to even; without one,
 -- the shortest decimal, or in another base the exact value in the fewest places
 abbrev pub IsShown : Notation → Option ℕ → ℕ → ℕ → ℕ → ℕ → Type 0
 IsShown notation (Some p) c g n k = (k ≡ p) × IsNearest (c * base_of notation ^ p) (2 ^ g) n
@@ -61,7 +61,7 @@ IsShown LowerHex None c g n k = IsExact 16 c g k n
 IsShown UpperHex None c g n k = IsExact 16 c g k n
 IsShown _ None c g n k = IsShortest c g n k
 
--- body is that number with a point
+-- body is the number shown, with a point
 pub record IsPointBody (notation : Notation) (precision : Option ℕ) (c g : ℕ) (body : List ℕ) : Type 0 where
   pub number : ℕ
   pub places : ℕ
@@ -83,7 +83,7 @@ pub record IsDecade (c g : ℕ) (e : ℤ) : Type 0 where
   pub low : ten_up e * 2 ^ g ≤ c * ten_down e
   pub high : c * ten_down e < 10 * ten_up e * 2 ^ g
 
--- a digit, a point and the other digits where there are any
+-- a digit, then a point and the other digits, if any
 abbrev pub pointed : List ℕ → List ℕ
 pointed [] = []
 pointed (d ∷ []) = d ∷ []
@@ -140,11 +140,11 @@ IsBody notation precision c g body = IsPointBody notation precision c g body
 abbrev pub shown_prefix : Style → List ℕ
 shown_prefix s = if s.prefix then prefix_of s.notation else []
 
--- what comes before the body
+-- the text before the body
 abbrev pub sign_and_prefix : Style → Bool → List ℕ
 sign_and_prefix s negative = sign_text_with s.plus negative ++ shown_prefix s
 
--- how many of the fills come before the text
+-- the number of fills before the text
 abbrev pub fills_before : Align → ℕ → ℕ
 fills_before Left p = 0
 fills_before Center p = p / 2

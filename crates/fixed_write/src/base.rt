@@ -1,4 +1,4 @@
-//! Digits in a base from 2 to 16, which is a const parameter, so that each base is compiled with its constants.
+//! Digits in a base from 2 to 16. The base is a const parameter, so each base is compiled with its constants.
 
 ghost use Rattle.std.specs.Prelude.{◌≡◌, ℕ, ◌+◌, ◌^◌, ◌<◌, ◌≤◌, ◌++◌, [], ◌∷◌, length, Bool};
 ghost use Rattle.std.specs.Fmt.{digit_glyph};
@@ -7,7 +7,7 @@ ghost use Rattle.fixed_write.specs.Texts.{whole_digits, last_digits};
 use crate::digits::{push_places, push_whole};
 use text_buffer::TextBuffer;
 
-/// The character of a digit below sixteen.
+/// Returns the character of a digit below sixteen.
 #[inline]
 fn glyph(digit: u8, upper: bool) -> u8
     requires { digit < 16 }
@@ -32,7 +32,7 @@ pub(crate) fn push_digit<const N: usize>(out: &mut TextBuffer<N>, digit: u8, upp
     out.push(glyph(digit, upper));
 }
 
-/// Appends the last digits of a number one by one, with leading zeros where it has fewer.
+/// Appends the last digits of a number one by one, with leading zeros if it has fewer.
 fn push_each_last<const BASE: u64, const N: usize>(
     out: &mut TextBuffer<N>,
     number: u64,
@@ -50,7 +50,7 @@ fn push_each_last<const BASE: u64, const N: usize>(
     }
 }
 
-/// Appends the digits of a whole number one by one, without a leading zero and at least one.
+/// Appends the digits of a whole number one by one, at least one, without a leading zero.
 fn push_each_digit<const BASE: u64, const N: usize>(
     out: &mut TextBuffer<N>,
     number: u64,
@@ -71,8 +71,7 @@ fn push_each_digit<const BASE: u64, const N: usize>(
     push_each_last::<BASE, N>(out, number, others, upper);
 }
 
-/// Appends a number of at most `places` digits, with leading zeros where it has fewer; decimal digits sixteen at a
-/// time.
+/// Appends a number of at most `places` digits, with leading zeros if it has fewer; decimal digits sixteen at a time.
 #[inline]
 pub(crate) fn push_last_in<const BASE: u64, const N: usize>(
     out: &mut TextBuffer<N>,
@@ -94,7 +93,7 @@ pub(crate) fn push_last_in<const BASE: u64, const N: usize>(
     }
 }
 
-/// Appends the digits of a whole number, without a leading zero and at least one; decimal digits sixteen at a time.
+/// Appends the digits of a whole number, at least one, without a leading zero; decimal digits sixteen at a time.
 #[inline]
 pub(crate) fn push_whole_in<const BASE: u64, const N: usize>(
     out: &mut TextBuffer<N>,

@@ -1,8 +1,8 @@
-//! Decimal digits, sixteen of them at a time.
+//! Decimal digits, sixteen at a time.
 //!
-//! A number below 10^16 is split in the lanes of a vector: into four digits a lane, then two, then one. Before that it
-//! is moved up by a power of ten so that its first digit comes first, and all sixteen characters are written by one
-//! store, whatever the count of digits. So digits need no loop and no branch on their count.
+//! A number below 10^16 is split in the lanes of a vector: into four digits a lane, then two, then one. First it is
+//! moved up by a power of ten so that its first digit comes first, and one store writes all sixteen characters,
+//! whatever the count of digits. So digits need no loop and no branch on their count.
 
 ghost use Rattle.std.specs.Prelude.{◌≡◌, false, ◌+◌, ◌-◌, ◌*◌, ◌/◌, ◌%◌, ◌^◌, ◌<◌, ◌≤◌, [], ◌∷◌, ◌++◌, length, map};
 ghost use Rattle.std.specs.Simd.Lanes.{mask_l};
@@ -46,8 +46,8 @@ pub(crate) fn power_of_ten(exponent: u32) -> u64
     POWERS_OF_TEN[exponent as usize]
 }
 
-/// The upper four of eight digits in the lower 16 bits, and the lower four above them. 109_951_163 is 2^40 / 10_000,
-/// rounded up.
+/// Returns the upper four of eight digits in the lower 16 bits, and the lower four above them. 109_951_163 is 2^40 /
+/// 10_000, rounded up.
 #[inline(always)]
 fn halves(number: u64) -> u64
     requires { number < 10 ^ 8 }
@@ -79,7 +79,7 @@ fn pairs(number: u64) -> u16x8
     hundreds.shuffle(rests, [0, 8, 1, 9, 2, 10, 3, 11])
 }
 
-/// One digit a lane: the tens in the lower byte of each pair, and the ones above them.
+/// One digit a lane: the tens in the lower byte of each pair, and the units in the upper byte.
 #[inline(always)]
 fn digits(number: u64) -> u8x16
     requires { number < 10 ^ 16 }
@@ -90,7 +90,7 @@ fn digits(number: u64) -> u8x16
     ((pairs << 8) - tens * u16x8::splat(2559)).to_le_bytes()
 }
 
-/// The sixteen digits of a number, with leading zeros where it has fewer.
+/// Returns the sixteen digits of a number, with leading zeros if it has fewer.
 #[inline(always)]
 fn sixteen_digits(number: u64) -> [u8; 16]
     requires { number < 10 ^ 16 }
@@ -99,7 +99,7 @@ fn sixteen_digits(number: u64) -> [u8; 16]
     (u8x16::splat(b'0') + digits(number)).to_array()
 }
 
-/// A number of at most `places` digits, followed by zeros up to sixteen digits.
+/// Returns a number of at most `places` digits, followed by zeros up to sixteen digits.
 #[inline(always)]
 pub(crate) fn moved_up(number: u64, places: u32) -> u64
     requires places { places ≤ 16 }
@@ -110,7 +110,7 @@ pub(crate) fn moved_up(number: u64, places: u32) -> u64
     number * power_of_ten(16 - places)
 }
 
-/// Appends a number of at most `places` digits, up to sixteen, with leading zeros where it has fewer.
+/// Appends a number of at most `places` digits, up to sixteen, with leading zeros if it has fewer.
 #[inline(always)]
 pub(crate) fn push_sixteen<const N: usize>(out: &mut TextBuffer<N>, number: u64, places: u32)
     requires places { places ≤ 16 }
@@ -121,7 +121,7 @@ pub(crate) fn push_sixteen<const N: usize>(out: &mut TextBuffer<N>, number: u64,
     out.push_prefix(sixteen_digits(moved_up(number, places)), places as usize);
 }
 
-/// A bit for each character that is not the digit zero.
+/// Returns a bit for each character, set unless it is the digit zero.
 #[inline(always)]
 fn other_digits(characters: [u8; 16]) -> u64
     ensures value { result ≡ mask_l (map is_other_digit characters) }
@@ -132,7 +132,7 @@ fn other_digits(characters: [u8; 16]) -> u64
         .to_bitmask()
 }
 
-/// Appends the point and sixteen digits without the zeros at their end, or nothing where all of them are zeros.
+/// Appends the point and sixteen digits without trailing zeros, or nothing if all are zeros.
 #[inline(always)]
 pub(crate) fn push_reduced<const N: usize>(out: &mut TextBuffer<N>, number: u64)
     requires sixteen { number < 10 ^ 16 }
@@ -145,8 +145,8 @@ pub(crate) fn push_reduced<const N: usize>(out: &mut TextBuffer<N>, number: u64)
     out.push_prefix(characters, count);
 }
 
-/// Appends the point and twenty digits, of which `low` spells the last four, without the zeros at their end, or nothing
-/// where all of them are zeros.
+/// Appends the point and twenty digits, whose last four `low` spells, without trailing zeros, or nothing if all are
+/// zeros.
 #[inline(never)]
 pub(crate) fn push_long_reduced<const N: usize>(out: &mut TextBuffer<N>, high: u64, low: u64)
     requires high { high < 10 ^ 16 }
@@ -164,7 +164,7 @@ pub(crate) fn push_long_reduced<const N: usize>(out: &mut TextBuffer<N>, high: u
     out.push_prefix(others, count - many);
 }
 
-/// Appends a number of at most `places` digits, up to nineteen, with leading zeros where it has fewer.
+/// Appends a number of at most `places` digits, up to nineteen, with leading zeros if it has fewer.
 #[inline(always)]
 pub(crate) fn push_places<const N: usize>(out: &mut TextBuffer<N>, number: u64, places: u32)
     requires places { places ≤ 19 }
@@ -205,8 +205,8 @@ fn push_long_places<const N: usize>(out: &mut TextBuffer<N>, number: u64, places
     push_sixteen(out, number % 10_000_000_000_000_000, 16);
 }
 
-/// The count of a number's digits, up to sixteen. A number of `bits` bits has `bits` · log10(2) digits, rounded down,
-/// or one more, with 1233 / 4096 for log10(2); a power of ten tells which.
+/// Counts the digits of a number, up to sixteen. A number of `bits` bits has `bits` · log10(2) digits, rounded down, or
+/// one more, with 1233 / 4096 for log10(2); a power of ten tells which.
 #[inline(always)]
 fn digit_count(number: u64) -> u32
     requires some { 0 < number }
@@ -231,7 +231,7 @@ fn push_short_whole<const N: usize>(out: &mut TextBuffer<N>, number: u64)
     push_sixteen(out, number, digit_count(number));
 }
 
-/// Appends the digits of a whole number, without a leading zero and at least one.
+/// Appends the digits of a whole number, at least one, without a leading zero.
 #[inline(always)]
 pub(crate) fn push_whole<const N: usize>(out: &mut TextBuffer<N>, number: u64)
     requires { length out.old + length (whole_digits 10 false number) ≤ N }

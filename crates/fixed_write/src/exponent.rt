@@ -2,8 +2,8 @@
 //!
 //! A value is first moved by a power of ten so that its first digit is before the point: above one it stays as it is,
 //! and below one the zeros after the point are counted away. Then it is rounded to the places that the precision leaves
-//! after the digits before the point, by the rounding of texts with a point, or, where the precision is less than these
-//! digits, by one division. Where the rounded number has reached the next power of ten, its figures are a one and
+//! after the digits before the point, by the rounding of texts with a point. If the precision is less than these
+//! digits, one division rounds it. If the rounded number has reached the next power of ten, its figures are a one and
 //! zeros, and the exponent is one more.
 
 ghost use Rattle.std.specs.Prelude.{◌≡◌, ℕ, ◌+◌, ◌*◌, ◌/◌, ◌%◌, ◌-◌, ◌^◌, ◌<◌, ◌≤◌, ◌++◌, [], ◌⊎◌, ◌↔◌, false, length};
@@ -23,10 +23,10 @@ use crate::style::Notation;
 use fixed_bits::ReadMode;
 use text_buffer::TextBuffer;
 
-/// Figures, without the zeros that are counted: at most twenty digits before the point, and 64 after it.
+/// Figures, without the counted zeros: at most twenty digits before the point, and 64 after it.
 type Figures = TextBuffer<136>;
 
-/// The digits of a body with their point, without the zeros that are counted.
+/// The digits of a body with their point, without the counted zeros.
 pub(crate) type Body = TextBuffer<144>;
 
 /// A mark and an exponent.
@@ -43,7 +43,7 @@ struct Leading {
     shift: u32,
 }
 
-/// The place of a number's first digit: how often ten divides it.
+/// Returns the place of a number's first digit: how many digits come after it.
 fn decade_of(number: u64) -> u32
     requires { 0 < number }
     ensures low { 10 ^ result ≤ number }
@@ -59,7 +59,7 @@ fn decade_of(number: u64) -> u32
     others
 }
 
-/// A value that is not zero, moved so that its first digit is before the point.
+/// Moves a value that is not zero so that its first digit is before the point.
 fn leading_of(value: Split) -> Leading
     requires { 0 < value.whole * 2 ^ 64 + value.rest }
     ensures { IsLeading (value.whole * 2 ^ 64 + value.rest) result.value.whole result.value.rest result.decade
@@ -76,7 +76,7 @@ fn leading_of(value: Split) -> Leading
     }
 }
 
-/// A value below one that is not zero, moved so that its first digit is before the point.
+/// Moves a value below one that is not zero so that its first digit is before the point.
 fn leading_below_one(rest: u64) -> Leading
     requires { 0 < rest }
     ensures { IsLeading rest result.value.whole result.value.rest result.decade result.shift }
@@ -99,15 +99,15 @@ fn leading_below_one(rest: u64) -> Leading
     }
 }
 
-/// Zeros after the figures, and whether the figures reached the next power of ten.
+/// The zeros after the figures, and whether the figures reached the next power of ten.
 #[derive(Clone, Copy)]
 struct Rounded {
     zeros: u32,
     carried: bool,
 }
 
-/// Whether a quotient is raised, where `left` and a rest are left of it: more than half of the divisor, or half and
-/// odd.
+/// Whether a quotient is raised: `left` and a rest, which remain, are more than half of the divisor, or half of it and
+/// the quotient is odd.
 #[inline]
 fn is_raised_by(left: u64, half: u64, rest: u64, number: u64) -> bool
     ensures { IsTrue result ↔ ((half < left) ⊎ ((left ≡ half) × ((0 < rest) ⊎ (number % 2 ≡ 1)))) }
@@ -115,7 +115,7 @@ fn is_raised_by(left: u64, half: u64, rest: u64, number: u64) -> bool
     left > half || (left == half && (rest > 0 || number % 2 == 1))
 }
 
-/// A value divided by an even scale, rounded to the nearest with ties to even.
+/// Divides a value by an even scale, rounded to the nearest with ties to even.
 fn rounded_quotient(value: Split, scale: u64) -> u64
     requires even { IsEven scale }
     requires some { 2 ≤ scale }
@@ -129,7 +129,7 @@ fn rounded_quotient(value: Split, scale: u64) -> u64
     }
 }
 
-/// Appends the figures of a value to fewer places after the first than it has digits before the point.
+/// Appends the figures of a value to fewer places after the first than the whole part has.
 fn push_rounded_whole(out: &mut Figures, value: Split, decade: u32, precision: u32) -> Rounded
     requires empty { out.old ≡ [] }
     requires decade { decade ≤ 19 }
@@ -155,7 +155,7 @@ fn push_rounded_whole(out: &mut Figures, value: Split, decade: u32, precision: u
     }
 }
 
-/// The count of digits before the point of a text with this many after it.
+/// Counts the digits before the point of a text with `places` digits after it.
 #[inline]
 fn whole_len(text: &Figures, places: u32) -> usize
     requires { places ≤ 64 }
@@ -170,7 +170,7 @@ fn whole_len(text: &Figures, places: u32) -> usize
     }
 }
 
-/// Appends the figures of a value to at least as many places after the first as it has digits before the point.
+/// Appends the figures of a value to at least as many places after the first as the whole part has.
 fn push_rounded_places(out: &mut Figures, value: Split, decade: u32, precision: u32) -> Rounded
     requires empty { out.old ≡ [] }
     requires low { 10 ^ decade ≤ value.whole }
@@ -200,7 +200,7 @@ fn push_rounded_places(out: &mut Figures, value: Split, decade: u32, precision: 
     }
 }
 
-/// Appends the digits of a text without the point that is after the first `whole` of them.
+/// Appends the digits of a text without its point, which is after the first `whole` digits.
 fn push_without_point(out: &mut Figures, text: &Figures, whole: usize)
     requires whole { whole ≤ length text.now }
     requires room { length out.old + length text.now ≤ 136 }
@@ -213,7 +213,7 @@ fn push_without_point(out: &mut Figures, text: &Figures, whole: usize)
     }
 }
 
-/// A number without its trailing zeros, and how many these are.
+/// Returns a number without its trailing zeros, and their count.
 fn without_zeros(number: u64) -> (u64, u32)
     requires { 0 < number }
     ensures number { number ≡ result.0 * 10 ^ result.1 }
@@ -229,7 +229,7 @@ fn without_zeros(number: u64) -> (u64, u32)
     (left, zeros)
 }
 
-/// Appends the digits of a number in three parts: before the point, after it, and the last one.
+/// Appends the digits of a number in three parts: before the point, after it, and the last digit.
 fn push_parts(out: &mut Figures, whole: u64, fraction: Fraction)
     requires empty { out.old ≡ [] }
     requires places { fraction.places ≤ 19 }
@@ -251,7 +251,7 @@ fn push_parts(out: &mut Figures, whole: u64, fraction: Fraction)
     }
 }
 
-/// The exponent of a number's first figure: the count of its figures and of zeros after them, less these places.
+/// Returns the exponent of a number's first figure: the count of its figures and of zeros after them, less `places`.
 fn exponent_of(figures: usize, zeros: u32, places: u32) -> i32
     requires figures { figures ≤ 136 }
     requires zeros { zeros ≤ 100 }
@@ -263,7 +263,7 @@ fn exponent_of(figures: usize, zeros: u32, places: u32) -> i32
     (figures as i32 + zeros as i32) - places as i32
 }
 
-/// The digits after the point that are needed to read a magnitude back, where something is left there.
+/// Returns the digits after the point that are needed to read a magnitude back, if there are any.
 fn fraction_of(magnitude: u64, frac: u32) -> Fraction
     requires frac { frac ≤ 64 }
     requires some { (magnitude % 2 ^ frac ≡ 0) → ⊥ }
@@ -280,7 +280,7 @@ fn fraction_of(magnitude: u64, frac: u32) -> Fraction
     fraction
 }
 
-/// Appends the figures of the shortest decimal of a magnitude, and answers its exponent.
+/// Appends the figures of the shortest decimal of a magnitude, and returns its exponent.
 fn push_short_figures(out: &mut Figures, magnitude: u64, frac: u32) -> i32
     requires empty { out.old ≡ [] }
     requires frac { frac ≤ 64 }
@@ -320,7 +320,7 @@ fn push_rounded(out: &mut Figures, value: Split, decade: u32, precision: u32) ->
     }
 }
 
-/// Appends the figures of a magnitude rounded to a precision, and answers the zeros after them and the exponent.
+/// Appends the figures of a magnitude rounded to a precision, and returns the zeros after them and the exponent.
 fn push_rounded_figures(
     out: &mut Figures,
     magnitude: u64,
@@ -346,7 +346,7 @@ fn push_rounded_figures(
     }
 }
 
-/// Appends the figures of a magnitude, and answers the zeros after them and the exponent.
+/// Appends the figures of a magnitude, and returns the zeros after them and the exponent.
 fn push_figures(
     out: &mut Figures,
     magnitude: u64,
@@ -372,7 +372,7 @@ fn push_figures(
     }
 }
 
-/// Appends figures with a point after the first, where there are others or zeros after them.
+/// Appends figures with a point after the first, if other figures or zeros come after it.
 fn push_pointed(out: &mut Body, figures: &[u8], zeros: usize)
     requires some { 0 < length figures.now }
     requires room { length out.old + length figures.now + 1 ≤ 144 }
@@ -385,7 +385,7 @@ fn push_pointed(out: &mut Body, figures: &[u8], zeros: usize)
     }
 }
 
-/// The mark of an exponent.
+/// Returns the mark of an exponent.
 fn mark_of(notation: Notation) -> u8
     ensures { result ≡ mark_of notation }
 {
@@ -406,8 +406,8 @@ fn push_tail(tail: &mut Tail, notation: Notation, exponent: i32)
     push_integer(tail, i128::from(exponent));
 }
 
-/// Appends the body of a number with an exponent, but for the zeros that it answers, and the exponent to a tail of its
-/// own.
+/// Appends the body of a number with an exponent, and the exponent to its own tail. Returns the count of zeros that end
+/// the body, which are not appended.
 pub(crate) fn push_exponent_body(
     out: &mut Body,
     tail: &mut Tail,

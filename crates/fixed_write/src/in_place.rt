@@ -1,4 +1,4 @@
-//! Numbers appended to a text in place, without memory: to a count of places, and exactly.
+//! Numbers appended to a text in place, without allocation: to a count of places, and exactly.
 
 ghost use Rattle.std.specs.Prelude.{◌≡◌, ◌+◌, ◌*◌, ◌^◌, ◌≤◌, ◌++◌, false, length};
 ghost use Rattle.std.specs.Str.{IsAscii};

@@ -11,8 +11,8 @@ use crate::printer::{is_below_zero, push_sign};
 use fixed_bits::sign_and_magnitude;
 use text_buffer::TextBuffer;
 
-/// Appends a number in decimal: `-` where it is negative, then its digits without a leading zero and at least one.
-/// There must be room for 21 bytes.
+/// Appends a number in decimal: `-` if it is negative, then its digits, at least one, without a leading zero. There
+/// must be room for 21 bytes.
 #[inline]
 pub fn push_integer<const N: usize>(out: &mut TextBuffer<N>, value: i128)
     requires wide { IsWide value }
@@ -25,7 +25,7 @@ pub fn push_integer<const N: usize>(out: &mut TextBuffer<N>, value: i128)
     push_signed_integer(out, negative, magnitude);
 }
 
-/// Appends the number with that sign and magnitude in decimal, as `push_integer` appends a number.
+/// Appends the number with this sign and magnitude in decimal, as `push_integer` does.
 #[inline]
 pub fn push_signed_integer<const N: usize>(out: &mut TextBuffer<N>, negative: bool, magnitude: u64)
     requires room { length out.old + 21 ≤ N }

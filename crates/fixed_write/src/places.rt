@@ -32,7 +32,7 @@ pub(crate) struct Places {
     pub ghost word: { whole < 2 ^ 64 },
 }
 
-/// A magnitude of ulps of 2^-`frac` in two parts.
+/// Splits a magnitude of ulps of 2^-`frac` in two parts.
 pub(crate) fn split_of(magnitude: u64, frac: u32) -> Split
     requires { frac ≤ 64 }
     ensures whole { result.whole ≡ magnitude / 2 ^ frac }
@@ -44,7 +44,7 @@ pub(crate) fn split_of(magnitude: u64, frac: u32) -> Split
     }
 }
 
-/// What a rest in units of 2^-64 is of one.
+/// Compares a rest in units of 2^-64 to one half.
 #[inline]
 fn lost_fraction_of(rest: u64) -> LostFraction
     ensures { IsLostFraction result rest (2 ^ 64) }
@@ -60,7 +60,7 @@ fn lost_fraction_of(rest: u64) -> LostFraction
     }
 }
 
-/// A rest times a scale as a whole number, rounded in a mode as the end of the number that has `above` before it.
+/// Rounds a rest times a scale to a whole number in a mode. It is the end of the number that starts with `above`.
 pub(crate) fn rounded_part(rest: u64, scale: u64, above: u64, mode: ReadMode) -> u64
     requires scale { 1 ≤ scale }
     requires even { (scale ≡ 1) ⊎ IsEven scale }
@@ -73,7 +73,7 @@ pub(crate) fn rounded_part(rest: u64, scale: u64, above: u64, mode: ReadMode) ->
     number + rounding_increment(lost_fraction_of(left), last % 2, mode)
 }
 
-/// The value to the places that the scale has, rounded in a mode.
+/// Rounds the value in a mode to the places of the scale.
 pub(crate) fn rounded(value: Split, scale: u64, mode: ReadMode) -> Places
     requires scale { 1 ≤ scale }
     requires even { (scale ≡ 1) ⊎ IsEven scale }
@@ -97,8 +97,8 @@ pub(crate) fn rounded(value: Split, scale: u64, mode: ReadMode) -> Places
 
 /// Appends the value to a count of places, at most 64, rounded in a mode.
 ///
-/// The places that fit a word are one number, of which the rest decides; then it may be one whole, and the whole
-/// number is raised. Before the last block of a longer fraction there are single digits; then it never is.
+/// Places that fit a word are one number, rounded by its rest. That may make it one whole, which raises the whole
+/// number. A longer fraction has single digits before its last block, and then the block never becomes one whole.
 #[inline]
 pub(crate) fn push_rounded_in<const BASE: u64, const BLOCK: u32, const N: usize>(
     out: &mut TextBuffer<N>,
@@ -164,7 +164,7 @@ fn power<const BASE: u64>(places: u32) -> u64
     }
 }
 
-/// Appends the first digits of a rest, and answers what is left of it.
+/// Appends the first digits of a rest, and returns the remaining rest.
 fn push_rest_digits<const BASE: u64, const N: usize>(
     out: &mut TextBuffer<N>,
     rest: u64,

@@ -1,18 +1,18 @@
-//! Prints the shortest decimal that reads back, without a search for the count of its digits.
+//! Prints the shortest decimal that reads back, without searching for the count of its digits.
 //!
-//! A value is a magnitude of ulps of 2^-`frac`. Its whole digits are printed first. What is left after the point is a
-//! `rest` below one, in units of 2^-64: a power of ten times the rest is the next digits as one number, and the next
-//! rest. A decimal reads back exactly where it is at most half an ulp away from the value, for no tie arises: a decimal
-//! with at most `frac` digits is never halfway between two ulps.
+//! A value is a magnitude of ulps of 2^-`frac`. Its whole digits are printed first. After the point remains a `rest`
+//! below one, in units of 2^-64: a power of ten times the rest is the next digits as one number, and the next rest. A
+//! decimal reads back exactly if it is at most half an ulp away from the value, because no tie arises: a decimal with
+//! at most `frac` digits is never halfway between two ulps.
 //!
-//! With as many digits as an ulp has, `frac` · log10(2) of them, rounded down, neighbouring decimals are an ulp or more
-//! apart. So at most one of them reads back: the digits so far, or the same with the last digit raised by one. Where
-//! one does, each shorter decimal that reads back is the same number, and it is the shortest one once the zeros at its
-//! end are taken off. Where none does, one digit more is enough, and the nearer of the two is the last digit. It never
-//! carries, since a ten would mean that one digit less had read back already.
+//! With as many digits as an ulp has, `frac` · log10(2) rounded down, neighbouring decimals are an ulp or more apart.
+//! So at most one of them reads back: the digits so far, or the same with the last digit raised by one. If one does,
+//! each shorter decimal that reads back is the same number, and it is the shortest one once its trailing zeros are
+//! removed. If none does, one more digit is enough, and the nearer of the two is the last digit. It never carries,
+//! because a ten would mean that one digit less had read back already.
 //!
 //! Both are computed, and one is chosen without a branch. It is printed with zeros up to a fixed count of places, all
-//! of them at once, and the text ends after its last digit that is not zero.
+//! at once, and the text ends after its last digit that is not zero.
 
 ghost use Rattle.std.specs.Prelude.{◌≡◌, false, ◌+◌, ◌*◌, ◌/◌, ◌%◌, ◌-◌, ◌^◌, ◌<◌, ◌≤◌, ◌++◌, length, unsigned_abs};
 ghost use Rattle.std.specs.Prelude.{◌⊎◌, ◌↔◌, ℕ, IsTrue};
@@ -33,9 +33,9 @@ use text_buffer::TextBuffer;
 
 /// Appends the shortest decimal text of `value` ulps of 2^-`frac` that reads back as `value`.
 ///
-/// It has the least number of digits after the point with which some decimal reads back; of the decimals with this
-/// many digits that read back it is the one nearest to the value, and of two equally near the even one.
-/// Takes one step for each byte, at most 48. There must be room for 48 bytes.
+/// It has the fewest digits after the point with which some decimal reads back. Of the decimals with this many digits
+/// that read back, it is the nearest to the value, and of two equally near ones the even one. Takes one step for each
+/// byte, at most 48. There must be room for 48 bytes.
 #[inline]
 pub fn push_shortest<const N: usize, L: Ledger>(
     out: &mut TextBuffer<N>,
@@ -56,8 +56,8 @@ pub fn push_shortest<const N: usize, L: Ledger>(
     push_signed_shortest(out, negative, magnitude, frac, steps);
 }
 
-/// Appends the shortest decimal text of the number of ulps of 2^-`frac` with that sign and magnitude, as
-/// `push_shortest` appends that of a number.
+/// Appends the shortest decimal text of the number of ulps of 2^-`frac` with this sign and magnitude, as
+/// `push_shortest` does.
 #[inline]
 pub fn push_signed_shortest<const N: usize, L: Ledger>(
     out: &mut TextBuffer<N>,
@@ -82,7 +82,7 @@ pub fn push_signed_shortest<const N: usize, L: Ledger>(
     steps.advance((out.len() - before) as u64);
 }
 
-/// Whether the number with that sign and magnitude is negative: a zero is not.
+/// Whether the number with this sign and magnitude is negative. Zero is not.
 #[inline]
 pub(crate) fn is_below_zero(negative: bool, magnitude: u64) -> bool
     ensures { result ≡ is_negative (with_sign negative magnitude) }
@@ -90,7 +90,7 @@ pub(crate) fn is_below_zero(negative: bool, magnitude: u64) -> bool
     negative && magnitude > 0
 }
 
-/// Appends `-` where a number is negative, else nothing.
+/// Appends `-` if a number is negative.
 #[inline]
 pub(crate) fn push_sign<const N: usize>(out: &mut TextBuffer<N>, is_negative: bool)
     requires { length out.old < N }
@@ -99,7 +99,7 @@ pub(crate) fn push_sign<const N: usize>(out: &mut TextBuffer<N>, is_negative: bo
     out.push_if(b'-', is_negative);
 }
 
-/// How far a number is from zero.
+/// Returns the magnitude of a number.
 #[inline]
 pub(crate) fn magnitude_of(value: i128) -> u64
     requires { IsWide value }
@@ -117,7 +117,7 @@ pub(crate) fn whole_of(magnitude: u64, frac: u32) -> u64
     if frac == 64 { 0 } else { magnitude >> frac }
 }
 
-/// What is left of a magnitude after the point, in units of 2^-64.
+/// Returns the fraction of a magnitude, in units of 2^-64.
 #[inline]
 pub(crate) fn rest_of(magnitude: u64, frac: u32) -> u64
     requires { frac ≤ 64 }
@@ -130,7 +130,7 @@ pub(crate) fn rest_of(magnitude: u64, frac: u32) -> u64
     }
 }
 
-/// A rest times a scale: the whole number, and the next rest.
+/// Multiplies a rest by a scale. Returns the whole number and the next rest.
 #[inline]
 pub(crate) fn scaled(rest: u64, scale: u64) -> (u64, u64)
     ensures whole { result.0 ≡ rest * scale / 2 ^ 64 }
@@ -140,8 +140,8 @@ pub(crate) fn scaled(rest: u64, scale: u64) -> (u64, u64)
     ((product >> 64) as u64, (product % (1 << 64)) as u64)
 }
 
-/// The greatest count of places after the point at which decimals are an ulp of 2^-`frac` or more apart: `frac` ·
-/// log10(2), rounded down, with 1233 / 4096 for log10(2). With one place more they are an ulp or less apart.
+/// Returns the greatest count of places after the point at which decimals are an ulp of 2^-`frac` or more apart: `frac`
+/// · log10(2), rounded down, with 1233 / 4096 for log10(2). With one more place they are an ulp or less apart.
 #[inline]
 fn places_of(frac: u32) -> u32
     requires { frac ≤ 64 }
@@ -154,7 +154,7 @@ fn places_of(frac: u32) -> u32
     frac * 1233 / 4096
 }
 
-/// Half an ulp of 2^-`frac`, in units of 2^-64, times a scale.
+/// Returns half an ulp of 2^-`frac`, in units of 2^-64, times a scale.
 #[inline]
 fn half_ulp(scale: u64, frac: u32) -> u64
     requires frac { frac ≤ 64 }
@@ -169,7 +169,7 @@ fn half_ulp(scale: u64, frac: u32) -> u64
     }
 }
 
-/// Digits after the point: `places` digits that spell `number`, and `digit`.
+/// Digits after the point: `places` digits that spell `number`, and then `digit`.
 #[derive(Clone, Copy)]
 pub(crate) struct Fraction {
     pub(crate) number: u64,
@@ -177,7 +177,7 @@ pub(crate) struct Fraction {
     pub(crate) digit: u64,
 }
 
-/// The digits after the point that are needed to read a magnitude back, with zeros after them.
+/// Returns the digits after the point that are needed to read a magnitude back, with zeros after them.
 #[inline]
 pub(crate) fn padded_fraction(magnitude: u64, frac: u32) -> Fraction
     requires { frac ≤ 64 }
@@ -196,7 +196,7 @@ pub(crate) fn padded_fraction(magnitude: u64, frac: u32) -> Fraction
     }
 }
 
-/// Appends the point and the digits after it, as many as are needed to read the magnitude back.
+/// Appends the point and as many digits after it as are needed to read the magnitude back.
 #[inline]
 fn push_fraction<const N: usize>(out: &mut TextBuffer<N>, magnitude: u64, frac: u32)
     requires frac { frac ≤ 64 }
@@ -212,7 +212,7 @@ fn push_fraction<const N: usize>(out: &mut TextBuffer<N>, magnitude: u64, frac: 
     }
 }
 
-/// Appends the point and more than sixteen digits after it, without the zeros at their end.
+/// Appends the point and more than sixteen digits after it, without trailing zeros.
 #[inline]
 fn push_long_fraction<const N: usize>(out: &mut TextBuffer<N>, fraction: Fraction)
     requires long { 16 ≤ fraction.places }
@@ -244,7 +244,7 @@ fn is_near_next(rest: u64, reach: u64) -> bool
     u64::MAX - rest < reach
 }
 
-/// The digit, or the next one where the rest after it reaches nearer to that, and of two equally near the even one.
+/// Returns the digit or, if the rest is nearer to it, the next one; of two equally near, the even one.
 #[inline]
 fn nearer_digit(digit: u64, rest: u64) -> u64
     requires { digit < 10 }
@@ -262,7 +262,7 @@ fn nearer_digit(digit: u64, rest: u64) -> u64
 /// One half, in units of 2^-64.
 pub(crate) const HALF: u64 = 1 << 63;
 
-/// Whether a number is raised: where more than one half is left of it, or one half and it is odd.
+/// Whether a number is raised: more than one half is left, or one half and the number is odd.
 #[inline]
 fn is_raised(left: u64, number: u64) -> bool
     ensures { IsTrue result ↔ ((2 ^ 63 < left) ⊎ ((left ≡ 2 ^ 63) × (number % 2 ≡ 1))) }

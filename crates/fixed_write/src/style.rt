@@ -3,7 +3,7 @@
 ghost use Rattle.std.specs.Prelude.{◌≡◌};
 ghost use Rattle.fixed_write.specs.Styled.{plain_style};
 
-/// What the value is shown in: decimal, decimal with an exponent, or a base of two, eight or sixteen.
+/// How the value is shown: decimal, decimal with an exponent, or in base two, eight or sixteen.
 #[derive(Clone, Copy, Debug, PartialEq, Eq)]
 pub enum Notation {
     Dec,
@@ -15,7 +15,7 @@ pub enum Notation {
     UpperHex,
 }
 
-/// Where the text is in a wider field.
+/// The position of the text in a wider field.
 #[derive(Clone, Copy, Debug, PartialEq, Eq)]
 pub enum Align {
     Left,

@@ -18,7 +18,7 @@ use fixed_bits::ReadMode;
 use std::alloc::Global;
 use text_buffer::{NoMemory, TextBuffer};
 
-/// Every value is exact with this many places, in each base: the others are zeros, which are counted.
+/// Every value is exact with this many places, in each base. Further places are zeros, which are counted.
 const EXACT_PLACES: u32 = 64;
 
 /// Appends a value to a count of places in the base of a notation.
@@ -39,7 +39,7 @@ fn push_rounded_body(out: &mut Body, value: Split, notation: Notation, places: u
     }
 }
 
-/// Appends a magnitude as it is shown without a precision.
+/// Appends a magnitude as shown without a precision.
 fn push_plain_body(out: &mut Body, magnitude: u64, frac: u32, notation: Notation)
     requires notation { IsPointNotation notation }
     requires frac { frac ≤ 64 }
@@ -56,7 +56,7 @@ fn push_plain_body(out: &mut Body, magnitude: u64, frac: u32, notation: Notation
     }
 }
 
-/// Appends the body of a number with a point, and answers how many zeros come after it.
+/// Appends the body of a number with a point, and returns how many zeros come after it.
 fn push_point_body(out: &mut Body, magnitude: u64, frac: u32, style: &Style) -> usize
     requires notation { IsPointNotation style.now.notation }
     requires frac { frac ≤ 64 }
@@ -77,7 +77,7 @@ fn push_point_body(out: &mut Body, magnitude: u64, frac: u32, style: &Style) -> 
     }
 }
 
-/// Appends the body of a number, and the exponent to a tail of its own, and answers how many zeros are between them.
+/// Appends the body of a number, and the exponent to its own tail. Returns how many zeros are between them.
 pub(crate) fn push_body(
     out: &mut Body,
     tail: &mut Tail,
@@ -116,7 +116,7 @@ pub(crate) fn push_body(
     }
 }
 
-/// What comes before a body: the sign and the prefix.
+/// Returns the sign and the prefix, which come before a body.
 pub(crate) fn sign_and_prefix(negative: bool, style: &Style) -> TextBuffer<8>
     ensures text { result ≡ sign_and_prefix style.now negative }
     ensures short { length result ≤ 3 }
@@ -155,9 +155,9 @@ fn push_zero_and(out: &mut TextBuffer<8>, letter: u8)
     out.push(letter);
 }
 
-/// `value` ulps of 2^-`frac` in a style, in memory that is taken once and is exactly as much as the text needs.
+/// Writes `value` ulps of 2^-`frac` in a style, in memory that is allocated once, exactly as much as the text needs.
 ///
-/// The error is that there is no memory, and nothing else.
+/// The only error is that there is no memory.
 pub fn to_text(alloc: Global, value: i128, frac: u32, style: &Style) -> Result<Text, NoMemory>
     requires wide { IsWide value }
     requires frac { frac ≤ 64 }

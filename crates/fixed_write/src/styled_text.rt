@@ -1,4 +1,4 @@
-//! A number in a style without memory: the parts of its text, which are written where the caller wants them.
+//! A number in a style without allocation: the parts of its text, which are written to bytes of the caller.
 
 ghost use Rattle.std.specs.Prelude.{◌≡◌, ◌+◌, ◌*◌, ◌^◌, ◌<◌, ◌≤◌, ◌++◌, length, drop};
 ghost use Rattle.std.specs.List.{repeat};
@@ -15,7 +15,7 @@ use crate::text::fills_before;
 use std::marker::Model;
 use text_buffer::TextBuffer;
 
-/// The text of a number in a style, in its parts.
+/// The parts of the text of a number in a style.
 #[derive(Drop)]
 pub struct StyledText {
     fill: TextBuffer<4>,
@@ -52,7 +52,7 @@ impl StyledText {
             + self.tail.len()
     }
 
-    /// Writes the text at the beginning of bytes, of which there must be as many, and leaves the others as they were.
+    /// Writes the text to the first bytes of `out`, which must be long enough, and leaves the others as they were.
     pub fn write_to(&self, out: &mut [u8])
         requires { length self.now ≤ length out.old }
         ensures { out.new ≡ self.now ++ drop (length self.now) out.old }
@@ -67,7 +67,7 @@ impl StyledText {
     }
 }
 
-/// Puts bytes at a place, and answers the place after them.
+/// Puts bytes at an index, and returns the index after them.
 fn put(out: &mut [u8], at: usize, part: &[u8]) -> usize
     requires { at + length part.now ≤ length out.old }
     ensures { IsPut part.now out.old out.new at result }
@@ -77,7 +77,7 @@ fn put(out: &mut [u8], at: usize, part: &[u8]) -> usize
     end
 }
 
-/// Puts the same bytes `times` times at a place, and answers the place after them.
+/// Puts the same bytes `times` times at an index, and returns the index after them.
 fn put_times(out: &mut [u8], at: usize, part: &[u8], times: usize) -> usize
     requires { at + times * length part.now ≤ length out.old }
     ensures { IsPut (repeat times part.now) out.old out.new at result }
@@ -99,7 +99,7 @@ fn bytes_of(fill: char) -> TextBuffer<4>
     bytes
 }
 
-/// Sign and prefix and a body in its parts, padded up to the width of a style.
+/// Lays out sign and prefix and a body in its parts, padded up to the width of a style.
 fn padded_parts(
     style: &Style,
     prefix: TextBuffer<8>,
@@ -139,7 +139,7 @@ fn padded_parts(
     }
 }
 
-/// `value` ulps of 2^-`frac` in a style, as `to_text` gives it, but without memory.
+/// Writes `value` ulps of 2^-`frac` in a style, like `to_text`, but without allocation.
 pub fn text_in_style(value: i128, frac: u32, style: &Style) -> StyledText
     requires wide { IsWide value }
     requires frac { frac ≤ 64 }

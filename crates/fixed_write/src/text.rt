@@ -1,4 +1,4 @@
-//! A text in memory, padded up to a width. Memory is taken once, and exactly as much as the text has bytes.
+//! A text in memory, padded up to a width. Memory is allocated once, exactly as many bytes as the text has.
 
 ghost use Rattle.std.specs.Prelude.{◌≡◌, ◌+◌, ◌*◌, ◌^◌, ◌<◌, ◌≤◌, ◌++◌, [], length, replicate, vec_len, vec_capacity};
 ghost use Rattle.std.specs.Prelude.{IfOk};
@@ -56,7 +56,7 @@ fn append_times(bytes: &mut Vec<u8>, part: &[u8], times: usize)
     }
 }
 
-/// How many of the fills come before the text.
+/// How many of `padding` fills come before the text.
 pub(crate) fn fills_before(align: Align, padding: usize) -> usize
     ensures value { result ≡ fills_before align padding }
     ensures most { result ≤ padding }
@@ -68,7 +68,7 @@ pub(crate) fn fills_before(align: Align, padding: usize) -> usize
     }
 }
 
-/// Fills, sign and prefix, zeros, the body in its parts, and fills, in a text of exactly their length.
+/// Writes fills, sign and prefix, zeros, the body in its parts, and fills, to a text of exactly their length.
 fn written(
     alloc: Global,
     fill: &[u8],
@@ -119,7 +119,7 @@ pub(crate) struct BodyParts<'a> {
     pub(crate) tail: &'a [u8],
 }
 
-/// Sign and prefix and a body, padded up to the width of a style.
+/// Writes sign and prefix and a body, padded up to the width of a style.
 pub(crate) fn padded(
     alloc: Global,
     style: &Style,

@@ -10,7 +10,7 @@ use fixed_steps::Steps;
 use std::marker::Brand;
 use std::sync::ledger::{Blank, Ledger};
 
-/// Appends the shortest decimal of a magnitude, over a ledger that no other counter uses.
+/// Appends the shortest decimal of a magnitude, with a ledger that no other counter uses.
 fn push_shortest_over<L: Ledger>(out: &mut Body, magnitude: u64, frac: u32, blank: Blank)
     requires name { blank.name ≡ L.name }
     requires parts { blank.parts ≡ L.parts }

@@ -1,8 +1,8 @@
-//! A text of bounded length that takes no memory and is written in place.
+//! A text of bounded length, written in place without an allocation.
 //!
 //! A `TextBuffer<N>` is an array of `N` bytes and a length. Contracts see it as the list of its bytes, so that each
-//! call that appends says exactly what it appended. Clearing it and cutting it back only set the length.
-//! `NoMemory` is the refusal of the calls of other crates that take memory.
+//! call that appends says exactly what it appended. Clearing it and cutting it back only set the length. `NoMemory` is
+//! the error of calls in other crates that allocate.
 #![tactic(auto)]
 
 ghost use Rattle.std.specs.Prelude.{◌≡◌, ◌+◌, ◌<◌, ◌≤◌, ◌++◌, ◌↔◌, [], ◌∷◌, length, take, if◌then◌else◌, IsTrue};
@@ -43,7 +43,7 @@ impl<const N: usize> TextBuffer<N> {
         }
     }
 
-    /// The length in bytes.
+    /// Returns the length in bytes.
     #[inline]
     pub fn len(&self) -> usize
         ensures value { result ≡ length self.now }
@@ -52,7 +52,7 @@ impl<const N: usize> TextBuffer<N> {
         self.len
     }
 
-    /// Whether there is no byte.
+    /// Whether the text is empty.
     #[inline]
     pub fn is_empty(&self) -> bool
         ensures { IsTrue result ↔ (self.now ≡ []) }
@@ -60,7 +60,7 @@ impl<const N: usize> TextBuffer<N> {
         self.len == 0
     }
 
-    /// How many more bytes fit.
+    /// Returns how many more bytes fit.
     #[inline]
     pub fn room(&self) -> usize
         ensures { length self.now + result ≡ N }
@@ -78,8 +78,8 @@ impl<const N: usize> TextBuffer<N> {
         self.len += 1;
     }
 
-    /// Appends a byte where `is_wanted`, else nothing; either way at the same cost, without a branch. There must be
-    /// room for it.
+    /// Appends a byte if `is_wanted`, else nothing; either way at the same cost, without a branch. There must be room
+    /// for it.
     #[inline]
     pub fn push_if(&mut self, byte: u8, is_wanted: bool)
         requires room { length self.old < N }
@@ -101,8 +101,8 @@ impl<const N: usize> TextBuffer<N> {
         self.len = end;
     }
 
-    /// Appends the first `count` of sixteen bytes. There must be room for those; where there is room for sixteen, this
-    /// is one write of sixteen bytes and costs the same for each `count`.
+    /// Appends the first `count` of sixteen bytes. There must be room for those; if there is room for sixteen, this is
+    /// one write of sixteen bytes and costs the same for each `count`.
     #[inline]
     pub fn push_prefix(&mut self, bytes: [u8; 16], count: usize)
         requires count { count ≤ 16 }
@@ -119,7 +119,7 @@ impl<const N: usize> TextBuffer<N> {
         }
     }
 
-    /// The bytes.
+    /// Returns the bytes.
     #[inline]
     pub fn as_bytes(&self) -> &[u8]
         ensures value { result.now ≡ self.now }
@@ -128,7 +128,7 @@ impl<const N: usize> TextBuffer<N> {
         &self.bytes[..self.len]
     }
 
-    /// The text, where all of its bytes are ASCII.
+    /// Returns the text, whose bytes must all be ASCII.
     #[inline]
     pub fn as_ascii_str(&self) -> &str
         requires { IsAscii self.now }
@@ -139,7 +139,7 @@ impl<const N: usize> TextBuffer<N> {
         unsafe { str::from_utf8_unchecked(bytes) }
     }
 
-    /// Keeps the first `len` bytes, or all of them where there are no more.
+    /// Keeps the first `len` bytes, or all if there are fewer.
     #[inline]
     pub fn truncate(&mut self, len: usize)
         ensures { self.new ≡ take len self.old }

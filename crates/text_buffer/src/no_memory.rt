@@ -1,9 +1,9 @@
-//! The one refusal of calls that take memory and can refuse nothing else.
+//! The error of calls that allocate and cannot fail otherwise.
 
 use std::alloc::AllocError;
 use thiserror::Error;
 
-/// There was no memory for what a call was to hand out. Nothing was handed out.
+/// There was no memory for the result of a call. Nothing was returned.
 #[derive(Clone, Copy, Debug, Error, PartialEq, Eq)]
 #[error("no memory")]
 pub struct NoMemory;

@@ -1,4 +1,4 @@
--- How many units a number is, and what is lost.
+-- Numbers as whole units and a lost fraction.
 use Rattle.std.specs.Prelude.{◌≡◌, ◌↔◌, ℕ, ◌+◌, ◌*◌, ◌^◌, ◌<◌, false, IsTrue, List}
 use Rattle.std.specs.Int.Digits.{AllBelowBase}
 use Rattle.fixed_bits.specs.LostFractions.{IsLostFraction}
@@ -10,7 +10,7 @@ use Rattle.fixed_decimal.specs.declared.count.Units.{Units}
 use Rattle.fixed_numeral.specs.Place.{NoLeadingZero, NoTrailingZero}
 use Rattle.fixed_numeral.specs.Value.{Fraction}
 
--- number is a multiple of 2^64 units of 10^-n, the counted units and rest / unit of one
+-- number is a multiple of 2^64 units of 10^-n, plus the counted units and rest / unit of one
 pub record IsCounted (number : Fraction) (n : ℕ) (count : Count) : Type 0 where
   pub high : ℕ
   pub rest : ℕ
@@ -20,14 +20,14 @@ pub record IsCounted (number : Fraction) (n : ℕ) (count : Count) : Type 0 wher
   pub left : IsLostFraction count.lost rest unit
   pub over : IsTrue count.is_over ↔ (0 < high)
 
--- number rounded to units of 10^-n: the lowest 64 bits, whether there are more, and whether nothing was rounded
+-- units is number rounded to units of 10^-n: the lowest 64 bits, whether there are more, and whether it is exact
 pub record AreUnits (mode : ReadMode) (number : Fraction) (n : ℕ) (units : Units) : Type 0 where
   pub high : ℕ
   pub to : IsRounded mode false (number.num * 10 ^ n) number.den (high * 2 ^ 64 + units.low)
   pub over : IsTrue units.has_high_bits ↔ (0 < high)
   pub exact : IsTrue units.is_exact ↔ IsWhole (number.num * 10 ^ n) number.den
 
--- the digits before the point and after it, once the point is placed
+-- the digits before and after the point, once the point is placed
 pub record IsSplitDecimal (whole fraction : List ℕ) : Type 0 where
   pub whole_digits : AllBelowBase 10 whole
   pub leading : NoLeadingZero whole

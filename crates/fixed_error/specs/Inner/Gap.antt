@@ -1,4 +1,4 @@
--- The gap between a numeral and what it is rounded to.
+-- The gap between a numeral and its rounded number.
 use Rattle.std.specs.Prelude.{◌≡◌, ℕ, ◌+◌, ◌*◌, ◌^◌, ◌≤◌, true, false, List, length, ℤ, if◌then◌else◌}
 use Rattle.std.specs.Int.Digits.{number_from_digits}
 use Rattle.fixed_bits.specs.declared.mode.ReadMode.{ReadMode}
@@ -18,13 +18,13 @@ pub record HasSteps (mode : ReadMode) (r : Radix) (f : ℕ) (bytes : List ℕ) (
   pub read : IsReadNumber mode r parts f number
   pub steps_are : read.ulps ≡ n
 
--- with m of the fraction's digits, the gap between num / den and a number of ulps
+-- the gap between num / den and a number of ulps, from the fraction number / power
 pub record IsGapOf (num den ulps power number : ℕ) (gap : Gap) : Type 0 where
   pub sum : ulps * den * power + gap.unit * number * den ≡ num * power + gap.whole * power * den
   pub down : gap.is_rounded_up ≡ false → gap.whole * power ≤ gap.unit * number
   pub up : gap.is_rounded_up ≡ true → gap.unit * number ≤ gap.whole * power
 
--- the gap between a numeral and what it is rounded to, by its digits after the point
+-- the gap between a numeral and its rounded number, from its digits after the point
 pub record IsGap (mode : ReadMode) (r : Radix) (f : ℕ) (bytes : List ℕ) (digits : List ℕ) (gap : Gap) : Type 0 where
   pub parts : Parts
   pub numeral : HasNumeral r bytes parts
@@ -35,7 +35,7 @@ pub record IsGap (mode : ReadMode) (r : Radix) (f : ℕ) (bytes : List ℕ) (dig
   pub unit_small : gap.unit ≤ 2 ^ 67
   pub whole_small : gap.whole ≤ 2 ^ 67
 
--- the greater and the less of the two that a gap lies between
+-- the greater and the lesser of the two parts that a gap lies between
 abbrev pub greater_part : Gap → Part
 greater_part gap = if gap.is_rounded_up then record { whole = gap.whole; factor = 0 }
     else record { whole = 0; factor = gap.unit }

@@ -1,4 +1,4 @@
--- How far a numeral is above a whole number of ulps, to some 36 digits.
+-- How far a numeral is above a whole number of ulps, to about 36 digits.
 use Rattle.std.specs.Prelude.{◌≡◌, ℕ, ◌+◌, ◌-◌, ◌*◌, ◌^◌, ◌<◌, ◌≤◌, List, length, take, min}
 use Rattle.std.specs.Int.Digits.{number_from_digits}
 use Rattle.fixed_numeral.specs.Numeral.{Parts, HasNumeral}
@@ -9,7 +9,7 @@ use Rattle.fixed_error.specs.declared.rest.Behind.{Behind}
 use Rattle.fixed_error.specs.declared.rest.Behind.TheVariants.{ByParts, ByWord}
 use Rattle.fixed_error.specs.declared.rest.Rest.{Rest}
 
--- what the first n digits spell, with zeros where there are fewer
+-- the number that the first n digits spell, padded with zeros
 unfoldable pub first_number : ℕ → ℕ → List ℕ → ℕ
 first_number b n digits = number_from_digits b (take n digits) * b ^ (n - min n (length digits))
 
@@ -35,3 +35,9 @@ rest_of_word word = record { one = 10 ^ 18 * 10 ^ 18; rest = word * 10 ^ 18; sla
 abbrev pub IsBehindBy : Radix → List ℕ → Behind → Type 0
 IsBehindBy r bytes (ByWord word) = (word < 10 ^ 18) × IsRest r 0 bytes (rest_of_word word)
 IsBehindBy r bytes (ByParts rest) = IsRest r 0 bytes rest
+
+-- a numeral is `near` parts of 10^-18 from the nearest whole number of ulps of 2^-f
+pub record IsNear (r : Radix) (f : ℕ) (bytes : List ℕ) (near : ℕ) : Type 0 where
+  pub word : ℕ
+  pub rest : IsRest r f bytes (rest_of_word word)
+  pub near_is : near ≡ min word (10 ^ 18 - word)

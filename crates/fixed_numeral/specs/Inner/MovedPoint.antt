@@ -1,4 +1,4 @@
--- Where the point goes, for the functions that place it.
+-- Where the point moves to, for the functions that move it.
 use Rattle.std.specs.Prelude.{◌≡◌, ℕ, ◌*◌, ◌+◌, ◌<◌, ◌^◌, length, List, ◌++◌}
 use Rattle.std.specs.Int.Digits.{number_from_digits, AllBelowBase}
 use Rattle.fixed_numeral.specs.Value.{Fraction}
@@ -18,12 +18,12 @@ pub record IsWithoutTrailing (ds rest : List ℕ) : Type 0 where
   pub split : ds ≡ rest ++ zeros count
   pub none : NoTrailingZero rest
 
--- the number of the digits before the point and after it, times b to the power u - d
+-- the digits before and after the point, as one whole number, times b to the power u - d
 abbrev pub moved : ℕ → List ℕ → List ℕ → ℕ → ℕ → Fraction
 moved b whole fraction u d = record { num = number_from_digits b (whole ++ fraction) * b ^ u; den = b ^ d }
 
--- the digits W before the point and F after it are those of w and r where the point moves up digits to the right and
--- down digits to the left
+-- the digits W before the point and F after it are those of w and r with the point moved `up` digits to the right and
+-- `down` digits to the left
 pub record IsPlaced (w r W F : List ℕ) (up down : ℕ) : Type 0 where
   pub leading : NoLeadingZero W
   pub trailing : NoTrailingZero F

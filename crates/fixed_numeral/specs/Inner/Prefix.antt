@@ -1,8 +1,8 @@
--- What it takes to read the first digits of a view as a number.
+-- Requirements for reading the first digits of a view as a number.
 use Rattle.std.specs.Prelude.{ℕ, ◌^◌, ◌≤◌, List, length}
 use Rattle.std.specs.Int.Digits.{AllBelowBase}
 
--- there are at least i digits, all below a base from 2 to 16, and the number of i digits fits a word
+-- there are at least i digits, all below a base from 2 to 16, and each number of i digits fits 64 bits
 pub record HasPrefixNumber (base i : ℕ) (ds : List ℕ) : Type 0 where
   pub within : i ≤ length ds
   pub digits : AllBelowBase base ds

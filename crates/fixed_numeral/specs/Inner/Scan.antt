@@ -1,4 +1,4 @@
--- What the scanner knows of the bytes that it has read.
+-- What the scanner's state says of the bytes read so far.
 use Rattle.std.specs.Prelude.{ℕ, ◌+◌, ◌^◌, ◌-◌, ◌<◌, ◌≤◌, ◌⊎◌, true, false, if◌then◌else◌, List, [], ◌∷◌, ◌++◌, ◌≡◌}
 use Rattle.std.specs.Prelude.{◌&&◌, not, Bool, is_some, is_none, Option, Some, None, IfSome, option_to_list, length}
 use Rattle.fixed_numeral.specs.declared.scanner.State.{State}
@@ -9,7 +9,7 @@ use Rattle.fixed_numeral.specs.Inner.Shift.{AgreesWithExponent}
 use Rattle.fixed_numeral.specs.declared.error.ParseErrorKind.{ParseErrorKind}
 use Rattle.fixed_numeral.specs.declared.error.ParseErrorKind.TheVariants.{NoDigits, ExpNoDigits}
 
--- the greatest magnitude of an exponent
+-- the greatest magnitude of an exponent, by its sign
 abbrev pub max_magnitude : Bool → ℕ
 max_magnitude negative = if negative then 2 ^ 31 else 2 ^ 31 - 1
 
@@ -29,28 +29,28 @@ pub record Agrees (r : Radix) (s : State) (p : Parts) : Type 0 where
   pub exponent : AgreesWithExponent r s.scales_by_two s.exponent_negative s.magnitude p.exponent
   pub counted : IfSome p.exponent (λ e. s.has_exponent_digit ≡ not (is_nil e.digits))
 
--- the byte offends, with this kind
+-- bs cannot go on with the byte b, and kind says why
 pub record CannotExtend (r : Radix) (bs : List ℕ) (p : Parts) (b : ℕ) (kind : ParseErrorKind) : Type 0 where
   pub none : IsBeginning r (bs ++ b ∷ []) → ⊥
   pub is_kind : kind ≡ kind_of r p (Some b)
 
--- the state after these bytes
+-- s is the state after the bytes bs
 pub record IsAfter (r : Radix) (bs : List ℕ) (s : State) : Type 0 where
   pub parts : Parts
   pub beginning : HasParts r bs parts
   pub agrees : Agrees r s parts
   pub room : s.magnitude ≤ max_magnitude true
 
--- the byte goes on, and next is what is known then
+-- bs can go on with the byte b, and next is the state after it
 abbrev pub Extends : Radix → List ℕ → ℕ → State → Type 0
 Extends r bs b next = IsAfter r (bs ++ b ∷ []) next
 
--- at the end of the text nothing is missing
+-- nothing is missing if the text ends here
 pub record IsComplete (s : State) : Type 0 where
   pub digits : 0 < s.whole_len + s.fraction_len
   pub exponent : (s.has_separator ≡ false) ⊎ (s.has_exponent_digit ≡ true)
 
--- a mantissa digit is missing, or else an exponent digit
+-- a mantissa digit or else an exponent digit is missing if the text ends here, and kind says which
 abbrev pub IsIncomplete : State → ParseErrorKind → Type 0
 IsIncomplete s kind = ((s.whole_len + s.fraction_len ≡ 0) × (kind ≡ NoDigits))
     ⊎ ((0 < s.whole_len + s.fraction_len) × (s.has_separator ≡ true) × (s.has_exponent_digit ≡ false)

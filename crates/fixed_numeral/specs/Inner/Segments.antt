@@ -1,4 +1,4 @@
--- Stretches of a text, for the functions that read numbers straight from its bytes.
+-- Segments of a text, for the functions that read numbers straight from its bytes.
 use Rattle.std.specs.Prelude.{◌≡◌, ℕ, ◌+◌, ◌-◌, ◌^◌, ◌<◌, ◌≤◌, Bool, IsTrue, List, ◌++◌, length, drop, get_or, Option}
 use Rattle.std.specs.Prelude.{IfSome, option_to_list, ℤ}
 use Rattle.std.specs.Char.{digit_value}
@@ -9,7 +9,7 @@ use Rattle.fixed_numeral.specs.Numeral.{Parts, Exponent, base, IsExponentOf, Has
 use Rattle.fixed_numeral.specs.Numeral.{fraction_text, exponent_text, fractional_digits}
 use Rattle.fixed_numeral.specs.PartNumbers.{exponent_value, is_power_of_two, IsShortNumeral}
 
--- the bytes between two places are an optional sign
+-- the bytes from index `from` up to `to` are an optional sign
 pub record IsSignAt (bs : List ℕ) (from to : ℕ) (negative : Bool) : Type 0 where
   pub sign : Option ℕ
   pub text : drop from bs ≡ option_to_list sign ++ drop to bs
@@ -17,7 +17,7 @@ pub record IsSignAt (bs : List ℕ) (from to : ℕ) (negative : Bool) : Type 0 w
   pub is_sign : IfSome sign (λ b. IsTrue (is_sign b))
   pub is_negative : negative ≡ is_minus sign
 
--- the bytes between two places are digits, and they spell this number
+-- the bytes from index `from` up to `to` are digits that spell this number
 pub record IsDigitRun (b : ℕ) (bs : List ℕ) (from to number : ℕ) : Type 0 where
   pub digits : List ℕ
   pub text : drop from bs ≡ digits ++ drop to bs
@@ -26,7 +26,7 @@ pub record IsDigitRun (b : ℕ) (bs : List ℕ) (from to number : ℕ) : Type 0 
   pub are_digits : AllDigits b digits
   pub spelled : number ≡ digits_value b digits
 
--- the bytes between two places are the digits of a mantissa and its point
+-- the bytes from index `from` up to `to` are the digits of a mantissa and its point
 pub record IsMantissaAt (b : ℕ) (bs : List ℕ) (from to whole_number fraction_number places : ℕ) : Type 0 where
   pub whole : List ℕ
   pub fraction : Option (List ℕ)
@@ -39,7 +39,7 @@ pub record IsMantissaAt (b : ℕ) (bs : List ℕ) (from to whole_number fraction
   pub places_are : places ≡ length (fractional_digits fraction)
   pub some : 0 < length (whole ++ fractional_digits fraction)
 
--- the bytes from a place on are an exponent or nothing
+-- the bytes from index `from` on are an exponent or nothing
 pub record IsExponentAt (r : Radix) (bs : List ℕ) (from : ℕ) (number : ℤ) (by_two : Bool) : Type 0 where
   pub exponent : Option Exponent
   pub text : drop from bs ≡ exponent_text exponent
@@ -48,7 +48,7 @@ pub record IsExponentAt (r : Radix) (bs : List ℕ) (from : ℕ) (number : ℤ) 
   pub is_number : number ≡ exponent_value exponent
   pub is_by_two : by_two ≡ is_power_of_two r exponent
 
--- a text is a numeral, and these are the numbers of its parts
+-- bs is a numeral, and these are the numbers of its parts
 pub record IsShortAt (r : Radix) (bs : List ℕ) (negative : Bool) (whole fraction places : ℕ) (exponent : ℤ)
     (scales_by_two : Bool) : Type 0 where
   pub parts : Parts
@@ -58,6 +58,6 @@ pub record IsShortAt (r : Radix) (bs : List ℕ) (negative : Bool) (whole fracti
   pub whole_fits : whole < base r ^ 16
   pub few : places ≤ 27
 
--- a byte among the last 16 is a digit where its bit of the marks is not set; the first has the lowest bit
+-- each of the last 16 bytes is a digit if its bit of `marks` is not set; the first has the lowest bit
 pub record HasMarks (b : ℕ) (bs : List ℕ) (marks : ℕ) : Type 0 where
   pub digit : (k : ℕ) → k < 16 → bit_at marks k ≡ 0 → digit_value (get_or bs (length bs - 16 + k) 0) < b

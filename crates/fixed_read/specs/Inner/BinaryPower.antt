@@ -1,12 +1,12 @@
--- The power of two in a numeral of radix 2, 8 or 16, by the bits of a digit, its places and its exponent.
+-- The power of two in a numeral of radix 2, 8 or 16, from the bits of a digit, the places and the exponent.
 use Rattle.std.specs.Prelude.{ℕ, suc, ◌+◌, ◌*◌, Bool, true, false, ℤ, pos, negsuc, ◌-ℤ◌}
 
--- z where it is not negative, else 0
+-- z if it is not negative, else 0
 abbrev pub up_of : ℤ → ℕ
 up_of (pos x) = x
 up_of (negsuc x) = 0
 
--- -z where z is negative, else 0
+-- -z if z is negative, else 0
 abbrev pub down_of : ℤ → ℕ
 down_of (pos x) = 0
 down_of (negsuc x) = suc x

@@ -1,4 +1,4 @@
--- What the private parts that find the figures of a number with an exponent promise.
+-- Contracts of the private functions that find the figures of a number with an exponent.
 use Rattle.std.specs.Prelude.{◌≡◌, ℕ, suc, ◌+◌, ◌*◌, ◌^◌, ◌<◌, ◌≤◌, ◌⊎◌, Bool, true, false, List, ◌++◌, replicate, ℤ}
 use Rattle.std.specs.Prelude.{pos, Option, unwrap_or}
 use Rattle.fixed_bits.specs.Nearest.{IsNearest}
@@ -16,7 +16,7 @@ pub record IsLeading (c a b t s : ℕ) : Type 0 where
   pub one : (s ≡ 0) ⊎ (t ≡ 0)
 
 -- digits, and zeros after them, are the figures of c units of 2^-64, whose first digit is at 10^t, to p places after
--- the first; carried says that they reached the next power of ten
+-- the first; carried says whether they reached the next power of ten
 pub record HasRoundedFigures (p c t : ℕ) (digits : List ℕ) (zeros : ℕ) (carried : Bool) : Type 0 where
   pub number : ℕ
   pub near : IsNearest (c * 10 ^ p) (2 ^ 64 * 10 ^ t) number
@@ -31,7 +31,7 @@ pub record HasShortFigures (c g : ℕ) (digits : List ℕ) (e : ℤ) : Type 0 wh
   pub are_figures : IsShortFigures c g figures e
   pub digits_are : digits ≡ whole_digits 10 false figures
 
--- digits, and zeros after them, are the figures of c ulps of 2^-g, also where c is 0, and e is the exponent
+-- digits, and zeros after them, are the figures of c ulps of 2^-g, even if c is 0, and e is the exponent
 pub record HasFigureText (precision : Option ℕ) (c g : ℕ) (digits : List ℕ) (zeros : ℕ) (e : ℤ) : Type 0 where
   pub zero : c ≡ 0 → (digits ++ replicate zeros zero_digit ≡ replicate (suc (unwrap_or precision 0)) zero_digit)
       × (e ≡ pos 0)

@@ -1,8 +1,8 @@
--- What one pass over the digits after the point keeps.
+-- The invariant of a pass over the digits after the point.
 use Rattle.std.specs.Prelude.{◌≡◌, ℕ, ◌+◌, ◌*◌, ◌^◌, ◌<◌, ◌≤◌}
 use Rattle.fixed_write.specs.Shortest.{ReadsBack}
 
--- what the pass keeps after k digits after the point, in units u = 2^g and with s = 10^k:
+-- the invariant after k digits after the point, in units u = 2^g and with s = 10^k:
 -- w is the whole part, d the digits after the point as one number, and r the rest
 pub record Pass (c g u w r d s k : ℕ) : Type 0 where
   pub unit : u ≡ 2 ^ g

@@ -1,4 +1,4 @@
--- What the private parts of styled text promise.
+-- Contracts of the private functions of styled text.
 use Rattle.std.specs.Prelude.{◌≡◌, ℕ, ◌+◌, List, ◌++◌, length, take, drop, replicate, Option}
 use Rattle.std.specs.List.{repeat}
 use Rattle.fixed_write.specs.declared.style.Notation.{Notation}
@@ -28,7 +28,7 @@ pub record AppendsBody (notation : Notation) (precision : Option ℕ) (c g : ℕ
   pub is_body : IsPointBody notation precision c g body
   pub text : after ++ replicate zeros zero_digit ≡ before ++ body
 
--- a part is put at a place of bytes and ends at another, and the bytes before and after it stay
+-- new is old with part written from index `at` up to `end`; the bytes before and after it stay
 pub record IsPut (part old new : List ℕ) (at end : ℕ) : Type 0 where
   pub place : end ≡ at + length part
   pub text : take end new ≡ take at old ++ part

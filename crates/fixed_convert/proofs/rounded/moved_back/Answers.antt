@@ -12,7 +12,7 @@ returns c =
     let negative = c.sign_and_magnitude-negative.result.0 in
     let magnitude = c.sign_and_magnitude-negative.result.1 in
     let ulps = c.rounded_quotient-ulps.result in
-    let is : with_sign negative magnitude ≡ c.args.b = c.sign_and_magnitude-negative.ensures ∙ to_z-of_z w128 c.args.b c.ranges.b in
+    let is : with_sign negative magnitude ≡ c.args.b = c.sign_and_magnitude-negative.ensures.value ∙ to_z-of_z w128 c.args.b c.ranges.b in
     let moved = moved_parts c.args.mode negative magnitude c.args.from c.args.to ulps (omega arith) c.rounded_quotient-ulps.ensures in
     rw (to_z-of_z w128 c.signed_number.result signed, c.signed_number.ensures)
     (subst (λ (b : ℤ). IsMovedIn c.args.mode b c.args.from c.args.to (with_sign negative ulps)) is moved)

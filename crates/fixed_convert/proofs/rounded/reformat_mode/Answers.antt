@@ -32,7 +32,7 @@ pub returns-in-Some-admitted-clause-moved : goal.returns-in-Some-admitted-clause
 returns-in-Some-admitted-clause-moved c =
     let image : FitsSigned w128 c.in-Some-admitted.c = search rules in
     let moved : FitsSigned w128 c.moved_back.result = search rules in
-    let is : IsNumber c.of.result c.moved_back.result = rw (to_z-of_z w128 c.moved_back.result moved) at c.of.ensures in
+    let is : IsNumber c.of.result c.moved_back.result = rw (to_z-of_z w128 c.moved_back.result moved) at c.of.ensures.value in
     let admitted = c.in-Some-admitted.ensures.image in
     rw (to_z-of_z w128 c.in-Some-admitted.c image)
     (record {

@@ -9,7 +9,7 @@ use Rattle.fixed_error.proofs.FewLemmas.{few_digits}
 use Rattle.fixed_error.proofs.GapLemmas.{shift_small}
 use Rattle.fixed_error.proofs.greater.is_error_above.Goals as goal
 
--- what is empty, and what is not
+-- from the result of a test to what it decides
 empty : (b : Bool) (A : Type 0) → (IsTrue b ↔ A) → b ≡ true → A
 empty b A h e = h.0 e
 

@@ -1,4 +1,4 @@
-use Rattle.std.proofs.Common.{◌+◌, ◌*◌, ℕ, false, ⊎_elim, subst, arith}
+use Rattle.std.proofs.Common.{◌+◌, ◌*◌, ℕ, false, ⊎_elim, subst}
 use Rattle.fixed_bits.proofs.Public.{magnitude_rounded}
 use Rattle.fixed_bits.specs.Rounded.{IsRounded, magnitude_mode}
 use Rattle.fixed_float.proofs.IncrementLemmas.{far_alike, own_mode}

@@ -13,14 +13,14 @@ returns-then-magnitude-eq0-clause-few c = zero_few c.args.layout
 pub returns-then-magnitude-eq0-clause-nearest : goal.returns-then-magnitude-eq0-clause-nearest
 returns-then-magnitude-eq0-clause-nearest c =
     let fits : FitsSigned w128 c.args.number = search rules in
-    let is = rw (to_z-of_z w128 c.args.number fits) at c.sign_and_magnitude-negative.ensures in
+    let is = rw (to_z-of_z w128 c.args.number fits) at c.sign_and_magnitude-negative.ensures.value in
     let none = none_is c.sign_and_magnitude-negative.result.0 c.sign_and_magnitude-negative.result.1 c.args.number is c.if-magnitude-eq0.true in
     subst (λ (v : ℤ). IsNearestFloat c.args.layout v c.args.format.frac 0) (sym none) (zero_nearest c.args.layout c.args.format.frac)
 
 pub returns-then-magnitude-eq0-clause-exact : goal.returns-then-magnitude-eq0-clause-exact
 returns-then-magnitude-eq0-clause-exact c few =
     let fits : FitsSigned w128 c.args.number = search rules in
-    let is = rw (to_z-of_z w128 c.args.number fits) at c.sign_and_magnitude-negative.ensures in
+    let is = rw (to_z-of_z w128 c.args.number fits) at c.sign_and_magnitude-negative.ensures.value in
     let none = none_is c.sign_and_magnitude-negative.result.0 c.sign_and_magnitude-negative.result.1 c.args.number is c.if-magnitude-eq0.true in
     subst (λ (v : ℤ). IsExactFloat c.args.layout v c.args.format.frac 0) (sym none) (zero_exact c.args.layout c.args.format.frac)
 
@@ -33,7 +33,7 @@ returns-clause-few c =
 pub returns-clause-nearest : goal.returns-clause-nearest
 returns-clause-nearest c =
     let fits : FitsSigned w128 c.args.number = search rules in
-    let is = rw (to_z-of_z w128 c.args.number fits) at c.sign_and_magnitude-negative.ensures in
+    let is = rw (to_z-of_z w128 c.args.number fits) at c.sign_and_magnitude-negative.ensures.value in
     let m : ℕ = c.sign_and_magnitude-negative.result.1 in
     let some : 0 < m = let f = c.if-magnitude-eq0.false in omega arith in
     let within : c.args.format.frac ≤ 64 = omega (arith, c.frac.ensures.valid.within, c.frac.ensures.valid.is_width.most) in
@@ -43,7 +43,7 @@ returns-clause-nearest c =
 pub returns-clause-exact : goal.returns-clause-exact
 returns-clause-exact c few =
     let fits : FitsSigned w128 c.args.number = search rules in
-    let is = rw (to_z-of_z w128 c.args.number fits) at c.sign_and_magnitude-negative.ensures in
+    let is = rw (to_z-of_z w128 c.args.number fits) at c.sign_and_magnitude-negative.ensures.value in
     let m : ℕ = c.sign_and_magnitude-negative.result.1 in
     let some : 0 < m = let f = c.if-magnitude-eq0.false in omega arith in
     let within : c.args.format.frac ≤ 64 = omega (arith, c.frac.ensures.valid.within, c.frac.ensures.valid.is_width.most) in

@@ -1,4 +1,4 @@
-use Rattle.std.proofs.Common.{◌≡◌, ◌%◌, ◌↔◌, IsTrue, Bool, arith, ap, sym, subst}
+use Rattle.std.proofs.Common.{◌≡◌, ◌%◌, ◌↔◌, IsTrue, Bool, ap, sym, subst}
 use Rattle.fixed_float.proofs.ReadingLemmas.{part_reading}
 use Rattle.fixed_float.proofs.reading.read_part.Goals as goal
 

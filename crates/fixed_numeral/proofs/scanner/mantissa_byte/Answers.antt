@@ -3,7 +3,7 @@ use Rattle.fixed_numeral.proofs.ScanLemmas.{before_digit, before_separator, befo
 use Rattle.fixed_numeral.proofs.scanner.mantissa_byte.Goals as goal
 
 pub returns-then-is_digit_of : goal.returns-then-is_digit_of
-returns-then-is_digit_of c = λ bs p h a. before_digit c.args.radix c.args.state c.after_digits.result c.args.b bs p h a c.requires.room (sym c.if-is_digit_of.ensures) c.after_digits.ensures
+returns-then-is_digit_of c = λ bs p h a. before_digit c.args.radix c.args.state c.after_digits.result c.args.b bs p h a c.requires.room (sym c.if-is_digit_of.ensures) c.after_digits.ensures.after
 
 pub returns-then-is_separator : goal.returns-then-is_separator
 returns-then-is_separator c = λ bs p h a. before_separator c.args.radix c.args.state c.args.b bs p.sign p.whole p.fraction p.exponent h a c.requires.separator (sym c.if-is_separator.ensures) c.is_two_separator.result c.is_two_separator.ensures

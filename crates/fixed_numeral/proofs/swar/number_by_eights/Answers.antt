@@ -5,7 +5,7 @@ use Rattle.fixed_numeral.specs.Digits.{digits_in}
 use Rattle.fixed_numeral.proofs.StripLemmas.{eight_stand, aligned_room, aligned_eight, aligned_fits, number_end}
 use Rattle.fixed_numeral.proofs.swar.number_by_eights.Goals as goal
 
--- what is joined are the next eight digits
+-- the word's number is that of the next eight digits
 next : (c : goal.After-number_of_eight) → c.number_of_eight.result ≡ number_from_digits c.args.base (digits_in (take 8 (drop c.loop-at.at c.args.bytes.now)))
 next c =
     let room = aligned_room c.args.base c.args.bytes.now c.loop-at.at c.loop-at.number c.loop-at.invariant c.loop-at-test.true in

@@ -3,7 +3,7 @@ use Rattle.fixed_numeral.proofs.Public.{pow-mul}
 use Rattle.fixed_read.proofs.PartLemmas.{base_least, base_most, block_room, word_room}
 use Rattle.fixed_read.proofs.power_of_two_radix.leading_block.Goals as goal
 
--- ---- in a word
+-- ---- digits in a u64
 pub leading_number-requires-clause-least : goal.leading_number-requires-clause-least
 leading_number-requires-clause-least g c =
     rw c.base_of_bits.ensures (base_least c.args.bits c.requires.some)
@@ -17,7 +17,7 @@ leading_number-requires-clause-room g c =
     let same : c.base_of_bits.result ≡ 2 ^ c.args.bits = c.base_of_bits.ensures in
     rw same (block_room c.args.bits c.args.fraction_bits c.args.count c.requires.some c.requires.few c.if-fraction_bits-le60.true c.requires.count)
 
--- ---- in two
+-- ---- digits in a u128
 pub leading_number_u128-requires-clause-prefix : goal.leading_number_u128-requires-clause-prefix
 leading_number_u128-requires-clause-prefix g c =
     let same : c.base_of_bits-2.result ≡ 2 ^ c.args.bits = c.base_of_bits-2.ensures in

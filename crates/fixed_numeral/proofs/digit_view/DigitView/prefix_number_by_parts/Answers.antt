@@ -4,7 +4,7 @@ use Rattle.fixed_numeral.proofs.ViewLemmas.{left_prefix, right_alone}
 use Rattle.fixed_numeral.proofs.NumberLemmas.{left_digits}
 use Rattle.fixed_numeral.proofs.digit_view.DigitView.prefix_number_by_parts.Goals as goal
 
--- ---- where all stand in the second slice
+-- ---- if all digits stand in the second slice
 pub prefix_number-requires-clause-digits : goal.prefix_number-requires-clause-digits
 prefix_number-requires-clause-digits c =
     let view = right_alone c.args.self.now c.self.inside.left c.self.inside.right c.self.inside.before c.self.inside.after c.self.view_is c.if-self-eq0.true (omega (arith, c.if-len-eq0.true)) in

@@ -7,7 +7,7 @@ overflow_sub-result-2 c =
     let long = length_between c.self.inside.before c.self.inside.left c.self.inside.right c.self.inside.after in
     omega (arith, ap length c.self.view_is, c.requires)
 
--- where the place falls
+-- how the index cuts the parts
 places : (c : goal.After-split_at-right_prefix) → SplitAt c.args.i c.self.inside.before (length c.self.inside.left) (length c.self.inside.right) c.self.inside.after c.min-before.result c.min-left.result c.min-right.result (c.args.i - c.min-before.result - c.min-left.result - c.min-right.result)
 places c =
     let long = length_between c.self.inside.before c.self.inside.left c.self.inside.right c.self.inside.after in

@@ -9,7 +9,7 @@ use Rattle.fixed_numeral.proofs.MagnitudeLemmas.{same_magnitude, scanned_digits,
 use Rattle.fixed_numeral.proofs.ValueLemmas.{views_of_zero}
 use Rattle.fixed_numeral.proofs.scanned.Scanned.of.Goals as goal
 
--- the digits that the point's new place gives are those of the numeral
+-- after the point has moved, the digits still spell the numeral
 placed_scanned : (r : Radix) (p : Parts) (neg two minus : Bool) (w f W F : List ℕ) (up down bits magnitude : ℕ) → IsPartsOf r p → neg ≡ is_minus p.sign → w ≡ digits_in p.whole → f ≡ digits_in (fractional_digits p.fraction) → AgreesWithExponent r two minus magnitude p.exponent → IsShift minus (unit_of r two) magnitude up down bits → bits < unit_of r two → IsPlaced w f W F up down → IsScanned r p neg W F bits
 placed_scanned r p neg two minus w f W F up down bits magnitude h s ew ef a shift small placed =
     let digits = scanned_digits r p w f h ew ef in
@@ -26,7 +26,7 @@ placed_scanned r p neg two minus w f W F up down bits magnitude h s ew ef a shif
       small = unit_small r two _ small;
     }
 
--- nothing moves the point nowhere
+-- an exponent of 0 does not move the point
 no_shift : (minus : Bool) (unit magnitude : ℕ) → magnitude ≡ 0 → IsShift minus unit magnitude 0 0 0
 no_shift true unit magnitude e = (omega (arith, e), refl)
 no_shift false unit magnitude e = (omega (arith, e), refl)
